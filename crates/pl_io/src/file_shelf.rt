@@ -32,6 +32,15 @@ impl<'a, H: Files> FileShelf<'a, H> {
     }
 }
 
+/// Want of memory of the system is no fault of the file.
+fn cause_of(kind: ErrorKind) -> TakeError {
+    if kind == ErrorKind::OutOfMemory {
+        TakeError::Memory
+    } else {
+        TakeError::Failed
+    }
+}
+
 /// Reads to the end of the file, or until more than `most` bytes were met.
 fn read_front<R: Read>(file: &mut R, most: usize, into: &mut Vec<u8>) -> Result<Taken, TakeError>
     ensures appends { Took into.old.items into.new.items }
@@ -47,7 +56,7 @@ fn read_front<R: Read>(file: &mut R, most: usize, into: &mut Vec<u8>) -> Result<
                 if error.kind() == ErrorKind::Interrupted {
                     continue;
                 }
-                return Err(TakeError::Failed);
+                return Err(cause_of(error.kind()));
             }
         };
         if count == 0 {
@@ -88,7 +97,7 @@ fn open_and_read<H: Files>(
             into.reserve_exact(size_of(&file, most))?;
             read_front(&mut file, most, into)
         }
-        Err(_) => Err(TakeError::Failed),
+        Err(error) => Err(cause_of(error.kind())),
     }
 }
 
@@ -111,5 +120,77 @@ impl<'a, H: Files> Shelf for FileShelf<'a, H> {
             }
             other => other,
         }
+    }
+}
+
+#[cfg(test)]
+mod tests {
+    use super::*;
+    use std::io;
+    use std::test::Fail;
+
+    // Is interrupted, gives two bytes, is interrupted again, gives two more, and then fails.
+    #[derive(Drop)]
+    struct Faulty {
+        reads: u8,
+    }
+
+    impl Read for Faulty {
+        fn read(&mut self, buf: &mut [u8]) -> io::Result<usize> {
+            self.reads = self.reads.saturating_add(1);
+            if self.reads > 4 || buf.len() < 2 {
+                return Err(io::Error::from(ErrorKind::Other));
+            }
+            if self.reads % 2 == 1 {
+                return Err(io::Error::from(ErrorKind::Interrupted));
+            }
+            buf[0] = b'a';
+            buf[1] = b'b';
+            Ok(2)
+        }
+    }
+
+    #[test]
+    fn reads_on_after_an_interruption(rt: HostRuntime) -> Result<(), Fail> {
+        let mut into = vec![in rt.alloc(); b'>']?;
+        assert_eq!(rt;
+            read_front(&mut Faulty { reads: 0 }, 3, &mut into),
+            Ok(Taken::Longer)
+        );
+        assert_eq!(rt; into.as_slice(), ">aba".as_bytes());
+        into.clear();
+        assert_eq!(rt;
+            read_front(&mut Faulty { reads: 0 }, 9, &mut into),
+            Err(TakeError::Failed)
+        );
+        assert_eq!(rt; into.as_slice(), "abab".as_bytes());
+        Ok(())
+    }
+
+    #[test]
+    fn takes_a_real_file(rt: HostRuntime) -> Result<(), Fail> {
+        let alloc = rt.alloc();
+        fs::write(&rt, "shelf-file", "(define)")?;
+        let mut shelf = FileShelf::new(&rt, alloc);
+        let cases = [
+            ("shelf-file", 9, Ok(Taken::Whole), ">(define)"),
+            ("shelf-file", 8, Ok(Taken::Whole), ">(define)"),
+            ("shelf-file", 7, Ok(Taken::Longer), ">(define"),
+            ("shelf-none", 8, Err(TakeError::Failed), ">"),
+            (".", 8, Err(TakeError::Failed), ">"),
+            ("", 8, Err(TakeError::Failed), ">"),
+        ];
+        for (name, most, answer, left) in cases {
+            let mut into = vec![in alloc; b'>']?;
+            assert_eq!(rt;
+                shelf.take(name, most, &mut into),
+                answer,
+                "at {name} {most}"
+            );
+            assert_eq!(rt; into.as_slice(), left.as_bytes(), "at {name} {most}");
+        }
+        assert_eq!(rt; shelf.failed.as_slice().len(), 3);
+        fs::remove_file(&rt, "shelf-file")?;
+        Ok(())
     }
 }

@@ -15,12 +15,11 @@ mod out_sink;
 mod outside;
 
 pub use file_shelf::FileShelf;
-pub use lists::{Bytes, Files, Names, NamedFile, Numbers};
+pub use lists::{Bytes, Files, NamedFile, Names, Numbers};
 pub use mem_shelf::MemShelf;
 pub use mem_sink::MemSink;
 pub use out_sink::OutSink;
 pub use outside::{PutFailed, Shelf, Sink, TakeError, Taken, put_all};
-
 use std::alloc::AllocError;
 
 /// Want of memory: no room was to be had, and nothing else went wrong.

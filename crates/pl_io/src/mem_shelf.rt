@@ -135,3 +135,47 @@ impl Shelf for MemShelf {
         Err(TakeError::Failed)
     }
 }
+
+#[cfg(test)]
+mod tests {
+    use super::*;
+    use std::test::Fail;
+
+    fn bytes(alloc: Global, text: &str) -> Result<Bytes, AllocError> {
+        Bytes::copy_of(alloc, text.as_bytes())
+    }
+
+    #[test]
+    fn takes_files_and_fails_where_told(rt: HostRuntime) -> Result<(), Fail> {
+        let alloc = rt.alloc();
+        let mut files = Vec::new(alloc);
+        files.push(NamedFile {
+            name: bytes(alloc, "domain")?,
+            bytes: bytes(alloc, "(define)")?,
+        })?;
+        let failing = Numbers::of(vec![in alloc; 5]?);
+        let mut shelf = MemShelf::new(alloc, Files::of(files), failing);
+        let cases = [
+            ("domain", 9, Ok(Taken::Whole), ">(define)"),
+            ("domain", 8, Ok(Taken::Whole), ">(define)"),
+            ("domain", 7, Ok(Taken::Longer), ">(define"),
+            ("problem", 8, Err(TakeError::Failed), ">"),
+            ("domain", 8, Err(TakeError::Failed), ">"),
+            ("domain", 0, Ok(Taken::Longer), ">"),
+        ];
+        for (name, most, answer, left) in cases {
+            let mut into = vec![in alloc; b'>']?;
+            assert_eq!(rt;
+                shelf.take(name, most, &mut into),
+                answer,
+                "at {name} {most}"
+            );
+            assert_eq!(rt; into.as_slice(), left.as_bytes(), "at {name} {most}");
+        }
+        let failed = shelf.failed();
+        assert_eq!(rt; failed.len(), 2);
+        assert_eq!(rt; failed[0].as_slice(), "problem".as_bytes());
+        assert_eq!(rt; failed[1].as_slice(), "domain".as_bytes());
+        Ok(())
+    }
+}

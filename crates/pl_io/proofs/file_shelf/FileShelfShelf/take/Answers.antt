@@ -1,4 +1,4 @@
-use Rattle.std.proofs.Common.{rules, ◌≡◌, ◌++◌, ◌∷◌, []}
+use Rattle.std.proofs.Common.{rules}
 use Rattle.pl_io.proofs.Counted.{FaultRose-noted}
 use Rattle.pl_io.proofs.file_shelf.FileShelfShelf.take.Goals as goal
 

@@ -1,4 +1,4 @@
-use Rattle.std.proofs.Common.{rules, ◌≡◌, ◌++◌, ◌∷◌, []}
+use Rattle.std.proofs.Common.{rules}
 use Rattle.pl_io.proofs.Counted.{FaultRose-noted}
 use Rattle.pl_io.proofs.mem_shelf.MemShelfShelf.take.Goals as goal
 
