@@ -5,8 +5,6 @@
 //! system's files and the standard output, and tell no content. [`put_all`] is a whole caller of a sink.
 #![tactic(auto)]
 
-ghost use Rattle.std.specs.Prelude.{◌≡◌};
-
 mod file_shelf;
 mod lists;
 mod mem_shelf;
