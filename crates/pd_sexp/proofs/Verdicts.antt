@@ -114,12 +114,13 @@ ends_early bytes state r unended =
     some_none : (tree : Tree) → Some tree ≡ None → ⊥
     some_none tree h = cc
 
+-- bytes are at most one tree
+one_tree : (bytes : List ℕ) (tree other : Tree) → IsFile bytes tree → IsFile bytes other → tree ≡ other
+one_tree bytes tree other file again = let same : Some tree ≡ Some other = sym (file-run bytes tree file) ∙ file-run bytes other again in cc
+
 pub ends_well : (bytes : List ℕ) (state : State) (tree : Tree) → Reached bytes (length bytes) state → finished state ≡ Some tree → Reads bytes tree
 ends_well bytes state tree r ends = record {
   file = run-file bytes state tree (whole_run bytes state r) ends;
   shallow = λ k deep. r.shallow k deep.inside deep;
+  only = λ other file. one_tree bytes other tree file (run-file bytes state tree (whole_run bytes state r) ends);
 }
-
--- bytes are at most one tree
-pub one_tree : (bytes : List ℕ) (tree other : Tree) → IsFile bytes tree → IsFile bytes other → tree ≡ other
-one_tree bytes tree other file again = let same : Some tree ≡ Some other = sym (file-run bytes tree file) ∙ file-run bytes other again in cc
