@@ -47,7 +47,7 @@ pub struct Pddl {
 pub fn read_pddl(alloc: Global, domain: &Tree, problem: &Tree) -> Result<Pddl, PddlError>
     ensures read { IfOk result (λ p. reading (view domain.now) (view problem.now) ≡ Some (task_of p)) }
     ensures refused { (file : Which) (at : ℕ) → result ≡ Err (PddlError.Unsupported file at)
-        → IsRefused (view domain.now) (view problem.now) file at }
+        → (at ≡ 0) × IsRefused (view domain.now) (view problem.now) file }
 {
     let predicates = match read_domain(alloc, domain) {
         Ok(predicates) => predicates,

@@ -1,0 +1,5 @@
+pub mod Five
+pub mod Decided
+pub mod Printed
+pub mod Headlines
+pub mod Complete

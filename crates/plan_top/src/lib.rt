@@ -1,0 +1,11 @@
+//! The planner's top call: from the words of a command line and the bytes of files to a report and an
+//! exit status.
+#![tactic(auto)]
+
+mod decide;
+mod ending;
+mod top;
+mod words;
+
+pub use ending::Ending;
+pub use top::{Status, run};

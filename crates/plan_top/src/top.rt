@@ -1,0 +1,80 @@
+//! The top call.
+ghost use Rattle.std.specs.Prelude.{◌≡◌, ◌≢◌, ◌⊎◌, ℕ, List, [], ◌∷◌, map, string_bytes, codes};
+ghost use Rattle.pl_io.specs.Outside.{appended, TakesFront, Rose, FaultRose};
+ghost use Rattle.plan_top.specs.Words.{IsPlan};
+ghost use Rattle.plan_top.specs.Causes.{ComesFrom, GoesWell, IsOneOf};
+ghost use Rattle.plan_top.specs.Ending.{status_of, text_of};
+ghost use Rattle.plan_top.specs.Lines.{Says};
+ghost use Rattle.plan_top.specs.Headline.{Printed, OfTask, PlanRuns, NoStepPlan, NoPlan};
+ghost use Rattle.plan_top.specs.declared.ending.Ending.{Ending};
+
+use crate::decide::decide;
+use pl_io::{Shelf, Sink, put_all};
+use std::alloc::Global;
+
+/// An exit status.
+///
+/// | Status | When |
+/// |---|---|
+/// | 0 | a plan was found |
+/// | 1 | the last horizon is refuted |
+/// | 3 | an input file is refused |
+/// | 4 | a file has more bytes than it may have |
+/// | 5 | a file could not be read |
+/// | 6 | the report could not be written |
+/// | 7 | the words are none that are taken |
+/// | 8 | want of memory; nothing was written |
+#[derive(Clone, Copy, Debug, PartialEq, Eq)]
+pub struct Status(pub u8);
+
+/// Reads the words, takes the files from the shelf, decides, and writes the text due into the sink.
+///
+/// The words are those after the program's name. `plan DOMAIN PROBLEM --max-horizon 0` is taken so far.
+pub fn run<H, S: Shelf, K: Sink>(
+    _rt: &H,
+    alloc: Global,
+    words: &[String],
+    shelf: &mut S,
+    sink: &mut K,
+) -> Status
+    // A printed plan leads from the initial state to the goal.
+    ensures plan_runs { (text : List ℕ) → result.0 ≡ 0 → Printed (K.taken sink.old) (K.taken sink.new) text
+        → OfTask (map string_bytes words.now) (S.told shelf.old) (PlanRuns text) }
+
+    // A horizon that is printed as refuted has no step plan of so many steps.
+    ensures refuted_steps { (text : List ℕ) (horizon conflicts : ℕ) → Printed (K.taken sink.old) (K.taken sink.new) text
+        → Says text horizon (codes "refuted") conflicts → OfTask (map string_bytes words.now) (S.told shelf.old) (NoStepPlan horizon) }
+
+    // Nor is there a plan of at most so many actions.
+    ensures refuted_plans { (text : List ℕ) (horizon conflicts : ℕ) → Printed (K.taken sink.old) (K.taken sink.new) text
+        → Says text horizon (codes "refuted") conflicts → OfTask (map string_bytes words.now) (S.told shelf.old) (NoPlan horizon) }
+
+    // Each status has its cause, and with every status but 6 the bytes taken are exactly the text due.
+    ensures due { result.0 ≢ 6 → result.0 ≢ 8 → (end : Ending) × (result.0 ≡ status_of end)
+        × ComesFrom (map string_bytes words.now) (S.told shelf.old) (S.failed shelf.old) (S.failed shelf.new) end
+        × (K.taken sink.new ≡ appended (K.taken sink.old) (text_of end)) }
+    ensures read_fault { result.0 ≡ 5 → (domain : List ℕ) × (problem : List ℕ) × IsPlan (map string_bytes words.now) domain problem
+        × (FaultRose domain (S.failed shelf.old) (S.failed shelf.new) ⊎ FaultRose problem (S.failed shelf.old) (S.failed shelf.new)) }
+    ensures write_fault { result.0 ≡ 6 → Rose (K.faults sink.old) (K.faults sink.new) }
+    ensures front { result.0 ≡ 6 → (end : Ending)
+        × ComesFrom (map string_bytes words.now) (S.told shelf.old) (S.failed shelf.old) (S.failed shelf.new) end
+        × TakesFront (K.taken sink.old) (K.taken sink.new) (text_of end) }
+    ensures usage { result.0 ≡ 7 → (domain problem : List ℕ) → IsPlan (map string_bytes words.now) domain problem → ⊥ }
+    ensures not_taken { ((domain problem : List ℕ) → IsPlan (map string_bytes words.now) domain problem → ⊥) → IsOneOf (6 ∷ 7 ∷ 8 ∷ []) result.0 }
+    ensures nothing { result.0 ≡ 8 → K.taken sink.new ≡ K.taken sink.old }
+
+    // Words that are taken and two files that are a task give an answer, where no fault comes from outside.
+    ensures complete { GoesWell (map string_bytes words.now) (S.told shelf.old) (S.failed shelf.old) (S.failed shelf.new)
+        → (Rose (K.faults sink.old) (K.faults sink.new) → ⊥) → IsOneOf (0 ∷ 1 ∷ 8 ∷ []) result.0 }
+{
+    let Ok(ending) = decide(alloc, words, shelf) else {
+        return Status(8);
+    };
+    let Ok(due) = ending.text(alloc) else {
+        return Status(8);
+    };
+    let Ok(()) = put_all(sink, due.as_slice()) else {
+        return Status(6);
+    };
+    Status(ending.status())
+}

@@ -1,0 +1,20 @@
+//! The words of the command line.
+ghost use Rattle.std.specs.Prelude.{◌≡◌, ℕ, List, map, string_bytes, MatchOption};
+ghost use Rattle.plan_top.specs.Words.{IsPlan};
+
+/// The names of the domain and the problem, where the words are `plan DOMAIN PROBLEM --max-horizon 0`.
+pub fn plan_files(words: &[String]) -> Option<(&str, &str)>
+    ensures { MatchOption result ((d p : List ℕ) → IsPlan (map string_bytes words.now) d p → ⊥)
+        (λ names. IsPlan (map string_bytes words.now) names.0.now names.1.now) }
+{
+    match words {
+        [command, domain, problem, option, last]
+            if command.as_str() == "plan"
+                && option.as_str() == "--max-horizon"
+                && last.as_str() == "0" =>
+        {
+            Some((domain.as_str(), problem.as_str()))
+        }
+        _ => None,
+    }
+}
