@@ -12,12 +12,12 @@ module _ (state goal : List Atom) (i : ℕ) (item : Atom) where
 
   pub holds_more : i < length goal → item ≡ get_or goal i item → Holds state item → ((k : ℕ) (d : Atom) → k < i → Holds state (get_or goal k d)) → (k : ℕ) (d : Atom) → k < i + 1 → Holds state (get_or goal k d)
   holds_more inside is holds before k d less = elim (last_or_before k less) [
-      | inl earlier ↦ before k d earlier
-      | inr here ↦ subst (λ (n : ℕ). Holds state (get_or goal n d)) (sym here) (subst (λ (a : Atom). Holds state a) (item_at inside is d) holds)
-    ]
+    | inl earlier ↦ before k d earlier
+    | inr here ↦ subst (λ (n : ℕ). Holds state (get_or goal n d)) (sym here) (subst (λ (a : Atom). Holds state a) (item_at inside is d) holds)
+  ]
     where
-    last_or_before : (k : ℕ) → k < i + 1 → (k < i) ⊎ (k ≡ i)
-    last_or_before k less = elim (cases_lt k i) [ | inl h ↦ inl h | inr h ↦ inr (omega arith) ]
+      last_or_before : (k : ℕ) → k < i + 1 → (k < i) ⊎ (k ≡ i)
+      last_or_before k less = elim (cases_lt k i) [ inl h ↦ inl h | inr h ↦ inr (omega arith) ]
 
   pub not_all : i < length goal → item ≡ get_or goal i item → (Holds state item → ⊥) → All (Holds state) goal → ⊥
   not_all inside is fails all = fails (subst (λ (a : Atom). Holds state a) (sym (item_at inside is item)) (all i item inside))

@@ -63,9 +63,9 @@ sections kind tree = do
 abbrev pub section : List ℕ → Trees → Option Trees × Trees
 section head no_trees = (None, no_trees)
 section head (and_tree t ts) = elim (headed head t) [
-    | Some items ↦ (Some items, ts)
-    | None ↦ (None, and_tree t ts)
-  ]
+  | Some items ↦ (Some items, ts)
+  | None ↦ (None, and_tree t ts)
+]
 
 abbrev pub or_none : Option Trees → Trees
 or_none (Some items) = items
@@ -163,9 +163,9 @@ atom ps os tree = do
 -- `(and atom ..)`, or one atom
 abbrev pub goal : List Predicate → List ObjectDecl → Tree → Option (List Atom)
 goal ps os tree = elim (headed (codes "and") tree) [
-    | Some items ↦ every (atom ps os) items
-    | None ↦ atom ps os tree >>= λ a. Some (a ∷ [])
-  ]
+  | Some items ↦ every (atom ps os) items
+  | None ↦ atom ps os tree >>= λ a. Some (a ∷ [])
+]
 
 -- the section `(:domain NAME)` may be missing
 abbrev pub is_domain_name : Option Trees → Bool

@@ -95,7 +95,9 @@ fn read_predicate(alloc: Global, tree: &Tree) -> Result<Predicate, FormError>
 fn is_declared(name: &Name, predicates: &[Predicate]) -> bool
     ensures { result ≡ forms.is_declared name.now predicates.now }
 {
-    predicates.iter().any(|p| p.name.as_slice() == name.as_slice())
+    predicates
+        .iter()
+        .any(|p| p.name.as_slice() == name.as_slice())
 }
 
 fn read_predicates(alloc: Global, items: &[Tree]) -> Result<Vec<Predicate>, FormError>

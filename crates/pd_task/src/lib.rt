@@ -10,6 +10,8 @@ mod frames;
 mod parts;
 mod pddl;
 mod problem;
+#[cfg(test)]
+mod tests;
 mod words;
 
 pub use parts::{Atom, ObjectDecl, Objects, Predicate};

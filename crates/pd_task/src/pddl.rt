@@ -54,11 +54,13 @@ pub fn read_pddl(alloc: Global, domain: &Tree, problem: &Tree) -> Result<Pddl, P
         Err(error) => return Err(told(error, Which::Domain)),
     };
     match read_problem(alloc, &predicates, problem) {
-        Ok(Problem {
-            objects,
-            init,
-            goal,
-        }) => Ok(Pddl {
+        Ok(
+            Problem {
+                objects,
+                init,
+                goal,
+            },
+        ) => Ok(Pddl {
             predicates,
             objects,
             init,

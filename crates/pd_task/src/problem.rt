@@ -71,11 +71,7 @@ fn read_term(objects: &[ObjectDecl], tree: &Tree) -> Result<u32, FormError>
     }
 }
 
-fn read_terms(
-    alloc: Global,
-    objects: &[ObjectDecl],
-    items: &[Tree],
-) -> Result<Vec<u32>, FormError>
+fn read_terms(alloc: Global, objects: &[ObjectDecl], items: &[Tree]) -> Result<Vec<u32>, FormError>
     ensures { Gives (λ v. v.items) (every (forms.term objects.now) (views items.now)) result }
 {
     let mut terms = Vec::new(alloc);

@@ -33,12 +33,22 @@ no_plan task fails (call ∷ calls) short plan = absurd (omega arith)
 
 module _ (words : List (List ℕ)) (told : List ℕ → Option (List ℕ)) (old new : List (List ℕ)) where
   refuted_claim : (claim : Task → Type 0) → ((task : Task) → (HoldsGoal task task.init → ⊥) → claim task) → ComesFrom words told old new Refuted → OfTask words told claim
-  refuted_claim claim from comes = (comes.0, comes.1, comes.2, task_of_files Refuted claim (told comes.0) (told comes.1)
-    (λ first second d. (d.4.0, (d.0, d.1, d.2, d.3, d.4.1), from d.4.0 d.4.2)) comes.3)
+  refuted_claim claim from comes = (
+    comes.0,
+    comes.1,
+    comes.2,
+    task_of_files Refuted claim (told comes.0) (told comes.1)
+        (λ first second d. (d.4.0, (d.0, d.1, d.2, d.3, d.4.1), from d.4.0 d.4.2)) comes.3,
+  )
 
   found_claim : ComesFrom words told old new Found → OfTask words told (PlanRuns (text_of Found))
-  found_claim comes = (comes.0, comes.1, comes.2, task_of_files Found (PlanRuns (text_of Found)) (told comes.0) (told comes.1)
-    (λ first second d. (d.4.0, (d.0, d.1, d.2, d.3, d.4.1), (([], tt, d.4.2), d.4.2))) comes.3)
+  found_claim comes = (
+    comes.0,
+    comes.1,
+    comes.2,
+    task_of_files Found (PlanRuns (text_of Found)) (told comes.0) (told comes.1)
+        (λ first second d. (d.4.0, (d.0, d.1, d.2, d.3, d.4.1), (([], tt, d.4.2), d.4.2))) comes.3,
+  )
 
   found_only : (end : Ending) → status_of end ≡ 0 → end ≡ Found
   found_only Found zero = refl

@@ -27,7 +27,7 @@ lines_more : (front xs ys line : List ℕ) → IsAmong (lines_from front xs) lin
 lines_more front [] ys line h = absurd h
 lines_more front (b ∷ bs) ys line h =
     on_test (b == 10) (front ∷ lines_from [] bs) (lines_from (front ++ b ∷ []) bs) (front ∷ lines_from [] (bs ++ ys)) (lines_from (front ++ b ∷ []) (bs ++ ys)) line
-      (kept front line (lines_from [] bs) (lines_from [] (bs ++ ys)) (lines_more [] bs ys line)) (lines_more (front ++ b ∷ []) bs ys line) h
+    (kept front line (lines_from [] bs) (lines_from [] (bs ++ ys)) (lines_more [] bs ys line)) (lines_more (front ++ b ∷ []) bs ys line) h
 
 both : (a b : Bool) → (a && b) ≡ true → (a ≡ true) × (b ≡ true)
 both true b h = (refl, h)

@@ -4,6 +4,8 @@
 
 mod decide;
 mod ending;
+#[cfg(test)]
+mod tests;
 mod top;
 mod words;
 

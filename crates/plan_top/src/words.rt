@@ -11,10 +11,7 @@ pub fn plan_files(words: &[String]) -> Option<(&str, &str)>
         [command, domain, problem, option, last]
             if command.as_str() == "plan"
                 && option.as_str() == "--max-horizon"
-                && last.as_str() == "0" =>
-        {
-            Some((domain.as_str(), problem.as_str()))
-        }
+                && last.as_str() == "0" => { Some((domain.as_str(), problem.as_str())) }
         _ => None,
     }
 }

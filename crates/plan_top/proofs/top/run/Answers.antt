@@ -18,22 +18,22 @@ returns-in_default-text-clause-refuted_plans g c text horizon conflicts printed 
 pub returns-in_default-put_all-clause-refuted_steps : goal.returns-in_default-put_all-clause-refuted_steps
 returns-in_default-put_all-clause-refuted_steps g c text horizon conflicts printed says =
     refuted_steps (map string_bytes c.args.words.now) (g.S.Shelf.told c.args.shelf.now) (g.S.Shelf.failed c.args.shelf.now) (g.S.Shelf.failed c.decide.new.shelf) c.in-Ok.ending c.in-Ok.ensures (g.K.Sink.taken c.args.sink.now) (g.K.Sink.taken c.put_all.new.sink) text printed
-      (rw (c.as_slice.ensures, c.in-Ok-text.ensures) at c.put_all.ensures.front) horizon conflicts says
+    (rw (c.as_slice.ensures, c.in-Ok-text.ensures) at c.put_all.ensures.front) horizon conflicts says
 
 pub returns-in_default-put_all-clause-refuted_plans : goal.returns-in_default-put_all-clause-refuted_plans
 returns-in_default-put_all-clause-refuted_plans g c text horizon conflicts printed says =
     refuted_plans (map string_bytes c.args.words.now) (g.S.Shelf.told c.args.shelf.now) (g.S.Shelf.failed c.args.shelf.now) (g.S.Shelf.failed c.decide.new.shelf) c.in-Ok.ending c.in-Ok.ensures (g.K.Sink.taken c.args.sink.now) (g.K.Sink.taken c.put_all.new.sink) text printed
-      (rw (c.as_slice.ensures, c.in-Ok-text.ensures) at c.put_all.ensures.front) horizon conflicts says
+    (rw (c.as_slice.ensures, c.in-Ok-text.ensures) at c.put_all.ensures.front) horizon conflicts says
 
 pub returns-clause-refuted_steps : goal.returns-clause-refuted_steps
 returns-clause-refuted_steps g c text horizon conflicts printed says =
     refuted_steps (map string_bytes c.args.words.now) (g.S.Shelf.told c.args.shelf.now) (g.S.Shelf.failed c.args.shelf.now) (g.S.Shelf.failed c.decide.new.shelf) c.in-Ok.ending c.in-Ok.ensures (g.K.Sink.taken c.args.sink.now) (g.K.Sink.taken c.put_all.new.sink) text printed
-      (rw (c.as_slice.ensures, c.in-Ok-text.ensures) at c.put_all.ensures.front) horizon conflicts says
+    (rw (c.as_slice.ensures, c.in-Ok-text.ensures) at c.put_all.ensures.front) horizon conflicts says
 
 pub returns-clause-refuted_plans : goal.returns-clause-refuted_plans
 returns-clause-refuted_plans g c text horizon conflicts printed says =
     refuted_plans (map string_bytes c.args.words.now) (g.S.Shelf.told c.args.shelf.now) (g.S.Shelf.failed c.args.shelf.now) (g.S.Shelf.failed c.decide.new.shelf) c.in-Ok.ending c.in-Ok.ensures (g.K.Sink.taken c.args.sink.now) (g.K.Sink.taken c.put_all.new.sink) text printed
-      (rw (c.as_slice.ensures, c.in-Ok-text.ensures) at c.put_all.ensures.front) horizon conflicts says
+    (rw (c.as_slice.ensures, c.in-Ok-text.ensures) at c.put_all.ensures.front) horizon conflicts says
 
 pub returns-clause-plan_runs : goal.returns-clause-plan_runs
 returns-clause-plan_runs g c text zero printed =
