@@ -5,7 +5,7 @@ use Rattle.std.specs.Int.{div_ceil}
 use Rattle.horizon_rates.specs.declared.rates.Algorithm.{Algorithm}
 use Rattle.horizon_rates.specs.declared.rates.Algorithm.TheVariants.{A, B, C}
 use Rattle.horizon_rates.specs.declared.rates.Rates.{Rates}
-use Rattle.horizon_rates.specs.Horizons.{grown, growing, unbounded, horizon_at, up_to}
+use Rattle.horizon_rates.specs.Horizons.{grown, growing, unbounded, horizon_at, up_to, listed}
 use Rattle.horizon_rates.proofs.Rising.{Rises}
 
 -- no horizon before the place next is past the greatest one allowed
@@ -56,3 +56,14 @@ up_to-Some greatest h x is = grind (arith, nat_tests)
 
 pub up_to-None : (greatest h : ℕ) → up_to greatest h ≡ None → greatest < h
 up_to-None greatest h is = grind (arith, nat_tests)
+
+unbounded-first : (algorithm : Algorithm) (first growth : ℕ) → unbounded algorithm first growth 0 ≤ first
+unbounded-first A first growth = omega arith
+unbounded-first B first growth = omega arith
+unbounded-first C first growth = omega arith
+
+-- the list is never empty
+pub listed-first : (rates : Rates) → listed rates 0 ≡ Some (horizon_at rates 0)
+listed-first rates =
+    up_to-within rates.max (horizon_at rates 0)
+    (omega (arith, unbounded-first rates.algorithm (min rates.start rates.max) rates.growth))

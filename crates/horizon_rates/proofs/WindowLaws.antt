@@ -1,6 +1,7 @@
 -- The list of horizons rises, so the live ones are a stretch of it, and those up to a refuted one are at its front.
 use Rattle.std.proofs.Common.{◌≡◌, ℕ, ◌+◌, ◌-◌, ◌<◌, ◌≤◌, ◌↔◌, ◌⊎◌, IsNone, List, [], ◌∷◌, ◌++◌, length, drop, filter, slice_get, nat_lt, Some, None, Contains, inl, inr, subst, refl, sym, ap, ◌∙◌, arith}
 use Rattle.std.specs.List.{range_with_len}
+use Rattle.std.specs.List.Sorted.{IsStrictlyIncreasing}
 use Rattle.std.proofs.lemmas.List.FromFn.{length-map-range_with_len, map-range_with_len_more, get_or-map-range_with_len}
 use Rattle.std.proofs.lemmas.Bool.{cases_lt}
 use Rattle.std.proofs.lemmas.Option.{slice_get_past}
@@ -20,12 +21,21 @@ state-same rates same_live same_next = cc
 pub length-stretch : (rates : Rates) (first count : ℕ) → length (stretch rates first count) ≡ count
 length-stretch rates first count = length-map-range_with_len (horizon_at rates) first count
 
+stretch-rises : (rates : Rates) (first count : ℕ) → IsStrictlyIncreasing (stretch rates first count)
+stretch-rises rates first count k below =
+    let f = horizon_at rates in
+    let len = length-stretch rates first count in
+    let here = get_or-map-range_with_len f first count k (first + k) 0 (omega arith) refl in
+    let there = get_or-map-range_with_len f first count (k + 1) (first + (k + 1)) 0 (omega arith) refl in
+    omega (arith, horizon_at-rises rates (first + k) (first + (k + 1)) (omega arith))
+
 pub window-of : (rates : Rates) (first count : ℕ) → count ≤ rates.width → AllListed rates (first + count) → IsWindow (state rates (stretch rates first count) (first + count))
 window-of rates first count narrow all =
     let len = length-stretch rates first count in
     let start : first ≡ first + count - length (stretch rates first count) = omega arith in
     record {
         within_width = omega arith;
+        rising = stretch-rises rates first count;
         within_list = omega arith;
         listed_before = λ place below. up_to-within rates.max (horizon_at rates place) (all place below);
         last_taken = ap (λ x. stretch rates x count) start ∙ ap (λ n. stretch rates (first + count - length (stretch rates first count)) n) (sym len);

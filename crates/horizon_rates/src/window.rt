@@ -34,7 +34,8 @@ impl Window {
 
     /// A window with no live horizon, before the whole list.
     pub fn new(rates: &Rates) -> Self
-        ensures { result ≡ record { rates = rates.now; live = []; next = 0 } }
+        ensures value { result ≡ record { rates = rates.now; live = []; next = 0 } }
+        ensures unended { ¬ IsEnded result }
     {
         Window {
             rates: *rates,

@@ -18,7 +18,7 @@ overflow_add-self-inside c =
 
 pub returns-clause-value : goal.returns-clause-value
 returns-clause-value c =
-    c.nth.ensures ∙ rw (← c.self.view_is) (live-at c.self.inside.rates _ _ _ c.self.invariant.1 c.if-place-self.false)
+    c.nth.ensures.value ∙ rw (← c.self.view_is) (live-at c.self.inside.rates _ _ _ c.self.invariant.1 c.if-place-self.false)
 
 pub returns-clause-window : goal.returns-clause-window
 returns-clause-window c =
