@@ -3,6 +3,8 @@
 
 mod ledger;
 mod rates;
+#[cfg(test)]
+mod tests;
 mod window;
 
 pub use ledger::Ledger;

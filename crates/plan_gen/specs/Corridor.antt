@@ -6,10 +6,10 @@ use Rattle.plan_gen.specs.Numbered.{numbered}
 abbrev pub corridor_domain : List ℕ
 corridor_domain =
     codes "(define (domain corridor)\n"
-        ++ codes "(:predicates (in ?r) (door ?a ?b))\n"
-        ++ codes "(:action walk :parameters (?a ?b)\n"
-        ++ codes ":precondition (and (in ?a) (door ?a ?b))\n"
-        ++ codes ":effect (and (in ?b) (not (in ?a)))))\n"
+    ++ codes "(:predicates (in ?r) (door ?a ?b))\n"
+    ++ codes "(:action walk :parameters (?a ?b)\n"
+    ++ codes ":precondition (and (in ?a) (door ?a ?b))\n"
+    ++ codes ":effect (and (in ?b) (not (in ?a)))))\n"
 
 -- A door from the room of one number to the room of another, with a blank before it.
 abbrev pub door : (from to : ℕ) → List ℕ
@@ -24,8 +24,8 @@ doors (suc count) = doors count ++ door count (count + 1) ++ door (count + 1) co
 abbrev pub corridor_head : (number : ℕ) → List ℕ
 corridor_head number =
     codes "(define (problem corridor-" ++ decimal number ++ codes ")\n"
-        ++ codes "(:domain corridor)\n"
-        ++ codes "(:objects r0" ++ numbered (codes " r") [] number ++ codes ")\n"
+    ++ codes "(:domain corridor)\n"
+    ++ codes "(:objects r0" ++ numbered (codes " r") [] number ++ codes ")\n"
 
 -- The initial state: the walker is in room 0, and each room has doors to its neighbours.
 abbrev pub corridor_init : (number : ℕ) → List ℕ

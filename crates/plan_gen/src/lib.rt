@@ -7,11 +7,12 @@ ghost use Rattle.plan_gen.specs.Task.{domain_of, problem_of};
 
 mod corridor;
 mod gripper;
+#[cfg(test)]
+mod tests;
 mod text;
 
-pub use text::{Memory, Text};
-
 use std::alloc::Global;
+pub use text::{Memory, Text};
 
 /// Which task is written.
 #[derive(Clone, Copy, Debug, PartialEq, Eq)]
