@@ -1,5 +1,10 @@
 //! Planning tasks of any size, written as PDDL: a corridor to walk along, and a robot with two
-//! grippers that carries balls (the domain of the first planning competition).
+//! grippers that carries balls (a domain of the first international planning competition, 1998).
+//!
+//! ```text
+//! let made = generate(alloc, Kind::Gripper, 2)?;
+//! read(made.domain.as_slice(), made.problem.as_slice())
+//! ```
 #![tactic(auto)]
 
 ghost use Rattle.std.specs.Prelude.{◌≡◌, ◌≤◌, IfOk};
