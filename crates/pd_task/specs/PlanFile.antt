@@ -1,5 +1,5 @@
 -- Plan files: lists `(name object ..)`, with blanks and comments between them.
-use Rattle.std.specs.Prelude.{◌≡◌, ℕ, ◌+◌, true, List, [], ◌∷◌, ◌++◌, length}
+use Rattle.std.specs.Prelude.{◌≡◌, ℕ, ◌+◌, true, false, List, [], ◌∷◌, ◌++◌, length}
 use Rattle.pd_sexp.specs.Tree.{Tree, word, list, Trees, no_trees, and_tree}
 use Rattle.pd_sexp.specs.File.{IsGap, IsTree}
 use Rattle.pd_task.specs.Task.{Task}
@@ -14,7 +14,7 @@ abbrev pub SpellsFrom : Task → ℕ → List ℕ → List Call → Type 0
 SpellsFrom task offset bytes [] = IsGap true bytes
 SpellsFrom task offset bytes (call ∷ calls) =
     (gap : List ℕ) × (item : List ℕ) × (rest : List ℕ) × (tree : Tree) × (bytes ≡ gap ++ (item ++ rest))
-    × IsGap true gap × IsTree tree (offset + length gap) item × SpellsCall task tree call
+    × IsGap false gap × IsTree tree (offset + length gap) item × SpellsCall task tree call
     × SpellsFrom task (offset + length gap + length item) rest calls
 
 abbrev pub Spells : Task → List ℕ → List Call → Type 0

@@ -8,7 +8,8 @@ use Rattle.pd_task.specs.declared.pddl.Which.TheVariants.{Domain, Problem}
 use Rattle.plan_top.specs.declared.ending.Ending.{Ending}
 use Rattle.plan_top.specs.declared.ending.Ending.TheVariants.{Found, Refuted, Syntax, Unsupported, TooLong, ReadFault, Usage}
 use Rattle.plan_top.specs.Ending.{status_of, text_of}
-use Rattle.plan_top.specs.Lines.{lines_from, lines_of, IsAmong, Says}
+use Rattle.plan_top.specs.Lines.{lines_from, lines_of, Says}
+use Rattle.plan_top.specs.Among.{IsAmong}
 use Rattle.plan_top.specs.Headline.{Printed}
 
 -- ---- lines

@@ -1,5 +1,5 @@
 -- When each ending of a run comes.
-use Rattle.std.specs.Prelude.{◌≡◌, ◌⊎◌, ◌<◌, ◌≤◌, ℕ, List, [], ◌∷◌, length, Option, Some, IfSome}
+use Rattle.std.specs.Prelude.{◌≡◌, ◌<◌, ◌≤◌, ℕ, List, length, Bool, IsTrue, Option, Some, IfSome}
 use Rattle.pl_io.specs.Outside.{FaultRose}
 use Rattle.pd_sexp.specs.Tree.{Tree}
 use Rattle.pd_sexp.specs.Fault.{Fault, IsFault, Reads}
@@ -37,24 +37,32 @@ Decides domain problem (Syntax Domain) = HasFault domain
 Decides domain problem (Syntax Problem) = ((tree : Tree) × Reads domain tree) × HasFault problem
 Decides domain problem end = (first : Tree) × (second : Tree) × Reads domain first × Reads problem second × DecidesTrees first second end
 
--- a file within the limit, where its bytes are told
-abbrev pub Fits : Option (List ℕ) → Type 0
-Fits told = IfSome told (λ bytes. length bytes ≤ most_bytes)
+-- What a shelf tells: the bytes of names, and of which names there is no file. Then its faults before and after, and the two files' names.
+module _ (told : List ℕ → Option (List ℕ)) (lacks : List ℕ → Bool) (old new : List (List ℕ)) where
+  -- the file is not told to be missing, and what is told of its bytes meets the claim
+  abbrev pub IsThere : List ℕ → (List ℕ → Type 0) → Type 0
+  IsThere name claim = (IsTrue (lacks name) → ⊥) × IfSome (told name) claim
 
--- When an ending comes, for words that name these two files: what is told of them, and the faults before and after.
-module _ (told : List ℕ → Option (List ℕ)) (old new : List (List ℕ)) (domain problem : List ℕ) where
-  abbrev pub Comes : Ending → Type 0
-  Comes Usage = ⊥
-  Comes (ReadFault Domain) = FaultRose domain old new
-  Comes (ReadFault Problem) = Fits (told domain) × FaultRose problem old new
-  Comes (TooLong Domain) = IfSome (told domain) (λ bytes. most_bytes < length bytes)
-  Comes (TooLong Problem) = Fits (told domain) × IfSome (told problem) (λ bytes. most_bytes < length bytes)
-  Comes end = IfSome (told domain) (λ first. IfSome (told problem) (λ second. (length first ≤ most_bytes) × (length second ≤ most_bytes) × Decides first second end))
+  -- the file was taken whole
+  abbrev pub Fits : List ℕ → Type 0
+  Fits name = IsThere name (λ bytes. length bytes ≤ most_bytes)
 
--- when an ending comes, for any words
-abbrev pub ComesFrom : List (List ℕ) → (List ℕ → Option (List ℕ)) → List (List ℕ) → List (List ℕ) → Ending → Type 0
-ComesFrom words told old new Usage = (domain problem : List ℕ) → IsPlan words domain problem → ⊥
-ComesFrom words told old new end = (domain : List ℕ) × (problem : List ℕ) × IsPlan words domain problem × Comes told old new domain problem end
+  abbrev pub IsTooLong : List ℕ → Type 0
+  IsTooLong name = IsThere name (λ bytes. most_bytes < length bytes)
+
+  -- when an ending comes, for words that name these two files
+  abbrev pub Comes : List ℕ → List ℕ → Ending → Type 0
+  Comes domain problem Usage = ⊥
+  Comes domain problem (ReadFault Domain) = FaultRose domain old new
+  Comes domain problem (ReadFault Problem) = Fits domain × FaultRose problem old new
+  Comes domain problem (TooLong Domain) = IsTooLong domain
+  Comes domain problem (TooLong Problem) = Fits domain × IsTooLong problem
+  Comes domain problem end = Fits domain × Fits problem × IfSome (told domain) (λ first. IfSome (told problem) (λ second. Decides first second end))
+
+  -- when an ending comes, for any words
+  abbrev pub ComesFrom : List (List ℕ) → Ending → Type 0
+  ComesFrom words Usage = (domain problem : List ℕ) → IsPlan words domain problem → ⊥
+  ComesFrom words end = (domain : List ℕ) × (problem : List ℕ) × IsPlan words domain problem × Comes domain problem end
 
 -- the words name two files whose bytes are told, within the limit and a task, and no fault of either was noted
 pub record GoesWell (words : List (List ℕ)) (told : List ℕ → Option (List ℕ)) (old new : List (List ℕ)) : Type 0 where
@@ -71,8 +79,3 @@ pub record GoesWell (words : List (List ℕ)) (told : List ℕ → Option (List 
   pub are_task : AreTask first second task
   pub first_read : FaultRose domain old new → ⊥
   pub second_read : FaultRose problem old new → ⊥
-
--- a status is among these
-abbrev pub IsOneOf : List ℕ → ℕ → Type 0
-IsOneOf [] status = ⊥
-IsOneOf (first ∷ others) status = (status ≡ first) ⊎ IsOneOf others status

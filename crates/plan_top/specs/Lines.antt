@@ -1,5 +1,6 @@
 -- The lines of a report, and what they say of horizons.
-use Rattle.std.specs.Prelude.{◌≡◌, ◌⊎◌, ℕ, ◌==◌, if◌then◌else◌, List, [], ◌∷◌, ◌++◌, codes}
+use Rattle.std.specs.Prelude.{◌≡◌, ℕ, ◌==◌, if◌then◌else◌, List, [], ◌∷◌, ◌++◌, codes}
+use Rattle.plan_top.specs.Among.{IsAmong}
 use Rattle.std.specs.Str.Parse.{IsNumeral, digits_value}
 
 -- the lines that end with LF, of a text that goes on from the front of a line
@@ -9,10 +10,6 @@ lines_from front (b ∷ bs) = if b == 10 then front ∷ lines_from [] bs else li
 
 abbrev pub lines_of : List ℕ → List (List ℕ)
 lines_of text = lines_from [] text
-
-abbrev pub IsAmong : List (List ℕ) → List ℕ → Type 0
-IsAmong [] line = ⊥
-IsAmong (first ∷ others) line = (first ≡ line) ⊎ IsAmong others line
 
 -- these digits write the number
 abbrev pub Writes : List ℕ → ℕ → Type 0

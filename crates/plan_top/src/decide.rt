@@ -1,10 +1,11 @@
 //! What the files decide, before anything is written.
-ghost use Rattle.std.specs.Prelude.{◌≡◌, ◌≤◌, ◌<◌, ℕ, List, length, map, string_bytes, IfOk, IfSome, MatchOption};
+ghost use Rattle.std.specs.Prelude.{◌≡◌, ◌≤◌, ◌<◌, ℕ, List, length, map, string_bytes, IsTrue, OnOk, IfOk, IfSome, MatchOption};
 ghost use Rattle.pl_io.specs.Outside.{FaultRose, fault_count};
 ghost use Rattle.pd_sexp.specs.Fault.{Reads};
 ghost use Rattle.pd_sexp.specs.View.{view};
-ghost use Rattle.plan_top.specs.Causes.{Comes, ComesFrom, Decides, DecidesTrees, HasFault, most_bytes};
+ghost use Rattle.plan_top.specs.Causes.{Comes, ComesFrom, Decides, DecidesTrees, HasFault, IsTooLong, most_bytes};
 ghost use Rattle.plan_top.specs.Ended.{ended_by};
+ghost use Rattle.plan_top.specs.Words.{IsPlan};
 
 use crate::Ending;
 use crate::words::plan_files;
@@ -18,7 +19,11 @@ const MOST_BYTES: usize = 1048576;
 
 /// How the run ends, before anything is written.
 pub fn decide<S: Shelf>(alloc: Global, words: &[String], shelf: &mut S) -> Result<Ending, Memory>
-    ensures { IfOk result (ComesFrom (map string_bytes words.now) (S.told shelf.old) (S.failed shelf.old) (S.failed shelf.new)) }
+    ensures cause { IfOk result (ComesFrom (S.told shelf.old) (S.lacks shelf.old) (S.failed shelf.old) (S.failed shelf.new) (map string_bytes words.now)) }
+    ensures untouched { ((domain problem : List ℕ) → IsPlan (map string_bytes words.now) domain problem → ⊥) → shelf.new ≡ shelf.old }
+    ensures told { S.told shelf.new ≡ S.told shelf.old }
+    ensures lacks { S.lacks shelf.new ≡ S.lacks shelf.old }
+    ensures never_falls { (name : List ℕ) → fault_count name (S.failed shelf.old) ≤ fault_count name (S.failed shelf.new) }
 {
     match plan_files(words) {
         Some((domain, problem)) => decide_files(alloc, domain, problem, shelf),
@@ -32,7 +37,10 @@ fn decide_files<S: Shelf>(
     problem: &str,
     shelf: &mut S,
 ) -> Result<Ending, Memory>
-    ensures { IfOk result (Comes (S.told shelf.old) (S.failed shelf.old) (S.failed shelf.new) domain.now problem.now) }
+    ensures cause { IfOk result (Comes (S.told shelf.old) (S.lacks shelf.old) (S.failed shelf.old) (S.failed shelf.new) domain.now problem.now) }
+    ensures told { S.told shelf.new ≡ S.told shelf.old }
+    ensures lacks { S.lacks shelf.new ≡ S.lacks shelf.old }
+    ensures never_falls { (name : List ℕ) → fault_count name (S.failed shelf.old) ≤ fault_count name (S.failed shelf.new) }
 {
     let first = match take_file(alloc, domain, shelf) {
         Ok(bytes) => bytes,
@@ -59,10 +67,12 @@ pub enum FileError {
 /// The bytes of a file.
 fn take_file<S: Shelf>(alloc: Global, name: &str, shelf: &mut S) -> Result<Vec<u8>, FileError>
     ensures told { S.told shelf.new ≡ S.told shelf.old }
+    ensures lacks { S.lacks shelf.new ≡ S.lacks shelf.old }
     ensures never_falls { (other : List ℕ) → fault_count other (S.failed shelf.old) ≤ fault_count other (S.failed shelf.new) }
+    ensures there { OnOk result (IsTrue (S.lacks shelf.old name.now) → ⊥) }
     ensures whole { IfOk result (λ bytes. IfSome (S.told shelf.old name.now) (λ file. bytes.items ≡ file)) }
     ensures fits { IfOk result (λ bytes. length bytes.items ≤ most_bytes) }
-    ensures too_long { result ≡ Err FileError.TooLong → IfSome (S.told shelf.old name.now) (λ file. most_bytes < length file) }
+    ensures too_long { result ≡ Err FileError.TooLong → IsTooLong (S.told shelf.old) (S.lacks shelf.old) (S.failed shelf.old) (S.failed shelf.new) name.now }
     ensures read_fault { result ≡ Err FileError.ReadFault → FaultRose name.now (S.failed shelf.old) (S.failed shelf.new) }
 {
     let mut bytes = Vec::new(alloc);

@@ -1,8 +1,9 @@
 //! The top call.
-ghost use Rattle.std.specs.Prelude.{◌≡◌, ◌≢◌, ◌⊎◌, ℕ, List, [], ◌∷◌, map, string_bytes, codes};
-ghost use Rattle.pl_io.specs.Outside.{appended, TakesFront, Rose, FaultRose};
+ghost use Rattle.std.specs.Prelude.{◌≡◌, ◌≢◌, ◌≤◌, ◌⊎◌, ℕ, List, [], ◌∷◌, map, string_bytes, codes};
+ghost use Rattle.pl_io.specs.Outside.{appended, TakesFront, Rose, FaultRose, fault_count};
 ghost use Rattle.plan_top.specs.Words.{IsPlan};
-ghost use Rattle.plan_top.specs.Causes.{ComesFrom, GoesWell, IsOneOf};
+ghost use Rattle.plan_top.specs.Among.{IsAmong};
+ghost use Rattle.plan_top.specs.Causes.{ComesFrom, GoesWell};
 ghost use Rattle.plan_top.specs.Ending.{status_of, text_of};
 ghost use Rattle.plan_top.specs.Lines.{Says};
 ghost use Rattle.plan_top.specs.Headline.{Printed, OfTask, PlanRuns, NoStepPlan, NoPlan};
@@ -51,21 +52,30 @@ pub fn run<H, S: Shelf, K: Sink>(
 
     // Each status has its cause, and with every status but 6 the bytes taken are exactly the text due.
     ensures due { result.0 ≢ 6 → result.0 ≢ 8 → (end : Ending) × (result.0 ≡ status_of end)
-        × ComesFrom (map string_bytes words.now) (S.told shelf.old) (S.failed shelf.old) (S.failed shelf.new) end
+        × ComesFrom (S.told shelf.old) (S.lacks shelf.old) (S.failed shelf.old) (S.failed shelf.new) (map string_bytes words.now) end
         × (K.taken sink.new ≡ appended (K.taken sink.old) (text_of end)) }
     ensures read_fault { result.0 ≡ 5 → (domain : List ℕ) × (problem : List ℕ) × IsPlan (map string_bytes words.now) domain problem
         × (FaultRose domain (S.failed shelf.old) (S.failed shelf.new) ⊎ FaultRose problem (S.failed shelf.old) (S.failed shelf.new)) }
     ensures write_fault { result.0 ≡ 6 → Rose (K.faults sink.old) (K.faults sink.new) }
     ensures front { result.0 ≡ 6 → (end : Ending)
-        × ComesFrom (map string_bytes words.now) (S.told shelf.old) (S.failed shelf.old) (S.failed shelf.new) end
+        × ComesFrom (S.told shelf.old) (S.lacks shelf.old) (S.failed shelf.old) (S.failed shelf.new) (map string_bytes words.now) end
         × TakesFront (K.taken sink.old) (K.taken sink.new) (text_of end) }
     ensures usage { result.0 ≡ 7 → (domain problem : List ℕ) → IsPlan (map string_bytes words.now) domain problem → ⊥ }
-    ensures not_taken { ((domain problem : List ℕ) → IsPlan (map string_bytes words.now) domain problem → ⊥) → IsOneOf (6 ∷ 7 ∷ 8 ∷ []) result.0 }
-    ensures nothing { result.0 ≡ 8 → K.taken sink.new ≡ K.taken sink.old }
+    ensures not_taken { ((domain problem : List ℕ) → IsPlan (map string_bytes words.now) domain problem → ⊥) → IsAmong (6 ∷ 7 ∷ 8 ∷ []) result.0 }
+    ensures untouched { ((domain problem : List ℕ) → IsPlan (map string_bytes words.now) domain problem → ⊥) → shelf.new ≡ shelf.old }
+
+    // With 8 the sink was not touched.
+    ensures nothing { result.0 ≡ 8 → sink.new ≡ sink.old }
+
+    // What a shelf tells stays as it was, and no count of faults falls.
+    ensures told { S.told shelf.new ≡ S.told shelf.old }
+    ensures lacks { S.lacks shelf.new ≡ S.lacks shelf.old }
+    ensures never_falls { (name : List ℕ) → fault_count name (S.failed shelf.old) ≤ fault_count name (S.failed shelf.new) }
+    ensures faults { K.faults sink.old ≤ K.faults sink.new }
 
     // Words that are taken and two files that are a task give an answer, where no fault comes from outside.
     ensures complete { GoesWell (map string_bytes words.now) (S.told shelf.old) (S.failed shelf.old) (S.failed shelf.new)
-        → (Rose (K.faults sink.old) (K.faults sink.new) → ⊥) → IsOneOf (0 ∷ 1 ∷ 8 ∷ []) result.0 }
+        → (Rose (K.faults sink.old) (K.faults sink.new) → ⊥) → IsAmong (0 ∷ 1 ∷ 8 ∷ []) result.0 }
 {
     let Ok(ending) = decide(alloc, words, shelf) else {
         return Status(8);
