@@ -1,14 +1,15 @@
 -- Plans and step plans of a task of the small form, which has no actions yet.
-use Rattle.std.specs.Prelude.{◌≡◌, ℕ, List, [], ◌∷◌}
+use Rattle.std.specs.Prelude.{◌≡◌, ◌↔◌, ℕ, List, [], ◌∷◌}
 use Rattle.pd_task.specs.Task.{Task}
-use Rattle.pd_task.specs.State.{State, HoldsGoal}
+use Rattle.pd_task.specs.declared.parts.Atom.{Atom}
+use Rattle.pd_task.specs.State.{State, Holds, HoldsGoal}
 
 -- an action's number with the numbers of the objects that it is given
 pub record Call : Type 0 where
   pub schema : ℕ
   pub objects : List ℕ
 
--- a call of an action leads from one state to the next; the small form has no actions, so none does
+-- A call of an action leads from one state to the next (PDDL 2.1, level 1: Fox and Long 2003); the small form has no actions, so none does.
 abbrev pub Executes : Task → State → Call → State → Type 0
 Executes task state call next = ⊥
 
@@ -20,9 +21,10 @@ LeadsToGoal task state (call ∷ calls) = (next : State) × Executes task state 
 abbrev pub IsPlan : Task → List Call → Type 0
 IsPlan task calls = LeadsToGoal task task.init calls
 
--- A step takes a set of actions, by their numbers, from one state to the next; with no actions it is the empty set, which changes nothing.
+-- A step takes a set of actions, by their numbers, from one state to the next (Rintanen, Heljanko and Niemelä 2006); with no actions it is the
+-- empty set, which changes nothing.
 abbrev pub IsStep : Task → State → List ℕ → State → Type 0
-IsStep task state members next = (members ≡ []) × (next ≡ state)
+IsStep task state members next = (members ≡ []) × ((atom : Atom) → Holds next atom ↔ Holds state atom)
 
 -- the steps lead one after another to a state in which the goal holds
 abbrev pub StepsToGoal : Task → State → List (List ℕ) → Type 0

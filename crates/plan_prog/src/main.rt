@@ -6,7 +6,8 @@ use plan_top::run;
 use std::env;
 use std::process::ExitCode;
 
-/// The exit status where the system does not give the words; the top call never answers it.
+/// The exit status where the system does not give the words, also for want of memory to hold them; the
+/// top call never answers it.
 const NO_WORDS: u8 = 9;
 
 fn main(rt: HostRuntime) -> ExitCode {

@@ -1,5 +1,5 @@
 -- What the headline says follows from an ending's cause.
-use Rattle.std.proofs.Common.{◌≡◌, ◌≢◌, ◌<◌, ◌≤◌, ℕ, List, [], ◌∷◌, ◌++◌, length, take, drop, Option, Some, None, codes, refl, sym, ap, subst, ◌∙◌, arith}
+use Rattle.std.proofs.Common.{◌≡◌, ◌≢◌, ◌<◌, ◌≤◌, ℕ, List, [], ◌∷◌, ◌++◌, length, take, drop, Option, Some, None, codes, refl, sym, ap, subst, ◌∙◌, arith, inl, inr}
 use Rattle.std.specs.Prelude.{Bool, IfSome}
 use Rattle.std.proofs.lemmas.List.{take-append-drop}
 use Rattle.pl_io.specs.Outside.{appended, TakesFront}
@@ -47,7 +47,7 @@ module _ (words : List (List ℕ)) (told : List ℕ → Option (List ℕ)) (lack
     comes.1,
     comes.2,
     task_of_files Found (PlanRuns (text_of Found)) (told comes.0) (told comes.1)
-        (λ first second d. (d.4.0, (d.0, d.1, d.2, d.3, d.4.1), (([], tt, d.4.2), d.4.2))) comes.3.2,
+        (λ first second d. (d.4.0, (d.0, d.1, d.2, d.3, d.4.1), (([], tt, d.4.2), inr (inr (inl refl)), d.4.2))) comes.3.2,
   )
 
   found_only : (end : Ending) → status_of end ≡ 0 → end ≡ Found

@@ -28,8 +28,13 @@ fn named(alloc: Global, name: &str, bytes: &[u8]) -> Result<NamedFile, AllocErro
     })
 }
 
-// The two files, of which one may be missing.
-fn shelf(alloc: Global, domain: &[u8], problem: Option<&[u8]>) -> Result<MemShelf, AllocError> {
+// The two files, of which one may be missing, on a shelf whose calls of these numbers fail.
+fn shelf(
+    alloc: Global,
+    domain: &[u8],
+    problem: Option<&[u8]>,
+    failing: &[u32],
+) -> Result<MemShelf, AllocError> {
     let mut files = Vec::new(alloc);
     files.push(named(alloc, "d", domain)?)?;
     if let Some(problem) = problem {
@@ -52,8 +57,9 @@ fn answer<H>(
     alloc: Global,
     domain: &[u8],
     problem: Option<&[u8]>,
+    failing: &[u32],
 ) -> Result<(Status, Vec<u8>), Fail> {
-    let mut shelf = shelf(alloc, domain, problem)?;
+    let mut shelf = shelf(alloc, domain, problem, failing)?;
     let mut sink = MemSink::new(alloc, 1000, Numbers::of(Vec::new(alloc)), 1000)?;
     let words = words(alloc, &["plan", "d", "p", "--max-horizon", "0"])?;
     let status = run(rt, alloc, &words, &mut shelf, &mut sink);
@@ -70,7 +76,7 @@ fn worked_rows(rt: HostRuntime) -> Result<(), Fail> {
         (DOMAIN, None, "; read fault problem\n", 5),
     ];
     for (domain, problem, text, status) in rows {
-        let (got, taken) = answer(&rt, rt.alloc(), domain, problem)?;
+        let (got, taken) = answer(&rt, rt.alloc(), domain, problem, &[])?;
         assert_eq!(rt; got.0, status);
         assert_eq!(rt; taken.as_slice(), text.as_bytes());
     }
@@ -111,7 +117,23 @@ fn broken_files(rt: HostRuntime) -> Result<(), Fail> {
         ),
     ];
     for (domain, problem, text) in rows {
-        let (_, taken) = answer(&rt, rt.alloc(), domain, Some(problem))?;
+        let (_, taken) = answer(&rt, rt.alloc(), domain, Some(problem), &[])?;
+        assert_eq!(rt; taken.as_slice(), text.as_bytes());
+    }
+    Ok(())
+}
+
+// Each file is taken once, the domain first.
+#[test]
+fn a_failing_shelf(rt: HostRuntime) -> Result<(), Fail> {
+    let rows: [(u32, &str, u8); 3] = [
+        (1, "; read fault domain\n", 5),
+        (2, "; read fault problem\n", 5),
+        (3, FOUND, 0),
+    ];
+    for (call, text, status) in rows {
+        let (got, taken) = answer(&rt, rt.alloc(), DOMAIN, Some(PROBLEM), &[call])?;
+        assert_eq!(rt; got.0, status);
         assert_eq!(rt; taken.as_slice(), text.as_bytes());
     }
     Ok(())
@@ -122,15 +144,15 @@ fn limits(rt: HostRuntime) -> Result<(), Fail> {
     let alloc = rt.alloc();
     let mut domain = Vec::from_slice(alloc, DOMAIN)?;
     domain.resize(1048576, b' ')?;
-    let (status, taken) = answer(&rt, alloc, &domain, Some(PROBLEM))?;
+    let (status, taken) = answer(&rt, alloc, &domain, Some(PROBLEM), &[])?;
     assert_eq!(rt; status.0, 0);
     assert_eq!(rt; taken.as_slice(), FOUND.as_bytes());
     domain.push(b' ')?;
-    let (status, taken) = answer(&rt, alloc, &domain, Some(PROBLEM))?;
+    let (status, taken) = answer(&rt, alloc, &domain, Some(PROBLEM), &[])?;
     assert_eq!(rt; status.0, 4);
     assert_eq!(rt; taken.as_slice(), b"; limit file domain\n".as_slice());
     let deep = vec![in alloc; b'('; 65]?;
-    let (status, taken) = answer(&rt, alloc, &deep, Some(PROBLEM))?;
+    let (status, taken) = answer(&rt, alloc, &deep, Some(PROBLEM), &[])?;
     assert_eq!(rt; status.0, 3);
     assert_eq!(rt; taken.as_slice(), b"; refused syntax domain 0\n".as_slice());
     Ok(())
@@ -139,7 +161,7 @@ fn limits(rt: HostRuntime) -> Result<(), Fail> {
 #[test]
 fn a_failing_sink_and_no_words(rt: HostRuntime) -> Result<(), Fail> {
     let alloc = rt.alloc();
-    let mut files = shelf(alloc, DOMAIN, Some(PROBLEM))?;
+    let mut files = shelf(alloc, DOMAIN, Some(PROBLEM), &[])?;
     let mut sink = MemSink::new(alloc, 10, Numbers::of(vec![in alloc; 2]?), 1000)?;
     let given = words(alloc, &["plan", "d", "p", "--max-horizon", "0"])?;
     let status = run(&rt, alloc, &given, &mut files, &mut sink);
