@@ -40,7 +40,11 @@ fn shelf(
     if let Some(problem) = problem {
         files.push(named(alloc, "p", problem)?)?;
     }
-    Ok(MemShelf::new(alloc, Files::of(files), Numbers::of(Vec::new(alloc))))
+    Ok(MemShelf::new(
+        alloc,
+        Files::of(files),
+        Numbers::of(Vec::from_slice(alloc, failing)?),
+    ))
 }
 
 fn words(alloc: Global, words: &[&str]) -> Result<Vec<String>, AllocError> {
