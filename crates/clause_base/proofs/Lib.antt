@@ -1,3 +1,4 @@
 pub mod ClauseLemmas
 pub mod Rising
 pub mod Neighbours
+pub mod Refutation

@@ -12,4 +12,6 @@ pub mod formula;
 pub mod literal;
 pub mod log;
 pub mod memory;
+#[cfg(test)]
+mod tests;
 pub mod values;
