@@ -30,7 +30,8 @@ impl Lit {
 
     /// The variable of the literal.
     pub fn variable(self) -> u32
-        ensures { result ≡ self / 2 }
+        ensures value { result ≡ self / 2 }
+        ensures small { result ≤ 2147483647 }
     {
         self.0 / 2
     }

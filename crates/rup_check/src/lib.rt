@@ -1,13 +1,14 @@
-// A library with one function.
+//! A checker of derivations by reverse unit propagation along hints.
+//!
+//! `check` says whether a log derives the empty clause from a formula, entry by entry, and answers the first entry that
+//! does not follow. It searches for nothing: an entry is read once, and so are the clauses that its hints name. A formula
+//! with an accepted log has no satisfying assignment, which is a clause of `check`; so a `Checked` is worth as much as the
+//! definitions of `clause_base`, whatever made the log.
 #![tactic(auto)]
 
-ghost use Rattle.std.specs.Prelude.{◌≡◌};
-ghost use Rattle.rup_check.specs.Echo.{echo_of};
-
-// The `ensures` clause is the contract: what `echo` returns is `echo_of` of its argument, a definition
-// in `specs/Echo.antt`, which a caller's clause can cite too.
-pub fn echo(x: usize) -> usize
-    ensures { result ≡ echo_of x }
-{
-    x
-}
+pub mod check;
+mod effect;
+mod entry;
+mod marks;
+#[cfg(test)]
+mod tests;
