@@ -66,6 +66,7 @@ impl Formula {
     pub fn variables(&self) -> u32
         ensures value { result ≡ self.now.variables }
         ensures small { self.now.variables ≤ 2147483647 }
+        ensures below { IsWithinVariables self.now }
     {
         self.variables
     }
@@ -74,7 +75,6 @@ impl Formula {
     pub fn clauses(&self) -> &[Clause]
         ensures value { result.now ≡ self.now.clauses }
         ensures few { length self.now.clauses ≤ 1073741824 }
-        ensures below { IsWithinVariables self.now }
         ensures lawful { All IsClause self.now.clauses }
     {
         self.clauses.as_slice()

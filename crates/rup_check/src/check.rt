@@ -1,10 +1,10 @@
-ghost use Rattle.std.specs.Prelude.{◌≡◌, ℕ, ◌+◌, ◌<◌, ◌≤◌, ◌^◌, All, length, IfOk, IfSome, IfNone, OnOk, IsOkUnless, IsTrue, ◌↔◌};
+ghost use Rattle.std.specs.Prelude.{◌≡◌, ℕ, ◌+◌, ◌++◌, ◌<◌, ◌≤◌, ◌^◌, All, length, IfOk, IfSome, IfNone, OnOk, IsOkUnless, IsTrue, ◌↔◌};
 ghost use Rattle.clause_base.specs.Clause.{HasVariablesBelow};
 ghost use Rattle.clause_base.specs.Formula.{IsUnsatisfiable};
 ghost use Rattle.clause_base.specs.Derivation.{IsDerivation, EndsEmpty, IsFirstUnderived, IsRefutation, clauses_of};
 ghost use Rattle.rup_check.specs.Certificate.{Certifies, IsEarned};
 
-use crate::entry::is_derived;
+use crate::entry::is_derived_at;
 use crate::marks::Marks;
 use clause_base::formula::Formula;
 use clause_base::log::{Entry, Log};
@@ -73,8 +73,7 @@ impl From<Memory> for CheckError {
 
 /// How many variables the formula and the entries' clauses speak of, at most.
 fn variables_of(formula: &Formula, entries: &[Entry]) -> u32
-    ensures formula { formula.now.variables ≤ result }
-    ensures entries { All (HasVariablesBelow result) (clauses_of entries.now) }
+    ensures enough { All (HasVariablesBelow result) (formula.now.clauses ++ clauses_of entries.now) }
     ensures small { result ≤ 2147483648 }
 {
     let mut variables = formula.variables();
@@ -102,9 +101,9 @@ fn first_underived(alloc: Global, formula: &Formula, entries: &[Entry]) -> Resul
 {
     let clauses = formula.clauses();
     let mut marks = Marks::new(alloc, variables_of(formula, entries) as usize)?;
-    for (i, entry) in entries.iter().enumerate() {
-        if !is_derived(&mut marks, clauses, &entries[..i], entry)? {
-            return Ok(Some(i as u32));
+    for number in 0..entries.len() {
+        if !is_derived_at(&mut marks, clauses, entries, number)? {
+            return Ok(Some(number as u32));
         }
     }
     Ok(None)

@@ -1,6 +1,6 @@
-ghost use Rattle.std.specs.Prelude.{◌≡◌, ◌++◌, [], slice_get, All, IfOk, OnOk, option_copied};
+ghost use Rattle.std.specs.Prelude.{◌≡◌, ◌++◌, ◌<◌, [], All, length, take, slice_get, IfOk, OnOk, option_copied};
 ghost use Rattle.clause_base.specs.Clause.{HasVariablesBelow};
-ghost use Rattle.clause_base.specs.Derivation.{leads_to_conflict, clauses_of, clause_named};
+ghost use Rattle.clause_base.specs.Derivation.{leads_to_conflict, clauses_of, clause_named, is_derived_after};
 
 use crate::effect::{Effect, effect_of};
 use crate::marks::Marks;
@@ -49,7 +49,7 @@ fn leads_to_conflict(
 
 /// Whether an entry follows by its hints from the clauses and the earlier entries. The marks are left as they were, with
 /// no literal taken as false.
-pub fn is_derived(
+fn is_derived_after(
     marks: &mut Marks,
     clauses: &[Clause],
     earlier: &[Entry],
@@ -58,11 +58,27 @@ pub fn is_derived(
     requires empty { marks.old.falsified ≡ [] }
     requires named { All (HasVariablesBelow marks.old.variables) (clauses.now ++ clauses_of earlier.now) }
     requires below { HasVariablesBelow marks.old.variables entry.now.clause }
-    ensures answer { IfOk result (λ b. b ≡ leads_to_conflict (clause_named clauses.now earlier.now) entry.now.clause entry.now.hints) }
+    ensures answer { IfOk result (λ b. b ≡ is_derived_after clauses.now earlier.now (Some entry.now)) }
     ensures kept { OnOk result (marks.new ≡ marks.old) }
 {
     marks.falsify_all(entry.clause.as_slice())?;
     let derived = leads_to_conflict(marks, clauses, earlier, entry.hints.as_slice())?;
     marks.clear();
     Ok(derived)
+}
+
+/// Whether the entry with this number follows from the clauses and the entries before it.
+pub fn is_derived_at(
+    marks: &mut Marks,
+    clauses: &[Clause],
+    entries: &[Entry],
+    number: usize,
+) -> Result<bool, Memory>
+    requires in_range { number < length entries.now }
+    requires empty { marks.old.falsified ≡ [] }
+    requires named { All (HasVariablesBelow marks.old.variables) (clauses.now ++ clauses_of entries.now) }
+    ensures answer { IfOk result (λ b. b ≡ is_derived_after clauses.now (take number entries.now) (slice_get entries.now number)) }
+    ensures kept { OnOk result (marks.new ≡ marks.old) }
+{
+    is_derived_after(marks, clauses, &entries[..number], &entries[number])
 }
