@@ -2,3 +2,4 @@ pub mod ClauseLemmas
 pub mod Rising
 pub mod Neighbours
 pub mod Refutation
+pub mod WorkedRows

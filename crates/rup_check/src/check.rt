@@ -94,7 +94,11 @@ fn ends_empty(entries: &[Entry]) -> bool
 }
 
 /// The first of the entries that is not derived.
-fn first_underived(alloc: Global, formula: &Formula, entries: &[Entry]) -> Result<Option<u32>, Memory>
+fn first_underived(
+    alloc: Global,
+    formula: &Formula,
+    entries: &[Entry],
+) -> Result<Option<u32>, Memory>
     requires { length formula.now.clauses + length entries.now < 2 ^ 32 }
     ensures found { IfOk result (λ first. IfSome first (IsFirstUnderived formula.now.clauses entries.now)) }
     ensures none { IfOk result (λ first. IfNone first (IsDerivation formula.now.clauses entries.now)) }
