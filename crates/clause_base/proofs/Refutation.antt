@@ -1,7 +1,7 @@
 -- A formula with a derivation that ends with the empty clause is unsatisfiable: an assignment that makes the named clauses
 -- true makes each forced literal true, so no hints lead to a conflict unless some literal of the entry's clause is true.
-use Rattle.std.proofs.Common.{rules, arith, ◌≡◌, ◌==◌, ℕ, zero, suc, ◌+◌, ◌-◌, ◌/◌, ◌%◌, ◌<◌, ◌≤◌, length, Bool, true, false, List, [], ◌∷◌, ◌++◌, take, Option, Some, None, refl, sym, if◌then◌else◌, IsSomeAnd}
-use Rattle.std.specs.List.{list_any, slice_get, AllByRecursion}
+use Rattle.std.proofs.Common.{arith, ◌≡◌, ℕ, zero, suc, ◌-◌, ◌≤◌, length, Bool, true, false, List, [], ◌∷◌, ◌++◌, take, Option, Some, None, refl, sym, IsSomeAnd}
+use Rattle.std.specs.List.{slice_get, AllByRecursion}
 use Rattle.std.proofs.lemmas.Option.{slice_get_within, get_or_from_slice_get}
 use Rattle.std.proofs.Math.Seq.{take-suc}
 use Rattle.std.proofs.lemmas.Bool.Decides.{nat_tests}

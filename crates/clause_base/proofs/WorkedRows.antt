@@ -1,5 +1,5 @@
 -- The definitions, computed on small formulas and logs whose answers are known by hand.
-use Rattle.std.proofs.Common.{◌≡◌, ℕ, List, [], ◌∷◌, Bool, true, false, Option, Some, None, refl}
+use Rattle.std.proofs.Common.{◌≡◌, ℕ, List, [], ◌∷◌, true, false, Some, None, refl}
 use Rattle.clause_base.specs.Clause.{clause_of}
 use Rattle.clause_base.specs.Choice.{plain_choice}
 use Rattle.clause_base.specs.declared.log.Entry.{Entry}
@@ -36,13 +36,13 @@ abbrev two_choices : List (List ℕ)
 two_choices = (0 ∷ 2 ∷ []) ∷ (0 ∷ 3 ∷ []) ∷ (1 ∷ 4 ∷ []) ∷ (1 ∷ 5 ∷ []) ∷ []
 
 -- variable 0 is learned from the first two clauses, and then refuted by the other two; not with a hint that is not unit yet
-first_learned : is_derived_after two_choices [] (Some (learned (0 ∷ []) (0 ∷ 1 ∷ [])) ≡ true
+first_learned : is_derived_after two_choices [] (Some (learned (0 ∷ []) (0 ∷ 1 ∷ []))) ≡ true
 first_learned = refl
 
-then_refuted : is_derived_after two_choices (learned (0 ∷ []) (0 ∷ 1 ∷ []) ∷ []) (Some (learned [] (4 ∷ 2 ∷ 3 ∷ [])) ≡ true
+then_refuted : is_derived_after two_choices (learned (0 ∷ []) (0 ∷ 1 ∷ []) ∷ []) (Some (learned [] (4 ∷ 2 ∷ 3 ∷ []))) ≡ true
 then_refuted = refl
 
-loose_hint : is_derived_after two_choices (learned (0 ∷ []) (0 ∷ 1 ∷ []) ∷ []) (Some (learned [] (2 ∷ 4 ∷ 3 ∷ [])) ≡ false
+loose_hint : is_derived_after two_choices (learned (0 ∷ []) (0 ∷ 1 ∷ []) ∷ []) (Some (learned [] (2 ∷ 4 ∷ 3 ∷ []))) ≡ false
 loose_hint = refl
 
 -- a clause is sorted and has each literal once; a literal with its negation gives none

@@ -1,4 +1,4 @@
-use Rattle.std.proofs.Common.{rules, arith, ◌≡◌, ℕ, ◌+◌, ◌*◌, ◌/◌, List, [], ◌∷◌, length, Bool, Option, Some, None, All, IsSome, refl, suc}
+use Rattle.std.proofs.Common.{arith, ◌≡◌, ℕ, ◌+◌, ◌*◌, ◌/◌, [], ◌∷◌, Bool, Option, Some, None, All, IsSome, refl, suc}
 use Rattle.std.specs.List.{slice_get}
 use Rattle.std.proofs.lemmas.List.Elements.{All-nil, All-cons}
 use Rattle.clause_base.specs.Choice.{Known, IsOpenChoice, plain_choice, plain_choice_from}

@@ -1,5 +1,5 @@
 -- Derivations by reverse unit propagation (Goldberg and Novikov, 2003) along hints, as in the LRAT format (Cruz-Filipe and others, 2017).
-use Rattle.std.specs.Prelude.{◌≡◌, ℕ, ◌-◌, ◌<◌, ◌==◌, List, [], ◌∷◌, ◌++◌, map, take, length, Bool, true, false, not, filter, slice_get, if◌then◌else◌, Option, Some, None, IsSomeAnd, IsTrue}
+use Rattle.std.specs.Prelude.{◌≡◌, ℕ, ◌-◌, ◌<◌, ◌==◌, List, [], ◌∷◌, ◌++◌, map, take, length, Bool, false, not, filter, slice_get, if◌then◌else◌, Option, Some, None, IsSomeAnd, IsTrue}
 use Rattle.clause_base.specs.Literal.{opposite}
 use Rattle.clause_base.specs.Clause.{has_literal}
 use Rattle.clause_base.specs.declared.log.Entry.{Entry}

@@ -1,6 +1,6 @@
-use Rattle.std.specs.Prelude.{◌≡◌, ℕ, ◌<◌, ◌≤◌, List, Bool, true, false, All, length, slice_get, unwrap_or}
+use Rattle.std.specs.Prelude.{◌≡◌, ℕ, List, Bool, true, false, All, length, slice_get, unwrap_or}
 use Rattle.std.specs.List.{AllByRecursion}
-use Rattle.clause_base.specs.Clause.{IsClause, clause_value, HasVariablesBelow}
+use Rattle.clause_base.specs.Clause.{clause_value, HasVariablesBelow}
 
 -- a formula in conjunctive normal form, as its name, its number of variables and its clauses in order
 pub record Cnf : Type 0 where
