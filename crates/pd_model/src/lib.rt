@@ -1,0 +1,28 @@
+//! The parts of a planning task, and what it means to execute calls of its actions: PDDL 2.1, level 1
+//! (Fox and Long 2003).
+#![tactic(auto)]
+
+mod atoms;
+mod calls;
+mod conds;
+mod effects;
+mod memory;
+mod objects;
+mod parts;
+mod pddl;
+mod predicates;
+mod schemas;
+mod types;
+
+pub use atoms::{Atom, Atoms, Pattern, Term, Terms};
+pub use calls::{Call, Calls, Verdict};
+pub use conds::{Cond, Conds};
+pub use effects::{Effect, Effects};
+pub use memory::{Memory, Which};
+pub use objects::{ObjectDecl, ObjectDecls, Objects};
+pub use parts::Parts;
+pub use pd_sexp::Name;
+pub use pddl::Pddl;
+pub use predicates::{Predicate, Predicates};
+pub use schemas::{Schema, Schemas};
+pub use types::{TypeDecl, TypeNumbers, Types};
