@@ -1,0 +1,4 @@
+pub mod NameLemmas
+pub mod Tables
+pub mod Lists
+pub mod Lineage
