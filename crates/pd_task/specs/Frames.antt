@@ -8,7 +8,7 @@ use Rattle.pd_words.specs.declared.fault.Fault.{Fault}
 use Rattle.pd_words.specs.declared.fault.Fault.TheVariants.{Shape, Duplicate, Unsupported}
 use Rattle.pd_words.specs.Words.{is_one_of}
 use Rattle.pd_words.specs.Names.{is_among}
-use Rattle.pd_words.specs.First.{◌>>=◌, wants, every, each}
+use Rattle.pd_words.specs.First.{◌>>=◌, wants, each}
 use Rattle.pd_task.specs.Effects.{no_more, place_of}
 use Rattle.pd_task.specs.Action.{name_at}
 
@@ -67,10 +67,14 @@ abbrev pub a_word : Tree → Result (Unit {0}) Fault
 a_word (word at text) = Ok tt
 a_word (list at items) = Err (Shape at)
 
+abbrev pub words : Trees → Result (Unit {0}) Fault
+words no_trees = Ok tt
+words (and_tree t ts) = a_word t >>= λ _. words ts
+
 -- the items of `:requirements` are words, and `:domain` has one name
 abbrev pub section_items : List ℕ → ℕ → Trees → Result (Unit {0}) Fault
 section_items head at items =
-    if bytes_eq head (codes ":requirements") then (every a_word items >>= λ _. Ok tt)
+    if bytes_eq head (codes ":requirements") then words items
     else if bytes_eq head (codes ":domain") then one_name at items
     else Ok tt
 
@@ -91,12 +95,19 @@ section file seen (list at no_trees) = Err (Shape at)
 section file seen (list at (and_tree (list place items) rest)) = Err (Shape at)
 section file seen (list at (and_tree (word place head) rest)) = section_under file seen head at rest
 
--- the place and the items of the first section with this head
+-- the place and the items of a section with this head
+abbrev pub section_with : List ℕ → Tree → Option (ℕ × Trees)
+section_with head (list at (and_tree (word place text) items)) = if bytes_eq text head then Some (at, items) else None
+section_with head _ = None
+
+-- the first section with this head
+abbrev pub first_of : {A : Type 0} → Option A → Option A → Option A
+first_of (Some x) later = Some x
+first_of None later = later
+
 abbrev pub find_section : List ℕ → Trees → Option (ℕ × Trees)
 find_section head no_trees = None
-find_section head (and_tree (list at (and_tree (word place text) items)) more) =
-    if bytes_eq text head then Some (at, items) else find_section head more
-find_section head (and_tree _ more) = find_section head more
+find_section head (and_tree t ts) = first_of (section_with head t) (find_section head ts)
 
 -- the items of a section; a missing one is empty
 abbrev pub items_of : Option (ℕ × Trees) → Trees

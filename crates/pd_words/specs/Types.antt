@@ -1,6 +1,6 @@
 -- The types of a domain.
 use Rattle.std.specs.List.{range_with_len}
-use Rattle.std.specs.Prelude.{◌≡◌, ◌<◌, length, ℕ, zero, suc, slice_index, List, [], ◌∷◌, ◌++◌, map, Bool, Result, Ok, Err, if◌then◌else◌, not, codes, unwrap_or}
+use Rattle.std.specs.Prelude.{◌≡◌, ◌<◌, ◌+◌, length, ℕ, zero, suc, slice_index, List, [], ◌∷◌, ◌++◌, map, Bool, Result, Ok, Err, if◌then◌else◌, not, codes, unwrap_or}
 use Rattle.std.specs.Str.{bytes_eq}
 use Rattle.pd_sexp.specs.Tree.{Tree, Trees}
 use Rattle.pd_model.specs.declared.types.TypeDecl.{TypeDecl}
@@ -80,7 +80,7 @@ types_of d = types_under (with_parents d.names d.parents) (object ∷ map (numbe
 -- from this type on, each declared one lies under `object`; else it is told at its place
 abbrev pub rooted : List ℕ → ℕ → List ℕ → Result (Unit {0}) Fault
 rooted parents kind [] = Ok tt
-rooted parents kind (place ∷ places) = wants (is_under parents kind object) (Shape place) >>= λ _. rooted parents (suc kind) places
+rooted parents kind (place ∷ places) = wants (is_under parents kind object) (Shape place) >>= λ _. rooted parents (kind + 1) places
 
 -- the types of a domain, by number
 abbrev pub types : Trees → Result (List TypeDecl) Fault

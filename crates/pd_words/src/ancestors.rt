@@ -32,8 +32,9 @@ fn composed(alloc: Global, outer: &[u32], inner: &[u32]) -> Result<Vec<u32>, Rea
 }
 
 // The numbers below a count.
+#[tactic(auto, using(crate::proofs::Lineage::numbers_more))]
 fn numbers_below(alloc: Global, count: usize) -> Result<Vec<u32>, ReadError>
-    ensures numbers { IfOk result (λ v. v.items ≡ range_with_len 0 count) }
+    ensures numbers { IfOk result (λ v. v.items ≡ map (λ k. k) (range_with_len 0 count)) }
     ensures memory { IfErr result (λ e. e ≡ errors.Memory) }
 {
     let mut numbers = Vec::new(alloc);
@@ -70,7 +71,7 @@ pub fn is_rooted(parents: &[u32], last: &[u32], kind: usize) -> bool
     requires parents { AreParents parents.now }
     requires last { last.now ≡ types.ancestors parents.now (length parents.now) }
     requires kind { kind < length parents.now }
-    ensures { result ≡ is_under parents.now kind types.object }
+    ensures { result ≡ is_under parents.now kind 0 }
 {
     match last.get(kind) {
         None => true,

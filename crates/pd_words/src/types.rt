@@ -165,7 +165,7 @@ fn add_parents(alloc: Global, names: &mut Table, parents: &[Name]) -> Result<(),
 
 // The numbers of the parents, that of `object` first.
 fn parent_numbers(alloc: Global, names: &Table, parents: &[Name]) -> Result<Vec<u32>, ReadError>
-    ensures numbers { IfOk result (λ v. v.items ≡ types.object ∷ map (types.number_in names.now) parents.now) }
+    ensures numbers { IfOk result (λ v. v.items ≡ 0 ∷ map (types.number_in names.now) parents.now) }
     ensures memory { IfErr result (λ e. e ≡ errors.Memory) }
 {
     let mut numbers = Vec::new(alloc);
