@@ -1,3 +1,4 @@
 pub mod Levels
 pub mod Loops
 pub mod ObjectLemmas
+pub mod Ands

@@ -47,9 +47,9 @@ with_value key.Effect value keys = record keys { effect = Some value }
 abbrev mutual
   pub keys_from : ℕ → Keys → Trees → Result Keys Fault
   keys_from list_at before no_trees = Ok before
-  keys_from list_at before (and_tree word rest) = do
-    k ← key_of word
-    _ ← wants (is_none (value_at k before)) (Duplicate (place_of word))
+  keys_from list_at before (and_tree first rest) = do
+    k ← key_of first
+    _ ← wants (is_none (value_at k before)) (Duplicate (place_of first))
     value_next list_at before k rest
 
   pub value_next : ℕ → Keys → Key → Trees → Result Keys Fault

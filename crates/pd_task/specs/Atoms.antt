@@ -32,18 +32,18 @@ term names (word at text) =
     if is_variable text then found (Unknown at) (option_map Variable (variable_number text 0 names.variables))
     else found (Unknown at) (option_map Object (number_of text names.objects))
 
--- the number of the predicate that a list begins with
-abbrev pub predicate : Names → Tree → Result ℕ Fault
-predicate names (list at items) = Err (Shape at)
-predicate names (word at text) = do
+-- the number of the predicate, of those with these names, that a list begins with
+abbrev pub predicate : List (List ℕ) → Tree → Result ℕ Fault
+predicate predicates (list at items) = Err (Shape at)
+predicate predicates (word at text) = do
   _ ← wants (is_name text) (Shape at)
-  found (Unknown at) (number_of text names.predicates)
+  found (Unknown at) (number_of text predicates)
 
 -- an atom, the list at this place: its predicate, the number of its terms, then the terms
 abbrev pub atom : Names → ℕ → Trees → Result Pattern Fault
 atom names at no_trees = Err (Shape at)
 atom names at (and_tree head rest) = do
-  p ← predicate names head
+  p ← predicate names.predicates head
   _ ← wants (count rest == slice_index names.arities p) (Arity at)
   terms ← every (term names) rest
   Ok (record { predicate = p; terms = terms })

@@ -78,7 +78,7 @@ object_at names (word at text) = found (Unknown at) (number_of text names.object
 abbrev pub ground_atom : Names → ℕ → Trees → Result Atom Fault
 ground_atom names at no_trees = Err (Shape at)
 ground_atom names at (and_tree head rest) = do
-  p ← predicate names head
+  p ← predicate names.predicates head
   _ ← wants (count rest == slice_index names.arities p) (Arity at)
   objects ← every (object_at names) rest
   Ok (record { predicate = p; objects = objects })

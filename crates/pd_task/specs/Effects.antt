@@ -5,6 +5,7 @@ use Rattle.pd_model.specs.declared.conds.Cond.{Cond}
 use Rattle.pd_model.specs.declared.effects.Effect.{Effect}
 use Rattle.pd_words.specs.declared.fault.Fault.{Fault}
 use Rattle.pd_words.specs.declared.fault.Fault.TheVariants.{Shape, Unsupported}
+use Rattle.pd_words.specs.declared.keyword.Keyword.{Keyword}
 use Rattle.pd_words.specs.declared.keyword.Keyword.TheVariants as heads
 use Rattle.pd_words.specs.Words.{head_of}
 use Rattle.pd_words.specs.Typed.{Variables, variable_list}
@@ -92,6 +93,19 @@ under site new = record {
   cond = site.cond;
 }
 
+-- the items after the first
+abbrev pub rest_of : Trees → Trees
+rest_of no_trees = no_trees
+rest_of (and_tree head rest) = rest
+
+-- an effect that is neither `and` nor `forall`, the list at this place, by what its head makes of it
+abbrev pub simple : Site → List Effect → Keyword → ℕ → Trees → Result (List Effect) Fault
+simple site before heads.Not at items = removal site before at (rest_of items)
+simple site before heads.Free at items = and_effect site before true at items
+simple site before heads.When at items = conditional site before at (rest_of items)
+simple site before heads.Equals at items = Err (Shape at)
+simple site before _ at items = Err (Unsupported at)
+
 -- The effects of a tree, after those that stood before it, where types have these names. An effect is
 -- `()`, `and` round effects, an atom, `not` round an atom, `forall` or `when`.
 module _ (types : List (List ℕ)) where
@@ -101,12 +115,8 @@ module _ (types : List (List ℕ)) where
     effect site before (list at no_trees) = Ok before
     effect site before (list at (and_tree head rest)) = elim (head_of head) [
         | heads.And ↦ all_effects site before rest
-        | heads.Not ↦ removal site before at rest
-        | heads.Free ↦ and_effect site before true at (and_tree head rest)
         | heads.Forall ↦ quantified site before at rest
-        | heads.When ↦ conditional site before at rest
-        | heads.Equals ↦ Err (Shape at)
-        | _ ↦ Err (Unsupported at)
+        | _ ↦ simple site before (head_of head) at (and_tree head rest)
       ]
 
     pub all_effects : Site → List Effect → Trees → Result (List Effect) Fault

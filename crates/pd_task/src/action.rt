@@ -104,7 +104,7 @@ pub fn name_at(tree: &Tree) -> Result<&Name, ReadError>
 }
 
 fn read_parameters(alloc: Global, types: &Table, tree: Option<&Tree>) -> Result<Variables, ReadError>
-    ensures { GivesAs (λ v. typed.listed v.names v.kinds.items) (typed.variable_list types.now (action.value_of (option_map (λ t. view t.now) tree))) result }
+    ensures { GivesAs (λ v. typed.listed v.names v.kinds.items) (typed.variable_list types.now (action.value_of (option_map (λ t. view t.now) tree.entry))) result }
 {
     match tree {
         None => Ok(Variables::new(alloc)),
@@ -118,7 +118,7 @@ fn read_precondition(
     scope: &Scope,
     tree: Option<&Tree>,
 ) -> Result<Conds, ReadError>
-    ensures { Gives (condition (names_with vocabulary.now scope.now.levels) [] (action.value_of (option_map (λ t. view t.now) tree))) result }
+    ensures { Gives (condition (names_with vocabulary.now scope.now.levels) [] (action.value_of (option_map (λ t. view t.now) tree.entry))) result }
 {
     let mut conds = Vec::new(alloc);
     if let Some(tree) = tree {
@@ -133,7 +133,7 @@ fn read_effects(
     scope: &mut Scope,
     tree: Option<&Tree>,
 ) -> Result<Effects, ReadError>
-    ensures { Gives (effects.effect vocabulary.now.types.now (site_of vocabulary.now scope.old []) [] (action.value_of (option_map (λ t. view t.now) tree))) result }
+    ensures { Gives (effects.effect vocabulary.now.types.now (site_of vocabulary.now scope.old []) [] (action.value_of (option_map (λ t. view t.now) tree.entry))) result }
 {
     let mut found = Vec::new(alloc);
     if let Some(tree) = tree {

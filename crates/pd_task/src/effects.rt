@@ -203,6 +203,34 @@ fn read_conditional(
     no_more(more)
 }
 
+// An effect that is neither `and` nor `forall`, by what its head makes of it.
+fn read_simple(
+    alloc: Global,
+    vocabulary: &Vocabulary,
+    scope: &Scope,
+    keyword: Keyword,
+    at: u32,
+    items: &[Tree],
+    into: &mut Vec<Effect>,
+) -> Result<(), ReadError>
+    ensures { Leaves (effects.simple (site_of vocabulary.now scope.now []) into.old.items keyword at (views items.now)) into.new.items result }
+{
+    let rest = match items.split_first() {
+        None => items,
+        Some((_, rest)) => rest,
+    };
+    match keyword {
+        Keyword::Not => read_removal(alloc, vocabulary, scope, &[], at, rest, into),
+        Keyword::When => read_conditional(alloc, vocabulary, scope, at, rest, into),
+        Keyword::Free => {
+            let atom = read_atom(alloc, vocabulary, scope, at, items)?;
+            push_effect(alloc, scope, &[], atom, true, into)
+        }
+        Keyword::Equals => Err(ReadError::Fault(Fault::Shape(at))),
+        _ => Err(ReadError::Fault(Fault::Unsupported(at))),
+    }
+}
+
 // Puts the variables of a `forall` into scope.
 fn enter_forall(
     alloc: Global,
@@ -217,6 +245,7 @@ fn enter_forall(
 }
 
 /// Adds the effects of a tree.
+#[tactic(none)]
 pub fn read_effect(
     alloc: Global,
     vocabulary: &Vocabulary,
@@ -254,14 +283,7 @@ pub fn read_effect(
                     scope.leave(count);
                     no_more(more)
                 }
-                Keyword::Not => read_removal(alloc, vocabulary, scope, &[], *at, rest, into),
-                Keyword::When => read_conditional(alloc, vocabulary, scope, *at, rest, into),
-                Keyword::Free => {
-                    let atom = read_atom(alloc, vocabulary, scope, *at, items)?;
-                    push_effect(alloc, scope, &[], atom, true, into)
-                }
-                Keyword::Equals => Err(ReadError::Fault(Fault::Shape(*at))),
-                _ => Err(ReadError::Fault(Fault::Unsupported(*at))),
+                other => read_simple(alloc, vocabulary, scope, other, *at, items, into),
             }
         }
     }

@@ -1,5 +1,5 @@
 // The frames of files.
-ghost use Rattle.std.specs.Prelude.{◌≡◌, ◌++◌, ◌∷◌, [], ◌×◌, List, ℕ, option_map, IfOk};
+ghost use Rattle.std.specs.Prelude.{◌≡◌, ◌++◌, ◌∷◌, [], List, ℕ, option_map, IfOk};
 ghost use Rattle.pd_sexp.specs.View.{view, views};
 ghost use Rattle.pd_words.specs.Words.{is_one_of};
 ghost use Rattle.pd_words.specs.First.{Gives, GivesAs, Leaves, each, every};

@@ -50,8 +50,8 @@ fn read_terms(
 }
 
 /// The number of the predicate that a list begins with.
-pub fn read_predicate(vocabulary: &Vocabulary, scope: &Scope, tree: &Tree) -> Result<u32, ReadError>
-    ensures number { Gives (predicate (names_with vocabulary.now scope.now.levels) (view tree.now)) result }
+pub fn read_predicate(vocabulary: &Vocabulary, tree: &Tree) -> Result<u32, ReadError>
+    ensures number { Gives (predicate vocabulary.now.predicates.now (view tree.now)) result }
     ensures below { IfOk result (λ p. p < length vocabulary.now.predicates.now) }
 {
     match tree {
@@ -82,7 +82,7 @@ pub fn read_atom(
     let Some((head, rest)) = items.split_first() else {
         return Err(ReadError::Fault(Fault::Shape(at)));
     };
-    let predicate = read_predicate(vocabulary, scope, head)?;
+    let predicate = read_predicate(vocabulary, head)?;
     if rest.len() != vocabulary.arities[predicate as usize] as usize {
         return Err(ReadError::Fault(Fault::Arity(at)));
     }

@@ -1,6 +1,6 @@
 -- Numbers of names in growing lists.
 use Rattle.std.proofs.Common.{◌≡◌, ℕ, suc, ◌+◌, ◌<◌, Bool, true, false, cond, List, [], ◌∷◌, ◌++◌, length, Option, Some, None, refl, ap, ◌∙◌, sym, arith}
-use Rattle.std.specs.Prelude.{option_map, IfSome}
+use Rattle.std.specs.Prelude.{option_map, IfSome, is_some}
 use Rattle.std.specs.Str.{bytes_eq}
 use Rattle.pd_words.specs.Names.{number_of, or_else, is_among}
 
@@ -29,28 +29,20 @@ pub number_below : (name : List ℕ) (names : List (List ℕ)) → IfSome (numbe
 number_below name [] = tt
 number_below name (n ∷ ns) = below_suc (bytes_eq name n) (number_of name ns) (length ns) (number_below name ns)
 
-among_here : (b : Bool) (found : Option ℕ) (later : Bool) → (later ≡ false → found ≡ None) → cond b true later ≡ false → cond b (Some 0) (option_map suc found) ≡ None
-among_here true found later h e = absurd cc
-among_here false found later h e = ap (option_map suc) (h e)
+some_here : (b : Bool) (found : Option ℕ) (later : Bool) → is_some found ≡ later → is_some (cond b (Some 0) (option_map suc found)) ≡ cond b true later
+some_here true found later h = refl
+some_here false None later h = h
+some_here false (Some k) later h = h
 
-among_not : (b : Bool) (found : Option ℕ) (later : Bool) → (found ≡ None → later ≡ false) → cond b (Some 0) (option_map suc found) ≡ None → cond b true later ≡ false
-among_not true found later h e = absurd cc
-among_not false None later h e = h refl
-among_not false (Some k) later h e = absurd cc
+-- a name has a number where it is among the names
+pub number_among : (name : List ℕ) (names : List (List ℕ)) → is_some (number_of name names) ≡ is_among name names
+number_among name [] = refl
+number_among name (n ∷ ns) = some_here (bytes_eq name n) (number_of name ns) (is_among name ns) (number_among name ns)
 
 -- a name that is not among others has no number
 pub number_none : (name : List ℕ) (names : List (List ℕ)) → is_among name names ≡ false → number_of name names ≡ None
-number_none name [] e = refl
-number_none name (n ∷ ns) e = among_here (bytes_eq name n) (number_of name ns) (is_among name ns) (number_none name ns) e
-
--- whether a name has a number is whether it is among the names
-pub among_some : (name : List ℕ) (names : List (List ℕ)) (i : ℕ) → number_of name names ≡ Some i → is_among name names ≡ true
-among_some name names i e = is_there (is_among name names) refl
+number_none name names e = is_none (number_of name names) (number_among name names ∙ e)
   where
-    is_there : (b : Bool) → is_among name names ≡ b → b ≡ true
-    is_there true h = refl
-    is_there false h = let none = number_none name names h in cc
-
-pub among_none : (name : List ℕ) (names : List (List ℕ)) → number_of name names ≡ None → is_among name names ≡ false
-among_none name [] e = refl
-among_none name (n ∷ ns) e = among_not (bytes_eq name n) (number_of name ns) (is_among name ns) (among_none name ns) e
+    is_none : (found : Option ℕ) → is_some found ≡ false → found ≡ None
+    is_none None h = refl
+    is_none (Some k) h = absurd cc

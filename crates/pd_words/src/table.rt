@@ -1,9 +1,9 @@
 // Tables of names: the names in order of declaration, and a map to their numbers.
-ghost use Rattle.std.specs.Prelude.{◌≡◌, ◌<◌, ◌≤◌, ◌^◌, ℕ, List, [], ◌∷◌, ◌++◌, length, OnOk, IfErr, IfSome, None, ◌-◌};
+ghost use Rattle.std.specs.Prelude.{◌≡◌, ◌<◌, ◌≤◌, ◌^◌, ℕ, List, [], ◌∷◌, ◌++◌, length, OnOk, IfErr, IfSome, is_some, None, ◌-◌};
 ghost use Rattle.std.specs.Ordering.{nat_cmp};
 ghost use Rattle.std.specs.Cmp.Lexicographic.{slice_cmp};
 ghost use Rattle.std.specs.BTreeMap.{get_by};
-ghost use Rattle.pd_words.specs.Names.{number_of};
+ghost use Rattle.pd_words.specs.Names.{number_of, is_among};
 ghost use Rattle.pd_words.specs.declared.fault.ReadError.TheVariants as errors;
 
 use crate::fault::ReadError;
@@ -42,6 +42,7 @@ impl Table {
     pub fn number(&self, name: &Name) -> Option<u32>
         ensures number { result ≡ number_of name.now self.now }
         ensures below { IfSome result (λ i. i < length self.now) }
+        ensures among { is_some result ≡ is_among name.now self.now }
     {
         self.find(name.as_slice())
     }

@@ -81,7 +81,8 @@ impl Variables {
     ghost use Rattle.pd_words.specs.Typed as typed;
     ghost use Rattle.pd_words.specs.First.{Leaves};
 
-    fn new(alloc: Global) -> Self
+    /// No variables; takes no memory.
+    pub fn new(alloc: Global) -> Self
         ensures names { result.names ≡ [] }
         ensures kinds { result.kinds.items ≡ [] }
     {
@@ -92,7 +93,7 @@ impl Variables {
     }
 
     // Takes a variable that stands for the first time.
-    #[tactic(auto, using(crate::proofs::NameLemmas::among_none, crate::proofs::NameLemmas::among_some))]
+    #[tactic(auto, using(crate::proofs::NameLemmas::number_none))]
     fn admit(&mut self, alloc: Global, word: &Named) -> Result<(), ReadError>
         ensures { Leaves (typed.admit_variable (typed.listed self.old.names self.old.kinds.items) word.now) (typed.listed self.new.names self.new.kinds.items) result }
     {

@@ -63,7 +63,7 @@ impl Declared {
         })
     }
 
-    #[tactic(auto, using(crate::proofs::NameLemmas::among_none, crate::proofs::NameLemmas::among_some))]
+    #[tactic(auto, using(crate::proofs::NameLemmas::number_none))]
     fn admit(&mut self, alloc: Global, word: &Named) -> Result<(), ReadError>
         ensures { Leaves (types.admit_type (declared self.old) word.now) (declared self.new) result }
     {
@@ -141,7 +141,7 @@ fn read_declared(alloc: Global, items: &[Tree]) -> Result<Declared, ReadError>
 }
 
 // Adds a name if it is not there.
-#[tactic(auto, using(crate::proofs::NameLemmas::among_none, crate::proofs::NameLemmas::among_some))]
+#[tactic(auto, using(crate::proofs::NameLemmas::number_none))]
 fn add_name(alloc: Global, names: &mut Table, name: &Name) -> Result<(), ReadError>
     ensures added { OnOk result (names.new ≡ types.with_name names.old name.now) }
     ensures memory { IfErr result (λ e. e ≡ errors.Memory) }
