@@ -7,3 +7,4 @@ pub mod Reading
 pub mod Standing
 pub mod Scope
 pub mod KeyValues
+pub mod Tables

@@ -1,9 +1,8 @@
 -- The task that a domain and a problem say, or the first cause for which they say none. The passes run in
 -- this order: the domain's frame, types, constants, predicates and actions, then the problem's frame,
 -- objects, initial state and goal.
-use Rattle.std.specs.Prelude.{ℕ, List, [], ◌∷◌, map, Option, Some, None, Result, Ok, Err, if◌then◌else◌, codes}
-use Rattle.std.specs.Str.{bytes_eq}
-use Rattle.pd_sexp.specs.Tree.{Tree, word, list, Trees, no_trees, and_tree}
+use Rattle.std.specs.Prelude.{ℕ, List, [], ◌∷◌, map, Option, Some, None, Result, Ok, Err, codes}
+use Rattle.pd_sexp.specs.Tree.{Tree, Trees, no_trees, and_tree}
 use Rattle.pd_model.specs.declared.memory.Which.{Which}
 use Rattle.pd_model.specs.declared.memory.Which.TheVariants.{Domain, Problem}
 use Rattle.pd_model.specs.declared.types.TypeDecl.{TypeDecl}
@@ -21,7 +20,7 @@ use Rattle.pd_task.specs.declared.error.PddlError.TheVariants as errors
 use Rattle.pd_task.specs.Atoms.{Names, condition}
 use Rattle.pd_task.specs.Effects.{no_more}
 use Rattle.pd_task.specs.Action.{and_action}
-use Rattle.pd_task.specs.Frames.{domain_frame, problem_frame, find_section, items_under}
+use Rattle.pd_task.specs.Frames.{domain_frame, problem_frame, section_with, find_section, items_under}
 use Rattle.pd_task.specs.Declarations.{object_names, predicate_names, arities_of, and_objects, and_predicate, and_init}
 
 -- what a domain declares
@@ -45,9 +44,10 @@ names_in predicates objects = record {
 
 -- these actions, and the one of a section, if it is one
 abbrev pub and_section : List (List ℕ) → Names → List Schema → Tree → Result (List Schema) Fault
-and_section types names before (list at (and_tree (word place head) items)) =
-    if bytes_eq head (codes ":action") then and_action types names before at items else Ok before
-and_section types names before _ = Ok before
+and_section types names before section = elim (section_with (codes ":action") section) [
+    | None ↦ Ok before
+    | Some s ↦ and_action types names before s.0 s.1
+  ]
 
 -- the passes of a domain
 abbrev pub domain_parts : Tree → Result DomainParts Fault

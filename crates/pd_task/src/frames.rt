@@ -203,8 +203,8 @@ fn check_sections(alloc: Global, file: Which, sections: &[Tree]) -> Result<Table
     Ok(seen)
 }
 
-// The place and the items of a section with this head.
-fn section_with<'a>(head: &str, tree: &'a Tree) -> Option<(u32, &'a [Tree])>
+/// The place and the items of a section with this head.
+pub fn section_with<'a>(head: &str, tree: &'a Tree) -> Option<(u32, &'a [Tree])>
     ensures { option_map (λ s. (s.0, views s.1.now)) result ≡ frames.section_with head.now (view tree.now) }
 {
     match tree {

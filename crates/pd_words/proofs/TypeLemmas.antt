@@ -1,9 +1,12 @@
 -- The types that reading gives.
-use Rattle.std.proofs.Common.{◌≡◌, ℕ, zero, suc, ◌+◌, ◌<◌, ◌≤◌, Bool, true, false, cond, List, [], ◌∷◌, ◌++◌, length, map, drop, get_or, slice_index, Option, Some, None, Result, Ok, Err, refl, ap, ◌∙◌, sym, subst, arith, length-append}
+use Rattle.std.proofs.Common.{◌≡◌, ◌⊎◌, inl, inr, ◌==◌, ◌||◌, ℕ, zero, suc, ◌+◌, ◌<◌, ◌≤◌, Bool, true, false, cond, List, [], ◌∷◌, ◌++◌, length, map, drop, get_or, slice_index, Option, Some, None, Result, Ok, Err, refl, ap, ◌∙◌, sym, subst, arith, length-append}
 use Rattle.std.specs.Prelude.{IfOk, IfSome, unwrap_or, not}
 use Rattle.std.proofs.lemmas.List.{length-map, drop_more}
 use Rattle.pd_sexp.specs.Tree.{Tree, Trees}
-use Rattle.pd_model.specs.Types.{parents_of, is_under}
+use Rattle.std.proofs.lemmas.Bool.{cases_lt, lt-ltb}
+use Rattle.std.specs.Prelude.{slice_get}
+use Rattle.pd_model.specs.WellFormed.{are_below}
+use Rattle.pd_model.specs.Types.{parents_of, leads_to, is_under}
 use Rattle.pd_model.specs.declared.types.TypeDecl.{TypeDecl}
 use Rattle.pd_words.specs.declared.fault.Fault.{Fault}
 use Rattle.pd_words.specs.declared.fault.Fault.TheVariants.{Shape, Duplicate}
@@ -12,7 +15,7 @@ use Rattle.pd_words.specs.Names.{number_of, is_among}
 use Rattle.pd_words.specs.Words.{is_name}
 use Rattle.pd_words.specs.Typed.{type_name, object}
 use Rattle.pd_words.specs.First.{◌>>=◌, wants}
-use Rattle.pd_words.specs.Types.{Declared, object_name, is_object, admit_type, parent_name, give_one, give_parent, declared_from, only_object, with_name, with_parents, types_under, number_in, types_of, rooted, AreParents}
+use Rattle.pd_words.specs.Types.{Declared, object_name, is_object, admit_type, parent_name, give_one, give_parent, declared_from, only_object, with_name, with_parents, types_under, number_in, types_of, types, rooted, AreParents}
 use Rattle.pd_words.proofs.NameLemmas.{number_below}
 use Rattle.pd_words.proofs.Sound.{bind_ok, wants_ok, if_ok, typed_keeps}
 
@@ -88,25 +91,43 @@ lawful d some =
 
 -- ---- `object` and the declared names, of which each gets a parent
 
-abbrev Counted : Declared → List Named → Type 0
-Counted d waiting = length d.names ≡ suc (length d.places)
+proper : List Named → ℕ
+proper [] = 0
+proper (w ∷ ws) = cond (is_object w.name) 0 1 + proper ws
+
+proper_push : (ws : List Named) (w : Named) → proper (ws ++ w ∷ []) ≡ proper ws + cond (is_object w.name) 0 1
+unfolding proper
+proper_push [] w = omega arith
+proper_push (v ∷ ws) w = omega (arith, proper_push ws w)
+
+record Counted (d : Declared) (waiting : List Named) : Type 0 where
+  names : length d.names ≡ suc (length d.places)
+  parents : length d.places ≡ length d.parents + proper waiting
 
 admits : (d : Declared) (waiting : List Named) (w : Named) → Counted d waiting → IfOk (admit_type d w) (λ next. Counted next (waiting ++ w ∷ []))
 admits d waiting w h =
     let here : Declared → Type 0 = λ next. Counted next (waiting ++ w ∷ []) in
     wants_ok here (is_name w.name) (Shape w.at) _
-      (λ _. if_ok here (is_object w.name) (Ok d) _ (λ _. h)
-          (λ _. wants_ok here (not (is_among w.name d.names)) (Duplicate w.at) _ (λ _. omega (arith, length-append d.names (w.name ∷ []), length-append d.places (w.at ∷ [])))))
+      (λ _. if_ok here (is_object w.name) (Ok d) _
+          (λ yes. record { names = h.names; parents = let e : proper (waiting ++ w ∷ []) ≡ proper waiting + 0 = rw proper_push (ap (λ b. proper waiting + cond b 0 1) yes) in omega (arith, h.parents) })
+          (λ no. wants_ok here (not (is_among w.name d.names)) (Duplicate w.at) _
+              (λ _. record {
+                names = omega (arith, h.names, length-append d.names (w.name ∷ []), length-append d.places (w.at ∷ []));
+                parents = let e : proper (waiting ++ w ∷ []) ≡ proper waiting + 1 = rw proper_push (ap (λ b. proper waiting + cond b 0 1) no) in omega (arith, h.parents, length-append d.places (w.at ∷ []));
+              })))
 
-gives_one : (d : Declared) (parent : List ℕ) (w : Named) → Counted d [] → IfOk (give_one d parent w) (λ next. Counted next [])
-gives_one d parent w h =
-    let here : Declared → Type 0 = λ next. Counted next [] in
-    if_ok here (is_object w.name) _ _ (λ _. wants_ok here (is_object parent) (Duplicate w.at) _ (λ _. h)) (λ _. h)
+gives_one : (d : Declared) (parent : List ℕ) (w : Named) (ws : List Named) → Counted d (w ∷ ws) → IfOk (give_one d parent w) (λ next. Counted next ws)
+unfolding proper
+gives_one d parent w ws h =
+    let here : Declared → Type 0 = λ next. Counted next ws in
+    if_ok here (is_object w.name) _ _
+      (λ yes. wants_ok here (is_object parent) (Duplicate w.at) _ (λ _. record { names = h.names; parents = let e : cond (is_object w.name) 0 1 ≡ 0 = ap (λ b. cond b 0 1) yes in omega (arith, h.parents) }))
+      (λ no. record { names = h.names; parents = let e : cond (is_object w.name) 0 1 ≡ 1 = ap (λ b. cond b 0 1) no in omega (arith, h.parents, length-append d.parents (parent ∷ [])) })
 
-gives : (d : Declared) (waiting : List Named) (parent : List ℕ) → Counted d [] → IfOk (give_parent d parent waiting) (λ next. Counted next [])
+gives : (d : Declared) (waiting : List Named) (parent : List ℕ) → Counted d waiting → IfOk (give_parent d parent waiting) (λ next. Counted next [])
 gives d [] parent h = h
 gives d (w ∷ ws) parent h =
-    bind_ok (λ next. Counted next []) (λ next. Counted next []) (give_one d parent w) (λ next. give_parent next parent ws) (gives_one d parent w h) (λ next more. gives next ws parent more)
+    bind_ok (λ next. Counted next ws) (λ next. Counted next []) (give_one d parent w) (λ next. give_parent next parent ws) (gives_one d parent w ws h) (λ next more. gives next ws parent more)
 
 any_name : (t : Tree) → IfOk (parent_name t) (λ _. Unit {0})
 any_name t = anything (parent_name t)
@@ -115,7 +136,96 @@ any_name t = anything (parent_name t)
     anything (Ok x) = tt
     anything (Err e) = tt
 
-pub declared_counted : (items : Trees) → IfOk (declared_from only_object [] items) (λ d. length d.names ≡ suc (length d.places))
+weaker : (r : Result Declared Fault) → IfOk r (λ d. Counted d []) → IfOk r (λ d. (length d.names ≡ suc (length d.places)) × (length d.places ≡ length d.parents))
+unfolding proper
+weaker (Ok d) h = (h.names, omega (arith, h.parents))
+weaker (Err e) h = tt
+
+pub declared_counted : (items : Trees) → IfOk (declared_from only_object [] items) (λ d. (length d.names ≡ suc (length d.places)) × (length d.places ≡ length d.parents))
+unfolding proper
 declared_counted items =
-    typed_keeps admit_type parent_name give_parent object_name Counted admits (λ _. Unit {0}) any_name tt
-      (λ d waiting parent _ h. gives d waiting parent h) only_object [] items refl
+    weaker (declared_from only_object [] items)
+      (typed_keeps admit_type parent_name give_parent object_name Counted admits (λ _. Unit {0}) any_name tt
+        (λ d waiting parent _ h. gives d waiting parent h) only_object [] items (record { names = refl; parents = refl }))
+
+-- ---- each type lies under `object`
+
+rooted_each : (parents : List ℕ) (kind : ℕ) (places : List ℕ) → rooted parents kind places ≡ Ok tt → (i : ℕ) → i < length places → is_under parents (kind + i) 0 ≡ true
+rooted_each parents kind [] is i lt = absurd (omega arith)
+rooted_each parents kind (p ∷ ps) is i lt = first (is_under parents kind 0) refl i lt is
+  where
+    first : (b : Bool) → is_under parents kind 0 ≡ b → (i : ℕ) → i < suc (length ps) → (wants b (Shape p) >>= λ _. rooted parents (kind + 1) ps) ≡ Ok tt → is_under parents (kind + i) 0 ≡ true
+    first true here zero lt is = let e : kind + zero ≡ kind = omega arith in rw e here
+    first true here (suc i) lt is = let e : kind + suc i ≡ (kind + 1) + i = omega arith in rw e (rooted_each parents (kind + 1) ps is i (omega arith))
+    first false here i lt is = absurd cc
+
+past_is : (names : List (List ℕ)) (numbers : List ℕ) (k : ℕ) → length numbers ≤ k → slice_index (parents_of (types_under names numbers)) k ≡ 0
+past_is [] numbers k h = refl
+past_is (n ∷ ns) [] zero h = refl
+past_is (n ∷ ns) [] (suc k) h = past_is ns [] k (omega arith)
+past_is (n ∷ ns) (p ∷ ps) zero h = absurd (omega arith)
+past_is (n ∷ ns) (p ∷ ps) (suc k) h = past_is ns ps k (omega arith)
+
+object_leads : (parents : List ℕ) (n : ℕ) → leads_to parents n 0 0 ≡ true
+object_leads parents zero = refl
+object_leads parents (suc n) = refl
+
+step_leads : (parents : List ℕ) (n kind : ℕ) → slice_index parents kind ≡ 0 → leads_to parents (suc n) kind 0 ≡ true
+step_leads parents n kind is = rw (is, object_leads parents n) (or_true (kind == 0))
+  where
+    or_true : (b : Bool) → b || true ≡ true
+    or_true true = refl
+    or_true false = refl
+
+near_object : (parents : List ℕ) (size kind : ℕ) → length parents ≡ size → 0 < size → slice_index parents kind ≡ 0 → is_under parents kind 0 ≡ true
+near_object parents zero kind is some at = absurd (omega arith)
+near_object parents (suc n) kind is some at = rw is (step_leads parents n kind at)
+
+pub each_under : (d : Declared) → length d.names ≡ suc (length d.places) → length d.places ≡ length d.parents → rooted (parents_of (types_of d)) 1 d.places ≡ Ok tt
+    → (kind : ℕ) → kind < length (types_of d) → is_under (parents_of (types_of d)) kind 0 ≡ true
+each_under d names parents is zero lt = near_object (parents_of (types_of d)) (length (parents_of (types_of d))) 0 refl (omega (arith, size_is d, parents_grow d.names d.parents)) ((lawful d (omega arith)).object_first)
+each_under d names parents is (suc i) lt = split (cases_lt i (length d.places))
+  where
+    split : (i < length d.places) ⊎ (length d.places ≤ i) → is_under (parents_of (types_of d)) (suc i) 0 ≡ true
+    split (inl h) = let e : suc i ≡ 1 + i = omega arith in rw e (rooted_each (parents_of (types_of d)) 1 d.places is i h)
+    split (inr h) =
+        let past = past_is (with_parents d.names d.parents) (object ∷ map (number_in (with_parents d.names d.parents)) d.parents) (suc i) (omega (arith, h, length-map d.parents (number_in (with_parents d.names d.parents)))) in
+        near_object (parents_of (types_of d)) (length (parents_of (types_of d))) (suc i) refl (omega (arith, size_is d, parents_grow d.names d.parents)) past
+
+-- ---- what holds of the types of a domain
+
+all_at : (xs : List ℕ) (n : ℕ) → ((k : ℕ) → k < length xs → slice_index xs k < n) → are_below n xs ≡ true
+all_at [] n h = refl
+all_at (x ∷ xs) n h = rw (lt-ltb x n (h 0 (omega arith))) (all_at xs n (λ k lt. h (suc k) (omega arith)))
+
+first_is : (xs : List ℕ) → 0 < length xs → slice_index xs 0 ≡ 0 → slice_get xs 0 ≡ Some 0
+first_is [] some is = absurd (omega arith)
+first_is (x ∷ xs) some is = ap Some is
+
+pub record TypesLawful (ts : List TypeDecl) : Type 0 where
+  pub some : 0 < length ts
+  pub first : slice_get (parents_of ts) 0 ≡ Some 0
+  pub below : are_below (length ts) (parents_of ts) ≡ true
+  pub leads : (kind : ℕ) → kind < length ts → is_under (parents_of ts) kind 0 ≡ true
+
+of_declared : (d : Declared) → (length d.names ≡ suc (length d.places)) × (length d.places ≡ length d.parents) → rooted (parents_of (types_of d)) 1 d.places ≡ Ok tt → TypesLawful (types_of d)
+of_declared d counted is =
+    let ts = types_of d in
+    let are = lawful d (omega (arith, counted.0)) in
+    let size : length (parents_of ts) ≡ length ts = length-map ts (λ t. t.parent) in
+    record {
+      some = omega (arith, are.some);
+      first = first_is (parents_of ts) are.some are.object_first;
+      below = all_at (parents_of ts) (length ts) (λ k lt. subst (λ n. slice_index (parents_of ts) k < n) size (are.below k lt));
+      leads = each_under d counted.0 counted.1 is;
+    }
+
+after_test : (d : Declared) → (length d.names ≡ suc (length d.places)) × (length d.places ≡ length d.parents) → (r : Result (Unit {0}) Fault) → rooted (parents_of (types_of d)) 1 d.places ≡ r
+    → IfOk (r >>= λ _. Ok (types_of d)) TypesLawful
+after_test d counted (Ok u) is = of_declared d counted is
+after_test d counted (Err e) is = tt
+
+pub types_sound : (items : Trees) → IfOk (types items) TypesLawful
+types_sound items =
+    bind_ok (λ d. (length d.names ≡ suc (length d.places)) × (length d.places ≡ length d.parents)) TypesLawful (declared_from only_object [] items) _ (declared_counted items)
+      (λ d counted. after_test d counted (rooted (parents_of (types_of d)) 1 d.places) refl)

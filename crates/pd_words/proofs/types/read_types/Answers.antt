@@ -16,7 +16,7 @@ same_decls d names numbers decls a b e = rw (e, b, a) refl
 pub check_rooted-requires-clause-parents : goal.check_rooted-requires-clause-parents
 check_rooted-requires-clause-parents c =
     let d = declared c.in_ok-names.field-0 in
-    let counted : length d.names ≡ suc (length d.places) = ok_is (λ d. length d.names ≡ suc (length d.places)) (declared_from only_object [] (views c.args.items.now)) d c.in_ok-names.ensures (declared_counted (views c.args.items.now)) in
+    let counted : length d.names ≡ suc (length d.places) = (ok_is (λ d. (length d.names ≡ suc (length d.places)) × (length d.places ≡ length d.parents)) (declared_from only_object [] (views c.args.items.now)) d c.in_ok-names.ensures (declared_counted (views c.args.items.now))).0 in
     let names : c.add_parents.new.names ≡ with_parents d.names d.parents = cc (c.in_ok-add_parents.ensures.added) in
     let numbers : c.as_slice-3.result.now ≡ 0 ∷ map (number_in c.add_parents.new.names) d.parents = cc (c.in_ok-numbers.ensures.numbers) in
     let decls : c.in_ok-decls.decls.items ≡ types_under c.add_parents.new.names c.as_slice-3.result.now = cc (c.in_ok-decls.ensures.types) in
@@ -27,7 +27,7 @@ check_rooted-requires-clause-parents c =
 pub check_rooted-requires-clause-room : goal.check_rooted-requires-clause-room
 check_rooted-requires-clause-room c =
     let d = declared c.in_ok-names.field-0 in
-    let counted : length d.names ≡ suc (length d.places) = ok_is (λ d. length d.names ≡ suc (length d.places)) (declared_from only_object [] (views c.args.items.now)) d c.in_ok-names.ensures (declared_counted (views c.args.items.now)) in
+    let counted : length d.names ≡ suc (length d.places) = (ok_is (λ d. (length d.names ≡ suc (length d.places)) × (length d.places ≡ length d.parents)) (declared_from only_object [] (views c.args.items.now)) d c.in_ok-names.ensures (declared_counted (views c.args.items.now))).0 in
     let names : c.add_parents.new.names ≡ with_parents d.names d.parents = cc (c.in_ok-add_parents.ensures.added) in
     let numbers : c.as_slice-3.result.now ≡ 0 ∷ map (number_in c.add_parents.new.names) d.parents = cc (c.in_ok-numbers.ensures.numbers) in
     let decls : c.in_ok-decls.decls.items ≡ types_under c.add_parents.new.names c.as_slice-3.result.now = cc (c.in_ok-decls.ensures.types) in
