@@ -166,6 +166,7 @@ fn read_schema(
 
 /// Adds the action that the list at this place, with these items after `:action`, is. The table has the
 /// names of the actions so far.
+#[tactic(auto, using(crate::proofs::ObjectLemmas::schemas_push))]
 pub fn read_action(
     alloc: Global,
     vocabulary: &Vocabulary,

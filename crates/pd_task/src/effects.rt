@@ -245,7 +245,7 @@ fn enter_forall(
 }
 
 /// Adds the effects of a tree.
-#[tactic(none)]
+#[tactic(auto)]
 pub fn read_effect(
     alloc: Global,
     vocabulary: &Vocabulary,

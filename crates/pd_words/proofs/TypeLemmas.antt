@@ -91,11 +91,16 @@ lawful d some =
 
 -- ---- `object` and the declared names, of which each gets a parent
 
+-- `object` needs no parent
+abbrev wants_parent : Bool → ℕ
+wants_parent true = 0
+wants_parent false = 1
+
 proper : List Named → ℕ
 proper [] = 0
-proper (w ∷ ws) = cond (is_object w.name) 0 1 + proper ws
+proper (w ∷ ws) = wants_parent (is_object w.name) + proper ws
 
-proper_push : (ws : List Named) (w : Named) → proper (ws ++ w ∷ []) ≡ proper ws + cond (is_object w.name) 0 1
+proper_push : (ws : List Named) (w : Named) → proper (ws ++ w ∷ []) ≡ proper ws + wants_parent (is_object w.name)
 unfolding proper
 proper_push [] w = omega arith
 proper_push (v ∷ ws) w = omega (arith, proper_push ws w)
@@ -109,11 +114,11 @@ admits d waiting w h =
     let here : Declared → Type 0 = λ next. Counted next (waiting ++ w ∷ []) in
     wants_ok here (is_name w.name) (Shape w.at) _
       (λ _. if_ok here (is_object w.name) (Ok d) _
-          (λ yes. record { names = h.names; parents = let e : proper (waiting ++ w ∷ []) ≡ proper waiting + 0 = rw proper_push (ap (λ b. proper waiting + cond b 0 1) yes) in omega (arith, h.parents) })
+          (λ yes. record { names = h.names; parents = let e : proper (waiting ++ w ∷ []) ≡ proper waiting + 0 = rw proper_push (ap (λ b. proper waiting + wants_parent b) yes) in omega (arith, h.parents) })
           (λ no. wants_ok here (not (is_among w.name d.names)) (Duplicate w.at) _
               (λ _. record {
                 names = omega (arith, h.names, length-append d.names (w.name ∷ []), length-append d.places (w.at ∷ []));
-                parents = let e : proper (waiting ++ w ∷ []) ≡ proper waiting + 1 = rw proper_push (ap (λ b. proper waiting + cond b 0 1) no) in omega (arith, h.parents, length-append d.places (w.at ∷ []));
+                parents = let e : proper (waiting ++ w ∷ []) ≡ proper waiting + 1 = rw proper_push (ap (λ b. proper waiting + wants_parent b) no) in omega (arith, h.parents, length-append d.places (w.at ∷ []));
               })))
 
 gives_one : (d : Declared) (parent : List ℕ) (w : Named) (ws : List Named) → Counted d (w ∷ ws) → IfOk (give_one d parent w) (λ next. Counted next ws)
@@ -121,8 +126,8 @@ unfolding proper
 gives_one d parent w ws h =
     let here : Declared → Type 0 = λ next. Counted next ws in
     if_ok here (is_object w.name) _ _
-      (λ yes. wants_ok here (is_object parent) (Duplicate w.at) _ (λ _. record { names = h.names; parents = let e : cond (is_object w.name) 0 1 ≡ 0 = ap (λ b. cond b 0 1) yes in omega (arith, h.parents) }))
-      (λ no. record { names = h.names; parents = let e : cond (is_object w.name) 0 1 ≡ 1 = ap (λ b. cond b 0 1) no in omega (arith, h.parents, length-append d.parents (parent ∷ [])) })
+      (λ yes. wants_ok here (is_object parent) (Duplicate w.at) _ (λ _. record { names = h.names; parents = let e : wants_parent (is_object w.name) ≡ 0 = ap wants_parent yes in omega (arith, e, h.parents) }))
+      (λ no. record { names = h.names; parents = let e : wants_parent (is_object w.name) ≡ 1 = ap wants_parent no in omega (arith, e, h.parents, length-append d.parents (parent ∷ [])) })
 
 gives : (d : Declared) (waiting : List Named) (parent : List ℕ) → Counted d waiting → IfOk (give_parent d parent waiting) (λ next. Counted next [])
 gives d [] parent h = h
@@ -150,14 +155,16 @@ declared_counted items =
 
 -- ---- each type lies under `object`
 
+rooted_first : (parents : List ℕ) (kind place : ℕ) (places : List ℕ) (b : Bool) → is_under parents kind 0 ≡ b
+    → (rooted parents (kind + 1) places ≡ Ok tt → (i : ℕ) → i < length places → is_under parents ((kind + 1) + i) 0 ≡ true)
+    → (i : ℕ) → i < suc (length places) → (wants b (Shape place) >>= λ _. rooted parents (kind + 1) places) ≡ Ok tt → is_under parents (kind + i) 0 ≡ true
+rooted_first parents kind place places true here later zero lt is = let e : kind + zero ≡ kind = omega arith in rw e here
+rooted_first parents kind place places true here later (suc i) lt is = let e : kind + suc i ≡ (kind + 1) + i = omega arith in rw e (later is i (omega arith))
+rooted_first parents kind place places false here later i lt is = absurd cc
+
 rooted_each : (parents : List ℕ) (kind : ℕ) (places : List ℕ) → rooted parents kind places ≡ Ok tt → (i : ℕ) → i < length places → is_under parents (kind + i) 0 ≡ true
 rooted_each parents kind [] is i lt = absurd (omega arith)
-rooted_each parents kind (p ∷ ps) is i lt = first (is_under parents kind 0) refl i lt is
-  where
-    first : (b : Bool) → is_under parents kind 0 ≡ b → (i : ℕ) → i < suc (length ps) → (wants b (Shape p) >>= λ _. rooted parents (kind + 1) ps) ≡ Ok tt → is_under parents (kind + i) 0 ≡ true
-    first true here zero lt is = let e : kind + zero ≡ kind = omega arith in rw e here
-    first true here (suc i) lt is = let e : kind + suc i ≡ (kind + 1) + i = omega arith in rw e (rooted_each parents (kind + 1) ps is i (omega arith))
-    first false here i lt is = absurd cc
+rooted_each parents kind (p ∷ ps) is i lt = rooted_first parents kind p ps (is_under parents kind 0) refl (λ rest. rooted_each parents (kind + 1) ps rest) i lt is
 
 past_is : (names : List (List ℕ)) (numbers : List ℕ) (k : ℕ) → length numbers ≤ k → slice_index (parents_of (types_under names numbers)) k ≡ 0
 past_is [] numbers k h = refl
