@@ -67,3 +67,9 @@ effects_fail types site front t rest errors.Memory total is so_far = tt
 effects_fail types site front t rest (errors.Fault f) total is so_far =
     let one : all_effects types site front (views (t ∷ rest)) ≡ Err f = rw is refl in
     sym so_far ∙ one
+
+pub effects_go_on : (types : List (List ℕ)) (site : Site) (front new : List Effect) (t : Tree) (rest : List Tree) (total : Result (List Effect) Fault)
+    → effect types site front (view t) ≡ Ok new → all_effects types site front (views (t ∷ rest)) ≡ total → all_effects types site new (views rest) ≡ total
+effects_go_on types site front new t rest total is so_far =
+    let one : all_effects types site front (views (t ∷ rest)) ≡ all_effects types site new (views rest) = rw is refl in
+    sym one ∙ so_far

@@ -1,5 +1,8 @@
 -- Effects under `forall`, part by part.
-use Rattle.std.proofs.Common.{◌≡◌, ℕ, List, [], ◌∷◌, ◌++◌, Result, Ok, Err, refl, ap, ◌∙◌, sym, arith}
+use Rattle.std.proofs.Common.{◌≡◌, ℕ, ◌-◌, List, [], ◌∷◌, ◌++◌, length, take, Result, Ok, Err, refl, ap, ◌∙◌, sym, arith, length-append}
+use Rattle.std.specs.Prelude.{OnOk}
+use Rattle.std.proofs.lemmas.List.{take-append-le}
+use Rattle.pd_words.specs.declared.keyword.Keyword.{Keyword}
 use Rattle.pd_sexp.specs.Tree as defs
 use Rattle.pd_sexp.specs.declared.tree.Tree.{Tree}
 use Rattle.pd_sexp.specs.declared.tree.Trees.{Trees}
@@ -8,6 +11,7 @@ use Rattle.pd_sexp.specs.View.{view, views}
 use Rattle.pd_sexp.proofs.Views.{view-List}
 use Rattle.pd_model.specs.declared.effects.Effect.{Effect}
 use Rattle.pd_words.specs.declared.fault.Fault.{Fault}
+use Rattle.pd_words.specs.declared.fault.Fault.TheVariants as faults
 use Rattle.pd_words.specs.declared.fault.ReadError.{ReadError}
 use Rattle.pd_words.specs.declared.fault.ReadError.TheVariants as errors
 use Rattle.pd_words.specs.declared.keyword.Keyword.TheVariants as heads
@@ -16,7 +20,7 @@ use Rattle.pd_words.specs.Typed.{Variables, variable_list}
 use Rattle.pd_words.specs.First.{◌>>=◌, Fails, Gives, Leaves}
 use Rattle.pd_task.specs.Standing.{Standing}
 use Rattle.pd_task.specs.Scope.{site_of, entered}
-use Rattle.pd_task.specs.Effects.{Site, no_more, effect, quantified, quantified_body}
+use Rattle.pd_task.specs.Effects.{Site, no_more, effect, simple, quantified, quantified_body}
 use Rattle.pd_task.specs.declared.vocabulary.Vocabulary.{Vocabulary}
 
 forall_at : (types : List (List ℕ)) (site : Site) (before : List Effect) (at : ℕ) (head : defs.Tree) (rest : defs.Trees) → head_of head ≡ heads.Forall
@@ -63,3 +67,63 @@ pub body_ends : (types : List (List ℕ)) (site : Site) (before es : List Effect
 body_ends types site before es at body more (Ok u) is h = rw (is, h) refl
 body_ends types site before es at body more (Err errors.Memory) is h = tt
 body_ends types site before es at body more (Err (errors.Fault f)) is h = rw (is, h) refl
+
+pub no_list : (types : List (List ℕ)) (site : Site) (before : List Effect) (at : ℕ) (rest : List Tree) → length rest ≡ 0 → quantified types site before at (views rest) ≡ Err (faults.Shape at)
+no_list types site before at [] h = refl
+no_list types site before at (t ∷ ts) h = absurd (omega arith)
+
+pub no_body : (types : List (List ℕ)) (site : Site) (before : List Effect) (at : ℕ) (rest : List Tree) → length rest ≡ 0 → quantified_body types site before at (views rest) ≡ Err (faults.Shape at)
+no_body types site before at [] h = refl
+no_body types site before at (t ∷ ts) h = absurd (omega arith)
+
+-- ---- the variables go out of scope
+
+same_standing : (a b : Standing) → a.levels ≡ b.levels → a.over ≡ b.over → a ≡ b
+same_standing a b p q =
+    let first : a ≡ record { levels = b.levels; over = a.over } = ap (λ (l : List (List (List ℕ))). record { levels = l; over = a.over }) p in
+    first ∙ ap (λ (o : List ℕ). record { levels = b.levels; over = o }) q
+
+all_of_first : {A : Type 0} (xs : List A) → take (length xs) xs ≡ xs
+all_of_first [] = refl
+all_of_first (x ∷ xs) = ap (λ (ys : List _). x ∷ ys) (all_of_first xs)
+
+first_part : {A : Type 0} (xs ys : List A) (n : ℕ) → n ≡ length xs → take n (xs ++ ys) ≡ xs
+first_part xs ys n is = rw is (take-append-le (length xs) xs ys (omega arith) ∙ all_of_first xs)
+
+pub leaves : (types : List (List ℕ)) (scope next after : Standing) (list : defs.Tree) → entered types scope list ≡ Ok next
+    → after.levels ≡ take (length next.levels - 1) next.levels → after.over ≡ take (length scope.over) next.over → after ≡ scope
+leaves types scope next after list is levels over = by_list (variable_list types list) refl
+  where
+    by_list : (r : Result Variables Fault) → variable_list types list ≡ r → after ≡ scope
+    by_list (Ok new) here =
+        let both : entered types scope list ≡ Ok (record { levels = scope.levels ++ new.names ∷ []; over = scope.over ++ new.kinds }) = rw here refl in
+        let same : next ≡ record { levels = scope.levels ++ new.names ∷ []; over = scope.over ++ new.kinds } = cc in
+        let next_levels : next.levels ≡ scope.levels ++ new.names ∷ [] = ap (λ (s : Standing). s.levels) same in
+        let next_over : next.over ≡ scope.over ++ new.kinds = ap (λ (s : Standing). s.over) same in
+        same_standing after scope
+          (levels ∙ rw next_levels (first_part scope.levels (new.names ∷ []) (length (scope.levels ++ new.names ∷ []) - 1) (omega (arith, length-append scope.levels (new.names ∷ [])))))
+          (over ∙ rw next_over (first_part scope.over new.kinds (length scope.over) refl))
+    by_list (Err e) here =
+        let both : entered types scope list ≡ Err e = rw here refl in absurd cc
+
+pub on_ok : (r : Result (Unit {0}) ReadError) (P : Type 0) → P → OnOk r P
+on_ok (Ok u) P h = h
+on_ok (Err e) P h = tt
+
+-- ---- other effects
+
+simple_at : (types : List (List ℕ)) (site : Site) (before : List Effect) (at : ℕ) (head : defs.Tree) (rest : defs.Trees) (k : Keyword) → head_of head ≡ k → (k ≡ heads.And → ⊥) → (k ≡ heads.Forall → ⊥)
+    → effect types site before (defs.list at (defs.and_tree head rest)) ≡ simple site before k at (defs.and_tree head rest)
+simple_at types site before at head rest heads.And is not_and not_forall = absurd (not_and refl)
+simple_at types site before at head rest heads.Forall is not_and not_forall = absurd (not_forall refl)
+simple_at types site before at head rest heads.Not is not_and not_forall = grind (arith, is)
+simple_at types site before at head rest heads.Equals is not_and not_forall = grind (arith, is)
+simple_at types site before at head rest heads.When is not_and not_forall = grind (arith, is)
+simple_at types site before at head rest heads.Other is not_and not_forall = grind (arith, is)
+simple_at types site before at head rest heads.Assignment is not_and not_forall = grind (arith, is)
+simple_at types site before at head rest heads.Free is not_and not_forall = grind (arith, is)
+
+pub simple_is : (types : List (List ℕ)) (site : Site) (before : List Effect) (at : ℕ) (items : Trees) (head : Tree) (rest : List Tree) (tree : Tree) (k : Keyword)
+    → tree ≡ trees.List at items → items.items.items ≡ head ∷ rest → head_of (view head) ≡ k → (k ≡ heads.And → ⊥) → (k ≡ heads.Forall → ⊥)
+    → effect types site before (view tree) ≡ simple site before k at (views (head ∷ rest))
+simple_is types site before at items head rest tree k is parts head_is not_and not_forall = rw (is, view-List, parts) (simple_at types site before at (view head) (views rest) k head_is not_and not_forall)

@@ -97,11 +97,11 @@ total_push [] level = omega arith
 total_push (l ∷ ls) level = omega (arith, total_push ls level)
 
 -- names stand for what the task declares, with so many variables
-pub record Fits (p : Parts) (names : Names) (variables : ℕ) : Type 0 where
+pub record Fits (p : Parts) (names : Names) (n : ℕ) : Type 0 where
   pub predicates : names.predicates ≡ predicate_names p.predicates
   pub arities : names.arities ≡ arities_of p.predicates
   pub objects : length names.objects ≤ length p.objects
-  pub variables : total names.variables ≡ variables
+  pub variables : total names.variables ≡ n
 
 or_below : (P : ℕ → Type 0) (a b : Option ℕ) → IfSome a P → IfSome b P → IfSome (or_else a b) P
 or_below P None b h g = g
@@ -148,7 +148,7 @@ module _ (p : Parts) (names : Names) (n : ℕ) (fits : Fits p names n) where
             (some_weaker (λ i. i < length names.predicates) (λ i. i < length p.predicates) (number_of text names.predicates) (λ i h. omega arith) (number_below text names.predicates)))
 
   pub takes_sound : (i k : ℕ) → i < length p.predicates → (k == slice_index names.arities i) ≡ true → takes (slice_get p.predicates i) k ≡ true
-  takes_sound i k lt is = takes_is p.predicates i k lt (sym (ap (λ (as : List ℕ). k == slice_index as i) fits.arities) ∙ is)
+  takes_sound i k lt is = takes_is p.predicates i k lt (sym (ap (λ (ks : List ℕ). k == slice_index ks i) fits.arities) ∙ is)
 
   pattern_sound : (at : ℕ) (items : Trees) → Passes (is_pattern p n) (atom names at items)
   pattern_sound at no_trees = tt

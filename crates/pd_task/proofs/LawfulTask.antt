@@ -85,8 +85,8 @@ module _ (p : Parts) (types : List (List ℕ)) (names : Names) (size : length ty
 
 -- ---- objects
 
-record Objects (size least : ℕ) (os : List ObjectDecl) : Type 0 where
-  least : least ≤ length os
+record Objects (size low : ℕ) (os : List ObjectDecl) : Type 0 where
+  least : low ≤ length os
   below : are_below size (kinds_of os) ≡ true
 
 declare_sound : (size least : ℕ) (os : List ObjectDecl) (kind : ℕ) (w : Named) (o : Option ℕ) → kind < size → Objects size least os → IfOk (declare os kind w o) (Objects size least)
@@ -133,13 +133,10 @@ module _ (p : Parts) (names : Names) (fits : Fits p names 0) where
                 (λ xs more. and_true (takes (slice_get p.predicates i) (length xs)) (are_below (length p.objects) xs)
                     (ap (λ k. takes (slice_get p.predicates i) k) more.1 ∙ takes_sound p names 0 fits i (count rest) lt is) more.0)))
 
-  good_atoms : List Atom → Type 0
-  good_atoms as = list_all (is_atom p) as ≡ true
+  push_atom : (atoms : List Atom) (at : ℕ) (items : Trees) → list_all (is_atom p) atoms ≡ true → IfOk (ground_atom names at items >>= λ a. Ok (atoms ++ a ∷ [])) (λ found. list_all (is_atom p) found ≡ true)
+  push_atom atoms at items h = bind_ok (λ a. is_atom p a ≡ true) (λ found. list_all (is_atom p) found ≡ true) (ground_atom names at items) _ (ground_sound at items) (λ a is. all_push (is_atom p) atoms a h is)
 
-  push_atom : (atoms : List Atom) (at : ℕ) (items : Trees) → list_all (is_atom p) atoms ≡ true → IfOk (ground_atom names at items >>= λ a. Ok (atoms ++ a ∷ [])) (λ as. list_all (is_atom p) as ≡ true)
-  push_atom atoms at items h = bind_ok (λ a. is_atom p a ≡ true) (λ as. list_all (is_atom p) as ≡ true) (ground_atom names at items) _ (ground_sound at items) (λ a is. all_push (is_atom p) atoms a h is)
-
-  init_sound : (atoms : List Atom) (t : Tree) → list_all (is_atom p) atoms ≡ true → IfOk (and_init names atoms t) (λ as. list_all (is_atom p) as ≡ true)
+  init_sound : (atoms : List Atom) (t : Tree) → list_all (is_atom p) atoms ≡ true → IfOk (and_init names atoms t) (λ found. list_all (is_atom p) found ≡ true)
   init_sound atoms (word at text) h = tt
   init_sound atoms (list at no_trees) h = tt
   init_sound atoms (list at (and_tree head rest)) h =
@@ -147,9 +144,9 @@ module _ (p : Parts) (names : Names) (fits : Fits p names 0) where
           | heads.Equals ↦ Err (Unsupported at)
           | heads.Not ↦ found (Shape at) (one_of rest) >>= λ t. init_denied names at t >>= λ _. Ok atoms
           | _ ↦ ground_atom names at (and_tree head rest) >>= λ a. Ok (atoms ++ a ∷ [])
-        ]) (λ as. list_all (is_atom p) as ≡ true)) [
+        ]) (λ found. list_all (is_atom p) found ≡ true)) [
         | heads.Equals ↦ tt
-        | heads.Not ↦ bind_any (λ as. list_all (is_atom p) as ≡ true) (found (Shape at) (one_of rest)) _ (λ t. bind_any (λ as. list_all (is_atom p) as ≡ true) (init_denied names at t) _ (λ _. h))
+        | heads.Not ↦ bind_any (λ found. list_all (is_atom p) found ≡ true) (found (Shape at) (one_of rest)) _ (λ t. bind_any (λ found. list_all (is_atom p) found ≡ true) (init_denied names at t) _ (λ _. h))
         | _ ↦ push_atom atoms at (and_tree head rest) h
       ]
 
@@ -223,8 +220,8 @@ problem_sound d tree lawful =
             let p : Parts = record { types = d.types; predicates = d.predicates; objects = objects; schemas = d.schemas; init = []; goal = [] } in
             let names = names_in d.predicates objects in
             let fits = names_fit p d.predicates objects refl (omega arith) in
-            bind_ok (λ as. list_all (is_atom p) as ≡ true) Lawful (each (and_init names) [] (items_under (codes ":init") sections)) _
-              (each_sound (λ as. list_all (is_atom p) as ≡ true) (and_init names) (λ as t h. init_sound p names fits as t h) [] (items_under (codes ":init") sections) refl)
+            bind_ok (λ found. list_all (is_atom p) found ≡ true) Lawful (each (and_init names) [] (items_under (codes ":init") sections)) _
+              (each_sound (λ found. list_all (is_atom p) found ≡ true) (and_init names) (λ found t h. init_sound p names fits found t h) [] (items_under (codes ":init") sections) refl)
               (λ init is. bind_ok (λ cs. list_all (is_cond p 0) cs ≡ true) Lawful (goal_of names (find_section (codes ":goal") sections)) _ (goal_sound p names fits (find_section (codes ":goal") sections))
                   (λ goal more. record {
                     types = lawful.types;

@@ -5,3 +5,4 @@ pub mod Ands
 pub mod Foralls
 pub mod Lawful
 pub mod LawfulTask
+pub mod Formed

@@ -8,3 +8,5 @@ pub mod Standing
 pub mod Scope
 pub mod KeyValues
 pub mod Tables
+pub mod Few
+pub mod Told

@@ -1,5 +1,7 @@
 // Actions.
-ghost use Rattle.std.specs.Prelude.{◌≡◌, ◌++◌, ◌∷◌, [], List, ℕ, None, Some, option_map, length, IfOk, OnOk};
+ghost use Rattle.std.specs.Prelude.{◌≡◌, ◌++◌, ◌∷◌, [], List, ℕ, None, Some, option_map, length, IfOk, OnOk, IfErr};
+ghost use Rattle.pd_words.specs.Names.{number_of};
+ghost use Rattle.pd_words.specs.declared.fault.ReadError.TheVariants as errors;
 ghost use Rattle.pd_sexp.specs.View.{view, views};
 ghost use Rattle.pd_words.specs.Typed as typed;
 ghost use Rattle.pd_words.specs.First.{Gives, GivesAs, Leaves};
@@ -149,7 +151,8 @@ fn read_schema(
     name: &Name,
     keys: &Keys,
 ) -> Result<Schema, ReadError>
-    ensures { Gives (action.schema vocabulary.now.types.now (names_with vocabulary.now []) name.now (keys_of keys.now)) result }
+    ensures schema { Gives (action.schema vocabulary.now.types.now (names_with vocabulary.now []) name.now (keys_of keys.now)) result }
+    ensures name { IfOk result (λ s. s.name ≡ name.now) }
 {
     let variables = read_parameters(alloc, vocabulary.types, keys.parameters)?;
     let Variables { names, kinds } = variables;
@@ -164,9 +167,29 @@ fn read_schema(
     })
 }
 
+// Adds an action of this name. It fails only for want of memory.
+#[tactic(auto, using(crate::proofs::ObjectLemmas::schemas_push))]
+fn push_action(
+    alloc: Global,
+    names: &mut Table,
+    schemas: &mut Vec<Schema>,
+    name: &Name,
+    schema: Schema,
+) -> Result<(), ReadError>
+    requires names { names.old ≡ action.names_of schemas.old.items }
+    requires new { number_of name.now names.old ≡ None }
+    requires named { schema.name ≡ name.now }
+    ensures added { OnOk result (schemas.new.items ≡ schemas.old.items ++ schema ∷ []) }
+    ensures names { OnOk result (names.new ≡ action.names_of schemas.new.items) }
+    ensures memory { IfErr result (λ e. e ≡ errors.Memory) }
+{
+    names.add(alloc, name)?;
+    schemas.push(schema)?;
+    Ok(())
+}
+
 /// Adds the action that the list at this place, with these items after `:action`, is. The table has the
 /// names of the actions so far.
-#[tactic(auto, using(crate::proofs::ObjectLemmas::schemas_push))]
 pub fn read_action(
     alloc: Global,
     vocabulary: &Vocabulary,
@@ -188,7 +211,5 @@ pub fn read_action(
     }
     let keys = read_keys(at, rest)?;
     let schema = read_schema(alloc, vocabulary, name, &keys)?;
-    names.add(alloc, name)?;
-    schemas.push(schema)?;
-    Ok(())
+    push_action(alloc, names, schemas, name, schema)
 }
