@@ -6,12 +6,17 @@ mod atoms;
 mod calls;
 mod conds;
 mod effects;
+mod exec;
+mod fits;
+mod instance;
 mod memory;
 mod objects;
 mod parts;
 mod pddl;
 mod predicates;
+mod run;
 mod schemas;
+mod state;
 mod types;
 
 pub use atoms::{Atom, Atoms, Pattern, Term, Terms};

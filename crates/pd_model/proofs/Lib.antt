@@ -1,0 +1,4 @@
+pub mod Walks
+pub mod Equality
+pub mod States
+pub mod Alike
