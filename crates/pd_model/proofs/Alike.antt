@@ -1,6 +1,6 @@
 -- Two states with the same members behave alike: the same literals hold in them, the same calls can run and
 -- lead to states with the same members, and each list of calls comes to the same.
-use Rattle.std.proofs.Common.{◌≡◌, ℕ, ◌+◌, Bool, true, false, cond, List, [], ◌∷◌, ◌++◌, length, get_or, drop, ◌<◌, refl, ap, ◌∙◌, sym, Option, Some, None}
+use Rattle.std.proofs.Common.{◌≡◌, ℕ, ◌+◌, Bool, true, false, cond, List, [], ◌∷◌, ◌++◌, length, get_or, drop, ◌<◌, refl, ap, ◌↔◌, ◌∙◌, sym, Option, Some, None}
 use Rattle.std.specs.Prelude.{◌&&◌, ◌||◌, not, slice_get}
 use Rattle.std.specs.List.{list_all, filter, flat_map}
 use Rattle.std.proofs.lemmas.List.{at_drop_more, append-nil}
@@ -19,7 +19,7 @@ use Rattle.pd_model.specs.State.{same_atom, is_in, SameState, SameOutcome}
 use Rattle.pd_model.specs.Instance.{instance, agrees, holds, all_hold}
 use Rattle.pd_model.specs.Fits.{tuples}
 use Rattle.pd_model.specs.Exec.{active, of_sign, gains, losses, next, exec_schema, exec}
-use Rattle.pd_model.specs.Plan.{verdict_from, verdict}
+use Rattle.pd_model.specs.Plan.{verdict_from, verdict, exec_all, meets_goal, IsPlan}
 use Rattle.pd_model.specs.Follows.{Follows}
 use Rattle.pd_model.proofs.States.{is_in-filter}
 
@@ -124,5 +124,51 @@ pub one_blocked : (p : Parts) (i : ℕ) (s t : List Atom) (calls : List Call) (c
 one_blocked p i s t calls call lt at ran =
     sym (found_rest p i s calls call lt at ∙ stops p i (exec p s call) (drop (i + 1) calls) t ran)
 
-pub ended : (p : Parts) (i : ℕ) (s : List Atom) (b : Bool) → b ≡ all_hold s [] p.goal → cond b Reaches Short ≡ verdict_from p i s []
-ended p i s b is = λ j. cond (is j) Reaches Short
+pub ended : (p : Parts) (i : ℕ) (s : List Atom) (b : Bool) → all_hold s [] p.goal ≡ b → cond b Reaches Short ≡ verdict_from p i s []
+ended p i s b is = λ j. cond (sym is j) Reaches Short
+
+-- ---- plans
+
+abbrev all_after : Parts → Option (List Atom) → List Call → Option (List Atom)
+all_after p None calls = None
+all_after p (Some t) calls = exec_all p t calls
+
+exec_all-after : (p : Parts) (s : List Atom) (call : Call) (calls : List Call) → exec_all p s (call ∷ calls) ≡ all_after p (exec p s call) calls
+exec_all-after p s call calls = by (exec p s call)
+  where
+    by : (o : Option (List Atom)) → elim o as (λ _. Option (List Atom)) [ None ↦ None | Some t ↦ exec_all p t calls ] ≡ all_after p o calls
+    by None = refl
+    by (Some t) = refl
+
+abbrev is_reached : Verdict → Bool
+is_reached Reaches = true
+is_reached (Blocked index) = false
+is_reached Short = false
+
+reached_by : (b : Bool) → is_reached (cond b Reaches Short) ≡ b
+reached_by true = refl
+reached_by false = refl
+
+reached_after : (p : Parts) (index : ℕ) (o : Option (List Atom)) (calls : List Call)
+    → ((t : List Atom) → is_reached (verdict_from p (index + 1) t calls) ≡ meets_goal p (exec_all p t calls))
+    → is_reached (after p index o calls) ≡ meets_goal p (all_after p o calls)
+reached_after p index None calls rest = refl
+reached_after p index (Some t) calls rest = rest t
+
+reached_where : (p : Parts) (calls : List Call) (index : ℕ) (s : List Atom) → is_reached (verdict_from p index s calls) ≡ meets_goal p (exec_all p s calls)
+reached_where p [] index s = reached_by (all_hold s [] p.goal)
+reached_where p (call ∷ calls) index s =
+    ap is_reached (verdict_from-after p index s call calls)
+    ∙ reached_after p index (exec p s call) calls (reached_where p calls (index + 1))
+    ∙ ap (meets_goal p) (sym (exec_all-after p s call calls))
+
+only_reached : (v : Verdict) → is_reached v ≡ true → v ≡ Reaches
+only_reached Reaches h = refl
+only_reached (Blocked index) h = absurd (false≢true h)
+only_reached Short h = absurd (false≢true h)
+
+-- the verdict is that the calls reach the goal exactly where they are a plan
+pub plan_where : (p : Parts) (calls : List Call) (v : Verdict) → v ≡ verdict p calls → (v ≡ Reaches) ↔ IsPlan p calls
+plan_where p calls v is =
+    let same = reached_where p calls 0 p.init in
+    (λ reaches. sym same ∙ ap is_reached (sym is ∙ reaches), λ plan. only_reached v (ap is_reached is ∙ same ∙ plan))

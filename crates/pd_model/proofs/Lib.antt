@@ -2,3 +2,4 @@ pub mod Walks
 pub mod Equality
 pub mod States
 pub mod Alike
+mod Rows

@@ -1,6 +1,6 @@
 -- Loops over objects, types and effects.
 use Rattle.std.proofs.Common.{◌≡◌, ℕ, zero, suc, ◌+◌, ◌-◌, ◌<◌, Bool, true, false, cond, List, [], ◌∷◌, ◌++◌, length, take, drop, get_or, map, refl, ap, ◌∙◌, sym, append_assoc, arith}
-use Rattle.std.specs.Prelude.{◌==◌, slice_index}
+use Rattle.std.specs.Prelude.{◌==◌, ◌||◌, slice_index}
 use Rattle.std.specs.List.{flat_map, filter, range_with_len, slice_get}
 use Rattle.std.proofs.lemmas.List.{append-nil, take_more, nil_from_length, take_at, length-append}
 use Rattle.std.proofs.lemmas.List.Concat.{flat_map-append, flat_map-cons}
@@ -16,6 +16,20 @@ leads_step parents n i at above lt ne =
     let k : n - i ≡ suc (n - (i + 1)) = omega arith in
     let differs : (at == above) ≡ false = grind (arith, ne) in
     rw (k, differs) refl
+
+leads_from_root : (parents : List ℕ) (n above : ℕ) → slice_index parents 0 ≡ 0 → leads_to parents n 0 above ≡ (0 == above)
+leads_from_root parents zero above root = refl
+leads_from_root parents (suc n) above root = rw (root, leads_from_root parents n above root) (or_itself (0 == above))
+  where
+    or_itself : (b : Bool) → (b || b) ≡ b
+    or_itself true = refl
+    or_itself false = refl
+
+-- nothing lies above type 0
+pub at_root : (parents : List ℕ) (n at above : ℕ) → slice_index parents 0 ≡ 0 → at ≡ 0 → (at ≡ above → ⊥) → leads_to parents n at above ≡ false
+at_root parents n at above root is ne =
+    let other : (0 == above) ≡ false = grind (arith, rw is at ne) in
+    rw is (leads_from_root parents n above root ∙ other)
 
 map_id : (xs : List ℕ) → map (λ x. x) xs ≡ xs
 map_id [] = refl

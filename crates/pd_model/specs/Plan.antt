@@ -1,5 +1,5 @@
 -- Plans, and what a list of calls comes to.
-use Rattle.std.specs.Prelude.{◌≡◌, ℕ, ◌+◌, List, [], ◌∷◌, Option, Some, None, if◌then◌else◌}
+use Rattle.std.specs.Prelude.{ℕ, ◌+◌, Bool, false, IsTrue, List, [], ◌∷◌, Option, Some, None, if◌then◌else◌}
 use Rattle.pd_model.specs.Instance.{all_hold}
 use Rattle.pd_model.specs.Exec.{exec}
 use Rattle.pd_model.specs.declared.atoms.Atom.{Atom}
@@ -28,6 +28,11 @@ exec_all p s (call ∷ calls) = elim (exec p s call) [
   | Some t ↦ exec_all p t calls
 ]
 
+-- whether there is such a state, and the goal holds in it
+abbrev pub meets_goal : Parts → Option (List Atom) → Bool
+meets_goal p None = false
+meets_goal p (Some s) = all_hold s [] p.goal
+
 -- each call runs in turn from the initial state on, and the goal holds in the last state
 abbrev pub IsPlan : Parts → List Call → Type 0
-IsPlan p calls = verdict p calls ≡ Reaches
+IsPlan p calls = IsTrue (meets_goal p (exec_all p p.init calls))

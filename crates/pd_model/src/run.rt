@@ -1,11 +1,11 @@
 // Plans, call by call.
-ghost use Rattle.std.specs.Prelude.{◌≡◌, ◌<◌, ◌^◌, ℕ, List, IfOk, OnOk, IsTrue, length};
+ghost use Rattle.std.specs.Prelude.{◌≡◌, ◌↔◌, ◌<◌, ◌^◌, ℕ, List, IfOk, OnOk, IsTrue, length};
 ghost use Rattle.std.specs.List.{list_all};
 ghost use Rattle.pd_model.specs.State.{SameState};
 ghost use Rattle.pd_model.specs.Exec.{exec, next};
 ghost use Rattle.pd_model.specs.Follows.{Follows};
 ghost use Rattle.pd_model.specs.Fits.{is_call};
-ghost use Rattle.pd_model.specs.Plan.{verdict};
+ghost use Rattle.pd_model.specs.Plan.{verdict, IsPlan};
 
 use crate::exec::active_atoms;
 use crate::instance::are_true;
@@ -50,7 +50,8 @@ impl Pddl {
     pub fn run_plan(&self, alloc: Global, calls: &[Call]) -> Result<Verdict, Memory>
         requires calls { IsTrue (list_all (is_call self.now) calls.now) }
         requires few { length calls.now < 2 ^ 32 }
-        ensures { IfOk result (λ answer. answer ≡ verdict self.now calls.now) }
+        ensures verdict { IfOk result (λ answer. answer ≡ verdict self.now calls.now) }
+        ensures plan { IfOk result (λ answer. (answer ≡ Verdict.Reaches) ↔ IsPlan self.now calls.now) }
     {
         let mut state = State::new(alloc);
         state.add_all(self.init().as_slice())?;
