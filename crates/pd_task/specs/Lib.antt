@@ -1,0 +1,9 @@
+pub mod Words
+pub mod First
+pub mod Task
+pub mod Form
+pub mod State
+pub mod Plan
+pub mod PlanFile
+pub mod Read
+pub mod Told
