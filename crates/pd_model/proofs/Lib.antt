@@ -3,3 +3,4 @@ pub mod Equality
 pub mod States
 pub mod Alike
 mod Rows
+pub mod LampTask

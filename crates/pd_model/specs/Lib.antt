@@ -6,3 +6,4 @@ pub mod Fits
 pub mod Exec
 pub mod Plan
 pub mod Follows
+pub mod Lamp

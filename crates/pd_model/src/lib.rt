@@ -1,5 +1,9 @@
 //! The parts of a planning task, and what it means to execute calls of its actions: PDDL 2.1, level 1
 //! (Fox and Long 2003).
+//!
+//! `specs/State.antt` says what a state is, `specs/Instance.antt` when a literal holds in it,
+//! `specs/Fits.antt` which objects an action may be called with, `specs/Exec.antt` what a call does, and
+//! `specs/Plan.antt` which lists of calls are plans. `specs/WellFormed.antt` says what each task keeps.
 #![tactic(auto)]
 
 mod atoms;
@@ -17,6 +21,8 @@ mod predicates;
 mod run;
 mod schemas;
 mod state;
+#[cfg(test)]
+mod tests;
 mod types;
 
 pub use atoms::{Atom, Atoms, Pattern, Term, Terms};
