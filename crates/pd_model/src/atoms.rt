@@ -1,5 +1,6 @@
 // Atoms: with variables in a schema, ground in a state.
-use crate::Objects;
+use crate::{Memory, Objects};
+use std::alloc::Global;
 use std::marker::Model;
 
 /// An object by its number, or a variable by its place: the parameters of the action come first, from
@@ -59,11 +60,26 @@ pub struct Pattern {
 }
 
 /// A ground atom.
-#[derive(Debug, Drop)]
+#[derive(Debug, PartialEq, Eq, PartialOrd, Ord, Drop)]
 pub struct Atom {
     /// The number of its predicate.
     pub predicate: u32,
     pub objects: Objects,
+}
+
+impl Atom {
+    ghost use Rattle.std.specs.Prelude.{◌≡◌, IfOk};
+
+    /// The same atom, in memory of its own.
+    pub(crate) fn copied(&self, alloc: Global) -> Result<Atom, Memory>
+        ensures { IfOk result (λ copy. copy ≡ self.now) }
+    {
+        let objects = Objects::of(Vec::from_slice(alloc, self.objects.as_slice())?);
+        Ok(Atom {
+            predicate: self.predicate,
+            objects,
+        })
+    }
 }
 
 /// Ground atoms, in the order of the file.

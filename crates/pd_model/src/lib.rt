@@ -1,17 +1,28 @@
 //! The parts of a planning task, and what it means to execute calls of its actions: PDDL 2.1, level 1
 //! (Fox and Long 2003).
+//!
+//! `specs/State.antt` says what a state is, `specs/Instance.antt` when a literal holds in it,
+//! `specs/Fits.antt` which objects an action may be called with, `specs/Exec.antt` what a call does, and
+//! `specs/Plan.antt` which lists of calls are plans. `specs/WellFormed.antt` says what each task keeps.
 #![tactic(auto)]
 
 mod atoms;
 mod calls;
 mod conds;
 mod effects;
+mod exec;
+mod fits;
+mod instance;
 mod memory;
 mod objects;
 mod parts;
 mod pddl;
 mod predicates;
+mod run;
 mod schemas;
+mod state;
+#[cfg(test)]
+mod tests;
 mod types;
 
 pub use atoms::{Atom, Atoms, Pattern, Term, Terms};

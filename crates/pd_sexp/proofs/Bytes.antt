@@ -1,7 +1,7 @@
 -- Which bytes are of which kind.
 use Rattle.std.proofs.Common.{◌≡◌, ◌==◌, ◌&&◌, ℕ, Bool, true, false, refl, arith}
 use Rattle.std.proofs.lemmas.Bool.Decides.{nat_tests}
-use Rattle.pd_sexp.specs.Bytes.{open_paren, close_paren, semicolon, line_feed, is_blank, is_letter}
+use Rattle.pd_sexp.specs.Bytes.{open_paren, close_paren, semicolon, is_blank, is_letter}
 
 pub letter-blank : (b : ℕ) → is_letter b ≡ true → is_blank b ≡ false
 letter-blank b h = grind (arith, nat_tests)

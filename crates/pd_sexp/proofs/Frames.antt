@@ -1,5 +1,5 @@
 -- The open lists of a reader, and one more.
-use Rattle.std.proofs.Common.{◌≡◌, List, [], ◌∷◌, ◌++◌, map, reverse, length, refl, ap, ◌∙◌}
+use Rattle.std.proofs.Common.{◌≡◌, List, [], ◌∷◌, ◌++◌, map, reverse, length, ap, ◌∙◌}
 use Rattle.std.proofs.lemmas.List.{map-append, reverse-append, length-reverse, length-map}
 use Rattle.pd_sexp.specs.declared.reader.Frame.{Frame}
 use Rattle.pd_sexp.specs.Reader.{frame_of, outer_of}

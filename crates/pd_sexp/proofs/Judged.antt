@@ -1,5 +1,5 @@
 -- What a reader answers is what the definition says.
-use Rattle.std.proofs.Common.{◌≡◌, ◌+◌, ◌≤◌, ◌<◌, ℕ, List, length, Option, Some, Result, Ok, Err, ap, sym, subst, ◌∙◌, arith}
+use Rattle.std.proofs.Common.{◌≡◌, ◌≤◌, ◌<◌, ℕ, List, length, Result, Ok, Err, sym, subst, arith}
 use Rattle.std.specs.Prelude.{slice_index, IfOk}
 use Rattle.pd_sexp.specs.Fault.{IsFault, Reads, syntax, deep}
 use Rattle.pd_sexp.specs.Progress as reading
@@ -8,7 +8,7 @@ use Rattle.pd_sexp.specs.View.{view}
 use Rattle.pd_sexp.specs.declared.tree.Tree.{Tree}
 use Rattle.pd_sexp.specs.declared.tree.TreeError.{TreeError}
 use Rattle.pd_sexp.specs.declared.tree.TreeError.TheVariants.{Syntax, Deep, Memory}
-use Rattle.pd_sexp.proofs.Verdicts.{Reached, Reached-step, too_deep, wrong_byte, ends_early, ends_well}
+use Rattle.pd_sexp.proofs.Verdicts.{Reached, too_deep, wrong_byte, ends_early, ends_well}
 
 abbrev pub Judged : List ℕ → Result Tree TreeError → Type 0
 Judged bytes (Ok tree) = Reads bytes (view tree)

@@ -1,10 +1,10 @@
 -- How many lists are open: the reader's count is that of the parentheses outside comments.
-use Rattle.std.proofs.Common.{◌≡◌, ◌≢◌, ◌+◌, ◌-◌, ◌==◌, ◌≤◌, ◌<◌, ℕ, zero, suc, Bool, true, false, List, [], ◌∷◌, ◌++◌, length, take, drop, Option, Some, None, refl, sym, ap, subst, ◌∙◌, append_assoc, arith, length-append, length-take, if◌then◌else◌, cond}
+use Rattle.std.proofs.Common.{◌≡◌, ◌+◌, ◌==◌, ℕ, suc, Bool, true, false, List, [], ◌∷◌, ◌++◌, length, Option, Some, None, refl, sym, ap, subst, ◌∙◌, arith, cond}
 use Rattle.std.specs.Prelude.{count_by, slice_index}
 use Rattle.std.proofs.lemmas.List.{get_or-append-add}
 use Rattle.std.proofs.lemmas.List.Sums.{sum_by-cons}
-use Rattle.pd_sexp.specs.Bytes.{open_paren, close_paren, semicolon, line_feed, is_blank, is_letter, lowered}
-use Rattle.pd_sexp.specs.Tree.{Tree, word, list}
+use Rattle.pd_sexp.specs.Bytes.{open_paren, close_paren, semicolon, line_feed, is_letter, lowered}
+use Rattle.pd_sexp.specs.Tree.{word}
 use Rattle.pd_sexp.specs.Fault.{uncommented, comment_blanked, level_after}
 use Rattle.pd_sexp.specs.Progress as at
 use Rattle.pd_sexp.specs.Progress.{Frame, Place, State, fresh, with_item, tree_of, closed, step, run, then_run, level_of, level_in, in_comment}
@@ -47,25 +47,25 @@ closed_level frame (parent ∷ outer) = omega arith
 gap_steps : (place : Place) (offset b : ℕ) (next : State) → Kind b → step (at.gap place) offset b ≡ Some next → Steps (at.gap place) b next
 gap_steps place offset b next (blank is) goes =
     to_next (at.gap place) b (at.gap place) next (rw (blank-step place offset b is) at goes)
-      (plain (at.gap place) b (at.gap place) refl refl (blank-semicolon b is) (rw (blank-open b is, blank-close b is) refl))
+    (plain (at.gap place) b (at.gap place) refl refl (blank-semicolon b is) (rw (blank-open b is, blank-close b is) refl))
 gap_steps place offset b next (opens_comment is) goes =
     to_next (at.gap place) b (at.comment place) next (rw (semicolon-step place offset b is) at goes)
-      (record { shown = 32; seen_is = λ bs. rw is refl; levels = refl })
+    (record { shown = 32; seen_is = λ bs. rw is refl; levels = refl })
 gap_steps at.before offset b next (opens is) goes =
     to_next (at.gap at.before) b (at.gap (at.inside (fresh offset) [])) next (rw is at goes) (plain (at.gap at.before) b (at.gap (at.inside (fresh offset) [])) refl refl (rw is refl) (rw is refl))
 gap_steps (at.inside frame outer) offset b next (opens is) goes =
     to_next (at.gap (at.inside frame outer)) b (at.gap (at.inside (fresh offset) (frame ∷ outer))) next (rw is at goes)
-      (plain (at.gap (at.inside frame outer)) b (at.gap (at.inside (fresh offset) (frame ∷ outer))) refl refl (rw is refl) (rw is (let e : suc (length outer) + 1 ≡ suc (suc (length outer)) + 0 = omega arith in e)))
+    (plain (at.gap (at.inside frame outer)) b (at.gap (at.inside (fresh offset) (frame ∷ outer))) refl refl (rw is refl) (rw is (let e : suc (length outer) + 1 ≡ suc (suc (length outer)) + 0 = omega arith in e)))
 gap_steps (at.after frame) offset b next (opens is) goes = never next (rw is at goes)
 gap_steps at.before offset b next (closes is) goes = never next (rw is at goes)
 gap_steps (at.inside frame outer) offset b next (closes is) goes =
     to_next (at.gap (at.inside frame outer)) b (at.gap (closed frame outer)) next (rw is at goes)
-      (plain (at.gap (at.inside frame outer)) b (at.gap (closed frame outer)) refl refl (rw is refl) (rw is (let e : suc (length outer) + 0 ≡ level_in (closed frame outer) + 1 = omega (arith, closed_level frame outer) in e)))
+    (plain (at.gap (at.inside frame outer)) b (at.gap (closed frame outer)) refl refl (rw is refl) (rw is (let e : suc (length outer) + 0 ≡ level_in (closed frame outer) + 1 = omega (arith, closed_level frame outer) in e)))
 gap_steps (at.after frame) offset b next (closes is) goes = never next (rw is at goes)
 gap_steps at.before offset b next (letter is) goes = never next (rw (letter-blank b is, letter-semicolon b is, letter-open b is) at goes)
 gap_steps (at.inside frame outer) offset b next (letter is) goes =
     to_next (at.gap (at.inside frame outer)) b (at.word frame outer offset (lowered b ∷ [])) next (rw (letter-step frame outer offset b is) at goes)
-      (plain (at.gap (at.inside frame outer)) b (at.word frame outer offset (lowered b ∷ [])) refl refl (letter-semicolon b is) (rw (letter-open b is, letter-close b is) refl))
+    (plain (at.gap (at.inside frame outer)) b (at.word frame outer offset (lowered b ∷ [])) refl refl (letter-semicolon b is) (rw (letter-open b is, letter-close b is) refl))
 gap_steps (at.after frame) offset b next (letter is) goes = never next (rw (letter-blank b is, letter-semicolon b is) at goes)
 gap_steps at.before offset b next (other e f g h i) goes = never next (rw (e, f, g) at goes)
 gap_steps (at.inside frame outer) offset b next (other e f g h i) goes = never next (rw (other-step frame outer offset b e f g h i) at goes)
@@ -82,7 +82,7 @@ word_steps : (frame : Frame) (outer : List Frame) (start : ℕ) (letters : List 
     → step (at.word frame outer start letters) offset b ≡ Some next → Steps (at.word frame outer start letters) b next
 word_steps frame outer start letters offset b next true is goes =
     to_next (at.word frame outer start letters) b (at.word frame outer start (letters ++ lowered b ∷ [])) next (rw is at goes)
-      (plain (at.word frame outer start letters) b (at.word frame outer start (letters ++ lowered b ∷ [])) refl refl (letter-semicolon b is) (rw (letter-open b is, letter-close b is) refl))
+    (plain (at.word frame outer start letters) b (at.word frame outer start (letters ++ lowered b ∷ [])) refl refl (letter-semicolon b is) (rw (letter-open b is, letter-close b is) refl))
 word_steps frame outer start letters offset b next false is goes =
     let same : step (at.word frame outer start letters) offset b ≡ step (at.gap (at.inside (with_item frame (word start letters)) outer)) offset b = rw is refl in
     let s = gap_steps (at.inside (with_item frame (word start letters)) outer) offset b next (kind_of b) (sym same ∙ goes) in

@@ -1,14 +1,14 @@
 -- What is read is a file: bytes that lead to a tree are a gap, a list and a gap.
-use Rattle.std.proofs.Common.{◌≡◌, ◌≢◌, ◌+◌, ◌==◌, ◌≤◌, ℕ, zero, suc, Bool, true, false, List, [], ◌∷◌, ◌++◌, length, map, Option, Some, None, refl, sym, ap, subst, ◌∙◌, append_assoc, arith, MatchBool, length-append, ◌⊎◌, inl, inr, append-nil, if◌then◌else◌}
+use Rattle.std.proofs.Common.{◌≡◌, ◌≢◌, ◌+◌, ◌==◌, ◌≤◌, ℕ, zero, suc, Bool, true, false, List, [], ◌∷◌, ◌++◌, length, map, Some, None, refl, sym, ap, subst, ◌∙◌, append_assoc, arith, length-append, append-nil, if◌then◌else◌}
 use Rattle.std.specs.Prelude.{IsTrue}
 use Rattle.std.specs.List.{list_all}
 use Rattle.pd_sexp.specs.Bytes.{open_paren, close_paren, semicolon, line_feed, is_blank, is_letter, lowered}
-use Rattle.pd_sexp.specs.Tree.{Tree, word, list, Trees, no_trees, and_tree, trees_of}
+use Rattle.pd_sexp.specs.Tree.{Tree, word, list, Trees, no_trees, and_tree}
 use Rattle.pd_sexp.specs.File.{IsGap, IsComment, StopsWord, StopsTree, IsTree, AreItems, IsFile}
 use Rattle.pd_sexp.specs.Progress as at
 use Rattle.pd_sexp.specs.Progress.{Frame, Place, State, fresh, with_item, tree_of, closed, step, run, then_run, finished, tree_after}
-use Rattle.pd_sexp.proofs.Bytes.{blank-semicolon, both, eq-true}
-use Rattle.pd_sexp.proofs.Whole.{with_items, list_of, trees_of-list_of, word-stops, blank-step, semicolon-step, letter-step, with_items-more, with_items-none}
+use Rattle.pd_sexp.proofs.Bytes.{blank-semicolon, eq-true}
+use Rattle.pd_sexp.proofs.Whole.{with_items, trees_of-list_of, word-stops, blank-step, semicolon-step, letter-step, with_items-more, with_items-none}
 
 -- items that begin with a gap, or with the rest of a comment
 abbrev StartsGap : Bool → List ℕ → Type 0
@@ -203,7 +203,7 @@ close_list n go frame outer offset bs end fits ends leads =
     let next = go false (with_item frame tree) outer (offset + length item) inner.rest end short ends (rw (same, long) at inner.goes_on) in
     let parts : item ++ inner.rest ≡ open_paren ∷ bs = ap (λ xs. open_paren ∷ xs) (append_assoc inner.inner (close_paren ∷ []) inner.rest ∙ sym inner.parts) in
     moved false frame outer offset (item ++ inner.rest) (open_paren ∷ bs) end parts
-      (one_item tree frame outer offset item inner.rest end (refl, (inner.inner, refl, same_items inner.items (offset + 1) inner.inner inner.are)) tt next)
+    (one_item tree frame outer offset item inner.rest end (refl, (inner.inner, refl, same_items inner.items (offset + 1) inner.inner inner.are)) tt next)
 
 close_word : (n : ℕ) → Closing n → (frame : Frame) (outer : List Frame) (offset b : ℕ) (bs : List ℕ) (end : State) → length bs ≤ n → Ends end → is_letter b ≡ true
     → run (at.word frame outer offset (lowered b ∷ [])) (offset + 1) bs ≡ Some end → Closes false frame outer offset (b ∷ bs) end
@@ -345,7 +345,7 @@ run-file bytes end tree leads ends =
     let c = closing (length b.rest) false (fresh (0 + length b.front)) [] (0 + length b.front + 1) b.rest end (omega arith) (tree, ends) b.goes_on in
     let t = trails false (with_items (fresh (0 + length b.front)) c.items) (0 + length b.front + 1 + length c.inner + 1) c.rest end c.goes_on in
     let whole : tree ≡ list (0 + length b.front) c.items =
-        some_inj tree (tree_of (with_items (fresh (0 + length b.front)) c.items)) (sym ends ∙ t.tree) ∙ ap (list (0 + length b.front)) (trees_of-list_of c.items) in
+    some_inj tree (tree_of (with_items (fresh (0 + length b.front)) c.items)) (sym ends ∙ t.tree) ∙ ap (list (0 + length b.front)) (trees_of-list_of c.items) in
     record {
       before = b.front;
       middle = open_paren ∷ (c.inner ++ close_paren ∷ []);
@@ -355,8 +355,8 @@ run-file bytes end tree leads ends =
       last_gap = t.gap;
       one_list = (0 + length b.front, c.items, whole);
       is_tree = subst (λ (u : Tree). IsTree u (length b.front) (open_paren ∷ (c.inner ++ close_paren ∷ []))) (sym whole)
-        (none, (c.inner, refl, subst (λ (n : ℕ). AreItems c.items (n + 1) c.inner) none (same_items c.items (0 + length b.front + 1) c.inner c.are)));
+          (none, (c.inner, refl, subst (λ (n : ℕ). AreItems c.items (n + 1) c.inner) none (same_items c.items (0 + length b.front + 1) c.inner c.are)));
     }
   where
-  some_inj : (x y : Tree) → Some x ≡ Some y → x ≡ y
-  some_inj x y h = cc
+    some_inj : (x y : Tree) → Some x ≡ Some y → x ≡ y
+    some_inj x y h = cc

@@ -1,8 +1,7 @@
 -- Which bytes some file begins with: those that lead somewhere, since each state can be completed.
-use Rattle.std.proofs.Common.{◌≡◌, ◌≢◌, ◌+◌, ◌-◌, ◌==◌, ◌≤◌, ◌<◌, ℕ, zero, suc, Bool, true, false, List, [], ◌∷◌, ◌++◌, length, take, drop, Option, Some, None, refl, sym, ap, subst, ◌∙◌, append_assoc, arith, length-append, length-take}
+use Rattle.std.proofs.Common.{◌≡◌, ◌+◌, ℕ, List, [], ◌∷◌, ◌++◌, length, Option, Some, None, refl, sym, ap, ◌∙◌, append_assoc}
 use Rattle.pd_sexp.specs.Bytes.{open_paren, close_paren, line_feed}
-use Rattle.pd_sexp.specs.Tree.{Tree, word, list}
-use Rattle.pd_sexp.specs.File.{IsFile}
+use Rattle.pd_sexp.specs.Tree.{Tree, word}
 use Rattle.pd_sexp.specs.Fault.{IsViable}
 use Rattle.pd_sexp.specs.Progress as at
 use Rattle.pd_sexp.specs.Progress.{Frame, Place, State, fresh, with_item, tree_of, closed, step, run, then_run, finished, tree_after}

@@ -1,5 +1,5 @@
 -- What is a file is read as its tree: a file's bytes, one after another, lead from the start to the end.
-use Rattle.std.proofs.Common.{◌≡◌, ◌≢◌, ◌+◌, ◌==◌, ℕ, Bool, true, false, List, [], ◌∷◌, ◌++◌, length, map, Option, Some, None, refl, sym, ap, subst, ◌∙◌, append_assoc, arith, MatchBool, length-append, zero, ◌⊎◌, inl, inr, append-nil, if◌then◌else◌}
+use Rattle.std.proofs.Common.{◌≡◌, ◌≢◌, ◌+◌, ◌==◌, ℕ, Bool, true, false, List, [], ◌∷◌, ◌++◌, length, map, Option, Some, None, refl, sym, ap, subst, ◌∙◌, append_assoc, arith, MatchBool, length-append, ◌⊎◌, inl, inr, append-nil, if◌then◌else◌}
 use Rattle.std.specs.Prelude.{IsTrue}
 use Rattle.std.specs.List.{list_all}
 use Rattle.pd_sexp.specs.Bytes.{open_paren, close_paren, semicolon, line_feed, is_blank, is_letter, lowered}
@@ -7,7 +7,7 @@ use Rattle.pd_sexp.specs.Tree.{Tree, word, list, Trees, no_trees, and_tree, tree
 use Rattle.pd_sexp.specs.File.{IsGap, IsComment, StopsWord, StopsTree, IsTree, AreItems, IsFile}
 use Rattle.pd_sexp.specs.Progress as at
 use Rattle.pd_sexp.specs.Progress.{Frame, Place, State, fresh, with_item, tree_of, closed, step, run, then_run, tree_after}
-use Rattle.pd_sexp.proofs.Bytes.{letter-blank, letter-semicolon, letter-open, letter-close, blank-semicolon, semicolon-blank, both}
+use Rattle.pd_sexp.proofs.Bytes.{letter-blank, letter-semicolon, letter-open, letter-close, semicolon-blank, both}
 
 -- ---- one run after another
 
@@ -60,25 +60,25 @@ mutual
   pub gap-ends : (f : Frame) (o : ℕ) (g : List ℕ) → IsGap true g → tree_after (run (at.gap (at.after f)) o g) ≡ Some (tree_of f)
   gap-ends f o [] h = refl
   gap-ends f o (b ∷ g) h = elim (choice (b == semicolon) h) [
-      | inl e ↦ ap (λ s. tree_after (then_run (λ t. run t (o + 1) g) s)) (semicolon-step (at.after f) o b e.0) ∙ comment-ends f (o + 1) g e.1
-      | inr e ↦ ap (λ s. tree_after (then_run (λ t. run t (o + 1) g) s)) (blank-step (at.after f) o b e.1.0) ∙ gap-ends f (o + 1) g e.1.1
-    ]
+    | inl e ↦ ap (λ s. tree_after (then_run (λ t. run t (o + 1) g) s)) (semicolon-step (at.after f) o b e.0) ∙ comment-ends f (o + 1) g e.1
+    | inr e ↦ ap (λ s. tree_after (then_run (λ t. run t (o + 1) g) s)) (blank-step (at.after f) o b e.1.0) ∙ gap-ends f (o + 1) g e.1.1
+  ]
 
   comment-ends : (f : Frame) (o : ℕ) (g : List ℕ) → IsComment true g → tree_after (run (at.comment (at.after f)) o g) ≡ Some (tree_of f)
   comment-ends f o [] h = refl
   comment-ends f o (b ∷ g) h = elim (choice (b == line_feed) h) [
-      | inl e ↦ rw e.0 (gap-ends f (o + 1) g e.1)
-      | inr e ↦ rw e.0 (comment-ends f (o + 1) g e.1)
-    ]
+    | inl e ↦ rw e.0 (gap-ends f (o + 1) g e.1)
+    | inr e ↦ rw e.0 (comment-ends f (o + 1) g e.1)
+  ]
 
 -- ---- words
 
 stops-letter : (b : ℕ) (bs : List ℕ) → StopsWord (b ∷ bs) → is_letter b ≡ false
 stops-letter b bs h = not_true (is_letter b) h
   where
-  not_true : (t : Bool) → (IsTrue t → ⊥) → t ≡ false
-  not_true true h = absurd (h refl)
-  not_true false h = refl
+    not_true : (t : Bool) → (IsTrue t → ⊥) → t ≡ false
+    not_true true h = absurd (h refl)
+    not_true false h = refl
 
 -- a word that something else comes after
 pub word-stops : (f : Frame) (outer : List Frame) (start o : ℕ) (letters rest : List ℕ) → StopsWord rest → rest ≢ []
@@ -101,14 +101,14 @@ pub letter-step : (f : Frame) (outer : List Frame) (o b : ℕ) → is_letter b �
 letter-step f outer o b h =
     fifth _ _ _ _ _ _ (is_blank b) (b == semicolon) (b == open_paren) (b == close_paren) (is_letter b) (letter-blank b h) (letter-semicolon b h) (letter-open b h) (letter-close b h) h
   where
-  fifth : {A : Type 0} (v w x y z other : A) (p q r s t : Bool) → p ≡ false → q ≡ false → r ≡ false → s ≡ false → t ≡ true
-      → (if p then v else if q then w else if r then x else if s then y else if t then z else other) ≡ z
-  fifth v w x y z other true q r s t e f g h i = cc
-  fifth v w x y z other false true r s t e f g h i = cc
-  fifth v w x y z other false false true s t e f g h i = cc
-  fifth v w x y z other false false false true t e f g h i = cc
-  fifth v w x y z other false false false false true e f g h i = refl
-  fifth v w x y z other false false false false false e f g h i = cc
+    fifth : {A : Type 0} (v w x y z other : A) (p q r s t : Bool) → p ≡ false → q ≡ false → r ≡ false → s ≡ false → t ≡ true
+        → (if p then v else if q then w else if r then x else if s then y else if t then z else other) ≡ z
+    fifth v w x y z other true q r s t e f g h i = cc
+    fifth v w x y z other false true r s t e f g h i = cc
+    fifth v w x y z other false false true s t e f g h i = cc
+    fifth v w x y z other false false false true t e f g h i = cc
+    fifth v w x y z other false false false false true e f g h i = refl
+    fifth v w x y z other false false false false false e f g h i = cc
 
 -- ---- trees
 
@@ -170,7 +170,7 @@ mutual
       let item = are.1 in
       let tail = are.2 in
       let parts : bytes ++ close_paren ∷ rest ≡ gap ++ (item ++ (tail ++ close_paren ∷ rest)) =
-          ap (λ xs. xs ++ close_paren ∷ rest) are.3 ∙ append_assoc gap (item ++ tail) (close_paren ∷ rest) ∙ ap (λ xs. gap ++ xs) (append_assoc item tail (close_paren ∷ rest)) in
+      ap (λ xs. xs ++ close_paren ∷ rest) are.3 ∙ append_assoc gap (item ++ tail) (close_paren ∷ rest) ∙ ap (λ xs. gap ++ xs) (append_assoc item tail (close_paren ∷ rest)) in
       let long : o + length gap + length item + length tail ≡ o + length bytes = omega (arith, ap length are.3, length-append gap (item ++ tail), length-append item tail) in
       let one = gap-run (at.inside f outer) o gap (item ++ (tail ++ close_paren ∷ rest)) are.4 in
       let two = tree-run t f outer (o + length gap) item (tail ++ close_paren ∷ rest) are.5 (StopsTree-before t tail rest are.6) (not_empty tail close_paren rest) in
@@ -187,11 +187,11 @@ file-run bytes tree file =
     let is : IsTree (list place items) (length file.before) file.middle = subst (λ (t : Tree). IsTree t (length file.before) file.middle) file.one_list.2 file.is_tree in
     let inner = is.1.0 in
     let parts : bytes ≡ file.before ++ (open_paren ∷ (inner ++ (close_paren ∷ file.after))) =
-        file.parts ∙ ap (λ xs. file.before ++ (xs ++ file.after)) is.1.1 ∙ ap (λ xs. file.before ++ open_paren ∷ xs) (append_assoc inner (close_paren ∷ []) file.after) in
+    file.parts ∙ ap (λ xs. file.before ++ (xs ++ file.after)) is.1.1 ∙ ap (λ xs. file.before ++ open_paren ∷ xs) (append_assoc inner (close_paren ∷ []) file.after) in
     let start : Option State = run (at.gap at.before) 0 (file.before ++ (open_paren ∷ (inner ++ (close_paren ∷ file.after)))) in
     let one = gap-run at.before 0 file.before (open_paren ∷ (inner ++ (close_paren ∷ file.after))) file.first_gap in
     let none : 0 + length file.before ≡ length file.before = omega arith in
     let two = items-run items (fresh (length file.before)) [] (length file.before + 1) inner file.after is.1.2 in
     let whole : tree_of (with_items (fresh (length file.before)) items) ≡ tree =
-        ap (list (length file.before)) (trees_of-list_of items) ∙ ap (λ n. list n items) (sym is.0) ∙ sym file.one_list.2 in
+    ap (list (length file.before)) (trees_of-list_of items) ∙ ap (λ n. list n items) (sym is.0) ∙ sym file.one_list.2 in
     rw parts (ap tree_after (one ∙ (rw none refl) ∙ two) ∙ gap-ends (with_items (fresh (length file.before)) items) (length file.before + 1 + length inner + 1) file.after file.last_gap ∙ ap (λ (t : Tree). let s : Option Tree = Some t in s) whole)

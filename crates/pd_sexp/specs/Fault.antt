@@ -45,7 +45,8 @@ IsFault bytes (deep at) = OpensTooDeep bytes at × ((k : ℕ) → k < at → Ope
 IsFault bytes (syntax at) =
     ((tree : Tree) → IsFile bytes tree → ⊥) × IsLongestViable bytes at × ((k : ℕ) → OpensTooDeep bytes k → ⊥)
 
--- a file that has no fault
+-- a file that has no fault, of this tree and no other
 pub record Reads (bytes : List ℕ) (tree : Tree) : Type 0 where
   pub file : IsFile bytes tree
   pub shallow : (k : ℕ) → OpensTooDeep bytes k → ⊥
+  pub only : (other : Tree) → IsFile bytes other → other ≡ tree

@@ -12,12 +12,13 @@ ghost use Rattle.pd_sexp.specs.View.{view};
 
 mod kinds;
 mod reader;
+#[cfg(test)]
+mod tests;
 mod tree;
-
-pub use tree::{Name, Tree, TreeError, Trees};
 
 use reader::Reader;
 use std::alloc::Global;
+pub use tree::{Name, Tree, TreeError, Trees};
 
 /// Reads the one tree that the bytes are.
 ///

@@ -1,4 +1,3 @@
-use Rattle.std.proofs.Common.{◌≡◌, Err}
 use Rattle.std.proofs.lemmas.Result.{err_from_is_err_and}
 use Rattle.pd_sexp.specs.Reader.{state_of}
 use Rattle.pd_sexp.proofs.Verdicts.{Reached-step}

@@ -1,8 +1,5 @@
-use Rattle.std.proofs.Common.{◌≡◌, ◌+◌, ◌++◌, List, [], ◌∷◌, length, map, reverse, refl, sym, ap, ◌∙◌, arith, Some}
-use Rattle.pd_sexp.specs.Reader.{state_of, frame_of, outer_of}
-use Rattle.pd_sexp.specs.Progress as reading
+use Rattle.std.proofs.Common.{refl, arith}
 use Rattle.pd_sexp.proofs.Frames.{length-outer_of}
-use Rattle.pd_sexp.proofs.Views.{view-List, view-Word}
 use Rattle.pd_sexp.proofs.reader.Reader.open.Goals as goal
 
 pub returns-then-len-eq-MAX_LEVELS : goal.returns-then-len-eq-MAX_LEVELS
