@@ -101,8 +101,8 @@ leaves types scope next after list is levels over = by_list (variable_list types
         let next_levels : next.levels ≡ scope.levels ++ new.names ∷ [] = ap (λ (s : Standing). s.levels) same in
         let next_over : next.over ≡ scope.over ++ new.kinds = ap (λ (s : Standing). s.over) same in
         same_standing after scope
-          (levels ∙ rw next_levels (first_part scope.levels (new.names ∷ []) (length (scope.levels ++ new.names ∷ []) - 1) (omega (arith, length-append scope.levels (new.names ∷ [])))))
-          (over ∙ rw next_over (first_part scope.over new.kinds (length scope.over) refl))
+        (levels ∙ rw next_levels (first_part scope.levels (new.names ∷ []) (length (scope.levels ++ new.names ∷ []) - 1) (omega (arith, length-append scope.levels (new.names ∷ [])))))
+        (over ∙ rw next_over (first_part scope.over new.kinds (length scope.over) refl))
     by_list (Err e) here =
         let both : entered types scope list ≡ Err e = rw here refl in absurd cc
 

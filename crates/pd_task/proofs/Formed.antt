@@ -22,7 +22,7 @@ all_both : {A : Type 0} (P Q R : A → Bool) → ((x : A) → P x ≡ true → Q
 all_both P Q R step [] h g = refl
 all_both P Q R step (x ∷ xs) h g =
     and_true (R x) (list_all R xs) (step x (and_first (P x) (list_all P xs) h) (and_first (Q x) (list_all Q xs) g))
-      (all_both P Q R step xs (and_second (P x) (list_all P xs) h) (and_second (Q x) (list_all Q xs) g))
+    (all_both P Q R step xs (and_second (P x) (list_all P xs) h) (and_second (Q x) (list_all Q xs) g))
 
 four : (a b c d : Bool) → b && c && d ≡ true → a ≡ true → a && b && c && d ≡ true
 four true b c d h g = h
@@ -39,10 +39,10 @@ schema_formed p s h g =
     let front = are_below (length p.types) s.parameters && list_all (is_cond p m) s.pre in
     let few = nat_lt m (2 ^ 32) in
     let effects : list_all (is_effect p m) s.effects ≡ true =
-        all_both (lawful_effect p m) (few_effect m) (is_effect p m) (effect_formed p m) s.effects (and_second front (list_all (lawful_effect p m) s.effects) h) (and_second few (list_all (few_effect m) s.effects) g) in
+    all_both (lawful_effect p m) (few_effect m) (is_effect p m) (effect_formed p m) s.effects (and_second front (list_all (lawful_effect p m) s.effects) h) (and_second few (list_all (few_effect m) s.effects) g) in
     four few (are_below (length p.types) s.parameters) (list_all (is_cond p m) s.pre) (list_all (is_effect p m) s.effects)
-      (and_true front (list_all (is_effect p m) s.effects) (and_first front (list_all (lawful_effect p m) s.effects) h) effects)
-      (and_first few (list_all (few_effect m) s.effects) g)
+    (and_true front (list_all (is_effect p m) s.effects) (and_first front (list_all (lawful_effect p m) s.effects) h) effects)
+    (and_first few (list_all (few_effect m) s.effects) g)
 
 formed : (p : Parts) → Lawful p → few_parts p ≡ true → IsWellFormed p
 formed p lawful few =

@@ -78,8 +78,8 @@ pub every_sound : {A : Type 0} (test : A → Bool) (read : Tree → Result A Fau
 every_sound test read h no_trees = (refl, refl)
 every_sound test read h (and_tree t ts) =
     bind_ok (λ x. test x ≡ true) (λ xs. (list_all test xs ≡ true) × (length xs ≡ suc (count ts))) (read t) _ (h t)
-      (λ x is. bind_ok (λ xs. (list_all test xs ≡ true) × (length xs ≡ count ts)) (λ xs. (list_all test xs ≡ true) × (length xs ≡ suc (count ts))) (every read ts) _ (every_sound test read h ts)
-          (λ xs more. (and_true (test x) (list_all test xs) is more.0, ap suc more.1)))
+    (λ x is. bind_ok (λ xs. (list_all test xs ≡ true) × (length xs ≡ count ts)) (λ xs. (list_all test xs ≡ true) × (length xs ≡ suc (count ts))) (every read ts) _ (every_sound test read h ts)
+    (λ xs more. (and_true (test x) (list_all test xs) is more.0, ap suc more.1)))
 
 pub each_sound : {S : Type 0} (P : S → Type 0) (step : S → Tree → Result S Fault) → ((s : S) (t : Tree) → P s → IfOk (step s t) P) → (s : S) (ts : Trees) → P s → IfOk (each step s ts) P
 each_sound P step h s no_trees is = is
@@ -113,8 +113,8 @@ variable_below name first [] = tt
 variable_below name first (l ∷ ls) =
     let below : ℕ → Type 0 = λ i. i < first + (length l + total ls) in
     or_below below (variable_number name (first + length l) ls) (option_map (λ i. first + i) (number_of name l))
-      (some_weaker (λ i. i < (first + length l) + total ls) below (variable_number name (first + length l) ls) (λ i h. omega arith) (variable_below name (first + length l) ls))
-      (some_map (λ i. first + i) below (number_of name l) (some_weaker (λ i. i < length l) (λ i. first + i < first + (length l + total ls)) (number_of name l) (λ i h. omega arith) (number_below name l)))
+    (some_weaker (λ i. i < (first + length l) + total ls) below (variable_number name (first + length l) ls) (λ i h. omega arith) (variable_below name (first + length l) ls))
+    (some_map (λ i. first + i) below (number_of name l) (some_weaker (λ i. i < length l) (λ i. first + i < first + (length l + total ls)) (number_of name l) (λ i h. omega arith) (number_below name l)))
 
 takes_is : (predicates : List Predicate) (i n : ℕ) → i < length predicates → (n == slice_index (arities_of predicates) i) ≡ true → takes (slice_get predicates i) n ≡ true
 takes_is [] i n lt is = absurd (omega arith)
@@ -130,22 +130,22 @@ module _ (p : Parts) (names : Names) (n : ℕ) (fits : Fits p names n) where
   term_sound (list at items) = tt
   term_sound (word at text) =
       if_ok (λ x. is_term p n x ≡ true) (is_variable text) _ _
-        (λ _. found_ok (λ x. is_term p n x ≡ true) (Unknown at) _
-            (some_map Variable (λ x. is_term p n x ≡ true) (variable_number text 0 names.variables)
-                (some_weaker (λ i. i < 0 + total names.variables) (λ i. nat_lt i n ≡ true) (variable_number text 0 names.variables)
-                    (λ i h. lt-ltb i n (omega (arith, fits.variables))) (variable_below text 0 names.variables))))
-        (λ _. found_ok (λ x. is_term p n x ≡ true) (Unknown at) _
-            (some_map Object (λ x. is_term p n x ≡ true) (number_of text names.objects)
-                (some_weaker (λ i. i < length names.objects) (λ i. nat_lt i (length p.objects) ≡ true) (number_of text names.objects)
-                    (λ i h. lt-ltb i (length p.objects) (omega (arith, fits.objects))) (number_below text names.objects))))
+      (λ _. found_ok (λ x. is_term p n x ≡ true) (Unknown at) _
+      (some_map Variable (λ x. is_term p n x ≡ true) (variable_number text 0 names.variables)
+      (some_weaker (λ i. i < 0 + total names.variables) (λ i. nat_lt i n ≡ true) (variable_number text 0 names.variables)
+      (λ i h. lt-ltb i n (omega (arith, fits.variables))) (variable_below text 0 names.variables))))
+      (λ _. found_ok (λ x. is_term p n x ≡ true) (Unknown at) _
+      (some_map Object (λ x. is_term p n x ≡ true) (number_of text names.objects)
+      (some_weaker (λ i. i < length names.objects) (λ i. nat_lt i (length p.objects) ≡ true) (number_of text names.objects)
+      (λ i h. lt-ltb i (length p.objects) (omega (arith, fits.objects))) (number_below text names.objects))))
 
   pub predicate_sound : (t : Tree) → IfOk (predicate names.predicates t) (λ i. i < length p.predicates)
   predicate_sound (list at items) = tt
   predicate_sound (word at text) =
       let size : length names.predicates ≡ length p.predicates = ap length fits.predicates ∙ names_length p.predicates in
       wants_ok (λ i. i < length p.predicates) (is_name text) (Shape at) _
-        (λ _. found_ok (λ i. i < length p.predicates) (Unknown at) _
-            (some_weaker (λ i. i < length names.predicates) (λ i. i < length p.predicates) (number_of text names.predicates) (λ i h. omega arith) (number_below text names.predicates)))
+      (λ _. found_ok (λ i. i < length p.predicates) (Unknown at) _
+      (some_weaker (λ i. i < length names.predicates) (λ i. i < length p.predicates) (number_of text names.predicates) (λ i h. omega arith) (number_below text names.predicates)))
 
   pub takes_sound : (i k : ℕ) → i < length p.predicates → (k == slice_index names.arities i) ≡ true → takes (slice_get p.predicates i) k ≡ true
   takes_sound i k lt is = takes_is p.predicates i k lt (sym (ap (λ (ks : List ℕ). k == slice_index ks i) fits.arities) ∙ is)
@@ -155,10 +155,10 @@ module _ (p : Parts) (names : Names) (n : ℕ) (fits : Fits p names n) where
   pattern_sound at (and_tree head rest) =
       let good : Pattern → Type 0 = λ a. is_pattern p n a ≡ true in
       bind_ok (λ i. i < length p.predicates) good (predicate names.predicates head) _ (predicate_sound head)
-        (λ i lt. wants_ok good (count rest == slice_index names.arities i) (Arity at) _
-            (λ is. bind_ok (λ xs. (list_all (is_term p n) xs ≡ true) × (length xs ≡ count rest)) good (every (term names) rest) _ (every_sound (is_term p n) (term names) term_sound rest)
-                (λ xs more. and_true (takes (slice_get p.predicates i) (length xs)) (list_all (is_term p n) xs)
-                    (ap (λ k. takes (slice_get p.predicates i) k) more.1 ∙ takes_sound i (count rest) lt is) more.0)))
+      (λ i lt. wants_ok good (count rest == slice_index names.arities i) (Arity at) _
+      (λ is. bind_ok (λ xs. (list_all (is_term p n) xs ≡ true) × (length xs ≡ count rest)) good (every (term names) rest) _ (every_sound (is_term p n) (term names) term_sound rest)
+      (λ xs more. and_true (takes (slice_get p.predicates i) (length xs)) (list_all (is_term p n) xs)
+      (ap (λ k. takes (slice_get p.predicates i) k) more.1 ∙ takes_sound i (count rest) lt is) more.0)))
 
   literal_sound : (want : Bool) (at : ℕ) (items : Trees) → Passes (is_cond p n) (literal names want at items)
   literal_sound want at items = bind_ok (λ a. is_pattern p n a ≡ true) (λ c. is_cond p n c ≡ true) (atom names at items) _ (pattern_sound at items) (λ a is. is)
@@ -167,19 +167,19 @@ module _ (p : Parts) (names : Names) (n : ℕ) (fits : Fits p names n) where
   equality_sound want at items =
       let good : Cond → Type 0 = λ c. is_cond p n c ≡ true in
       bind_any good (found (Shape at) (two_of items)) _
-        (λ terms. bind_ok (λ x. is_term p n x ≡ true) good (term names terms.0) _ (term_sound terms.0)
-            (λ left is. bind_ok (λ x. is_term p n x ≡ true) good (term names terms.1) _ (term_sound terms.1)
-                (λ right more. and_true (is_term p n left) (is_term p n right) is more)))
+      (λ terms. bind_ok (λ x. is_term p n x ≡ true) good (term names terms.0) _ (term_sound terms.0)
+      (λ left is. bind_ok (λ x. is_term p n x ≡ true) good (term names terms.1) _ (term_sound terms.1)
+      (λ right more. and_true (is_term p n left) (is_term p n right) is more)))
 
   denied_sound : (at : ℕ) (t : Tree) → Passes (is_cond p n) (denied names at t)
   denied_sound at (word place text) = tt
   denied_sound at (list place no_trees) = tt
   denied_sound at (list place (and_tree head rest)) =
       elim (head_of head) as (λ k. Passes (is_cond p n) (elim k [
-          | heads.Free ↦ literal names false place (and_tree head rest)
-          | heads.Equals ↦ equality names false place rest
-          | _ ↦ Err (Unsupported at)
-        ])) [
+        | heads.Free ↦ literal names false place (and_tree head rest)
+        | heads.Equals ↦ equality names false place rest
+        | _ ↦ Err (Unsupported at)
+      ])) [
         | heads.Free ↦ literal_sound false place (and_tree head rest)
         | heads.Equals ↦ equality_sound false place rest
         | _ ↦ tt
@@ -197,13 +197,13 @@ module _ (p : Parts) (names : Names) (n : ℕ) (fits : Fits p names n) where
     condition_sound before (list at no_trees) h = h
     condition_sound before (list at (and_tree head rest)) h =
         elim (head_of head) as (λ k. Passes (list_all (is_cond p n)) (elim k [
-            | heads.And ↦ conditions names before rest
-            | heads.Not ↦ and_one before (negation names at rest)
-            | heads.Equals ↦ and_one before (equality names true at rest)
-            | heads.Free ↦ and_one before (literal names true at (and_tree head rest))
-            | heads.Assignment ↦ and_one before (literal names true at (and_tree head rest))
-            | _ ↦ Err (Unsupported at)
-          ])) [
+          | heads.And ↦ conditions names before rest
+          | heads.Not ↦ and_one before (negation names at rest)
+          | heads.Equals ↦ and_one before (equality names true at rest)
+          | heads.Free ↦ and_one before (literal names true at (and_tree head rest))
+          | heads.Assignment ↦ and_one before (literal names true at (and_tree head rest))
+          | _ ↦ Err (Unsupported at)
+        ])) [
           | heads.And ↦ conditions_sound before rest h
           | heads.Not ↦ one_more before (negation names at rest) h (negation_sound at rest)
           | heads.Equals ↦ one_more before (equality names true at rest) h (equality_sound true at rest)
@@ -238,19 +238,19 @@ module _ (p : Parts) (m : ℕ) where
   and_effect_sound site before adds at items fits h =
       let n = m + length site.over in
       bind_ok (λ a. is_pattern p n a ≡ true) good (atom site.names at items) _ (pattern_sound p site.names n fits.names at items)
-        (λ a is. all_push (lawful_effect p m) before (record { over = site.over; cond = site.cond; atom = a; adds = adds }) h
-            (and_true (are_below (length p.types) site.over && list_all (is_cond p n) site.cond) (is_pattern p n a)
-                (and_true (are_below (length p.types) site.over) (list_all (is_cond p n) site.cond) fits.over fits.cond) is))
+      (λ a is. all_push (lawful_effect p m) before (record { over = site.over; cond = site.cond; atom = a; adds = adds }) h
+      (and_true (are_below (length p.types) site.over && list_all (is_cond p n) site.cond) (is_pattern p n a)
+      (and_true (are_below (length p.types) site.over) (list_all (is_cond p n) site.cond) fits.over fits.cond) is))
 
   removed_sound : (site : Site) (before : List Effect) (at : ℕ) (t : Tree) → SiteFits p site m → good before → IfOk (removed site before at t) good
   removed_sound site before at (word place text) fits h = tt
   removed_sound site before at (list place no_trees) fits h = tt
   removed_sound site before at (list place (and_tree head rest)) fits h =
       elim (head_of head) as (λ k. IfOk (elim k [
-          | heads.Free ↦ and_effect site before false place (and_tree head rest)
-          | heads.Equals ↦ Err (Shape place)
-          | _ ↦ Err (Unsupported at)
-        ]) good) [
+        | heads.Free ↦ and_effect site before false place (and_tree head rest)
+        | heads.Equals ↦ Err (Shape place)
+        | _ ↦ Err (Unsupported at)
+      ]) good) [
         | heads.Free ↦ and_effect_sound site before false place (and_tree head rest) fits h
         | heads.Equals ↦ tt
         | _ ↦ tt
@@ -265,12 +265,12 @@ module _ (p : Parts) (m : ℕ) where
     literals_sound site before (list at no_trees) fits h = h
     literals_sound site before (list at (and_tree head rest)) fits h =
         elim (head_of head) as (λ k. IfOk (elim k [
-            | heads.And ↦ all_literals site before rest
-            | heads.Not ↦ removal site before at rest
-            | heads.Free ↦ and_effect site before true at (and_tree head rest)
-            | heads.Equals ↦ Err (Shape at)
-            | _ ↦ Err (Unsupported at)
-          ]) good) [
+          | heads.And ↦ all_literals site before rest
+          | heads.Not ↦ removal site before at rest
+          | heads.Free ↦ and_effect site before true at (and_tree head rest)
+          | heads.Equals ↦ Err (Shape at)
+          | _ ↦ Err (Unsupported at)
+        ]) good) [
           | heads.And ↦ all_literals_sound site before rest fits h
           | heads.Not ↦ removal_sound site before at rest fits h
           | heads.Free ↦ and_effect_sound site before true at (and_tree head rest) fits h
@@ -291,7 +291,7 @@ module _ (p : Parts) (m : ℕ) where
   conditional_sound site before at (and_tree cond rest) fits h =
       let n = m + length site.over in
       bind_ok (λ cs. list_all (is_cond p n) cs ≡ true) good (condition site.names [] cond) _ (condition_sound p site.names n fits.names [] cond refl)
-        (λ c is. body_sound (record { names = site.names; over = site.over; cond = c }) before at rest (record { names = fits.names; over = fits.over; cond = is }) h)
+      (λ c is. body_sound (record { names = site.names; over = site.over; cond = c }) before at rest (record { names = fits.names; over = fits.over; cond = is }) h)
 
   simple_sound : (site : Site) (before : List Effect) (k : Keyword) (at : ℕ) (items : Trees) → SiteFits p site m → good before → IfOk (simple site before k at items) good
   simple_sound site before heads.Not at items fits h = removal_sound site before at (rest_of items) fits h
@@ -328,15 +328,15 @@ pub record Typed (size : ℕ) (vs : Variables) : Type 0 where
 pub variables_sound : (types : List (List ℕ)) (items : Trees) → 0 < length types → IfOk (variables types items) (Typed (length types))
 variables_sound types items some = last (variables types items)
     (typed_keeps admit_variable (type_of types) give_kind object (Kinds (length types))
-      (λ vs waiting w h. wants_ok (λ next. Kinds (length types) next (waiting ++ w ∷ [])) (is_variable w.name) _ _
-          (λ _. wants_ok (λ next. Kinds (length types) next (waiting ++ w ∷ [])) (not (is_among w.name vs.names)) _ _
-              (λ _. record { count = omega (arith, h.count, length-append vs.names (w.name ∷ []), length-append waiting (w ∷ [])); below = h.below })))
-      (λ k. k < length types) (type_below types) some
-      (λ vs waiting kind lt h. record {
-        count = omega (arith, h.count, length-append vs.kinds (replicate (length waiting) kind), replicate_length (length waiting) kind);
-        below = all_append (λ k. nat_lt k (length types)) vs.kinds (replicate (length waiting) kind) h.below (replicate_below (length types) kind (length waiting) lt);
-      })
-      (listed [] []) [] items (record { count = refl; below = refl }))
+    (λ vs waiting w h. wants_ok (λ next. Kinds (length types) next (waiting ++ w ∷ [])) (is_variable w.name) _ _
+    (λ _. wants_ok (λ next. Kinds (length types) next (waiting ++ w ∷ [])) (not (is_among w.name vs.names)) _ _
+    (λ _. record { count = omega (arith, h.count, length-append vs.names (w.name ∷ []), length-append waiting (w ∷ [])); below = h.below })))
+    (λ k. k < length types) (type_below types) some
+    (λ vs waiting kind lt h. record {
+      count = omega (arith, h.count, length-append vs.kinds (replicate (length waiting) kind), replicate_length (length waiting) kind);
+      below = all_append (λ k. nat_lt k (length types)) vs.kinds (replicate (length waiting) kind) h.below (replicate_below (length types) kind (length waiting) lt);
+    })
+    (listed [] []) [] items (record { count = refl; below = refl }))
   where
     last : (r : Result Variables Fault) → IfOk r (λ vs. Kinds (length types) vs []) → IfOk r (Typed (length types))
     last (Ok vs) h = record { count = omega (arith, h.count); below = h.below }
@@ -369,10 +369,10 @@ module _ (p : Parts) (m : ℕ) (types : List (List ℕ)) (size : length types �
     effect_sound site before (list at no_trees) fits none h = h
     effect_sound site before (list at (and_tree head rest)) fits none h =
         elim (head_of head) as (λ k. IfOk (elim k [
-            | heads.And ↦ all_effects types site before rest
-            | heads.Forall ↦ quantified types site before at rest
-            | _ ↦ simple site before (head_of head) at (and_tree head rest)
-          ]) (good p m)) [
+          | heads.And ↦ all_effects types site before rest
+          | heads.Forall ↦ quantified types site before at rest
+          | _ ↦ simple site before (head_of head) at (and_tree head rest)
+        ]) (good p m)) [
           | heads.And ↦ all_sound site before rest fits none h
           | heads.Forall ↦ quantified_sound site before at rest fits none h
           | _ ↦ simple_sound p m site before (head_of head) at (and_tree head rest) fits h
@@ -387,7 +387,7 @@ module _ (p : Parts) (m : ℕ) (types : List (List ℕ)) (size : length types �
     quantified_sound site before at no_trees fits none h = tt
     quantified_sound site before at (and_tree variables rest) fits none h =
         bind_ok (Typed (length types)) (good p m) (variable_list types variables) _ (variable_list_sound types variables some)
-          (λ new typed. quantified_body_sound (under site new) before at rest (under_fits p m site new fits none (subst (λ k. Typed k new) size typed)) none h)
+        (λ new typed. quantified_body_sound (under site new) before at rest (under_fits p m site new fits none (subst (λ k. Typed k new) size typed)) none h)
 
     quantified_body_sound : (site : Site) (before : List Effect) (at : ℕ) (items : Trees) → SiteFits p site m → site.cond ≡ [] → good p m before → IfOk (quantified_body types site before at items) (good p m)
     quantified_body_sound site before at no_trees fits none h = tt

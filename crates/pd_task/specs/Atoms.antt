@@ -77,10 +77,10 @@ abbrev pub denied : Names → ℕ → Tree → Result Cond Fault
 denied names at (word place text) = Err (Shape place)
 denied names at (list place no_trees) = Err (Shape at)
 denied names at (list place (and_tree head rest)) = elim (head_of head) [
-    | heads.Free ↦ literal names false place (and_tree head rest)
-    | heads.Equals ↦ equality names false place rest
-    | _ ↦ Err (Unsupported at)
-  ]
+  | heads.Free ↦ literal names false place (and_tree head rest)
+  | heads.Equals ↦ equality names false place rest
+  | _ ↦ Err (Unsupported at)
+]
 
 -- `not` has exactly one item
 abbrev pub negation : Names → ℕ → Trees → Result Cond Fault
@@ -99,13 +99,13 @@ abbrev mutual
   condition names before (word at text) = Err (Shape at)
   condition names before (list at no_trees) = Ok before
   condition names before (list at (and_tree head rest)) = elim (head_of head) [
-      | heads.And ↦ conditions names before rest
-      | heads.Not ↦ and_one before (negation names at rest)
-      | heads.Equals ↦ and_one before (equality names true at rest)
-      | heads.Free ↦ and_one before (literal names true at (and_tree head rest))
-      | heads.Assignment ↦ and_one before (literal names true at (and_tree head rest))
-      | _ ↦ Err (Unsupported at)
-    ]
+    | heads.And ↦ conditions names before rest
+    | heads.Not ↦ and_one before (negation names at rest)
+    | heads.Equals ↦ and_one before (equality names true at rest)
+    | heads.Free ↦ and_one before (literal names true at (and_tree head rest))
+    | heads.Assignment ↦ and_one before (literal names true at (and_tree head rest))
+    | _ ↦ Err (Unsupported at)
+  ]
 
   pub conditions : Names → List Cond → Trees → Result (List Cond) Fault
   conditions names before no_trees = Ok before

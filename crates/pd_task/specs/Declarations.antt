@@ -88,17 +88,17 @@ abbrev pub init_denied : Names → ℕ → Tree → Result (Unit {0}) Fault
 init_denied names at (word place text) = Err (Shape place)
 init_denied names at (list place no_trees) = Err (Shape at)
 init_denied names at (list place (and_tree head rest)) = elim (head_of head) [
-    | heads.Free ↦ ground_atom names place (and_tree head rest) >>= λ _. Ok tt
-    | heads.Equals ↦ Err (Unsupported place)
-    | _ ↦ Err (Unsupported at)
-  ]
+  | heads.Free ↦ ground_atom names place (and_tree head rest) >>= λ _. Ok tt
+  | heads.Equals ↦ Err (Unsupported place)
+  | _ ↦ Err (Unsupported at)
+]
 
 -- these initial atoms, and the one of a further item
 abbrev pub and_init : Names → List Atom → Tree → Result (List Atom) Fault
 and_init names atoms (word at text) = Err (Shape at)
 and_init names atoms (list at no_trees) = Err (Shape at)
 and_init names atoms (list at (and_tree head rest)) = elim (head_of head) [
-    | heads.Equals ↦ Err (Unsupported at)
-    | heads.Not ↦ found (Shape at) (one_of rest) >>= λ t. init_denied names at t >>= λ _. Ok atoms
-    | _ ↦ ground_atom names at (and_tree head rest) >>= λ a. Ok (atoms ++ a ∷ [])
-  ]
+  | heads.Equals ↦ Err (Unsupported at)
+  | heads.Not ↦ found (Shape at) (one_of rest) >>= λ t. init_denied names at t >>= λ _. Ok atoms
+  | _ ↦ ground_atom names at (and_tree head rest) >>= λ a. Ok (atoms ++ a ∷ [])
+]

@@ -40,10 +40,10 @@ abbrev pub removed : Site → List Effect → ℕ → Tree → Result (List Effe
 removed site before at (word place text) = Err (Shape place)
 removed site before at (list place no_trees) = Err (Shape at)
 removed site before at (list place (and_tree head rest)) = elim (head_of head) [
-    | heads.Free ↦ and_effect site before false place (and_tree head rest)
-    | heads.Equals ↦ Err (Shape place)
-    | _ ↦ Err (Unsupported at)
-  ]
+  | heads.Free ↦ and_effect site before false place (and_tree head rest)
+  | heads.Equals ↦ Err (Shape place)
+  | _ ↦ Err (Unsupported at)
+]
 
 -- `not` has exactly one item
 abbrev pub removal : Site → List Effect → ℕ → Trees → Result (List Effect) Fault
@@ -57,12 +57,12 @@ abbrev mutual
   literals site before (word at text) = Err (Shape at)
   literals site before (list at no_trees) = Ok before
   literals site before (list at (and_tree head rest)) = elim (head_of head) [
-      | heads.And ↦ all_literals site before rest
-      | heads.Not ↦ removal site before at rest
-      | heads.Free ↦ and_effect site before true at (and_tree head rest)
-      | heads.Equals ↦ Err (Shape at)
-      | _ ↦ Err (Unsupported at)
-    ]
+    | heads.And ↦ all_literals site before rest
+    | heads.Not ↦ removal site before at rest
+    | heads.Free ↦ and_effect site before true at (and_tree head rest)
+    | heads.Equals ↦ Err (Shape at)
+    | _ ↦ Err (Unsupported at)
+  ]
 
   pub all_literals : Site → List Effect → Trees → Result (List Effect) Fault
   all_literals site before no_trees = Ok before
@@ -114,10 +114,10 @@ module _ (types : List (List ℕ)) where
     effect site before (word at text) = Err (Shape at)
     effect site before (list at no_trees) = Ok before
     effect site before (list at (and_tree head rest)) = elim (head_of head) [
-        | heads.And ↦ all_effects site before rest
-        | heads.Forall ↦ quantified site before at rest
-        | _ ↦ simple site before (head_of head) at (and_tree head rest)
-      ]
+      | heads.And ↦ all_effects site before rest
+      | heads.Forall ↦ quantified site before at rest
+      | _ ↦ simple site before (head_of head) at (and_tree head rest)
+    ]
 
     pub all_effects : Site → List Effect → Trees → Result (List Effect) Fault
     all_effects site before no_trees = Ok before

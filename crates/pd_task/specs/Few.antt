@@ -17,4 +17,4 @@ few_schema s = is_few (length s.parameters) && list_all (few_effect (length s.pa
 abbrev pub few_parts : Parts → Bool
 few_parts p =
     is_few (length p.types) && is_few (length p.predicates) && is_few (length p.objects) && is_few (length p.schemas)
-      && list_all few_schema p.schemas
+    && list_all few_schema p.schemas

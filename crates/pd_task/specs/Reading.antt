@@ -45,9 +45,9 @@ names_in predicates objects = record {
 -- these actions, and the one of a section, if it is one
 abbrev pub and_section : List (List ℕ) → Names → List Schema → Tree → Result (List Schema) Fault
 and_section types names before section = elim (section_with (codes ":action") section) [
-    | None ↦ Ok before
-    | Some s ↦ and_action types names before s.0 s.1
-  ]
+  | None ↦ Ok before
+  | Some s ↦ and_action types names before s.0 s.1
+]
 
 -- the passes of a domain
 abbrev pub domain_parts : Tree → Result DomainParts Fault

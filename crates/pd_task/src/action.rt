@@ -105,7 +105,11 @@ pub fn name_at(tree: &Tree) -> Result<&Name, ReadError>
     }
 }
 
-fn read_parameters(alloc: Global, types: &Table, tree: Option<&Tree>) -> Result<Variables, ReadError>
+fn read_parameters(
+    alloc: Global,
+    types: &Table,
+    tree: Option<&Tree>,
+) -> Result<Variables, ReadError>
     ensures { GivesAs (λ v. typed.listed v.names v.kinds.items) (typed.variable_list types.now (action.value_of (option_map (λ t. view t.now) tree.entry))) result }
 {
     match tree {

@@ -86,10 +86,18 @@ fn is_single(file: Which, head: &Name) -> bool
 {
     match file {
         Which::Domain => {
-            is(head, ":requirements") || is(head, ":types") || is(head, ":constants") || is(head, ":predicates")
+            is(head, ":requirements")
+                || is(head, ":types")
+                || is(head, ":constants")
+                || is(head, ":predicates")
         }
         Which::Problem => {
-            is(head, ":domain") || is(head, ":requirements") || is(head, ":objects") || is(head, ":init") || is(head, ":goal") || is(head, ":length")
+            is(head, ":domain")
+                || is(head, ":requirements")
+                || is(head, ":objects")
+                || is(head, ":init")
+                || is(head, ":goal")
+                || is(head, ":length")
         }
         Which::Plan => false,
     }
@@ -109,7 +117,11 @@ fn is_left_out(file: Which, head: &Name) -> bool
 {
     match file {
         Which::Domain => {
-            is(head, ":functions") || is(head, ":durative-action") || is(head, ":derived") || is(head, ":axiom") || is(head, ":constraints")
+            is(head, ":functions")
+                || is(head, ":durative-action")
+                || is(head, ":derived")
+                || is(head, ":axiom")
+                || is(head, ":constraints")
         }
         Which::Problem => is(head, ":metric") || is(head, ":constraints"),
         Which::Plan => false,
@@ -173,12 +185,7 @@ fn check_section_under(
     seen.add(alloc, head)
 }
 
-fn check_section(
-    alloc: Global,
-    file: Which,
-    seen: &mut Table,
-    tree: &Tree,
-) -> Result<(), ReadError>
+fn check_section(alloc: Global, file: Which, seen: &mut Table, tree: &Tree) -> Result<(), ReadError>
     ensures { Leaves (frames.section file seen.old (view tree.now)) seen.new result }
 {
     match tree {

@@ -122,11 +122,7 @@ fn read_item(
 }
 
 /// The atoms of the initial state, in the order of the file.
-pub fn read_init(
-    alloc: Global,
-    vocabulary: &Vocabulary,
-    items: &[Tree],
-) -> Result<Atoms, ReadError>
+pub fn read_init(alloc: Global, vocabulary: &Vocabulary, items: &[Tree]) -> Result<Atoms, ReadError>
     ensures { Gives (each (declarations.and_init (names_with vocabulary.now [])) [] (views items.now)) result }
 {
     let mut atoms = Vec::new(alloc);

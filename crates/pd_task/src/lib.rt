@@ -26,13 +26,12 @@ mod tests;
 mod vocabulary;
 
 pub use error::PddlError;
+use few::few_parts;
 pub use pd_model::{
     Atom, Atoms, Call, Calls, Cond, Conds, Effect, Effects, Memory, Name, ObjectDecl, ObjectDecls,
     Objects, Parts, Pattern, Pddl, Predicate, Predicates, Schema, Schemas, Term, Terms, TypeDecl,
     TypeNumbers, Types, Verdict, Which,
 };
-
-use few::few_parts;
 use pd_sexp::Tree;
 use pd_words::{Fault, ReadError};
 use read::{read_domain, read_problem};

@@ -12,7 +12,9 @@ ghost use Rattle.pd_task.specs.Tables.{domain_of};
 use crate::action::read_action;
 use crate::cond::read_cond;
 use crate::effects::no_more;
-use crate::frames::{find_section, items_under, read_domain_frame, read_problem_frame, section_with};
+use crate::frames::{
+    find_section, items_under, read_domain_frame, read_problem_frame, section_with,
+};
 use crate::init::read_init;
 use crate::objects::read_objects;
 use crate::predicates::{PredicateTable, read_predicates};

@@ -1,5 +1,5 @@
 -- Where parents lead, by maps of all types at once.
-use Rattle.std.proofs.Common.{◌≡◌, ℕ, zero, suc, ◌+◌, ◌<◌, ◌≤◌, Bool, true, false, ◌==◌, ◌||◌, List, [], ◌∷◌, ◌++◌, length, map, get_or, slice_index, refl, ap, ◌∙◌, sym, subst, arith}
+use Rattle.std.proofs.Common.{◌≡◌, ℕ, zero, suc, ◌+◌, ◌<◌, Bool, true, false, ◌==◌, ◌||◌, List, [], ◌∷◌, ◌++◌, length, map, get_or, slice_index, refl, ap, ◌∙◌, sym, arith}
 use Rattle.std.specs.List.{range_with_len}
 use Rattle.std.proofs.lemmas.List.{get_or-map, length-map}
 use Rattle.std.proofs.lemmas.List.FromFn.{get_or-map-range_with_len, length-map-range_with_len, fill_by_all, map-range_with_len_more}
@@ -28,12 +28,12 @@ composed_is parents m n steps are sum =
     let long : length inner ≡ size = length-map-range_with_len (ancestor parents n) 0 size in
     let all : length (map (slice_index (ancestors parents m)) inner) ≡ size = length-map inner (slice_index (ancestors parents m)) ∙ long in
     fill_by_all (ancestor parents steps) (map (slice_index (ancestors parents m)) inner) size 0 all
-      (λ k lt.
-        let here : get_or inner k 0 ≡ ancestor parents n k = get_or-map-range_with_len (ancestor parents n) 0 size k k 0 lt (omega arith) in
-        let there : get_or (ancestors parents m) (ancestor parents n k) 0 ≡ ancestor parents m (ancestor parents n k)
-              = get_or-map-range_with_len (ancestor parents m) 0 size (ancestor parents n k) (ancestor parents n k) 0 (ancestor_below parents are n k lt) (omega arith) in
-        get_or-map (slice_index (ancestors parents m)) inner k 0 0 (omega arith) ∙ ap (slice_index (ancestors parents m)) here ∙ there
-          ∙ sym (ancestor_sum parents m n k) ∙ ap (λ s. ancestor parents s k) sum)
+    (λ k lt.
+    let here : get_or inner k 0 ≡ ancestor parents n k = get_or-map-range_with_len (ancestor parents n) 0 size k k 0 lt (omega arith) in
+    let there : get_or (ancestors parents m) (ancestor parents n k) 0 ≡ ancestor parents m (ancestor parents n k)
+    = get_or-map-range_with_len (ancestor parents m) 0 size (ancestor parents n k) (ancestor parents n k) 0 (ancestor_below parents are n k lt) (omega arith) in
+    get_or-map (slice_index (ancestors parents m)) inner k 0 0 (omega arith) ∙ ap (slice_index (ancestors parents m)) here ∙ there
+    ∙ sym (ancestor_sum parents m n k) ∙ ap (λ s. ancestor parents s k) sum)
 
 -- one step more
 pub one_more : (parents : List ℕ) (n steps : ℕ) → suc n ≡ steps → map (slice_index parents) (ancestors parents n) ≡ ancestors parents steps
@@ -43,9 +43,9 @@ one_more parents n steps next =
     let long : length inner ≡ size = length-map-range_with_len (ancestor parents n) 0 size in
     let all : length (map (slice_index parents) inner) ≡ size = length-map inner (slice_index parents) ∙ long in
     fill_by_all (ancestor parents steps) (map (slice_index parents) inner) size 0 all
-      (λ k lt.
-        let here : get_or inner k 0 ≡ ancestor parents n k = get_or-map-range_with_len (ancestor parents n) 0 size k k 0 lt (omega arith) in
-        get_or-map (slice_index parents) inner k 0 0 (omega arith) ∙ ap (slice_index parents) here ∙ ap (λ s. ancestor parents s k) next)
+    (λ k lt.
+    let here : get_or inner k 0 ≡ ancestor parents n k = get_or-map-range_with_len (ancestor parents n) 0 size k k 0 lt (omega arith) in
+    get_or-map (slice_index parents) inner k 0 0 (omega arith) ∙ ap (slice_index parents) here ∙ ap (λ s. ancestor parents s k) next)
 
 ancestor_zero : (parents : List ℕ) → slice_index parents 0 ≡ 0 → (n : ℕ) → ancestor parents n 0 ≡ 0
 ancestor_zero parents first zero = refl
@@ -66,10 +66,10 @@ leads_is : (parents : List ℕ) → slice_index parents 0 ≡ 0 → (n kind : �
 leads_is parents first zero kind = refl
 leads_is parents first (suc n) kind =
     let later : leads_to parents n (slice_index parents kind) 0 ≡ (ancestor parents (suc n) kind == 0)
-          = leads_is parents first n (slice_index parents kind) ∙ ap (λ (a : ℕ). a == 0) (sym (ancestor_next parents n kind)) in
+    = leads_is parents first n (slice_index parents kind) ∙ ap (λ (a : ℕ). a == 0) (sym (ancestor_next parents n kind)) in
     ap (λ (b : Bool). (kind == 0) || b) later
-      ∙ or_is (kind == 0) (ancestor parents (suc n) kind == 0)
-          (λ e. ap (λ (a : ℕ). a == 0) (ap (λ k. ancestor parents (suc n) k) (is_zero kind e) ∙ ancestor_zero parents first (suc n)))
+    ∙ or_is (kind == 0) (ancestor parents (suc n) kind == 0)
+    (λ e. ap (λ (a : ℕ). a == 0) (ap (λ k. ancestor parents (suc n) k) (is_zero kind e) ∙ ancestor_zero parents first (suc n)))
 
 -- a type lies under `object` where as many steps as there are types lead there
 pub under_is : (parents last : List ℕ) (kind : ℕ) → AreParents parents → last ≡ ancestors parents (length parents) → kind < length parents

@@ -1,5 +1,5 @@
 -- Numbers of names in growing lists.
-use Rattle.std.proofs.Common.{◌≡◌, ℕ, suc, ◌+◌, ◌<◌, Bool, true, false, cond, List, [], ◌∷◌, ◌++◌, length, Option, Some, None, refl, ap, ◌∙◌, sym, arith}
+use Rattle.std.proofs.Common.{◌≡◌, ℕ, suc, ◌<◌, Bool, true, false, cond, List, [], ◌∷◌, ◌++◌, length, Option, Some, None, refl, ◌∙◌, arith}
 use Rattle.std.specs.Prelude.{option_map, IfSome, is_some}
 use Rattle.std.specs.Str.{bytes_eq}
 use Rattle.pd_words.specs.Names.{number_of, or_else, is_among}

@@ -40,14 +40,14 @@ module _ {S K : Type 0} (admit : S → Named → Result S Fault) (kind_of : Tree
     typed_keeps s waiting (and_tree (list at items) rest) h = tt
     typed_keeps s waiting (and_tree (word at text) rest) h =
         if_ok (λ r. P r []) (is_dash text) (type_next admit kind_of give object s waiting at rest) (admit s (named at text) >>= λ next. typed_from admit kind_of give object next (waiting ++ named at text ∷ []) rest)
-          (λ _. next_keeps s waiting at rest h)
-          (λ _. bind_ok (λ next. P next (waiting ++ named at text ∷ [])) (λ r. P r []) (admit s (named at text)) (λ next. typed_from admit kind_of give object next (waiting ++ named at text ∷ []) rest)
-              (admits s waiting (named at text) h) (λ next more. typed_keeps next (waiting ++ named at text ∷ []) rest more))
+        (λ _. next_keeps s waiting at rest h)
+        (λ _. bind_ok (λ next. P next (waiting ++ named at text ∷ [])) (λ r. P r []) (admit s (named at text)) (λ next. typed_from admit kind_of give object next (waiting ++ named at text ∷ []) rest)
+        (admits s waiting (named at text) h) (λ next more. typed_keeps next (waiting ++ named at text ∷ []) rest more))
 
     next_keeps : (s : S) (waiting : List Named) (at : ℕ) (items : Trees) → P s waiting → IfOk (type_next admit kind_of give object s waiting at items) (λ r. P r [])
     next_keeps s waiting at no_trees h = tt
     next_keeps s waiting at (and_tree type rest) h =
         wants_ok (λ r. P r []) (not (length waiting == 0)) (Shape at) (λ _. kind_of type >>= λ kind. give s kind waiting >>= λ next. typed_from admit kind_of give object next [] rest)
-          (λ _. bind_ok Q (λ r. P r []) (kind_of type) (λ kind. give s kind waiting >>= λ next. typed_from admit kind_of give object next [] rest) (kinds type)
-              (λ kind is. bind_ok (λ next. P next []) (λ r. P r []) (give s kind waiting) (λ next. typed_from admit kind_of give object next [] rest)
-                  (gives s waiting kind is h) (λ next more. typed_keeps next [] rest more)))
+        (λ _. bind_ok Q (λ r. P r []) (kind_of type) (λ kind. give s kind waiting >>= λ next. typed_from admit kind_of give object next [] rest) (kinds type)
+        (λ kind is. bind_ok (λ next. P next []) (λ r. P r []) (give s kind waiting) (λ next. typed_from admit kind_of give object next [] rest)
+        (gives s waiting kind is h) (λ next more. typed_keeps next [] rest more)))

@@ -1,5 +1,5 @@
 -- A map that numbers names, after a name is added.
-use Rattle.std.proofs.Common.{◌≡◌, ℕ, Bool, true, false, cond, List, [], ◌∷◌, ◌++◌, length, Option, Some, None, refl, ap, ◌∙◌, sym, subst}
+use Rattle.std.proofs.Common.{◌≡◌, ℕ, Bool, true, false, cond, List, [], ◌∷◌, ◌++◌, length, Option, Some, None, refl, ap, ◌∙◌, sym}
 use Rattle.std.specs.Ordering.{nat_cmp, is_eq, match_ordering}
 use Rattle.std.specs.declared.cmp.Ordering.{Ordering}
 use Rattle.std.specs.declared.cmp.Ordering.TheVariants.{Less, Equal, Greater}
@@ -51,5 +51,5 @@ pub numbered : {K : Type 0} (letters : K → List ℕ) (es : List (K × ℕ)) (n
 numbered letters es names k tied fresh name =
     let none : bytes_eq name (letters k) ≡ true → number_of name names ≡ None = λ t. ap (λ n. number_of n names) ((bytes_eq-Decides name (letters k)).0 t) ∙ fresh in
     let met = lookup_insert (λ a b. slice_cmp nat_cmp (letters a) (letters b)) (λ key. is_eq (slice_cmp nat_cmp name (letters key))) es k (length names) (tied (letters k) ∙ fresh)
-        (λ t. tied name ∙ none (sym (is_eq-slice_cmp name (letters k)) ∙ t)) in
+    (λ t. tied name ∙ none (sym (is_eq-slice_cmp name (letters k)) ∙ t)) in
     met ∙ rw (is_eq-slice_cmp name (letters k), tied name, number_push name names (letters k)) (either_way (bytes_eq name (letters k)) (number_of name names) (length names) none)

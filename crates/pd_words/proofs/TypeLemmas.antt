@@ -1,5 +1,5 @@
 -- The types that reading gives.
-use Rattle.std.proofs.Common.{◌≡◌, ◌⊎◌, inl, inr, ◌==◌, ◌||◌, ℕ, zero, suc, ◌+◌, ◌<◌, ◌≤◌, Bool, true, false, cond, List, [], ◌∷◌, ◌++◌, length, map, drop, get_or, slice_index, Option, Some, None, Result, Ok, Err, refl, ap, ◌∙◌, sym, subst, arith, length-append}
+use Rattle.std.proofs.Common.{◌≡◌, ◌⊎◌, inl, inr, ◌==◌, ◌||◌, ℕ, zero, suc, ◌+◌, ◌<◌, ◌≤◌, Bool, true, false, cond, List, [], ◌∷◌, ◌++◌, length, map, drop, slice_index, Option, Some, None, Result, Ok, Err, refl, ap, ◌∙◌, sym, subst, arith, length-append}
 use Rattle.std.specs.Prelude.{IfOk, IfSome, unwrap_or, not}
 use Rattle.std.proofs.lemmas.List.{length-map, drop_more}
 use Rattle.pd_sexp.specs.Tree.{Tree, Trees}
@@ -13,7 +13,7 @@ use Rattle.pd_words.specs.declared.fault.Fault.TheVariants.{Shape, Duplicate}
 use Rattle.pd_words.specs.declared.named.Named.{Named}
 use Rattle.pd_words.specs.Names.{number_of, is_among}
 use Rattle.pd_words.specs.Words.{is_name}
-use Rattle.pd_words.specs.Typed.{type_name, object}
+use Rattle.pd_words.specs.Typed.{object}
 use Rattle.pd_words.specs.First.{◌>>=◌, wants}
 use Rattle.pd_words.specs.Types.{Declared, object_name, is_object, admit_type, parent_name, give_one, give_parent, declared_from, only_object, with_name, with_parents, types_under, number_in, types_of, types, rooted, AreParents}
 use Rattle.pd_words.proofs.NameLemmas.{number_below}
@@ -113,21 +113,21 @@ admits : (d : Declared) (waiting : List Named) (w : Named) → Counted d waiting
 admits d waiting w h =
     let here : Declared → Type 0 = λ next. Counted next (waiting ++ w ∷ []) in
     wants_ok here (is_name w.name) (Shape w.at) _
-      (λ _. if_ok here (is_object w.name) (Ok d) _
-          (λ yes. record { names = h.names; parents = let e : proper (waiting ++ w ∷ []) ≡ proper waiting + 0 = rw proper_push (ap (λ b. proper waiting + wants_parent b) yes) in omega (arith, h.parents) })
-          (λ no. wants_ok here (not (is_among w.name d.names)) (Duplicate w.at) _
-              (λ _. record {
-                names = omega (arith, h.names, length-append d.names (w.name ∷ []), length-append d.places (w.at ∷ []));
-                parents = let e : proper (waiting ++ w ∷ []) ≡ proper waiting + 1 = rw proper_push (ap (λ b. proper waiting + wants_parent b) no) in omega (arith, h.parents, length-append d.places (w.at ∷ []));
-              })))
+    (λ _. if_ok here (is_object w.name) (Ok d) _
+    (λ yes. record { names = h.names; parents = let e : proper (waiting ++ w ∷ []) ≡ proper waiting + 0 = rw proper_push (ap (λ b. proper waiting + wants_parent b) yes) in omega (arith, h.parents) })
+    (λ no. wants_ok here (not (is_among w.name d.names)) (Duplicate w.at) _
+    (λ _. record {
+      names = omega (arith, h.names, length-append d.names (w.name ∷ []), length-append d.places (w.at ∷ []));
+      parents = let e : proper (waiting ++ w ∷ []) ≡ proper waiting + 1 = rw proper_push (ap (λ b. proper waiting + wants_parent b) no) in omega (arith, h.parents, length-append d.places (w.at ∷ []));
+    })))
 
 gives_one : (d : Declared) (parent : List ℕ) (w : Named) (ws : List Named) → Counted d (w ∷ ws) → IfOk (give_one d parent w) (λ next. Counted next ws)
 unfolding proper
 gives_one d parent w ws h =
     let here : Declared → Type 0 = λ next. Counted next ws in
     if_ok here (is_object w.name) _ _
-      (λ yes. wants_ok here (is_object parent) (Duplicate w.at) _ (λ _. record { names = h.names; parents = let e : wants_parent (is_object w.name) ≡ 0 = ap wants_parent yes in omega (arith, e, h.parents) }))
-      (λ no. record { names = h.names; parents = let e : wants_parent (is_object w.name) ≡ 1 = ap wants_parent no in omega (arith, e, h.parents, length-append d.parents (parent ∷ [])) })
+    (λ yes. wants_ok here (is_object parent) (Duplicate w.at) _ (λ _. record { names = h.names; parents = let e : wants_parent (is_object w.name) ≡ 0 = ap wants_parent yes in omega (arith, e, h.parents) }))
+    (λ no. record { names = h.names; parents = let e : wants_parent (is_object w.name) ≡ 1 = ap wants_parent no in omega (arith, e, h.parents, length-append d.parents (parent ∷ [])) })
 
 gives : (d : Declared) (waiting : List Named) (parent : List ℕ) → Counted d waiting → IfOk (give_parent d parent waiting) (λ next. Counted next [])
 gives d [] parent h = h
@@ -150,8 +150,8 @@ pub declared_counted : (items : Trees) → IfOk (declared_from only_object [] it
 unfolding proper
 declared_counted items =
     weaker (declared_from only_object [] items)
-      (typed_keeps admit_type parent_name give_parent object_name Counted admits (λ _. Unit {0}) any_name tt
-        (λ d waiting parent _ h. gives d waiting parent h) only_object [] items (record { names = refl; parents = refl }))
+    (typed_keeps admit_type parent_name give_parent object_name Counted admits (λ _. Unit {0}) any_name tt
+    (λ d waiting parent _ h. gives d waiting parent h) only_object [] items (record { names = refl; parents = refl }))
 
 -- ---- each type lies under `object`
 
@@ -235,4 +235,4 @@ after_test d counted (Err e) is = tt
 pub types_sound : (items : Trees) → IfOk (types items) TypesLawful
 types_sound items =
     bind_ok (λ d. (length d.names ≡ suc (length d.places)) × (length d.places ≡ length d.parents)) TypesLawful (declared_from only_object [] items) _ (declared_counted items)
-      (λ d counted. after_test d counted (rooted (parents_of (types_of d)) 1 d.places) refl)
+    (λ d counted. after_test d counted (rooted (parents_of (types_of d)) 1 d.places) refl)

@@ -1,6 +1,6 @@
 -- The types of a domain.
 use Rattle.std.specs.List.{range_with_len}
-use Rattle.std.specs.Prelude.{◌≡◌, ◌<◌, ◌+◌, length, ℕ, zero, suc, slice_index, List, [], ◌∷◌, ◌++◌, map, Bool, Result, Ok, Err, if◌then◌else◌, not, codes, unwrap_or}
+use Rattle.std.specs.Prelude.{◌≡◌, ◌<◌, ◌+◌, length, ℕ, zero, suc, slice_index, List, [], ◌∷◌, ◌++◌, map, Bool, Result, Ok, if◌then◌else◌, not, codes, unwrap_or}
 use Rattle.std.specs.Str.{bytes_eq}
 use Rattle.pd_sexp.specs.Tree.{Tree, Trees}
 use Rattle.pd_model.specs.declared.types.TypeDecl.{TypeDecl}
@@ -30,8 +30,8 @@ is_object name = bytes_eq name object_name
 abbrev pub admit_type : Declared → Named → Result Declared Fault
 admit_type d w = wants (is_name w.name) (Shape w.at) >>= λ _.
     (if is_object w.name then Ok d
-     else (wants (not (is_among w.name d.names)) (Duplicate w.at) >>= λ _.
-         Ok (record { names = d.names ++ w.name ∷ []; places = d.places ++ w.at ∷ []; parents = d.parents })))
+    else (wants (not (is_among w.name d.names)) (Duplicate w.at) >>= λ _.
+    Ok (record { names = d.names ++ w.name ∷ []; places = d.places ++ w.at ∷ []; parents = d.parents })))
 
 -- the name of the type that stands after a dash, declared or not
 abbrev pub parent_name : Tree → Result (List ℕ) Fault

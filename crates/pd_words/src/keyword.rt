@@ -48,13 +48,24 @@ pub fn keyword_of(word: &Name) -> Keyword
 fn is_left_out(word: &Name) -> bool
     ensures { result ≡ words.is_left_out word.now }
 {
-    is(word, "or") || is(word, "imply") || is(word, "exists") || is(word, "preference") || is(word, "<") || is(word, ">") || is(word, "<=") || is(word, ">=")
+    is(word, "or")
+        || is(word, "imply")
+        || is(word, "exists")
+        || is(word, "preference")
+        || is(word, "<")
+        || is(word, ">")
+        || is(word, "<=")
+        || is(word, ">=")
 }
 
 fn is_assignment(word: &Name) -> bool
     ensures { result ≡ words.is_assignment word.now }
 {
-    is(word, "increase") || is(word, "decrease") || is(word, "assign") || is(word, "scale-up") || is(word, "scale-down")
+    is(word, "increase")
+        || is(word, "decrease")
+        || is(word, "assign")
+        || is(word, "scale-up")
+        || is(word, "scale-down")
 }
 
 /// What a list's first item makes of it.

@@ -108,11 +108,7 @@ impl Variables {
 }
 
 /// The variables of a typed list, each of which may stand once.
-pub fn read_variables(
-    alloc: Global,
-    types: &Table,
-    items: &[Tree],
-) -> Result<Variables, ReadError>
+pub fn read_variables(alloc: Global, types: &Table, items: &[Tree]) -> Result<Variables, ReadError>
     ensures { GivesAs (λ v. typed.listed v.names v.kinds.items) (typed.variables types.now (views items.now)) result }
 {
     let mut variables = Variables::new(alloc);
@@ -148,11 +144,7 @@ pub fn read_variables(
 }
 
 /// The variables of the typed list that the tree is.
-pub fn read_variable_list(
-    alloc: Global,
-    types: &Table,
-    tree: &Tree,
-) -> Result<Variables, ReadError>
+pub fn read_variable_list(alloc: Global, types: &Table, tree: &Tree) -> Result<Variables, ReadError>
     ensures { GivesAs (λ v. typed.listed v.names v.kinds.items) (typed.variable_list types.now (view tree.now)) result }
 {
     match tree {

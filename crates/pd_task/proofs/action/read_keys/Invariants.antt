@@ -7,7 +7,7 @@ use Rattle.pd_task.proofs.action.read_keys.Given as goal
 abbrev pub invariant-loop-word : goal.invariant-loop-word
 invariant-loop-word l =
     keys_from l.at (record { parameters = option_map (λ t. view t.now) l.parameters; precondition = option_map (λ t. view t.now) l.precondition; effect = option_map (λ t. view t.now) l.effect }) (views l.rest)
-      ≡ keys_from l.at no_keys (views l.items)
+    ≡ keys_from l.at no_keys (views l.items)
 
 abbrev pub decreases-loop-word : goal.decreases-loop-word
 decreases-loop-word l = length l.rest

@@ -34,9 +34,10 @@ loop-item-preserved t c =
     let i = c.loop-item.item-index in
     let more = drop_more rest i c.item-item.result c.loop-item-test.true in
     let so_far = rw (more, ← c.item-item.is) at c.loop-item.invariant.1 in
-    let here = rw c.loop-item.invariant.0 at c.in_ok-read_effect-in-And.ensures.effects in
-    (c.in_ok-read_effect-in-And.ensures.scope ∙ c.loop-item.invariant.0,
-      effects_go_on types site c.loop-item.into.items c.read_effect.new.into.items c.item-item.result (drop (i + 1) rest) (all_effects types site before (views rest)) here so_far)
+    let here = rw c.loop-item.invariant.0 at c.in_ok-read_effect-in-And.ensures.effects in (
+      c.in_ok-read_effect-in-And.ensures.scope ∙ c.loop-item.invariant.0,
+      effects_go_on types site c.loop-item.into.items c.read_effect.new.into.items c.item-item.result (drop (i + 1) rest) (all_effects types site before (views rest)) here so_far,
+    )
 
 pub returns-in_default-split_first-clause-effects : goal.returns-in_default-split_first-clause-effects
 returns-in_default-split_first-clause-effects t c =
@@ -90,7 +91,7 @@ returns-in_err-read_effect-in-Forall-clause-effects t c =
     let inside = enters types c.args.vocabulary.now c.args.scope.now next list before c.in-List.at (views later) c.in_ok-enter_forall-in-Forall.ensures.entered in
     let p = err_from_is_err_and c.from_residual-in_err-read_effect-in-Forall.result c.from_residual-in_err-read_effect-in-Forall.ensures.1 in
     rw (p.1, p.2, is, c.in-Some-split_first.ensures.cases.0, inside, c.in-Some-split_first-2.ensures.cases.0)
-      (body_fails types (site_of c.args.vocabulary.now next []) before c.in-List.at (view c.in-Some-split_first-2.body.now) (views c.in-Some-split_first-2.more.now) c.in_err-read_effect-in-Forall.field-0.0 c.in_err-read_effect-in-Forall.ensures.effects)
+    (body_fails types (site_of c.args.vocabulary.now next []) before c.in-List.at (view c.in-Some-split_first-2.body.now) (views c.in-Some-split_first-2.more.now) c.in_err-read_effect-in-Forall.field-0.0 c.in_err-read_effect-in-Forall.ensures.effects)
 
 pub returns-after-loop-item-clause-effects : goal.returns-after-loop-item-clause-effects
 returns-after-loop-item-clause-effects t c =
@@ -116,7 +117,7 @@ returns-in_ok-read_effect-in-Forall-clause-effects t c =
     let next = c.enter_forall.new.scope in
     let inside = enters types c.args.vocabulary.now c.args.scope.now next list before c.in-List.at (views later) c.in_ok-enter_forall-in-Forall.ensures.entered in
     rw (is, c.in-Some-split_first.ensures.cases.0, inside, c.in-Some-split_first-2.ensures.cases.0)
-      (body_ends types (site_of c.args.vocabulary.now next []) before c.read_effect-in-Forall.new.into.items c.in-List.at (view c.in-Some-split_first-2.body.now) (views c.in-Some-split_first-2.more.now) c.no_more.result c.in_ok-read_effect-in-Forall.ensures.effects c.no_more.ensures)
+    (body_ends types (site_of c.args.vocabulary.now next []) before c.read_effect-in-Forall.new.into.items c.in-List.at (view c.in-Some-split_first-2.body.now) (views c.in-Some-split_first-2.more.now) c.no_more.result c.in_ok-read_effect-in-Forall.ensures.effects c.no_more.ensures)
 
 pub returns-in_ok-read_effect-in-Forall-clause-scope : goal.returns-in_ok-read_effect-in-Forall-clause-scope
 returns-in_ok-read_effect-in-Forall-clause-scope t c =
@@ -135,7 +136,7 @@ returns-in_default-head_keyword t c =
     let parts = sym c.as_slice-items.ensures.value ∙ c.in-Some.ensures.cases.0 in
     let is = simple_is types site before c.in-List.at c.in-List.items c.in-Some.head.now rest c.args.tree.now c.head_keyword.result c.in-List.is parts (sym c.head_keyword.ensures) (search rules) (search rules) in
     let same : simple site before c.head_keyword.result c.in-List.at (views c.as_slice-items.result.now) ≡ simple site before c.head_keyword.result c.in-List.at (views (c.in-Some.head.now ∷ rest)) =
-        ap (λ (xs : List Tree). simple site before c.head_keyword.result c.in-List.at (views xs)) c.in-Some.ensures.cases.0 in
+    ap (λ (xs : List Tree). simple site before c.head_keyword.result c.in-List.at (views xs)) c.in-Some.ensures.cases.0 in
     record {
       effects = rw (is ∙ sym same) c.read_simple.ensures;
       scope = on_ok c.read_simple.result _ refl;

@@ -7,4 +7,4 @@ use Rattle.pd_task.proofs.effects.+read_literals.Given as goal
 abbrev pub invariant-loop-item : goal.invariant-loop-item
 invariant-loop-item l =
     all_literals (site_of l.vocabulary l.scope l.cond) l.into.items (views (drop l.item-index l.rest))
-      ≡ all_literals (site_of l.vocabulary l.scope l.cond) l.fn.into.items (views l.rest)
+    ≡ all_literals (site_of l.vocabulary l.scope l.cond) l.fn.into.items (views l.rest)

@@ -8,4 +8,4 @@ use Rattle.pd_task.proofs.init.read_ground_objects.Given as goal
 abbrev pub invariant-loop-tree : goal.invariant-loop-tree
 invariant-loop-tree l =
     after l.objects.items (every (object_at (names_with l.vocabulary [])) (views (drop l.tree-index l.trees)))
-      ≡ every (object_at (names_with l.vocabulary [])) (views l.trees)
+    ≡ every (object_at (names_with l.vocabulary [])) (views l.trees)

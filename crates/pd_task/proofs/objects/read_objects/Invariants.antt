@@ -6,7 +6,7 @@ use Rattle.pd_task.proofs.objects.read_objects.Given as goal
 abbrev pub invariant-loop-item : goal.invariant-loop-item
 invariant-loop-item l =
     (l.names ≡ object_names l.objects.items)
-      × (objects_from l.types l.objects.items l.waiting.items (views l.rest) ≡ and_objects l.types l.fn.objects.items (views l.items))
+    × (objects_from l.types l.objects.items l.waiting.items (views l.rest) ≡ and_objects l.types l.fn.objects.items (views l.items))
 
 abbrev pub decreases-loop-item : goal.decreases-loop-item
 decreases-loop-item l = length l.rest

@@ -9,5 +9,5 @@ use Rattle.pd_task.proofs.read.read_actions.Given as goal
 abbrev pub invariant-loop-section : goal.invariant-loop-section
 invariant-loop-section l =
     (l.names ≡ names_of l.schemas.items)
-      × (each (and_section l.vocabulary.types.now (names_with l.vocabulary [])) l.schemas.items (views (drop l.section-index l.sections))
-          ≡ each (and_section l.vocabulary.types.now (names_with l.vocabulary [])) [] (views l.sections))
+    × (each (and_section l.vocabulary.types.now (names_with l.vocabulary [])) l.schemas.items (views (drop l.section-index l.sections))
+    ≡ each (and_section l.vocabulary.types.now (names_with l.vocabulary [])) [] (views l.sections))

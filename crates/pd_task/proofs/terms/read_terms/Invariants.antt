@@ -8,4 +8,4 @@ use Rattle.pd_task.proofs.terms.read_terms.Given as goal
 abbrev pub invariant-loop-tree : goal.invariant-loop-tree
 invariant-loop-tree l =
     after l.terms.items (every (term (names_with l.vocabulary l.scope.levels)) (views (drop l.tree-index l.trees)))
-      ≡ every (term (names_with l.vocabulary l.scope.levels)) (views l.trees)
+    ≡ every (term (names_with l.vocabulary l.scope.levels)) (views l.trees)

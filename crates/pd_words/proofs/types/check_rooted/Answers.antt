@@ -1,5 +1,4 @@
 use Rattle.std.proofs.Common.{◌≡◌, true, sym, ◌∙◌, arith, rules}
-use Rattle.pd_words.specs.Types.{rooted}
 use Rattle.pd_words.proofs.TypeLemmas.{rooted_more}
 use Rattle.pd_words.proofs.types.check_rooted.Goals as goal
 

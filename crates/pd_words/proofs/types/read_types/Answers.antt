@@ -1,4 +1,4 @@
-use Rattle.std.proofs.Common.{◌≡◌, ℕ, suc, ◌<◌, [], ◌∷◌, refl, List, map, length, sym, ◌∙◌, ap, subst, arith}
+use Rattle.std.proofs.Common.{◌≡◌, ℕ, suc, [], ◌∷◌, refl, List, map, length, sym, arith}
 use Rattle.pd_sexp.specs.View.{views}
 use Rattle.pd_model.specs.Types.{parents_of}
 use Rattle.pd_model.specs.declared.types.TypeDecl.{TypeDecl}

@@ -1,4 +1,4 @@
-use Rattle.std.proofs.Common.{◌≡◌, ◌++◌, ◌∷◌, [], ap, sym, ◌∙◌, length, None, refl}
+use Rattle.std.proofs.Common.{◌≡◌, ◌++◌, ◌∷◌, [], ◌∙◌, None, refl}
 use Rattle.pd_words.specs.Names.{number_of}
 use Rattle.pd_words.proofs.Tables.{numbered}
 use Rattle.pd_words.proofs.table.Table.add.Goals as goal
