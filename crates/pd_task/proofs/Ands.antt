@@ -1,5 +1,5 @@
 -- Lists after `and`, item by item, as a loop reads them.
-use Rattle.std.proofs.Common.{◌≡◌, ℕ, List, [], ◌∷◌, Result, Ok, Err, refl, ap, ◌∙◌, sym, arith}
+use Rattle.std.proofs.Common.{◌≡◌, ℕ, List, ◌∷◌, Result, Ok, Err, refl, ◌∙◌, sym, arith}
 use Rattle.pd_sexp.specs.Tree as defs
 use Rattle.pd_sexp.specs.declared.tree.Tree.{Tree}
 use Rattle.pd_sexp.specs.declared.tree.Trees.{Trees}
@@ -13,7 +13,7 @@ use Rattle.pd_words.specs.declared.fault.ReadError.{ReadError}
 use Rattle.pd_words.specs.declared.fault.ReadError.TheVariants as errors
 use Rattle.pd_words.specs.declared.keyword.Keyword.TheVariants as heads
 use Rattle.pd_words.specs.Words.{head_of}
-use Rattle.pd_words.specs.First.{◌>>=◌, Fails}
+use Rattle.pd_words.specs.First.{Fails}
 use Rattle.pd_task.specs.Atoms.{Names, condition, conditions}
 use Rattle.pd_task.specs.Effects.{Site, literals, all_literals, effect, all_effects}
 

@@ -1,5 +1,5 @@
 -- Effects under `forall`, part by part.
-use Rattle.std.proofs.Common.{◌≡◌, ℕ, ◌-◌, List, [], ◌∷◌, ◌++◌, length, take, Result, Ok, Err, refl, ap, ◌∙◌, sym, arith, length-append}
+use Rattle.std.proofs.Common.{◌≡◌, ℕ, ◌-◌, List, [], ◌∷◌, ◌++◌, length, take, Result, Ok, Err, refl, ap, ◌∙◌, arith, length-append}
 use Rattle.std.specs.Prelude.{OnOk}
 use Rattle.std.proofs.lemmas.List.{take-append-le}
 use Rattle.pd_words.specs.declared.keyword.Keyword.{Keyword}
@@ -17,7 +17,7 @@ use Rattle.pd_words.specs.declared.fault.ReadError.TheVariants as errors
 use Rattle.pd_words.specs.declared.keyword.Keyword.TheVariants as heads
 use Rattle.pd_words.specs.Words.{head_of}
 use Rattle.pd_words.specs.Typed.{Variables, variable_list}
-use Rattle.pd_words.specs.First.{◌>>=◌, Fails, Gives, Leaves}
+use Rattle.pd_words.specs.First.{Fails, Gives, Leaves}
 use Rattle.pd_task.specs.Standing.{Standing}
 use Rattle.pd_task.specs.Scope.{site_of, entered}
 use Rattle.pd_task.specs.Effects.{Site, no_more, effect, simple, quantified, quantified_body}

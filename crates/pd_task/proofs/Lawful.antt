@@ -1,16 +1,14 @@
 -- What reading gives fits what the task declares: terms, atoms, conditions and effects.
-use Rattle.std.proofs.Common.{◌≡◌, ℕ, zero, suc, ◌+◌, ◌<◌, ◌≤◌, ◌==◌, Bool, true, false, ◌&&◌, cond, List, [], ◌∷◌, ◌++◌, length, map, slice_index, Option, Some, None, Result, Ok, Err, refl, ap, ◌∙◌, sym, subst, arith, length-append, replicate}
+use Rattle.std.proofs.Common.{◌≡◌, ℕ, zero, suc, ◌+◌, ◌<◌, ◌≤◌, ◌==◌, Bool, true, false, ◌&&◌, cond, List, [], ◌∷◌, ◌++◌, length, slice_index, Option, Some, None, Result, Ok, Err, refl, ap, ◌∙◌, sym, subst, arith, length-append, replicate}
 use Rattle.std.specs.Prelude.{IfOk, IfSome, option_map, nat_lt, slice_get, not}
 use Rattle.std.specs.List.{list_all}
 use Rattle.std.proofs.lemmas.Bool.{lt-ltb, eqb-true, eq-eqb}
 use Rattle.pd_sexp.specs.Tree.{Tree, word, list, Trees, no_trees, and_tree}
 use Rattle.pd_model.specs.WellFormed.{are_below, takes, is_term, is_pattern, is_cond}
 use Rattle.pd_model.specs.declared.predicates.Predicate.{Predicate}
-use Rattle.pd_model.specs.declared.atoms.Term.{Term}
 use Rattle.pd_model.specs.declared.atoms.Term.TheVariants.{Object, Variable}
 use Rattle.pd_model.specs.declared.atoms.Pattern.{Pattern}
 use Rattle.pd_model.specs.declared.conds.Cond.{Cond}
-use Rattle.pd_model.specs.declared.conds.Cond.TheVariants.{Has, Same}
 use Rattle.pd_model.specs.declared.effects.Effect.{Effect}
 use Rattle.pd_model.specs.declared.parts.Parts.{Parts}
 use Rattle.pd_words.specs.declared.fault.Fault.{Fault}
@@ -21,7 +19,7 @@ use Rattle.pd_words.specs.declared.named.Named.{Named}
 use Rattle.pd_words.specs.Words.{is_name, is_variable, head_of}
 use Rattle.pd_words.specs.Names.{number_of, variable_number, or_else, is_among}
 use Rattle.pd_words.specs.Typed.{Variables, listed, variables, variable_list, admit_variable, give_kind, type_name, type_of, object}
-use Rattle.pd_words.specs.First.{◌>>=◌, found, wants, every, each}
+use Rattle.pd_words.specs.First.{◌>>=◌, found, every, each}
 use Rattle.pd_words.proofs.NameLemmas.{number_below}
 use Rattle.pd_words.proofs.Sound.{bind_ok, wants_ok, if_ok, typed_keeps}
 use Rattle.pd_task.specs.Atoms.{Names, count, term, predicate, atom, one_of, two_of, literal, equality, denied, negation, and_one, condition, conditions}

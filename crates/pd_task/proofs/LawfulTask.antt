@@ -1,19 +1,18 @@
 -- What reading gives is well formed, but for bounds on how many there are: actions, objects, the initial
 -- state and the goal.
-use Rattle.std.proofs.Common.{◌≡◌, ℕ, zero, suc, ◌+◌, ◌<◌, ◌≤◌, ◌==◌, Bool, true, false, ◌&&◌, List, [], ◌∷◌, ◌++◌, length, map, slice_index, Option, Some, None, Result, Ok, Err, refl, ap, ◌∙◌, sym, subst, arith, length-append}
-use Rattle.std.specs.Prelude.{IfOk, IfSome, nat_lt, slice_get, not, codes, is_some}
+use Rattle.std.proofs.Common.{◌≡◌, ℕ, ◌<◌, ◌≤◌, ◌==◌, Bool, true, ◌&&◌, List, [], ◌∷◌, ◌++◌, length, slice_index, Option, Some, None, Result, Ok, Err, refl, ap, ◌∙◌, sym, subst, arith, length-append}
+use Rattle.std.specs.Prelude.{IfOk, IfSome, nat_lt, slice_get, not, codes}
 use Rattle.std.specs.List.{list_all}
 use Rattle.std.proofs.lemmas.Bool.{lt-ltb}
 use Rattle.std.proofs.lemmas.List.{length-map}
 use Rattle.pd_sexp.specs.Tree.{Tree, word, list, Trees, no_trees, and_tree}
-use Rattle.pd_model.specs.Types.{parents_of, kinds_of, is_under}
+use Rattle.pd_model.specs.Types.{kinds_of}
 use Rattle.pd_model.specs.WellFormed.{are_below, takes, is_cond, is_atom}
 use Rattle.pd_model.specs.declared.predicates.Predicate.{Predicate}
 use Rattle.pd_model.specs.declared.objects.ObjectDecl.{ObjectDecl}
 use Rattle.pd_model.specs.declared.types.TypeDecl.{TypeDecl}
 use Rattle.pd_model.specs.declared.schemas.Schema.{Schema}
 use Rattle.pd_model.specs.declared.atoms.Atom.{Atom}
-use Rattle.pd_model.specs.declared.conds.Cond.{Cond}
 use Rattle.pd_model.specs.declared.parts.Parts.{Parts}
 use Rattle.pd_words.specs.declared.fault.Fault.{Fault}
 use Rattle.pd_words.specs.declared.fault.Fault.TheVariants.{Shape, Unknown, Arity, Duplicate, Unsupported}
@@ -21,11 +20,11 @@ use Rattle.pd_words.specs.declared.keyword.Keyword.TheVariants as heads
 use Rattle.pd_words.specs.declared.named.Named.{Named}
 use Rattle.pd_words.specs.Words.{is_name, head_of}
 use Rattle.pd_words.specs.Names.{number_of, is_among}
-use Rattle.pd_words.specs.Typed.{Variables, variable_list, type_of, object}
+use Rattle.pd_words.specs.Typed.{variable_list, type_of, object}
 use Rattle.pd_words.specs.Types.{types}
-use Rattle.pd_words.specs.First.{◌>>=◌, found, wants, every, each}
+use Rattle.pd_words.specs.First.{◌>>=◌, found, every, each}
 use Rattle.pd_words.proofs.NameLemmas.{number_below}
-use Rattle.pd_words.proofs.Sound.{bind_ok, wants_ok, if_ok, typed_keeps}
+use Rattle.pd_words.proofs.Sound.{bind_ok, wants_ok, typed_keeps}
 use Rattle.pd_words.proofs.TypeLemmas.{TypesLawful, types_sound}
 use Rattle.pd_task.specs.Atoms.{Names, count, one_of, condition, predicate}
 use Rattle.pd_task.specs.Effects.{Site, no_more, place_of, effect}

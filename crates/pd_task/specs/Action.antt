@@ -1,5 +1,5 @@
 -- Actions.
-use Rattle.std.specs.Prelude.{ℕ, Bool, List, [], ◌∷◌, ◌++◌, map, Option, Some, None, is_none, Result, Ok, Err, if◌then◌else◌, not, codes}
+use Rattle.std.specs.Prelude.{ℕ, List, [], ◌∷◌, ◌++◌, map, Option, Some, None, is_none, Result, Ok, Err, if◌then◌else◌, not, codes}
 use Rattle.std.specs.Str.{bytes_eq}
 use Rattle.pd_sexp.specs.Tree.{Tree, word, list, Trees, no_trees, and_tree}
 use Rattle.pd_model.specs.declared.schemas.Schema.{Schema}
@@ -12,7 +12,7 @@ use Rattle.pd_words.specs.First.{◌>>=◌, wants}
 use Rattle.pd_task.specs.declared.action.Key.{Key}
 use Rattle.pd_task.specs.declared.action.Key.TheVariants as key
 use Rattle.pd_task.specs.Atoms.{Names, condition}
-use Rattle.pd_task.specs.Effects.{Site, place_of, effect}
+use Rattle.pd_task.specs.Effects.{place_of, effect}
 
 -- the key that a word is
 abbrev pub key_of : Tree → Result Key Fault

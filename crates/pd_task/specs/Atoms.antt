@@ -1,5 +1,5 @@
 -- Terms, atoms and conditions.
-use Rattle.std.specs.Prelude.{ℕ, suc, ◌==◌, Bool, true, false, not, List, [], ◌∷◌, ◌++◌, length, Option, Some, None, option_map, Result, Ok, Err, if◌then◌else◌, slice_index}
+use Rattle.std.specs.Prelude.{ℕ, suc, ◌==◌, Bool, true, false, List, [], ◌∷◌, ◌++◌, Option, Some, None, option_map, Result, Ok, Err, if◌then◌else◌, slice_index}
 use Rattle.pd_sexp.specs.Tree.{Tree, word, list, Trees, no_trees, and_tree}
 use Rattle.pd_model.specs.declared.atoms.Term.{Term}
 use Rattle.pd_model.specs.declared.atoms.Term.TheVariants.{Object, Variable}

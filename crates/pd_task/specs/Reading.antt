@@ -1,7 +1,7 @@
 -- The task that a domain and a problem say, or the first cause for which they say none. The passes run in
 -- this order: the domain's frame, types, constants, predicates and actions, then the problem's frame,
 -- objects, initial state and goal.
-use Rattle.std.specs.Prelude.{ℕ, List, [], ◌∷◌, map, Option, Some, None, Result, Ok, Err, codes}
+use Rattle.std.specs.Prelude.{ℕ, List, [], map, Option, Some, None, Result, Ok, Err, codes}
 use Rattle.pd_sexp.specs.Tree.{Tree, Trees, no_trees, and_tree}
 use Rattle.pd_model.specs.declared.memory.Which.{Which}
 use Rattle.pd_model.specs.declared.memory.Which.TheVariants.{Domain, Problem}

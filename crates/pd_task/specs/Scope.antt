@@ -1,9 +1,9 @@
 -- What the reader's tables stand for. Only private clauses speak of it.
-use Rattle.std.specs.Prelude.{ℕ, List, [], ◌∷◌, ◌++◌, Result, Ok, Err}
+use Rattle.std.specs.Prelude.{ℕ, List, [], ◌∷◌, ◌++◌, Result, Ok}
 use Rattle.pd_sexp.specs.Tree as defs
 use Rattle.pd_model.specs.declared.conds.Cond.{Cond}
 use Rattle.pd_words.specs.declared.fault.Fault.{Fault}
-use Rattle.pd_words.specs.Typed.{Variables, variable_list}
+use Rattle.pd_words.specs.Typed.{variable_list}
 use Rattle.pd_words.specs.First.{◌>>=◌}
 use Rattle.pd_task.specs.declared.vocabulary.Vocabulary.{Vocabulary}
 use Rattle.pd_task.specs.Standing.{Standing}

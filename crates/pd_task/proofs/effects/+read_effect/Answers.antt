@@ -1,10 +1,10 @@
-use Rattle.std.proofs.Common.{◌≡◌, ℕ, List, ◌+◌, ◌-◌, ◌∷◌, [], length, take, drop, sym, refl, ap, ◌∙◌, rules}
+use Rattle.std.proofs.Common.{◌≡◌, List, ◌+◌, ◌-◌, ◌∷◌, [], length, take, drop, sym, refl, ap, ◌∙◌, rules}
 use Rattle.std.proofs.lemmas.List.{drop_more, drop_all}
 use Rattle.std.proofs.lemmas.Result.{err_from_is_err_and}
 use Rattle.pd_sexp.specs.View.{view, views}
 use Rattle.pd_sexp.specs.declared.tree.Tree.{Tree}
 use Rattle.pd_task.specs.Effects.{all_effects, simple}
-use Rattle.pd_task.specs.Scope.{site_of, entered}
+use Rattle.pd_task.specs.Scope.{site_of}
 use Rattle.pd_task.proofs.Ands.{effects_is, effects_fail, effects_go_on}
 use Rattle.pd_task.proofs.Foralls.{forall_is, enters, enter_fails, body_fails, body_ends, no_list, no_body, leaves, on_ok, simple_is}
 use Rattle.pd_task.proofs.effects.+read_effect.Goals as goal

@@ -1,7 +1,7 @@
-use Rattle.std.proofs.Common.{◌≡◌, ◌+◌, ◌∷◌, drop, sym, ◌∙◌}
+use Rattle.std.proofs.Common.{◌+◌, drop, sym, ◌∙◌}
 use Rattle.std.proofs.lemmas.List.{drop_more, drop_all}
 use Rattle.std.proofs.lemmas.Result.{err_from_is_err_and}
-use Rattle.pd_sexp.specs.View.{view, views}
+use Rattle.pd_sexp.specs.View.{views}
 use Rattle.pd_task.specs.Effects.{all_literals}
 use Rattle.pd_task.specs.Scope.{site_of}
 use Rattle.pd_task.proofs.Ands.{literals_is, literals_fail}
