@@ -1,10 +1,18 @@
--- A form's error as that of a file.
-use Rattle.pd_task.specs.declared.form.FormError.{FormError}
-use Rattle.pd_task.specs.declared.form.FormError.TheVariants as form
-use Rattle.pd_task.specs.declared.pddl.Which.{Which}
-use Rattle.pd_task.specs.declared.pddl.PddlError.{PddlError}
-use Rattle.pd_task.specs.declared.pddl.PddlError.TheVariants as pddl
+-- What `read_pddl` answers.
+use Rattle.std.specs.Prelude.{◌≡◌, Result, Err}
+use Rattle.pd_model.specs.declared.memory.Which.{Which}
+use Rattle.pd_model.specs.declared.parts.Parts.{Parts}
+use Rattle.pd_words.specs.declared.fault.ReadError.{ReadError}
+use Rattle.pd_words.specs.declared.fault.ReadError.TheVariants as read
+use Rattle.pd_task.specs.declared.error.PddlError.{PddlError}
+use Rattle.pd_task.specs.declared.error.PddlError.TheVariants as errors
+use Rattle.pd_task.specs.Reading.{told}
 
-abbrev pub told_of : FormError → Which → PddlError
-told_of form.Unsupported file = pddl.Unsupported file 0
-told_of form.Memory file = pddl.Memory
+-- the error is the first cause; of want of memory nothing is said
+abbrev pub IsTold : Result Parts PddlError → PddlError → Type 0
+IsTold reading errors.Memory = Unit {0}
+IsTold reading error = reading ≡ Err error
+
+abbrev pub told_error : Which → ReadError → PddlError
+told_error file read.Memory = errors.Memory
+told_error file (read.Fault fault) = told file fault
