@@ -7,3 +7,4 @@ pub mod PlanFile
 pub mod Spells
 pub mod Progress
 pub mod Reader
+pub mod Depot

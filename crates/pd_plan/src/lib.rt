@@ -17,8 +17,8 @@ mod fault;
 mod lists;
 mod names;
 mod reader;
-
-
+#[cfg(test)]
+mod tests;
 
 use calls::read_calls;
 pub use fault::PlanFault;
