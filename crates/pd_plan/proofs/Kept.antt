@@ -1,13 +1,12 @@
 -- What is read is calls, and there are no more of them than bytes.
-use Rattle.std.proofs.Common.{◌≡◌, ◌≤◌, ◌<◌, ℕ, suc, ◌+◌, ◌^◌, Bool, true, false, cond, List, [], ◌∷◌, ◌++◌, length, Option, Some, None, Result, Ok, Err, drop, get_or, refl, sym, ap, subst, ◌∙◌, append-nil, arith}
+use Rattle.std.proofs.Common.{◌≡◌, ◌≤◌, ◌<◌, ℕ, suc, ◌+◌, Bool, true, false, cond, List, [], ◌∷◌, ◌++◌, length, Option, Some, None, Result, Ok, Err, drop, get_or, refl, sym, ap, subst, ◌∙◌, append-nil, arith}
 use Rattle.std.proofs.lemmas.List.{drop_more}
-use Rattle.std.specs.Prelude.{◌==◌, IfOk, IsTrue, slice_get, if◌then◌else◌}
+use Rattle.std.specs.Prelude.{◌==◌, IfOk, IsTrue, slice_get}
 use Rattle.std.specs.List.{list_all}
 use Rattle.pd_sexp.specs.Bytes.{is_blank, is_letter, lowered, semicolon, line_feed}
 use Rattle.pd_sexp.specs.Fault.{uncommented, comment_blanked}
 use Rattle.pd_model.specs.Fits.{fits, all_fit, is_call}
 use Rattle.pd_model.specs.declared.calls.Call.{Call}
-use Rattle.pd_model.specs.declared.schemas.Schema.{Schema}
 use Rattle.pd_model.specs.declared.parts.Parts.{Parts}
 use Rattle.pd_words.specs.Names.{number_of}
 use Rattle.pd_words.specs.Typed.{named}
@@ -45,7 +44,7 @@ module _ (p : Parts) where
   fitting : (kind : ℕ) (w : Named) → IfOk (argument p kind w) (λ o. IsTrue (fits p kind o))
   fitting kind w =
       found_ok (λ o. IsTrue (fits p kind o)) (unknown w.at) (number_of w.name (object_names p.objects)) (λ o. wants (fits p kind o) (mistyped w.at) >>= λ _. Ok o)
-        (λ o is. wants_ok (λ n. IsTrue (fits p kind n)) (fits p kind o) (mistyped w.at) (λ _. Ok o) (λ fit. fit))
+      (λ o is. wants_ok (λ n. IsTrue (fits p kind n)) (fits p kind o) (mistyped w.at) (λ _. Ok o) (λ fit. fit))
 
   all_fitting : (kinds : List ℕ) (ws : List Named) → length ws ≡ length kinds → IfOk (arguments p kinds ws) (λ os. IsTrue (all_fit p kinds os))
   all_fitting [] [] same = refl
@@ -53,8 +52,8 @@ module _ (p : Parts) where
   all_fitting (kind ∷ kinds) [] same = absurd (omega (arith, same))
   all_fitting (kind ∷ kinds) (w ∷ ws) same =
       bind_ok (λ o. IsTrue (fits p kind o)) (λ os. IsTrue (all_fit p (kind ∷ kinds) os)) (argument p kind w) (λ o. arguments p kinds ws >>= λ os. Ok (o ∷ os)) (fitting kind w)
-        (λ o fit. bind_ok (λ os. IsTrue (all_fit p kinds os)) (λ os. IsTrue (all_fit p (kind ∷ kinds) os)) (arguments p kinds ws) (λ os. Ok (o ∷ os)) (all_fitting kinds ws (omega (arith, same)))
-            (λ os fits. rw fit fits))
+      (λ o fit. bind_ok (λ os. IsTrue (all_fit p kinds os)) (λ os. IsTrue (all_fit p (kind ∷ kinds) os)) (arguments p kinds ws) (λ os. Ok (o ∷ os)) (all_fitting kinds ws (omega (arith, same)))
+      (λ os fits. rw fit fits))
 
   abbrev IsCall : Call → Type 0
   IsCall call = IsTrue (is_call p call)
@@ -63,27 +62,27 @@ module _ (p : Parts) where
   spelled at [] = tt
   spelled at (name ∷ objects) =
       found_ok IsCall (unknown name.at) (number_of name.name (schema_names p.schemas))
-        (λ n. found (unknown name.at) (slice_get p.schemas n) >>= λ schema. wants (length objects == length schema.parameters) (arity at) >>= λ _. arguments p schema.parameters objects >>= λ os. Ok (record { schema = n; objects = os }))
-        (λ n _. found_ok IsCall (unknown name.at) (slice_get p.schemas n)
-            (λ schema. wants (length objects == length schema.parameters) (arity at) >>= λ _. arguments p schema.parameters objects >>= λ os. Ok (record { schema = n; objects = os }))
-            (λ schema is. wants_ok IsCall (length objects == length schema.parameters) (arity at) (λ _. arguments p schema.parameters objects >>= λ os. Ok (record { schema = n; objects = os }))
-                (λ many. bind_ok (λ os. IsTrue (all_fit p schema.parameters os)) IsCall (arguments p schema.parameters objects) (λ os. Ok (record { schema = n; objects = os }))
-                    (all_fitting schema.parameters objects (grind (arith, many)))
-                    (λ os fit. rw is fit))))
+      (λ n. found (unknown name.at) (slice_get p.schemas n) >>= λ schema. wants (length objects == length schema.parameters) (arity at) >>= λ _. arguments p schema.parameters objects >>= λ os. Ok (record { schema = n; objects = os }))
+      (λ n _. found_ok IsCall (unknown name.at) (slice_get p.schemas n)
+      (λ schema. wants (length objects == length schema.parameters) (arity at) >>= λ _. arguments p schema.parameters objects >>= λ os. Ok (record { schema = n; objects = os }))
+      (λ schema is. wants_ok IsCall (length objects == length schema.parameters) (arity at) (λ _. arguments p schema.parameters objects >>= λ os. Ok (record { schema = n; objects = os }))
+      (λ many. bind_ok (λ os. IsTrue (all_fit p schema.parameters os)) IsCall (arguments p schema.parameters objects) (λ os. Ok (record { schema = n; objects = os }))
+      (all_fitting schema.parameters objects (grind (arith, many)))
+      (λ os fit. rw is fit))))
 
   pub all_calls : (ls : List WordList) → IfOk (calls_of p ls) (λ calls. IsTrue (list_all (is_call p) calls))
   all_calls [] = refl
   all_calls (l ∷ ls) =
       bind_ok IsCall (λ calls. IsTrue (list_all (is_call p) calls)) (call_of p l) (λ call. calls_of p ls >>= λ calls. Ok (call ∷ calls)) (spelled l.at l.words)
-        (λ call is. bind_ok (λ calls. IsTrue (list_all (is_call p) calls)) (λ calls. IsTrue (list_all (is_call p) calls)) (calls_of p ls) (λ calls. Ok (call ∷ calls)) (all_calls ls)
-            (λ calls are. rw is are))
+      (λ call is. bind_ok (λ calls. IsTrue (list_all (is_call p) calls)) (λ calls. IsTrue (list_all (is_call p) calls)) (calls_of p ls) (λ calls. Ok (call ∷ calls)) (all_calls ls)
+      (λ calls are. rw is are))
 
   pub as_many : (ls : List WordList) → IfOk (calls_of p ls) (λ calls. length calls ≡ length ls)
   as_many [] = refl
   as_many (l ∷ ls) =
       bind_ok (λ call. Unit {0}) (λ calls. length calls ≡ length (l ∷ ls)) (call_of p l) (λ call. calls_of p ls >>= λ calls. Ok (call ∷ calls)) (any (call_of p l))
-        (λ call _. bind_ok (λ calls. length calls ≡ length ls) (λ calls. length calls ≡ length (l ∷ ls)) (calls_of p ls) (λ calls. Ok (call ∷ calls)) (as_many ls)
-            (λ calls same. omega (arith, same)))
+      (λ call _. bind_ok (λ calls. length calls ≡ length ls) (λ calls. length calls ≡ length (l ∷ ls)) (calls_of p ls) (λ calls. Ok (call ∷ calls)) (as_many ls)
+      (λ calls same. omega (arith, same)))
     where
       any : (read : Result Call Fault) → IfOk read (λ call. Unit {0})
       any (Ok call) = tt

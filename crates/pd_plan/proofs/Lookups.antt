@@ -20,7 +20,7 @@ index_last (m ∷ ms) n (suc k) h = index_last ms n k (omega (arith, h))
 -- a name that is new in the table, with its number
 pub looked_up_more : (table : List (List ℕ)) (firsts : List ℕ) (name : List ℕ) (number : ℕ) (other : List ℕ) → length table ≡ length firsts
     → option_map (slice_index (firsts ++ number ∷ [])) (number_of other (table ++ name ∷ []))
-      ≡ or_else (option_map (slice_index firsts) (number_of other table)) (cond (bytes_eq other name) (Some number) None)
+    ≡ or_else (option_map (slice_index firsts) (number_of other table)) (cond (bytes_eq other name) (Some number) None)
 looked_up_more table firsts name number other whole = rw (number_push other table name) (by_place (number_of other table) (bytes_eq other name) (number_below other table))
   where
     by_place : (found : Option ℕ) (b : Bool) → IfSome found (λ i. i < length table)

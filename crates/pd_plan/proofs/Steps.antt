@@ -1,6 +1,6 @@
 -- The bytes one after another lead to what the tokens of all of them say.
-use Rattle.std.proofs.Common.{◌≡◌, ℕ, suc, ◌+◌, ◌<◌, Bool, true, false, cond, List, [], ◌∷◌, ◌++◌, length, Result, Ok, Err, refl, sym, ap, subst, ◌∙◌, append_assoc, append-nil, arith}
-use Rattle.std.specs.Prelude.{◌==◌, drop, slice_index, if◌then◌else◌}
+use Rattle.std.proofs.Common.{◌≡◌, ℕ, ◌+◌, ◌<◌, Bool, true, false, cond, List, [], ◌∷◌, ◌++◌, length, Result, Ok, Err, refl, sym, ap, ◌∙◌, append_assoc, append-nil, arith}
+use Rattle.std.specs.Prelude.{◌==◌, drop, slice_index}
 use Rattle.std.proofs.lemmas.List.{drop_more}
 use Rattle.pd_sexp.specs.Bytes.{open_paren, close_paren, semicolon, line_feed, is_blank, is_letter, lowered}
 use Rattle.pd_sexp.specs.Fault.{uncommented, comment_blanked}
@@ -73,14 +73,14 @@ further first letters next o (b ∷ bs) h = by_tests (is_blank b) (is_letter b) 
   where
     by_tests : (p q : Bool) → joined first letters next (tokens (o + 1) bs) ≡ word first letters ∷ tokens (o + 1) bs
         → joined first letters next (cond p (tokens (o + 1) bs) (cond q (joined o (lowered b ∷ []) (o + 1) (tokens (o + 1) bs)) (sign o b ∷ tokens (o + 1) bs)))
-          ≡ word first letters ∷ cond p (tokens (o + 1) bs) (cond q (joined o (lowered b ∷ []) (o + 1) (tokens (o + 1) bs)) (sign o b ∷ tokens (o + 1) bs))
+        ≡ word first letters ∷ cond p (tokens (o + 1) bs) (cond q (joined o (lowered b ∷ []) (o + 1) (tokens (o + 1) bs)) (sign o b ∷ tokens (o + 1) bs))
     by_tests true q later = later
     by_tests false true later = starts first letters o next (lowered b ∷ []) (tokens (o + 1) bs) (grind (arith, h))
     by_tests false false later = sign_apart first letters o next b (tokens (o + 1) bs)
 
 -- a byte that is no letter ends the word
 ends : (first : ℕ) (letters : List ℕ) (o b : ℕ) (bs : List ℕ) → is_letter b ≡ false → joined first letters o (tokens o (uncommented (b ∷ bs))) ≡ word first letters ∷ tokens o (uncommented (b ∷ bs))
-ends first letters o b bs h = by_semicolon (b == semicolon) 
+ends first letters o b bs h = by_semicolon (b == semicolon)
   where
     by_blank : (p q : Bool) → q ≡ false → joined first letters o (cond p (tokens (o + 1) (uncommented bs)) (cond q (joined o (lowered b ∷ []) (o + 1) (tokens (o + 1) (uncommented bs))) (sign o b ∷ tokens (o + 1) (uncommented bs))))
         ≡ word first letters ∷ cond p (tokens (o + 1) (uncommented bs)) (cond q (joined o (lowered b ∷ []) (o + 1) (tokens (o + 1) (uncommented bs))) (sign o b ∷ tokens (o + 1) (uncommented bs)))
@@ -129,7 +129,7 @@ module _ (end : ℕ) (done : List WordList) (o b : ℕ) (bs : List ℕ) where
   -- between lists, by the kind of the byte: of a word, an opening or a closing one
   between_is : (q r s : Bool) → (r ≡ true → q ≡ false)
       → after done (lists end (cond q (joined o (lowered b ∷ []) (o + 1) (tokens (o + 1) (uncommented bs))) (cond r (opening o) (cond s (closing o) (wrong o)) ∷ tokens (o + 1) (uncommented bs))))
-        ≡ (cond r (Ok (at.gap done (inside o []))) (Err (syntax o)) >>= λ t. answer end t (o + 1) bs)
+      ≡ (cond r (Ok (at.gap done (inside o []))) (Err (syntax o)) >>= λ t. answer end t (o + 1) bs)
   between_is true true s opens = let no = opens refl in cc
   between_is false true s opens = refl
   between_is true false s opens = ap (after done) (stray_word end o (lowered b ∷ []) (o + 1) (tokens (o + 1) (uncommented bs)))
@@ -138,7 +138,7 @@ module _ (end : ℕ) (done : List WordList) (o b : ℕ) (bs : List ℕ) where
 
   inside_is : (start : ℕ) (words : List Named) (q r s : Bool) → (r ≡ true → s ≡ false) → (s ≡ true → q ≡ false) → (r ≡ true → q ≡ false)
       → after done (list_on end start words (cond q (joined o (lowered b ∷ []) (o + 1) (tokens (o + 1) (uncommented bs))) (cond r (opening o) (cond s (closing o) (wrong o)) ∷ tokens (o + 1) (uncommented bs))))
-        ≡ (cond s (closed done start words) (cond q (Ok (at.word done start words o (lowered b ∷ []))) (Err (syntax o))) >>= λ t. answer end t (o + 1) bs)
+      ≡ (cond s (closed done start words) (cond q (Ok (at.word done start words o (lowered b ∷ []))) (Err (syntax o))) >>= λ t. answer end t (o + 1) bs)
   inside_is start words true true s one close opens = let no = opens refl in cc
   inside_is start words true false true one close opens = let no = close refl in cc
   inside_is start words true false false one close opens = refl

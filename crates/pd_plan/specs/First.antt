@@ -1,5 +1,5 @@
 -- Tests in order, the first that fails being the answer.
-use Rattle.std.specs.Prelude.{◌≡◌, ℕ, Bool, List, ◌++◌, Option, Some, None, Result, Ok, Err, if◌then◌else◌}
+use Rattle.std.specs.Prelude.{◌≡◌, Bool, List, ◌++◌, Option, Some, None, Result, Ok, Err, if◌then◌else◌}
 use Rattle.pd_plan.specs.Fault.{Fault, syntax, unknown, arity, mistyped}
 use Rattle.pd_plan.specs.declared.fault.PlanFault.{PlanFault}
 use Rattle.pd_plan.specs.declared.fault.PlanFault.TheVariants.{Syntax, Unknown, Arity, Mistyped, Memory}

@@ -1,5 +1,5 @@
 -- Where a reader stands after some bytes of a plan file, byte by byte. Only private clauses speak of it.
-use Rattle.std.specs.Prelude.{ℕ, ◌+◌, ◌==◌, List, [], ◌∷◌, ◌++◌, length, Result, Ok, Err, if◌then◌else◌}
+use Rattle.std.specs.Prelude.{ℕ, ◌==◌, List, [], ◌∷◌, ◌++◌, length, Result, Ok, Err, if◌then◌else◌}
 use Rattle.pd_sexp.specs.Bytes.{open_paren, close_paren, semicolon, line_feed, is_blank, is_letter, lowered}
 use Rattle.pd_sexp.specs.Fault.{uncommented, comment_blanked}
 use Rattle.pd_words.specs.Typed.{named}

@@ -1,5 +1,5 @@
 -- Plan files as they are written: gaps and lists, each of which spells a call.
-use Rattle.std.specs.Prelude.{◌≡◌, ◌≢◌, ℕ, ◌+◌, true, false, List, [], ◌∷◌, ◌++◌, length, map, Ok}
+use Rattle.std.specs.Prelude.{◌≡◌, ℕ, ◌+◌, true, false, List, [], ◌∷◌, ◌++◌, length, map, Ok}
 use Rattle.pd_sexp.specs.Tree.{Tree, word, list, trees_of}
 use Rattle.pd_sexp.specs.File.{IsGap, IsTree}
 use Rattle.pd_model.specs.declared.calls.Call.{Call}

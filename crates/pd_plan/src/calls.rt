@@ -49,12 +49,7 @@ fn fits_type(p: &Pddl, kind: u32, object: u32) -> bool
 }
 
 // The object that a word names.
-fn read_argument(
-    p: &Pddl,
-    objects: &NameNumbers,
-    kind: u32,
-    word: &Named,
-) -> Result<u32, PlanFault>
+fn read_argument(p: &Pddl, objects: &NameNumbers, kind: u32, word: &Named) -> Result<u32, PlanFault>
     requires { (name : List ℕ) → looked_up objects.now name ≡ number_of name (object_names p.now.objects) }
     ensures { Gives (plans.argument p.now kind word.now) result }
 {

@@ -1,5 +1,3 @@
-use Rattle.std.proofs.Common.{◌≡◌, Ok}
-use Rattle.pd_plan.specs.WordLists.{word_lists}
 use Rattle.pd_plan.proofs.Kept.{are_calls_of, few_of}
 use Rattle.pd_plan.proofs.read_plan.Goals as goal
 
