@@ -1,0 +1,5 @@
+pub mod Steps
+pub mod Lookups
+pub mod Kept
+pub mod Rows
+pub mod DepotTask
