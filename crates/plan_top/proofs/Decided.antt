@@ -1,25 +1,61 @@
--- What trees decide, bytes decide, and so do the files of a shelf.
-use Rattle.std.proofs.Common.{◌≡◌, ◌<◌, ◌≤◌, ℕ, List, [], ◌++◌, length, Option, Some, None, subst, refl, arith}
-use Rattle.std.specs.Prelude.{Bool, IsTrue, IfSome, IfOk}
+-- What bytes decide, the files of a shelf decide.
+use Rattle.std.proofs.Common.{◌≡◌, ◌<◌, ◌≤◌, ◌⊎◌, ℕ, Bool, true, List, [], ◌++◌, length, Option, Some, None, subst, refl, arith, inl, inr}
+use Rattle.std.specs.Prelude.{IsTrue, IfSome}
 use Rattle.pl_io.specs.Outside.{FaultRose, fault_count}
-use Rattle.pd_sexp.specs.Tree.{Tree}
-use Rattle.pd_sexp.specs.Fault.{Reads}
-use Rattle.pd_task.specs.declared.pddl.Which.TheVariants.{Problem}
+use Rattle.pd_model.specs.declared.memory.Which.{Which}
+use Rattle.pd_model.specs.declared.memory.Which.TheVariants.{Domain, Problem, Plan}
+use Rattle.pd_model.specs.declared.calls.Verdict.{Verdict}
+use Rattle.pd_model.specs.declared.calls.Verdict.TheVariants as verdicts
+use Rattle.pd_model.specs.Plan.{verdict}
+use Rattle.pd_task.specs.declared.error.PddlError.{PddlError}
+use Rattle.pd_task.specs.declared.error.PddlError.TheVariants as errors
+use Rattle.pd_plan.specs.Fault as plan
+use Rattle.plan_top.specs.declared.ending.Kind.TheVariants as kinds
 use Rattle.plan_top.specs.declared.ending.Ending.{Ending}
-use Rattle.plan_top.specs.declared.ending.Ending.TheVariants.{Found, Refuted, Syntax, Unsupported, TooLong, ReadFault, Usage}
-use Rattle.plan_top.specs.declared.decide.FileError.{FileError}
-use Rattle.plan_top.specs.declared.decide.FileError.TheVariants.{TooLong as TooFar, ReadFault as Fault, Memory as NoRoom}
-use Rattle.plan_top.specs.Ended.{ended_by}
-use Rattle.plan_top.specs.Causes.{Comes, Decides, DecidesTrees, Fits, IsTooLong, most_bytes}
+use Rattle.plan_top.specs.declared.ending.Ending.TheVariants.{Found, Refuted, Reaches, Blocked, Short, Refused, TooLong, ReadFault, Usage}
+use Rattle.plan_top.specs.Ending.{is_plan_answer, is_check_answer}
+use Rattle.plan_top.specs.Causes.{AreTask, RefusesTask, domain_tree, problem_tree, no_task, refusal_of, refusal_of_plan, ending_of, DecidesPlan, found, refuted, plan_refused, DecidesCheck, checked, check_refused, ChecksCalls, answered, no_calls, Stops, StopsAt, ComesPlan, ComesCheck, Fits, IsTooLong, most_bytes}
 
-pub Decides-trees : (domain problem : List ℕ) (first second : Tree) → Reads domain first → Reads problem second → (end : Ending) → DecidesTrees first second end → Decides domain problem end
-Decides-trees domain problem first second one two Found h = (first, second, one, two, h)
-Decides-trees domain problem first second one two Refuted h = (first, second, one, two, h)
-Decides-trees domain problem first second one two (Unsupported file) h = (first, second, one, two, h)
-Decides-trees domain problem first second one two (Syntax file) h = absurd h
-Decides-trees domain problem first second one two (TooLong file) h = absurd h
-Decides-trees domain problem first second one two (ReadFault file) h = absurd h
-Decides-trees domain problem first second one two Usage h = absurd h
+-- ---- which answers the contents give
+
+refused_only : (cause : PddlError) (end : Ending) → refusal_of cause ≡ Some end → (is_plan_answer end ≡ true) × (is_check_answer end ≡ true)
+refused_only (errors.Shape file at) end e = subst (λ (x : Ending). (is_plan_answer x ≡ true) × (is_check_answer x ≡ true)) (let f : Refused kinds.Shape file at ≡ end = cc in f) (refl, refl)
+refused_only (errors.Unknown file at) end e = subst (λ (x : Ending). (is_plan_answer x ≡ true) × (is_check_answer x ≡ true)) (let f : Refused kinds.Unknown file at ≡ end = cc in f) (refl, refl)
+refused_only (errors.Arity file at) end e = subst (λ (x : Ending). (is_plan_answer x ≡ true) × (is_check_answer x ≡ true)) (let f : Refused kinds.Arity file at ≡ end = cc in f) (refl, refl)
+refused_only (errors.Duplicate file at) end e = subst (λ (x : Ending). (is_plan_answer x ≡ true) × (is_check_answer x ≡ true)) (let f : Refused kinds.Duplicate file at ≡ end = cc in f) (refl, refl)
+refused_only (errors.Unsupported file at) end e = subst (λ (x : Ending). (is_plan_answer x ≡ true) × (is_check_answer x ≡ true)) (let f : Refused kinds.Unsupported file at ≡ end = cc in f) (refl, refl)
+refused_only errors.Memory end e = absurd (none_some end e)
+  where
+  none_some : (x : Ending) → None ≡ Some x → ⊥
+  none_some x h = cc
+
+task_refusal : (domain problem : List ℕ) (end : Ending) → RefusesTask domain problem end → (is_plan_answer end ≡ true) × (is_check_answer end ≡ true)
+task_refusal domain problem end (domain_tree r) = rw r.2 (refl, refl)
+task_refusal domain problem end (problem_tree first reads r) = rw r.2 (refl, refl)
+task_refusal domain problem end (no_task first second one two r) = refused_only r.0 end r.2
+
+plan_answer : (domain problem : List ℕ) (end : Ending) → DecidesPlan domain problem end → is_plan_answer end ≡ true
+plan_answer domain problem end (found task e are holds) = rw e refl
+plan_answer domain problem end (refuted task e are fails) = rw e refl
+plan_answer domain problem end (plan_refused r) = (task_refusal domain problem end r).0
+
+verdict_answer : (v : Verdict) → is_check_answer (ending_of v) ≡ true
+verdict_answer verdicts.Reaches = refl
+verdict_answer (verdicts.Blocked index) = refl
+verdict_answer verdicts.Short = refl
+
+fault_answer : (f : plan.Fault) → is_check_answer (refusal_of_plan f) ≡ true
+fault_answer (plan.syntax at) = refl
+fault_answer (plan.unknown at) = refl
+fault_answer (plan.arity at) = refl
+fault_answer (plan.mistyped at) = refl
+
+check_answer : (domain problem bytes : List ℕ) (end : Ending) → DecidesCheck domain problem bytes end → is_check_answer end ≡ true
+check_answer domain problem bytes end (checked task are (answered calls reads e)) = rw e (verdict_answer (verdict task calls))
+check_answer domain problem bytes end (checked task are (no_calls f reads e)) = rw e (fault_answer f)
+check_answer domain problem bytes end (check_refused r) = (task_refusal domain problem end r).1
+
+-- ---- files that were taken
 
 -- the bytes that were taken are those that are told
 abbrev pub IsTold : Option (List ℕ) → List ℕ → Type 0
@@ -29,28 +65,32 @@ told_fits : (told : Option (List ℕ)) (bytes : List ℕ) → IsTold told bytes 
 told_fits None bytes is fits = tt
 told_fits (Some file) bytes is fits = subst (λ (xs : List ℕ). length xs ≤ most_bytes) is fits
 
-both : (domain problem : Option (List ℕ)) (first second : List ℕ) (end : Ending) → IsTold domain first → IsTold problem second → Decides first second end → IfSome domain (λ d. IfSome problem (λ p. Decides d p end))
-both None problem first second end one two h = tt
-both (Some d) None first second end one two h = tt
-both (Some d) (Some p) first second end one two h = subst (λ (xs : List ℕ). Decides xs p end) one (subst (λ (xs : List ℕ). Decides first xs end) two h)
+at_told : (P : List ℕ → Type 0) (told : Option (List ℕ)) (bytes : List ℕ) → IsTold told bytes → P bytes → IfSome told P
+at_told P None bytes is h = tt
+at_told P (Some file) bytes is h = subst P is h
+
+pub rises_twice : (old first middle : List (List ℕ)) → ((name : List ℕ) → fault_count name old ≤ fault_count name first) → ((name : List ℕ) → fault_count name first ≤ fault_count name middle)
+    → (name : List ℕ) → fault_count name old ≤ fault_count name middle
+rises_twice old first middle one two name = let h = one name in let k = two name in omega arith
 
 module _ (told : List ℕ → Option (List ℕ)) (lacks : List ℕ → Bool) (old new : List (List ℕ)) where
   pub fits_of : (name bytes : List ℕ) → (IsTrue (lacks name) → ⊥) → IsTold (told name) bytes → length bytes ≤ most_bytes → Fits told lacks old new name
   fits_of name bytes there is fits = (there, told_fits (told name) bytes is fits)
 
-  module _ (domain problem first second : List ℕ) (one : Fits told lacks old new domain) where
-    pub Comes-bytes : Fits told lacks old new problem → IsTold (told domain) first → IsTold (told problem) second → (end : Ending) → Decides first second end → Comes told lacks old new domain problem end
-    Comes-bytes two d p Found h = (one, two, both (told domain) (told problem) first second Found d p h)
-    Comes-bytes two d p Refuted h = (one, two, both (told domain) (told problem) first second Refuted d p h)
-    Comes-bytes two d p (Syntax file) h = (one, two, both (told domain) (told problem) first second (Syntax file) d p h)
-    Comes-bytes two d p (Unsupported file) h = (one, two, both (told domain) (told problem) first second (Unsupported file) d p h)
-    Comes-bytes two d p (TooLong file) h = absurd h.4
-    Comes-bytes two d p (ReadFault file) h = absurd h.4
-    Comes-bytes two d p Usage h = absurd h.4
+  -- a fault that was noted after some others
+  pub later : (middle : List (List ℕ)) → ((other : List ℕ) → fault_count other old ≤ fault_count other middle) → (file : Which) (name : List ℕ) (end : Ending)
+      → Stops told lacks middle new file name end → Stops told lacks old new file name end
+  later middle rises file name end (inl h) = let before = rises name in let after = h.1 in inl (h.0, omega arith)
+  later middle rises file name end (inr h) = inr h
 
-    -- the domain was taken whole, and the problem was not
-    pub Comes-problem : (middle : List (List ℕ)) (error : FileError) → ((other : List ℕ) → fault_count other old ≤ fault_count other middle)
-        → (error ≡ TooFar → IsTooLong told lacks old new problem) → (error ≡ Fault → FaultRose problem middle new) → IfOk (ended_by error Problem) (Comes told lacks old new domain problem)
-    Comes-problem middle TooFar rises long fault = (one, long refl)
-    Comes-problem middle Fault rises long fault = let before = rises problem in let after = fault refl in (one, omega arith)
-    Comes-problem middle NoRoom rises long fault = tt
+  module _ (domain problem first second : List ℕ) (one : Fits told lacks old new domain) (first_told : IsTold (told domain) first) where
+    pub plan_whole : Fits told lacks old new problem → IsTold (told problem) second → (end : Ending) → DecidesPlan first second end → ComesPlan told lacks old new domain problem end
+    plan_whole two second_told end h = inr (one, two, plan_answer first second end h,
+      at_told (λ d. IfSome (told problem) (λ p. DecidesPlan d p end)) (told domain) first first_told (at_told (λ p. DecidesPlan first p end) (told problem) second second_told h))
+
+    pub check_whole : (plan_name third : List ℕ) → Fits told lacks old new problem → Fits told lacks old new plan_name → IsTold (told problem) second → IsTold (told plan_name) third → (end : Ending)
+        → DecidesCheck first second third end → ComesCheck told lacks old new domain problem plan_name end
+    check_whole plan_name third two three second_told third_told end h = inr (one, two, three, check_answer first second third end h,
+      at_told (λ d. IfSome (told problem) (λ p. IfSome (told plan_name) (λ l. DecidesCheck d p l end))) (told domain) first first_told
+        (at_told (λ p. IfSome (told plan_name) (λ l. DecidesCheck first p l end)) (told problem) second second_told
+          (at_told (λ l. DecidesCheck first second l end) (told plan_name) third third_told h)))

@@ -4,4 +4,5 @@ pub mod Causes
 pub mod Among
 pub mod Lines
 pub mod Headline
-pub mod Ended
+pub mod Ends
+pub mod PlanStop

@@ -2,12 +2,14 @@
 //! exit status.
 #![tactic(auto)]
 
+mod answer;
 mod decide;
 mod ending;
-#[cfg(test)]
-mod tests;
+mod stop;
+mod take;
+mod task;
 mod top;
 mod words;
 
-pub use ending::Ending;
+pub use ending::{Ending, Kind};
 pub use top::{Status, run};

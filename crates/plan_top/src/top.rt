@@ -1,15 +1,18 @@
 //! The top call.
 ghost use Rattle.std.specs.Prelude.{◌≡◌, ◌≢◌, ◌≤◌, ◌⊎◌, ℕ, List, [], ◌∷◌, map, string_bytes, codes};
 ghost use Rattle.pl_io.specs.Outside.{appended, TakesFront, Rose, FaultRose, fault_count};
-ghost use Rattle.plan_top.specs.Words.{IsPlan};
 ghost use Rattle.plan_top.specs.Among.{IsAmong};
-ghost use Rattle.plan_top.specs.Causes.{ComesFrom, GoesWell};
+ghost use Rattle.plan_top.specs.Words.{IsPlan, IsCheck, IsNoCommand};
+ghost use Rattle.plan_top.specs.Causes.{Comes, FaultOf, GoesWell, ChecksWell};
 ghost use Rattle.plan_top.specs.Ending.{status_of, text_of};
 ghost use Rattle.plan_top.specs.Lines.{Says};
-ghost use Rattle.plan_top.specs.Headline.{Printed, OfTask, PlanRuns, NoStepPlan, NoPlan};
+ghost use Rattle.plan_top.specs.Headline.{Printed, OfFiles, OfTask, PlanRuns, NoStepPlan, NoPlan, CallsRun};
+ghost use Rattle.plan_top.specs.Ends.{ending_in};
 ghost use Rattle.plan_top.specs.declared.ending.Ending.{Ending};
 
 use crate::decide::decide;
+use crate::ending::Ending;
+use crate::stop::Stop;
 use pl_io::{Shelf, Sink, put_all};
 use std::alloc::Global;
 
@@ -17,8 +20,8 @@ use std::alloc::Global;
 ///
 /// | Status | When |
 /// |---|---|
-/// | 0 | a plan was found |
-/// | 1 | the last horizon is refuted |
+/// | 0 | a plan was found; the checked calls are a plan |
+/// | 1 | the last horizon is refuted; the checked calls are none |
 /// | 3 | an input file is refused |
 /// | 4 | a file has more bytes than it may have |
 /// | 5 | a file could not be read |
@@ -30,7 +33,8 @@ pub struct Status(pub u8);
 
 /// Reads the words, takes the files from the shelf, decides, and writes the text due into the sink.
 ///
-/// The words are those after the program's name. `plan DOMAIN PROBLEM --max-horizon 0` is taken so far.
+/// The words are those after the program's name: `plan DOMAIN PROBLEM --max-horizon 0` or
+/// `check DOMAIN PROBLEM PLAN`.
 pub fn run<H, S: Shelf, K: Sink>(
     _rt: &H,
     alloc: Global,
@@ -39,8 +43,8 @@ pub fn run<H, S: Shelf, K: Sink>(
     sink: &mut K,
 ) -> Status
     // A printed plan leads from the initial state to the goal.
-    ensures plan_runs { (text : List ℕ) → result.0 ≡ 0 → Printed (K.taken sink.old) (K.taken sink.new) text
-        → OfTask (map string_bytes words.now) (S.told shelf.old) (PlanRuns text) }
+    ensures plan_runs { (text domain problem : List ℕ) → result.0 ≡ 0 → Printed (K.taken sink.old) (K.taken sink.new) text
+        → IsPlan (map string_bytes words.now) domain problem → OfFiles (S.told shelf.old) domain problem (PlanRuns text) }
 
     // A horizon that is printed as refuted has no step plan of so many steps.
     ensures refuted_steps { (text : List ℕ) (horizon conflicts : ℕ) → Printed (K.taken sink.old) (K.taken sink.new) text
@@ -50,19 +54,22 @@ pub fn run<H, S: Shelf, K: Sink>(
     ensures refuted_plans { (text : List ℕ) (horizon conflicts : ℕ) → Printed (K.taken sink.old) (K.taken sink.new) text
         → Says text horizon (codes "refuted") conflicts → OfTask (map string_bytes words.now) (S.told shelf.old) (NoPlan horizon) }
 
+    // Calls that are answered as a plan are one.
+    ensures reached { (domain problem plan : List ℕ) → result.0 ≡ 0 → IsCheck (map string_bytes words.now) domain problem plan
+        → CallsRun (S.told shelf.old) domain problem plan }
+
     // Each status has its cause, and with every status but 6 the bytes taken are exactly the text due.
     ensures due { result.0 ≢ 6 → result.0 ≢ 8 → (end : Ending) × (result.0 ≡ status_of end)
-        × ComesFrom (S.told shelf.old) (S.lacks shelf.old) (S.failed shelf.old) (S.failed shelf.new) (map string_bytes words.now) end
+        × Comes (S.told shelf.old) (S.lacks shelf.old) (S.failed shelf.old) (S.failed shelf.new) (map string_bytes words.now) end
         × (K.taken sink.new ≡ appended (K.taken sink.old) (text_of end)) }
-    ensures read_fault { result.0 ≡ 5 → (domain : List ℕ) × (problem : List ℕ) × IsPlan (map string_bytes words.now) domain problem
-        × (FaultRose domain (S.failed shelf.old) (S.failed shelf.new) ⊎ FaultRose problem (S.failed shelf.old) (S.failed shelf.new)) }
+    ensures read_fault { result.0 ≡ 5 → FaultOf (S.failed shelf.old) (S.failed shelf.new) (map string_bytes words.now) }
     ensures write_fault { result.0 ≡ 6 → Rose (K.faults sink.old) (K.faults sink.new) }
     ensures front { result.0 ≡ 6 → (end : Ending)
-        × ComesFrom (S.told shelf.old) (S.lacks shelf.old) (S.failed shelf.old) (S.failed shelf.new) (map string_bytes words.now) end
+        × Comes (S.told shelf.old) (S.lacks shelf.old) (S.failed shelf.old) (S.failed shelf.new) (map string_bytes words.now) end
         × TakesFront (K.taken sink.old) (K.taken sink.new) (text_of end) }
-    ensures usage { result.0 ≡ 7 → (domain problem : List ℕ) → IsPlan (map string_bytes words.now) domain problem → ⊥ }
-    ensures not_taken { ((domain problem : List ℕ) → IsPlan (map string_bytes words.now) domain problem → ⊥) → IsAmong (6 ∷ 7 ∷ 8 ∷ []) result.0 }
-    ensures untouched { ((domain problem : List ℕ) → IsPlan (map string_bytes words.now) domain problem → ⊥) → shelf.new ≡ shelf.old }
+    ensures usage { result.0 ≡ 7 → IsNoCommand (map string_bytes words.now) }
+    ensures not_taken { IsNoCommand (map string_bytes words.now) → IsAmong (6 ∷ 7 ∷ 8 ∷ []) result.0 }
+    ensures untouched { IsNoCommand (map string_bytes words.now) → shelf.new ≡ shelf.old }
 
     // With 8 the sink was not touched.
     ensures nothing { result.0 ≡ 8 → sink.new ≡ sink.old }
@@ -73,11 +80,13 @@ pub fn run<H, S: Shelf, K: Sink>(
     ensures never_falls { (name : List ℕ) → fault_count name (S.failed shelf.old) ≤ fault_count name (S.failed shelf.new) }
     ensures faults { K.faults sink.old ≤ K.faults sink.new }
 
-    // Words that are taken and two files that are a task give an answer, where no fault comes from outside.
+    // Words that are taken and files in order give an answer, where no fault comes from outside.
     ensures complete { GoesWell (map string_bytes words.now) (S.told shelf.old) (S.failed shelf.old) (S.failed shelf.new)
         → (Rose (K.faults sink.old) (K.faults sink.new) → ⊥) → IsAmong (0 ∷ 1 ∷ 8 ∷ []) result.0 }
+    ensures complete_check { ChecksWell (map string_bytes words.now) (S.told shelf.old) (S.failed shelf.old) (S.failed shelf.new)
+        → (Rose (K.faults sink.old) (K.faults sink.new) → ⊥) → IsAmong (0 ∷ 1 ∷ 8 ∷ []) result.0 }
 {
-    let Ok(ending) = decide(alloc, words, shelf) else {
+    let Some(ending) = ended(decide(alloc, words, shelf)) else {
         return Status(8);
     };
     let Ok(due) = ending.text(alloc) else {
@@ -87,4 +96,15 @@ pub fn run<H, S: Shelf, K: Sink>(
         return Status(6);
     };
     Status(ending.status())
+}
+
+/// The ending, answered or handed on; none for want of memory.
+fn ended(answer: Result<Ending, Stop>) -> Option<Ending>
+    ensures { result ≡ ending_in answer }
+{
+    match answer {
+        Ok(ending) => Some(ending),
+        Err(Stop::Ends(ending)) => Some(ending),
+        Err(Stop::Memory) => None,
+    }
 }
