@@ -1,0 +1,5 @@
+pub mod Graph
+pub mod Walk
+pub mod Draw
+pub mod DrawOf
+pub mod Group
