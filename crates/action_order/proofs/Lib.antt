@@ -8,3 +8,4 @@ pub mod ReadyLaw
 pub mod DrawLaw
 pub mod GroupLaw
 pub mod ListedLaw
+pub mod EdgeLaw

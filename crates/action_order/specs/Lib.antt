@@ -3,3 +3,5 @@ pub mod Walk
 pub mod Draw
 pub mod DrawOf
 pub mod Group
+pub mod Edge
+pub mod Order

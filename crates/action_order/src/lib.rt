@@ -2,7 +2,9 @@
 #![tactic(auto)]
 
 pub mod numbers;
+pub mod order;
 mod draw;
+mod edge;
 mod group;
 mod quotient;
 mod ready;
