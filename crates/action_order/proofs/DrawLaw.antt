@@ -2,6 +2,7 @@ use Rattle.std.proofs.Common.{arith, ◌≡◌, ◌==◌, ℕ, zero, suc, ◌+�
 use Rattle.std.proofs.lemmas.List.{length-set, get_or-set_same, get_or-set_other, append_assoc}
 use Rattle.std.proofs.lemmas.Bool.{cases_lt, cases_eq, cases_Bool}
 use Rattle.std.specs.Prelude.{slice_index_or}
+use Rattle.std.specs.List.{AllByRecursion}
 use Rattle.std.proofs.lemmas.List.Sums.{sum_by-set}
 use Rattle.gt_core.specs.Literal.{is_in, range}
 use Rattle.gt_core.proofs.Basics.{or_split, or_left, or_right, same_test, test_same, apart, not_true}
@@ -356,3 +357,8 @@ component_named rows names classes passed order k named r =
      ap (item names) is ∙ r.name,
      subst (λ (x : ℕ). is_in order x ≡ false) (sym is) r.undrawn,
      subst (λ (x : ℕ). x < length classes) r.name m.0)
+
+-- drawn components are components
+pub drawn_below : (rows : List (List ℕ)) (names before xs : List ℕ) → AreDrawn rows names before xs → AllByRecursion (λ c. c < length rows) xs
+drawn_below rows names before [] d = tt
+drawn_below rows names before (c ∷ xs) d = (d.0.below, drawn_below rows names (before ++ c ∷ []) xs d.1)

@@ -9,3 +9,5 @@ pub mod DrawLaw
 pub mod GroupLaw
 pub mod ListedLaw
 pub mod EdgeLaw
+pub mod OrderLaw
+pub mod PublishLaw

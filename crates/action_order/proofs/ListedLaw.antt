@@ -9,6 +9,9 @@ use Rattle.gt_core.proofs.Pairwise.{pairwise_map, pairwise_filter, filtered, int
 use Rattle.action_order.specs.Graph.{leads, class_at, IsGraph, IsClassed}
 use Rattle.action_order.specs.Walk.{item, targets_of}
 use Rattle.action_order.specs.Draw.{Crosses, IsQuotient, AreNames, IsDrawnNext, AreDrawn, IsDraw}
+use Rattle.std.specs.Prelude.{if◌then◌else◌}
+use Rattle.gt_core.specs.Published.{order_of}
+use Rattle.action_order.specs.Order.{name_in}
 use Rattle.action_order.specs.Group.{members, listed}
 use Rattle.action_order.proofs.Lists.{in_push, in_push_new, in_push_old, each_number, each_at_in}
 
@@ -192,3 +195,43 @@ module _ (targets : List (List ℕ)) (classes roots : List ℕ) (rows : List (Li
 
   pub is_listed : (order : List ℕ) → IsDraw rows names order → IsListed edge vertices [] (listed classes order)
   is_listed order d = listed_from order [] [] d.drawn d.all (record { drawn = λ a lt i. absurd (let f : false ≡ true = i in cc); taken_too = λ a lt i. absurd (let f : false ≡ true = i in cc) })
+
+  name_first : (order : List ℕ) (c a : ℕ) → a < length targets → (n : Named c) → (class_at classes a ≡ c) ⊎ (class_at classes a ≡ c → ⊥) → (((class_at classes a ≡ c) → ⊥) → name_in (listed classes order) a ≡ item names (class_at classes a)) → name_in ((item names c ∷ n.others) ∷ listed classes order) a ≡ item names (class_at classes a)
+  name_first order c a lt n (inl s) h =
+      let i : is_in (item names c ∷ n.others) a ≡ true = subst (λ (xs : List ℕ). is_in xs a ≡ true) n.is (is_member c a lt s) in
+      chosen (is_in (item names c ∷ n.others) a) (item names c) (name_in (listed classes order) a) i ∙ ap (item names) (sym s)
+    where
+      chosen : (b : Bool) (x y : ℕ) → b ≡ true → (if b then x else y) ≡ x
+      chosen true x y e = refl
+      chosen false x y e = cc
+  name_first order c a lt n (inr s) h =
+      let i : is_in (item names c ∷ n.others) a ≡ false = not_true _ (λ j. s (member_of c a (subst (λ (xs : List ℕ). is_in xs a ≡ true) (sym n.is) j)).1) in
+      passed (is_in (item names c ∷ n.others) a) (item names c) (name_in (listed classes order) a) i ∙ h s
+    where
+      passed : (b : Bool) (x y : ℕ) → b ≡ false → (if b then x else y) ≡ y
+      passed true x y e = cc
+      passed false x y e = refl
+
+  -- the name of an action's component, from the numbers
+  pub name_listed : (order : List ℕ) (a : ℕ) → a < length targets → ((c : ℕ) → is_in order c ≡ true → c < length roots) → is_in order (class_at classes a) ≡ true → name_in (listed classes order) a ≡ item names (class_at classes a)
+  name_listed [] a lt below i = absurd (let f : false ≡ true = i in cc)
+  name_listed (c ∷ order) a lt below i =
+      let n = named_list c (below c (or_left (c == c) (is_in order c) (same_test c c refl))) in
+      subst (λ (xs : List ℕ). name_in (xs ∷ listed classes order) a ≡ item names (class_at classes a)) (sym n.is)
+        (name_first order c a lt n (cases_eq (class_at classes a) c) (λ s. name_listed order a lt (λ x j. below x (or_right (c == x) (is_in order x) j)) (elim (or_split (c == class_at classes a) (is_in order (class_at classes a)) i) [
+          inl e ↦ absurd (s (sym (test_same c (class_at classes a) e)))
+        | inr j ↦ j
+        ])))
+
+  pub listed_below : (order : List ℕ) (a : ℕ) → is_in (order_of (listed classes order)) a ≡ true → a < length targets
+  listed_below [] a i = absurd (let f : false ≡ true = i in cc)
+  listed_below (c ∷ order) a i = elim (in_split (members classes c) (order_of (listed classes order)) a i) [
+      inl j ↦ (member_of c a j).0
+    | inr j ↦ listed_below order a j
+    ]
+
+-- a name by the number of its component
+pub name_item : (names classes : List ℕ) (a : ℕ) → a < length classes → item (map (item names) classes) a ≡ item names (class_at classes a)
+name_item names [] a lt = absurd (omega arith)
+name_item names (c ∷ classes) zero lt = refl
+name_item names (c ∷ classes) (suc a) lt = name_item names classes a (omega arith)

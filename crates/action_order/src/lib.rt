@@ -6,7 +6,11 @@ pub mod order;
 mod draw;
 mod edge;
 mod group;
+pub mod publish;
 mod quotient;
 mod ready;
 mod row;
 mod walk;
+
+#[cfg(test)]
+mod tests;

@@ -28,7 +28,20 @@ impl Order {
     ghost use Rattle.std.specs.Prelude.{◌≡◌, ℕ, ◌<◌, length, true, slice_get, Some};
     ghost use Rattle.gt_core.specs.Literal.{is_in};
     ghost use Rattle.gt_core.specs.Published.{order_of};
-    ghost use Rattle.action_order.specs.Order.{name_in};
+    ghost use Rattle.action_order.specs.Order.{name_in, IsOrder};
+
+    /// The order of these components, with what is looked up in it.
+    pub(crate) fn of(components: Vec<ActNumbers>, order: Vec<u32>, places: Vec<u32>, names: Vec<u32>) -> Order
+        requires { IsOrder components.items order.items places.items names.items }
+        ensures { result ≡ components.items }
+    {
+        Order {
+            components,
+            order,
+            places,
+            names,
+        }
+    }
 
     /// The place of an action.
     pub fn place(&self, a: u32) -> u32
