@@ -1,9 +1,9 @@
 -- Words and files that are in order are answered.
-use Rattle.std.proofs.Common.{◌≡◌, ◌⊎◌, ◌<◌, ◌≤◌, ◌+◌, ℕ, Bool, List, [], ◌∷◌, length, Option, Some, None, Ok, Err, codes, refl, sym, subst, ap, ◌∙◌, arith, inl, inr}
+use Rattle.std.proofs.Common.{◌≡◌, ◌<◌, ◌≤◌, ℕ, Bool, List, [], ◌∷◌, length, Option, Some, Ok, Err, refl, sym, subst, ap, ◌∙◌, arith, inl, inr}
 use Rattle.std.specs.Prelude.{IfSome}
 use Rattle.pl_io.specs.Outside.{FaultRose}
 use Rattle.pd_sexp.specs.Tree.{Tree}
-use Rattle.pd_sexp.specs.Fault.{Reads, IsFault}
+use Rattle.pd_sexp.specs.Fault.{Reads}
 use Rattle.pd_model.specs.declared.calls.Call.{Call}
 use Rattle.pd_model.specs.declared.calls.Verdict.{Verdict}
 use Rattle.pd_model.specs.declared.calls.Verdict.TheVariants as verdicts
@@ -11,17 +11,14 @@ use Rattle.pd_model.specs.Plan.{verdict}
 use Rattle.pd_model.specs.declared.memory.Which.{Which}
 use Rattle.pd_model.specs.declared.memory.Which.TheVariants.{Domain, Problem, Plan}
 use Rattle.pd_model.specs.declared.parts.Parts.{Parts}
-use Rattle.pd_task.specs.Reading.{reading}
-use Rattle.pd_plan.specs.Fault as plan
 use Rattle.pd_plan.specs.PlanFile.{plan_file}
 use Rattle.plan_top.specs.declared.ending.Kind.{Kind}
 use Rattle.plan_top.specs.declared.ending.Kind.TheVariants as kinds
 use Rattle.plan_top.specs.declared.ending.Ending.{Ending}
-use Rattle.plan_top.specs.declared.ending.Ending.TheVariants.{Found, Refuted, Reaches, Blocked, Short, Refused, TooLong, ReadFault, Usage}
 use Rattle.plan_top.specs.Among.{IsAmong}
-use Rattle.plan_top.specs.Causes.{AreTask, RefusesTask, RefusesTree, IsTreeFault, domain_tree, problem_tree, no_task, ending_of, DecidesPlan, found, refuted, plan_refused, DecidesCheck, checked, check_refused, ChecksCalls, answered, no_calls, Stops, StopsAt, Comes, no_command, of_plan, of_check, GoesWell, ChecksWell, most_bytes}
+use Rattle.plan_top.specs.Causes.{AreTask, RefusesTask, IsTreeFault, domain_tree, problem_tree, no_task, ending_of, DecidesPlan, found, refuted, plan_refused, DecidesCheck, checked, check_refused, answered, no_calls, Stops, Comes, no_command, of_plan, of_check, GoesWell, ChecksWell, most_bytes}
 use Rattle.plan_top.specs.Ending.{status_of}
-use Rattle.plan_top.specs.Words.{IsPlan, IsCheck, IsNoCommand}
+use Rattle.plan_top.specs.Words.{IsNoCommand}
 use Rattle.plan_top.proofs.Headlines.{not_both}
 
 -- ---- a task is refused for nothing

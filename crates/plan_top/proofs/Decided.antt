@@ -1,9 +1,8 @@
 -- What bytes decide, the files of a shelf decide.
-use Rattle.std.proofs.Common.{◌≡◌, ◌<◌, ◌≤◌, ◌⊎◌, ℕ, Bool, true, List, [], ◌++◌, length, Option, Some, None, subst, refl, arith, inl, inr}
+use Rattle.std.proofs.Common.{◌≡◌, ◌≤◌, ℕ, Bool, true, List, length, Option, Some, None, subst, refl, arith, inl, inr}
 use Rattle.std.specs.Prelude.{IsTrue, IfSome}
-use Rattle.pl_io.specs.Outside.{FaultRose, fault_count}
+use Rattle.pl_io.specs.Outside.{fault_count}
 use Rattle.pd_model.specs.declared.memory.Which.{Which}
-use Rattle.pd_model.specs.declared.memory.Which.TheVariants.{Domain, Problem, Plan}
 use Rattle.pd_model.specs.declared.calls.Verdict.{Verdict}
 use Rattle.pd_model.specs.declared.calls.Verdict.TheVariants as verdicts
 use Rattle.pd_model.specs.Plan.{verdict}
@@ -12,9 +11,9 @@ use Rattle.pd_task.specs.declared.error.PddlError.TheVariants as errors
 use Rattle.pd_plan.specs.Fault as plan
 use Rattle.plan_top.specs.declared.ending.Kind.TheVariants as kinds
 use Rattle.plan_top.specs.declared.ending.Ending.{Ending}
-use Rattle.plan_top.specs.declared.ending.Ending.TheVariants.{Found, Refuted, Reaches, Blocked, Short, Refused, TooLong, ReadFault, Usage}
+use Rattle.plan_top.specs.declared.ending.Ending.TheVariants.{Refused}
 use Rattle.plan_top.specs.Ending.{is_plan_answer, is_check_answer}
-use Rattle.plan_top.specs.Causes.{AreTask, RefusesTask, domain_tree, problem_tree, no_task, refusal_of, refusal_of_plan, ending_of, DecidesPlan, found, refuted, plan_refused, DecidesCheck, checked, check_refused, ChecksCalls, answered, no_calls, Stops, StopsAt, ComesPlan, ComesCheck, Fits, IsTooLong, most_bytes}
+use Rattle.plan_top.specs.Causes.{RefusesTask, domain_tree, problem_tree, no_task, refusal_of, refusal_of_plan, ending_of, DecidesPlan, found, refuted, plan_refused, DecidesCheck, checked, check_refused, answered, no_calls, Stops, ComesPlan, ComesCheck, Fits, most_bytes}
 
 -- ---- which answers the contents give
 
@@ -26,8 +25,8 @@ refused_only (errors.Duplicate file at) end e = subst (λ (x : Ending). (is_plan
 refused_only (errors.Unsupported file at) end e = subst (λ (x : Ending). (is_plan_answer x ≡ true) × (is_check_answer x ≡ true)) (let f : Refused kinds.Unsupported file at ≡ end = cc in f) (refl, refl)
 refused_only errors.Memory end e = absurd (none_some end e)
   where
-  none_some : (x : Ending) → None ≡ Some x → ⊥
-  none_some x h = cc
+    none_some : (x : Ending) → None ≡ Some x → ⊥
+    none_some x h = cc
 
 task_refusal : (domain problem : List ℕ) (end : Ending) → RefusesTask domain problem end → (is_plan_answer end ≡ true) × (is_check_answer end ≡ true)
 task_refusal domain problem end (domain_tree r) = rw r.2 (refl, refl)
@@ -85,12 +84,21 @@ module _ (told : List ℕ → Option (List ℕ)) (lacks : List ℕ → Bool) (ol
 
   module _ (domain problem first second : List ℕ) (one : Fits told lacks old new domain) (first_told : IsTold (told domain) first) where
     pub plan_whole : Fits told lacks old new problem → IsTold (told problem) second → (end : Ending) → DecidesPlan first second end → ComesPlan told lacks old new domain problem end
-    plan_whole two second_told end h = inr (one, two, plan_answer first second end h,
-      at_told (λ d. IfSome (told problem) (λ p. DecidesPlan d p end)) (told domain) first first_told (at_told (λ p. DecidesPlan first p end) (told problem) second second_told h))
+    plan_whole two second_told end h = inr (
+      one,
+      two,
+      plan_answer first second end h,
+      at_told (λ d. IfSome (told problem) (λ p. DecidesPlan d p end)) (told domain) first first_told (at_told (λ p. DecidesPlan first p end) (told problem) second second_told h),
+    )
 
     pub check_whole : (plan_name third : List ℕ) → Fits told lacks old new problem → Fits told lacks old new plan_name → IsTold (told problem) second → IsTold (told plan_name) third → (end : Ending)
         → DecidesCheck first second third end → ComesCheck told lacks old new domain problem plan_name end
-    check_whole plan_name third two three second_told third_told end h = inr (one, two, three, check_answer first second third end h,
+    check_whole plan_name third two three second_told third_told end h = inr (
+      one,
+      two,
+      three,
+      check_answer first second third end h,
       at_told (λ d. IfSome (told problem) (λ p. IfSome (told plan_name) (λ l. DecidesCheck d p l end))) (told domain) first first_told
-        (at_told (λ p. IfSome (told plan_name) (λ l. DecidesCheck first p l end)) (told problem) second second_told
-          (at_told (λ l. DecidesCheck first second l end) (told plan_name) third third_told h)))
+          (at_told (λ p. IfSome (told plan_name) (λ l. DecidesCheck first p l end)) (told problem) second second_told
+          (at_told (λ l. DecidesCheck first second l end) (told plan_name) third third_told h)),
+    )

@@ -1,5 +1,5 @@
 -- What the headline says follows from an ending's cause.
-use Rattle.std.proofs.Common.{◌≡◌, ◌≢◌, ◌<◌, ◌≤◌, ◌+◌, ◌⊎◌, ℕ, Bool, true, false, List, [], ◌∷◌, ◌++◌, length, take, drop, Option, Some, None, Ok, codes, refl, sym, ap, subst, ◌∙◌, arith, inl, inr, if◌then◌else◌}
+use Rattle.std.proofs.Common.{◌≡◌, ◌≤◌, ◌+◌, ◌⊎◌, ℕ, Bool, true, false, List, [], ◌∷◌, ◌++◌, take, drop, Option, Some, None, Ok, codes, refl, sym, ap, subst, ◌∙◌, arith, inl, inr, if◌then◌else◌}
 use Rattle.std.specs.Prelude.{IsTrue, IfSome}
 use Rattle.std.proofs.lemmas.List.{take-append-drop}
 use Rattle.pl_io.specs.Outside.{appended, TakesFront}
@@ -19,10 +19,9 @@ use Rattle.pd_task.specs.declared.error.PddlError.TheVariants as errors
 use Rattle.plan_top.specs.declared.ending.Kind.TheVariants as kinds
 use Rattle.plan_top.specs.declared.ending.Ending.{Ending}
 use Rattle.plan_top.specs.declared.ending.Ending.TheVariants.{Found, Refuted, Reaches, Blocked, Short, Refused, TooLong, ReadFault, Usage}
-use Rattle.plan_top.specs.Among.{IsAmong}
-use Rattle.plan_top.specs.Causes.{AreTask, HoldsAtFirst, RefusesTask, domain_tree, problem_tree, no_task, refusal_of, refusal_of_plan, ending_of, DecidesPlan, found, refuted, plan_refused, DecidesCheck, checked, check_refused, ChecksCalls, answered, no_calls, StopsAt, plan_files, check_files, Comes, no_command, of_plan, of_check, IsSmall}
+use Rattle.plan_top.specs.Causes.{AreTask, HoldsAtFirst, RefusesTask, domain_tree, problem_tree, no_task, refusal_of, refusal_of_plan, ending_of, DecidesPlan, found, refuted, plan_refused, DecidesCheck, checked, check_refused, answered, no_calls, StopsAt, plan_files, check_files, Comes, no_command, of_plan, of_check, IsSmall}
 use Rattle.plan_top.specs.Ending.{status_of, text_of}
-use Rattle.plan_top.specs.Lines.{Says, lines_of}
+use Rattle.plan_top.specs.Lines.{Says}
 use Rattle.plan_top.specs.Headline.{Printed, OfFiles, OfTask, PlanRuns, NoStepPlan, NoPlan, CallsRun}
 use Rattle.plan_top.specs.Words as words
 use Rattle.plan_top.proofs.Printed.{says_refuted, printed_is, nothing_printed}
@@ -38,10 +37,10 @@ reaches_is_plan : (p : Parts) (index : ℕ) (s : List Atom) (calls : List Call) 
 reaches_is_plan p index s [] h = on_test (all_hold s [] p.goal) h
 reaches_is_plan p index s (call ∷ calls) h = step (λ t e. reaches_is_plan p (index + 1) t calls e) (exec p s call) h
   where
-  step : ((t : List Atom) → verdict_from p (index + 1) t calls ≡ verdicts.Reaches → IsTrue (meets_goal p (exec_all p t calls))) → (o : Option (List Atom)) → elim o [ | None ↦ verdicts.Blocked index | Some t ↦ verdict_from p (index + 1) t calls ] ≡ verdicts.Reaches
-      → IsTrue (meets_goal p (elim o [ | None ↦ None | Some t ↦ exec_all p t calls ]))
-  step more None e = absurd (let never : verdicts.Blocked index ≡ verdicts.Reaches = e in cc)
-  step more (Some t) e = more t e
+    step : ((t : List Atom) → verdict_from p (index + 1) t calls ≡ verdicts.Reaches → IsTrue (meets_goal p (exec_all p t calls))) → (o : Option (List Atom)) → elim o [ None ↦ verdicts.Blocked index | Some t ↦ verdict_from p (index + 1) t calls ] ≡ verdicts.Reaches
+        → IsTrue (meets_goal p (elim o [ None ↦ None | Some t ↦ exec_all p t calls ]))
+    step more None e = absurd (let never : verdicts.Blocked index ≡ verdicts.Reaches = e in cc)
+    step more (Some t) e = more t e
 
 no_step_plan : (task : Parts) → (HoldsAtFirst task → ⊥) → NoStepPlan 0 task
 no_step_plan task fails [] none plan = fails plan
@@ -127,7 +126,7 @@ module _ (given : List (List ℕ)) (told : List ℕ → Option (List ℕ)) (lack
   pub not_both : {A : Type 0} (domain problem first second third : List ℕ) → words.IsPlan given domain problem → words.IsCheck given first second third → A
   not_both domain problem first second third plan check =
       absurd (let same : codes "plan" ∷ domain ∷ problem ∷ codes "--max-horizon" ∷ codes "0" ∷ [] ≡ codes "check" ∷ first ∷ second ∷ third ∷ [] = sym plan ∙ check in
-              let never : codes "plan" ≡ codes "check" = cc in cc)
+      let never : codes "plan" ≡ codes "check" = cc in cc)
 
   found_claim : (first second : List ℕ) (end : Ending) → status_of end ≡ 0 → DecidesPlan first second end → (end ≡ Found) × ((task : Parts) × AreTask first second task × PlanRuns (text_of Found) task)
   found_claim first second end zero h =
@@ -144,12 +143,12 @@ module _ (given : List (List ℕ)) (told : List ℕ → Option (List ℕ)) (lack
         let one : d ≡ domain = cc in
         let two : p ≡ problem = cc in
         two_weaker (λ first second. DecidesPlan first second end) (λ first second. (task : Parts) × AreTask first second task × PlanRuns text task) (told domain) (told problem)
-          (λ first second decides.
-            let f = found_claim first second end zero decides in
-            let is : text ≡ text_of Found = printed_is before after text (text_of end) printed all ∙ ap text_of f.0 in
-            (f.1.0, f.1.1, subst (λ (xs : List ℕ). PlanRuns xs f.1.0) (sym is) f.1.2))
-          (subst (λ (x : List ℕ). IfSome (told domain) (λ first. IfSome (told x) (λ second. DecidesPlan first second end))) two
-            (subst (λ (x : List ℕ). IfSome (told x) (λ first. IfSome (told p) (λ second. DecidesPlan first second end))) one h.3))
+        (λ first second decides.
+        let f = found_claim first second end zero decides in
+        let is : text ≡ text_of Found = printed_is before after text (text_of end) printed all ∙ ap text_of f.0 in
+        (f.1.0, f.1.1, subst (λ (xs : List ℕ). PlanRuns xs f.1.0) (sym is) f.1.2))
+        (subst (λ (x : List ℕ). IfSome (told domain) (λ first. IfSome (told x) (λ second. DecidesPlan first second end))) two
+        (subst (λ (x : List ℕ). IfSome (told x) (λ first. IfSome (told p) (λ second. DecidesPlan first second end))) one h.3))
 
     pub plan_runs : (domain problem : List ℕ) → after ≡ appended before (text_of end) → status_of end ≡ 0 → words.IsPlan given domain problem → OfFiles told domain problem (PlanRuns text)
     plan_runs domain problem all zero named = runs_of domain problem all zero named comes
@@ -159,9 +158,13 @@ module _ (given : List (List ℕ)) (told : List ℕ → Option (List ℕ)) (lack
     refuted_of claim from is (of_check d p l named (inl stops)) = low end (let one = ap status_of is in omega arith) (stop_status (check_files told lacks old new d p l) end stops)
     refuted_of claim from is (of_check d p l named (inr h)) = absurd (let answers = h.3 in let never : false ≡ true = rw is at answers in cc)
     refuted_of claim from is (of_plan d p named (inl stops)) = low end (let one = ap status_of is in omega arith) (stop_status (plan_files told lacks old new d p) end stops)
-    refuted_of claim from is (of_plan d p named (inr h)) =
-        (d, p, named, two_weaker (λ first second. DecidesPlan first second end) (λ first second. (task : Parts) × AreTask first second task × claim 0 task) (told d) (told p)
-          (λ first second decides. let f = plan_refuted first second end (ap status_of is) decides in (f.0, f.1, from f.0 f.2)) h.3)
+    refuted_of claim from is (of_plan d p named (inr h)) = (
+      d,
+      p,
+      named,
+      two_weaker (λ first second. DecidesPlan first second end) (λ first second. (task : Parts) × AreTask first second task × claim 0 task) (told d) (told p)
+          (λ first second decides. let f = plan_refuted first second end (ap status_of is) decides in (f.0, f.1, from f.0 f.2)) h.3,
+    )
 
     refutes : IsSmall end → TakesFront before after (text_of end) → (claim : ℕ → Parts → Type 0) → ((task : Parts) → (HoldsAtFirst task → ⊥) → claim 0 task)
         → (horizon conflicts : ℕ) → Says text horizon (codes "refuted") conflicts → OfTask given told (claim horizon)
@@ -187,9 +190,9 @@ module _ (given : List (List ℕ)) (told : List ℕ → Option (List ℕ)) (lack
       let two : p ≡ problem = cc in
       let three : l ≡ plan_name = cc in
       subst (λ (x : List ℕ). CallsRun told x problem plan_name) one (subst (λ (x : List ℕ). CallsRun told d x plan_name) two (subst (λ (x : List ℕ). CallsRun told d p x) three
-        (three_weaker (λ first second third. DecidesCheck first second third end)
-          (λ first second third. (task : Parts) × (calls : List Call) × AreTask first second task × (plan_file task third ≡ Ok calls) × IsPlan task calls)
-          (told d) (told p) (told l) (λ first second third decides. calls_reach first second third end zero decides) h.4)))
+      (three_weaker (λ first second third. DecidesCheck first second third end)
+      (λ first second third. (task : Parts) × (calls : List Call) × AreTask first second task × (plan_file task third ≡ Ok calls) × IsPlan task calls)
+      (told d) (told p) (told l) (λ first second third decides. calls_reach first second third end zero decides) h.4)))
 
   seven_only : (end : Ending) → status_of end ≡ 7 → end ≡ Usage
   seven_only Found seven = absurd (omega arith)

@@ -1,5 +1,5 @@
 -- What a report says of horizons is what its ending means.
-use Rattle.std.proofs.Common.{◌≡◌, ◌≢◌, ◌⊎◌, ◌<◌, ◌≤◌, ◌+◌, ◌==◌, ℕ, Bool, true, false, List, [], ◌∷◌, ◌++◌, length, Option, Some, None, codes, refl, sym, ap, subst, ◌∙◌, arith, inl, inr, append-nil, append_assoc, ◌^◌, not, ◌&&◌, if◌then◌else◌}
+use Rattle.std.proofs.Common.{◌≡◌, ◌<◌, ◌+◌, ◌==◌, ℕ, Bool, true, false, List, [], ◌∷◌, ◌++◌, Option, Some, None, codes, refl, sym, ap, subst, ◌∙◌, arith, inl, inr, append-nil, append_assoc, ◌^◌, not, ◌&&◌, if◌then◌else◌}
 use Rattle.std.specs.List.{list_all}
 use Rattle.std.specs.Prelude.{slice_index}
 use Rattle.std.specs.Str.Parse.{IsNumeral, AllDigits, digits_value}
@@ -103,9 +103,9 @@ one_line_from front (b ∷ bs) h =
     let other : (b == 10) ≡ false = not_true (b == 10) p.0 in
     rw other (one_line_from (front ++ b ∷ []) bs p.1 ∙ ap (λ (line : List ℕ). let lines : List (List ℕ) = line ∷ [] in lines) (append_assoc front (b ∷ []) bs))
   where
-  not_true : (t : Bool) → not t ≡ true → t ≡ false
-  not_true true q = let never : false ≡ true = q in cc
-  not_true false q = refl
+    not_true : (t : Bool) → not t ≡ true → t ≡ false
+    not_true true q = let never : false ≡ true = q in cc
+    not_true false q = refl
 
 -- a text of one line that is of no horizon
 one_other : (line rest : List ℕ) → no_line_feed line ≡ true → is_other line ≡ true → IsAmong (lines_of (line ++ 10 ∷ [])) (codes "; horizon " ++ rest) → ⊥
@@ -143,21 +143,21 @@ refusal_whole kind file at small =
 refusal_text : (kind : Kind) (file : Which) (at : ℕ) → text_of (Refused kind file at) ≡ refusal_line kind file at ++ codes "\n"
 refusal_text kind file at =
     sym (append_assoc (codes "; refused ") (kind_word kind ++ (codes " " ++ (word_of file ++ (codes " " ++ decimal at)))) (codes "\n")
-      ∙ ap (λ xs. codes "; refused " ++ xs) (append_assoc (kind_word kind) (codes " " ++ (word_of file ++ (codes " " ++ decimal at))) (codes "\n")
-      ∙ ap (λ xs. kind_word kind ++ xs) (append_assoc (codes " ") (word_of file ++ (codes " " ++ decimal at)) (codes "\n")
-      ∙ ap (λ xs. codes " " ++ xs) (append_assoc (word_of file) (codes " " ++ decimal at) (codes "\n")
-      ∙ ap (λ xs. word_of file ++ xs) (append_assoc (codes " ") (decimal at) (codes "\n"))))))
+    ∙ ap (λ xs. codes "; refused " ++ xs) (append_assoc (kind_word kind) (codes " " ++ (word_of file ++ (codes " " ++ decimal at))) (codes "\n")
+    ∙ ap (λ xs. kind_word kind ++ xs) (append_assoc (codes " ") (word_of file ++ (codes " " ++ decimal at)) (codes "\n")
+    ∙ ap (λ xs. codes " " ++ xs) (append_assoc (word_of file) (codes " " ++ decimal at) (codes "\n")
+    ∙ ap (λ xs. word_of file ++ xs) (append_assoc (codes " ") (decimal at) (codes "\n"))))))
 
 refusal_other : (kind : Kind) (file : Which) (at : ℕ) (rest : List ℕ) → at < 2 ^ 32 → IsAmong (lines_of (text_of (Refused kind file at))) (codes "; horizon " ++ rest) → ⊥
 refusal_other kind file at rest small m =
     one_other (refusal_line kind file at) rest (refusal_whole kind file at (omega arith)) refl
-      (subst (λ (xs : List ℕ). IsAmong (lines_of xs) (codes "; horizon " ++ rest)) (refusal_text kind file at) m)
+    (subst (λ (xs : List ℕ). IsAmong (lines_of xs) (codes "; horizon " ++ rest)) (refusal_text kind file at) m)
 
 blocked_other : (index : ℕ) (rest : List ℕ) → index < 2 ^ 32 → IsAmong (lines_of (text_of (Blocked index))) (codes "; horizon " ++ rest) → ⊥
 blocked_other index rest small m =
     let text : text_of (Blocked index) ≡ (codes "; blocked at action " ++ decimal (index + 1)) ++ codes "\n" = sym (append_assoc (codes "; blocked at action ") (decimal (index + 1)) (codes "\n")) in
     one_other (codes "; blocked at action " ++ decimal (index + 1)) rest (no_line_feed-append (codes "; blocked at action ") (decimal (index + 1)) refl (decimal_no_line_feed (index + 1) (omega arith))) refl
-      (subst (λ (xs : List ℕ). IsAmong (lines_of xs) (codes "; horizon " ++ rest)) text m)
+    (subst (λ (xs : List ℕ). IsAmong (lines_of xs) (codes "; horizon " ++ rest)) text m)
 
 refuted_only : (end : Ending) (h k : List ℕ) → IsSmall end → IsNumeral 10 h → IsAmong (lines_of (text_of end)) (refuted_line h k) → (end ≡ Refuted) × (digits_value 10 h ≡ 0)
 refuted_only Found h k small is m =

@@ -1,5 +1,5 @@
 -- What is known of a call that ends the run is handed on.
-use Rattle.std.proofs.Common.{◌≡◌, Result, Ok, Err, Option, Some, None, subst}
+use Rattle.std.proofs.Common.{◌≡◌, Result, Ok, Err, Some, None, subst}
 use Rattle.plan_top.specs.declared.ending.Ending.{Ending}
 use Rattle.plan_top.specs.declared.stop.Stop.{Stop}
 use Rattle.plan_top.specs.declared.stop.Stop.TheVariants.{Ends, Memory}

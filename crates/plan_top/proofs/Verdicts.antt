@@ -1,19 +1,16 @@
 -- Endings by verdict.
-use Rattle.std.proofs.Common.{◌≡◌, ◌≢◌, ℕ, Bool, true, false, List, [], refl, Result, Ok, Err, sym, ◌∙◌, ap, if◌then◌else◌}
+use Rattle.std.proofs.Common.{◌≡◌, ◌≢◌, ℕ, Bool, true, false, List, [], refl, Err, ◌∙◌, if◌then◌else◌}
 use Rattle.std.specs.Prelude.{IsTrue}
 use Rattle.pd_model.specs.Instance.{all_hold}
 use Rattle.pd_model.specs.Plan.{verdict}
-use Rattle.pd_model.specs.declared.calls.Call.{Call}
 use Rattle.pd_model.specs.declared.calls.Verdict.{Verdict}
-use Rattle.pd_model.specs.declared.calls.Verdict.TheVariants.{Reaches, Blocked, Short}
+use Rattle.pd_model.specs.declared.calls.Verdict.TheVariants.{Reaches, Short}
 use Rattle.pd_model.specs.declared.parts.Parts.{Parts}
 use Rattle.pd_plan.specs.First.{Fails}
 use Rattle.pd_plan.specs.PlanFile.{plan_file}
 use Rattle.pd_plan.specs.Fault as plan
 use Rattle.pd_plan.specs.declared.fault.PlanFault.{PlanFault}
 use Rattle.pd_plan.specs.declared.fault.PlanFault.TheVariants as faults
-use Rattle.plan_top.specs.declared.ending.Ending.{Ending}
-use Rattle.plan_top.specs.declared.stop.Stop.{Stop}
 use Rattle.plan_top.specs.Causes.{HoldsAtFirst, ChecksCalls, no_calls}
 use Rattle.plan_top.specs.Ends.{Answers}
 use Rattle.plan_top.specs.PlanStop.{stop_of}

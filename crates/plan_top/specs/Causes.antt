@@ -1,8 +1,8 @@
 -- When each ending of a run comes.
-use Rattle.std.specs.Prelude.{◌≡◌, ◌⊎◌, ◌<◌, ◌≤◌, ◌^◌, ℕ, List, [], ◌∷◌, length, Bool, IsTrue, Option, Some, None, IfSome, Result, Ok, Err}
+use Rattle.std.specs.Prelude.{◌≡◌, ◌⊎◌, ◌<◌, ◌≤◌, ◌^◌, ℕ, List, [], ◌∷◌, length, Bool, IsTrue, Option, Some, None, IfSome, Ok, Err}
 use Rattle.pl_io.specs.Outside.{FaultRose}
 use Rattle.pd_sexp.specs.Tree.{Tree}
-use Rattle.pd_sexp.specs.Fault.{Fault, syntax, deep, IsFault, Reads}
+use Rattle.pd_sexp.specs.Fault.{syntax, deep, IsFault, Reads}
 use Rattle.pd_model.specs.Instance.{all_hold}
 use Rattle.pd_model.specs.Plan.{verdict}
 use Rattle.pd_model.specs.declared.memory.Which.{Which}
@@ -129,7 +129,7 @@ module _ (told : List ℕ → Option (List ℕ)) (lacks : List ℕ → Bool) (ol
   abbrev pub ComesCheck : List ℕ → List ℕ → List ℕ → Ending → Type 0
   ComesCheck domain problem plan_name end = StopsAt (check_files domain problem plan_name) end
       ⊎ (Fits domain × Fits problem × Fits plan_name × IsTrue (is_check_answer end)
-         × IfSome (told domain) (λ first. IfSome (told problem) (λ second. IfSome (told plan_name) (λ third. DecidesCheck first second third end))))
+      × IfSome (told domain) (λ first. IfSome (told problem) (λ second. IfSome (told plan_name) (λ third. DecidesCheck first second third end))))
 
   -- when an ending comes, for the words of a command line
   pub data Comes (words : List (List ℕ)) (end : Ending) : Type 0 where
@@ -142,7 +142,7 @@ abbrev pub FaultOf : List (List ℕ) → List (List ℕ) → List (List ℕ) →
 FaultOf old new words =
     ((domain : List ℕ) × (problem : List ℕ) × IsPlan words domain problem × (FaultRose domain old new ⊎ FaultRose problem old new))
     ⊎ ((domain : List ℕ) × (problem : List ℕ) × (plan_name : List ℕ) × IsCheck words domain problem plan_name
-       × (FaultRose domain old new ⊎ (FaultRose problem old new ⊎ FaultRose plan_name old new)))
+    × (FaultRose domain old new ⊎ (FaultRose problem old new ⊎ FaultRose plan_name old new)))
 
 -- a place or an index of a report is a number of the program
 abbrev pub IsSmall : Ending → Type 0

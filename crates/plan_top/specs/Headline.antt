@@ -44,4 +44,4 @@ NoPlan horizon task = (calls : List Call) → length calls ≤ horizon → IsPla
 abbrev pub CallsRun : (List ℕ → Option (List ℕ)) → List ℕ → List ℕ → List ℕ → Type 0
 CallsRun told domain problem plan =
     IfSome (told domain) (λ first. IfSome (told problem) (λ second. IfSome (told plan) (λ third.
-      (task : Parts) × (calls : List Call) × AreTask first second task × (plan_file task third ≡ Ok calls) × IsPlan task calls)))
+    (task : Parts) × (calls : List Call) × AreTask first second task × (plan_file task third ≡ Ok calls) × IsPlan task calls)))

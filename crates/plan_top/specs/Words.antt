@@ -1,5 +1,5 @@
 -- The words of a command line that are taken.
-use Rattle.std.specs.Prelude.{◌≡◌, ◌⊎◌, ℕ, List, [], ◌∷◌, codes}
+use Rattle.std.specs.Prelude.{◌≡◌, ℕ, List, [], ◌∷◌, codes}
 
 -- `plan DOMAIN PROBLEM --max-horizon 0`
 abbrev pub IsPlan : List (List ℕ) → List ℕ → List ℕ → Type 0

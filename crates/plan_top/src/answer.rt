@@ -77,10 +77,26 @@ fn stop_by(fault: PlanFault) -> Stop
 {
     let file = Which::Plan;
     match fault {
-        PlanFault::Syntax { at } => Stop::Ends(Ending::Refused { kind: Kind::Syntax, file, at }),
-        PlanFault::Unknown { at } => Stop::Ends(Ending::Refused { kind: Kind::Unknown, file, at }),
-        PlanFault::Arity { at } => Stop::Ends(Ending::Refused { kind: Kind::Arity, file, at }),
-        PlanFault::Mistyped { at } => Stop::Ends(Ending::Refused { kind: Kind::Mistyped, file, at }),
+        PlanFault::Syntax { at } => Stop::Ends(Ending::Refused {
+            kind: Kind::Syntax,
+            file,
+            at,
+        }),
+        PlanFault::Unknown { at } => Stop::Ends(Ending::Refused {
+            kind: Kind::Unknown,
+            file,
+            at,
+        }),
+        PlanFault::Arity { at } => Stop::Ends(Ending::Refused {
+            kind: Kind::Arity,
+            file,
+            at,
+        }),
+        PlanFault::Mistyped { at } => Stop::Ends(Ending::Refused {
+            kind: Kind::Mistyped,
+            file,
+            at,
+        }),
         PlanFault::Memory => Stop::Memory,
     }
 }

@@ -8,6 +8,8 @@ mod ending;
 mod stop;
 mod take;
 mod task;
+#[cfg(test)]
+mod tests;
 mod top;
 mod words;
 

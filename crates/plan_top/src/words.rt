@@ -22,7 +22,9 @@ pub fn check_files(words: &[String]) -> Option<(&str, &str, &str)>
         (λ names. IsCheck (map string_bytes words.now) names.0.now names.1.now names.2.now) }
 {
     match words {
-        [command, domain, problem, plan] if command.as_str() == "check" => { Some((domain.as_str(), problem.as_str(), plan.as_str())) }
+        [command, domain, problem, plan] if command.as_str() == "check" => {
+            Some((domain.as_str(), problem.as_str(), plan.as_str()))
+        }
         _ => None,
     }
 }

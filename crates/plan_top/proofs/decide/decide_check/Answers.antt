@@ -1,5 +1,5 @@
 use Rattle.std.proofs.Common.{inl, inr, arith}
-use Rattle.pd_model.specs.declared.memory.Which.TheVariants.{Domain, Problem, Plan}
+use Rattle.pd_model.specs.declared.memory.Which.TheVariants.{Problem, Plan}
 use Rattle.plan_top.specs.Causes.{ComesCheck, DecidesCheck, Stops}
 use Rattle.plan_top.proofs.Stopped.{EndsBy-weaker, Answers-weaker}
 use Rattle.plan_top.proofs.Decided.{check_whole, fits_of, later, rises_twice}
@@ -15,7 +15,7 @@ returns-in-Err-take_file-clause-cause g c =
     let one = fits_of told lacks old new c.args.domain.now c.in-Ok.bytes.items c.in-Ok.ensures.there c.in-Ok.ensures.whole c.in-Ok.ensures.fits in
     let stops = rw (c.in-Ok.ensures.told, c.in-Ok.ensures.lacks) at c.in-Err-take_file.ensures.stops in
     EndsBy-weaker (Stops told lacks middle new Problem c.args.problem.now) (ComesCheck told lacks old new c.args.domain.now c.args.problem.now c.args.plan.now)
-      (λ end h. inl (inr (one, inl (later told lacks old new middle c.in-Ok.ensures.never_falls Problem c.args.problem.now end h)))) c.in-Err-take_file.stop stops
+    (λ end h. inl (inr (one, inl (later told lacks old new middle c.in-Ok.ensures.never_falls Problem c.args.problem.now end h)))) c.in-Err-take_file.stop stops
 
 pub returns-in-Err-take_file-2-clause-cause : goal.returns-in-Err-take_file-2-clause-cause
 returns-in-Err-take_file-2-clause-cause g c =
@@ -32,7 +32,7 @@ returns-in-Err-take_file-2-clause-cause g c =
     let stops = rw (c.in-Ok-take_file.ensures.told, c.in-Ok-take_file.ensures.lacks, c.in-Ok.ensures.told, c.in-Ok.ensures.lacks) at c.in-Err-take_file-2.ensures.stops in
     let rises = rises_twice old first middle c.in-Ok.ensures.never_falls c.in-Ok-take_file.ensures.never_falls in
     EndsBy-weaker (Stops told lacks middle new Plan c.args.plan.now) (ComesCheck told lacks old new c.args.domain.now c.args.problem.now c.args.plan.now)
-      (λ end h. inl (inr (one, inr (two, inl (later told lacks old new middle rises Plan c.args.plan.now end h))))) c.in-Err-take_file-2.stop stops
+    (λ end h. inl (inr (one, inr (two, inl (later told lacks old new middle rises Plan c.args.plan.now end h))))) c.in-Err-take_file-2.stop stops
 
 pub returns-clause-cause : goal.returns-clause-cause
 returns-clause-cause g c =
@@ -49,8 +49,8 @@ returns-clause-cause g c =
     let third_there = rw (c.in-Ok-take_file.ensures.lacks, c.in-Ok.ensures.lacks) at c.in-Ok-take_file-2.ensures.there in
     let three = fits_of told lacks old new c.args.plan.now c.in-Ok-take_file-2.bytes.items third_there third_told c.in-Ok-take_file-2.ensures.fits in
     Answers-weaker (DecidesCheck c.in-Ok.bytes.items c.in-Ok-take_file.bytes.items c.in-Ok-take_file-2.bytes.items) (ComesCheck told lacks old new c.args.domain.now c.args.problem.now c.args.plan.now)
-      (check_whole told lacks old new c.args.domain.now c.args.problem.now c.in-Ok.bytes.items c.in-Ok-take_file.bytes.items one c.in-Ok.ensures.whole c.args.plan.now c.in-Ok-take_file-2.bytes.items two three is_told third_told)
-      c.answer_check.result decided
+    (check_whole told lacks old new c.args.domain.now c.args.problem.now c.in-Ok.bytes.items c.in-Ok-take_file.bytes.items one c.in-Ok.ensures.whole c.args.plan.now c.in-Ok-take_file-2.bytes.items two three is_told third_told)
+    c.answer_check.result decided
 
 pub returns-clause-never_falls : goal.returns-clause-never_falls
 returns-clause-never_falls g c name =

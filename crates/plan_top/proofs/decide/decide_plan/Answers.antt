@@ -1,5 +1,5 @@
 use Rattle.std.proofs.Common.{inl, inr}
-use Rattle.pd_model.specs.declared.memory.Which.TheVariants.{Domain, Problem}
+use Rattle.pd_model.specs.declared.memory.Which.TheVariants.{Problem}
 use Rattle.plan_top.specs.Causes.{ComesPlan, DecidesPlan, Stops}
 use Rattle.plan_top.proofs.Stopped.{EndsBy-weaker, Answers-weaker}
 use Rattle.plan_top.proofs.Decided.{plan_whole, fits_of, later}
@@ -15,7 +15,7 @@ returns-in-Err-take_file-clause-cause g c =
     let one = fits_of told lacks old new c.args.domain.now c.in-Ok.bytes.items c.in-Ok.ensures.there c.in-Ok.ensures.whole c.in-Ok.ensures.fits in
     let stops = rw (c.in-Ok.ensures.told, c.in-Ok.ensures.lacks) at c.in-Err-take_file.ensures.stops in
     EndsBy-weaker (Stops told lacks middle new Problem c.args.problem.now) (ComesPlan told lacks old new c.args.domain.now c.args.problem.now)
-      (λ end h. inl (inr (one, inl (later told lacks old new middle c.in-Ok.ensures.never_falls Problem c.args.problem.now end h)))) c.in-Err-take_file.stop stops
+    (λ end h. inl (inr (one, inl (later told lacks old new middle c.in-Ok.ensures.never_falls Problem c.args.problem.now end h)))) c.in-Err-take_file.stop stops
 
 pub returns-clause-cause : goal.returns-clause-cause
 returns-clause-cause g c =
@@ -29,4 +29,4 @@ returns-clause-cause g c =
     let one = fits_of told lacks old new c.args.domain.now c.in-Ok.bytes.items c.in-Ok.ensures.there c.in-Ok.ensures.whole c.in-Ok.ensures.fits in
     let two = fits_of told lacks old new c.args.problem.now c.in-Ok-take_file.bytes.items is_there is_told c.in-Ok-take_file.ensures.fits in
     Answers-weaker (DecidesPlan c.in-Ok.bytes.items c.in-Ok-take_file.bytes.items) (ComesPlan told lacks old new c.args.domain.now c.args.problem.now)
-      (plan_whole told lacks old new c.args.domain.now c.args.problem.now c.in-Ok.bytes.items c.in-Ok-take_file.bytes.items one c.in-Ok.ensures.whole two is_told) c.answer_plan.result decided
+    (plan_whole told lacks old new c.args.domain.now c.args.problem.now c.in-Ok.bytes.items c.in-Ok-take_file.bytes.items one c.in-Ok.ensures.whole two is_told) c.answer_plan.result decided

@@ -11,4 +11,4 @@ returns-in-Err-tree_of-clause-stops c =
 pub returns-clause-stops : goal.returns-clause-stops
 returns-clause-stops c =
     StopsBy-weaker (RefusesTrees (view c.in-Ok.tree) (view c.in-Ok-tree_of.tree)) (RefusesTask c.args.domain.now c.args.problem.now)
-      (λ end h. no_task (view c.in-Ok.tree) (view c.in-Ok-tree_of.tree) c.in-Ok.ensures.tree c.in-Ok-tree_of.ensures.tree h) c.task_of.result c.task_of.ensures.stops
+    (λ end h. no_task (view c.in-Ok.tree) (view c.in-Ok-tree_of.tree) c.in-Ok.ensures.tree c.in-Ok-tree_of.ensures.tree h) c.task_of.result c.task_of.ensures.stops

@@ -1,4 +1,4 @@
-use Rattle.std.proofs.Common.{codes, map, string_bytes, sym, ◌∙◌, refl}
+use Rattle.std.proofs.Common.{codes, map, string_bytes, sym, ◌∙◌}
 use Rattle.plan_top.specs.Causes.{Comes}
 use Rattle.plan_top.proofs.Stopped.{ending_answers}
 use Rattle.plan_top.proofs.Headlines.{plan_runs, refuted_steps, refuted_plans, reached, unnamed, nothing_said}
@@ -25,25 +25,25 @@ pub returns-in_default-put_all-clause-refuted_steps : goal.returns-in_default-pu
 returns-in_default-put_all-clause-refuted_steps g c text horizon conflicts printed says =
     let comes = ending_answers (Comes (g.S.Shelf.told c.args.shelf.now) (g.S.Shelf.lacks c.args.shelf.now) (g.S.Shelf.failed c.args.shelf.now) (g.S.Shelf.failed c.decide.new.shelf) (map string_bytes c.args.words.now)) c.decide.result c.in-Some.ending c.decide.ensures.cause c.in-Some.ensures in
     refuted_steps (map string_bytes c.args.words.now) (g.S.Shelf.told c.args.shelf.now) (g.S.Shelf.lacks c.args.shelf.now) (g.S.Shelf.failed c.args.shelf.now) (g.S.Shelf.failed c.decide.new.shelf) c.in-Some.ending comes (g.K.Sink.taken c.args.sink.now) (g.K.Sink.taken c.put_all.new.sink) text printed c.in-Ok.ensures.small
-      (rw (c.as_slice.ensures, c.in-Ok.ensures.text) at c.put_all.ensures.front) horizon conflicts says
+    (rw (c.as_slice.ensures, c.in-Ok.ensures.text) at c.put_all.ensures.front) horizon conflicts says
 
 pub returns-in_default-put_all-clause-refuted_plans : goal.returns-in_default-put_all-clause-refuted_plans
 returns-in_default-put_all-clause-refuted_plans g c text horizon conflicts printed says =
     let comes = ending_answers (Comes (g.S.Shelf.told c.args.shelf.now) (g.S.Shelf.lacks c.args.shelf.now) (g.S.Shelf.failed c.args.shelf.now) (g.S.Shelf.failed c.decide.new.shelf) (map string_bytes c.args.words.now)) c.decide.result c.in-Some.ending c.decide.ensures.cause c.in-Some.ensures in
     refuted_plans (map string_bytes c.args.words.now) (g.S.Shelf.told c.args.shelf.now) (g.S.Shelf.lacks c.args.shelf.now) (g.S.Shelf.failed c.args.shelf.now) (g.S.Shelf.failed c.decide.new.shelf) c.in-Some.ending comes (g.K.Sink.taken c.args.sink.now) (g.K.Sink.taken c.put_all.new.sink) text printed c.in-Ok.ensures.small
-      (rw (c.as_slice.ensures, c.in-Ok.ensures.text) at c.put_all.ensures.front) horizon conflicts says
+    (rw (c.as_slice.ensures, c.in-Ok.ensures.text) at c.put_all.ensures.front) horizon conflicts says
 
 pub returns-clause-refuted_steps : goal.returns-clause-refuted_steps
 returns-clause-refuted_steps g c text horizon conflicts printed says =
     let comes = ending_answers (Comes (g.S.Shelf.told c.args.shelf.now) (g.S.Shelf.lacks c.args.shelf.now) (g.S.Shelf.failed c.args.shelf.now) (g.S.Shelf.failed c.decide.new.shelf) (map string_bytes c.args.words.now)) c.decide.result c.in-Some.ending c.decide.ensures.cause c.in-Some.ensures in
     refuted_steps (map string_bytes c.args.words.now) (g.S.Shelf.told c.args.shelf.now) (g.S.Shelf.lacks c.args.shelf.now) (g.S.Shelf.failed c.args.shelf.now) (g.S.Shelf.failed c.decide.new.shelf) c.in-Some.ending comes (g.K.Sink.taken c.args.sink.now) (g.K.Sink.taken c.put_all.new.sink) text printed c.in-Ok.ensures.small
-      (rw (c.as_slice.ensures, c.in-Ok.ensures.text) at c.put_all.ensures.front) horizon conflicts says
+    (rw (c.as_slice.ensures, c.in-Ok.ensures.text) at c.put_all.ensures.front) horizon conflicts says
 
 pub returns-clause-refuted_plans : goal.returns-clause-refuted_plans
 returns-clause-refuted_plans g c text horizon conflicts printed says =
     let comes = ending_answers (Comes (g.S.Shelf.told c.args.shelf.now) (g.S.Shelf.lacks c.args.shelf.now) (g.S.Shelf.failed c.args.shelf.now) (g.S.Shelf.failed c.decide.new.shelf) (map string_bytes c.args.words.now)) c.decide.result c.in-Some.ending c.decide.ensures.cause c.in-Some.ensures in
     refuted_plans (map string_bytes c.args.words.now) (g.S.Shelf.told c.args.shelf.now) (g.S.Shelf.lacks c.args.shelf.now) (g.S.Shelf.failed c.args.shelf.now) (g.S.Shelf.failed c.decide.new.shelf) c.in-Some.ending comes (g.K.Sink.taken c.args.sink.now) (g.K.Sink.taken c.put_all.new.sink) text printed c.in-Ok.ensures.small
-      (rw (c.as_slice.ensures, c.in-Ok.ensures.text) at c.put_all.ensures.front) horizon conflicts says
+    (rw (c.as_slice.ensures, c.in-Ok.ensures.text) at c.put_all.ensures.front) horizon conflicts says
 
 pub returns-in_default-put_all-clause-front : goal.returns-in_default-put_all-clause-front
 returns-in_default-put_all-clause-front g c six =
