@@ -3,3 +3,4 @@ pub mod Lookups
 pub mod Kept
 pub mod Rows
 pub mod DepotTask
+pub mod Spelled

@@ -19,7 +19,7 @@ use Rattle.pd_plan.specs.Progress.{State, Place, between, inside, closed, step, 
 
 -- ---- tests
 
-equal : (m n : ℕ) → (m == n) ≡ true → m ≡ n
+pub equal : (m n : ℕ) → (m == n) ≡ true → m ≡ n
 equal m n h = grind (arith, h)
 
 same : (n : ℕ) → (n == n) ≡ true
@@ -35,7 +35,7 @@ after-one front x (Err e) = refl
 
 -- ---- words
 
-goes_on : (first : ℕ) (letters : List ℕ) (o b : ℕ) (ts : List Token) → joined first letters o (joined o (b ∷ []) (o + 1) ts) ≡ joined first (letters ++ b ∷ []) (o + 1) ts
+pub goes_on : (first : ℕ) (letters : List ℕ) (o b : ℕ) (ts : List Token) → joined first letters o (joined o (b ∷ []) (o + 1) ts) ≡ joined first (letters ++ b ∷ []) (o + 1) ts
 goes_on first letters o b [] = rw (same o) refl
 goes_on first letters o b (opening p ∷ ts) = rw (same o) refl
 goes_on first letters o b (closing p ∷ ts) = rw (same o) refl
@@ -79,7 +79,7 @@ further first letters next o (b ∷ bs) h = by_tests (is_blank b) (is_letter b) 
     by_tests false false later = sign_apart first letters o next b (tokens (o + 1) bs)
 
 -- a byte that is no letter ends the word
-ends : (first : ℕ) (letters : List ℕ) (o b : ℕ) (bs : List ℕ) → is_letter b ≡ false → joined first letters o (tokens o (uncommented (b ∷ bs))) ≡ word first letters ∷ tokens o (uncommented (b ∷ bs))
+pub ends : (first : ℕ) (letters : List ℕ) (o b : ℕ) (bs : List ℕ) → is_letter b ≡ false → joined first letters o (tokens o (uncommented (b ∷ bs))) ≡ word first letters ∷ tokens o (uncommented (b ∷ bs))
 ends first letters o b bs h = by_semicolon (b == semicolon)
   where
     by_blank : (p q : Bool) → q ≡ false → joined first letters o (cond p (tokens (o + 1) (uncommented bs)) (cond q (joined o (lowered b ∷ []) (o + 1) (tokens (o + 1) (uncommented bs))) (sign o b ∷ tokens (o + 1) (uncommented bs))))
@@ -93,7 +93,7 @@ ends first letters o b bs h = by_semicolon (b == semicolon)
     by_semicolon false = by_blank (is_blank b) (is_letter b) h
 
 -- a letter is joined to what comes after it
-letter_tokens : (o b : ℕ) (bs : List ℕ) → is_letter b ≡ true → tokens o (uncommented (b ∷ bs)) ≡ joined o (lowered b ∷ []) (o + 1) (tokens (o + 1) (uncommented bs))
+pub letter_tokens : (o b : ℕ) (bs : List ℕ) → is_letter b ≡ true → tokens o (uncommented (b ∷ bs)) ≡ joined o (lowered b ∷ []) (o + 1) (tokens (o + 1) (uncommented bs))
 letter_tokens o b bs is =
     ap (λ t. tokens o (cond t (32 ∷ comment_blanked bs) (b ∷ uncommented bs))) (letter-semicolon b is) ∙ second (is_blank b) (is_letter b) (letter-blank b is) is
   where

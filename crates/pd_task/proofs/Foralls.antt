@@ -32,28 +32,28 @@ pub forall_is : (types : List (List ℕ)) (site : Site) (before : List Effect) (
 forall_is types site before at items head rest tree is parts is-forall = rw (is, view-List, parts) (forall_at types site before at (view head) (views rest) is-forall)
 
 -- the variables come into scope
-pub enters : (types : List (List ℕ)) (vocabulary : Vocabulary) (scope next : Standing) (list : defs.Tree) (before : List Effect) (at : ℕ) (rest : defs.Trees)
-    → entered types scope list ≡ Ok next → quantified types (site_of vocabulary scope []) before at (defs.and_tree list rest) ≡ quantified_body types (site_of vocabulary next []) before at rest
-enters types vocabulary scope next list before at rest is = by_list (variable_list types list) refl
+pub enters : (types : List (List ℕ)) (vocabulary : Vocabulary) (scope next : Standing) (vars : defs.Tree) (before : List Effect) (at : ℕ) (rest : defs.Trees)
+    → entered types scope vars ≡ Ok next → quantified types (site_of vocabulary scope []) before at (defs.and_tree vars rest) ≡ quantified_body types (site_of vocabulary next []) before at rest
+enters types vocabulary scope next vars before at rest is = by_list (variable_list types vars) refl
   where
-    by_list : (r : Result Variables Fault) → variable_list types list ≡ r → quantified types (site_of vocabulary scope []) before at (defs.and_tree list rest) ≡ quantified_body types (site_of vocabulary next []) before at rest
+    by_list : (r : Result Variables Fault) → variable_list types vars ≡ r → quantified types (site_of vocabulary scope []) before at (defs.and_tree vars rest) ≡ quantified_body types (site_of vocabulary next []) before at rest
     by_list (Ok new) here =
-        let both : entered types scope list ≡ Ok (record { levels = scope.levels ++ new.names ∷ []; over = scope.over ++ new.kinds }) = rw here refl in
+        let both : entered types scope vars ≡ Ok (record { levels = scope.levels ++ new.names ∷ []; over = scope.over ++ new.kinds }) = rw here refl in
         let same : record { levels = scope.levels ++ new.names ∷ []; over = scope.over ++ new.kinds } ≡ next = cc in
         rw here (ap (λ (s : Standing). quantified_body types (site_of vocabulary s []) before at rest) same)
     by_list (Err e) here =
-        let both : entered types scope list ≡ Err e = rw here refl in absurd cc
+        let both : entered types scope vars ≡ Err e = rw here refl in absurd cc
 
-pub enter_fails : (types : List (List ℕ)) (vocabulary : Vocabulary) (scope : Standing) (list : defs.Tree) (before : List Effect) (at : ℕ) (rest : defs.Trees) (e : ReadError)
-    → Fails e (entered types scope list) → Fails e (quantified types (site_of vocabulary scope []) before at (defs.and_tree list rest))
-enter_fails types vocabulary scope list before at rest errors.Memory h = tt
-enter_fails types vocabulary scope list before at rest (errors.Fault f) h = by_list (variable_list types list) refl
+pub enter_fails : (types : List (List ℕ)) (vocabulary : Vocabulary) (scope : Standing) (vars : defs.Tree) (before : List Effect) (at : ℕ) (rest : defs.Trees) (e : ReadError)
+    → Fails e (entered types scope vars) → Fails e (quantified types (site_of vocabulary scope []) before at (defs.and_tree vars rest))
+enter_fails types vocabulary scope vars before at rest errors.Memory h = tt
+enter_fails types vocabulary scope vars before at rest (errors.Fault f) h = by_list (variable_list types vars) refl
   where
-    by_list : (r : Result Variables Fault) → variable_list types list ≡ r → quantified types (site_of vocabulary scope []) before at (defs.and_tree list rest) ≡ Err f
+    by_list : (r : Result Variables Fault) → variable_list types vars ≡ r → quantified types (site_of vocabulary scope []) before at (defs.and_tree vars rest) ≡ Err f
     by_list (Ok new) here =
-        let both : entered types scope list ≡ Ok (record { levels = scope.levels ++ new.names ∷ []; over = scope.over ++ new.kinds }) = rw here refl in absurd cc
+        let both : entered types scope vars ≡ Ok (record { levels = scope.levels ++ new.names ∷ []; over = scope.over ++ new.kinds }) = rw here refl in absurd cc
     by_list (Err g) here =
-        let both : entered types scope list ≡ Err g = rw here refl in
+        let both : entered types scope vars ≡ Err g = rw here refl in
         let same : g ≡ f = cc in
         rw here (ap (λ (x : Fault). Err x) same)
 
@@ -90,13 +90,13 @@ all_of_first (x ∷ xs) = ap (λ (ys : List _). x ∷ ys) (all_of_first xs)
 first_part : {A : Type 0} (xs ys : List A) (n : ℕ) → n ≡ length xs → take n (xs ++ ys) ≡ xs
 first_part xs ys n is = rw is (take-append-le (length xs) xs ys (omega arith) ∙ all_of_first xs)
 
-pub leaves : (types : List (List ℕ)) (scope next after : Standing) (list : defs.Tree) → entered types scope list ≡ Ok next
+pub leaves : (types : List (List ℕ)) (scope next after : Standing) (vars : defs.Tree) → entered types scope vars ≡ Ok next
     → after.levels ≡ take (length next.levels - 1) next.levels → after.over ≡ take (length scope.over) next.over → after ≡ scope
-leaves types scope next after list is levels over = by_list (variable_list types list) refl
+leaves types scope next after vars is levels over = by_list (variable_list types vars) refl
   where
-    by_list : (r : Result Variables Fault) → variable_list types list ≡ r → after ≡ scope
+    by_list : (r : Result Variables Fault) → variable_list types vars ≡ r → after ≡ scope
     by_list (Ok new) here =
-        let both : entered types scope list ≡ Ok (record { levels = scope.levels ++ new.names ∷ []; over = scope.over ++ new.kinds }) = rw here refl in
+        let both : entered types scope vars ≡ Ok (record { levels = scope.levels ++ new.names ∷ []; over = scope.over ++ new.kinds }) = rw here refl in
         let same : next ≡ record { levels = scope.levels ++ new.names ∷ []; over = scope.over ++ new.kinds } = cc in
         let next_levels : next.levels ≡ scope.levels ++ new.names ∷ [] = ap (λ (s : Standing). s.levels) same in
         let next_over : next.over ≡ scope.over ++ new.kinds = ap (λ (s : Standing). s.over) same in
@@ -104,7 +104,7 @@ leaves types scope next after list is levels over = by_list (variable_list types
         (levels ∙ rw next_levels (first_part scope.levels (new.names ∷ []) (length (scope.levels ++ new.names ∷ []) - 1) (omega (arith, length-append scope.levels (new.names ∷ [])))))
         (over ∙ rw next_over (first_part scope.over new.kinds (length scope.over) refl))
     by_list (Err e) here =
-        let both : entered types scope list ≡ Err e = rw here refl in absurd cc
+        let both : entered types scope vars ≡ Err e = rw here refl in absurd cc
 
 pub on_ok : (r : Result (Unit {0}) ReadError) (P : Type 0) → P → OnOk r P
 on_ok (Ok u) P h = h

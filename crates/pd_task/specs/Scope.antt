@@ -23,4 +23,4 @@ site_of vocabulary standing cond = record { names = names_with vocabulary standi
 
 -- with the variables of the typed list of a `forall`
 abbrev pub entered : List (List ℕ) → Standing → defs.Tree → Result Standing Fault
-entered types standing list = variable_list types list >>= λ new. Ok (record { levels = standing.levels ++ new.names ∷ []; over = standing.over ++ new.kinds })
+entered types standing tree = variable_list types tree >>= λ new. Ok (record { levels = standing.levels ++ new.names ∷ []; over = standing.over ++ new.kinds })
