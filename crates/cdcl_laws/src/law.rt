@@ -1,0 +1,10 @@
+ghost use Rattle.cdcl_laws.specs.Laws.{StartIsSound, AfterIsSound, AfterIsOnly, AfterAddsUp, QuietIsShort};
+
+/// What holds of each state of a run, and that a run may be cut wherever one likes.
+pub fn runs_are_sound()
+    ensures start { StartIsSound }
+    ensures sound { AfterIsSound }
+    ensures only { AfterIsOnly }
+    ensures adds_up { AfterAddsUp }
+    ensures short { QuietIsShort }
+{}
