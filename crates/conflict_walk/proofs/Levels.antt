@@ -1,10 +1,14 @@
 use Rattle.std.proofs.Common.{rules, arith, ◌≡◌, ◌==◌, ℕ, zero, suc, ◌+◌, ◌/◌, ◌<◌, ◌≤◌, max, List, [], ◌∷◌, length, map, fold, filter, Bool, true, false, not, ◌||◌, ◌&&◌, refl, sym, ap, ◌∙◌, if◌then◌else◌, nat_lt, get_or}
 use Rattle.std.proofs.lemmas.Bool.Decides.{nat_tests}
 use Rattle.cdcl_rules.specs.declared.trail.Assigned.{Assigned}
-use Rattle.cdcl_rules.specs.State.{decision_count}
-use Rattle.cdcl_rules.specs.Learn.{back_level, level_of}
+use Rattle.clause_base.specs.Literal.{opposite}
+use Rattle.cdcl_rules.specs.State.{is_on, decision_count}
+use Rattle.cdcl_rules.specs.Learn.{back_level, level_of, level_from}
 use Rattle.cdcl_rules.proofs.Chain.{is_in}
-use Rattle.conflict_walk.specs.Walk.{IsWalkable, IsRefuted}
+use Rattle.conflict_walk.specs.Walk.{IsRefuted}
+
+pub half_opposite : (l : ℕ) → opposite l / 2 ≡ l / 2
+half_opposite l = grind (arith, nat_tests)
 
 -- the greatest of a number and of the levels below the current one
 abbrev pub back_at : List ℕ → ℕ → ℕ → List ℕ → ℕ
@@ -36,5 +40,7 @@ fold_by levels level h d g (l ∷ ls) e f =
     by true s n on = rw s (on g)
     by false s n on = rw s (ap (λ (k : ℕ). back_at levels level k ls) (max_is g (get_or levels (l / 2) 0) ∙ ap (max g) n) ∙ on (max g (h l)))
 
-pub back_same : (clauses : List (List ℕ)) (trail : List Assigned) (levels : List ℕ) (level : ℕ) (ls : List ℕ) → IsWalkable clauses trail levels level → IsRefuted trail ls → back_at levels level 0 ls ≡ back_level trail ls
-back_same clauses trail levels level ls w r = fold_by levels level (level_of trail) (decision_count trail) 0 ls w.current (λ m i. w.mirrored m (r m i))
+-- by the table of levels the level to go back to is the same
+pub back_same : (trail : List Assigned) (levels : List ℕ) (level : ℕ) (ls : List ℕ) → ((l : ℕ) → is_on trail l ≡ true → get_or levels (l / 2) 0 ≡ level_from 0 trail l) → level ≡ decision_count trail → IsRefuted trail ls → back_at levels level 0 ls ≡ back_level trail ls
+back_same trail levels level ls m e r =
+    fold_by levels level (level_of trail) (decision_count trail) 0 ls e (λ l i. ap (λ (v : ℕ). get_or levels v 0) (sym (half_opposite l)) ∙ m (opposite l) (r l i))

@@ -1,4 +1,4 @@
-use Rattle.std.proofs.Common.{rules, arith, ◌≡◌, ◌==◌, ℕ, zero, suc, ◌+◌, ◌<◌, ◌≤◌, List, [], ◌∷◌, length, set, get_or, Bool, true, false, not, ◌||◌, refl, sym, ap, ◌∙◌, filter, if◌then◌else◌, nat_lt, add-zero, add-suc, ◌++◌, ◌≢◌, get_or-set_same, get_or-set_other, length-set}
+use Rattle.std.proofs.Common.{replicate, rules, arith, ◌≡◌, ◌==◌, ℕ, zero, suc, ◌+◌, ◌<◌, ◌≤◌, List, [], ◌∷◌, length, set, get_or, Bool, true, false, not, ◌||◌, refl, sym, ap, ◌∙◌, filter, if◌then◌else◌, nat_lt, add-zero, add-suc, ◌++◌, ◌≢◌, get_or-set_same, get_or-set_other, length-set}
 use Rattle.std.specs.List.{list_any, sum_by}
 use Rattle.std.specs.List.Sorted.{IsNonDecreasing, IsPermutation}
 use Rattle.std.proofs.lemmas.List.Sorted.{sum_by-IsPermutation}
@@ -124,9 +124,10 @@ from_index v (l ∷ ls) h = (h 0 (omega arith), from_index v ls (λ j b. h (suc 
 
 pub ordered_from : (ls : List ℕ) → IsNonDecreasing ls → IsOrdered ls
 ordered_from [] h = tt
-ordered_from (l ∷ ls) h =
-    (from_index l ls (λ j b. h 0 (suc j) 0 (omega arith) (omega arith)),
-     ordered_from ls (λ i j d b c. h (suc i) (suc j) d (omega arith) (omega arith)))
+ordered_from (l ∷ ls) h = (
+  from_index l ls (λ j b. h 0 (suc j) 0 (omega arith) (omega arith)),
+  ordered_from ls (λ i j d b c. h (suc i) (suc j) d (omega arith) (omega arith)),
+)
 
 own_count : (x : ℕ) (xs : List ℕ) → 0 < count x (x ∷ xs)
 own_count x xs = let e : (x == x) ≡ true = grind (arith, nat_tests) in rw e (omega arith)
@@ -240,3 +241,19 @@ count-permutation m xs ys p = count-sum m ys ∙ sum_by-IsPermutation (λ x. bit
 
 pub taken : (ls sorted : List ℕ) (on on0 : List Bool) → Covers [] on → ((m : ℕ) → count m ls + bit (at on m) ≡ bit (at on0 m)) → IsPermutation ls sorted → IsNonDecreasing sorted → sorted ≡ places 0 on0
 taken ls sorted on on0 c e p n = sorted_places sorted on0 n (λ m. let z = none_in on c m in let h = e m in let q = count-permutation m ls sorted p in omega arith)
+
+-- a draft of nothing
+pub places_none : (v n : ℕ) → places v (replicate n false) ≡ []
+places_none v zero = refl
+places_none v (suc n) = places_none (v + 1) n
+
+at_none : (n l : ℕ) → at (replicate n false) l ≡ false
+at_none zero l = refl
+at_none (suc n) zero = refl
+at_none (suc n) (suc l) = at_none n l
+
+pub covers_none : (n : ℕ) (touched : List ℕ) (on : List Bool) → on ≡ replicate n false → touched ≡ [] → Covers touched on
+covers_none n touched on e f = rw (e, f) (record {
+  covered = λ l h. let z : true ≡ false = sym h ∙ at_none n l in cc;
+  within = λ l h. cc;
+})

@@ -47,7 +47,7 @@ filter_agree_in p q (l ∷ ls) h =
 pub current_count : (clauses : List (List ℕ)) (trail : List Assigned) (levels : List ℕ) (level : ℕ) (clause : List ℕ) → IsWalkable clauses trail levels level → IsRefuted trail clause → count_at levels level clause ≡ length (current trail clause)
 current_count clauses trail levels level clause w r =
     ap (λ (ls : List ℕ). length ls) (filter_agree_in (is_at levels level) (λ l. level_of trail l == decision_count trail) clause
-      (λ m e. ap (λ (n : ℕ). n == level) (w.mirrored m (r m e)) ∙ ap (λ (n : ℕ). level_of trail m == n) w.current))
+    (λ m e. ap (λ (n : ℕ). n == level) (w.mirrored m (r m e)) ∙ ap (λ (n : ℕ). level_of trail m == n) w.current))
 
 pub stop_same : (clauses : List (List ℕ)) (trail : List Assigned) (levels : List ℕ) (level count : ℕ) (clause : List ℕ) → IsWalkable clauses trail levels level → IsRefuted trail clause → count ≡ count_at levels level clause → stops level count ≡ (not (decision_count trail == 0) && (length (current trail clause) == 1))
 stop_same clauses trail levels level count clause w r e =

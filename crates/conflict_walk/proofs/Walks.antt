@@ -7,15 +7,15 @@ use Rattle.clause_base.specs.Formula.{Cnf}
 use Rattle.clause_base.specs.Literal.{opposite}
 use Rattle.cdcl_rules.specs.declared.trail.Assigned.{Assigned}
 use Rattle.clause_base.specs.Choice.{Known}
-use Rattle.cdcl_rules.specs.State.{State, is_on}
-use Rattle.cdcl_rules.specs.Learn.{level_of}
+use Rattle.cdcl_rules.specs.State.{State, is_on, decision_count}
+use Rattle.cdcl_rules.specs.Learn.{level_of, level_from}
 use Rattle.cdcl_rules.proofs.Chain.{is_in}
-use Rattle.cdcl_rules.proofs.WalkLaw.{IsReason, HasReason, IsTrail}
-use Rattle.conflict_walk.specs.Walk.{IsWalkable, IsForcedBy, IsInRange, clause_at}
+use Rattle.cdcl_rules.specs.Trail.{IsReason, HasReason, IsTrail}
+use Rattle.conflict_walk.specs.Walk.{IsWalkable, IsReasoned, IsForcedBy, IsInRange, clause_at}
 use Rattle.cdcl_laws.specs.Sound.{IsSound, IsLawful}
+use Rattle.conflict_walk.proofs.Levels.{half_opposite}
 use Rattle.cdcl_laws.proofs.Trails.{is_on-reverse}
-use Rattle.cdcl_trail.specs.Store.{IsMirrored}
-use Rattle.bridge.specs.Fits.{SoundWalks}
+use Rattle.cdcl_trail.specs.Mirrored.{TrailView}
 
 below_twice : (l n : ℕ) → l / 2 < n → l < 2 * n
 below_twice l n h = omega (arith, h)
@@ -62,14 +62,19 @@ all_forwards P (x ∷ xs) h =
     let s = split_all P (reverse xs) (x ∷ []) (subst (AllByRecursion P) (reverse-append (x ∷ []) xs) h) in
     (s.1.0, all_forwards P xs s.0)
 
-half_opposite : (l : ℕ) → opposite l / 2 ≡ l / 2
-half_opposite l = grind (arith, nat_tests)
-
-pub sound_walks : SoundWalks
-sound_walks f s values levels level o m = record {
-  clauses_below = All-from_recursion (IsInRange (2 * length levels)) s.clauses (all_in_range f.variables (length levels) s.clauses m.levels_len o.lawful);
-  trail_below = All-weaker (λ a. a.literal / 2 < f.variables) (λ a. a.literal < 2 * length levels) (λ a h. omega (arith, h, m.levels_len)) s.trail m.below;
-  mirrored = λ l e. ap (λ (v : ℕ). get_or levels v 0) (sym (half_opposite l)) ∙ m.levels_are (opposite l) e;
-  current = m.level_is;
+-- in a sound state each entry has its reason
+pub sound_reasoned : (f : Cnf) (s : State) (n : ℕ) → IsSound f s → n ≡ f.variables → IsReasoned s.clauses (record { variables = n; entries = s.trail })
+sound_reasoned f s n o e = record {
+  clauses_below = All-from_recursion (IsInRange (2 * n)) s.clauses (all_in_range f.variables n s.clauses e o.lawful);
   reasons = All-from_recursion (λ a. IsForcedBy s.clauses s.trail a.literal a.reason) s.trail (all_forwards (λ a. IsForcedBy s.clauses s.trail a.literal a.reason) s.trail (all_forced s.clauses s.trail (reverse s.trail) (λ l e. sym (is_on-reverse s.trail l) ∙ e) o.trail));
+}
+
+-- with the tables of a trail that is what the walk asks for
+pub walkable : (clauses : List (List ℕ)) (trail : TrailView) (levels : List ℕ) (level : ℕ) → IsReasoned clauses trail → All (λ a. a.literal / 2 < trail.variables) trail.entries → length levels ≡ trail.variables → ((l : ℕ) → is_on trail.entries l ≡ true → get_or levels (l / 2) 0 ≡ level_from 0 trail.entries l) → level ≡ decision_count trail.entries → IsWalkable clauses trail.entries levels level
+walkable clauses trail levels level r b n m e = record {
+  clauses_below = subst (λ (k : ℕ). All (IsInRange (2 * k)) clauses) (sym n) r.clauses_below;
+  trail_below = All-weaker (λ a. a.literal / 2 < trail.variables) (λ a. a.literal < 2 * length levels) (λ a h. omega (arith, h, n)) trail.entries b;
+  mirrored = λ l h. ap (λ (v : ℕ). get_or levels v 0) (sym (half_opposite l)) ∙ m (opposite l) h;
+  current = e;
+  reasons = r.reasons;
 }

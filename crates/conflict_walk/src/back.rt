@@ -1,22 +1,21 @@
-ghost use Rattle.std.specs.Prelude.{◌≡◌, ◌<◌, ◌*◌, ◌/◌, ℕ, All, length, List};
+ghost use Rattle.std.specs.Prelude.{◌≡◌, ◌<◌, ◌/◌, All};
 ghost use Rattle.cdcl_rules.specs.Learn.{back_level};
-ghost use Rattle.conflict_walk.specs.Walk.{IsWalkable, IsRefuted};
+ghost use Rattle.conflict_walk.specs.Walk.{IsRefuted};
 
-use cdcl_rules::trail::Assigned;
+use cdcl_trail::trail::Trail;
 use clause_base::literal::Lit;
 
-/// The greatest level of a literal that is below the current one.
-pub fn target_level(trail: &[Assigned], levels: &[u32], level: u32, clauses: &[clause_base::clause::Clause], lits: &[Lit]) -> u32
-    requires walkable { IsWalkable clauses.now trail.now levels.now level }
-    requires refuted { IsRefuted trail.now lits.now }
-    requires range { All (λ l. l < 2 * length levels.now) lits.now }
-    ensures { result ≡ back_level trail.now lits.now }
+/// The level to go back to with a clause whose literals are all false: the greatest of theirs that is not the current one, or 0.
+pub fn back_level(trail: &Trail, lits: &[Lit]) -> u32
+    requires below { All (λ l. l / 2 < trail.now.variables) lits.now }
+    requires refuted { IsRefuted trail.now.entries lits.now }
+    ensures { result ≡ back_level trail.now.entries lits.now }
 {
-    let _ = trail;
-    let _ = clauses;
+    let levels = trail.levels();
+    let level = trail.level();
     let mut greatest = 0;
     for lit in lits {
-        let here = levels[(lit.0 / 2) as usize];
+        let here = levels[lit.variable() as usize];
         if here != level && greatest < here {
             greatest = here;
         }

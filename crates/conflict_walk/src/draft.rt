@@ -1,11 +1,12 @@
-ghost use Rattle.std.specs.Prelude.{◌≡◌, ◌<◌, ℕ, List, [], false, true, length, replicate, slice_index_or, slice_set, IfOk, OnOk, OnErr};
+ghost use Rattle.std.specs.Prelude.{◌≡◌, ◌<◌, ◌≤◌, ◌*◌, [], false, true, length, slice_set, IfOk, OnOk, OnErr};
 ghost use Rattle.conflict_walk.specs.Draft.{places, at};
 
 use clause_base::literal::Lit;
-use std::alloc::{AllocError, Global};
+use clause_base::memory::Memory;
+use std::alloc::Global;
 use std::marker::Model;
 
-/// A clause in the making: for each literal by its code whether it is in.
+/// A clause in the making: for each literal by its code whether it is in, and which literals were put in.
 #[derive(Drop)]
 pub struct Draft {
     on: Vec<bool>,
@@ -24,6 +25,23 @@ impl Model for Draft {
 }
 
 impl Draft {
+    /// The draft without literals, over so many variables.
+    pub fn new(alloc: Global, variables: u32) -> Result<Draft, Memory>
+        requires { variables ≤ 2147483647 }
+        ensures empty { IfOk result (λ d. places 0 d ≡ []) }
+        ensures len { IfOk result (λ d. length d ≡ 2 * variables) }
+    {
+        let mut on = Vec::with_capacity(alloc, 2 * variables as usize)?;
+        for _ in 0..2 * variables {
+            on.push(false)?;
+        }
+        Ok(Draft {
+            on,
+            touched: Vec::new(alloc),
+        })
+    }
+
+    /// Whether a literal is in.
     pub fn has(&self, lit: Lit) -> bool
         requires { lit < length self.now }
         ensures { result ≡ at self.now lit }
@@ -32,7 +50,7 @@ impl Draft {
     }
 
     /// Puts a literal in.
-    pub fn put(&mut self, lit: Lit) -> Result<(), AllocError>
+    pub fn put(&mut self, lit: Lit) -> Result<(), Memory>
         requires { lit < length self.old }
         ensures ok { OnOk result (self.new ≡ slice_set self.old lit true) }
         ensures err { OnErr result (self.new ≡ self.old) }
@@ -51,7 +69,7 @@ impl Draft {
     }
 
     /// Takes all literals out, in order of their codes.
-    pub fn take(&mut self, alloc: Global) -> Result<Vec<Lit>, AllocError>
+    pub fn take(&mut self, alloc: Global) -> Result<Vec<Lit>, Memory>
         ensures taken { IfOk result (λ lits. lits.items ≡ places 0 self.old) }
         ensures emptied { OnOk result (places 0 self.new ≡ []) }
         ensures len { length self.new ≡ length self.old }

@@ -1,18 +1,20 @@
-ghost use Rattle.std.specs.Prelude.{◌≡◌, ◌<◌, ◌≤◌, ◌+◌, ◌*◌, ◌/◌, ◌==◌, ℕ, List, [], All, true, false, not, ◌&&◌, length, filter, fold, reverse, IfOk, OnOk, IsTrue, ◌++◌, ◌∷◌};
+ghost use Rattle.std.specs.Prelude.{◌≡◌, ◌<◌, ◌≤◌, ◌*◌, ◌/◌, ◌==◌, [], true, not, length, filter, fold, reverse, IfOk, OnOk};
 ghost use Rattle.clause_base.specs.Literal.{opposite};
-ghost use Rattle.clause_base.specs.Clause.{put, IsRising};
-ghost use Rattle.cdcl_rules.specs.State.{is_on, decision_count};
-ghost use Rattle.std.specs.List.{list_any};
-ghost use Rattle.cdcl_rules.specs.Learn.{learned, walk, current, resolvent};
+ghost use Rattle.clause_base.specs.Clause.{put};
+ghost use Rattle.cdcl_rules.specs.Learn.{walk, resolvent};
 ghost use Rattle.conflict_walk.specs.Draft.{places, at};
-ghost use Rattle.conflict_walk.specs.Walk.{is_at, count_at, IsInRange, IsWalkable, clause_at, stops, IsRefuted};
+ghost use Rattle.conflict_walk.specs.Walk.{is_at, count_at, IsInRange, IsWalkable, all_clauses, stops, IsRefuted};
 
 use crate::draft::Draft;
+use crate::named::clause_at;
 use cdcl_rules::trail::Assigned;
 use clause_base::clause::Clause;
 use clause_base::literal::Lit;
-use std::alloc::{AllocError, Global};
+use clause_base::log::Entry;
+use clause_base::memory::Memory;
+use std::alloc::Global;
 
+/// Whether a literal's variable has the level.
 fn is_at(levels: &[u32], level: u32, lit: Lit) -> bool
     requires { lit / 2 < length levels.now }
     ensures { result ≡ is_at levels.now level lit }
@@ -21,7 +23,13 @@ fn is_at(levels: &[u32], level: u32, lit: Lit) -> bool
 }
 
 /// Puts a literal in, and gives the new number of literals at the level.
-fn put_one(draft: &mut Draft, levels: &[u32], level: u32, count: u32, lit: Lit) -> Result<u32, AllocError>
+fn put_one(
+    draft: &mut Draft,
+    levels: &[u32],
+    level: u32,
+    count: u32,
+    lit: Lit,
+) -> Result<u32, Memory>
     requires size { length draft.old ≡ 2 * length levels.now }
     requires range { lit < length draft.old }
     requires small { length draft.old ≤ 4294967294 }
@@ -58,7 +66,13 @@ fn remove_one(draft: &mut Draft, levels: &[u32], level: u32, count: u32, lit: Li
 }
 
 /// Puts literals in.
-fn put_all(draft: &mut Draft, levels: &[u32], level: u32, mut count: u32, lits: &[Lit]) -> Result<u32, AllocError>
+pub fn put_all(
+    draft: &mut Draft,
+    levels: &[u32],
+    level: u32,
+    mut count: u32,
+    lits: &[Lit],
+) -> Result<u32, Memory>
     requires size { length draft.old ≡ 2 * length levels.now }
     requires range { IsInRange (length draft.old) lits.now }
     requires small { length draft.old ≤ 4294967294 }
@@ -74,7 +88,14 @@ fn put_all(draft: &mut Draft, levels: &[u32], level: u32, mut count: u32, lits: 
 }
 
 /// Puts literals in, all but one.
-fn put_others(draft: &mut Draft, levels: &[u32], level: u32, mut count: u32, lits: &[Lit], but: Lit) -> Result<u32, AllocError>
+fn put_others(
+    draft: &mut Draft,
+    levels: &[u32],
+    level: u32,
+    mut count: u32,
+    lits: &[Lit],
+    but: Lit,
+) -> Result<u32, Memory>
     requires size { length draft.old ≡ 2 * length levels.now }
     requires range { IsInRange (length draft.old) lits.now }
     requires small { length draft.old ≤ 4294967294 }
@@ -92,7 +113,14 @@ fn put_others(draft: &mut Draft, levels: &[u32], level: u32, mut count: u32, lit
 }
 
 /// Resolves on a literal with the clause that forced it.
-fn resolve(draft: &mut Draft, levels: &[u32], level: u32, count: u32, forced: Lit, forcing: &[Lit]) -> Result<u32, AllocError>
+fn resolve(
+    draft: &mut Draft,
+    levels: &[u32],
+    level: u32,
+    count: u32,
+    forced: Lit,
+    forcing: &[Lit],
+) -> Result<u32, Memory>
     requires size { length draft.old ≡ 2 * length levels.now }
     requires range { IsInRange (length draft.old) forcing.now }
     requires in_range { opposite forced < length draft.old }
@@ -107,13 +135,7 @@ fn resolve(draft: &mut Draft, levels: &[u32], level: u32, count: u32, forced: Li
     put_others(draft, levels, level, less, forcing, forced)
 }
 
-fn clause_at(clauses: &[Clause], number: u32) -> &[Lit]
-    requires { number < length clauses.now }
-    ensures { result.now ≡ clause_at clauses.now number }
-{
-    clauses[number as usize].as_slice()
-}
-
+/// Whether the walk stops at an entry whose negation is in the clause.
 fn stops(level: u32, count: u32) -> bool
     ensures { result ≡ stops level count }
 {
@@ -121,13 +143,22 @@ fn stops(level: u32, count: u32) -> bool
 }
 
 /// Walks the trail from its end, and gives the clauses that were resolved with, the latest entry's first.
-fn walk_back(alloc: Global, draft: &mut Draft, clauses: &[Clause], trail: &[Assigned], levels: &[u32], level: u32, mut count: u32) -> Result<Vec<u32>, AllocError>
+pub fn walk_back(
+    alloc: Global,
+    draft: &mut Draft,
+    clauses: &[Clause],
+    log: &[Entry],
+    trail: &[Assigned],
+    levels: &[u32],
+    level: u32,
+    mut count: u32,
+) -> Result<Vec<u32>, Memory>
     requires size { length draft.old ≡ 2 * length levels.now }
     requires small { length draft.old ≤ 4294967294 }
     requires counted { count ≡ count_at levels.now level (places 0 draft.old) }
-    requires walkable { IsWalkable clauses.now trail.now levels.now level }
+    requires walkable { IsWalkable (all_clauses clauses.now log.now) trail.now levels.now level }
     requires refuted { IsRefuted trail.now (places 0 draft.old) }
-    ensures walked { IfOk result (λ hints. walk clauses.now trail.now (reverse trail.now) (record { clause = places 0 draft.old; hints = [] }) ≡ record { clause = places 0 draft.new; hints = reverse hints.items }) }
+    ensures walked { IfOk result (λ hints. walk (all_clauses clauses.now log.now) trail.now (reverse trail.now) (record { clause = places 0 draft.old; hints = [] }) ≡ record { clause = places 0 draft.new; hints = reverse hints.items }) }
     ensures len { length draft.new ≡ length draft.old }
 {
     let mut hints = Vec::new(alloc);
@@ -142,40 +173,18 @@ fn walk_back(alloc: Global, draft: &mut Draft, clauses: &[Clause], trail: &[Assi
             match entry.reason {
                 None => return Ok(hints),
                 Some(reason) => {
-                    count = resolve(draft, levels, level, count, entry.literal, clause_at(clauses, reason))?;
+                    count = resolve(
+                        draft,
+                        levels,
+                        level,
+                        count,
+                        entry.literal,
+                        clause_at(clauses, log, reason),
+                    )?;
                     hints.push(reason)?;
                 }
             }
         }
     }
     Ok(hints)
-}
-
-/// What a conflict teaches.
-#[derive(Drop)]
-pub struct Lesson {
-    pub lits: Vec<Lit>,
-    pub hints: Vec<u32>,
-}
-
-/// The clause that is learned from a conflict, with its hints.
-pub fn learn(alloc: Global, draft: &mut Draft, clauses: &[Clause], trail: &[Assigned], levels: &[u32], level: u32, number: u32) -> Result<Lesson, AllocError>
-    requires size { length draft.old ≡ 2 * length levels.now }
-    requires small { length draft.old ≤ 4294967294 }
-    requires empty { places 0 draft.old ≡ [] }
-    requires walkable { IsWalkable clauses.now trail.now levels.now level }
-    requires number { number < length clauses.now }
-    requires rising { IsRising (clause_at clauses.now number) }
-    requires refuted { IsRefuted trail.now (clause_at clauses.now number) }
-    ensures clause { IfOk result (λ lesson. lesson.lits.items ≡ (learned clauses.now trail.now number).clause) }
-    ensures hints { IfOk result (λ lesson. lesson.hints.items ≡ (learned clauses.now trail.now number).hints) }
-    ensures emptied { OnOk result (places 0 draft.new ≡ []) }
-    ensures len { length draft.new ≡ length draft.old }
-{
-    let count = put_all(draft, levels, level, 0, clause_at(clauses, number))?;
-    let mut hints = walk_back(alloc, draft, clauses, trail, levels, level, count)?;
-    hints.reverse();
-    hints.push(number)?;
-    let lits = draft.take(alloc)?;
-    Ok(Lesson { lits, hints })
 }
