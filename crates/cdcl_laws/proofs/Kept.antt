@@ -29,7 +29,7 @@ use Rattle.cdcl_laws.proofs.Asked.{AllFalse, ForcesOpen, Asks, FirstAsks, first_
 use Rattle.cdcl_laws.proofs.Trails.{is_on-reverse, trail_apart, trail_more, trail_push, cut_trail}
 use Rattle.cdcl_laws.proofs.Lawful.{HasMembersBelow, IsGood, learned_good, good_clause, good_below, member_of, none_in}
 
-members_below : (n : ℕ) (clauses : List (List ℕ)) → AllByRecursion (IsLawful n) clauses → AllByRecursion (HasMembersBelow n) clauses
+pub members_below : (n : ℕ) (clauses : List (List ℕ)) → AllByRecursion (IsLawful n) clauses → AllByRecursion (HasMembersBelow n) clauses
 members_below n [] a = tt
 members_below n (c ∷ clauses) a = (λ m e. member_of (λ l. l / 2 < n) c m (recursion_from_All (λ l. l / 2 < n) c a.0.below) e, members_below n clauses a.1)
 
@@ -37,7 +37,7 @@ all_rising : (n : ℕ) (clauses : List (List ℕ)) → AllByRecursion (IsLawful 
 all_rising n [] a = tt
 all_rising n (c ∷ clauses) a = (a.0.clause.rising, all_rising n clauses a.1)
 
-lawful_at : (n : ℕ) (clauses : List (List ℕ)) (r : ℕ) (k : List ℕ) → AllByRecursion (IsLawful n) clauses → slice_get clauses r ≡ Some k → IsLawful n k
+pub lawful_at : (n : ℕ) (clauses : List (List ℕ)) (r : ℕ) (k : List ℕ) → AllByRecursion (IsLawful n) clauses → slice_get clauses r ≡ Some k → IsLawful n k
 lawful_at n [] r k a e = cc
 lawful_at n (c ∷ clauses) zero k a e = let s : c ≡ k = cc in subst (IsLawful n) s a.0
 lawful_at n (c ∷ clauses) (suc r) k a e = lawful_at n clauses r k a.1 e
@@ -132,7 +132,7 @@ sound_conflict f s i o l =
       refuted = λ h. ends_empty s.log e (empty_of (length new.clause == 0) new.clause refl h);
     }
 
-no_going : (x : Standing) → is_going x ≡ true → x ≡ Going
+pub no_going : (x : Standing) → is_going x ≡ true → x ≡ Going
 no_going Going e = refl
 no_going Found e = cc
 no_going Refuted e = cc

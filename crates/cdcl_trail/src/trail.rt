@@ -1,4 +1,5 @@
 ghost use Rattle.std.specs.Prelude.{◌≡◌, ◌<◌, ◌≤◌, ◌+◌, ◌/◌, ℕ, [], ◌++◌, ◌∷◌, true, None, All, length, IfOk, OnOk, OnErr, slice_index};
+ghost use Rattle.clause_base.specs.Literal.{opposite};
 ghost use Rattle.cdcl_rules.specs.State.{is_on, value_of, values_of, decision_count};
 ghost use Rattle.cdcl_rules.specs.Learn.{cut, level_from};
 ghost use Rattle.cdcl_trail.specs.Mirrored.{IsMirrored, TrailView, step_of};
@@ -89,6 +90,14 @@ impl Trail {
         self.values.get(lit.variable()) == Some(lit.is_positive())
     }
 
+    /// Whether a literal is false.
+    pub fn is_false(&self, lit: Lit) -> bool
+        requires { lit / 2 < self.now.variables }
+        ensures { result ≡ is_on self.now.entries (opposite lit) }
+    {
+        self.is_true(lit.opposite())
+    }
+
     /// The values of all variables.
     pub fn values(&self) -> &Values
         ensures { result.now ≡ values_of self.now.variables self.now.entries }
@@ -115,6 +124,7 @@ impl Trail {
     /// For each variable with a value its level; of the others nothing is said.
     pub fn levels(&self) -> &[u32]
         ensures many { length result.now ≡ self.now.variables }
+        ensures small { self.now.variables ≤ 2147483647 }
         ensures levels { (l : ℕ) → is_on self.now.entries l ≡ true → slice_index result.now (l / 2) ≡ level_from 0 self.now.entries l }
     {
         self.levels.as_slice()

@@ -27,7 +27,7 @@ all_in_range : (n m : ℕ) (clauses : List (List ℕ)) → m ≡ n → AllByRecu
 all_in_range n m [] e a = tt
 all_in_range n m (c ∷ clauses) e a = (in_range n m c e a.0, all_in_range n m clauses e a.1)
 
-get_below : (clauses : List (List ℕ)) (r : ℕ) (k : List ℕ) → slice_get clauses r ≡ Some k → r < length clauses
+pub get_below : (clauses : List (List ℕ)) (r : ℕ) (k : List ℕ) → slice_get clauses r ≡ Some k → r < length clauses
 get_below [] r k e = cc
 get_below (c ∷ clauses) zero k e = omega arith
 get_below (c ∷ clauses) (suc r) k e = let h = get_below clauses r k e in omega arith

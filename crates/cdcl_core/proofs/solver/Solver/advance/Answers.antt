@@ -1,0 +1,35 @@
+use Rattle.std.proofs.Common.{◌≡◌, ℕ, List, length, sym, ap, ◌∙◌, subst, Result, Ok, Err, OnOk}
+use Rattle.cdcl_rules.specs.Open.{Opens}
+use Rattle.cdcl_laws.specs.Sound.{IsSound}
+use Rattle.cdcl_laws.proofs.Fuel.{after_is}
+use Rattle.cdcl_laws.proofs.Cuts.{adds_up}
+use Rattle.cdcl_core.specs.Search.{SolverView}
+use Rattle.cdcl_core.proofs.solver.Solver.advance.Goals as goal
+
+on_ok : {T E P Q : Type 0} → (r : Result T E) → (P → Q) → OnOk r P → OnOk r Q
+on_ok (Ok x) f p = f p
+on_ok (Err e) f p = tt
+
+pub returns-then-is_spoilt-clause-adds_up : goal.returns-then-is_spoilt-clause-adds_up
+returns-then-is_spoilt-clause-adds_up g c =
+    let v = c.args.self.now in
+    let fits = subst (λ (w : SolverView g.row.C.Denot). g.C.Chooser.fits w.chooser w.formula.variables) c.self.view_is c.self.invariant in
+    let opens : Opens v.formula.variables (g.C.Chooser.choice v.chooser) = λ values e. g.met.C.Chooser.opens v.chooser values (subst (g.C.Chooser.fits v.chooser) (sym e) fits) in
+    let sound = subst (λ (w : SolverView g.row.C.Denot). IsSound w.formula w.state) c.self.view_is c.conflicts-sound.ensures.sound in
+    adds_up v.formula (g.C.Chooser.choice v.chooser) v.state opens sound
+
+pub returns-clause-after : goal.returns-clause-after
+returns-clause-after g c =
+    let v = c.args.self.now in
+    let fits = subst (λ (w : SolverView g.row.C.Denot). g.C.Chooser.fits w.chooser w.formula.variables) c.self.view_is c.self.invariant in
+    let opens : Opens v.formula.variables (g.C.Chooser.choice v.chooser) = λ values e. g.met.C.Chooser.opens v.chooser values (subst (g.C.Chooser.fits v.chooser) (sym e) fits) in
+    let sound = subst (λ (w : SolverView g.row.C.Denot). IsSound w.formula w.state) c.self.view_is c.conflicts-sound.ensures.sound in
+    on_ok c.run.result (after_is v.formula (g.C.Chooser.choice v.chooser) v.state c.run.new.self.state c.args.conflicts opens sound) c.run.ensures.after
+
+pub returns-clause-adds_up : goal.returns-clause-adds_up
+returns-clause-adds_up g c =
+    let v = c.args.self.now in
+    let fits = subst (λ (w : SolverView g.row.C.Denot). g.C.Chooser.fits w.chooser w.formula.variables) c.self.view_is c.self.invariant in
+    let opens : Opens v.formula.variables (g.C.Chooser.choice v.chooser) = λ values e. g.met.C.Chooser.opens v.chooser values (subst (g.C.Chooser.fits v.chooser) (sym e) fits) in
+    let sound = subst (λ (w : SolverView g.row.C.Denot). IsSound w.formula w.state) c.self.view_is c.conflicts-sound.ensures.sound in
+    adds_up v.formula (g.C.Chooser.choice v.chooser) v.state opens sound
