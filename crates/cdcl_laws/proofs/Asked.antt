@@ -1,4 +1,4 @@
-use Rattle.std.proofs.Common.{rules, arith, ◌≡◌, ◌==◌, ℕ, zero, suc, ◌+◌, ◌-◌, ◌/◌, ◌*◌, List, [], ◌∷◌, ◌++◌, length, Bool, true, false, not, ◌||◌, ◌&&◌, refl, sym, ap, ◌∙◌, subst, filter, if◌then◌else◌, Option, Some, None, ◌⊎◌, inl, inr}
+use Rattle.std.proofs.Common.{arith, ◌≡◌, ◌==◌, ℕ, suc, ◌+◌, List, [], ◌∷◌, Bool, true, false, not, ◌||◌, ◌&&◌, refl, sym, ap, ◌∙◌, subst, filter, if◌then◌else◌, Option, Some, None, ◌⊎◌, inl, inr}
 use Rattle.std.specs.List.{list_any, slice_get}
 use Rattle.std.proofs.lemmas.Bool.Decides.{nat_tests}
 use Rattle.clause_base.specs.Literal.{opposite}
@@ -8,7 +8,7 @@ use Rattle.cdcl_rules.specs.declared.event.Event.TheVariants.{Conflict, Force, D
 use Rattle.cdcl_rules.specs.State.{is_on}
 use Rattle.cdcl_rules.specs.Event.{asked, asked_by_open, first_asked}
 use Rattle.cdcl_rules.proofs.Chain.{is_in, is_in-filter}
-use Rattle.cdcl_rules.proofs.WalkLaw.{or_split, and_split, not_true, apart, not_split, or_none, test_same, same_test}
+use Rattle.cdcl_rules.proofs.WalkLaw.{or_split, and_split, not_split, or_none, test_same}
 
 -- each literal of a clause is false
 abbrev pub AllFalse : List Assigned → List ℕ → Type 0

@@ -1,4 +1,4 @@
-use Rattle.std.proofs.Common.{arith, ◌≡◌, ℕ, zero, suc, ◌+◌, ◌≤◌, ◌<◌, List, [], ◌∷◌, Option, Bool, true, false, fold, sum, refl, sym, ap, ◌∙◌, zero-add}
+use Rattle.std.proofs.Common.{arith, ◌≡◌, ℕ, zero, suc, ◌+◌, ◌*◌, ◌≤◌, List, [], ◌∷◌, Option, true, false, fold, refl, sym, ap, ◌∙◌, zero-add}
 use Rattle.clause_base.specs.Formula.{Cnf}
 use Rattle.clause_base.specs.Choice.{Known}
 use Rattle.cdcl_rules.specs.declared.event.Event.{Event}
@@ -6,10 +6,12 @@ use Rattle.cdcl_rules.specs.declared.event.Event.TheVariants.{Conflict, Force, D
 use Rattle.cdcl_rules.specs.State.{State}
 use Rattle.cdcl_rules.specs.Event.{event_of}
 use Rattle.cdcl_rules.specs.Open.{Opens}
-use Rattle.cdcl_rules.specs.Run.{next, apply, after, is_going, is_conflict}
+use Rattle.cdcl_rules.specs.Run.{next, rests, apply, after, is_going, is_conflict}
+use Rattle.cdcl_rules.proofs.Cutting.{stays}
+use Rattle.cdcl_rules.proofs.RunLaws.{settled_rests, below}
 use Rattle.cdcl_rules.proofs.Measure.{events_left, events_left-le, fewer_left}
 use Rattle.cdcl_laws.specs.Sound.{IsSound}
-use Rattle.cdcl_laws.specs.Laws.{AddsUp, AfterAddsUp, is_assignment, IsQuiet, QuietIsShort}
+use Rattle.cdcl_laws.specs.Laws.{AfterAddsUp, AfterSettled, AfterIsWithin, is_assignment, IsQuiet, QuietIsShort}
 use Rattle.cdcl_laws.proofs.Kept.{sound_next}
 use Rattle.cdcl_laws.proofs.Fuel.{after_cut, opens}
 
@@ -22,6 +24,16 @@ from_after f choose x k (j ∷ more) c o =
 pub adds_up : AfterAddsUp
 adds_up f choose x c o k more =
     from_after f choose x k more c o ∙ ap (λ (n : ℕ). after choose x (fold ◌+◌ n more)) (sym (zero-add k))
+
+-- a settled state stays as it is
+pub settled_stays : AfterSettled
+unfolding after
+settled_stays choose x g k =
+    stays (next choose) (rests choose) (x.conflicts + k) ((k + 1) * (x.variables + 2)) x (settled_rests (is_going x.standing) (is_conflict (event_of choose x)) (x.conflicts + k) x.conflicts g)
+
+pub after_within : AfterIsWithin
+unfolding after
+after_within choose x k = below choose (x.conflicts + k) ((k + 1) * (x.variables + 2)) x (omega arith)
 
 -- an assignment is no conflict, and leaves the state going
 quiet_event : (s : State) (e : Event) → is_going s.standing ≡ true → is_assignment e ≡ true → (is_conflict e ≡ false) × (is_going (apply s e).standing ≡ true)

@@ -1,18 +1,17 @@
-use Rattle.std.proofs.Common.{rules, arith, ◌≡◌, ℕ, zero, suc, ◌+◌, ◌-◌, ◌*◌, ◌≤◌, ◌<◌, Bool, true, false, not, ◌||◌, ◌&&◌, refl, sym, ◌∙◌, if◌then◌else◌, ap, nat_le, Option, List, All, length, subst, le_trans, map, ◌++◌, [], ◌∷◌}
+use Rattle.std.proofs.Common.{arith, ◌≡◌, ℕ, zero, suc, ◌+◌, ◌-◌, ◌*◌, ◌≤◌, ◌<◌, Bool, true, false, not, ◌||◌, ◌&&◌, refl, sym, ◌∙◌, if◌then◌else◌, ap, nat_le, Option, List, All, subst, [], ◌∷◌}
 use Rattle.std.proofs.lemmas.Bool.Decides.{nat_tests}
 use Rattle.std.specs.List.{AllByRecursion}
 use Rattle.std.proofs.lemmas.List.Elements.{All-from_recursion}
 use Rattle.clause_base.specs.Clause.{HasVariablesBelow}
 use Rattle.clause_base.specs.Formula.{Cnf}
-use Rattle.clause_base.specs.Choice.{Known, IsOpenChoice}
+use Rattle.clause_base.specs.Choice.{Known}
 use Rattle.cdcl_rules.specs.State.{State}
-use Rattle.cdcl_rules.specs.declared.standing.Standing.TheVariants.{Going, Found, Refuted}
 use Rattle.cdcl_rules.specs.declared.event.Event.{Event}
 use Rattle.cdcl_rules.specs.declared.event.Event.TheVariants.{Conflict, Force, Decide, Finish}
 use Rattle.cdcl_rules.specs.Event.{event_of}
 use Rattle.cdcl_rules.specs.Run.{apply, next, rests, after, is_going, is_conflict, IsAfter}
 use Rattle.cdcl_rules.specs.Open.{IsOpenEvent, Opens}
-use Rattle.cdcl_rules.specs.Machine.{turns, ComesToRest}
+use Rattle.cdcl_rules.specs.Machine.{turns}
 use Rattle.cdcl_rules.proofs.Cutting.{enough}
 use Rattle.cdcl_rules.proofs.RunLaws.{across_cuts, after_unique}
 use Rattle.cdcl_rules.proofs.Advance.{going_from}

@@ -1,14 +1,14 @@
-use Rattle.std.proofs.Common.{rules, arith, ◌≡◌, ◌==◌, ℕ, zero, suc, ◌+◌, ◌-◌, ◌*◌, ◌/◌, ◌%◌, ◌<◌, ◌≤◌, List, [], ◌∷◌, ◌++◌, length, reverse, take, map, All, Bool, true, false, not, ◌||◌, ◌&&◌, refl, sym, ap, ◌∙◌, subst, fold, filter, zero-add, if◌then◌else◌, Option, Some, None, IsSome, IsTrue, unwrap_or, ◌⊎◌, inl, inr, append_assoc}
+use Rattle.std.proofs.Common.{arith, ◌≡◌, ◌==◌, ℕ, zero, suc, ◌+◌, ◌-◌, ◌*◌, ◌/◌, ◌%◌, ◌<◌, ◌≤◌, List, [], ◌∷◌, ◌++◌, length, reverse, take, Bool, true, false, not, ◌||◌, refl, sym, ap, ◌∙◌, subst, filter, zero-add, if◌then◌else◌, Option, Some, None, IsSome, ◌⊎◌, inl, inr, append_assoc}
 use Rattle.std.specs.List.{list_any, slice_get, AllByRecursion}
 use Rattle.std.proofs.Math.Nat.{eq-or-lt_of_le}
 use Rattle.std.proofs.lemmas.List.{take-append-le}
-use Rattle.std.proofs.lemmas.List.Elements.{recursion_from_All, All-from_recursion}
+use Rattle.std.proofs.lemmas.List.Elements.{recursion_from_All}
 use Rattle.std.proofs.lemmas.Bool.Decides.{nat_tests}
 use Rattle.clause_base.specs.Literal.{opposite, literal_value}
-use Rattle.clause_base.specs.Clause.{IsRising, IsClause, HasVariablesBelow, clause_value}
+use Rattle.clause_base.specs.Clause.{IsRising}
 use Rattle.clause_base.specs.Formula.{Cnf, Satisfies}
 use Rattle.clause_base.specs.declared.log.Entry.{Entry}
-use Rattle.clause_base.specs.Derivation.{clauses_of, IsDerivation, IsDerivedAt, is_derived_after, leads_to_conflict, EndsEmpty}
+use Rattle.clause_base.specs.Derivation.{clauses_of, IsDerivation, IsDerivedAt, leads_to_conflict, EndsEmpty}
 use Rattle.cdcl_rules.specs.declared.trail.Assigned.{Assigned}
 use Rattle.cdcl_rules.specs.declared.standing.Standing.{Standing}
 use Rattle.cdcl_rules.specs.declared.standing.Standing.TheVariants.{Going, Found, Refuted}
@@ -17,17 +17,16 @@ use Rattle.cdcl_rules.specs.declared.event.Event.TheVariants.{Conflict, Force, D
 use Rattle.clause_base.specs.Choice.{Known, IsOpenChoice}
 use Rattle.cdcl_rules.specs.State.{State, is_on, value_of, values_of, values_from}
 use Rattle.cdcl_rules.specs.Open.{Opens}
-use Rattle.cdcl_rules.specs.Event.{asked, asked_by_open, first_asked, chosen_event, event_of}
-use Rattle.cdcl_rules.specs.Learn.{Learned, learned, cut, back_level}
+use Rattle.cdcl_rules.specs.Event.{asked, asked_by_open, first_asked, chosen_event}
+use Rattle.cdcl_rules.specs.Learn.{learned, cut, back_level}
 use Rattle.cdcl_rules.specs.Run.{apply, with_learned, is_going, next}
-use Rattle.cdcl_rules.proofs.Chain.{is_in}
-use Rattle.cdcl_rules.specs.Trail.{IsReason, HasReason, IsEntry, IsTrail}
-use Rattle.cdcl_rules.proofs.WalkLaw.{learned_derived, opposite_twice, apart}
+use Rattle.cdcl_rules.specs.Trail.{IsEntry, IsTrail}
+use Rattle.cdcl_rules.proofs.WalkLaw.{learned_derived, apart}
 use Rattle.cdcl_rules.proofs.Measure.{sides, chosen_open, length-values_from}
 use Rattle.cdcl_laws.specs.Sound.{IsLawful, IsSound, made_true}
-use Rattle.cdcl_laws.proofs.Asked.{AllFalse, ForcesOpen, Asks, FirstAsks, first_asks, none_passes, open_ones}
+use Rattle.cdcl_laws.proofs.Asked.{AllFalse, FirstAsks, first_asks, none_passes, open_ones}
 use Rattle.cdcl_laws.proofs.Trails.{is_on-reverse, trail_apart, trail_more, trail_push, cut_trail}
-use Rattle.cdcl_laws.proofs.Lawful.{HasMembersBelow, IsGood, learned_good, good_clause, good_below, member_of, none_in}
+use Rattle.cdcl_laws.proofs.Lawful.{HasMembersBelow, learned_good, good_clause, good_below, member_of, none_in}
 
 pub members_below : (n : ℕ) (clauses : List (List ℕ)) → AllByRecursion (IsLawful n) clauses → AllByRecursion (HasMembersBelow n) clauses
 members_below n [] a = tt

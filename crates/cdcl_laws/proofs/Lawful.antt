@@ -1,15 +1,15 @@
-use Rattle.std.proofs.Common.{rules, arith, ◌≡◌, ◌==◌, ℕ, zero, suc, ◌+◌, ◌-◌, ◌/◌, ◌<◌, List, [], ◌∷◌, ◌++◌, length, reverse, All, Bool, true, false, not, ◌||◌, ◌&&◌, refl, sym, ap, ◌∙◌, subst, fold, filter, if◌then◌else◌, Option, Some, None, unwrap_or, ◌⊎◌, inl, inr}
+use Rattle.std.proofs.Common.{arith, ◌≡◌, ◌==◌, ℕ, zero, suc, ◌/◌, ◌<◌, List, [], ◌∷◌, length, reverse, Bool, true, false, not, ◌||◌, ◌&&◌, refl, sym, ap, ◌∙◌, subst, filter, if◌then◌else◌, Option, Some, None, unwrap_or, ◌⊎◌, inl, inr}
 use Rattle.std.specs.List.{list_any, slice_get, AllByRecursion}
 use Rattle.std.proofs.lemmas.Bool.Decides.{nat_tests}
-use Rattle.std.proofs.lemmas.List.Elements.{All-from_recursion, recursion_from_All}
+use Rattle.std.proofs.lemmas.List.Elements.{All-from_recursion}
 use Rattle.clause_base.specs.Literal.{opposite}
-use Rattle.clause_base.specs.Clause.{IsRising, IsClause, HasVariablesBelow, has_opposite_pair, put}
+use Rattle.clause_base.specs.Clause.{IsRising, IsClause, HasVariablesBelow}
 use Rattle.clause_base.proofs.ClauseLemmas.{rising-fold, rising-tail}
 use Rattle.cdcl_rules.specs.declared.trail.Assigned.{Assigned}
 use Rattle.cdcl_rules.specs.State.{is_on, decision_count}
 use Rattle.cdcl_rules.specs.Learn.{resolvent, walk, current, Learned, learned}
 use Rattle.cdcl_rules.proofs.Chain.{is_in, is_in-filter, is_in-resolvent, above_head}
-use Rattle.cdcl_rules.specs.Trail.{IsReason, HasReason, IsTrail}
+use Rattle.cdcl_rules.specs.Trail.{HasReason, IsTrail}
 use Rattle.cdcl_rules.proofs.WalkLaw.{or_split, and_split, not_true, not_split, apart, test_same, same_test, opposite_twice}
 use Rattle.cdcl_laws.proofs.Asked.{AllFalse}
 use Rattle.cdcl_laws.proofs.Trails.{is_on-reverse, trail_apart}
@@ -61,10 +61,10 @@ pub record IsGood (n : ℕ) (trail : List Assigned) (c : List ℕ) : Type 0 wher
 
 good_resolvent : (n : ℕ) (trail : List Assigned) (clause : List ℕ) (x : ℕ) (forcing : List ℕ) → IsGood n trail clause → ((m : ℕ) → is_in forcing m ≡ true → (m ≡ x) ⊎ (is_on trail (opposite m) ≡ true)) → ((m : ℕ) → is_in forcing m ≡ true → m / 2 < n) → IsGood n trail (resolvent clause x forcing)
 good_resolvent n trail clause x forcing g f b = record {
-    rising = rising-fold (filter (λ l. not (l == opposite x)) clause) (filter (λ l. not (l == x)) forcing) (filter_rising (λ l. not (l == opposite x)) clause g.rising);
-    refuted = λ m e. refuted_by m (split m e);
-    below = λ m e. below_by m (split m e);
-  }
+  rising = rising-fold (filter (λ l. not (l == opposite x)) clause) (filter (λ l. not (l == x)) forcing) (filter_rising (λ l. not (l == opposite x)) clause g.rising);
+  refuted = λ m e. refuted_by m (split m e);
+  below = λ m e. below_by m (split m e);
+}
   where
     split : (m : ℕ) → is_in (resolvent clause x forcing) m ≡ true → ((is_in clause m && not (m == opposite x)) ≡ true) ⊎ ((is_in forcing m && not (m == x)) ≡ true)
     split m e = or_split (is_in clause m && not (m == opposite x)) (is_in forcing m && not (m == x)) (sym (is_in-resolvent clause x forcing m) ∙ e)
@@ -117,9 +117,9 @@ learned_good n clauses trail i k t b named rising refuted =
 -- such a clause is lawful
 pub good_clause : (n : ℕ) (clauses : List (List ℕ)) (trail : List Assigned) (c : List ℕ) → IsTrail clauses (reverse trail) → IsGood n trail c → IsClause c
 good_clause n clauses trail c t g = record {
-    rising = g.rising;
-    no_pair = none_in (λ l. list_any (λ m. m == opposite l) c) c (λ l e. not_true (is_in c (opposite l)) (λ (f : is_in c (opposite l) ≡ true). both l e f));
-  }
+  rising = g.rising;
+  no_pair = none_in (λ l. list_any (λ m. m == opposite l) c) c (λ l e. not_true (is_in c (opposite l)) (λ (f : is_in c (opposite l) ≡ true). both l e f));
+}
   where
     both : (l : ℕ) → is_in c l ≡ true → is_in c (opposite l) ≡ true → ⊥
     both l e f =

@@ -1,11 +1,10 @@
-use Rattle.std.proofs.Common.{arith, ◌≡◌, ℕ, List, [], ◌∷◌, ◌++◌, All, refl, sym}
+use Rattle.std.proofs.Common.{arith, ◌≡◌, ℕ, List, [], ◌∷◌, refl, sym}
 use Rattle.std.specs.List.{AllByRecursion}
 use Rattle.std.proofs.lemmas.List.{append-nil}
 use Rattle.std.proofs.lemmas.List.Elements.{recursion_from_All}
 use Rattle.clause_base.specs.Clause.{IsClause, HasVariablesBelow}
 use Rattle.cdcl_rules.specs.declared.standing.Standing.TheVariants.{Going, Found, Refuted}
-use Rattle.cdcl_rules.specs.Run.{start_of}
-use Rattle.cdcl_laws.specs.Sound.{IsLawful, IsSound}
+use Rattle.cdcl_laws.specs.Sound.{IsLawful}
 use Rattle.cdcl_laws.specs.Laws.{StartIsSound}
 
 both : (n : ℕ) (clauses : List (List ℕ)) → AllByRecursion IsClause clauses → AllByRecursion (HasVariablesBelow n) clauses → AllByRecursion (IsLawful n) clauses

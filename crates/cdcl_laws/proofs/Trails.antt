@@ -1,14 +1,13 @@
-use Rattle.std.proofs.Common.{rules, arith, ◌≡◌, ◌==◌, ℕ, zero, suc, ◌+◌, ◌-◌, List, [], ◌∷◌, ◌++◌, length, reverse, Bool, true, false, not, ◌||◌, ◌&&◌, refl, sym, ap, ◌∙◌, subst, filter, if◌then◌else◌, Option, Some, None, ◌⊎◌, inl, inr}
-use Rattle.std.specs.List.{list_any, slice_get}
+use Rattle.std.proofs.Common.{arith, ◌≡◌, ◌==◌, ℕ, zero, suc, ◌-◌, List, [], ◌∷◌, ◌++◌, reverse, Bool, true, false, ◌||◌, refl, sym, ap, ◌∙◌, subst, if◌then◌else◌, Option, Some, None, ◌⊎◌, inl, inr}
+use Rattle.std.specs.List.{slice_get}
 use Rattle.std.proofs.lemmas.List.{reverse-append}
 use Rattle.std.proofs.lemmas.List.Folds.{list_any-append}
 use Rattle.clause_base.specs.Literal.{opposite}
 use Rattle.cdcl_rules.specs.declared.trail.Assigned.{Assigned}
 use Rattle.cdcl_rules.specs.State.{is_on}
 use Rattle.cdcl_rules.specs.Learn.{cut}
-use Rattle.cdcl_rules.proofs.Chain.{is_in}
-use Rattle.cdcl_rules.specs.Trail.{IsReason, HasReason, IsEntry, IsTrail}
-use Rattle.cdcl_rules.proofs.WalkLaw.{or_split, not_true, apart, test_same, opposite_twice}
+use Rattle.cdcl_rules.specs.Trail.{HasReason, IsEntry, IsTrail}
+use Rattle.cdcl_rules.proofs.WalkLaw.{or_split, apart, test_same, opposite_twice}
 
 or_swap : (a b : Bool) → (a || (b || false)) ≡ (b || a)
 or_swap true true = refl

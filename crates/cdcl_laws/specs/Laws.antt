@@ -30,6 +30,18 @@ AddsUp choose x = (k : ℕ) (more : List ℕ) → fold (after choose) x (k ∷ m
 abbrev pub AfterAddsUp : Type 0
 AfterAddsUp = (f : Cnf) (choose : Known → Option ℕ) (x : State) → Opens f.variables choose → IsSound f x → AddsUp choose x
 
+-- a settled state stays as it is
+abbrev pub SettledStays : (Known → Option ℕ) → State → Type 0
+SettledStays choose x = is_going x.standing ≡ false → (k : ℕ) → after choose x k ≡ x
+
+-- each settled state stays as it is
+abbrev pub AfterSettled : Type 0
+AfterSettled = (choose : Known → Option ℕ) (x : State) → SettledStays choose x
+
+-- no more conflicts are handled than were asked for
+abbrev pub AfterIsWithin : Type 0
+AfterIsWithin = (choose : Known → Option ℕ) (x : State) (k : ℕ) → (after choose x k).conflicts ≤ x.conflicts + k
+
 -- an event that puts a literal on the trail
 abbrev pub is_assignment : Event → Bool
 is_assignment (Conflict i) = false

@@ -3,7 +3,7 @@ use Rattle.std.specs.List.{AllByRecursion}
 use Rattle.clause_base.specs.Formula.{Cnf, Satisfies}
 use Rattle.clause_base.specs.Clause.{IsClause, HasVariablesBelow}
 use Rattle.clause_base.specs.Derivation.{clauses_of, IsDerivation, EndsEmpty}
-use Rattle.cdcl_rules.specs.declared.standing.Standing.TheVariants.{Going, Found, Refuted}
+use Rattle.cdcl_rules.specs.declared.standing.Standing.TheVariants.{Found, Refuted}
 use Rattle.cdcl_rules.specs.declared.trail.Assigned.{Assigned}
 use Rattle.cdcl_rules.specs.State.{State, is_on}
 use Rattle.cdcl_rules.specs.Trail.{IsTrail}

@@ -1,4 +1,4 @@
-use Rattle.std.proofs.Common.{rules, arith, ◌≡◌, ℕ, zero, suc, ◌+◌, ◌≤◌, ◌<◌, Bool, true, false, not, ◌||◌, ◌&&◌, refl, sym, ◌∙◌, IsTrue, if◌then◌else◌, ap, nat_le, Option}
+use Rattle.std.proofs.Common.{arith, ◌≡◌, ℕ, ◌+◌, ◌≤◌, ◌<◌, Bool, true, false, not, ◌||◌, ◌&&◌, refl, sym, ◌∙◌, IsTrue, nat_le, Option}
 use Rattle.std.proofs.lemmas.Bool.Decides.{nat_tests}
 use Rattle.clause_base.specs.Choice.{Known}
 use Rattle.cdcl_rules.specs.State.{State}
@@ -6,7 +6,7 @@ use Rattle.cdcl_rules.specs.declared.event.Event.{Event}
 use Rattle.cdcl_rules.specs.declared.event.Event.TheVariants.{Conflict, Force, Decide, Finish}
 use Rattle.cdcl_rules.specs.Event.{event_of}
 use Rattle.cdcl_rules.specs.Run.{apply, next, rests, is_going, is_conflict}
-use Rattle.cdcl_rules.specs.Machine.{turns, ComesToRest}
+use Rattle.cdcl_rules.specs.Machine.{ComesToRest}
 use Rattle.cdcl_rules.proofs.Cutting.{Reaches, turns-add}
 
 waits_false : (going w : Bool) → going ≡ true → w ≡ false → (not going || w) ≡ false

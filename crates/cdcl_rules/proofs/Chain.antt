@@ -1,11 +1,11 @@
-use Rattle.std.proofs.Common.{rules, arith, ◌≡◌, ◌==◌, ℕ, zero, suc, ◌<◌, List, [], ◌∷◌, ◌++◌, length, Bool, true, false, not, ◌||◌, ◌&&◌, refl, sym, ap, ◌∙◌, subst, fold, filter, if◌then◌else◌, Option, Some, None, ◌⊎◌, inl, inr}
+use Rattle.std.proofs.Common.{arith, ◌≡◌, ◌==◌, ℕ, zero, suc, ◌<◌, List, [], ◌∷◌, ◌++◌, Bool, true, false, not, ◌||◌, ◌&&◌, refl, sym, ap, ◌∙◌, subst, filter, if◌then◌else◌, Some, ◌⊎◌, inl, inr}
 use Rattle.std.specs.List.{list_any, slice_get, AllByRecursion}
 use Rattle.std.proofs.lemmas.Bool.Decides.{nat_tests}
 use Rattle.std.proofs.lemmas.List.Folds.{list_any-append}
 use Rattle.clause_base.specs.Literal.{opposite}
-use Rattle.clause_base.specs.Clause.{IsRising, put}
+use Rattle.clause_base.specs.Clause.{IsRising}
 use Rattle.clause_base.proofs.ClauseLemmas.{list_any-fold}
-use Rattle.clause_base.specs.Derivation.{open_literals, leads_to_conflict, effect_of_open, effect_of, goes_on, Conflicts, Forces, Loose}
+use Rattle.clause_base.specs.Derivation.{open_literals, leads_to_conflict, effect_of_open, Forces}
 use Rattle.cdcl_rules.specs.Learn.{resolvent}
 
 abbrev pub is_in : List ℕ → ℕ → Bool

@@ -1,4 +1,4 @@
-use Rattle.std.proofs.Common.{rules, arith, ◌≡◌, ℕ, zero, suc, ◌+◌, ◌<◌, ◌≤◌, Bool, true, false, refl, sym, ◌∙◌, IsTrue, if◌then◌else◌, ap, zero-add, suc-add, add_comm, subst, ◌⊎◌, inl, inr}
+use Rattle.std.proofs.Common.{arith, ◌≡◌, ℕ, zero, suc, ◌+◌, ◌<◌, ◌≤◌, Bool, true, false, refl, sym, ◌∙◌, if◌then◌else◌, zero-add, suc-add, add_comm, subst, ◌⊎◌, inl, inr}
 use Rattle.cdcl_rules.specs.Machine.{turns, ComesToRest}
 
 module _ {S : Type 0} (next : S → S) (rests : ℕ → S → Bool) where

@@ -1,7 +1,6 @@
-use Rattle.std.proofs.Common.{rules, arith, ◌≡◌, ℕ, zero, suc, ◌+◌, ◌-◌, ◌*◌, ◌/◌, ◌%◌, ◌==◌, ◌<◌, ◌≤◌, Bool, true, false, not, ◌||◌, ◌&&◌, refl, sym, ◌∙◌, IsTrue, if◌then◌else◌, ap, List, [], ◌∷◌, ◌++◌, Option, Some, None, filter, All, length, slice_index_or, ◌⊎◌, inl, inr, zero-add, add-zero}
+use Rattle.std.proofs.Common.{arith, ◌≡◌, ℕ, zero, suc, ◌+◌, ◌*◌, ◌/◌, ◌%◌, ◌==◌, ◌<◌, ◌≤◌, Bool, true, false, not, ◌||◌, refl, sym, ◌∙◌, if◌then◌else◌, ap, List, [], ◌∷◌, ◌++◌, Option, Some, None, filter, All, length, ◌⊎◌, inl, inr, zero-add, add-zero}
 use Rattle.std.specs.Prelude.{is_none}
 use Rattle.std.specs.List.{list_any, slice_get, AllByRecursion}
-use Rattle.std.proofs.lemmas.Grind.{common_steps}
 use Rattle.std.proofs.lemmas.Bool.Decides.{nat_tests}
 use Rattle.std.proofs.lemmas.List.Folds.{list_any-append}
 use Rattle.std.proofs.lemmas.List.Elements.{recursion_from_All}

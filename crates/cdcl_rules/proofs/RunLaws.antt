@@ -1,4 +1,4 @@
-use Rattle.std.proofs.Common.{rules, arith, ◌≡◌, ℕ, zero, suc, ◌+◌, ◌≤◌, ◌<◌, Bool, true, false, not, ◌||◌, ◌&&◌, refl, sym, ◌∙◌, IsTrue, if◌then◌else◌, ap, zero-add, suc-add, nat_le, Option, ◌⊎◌, inl, inr, subst}
+use Rattle.std.proofs.Common.{arith, ◌≡◌, ℕ, zero, suc, ◌+◌, ◌≤◌, Bool, true, false, not, ◌||◌, ◌&&◌, refl, sym, ◌∙◌, if◌then◌else◌, nat_le, Option, ◌⊎◌, inl, inr, subst}
 use Rattle.std.proofs.lemmas.Bool.Decides.{nat_tests}
 use Rattle.clause_base.specs.Choice.{Known}
 use Rattle.cdcl_rules.specs.State.{State}
@@ -37,7 +37,7 @@ module _ (choose : Known → Option ℕ) where
       below_test (is_going s.standing) (is_conflict (event_of choose s)) limit s.conflicts _ e (conflicts-apply s (event_of choose s)) l
 
   -- no more conflicts than the limit
-  below : (limit n : ℕ) (s : State) → s.conflicts ≤ limit → (turns (next choose) (rests choose) limit n s).conflicts ≤ limit
+  pub below : (limit n : ℕ) (s : State) → s.conflicts ≤ limit → (turns (next choose) (rests choose) limit n s).conflicts ≤ limit
   below limit zero s l = l
   below limit (suc n) s l = below limit n _ (below_turn limit s (rests choose limit s) refl l)
 

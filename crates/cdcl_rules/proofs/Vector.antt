@@ -1,8 +1,6 @@
-use Rattle.std.proofs.Common.{◌≡◌, ℕ, List, [], ◌∷◌, map, refl}
-use Rattle.clause_base.specs.declared.log.Entry.{Entry}
+use Rattle.std.proofs.Common.{◌≡◌, ℕ, [], ◌∷◌, map, refl}
 use Rattle.clause_base.specs.Formula.{Cnf}
-use Rattle.cdcl_rules.specs.declared.standing.Standing.{Standing}
-use Rattle.cdcl_rules.specs.declared.standing.Standing.TheVariants.{Going, Found, Refuted}
+use Rattle.cdcl_rules.specs.declared.standing.Standing.TheVariants.{Refuted}
 use Rattle.clause_base.specs.Choice.{plain_choice}
 use Rattle.cdcl_rules.specs.State.{State}
 use Rattle.cdcl_rules.specs.Run.{start_of, next, rests}

@@ -1,5 +1,5 @@
-use Rattle.std.proofs.Common.{rules, arith, ◌≡◌, ◌==◌, ℕ, ◌+◌, ◌-◌, ◌%◌, List, [], ◌∷◌, ◌++◌, length, Bool, true, false, not, ◌||◌, ◌&&◌, refl, sym, ap, ◌∙◌, subst, if◌then◌else◌, Option, Some, None, ◌⊎◌, inl, inr, unwrap_or, reverse}
-use Rattle.std.specs.List.{list_any, slice_get, AllByRecursion}
+use Rattle.std.proofs.Common.{arith, ◌≡◌, ◌==◌, ℕ, List, [], ◌∷◌, ◌++◌, length, Bool, true, false, not, ◌||◌, ◌&&◌, refl, sym, ap, ◌∙◌, subst, if◌then◌else◌, Option, Some, None, ◌⊎◌, inl, inr, unwrap_or, reverse}
+use Rattle.std.specs.List.{slice_get, AllByRecursion}
 use Rattle.std.proofs.lemmas.Bool.Decides.{nat_tests}
 use Rattle.clause_base.specs.Literal.{opposite}
 use Rattle.clause_base.specs.Clause.{IsRising}
@@ -35,11 +35,11 @@ older_later a older (l ∷ ls) h = (((or_none (a.literal == l) (is_on older l) h
 -- an entry whose opposite is not in the clause is passed over
 passed : (clauses : List (List ℕ)) (a : Assigned) (older : List Assigned) (i : ℕ) (c : Learned) → is_in c.clause (opposite a.literal) ≡ false → IsWalk clauses (a ∷ older) i c → IsWalk clauses older i c
 passed clauses a older i c off w = record {
-    forced = w.forced;
-    chain = w.chain;
-    refuted = λ m e. by m e (or_split (a.literal == opposite m) (is_on older (opposite m)) (w.refuted m e));
-    later = older_later a older w.forced w.later;
-  }
+  forced = w.forced;
+  chain = w.chain;
+  refuted = λ m e. by m e (or_split (a.literal == opposite m) (is_on older (opposite m)) (w.refuted m e));
+  later = older_later a older w.forced w.later;
+}
   where
     by : (m : ℕ) → is_in c.clause m ≡ true → ((a.literal == opposite m) ≡ true) ⊎ (is_on older (opposite m) ≡ true) → is_on older (opposite m) ≡ true
     by m e (inr h) = h
@@ -102,13 +102,14 @@ none_of false b e f = f
 fresh_one : (a : Assigned) (older : List Assigned) (clause : List ℕ) (l : ℕ) → ((m : ℕ) → is_in clause m ≡ true → is_on older (opposite m) ≡ true) → is_on (a ∷ older) l ≡ false → is_on (a ∷ older) (opposite l) ≡ false → IsFresh (clause ++ opposite a.literal ∷ []) l
 fresh_one a older clause l r f g =
     let p = or_none (a.literal == l) (is_on older l) f in
-    let q = or_none (a.literal == opposite l) (is_on older (opposite l)) g in
-    (is_in-push clause (opposite a.literal) l ∙ none_of (is_in clause l) (opposite a.literal == l)
-      (not_true (is_in clause l) (λ (t : is_in clause l ≡ true). apart (is_on older (opposite l)) (r l t) q.1))
-      (not_true (opposite a.literal == l) (λ (t : (opposite a.literal == l) ≡ true). apart (a.literal == opposite l) (same_test a.literal (opposite l) (sym (opposite_twice a.literal) ∙ ap opposite (test_same (opposite a.literal) l t))) q.0)),
-     is_in-push clause (opposite a.literal) (opposite l) ∙ none_of (is_in clause (opposite l)) (opposite a.literal == opposite l)
-      (not_true (is_in clause (opposite l)) (λ (t : is_in clause (opposite l) ≡ true). apart (is_on older l) (ap (is_on older) (sym (opposite_twice l)) ∙ r (opposite l) t) p.1))
-      (not_true (opposite a.literal == opposite l) (λ (t : (opposite a.literal == opposite l) ≡ true). apart (a.literal == l) (same_test a.literal l (sym (opposite_twice a.literal) ∙ opposite_of (opposite a.literal) l (test_same (opposite a.literal) (opposite l) t))) p.0)))
+    let q = or_none (a.literal == opposite l) (is_on older (opposite l)) g in (
+      is_in-push clause (opposite a.literal) l ∙ none_of (is_in clause l) (opposite a.literal == l)
+          (not_true (is_in clause l) (λ (t : is_in clause l ≡ true). apart (is_on older (opposite l)) (r l t) q.1))
+          (not_true (opposite a.literal == l) (λ (t : (opposite a.literal == l) ≡ true). apart (a.literal == opposite l) (same_test a.literal (opposite l) (sym (opposite_twice a.literal) ∙ ap opposite (test_same (opposite a.literal) l t))) q.0)),
+      is_in-push clause (opposite a.literal) (opposite l) ∙ none_of (is_in clause (opposite l)) (opposite a.literal == opposite l)
+          (not_true (is_in clause (opposite l)) (λ (t : is_in clause (opposite l) ≡ true). apart (is_on older l) (ap (is_on older) (sym (opposite_twice l)) ∙ r (opposite l) t) p.1))
+          (not_true (opposite a.literal == opposite l) (λ (t : (opposite a.literal == opposite l) ≡ true). apart (a.literal == l) (same_test a.literal l (sym (opposite_twice a.literal) ∙ opposite_of (opposite a.literal) l (test_same (opposite a.literal) (opposite l) t))) p.0)),
+    )
 
 fresh_all : (a : Assigned) (older : List Assigned) (clause : List ℕ) (ls : List ℕ) → ((m : ℕ) → is_in clause m ≡ true → is_on older (opposite m) ≡ true) → AllByRecursion (λ l. (is_on (a ∷ older) l ≡ false) × (is_on (a ∷ older) (opposite l) ≡ false)) ls → AllByRecursion (IsFresh (clause ++ opposite a.literal ∷ [])) ls
 fresh_all a older clause [] r h = tt
@@ -120,9 +121,10 @@ resolved clauses a older i r c entry reason w =
     let refuted = resolvent_refuted a older c.clause reason.clause w.refuted reason.others in
     let x = a.literal in
     let new = resolvent c.clause a.literal reason.clause in
-    let fresh : IsFresh new x =
-      (not_true (is_in new x) (λ (t : is_in new x ≡ true). apart (is_on older (opposite x)) (refuted x t) entry.free),
-       not_true (is_in new (opposite x)) (λ (t : is_in new (opposite x) ≡ true). apart (is_on older x) (ap (is_on older) (sym (opposite_twice x)) ∙ refuted (opposite x) t) entry.off)) in
+    let fresh : IsFresh new x = (
+      not_true (is_in new x) (λ (t : is_in new x ≡ true). apart (is_on older (opposite x)) (refuted x t) entry.free),
+      not_true (is_in new (opposite x)) (λ (t : is_in new (opposite x) ≡ true). apart (is_on older x) (ap (is_on older) (sym (opposite_twice x)) ∙ refuted (opposite x) t) entry.off),
+    ) in
     record {
       forced = x ∷ w.forced;
       chain = chain_resolved clauses c.clause reason.clause (c.hints ++ i ∷ []) w.forced x r reason.named reason.has fresh (fresh_all a older new w.forced refuted w.later) w.chain;

@@ -1,9 +1,9 @@
-use Rattle.std.specs.Prelude.{ℕ, ◌+◌, ◌-◌, ◌==◌, ◌&&◌, max, List, [], ◌∷◌, ◌++◌, map, Bool, true, false, not, Option, Some, None, if◌then◌else◌, filter, reverse, length, nat_lt, slice_get, unwrap_or, fold}
+use Rattle.std.specs.Prelude.{ℕ, ◌+◌, ◌-◌, ◌==◌, ◌&&◌, max, List, [], ◌∷◌, ◌++◌, map, not, Some, None, if◌then◌else◌, filter, reverse, length, slice_get, unwrap_or, fold}
 use Rattle.std.specs.List.{list_any}
 use Rattle.clause_base.specs.Literal.{opposite}
 use Rattle.clause_base.specs.Clause.{put}
 use Rattle.cdcl_rules.specs.declared.trail.Assigned.{Assigned}
-use Rattle.cdcl_rules.specs.State.{is_on, decision_count}
+use Rattle.cdcl_rules.specs.State.{decision_count}
 
 -- the resolvent of two clauses on a literal of the second, whose opposite the first has
 abbrev pub resolvent : List ℕ → ℕ → List ℕ → List ℕ

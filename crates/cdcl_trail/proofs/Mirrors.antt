@@ -1,12 +1,11 @@
-use Rattle.std.proofs.Common.{rules, arith, ◌≡◌, ◌≢◌, ◌==◌, ℕ, zero, suc, ◌+◌, ◌-◌, ◌*◌, ◌/◌, ◌%◌, ◌<◌, ◌≤◌, List, [], ◌∷◌, ◌++◌, length, reverse, set, get_or, Bool, true, false, not, ◌||◌, ◌&&◌, refl, sym, ap, ◌∙◌, subst, if◌then◌else◌, Option, Some, None, ◌⊎◌, inl, inr, All, length-set, get_or-set_same, get_or-set_other, zero-add, replicate}
-use Rattle.std.specs.List.{list_any, slice_get, AllByRecursion}
+use Rattle.std.proofs.Common.{arith, ◌≡◌, ◌≢◌, ◌==◌, ℕ, zero, suc, ◌+◌, ◌-◌, ◌*◌, ◌/◌, ◌%◌, ◌<◌, ◌≤◌, List, [], ◌∷◌, ◌++◌, length, reverse, set, get_or, Bool, true, false, not, ◌||◌, refl, sym, ap, ◌∙◌, subst, if◌then◌else◌, Option, Some, None, ◌⊎◌, inl, inr, All, length-set, get_or-set_same, get_or-set_other, zero-add, replicate}
+use Rattle.std.specs.List.{slice_get, AllByRecursion}
 use Rattle.std.specs.Option.{option_eq}
 use Rattle.std.proofs.Math.Bool.{beq}
 use Rattle.std.proofs.Math.Nat.{eq-or-lt_of_le}
 use Rattle.std.proofs.lemmas.List.{reverse-append, length-reverse}
 use Rattle.std.proofs.lemmas.List.Elements.{All-push, All-from_recursion, recursion_from_All}
 use Rattle.std.proofs.lemmas.Bool.Decides.{nat_tests}
-use Rattle.clause_base.specs.Literal.{opposite}
 use Rattle.cdcl_rules.specs.declared.trail.Assigned.{Assigned}
 use Rattle.clause_base.specs.Choice.{Known}
 use Rattle.cdcl_rules.specs.State.{is_on, value_of, values_of, values_from, decision_count}
@@ -181,14 +180,14 @@ off_of_none es l e = by (is_on es l) refl
 -- one more entry
 pub mirrored_push : (n : ℕ) (es : List Assigned) (vs : Known) (ls : List ℕ) (level : ℕ) (a : Assigned) → IsMirrored n es vs ls level → a.literal / 2 < n → value_of es (a.literal / 2) ≡ None → IsMirrored n (es ++ a ∷ []) (set vs (a.literal / 2) (Some (a.literal % 2 == 0))) (set ls (a.literal / 2) (level + step_of a.reason)) (level + step_of a.reason)
 mirrored_push n es vs ls level a m b e = record {
-    values_are = ap (λ (xs : Known). set xs w (Some (a.literal % 2 == 0))) m.values_are ∙ sym (values_set_at es (es ++ a ∷ []) w n (Some (a.literal % 2 == 0)) (value_of-own es a e) (value_of-other es a));
-    levels_len = length-set ls w (level + step_of a.reason) ∙ m.levels_len;
-    levels_are = λ l h. by l (is_on es l) refl h;
-    level_is = ap (λ (k : ℕ). k + step_of a.reason) m.level_is ∙ sym (decisions-push es a);
-    below = All-push (λ x. x.literal / 2 < n) es a m.below b;
-    once = subst IsOnce (sym (reverse-append es (a ∷ []))) (value_of-reverse es w ∙ e, m.once);
-    small = m.small;
-  }
+  values_are = ap (λ (xs : Known). set xs w (Some (a.literal % 2 == 0))) m.values_are ∙ sym (values_set_at es (es ++ a ∷ []) w n (Some (a.literal % 2 == 0)) (value_of-own es a e) (value_of-other es a));
+  levels_len = length-set ls w (level + step_of a.reason) ∙ m.levels_len;
+  levels_are = λ l h. by l (is_on es l) refl h;
+  level_is = ap (λ (k : ℕ). k + step_of a.reason) m.level_is ∙ sym (decisions-push es a);
+  below = All-push (λ x. x.literal / 2 < n) es a m.below b;
+  once = subst IsOnce (sym (reverse-append es (a ∷ []))) (value_of-reverse es w ∙ e, m.once);
+  small = m.small;
+}
   where
     w : ℕ
     w = a.literal / 2

@@ -1,5 +1,4 @@
-use Rattle.std.specs.Prelude.{◌≡◌, ℕ, ◌+◌, ◌*◌, ◌/◌, ◌%◌, ◌<◌, ◌≤◌, ◌==◌, List, [], ◌∷◌, length, reverse, slice_index, Bool, true, false, All, Option, Some, None}
-use Rattle.clause_base.specs.Literal.{opposite}
+use Rattle.std.specs.Prelude.{◌≡◌, ℕ, ◌/◌, ◌<◌, ◌≤◌, List, [], ◌∷◌, length, reverse, slice_index, true, All, Option, Some, None}
 use Rattle.cdcl_rules.specs.declared.trail.Assigned.{Assigned}
 use Rattle.clause_base.specs.Choice.{Known}
 use Rattle.cdcl_rules.specs.State.{is_on, value_of, values_of, decision_count}

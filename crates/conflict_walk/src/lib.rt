@@ -5,4 +5,6 @@ pub mod back;
 pub mod draft;
 pub mod learn;
 pub mod named;
+#[cfg(test)]
+mod tests;
 pub mod walk;

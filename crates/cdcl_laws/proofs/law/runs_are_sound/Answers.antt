@@ -1,6 +1,6 @@
 use Rattle.cdcl_laws.proofs.Start.{start_sound}
 use Rattle.cdcl_laws.proofs.Fuel.{sound_after, after_is}
-use Rattle.cdcl_laws.proofs.Cuts.{adds_up, quiet_short}
+use Rattle.cdcl_laws.proofs.Cuts.{adds_up, settled_stays, after_within, quiet_short}
 use Rattle.cdcl_laws.proofs.law.runs_are_sound.Goals as goal
 
 pub returns-clause-start : goal.returns-clause-start
@@ -17,3 +17,9 @@ returns-clause-adds_up c = adds_up
 
 pub returns-clause-short : goal.returns-clause-short
 returns-clause-short c = quiet_short
+
+pub returns-clause-settled : goal.returns-clause-settled
+returns-clause-settled c = settled_stays
+
+pub returns-clause-within : goal.returns-clause-within
+returns-clause-within c = after_within

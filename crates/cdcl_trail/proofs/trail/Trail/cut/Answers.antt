@@ -1,9 +1,8 @@
-use Rattle.std.proofs.Common.{arith, ◌≡◌, ◌<◌, ◌≤◌, ◌+◌, ◌++◌, ◌∷◌, ◌/◌, ℕ, List, [], None, Option, Bool, length, sym, ◌∙◌, ap, subst}
+use Rattle.std.proofs.Common.{arith, ◌≡◌, ℕ, List, sym, ◌∙◌, ap, subst}
 use Rattle.cdcl_rules.specs.declared.trail.Assigned.{Assigned}
 use Rattle.cdcl_rules.specs.Learn.{cut}
-use Rattle.cdcl_rules.specs.State.{values_of, value_of}
-use Rattle.cdcl_trail.specs.Mirrored.{TrailView, IsMirrored, step_of}
-use Rattle.cdcl_trail.proofs.Mirrors.{level_fits, values_len, mirrored_pop, cut_push, cut_all, last_fits}
+use Rattle.cdcl_trail.specs.Mirrored.{TrailView, IsMirrored}
+use Rattle.cdcl_trail.proofs.Mirrors.{mirrored_pop, cut_push, cut_all, last_fits}
 use Rattle.cdcl_trail.proofs.trail.Trail.cut.Goals as goal
 
 same_view : (n m : ℕ) (es fs : List Assigned) → n ≡ m → es ≡ fs → (let x : TrailView = record { variables = n; entries = es } in x) ≡ (let y : TrailView = record { variables = m; entries = fs } in y)

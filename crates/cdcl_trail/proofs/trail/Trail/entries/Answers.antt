@@ -1,4 +1,4 @@
-use Rattle.std.proofs.Common.{arith, ◌≡◌, ◌≤◌, ℕ, length, List, subst}
+use Rattle.std.proofs.Common.{◌≤◌, length, subst}
 use Rattle.cdcl_trail.specs.Mirrored.{TrailView}
 use Rattle.cdcl_trail.proofs.Mirrors.{entries_fit}
 use Rattle.cdcl_trail.proofs.trail.Trail.entries.Goals as goal

@@ -1,4 +1,4 @@
-use Rattle.std.proofs.Common.{arith, ◌≡◌, ◌<◌, ◌/◌, ◌%◌, ◌==◌, ℕ, Bool, Option, length, sym, ◌∙◌, ap}
+use Rattle.std.proofs.Common.{arith, ◌≡◌, ◌/◌, ◌%◌, ◌==◌, Bool, Option, length, sym, ◌∙◌, ap}
 use Rattle.cdcl_rules.specs.State.{is_on, value_of}
 use Rattle.cdcl_trail.specs.Mirrored.{TrailView}
 use Rattle.cdcl_trail.proofs.Mirrors.{value_got, values_len, sign_on, sign_test, is_sign}

@@ -1,4 +1,4 @@
-use Rattle.std.proofs.Common.{arith, ◌≡◌, ℕ, length}
+use Rattle.std.proofs.Common.{arith}
 use Rattle.cdcl_trail.proofs.Mirrors.{mirrored_new}
 use Rattle.cdcl_trail.proofs.trail.Trail.new.Goals as goal
 

@@ -1,7 +1,6 @@
-use Rattle.std.proofs.Common.{arith, ◌≡◌, ◌<◌, ◌≤◌, ◌+◌, ◌++◌, ◌∷◌, ◌/◌, ℕ, List, [], None, Option, Bool, length, sym, ◌∙◌, ap, subst}
-use Rattle.cdcl_rules.specs.declared.trail.Assigned.{Assigned}
-use Rattle.cdcl_rules.specs.State.{values_of, value_of}
-use Rattle.cdcl_trail.specs.Mirrored.{TrailView, IsMirrored, step_of}
+use Rattle.std.proofs.Common.{arith, ◌≡◌, ◌<◌, ◌/◌, None, length, ◌∙◌, ap}
+use Rattle.cdcl_rules.specs.State.{value_of}
+use Rattle.cdcl_trail.specs.Mirrored.{TrailView}
 use Rattle.cdcl_trail.proofs.Mirrors.{level_fits, values_len, mirrored_push}
 use Rattle.cdcl_trail.proofs.trail.Trail.push.Goals as goal
 

@@ -1,4 +1,4 @@
-use Rattle.std.proofs.Common.{arith, ◌≡◌, ◌<◌, ℕ, length, sym, ◌∙◌, ap}
+use Rattle.std.proofs.Common.{arith, ◌≡◌, length, sym, ◌∙◌, ap}
 use Rattle.cdcl_rules.specs.State.{value_of}
 use Rattle.cdcl_trail.specs.Mirrored.{TrailView}
 use Rattle.cdcl_trail.proofs.Mirrors.{value_got, values_len}
