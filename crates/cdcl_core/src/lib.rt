@@ -11,8 +11,12 @@
 //! ```
 #![tactic(auto)]
 
+#[cfg(test)]
+mod cases;
 pub mod pending;
 pub mod search;
 pub mod solver;
+#[cfg(test)]
+mod tests;
 
 pub use cdcl_rules::standing::Standing;

@@ -22,7 +22,7 @@ use clause_base::memory::Memory;
 use clause_base::values::Values;
 use conflict_walk::back::back_level;
 use conflict_walk::draft::Draft;
-use conflict_walk::learn::{learn, Lesson};
+use conflict_walk::learn::{Lesson, learn};
 use std::alloc::Global;
 use std::marker::Model;
 

@@ -6,7 +6,7 @@ ghost use Rattle.cdcl_rules.specs.Event.{event_of};
 ghost use Rattle.cdcl_rules.specs.Open.{Opens};
 ghost use Rattle.cdcl_rules.specs.Run.{start_of, apply, after, is_going, is_conflict, IsAfter};
 ghost use Rattle.cdcl_laws.specs.Sound.{IsSound, made_true};
-ghost use Rattle.cdcl_laws.specs.Laws.{AddsUp};
+ghost use Rattle.cdcl_laws.specs.Laws.{AddsUp, SettledStays};
 ghost use Rattle.cdcl_core.specs.Search.{SolverView, IsNextEvent};
 
 use crate::search::Search;
@@ -169,7 +169,9 @@ impl<C: Chooser> Solver<C> {
     pub fn advance(&mut self, conflicts: u32) -> Result<(), Memory>
         requires { self.old.state.conflicts + conflicts ≤ 1073741824 }
         ensures after { OnOk result (self.new.state ≡ after (C.choice self.old.chooser) self.old.state conflicts) }
+        ensures within { OnOk result (self.new.state.conflicts ≤ self.old.state.conflicts + conflicts) }
         ensures adds_up { AddsUp (C.choice self.old.chooser) self.old.state }
+        ensures settled { SettledStays (C.choice self.old.chooser) self.old.state }
         ensures formula { self.new.formula ≡ self.old.formula }
         ensures chooser { self.new.chooser ≡ self.old.chooser }
         ensures sane { OnOk result (self.old.spoilt ≡ false) }

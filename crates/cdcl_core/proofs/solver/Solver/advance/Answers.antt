@@ -1,8 +1,9 @@
-use Rattle.std.proofs.Common.{◌≡◌, ℕ, List, length, sym, ap, ◌∙◌, subst, Result, Ok, Err, OnOk}
+use Rattle.std.proofs.Common.{◌≡◌, ◌≤◌, ◌+◌, ℕ, List, length, sym, ap, ◌∙◌, subst, Result, Ok, Err, OnOk}
+use Rattle.cdcl_rules.specs.State.{State}
 use Rattle.cdcl_rules.specs.Open.{Opens}
 use Rattle.cdcl_laws.specs.Sound.{IsSound}
 use Rattle.cdcl_laws.proofs.Fuel.{after_is}
-use Rattle.cdcl_laws.proofs.Cuts.{adds_up}
+use Rattle.cdcl_laws.proofs.Cuts.{adds_up, after_within, settled_stays}
 use Rattle.cdcl_core.specs.Search.{SolverView}
 use Rattle.cdcl_core.proofs.solver.Solver.advance.Goals as goal
 
@@ -33,3 +34,14 @@ returns-clause-adds_up g c =
     let opens : Opens v.formula.variables (g.C.Chooser.choice v.chooser) = λ values e. g.met.C.Chooser.opens v.chooser values (subst (g.C.Chooser.fits v.chooser) (sym e) fits) in
     let sound = subst (λ (w : SolverView g.row.C.Denot). IsSound w.formula w.state) c.self.view_is c.conflicts-sound.ensures.sound in
     adds_up v.formula (g.C.Chooser.choice v.chooser) v.state opens sound
+
+pub returns-clause-within : goal.returns-clause-within
+returns-clause-within g c =
+    let v = c.args.self.now in
+    on_ok c.run.result (λ e. subst (λ (s : State). s.conflicts ≤ v.state.conflicts + c.args.conflicts) (sym e) (after_within (g.C.Chooser.choice v.chooser) v.state c.args.conflicts)) (returns-clause-after g c)
+
+pub returns-then-is_spoilt-clause-settled : goal.returns-then-is_spoilt-clause-settled
+returns-then-is_spoilt-clause-settled g c = settled_stays (g.C.Chooser.choice c.args.self.now.chooser) c.args.self.now.state
+
+pub returns-clause-settled : goal.returns-clause-settled
+returns-clause-settled g c = settled_stays (g.C.Chooser.choice c.args.self.now.chooser) c.args.self.now.state
