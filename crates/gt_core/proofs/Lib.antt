@@ -1,0 +1,12 @@
+pub mod Basics
+pub mod Pairwise
+pub mod Literals
+pub mod Makers
+pub mod PublishedLaw
+pub mod RunLaw
+pub mod StepLaw
+pub mod ListOrder
+pub mod Within
+pub mod NextLaw
+pub mod LayoutLaw
+pub mod ClausesLaw

@@ -1,0 +1,16 @@
+use Rattle.gt_core.proofs.RunLaw.{runs_in_order}
+use Rattle.gt_core.proofs.StepLaw.{step_of_one, step_of_none}
+use Rattle.gt_core.proofs.PublishedLaw.{published_keeps_apart}
+use Rattle.gt_core.proofs.laws.laws.Goals as goal
+
+pub returns-clause-runs_in_order : goal.returns-clause-runs_in_order
+returns-clause-runs_in_order c = runs_in_order
+
+pub returns-clause-one_action : goal.returns-clause-one_action
+returns-clause-one_action c = step_of_one
+
+pub returns-clause-empty_set : goal.returns-clause-empty_set
+returns-clause-empty_set c = step_of_none
+
+pub returns-clause-keeps_apart : goal.returns-clause-keeps_apart
+returns-clause-keeps_apart c = published_keeps_apart

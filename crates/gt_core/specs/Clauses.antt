@@ -1,0 +1,28 @@
+use Rattle.std.specs.Prelude.{◌≡◌, ℕ, ◌+◌, ◌*◌, ◌/◌, ◌<◌, ◌≤◌, ◌⊎◌, List, Bool, false, length, slice_index_or}
+use Rattle.std.specs.List.{AllByRecursion}
+use Rattle.gt_core.specs.Interference.{has_clause}
+use Rattle.gt_core.specs.Published.{Pairwise}
+
+-- a set of known clauses over so many facts
+pub record KnownClauses : Type 0 where
+  pub facts : ℕ
+  pub clauses : List (ℕ × ℕ)
+
+-- a clause of one literal, which stands twice, or of two literals of different facts, the smaller first
+abbrev pub IsClause : ℕ → ℕ × ℕ → Type 0
+IsClause facts c = (c.0 ≤ c.1) × (c.1 < 2 * facts) × ((c.0 ≡ c.1) ⊎ (c.0 / 2 < c.1 / 2))
+
+-- one clause comes before another: by the smaller literal, then by the greater
+abbrev pub IsBefore : ℕ × ℕ → ℕ × ℕ → Type 0
+IsBefore c d = (c.0 < d.0) ⊎ ((c.0 ≡ d.0) × (c.1 < d.1))
+
+-- what each set of known clauses keeps: its clauses are over its facts, sorted, without repeats
+pub record IsKnownClauses (known : KnownClauses) : Type 0 where
+  pub few : known.facts ≤ 2048
+  pub lawful : AllByRecursion (IsClause known.facts) known.clauses
+  pub sorted : Pairwise IsBefore known.clauses
+
+-- a table that says of each two literals whether their clause is known
+pub record IsTable (facts : ℕ) (clauses : List (ℕ × ℕ)) (known : List Bool) : Type 0 where
+  pub long : length known ≡ (2 * facts) * (2 * facts)
+  pub tells : (l m : ℕ) → l < 2 * facts → m < 2 * facts → slice_index_or known (l * (2 * facts) + m) false ≡ has_clause clauses l m

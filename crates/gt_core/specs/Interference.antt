@@ -1,0 +1,71 @@
+use Rattle.std.specs.Prelude.{◌≡◌, ℕ, ◌+◌, ◌*◌, ◌/◌, ◌==◌, List, Bool, true, not, ◌&&◌, ◌||◌, length}
+use Rattle.std.specs.List.{list_any, AllByRecursion}
+use Rattle.gt_core.specs.Literal.{opposite, is_in, holds}
+use Rattle.gt_core.specs.Task.{Task, effects, precondition}
+
+-- an action has a fact in an effect condition
+abbrev pub asks : Task → ℕ → ℕ → Bool
+asks task a f = list_any (λ e. (e.action == a) && list_any (λ c. c / 2 == f) e.condition) (effects task)
+
+-- one action disables another: an effect of it takes a precondition of the other, or has the fact of a literal in
+-- an effect condition of the other (Rintanen, Heljanko and Niemelä 2006)
+abbrev pub disables : Task → ℕ → ℕ → Bool
+disables task a b =
+    not (a == b)
+    && list_any (λ e. (e.action == a) && (is_in (precondition task b) (opposite e.literal) || asks task b (e.literal / 2))) (effects task)
+
+-- Known clauses: each a pair of literals of which one holds in every state that actions reach; one literal by
+-- itself stands twice.
+
+-- the clause of two literals is known
+abbrev pub has_clause : List (ℕ × ℕ) → ℕ → ℕ → Bool
+has_clause clauses l m = list_any (λ c. ((c.0 == l) && (c.1 == m)) || ((c.0 == m) && (c.1 == l))) clauses
+
+-- a state in which each known clause holds
+abbrev pub Knows : List (ℕ × ℕ) → (ℕ → Bool) → Type 0
+Knows clauses s = AllByRecursion (λ c. (holds s c.0 || holds s c.1) ≡ true) clauses
+
+-- two literals never hold together, as far as is known
+abbrev pub exclusive : List (ℕ × ℕ) → ℕ → ℕ → Bool
+exclusive clauses p q =
+    (q == opposite p) || (has_clause clauses (opposite p) (opposite q)
+    || (has_clause clauses (opposite p) (opposite p) || has_clause clauses (opposite q) (opposite q)))
+
+-- an action has an effect without condition that makes a literal true
+abbrev pub surely_makes : Task → ℕ → ℕ → Bool
+surely_makes task a l = list_any (λ e. (e.action == a) && ((e.literal == l) && (length e.condition == 0))) (effects task)
+
+-- an action has an effect with this literal
+abbrev pub may_make : Task → ℕ → ℕ → Bool
+may_make task a l = list_any (λ e. (e.action == a) && (e.literal == l)) (effects task)
+
+-- a sure gain: a fact that the action adds without condition
+abbrev pub surely_gains : Task → ℕ → ℕ → Bool
+surely_gains task a f = surely_makes task a (2 * f)
+
+-- a sure loss: a fact that the action deletes without condition, and that no effect of it adds
+abbrev pub surely_loses : Task → ℕ → ℕ → Bool
+surely_loses task a f = surely_makes task a (2 * f + 1) && not (may_make task a (2 * f))
+
+-- some fact is a sure gain of the one and a sure loss of the other
+abbrev pub surely_clash : Task → ℕ → ℕ → Bool
+surely_clash task a b = list_any (λ e. surely_gains task a (e.literal / 2) && surely_loses task b (e.literal / 2)) (effects task)
+
+-- two actions may share a step, as far as is known: their preconditions do not exclude each other, and neither
+-- surely gains what the other surely loses
+abbrev pub together : Task → List (ℕ × ℕ) → ℕ → ℕ → Bool
+together task clauses a b =
+    not (list_any (λ p. list_any (exclusive clauses p) (precondition task b)) (precondition task a))
+    && (not (surely_clash task a b) && not (surely_clash task b a))
+
+-- the graph of the published order: an edge leads from a to b where a disables b and both may share a step
+abbrev pub has_edge : Task → List (ℕ × ℕ) → ℕ → ℕ → Bool
+has_edge task clauses a b = disables task a b && together task clauses a b
+
+-- an effect of the action takes a literal away
+abbrev pub takes : Task → ℕ → ℕ → Bool
+takes task m a = may_make task a (opposite m)
+
+-- the action reads a literal: in its precondition, or as a fact of an effect condition
+abbrev pub reads : Task → ℕ → ℕ → Bool
+reads task m a = is_in (precondition task a) m || asks task a (m / 2)

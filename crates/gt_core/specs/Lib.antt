@@ -1,0 +1,11 @@
+pub mod Literal
+pub mod Task
+pub mod Lawful
+pub mod Execution
+pub mod Interference
+pub mod Published
+pub mod Step
+pub mod Active
+pub mod Clauses
+pub mod Layout
+pub mod Laws

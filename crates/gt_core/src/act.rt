@@ -1,0 +1,85 @@
+//! Actions.
+
+use crate::eff::{Eff, Effs};
+use crate::lits::Lits;
+use std::marker::Model;
+
+/// An action: what has to hold before it, and what it does.
+#[derive(Debug, Drop)]
+pub struct Act {
+    pre: Lits,
+    effects: Effs,
+}
+
+impl Model for Act {
+    ghost use Rattle.gt_core.specs.Task.{Action};
+
+    ghost Value = { Action };
+
+    ghost view = { λ a. record { precondition = a.pre; effects = a.effects } };
+}
+
+impl Act {
+    ghost use Rattle.std.specs.Prelude.{◌≡◌};
+
+    /// The action with this precondition and these effects.
+    pub fn new(pre: Lits, effects: Effs) -> Act
+        ensures { result ≡ record { precondition = pre; effects = effects } }
+    {
+        Act { pre, effects }
+    }
+
+    /// The literals that have to hold.
+    pub fn pre(&self) -> &[u32]
+        ensures { result.now ≡ self.now.precondition }
+    {
+        self.pre.as_slice()
+    }
+
+    /// What the action does.
+    pub fn effects(&self) -> &[Eff]
+        ensures { result.now ≡ self.now.effects }
+    {
+        self.effects.as_slice()
+    }
+}
+
+/// Actions.
+#[derive(Debug, Drop)]
+pub struct Acts {
+    items: Vec<Act>,
+}
+
+impl Model for Acts {
+    ghost use Rattle.std.specs.Prelude.{List};
+    ghost use Rattle.gt_core.specs.Task.{Action};
+
+    ghost Value = { List Action };
+
+    ghost view = { λ a. a.items.items };
+}
+
+impl Acts {
+    ghost use Rattle.std.specs.Prelude.{◌≡◌};
+
+    /// The list of these actions.
+    pub fn of(items: Vec<Act>) -> Acts
+        ensures { result ≡ items.items }
+    {
+        Acts { items }
+    }
+
+    /// The actions again.
+    pub fn into_vec(self) -> Vec<Act>
+        ensures { result.items ≡ self }
+    {
+        self.items
+    }
+
+    /// The actions, lent.
+    pub fn as_slice(&self) -> &[Act]
+        ensures { result.now ≡ self.now }
+    {
+        self.items.as_slice()
+    }
+}

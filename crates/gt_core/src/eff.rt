@@ -1,0 +1,85 @@
+//! The effects of an action.
+
+use crate::lits::Lits;
+use std::marker::Model;
+
+/// An effect: its literal comes true where the literals of its condition hold. An even literal adds its fact, an
+/// odd one deletes it. An effect is conditional where its condition is not empty.
+#[derive(Debug, Drop)]
+pub struct Eff {
+    cond: Lits,
+    lit: u32,
+}
+
+impl Model for Eff {
+    ghost use Rattle.gt_core.specs.Task.{Effect};
+
+    ghost Value = { Effect };
+
+    ghost view = { λ e. record { condition = e.cond; literal = e.lit } };
+}
+
+impl Eff {
+    ghost use Rattle.std.specs.Prelude.{◌≡◌};
+
+    /// The effect with this condition and this literal.
+    pub fn new(cond: Lits, lit: u32) -> Eff
+        ensures { result ≡ record { condition = cond; literal = lit } }
+    {
+        Eff { cond, lit }
+    }
+
+    /// The literals that have to hold.
+    pub fn cond(&self) -> &[u32]
+        ensures { result.now ≡ self.now.condition }
+    {
+        self.cond.as_slice()
+    }
+
+    /// The literal that comes true.
+    pub fn lit(&self) -> u32
+        ensures { result ≡ self.now.literal }
+    {
+        self.lit
+    }
+}
+
+/// Effects.
+#[derive(Debug, Drop)]
+pub struct Effs {
+    items: Vec<Eff>,
+}
+
+impl Model for Effs {
+    ghost use Rattle.std.specs.Prelude.{List};
+    ghost use Rattle.gt_core.specs.Task.{Effect};
+
+    ghost Value = { List Effect };
+
+    ghost view = { λ e. e.items.items };
+}
+
+impl Effs {
+    ghost use Rattle.std.specs.Prelude.{◌≡◌};
+
+    /// The list of these effects.
+    pub fn of(items: Vec<Eff>) -> Effs
+        ensures { result ≡ items.items }
+    {
+        Effs { items }
+    }
+
+    /// The effects again.
+    pub fn into_vec(self) -> Vec<Eff>
+        ensures { result.items ≡ self }
+    {
+        self.items
+    }
+
+    /// The effects, lent.
+    pub fn as_slice(&self) -> &[Eff]
+        ensures { result.now ≡ self.now }
+    {
+        self.items.as_slice()
+    }
+}

@@ -1,0 +1,108 @@
+//! The tests of what each task keeps.
+
+ghost use Rattle.std.specs.Prelude.{◌≡◌, ℕ, ◌≤◌, ◌*◌, nat_le, sum_by, count_by, None};
+ghost use Rattle.std.specs.List.{list_all};
+ghost use Rattle.std.specs.Option.{option_copied};
+ghost use Rattle.gt_core.specs.Lawful.{are_rising, list_less, effect_less, follows, are_effects, is_action, is_conditional, conditional_in};
+
+use crate::act::Act;
+use crate::eff::Eff;
+
+/// Literals below `top`, sorted and without repeats.
+pub(crate) fn are_rising(lits: &[u32], top: u32) -> bool
+    ensures { result ≡ are_rising top 0 lits.now }
+{
+    let mut low = 0;
+    for lit in lits {
+        if *lit < low || *lit >= top {
+            return false;
+        }
+        low = *lit + 1;
+    }
+    true
+}
+
+fn list_less(first: &[u32], second: &[u32]) -> bool
+    ensures { result ≡ list_less first.now second.now }
+{
+    for (i, x) in first.iter().enumerate() {
+        if i >= second.len() {
+            return false;
+        }
+        let y = second[i];
+        if *x != y {
+            return *x < y;
+        }
+    }
+    first.len() < second.len()
+}
+
+fn effect_less(first: &Eff, second: &Eff) -> bool
+    ensures { result ≡ effect_less first.now second.now }
+{
+    if first.lit() != second.lit() {
+        return first.lit() < second.lit();
+    }
+    list_less(first.cond(), second.cond())
+}
+
+fn follows(last: Option<&Eff>, effect: &Eff) -> bool
+    ensures { result ≡ follows (option_copied last.entry) effect.now }
+{
+    match last {
+        None => true,
+        Some(last) => effect_less(last, effect),
+    }
+}
+
+fn are_effects(effects: &[Eff], facts: u32) -> bool
+    requires { facts ≤ 2048 }
+    ensures { result ≡ are_effects facts None effects.now }
+{
+    let mut last = None;
+    for effect in effects {
+        if !follows(last, effect)
+            || effect.lit() >= 2 * facts
+            || !are_rising(effect.cond(), 2 * facts)
+        {
+            return false;
+        }
+        last = Some(effect);
+    }
+    true
+}
+
+fn is_action(act: &Act, facts: u32) -> bool
+    requires { facts ≤ 2048 }
+    ensures { result ≡ is_action facts act.now }
+{
+    are_rising(act.pre(), 2 * facts) && are_effects(act.effects(), facts)
+}
+
+pub(crate) fn are_actions(acts: &[Act], facts: u32) -> bool
+    requires { facts ≤ 2048 }
+    ensures { result ≡ list_all (is_action facts) acts.now }
+{
+    acts.iter().all(|act| is_action(act, facts))
+}
+
+/// How many of these effects have a condition.
+fn conditional(effects: &[Eff]) -> usize
+    ensures { result ≡ count_by is_conditional effects.now }
+{
+    effects.iter().filter(|e| !e.cond().is_empty()).count()
+}
+
+pub(crate) fn has_few_conditional(acts: &[Act]) -> bool
+    ensures { result ≡ nat_le (conditional_in acts.now) 65536 }
+{
+    let mut left = 65536;
+    for act in acts {
+        let count = conditional(act.effects());
+        if count > left {
+            return false;
+        }
+        left -= count;
+    }
+    true
+}

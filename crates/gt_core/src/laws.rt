@@ -1,0 +1,11 @@
+//! What makes steps and the published order useful, as a contract.
+
+ghost use Rattle.gt_core.specs.Laws.{EachStepRunsInOrder, OneActionIsStep, EmptySetIsStep, PublishedKeepsApart};
+
+/// The laws of steps and of the published order. It does nothing.
+pub fn laws()
+    ensures runs_in_order { EachStepRunsInOrder }
+    ensures one_action { OneActionIsStep }
+    ensures empty_set { EmptySetIsStep }
+    ensures keeps_apart { PublishedKeepsApart }
+{}

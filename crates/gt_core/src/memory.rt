@@ -1,0 +1,13 @@
+//! Want of memory, for the crates that stand on this one too.
+
+use std::alloc::AllocError;
+
+/// There was no memory for what the call makes.
+#[derive(Clone, Copy, Debug, PartialEq, Eq)]
+pub struct Memory;
+
+impl From<AllocError> for Memory {
+    fn from(_: AllocError) -> Self {
+        Memory
+    }
+}

@@ -1,0 +1,95 @@
+//! Clauses of one or two fact literals that are known of the states of a task.
+
+use crate::memory::Memory;
+use std::alloc::Global;
+use std::marker::Model;
+
+/// A set of clauses of one fact literal, or of two literals of different facts, over so many facts. It is kept as a
+/// sorted list, and as a table that says of each two literals whether their clause is in the set.
+#[derive(Debug, Drop)]
+pub struct Pairs {
+    facts: u32,
+    clauses: Vec<(u32, u32)>,
+    known: Vec<bool>,
+}
+
+impl Model for Pairs {
+    ghost use Rattle.gt_core.specs.Clauses.{KnownClauses, IsKnownClauses, IsTable};
+
+    ghost Value = { KnownClauses };
+
+    ghost view = { λ p. record { facts = p.facts; clauses = p.clauses.items } };
+
+    ghost invariant = { λ p. IsKnownClauses (record { facts = p.facts; clauses = p.clauses.items }) × IsTable p.facts p.clauses.items p.known.items };
+}
+
+impl Pairs {
+    ghost use Rattle.std.specs.Prelude.{◌≡◌, ◌≤◌, ◌<◌, [], length, slice_get, Some, IfOk};
+    ghost use Rattle.gt_core.specs.Interference.{has_clause};
+    ghost use Rattle.gt_core.specs.Clauses.{KnownClauses, IsKnownClauses};
+
+    /// The set without a clause, over so many facts.
+    pub fn empty(alloc: Global, facts: u32) -> Result<Pairs, Memory>
+        requires { facts ≤ 2048 }
+        ensures { IfOk result (λ pairs. pairs ≡ record { facts = facts; clauses = [] }) }
+    {
+        let side = (2 * facts) as usize;
+        let known = vec![in alloc; false; side * side]?;
+        Ok(Pairs {
+            facts,
+            clauses: Vec::new(alloc),
+            known,
+        })
+    }
+
+    /// How many facts the clauses are over.
+    pub fn facts(&self) -> u32
+        ensures { result ≡ self.now.facts }
+    {
+        self.facts
+    }
+
+    /// Whether the clause of two literals is in the set, in either order; of one literal twice, whether the clause
+    /// of this one literal is.
+    pub fn has(&self, l: u32, m: u32) -> bool
+        ensures { result ≡ has_clause self.now.clauses l m }
+    {
+        let side = 2 * self.facts;
+        if l >= side || m >= side {
+            return false;
+        }
+        let place = l as usize * side as usize + m as usize;
+        self.known[place]
+    }
+
+    /// How many clauses there are.
+    pub fn count(&self) -> u32
+        ensures count { result ≡ length self.now.clauses }
+        ensures lawful { IsKnownClauses self.now }
+    {
+        self.clauses.len() as u32
+    }
+
+    /// The clause at a place, from 0, in sorted order: by its smaller literal, which stands first, then by its
+    /// greater. A clause of one literal has it twice.
+    pub fn at(&self, i: u32) -> (u32, u32)
+        requires { i < length self.now.clauses }
+        ensures { slice_get self.now.clauses i ≡ Some result }
+    {
+        self.clauses[i as usize]
+    }
+}
+
+#[cfg(test)]
+mod tests {
+    use super::*;
+    use std::test::Fail;
+
+    #[test]
+    fn empty_set_has_no_clause(rt: HostRuntime) -> Result<(), Fail> {
+        let pairs = Pairs::empty(rt.alloc(), 3).map_err(|_| "no memory")?;
+        assert_eq!(rt; (pairs.facts(), pairs.count()), (3, 0));
+        assert!(rt; !pairs.has(0, 4) && !pairs.has(0, 0) && !pairs.has(7, 0));
+        Ok(())
+    }
+}

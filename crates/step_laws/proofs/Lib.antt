@@ -1,0 +1,10 @@
+pub mod ChainLaw
+pub mod StepLaw
+pub mod StepClauses
+pub mod OrderLaw
+pub mod PlanLaw
+pub mod Assignment
+pub mod FormulaLaw
+pub mod Ranges
+pub mod FormLaw
+pub mod SequenceLaw
