@@ -1,9 +1,8 @@
-use Rattle.std.proofs.Common.{rules, arith, ◌≡◌, ◌==◌, ℕ, zero, suc, ◌+◌, ◌-◌, ◌<◌, ◌≤◌, List, [], ◌∷◌, length, set, get_or, Bool, true, false, not, ◌||◌, refl, sym, ap, ◌∙◌, filter, if◌then◌else◌, nat_lt, zero-add, length-set}
+use Rattle.std.proofs.Common.{arith, ◌≡◌, ◌==◌, ℕ, zero, suc, ◌+◌, ◌<◌, ◌≤◌, List, [], ◌∷◌, length, set, Bool, true, false, not, refl, sym, ap, ◌∙◌, filter, if◌then◌else◌, zero-add, length-set}
 use Rattle.std.proofs.lemmas.Bool.Decides.{nat_tests}
 use Rattle.clause_base.specs.Clause.{put}
-use Rattle.cdcl_rules.proofs.Chain.{is_in}
 use Rattle.conflict_walk.specs.Draft.{places, at}
-use Rattle.conflict_walk.proofs.Places.{places-put, places-remove, is_in-places, bit, at-set}
+use Rattle.conflict_walk.proofs.Places.{places-put, places-remove, bit, at-set}
 
 abbrev pub number : (ℕ → Bool) → List ℕ → ℕ
 number p ls = length (filter p ls)

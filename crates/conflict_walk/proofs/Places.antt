@@ -1,11 +1,10 @@
-use Rattle.std.proofs.Common.{replicate, rules, arith, ◌≡◌, ◌==◌, ℕ, zero, suc, ◌+◌, ◌<◌, ◌≤◌, List, [], ◌∷◌, length, set, get_or, Bool, true, false, not, ◌||◌, refl, sym, ap, ◌∙◌, filter, if◌then◌else◌, nat_lt, add-zero, add-suc, ◌++◌, ◌≢◌, get_or-set_same, get_or-set_other, length-set}
-use Rattle.std.specs.List.{list_any, sum_by}
+use Rattle.std.proofs.Common.{replicate, arith, ◌≡◌, ◌==◌, ℕ, zero, suc, ◌+◌, ◌<◌, ◌≤◌, List, [], ◌∷◌, length, set, get_or, Bool, true, false, not, ◌||◌, refl, sym, ap, ◌∙◌, filter, if◌then◌else◌, nat_lt, ◌++◌, ◌≢◌, get_or-set_same, get_or-set_other, length-set}
+use Rattle.std.specs.List.{sum_by}
 use Rattle.std.specs.List.Sorted.{IsNonDecreasing, IsPermutation}
 use Rattle.std.proofs.lemmas.List.Sorted.{sum_by-IsPermutation}
 use Rattle.std.proofs.lemmas.List.Sums.{sum_by-cons}
-use Rattle.std.proofs.lemmas.Grind.{common_steps}
 use Rattle.std.proofs.lemmas.Bool.Decides.{nat_tests}
-use Rattle.clause_base.specs.Clause.{IsRising, put}
+use Rattle.clause_base.specs.Clause.{put}
 use Rattle.cdcl_rules.proofs.Chain.{is_in, is_in-push}
 use Rattle.conflict_walk.specs.Draft.{places, at, Covers}
 

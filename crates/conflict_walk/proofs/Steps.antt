@@ -1,5 +1,5 @@
-use Rattle.std.proofs.Common.{rules, arith, ◌≡◌, ◌==◌, ℕ, zero, suc, ◌+◌, ◌-◌, ◌*◌, ◌/◌, ◌%◌, ◌<◌, ◌≤◌, List, [], ◌∷◌, ◌++◌, length, get_or, take, reverse, Bool, true, false, not, ◌||◌, ◌&&◌, refl, sym, ap, ◌∙◌, subst, filter, fold, if◌then◌else◌, Option, Some, None, unwrap_or, ◌⊎◌, inl, inr, All, zero-add, nat_lt, append_assoc}
-use Rattle.std.specs.List.{list_any, slice_get, AllByRecursion}
+use Rattle.std.proofs.Common.{arith, ◌≡◌, ◌==◌, ℕ, zero, suc, ◌+◌, ◌-◌, ◌<◌, ◌≤◌, List, [], ◌∷◌, ◌++◌, length, get_or, take, reverse, Bool, true, false, not, ◌||◌, ◌&&◌, refl, sym, ap, ◌∙◌, subst, filter, fold, if◌then◌else◌, Option, Some, None, unwrap_or, ◌⊎◌, inl, inr, All, zero-add, nat_lt, append_assoc}
+use Rattle.std.specs.List.{slice_get, AllByRecursion}
 use Rattle.std.proofs.lemmas.List.{take_more, reverse-append, append-nil}
 use Rattle.std.proofs.lemmas.List.Elements.{All-get_or, All-nil, recursion_from_All}
 use Rattle.std.proofs.lemmas.Bool.Decides.{nat_tests}
@@ -7,12 +7,11 @@ use Rattle.clause_base.specs.Literal.{opposite}
 use Rattle.clause_base.specs.Clause.{IsRising, put}
 use Rattle.cdcl_rules.specs.declared.trail.Assigned.{Assigned}
 use Rattle.cdcl_rules.specs.State.{is_on, decision_count}
-use Rattle.cdcl_rules.specs.Learn.{Learned, learned, walk, current, resolvent, level_of}
+use Rattle.cdcl_rules.specs.Learn.{Learned, walk, current, resolvent, level_of}
 use Rattle.cdcl_rules.proofs.Chain.{is_in, is_in-resolvent}
 use Rattle.conflict_walk.specs.Draft.{places, at}
 use Rattle.conflict_walk.specs.Walk.{is_at, count_at, clause_at, stops, IsForcedBy, IsWalkable, IsRefuted, IsInRange}
 use Rattle.conflict_walk.proofs.Places.{is_in-places, IsFrom, from_less}
-use Rattle.conflict_walk.proofs.Count.{number}
 
 pub in_places : (on : List Bool) (k : ℕ) → is_in (places 0 on) k ≡ at on k
 in_places on k = ap (is_in (places 0 on)) (sym (zero-add k)) ∙ is_in-places 0 on k

@@ -1,16 +1,14 @@
-use Rattle.std.proofs.Common.{rules, arith, ◌≡◌, ◌==◌, ℕ, zero, suc, ◌+◌, ◌-◌, ◌*◌, ◌/◌, ◌%◌, ◌<◌, List, [], ◌∷◌, ◌++◌, length, reverse, All, Bool, true, false, ◌||◌, refl, sym, ap, ◌∙◌, subst, Option, Some, None, unwrap_or, ◌⊎◌, inl, inr, slice_index_or, get_or}
-use Rattle.std.specs.List.{list_any, slice_get, AllByRecursion}
-use Rattle.std.proofs.lemmas.Bool.Decides.{nat_tests}
+use Rattle.std.proofs.Common.{arith, ◌≡◌, ◌==◌, ℕ, zero, suc, ◌*◌, ◌/◌, ◌<◌, List, [], ◌∷◌, ◌++◌, length, reverse, All, Bool, true, false, ◌||◌, refl, sym, ap, ◌∙◌, subst, Option, Some, None, unwrap_or, ◌⊎◌, inl, inr, get_or}
+use Rattle.std.specs.List.{slice_get, AllByRecursion}
 use Rattle.std.proofs.lemmas.List.{reverse-append}
 use Rattle.std.proofs.lemmas.List.Elements.{All-from_recursion, All-weaker}
 use Rattle.clause_base.specs.Formula.{Cnf}
 use Rattle.clause_base.specs.Literal.{opposite}
 use Rattle.cdcl_rules.specs.declared.trail.Assigned.{Assigned}
-use Rattle.clause_base.specs.Choice.{Known}
 use Rattle.cdcl_rules.specs.State.{State, is_on, decision_count}
-use Rattle.cdcl_rules.specs.Learn.{level_of, level_from}
+use Rattle.cdcl_rules.specs.Learn.{level_from}
 use Rattle.cdcl_rules.proofs.Chain.{is_in}
-use Rattle.cdcl_rules.specs.Trail.{IsReason, HasReason, IsTrail}
+use Rattle.cdcl_rules.specs.Trail.{HasReason, IsTrail}
 use Rattle.conflict_walk.specs.Walk.{IsWalkable, IsReasoned, IsForcedBy, IsInRange, clause_at}
 use Rattle.cdcl_laws.specs.Sound.{IsSound, IsLawful}
 use Rattle.conflict_walk.proofs.Levels.{half_opposite}

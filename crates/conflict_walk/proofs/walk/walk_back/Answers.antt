@@ -1,11 +1,11 @@
-use Rattle.std.proofs.Common.{rules, arith, ◌≡◌, ◌<◌, ◌≤◌, ◌+◌, ◌-◌, ◌*◌, ◌==◌, ℕ, List, [], ◌∷◌, ◌++◌, All, true, false, length, reverse, take, get_or, sym, ◌∙◌, ap, subst, Bool, Option, Some, None, refl, unwrap_or}
-use Rattle.std.specs.List.{slice_get, list_any}
+use Rattle.std.proofs.Common.{arith, ◌≡◌, ◌-◌, ◌*◌, ◌==◌, ℕ, List, [], ◌∷◌, true, false, length, reverse, take, sym, ◌∙◌, ap, subst, Some, None, refl}
+use Rattle.std.specs.List.{list_any}
 use Rattle.std.proofs.lemmas.List.{reverse-append}
 use Rattle.clause_base.specs.Literal.{opposite}
 use Rattle.cdcl_rules.specs.declared.trail.Assigned.{Assigned}
 use Rattle.cdcl_rules.specs.Learn.{Learned, walk, resolvent}
 use Rattle.conflict_walk.specs.Draft.{places, at}
-use Rattle.conflict_walk.specs.Walk.{is_at, count_at, all_clauses, clause_at, stops, IsRefuted, IsInRange}
+use Rattle.conflict_walk.specs.Walk.{all_clauses, clause_at, IsInRange}
 use Rattle.conflict_walk.proofs.Steps.{in_places, back_at, stop_same, walk_step, resolvent_refuted, forced_at, clause_in_range}
 use Rattle.conflict_walk.proofs.walk.walk_back.Goals as goal
 

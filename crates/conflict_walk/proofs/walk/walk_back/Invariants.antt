@@ -1,5 +1,5 @@
 use Rattle.std.proofs.Common.{◌≡◌, ◌≤◌, [], reverse, take, length}
-use Rattle.cdcl_rules.specs.Learn.{Learned, walk}
+use Rattle.cdcl_rules.specs.Learn.{walk}
 use Rattle.conflict_walk.specs.Draft.{places}
 use Rattle.conflict_walk.specs.Walk.{count_at, all_clauses, IsRefuted}
 use Rattle.conflict_walk.proofs.walk.walk_back.Given as goal

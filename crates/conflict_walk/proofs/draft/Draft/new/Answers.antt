@@ -1,5 +1,5 @@
-use Rattle.std.proofs.Common.{arith, ◌≡◌, ◌*◌, ℕ, List, [], length, replicate, false, sym, ◌∙◌, ap, subst}
-use Rattle.conflict_walk.specs.Draft.{places, Covers}
+use Rattle.std.proofs.Common.{◌∙◌, ap}
+use Rattle.conflict_walk.specs.Draft.{places}
 use Rattle.conflict_walk.proofs.Places.{covers_none, places_none}
 use Rattle.conflict_walk.proofs.draft.Draft.new.Goals as goal
 

@@ -1,4 +1,4 @@
-use Rattle.std.proofs.Common.{◌≡◌, false, length, replicate}
+use Rattle.std.proofs.Common.{◌≡◌, false, replicate}
 use Rattle.conflict_walk.proofs.draft.Draft.new.Given as goal
 
 abbrev pub invariant-loop : goal.invariant-loop
