@@ -1,24 +1,23 @@
 -- What the next event of a sound state gives: what is learned is a clause that is false, and the state after it is sound.
-use Rattle.std.proofs.Common.{arith, ◌≡◌, ℕ, ◌+◌, ◌*◌, ◌<◌, ◌/◌, List, [], ◌∷◌, ◌++◌, length, map, All, Bool, true, false, refl, sym, ap, ◌∙◌, subst, Option, Some, None, unwrap_or, zero-add, length-append}
+use Rattle.std.proofs.Common.{arith, ◌≡◌, ℕ, ◌+◌, ◌*◌, ◌<◌, List, [], ◌∷◌, ◌++◌, length, All, Bool, true, false, refl, sym, ap, ◌∙◌, subst, Option, Some, None, unwrap_or, zero-add, length-append}
 use Rattle.std.specs.List.{slice_get}
 use Rattle.std.proofs.lemmas.List.{append-nil}
 use Rattle.clause_base.specs.Formula.{Cnf, IsWithinVariables}
 use Rattle.clause_base.specs.Clause.{IsClause, IsRising, HasVariablesBelow}
-use Rattle.clause_base.specs.Choice.{Known}
 use Rattle.clause_base.specs.Derivation.{clauses_of}
 use Rattle.clause_base.specs.declared.log.Entry.{Entry}
 use Rattle.cdcl_rules.specs.declared.standing.Standing.{Standing}
-use Rattle.cdcl_rules.specs.declared.standing.Standing.TheVariants.{Going, Found, Refuted}
+use Rattle.cdcl_rules.specs.declared.standing.Standing.TheVariants.{Going}
 use Rattle.cdcl_rules.specs.declared.event.Event.{Event}
-use Rattle.cdcl_rules.specs.declared.event.Event.TheVariants.{Conflict, Force, Decide, Finish}
+use Rattle.cdcl_rules.specs.declared.event.Event.TheVariants.{Conflict, Decide, Finish}
 use Rattle.cdcl_rules.specs.declared.trail.Assigned.{Assigned}
 use Rattle.cdcl_rules.specs.State.{State, values_of}
-use Rattle.cdcl_rules.specs.Event.{first_asked, chosen_event, event_of}
+use Rattle.cdcl_rules.specs.Event.{first_asked, chosen_event}
 use Rattle.cdcl_rules.specs.Learn.{learned, Learned}
-use Rattle.cdcl_rules.specs.Open.{IsOpenEvent, Opens}
+use Rattle.cdcl_rules.specs.Open.{IsOpenEvent}
 use Rattle.cdcl_rules.specs.Run.{start_of, apply, is_going}
-use Rattle.cdcl_laws.specs.Sound.{IsSound, IsLawful}
-use Rattle.cdcl_laws.proofs.Asked.{AllFalse, Asks, FirstAsks, first_asks}
+use Rattle.cdcl_laws.specs.Sound.{IsSound}
+use Rattle.cdcl_laws.proofs.Asked.{FirstAsks, first_asks}
 use Rattle.cdcl_laws.proofs.Lawful.{IsGood, learned_good, good_clause, good_below}
 use Rattle.cdcl_laws.proofs.Kept.{lawful_at, members_below, sound_next}
 use Rattle.cdcl_laws.proofs.Fuel.{opens}

@@ -13,8 +13,8 @@
 
 #[cfg(test)]
 mod cases;
-pub mod pending;
-pub mod search;
+mod pending;
+mod search;
 pub mod solver;
 #[cfg(test)]
 mod tests;

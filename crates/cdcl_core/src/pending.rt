@@ -1,5 +1,7 @@
-//! The search for the first clause that asks for an event: the one thing that is asked of whatever finds it. It looks at
-//! the clauses one by one.
+//! The search for the first pending clause: the one thing that is asked of whatever finds it, by `first_asked`. A clause is
+//! pending where it has no true literal and at most one that is not false; the first one in order of number asks for the next
+//! event. This search looks at the clauses one by one, and is told of nothing. One that watches literals would be told where
+//! a literal becomes true (`Search::assign`), and where a clause is learned and literals are taken back (`Search::enter`).
 ghost use Rattle.std.specs.Prelude.{◌≡◌, ◌≤◌, ◌<◌, ◌+◌, All, not, filter, length};
 ghost use Rattle.std.specs.List.{list_any};
 ghost use Rattle.clause_base.specs.Literal.{opposite};

@@ -124,6 +124,14 @@ impl Search {
         self.trail.values()
     }
 
+    /// The literals that are true, oldest first.
+    #[cfg(test)]
+    pub fn entries(&self) -> &[Assigned]
+        ensures { result.now ≡ self.now.state.trail }
+    {
+        self.trail.entries()
+    }
+
     /// What the first clause asks for that asks for anything.
     pub fn asked(&self) -> Option<Event>
         ensures event { result ≡ first_asked self.now.state.trail 0 self.now.state.clauses }

@@ -8,6 +8,7 @@ ghost use Rattle.cdcl_rules.specs.Run.{start_of, apply, after, is_going, is_conf
 ghost use Rattle.cdcl_laws.specs.Sound.{IsSound, made_true};
 ghost use Rattle.cdcl_laws.specs.Laws.{AddsUp, SettledStays};
 ghost use Rattle.cdcl_core.specs.Search.{SolverView, IsNextEvent};
+ghost use Rattle.cdcl_core.specs.Between.{IsShortBetween};
 
 use crate::search::Search;
 use cdcl_rules::event::Event;
@@ -40,7 +41,7 @@ impl<C: Chooser + Drop> Solver<C> {
     /// The solver of a formula, before any event. Where memory is wanting, formula and chooser are let go.
     pub fn new(alloc: Global, formula: Formula, chooser: C) -> Result<Solver<C>, Memory>
         requires { C.fits chooser formula.variables }
-        ensures { IfOk result (λ s. s ≡ record { formula = formula; state = start_of formula; chooser = chooser; spoilt = false }) }
+        ensures start { IfOk result (λ s. s ≡ record { formula = formula; state = start_of formula; chooser = chooser; spoilt = false }) }
     {
         let search = Search::new(alloc, formula)?;
         Ok(Solver { search, chooser })
@@ -169,9 +170,11 @@ impl<C: Chooser> Solver<C> {
     pub fn advance(&mut self, conflicts: u32) -> Result<(), Memory>
         requires { self.old.state.conflicts + conflicts ≤ 1073741824 }
         ensures after { OnOk result (self.new.state ≡ after (C.choice self.old.chooser) self.old.state conflicts) }
+        ensures rests { OnOk result (IsAfter (C.choice self.old.chooser) self.old.state conflicts self.new.state) }
         ensures within { OnOk result (self.new.state.conflicts ≤ self.old.state.conflicts + conflicts) }
         ensures adds_up { AddsUp (C.choice self.old.chooser) self.old.state }
         ensures settled { SettledStays (C.choice self.old.chooser) self.old.state }
+        ensures short { IsShortBetween (C.choice self.old.chooser) self.old.state }
         ensures formula { self.new.formula ≡ self.old.formula }
         ensures chooser { self.new.chooser ≡ self.old.chooser }
         ensures sane { OnOk result (self.old.spoilt ≡ false) }
@@ -184,5 +187,95 @@ impl<C: Chooser> Solver<C> {
             return Err(Memory);
         }
         self.run(conflicts)
+    }
+}
+
+#[cfg(test)]
+mod tests {
+    use super::*;
+    use clause_base::chooser::PlainChooser;
+    use clause_base::clause::Clause;
+    use clause_base::literal::Lit;
+    use std::process::Abort;
+    use std::test::Fail;
+
+    /// The events of a run, and the literals on the trail after each: the oldest first.
+    const ROWS: [(&str, &str); 5] = [
+        ("decide 1", " 1"),
+        ("force 2 by 0", " 1 2"),
+        ("conflict in 1", ""),
+        ("force 0 by 4", " 0"),
+        ("force 4 by 2", " 0 4"),
+    ];
+
+    /// Adds the clause of two literals.
+    fn add_two(
+        rt: &impl Abort,
+        alloc: Global,
+        formula: &mut Formula,
+        one: u32,
+        other: u32,
+    ) -> Result<(), Fail> {
+        let clause = Clause::of(alloc, &[Lit(one), Lit(other)])?.ok_or("a pair")?;
+        assert!(rt; formula.has_room() && clause.fits(formula.variables()));
+        formula.add(clause)?;
+        Ok(())
+    }
+
+    /// An event in words.
+    fn event_text(alloc: Global, event: &Event) -> Result<String, Fail> {
+        Ok(match event {
+            Event::Conflict(number) => format!(in alloc; "conflict in {number}")?,
+            Event::Force(lit, number) => format!(in alloc; "force {} by {number}", lit.0)?,
+            Event::Decide(lit) => format!(in alloc; "decide {}", lit.0)?,
+            Event::Finish => format!(in alloc; "finish")?,
+        })
+    }
+
+    /// The literals on a solver's trail.
+    fn trail_text(alloc: Global, solver: &Solver<PlainChooser>) -> Result<String, Fail> {
+        let mut text = String::new(alloc);
+        for entry in solver.search.entries() {
+            text.push_str(format!(in alloc; " {}", entry.literal.0)?.as_str())?;
+        }
+        Ok(text)
+    }
+
+    /// Applies the next event, and gives it.
+    fn step(rt: &impl Abort, solver: &mut Solver<PlainChooser>) -> Result<Event, Fail> {
+        assert!(rt; !solver.is_spoilt() && solver.is_going() && solver.conflicts() < 1000);
+        let event = solver.event();
+        solver.apply(event)?;
+        Ok(event)
+    }
+
+    #[test]
+    fn four_clauses_are_refuted_event_by_event(rt: HostRuntime) -> Result<(), Fail> {
+        let alloc = rt.alloc();
+        let mut formula = Formula::new(alloc, 0, 3);
+        for (one, other) in [(0, 2), (0, 3), (1, 4), (1, 5)] {
+            add_two(&rt, alloc, &mut formula, one, other)?;
+        }
+        let mut solver = Solver::new(alloc, formula, PlainChooser::new())?;
+        for (event, trail) in ROWS {
+            assert_eq!(rt;
+                event_text(alloc, &step(&rt, &mut solver)?)?.as_str(),
+                event
+            );
+            assert_eq!(rt; trail_text(alloc, &solver)?.as_str(), trail);
+            assert_eq!(rt; solver.standing(), Standing::Going);
+        }
+        assert_eq!(rt;
+            event_text(alloc, &step(&rt, &mut solver)?)?.as_str(),
+            "conflict in 3"
+        );
+        assert_eq!(rt; solver.standing(), Standing::Refuted);
+        let log = solver.log().as_slice();
+        assert_eq!(rt; log.len(), 2);
+        assert_eq!(rt; log[0].clause.as_slice(), [Lit(0)].as_slice());
+        assert_eq!(rt; log[0].hints.as_slice(), [0, 1].as_slice());
+        assert!(rt; log[1].clause.as_slice().is_empty());
+        assert_eq!(rt; log[1].hints.as_slice(), [4, 2, 3].as_slice());
+        Ok(())
     }
 }

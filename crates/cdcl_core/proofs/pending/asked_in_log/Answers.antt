@@ -1,4 +1,4 @@
-use Rattle.std.proofs.Common.{◌≡◌, ◌<◌, ℕ, List, length, sym, subst}
+use Rattle.std.proofs.Common.{sym, subst}
 use Rattle.clause_base.specs.Clause.{HasVariablesBelow}
 use Rattle.cdcl_core.proofs.Scans.{below_at}
 use Rattle.cdcl_core.proofs.pending.asked_in_log.Goals as goal

@@ -1,10 +1,8 @@
-use Rattle.std.proofs.Common.{◌≡◌, ◌++◌, ◌∷◌, ◌<◌, ◌/◌, ℕ, List, [], length, ap, ◌∙◌, subst, sym, Some, None}
+use Rattle.std.proofs.Common.{◌<◌, ◌/◌, ℕ, subst, sym}
 use Rattle.clause_base.specs.Clause.{IsClause, HasVariablesBelow}
-use Rattle.cdcl_rules.specs.declared.event.Event.{Event}
 use Rattle.cdcl_rules.specs.declared.event.Event.TheVariants.{Conflict, Force, Decide, Finish}
 use Rattle.cdcl_rules.specs.Learn.{learned, Learned}
-use Rattle.cdcl_rules.specs.Open.{IsOpenEvent}
-use Rattle.cdcl_rules.specs.Run.{apply, with_learned}
+use Rattle.cdcl_rules.specs.Run.{with_learned}
 use Rattle.cdcl_laws.specs.Sound.{IsSound}
 use Rattle.conflict_walk.specs.Walk.{IsRefuted}
 use Rattle.cdcl_core.specs.Search.{SearchView, IsNextEvent}

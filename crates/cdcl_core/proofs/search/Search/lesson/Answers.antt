@@ -1,4 +1,4 @@
-use Rattle.std.proofs.Common.{◌≡◌, ◌++◌, ℕ, List, length, ap, ◌∙◌, subst, sym}
+use Rattle.std.proofs.Common.{subst, sym}
 use Rattle.cdcl_core.specs.Search.{SearchView, IsNextEvent}
 use Rattle.cdcl_rules.specs.declared.event.Event.TheVariants.{Conflict}
 use Rattle.cdcl_core.proofs.Keeps.{can_learn, CanLearn}

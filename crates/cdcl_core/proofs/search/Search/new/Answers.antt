@@ -1,6 +1,4 @@
-use Rattle.std.proofs.Common.{[], ◌≡◌, ◌*◌, ℕ, length, ap, ◌∙◌, subst, All}
-use Rattle.clause_base.specs.Formula.{Cnf}
-use Rattle.clause_base.specs.Clause.{IsClause}
+use Rattle.std.proofs.Common.{[], ◌*◌, ℕ, ap, ◌∙◌}
 use Rattle.cdcl_trail.specs.Mirrored.{TrailView}
 use Rattle.cdcl_core.proofs.Keeps.{kept_start}
 use Rattle.cdcl_core.proofs.search.Search.new.Goals as goal

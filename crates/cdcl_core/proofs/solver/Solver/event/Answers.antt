@@ -1,4 +1,4 @@
-use Rattle.std.proofs.Common.{◌≡◌, ℕ, List, length, sym, ap, ◌∙◌, subst}
+use Rattle.std.proofs.Common.{◌≡◌, length, sym, ap, ◌∙◌, subst}
 use Rattle.clause_base.specs.Choice.{Known}
 use Rattle.cdcl_rules.proofs.Measure.{length-values_from}
 use Rattle.cdcl_core.specs.Search.{SolverView}

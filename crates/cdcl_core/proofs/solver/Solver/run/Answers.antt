@@ -1,10 +1,9 @@
-use Rattle.std.proofs.Common.{◌≡◌, ℕ, ◌+◌, ◌<◌, ◌&&◌, nat_le, sym, ◌∙◌, ap, subst, false, true}
+use Rattle.std.proofs.Common.{◌≡◌, ℕ, ◌+◌, ◌&&◌, nat_le, sym, ◌∙◌, ap, subst, false, true}
 use Rattle.cdcl_rules.specs.Machine.{ComesToRest}
 use Rattle.cdcl_rules.specs.Event.{event_of}
 use Rattle.cdcl_rules.specs.Run.{next, rests, apply, is_going, is_conflict}
 use Rattle.cdcl_rules.proofs.Advance.{one_on, rests_here, rests_settled, conflicts_stay, conflict_below}
-use Rattle.cdcl_laws.specs.Sound.{IsSound}
-use Rattle.cdcl_laws.proofs.Fuel.{left, left_falls}
+use Rattle.cdcl_laws.proofs.Fuel.{left_falls}
 use Rattle.cdcl_core.specs.Search.{SolverView, IsNextEvent}
 use Rattle.cdcl_core.proofs.Keeps.{next_open}
 use Rattle.cdcl_core.proofs.solver.Solver.run.Goals as goal
