@@ -193,34 +193,18 @@ impl<C: Chooser> Solver<C> {
 #[cfg(test)]
 mod tests {
     use super::*;
+    use crate::cases::VECTOR;
+    use crate::tests::{formula_of, report_of};
     use clause_base::chooser::PlainChooser;
-    use clause_base::clause::Clause;
-    use clause_base::literal::Lit;
     use std::process::Abort;
     use std::test::Fail;
 
-    /// The events of a run, and the literals on the trail after each: the oldest first.
-    const ROWS: [(&str, &str); 5] = [
-        ("decide 1", " 1"),
-        ("force 2 by 0", " 1 2"),
-        ("conflict in 1", ""),
-        ("force 0 by 4", " 0"),
-        ("force 4 by 2", " 0 4"),
-    ];
+    /// The events of the run on the four clauses, and after each the literals on the trail, oldest first.
+    const EVENTS: &str =
+        "decide 1; trail 1\nforce 2 by 0; trail 1 2\nconflict in 1; trail\nforce 0 by 4; trail 0\nforce 4 by 2; trail 0 4\nconflict in 3; refuted\n";
 
-    /// Adds the clause of two literals.
-    fn add_two(
-        rt: &impl Abort,
-        alloc: Global,
-        formula: &mut Formula,
-        one: u32,
-        other: u32,
-    ) -> Result<(), Fail> {
-        let clause = Clause::of(alloc, &[Lit(one), Lit(other)])?.ok_or("a pair")?;
-        assert!(rt; formula.has_room() && clause.fits(formula.variables()));
-        formula.add(clause)?;
-        Ok(())
-    }
+    /// How the run ends, with its log.
+    const END: &str = "standing refuted\nconflicts 2\nlearn 0 by 0 1\nlearn by 4 2 3\n";
 
     /// An event in words.
     fn event_text(alloc: Global, event: &Event) -> Result<String, Fail> {
@@ -232,13 +216,22 @@ mod tests {
         })
     }
 
-    /// The literals on a solver's trail.
-    fn trail_text(alloc: Global, solver: &Solver<PlainChooser>) -> Result<String, Fail> {
-        let mut text = String::new(alloc);
+    /// Writes the literals on a solver's trail, unless it is refuted.
+    fn write_trail(
+        alloc: Global,
+        text: &mut String,
+        solver: &Solver<PlainChooser>,
+    ) -> Result<(), Fail> {
+        if !solver.is_going() {
+            text.push_str("; refuted\n")?;
+            return Ok(());
+        }
+        text.push_str("; trail")?;
         for entry in solver.search.entries() {
             text.push_str(format!(in alloc; " {}", entry.literal.0)?.as_str())?;
         }
-        Ok(text)
+        text.push_str("\n")?;
+        Ok(())
     }
 
     /// Applies the next event, and gives it.
@@ -249,33 +242,29 @@ mod tests {
         Ok(event)
     }
 
+    /// Applies the next events, and writes each with the trail after it.
+    fn events_text(
+        rt: &impl Abort,
+        alloc: Global,
+        solver: &mut Solver<PlainChooser>,
+        count: u32,
+    ) -> Result<String, Fail> {
+        let mut text = String::new(alloc);
+        for _ in 0..count {
+            let event = step(rt, solver)?;
+            text.push_str(event_text(alloc, &event)?.as_str())?;
+            write_trail(alloc, &mut text, solver)?;
+        }
+        Ok(text)
+    }
+
     #[test]
     fn four_clauses_are_refuted_event_by_event(rt: HostRuntime) -> Result<(), Fail> {
-        let alloc = rt.alloc();
-        let mut formula = Formula::new(alloc, 0, 3);
-        for (one, other) in [(0, 2), (0, 3), (1, 4), (1, 5)] {
-            add_two(&rt, alloc, &mut formula, one, other)?;
-        }
-        let mut solver = Solver::new(alloc, formula, PlainChooser::new())?;
-        for (event, trail) in ROWS {
-            assert_eq!(rt;
-                event_text(alloc, &step(&rt, &mut solver)?)?.as_str(),
-                event
-            );
-            assert_eq!(rt; trail_text(alloc, &solver)?.as_str(), trail);
-            assert_eq!(rt; solver.standing(), Standing::Going);
-        }
-        assert_eq!(rt;
-            event_text(alloc, &step(&rt, &mut solver)?)?.as_str(),
-            "conflict in 3"
-        );
-        assert_eq!(rt; solver.standing(), Standing::Refuted);
-        let log = solver.log().as_slice();
-        assert_eq!(rt; log.len(), 2);
-        assert_eq!(rt; log[0].clause.as_slice(), [Lit(0)].as_slice());
-        assert_eq!(rt; log[0].hints.as_slice(), [0, 1].as_slice());
-        assert!(rt; log[1].clause.as_slice().is_empty());
-        assert_eq!(rt; log[1].hints.as_slice(), [4, 2, 3].as_slice());
+        let formula = formula_of(&rt, rt.alloc(), 3, VECTOR)?;
+        let mut solver = Solver::new(rt.alloc(), formula, PlainChooser::new())?;
+        let events = events_text(&rt, rt.alloc(), &mut solver, 6)?;
+        assert_eq!(rt; events.as_str(), EVENTS);
+        assert_eq!(rt; report_of(rt.alloc(), &solver)?.as_str(), END);
         Ok(())
     }
 }

@@ -1,4 +1,4 @@
-use crate::cases::{CASES, Case};
+use crate::cases::{CASES, Case, VECTOR};
 use crate::solver::Solver;
 use cdcl_rules::standing::Standing;
 use clause_base::chooser::PlainChooser;
@@ -24,7 +24,12 @@ fn add_clause(
 }
 
 /// The formula of clauses in the DIMACS form, one a line.
-fn formula_of(rt: &impl Abort, alloc: Global, variables: u32, text: &str) -> Result<Formula, Fail> {
+pub fn formula_of(
+    rt: &impl Abort,
+    alloc: Global,
+    variables: u32,
+    text: &str,
+) -> Result<Formula, Fail> {
     assert!(rt; variables <= 1000);
     let mut formula = Formula::new(alloc, 0, variables);
     let mut lits = Vec::new(alloc);
@@ -66,7 +71,7 @@ fn line_of(alloc: Global, entry: &Entry) -> Result<String, Fail> {
 }
 
 /// How a solver stands, its conflicts and its log.
-fn report_of(alloc: Global, solver: &Solver<PlainChooser>) -> Result<String, Fail> {
+pub fn report_of(alloc: Global, solver: &Solver<PlainChooser>) -> Result<String, Fail> {
     let mut text = String::new(alloc);
     text.push_str(match solver.standing() {
         Standing::Going => "standing going\n",
@@ -125,27 +130,28 @@ fn runs_are_those_wanted_in_one_go_and_in_pieces(rt: HostRuntime) -> Result<(), 
     Ok(())
 }
 
-#[test]
-fn two_conflicts_refute_four_clauses(rt: HostRuntime) -> Result<(), Fail> {
-    let text = "1 2 0\n1 -2 0\n-1 3 0\n-1 -3 0\n";
-    let formula = formula_of(&rt, rt.alloc(), 3, text)?;
-    assert_eq!(rt; formula.variables(), 3);
-    let mut solver = Solver::new(rt.alloc(), formula, PlainChooser::new())?;
-    for (slice, values) in [
-        (0, [Some(false), Some(true), None]),
-        (1, [Some(true), None, Some(true)]),
-        (0, [Some(true), None, Some(true)]),
-    ] {
-        go_on(&rt, &mut solver, slice)?;
-        assert_eq!(rt; solver.standing(), Standing::Going);
-        assert!(rt; solver.formula().variables() == 3);
-        assert_eq!(rt; solver.value(0), values[0]);
-        assert_eq!(rt; solver.value(1), values[1]);
-        assert_eq!(rt; solver.value(2), values[2]);
+/// The values of a solver's variables: + for true, - for false, ? for none.
+fn values_text(alloc: Global, solver: &Solver<PlainChooser>) -> Result<String, Fail> {
+    let mut text = String::new(alloc);
+    for v in 0..solver.formula().variables() {
+        text.push_str(match solver.value(v) {
+            None => "?",
+            Some(true) => "+",
+            Some(false) => "-",
+        })?;
     }
+    Ok(text)
+}
+
+#[test]
+fn values_are_told_where_it_stops(rt: HostRuntime) -> Result<(), Fail> {
+    let formula = formula_of(&rt, rt.alloc(), 3, VECTOR)?;
+    let mut solver = Solver::new(rt.alloc(), formula, PlainChooser::new())?;
+    assert_eq!(rt; values_text(rt.alloc(), &solver)?.as_str(), "???");
+    go_on(&rt, &mut solver, 0)?;
+    assert_eq!(rt; values_text(rt.alloc(), &solver)?.as_str(), "-+?");
     go_on(&rt, &mut solver, 1)?;
-    assert_eq!(rt; solver.standing(), Standing::Refuted);
-    assert_eq!(rt; solver.conflicts(), 2);
+    assert_eq!(rt; values_text(rt.alloc(), &solver)?.as_str(), "+?+");
     assert!(rt; !solver.is_spoilt());
     Ok(())
 }
