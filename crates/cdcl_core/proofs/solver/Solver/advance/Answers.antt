@@ -1,0 +1,64 @@
+use Rattle.std.proofs.Common.{◌≤◌, ◌+◌, sym, subst, Result, Ok, Err, OnOk}
+use Rattle.cdcl_rules.specs.State.{State}
+use Rattle.cdcl_rules.specs.Open.{Opens}
+use Rattle.cdcl_laws.specs.Sound.{IsSound}
+use Rattle.cdcl_laws.proofs.Fuel.{after_is}
+use Rattle.cdcl_laws.proofs.Cuts.{adds_up, after_within, settled_stays}
+use Rattle.cdcl_core.specs.Search.{SolverView}
+use Rattle.cdcl_core.proofs.Shorts.{short_between}
+use Rattle.cdcl_core.proofs.solver.Solver.advance.Goals as goal
+
+on_ok : {T E P Q : Type 0} → (r : Result T E) → (P → Q) → OnOk r P → OnOk r Q
+on_ok (Ok x) f p = f p
+on_ok (Err e) f p = tt
+
+pub returns-then-is_spoilt-clause-adds_up : goal.returns-then-is_spoilt-clause-adds_up
+returns-then-is_spoilt-clause-adds_up g c =
+    let v = c.args.self.now in
+    let fits = subst (λ (w : SolverView g.row.C.Denot). g.C.Chooser.fits w.chooser w.formula.variables) c.self.view_is c.self.invariant in
+    let opens : Opens v.formula.variables (g.C.Chooser.choice v.chooser) = λ values e. g.met.C.Chooser.opens v.chooser values (subst (g.C.Chooser.fits v.chooser) (sym e) fits) in
+    let sound = subst (λ (w : SolverView g.row.C.Denot). IsSound w.formula w.state) c.self.view_is c.conflicts-sound.ensures.sound in
+    adds_up v.formula (g.C.Chooser.choice v.chooser) v.state opens sound
+
+pub returns-clause-after : goal.returns-clause-after
+returns-clause-after g c =
+    let v = c.args.self.now in
+    let fits = subst (λ (w : SolverView g.row.C.Denot). g.C.Chooser.fits w.chooser w.formula.variables) c.self.view_is c.self.invariant in
+    let opens : Opens v.formula.variables (g.C.Chooser.choice v.chooser) = λ values e. g.met.C.Chooser.opens v.chooser values (subst (g.C.Chooser.fits v.chooser) (sym e) fits) in
+    let sound = subst (λ (w : SolverView g.row.C.Denot). IsSound w.formula w.state) c.self.view_is c.conflicts-sound.ensures.sound in
+    on_ok c.run.result (after_is v.formula (g.C.Chooser.choice v.chooser) v.state c.run.new.self.state c.args.conflicts opens sound) c.run.ensures.after
+
+pub returns-clause-adds_up : goal.returns-clause-adds_up
+returns-clause-adds_up g c =
+    let v = c.args.self.now in
+    let fits = subst (λ (w : SolverView g.row.C.Denot). g.C.Chooser.fits w.chooser w.formula.variables) c.self.view_is c.self.invariant in
+    let opens : Opens v.formula.variables (g.C.Chooser.choice v.chooser) = λ values e. g.met.C.Chooser.opens v.chooser values (subst (g.C.Chooser.fits v.chooser) (sym e) fits) in
+    let sound = subst (λ (w : SolverView g.row.C.Denot). IsSound w.formula w.state) c.self.view_is c.conflicts-sound.ensures.sound in
+    adds_up v.formula (g.C.Chooser.choice v.chooser) v.state opens sound
+
+pub returns-clause-within : goal.returns-clause-within
+returns-clause-within g c =
+    let v = c.args.self.now in
+    on_ok c.run.result (λ e. subst (λ (s : State). s.conflicts ≤ v.state.conflicts + c.args.conflicts) (sym e) (after_within (g.C.Chooser.choice v.chooser) v.state c.args.conflicts)) (returns-clause-after g c)
+
+pub returns-then-is_spoilt-clause-settled : goal.returns-then-is_spoilt-clause-settled
+returns-then-is_spoilt-clause-settled g c = settled_stays (g.C.Chooser.choice c.args.self.now.chooser) c.args.self.now.state
+
+pub returns-clause-settled : goal.returns-clause-settled
+returns-clause-settled g c = settled_stays (g.C.Chooser.choice c.args.self.now.chooser) c.args.self.now.state
+
+pub returns-then-is_spoilt-clause-short : goal.returns-then-is_spoilt-clause-short
+returns-then-is_spoilt-clause-short g c =
+    let v = c.args.self.now in
+    let fits = subst (λ (w : SolverView g.row.C.Denot). g.C.Chooser.fits w.chooser w.formula.variables) c.self.view_is c.self.invariant in
+    let opens : Opens v.formula.variables (g.C.Chooser.choice v.chooser) = λ values e. g.met.C.Chooser.opens v.chooser values (subst (g.C.Chooser.fits v.chooser) (sym e) fits) in
+    let sound = subst (λ (w : SolverView g.row.C.Denot). IsSound w.formula w.state) c.self.view_is c.conflicts-sound.ensures.sound in
+    short_between v.formula (g.C.Chooser.choice v.chooser) v.state opens sound
+
+pub returns-clause-short : goal.returns-clause-short
+returns-clause-short g c =
+    let v = c.args.self.now in
+    let fits = subst (λ (w : SolverView g.row.C.Denot). g.C.Chooser.fits w.chooser w.formula.variables) c.self.view_is c.self.invariant in
+    let opens : Opens v.formula.variables (g.C.Chooser.choice v.chooser) = λ values e. g.met.C.Chooser.opens v.chooser values (subst (g.C.Chooser.fits v.chooser) (sym e) fits) in
+    let sound = subst (λ (w : SolverView g.row.C.Denot). IsSound w.formula w.state) c.self.view_is c.conflicts-sound.ensures.sound in
+    short_between v.formula (g.C.Chooser.choice v.chooser) v.state opens sound

@@ -1,0 +1,270 @@
+ghost use Rattle.std.specs.Prelude.{◌≡◌, ◌≤◌, ◌+◌, ◌<◌, ◌++◌, true, false, ◌&&◌, nat_le, length, IfOk, OnOk, OnErr};
+ghost use Rattle.clause_base.specs.Formula.{Satisfies};
+ghost use Rattle.clause_base.specs.Derivation.{IsDerivation, EndsEmpty};
+ghost use Rattle.cdcl_rules.specs.State.{value_of};
+ghost use Rattle.cdcl_rules.specs.Event.{event_of};
+ghost use Rattle.cdcl_rules.specs.Open.{Opens};
+ghost use Rattle.cdcl_rules.specs.Run.{start_of, apply, after, is_going, is_conflict, IsAfter};
+ghost use Rattle.cdcl_laws.specs.Sound.{IsSound, made_true};
+ghost use Rattle.cdcl_laws.specs.Laws.{AddsUp, SettledStays};
+ghost use Rattle.cdcl_core.specs.Search.{SolverView, IsNextEvent};
+ghost use Rattle.cdcl_core.specs.Between.{IsShortBetween};
+
+use crate::search::Search;
+use cdcl_rules::event::Event;
+use cdcl_rules::standing::Standing;
+use clause_base::chooser::Chooser;
+use clause_base::formula::Formula;
+use clause_base::log::Log;
+use clause_base::memory::Memory;
+use std::alloc::Global;
+use std::marker::Model;
+
+/// A solver of a formula by learning from conflicts. Its chooser makes the decisions.
+#[derive(Drop)]
+pub struct Solver<C: Chooser> {
+    search: Search,
+    chooser: C,
+}
+
+impl<C: Chooser> Model for Solver<C> {
+    ghost use Rattle.cdcl_core.specs.Search.{SolverView};
+
+    ghost Value = { SolverView C };
+
+    ghost view = { λ s. record { formula = s.search.formula; state = s.search.state; chooser = s.chooser; spoilt = s.search.spoilt } };
+
+    ghost invariant = { λ s. C.fits s.chooser s.search.formula.variables };
+}
+
+impl<C: Chooser + Drop> Solver<C> {
+    /// The solver of a formula, before any event. Where memory is wanting, formula and chooser are let go.
+    pub fn new(alloc: Global, formula: Formula, chooser: C) -> Result<Solver<C>, Memory>
+        requires { C.fits chooser formula.variables }
+        ensures start { IfOk result (λ s. s ≡ record { formula = formula; state = start_of formula; chooser = chooser; spoilt = false }) }
+    {
+        let search = Search::new(alloc, formula)?;
+        Ok(Solver { search, chooser })
+    }
+}
+
+impl<C: Chooser> Solver<C> {
+    /// How far it is: going, or found where its values satisfy the formula, or refuted where its log ends with the empty clause.
+    pub fn standing(&self) -> Standing
+        ensures value { result ≡ self.now.state.standing }
+        ensures spoilt { self.now.spoilt ≡ true → result ≡ Standing.Going }
+        ensures found { result ≡ Standing.Found → Satisfies (made_true self.now.state.trail) self.now.formula.clauses }
+        ensures refuted { result ≡ Standing.Refuted → EndsEmpty self.now.state.log }
+    {
+        let _sound = self.search.conflicts();
+        self.search.standing()
+    }
+
+    /// How many conflicts it has handled, each of which is an entry of its log.
+    pub fn conflicts(&self) -> u64
+        ensures value { result ≡ self.now.state.conflicts }
+        ensures few { result ≤ 1073741824 }
+        ensures counted { result ≡ length self.now.state.log }
+        ensures sound { IsSound self.now.formula self.now.state }
+    {
+        self.search.conflicts()
+    }
+
+    /// The clauses that it has learned, each with the clauses that it is learned from: a derivation from the formula.
+    pub fn log(&self) -> &Log
+        ensures value { result.now ≡ self.now.state.log }
+        ensures derivation { IsDerivation self.now.formula.clauses self.now.state.log }
+    {
+        let _sound = self.search.conflicts();
+        self.search.log()
+    }
+
+    /// The formula.
+    pub fn formula(&self) -> &Formula
+        ensures { result.now ≡ self.now.formula }
+    {
+        self.search.formula()
+    }
+
+    /// The value of a variable, if it has one.
+    pub fn value(&self, v: u32) -> Option<bool>
+        requires { v < self.now.formula.variables }
+        ensures { result ≡ value_of self.now.state.trail v }
+    {
+        self.search.value(v)
+    }
+
+    /// Whether memory was wanting once. A spoilt solver stays as it is.
+    pub fn is_spoilt(&self) -> bool
+        ensures { result ≡ self.now.spoilt }
+    {
+        self.search.is_spoilt()
+    }
+
+    /// Whether it is neither found nor refuted.
+    fn is_going(&self) -> bool
+        ensures { result ≡ is_going self.now.state.standing }
+    {
+        matches!(self.search.standing(), Standing::Going)
+    }
+
+    /// Whether the event is a conflict past the limit.
+    fn waits(&self, event: &Event, limit: u64) -> bool
+        ensures { result ≡ (is_conflict event.now && nat_le limit self.now.state.conflicts) }
+    {
+        event.is_conflict() && self.search.conflicts() >= limit
+    }
+
+    /// The next event.
+    fn event(&mut self) -> Event
+        ensures event { result ≡ event_of (C.choice self.old.chooser) self.old.state }
+        ensures kept { self.new ≡ self.old }
+        ensures opens { Opens self.old.formula.variables (C.choice self.old.chooser) }
+        ensures sound { IsSound self.old.formula self.old.state }
+    {
+        match self.search.asked() {
+            Some(event) => event,
+            None => match self.chooser.choose(self.search.values()) {
+                None => Event::Finish,
+                Some(lit) => Event::Decide(lit),
+            },
+        }
+    }
+
+    /// Applies the next event.
+    fn apply(&mut self, event: Event) -> Result<(), Memory>
+        requires sane { self.old.spoilt ≡ false }
+        requires going { is_going self.old.state.standing ≡ true }
+        requires sound { IsSound self.old.formula self.old.state }
+        requires room { is_conflict event ≡ true → self.old.state.conflicts < 1073741824 }
+        requires next { IsNextEvent self.old.formula self.old.state event }
+        ensures ok { OnOk result (self.new ≡ record self.old { state = apply self.old.state event }) }
+        ensures err { OnErr result (self.new ≡ record self.old { spoilt = true }) }
+    {
+        self.search.apply(event)
+    }
+
+    /// Goes on until it is settled or the next event is a conflict past the limit.
+    fn run(&mut self, conflicts: u32) -> Result<(), Memory>
+        requires room { self.old.state.conflicts + conflicts ≤ 1073741824 }
+        requires sane { self.old.spoilt ≡ false }
+        ensures after { OnOk result (IsAfter (C.choice self.old.chooser) self.old.state conflicts self.new.state) }
+        ensures formula { self.new.formula ≡ self.old.formula }
+        ensures chooser { self.new.chooser ≡ self.old.chooser }
+        ensures sane { OnOk result (self.new.spoilt ≡ false) }
+        ensures spoilt { OnErr result (self.new.spoilt ≡ true) }
+    {
+        let limit = self.conflicts() + conflicts as u64;
+        while self.is_going() {
+            let event = self.event();
+            if self.waits(&event, limit) {
+                return Ok(());
+            }
+            self.apply(event)?;
+        }
+        Ok(())
+    }
+
+    /// Goes on until it is settled or has handled so many more conflicts; with 0 it does what comes before the next conflict.
+    /// After want of memory it is spoilt: it then answers `Memory` and stays as it is.
+    pub fn advance(&mut self, conflicts: u32) -> Result<(), Memory>
+        requires { self.old.state.conflicts + conflicts ≤ 1073741824 }
+        ensures after { OnOk result (self.new.state ≡ after (C.choice self.old.chooser) self.old.state conflicts) }
+        ensures rests { OnOk result (IsAfter (C.choice self.old.chooser) self.old.state conflicts self.new.state) }
+        ensures within { OnOk result (self.new.state.conflicts ≤ self.old.state.conflicts + conflicts) }
+        ensures adds_up { AddsUp (C.choice self.old.chooser) self.old.state }
+        ensures settled { SettledStays (C.choice self.old.chooser) self.old.state }
+        ensures short { IsShortBetween (C.choice self.old.chooser) self.old.state }
+        ensures formula { self.new.formula ≡ self.old.formula }
+        ensures chooser { self.new.chooser ≡ self.old.chooser }
+        ensures sane { OnOk result (self.old.spoilt ≡ false) }
+        ensures sound { OnOk result (self.new.spoilt ≡ false) }
+        ensures spoilt { OnErr result (self.new.spoilt ≡ true) }
+        ensures stays { self.old.spoilt ≡ true → self.new ≡ self.old }
+    {
+        let _sound = self.search.conflicts();
+        if self.is_spoilt() {
+            return Err(Memory);
+        }
+        self.run(conflicts)
+    }
+}
+
+#[cfg(test)]
+mod tests {
+    use super::*;
+    use crate::cases::VECTOR;
+    use crate::tests::{formula_of, report_of};
+    use clause_base::chooser::PlainChooser;
+    use std::process::Abort;
+    use std::test::Fail;
+
+    /// The events of the run on the four clauses, and after each the literals on the trail, oldest first.
+    const EVENTS: &str =
+        "decide 1; trail 1\nforce 2 by 0; trail 1 2\nconflict in 1; trail\nforce 0 by 4; trail 0\nforce 4 by 2; trail 0 4\nconflict in 3; refuted\n";
+
+    /// How the run ends, with its log.
+    const END: &str = "standing refuted\nconflicts 2\nlearn 0 by 0 1\nlearn by 4 2 3\n";
+
+    /// An event in words.
+    fn event_text(alloc: Global, event: &Event) -> Result<String, Fail> {
+        Ok(match event {
+            Event::Conflict(number) => format!(in alloc; "conflict in {number}")?,
+            Event::Force(lit, number) => format!(in alloc; "force {} by {number}", lit.0)?,
+            Event::Decide(lit) => format!(in alloc; "decide {}", lit.0)?,
+            Event::Finish => format!(in alloc; "finish")?,
+        })
+    }
+
+    /// Writes the literals on a solver's trail, unless it is refuted.
+    fn write_trail(
+        alloc: Global,
+        text: &mut String,
+        solver: &Solver<PlainChooser>,
+    ) -> Result<(), Fail> {
+        if !solver.is_going() {
+            text.push_str("; refuted\n")?;
+            return Ok(());
+        }
+        text.push_str("; trail")?;
+        for entry in solver.search.entries() {
+            text.push_str(format!(in alloc; " {}", entry.literal.0)?.as_str())?;
+        }
+        text.push_str("\n")?;
+        Ok(())
+    }
+
+    /// Applies the next event, and gives it.
+    fn step(rt: &impl Abort, solver: &mut Solver<PlainChooser>) -> Result<Event, Fail> {
+        assert!(rt; !solver.is_spoilt() && solver.is_going() && solver.conflicts() < 1000);
+        let event = solver.event();
+        solver.apply(event)?;
+        Ok(event)
+    }
+
+    /// Applies the next events, and writes each with the trail after it.
+    fn events_text(
+        rt: &impl Abort,
+        alloc: Global,
+        solver: &mut Solver<PlainChooser>,
+        count: u32,
+    ) -> Result<String, Fail> {
+        let mut text = String::new(alloc);
+        for _ in 0..count {
+            let event = step(rt, solver)?;
+            text.push_str(event_text(alloc, &event)?.as_str())?;
+            write_trail(alloc, &mut text, solver)?;
+        }
+        Ok(text)
+    }
+
+    #[test]
+    fn four_clauses_are_refuted_event_by_event(rt: HostRuntime) -> Result<(), Fail> {
+        let formula = formula_of(&rt, rt.alloc(), 3, VECTOR)?;
+        let mut solver = Solver::new(rt.alloc(), formula, PlainChooser::new())?;
+        let events = events_text(&rt, rt.alloc(), &mut solver, 6)?;
+        assert_eq!(rt; events.as_str(), EVENTS);
+        assert_eq!(rt; report_of(rt.alloc(), &solver)?.as_str(), END);
+        Ok(())
+    }
+}
