@@ -10,3 +10,6 @@ pub mod Places
 pub mod Simplifying
 pub mod Steps
 pub mod Runs
+pub mod Founding
+pub mod Unique
+pub mod TaskLaw

@@ -1,5 +1,8 @@
 use Rattle.grounding.proofs.Reaching.{least_is_closed}
 use Rattle.grounding.proofs.Runs.{calls_are_actions, actions_are_calls, atoms_are_known, goals_agree}
+use Rattle.grounding.proofs.Founding.{sound_is_least, least_is_grounded}
+use Rattle.grounding.proofs.Unique.{one_result}
+use Rattle.grounding.proofs.TaskLaw.{grounded_is_task}
 use Rattle.grounding.proofs.laws.laws.Goals as goal
 
 pub returns-clause-least_is_closed : goal.returns-clause-least_is_closed
@@ -18,13 +21,13 @@ pub returns-clause-goals_agree : goal.returns-clause-goals_agree
 returns-clause-goals_agree c = goals_agree
 
 pub returns-clause-one_result : goal.returns-clause-one_result
-returns-clause-one_result c = ?
+returns-clause-one_result c = one_result
 
 pub returns-clause-sound_is_least : goal.returns-clause-sound_is_least
-returns-clause-sound_is_least c = ?
+returns-clause-sound_is_least c = sound_is_least
 
 pub returns-clause-least_is_grounded : goal.returns-clause-least_is_grounded
-returns-clause-least_is_grounded c = ?
+returns-clause-least_is_grounded c = least_is_grounded
 
 pub returns-clause-grounded_is_task : goal.returns-clause-grounded_is_task
-returns-clause-grounded_is_task c = ?
+returns-clause-grounded_is_task c = grounded_is_task
