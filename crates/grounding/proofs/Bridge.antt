@@ -111,7 +111,7 @@ next_is p s objects effects a =
     other_order false false true = refl
     other_order false false false = refl
 
-some_is : {X : Type 0} (x y : X) → Some x ≡ Some y → x ≡ y
+pub some_is : {X : Type 0} (x y : X) → Some x ≡ Some y → x ≡ y
 some_is x y e = cc
 
 -- where a call is executed, its instance leads to the state after it

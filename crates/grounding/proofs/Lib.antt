@@ -9,6 +9,9 @@ pub mod Constants
 pub mod Places
 pub mod Simplifying
 pub mod Steps
+pub mod Turns
+pub mod Goal
+pub mod Whole
 pub mod Runs
 pub mod Founding
 pub mod Unique

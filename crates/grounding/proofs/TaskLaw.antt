@@ -21,7 +21,7 @@ use Rattle.grounding.specs.Laws.{GroundedIsTask}
 use Rattle.grounding.proofs.Orders.{numbers, effects}
 use Rattle.grounding.proofs.Sets.{each_sorted, is_sorted}
 use Rattle.grounding.proofs.Places.{literal_below}
-use Rattle.grounding.proofs.Runs.{made}
+use Rattle.grounding.proofs.Whole.{made}
 
 -- sorted numbers within bounds rise
 rising : (top low : ℕ) (ls : List ℕ) → AllByRecursion (λ l. low ≤ l) ls → AllByRecursion (λ l. l < top) ls → IsSorted nat_lt ls → are_rising top low ls ≡ true
