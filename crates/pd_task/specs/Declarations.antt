@@ -1,6 +1,8 @@
--- Constants, objects, predicates and the initial state.
-use Rattle.std.specs.Prelude.{ℕ, ◌==◌, Bool, true, false, List, [], ◌∷◌, ◌++◌, map, Option, Some, None, Result, Ok, Err, not, slice_index}
+-- Constants, objects, predicates and the initial state (`<constants-def>`, `<object declaration>`,
+-- `<predicates-def>` and `<init>` of the grammar of PDDL 2.1: Fox and Long 2003, appendix A).
+use Rattle.std.specs.Prelude.{ℕ, ◌==◌, Bool, true, false, List, [], ◌∷◌, ◌++◌, Option, Some, None, Result, Ok, Err, not, slice_index}
 use Rattle.pd_sexp.specs.Tree.{Tree, word, list, Trees, no_trees, and_tree}
+use Rattle.pd_model.specs.Names.{object_names, predicate_names, arities_of}
 use Rattle.pd_model.specs.Types.{kinds_of}
 use Rattle.pd_model.specs.declared.objects.ObjectDecl.{ObjectDecl}
 use Rattle.pd_model.specs.declared.predicates.Predicate.{Predicate}
@@ -20,9 +22,7 @@ use Rattle.pd_task.specs.Action.{name_at}
 
 -- ---- objects
 
-abbrev pub object_names : List ObjectDecl → List (List ℕ)
-object_names objects = map (λ o. o.name) objects
-
+-- an object has a name; whether it is declared already is asked with its type
 abbrev pub admit_object : List ObjectDecl → Named → Result (List ObjectDecl) Fault
 admit_object objects w = wants (is_name w.name) (Shape w.at) >>= λ _. Ok objects
 
@@ -37,6 +37,7 @@ give_objects objects kind [] = Ok objects
 give_objects objects kind (w ∷ ws) =
     declare objects kind w (number_of w.name (object_names objects)) >>= λ next. give_objects next kind ws
 
+-- after these objects and these words, which wait for their type
 abbrev pub objects_from : List (List ℕ) → List ObjectDecl → List Named → Trees → Result (List ObjectDecl) Fault
 objects_from types objects waiting items = typed_from admit_object (type_of types) give_objects object objects waiting items
 
@@ -46,12 +47,7 @@ and_objects types objects items = objects_from types objects [] items
 
 -- ---- predicates
 
-abbrev pub predicate_names : List Predicate → List (List ℕ)
-predicate_names predicates = map (λ p. p.name) predicates
-
-abbrev pub arities_of : List Predicate → List ℕ
-arities_of predicates = map (λ p. p.arity) predicates
-
+-- whether the word is no reserved head
 abbrev pub is_free : Keyword → Bool
 is_free heads.Free = true
 is_free _ = false
