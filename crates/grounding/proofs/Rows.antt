@@ -1,5 +1,5 @@
 -- Small tasks, grounded by computation from the definitions alone.
-use Rattle.std.proofs.Common.{◌≡◌, ◌^◌, ◌-◌, ℕ, List, [], ◌∷◌, Bool, true, false, refl}
+use Rattle.std.proofs.Common.{◌≡◌, ◌^◌, ◌-◌, ℕ, List, [], ◌∷◌, true, false, refl}
 use Rattle.gt_core.specs.Task.{Effect, Action, initial_state}
 use Rattle.gt_core.specs.Execution.{next_of_one}
 use Rattle.pd_model.specs.declared.atoms.Atom.{Atom}

@@ -77,11 +77,11 @@ both_0 = schema [] [] (add [] [] 0 [] ∷ delete [] [] 0 [] ∷ [])
 -- a case is moved from a place to a place (0), and what is in it (2) moves along (1)
 abbrev pub moves_case : Schema
 moves_case = schema (2 ∷ 2 ∷ []) (has 0 (Variable 0 ∷ []) ∷ []) (
-  add [] [] 0 (Variable 1 ∷ []) ∷ delete [] [] 0 (Variable 0 ∷ [])
-  ∷ add (1 ∷ []) (has 2 (Variable 2 ∷ []) ∷ []) 1 (Variable 2 ∷ Variable 1 ∷ [])
-  ∷ delete (1 ∷ []) (has 2 (Variable 2 ∷ []) ∷ []) 1 (Variable 2 ∷ Variable 0 ∷ [])
-  ∷ []
-)
+    add [] [] 0 (Variable 1 ∷ []) ∷ delete [] [] 0 (Variable 0 ∷ [])
+    ∷ add (1 ∷ []) (has 2 (Variable 2 ∷ []) ∷ []) 1 (Variable 2 ∷ Variable 1 ∷ [])
+    ∷ delete (1 ∷ []) (has 2 (Variable 2 ∷ []) ∷ []) 1 (Variable 2 ∷ Variable 0 ∷ [])
+    ∷ []
+    )
 
 abbrev pub place_object : ObjectDecl
 place_object = object_of_type 2

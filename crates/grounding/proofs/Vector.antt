@@ -9,12 +9,12 @@ use Rattle.pd_model.specs.declared.calls.Call.{Call}
 use Rattle.pd_model.specs.declared.parts.Parts.{Parts}
 use Rattle.grounding.specs.Instance.{instance_of}
 use Rattle.grounding.specs.Reach.{Adds, IsReachable, IsKept}
-use Rattle.grounding.specs.Grounded.{Grounded, IsGrounded, is_listed}
-use Rattle.grounding.specs.Found.{IsSound, IsClosedLists, grounded_from}
+use Rattle.grounding.specs.Grounded.{IsGrounded, is_listed}
+use Rattle.grounding.specs.Found.{IsSound, IsClosedLists}
 use Rattle.grounding.proofs.Members.{atom_among, call_among}
 use Rattle.grounding.proofs.Reaching.{least_is_closed}
 use Rattle.grounding.proofs.Founding.{sound_is_least, least_is_grounded}
-use Rattle.grounding.proofs.Tasks.{atom, call, plain, makes_1, takes_0}
+use Rattle.grounding.proofs.Tasks.{atom, call, plain, makes_1}
 
 abbrev p : Atom
 p = atom 0 []
