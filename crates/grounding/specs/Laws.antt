@@ -1,5 +1,5 @@
 -- What makes grounding useful: executing calls of the files and running numbered actions is the same.
-use Rattle.std.specs.Prelude.{ℕ, ◌≡◌, List, [], ◌∷◌, Bool, true, Some, slice_get, IsTrue, ◌⊎◌, ◌↔◌}
+use Rattle.std.specs.Prelude.{take, ℕ, ◌≡◌, List, [], ◌∷◌, Bool, true, Some, slice_get, IsTrue, ◌⊎◌, ◌↔◌}
 use Rattle.gt_core.specs.Lawful.{is_task}
 use Rattle.gt_core.specs.Task.{initial_state}
 use Rattle.gt_core.specs.Execution.{CanRun, run, IsGoal}
@@ -25,11 +25,13 @@ AreNumbers g (c ∷ calls) (n ∷ numbers) = (slice_get g.calls n ≡ Some c) ×
 abbrev pub IsSameState : Grounded → (ℕ → Bool) → List Atom → Type 0
 IsSameState g s t = (f : ℕ) (a : Atom) → slice_get g.facts f ≡ Some a → s f ≡ is_in a t
 
--- these numbered actions run where these calls are executed, to the same state
+-- these numbered actions run where these calls are executed, to the same state, and through the same states: after
+-- the first k of them, for each k
 pub record RunsAlike (p : Parts) (g : Grounded) (calls : List Call) (t : List Atom) (numbers : List ℕ) : Type 0 where
   pub named : AreNumbers g calls numbers
   pub runs : CanRun g.task (initial_state g.task) numbers
   pub same : IsSameState g (run g.task (initial_state g.task) numbers) t
+  pub between : (k : ℕ) (u : List Atom) → exec_all p p.init (take k calls) ≡ Some u → IsSameState g (run g.task (initial_state g.task) (take k numbers)) u
 
 -- each of these is a call, and they are executed in turn from the initial state to another
 abbrev pub AreExecuted : Parts → List Call → List Atom → Type 0
