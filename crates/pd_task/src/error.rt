@@ -1,6 +1,5 @@
 // Why two trees are no task.
-use pd_model::{Memory, Which};
-use pd_words::{Fault, ReadError};
+use pd_model::Which;
 
 /// The first cause for which a domain and a problem say no task, with the file and the offset of a byte in
 /// it, from 0.
@@ -18,10 +17,4 @@ pub enum PddlError {
     Unsupported { file: Which, at: u32 },
     /// Want of memory.
     Memory,
-}
-
-impl From<Memory> for PddlError {
-    fn from(_: Memory) -> Self {
-        PddlError::Memory
-    }
 }
