@@ -1,0 +1,9 @@
+pub mod Instance
+pub mod Reach
+pub mod Sorted
+pub mod Simplify
+pub mod Grounded
+pub mod Tuples
+pub mod Limits
+pub mod Found
+pub mod Laws
