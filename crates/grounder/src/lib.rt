@@ -1,6 +1,6 @@
 //! The grounder: from a task as it is written to one over numbered facts and actions.
 #![tactic(auto)]
 
-mod ground;
+mod grounded;
 
-pub use ground::{GroundError, Grounded, ground};
+pub use grounded::{GroundError, Grounded, ground};
