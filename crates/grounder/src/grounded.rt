@@ -3,7 +3,7 @@ ghost use Rattle.std.specs.Prelude.{ℕ, ◌≡◌, IfOk, Err};
 ghost use Rattle.grounding.specs.Grounded.{IsGrounded};
 ghost use Rattle.grounding.specs.Limits.{IsWithin, IsOverTuples, IsOverFacts, IsOverActions, IsOverEffects};
 
-use gt_core::Task;
+use gt_core::task::Task;
 use pd_model::{Atom, Atoms, Call, Calls, Pddl};
 use std::alloc::Global;
 use std::marker::Model;
