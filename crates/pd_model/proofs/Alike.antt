@@ -17,7 +17,7 @@ use Rattle.pd_model.specs.declared.calls.Verdict.TheVariants.{Reaches, Blocked, 
 use Rattle.pd_model.specs.declared.parts.Parts.{Parts}
 use Rattle.pd_model.specs.State.{same_atom, is_in, SameState, SameOutcome}
 use Rattle.pd_model.specs.Instance.{instance, agrees, holds, all_hold}
-use Rattle.pd_model.specs.Fits.{tuples}
+use Rattle.pd_model.specs.Fits.{tuples, is_call}
 use Rattle.pd_model.specs.Exec.{active, of_sign, gains, losses, next, exec_schema, exec}
 use Rattle.pd_model.specs.Plan.{verdict_from, verdict, exec_all, meets_goal, IsPlan}
 use Rattle.pd_model.specs.Follows.{Follows}
@@ -64,8 +64,14 @@ same_schema p s t same objects None = tt
 same_schema p s t same objects (Some schema) =
     rw (same_all_hold s t same objects schema.pre) (by_can p s t same objects schema (all_hold t objects schema.pre))
 
+by_call : (b : Bool) (o q : Option (List Atom)) → SameOutcome o q → SameOutcome (cond b o None) (cond b q None)
+by_call true o q same = same
+by_call false o q same = tt
+
 pub same_exec : (p : Parts) (s t : List Atom) → SameState s t → (call : Call) → SameOutcome (exec p s call) (exec p t call)
-same_exec p s t same call = same_schema p s t same call.objects (slice_get p.schemas call.schema)
+same_exec p s t same call =
+    let schema = slice_get p.schemas call.schema in
+    by_call (is_call p call) (exec_schema p s call.objects schema) (exec_schema p t call.objects schema) (same_schema p s t same call.objects schema)
 
 -- what the rest of the calls come to, by what the next of them gives
 abbrev pub after : Parts → ℕ → Option (List Atom) → List Call → Verdict

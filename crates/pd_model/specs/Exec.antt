@@ -3,7 +3,7 @@ use Rattle.std.specs.Prelude.{ℕ, Bool, true, false, List, [], ◌∷◌, ◌++
 use Rattle.std.specs.List.{filter, flat_map}
 use Rattle.pd_model.specs.State.{is_in}
 use Rattle.pd_model.specs.Instance.{instance, agrees, all_hold}
-use Rattle.pd_model.specs.Fits.{tuples}
+use Rattle.pd_model.specs.Fits.{tuples, is_call}
 use Rattle.pd_model.specs.declared.atoms.Atom.{Atom}
 use Rattle.pd_model.specs.declared.effects.Effect.{Effect}
 use Rattle.pd_model.specs.declared.schemas.Schema.{Schema}
@@ -43,6 +43,6 @@ abbrev pub exec_schema : Parts → List Atom → List ℕ → Option Schema → 
 exec_schema p s objects None = None
 exec_schema p s objects (Some schema) = if all_hold s objects schema.pre then Some (next p s objects schema.effects) else None
 
--- the state after the call, where it can run
+-- the state after the call, where it is one (its objects fit) and can run
 abbrev pub exec : Parts → List Atom → Call → Option (List Atom)
-exec p s call = exec_schema p s call.objects (slice_get p.schemas call.schema)
+exec p s call = if is_call p call then exec_schema p s call.objects (slice_get p.schemas call.schema) else None

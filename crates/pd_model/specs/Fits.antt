@@ -23,6 +23,7 @@ all_fit p [] (o ∷ os) = false
 all_fit p (kind ∷ kinds) [] = false
 all_fit p (kind ∷ kinds) (o ∷ os) = fits p kind o && all_fit p kinds os
 
+-- whether there is such a schema, and the objects fit its parameters
 abbrev pub is_call_of : Parts → Option Schema → List ℕ → Bool
 is_call_of p None objects = false
 is_call_of p (Some schema) objects = all_fit p schema.parameters objects

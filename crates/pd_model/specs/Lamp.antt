@@ -5,9 +5,11 @@ use Rattle.pd_model.specs.declared.conds.Cond.TheVariants.{Has}
 use Rattle.pd_model.specs.declared.schemas.Schema.{Schema}
 use Rattle.pd_model.specs.declared.parts.Parts.{Parts}
 
+-- the atom that the lamp is on
 abbrev pub on : Pattern
 on = record { predicate = 0; terms = [] }
 
+-- the action: it needs the lamp off, and both adds and deletes that it is on
 abbrev pub flip_schema : Schema
 flip_schema = record {
   name = [];
@@ -16,6 +18,7 @@ flip_schema = record {
   effects = record { over = []; cond = []; atom = on; adds = true } ∷ record { over = []; cond = []; atom = on; adds = false } ∷ [];
 }
 
+-- the lamp is off at first and is to be on
 abbrev pub lamp : Parts
 lamp = record {
   types = record { name = []; parent = 0 } ∷ [];

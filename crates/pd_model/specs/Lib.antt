@@ -1,4 +1,5 @@
 pub mod Types
+pub mod Names
 pub mod WellFormed
 pub mod State
 pub mod Instance

@@ -5,6 +5,7 @@ use Rattle.std.specs.Str.{bytes_eq as same_numbers}
 use Rattle.std.specs.List.{list_any}
 use Rattle.pd_model.specs.declared.atoms.Atom.{Atom}
 
+-- the same predicate and the same objects, by number
 abbrev pub same_atom : Atom → Atom → Bool
 same_atom a b = (a.predicate == b.predicate) && same_numbers a.objects b.objects
 

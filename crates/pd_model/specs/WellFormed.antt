@@ -33,10 +33,12 @@ abbrev pub is_pattern : Parts → ℕ → Pattern → Bool
 is_pattern p variables a =
     takes (slice_get p.predicates a.predicate) (length a.terms) && list_all (is_term p variables) a.terms
 
+-- whether the atom has a declared predicate and as many declared objects as it takes
 abbrev pub is_atom : Parts → Atom → Bool
 is_atom p a =
     takes (slice_get p.predicates a.predicate) (length a.objects) && are_below (length p.objects) a.objects
 
+-- whether the literal is one of declared things and of so many variables
 abbrev pub is_cond : Parts → ℕ → Cond → Bool
 is_cond p variables (Has atom want) = is_pattern p variables atom
 is_cond p variables (Same left right want) = is_term p variables left && is_term p variables right
@@ -48,12 +50,14 @@ is_effect p parameters e =
     nat_lt variables (2 ^ 32) && are_below (length p.types) e.over && list_all (is_cond p variables) e.cond
     && is_pattern p variables e.atom
 
+-- whether the parts of the action are of declared things and of its variables, which have numbers of 32 bits
 abbrev pub is_schema : Parts → Schema → Bool
 is_schema p s =
     let parameters = length s.parameters in
     nat_lt parameters (2 ^ 32) && are_below (length p.types) s.parameters && list_all (is_cond p parameters) s.pre
     && list_all (is_effect p parameters) s.effects
 
+-- what each task keeps
 pub record IsWellFormed (p : Parts) : Type 0 where
   pub few_types : length p.types < 2 ^ 32
   pub few_predicates : length p.predicates < 2 ^ 32

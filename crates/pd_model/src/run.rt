@@ -32,6 +32,7 @@ fn apply(
 
 /// Runs the call, and answers whether it can run.
 fn run_call(alloc: Global, p: &Pddl, state: &mut State, call: &Call) -> Result<bool, Memory>
+    requires { IsTrue (is_call p.now call.now) }
     ensures { IfOk result (λ ran. Follows (exec p.now state.old call.now) ran state.new) }
 {
     let Some(schema) = p.schemas().as_slice().get(call.schema as usize) else {

@@ -5,12 +5,15 @@ use Rattle.pd_model.specs.declared.objects.ObjectDecl.{ObjectDecl}
 use Rattle.pd_model.specs.declared.schemas.Schema.{Schema}
 use Rattle.pd_model.specs.declared.parts.Parts.{Parts}
 
+-- a type right under `object`
 abbrev pub type_named : List ℕ → TypeDecl
 type_named name = record { name = name; parent = 0 }
 
+-- an object of the type of this number
 abbrev pub object_named : List ℕ → ℕ → ObjectDecl
 object_named name kind = record { name = name; kind = kind }
 
+-- an action with parameters of the types of these numbers
 abbrev pub schema_named : List ℕ → List ℕ → Schema
 schema_named name parameters = record { name = name; parameters = parameters; pre = []; effects = [] }
 

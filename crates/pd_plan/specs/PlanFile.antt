@@ -12,9 +12,11 @@ use Rattle.pd_plan.specs.Fault.{Fault, syntax, unknown, arity, mistyped}
 use Rattle.pd_plan.specs.First.{◌>>=◌, found, wants}
 use Rattle.pd_plan.specs.WordLists.{word_lists}
 
+-- the names of the actions, by number
 abbrev pub schema_names : List Schema → List (List ℕ)
 schema_names schemas = map (λ s. s.name) schemas
 
+-- the names of the objects, by number
 abbrev pub object_names : List ObjectDecl → List (List ℕ)
 object_names objects = map (λ o. o.name) objects
 
@@ -44,6 +46,7 @@ call_from p at (name ∷ objects) = do
   numbers ← arguments p schema.parameters objects
   Ok (record { schema = number; objects = numbers })
 
+-- the call that a list of words spells
 abbrev pub call_of : Parts → WordList → Result Call Fault
 call_of p l = call_from p l.at l.words
 

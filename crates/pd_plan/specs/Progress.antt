@@ -34,6 +34,7 @@ token done (inside start words) at b =
     else if is_letter b then Ok (word done start words at (lowered b ∷ []))
     else Err (syntax at)
 
+-- a byte outside words: a blank, the beginning of a comment, or a token
 abbrev pub outside : List WordList → Place → ℕ → ℕ → Result State Fault
 outside done place at b =
     if is_blank b then Ok (gap done place)

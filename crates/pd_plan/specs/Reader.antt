@@ -12,15 +12,18 @@ use Rattle.pd_plan.specs.declared.reader.Place.TheVariants.{Between, Inside}
 use Rattle.pd_plan.specs.declared.reader.Spot.{Spot}
 use Rattle.pd_plan.specs.declared.reader.Spot.TheVariants.{Gap, Comment, Word}
 
+-- where the reader stands among lists
 abbrev pub place_of : Place → ℕ → List Named → at.Place
 place_of Between start words = at.between
 place_of Inside start words = at.inside start words
 
+-- where it stands among letters and comments
 abbrev pub state_from : List WordList → Spot → ℕ → List Named → ℕ → List ℕ → at.State
 state_from done (Gap place) start words first letters = at.gap done (place_of place start words)
 state_from done (Comment place) start words first letters = at.comment done (place_of place start words)
 state_from done Word start words first letters = at.word done start words first letters
 
+-- what the fields of a `Reader` stand for
 abbrev pub state_of : Reader → at.State
 state_of r = state_from r.done.items r.spot r.start r.words.items r.first r.letters.items
 

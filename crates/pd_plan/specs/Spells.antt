@@ -7,6 +7,7 @@ use Rattle.pd_model.specs.declared.parts.Parts.{Parts}
 use Rattle.pd_words.specs.declared.named.Named.{Named}
 use Rattle.pd_plan.specs.PlanFile.{call_from}
 
+-- the word as an item of a list
 abbrev pub tree_of_word : Named → Tree
 tree_of_word w = word w.at w.name
 
@@ -19,5 +20,6 @@ SpellsFrom p offset bytes (call ∷ calls) =
     × (call_from p (offset + length gap) words ≡ Ok call)
     × SpellsFrom p (offset + length gap + length item) rest calls
 
+-- the bytes are a plan file that spells these calls, however it is laid out
 abbrev pub Spells : Parts → List ℕ → List Call → Type 0
 Spells p bytes calls = SpellsFrom p 0 bytes calls

@@ -2,6 +2,7 @@
 use Rattle.std.specs.Prelude.{ℕ, ◌+◌, ◌==◌, List, [], ◌∷◌, ◌++◌, if◌then◌else◌}
 use Rattle.pd_sexp.specs.Bytes.{open_paren, close_paren, is_blank, is_letter, lowered}
 
+-- a parenthesis, a word in small letters, or a byte that stands in no text, each with its offset
 pub data Token : Type 0 where
   opening : ℕ → Token
   closing : ℕ → Token

@@ -8,6 +8,7 @@ use Rattle.pd_plan.specs.Fault.{Fault, syntax}
 use Rattle.pd_plan.specs.First.{◌>>=◌}
 use Rattle.pd_plan.specs.Tokens.{Token, opening, closing, word, wrong, tokens}
 
+-- the list that opens at this offset
 abbrev pub word_list : ℕ → List Named → WordList
 word_list at words = record { at = at; words = words }
 

@@ -29,14 +29,17 @@ pub record Keys : Type 0 where
   pub precondition : Option Tree
   pub effect : Option Tree
 
+-- no key stood so far
 abbrev pub no_keys : Keys
 no_keys = record { parameters = None; precondition = None; effect = None }
 
+-- the value of a key, where it stood
 abbrev pub value_at : Key → Keys → Option Tree
 value_at key.Parameters keys = keys.parameters
 value_at key.Precondition keys = keys.precondition
 value_at key.Effect keys = keys.effect
 
+-- the same keys, and this one with this value
 abbrev pub with_value : Key → Tree → Keys → Keys
 with_value key.Parameters value keys = record keys { parameters = Some value }
 with_value key.Precondition value keys = record keys { precondition = Some value }
@@ -66,6 +69,7 @@ abbrev pub name_at : Tree → Result (List ℕ) Fault
 name_at (list at items) = Err (Shape at)
 name_at (word at text) = wants (is_name text) (Shape at) >>= λ _. Ok text
 
+-- the names of the actions
 abbrev pub names_of : List Schema → List (List ℕ)
 names_of schemas = map (λ s. s.name) schemas
 

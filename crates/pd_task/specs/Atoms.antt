@@ -21,6 +21,7 @@ pub record Names : Type 0 where
   pub objects : List (List ℕ)
   pub variables : List (List (List ℕ))
 
+-- how many items there are
 abbrev pub count : Trees → ℕ
 count no_trees = 0
 count (and_tree t ts) = suc (count ts)

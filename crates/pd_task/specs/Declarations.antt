@@ -20,9 +20,11 @@ use Rattle.pd_task.specs.Action.{name_at}
 
 -- ---- objects
 
+-- the names of the objects, by number
 abbrev pub object_names : List ObjectDecl → List (List ℕ)
 object_names objects = map (λ o. o.name) objects
 
+-- an object has a name; whether it is declared already is asked with its type
 abbrev pub admit_object : List ObjectDecl → Named → Result (List ObjectDecl) Fault
 admit_object objects w = wants (is_name w.name) (Shape w.at) >>= λ _. Ok objects
 
@@ -37,6 +39,7 @@ give_objects objects kind [] = Ok objects
 give_objects objects kind (w ∷ ws) =
     declare objects kind w (number_of w.name (object_names objects)) >>= λ next. give_objects next kind ws
 
+-- after these objects and these words, which wait for their type
 abbrev pub objects_from : List (List ℕ) → List ObjectDecl → List Named → Trees → Result (List ObjectDecl) Fault
 objects_from types objects waiting items = typed_from admit_object (type_of types) give_objects object objects waiting items
 
@@ -46,12 +49,15 @@ and_objects types objects items = objects_from types objects [] items
 
 -- ---- predicates
 
+-- the names of the predicates, by number
 abbrev pub predicate_names : List Predicate → List (List ℕ)
 predicate_names predicates = map (λ p. p.name) predicates
 
+-- the numbers of arguments of the predicates, by number
 abbrev pub arities_of : List Predicate → List ℕ
 arities_of predicates = map (λ p. p.arity) predicates
 
+-- whether the word is no reserved head
 abbrev pub is_free : Keyword → Bool
 is_free heads.Free = true
 is_free _ = false

@@ -63,10 +63,12 @@ left_out Domain = codes ":functions" ∷ codes ":durative-action" ∷ codes ":de
 left_out Problem = codes ":metric" ∷ codes ":constraints" ∷ []
 left_out Plan = []
 
+-- the item is a word, whichever it is
 abbrev pub a_word : Tree → Result (Unit {0}) Fault
 a_word (word at text) = Ok tt
 a_word (list at items) = Err (Shape at)
 
+-- each item is a word
 abbrev pub words : Trees → Result (Unit {0}) Fault
 words no_trees = Ok tt
 words (and_tree t ts) = a_word t >>= λ _. words ts
@@ -89,6 +91,7 @@ section_under file seen head at items =
       _ ← section_items head at items
       Ok (seen ++ head ∷ [])
 
+-- one section more, after single ones with these heads: the heads with this one, if it is single
 abbrev pub section : Which → List (List ℕ) → Tree → Result (List (List ℕ)) Fault
 section file seen (word at text) = Err (Shape at)
 section file seen (list at no_trees) = Err (Shape at)
@@ -105,6 +108,7 @@ abbrev pub first_of : {A : Type 0} → Option A → Option A → Option A
 first_of (Some x) later = Some x
 first_of None later = later
 
+-- the place and the items of the first section with this head
 abbrev pub find_section : List ℕ → Trees → Option (ℕ × Trees)
 find_section head no_trees = None
 find_section head (and_tree t ts) = first_of (section_with head t) (find_section head ts)
@@ -114,6 +118,7 @@ abbrev pub items_of : Option (ℕ × Trees) → Trees
 items_of None = no_trees
 items_of (Some (at, items)) = items
 
+-- the items of the first section with this head
 abbrev pub items_under : List ℕ → Trees → Trees
 items_under head sections = items_of (find_section head sections)
 

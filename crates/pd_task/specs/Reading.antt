@@ -30,6 +30,7 @@ pub record DomainParts : Type 0 where
   pub predicates : List Predicate
   pub schemas : List Schema
 
+-- the names of the types, by number
 abbrev pub type_names : List TypeDecl → List (List ℕ)
 type_names ts = map (λ t. t.name) ts
 

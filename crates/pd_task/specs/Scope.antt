@@ -10,6 +10,7 @@ use Rattle.pd_task.specs.Standing.{Standing}
 use Rattle.pd_task.specs.Atoms.{Names}
 use Rattle.pd_task.specs.Effects.{Site}
 
+-- what names stand for, with these variables in scope
 abbrev pub names_with : Vocabulary → List (List (List ℕ)) → Names
 names_with vocabulary variables = record {
   predicates = vocabulary.predicates.now;
@@ -18,6 +19,7 @@ names_with vocabulary variables = record {
   variables = variables;
 }
 
+-- the place of an effect among `forall`s and under a `when` with this condition
 abbrev pub site_of : Vocabulary → Standing → List Cond → Site
 site_of vocabulary standing cond = record { names = names_with vocabulary standing.levels; over = standing.over; cond = cond }
 

@@ -2,5 +2,6 @@
 use Rattle.pd_task.specs.declared.read.DomainTables.{DomainTables}
 use Rattle.pd_task.specs.Reading.{DomainParts}
 
+-- what the tables say that a domain declares
 abbrev pub domain_of : DomainTables → DomainParts
 domain_of d = record { types = d.types.decls; constants = d.constants.items; predicates = d.predicates.decls.items; schemas = d.schemas.items }

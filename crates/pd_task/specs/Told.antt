@@ -13,6 +13,7 @@ abbrev pub IsTold : Result Parts PddlError → PddlError → Type 0
 IsTold reading errors.Memory = Unit {0}
 IsTold reading error = reading ≡ Err error
 
+-- the fault with the file that has it, or want of memory
 abbrev pub told_error : Which → ReadError → PddlError
 told_error file read.Memory = errors.Memory
 told_error file (read.Fault fault) = told file fault

@@ -7,6 +7,7 @@ abbrev pub number_of : List ℕ → List (List ℕ) → Option ℕ
 number_of name [] = None
 number_of name (n ∷ ns) = if bytes_eq name n then Some 0 else option_map suc (number_of name ns)
 
+-- whether the name stands in the list
 abbrev pub is_among : List ℕ → List (List ℕ) → Bool
 is_among name [] = false
 is_among name (n ∷ ns) = if bytes_eq name n then true else is_among name ns

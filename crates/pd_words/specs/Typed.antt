@@ -9,6 +9,7 @@ use Rattle.pd_words.specs.Words.{is_name, is_variable, is_dash}
 use Rattle.pd_words.specs.Names.{number_of, is_among}
 use Rattle.pd_words.specs.First.{◌>>=◌, found, wants}
 
+-- the word that stands at this offset
 abbrev pub named : ℕ → List ℕ → Named
 named at name = record { at = at; name = name }
 
@@ -58,6 +59,7 @@ pub record Variables : Type 0 where
   pub names : List (List ℕ)
   pub kinds : List ℕ
 
+-- variables of these names, and the types of those that have one by now
 abbrev pub listed : List (List ℕ) → List ℕ → Variables
 listed names kinds = record { names = names; kinds = kinds }
 
@@ -68,6 +70,7 @@ admit_variable vs w = do
   _ ← wants (not (is_among w.name vs.names)) (Duplicate w.at)
   Ok (listed (vs.names ++ w.name ∷ []) vs.kinds)
 
+-- each of the words gets this type
 abbrev pub give_kind : Variables → ℕ → List Named → Result Variables Fault
 give_kind vs kind waiting = Ok (listed vs.names (vs.kinds ++ replicate (length waiting) kind))
 
@@ -86,12 +89,15 @@ variable_list types (list at items) = variables types items
 
 -- ---- the arguments of a predicate, of which only the number counts
 
+-- one argument more, where the word is a variable
 abbrev pub admit_argument : ℕ → Named → Result ℕ Fault
 admit_argument n w = wants (is_variable w.name) (Shape w.at) >>= λ _. Ok (suc n)
 
+-- the type of an argument has no effect
 abbrev pub keep_count : ℕ → ℕ → List Named → Result ℕ Fault
 keep_count n kind waiting = Ok n
 
+-- after so many arguments, of which the last ones wait for their type
 abbrev pub arity_from : List (List ℕ) → ℕ → List Named → Trees → Result ℕ Fault
 arity_from types n waiting items = typed_from admit_argument (type_of types) keep_count object n waiting items
 

@@ -20,9 +20,11 @@ pub record Declared : Type 0 where
   pub places : List ℕ
   pub parents : List (List ℕ)
 
+-- the type above all others
 abbrev pub object_name : List ℕ
 object_name = codes "object"
 
+-- whether the name is that of the type above all others
 abbrev pub is_object : List ℕ → Bool
 is_object name = bytes_eq name object_name
 
@@ -52,6 +54,7 @@ give_parent d parent (w ∷ ws) = give_one d parent w >>= λ next. give_parent n
 abbrev pub declared_from : Declared → List Named → Trees → Result Declared Fault
 declared_from d waiting items = typed_from admit_type parent_name give_parent object_name d waiting items
 
+-- no type but `object` is declared
 abbrev pub only_object : Declared
 only_object = record { names = object_name ∷ []; places = []; parents = [] }
 
@@ -70,6 +73,7 @@ types_under [] numbers = []
 types_under (name ∷ names) [] = record { name = name; parent = object } ∷ types_under names []
 types_under (name ∷ names) (number ∷ numbers) = record { name = name; parent = number } ∷ types_under names numbers
 
+-- the number of the name; that of `object` where it is not in the list
 abbrev pub number_in : List (List ℕ) → List ℕ → ℕ
 number_in names name = unwrap_or (number_of name names) object
 

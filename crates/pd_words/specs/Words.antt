@@ -35,6 +35,7 @@ abbrev pub head_of : Tree → Keyword
 head_of (word at text) = keyword text
 head_of (list at items) = heads.Free
 
+-- the word before a type
 abbrev pub is_dash : List ℕ → Bool
 is_dash text = bytes_eq text (codes "-")
 

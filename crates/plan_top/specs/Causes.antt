@@ -53,6 +53,7 @@ refusal_of_plan (plan.unknown at) = Refused Unknown Plan at
 refusal_of_plan (plan.arity at) = Refused Arity Plan at
 refusal_of_plan (plan.mistyped at) = Refused Mistyped Plan at
 
+-- the ending that tells of a verdict
 abbrev pub ending_of : Verdict → Ending
 ending_of verdicts.Reaches = Reaches
 ending_of (verdicts.Blocked index) = Blocked index
@@ -102,6 +103,7 @@ module _ (told : List ℕ → Option (List ℕ)) (lacks : List ℕ → Bool) (ol
   abbrev pub Fits : List ℕ → Type 0
   Fits name = IsThere name (λ bytes. length bytes ≤ most_bytes)
 
+  -- the file is there, and has more bytes than a file may have
   abbrev pub IsTooLong : List ℕ → Type 0
   IsTooLong name = IsThere name (λ bytes. most_bytes < length bytes)
 
@@ -114,9 +116,11 @@ module _ (told : List ℕ → Option (List ℕ)) (lacks : List ℕ → Bool) (ol
   StopsAt [] end = ⊥
   StopsAt (file ∷ others) end = Stops file.0 file.1 end ⊎ (Fits file.1 × StopsAt others end)
 
+  -- the files that `plan` takes, in order
   abbrev pub plan_files : List ℕ → List ℕ → List (Which × List ℕ)
   plan_files domain problem = (Domain, domain) ∷ (Problem, problem) ∷ []
 
+  -- the files that `check` takes, in order
   abbrev pub check_files : List ℕ → List ℕ → List ℕ → List (Which × List ℕ)
   check_files domain problem plan_name = (Domain, domain) ∷ (Problem, problem) ∷ (Plan, plan_name) ∷ []
 

@@ -7,6 +7,7 @@ use Rattle.plan_top.specs.declared.ending.Kind.TheVariants as kinds
 use Rattle.plan_top.specs.declared.ending.Ending.{Ending}
 use Rattle.plan_top.specs.declared.ending.Ending.TheVariants.{Found, Refuted, Reaches, Blocked, Short, Refused, TooLong, ReadFault, Usage}
 
+-- the exit status
 abbrev pub status_of : Ending → ℕ
 status_of Found = 0
 status_of Refuted = 1
@@ -18,11 +19,13 @@ status_of (TooLong file) = 4
 status_of (ReadFault file) = 5
 status_of Usage = 7
 
+-- the word for a file
 abbrev pub word_of : Which → List ℕ
 word_of Domain = codes "domain"
 word_of Problem = codes "problem"
 word_of Plan = codes "plan"
 
+-- the word for a kind of fault
 abbrev pub kind_word : Kind → List ℕ
 kind_word kinds.Syntax = codes "syntax"
 kind_word kinds.Deep = codes "deep"

@@ -34,9 +34,11 @@ PlanRuns text task =
     ((calls : List Call) × Spells task text calls × IsPlan task calls)
     × IsAmong (lines_of text) (codes "; plan of 0 steps with 0 actions") × IsStepPlan task []
 
+-- no list of so many sets of actions is a step plan
 abbrev pub NoStepPlan : ℕ → Parts → Type 0
 NoStepPlan horizon task = (steps : List (List ℕ)) → length steps ≡ horizon → IsStepPlan task steps → ⊥
 
+-- no list of at most so many calls is a plan
 abbrev pub NoPlan : ℕ → Parts → Type 0
 NoPlan horizon task = (calls : List Call) → length calls ≤ horizon → IsPlan task calls → ⊥
 

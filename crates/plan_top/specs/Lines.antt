@@ -8,6 +8,7 @@ abbrev pub lines_from : List ℕ → List ℕ → List (List ℕ)
 lines_from front [] = []
 lines_from front (b ∷ bs) = if b == 10 then front ∷ lines_from [] bs else lines_from (front ++ b ∷ []) bs
 
+-- the lines of a text that end with LF, without it
 abbrev pub lines_of : List ℕ → List (List ℕ)
 lines_of text = lines_from [] text
 

@@ -7,6 +7,7 @@ use Rattle.plan_top.specs.declared.ending.Ending.TheVariants.{Refused}
 use Rattle.plan_top.specs.declared.stop.Stop.{Stop}
 use Rattle.plan_top.specs.declared.stop.Stop.TheVariants.{Ends, Memory}
 
+-- how a run stops at a fault of its plan file
 abbrev pub stop_of : PlanFault → Stop
 stop_of (faults.Syntax at) = Ends (Refused kinds.Syntax Plan at)
 stop_of (faults.Unknown at) = Ends (Refused kinds.Unknown Plan at)
