@@ -1,0 +1,15 @@
+pub mod Lists
+pub mod Orders
+pub mod Sets
+pub mod Members
+pub mod Bridge
+pub mod Reaching
+pub mod Kept
+pub mod Constants
+pub mod Places
+pub mod Simplifying
+pub mod Steps
+pub mod Runs
+pub mod Founding
+pub mod Unique
+pub mod TaskLaw
