@@ -1,7 +1,6 @@
 -- The goal holds in the one state where it holds in the other.
 use Rattle.std.proofs.Common.{◌≡◌, ℕ, List, [], Bool, true, false, sym, ◌∙◌, Some}
 use Rattle.std.proofs.lemmas.Bool.{false_from_ne_true, both_ways}
-use Rattle.gt_core.specs.Task.{Task}
 use Rattle.gt_core.specs.Execution.{IsGoal}
 use Rattle.pd_model.specs.Plan.{meets_goal}
 use Rattle.pd_model.specs.declared.atoms.Atom.{Atom}

@@ -16,3 +16,6 @@ pub mod Runs
 pub mod Founding
 pub mod Unique
 pub mod TaskLaw
+pub mod Tasks
+pub mod Rows
+pub mod Vector

@@ -1,10 +1,7 @@
 -- Executing calls and running their actions is the same.
-use Rattle.std.proofs.Common.{◌≡◌, ℕ, List, [], ◌∷◌, Bool, true, refl, sym, ◌∙◌, subst, Some, IsTrue, ◌↔◌}
-use Rattle.std.specs.List.{list_all}
-use Rattle.std.proofs.lemmas.Bool.{and_parts, and_from}
+use Rattle.std.proofs.Common.{◌≡◌, ℕ, List, [], ◌∷◌, Bool, refl, sym, ◌∙◌, subst, Some, IsTrue, ◌↔◌}
 use Rattle.gt_core.specs.Task.{Task, initial_state}
 use Rattle.gt_core.specs.Execution.{CanRun, run, next_of_one, IsGoal}
-use Rattle.pd_model.specs.Fits.{is_call}
 use Rattle.pd_model.specs.Plan.{exec_all, meets_goal}
 use Rattle.pd_model.specs.declared.atoms.Atom.{Atom}
 use Rattle.pd_model.specs.declared.calls.Call.{Call}
@@ -30,32 +27,29 @@ module _ (p : Parts) (facts : List Atom) (calls : List Call) (is : IsGrounded p 
   abbrev AgreeIn : (ℕ → Bool) → List Atom → Type 0
   AgreeIn n s = Agree p facts calls is n s
 
-  -- the actions of calls that are executed
+  -- calls are executed where these actions run, to states that agree
   pub record Alike (n : ℕ → Bool) (s : List Atom) (cs : List Call) (t : List Atom) (numbers : List ℕ) : Type 0 where
-    pub are_calls : list_all (is_call p) cs ≡ true
     pub executed : exec_all p s cs ≡ Some t
     pub named : AreNamed cs numbers
     pub runs : CanRun task n numbers
     pub agree : AgreeIn (run task n numbers) t
 
-  pub to_actions : (n : ℕ → Bool) (s : List Atom) (cs : List Call) (t : List Atom) → AgreeIn n s → list_all (is_call p) cs ≡ true → exec_all p s cs ≡ Some t → (numbers : List ℕ) × Alike n s cs t numbers
-  to_actions n s [] t agree are e = ([], record { are_calls = are; executed = e; named = tt; runs = tt; agree = subst (AgreeIn n) (some_is s t e) agree })
-  to_actions n s (c ∷ cs) t agree are e =
-      let parts = and_parts (is_call p c) (list_all (is_call p) cs) are in
+  pub to_actions : (n : ℕ → Bool) (s : List Atom) (cs : List Call) (t : List Atom) → AgreeIn n s → exec_all p s cs ≡ Some t → (numbers : List ℕ) × Alike n s cs t numbers
+  to_actions n s [] t agree e = ([], record { executed = e; named = tt; runs = tt; agree = subst (AgreeIn n) (some_is s t e) agree })
+  to_actions n s (c ∷ cs) t agree e =
       let first = first_executed p s c cs t e in
-      let turn = turn_of_call p facts calls is n s c first.0 agree parts.0 first.1 in
-      let rest = to_actions (next_of_one task n turn.0) first.0 cs t turn.1.agree parts.1 first.2 in
-      (turn.0 ∷ rest.0, record { are_calls = are; executed = e; named = (turn.1.named, rest.1.named); runs = (turn.1.runs, rest.1.runs); agree = rest.1.agree })
+      let turn = turn_of_call p facts calls is n s c first.0 agree first.1 in
+      let rest = to_actions (next_of_one task n turn.0) first.0 cs t turn.1.agree first.2 in
+      (turn.0 ∷ rest.0, record { executed = e; named = (turn.1.named, rest.1.named); runs = (turn.1.runs, rest.1.runs); agree = rest.1.agree })
 
   pub to_calls : (n : ℕ → Bool) (s : List Atom) (numbers : List ℕ) → AgreeIn n s → CanRun task n numbers → (cs : List Call) × (t : List Atom) × Alike n s cs t numbers
-  to_calls n s [] agree runs = ([], s, record { are_calls = refl; executed = refl; named = tt; runs = tt; agree = agree })
+  to_calls n s [] agree runs = ([], s, record { executed = refl; named = tt; runs = tt; agree = agree })
   to_calls n s (k ∷ numbers) agree runs =
       let turn = turn_of_action p facts calls is n s k agree runs.0 in
       let rest = to_calls (next_of_one task n k) turn.1 numbers turn.2.agree runs.1 in (
         turn.0 ∷ rest.0,
         rest.1,
         record {
-          are_calls = and_from (is_call p turn.0) (list_all (is_call p) rest.0) turn.2.callable rest.2.are_calls;
           executed = executed_on p s turn.1 turn.0 rest.0 turn.2.executed ∙ rest.2.executed;
           named = (turn.2.named, rest.2.named);
           runs = runs;
@@ -65,7 +59,7 @@ module _ (p : Parts) (facts : List Atom) (calls : List Call) (is : IsGrounded p 
 
   -- from the initial state on
   pub executed_alike : (cs : List Call) (t : List Atom) → AreExecuted p cs t → (numbers : List ℕ) × Alike (initial_state task) p.init cs t numbers
-  executed_alike cs t executed = to_actions (initial_state task) p.init cs t (begin p facts calls is) executed.are_calls executed.executed
+  executed_alike cs t executed = to_actions (initial_state task) p.init cs t (begin p facts calls is) executed
 
 pub calls_are_actions : CallsAreActions
 calls_are_actions p g is calls t executed =
@@ -76,11 +70,10 @@ pub actions_are_calls : ActionsAreCalls
 actions_are_calls p g is numbers runs =
     let again = remade p g is in
     let can = subst (λ (h : Grounded). CanRun h.task (initial_state h.task) numbers) (sym (made p g is)) runs in
-    let found = to_calls p g.facts g.calls again (initial_state (grounded_by p g.facts g.calls).task) p.init numbers (begin p g.facts g.calls again) can in
-    (
+    let found = to_calls p g.facts g.calls again (initial_state (grounded_by p g.facts g.calls).task) p.init numbers (begin p g.facts g.calls again) can in (
       found.0,
       found.1,
-      record { are_calls = found.2.are_calls; executed = found.2.executed },
+      found.2.executed,
       subst (λ (h : Grounded). RunsAlike p h found.0 found.1 numbers) (made p g is) (record { named = found.2.named; runs = found.2.runs; same = found.2.agree.same }),
     )
 

@@ -1,32 +1,31 @@
 -- A numbered action can run where its call can, and leads to the same state.
-use Rattle.std.proofs.Common.{arith, ◌≡◌, ℕ, ◌+◌, ◌*◌, ◌<◌, zero, suc, List, [], ◌∷◌, Bool, true, false, not, ◌&&◌, ◌||◌, refl, ap, sym, ◌∙◌, map, length, Option, Some, None, inl, inr}
-use Rattle.std.specs.Prelude.{slice_get, slice_index_or, unwrap_or}
+use Rattle.std.proofs.Common.{◌≡◌, ℕ, List, [], ◌∷◌, Bool, true, false, not, ◌&&◌, ◌||◌, refl, ap, sym, ◌∙◌, Option, Some}
+use Rattle.std.specs.Prelude.{slice_get, unwrap_or}
 use Rattle.std.specs.List.{list_any, AllByRecursion}
-use Rattle.std.proofs.lemmas.Bool.{and_parts, and_left, or_from, false_from_ne_true, both_ways, not_from_true, cases_Bool}
+use Rattle.std.proofs.lemmas.Bool.{and_parts, or_from, false_from_ne_true, both_ways, not_from_true}
 use Rattle.gt_core.specs.Literal.{all_hold}
 use Rattle.gt_core.specs.Active.{is_active}
 use Rattle.gt_core.specs.Task.{Action, Task, action, precondition, initial_state}
-use Rattle.gt_core.specs.Execution.{makes, next_of_one, IsGoal}
+use Rattle.gt_core.specs.Execution.{makes, next_of_one}
 use Rattle.gt_core.proofs.Basics.{same_if}
 use Rattle.gt_core.proofs.NextLaw.{makes_by}
 use Rattle.pd_model.specs.State.{is_in}
-use Rattle.pd_model.specs.Plan.{meets_goal}
 use Rattle.pd_model.specs.declared.atoms.Atom.{Atom}
 use Rattle.pd_model.specs.declared.calls.Call.{Call}
 use Rattle.pd_model.specs.declared.parts.Parts.{Parts}
-use Rattle.grounding.specs.Instance.{Literal, Holds, Fixed, Change, instance_of, goal_of}
-use Rattle.grounding.specs.Reach.{MayHold, AllMayHold, IsReachable, IsKept, IsConstant, MayBeTrue, IsAction}
-use Rattle.grounding.specs.Simplify.{place, fact_literal, simplified, is_never, any_never, action_of}
+use Rattle.grounding.specs.Instance.{Literal, Holds, Fixed, instance_of}
+use Rattle.grounding.specs.Reach.{MayHold, AllMayHold, IsReachable, MayBeTrue, IsAction}
+use Rattle.grounding.specs.Simplify.{place, fact_literal, is_never, any_never, action_of}
 use Rattle.grounding.specs.Grounded.{IsGrounded}
 use Rattle.grounding.specs.Found.{grounded_by}
 use Rattle.grounding.specs.Laws.{IsSameState}
 use Rattle.grounding.proofs.Lists.{get_mapped, index_mapped}
-use Rattle.grounding.proofs.Bridge.{literal_holds, literals_hold, named, Leads, conds_hold}
+use Rattle.grounding.proofs.Bridge.{literal_holds, literals_hold, named, Leads}
 use Rattle.grounding.proofs.Reaching.{IsLawful}
 use Rattle.grounding.proofs.Kept.{kept_may}
-use Rattle.grounding.proofs.Constants.{constant_initial, constant_no_fact, is_constant, initial_or_fact}
+use Rattle.grounding.proofs.Constants.{is_constant, initial_or_fact}
 use Rattle.grounding.proofs.Places.{place_is, found_in}
-use Rattle.grounding.proofs.Simplifying.{Tells, simplified_hold, never_hold, active_named}
+use Rattle.grounding.proofs.Simplifying.{Tells, simplified_hold, active_named}
 
 module _ (p : Parts) (facts : List Atom) (calls : List Call) (is : IsGrounded p (grounded_by p facts calls)) where
   abbrev task : Task

@@ -1,10 +1,9 @@
 -- One call and one action: where the one runs so does the other, and they lead to the same state.
-use Rattle.std.proofs.Common.{◌≡◌, ℕ, List, Bool, true, sym, ◌∙◌, Some}
+use Rattle.std.proofs.Common.{◌≡◌, ℕ, List, Bool, sym, ◌∙◌, Some}
 use Rattle.std.specs.Prelude.{slice_get}
 use Rattle.std.proofs.lemmas.Map.Keys.{any_passes_from_place}
 use Rattle.gt_core.specs.Task.{Task, initial_state}
 use Rattle.gt_core.specs.Execution.{Runs, next_of_one}
-use Rattle.pd_model.specs.Fits.{is_call}
 use Rattle.pd_model.specs.Exec.{exec}
 use Rattle.pd_model.specs.declared.atoms.Atom.{Atom}
 use Rattle.pd_model.specs.declared.calls.Call.{Call}
@@ -37,22 +36,21 @@ module _ (p : Parts) (facts : List Atom) (calls : List Call) (is : IsGrounded p 
   -- an action and its call lead from such states to such states
   pub record Turn (n : ℕ → Bool) (s : List Atom) (k : ℕ) (c : Call) (t : List Atom) : Type 0 where
     pub named : slice_get calls k ≡ Some c
-    pub callable : is_call p c ≡ true
     pub executed : exec p s c ≡ Some t
     pub runs : Runs task n k
     pub agree : Agree (next_of_one task n k) t
 
   -- where a call is executed, it is an action, which runs
-  pub turn_of_call : (n : ℕ → Bool) (s : List Atom) (c : Call) (t : List Atom) → Agree n s → is_call p c ≡ true → exec p s c ≡ Some t → (k : ℕ) × Turn n s k c t
-  turn_of_call n s c t agree call e =
-      let leads = executed p s c t e in
-      let kept = runs_kept p s c agree.lawful call leads.able in
+  pub turn_of_call : (n : ℕ → Bool) (s : List Atom) (c : Call) (t : List Atom) → Agree n s → exec p s c ≡ Some t → (k : ℕ) × Turn n s k c t
+  turn_of_call n s c t agree e =
+      let done = executed p s c t e in
+      let leads = done.leads in
+      let kept = runs_kept p s c agree.lawful done.callable leads.able in
       let action : IsAction p c = record { kept = kept; able = all_true p facts calls is s agree.lawful (instance_of p c).precondition leads.able } in
       let at = numbered calls c (call_among c calls ((is.call_is c).1 action)) in (
         at.0,
         record {
           named = at.1;
-          callable = call;
           executed = e;
           runs = record {
             action = below_mapped (λ d. action_of p facts (instance_of p d)) calls at.0 c at.1;
@@ -74,13 +72,12 @@ module _ (p : Parts) (facts : List Atom) (calls : List Call) (is : IsGrounded p 
 
       from : (c : Call) → slice_get calls k ≡ Some c → IsAction p c → (d : Call) × (t : List Atom) × Turn n s k d t
       from c named action =
-          let next = can_execute p s c (sym (able_same p facts calls is n s k c agree.same agree.lawful named action) ∙ runs.able) in
-          let leads = executed p s c next.0 next.1 in (
+          let next = can_execute p s c (kept_call p c action.kept) (sym (able_same p facts calls is n s k c agree.same agree.lawful named action) ∙ runs.able) in
+          let leads = (executed p s c next.0 next.1).leads in (
             c,
             next.0,
             record {
               named = named;
-              callable = kept_call p c action.kept;
               executed = next.1;
               runs = runs;
               agree = record {

@@ -1,5 +1,5 @@
 -- A task is grounded in one way.
-use Rattle.std.proofs.Common.{◌≡◌, sym, ap, ◌∙◌}
+use Rattle.std.proofs.Common.{sym, ◌∙◌}
 use Rattle.grounding.specs.Found.{grounded_by}
 use Rattle.grounding.specs.Laws.{OneResult}
 use Rattle.grounding.proofs.Orders.{atoms, calls}
