@@ -6,7 +6,7 @@ use Rattle.std.proofs.lemmas.List.Folds.{list_any-append}
 use Rattle.gt_core.proofs.Basics.{any_same}
 use Rattle.pd_model.specs.State.{is_in, same_atom}
 use Rattle.pd_model.specs.Instance.{instance, agrees, holds, all_hold}
-use Rattle.pd_model.specs.Fits.{tuples}
+use Rattle.pd_model.specs.Fits.{tuples, is_call}
 use Rattle.pd_model.specs.Exec.{active_at, active, of_sign, gains, deletes, losses, next, exec_schema, exec}
 use Rattle.pd_model.specs.Plan.{exec_all}
 use Rattle.pd_model.specs.declared.atoms.Atom.{Atom}
@@ -111,12 +111,16 @@ next_is p s objects effects a =
     other_order false false true = refl
     other_order false false false = refl
 
-some_is : {X : Type 0} (x y : X) → Some x ≡ Some y → x ≡ y
+pub some_is : {X : Type 0} (x y : X) → Some x ≡ Some y → x ≡ y
 some_is x y e = cc
 
--- where a call is executed, its instance leads to the state after it
-pub executed : (p : Parts) (s : List Atom) (c : Call) (t : List Atom) → exec p s c ≡ Some t → Leads s (instance_of p c) t
-executed p s c t e = by (slice_get p.schemas c.schema) e
+-- a call that is executed is one, and its instance leads to the state after it
+pub record Executed (p : Parts) (s : List Atom) (c : Call) (t : List Atom) : Type 0 where
+  pub callable : is_call p c ≡ true
+  pub leads : Leads s (instance_of p c) t
+
+pub executed : (p : Parts) (s : List Atom) (c : Call) (t : List Atom) → exec p s c ≡ Some t → Executed p s c t
+executed p s c t e = first (is_call p c) refl e
   where
     runs : (schema : Schema) (b : Bool) → all_hold s c.objects schema.pre ≡ b → cond b (Some (next p s c.objects schema.effects)) None ≡ Some t → Leads s (instance_at p c.objects (Some schema)) t
     runs schema true h f = record {
@@ -129,9 +133,15 @@ executed p s c t e = by (slice_get p.schemas c.schema) e
     by None f = cc
     by (Some schema) f = runs schema (all_hold s c.objects schema.pre) refl f
 
+    first : (b : Bool) → is_call p c ≡ b → cond b (exec_schema p s c.objects (slice_get p.schemas c.schema)) None ≡ Some t → Executed p s c t
+    first true call f = record { callable = call; leads = by (slice_get p.schemas c.schema) f }
+    first false call f = cc
+
 -- a call is executed where the precondition of its instance holds
-pub can_execute : (p : Parts) (s : List Atom) (c : Call) → literals_hold s (instance_of p c).precondition ≡ true → (t : List Atom) × (exec p s c ≡ Some t)
-can_execute p s c h = by (slice_get p.schemas c.schema) h
+pub can_execute : (p : Parts) (s : List Atom) (c : Call) → is_call p c ≡ true → literals_hold s (instance_of p c).precondition ≡ true → (t : List Atom) × (exec p s c ≡ Some t)
+can_execute p s c call h =
+    let found = by (slice_get p.schemas c.schema) h in
+    (found.0, ap (λ (b : Bool). cond b (exec_schema p s c.objects (slice_get p.schemas c.schema)) None) call ∙ found.1)
   where
     by : (o : Option Schema) → literals_hold s (instance_at p c.objects o).precondition ≡ true → (t : List Atom) × (exec_schema p s c.objects o ≡ Some t)
     by None f = cc

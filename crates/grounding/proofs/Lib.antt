@@ -9,7 +9,13 @@ pub mod Constants
 pub mod Places
 pub mod Simplifying
 pub mod Steps
+pub mod Turns
+pub mod Goal
+pub mod Whole
 pub mod Runs
 pub mod Founding
 pub mod Unique
 pub mod TaskLaw
+pub mod Tasks
+pub mod Rows
+pub mod Vector

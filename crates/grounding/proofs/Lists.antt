@@ -1,5 +1,6 @@
--- Tests of lists that were mapped, filtered or joined.
-use Rattle.std.proofs.Common.{◌≡◌, List, [], ◌∷◌, Bool, true, false, ◌&&◌, ◌||◌, refl, ap, ◌∙◌, cond, map}
+-- Lists that were mapped, filtered or joined: tests of them, and what lies at a number.
+use Rattle.std.proofs.Common.{arith, ◌≡◌, ℕ, ◌<◌, zero, suc, List, [], ◌∷◌, Bool, true, false, ◌&&◌, ◌||◌, refl, ap, ◌∙◌, cond, map, length, Some}
+use Rattle.std.specs.Prelude.{slice_get, slice_index_or}
 use Rattle.std.specs.List.{list_any, filter, flat_map}
 use Rattle.std.proofs.lemmas.List.Folds.{list_any-append}
 
@@ -27,3 +28,30 @@ none_passes (x ∷ xs) = none_passes xs
 pub any_guarded : {X : Type 0} (b : Bool) (p : X → Bool) (xs : List X) → list_any (λ x. b && p x) xs ≡ (b && list_any p xs)
 any_guarded true p xs = refl
 any_guarded false p xs = none_passes xs
+
+-- what lies at a number of a list that was mapped
+pub get_mapped : {X Y : Type 0} (f : X → Y) (xs : List X) (k : ℕ) (x : X) → slice_get xs k ≡ Some x → slice_get (map f xs) k ≡ Some (f x)
+get_mapped f [] k x e = cc
+get_mapped f (y ∷ xs) zero x e = first y x e
+  where
+    first : (y x : _) → Some y ≡ Some x → Some (f y) ≡ Some (f x)
+    first y x h = cc
+get_mapped f (y ∷ xs) (suc k) x e = get_mapped f xs k x e
+
+pub index_mapped : {X Y : Type 0} (f : X → Y) (xs : List X) (k : ℕ) (x : X) (d : Y) → slice_get xs k ≡ Some x → slice_index_or (map f xs) k d ≡ f x
+index_mapped f [] k x d e = cc
+index_mapped f (y ∷ xs) zero x d e = first y x e
+  where
+    first : (y x : _) → Some y ≡ Some x → f y ≡ f x
+    first y x h = cc
+index_mapped f (y ∷ xs) (suc k) x d e = index_mapped f xs k x d e
+
+pub below_mapped : {X Y : Type 0} (f : X → Y) (xs : List X) (k : ℕ) (x : X) → slice_get xs k ≡ Some x → k < length (map f xs)
+below_mapped f [] k x e = cc
+below_mapped f (y ∷ xs) zero x e = omega arith
+below_mapped f (y ∷ xs) (suc k) x e = let l = below_mapped f xs k x e in omega (arith, l)
+
+pub mapped_below : {X Y : Type 0} (f : X → Y) (xs : List X) (k : ℕ) → k < length (map f xs) → (x : X) × (slice_get xs k ≡ Some x)
+mapped_below f [] k l = absurd (omega (arith, l))
+mapped_below f (y ∷ xs) zero l = (y, refl)
+mapped_below f (y ∷ xs) (suc k) l = mapped_below f xs k (omega (arith, l))

@@ -1,11 +1,8 @@
 -- The orders of numbers, lists, atoms, calls and effects are strict orders in which any two that differ are compared.
-use Rattle.std.proofs.Common.{arith, ◌≡◌, ℕ, ◌==◌, List, [], ◌∷◌, Bool, true, false, ◌&&◌, ◌||◌, refl, ap}
+use Rattle.std.proofs.Common.{arith, ◌≡◌, ℕ, ◌==◌, List, [], ◌∷◌, Bool, true, false, ◌&&◌, ◌||◌, refl}
 use Rattle.std.specs.Prelude.{nat_lt}
 use Rattle.std.proofs.lemmas.Bool.Decides.{nat_tests}
-use Rattle.gt_core.specs.Task.{Effect}
 use Rattle.gt_core.specs.Lawful.{list_less, effect_less}
-use Rattle.pd_model.specs.declared.atoms.Atom.{Atom}
-use Rattle.pd_model.specs.declared.calls.Call.{Call}
 use Rattle.grounding.specs.Sorted.{atom_less, call_less}
 
 pub record IsOrder {X : Type 0} (less : X → X → Bool) : Type 0 where

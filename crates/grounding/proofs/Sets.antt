@@ -1,5 +1,5 @@
 -- Sorted lists: a sorted set has the members of its list, and is the one sorted list of them.
-use Rattle.std.proofs.Common.{◌≡◌, List, [], ◌∷◌, Bool, true, false, refl, ap, sym, ◌∙◌, cond, subst, IsTrue, ◌⊎◌, inl, inr}
+use Rattle.std.proofs.Common.{◌≡◌, List, [], ◌∷◌, Bool, true, false, refl, sym, ◌∙◌, cond, subst, IsTrue, ◌⊎◌, inl, inr}
 use Rattle.std.specs.List.{list_any, list_all, filter, AllByRecursion}
 use Rattle.gt_core.proofs.Basics.{Among, passing, any_at, all_at, all_from, each_at, each_from, same_if}
 use Rattle.grounding.specs.Sorted.{IsSorted, insert_in, sorted_set}
@@ -59,10 +59,13 @@ module _ {X : Type 0} (less : X → X → Bool) (order : IsOrder less) where
     where
       step : (b c : Bool) → less x y ≡ b → less y x ≡ c → IsSorted less (insert_in less x ys) → IsSorted less (cond b (x ∷ y ∷ ys) (cond c (y ∷ insert_in less x ys) (y ∷ ys)))
       step true c e f rest = ((e, each_from (λ z. IsTrue (less x z)) ys (λ z a. order.along x y z e (each_at (λ u. IsTrue (less y u)) ys z s.0 a))), s)
-      step false true e f rest = (each_from (λ z. IsTrue (less y z)) (insert_in less x ys) (λ z a. elim (inserted_among x ys z a) [
-        | inl k ↦ subst (λ (u : X). less y u ≡ true) (sym k) f
-        | inr k ↦ each_at (λ u. IsTrue (less y u)) ys z s.0 k
-      ]), rest)
+      step false true e f rest = (
+        each_from (λ z. IsTrue (less y z)) (insert_in less x ys) (λ z a. elim (inserted_among x ys z a) [
+          | inl k ↦ subst (λ (u : X). less y u ≡ true) (sym k) f
+          | inr k ↦ each_at (λ u. IsTrue (less y u)) ys z s.0 k
+        ]),
+        rest,
+      )
       step false false e f rest = s
 
   pub is_sorted : (xs : List X) → IsSorted less (sorted_set less xs)

@@ -1,12 +1,11 @@
 -- What is left of literals and effects means the same, in a state of numbered facts that tells of a state of atoms.
-use Rattle.std.proofs.Common.{arith, ◌≡◌, ℕ, ◌==◌, ◌+◌, ◌*◌, List, [], ◌∷◌, Bool, true, false, not, ◌&&◌, ◌||◌, refl, ap, sym, ◌∙◌, cond, map, Option, Some, None, inl, inr}
+use Rattle.std.proofs.Common.{◌≡◌, ℕ, List, [], ◌∷◌, Bool, true, false, not, ◌&&◌, refl, ap, sym, ◌∙◌, cond, map, Option, Some, None, inl, inr}
 use Rattle.std.specs.Prelude.{nat_lt, slice_get, filter_map}
 use Rattle.std.specs.List.{list_any, list_all, filter, cons_option}
 use Rattle.std.proofs.lemmas.Bool.{and_left, and_right, or_parts, or_cases, false_from_ne_true, not-false, both_ways}
 use Rattle.gt_core.specs.Literal.{holds, all_hold}
 use Rattle.gt_core.specs.Active.{is_active}
 use Rattle.gt_core.specs.Lawful.{effect_less}
-use Rattle.gt_core.specs.Task.{Effect}
 use Rattle.gt_core.proofs.Basics.{any_same}
 use Rattle.pd_model.specs.State.{is_in, same_atom}
 use Rattle.pd_model.specs.Instance.{agrees}

@@ -1,58 +1,31 @@
 -- A numbered action can run where its call can, and leads to the same state.
-use Rattle.std.proofs.Common.{arith, ◌≡◌, ℕ, ◌+◌, ◌*◌, ◌<◌, zero, suc, List, [], ◌∷◌, Bool, true, false, not, ◌&&◌, ◌||◌, refl, ap, sym, ◌∙◌, map, length, Option, Some, None, inl, inr}
-use Rattle.std.specs.Prelude.{slice_get, slice_index_or, unwrap_or}
+use Rattle.std.proofs.Common.{◌≡◌, ℕ, List, [], ◌∷◌, Bool, true, false, not, ◌&&◌, ◌||◌, refl, ap, sym, ◌∙◌, Option, Some}
+use Rattle.std.specs.Prelude.{slice_get, unwrap_or}
 use Rattle.std.specs.List.{list_any, AllByRecursion}
-use Rattle.std.proofs.lemmas.Bool.{and_parts, and_left, or_from, false_from_ne_true, both_ways, not_from_true, cases_Bool}
+use Rattle.std.proofs.lemmas.Bool.{and_parts, or_from, false_from_ne_true, both_ways, not_from_true}
 use Rattle.gt_core.specs.Literal.{all_hold}
 use Rattle.gt_core.specs.Active.{is_active}
 use Rattle.gt_core.specs.Task.{Action, Task, action, precondition, initial_state}
-use Rattle.gt_core.specs.Execution.{makes, next_of_one, IsGoal}
+use Rattle.gt_core.specs.Execution.{makes, next_of_one}
 use Rattle.gt_core.proofs.Basics.{same_if}
 use Rattle.gt_core.proofs.NextLaw.{makes_by}
 use Rattle.pd_model.specs.State.{is_in}
-use Rattle.pd_model.specs.Plan.{meets_goal}
 use Rattle.pd_model.specs.declared.atoms.Atom.{Atom}
 use Rattle.pd_model.specs.declared.calls.Call.{Call}
 use Rattle.pd_model.specs.declared.parts.Parts.{Parts}
-use Rattle.grounding.specs.Instance.{Literal, Holds, Fixed, Change, instance_of, goal_of}
-use Rattle.grounding.specs.Reach.{MayHold, AllMayHold, IsReachable, IsKept, IsConstant, MayBeTrue, IsAction}
-use Rattle.grounding.specs.Simplify.{place, fact_literal, simplified, is_never, any_never, action_of}
+use Rattle.grounding.specs.Instance.{Literal, Holds, Fixed, instance_of}
+use Rattle.grounding.specs.Reach.{MayHold, AllMayHold, IsReachable, MayBeTrue, IsAction}
+use Rattle.grounding.specs.Simplify.{place, fact_literal, is_never, any_never, action_of}
 use Rattle.grounding.specs.Grounded.{IsGrounded}
 use Rattle.grounding.specs.Found.{grounded_by}
 use Rattle.grounding.specs.Laws.{IsSameState}
-use Rattle.grounding.proofs.Bridge.{literal_holds, literals_hold, named, Leads, conds_hold}
+use Rattle.grounding.proofs.Lists.{get_mapped, index_mapped}
+use Rattle.grounding.proofs.Bridge.{literal_holds, literals_hold, named, Leads}
 use Rattle.grounding.proofs.Reaching.{IsLawful}
 use Rattle.grounding.proofs.Kept.{kept_may}
-use Rattle.grounding.proofs.Constants.{constant_initial, constant_no_fact, is_constant, initial_or_fact}
+use Rattle.grounding.proofs.Constants.{is_constant, initial_or_fact}
 use Rattle.grounding.proofs.Places.{place_is, found_in}
-use Rattle.grounding.proofs.Simplifying.{Tells, simplified_hold, never_hold, active_named}
-
--- what lies at a number of a list that was mapped
-get_mapped : {X Y : Type 0} (f : X → Y) (xs : List X) (k : ℕ) (x : X) → slice_get xs k ≡ Some x → slice_get (map f xs) k ≡ Some (f x)
-get_mapped f [] k x e = cc
-get_mapped f (y ∷ xs) zero x e = first y x e
-  where
-    first : (y x : _) → Some y ≡ Some x → Some (f y) ≡ Some (f x)
-    first y x h = cc
-get_mapped f (y ∷ xs) (suc k) x e = get_mapped f xs k x e
-
-index_mapped : {X Y : Type 0} (f : X → Y) (xs : List X) (k : ℕ) (x : X) (d : Y) → slice_get xs k ≡ Some x → slice_index_or (map f xs) k d ≡ f x
-index_mapped f [] k x d e = cc
-index_mapped f (y ∷ xs) zero x d e = first y x e
-  where
-    first : (y x : _) → Some y ≡ Some x → f y ≡ f x
-    first y x h = cc
-index_mapped f (y ∷ xs) (suc k) x d e = index_mapped f xs k x d e
-
-pub below_mapped : {X Y : Type 0} (f : X → Y) (xs : List X) (k : ℕ) (x : X) → slice_get xs k ≡ Some x → k < length (map f xs)
-below_mapped f [] k x e = cc
-below_mapped f (y ∷ xs) zero x e = omega arith
-below_mapped f (y ∷ xs) (suc k) x e = let l = below_mapped f xs k x e in omega (arith, l)
-
-pub mapped_below : {X Y : Type 0} (f : X → Y) (xs : List X) (k : ℕ) → k < length (map f xs) → (x : X) × (slice_get xs k ≡ Some x)
-mapped_below f [] k l = absurd (omega (arith, l))
-mapped_below f (y ∷ xs) zero l = (y, refl)
-mapped_below f (y ∷ xs) (suc k) l = mapped_below f xs k (omega (arith, l))
+use Rattle.grounding.proofs.Simplifying.{Tells, simplified_hold, active_named}
 
 module _ (p : Parts) (facts : List Atom) (calls : List Call) (is : IsGrounded p (grounded_by p facts calls)) where
   abbrev task : Task
@@ -133,17 +106,3 @@ module _ (p : Parts) (facts : List Atom) (calls : List Call) (is : IsGrounded p 
           makes_by task n k (fact_literal facts a sign)
           ∙ ap (λ (x : Action). list_any (is_active n (fact_literal facts a sign)) x.effects) (action_at k c e)
           ∙ active_named p facts n s (tells n s same lawful) a sign fact (instance_of p c).changes
-
-  -- the goal holds in the one state where it holds in the other
-  pub goal_to : (n : ℕ → Bool) (s : List Atom) → IsSame n s → IsLawful p s → IsGoal task n → meets_goal p (Some s) ≡ true
-  goal_to n s same lawful goal =
-      sym (conds_hold s [] p.goal) ∙ sym (simplified_hold p facts n s (tells n s same lawful) (goal_of p) goal.hopeful) ∙ goal.reached
-
-  pub goal_from : (n : ℕ → Bool) (s : List Atom) → IsSame n s → IsLawful p s → meets_goal p (Some s) ≡ true → IsGoal task n
-  goal_from n s same lawful met = record { hopeful = hopeful; reached = simplified_hold p facts n s (tells n s same lawful) (goal_of p) hopeful ∙ holds }
-    where
-      holds : literals_hold s (goal_of p) ≡ true
-      holds = conds_hold s [] p.goal ∙ met
-
-      hopeful : any_never p facts (goal_of p) ≡ false
-      hopeful = false_from_ne_true (any_never p facts (goal_of p)) (λ t. both_ways (literals_hold s (goal_of p)) (never_hold p facts n s (tells n s same lawful) (goal_of p) t) holds)

@@ -1,19 +1,19 @@
 -- Within the limits, what grounding gives is a lawful task.
-use Rattle.std.proofs.Common.{arith, ◌≡◌, ℕ, ◌==◌, ◌+◌, ◌*◌, ◌<◌, ◌≤◌, List, [], ◌∷◌, Bool, true, false, ◌&&◌, refl, ap, sym, ◌∙◌, cond, subst, map, length, IsTrue, Option, Some, None}
-use Rattle.std.specs.Prelude.{nat_lt, nat_le, filter_map}
-use Rattle.std.specs.List.{list_any, list_all, filter, cons_option, AllByRecursion}
+use Rattle.std.proofs.Common.{arith, ◌≡◌, ℕ, ◌+◌, ◌*◌, ◌<◌, ◌≤◌, List, [], ◌∷◌, Bool, true, false, refl, sym, cond, subst, map, length, IsTrue, Option, Some, None}
+use Rattle.std.specs.Prelude.{nat_lt, filter_map}
+use Rattle.std.specs.List.{list_all, filter, cons_option, AllByRecursion}
 use Rattle.std.proofs.lemmas.Bool.{and_parts, and_from, lt-ltb, le-leb, eq-eqb, ltb-true}
 use Rattle.std.proofs.lemmas.List.{length-map}
-use Rattle.gt_core.specs.Lawful.{are_rising, is_literal_set, effect_less, follows, are_effects, is_action, conditional_in, is_task}
-use Rattle.gt_core.specs.Task.{Effect, Action}
-use Rattle.gt_core.proofs.Basics.{Among, all_from, each_at, each_from}
+use Rattle.gt_core.specs.Lawful.{are_rising, is_literal_set, effect_less, follows, are_effects, is_action, is_task}
+use Rattle.gt_core.specs.Task.{Effect}
+use Rattle.gt_core.proofs.Basics.{each_at, each_from}
 use Rattle.pd_model.specs.State.{is_in}
 use Rattle.pd_model.specs.declared.atoms.Atom.{Atom}
 use Rattle.pd_model.specs.declared.calls.Call.{Call}
 use Rattle.pd_model.specs.declared.parts.Parts.{Parts}
 use Rattle.grounding.specs.Instance.{Literal, Holds, Fixed, Change, Instance, instance_of, goal_of}
 use Rattle.grounding.specs.Sorted.{IsSorted, sorted_set}
-use Rattle.grounding.specs.Simplify.{fact_literal, number_of, simplified, any_never, is_left, effect_of, action_of, values_in}
+use Rattle.grounding.specs.Simplify.{fact_literal, number_of, simplified, is_left, effect_of, action_of}
 use Rattle.grounding.specs.Grounded.{Grounded}
 use Rattle.grounding.specs.Found.{grounded_by}
 use Rattle.grounding.specs.Limits.{IsWithin}
@@ -21,7 +21,7 @@ use Rattle.grounding.specs.Laws.{GroundedIsTask}
 use Rattle.grounding.proofs.Orders.{numbers, effects}
 use Rattle.grounding.proofs.Sets.{each_sorted, is_sorted}
 use Rattle.grounding.proofs.Places.{literal_below}
-use Rattle.grounding.proofs.Runs.{made}
+use Rattle.grounding.proofs.Whole.{made}
 
 -- sorted numbers within bounds rise
 rising : (top low : ℕ) (ls : List ℕ) → AllByRecursion (λ l. low ≤ l) ls → AllByRecursion (λ l. l < top) ls → IsSorted nat_lt ls → are_rising top low ls ≡ true

@@ -1,11 +1,11 @@
 -- A task is grounded in one way.
-use Rattle.std.proofs.Common.{◌≡◌, sym, ap, ◌∙◌}
+use Rattle.std.proofs.Common.{sym, ◌∙◌}
 use Rattle.grounding.specs.Found.{grounded_by}
 use Rattle.grounding.specs.Laws.{OneResult}
 use Rattle.grounding.proofs.Orders.{atoms, calls}
 use Rattle.grounding.proofs.Sets.{unique}
 use Rattle.grounding.proofs.Members.{atom_among, among_atom, call_among, among_call}
-use Rattle.grounding.proofs.Runs.{made}
+use Rattle.grounding.proofs.Whole.{made}
 
 pub one_result : OneResult
 one_result p g h is also =
