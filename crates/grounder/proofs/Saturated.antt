@@ -2,6 +2,7 @@
 use Rattle.std.proofs.Common.{arith, ◌≡◌, ℕ, ◌+◌, ◌*◌, ◌<◌, ◌≤◌, zero, suc, min, List, [], ◌∷◌, Bool, true, false, cond, length, get_or, drop, refl, ap, sym, ◌∙◌, ◌⊎◌, inl, inr}
 use Rattle.std.specs.Prelude.{nat_le, sum_by}
 use Rattle.std.proofs.lemmas.List.{drop_more}
+use Rattle.std.proofs.lemmas.List.Sums.{sum_by-cons}
 use Rattle.std.proofs.lemmas.Bool.{cases_lt}
 use Rattle.std.proofs.lemmas.Bool.Decides.{nat_tests}
 use Rattle.std.proofs.Math.Nat.{mul-le-mul_left, mul-le-mul_right}
@@ -96,7 +97,7 @@ domain_more domains i so_far d r l at e =
 pub sum_more : {X : Type 0} (f : X → ℕ) (xs : List X) (i so_far : ℕ) (x : X) (r : ℕ) → i < length xs → x ≡ get_or xs i x → r ≡ min (so_far + told (f x)) most
     → told (so_far + sum_by f (drop i xs)) ≡ told (r + sum_by f (drop (i + 1) xs))
 sum_more f xs i so_far x r l at e =
-    let parts : sum_by f (drop i xs) ≡ f x + sum_by f (drop (i + 1) xs) = ap (sum_by f) (drop_more xs i x l) ∙ ap (λ y. f y + sum_by f (drop (i + 1) xs)) (sym at) in
+    let parts : sum_by f (drop i xs) ≡ f x + sum_by f (drop (i + 1) xs) = ap (sum_by f) (drop_more xs i x l ∙ (λ j. sym at j ∷ drop (i + 1) xs)) ∙ sum_by-cons f x (drop (i + 1) xs) in
     ap (λ (n : ℕ). told (so_far + n)) parts ∙ told_is (so_far + (f x + sum_by f (drop (i + 1) xs)))
     ∙ summand most so_far (f x) (sum_by f (drop (i + 1) xs)) r (e ∙ ap (λ (n : ℕ). min (so_far + n) most) (told_is (f x)))
     ∙ sym (told_is (r + sum_by f (drop (i + 1) xs)))
@@ -107,3 +108,7 @@ product_told t n l e f = omega (arith, e, told_is (n * 1))
 
 pub told_fits : (n : ℕ) → n ≤ most → told n ≡ n
 told_fits n l = told_is n ∙ omega arith
+
+-- a count within the limit is told as it is
+pub few_told : (n count : ℕ) → count ≡ told n → count ≤ 4000000 → n ≤ 4000000
+few_told n count e l = omega (arith, e, told_is n)

@@ -33,7 +33,7 @@ sorted_by : (xs : List Atom) → IsSorted atom_less xs → IsSortedBy (λ a b. i
 sorted_by xs s k d low high =
     let high' : suc k < length xs = omega arith in
     sym (atoms_lt (get_or xs (k + 1) d) (get_or xs k d))
-    ∙ false_from_ne_true _ (λ t. atoms.apart (get_or xs k d) (get_or xs (suc k) d) (rising xs k d s high') (subst (λ (n : ℕ). atom_less (get_or xs n d) (get_or xs k d) ≡ true) add-one t))
+    ∙ false_from_ne_true _ (λ t. atoms.apart (get_or xs k d) (get_or xs (suc k) d) (rising xs k d s high') (subst (λ (n : ℕ). atom_less (get_or xs n d) (get_or xs k d) ≡ true) (add-one k) t))
 
 get_at : (xs : List Atom) (k : ℕ) (d a : Atom) → slice_get xs k ≡ Some a → get_or xs k d ≡ a
 get_at [] k d a e = cc

@@ -1,5 +1,5 @@
 -- The tuple of a number is the one that lies there in the list of all tuples.
-use Rattle.std.proofs.Common.{arith, ◌≡◌, ℕ, ◌+◌, ◌*◌, ◌/◌, ◌%◌, ◌<◌, ◌≤◌, zero, suc, List, [], ◌∷◌, ◌++◌, length, get_or, drop, take, map, refl, ap, sym, ◌∙◌, length-append}
+use Rattle.std.proofs.Common.{arith, ◌≡◌, ℕ, ◌+◌, ◌*◌, ◌/◌, ◌%◌, ◌<◌, ◌≤◌, zero, suc, List, [], ◌∷◌, ◌++◌, length, get_or, drop, take, map, refl, ap, sym, ◌∙◌, length-append, append_assoc}
 use Rattle.std.specs.List.{flat_map}
 use Rattle.std.proofs.lemmas.List.{get_or-map, get_or-append-add, get_or_append_left, length-map, drop_more}
 use Rattle.std.proofs.Math.Nat.{div-lt_iff_lt-mul, mul-div_cancel_left}
@@ -79,23 +79,45 @@ pub count_is : (p : Parts) (objects : List ℕ) (e : Effect) → length (changes
 count_is p objects e = length-map (tuples p e.over) (λ more. change_of e (objects ++ more)) ∙ sym (size_is p e.over)
 
 -- what is left to push of a tuple, once the first object is pushed
-pub record Pushed (d : List ℕ) (rest : List (List ℕ)) (count number : ℕ) : Type 0 where
+pub record Pushed (d : List ℕ) (rest : List (List ℕ)) (all n : ℕ) : Type 0 where
   pub divides : 0 < length d
-  pub count : count / length d ≡ size rest
+  pub left : all / length d ≡ size rest
   pub some : 0 < size rest
-  pub index : number / size rest < length d
-  pub number : number % size rest < size rest
+  pub index : n / size rest < length d
+  pub number : n % size rest < size rest
 
-pub pushed : (d : List ℕ) (rest : List (List ℕ)) (count number : ℕ) → count ≡ size (d ∷ rest) → number < count → Pushed d rest count number
-pushed d rest count number e l =
-    let l' : number < length d * size rest = omega (arith, e, l) in
-    let some : 0 < size rest = some_size number (length d) (size rest) l' in
-    let turned : number < size rest * length d = omega (arith, l') in
-    let divides : 0 < length d = some_size number (size rest) (length d) turned in
+pub pushed : (d : List ℕ) (rest : List (List ℕ)) (all n : ℕ) → all ≡ size (d ∷ rest) → n < all → Pushed d rest all n
+pushed d rest all n e l =
+    let l' : n < length d * size rest = omega (arith, e, l) in
+    let some : 0 < size rest = some_size n (length d) (size rest) l' in
+    let turned : n < size rest * length d = omega (arith, l') in
+    let divides : 0 < length d = some_size n (size rest) (length d) turned in
     record {
       divides = divides;
-      count = ap (λ (n : ℕ). n / length d) e ∙ mul-div_cancel_left (size rest) divides;
+      left = ap (λ (m : ℕ). m / length d) e ∙ mul-div_cancel_left (size rest) divides;
       some = some;
       index = (div-lt_iff_lt-mul some).1 l';
       number = omega arith;
     }
+
+-- the same in a loop over lists of objects
+pub pushed_at : (domains : List (List ℕ)) (i : ℕ) (d : List ℕ) (all n : ℕ) → i < length domains → d ≡ get_or domains i d → all ≡ size (drop i domains) → n < all
+    → Pushed d (drop (i + 1) domains) all n
+pushed_at domains i d all n l at e m =
+    pushed d (drop (i + 1) domains) all n (e ∙ ap size (drop_more domains i d l ∙ ap (λ (x : List ℕ). x ∷ drop (i + 1) domains) (sym at))) m
+
+pub tuple_more : (domains : List (List ℕ)) (i : ℕ) (d : List ℕ) (n : ℕ) → i < length domains → d ≡ get_or domains i d
+    → tuple_at (drop i domains) n ≡ get_or d (n / size (drop (i + 1) domains)) 0 ∷ tuple_at (drop (i + 1) domains) (n % size (drop (i + 1) domains))
+tuple_more domains i d n l at = ap (λ (ds : List (List ℕ)). tuple_at ds n) (drop_more domains i d l ∙ ap (λ (x : List ℕ). x ∷ drop (i + 1) domains) (sym at))
+
+-- one object is pushed, and the rest of the tuple is left
+pub push_more : (domains : List (List ℕ)) (i : ℕ) (d : List ℕ) (all n x : ℕ) (into out start : List ℕ) (whole : List ℕ) → i < length domains → d ≡ get_or domains i d
+    → all ≡ size (drop i domains) → n < all → into ++ tuple_at (drop i domains) n ≡ start ++ whole → x ≡ get_or d (n / (all / length d)) 0 → out ≡ into ++ x ∷ []
+    → out ++ tuple_at (drop (i + 1) domains) (n % (all / length d)) ≡ start ++ whole
+push_more domains i d all n x into out start whole l at e m so_far x_is out_is =
+    let left : all / length d ≡ size (drop (i + 1) domains) = (pushed_at domains i d all n l at e m).left in
+    let more = tuple_more domains i d n l at in
+    (λ j. out_is j ++ tuple_at (drop (i + 1) domains) (n % left j))
+    ∙ append_assoc into (x ∷ []) (tuple_at (drop (i + 1) domains) (n % size (drop (i + 1) domains)))
+    ∙ (λ j. into ++ (x_is ∙ (λ k. get_or d (n / left k) 0)) j ∷ tuple_at (drop (i + 1) domains) (n % size (drop (i + 1) domains)))
+    ∙ (λ j. into ++ sym more j) ∙ so_far

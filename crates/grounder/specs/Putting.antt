@@ -34,3 +34,7 @@ put_changes p facts (c ∷ changes) effects = put_change p facts c (put_changes 
 -- the atoms that fail a test are left
 abbrev pub LeavesOut : (Atom → Bool) → List Atom → List Atom → Type 0
 LeavesOut test old new = (a : Atom) → is_in a new ≡ (is_in a old && not (test a))
+
+-- the atoms of a state are those that pass a test
+abbrev pub HasExactly : (Atom → Bool) → List Atom → Type 0
+HasExactly test s = (a : Atom) → is_in a s ≡ test a

@@ -1,11 +1,11 @@
 //! The constant atoms, and the facts.
-ghost use Rattle.std.specs.Prelude.{◌≡◌, ℕ, false, not, IfOk, OnOk};
+ghost use Rattle.std.specs.Prelude.{◌≡◌, false, not, IfOk, OnOk};
 ghost use Rattle.std.specs.List.{list_any, filter};
 ghost use Rattle.pd_model.specs.State.{is_in};
 ghost use Rattle.grounding.specs.Instance.{change_of, changes_of, instance_of};
 ghost use Rattle.grounding.specs.Sorted.{IsSorted, atom_less};
 ghost use Rattle.grounding.specs.Found.{deletes, is_deleted, is_constant, facts_of};
-ghost use Rattle.grounder.specs.Putting.{LeavesOut};
+ghost use Rattle.grounder.specs.Putting.{LeavesOut, HasExactly};
 
 use crate::bindings::bindings_of;
 use crate::literals::all_may_hold;
@@ -93,7 +93,7 @@ fn leave_out_call(
 /// The constant atoms: the initial ones that no possible delete of a kept call names.
 pub(crate) fn constant_atoms(alloc: Global, p: &Pddl, reached: &Reached) -> Result<State, Memory>
     requires { IsSorted atom_less reached.now.atoms }
-    ensures { IfOk result (λ constant. (a : Rattle.pd_model.specs.declared.atoms.Atom.Atom) → is_in a constant ≡ is_constant p.now reached.now.atoms reached.now.calls a) }
+    ensures { IfOk result (λ constant. HasExactly (is_constant p.now reached.now.atoms reached.now.calls) constant) }
 {
     let mut constant = State::new(alloc);
     constant.add_all(p.init().as_slice())?;
