@@ -1,0 +1,10 @@
+use Rattle.std.proofs.Common.{take}
+use Rattle.std.specs.List.{list_any, flat_map}
+use Rattle.grounding.specs.Instance.{changes_of}
+use Rattle.grounding.specs.Found.{deletes}
+use Rattle.grounder.specs.Putting.{LeavesOut}
+use Rattle.grounder.proofs.constant.leave_out_call.Given as goal
+
+abbrev pub invariant-loop-effect : goal.invariant-loop-effect
+invariant-loop-effect l =
+    LeavesOut (λ a. list_any (deletes l.reached a) (flat_map (changes_of l.p l.call.objects) (take l.effect-index l.effect-items))) l.fn.constant l.constant

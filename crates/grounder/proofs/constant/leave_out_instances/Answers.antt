@@ -1,0 +1,15 @@
+use Rattle.std.proofs.Common.{◌∙◌, sym}
+use Rattle.grounder.proofs.Leaving.{left_change, left_changes}
+use Rattle.grounder.proofs.constant.leave_out_instances.Goals as goal
+
+pub loop-number-preserved : goal.loop-number-preserved
+loop-number-preserved c =
+    let are = rw c.as_slice.ensures at c.in_ok-bindings.ensures in
+    left_change c.args.p.now c.args.reached.now c.args.objects.now c.args.effect.now c.in_ok-bindings.bindings are c.loop-number.number c.loop-number-test.true c.deref.result.now
+    (c.deref.ensures.value ∙ c.in_ok-objects.ensures) c.args.constant.now c.loop-number.constant c.leave_out_deleted.new.constant c.loop-number.invariant c.in_ok-leave_out_deleted.ensures
+
+pub returns : goal.returns
+returns c =
+    let are = rw c.as_slice.ensures at c.in_ok-bindings.ensures in
+    left_changes c.args.p.now c.args.reached.now c.args.objects.now c.args.effect.now c.in_ok-bindings.bindings are c.loop-number.number c.loop-number-test.false
+    c.args.constant.now c.loop-number.constant c.loop-number.invariant

@@ -1,0 +1,10 @@
+use Rattle.std.proofs.Common.{take}
+use Rattle.std.specs.List.{list_any}
+use Rattle.grounding.specs.Instance.{changes_of}
+use Rattle.grounding.specs.Found.{deletes}
+use Rattle.grounder.specs.Putting.{LeavesOut}
+use Rattle.grounder.proofs.constant.leave_out_instances.Given as goal
+
+abbrev pub invariant-loop-number : goal.invariant-loop-number
+invariant-loop-number l =
+    LeavesOut (λ a. list_any (deletes l.reached a) (take l.number (changes_of l.p l.objects l.effect))) l.fn.constant l.constant

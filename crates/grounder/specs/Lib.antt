@@ -1,0 +1,5 @@
+pub mod Known
+pub mod Places
+pub mod Bindings
+pub mod Putting
+pub mod Counting

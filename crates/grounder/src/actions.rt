@@ -1,0 +1,60 @@
+//! The actions among the kept calls.
+ghost use Rattle.std.specs.Prelude.{◌≡◌, IfOk};
+ghost use Rattle.std.specs.List.{list_all};
+ghost use Rattle.grounding.specs.Instance.{literals_of, instance_of};
+ghost use Rattle.grounding.specs.Found.{may_be_true, actions_of};
+ghost use Rattle.grounder.specs.Known.{IsKnown};
+
+use crate::known::Known;
+use crate::literals::may_be_true;
+use pd_model::{Call, Calls, Cond, Memory, Pddl};
+use std::alloc::Global;
+
+/// Whether no literal wants a constant atom to be false.
+fn all_may_be_true(
+    alloc: Global,
+    p: &Pddl,
+    known: &Known,
+    objects: &[u32],
+    conds: &[Cond],
+) -> Result<bool, Memory>
+    requires { IsKnown p.now known.now }
+    ensures { IfOk result (λ answer. answer ≡ list_all (may_be_true p.now known.now.facts) (literals_of objects.now conds.now)) }
+{
+    for cond in conds {
+        if !may_be_true(alloc, p, known, objects, cond)? {
+            return Ok(false);
+        }
+    }
+    Ok(true)
+}
+
+/// Whether a kept call is an action: its precondition wants no constant atom to be false.
+fn is_able(alloc: Global, p: &Pddl, known: &Known, call: &Call) -> Result<bool, Memory>
+    requires { IsKnown p.now known.now }
+    ensures { IfOk result (λ answer. answer ≡ list_all (may_be_true p.now known.now.facts) (instance_of p.now call.now).precondition) }
+{
+    let Some(schema) = p.schemas().as_slice().get(call.schema as usize) else {
+        return Ok(true);
+    };
+    all_may_be_true(alloc, p, known, call.objects.as_slice(), schema.pre.as_slice())
+}
+
+/// The actions among the kept calls, in order.
+pub(crate) fn actions_of(
+    alloc: Global,
+    p: &Pddl,
+    known: &Known,
+    kept: Calls,
+) -> Result<Calls, Memory>
+    requires { IsKnown p.now known.now }
+    ensures { IfOk result (λ calls. calls ≡ actions_of p.now known.now.facts kept) }
+{
+    let mut calls = Vec::new(alloc);
+    for call in kept.into_vec() {
+        if is_able(alloc, p, known, &call)? {
+            calls.push(call)?;
+        }
+    }
+    Ok(Calls::of(calls))
+}

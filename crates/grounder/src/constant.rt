@@ -1,0 +1,117 @@
+//! The constant atoms, and the facts.
+ghost use Rattle.std.specs.Prelude.{◌≡◌, false, not, IfOk, OnOk};
+ghost use Rattle.std.specs.List.{list_any, filter};
+ghost use Rattle.pd_model.specs.State.{is_in};
+ghost use Rattle.grounding.specs.Instance.{change_of, changes_of, instance_of};
+ghost use Rattle.grounding.specs.Sorted.{IsSorted, atom_less};
+ghost use Rattle.grounding.specs.Found.{deletes, is_deleted, is_constant, facts_of};
+ghost use Rattle.grounder.specs.Putting.{LeavesOut, HasExactly};
+
+use crate::bindings::bindings_of;
+use crate::literals::all_may_hold;
+use pd_model::{Atom, Atoms, Call, Effect, Memory, Pddl, State, instance_of};
+use reachability::Reached;
+use std::alloc::Global;
+
+/// Takes out the atom of an instance of a delete, where it is possible.
+fn leave_out_deleted(
+    alloc: Global,
+    reached: &[Atom],
+    objects: &[u32],
+    effect: &Effect,
+    constant: &mut State,
+) -> Result<(), Memory>
+    requires sorted { IsSorted atom_less reached.now }
+    requires delete { effect.now.adds ≡ false }
+    ensures { OnOk result (LeavesOut (λ a. deletes reached.now a (change_of effect.now objects.now)) constant.old constant.new) }
+{
+    if all_may_hold(alloc, reached, objects, effect.cond.as_slice())? {
+        constant.remove(&instance_of(alloc, objects, &effect.atom)?);
+    }
+    Ok(())
+}
+
+/// Takes out the atoms of the possible instances of a delete.
+fn leave_out_instances(
+    alloc: Global,
+    p: &Pddl,
+    reached: &[Atom],
+    objects: &[u32],
+    effect: &Effect,
+    constant: &mut State,
+) -> Result<(), Memory>
+    requires sorted { IsSorted atom_less reached.now }
+    requires delete { effect.now.adds ≡ false }
+    ensures { OnOk result (LeavesOut (λ a. list_any (deletes reached.now a) (changes_of p.now objects.now effect.now)) constant.old constant.new) }
+{
+    let bindings = bindings_of(alloc, p, effect.over.as_slice())?;
+    for number in 0..bindings.count {
+        let objects = bindings.extended(alloc, objects, number)?;
+        leave_out_deleted(alloc, reached, &objects, effect, constant)?;
+    }
+    Ok(())
+}
+
+/// Takes out the atoms of the possible instances of an effect, where it is a delete.
+fn leave_out_effect(
+    alloc: Global,
+    p: &Pddl,
+    reached: &[Atom],
+    objects: &[u32],
+    effect: &Effect,
+    constant: &mut State,
+) -> Result<(), Memory>
+    requires { IsSorted atom_less reached.now }
+    ensures { OnOk result (LeavesOut (λ a. list_any (deletes reached.now a) (changes_of p.now objects.now effect.now)) constant.old constant.new) }
+{
+    if effect.adds {
+        return Ok(());
+    }
+    leave_out_instances(alloc, p, reached, objects, effect, constant)
+}
+
+/// Takes out the atoms that a call's possible deletes name.
+fn leave_out_call(
+    alloc: Global,
+    p: &Pddl,
+    reached: &[Atom],
+    call: &Call,
+    constant: &mut State,
+) -> Result<(), Memory>
+    requires { IsSorted atom_less reached.now }
+    ensures { OnOk result (LeavesOut (λ a. list_any (deletes reached.now a) (instance_of p.now call.now).changes) constant.old constant.new) }
+{
+    let Some(schema) = p.schemas().as_slice().get(call.schema as usize) else {
+        return Ok(());
+    };
+    for effect in schema.effects.as_slice() {
+        leave_out_effect(alloc, p, reached, call.objects.as_slice(), effect, constant)?;
+    }
+    Ok(())
+}
+
+/// The constant atoms: the initial ones that no possible delete of a kept call names.
+pub(crate) fn constant_atoms(alloc: Global, p: &Pddl, reached: &Reached) -> Result<State, Memory>
+    requires { IsSorted atom_less reached.now.atoms }
+    ensures { IfOk result (λ constant. HasExactly (is_constant p.now reached.now.atoms reached.now.calls) constant) }
+{
+    let mut constant = State::new(alloc);
+    constant.add_all(p.init().as_slice())?;
+    for call in reached.calls.as_slice() {
+        leave_out_call(alloc, p, reached.atoms.as_slice(), call, &mut constant)?;
+    }
+    Ok(constant)
+}
+
+/// The facts: the reachable atoms that are not constant.
+pub(crate) fn facts_of(alloc: Global, atoms: Atoms, constant: &State) -> Result<Atoms, Memory>
+    ensures { IfOk result (λ facts. facts ≡ filter (λ a. not (is_in a constant.now)) atoms) }
+{
+    let mut facts = Vec::new(alloc);
+    for atom in atoms.into_vec() {
+        if !constant.has(&atom) {
+            facts.push(atom)?;
+        }
+    }
+    Ok(Atoms::of(facts))
+}

@@ -1,0 +1,99 @@
+//! The effects of actions: those that are left, in order, each once.
+ghost use Rattle.std.specs.Prelude.{◌≡◌, [], IfOk, OnOk};
+ghost use Rattle.std.specs.List.{flat_map};
+ghost use Rattle.grounding.specs.Instance.{change_of, changes_of};
+ghost use Rattle.grounder.specs.Known.{IsKnown};
+ghost use Rattle.grounder.specs.Putting.{effects_at, put_change, put_changes};
+
+use crate::bindings::bindings_of;
+use crate::known::Known;
+use crate::literals::any_never;
+use crate::places::place_in;
+use crate::simplify::{fact_literal, simplified};
+use gt_core::eff::{Eff, Effs};
+use gt_core::lits::Lits;
+use pd_model::{Effect, Memory, Pddl, instance_of};
+use std::alloc::Global;
+use std::collections::BTreeSet;
+
+/// An effect, in the order of effects: by literal, then by condition as a list.
+#[derive(PartialEq, Eq, PartialOrd, Ord, Drop)]
+struct Keyed {
+    literal: u32,
+    condition: Vec<u32>,
+}
+
+/// Puts the effect of an instance into a set, where it is left.
+fn put_effect(
+    alloc: Global,
+    p: &Pddl,
+    known: &Known,
+    objects: &[u32],
+    effect: &Effect,
+    into: &mut BTreeSet<Keyed>,
+) -> Result<(), Memory>
+    requires { IsKnown p.now known.now }
+    ensures { OnOk result (effects_at into.new.keys ≡ put_change p.now known.now.facts (change_of effect.now objects.now) (effects_at into.old.keys)) }
+{
+    let atom = instance_of(alloc, objects, &effect.atom)?;
+    let Some(place) = place_in(known.facts.as_slice(), &atom) else {
+        return Ok(());
+    };
+    let conds = effect.cond.as_slice();
+    if any_never(alloc, p, known, objects, conds)? {
+        return Ok(());
+    }
+    let literal = fact_literal(place, effect.adds);
+    let condition = simplified(alloc, p, known, objects, conds)?.into_vec();
+    into.insert(Keyed { literal, condition })?;
+    Ok(())
+}
+
+/// Puts the effects of an effect's instances into a set.
+fn put_instances(
+    alloc: Global,
+    p: &Pddl,
+    known: &Known,
+    objects: &[u32],
+    effect: &Effect,
+    into: &mut BTreeSet<Keyed>,
+) -> Result<(), Memory>
+    requires { IsKnown p.now known.now }
+    ensures { OnOk result (effects_at into.new.keys ≡ put_changes p.now known.now.facts (changes_of p.now objects.now effect.now) (effects_at into.old.keys)) }
+{
+    let bindings = bindings_of(alloc, p, effect.over.as_slice())?;
+    for number in (0..bindings.count).rev() {
+        let objects = bindings.extended(alloc, objects, number)?;
+        put_effect(alloc, p, known, &objects, effect, into)?;
+    }
+    Ok(())
+}
+
+/// The effects that were put into a set.
+fn effects_in(alloc: Global, set: BTreeSet<Keyed>) -> Result<Effs, Memory>
+    ensures { IfOk result (λ effects. effects ≡ effects_at set.keys) }
+{
+    let mut effects = Vec::with_capacity(alloc, set.len())?;
+    for key in set {
+        effects.push(Eff::new(Lits::of(key.condition), key.literal))?;
+    }
+    Ok(Effs::of(effects))
+}
+
+/// The effects of an action with these effects and objects.
+pub(crate) fn effects_of(
+    alloc: Global,
+    p: &Pddl,
+    known: &Known,
+    objects: &[u32],
+    effects: &[Effect],
+) -> Result<Effs, Memory>
+    requires { IsKnown p.now known.now }
+    ensures { IfOk result (λ all. all ≡ put_changes p.now known.now.facts (flat_map (changes_of p.now objects.now) effects.now) []) }
+{
+    let mut set = BTreeSet::new(alloc);
+    for i in (0..effects.len()).rev() {
+        put_instances(alloc, p, known, objects, &effects[i], &mut set)?;
+    }
+    effects_in(alloc, set)
+}

@@ -1,0 +1,75 @@
+//! Fact literals: what is left of the literals of conditions.
+ghost use Rattle.std.specs.Prelude.{◌≡◌, ◌<◌, ◌+◌, ◌*◌, IfOk, OnOk, if◌then◌else◌};
+ghost use Rattle.grounding.specs.Instance.{literal_of, literals_of};
+ghost use Rattle.grounding.specs.Simplify.{number_of, simplified};
+ghost use Rattle.grounder.specs.Known.{IsKnown};
+ghost use Rattle.grounder.specs.Putting.{put_literal};
+
+use crate::known::Known;
+use crate::places::place_in;
+use gt_core::lits::Lits;
+use pd_model::{Cond, Memory, Pddl, instance_of};
+use std::alloc::Global;
+use std::collections::BTreeSet;
+
+/// The fact literal of the fact at a place: it says that the fact is true, or that it is false.
+pub(crate) fn fact_literal(place: usize, want: bool) -> u32
+    requires { place < 2048 }
+    ensures { result ≡ (if want then 2 * place else 2 * place + 1) }
+{
+    let place = place as u32;
+    if want { 2 * place } else { 2 * place + 1 }
+}
+
+/// The fact literal of a literal, where its atom is a fact.
+fn number_of(
+    alloc: Global,
+    p: &Pddl,
+    known: &Known,
+    objects: &[u32],
+    cond: &Cond,
+) -> Result<Option<u32>, Memory>
+    requires { IsKnown p.now known.now }
+    ensures { IfOk result (λ number. number ≡ number_of known.now.facts (literal_of objects.now cond.now)) }
+{
+    match cond {
+        Cond::Has { atom, want } => {
+            let atom = instance_of(alloc, objects, atom)?;
+            match place_in(known.facts.as_slice(), &atom) {
+                Some(place) => Ok(Some(fact_literal(place, *want))),
+                None => Ok(None),
+            }
+        }
+        Cond::Same { .. } => Ok(None),
+    }
+}
+
+/// Puts a literal into a set, where there is one.
+fn put_literal(literal: Option<u32>, into: &mut BTreeSet<u32>) -> Result<(), Memory>
+    ensures { OnOk result (into.new.keys ≡ put_literal literal into.old.keys) }
+{
+    if let Some(literal) = literal {
+        into.insert(literal)?;
+    }
+    Ok(())
+}
+
+/// What is left of literals: the fact literals, in order, each once.
+pub(crate) fn simplified(
+    alloc: Global,
+    p: &Pddl,
+    known: &Known,
+    objects: &[u32],
+    conds: &[Cond],
+) -> Result<Lits, Memory>
+    requires { IsKnown p.now known.now }
+    ensures { IfOk result (λ literals. literals ≡ simplified known.now.facts (literals_of objects.now conds.now)) }
+{
+    let mut set = BTreeSet::new(alloc);
+    for i in (0..conds.len()).rev() {
+        let literal = number_of(alloc, p, known, objects, &conds[i])?;
+        put_literal(literal, &mut set)?;
+    }
+    let literals: Vec<u32> = set.into_iter().collect(alloc)?;
+    Ok(Lits::of(literals))
+}
