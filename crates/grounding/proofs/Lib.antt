@@ -18,4 +18,6 @@ pub mod Unique
 pub mod TaskLaw
 pub mod Tasks
 pub mod Rows
-pub mod Vector
+pub mod WithConstant
+pub mod WithDelete
+pub mod Refused

@@ -7,35 +7,13 @@ use Rattle.pd_model.specs.declared.calls.Call.{Call}
 use Rattle.grounding.specs.Grounded.{Grounded}
 use Rattle.grounding.specs.Found.{grounded_from}
 use Rattle.grounding.specs.Tuples.{tuples_in, told}
-use Rattle.grounding.proofs.Tasks.{atom, call, has, plain, makes_1, takes_0, flips_0, both_0, case, place_object, item_object}
+use Rattle.grounding.proofs.Tasks.{atom, call, has, plain, p, flips_0, both_0, sets_twice_0, may_set_0, case, place_object, item_object}
 
 abbrev effect : List ℕ → ℕ → Effect
 effect condition literal = record { condition = condition; literal = literal }
 
 abbrev action : List ℕ → List Effect → Action
 action precondition effects = record { precondition = precondition; effects = effects }
-
-abbrev p : Atom
-p = atom 0 []
-
-abbrev q : Atom
-q = atom 1 []
-
--- p is constant, q is the one fact, and the call needs p to be false
-only_one : grounded_from (plain (makes_1 ∷ []) (p ∷ []) []) (p ∷ q ∷ []) (call 0 [] ∷ []) ≡ record {
-  facts = q ∷ [];
-  calls = [];
-  task = record { facts = 1; initial = false ∷ []; goal = []; hopeless = false; actions = [] };
-}
-only_one = refl
-
--- with an action that deletes p, both are facts and both calls are actions
-with_delete : grounded_from (plain (makes_1 ∷ takes_0 ∷ []) (p ∷ []) []) (p ∷ q ∷ []) (call 0 [] ∷ call 1 [] ∷ []) ≡ record {
-  facts = p ∷ q ∷ [];
-  calls = call 0 [] ∷ call 1 [] ∷ [];
-  task = record { facts = 2; initial = true ∷ false ∷ []; goal = []; hopeless = false; actions = action (1 ∷ []) (effect [] 2 ∷ []) ∷ action [] (effect [] 1 ∷ []) ∷ [] };
-}
-with_delete = refl
 
 -- a lamp that is on from the start: no fact and no action, and the goal asks nothing
 lamp_is_on : grounded_from (plain (flips_0 ∷ []) (p ∷ []) (has 0 [] ∷ [])) (p ∷ []) (call 0 [] ∷ []) ≡ record {
@@ -67,6 +45,22 @@ both_task = refl
 -- the add wins
 add_wins : next_of_one both.task (initial_state both.task) 0 0 ≡ true
 add_wins = refl
+
+-- two effects that are the same are one
+twice : grounded_from (plain (sets_twice_0 ∷ []) [] []) (p ∷ []) (call 0 [] ∷ []) ≡ record {
+  facts = p ∷ [];
+  calls = call 0 [] ∷ [];
+  task = record { facts = 1; initial = false ∷ []; goal = []; hopeless = false; actions = action [] (effect [] 0 ∷ []) ∷ [] };
+}
+twice = refl
+
+-- an effect whose condition has a literal that is never true is left out
+never_set : grounded_from (plain (may_set_0 ∷ []) (p ∷ []) []) (p ∷ []) (call 0 [] ∷ []) ≡ record {
+  facts = p ∷ [];
+  calls = call 0 [] ∷ [];
+  task = record { facts = 1; initial = true ∷ []; goal = []; hopeless = false; actions = action [] (effect [] 1 ∷ []) ∷ [] };
+}
+never_set = refl
 
 -- two places and no item: two facts and four actions
 abbrev at_case : ℕ → Atom

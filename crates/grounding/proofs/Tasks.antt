@@ -74,6 +74,14 @@ flips_0 = schema [] (lacks 0 [] ∷ []) (add [] [] 0 [] ∷ [])
 abbrev pub both_0 : Schema
 both_0 = schema [] [] (add [] [] 0 [] ∷ delete [] [] 0 [] ∷ [])
 
+-- adds 0 by two effects
+abbrev pub sets_twice_0 : Schema
+sets_twice_0 = schema [] [] (add [] [] 0 [] ∷ add [] [] 0 [] ∷ [])
+
+-- adds 0 where 1 is in the state, and deletes it
+abbrev pub may_set_0 : Schema
+may_set_0 = schema [] [] (add [] (has 1 [] ∷ []) 0 [] ∷ delete [] [] 0 [] ∷ [])
+
 -- a case is moved from a place to a place (0), and what is in it (2) moves along (1)
 abbrev pub moves_case : Schema
 moves_case = schema (2 ∷ 2 ∷ []) (has 0 (Variable 0 ∷ []) ∷ []) (
@@ -99,3 +107,21 @@ case objects = record {
   init = atom 0 (0 ∷ []) ∷ [];
   goal = [];
 }
+
+-- the atoms that the small tasks reach
+abbrev pub p : Atom
+p = atom 0 []
+
+abbrev pub q : Atom
+q = atom 1 []
+
+abbrev pub reached : List Atom
+reached = p ∷ q ∷ []
+
+-- an action that needs p to be false, and adds q; p is true at first
+abbrev pub with_constant : Parts
+with_constant = plain (makes_1 ∷ []) (p ∷ []) []
+
+-- and another action, which deletes p
+abbrev pub with_delete : Parts
+with_delete = plain (makes_1 ∷ takes_0 ∷ []) (p ∷ []) []
