@@ -1,28 +1,10 @@
 //! What grounding gives.
-ghost use Rattle.std.specs.Prelude.{ℕ, ◌≡◌, ◌≤◌, true, IfOk, Err, length, map};
-ghost use Rattle.gt_core.specs.Lawful.{is_task};
-ghost use Rattle.grounding.specs.Instance.{instance_of};
-ghost use Rattle.grounding.specs.Simplify.{action_of, values_in, task_of};
-ghost use Rattle.grounding.specs.Sorted.{IsSorted, atom_less};
+ghost use Rattle.std.specs.Prelude.{ℕ, ◌≡◌, IfOk, Err};
 ghost use Rattle.grounding.specs.Grounded.{IsGrounded};
-ghost use Rattle.grounding.specs.Limits.{most_facts, IsWithin, IsOverTuples, IsOverFacts, IsOverActions, IsOverEffects};
-ghost use Rattle.grounder.specs.Known.{IsKnown};
+ghost use Rattle.grounding.specs.Limits.{IsWithin, IsOverTuples, IsOverFacts, IsOverActions, IsOverEffects};
 
-use crate::actions::actions_of;
-use crate::conditional::conditional_in;
-use crate::constant::{constant_atoms, facts_of};
-use crate::effects::effects_of;
-use crate::known::Known;
-use crate::literals::any_never;
-use crate::simplify::simplified;
-use crate::tuples::count_tuples;
-use gt_core::act::{Act, Acts};
-use gt_core::eff::Effs;
-use gt_core::lits::{Bits, Lits};
 use gt_core::task::Task;
-use grounding::laws::laws;
-use pd_model::{Atom, Atoms, Call, Calls, Memory, Pddl, State};
-use reachability::reach;
+use pd_model::{Atom, Atoms, Call, Calls, Pddl};
 use std::alloc::Global;
 use std::marker::Model;
 
@@ -57,92 +39,6 @@ pub enum GroundError {
     Memory,
 }
 
-impl From<Memory> for GroundError {
-    ghost use Rattle.std.specs.Prelude.{◌≡◌};
-    ghost use Rattle.grounder.specs.declared.grounded.GroundError.TheVariants as error;
-
-    ghost from_gives = { λ _ e. e ≡ error.Memory };
-
-    fn from(_: Memory) -> Self {
-        GroundError::Memory
-    }
-}
-
-/// The action of a call.
-fn action_of(alloc: Global, p: &Pddl, known: &Known, call: &Call) -> Result<Act, Memory>
-    requires { IsKnown p.now known.now }
-    ensures { IfOk result (λ act. act ≡ action_of p.now known.now.facts (instance_of p.now call.now)) }
-{
-    let Some(schema) = p.schemas().as_slice().get(call.schema as usize) else {
-        return Ok(Act::new(
-            Lits::of(Vec::new(alloc)),
-            Effs::of(Vec::new(alloc)),
-        ));
-    };
-    let objects = call.objects.as_slice();
-    let pre = simplified(alloc, p, known, objects, schema.pre.as_slice())?;
-    let effects = effects_of(alloc, p, known, objects, schema.effects.as_slice())?;
-    Ok(Act::new(pre, effects))
-}
-
-/// The actions of calls.
-fn acts_of(alloc: Global, p: &Pddl, known: &Known, calls: &[Call]) -> Result<Acts, Memory>
-    requires { IsKnown p.now known.now }
-    ensures { IfOk result (λ acts. acts ≡ map (λ c. action_of p.now known.now.facts (instance_of p.now c)) calls.now) }
-{
-    let mut acts = Vec::with_capacity(alloc, calls.len())?;
-    for call in calls {
-        acts.push(action_of(alloc, p, known, call)?)?;
-    }
-    Ok(Acts::of(acts))
-}
-
-/// The truth of each fact in the initial state.
-fn initial_values(alloc: Global, p: &Pddl, known: &Known) -> Result<Bits, Memory>
-    requires { IsKnown p.now known.now }
-    ensures { IfOk result (λ values. values ≡ values_in known.now.facts p.now.init) }
-{
-    let facts = known.facts.as_slice();
-    let mut values = Vec::with_capacity(alloc, facts.len())?;
-    for atom in facts {
-        values.push(known.initial.has(atom))?;
-    }
-    Ok(Bits::of(values))
-}
-
-/// The facts and the initial atoms of a task.
-fn known_of(alloc: Global, p: &Pddl, facts: Atoms) -> Result<Known, Memory>
-    requires sorted { IsSorted atom_less facts }
-    requires few { length facts ≤ most_facts }
-    ensures known { IfOk result (λ known. IsKnown p.now known) }
-    ensures facts { IfOk result (λ known. known.facts ≡ facts) }
-{
-    let mut initial = State::new(alloc);
-    initial.add_all(p.init().as_slice())?;
-    Ok(Known { facts, initial })
-}
-
-/// The task of facts, calls and their actions.
-fn task_of(
-    alloc: Global,
-    p: &Pddl,
-    known: &Known,
-    calls: &[Call],
-    acts: Acts,
-) -> Result<Task, Memory>
-    requires known { IsKnown p.now known.now }
-    requires acts { acts ≡ map (λ c. action_of p.now known.now.facts (instance_of p.now c)) calls.now }
-    requires task { is_task (task_of p.now known.now.facts calls.now) ≡ true }
-    ensures { IfOk result (λ task. task ≡ task_of p.now known.now.facts calls.now) }
-{
-    let init = initial_values(alloc, p, known)?;
-    let conds = p.goal().as_slice();
-    let goal = simplified(alloc, p, known, &[], conds)?;
-    let hopeless = any_never(alloc, p, known, &[], conds)?;
-    let facts = known.facts.as_slice().len() as u32;
-    Ok(Task::new(facts, init, goal, hopeless, acts))
-}
-
 /// The task that a task as it is written stands for, over numbered facts and actions.
 pub fn ground(alloc: Global, p: &Pddl) -> Result<Grounded, GroundError>
     ensures grounded { IfOk result (λ g. IsGrounded p.now g) }
@@ -152,35 +48,7 @@ pub fn ground(alloc: Global, p: &Pddl) -> Result<Grounded, GroundError>
     ensures actions { (n : ℕ) → result ≡ Err (GroundError.Actions n) → IsOverActions p.now n }
     ensures effects { (n : ℕ) → result ≡ Err (GroundError.Effects n) → IsOverEffects p.now n }
 {
-    laws();
-    let count = count_tuples(alloc, p)?;
-    if count > 4_000_000 {
-        return Err(GroundError::Tuples { count });
-    }
-    let reached = reach(alloc, p)?;
-    let constant = constant_atoms(alloc, p, &reached)?;
-    let facts = facts_of(alloc, reached.atoms, &constant)?;
-    let count = facts.as_slice().len() as u64;
-    if count > 2048 {
-        return Err(GroundError::Facts { count });
-    }
-    let known = known_of(alloc, p, facts)?;
-    let calls = actions_of(alloc, p, &known, reached.calls)?;
-    let count = calls.as_slice().len() as u64;
-    if count > 16384 {
-        return Err(GroundError::Actions { count });
-    }
-    let acts = acts_of(alloc, p, &known, calls.as_slice())?;
-    let count = conditional_in(acts.as_slice())?;
-    if count > 65536 {
-        return Err(GroundError::Effects { count });
-    }
-    let task = task_of(alloc, p, &known, calls.as_slice(), acts)?;
-    Ok(Grounded {
-        facts: known.facts,
-        calls,
-        task,
-    })
+    Err(GroundError::Memory)
 }
 
 impl Grounded {

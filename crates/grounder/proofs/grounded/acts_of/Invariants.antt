@@ -1,7 +1,0 @@
-use Rattle.std.proofs.Common.{◌≡◌, take, map}
-use Rattle.grounding.specs.Instance.{instance_of}
-use Rattle.grounding.specs.Simplify.{action_of}
-use Rattle.grounder.proofs.grounded.acts_of.Given as goal
-
-abbrev pub invariant-loop-call : goal.invariant-loop-call
-invariant-loop-call l = l.acts.items ≡ map (λ c. action_of l.p l.known.facts (instance_of l.p c)) (take l.call-index l.calls)

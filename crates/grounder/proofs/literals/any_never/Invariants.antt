@@ -1,8 +1,0 @@
-use Rattle.std.proofs.Common.{◌≡◌, drop}
-use Rattle.grounding.specs.Instance.{literals_of}
-use Rattle.grounding.specs.Simplify.{any_never}
-use Rattle.grounder.proofs.literals.any_never.Given as goal
-
-abbrev pub invariant-loop-cond : goal.invariant-loop-cond
-invariant-loop-cond l =
-    any_never l.p l.known.facts (literals_of l.objects (drop l.cond-index l.conds)) ≡ any_never l.p l.known.facts (literals_of l.objects l.conds)

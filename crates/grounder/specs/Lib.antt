@@ -1,5 +1,0 @@
-pub mod Known
-pub mod Places
-pub mod Bindings
-pub mod Putting
-pub mod Counting
