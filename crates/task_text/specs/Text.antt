@@ -55,10 +55,12 @@ call_at g a = slice_index_or g.calls a (record { schema = 0; objects = [] })
 abbrev pub placed : Parts → Grounded → List (List ℕ) → ℕ → List ℕ
 placed p g components a = decimal (name_in components a) ++ (codes " " ++ call_text p (call_at g a))
 
+-- how many actions, components and known clauses an order has
+abbrev pub order_counts : ℕ → ℕ → ℕ → List ℕ
+order_counts actions components pairs =
+    codes "; actions " ++ (decimal actions ++ (codes " components " ++ (decimal components ++ (codes " pairs " ++ (decimal pairs ++ codes "\n")))))
+
 -- what the command `order` prints: the counts, and the actions in published order by place
 abbrev pub order_text : Parts → Grounded → List (List ℕ) → ℕ → List ℕ
 order_text p g components pairs =
-    codes "; actions " ++ (decimal (length g.calls)
-    ++ (codes " components " ++ (decimal (length components)
-    ++ (codes " pairs " ++ (decimal pairs
-    ++ (codes "\n" ++ numbered 0 (map (placed p g components) (order_of components))))))))
+    order_counts (length g.calls) (length components) pairs ++ numbered 0 (map (placed p g components) (order_of components))

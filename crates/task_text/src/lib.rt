@@ -3,6 +3,9 @@
 //! `specs/Text.antt` says which lines.
 #![tactic(auto)]
 
-mod text;
+mod conditional;
+mod lines;
+mod names;
+mod report;
 
-pub use text::{push_ground, push_order};
+pub use report::{push_ground, push_order};
