@@ -1,0 +1,16 @@
+use Rattle.std.proofs.Common.{arith, ◌≡◌, ◌≤◌, ◌∙◌, length}
+use Rattle.gt_core.specs.Published.{order_of}
+use Rattle.task_text.specs.Text.{placed}
+use Rattle.task_text.proofs.LineLaw.{line_next, lines_done}
+use Rattle.task_text.proofs.report.push_places.Goals as goal
+
+pub loop-place-preserved : goal.loop-place-preserved
+loop-place-preserved c =
+    c.loop-place.invariant
+    ∙ line_next (placed c.args.p.now c.args.g.now c.args.order.now) (order_of c.args.order.now) c.loop-place.place c.at.result c.loop-place.text.items c.push_front.new.text.items c.push_placed.new.text.items c.extend_from_slice.new.self.items
+    c.at.ensures.at c.in_ok-push_front.ensures c.in_ok-push_placed.ensures c.in_ok-extend_from_slice.ensures.items
+
+pub returns : goal.returns
+returns c =
+    let past : length (order_of c.args.order.now) ≤ c.loop-place.place = let e = c.actions-place-end.ensures in let h = c.loop-place-test.false in omega (arith, e, h) in
+    lines_done (placed c.args.p.now c.args.g.now c.args.order.now) (order_of c.args.order.now) c.loop-place.place c.args.text.now.items c.loop-place.text.items past c.loop-place.invariant

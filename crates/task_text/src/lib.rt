@@ -1,0 +1,11 @@
+//! Ground tasks and published orders as lines of text.
+//!
+//! `specs/Text.antt` says which lines.
+#![tactic(auto)]
+
+mod conditional;
+mod lines;
+mod names;
+mod report;
+
+pub use report::{push_ground, push_order};

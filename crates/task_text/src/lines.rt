@@ -1,0 +1,37 @@
+//! Lines with numbers and counts.
+ghost use Rattle.std.specs.Prelude.{◌≡◌, ◌++◌, codes, decimal, OnOk};
+ghost use Rattle.task_text.specs.Text.{counted};
+
+use itoa::Buffer;
+use pd_model::Memory;
+
+/// Appends a number in decimal.
+pub(crate) fn push_number(number: u32, text: &mut Vec<u8>) -> Result<(), Memory>
+    ensures { OnOk result (text.new.items ≡ text.old.items ++ decimal number) }
+{
+    let mut buffer = Buffer::new();
+    text.extend_from_slice(buffer.format(number).as_bytes())?;
+    Ok(())
+}
+
+/// Appends the front of a numbered line.
+pub(crate) fn push_front(number: u32, text: &mut Vec<u8>) -> Result<(), Memory>
+    ensures { OnOk result (text.new.items ≡ text.old.items ++ (codes "; " ++ (decimal number ++ codes " "))) }
+{
+    text.extend_from_slice(b"; ")?;
+    push_number(number, text)?;
+    text.extend_from_slice(b" ")?;
+    Ok(())
+}
+
+/// Appends the line of a word and a count.
+pub(crate) fn push_count(word: &str, count: u32, text: &mut Vec<u8>) -> Result<(), Memory>
+    ensures { OnOk result (text.new.items ≡ text.old.items ++ counted word.now count) }
+{
+    text.extend_from_slice(b"; ")?;
+    text.extend_from_slice(word.as_bytes())?;
+    text.extend_from_slice(b" ")?;
+    push_number(count, text)?;
+    text.extend_from_slice(b"\n")?;
+    Ok(())
+}

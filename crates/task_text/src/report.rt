@@ -1,0 +1,120 @@
+//! The lines of a ground task and of a published order.
+ghost use Rattle.std.specs.Prelude.{◌≡◌, ◌++◌, ◌<◌, ◌≤◌, map, length, true, OnOk};
+ghost use Rattle.gt_core.specs.Literal.{is_in};
+ghost use Rattle.gt_core.specs.Published.{order_of};
+ghost use Rattle.grounding.specs.Grounded.{IsGrounded};
+ghost use Rattle.grounding.specs.Limits.{IsWithin};
+ghost use Rattle.task_text.specs.Text.{atom_text, call_text, call_at, placed, numbered, ground_text, order_counts, order_text};
+
+use crate::conditional::conditional_effects;
+use crate::lines::{push_count, push_front, push_number};
+use crate::names::{push_atom, push_call};
+use action_order::order::Order;
+use grounder::Grounded;
+use pd_model::{Memory, Pddl};
+
+/// Appends the lines of the facts, of which there are so many.
+fn push_facts(p: &Pddl, g: &Grounded, facts: u32, text: &mut Vec<u8>) -> Result<(), Memory>
+    requires { facts ≡ length g.now.facts }
+    ensures { OnOk result (text.new.items ≡ text.old.items ++ numbered 0 (map (atom_text p.now) g.now.facts)) }
+{
+    for f in 0..facts {
+        push_front(f, text)?;
+        push_atom(p, g.fact(f), text)?;
+        text.extend_from_slice(b"\n")?;
+    }
+    Ok(())
+}
+
+/// Appends the lines of the actions, of which there are so many.
+fn push_actions(p: &Pddl, g: &Grounded, actions: u32, text: &mut Vec<u8>) -> Result<(), Memory>
+    requires { actions ≡ length g.now.calls }
+    ensures { OnOk result (text.new.items ≡ text.old.items ++ numbered 0 (map (call_text p.now) g.now.calls)) }
+{
+    for a in 0..actions {
+        push_front(a, text)?;
+        push_call(p, g.call(a), text)?;
+        text.extend_from_slice(b"\n")?;
+    }
+    Ok(())
+}
+
+/// Appends the facts and the actions of a ground task, and how many effects have a condition.
+pub fn push_ground(p: &Pddl, g: &Grounded, text: &mut Vec<u8>) -> Result<(), Memory>
+    requires { IsGrounded p.now g.now }
+    ensures { OnOk result (text.new.items ≡ text.old.items ++ ground_text p.now g.now) }
+{
+    let task = g.task();
+    let facts = task.facts();
+    let actions = task.acts().len() as u32;
+    push_count("facts", facts, text)?;
+    push_facts(p, g, facts, text)?;
+    push_count("actions", actions, text)?;
+    push_actions(p, g, actions, text)?;
+    push_count("effects", conditional_effects(task), text)
+}
+
+/// Appends the counts of an order of actions.
+fn push_counts(
+    actions: u32,
+    components: u32,
+    pairs: u32,
+    text: &mut Vec<u8>,
+) -> Result<(), Memory>
+    ensures { OnOk result (text.new.items ≡ text.old.items ++ order_counts actions components pairs) }
+{
+    text.extend_from_slice(b"; actions ")?;
+    push_number(actions, text)?;
+    text.extend_from_slice(b" components ")?;
+    push_number(components, text)?;
+    text.extend_from_slice(b" pairs ")?;
+    push_number(pairs, text)?;
+    text.extend_from_slice(b"\n")?;
+    Ok(())
+}
+
+/// Appends an action's component and its call.
+fn push_placed(
+    p: &Pddl,
+    g: &Grounded,
+    order: &Order,
+    a: u32,
+    text: &mut Vec<u8>,
+) -> Result<(), Memory>
+    requires placed { is_in (order_of order.now) a ≡ true }
+    requires action { a < length g.now.calls }
+    ensures { OnOk result (text.new.items ≡ text.old.items ++ placed p.now g.now order.now a) }
+{
+    push_number(order.component(a), text)?;
+    text.extend_from_slice(b" ")?;
+    push_call(p, g.call(a), text)
+}
+
+/// Appends the lines of the actions in published order.
+fn push_places(p: &Pddl, g: &Grounded, order: &Order, text: &mut Vec<u8>) -> Result<(), Memory>
+    requires { (a : _) → is_in (order_of order.now) a ≡ true → a < length g.now.calls }
+    ensures { OnOk result (text.new.items ≡ text.old.items ++ numbered 0 (map (placed p.now g.now order.now) (order_of order.now))) }
+{
+    for place in 0..order.actions() {
+        push_front(place, text)?;
+        push_placed(p, g, order, order.at(place), text)?;
+        text.extend_from_slice(b"\n")?;
+    }
+    Ok(())
+}
+
+/// Appends the actions of a ground task in published order, each with its component, over so many known clauses.
+pub fn push_order(
+    p: &Pddl,
+    g: &Grounded,
+    order: &Order,
+    pairs: u32,
+    text: &mut Vec<u8>,
+) -> Result<(), Memory>
+    requires grounded { IsGrounded p.now g.now }
+    requires actions { (a : _) → is_in (order_of order.now) a ≡ true → a < length g.now.calls }
+    ensures { OnOk result (text.new.items ≡ text.old.items ++ order_text p.now g.now order.now pairs) }
+{
+    push_counts(g.task().acts().len() as u32, order.components(), pairs, text)?;
+    push_places(p, g, order, text)
+}
