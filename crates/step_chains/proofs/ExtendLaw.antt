@@ -1,5 +1,5 @@
-use Rattle.std.proofs.Common.{arith, ◌≡◌, ◌+◌, ◌*◌, ◌≤◌, ◌<◌, ℕ, zero, suc, List, [], ◌∷◌, ◌++◌, map, length, Bool, true, false, refl, sym, ap, ◌∙◌, drop, get_or, subst, if◌then◌else◌}
-use Rattle.std.specs.List.{flat_map, AllByRecursion}
+use Rattle.std.proofs.Common.{arith, ◌≡◌, ◌+◌, ◌*◌, ◌≤◌, ◌<◌, ℕ, suc, List, [], ◌∷◌, ◌++◌, map, length, Bool, true, false, refl, sym, ap, ◌∙◌, drop, get_or, subst, if◌then◌else◌}
+use Rattle.std.specs.List.{AllByRecursion}
 use Rattle.std.proofs.lemmas.List.{append-nil, append_assoc, map-append}
 use Rattle.action_order.proofs.Lists.{range_more}
 use Rattle.std.proofs.lemmas.List.{drop_more, drop_all}
@@ -10,10 +10,10 @@ use Rattle.gt_core.specs.Task.{Task}
 use Rattle.step_clauses.specs.Clause.{Literal}
 use Rattle.step_clauses.specs.Chain.{chain_length, enter_clauses, pass_clauses}
 use Rattle.step_clauses.specs.Formula.{chain_clauses}
-use Rattle.step_clauses.specs.Variables.{Chain, chains, chains_from, chain_places, chain_variables_in}
+use Rattle.step_clauses.specs.Variables.{chains_from, chain_places, chain_variables_in}
 use Rattle.step_chains.specs.declared.link.Link.{Link}
-use Rattle.step_chains.specs.Links.{link_of, links_of, touches, link_count, enter_links, pass_links}
-use Rattle.step_chains.specs.Found.{LinkedChain, FoundChains, linked_clauses, found_clauses, Extends, AreChains, no_chains, AreWithin, IsChainWithin}
+use Rattle.step_chains.specs.Links.{link_of, links_of, touches, link_count, pass_links}
+use Rattle.step_chains.specs.Found.{LinkedChain, FoundChains, linked_clauses, found_clauses, Extends, AreWithin, IsChainWithin}
 use Rattle.step_chains.proofs.LinkLaw.{count_is, enter_is, pass_is, enter_none, pass_none}
 
 -- Chains that are found one after the other.
@@ -29,8 +29,8 @@ variables_more task (p ∷ ps) qs = let h = variables_more task ps qs in omega (
 pub found_twice : (task : Task) (ps qs : List (List ℕ × ℕ)) (a b c : FoundChains) → Extends task ps a b → Extends task qs b c → Extends task (ps ++ qs) a c
 found_twice task ps qs a b c one two = record {
   clauses = λ act var rest.
-    two.clauses act var rest ∙ one.clauses act var (qs ++ rest)
-    ∙ ap (λ (places : List (List ℕ × ℕ)). found_clauses act var a.chains ++ chain_clauses act var task (chains_from task a.variables places)) (sym (append_assoc ps qs rest));
+      two.clauses act var rest ∙ one.clauses act var (qs ++ rest)
+      ∙ ap (λ (places : List (List ℕ × ℕ)). found_clauses act var a.chains ++ chain_clauses act var task (chains_from task a.variables places)) (sym (append_assoc ps qs rest));
   variables = let x = one.variables in let y = two.variables in let z = variables_more task ps qs in omega (arith, x, y, z);
   actions = two.actions ∙ one.actions;
 }
@@ -64,17 +64,17 @@ linked first links = record { first = first; links = links }
 
 -- a chain comes after those that were found
 pub one_found :
-  (task : Task) (members : List ℕ) (m : ℕ) (old new : FoundChains) (links : List Link)
-  → links ≡ links_of task m members → new.chains ≡ old.chains ++ linked old.variables links ∷ []
-  → new.variables ≡ old.variables + link_count false links → new.actions ≡ old.actions
-  → Extends task ((members, m) ∷ []) old new
+    (task : Task) (members : List ℕ) (m : ℕ) (old new : FoundChains) (links : List Link)
+    → links ≡ links_of task m members → new.chains ≡ old.chains ++ linked old.variables links ∷ []
+    → new.variables ≡ old.variables + link_count false links → new.actions ≡ old.actions
+    → Extends task ((members, m) ∷ []) old new
 one_found task members m old new links is e n a = record {
   clauses = λ act var rest.
-    ap (λ (cs : List LinkedChain). found_clauses act var cs ++ after act var rest new.variables) same
-    ∙ ap (λ (cs : List (List Literal)). cs ++ after act var rest new.variables) (flat_map-append (linked_clauses act var) old.chains (one ∷ []))
-    ∙ append_assoc (found_clauses act var old.chains) (linked_clauses act var one ++ []) (after act var rest new.variables)
-    ∙ ap (λ (cs : List (List Literal)). found_clauses act var old.chains ++ (cs ++ after act var rest new.variables)) (append-nil (linked_clauses act var one) ∙ parts act var)
-    ∙ ap (λ (k : ℕ). found_clauses act var old.chains ++ (whole act var ++ after act var rest k)) many;
+      ap (λ (cs : List LinkedChain). found_clauses act var cs ++ after act var rest new.variables) same
+      ∙ ap (λ (cs : List (List Literal)). cs ++ after act var rest new.variables) (flat_map-append (linked_clauses act var) old.chains (one ∷ []))
+      ∙ append_assoc (found_clauses act var old.chains) (linked_clauses act var one ++ []) (after act var rest new.variables)
+      ∙ ap (λ (cs : List (List Literal)). found_clauses act var old.chains ++ (cs ++ after act var rest new.variables)) (append-nil (linked_clauses act var one) ∙ parts act var)
+      ∙ ap (λ (k : ℕ). found_clauses act var old.chains ++ (whole act var ++ after act var rest k)) many;
   variables = let h = many in omega (arith, h);
   actions = a;
 }
@@ -121,10 +121,10 @@ chains_within_more actions few more (c ∷ cs) le all = (
 
 -- and so the chains stay within their numbers
 pub within_more :
-  (task : Task) (m : ℕ) (members : List ℕ) (old new : FoundChains) (links : List Link)
-  → AreWithin old → AllByRecursion (λ a. a < old.actions) members → links ≡ links_of task m members
-  → new.chains ≡ old.chains ++ linked old.variables links ∷ [] → new.variables ≡ old.variables + link_count false links
-  → new.actions ≡ old.actions → new.variables ≤ 1073741824 → AreWithin new
+    (task : Task) (m : ℕ) (members : List ℕ) (old new : FoundChains) (links : List Link)
+    → AreWithin old → AllByRecursion (λ a. a < old.actions) members → links ≡ links_of task m members
+    → new.chains ≡ old.chains ++ linked old.variables links ∷ [] → new.variables ≡ old.variables + link_count false links
+    → new.actions ≡ old.actions → new.variables ≤ 1073741824 → AreWithin new
 within_more task m members old new links w all is e n a few = record { few = few; chains = subst (λ (cs : List LinkedChain). AllByRecursion (IsChainWithin new.actions new.variables) cs) (sym e) (subst (λ (n : ℕ). AllByRecursion (IsChainWithin n new.variables) (old.chains ++ linked old.variables links ∷ [])) (sym a) both) }
   where
     grows : old.variables ≤ new.variables
@@ -172,18 +172,18 @@ all_literals task members m a b e h =
 
 -- component after component
 pub component_more :
-  (task : Task) (order : List (List ℕ)) (i : ℕ) (members : List ℕ) (a b c : FoundChains)
-  → drop i order ≡ members ∷ drop (i + 1) order → Extends task (chain_places task (members ∷ [])) a b
-  → Extends task (chain_places task (drop (i + 1) order)) b c → Extends task (chain_places task (drop i order)) a c
+    (task : Task) (order : List (List ℕ)) (i : ℕ) (members : List ℕ) (a b c : FoundChains)
+    → drop i order ≡ members ∷ drop (i + 1) order → Extends task (chain_places task (members ∷ [])) a b
+    → Extends task (chain_places task (drop (i + 1) order)) b c → Extends task (chain_places task (drop i order)) a c
 component_more task order i members a b c e one two =
     subst (λ (places : List (List ℕ × ℕ)). Extends task places a c)
     (ap (λ (ps : List (List ℕ × ℕ)). ps ++ chain_places task (drop (i + 1) order)) (append-nil (map (λ m. (members, m)) (range (2 * task.facts)))) ∙ ap (chain_places task) (sym e))
     (found_twice task (chain_places task (members ∷ [])) (chain_places task (drop (i + 1) order)) a b c one two)
 
 pub group_more :
-  (task : Task) (order items : List (List ℕ)) (i : ℕ) (d group members : List ℕ) (a b : FoundChains)
-  → items ≡ order → i < length items → group ≡ get_or items i d → members ≡ group → Extends task (chain_places task (members ∷ [])) a b
-  → (new : FoundChains) → Extends task (chain_places task (drop (i + 1) order)) b new → Extends task (chain_places task (drop i order)) a new
+    (task : Task) (order items : List (List ℕ)) (i : ℕ) (d group members : List ℕ) (a b : FoundChains)
+    → items ≡ order → i < length items → group ≡ get_or items i d → members ≡ group → Extends task (chain_places task (members ∷ [])) a b
+    → (new : FoundChains) → Extends task (chain_places task (drop (i + 1) order)) b new → Extends task (chain_places task (drop i order)) a new
 group_more task order items i d group members a b e lt is m one new rest =
     let lt2 : i < length order = rw e at lt in
     let at : get_or order i d ≡ members = ap (λ (x : List (List ℕ)). get_or x i d) (sym e) ∙ sym is ∙ sym m in

@@ -1,11 +1,11 @@
-use Rattle.std.proofs.Common.{arith, ◌≡◌, ◌+◌, ◌≤◌, ℕ, zero, suc, List, [], ◌∷◌, ◌++◌, map, Bool, true, false, ◌&&◌, ◌||◌, refl, sym, ap, ◌∙◌, if◌then◌else◌}
-use Rattle.std.specs.List.{list_any, filter}
+use Rattle.std.proofs.Common.{arith, ◌≡◌, ◌+◌, ◌≤◌, ℕ, zero, suc, List, [], ◌∷◌, ◌++◌, Bool, true, false, ◌&&◌, ◌||◌, refl, if◌then◌else◌}
+use Rattle.std.specs.List.{list_any}
 use Rattle.gt_core.specs.Interference.{takes, reads}
 use Rattle.gt_core.specs.Task.{Task}
 use Rattle.step_clauses.specs.Clause.{Literal, Is, Not}
-use Rattle.step_clauses.specs.Chain.{chain_length, if_read, enter_clauses, pass_clauses}
+use Rattle.step_clauses.specs.Chain.{chain_length, enter_clauses, pass_clauses}
 use Rattle.step_chains.specs.declared.link.Link.{Link}
-use Rattle.step_chains.specs.Links.{touches, link_of, links_of, link_count, if_left, enter_links, pass_links}
+use Rattle.step_chains.specs.Links.{links_of, link_count, if_left, enter_links, pass_links}
 
 -- A chain over the members that touch its literal is the chain over all members.
 
@@ -42,9 +42,9 @@ module _ (act var : ℕ → ℕ) where
   Entered a seen t r i left = if t then (if left then (Not (act a) ∷ Is (var (if seen && r then i + 1 else i)) ∷ []) ∷ [] else []) else []
 
   enter_by :
-    (a : ℕ) (ks : List Link) (left : Bool) (all : Bool → ℕ → List (List Literal))
-    → list_any (λ k. k.reads) ks ≡ left → ((s : Bool) (j : ℕ) → enter_links act var s j ks ≡ all s j)
-    → (seen t r : Bool) (i : ℕ) → enter_links act var seen i (Put a t r ks) ≡ Entered a seen t r i left ++ all (seen || t) (if seen && r then i + 1 else i)
+      (a : ℕ) (ks : List Link) (left : Bool) (all : Bool → ℕ → List (List Literal))
+      → list_any (λ k. k.reads) ks ≡ left → ((s : Bool) (j : ℕ) → enter_links act var s j ks ≡ all s j)
+      → (seen t r : Bool) (i : ℕ) → enter_links act var seen i (Put a t r ks) ≡ Entered a seen t r i left ++ all (seen || t) (if seen && r then i + 1 else i)
   enter_by a ks left all e ih true true true i = rw (e, ih true (i + 1)) refl
   enter_by a ks left all e ih true true false i = rw (e, ih true i) refl
   enter_by a ks left all e ih true false true i = ih true (i + 1)
@@ -64,9 +64,9 @@ module _ (act var : ℕ → ℕ) where
   Passed a seen r i left = if seen && r then (Not (var i) ∷ Not (act a) ∷ []) ∷ (if left then (Not (var i) ∷ Is (var (i + 1)) ∷ []) ∷ [] else []) else []
 
   pass_by :
-    (a : ℕ) (ks : List Link) (left : Bool) (all : Bool → ℕ → List (List Literal))
-    → list_any (λ k. k.reads) ks ≡ left → ((s : Bool) (j : ℕ) → pass_links act var s j ks ≡ all s j)
-    → (seen t r : Bool) (i : ℕ) → pass_links act var seen i (Put a t r ks) ≡ Passed a seen r i left ++ all (seen || t) (if seen && r then i + 1 else i)
+      (a : ℕ) (ks : List Link) (left : Bool) (all : Bool → ℕ → List (List Literal))
+      → list_any (λ k. k.reads) ks ≡ left → ((s : Bool) (j : ℕ) → pass_links act var s j ks ≡ all s j)
+      → (seen t r : Bool) (i : ℕ) → pass_links act var seen i (Put a t r ks) ≡ Passed a seen r i left ++ all (seen || t) (if seen && r then i + 1 else i)
   pass_by a ks left all e ih true true true i = rw (e, ih true (i + 1)) refl
   pass_by a ks left all e ih true true false i = ih true i
   pass_by a ks left all e ih true false true i = rw (e, ih true (i + 1)) refl
@@ -106,7 +106,6 @@ left_counts ks t = by (link_count true ks) refl
     by zero e = cc (none_left ks e, t)
     by (suc n) e = omega arith
 
-
 -- a chain without a variable has no clause
 
 no_reader : (ks : List Link) (clause : List Literal) → link_count true ks ≡ 0 → if_left ks clause ≡ []
@@ -114,9 +113,9 @@ no_reader ks clause e = rw (none_left ks e) refl
 
 module _ (act var : ℕ → ℕ) where
   enter_none_by :
-    (a : ℕ) (i : ℕ) (ks : List Link) → ((s : Bool) (j : ℕ) → link_count s ks ≡ 0 → enter_links act var s j ks ≡ [])
-    → (seen t r : Bool) → link_count (seen || t) ks ≡ 0
-    → (if t then if_left ks (Not (act a) ∷ Is (var (if seen && r then i + 1 else i)) ∷ []) else []) ++ enter_links act var (seen || t) (if seen && r then i + 1 else i) ks ≡ []
+      (a : ℕ) (i : ℕ) (ks : List Link) → ((s : Bool) (j : ℕ) → link_count s ks ≡ 0 → enter_links act var s j ks ≡ [])
+      → (seen t r : Bool) → link_count (seen || t) ks ≡ 0
+      → (if t then if_left ks (Not (act a) ∷ Is (var (if seen && r then i + 1 else i)) ∷ []) else []) ++ enter_links act var (seen || t) (if seen && r then i + 1 else i) ks ≡ []
   enter_none_by a i ks ih true true r e = rw (no_reader ks (Not (act a) ∷ Is (var (if r then i + 1 else i)) ∷ []) e) (ih true (if r then i + 1 else i) e)
   enter_none_by a i ks ih false true r e = rw (no_reader ks (Not (act a) ∷ Is (var i) ∷ []) e) (ih true i e)
   enter_none_by a i ks ih true false r e = ih true (if r then i + 1 else i) e
@@ -128,8 +127,8 @@ module _ (act var : ℕ → ℕ) where
       enter_none_by k.action i ks (λ s j h. enter_none s j ks h) seen k.takes k.reads (rest_by (seen && k.reads) (link_count (seen || k.takes) ks) e)
 
   pass_none_by :
-    (i : ℕ) (passed : List (List Literal)) (s : Bool) (ks : List Link) → ((j : ℕ) → pass_links act var s j ks ≡ [])
-    → (b : Bool) → b ≡ false → (if b then passed else []) ++ pass_links act var s (if b then i + 1 else i) ks ≡ []
+      (i : ℕ) (passed : List (List Literal)) (s : Bool) (ks : List Link) → ((j : ℕ) → pass_links act var s j ks ≡ [])
+      → (b : Bool) → b ≡ false → (if b then passed else []) ++ pass_links act var s (if b then i + 1 else i) ks ≡ []
   pass_none_by i passed s ks ih true e = cc
   pass_none_by i passed s ks ih false e = ih i
 

@@ -1,4 +1,4 @@
-use Rattle.std.proofs.Common.{◌≡◌, ◌==◌, ℕ, ◌/◌, Bool, ◌||◌, refl, sym, ap, ◌∙◌}
+use Rattle.std.proofs.Common.{◌≡◌, ◌==◌, ℕ, ◌/◌, Bool, ◌||◌, sym, ap, ◌∙◌}
 use Rattle.std.specs.List.{list_any}
 use Rattle.gt_core.specs.Literal.{opposite, is_in}
 use Rattle.gt_core.specs.Task.{Task, Action, action}
@@ -20,11 +20,11 @@ abbrev beside : ℕ → Bool → Bool → Link
 beside a t r = record { action = a; takes = t; reads = r }
 
 pub link_is :
-  (task : Task) (m a : ℕ) (act : Action) (t r : Bool)
-  → act ≡ action task a
-  → t ≡ list_any (λ e. e.literal == opposite m) act.effects
-  → r ≡ (is_in act.precondition m || list_any (λ e. list_any (λ c. c / 2 == m / 2) e.condition) act.effects)
-  → beside a t r ≡ link_of task m a
+    (task : Task) (m a : ℕ) (act : Action) (t r : Bool)
+    → act ≡ action task a
+    → t ≡ list_any (λ e. e.literal == opposite m) act.effects
+    → r ≡ (is_in act.precondition m || list_any (λ e. list_any (λ c. c / 2 == m / 2) e.condition) act.effects)
+    → beside a t r ≡ link_of task m a
 link_is task m a act t r same et er =
     let t-is = et ∙ ap (λ (x : Action). list_any (λ e. e.literal == opposite m) x.effects) same ∙ sym (takes_is task m a) in
     let r-is = er ∙ ap (λ (x : Action). is_in x.precondition m || list_any (λ e. list_any (λ c. c / 2 == m / 2) e.condition) x.effects) same ∙ sym (reads_is task m a) in

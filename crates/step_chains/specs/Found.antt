@@ -1,5 +1,5 @@
 -- The chains of a task that have a variable, as they are found one after the other.
-use Rattle.std.specs.Prelude.{◌≡◌, ℕ, ◌+◌, ◌<◌, ◌≤◌, List, [], ◌∷◌, ◌++◌, false, length}
+use Rattle.std.specs.Prelude.{◌≡◌, ℕ, ◌+◌, ◌<◌, ◌≤◌, List, [], ◌++◌, false, length}
 use Rattle.std.specs.List.{flat_map, AllByRecursion}
 use Rattle.gt_core.specs.Task.{Task}
 use Rattle.step_clauses.specs.Clause.{Literal}
@@ -40,8 +40,8 @@ pub record AreWithin (f : FoundChains) : Type 0 where
 -- the chains of these places were found after others: their clauses and their variables come after those of the others
 pub record Extends (task : Task) (places : List (List ℕ × ℕ)) (old new : FoundChains) : Type 0 where
   pub clauses :
-    (act var : ℕ → ℕ) (rest : List (List ℕ × ℕ))
-    → found_clauses act var new.chains ++ chain_clauses act var task (chains_from task new.variables rest)
+      (act var : ℕ → ℕ) (rest : List (List ℕ × ℕ))
+      → found_clauses act var new.chains ++ chain_clauses act var task (chains_from task new.variables rest)
       ≡ found_clauses act var old.chains ++ chain_clauses act var task (chains_from task old.variables (places ++ rest))
   pub variables : new.variables ≡ old.variables + chain_variables_in task places
   pub actions : new.actions ≡ old.actions

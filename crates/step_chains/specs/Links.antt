@@ -1,6 +1,6 @@
 -- Chains over the members that touch a literal. Members that neither take nor read it change nothing of a chain, so
 -- they are left out.
-use Rattle.std.specs.Prelude.{ℕ, ◌+◌, List, [], ◌∷◌, ◌++◌, Bool, false, ◌&&◌, ◌||◌, if◌then◌else◌, map}
+use Rattle.std.specs.Prelude.{ℕ, ◌+◌, List, [], ◌∷◌, ◌++◌, Bool, ◌&&◌, ◌||◌, if◌then◌else◌, map}
 use Rattle.std.specs.List.{list_any, filter}
 use Rattle.gt_core.specs.Interference.{takes, reads}
 use Rattle.gt_core.specs.Task.{Task}

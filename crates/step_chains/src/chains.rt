@@ -77,12 +77,7 @@ impl Chains {
     }
 
     /// Adds the chains of a component; one of a single member has none.
-    fn add_component(
-        &mut self,
-        alloc: Global,
-        task: &Task,
-        members: &[u32],
-    ) -> Result<(), Memory>
+    fn add_component(&mut self, alloc: Global, task: &Task, members: &[u32]) -> Result<(), Memory>
         requires members { AllByRecursion (λ a. a < length task.now.actions) members.now }
         requires actions { self.old.actions ≡ length task.now.actions }
         ensures { OnOk result (Extends task.now (chain_places task.now (members.now ∷ [])) self.old self.new) }

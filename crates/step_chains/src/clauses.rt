@@ -1,5 +1,5 @@
 //! The clauses of chains.
-ghost use Rattle.std.specs.Prelude.{◌≡◌, ◌+◌, ◌≤◌, ◌<◌, ◌++◌, ℕ, List, Bool, [], ◌∷◌, true, false, ◌&&◌, length, count_by, if◌then◌else◌, OnOk};
+ghost use Rattle.std.specs.Prelude.{◌≡◌, ◌+◌, ◌≤◌, ◌<◌, ◌++◌, ℕ, List, Bool, [], ◌∷◌, true, false, ◌&&◌, ◌||◌, length, count_by, if◌then◌else◌, OnOk};
 ghost use Rattle.std.specs.List.{cons_option, AllByRecursion};
 ghost use Rattle.gt_core.specs.Layout.{action_at, chain_at};
 ghost use Rattle.gt_core.specs.Task.{Task};
@@ -65,6 +65,21 @@ fn next_after(link: Link, seen: bool, next: u32) -> u32
     if seen && link.reads { next + 1 } else { next }
 }
 
+/// How many readers are left after a link.
+fn left_after(link: Link, left: usize) -> usize
+    requires { link.reads ≡ true → 1 ≤ left }
+    ensures { (if link.reads then 1 else 0) + result ≡ left }
+{
+    if link.reads { left - 1 } else { left }
+}
+
+/// Whether a taker was seen, after a link.
+fn seen_after(link: Link, seen: bool) -> bool
+    ensures { result ≡ (seen || link.takes) }
+{
+    seen || link.takes
+}
+
 /// Appends the clause by which a taker makes a variable true, where a reader is left.
 fn add_enter(
     alloc: Global,
@@ -80,28 +95,38 @@ fn add_enter(
     ensures { OnOk result (clauses.new.items ≡ clauses.old.items ++ coded (if link.takes then (if left then (Not (action_at layout.now 0 link.action) ∷ Is (chain_at layout.now 0 variable) ∷ []) ∷ [] else []) else [])) }
 {
     if link.takes && left {
-        add_pair(alloc, clauses, not_action(layout, link.action), chain_lit(layout, variable, true))?;
+        add_pair(
+            alloc,
+            clauses,
+            not_action(layout, link.action),
+            chain_lit(layout, variable, true),
+        )?;
     }
     Ok(())
 }
 
-/// Appends the clauses by which a true variable forbids its reader and makes the next variable true, where a reader is left.
+/// Appends the clauses by which a reader's variable, where it is true, forbids it and makes the next variable true, where
+/// a reader is left.
 fn add_pass(
     alloc: Global,
     layout: &Layout,
-    link: Link,
+    action: u32,
+    reads: bool,
     variable: u32,
     left: bool,
     clauses: &mut Vec<Clause>,
 ) -> Result<(), Memory>
     requires horizon { 0 < layout.now.horizon }
-    requires action { link.action < layout.now.actions }
-    requires variable { variable < layout.now.chains }
-    requires next { left ≡ true → variable + 1 < layout.now.chains }
-    ensures { OnOk result (clauses.new.items ≡ clauses.old.items ++ coded ((Not (chain_at layout.now 0 variable) ∷ Not (action_at layout.now 0 link.action) ∷ []) ∷ (if left then (Not (chain_at layout.now 0 variable) ∷ Is (chain_at layout.now 0 (variable + 1)) ∷ []) ∷ [] else []))) }
+    requires action { action < layout.now.actions }
+    requires variable { reads ≡ true → variable < layout.now.chains }
+    requires next { reads ≡ true → left ≡ true → variable + 1 < layout.now.chains }
+    ensures { OnOk result (clauses.new.items ≡ clauses.old.items ++ coded (if reads then (Not (chain_at layout.now 0 variable) ∷ Not (action_at layout.now 0 action) ∷ []) ∷ (if left then (Not (chain_at layout.now 0 variable) ∷ Is (chain_at layout.now 0 (variable + 1)) ∷ []) ∷ [] else []) else [])) }
 {
+    if !reads {
+        return Ok(());
+    }
     let not = chain_lit(layout, variable, false);
-    add_pair(alloc, clauses, not, not_action(layout, link.action))?;
+    add_pair(alloc, clauses, not, not_action(layout, action))?;
     if left {
         add_pair(alloc, clauses, not, chain_lit(layout, variable + 1, true))?;
     }
@@ -124,10 +149,10 @@ fn add_enters(
     let mut next = chain.first;
     let mut left = readers(&chain.links);
     for link in chain.links.as_slice() {
-        left -= usize::from(link.reads);
+        left = left_after(*link, left);
         next = next_after(*link, seen, next);
         add_enter(alloc, layout, *link, next, left > 0, clauses)?;
-        seen = seen || link.takes;
+        seen = seen_after(*link, seen);
     }
     Ok(())
 }
@@ -148,12 +173,11 @@ fn add_passes(
     let mut next = chain.first;
     let mut left = readers(&chain.links);
     for link in chain.links.as_slice() {
-        left -= usize::from(link.reads);
-        if seen && link.reads {
-            add_pass(alloc, layout, *link, next, left > 0, clauses)?;
-        }
+        left = left_after(*link, left);
+        let reads = seen & link.reads;
+        add_pass(alloc, layout, link.action, reads, next, left > 0, clauses)?;
         next = next_after(*link, seen, next);
-        seen = seen || link.takes;
+        seen = seen_after(*link, seen);
     }
     Ok(())
 }

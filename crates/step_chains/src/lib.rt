@@ -9,5 +9,7 @@ mod chain;
 mod chains;
 mod clauses;
 mod link;
+#[cfg(test)]
+mod tests;
 
 pub use chains::Chains;

@@ -1,4 +1,4 @@
-use Rattle.std.proofs.Common.{◌≡◌, ℕ, ◌+◌, ◌≤◌, false, drop}
+use Rattle.std.proofs.Common.{◌≡◌, ◌+◌, ◌≤◌, false, drop}
 use Rattle.step_chains.specs.Links.{link_count}
 use Rattle.step_chains.proofs.chain.count.Given as goal
 

@@ -1,7 +1,7 @@
-use Rattle.std.proofs.Common.{arith, ◌≡◌, ◌+◌, ◌≤◌, ◌<◌, ℕ, List, [], ◌∷◌, ◌++◌, false, length, ap, sym, ◌∙◌, subst, refl}
+use Rattle.std.proofs.Common.{arith, ◌+◌, ◌<◌, ℕ, [], ◌∷◌, ◌++◌, false, ap, sym, ◌∙◌, subst, refl}
 use Rattle.std.specs.List.{AllByRecursion}
 use Rattle.step_chains.specs.Links.{link_count}
-use Rattle.step_chains.specs.Found.{FoundChains, LinkedChain}
+use Rattle.step_chains.specs.Found.{FoundChains}
 use Rattle.step_chains.proofs.ExtendLaw.{linked, none_found, one_found, within_more}
 use Rattle.step_chains.proofs.chains.Chains.add_chain.Goals as goal
 

@@ -1,4 +1,4 @@
-use Rattle.std.proofs.Common.{arith, ◌≡◌, ◌≤◌, ◌∙◌, length, subst}
+use Rattle.std.proofs.Common.{arith, ◌≤◌, ◌∙◌, length, subst}
 use Rattle.step_clauses.specs.Variables.{chain_places}
 use Rattle.step_chains.specs.Found.{FoundChains, Extends}
 use Rattle.step_chains.proofs.ExtendLaw.{group_more, all_groups}
@@ -6,12 +6,11 @@ use Rattle.step_chains.proofs.chains.Chains.find.Goals as goal
 
 pub loop-members-preserved : goal.loop-members-preserved
 loop-members-preserved c =
-    let e = c.in_ok-add_component.ensures in
-    (
+    let e = c.in_ok-add_component.ensures in (
       e.actions ∙ c.loop-members.invariant.0,
       λ new rest. c.loop-members.invariant.1 new
-      (group_more c.args.task.now c.args.order.now c.groups-members-items.result.now c.loop-members.members-index c.members-item.result c.members-item.result c.as_slice.result.now c.loop-members.found c.add_component.new.self
-      c.groups-members-items.ensures c.loop-members-test.true c.members-item.is c.as_slice.ensures e new rest),
+          (group_more c.args.task.now c.args.order.now c.groups-members-items.result.now c.loop-members.members-index c.members-item.result c.members-item.result c.as_slice.result.now c.loop-members.found c.add_component.new.self
+          c.groups-members-items.ensures c.loop-members-test.true c.members-item.is c.as_slice.ensures e new rest),
     )
 
 pub returns : goal.returns
