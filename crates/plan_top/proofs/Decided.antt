@@ -11,32 +11,57 @@ use Rattle.pd_task.specs.declared.error.PddlError.TheVariants as errors
 use Rattle.pd_plan.specs.Fault as plan
 use Rattle.plan_top.specs.declared.ending.Kind.TheVariants as kinds
 use Rattle.plan_top.specs.declared.ending.Ending.{Ending}
-use Rattle.plan_top.specs.declared.ending.Ending.TheVariants.{Refused}
-use Rattle.plan_top.specs.Ending.{is_plan_answer, is_check_answer}
-use Rattle.plan_top.specs.Causes.{RefusesTask, domain_tree, problem_tree, no_task, refusal_of, refusal_of_plan, ending_of, DecidesPlan, found, refuted, plan_refused, DecidesCheck, checked, check_refused, answered, no_calls, Stops, ComesPlan, ComesCheck, Fits, most_bytes}
+use Rattle.plan_top.specs.declared.ending.Ending.TheVariants.{Refused, TooMany}
+use Rattle.plan_top.specs.Ending.{is_check_answer}
+use Rattle.plan_top.specs.declared.ending.Kind.{Kind}
+use Rattle.plan_top.specs.declared.ending.Limit.{Limit}
+use Rattle.plan_top.specs.declared.words.Command.{Command}
+use Rattle.plan_top.specs.declared.words.Command.TheVariants as commands
+use Rattle.pd_model.specs.declared.memory.Which.TheVariants.{Domain, Problem}
+use Rattle.plan_top.specs.Causes.{RefusesTask, domain_tree, problem_tree, no_task, refusal_of, refusal_of_plan, ending_of, LimitsTask, StopsGrounding, Decides, found, refuted, plan_stopped, grounded, ground_stopped, ordered, order_stopped, is_answer, DecidesCheck, checked, check_refused, answered, no_calls, Stops, ComesTwo, ComesCheck, Fits, IsTaken, most_bytes}
 
 -- ---- which answers the contents give
 
-refused_only : (cause : PddlError) (end : Ending) → refusal_of cause ≡ Some end → (is_plan_answer end ≡ true) × (is_check_answer end ≡ true)
-refused_only (errors.Shape file at) end e = subst (λ (x : Ending). (is_plan_answer x ≡ true) × (is_check_answer x ≡ true)) (let f : Refused kinds.Shape file at ≡ end = cc in f) (refl, refl)
-refused_only (errors.Unknown file at) end e = subst (λ (x : Ending). (is_plan_answer x ≡ true) × (is_check_answer x ≡ true)) (let f : Refused kinds.Unknown file at ≡ end = cc in f) (refl, refl)
-refused_only (errors.Arity file at) end e = subst (λ (x : Ending). (is_plan_answer x ≡ true) × (is_check_answer x ≡ true)) (let f : Refused kinds.Arity file at ≡ end = cc in f) (refl, refl)
-refused_only (errors.Duplicate file at) end e = subst (λ (x : Ending). (is_plan_answer x ≡ true) × (is_check_answer x ≡ true)) (let f : Refused kinds.Duplicate file at ≡ end = cc in f) (refl, refl)
-refused_only (errors.Unsupported file at) end e = subst (λ (x : Ending). (is_plan_answer x ≡ true) × (is_check_answer x ≡ true)) (let f : Refused kinds.Unsupported file at ≡ end = cc in f) (refl, refl)
-refused_only errors.Memory end e = absurd (none_some end e)
+-- the ending refuses a file
+abbrev pub IsRefusal : Ending → Type 0
+IsRefusal end = (kind : Kind) × (file : Which) × (at : ℕ) × (end ≡ Refused kind file at)
+
+refusal_is : (cause : PddlError) (end : Ending) → refusal_of cause ≡ Some end → IsRefusal end
+refusal_is (errors.Shape file at) end e = (kinds.Shape, file, at, cc)
+refusal_is (errors.Unknown file at) end e = (kinds.Unknown, file, at, cc)
+refusal_is (errors.Arity file at) end e = (kinds.Arity, file, at, cc)
+refusal_is (errors.Duplicate file at) end e = (kinds.Duplicate, file, at, cc)
+refusal_is (errors.Unsupported file at) end e = (kinds.Unsupported, file, at, cc)
+refusal_is errors.Memory end e = absurd (none_some end e)
   where
     none_some : (x : Ending) → None ≡ Some x → ⊥
     none_some x h = cc
 
-task_refusal : (domain problem : List ℕ) (end : Ending) → RefusesTask domain problem end → (is_plan_answer end ≡ true) × (is_check_answer end ≡ true)
-task_refusal domain problem end (domain_tree r) = rw r.2 (refl, refl)
-task_refusal domain problem end (problem_tree first reads r) = rw r.2 (refl, refl)
-task_refusal domain problem end (no_task first second one two r) = refused_only r.0 end r.2
+pub task_refusal : (domain problem : List ℕ) (end : Ending) → RefusesTask domain problem end → IsRefusal end
+task_refusal domain problem end (domain_tree r) = (r.0, Domain, r.1, r.2)
+task_refusal domain problem end (problem_tree first reads r) = (r.0, Problem, r.1, r.2)
+task_refusal domain problem end (no_task first second one two r) = refusal_is r.0 end r.2
 
-plan_answer : (domain problem : List ℕ) (end : Ending) → DecidesPlan domain problem end → is_plan_answer end ≡ true
-plan_answer domain problem end (found task e are holds) = rw e refl
-plan_answer domain problem end (refuted task e are fails) = rw e refl
-plan_answer domain problem end (plan_refused r) = (task_refusal domain problem end r).0
+-- the ending tells of a limit
+pub limit_is : (domain problem : List ℕ) (end : Ending) → LimitsTask domain problem end → (what : Limit) × (count : ℕ) × (end ≡ TooMany what count)
+limit_is domain problem end (task, are, what, count, e, over) = (what, count, e)
+
+stop_answer : (command : Command) (domain problem : List ℕ) (end : Ending) → StopsGrounding domain problem end → is_answer command end ≡ true
+stop_answer commands.Plan domain problem end (inl r) = rw (task_refusal domain problem end r).3 refl
+stop_answer commands.Ground domain problem end (inl r) = rw (task_refusal domain problem end r).3 refl
+stop_answer commands.Order domain problem end (inl r) = rw (task_refusal domain problem end r).3 refl
+stop_answer commands.Plan domain problem end (inr l) = rw (limit_is domain problem end l).2 refl
+stop_answer commands.Ground domain problem end (inr l) = rw (limit_is domain problem end l).2 refl
+stop_answer commands.Order domain problem end (inr l) = rw (limit_is domain problem end l).2 refl
+
+two_answer : (command : Command) (domain problem : List ℕ) (end : Ending) → Decides command domain problem end → is_answer command end ≡ true
+two_answer commands.Plan domain problem end (found task g e are holds) = rw e refl
+two_answer commands.Plan domain problem end (refuted task g e are fails) = rw e refl
+two_answer commands.Plan domain problem end (plan_stopped s) = stop_answer commands.Plan domain problem end s
+two_answer commands.Ground domain problem end (grounded task g e are) = rw e refl
+two_answer commands.Ground domain problem end (ground_stopped s) = stop_answer commands.Ground domain problem end s
+two_answer commands.Order domain problem end (ordered task g components e are published) = rw e refl
+two_answer commands.Order domain problem end (order_stopped s) = stop_answer commands.Order domain problem end s
 
 verdict_answer : (v : Verdict) → is_check_answer (ending_of v) ≡ true
 verdict_answer verdicts.Reaches = refl
@@ -52,7 +77,7 @@ fault_answer (plan.mistyped at) = refl
 check_answer : (domain problem bytes : List ℕ) (end : Ending) → DecidesCheck domain problem bytes end → is_check_answer end ≡ true
 check_answer domain problem bytes end (checked task are (answered calls reads e)) = rw e (verdict_answer (verdict task calls))
 check_answer domain problem bytes end (checked task are (no_calls f reads e)) = rw e (fault_answer f)
-check_answer domain problem bytes end (check_refused r) = (task_refusal domain problem end r).1
+check_answer domain problem bytes end (check_refused r) = rw (task_refusal domain problem end r).3 refl
 
 -- ---- files that were taken
 
@@ -82,15 +107,19 @@ module _ (told : List ℕ → Option (List ℕ)) (lacks : List ℕ → Bool) (ol
   later middle rises file name end (inl h) = let before = rises name in let after = h.1 in inl (h.0, omega arith)
   later middle rises file name end (inr h) = inr h
 
-  module _ (domain problem first second : List ℕ) (one : Fits told lacks old new domain) (first_told : IsTold (told domain) first) where
-    pub plan_whole : Fits told lacks old new problem → IsTold (told problem) second → (end : Ending) → DecidesPlan first second end → ComesPlan told lacks old new domain problem end
-    plan_whole two second_told end h = inr (
-      one,
-      two,
-      plan_answer first second end h,
-      at_told (λ d. IfSome (told problem) (λ p. DecidesPlan d p end)) (told domain) first first_told (at_told (λ p. DecidesPlan first p end) (told problem) second second_told h),
-    )
+  fits_taken : (name bytes : List ℕ) → IsTaken told lacks name bytes → Fits told lacks old new name
+  fits_taken name bytes t = fits_of name bytes t.there t.whole t.fits
 
+  pub two_whole : (command : Command) (domain problem first second : List ℕ) → IsTaken told lacks domain first → IsTaken told lacks problem second
+      → (end : Ending) → Decides command first second end → ComesTwo told lacks old new command domain problem end
+  two_whole command domain problem first second one two end h = inr (
+    fits_taken domain first one,
+    fits_taken problem second two,
+    two_answer command first second end h,
+    at_told (λ d. IfSome (told problem) (λ p. Decides command d p end)) (told domain) first one.whole (at_told (λ p. Decides command first p end) (told problem) second two.whole h),
+  )
+
+  module _ (domain problem first second : List ℕ) (one : Fits told lacks old new domain) (first_told : IsTold (told domain) first) where
     pub check_whole : (plan_name third : List ℕ) → Fits told lacks old new problem → Fits told lacks old new plan_name → IsTold (told problem) second → IsTold (told plan_name) third → (end : Ending)
         → DecidesCheck first second third end → ComesCheck told lacks old new domain problem plan_name end
     check_whole plan_name third two three second_told third_told end h = inr (

@@ -1,7 +1,10 @@
 pub mod Five
+pub mod Three
 pub mod Four
 pub mod Stopped
 pub mod Verdicts
+pub mod AtFirst
+pub mod Commands
 pub mod Decided
 pub mod Printed
 pub mod Headlines

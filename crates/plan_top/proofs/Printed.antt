@@ -14,8 +14,10 @@ use Rattle.plan_top.specs.declared.ending.Kind.{Kind}
 use Rattle.plan_top.specs.declared.ending.Kind.TheVariants as kinds
 use Rattle.plan_top.specs.Causes.{IsSmall}
 use Rattle.plan_top.specs.declared.ending.Ending.{Ending}
-use Rattle.plan_top.specs.declared.ending.Ending.TheVariants.{Found, Refuted, Reaches, Blocked, Short, Refused, TooLong, ReadFault, Usage}
-use Rattle.plan_top.specs.Ending.{text_of, kind_word, word_of}
+use Rattle.plan_top.specs.declared.ending.Ending.TheVariants.{Found, Refuted, Listing, Reaches, Blocked, Short, Refused, TooLong, TooMany, ReadFault, Usage}
+use Rattle.plan_top.specs.declared.ending.Limit.{Limit}
+use Rattle.plan_top.specs.declared.ending.Limit.TheVariants as limits
+use Rattle.plan_top.specs.Ending.{text_of, kind_word, limit_word, word_of}
 use Rattle.plan_top.specs.Lines.{lines_from, lines_of, Says}
 use Rattle.plan_top.specs.Among.{IsAmong}
 use Rattle.plan_top.specs.Headline.{Printed}
@@ -159,29 +161,59 @@ blocked_other index rest small m =
     one_other (codes "; blocked at action " ++ decimal (index + 1)) rest (no_line_feed-append (codes "; blocked at action ") (decimal (index + 1)) refl (decimal_no_line_feed (index + 1) (omega arith))) refl
     (subst (λ (xs : List ℕ). IsAmong (lines_of xs) (codes "; horizon " ++ rest)) text m)
 
-refuted_only : (end : Ending) (h k : List ℕ) → IsSmall end → IsNumeral 10 h → IsAmong (lines_of (text_of end)) (refuted_line h k) → (end ≡ Refuted) × (digits_value 10 h ≡ 0)
-refuted_only Found h k small is m =
+limit_no_line_feed : (what : Limit) → no_line_feed (limit_word what) ≡ true
+limit_no_line_feed limits.Tuples = refl
+limit_no_line_feed limits.Facts = refl
+limit_no_line_feed limits.Actions = refl
+limit_no_line_feed limits.Effects = refl
+
+abbrev limit_line : Limit → ℕ → List ℕ
+limit_line what count = codes "; limit " ++ (limit_word what ++ (codes " " ++ decimal count))
+
+limit_text : (what : Limit) (count : ℕ) → text_of (TooMany what count) ≡ limit_line what count ++ codes "\n"
+limit_text what count =
+    sym (append_assoc (codes "; limit ") (limit_word what ++ (codes " " ++ decimal count)) (codes "\n")
+    ∙ ap (λ xs. codes "; limit " ++ xs) (append_assoc (limit_word what) (codes " " ++ decimal count) (codes "\n")
+    ∙ ap (λ xs. limit_word what ++ xs) (append_assoc (codes " ") (decimal count) (codes "\n"))))
+
+limit_other : (what : Limit) (count : ℕ) (rest : List ℕ) → count < 2 ^ 64 → IsAmong (lines_of (text_of (TooMany what count))) (codes "; horizon " ++ rest) → ⊥
+limit_other what count rest small m =
+    let after_word = no_line_feed-append (codes " ") (decimal count) refl (decimal_no_line_feed count small) in
+    let from_word = no_line_feed-append (limit_word what) (codes " " ++ decimal count) (limit_no_line_feed what) after_word in
+    one_other (limit_line what count) rest (no_line_feed-append (codes "; limit ") (limit_word what ++ (codes " " ++ decimal count)) refl from_word) refl
+    (subst (λ (xs : List ℕ). IsAmong (lines_of xs) (codes "; horizon " ++ rest)) (limit_text what count) m)
+
+-- the ending lists nothing
+abbrev pub ListsNothing : Ending → Type 0
+ListsNothing (Listing text) = ⊥
+ListsNothing _ = Unit {0}
+
+-- of the endings that list nothing, only one tells of a refuted horizon
+refuted_only : (end : Ending) (h k : List ℕ) → ListsNothing end → IsSmall end → IsNumeral 10 h → IsAmong (lines_of (text_of end)) (refuted_line h k) → (end ≡ Refuted) × (digits_value 10 h ≡ 0)
+refuted_only Found h k nothing small is m =
     let f = first_line (codes "; conflicts 0 of 100000" ∷ codes "; plan of 0 steps with 0 actions" ∷ []) (codes "plan conflicts 0") h k refl is m in
     absurd (not_plan (codes "efuted" ++ (codes " conflicts " ++ k)) (codes "lan conflicts 0") f.1)
-refuted_only Refuted h k small is m = (refl, (first_line (codes "; conflicts 1 of 100000" ∷ codes "; exhausted at horizon 0" ∷ []) (codes "refuted conflicts 1") h k refl is m).0)
-refuted_only Reaches h k small is m = absurd (none_of (lines_of (text_of Reaches)) _ refl m)
-refuted_only (Blocked index) h k small is m = absurd (blocked_other index _ small m)
-refuted_only Short h k small is m = absurd (none_of (lines_of (text_of Short)) _ refl m)
-refuted_only (Refused kind file at) h k small is m = absurd (refusal_other kind file at _ small m)
-refuted_only (TooLong Domain) h k small is m = absurd (none_of (lines_of (text_of (TooLong Domain))) _ refl m)
-refuted_only (TooLong Problem) h k small is m = absurd (none_of (lines_of (text_of (TooLong Problem))) _ refl m)
-refuted_only (TooLong Plan) h k small is m = absurd (none_of (lines_of (text_of (TooLong Plan))) _ refl m)
-refuted_only (ReadFault Domain) h k small is m = absurd (none_of (lines_of (text_of (ReadFault Domain))) _ refl m)
-refuted_only (ReadFault Problem) h k small is m = absurd (none_of (lines_of (text_of (ReadFault Problem))) _ refl m)
-refuted_only (ReadFault Plan) h k small is m = absurd (none_of (lines_of (text_of (ReadFault Plan))) _ refl m)
-refuted_only Usage h k small is m = absurd (none_of (lines_of (text_of Usage)) _ refl m)
+refuted_only Refuted h k nothing small is m = (refl, (first_line (codes "; conflicts 1 of 100000" ∷ codes "; exhausted at horizon 0" ∷ []) (codes "refuted conflicts 1") h k refl is m).0)
+refuted_only (Listing text) h k nothing small is m = absurd nothing
+refuted_only Reaches h k nothing small is m = absurd (none_of (lines_of (text_of Reaches)) _ refl m)
+refuted_only (Blocked index) h k nothing small is m = absurd (blocked_other index _ small m)
+refuted_only Short h k nothing small is m = absurd (none_of (lines_of (text_of Short)) _ refl m)
+refuted_only (Refused kind file at) h k nothing small is m = absurd (refusal_other kind file at _ small m)
+refuted_only (TooLong Domain) h k nothing small is m = absurd (none_of (lines_of (text_of (TooLong Domain))) _ refl m)
+refuted_only (TooLong Problem) h k nothing small is m = absurd (none_of (lines_of (text_of (TooLong Problem))) _ refl m)
+refuted_only (TooLong Plan) h k nothing small is m = absurd (none_of (lines_of (text_of (TooLong Plan))) _ refl m)
+refuted_only (TooMany what count) h k nothing small is m = absurd (limit_other what count _ small m)
+refuted_only (ReadFault Domain) h k nothing small is m = absurd (none_of (lines_of (text_of (ReadFault Domain))) _ refl m)
+refuted_only (ReadFault Problem) h k nothing small is m = absurd (none_of (lines_of (text_of (ReadFault Problem))) _ refl m)
+refuted_only (ReadFault Plan) h k nothing small is m = absurd (none_of (lines_of (text_of (ReadFault Plan))) _ refl m)
+refuted_only Usage h k nothing small is m = absurd (none_of (lines_of (text_of Usage)) _ refl m)
 
 -- a front of a report that says so
-pub says_refuted : (end : Ending) (text rest : List ℕ) (horizon conflicts : ℕ) → IsSmall end → text_of end ≡ text ++ rest → Says text horizon (codes "refuted") conflicts → (end ≡ Refuted) × (horizon ≡ 0)
-says_refuted end text rest horizon conflicts small parts says =
+pub says_refuted : (end : Ending) (text rest : List ℕ) (horizon conflicts : ℕ) → ListsNothing end → IsSmall end → text_of end ≡ text ++ rest → Says text horizon (codes "refuted") conflicts → (end ≡ Refuted) × (horizon ≡ 0)
+says_refuted end text rest horizon conflicts nothing small parts says =
     let line = refuted_line says.0 says.1 in
     let whole = subst (λ (xs : List ℕ). IsAmong (lines_of xs) line) (sym parts) (lines_more [] text rest line says.4) in
-    let only = refuted_only end says.0 says.1 small says.2.0 whole in
+    let only = refuted_only end says.0 says.1 nothing small says.2.0 whole in
     (only.0, sym says.2.1 ∙ only.1)
 
 -- ---- what a sink took

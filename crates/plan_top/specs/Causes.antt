@@ -16,12 +16,20 @@ use Rattle.pd_task.specs.declared.error.PddlError.{PddlError}
 use Rattle.pd_task.specs.declared.error.PddlError.TheVariants as errors
 use Rattle.pd_plan.specs.Fault as plan
 use Rattle.pd_plan.specs.PlanFile.{plan_file}
-use Rattle.plan_top.specs.Ending.{is_plan_answer, is_check_answer}
-use Rattle.plan_top.specs.Words.{IsPlan, IsCheck, IsNoCommand}
+use Rattle.grounding.specs.Grounded.{Grounded, IsGrounded}
+use Rattle.grounding.specs.Limits.{IsWithin, IsOverTuples, IsOverFacts, IsOverActions, IsOverEffects}
+use Rattle.gt_core.specs.Published.{IsPublished}
+use Rattle.task_text.specs.Text.{ground_text, order_text}
+use Rattle.plan_top.specs.Ending.{is_plan_answer, is_listing_answer, is_check_answer}
+use Rattle.plan_top.specs.Words.{IsTwo, IsCheck, IsNoCommand}
+use Rattle.plan_top.specs.declared.words.Command.{Command}
+use Rattle.plan_top.specs.declared.words.Command.TheVariants as commands
+use Rattle.plan_top.specs.declared.ending.Limit.{Limit}
+use Rattle.plan_top.specs.declared.ending.Limit.TheVariants as limits
 use Rattle.plan_top.specs.declared.ending.Kind.{Kind}
 use Rattle.plan_top.specs.declared.ending.Kind.TheVariants.{Syntax, Deep, Shape, Unknown, Arity, Duplicate, Unsupported, Mistyped}
 use Rattle.plan_top.specs.declared.ending.Ending.{Ending}
-use Rattle.plan_top.specs.declared.ending.Ending.TheVariants.{Found, Refuted, Reaches, Blocked, Short, Refused, TooLong, ReadFault, Usage}
+use Rattle.plan_top.specs.declared.ending.Ending.TheVariants.{Found, Refuted, Listing, Reaches, Blocked, Short, Refused, TooLong, TooMany, ReadFault, Usage}
 
 -- how many bytes a file may have
 abbrev pub most_bytes : ℕ
@@ -73,15 +81,63 @@ pub data RefusesTask (domain problem : List ℕ) (end : Ending) : Type 0 where
   problem_tree : (first : Tree) → Reads domain first → RefusesTree problem Problem end → RefusesTask domain problem end
   no_task : (first second : Tree) → Reads domain first → Reads problem second → RefusesTrees first second end → RefusesTask domain problem end
 
+-- a task is past a limit, with this count
+abbrev pub IsOver : Limit → Parts → ℕ → Type 0
+IsOver limits.Tuples task count = IsOverTuples task count
+IsOver limits.Facts task count = IsOverFacts task count
+IsOver limits.Actions task count = IsOverActions task count
+IsOver limits.Effects task count = IsOverEffects task count
+
+-- a task is past a limit, of which the ending tells
+abbrev pub Limits : Parts → Ending → Type 0
+Limits task end = (what : Limit) × (count : ℕ) × (end ≡ TooMany what count) × IsOver what task count
+
+-- two files are a task, and it is grounded within the limits
+pub record AreGrounded (domain problem : List ℕ) (task : Parts) (g : Grounded) : Type 0 where
+  pub are : AreTask domain problem task
+  pub grounded : IsGrounded task g
+  pub within : IsWithin task g
+
+-- the task of two files is past a limit, of which the ending tells
+abbrev pub LimitsTask : List ℕ → List ℕ → Ending → Type 0
+LimitsTask domain problem end = (task : Parts) × AreTask domain problem task × Limits task end
+
+-- why two files are not grounded: they are no task, or past a limit
+abbrev pub StopsGrounding : List ℕ → List ℕ → Ending → Type 0
+StopsGrounding domain problem end = RefusesTask domain problem end ⊎ LimitsTask domain problem end
+
 -- the goal holds in the initial state
 abbrev pub HoldsAtFirst : Parts → Type 0
 HoldsAtFirst task = IsTrue (all_hold task.init [] task.goal)
 
 -- what two files decide for `plan`
 pub data DecidesPlan (domain problem : List ℕ) (end : Ending) : Type 0 where
-  found : (task : Parts) → end ≡ Found → AreTask domain problem task → HoldsAtFirst task → DecidesPlan domain problem end
-  refuted : (task : Parts) → end ≡ Refuted → AreTask domain problem task → (HoldsAtFirst task → ⊥) → DecidesPlan domain problem end
-  plan_refused : RefusesTask domain problem end → DecidesPlan domain problem end
+  found : (task : Parts) (g : Grounded) → end ≡ Found → AreGrounded domain problem task g → HoldsAtFirst task → DecidesPlan domain problem end
+  refuted : (task : Parts) (g : Grounded) → end ≡ Refuted → AreGrounded domain problem task g → (HoldsAtFirst task → ⊥) → DecidesPlan domain problem end
+  plan_stopped : StopsGrounding domain problem end → DecidesPlan domain problem end
+
+-- what two files decide for `ground`
+pub data DecidesGround (domain problem : List ℕ) (end : Ending) : Type 0 where
+  grounded : (task : Parts) (g : Grounded) → end ≡ Listing (ground_text task g) → AreGrounded domain problem task g → DecidesGround domain problem end
+  ground_stopped : StopsGrounding domain problem end → DecidesGround domain problem end
+
+-- what two files decide for `order`: as long as no clauses are known, the order is that without any
+pub data DecidesOrder (domain problem : List ℕ) (end : Ending) : Type 0 where
+  ordered : (task : Parts) (g : Grounded) (components : List (List ℕ)) → end ≡ Listing (order_text task g components 0) → AreGrounded domain problem task g
+    → IsPublished g.task [] components → DecidesOrder domain problem end
+  order_stopped : StopsGrounding domain problem end → DecidesOrder domain problem end
+
+-- what two files decide for a command
+abbrev pub Decides : Command → List ℕ → List ℕ → Ending → Type 0
+Decides commands.Plan domain problem end = DecidesPlan domain problem end
+Decides commands.Ground domain problem end = DecidesGround domain problem end
+Decides commands.Order domain problem end = DecidesOrder domain problem end
+
+-- the endings that the files' contents give for a command of a domain and a problem
+abbrev pub is_answer : Command → Ending → Bool
+is_answer commands.Plan end = is_plan_answer end
+is_answer commands.Ground end = is_listing_answer end
+is_answer commands.Order end = is_listing_answer end
 
 -- what a plan file comes to for a task
 pub data ChecksCalls (task : Parts) (plan_bytes : List ℕ) (end : Ending) : Type 0 where
@@ -116,7 +172,7 @@ module _ (told : List ℕ → Option (List ℕ)) (lacks : List ℕ → Bool) (ol
   StopsAt [] end = ⊥
   StopsAt (file ∷ others) end = Stops file.0 file.1 end ⊎ (Fits file.1 × StopsAt others end)
 
-  -- the files that `plan` takes, in order
+  -- the files that a command of two files takes, in order
   abbrev pub plan_files : List ℕ → List ℕ → List (Which × List ℕ)
   plan_files domain problem = (Domain, domain) ∷ (Problem, problem) ∷ []
 
@@ -124,10 +180,10 @@ module _ (told : List ℕ → Option (List ℕ)) (lacks : List ℕ → Bool) (ol
   abbrev pub check_files : List ℕ → List ℕ → List ℕ → List (Which × List ℕ)
   check_files domain problem plan_name = (Domain, domain) ∷ (Problem, problem) ∷ (Plan, plan_name) ∷ []
 
-  -- when an ending comes for `plan` with these names
-  abbrev pub ComesPlan : List ℕ → List ℕ → Ending → Type 0
-  ComesPlan domain problem end = StopsAt (plan_files domain problem) end
-      ⊎ (Fits domain × Fits problem × IsTrue (is_plan_answer end) × IfSome (told domain) (λ first. IfSome (told problem) (λ second. DecidesPlan first second end)))
+  -- when an ending comes for a command of a domain and a problem with these names
+  abbrev pub ComesTwo : Command → List ℕ → List ℕ → Ending → Type 0
+  ComesTwo command domain problem end = StopsAt (plan_files domain problem) end
+      ⊎ (Fits domain × Fits problem × IsTrue (is_answer command end) × IfSome (told domain) (λ first. IfSome (told problem) (λ second. Decides command first second end)))
 
   -- the same for `check`
   abbrev pub ComesCheck : List ℕ → List ℕ → List ℕ → Ending → Type 0
@@ -138,35 +194,39 @@ module _ (told : List ℕ → Option (List ℕ)) (lacks : List ℕ → Bool) (ol
   -- when an ending comes, for the words of a command line
   pub data Comes (words : List (List ℕ)) (end : Ending) : Type 0 where
     no_command : end ≡ Usage → IsNoCommand words → Comes words end
-    of_plan : (domain problem : List ℕ) → IsPlan words domain problem → ComesPlan domain problem end → Comes words end
+    of_two : (command : Command) (domain problem : List ℕ) → IsTwo command words domain problem → ComesTwo command domain problem end → Comes words end
     of_check : (domain problem plan_name : List ℕ) → IsCheck words domain problem plan_name → ComesCheck domain problem plan_name end → Comes words end
 
 -- the count of faults of a file that the words name rose
 abbrev pub FaultOf : List (List ℕ) → List (List ℕ) → List (List ℕ) → Type 0
 FaultOf old new words =
-    ((domain : List ℕ) × (problem : List ℕ) × IsPlan words domain problem × (FaultRose domain old new ⊎ FaultRose problem old new))
+    ((command : Command) × (domain : List ℕ) × (problem : List ℕ) × IsTwo command words domain problem × (FaultRose domain old new ⊎ FaultRose problem old new))
     ⊎ ((domain : List ℕ) × (problem : List ℕ) × (plan_name : List ℕ) × IsCheck words domain problem plan_name
     × (FaultRose domain old new ⊎ (FaultRose problem old new ⊎ FaultRose plan_name old new)))
 
--- a place or an index of a report is a number of the program
+-- a place, an index or a count of a report is a number of the program
 abbrev pub IsSmall : Ending → Type 0
+IsSmall (TooMany what count) = count < 2 ^ 64
 IsSmall (Refused kind file at) = at < 2 ^ 32
 IsSmall (Blocked index) = index < 2 ^ 32
 IsSmall _ = Unit {0}
 
--- the words name two files whose bytes are told, within the limit and a task, and no fault of either was noted
+-- the words name two files whose bytes are told, within the limit and a task that is grounded within the limits, and no
+-- fault of either was noted
 pub record GoesWell (words : List (List ℕ)) (told : List ℕ → Option (List ℕ)) (old new : List (List ℕ)) : Type 0 where
+  pub command : Command
   pub domain : List ℕ
   pub problem : List ℕ
   pub first : List ℕ
   pub second : List ℕ
   pub task : Parts
-  pub named : IsPlan words domain problem
+  pub g : Grounded
+  pub named : IsTwo command words domain problem
   pub first_told : told domain ≡ Some first
   pub second_told : told problem ≡ Some second
   pub first_fits : length first ≤ most_bytes
   pub second_fits : length second ≤ most_bytes
-  pub are_task : AreTask first second task
+  pub are_grounded : AreGrounded first second task g
   pub first_read : FaultRose domain old new → ⊥
   pub second_read : FaultRose problem old new → ⊥
 

@@ -1,5 +1,5 @@
 -- What a printed plan, a refuted horizon and a checked plan promise of the files.
-use Rattle.std.specs.Prelude.{◌≡◌, ◌≤◌, ℕ, List, [], ◌∷◌, ◌++◌, length, codes, Option, Some, IfSome, Ok}
+use Rattle.std.specs.Prelude.{◌≡◌, ◌≤◌, ℕ, List, [], ◌∷◌, ◌++◌, length, codes, Bool, Option, Some, IfSome, Ok}
 use Rattle.pd_model.specs.Plan.{IsPlan}
 use Rattle.pd_model.specs.declared.calls.Call.{Call}
 use Rattle.pd_model.specs.declared.parts.Parts.{Parts}
@@ -7,7 +7,12 @@ use Rattle.pd_plan.specs.PlanFile.{plan_file}
 use Rattle.pd_plan.specs.Spells.{Spells}
 use Rattle.plan_top.specs.Words as words
 use Rattle.plan_top.specs.Among.{IsAmong}
-use Rattle.plan_top.specs.Causes.{AreTask, HoldsAtFirst}
+use Rattle.gt_core.specs.Task.{Task}
+use Rattle.gt_core.specs.Published.{IsPublished, order_of}
+use Rattle.gt_core.specs.Step.{IsStepPlan}
+use Rattle.grounding.specs.Grounded.{Grounded, IsGrounded}
+use Rattle.task_text.specs.Text.{ground_text, order_text}
+use Rattle.plan_top.specs.Causes.{AreTask}
 use Rattle.plan_top.specs.Lines.{lines_of}
 
 -- the bytes that a sink took in between, where it tells them
@@ -18,25 +23,19 @@ Printed old new text = (before : List ℕ) × (old ≡ Some before) × (new ≡ 
 abbrev pub OfFiles : (List ℕ → Option (List ℕ)) → List ℕ → List ℕ → (Parts → Type 0) → Type 0
 OfFiles told domain problem claim = IfSome (told domain) (λ first. IfSome (told problem) (λ second. (task : Parts) × AreTask first second task × claim task))
 
--- the words of `plan` name two files that are such a task
-abbrev pub OfTask : List (List ℕ) → (List ℕ → Option (List ℕ)) → (Parts → Type 0) → Type 0
-OfTask given told claim = (domain : List ℕ) × (problem : List ℕ) × words.IsPlan given domain problem × OfFiles told domain problem claim
-
--- A step plan of as many steps as the list has sets leads to a state in which the goal holds. That of no steps is one where the goal holds at
--- first; longer ones get their meaning with the numbered actions of a grounded task, and no report speaks of them yet.
-abbrev pub IsStepPlan : Parts → List (List ℕ) → Type 0
-IsStepPlan task [] = HoldsAtFirst task
-IsStepPlan task (members ∷ steps) = ⊥
+-- what is claimed of a task holds of what it is grounded to, and of its actions in published order; no clauses are known
+abbrev pub OfGrounded : Parts → (Task → List ℕ → Type 0) → Type 0
+OfGrounded task claim = (g : Grounded) (components : List (List ℕ)) → IsGrounded task g → IsPublished g.task [] components → claim g.task (order_of components)
 
 -- The text is a plan file that spells a plan, and its steps, of which it says that there are none, are a step plan.
 abbrev pub PlanRuns : List ℕ → Parts → Type 0
 PlanRuns text task =
     ((calls : List Call) × Spells task text calls × IsPlan task calls)
-    × IsAmong (lines_of text) (codes "; plan of 0 steps with 0 actions") × IsStepPlan task []
+    × IsAmong (lines_of text) (codes "; plan of 0 steps with 0 actions") × OfGrounded task (λ t order. (sets : ℕ → ℕ → Bool) → IsStepPlan t order sets 0)
 
 -- no list of so many sets of actions is a step plan
 abbrev pub NoStepPlan : ℕ → Parts → Type 0
-NoStepPlan horizon task = (steps : List (List ℕ)) → length steps ≡ horizon → IsStepPlan task steps → ⊥
+NoStepPlan horizon task = OfGrounded task (λ t order. (sets : ℕ → ℕ → Bool) → IsStepPlan t order sets horizon → ⊥)
 
 -- no list of at most so many calls is a plan
 abbrev pub NoPlan : ℕ → Parts → Type 0
@@ -47,3 +46,11 @@ abbrev pub CallsRun : (List ℕ → Option (List ℕ)) → List ℕ → List ℕ
 CallsRun told domain problem plan =
     IfSome (told domain) (λ first. IfSome (told problem) (λ second. IfSome (told plan) (λ third.
     (task : Parts) × (calls : List Call) × AreTask first second task × (plan_file task third ≡ Ok calls) × IsPlan task calls)))
+
+-- the text has the facts and the actions of a task
+abbrev pub TellsGround : List ℕ → Parts → Type 0
+TellsGround text task = (g : Grounded) × IsGrounded task g × (text ≡ ground_text task g)
+
+-- the text has the actions of a task in published order, where no clauses are known
+abbrev pub TellsOrder : List ℕ → Parts → Type 0
+TellsOrder text task = (g : Grounded) × (components : List (List ℕ)) × IsGrounded task g × IsPublished g.task [] components × (text ≡ order_text task g components 0)

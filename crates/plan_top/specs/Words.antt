@@ -1,5 +1,7 @@
 -- The words of a command line that are taken.
 use Rattle.std.specs.Prelude.{◌≡◌, ℕ, List, [], ◌∷◌, codes}
+use Rattle.plan_top.specs.declared.words.Command.{Command}
+use Rattle.plan_top.specs.declared.words.Command.TheVariants as commands
 
 -- `plan DOMAIN PROBLEM --max-horizon 0`
 abbrev pub IsPlan : List (List ℕ) → List ℕ → List ℕ → Type 0
@@ -9,7 +11,21 @@ IsPlan words domain problem = words ≡ codes "plan" ∷ domain ∷ problem ∷ 
 abbrev pub IsCheck : List (List ℕ) → List ℕ → List ℕ → List ℕ → Type 0
 IsCheck words domain problem plan = words ≡ codes "check" ∷ domain ∷ problem ∷ plan ∷ []
 
+-- `ground DOMAIN PROBLEM`
+abbrev pub IsGround : List (List ℕ) → List ℕ → List ℕ → Type 0
+IsGround words domain problem = words ≡ codes "ground" ∷ domain ∷ problem ∷ []
+
+-- `order DOMAIN PROBLEM`
+abbrev pub IsOrder : List (List ℕ) → List ℕ → List ℕ → Type 0
+IsOrder words domain problem = words ≡ codes "order" ∷ domain ∷ problem ∷ []
+
+-- the words are one of the commands of a domain and a problem
+abbrev pub IsTwo : Command → List (List ℕ) → List ℕ → List ℕ → Type 0
+IsTwo commands.Plan words domain problem = IsPlan words domain problem
+IsTwo commands.Ground words domain problem = IsGround words domain problem
+IsTwo commands.Order words domain problem = IsOrder words domain problem
+
 -- the words are those of no command
 pub record IsNoCommand (words : List (List ℕ)) : Type 0 where
-  pub no_plan : (domain problem : List ℕ) → IsPlan words domain problem → ⊥
+  pub no_two : (command : Command) (domain problem : List ℕ) → IsTwo command words domain problem → ⊥
   pub no_check : (domain problem plan : List ℕ) → IsCheck words domain problem plan → ⊥

@@ -1,31 +1,109 @@
 //! What the bytes of the files decide.
-ghost use Rattle.std.specs.Prelude.{◌≡◌, ◌≤◌, length};
-ghost use Rattle.plan_top.specs.Causes.{DecidesPlan, DecidesCheck, ChecksCalls, ending_of, most_bytes};
-ghost use Rattle.plan_top.specs.Ends.{Answers};
+ghost use Rattle.std.specs.Prelude.{◌≡◌, ◌≤◌, [], length, IfOk};
+ghost use Rattle.plan_top.specs.Causes.{Decides, DecidesPlan, DecidesGround, DecidesOrder, DecidesCheck, ChecksCalls, ending_of, most_bytes};
+ghost use Rattle.plan_top.specs.Ends.{Answers, StopsBy};
+ghost use Rattle.gt_core.specs.Published.{IsPublished};
 ghost use Rattle.plan_top.specs.PlanStop.{stop_of};
 
+use crate::ground::ground_task;
 use crate::stop::Stop;
 use crate::task::read_task;
+use crate::words::Command;
 use crate::{Ending, Kind};
+use action_order::order::Order;
+use action_order::publish::publish;
+use gt_core::pairs::Pairs;
+use gt_core::task::Task;
 use pd_model::{Pddl, Verdict, Which};
 use pd_plan::{PlanFault, read_plan};
+use pl_io::Bytes;
 use std::alloc::Global;
+use task_text::{push_ground, push_order};
 
 /// What two files decide for the command `plan`.
-pub fn answer_plan(alloc: Global, domain: &[u8], problem: &[u8]) -> Result<Ending, Stop>
+fn answer_plan(alloc: Global, domain: &[u8], problem: &[u8]) -> Result<Ending, Stop>
     requires domain_fits { length domain.now ≤ most_bytes }
     requires problem_fits { length problem.now ≤ most_bytes }
     ensures { Answers (DecidesPlan domain.now problem.now) result }
 {
-    let task = match read_task(alloc, domain, problem) {
-        Ok(task) => task,
+    let both = match ground_task(alloc, domain, problem) {
+        Ok(both) => both,
         Err(stop) => return Err(stop),
     };
-    match task.run_plan(alloc, &[]) {
+    match both.task.run_plan(alloc, &[]) {
         Ok(Verdict::Reaches) => Ok(Ending::Found),
         Ok(Verdict::Blocked { .. }) => Ok(Ending::Refuted),
         Ok(Verdict::Short) => Ok(Ending::Refuted),
         Err(_) => Err(Stop::Memory),
+    }
+}
+
+/// What two files decide for the command `ground`.
+fn answer_ground(alloc: Global, domain: &[u8], problem: &[u8]) -> Result<Ending, Stop>
+    requires domain_fits { length domain.now ≤ most_bytes }
+    requires problem_fits { length problem.now ≤ most_bytes }
+    ensures { Answers (DecidesGround domain.now problem.now) result }
+{
+    let both = match ground_task(alloc, domain, problem) {
+        Ok(both) => both,
+        Err(stop) => return Err(stop),
+    };
+    let mut text = Vec::new(alloc);
+    match push_ground(&both.task, &both.grounded, &mut text) {
+        Ok(()) => Ok(Ending::Listing(Bytes::of(text))),
+        Err(_) => Err(Stop::Memory),
+    }
+}
+
+/// The order of a ground task's actions, where no clauses are known.
+fn order_of(alloc: Global, task: &Task) -> Result<Order, Stop>
+    ensures published { IfOk result (λ order. IsPublished task.now [] order) }
+    ensures stops { StopsBy (λ end. ⊥) result }
+{
+    let Ok(pairs) = Pairs::empty(alloc, task.facts()) else {
+        return Err(Stop::Memory);
+    };
+    match publish(alloc, task, &pairs) {
+        Ok(order) => Ok(order),
+        Err(_) => Err(Stop::Memory),
+    }
+}
+
+/// What two files decide for the command `order`.
+fn answer_order(alloc: Global, domain: &[u8], problem: &[u8]) -> Result<Ending, Stop>
+    requires domain_fits { length domain.now ≤ most_bytes }
+    requires problem_fits { length problem.now ≤ most_bytes }
+    ensures { Answers (DecidesOrder domain.now problem.now) result }
+{
+    let both = match ground_task(alloc, domain, problem) {
+        Ok(both) => both,
+        Err(stop) => return Err(stop),
+    };
+    let Ok(order) = order_of(alloc, both.grounded.task()) else {
+        return Err(Stop::Memory);
+    };
+    let mut text = Vec::new(alloc);
+    match push_order(&both.task, &both.grounded, &order, 0, &mut text) {
+        Ok(()) => Ok(Ending::Listing(Bytes::of(text))),
+        Err(_) => Err(Stop::Memory),
+    }
+}
+
+/// What two files decide for a command.
+pub fn answer_two(
+    alloc: Global,
+    command: Command,
+    domain: &[u8],
+    problem: &[u8],
+) -> Result<Ending, Stop>
+    requires domain_fits { length domain.now ≤ most_bytes }
+    requires problem_fits { length problem.now ≤ most_bytes }
+    ensures { Answers (Decides command domain.now problem.now) result }
+{
+    match command {
+        Command::Plan => answer_plan(alloc, domain, problem),
+        Command::Ground => answer_ground(alloc, domain, problem),
+        Command::Order => answer_order(alloc, domain, problem),
     }
 }
 

@@ -1,6 +1,6 @@
 //! How a run ends, with the exit status and the text due.
 ghost use Rattle.std.specs.Prelude.{◌≡◌, ◌<◌, ◌^◌, ◌++◌, OnOk, IfOk, codes, decimal};
-ghost use Rattle.plan_top.specs.Ending.{status_of, text_of, word_of, kind_word};
+ghost use Rattle.plan_top.specs.Ending.{status_of, text_of, word_of, kind_word, limit_word};
 ghost use Rattle.plan_top.specs.Causes.{IsSmall};
 
 use itoa::Buffer;
@@ -21,13 +21,24 @@ pub enum Kind {
     Mistyped,
 }
 
-/// How a run ends, but for want of memory and a write fault.
+/// What there may be too much of in a task.
 #[derive(Clone, Copy, Debug, PartialEq, Eq)]
+pub enum Limit {
+    Tuples,
+    Facts,
+    Actions,
+    Effects,
+}
+
+/// How a run ends, but for want of memory and a write fault.
+#[derive(Debug, Drop)]
 pub enum Ending {
     /// The goal holds at first: horizon 0 has a plan.
     Found,
     /// Horizon 0, the last one, is refuted.
     Refuted,
+    /// The lines of a ground task, or of its actions in published order.
+    Listing(Bytes),
     /// The checked calls are a plan.
     Reaches,
     /// This call, counted from 0, is the first that cannot run.
@@ -38,6 +49,8 @@ pub enum Ending {
     Refused { kind: Kind, file: Which, at: u32 },
     /// A file has more bytes than may be.
     TooLong(Which),
+    /// The task is past a limit, with the count.
+    TooMany { what: Limit, count: u64 },
     /// A file could not be read.
     ReadFault(Which),
     /// The words are none that are taken.
@@ -46,14 +59,14 @@ pub enum Ending {
 
 impl Ending {
     /// The exit status.
-    pub fn status(self) -> u8
-        ensures { result ≡ status_of self }
+    pub fn status(&self) -> u8
+        ensures { result ≡ status_of self.now }
     {
         match self {
-            Ending::Found | Ending::Reaches => 0,
+            Ending::Found | Ending::Listing(_) | Ending::Reaches => 0,
             Ending::Refuted | Ending::Blocked { .. } | Ending::Short => 1,
             Ending::Refused { .. } => 3,
-            Ending::TooLong(_) => 4,
+            Ending::TooLong(_) | Ending::TooMany { .. } => 4,
             Ending::ReadFault(_) => 5,
             Ending::Usage => 7,
         }
@@ -67,11 +80,13 @@ impl Ending {
         match self {
             Ending::Found => found(alloc),
             Ending::Refuted => refuted(alloc),
+            Ending::Listing(text) => Ok(text),
             Ending::Reaches => copied(alloc, "; reaches the goal\n"),
             Ending::Blocked { index } => blocked(alloc, index),
             Ending::Short => copied(alloc, "; goal not reached\n"),
             Ending::Refused { kind, file, at } => refusal(alloc, kind, file, at),
             Ending::TooLong(file) => of_file(alloc, "; limit file ", file),
+            Ending::TooMany { what, count } => too_many(alloc, what, count),
             Ending::ReadFault(file) => of_file(alloc, "; read fault ", file),
             Ending::Usage => copied(alloc, "; usage: plan, check, ground, order or gen\n"),
         }
@@ -122,6 +137,17 @@ fn word_of_kind(kind: Kind) -> &'static str
     }
 }
 
+fn word_of_limit(what: Limit) -> &'static str
+    ensures { result.now ≡ limit_word what }
+{
+    match what {
+        Limit::Tuples => "tuples",
+        Limit::Facts => "facts",
+        Limit::Actions => "actions",
+        Limit::Effects => "effects",
+    }
+}
+
 fn copied(alloc: Global, text: &str) -> Result<Bytes, Memory>
     ensures { IfOk result (λ t. t ≡ text.now) }
 {
@@ -144,6 +170,18 @@ fn push_number(text: &mut Vec<u8>, number: u64) -> Result<(), Memory>
     let mut buffer = Buffer::new();
     text.extend_from_slice(buffer.format(number).as_bytes())?;
     Ok(())
+}
+
+fn too_many(alloc: Global, what: Limit, count: u64) -> Result<Bytes, Memory>
+    ensures text { IfOk result (λ t. t ≡ text_of (Ending.TooMany what count)) }
+    ensures small { OnOk result (count < 2 ^ 64) }
+{
+    let mut text = Vec::from_slice(alloc, b"; limit ")?;
+    text.extend_from_slice(word_of_limit(what).as_bytes())?;
+    text.extend_from_slice(b" ")?;
+    push_number(&mut text, count)?;
+    text.extend_from_slice(b"\n")?;
+    Ok(Bytes::of(text))
 }
 
 fn blocked(alloc: Global, index: u32) -> Result<Bytes, Memory>

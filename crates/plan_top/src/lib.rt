@@ -5,6 +5,7 @@
 mod answer;
 mod decide;
 mod ending;
+mod ground;
 mod stop;
 mod take;
 mod task;
@@ -13,5 +14,5 @@ mod tests;
 mod top;
 mod words;
 
-pub use ending::{Ending, Kind};
+pub use ending::{Ending, Kind, Limit};
 pub use top::{Status, run};

@@ -6,7 +6,7 @@ use crate::Ending;
 use pd_model::Memory;
 
 /// The run ends, or memory is wanting.
-#[derive(Clone, Copy, Debug, PartialEq, Eq)]
+#[derive(Debug, Drop)]
 pub enum Stop {
     /// With this ending.
     Ends(Ending),

@@ -2,11 +2,11 @@
 ghost use Rattle.std.specs.Prelude.{◌≡◌, ◌≢◌, ◌≤◌, ◌⊎◌, ℕ, List, [], ◌∷◌, map, string_bytes, codes};
 ghost use Rattle.pl_io.specs.Outside.{appended, TakesFront, Rose, FaultRose, fault_count};
 ghost use Rattle.plan_top.specs.Among.{IsAmong};
-ghost use Rattle.plan_top.specs.Words.{IsPlan, IsCheck, IsNoCommand};
+ghost use Rattle.plan_top.specs.Words.{IsPlan, IsGround, IsOrder, IsCheck, IsNoCommand};
 ghost use Rattle.plan_top.specs.Causes.{Comes, FaultOf, GoesWell, ChecksWell};
 ghost use Rattle.plan_top.specs.Ending.{status_of, text_of};
 ghost use Rattle.plan_top.specs.Lines.{Says};
-ghost use Rattle.plan_top.specs.Headline.{Printed, OfFiles, OfTask, PlanRuns, NoStepPlan, NoPlan, CallsRun};
+ghost use Rattle.plan_top.specs.Headline.{Printed, OfFiles, PlanRuns, NoStepPlan, NoPlan, TellsGround, TellsOrder, CallsRun};
 ghost use Rattle.plan_top.specs.Ends.{ending_in};
 ghost use Rattle.plan_top.specs.declared.ending.Ending.{Ending};
 
@@ -20,10 +20,10 @@ use std::alloc::Global;
 ///
 /// | Status | When |
 /// |---|---|
-/// | 0 | a plan was found; the checked calls are a plan |
+/// | 0 | a plan was found; the task or its order is told; the checked calls are a plan |
 /// | 1 | the last horizon is refuted; the checked calls are none |
 /// | 3 | an input file is refused |
-/// | 4 | a file has more bytes than it may have |
+/// | 4 | a file has more bytes than it may have, or the task is past a limit |
 /// | 5 | a file could not be read |
 /// | 6 | the report could not be written |
 /// | 7 | the words are none that are taken |
@@ -33,8 +33,8 @@ pub struct Status(pub u8);
 
 /// Reads the words, takes the files from the shelf, decides, and writes the text due into the sink.
 ///
-/// The words are those after the program's name: `plan DOMAIN PROBLEM --max-horizon 0` or
-/// `check DOMAIN PROBLEM PLAN`.
+/// The words are those after the program's name: `plan DOMAIN PROBLEM --max-horizon 0`, `ground DOMAIN PROBLEM`,
+/// `order DOMAIN PROBLEM` or `check DOMAIN PROBLEM PLAN`.
 pub fn run<H, S: Shelf, K: Sink>(
     _rt: &H,
     alloc: Global,
@@ -47,12 +47,20 @@ pub fn run<H, S: Shelf, K: Sink>(
         → IsPlan (map string_bytes words.now) domain problem → OfFiles (S.told shelf.old) domain problem (PlanRuns text) }
 
     // A horizon that is printed as refuted has no step plan of so many steps.
-    ensures refuted_steps { (text : List ℕ) (horizon conflicts : ℕ) → Printed (K.taken sink.old) (K.taken sink.new) text
-        → Says text horizon (codes "refuted") conflicts → OfTask (map string_bytes words.now) (S.told shelf.old) (NoStepPlan horizon) }
+    ensures refuted_steps { (text domain problem : List ℕ) (horizon conflicts : ℕ) → Printed (K.taken sink.old) (K.taken sink.new) text
+        → IsPlan (map string_bytes words.now) domain problem → Says text horizon (codes "refuted") conflicts
+        → OfFiles (S.told shelf.old) domain problem (NoStepPlan horizon) }
 
     // Nor is there a plan of at most so many actions.
-    ensures refuted_plans { (text : List ℕ) (horizon conflicts : ℕ) → Printed (K.taken sink.old) (K.taken sink.new) text
-        → Says text horizon (codes "refuted") conflicts → OfTask (map string_bytes words.now) (S.told shelf.old) (NoPlan horizon) }
+    ensures refuted_plans { (text domain problem : List ℕ) (horizon conflicts : ℕ) → Printed (K.taken sink.old) (K.taken sink.new) text
+        → IsPlan (map string_bytes words.now) domain problem → Says text horizon (codes "refuted") conflicts
+        → OfFiles (S.told shelf.old) domain problem (NoPlan horizon) }
+
+    // The facts and actions, and the order, that are printed are those of the task.
+    ensures ground_told { (text domain problem : List ℕ) → result.0 ≡ 0 → Printed (K.taken sink.old) (K.taken sink.new) text
+        → IsGround (map string_bytes words.now) domain problem → OfFiles (S.told shelf.old) domain problem (TellsGround text) }
+    ensures order_told { (text domain problem : List ℕ) → result.0 ≡ 0 → Printed (K.taken sink.old) (K.taken sink.new) text
+        → IsOrder (map string_bytes words.now) domain problem → OfFiles (S.told shelf.old) domain problem (TellsOrder text) }
 
     // Calls that are answered as a plan are one.
     ensures reached { (domain problem plan : List ℕ) → result.0 ≡ 0 → IsCheck (map string_bytes words.now) domain problem plan

@@ -1,9 +1,18 @@
 //! The words of the command line.
 ghost use Rattle.std.specs.Prelude.{ℕ, List, map, string_bytes, MatchOption};
-ghost use Rattle.plan_top.specs.Words.{IsPlan, IsCheck};
+ghost use Rattle.plan_top.specs.Words.{IsPlan, IsGround, IsOrder, IsTwo, IsCheck};
+ghost use Rattle.plan_top.specs.declared.words.Command.{Command};
+
+/// A command of a domain and a problem.
+#[derive(Clone, Copy, Debug, PartialEq, Eq)]
+pub enum Command {
+    Plan,
+    Ground,
+    Order,
+}
 
 /// The names of the domain and the problem, where the words are `plan DOMAIN PROBLEM --max-horizon 0`.
-pub fn plan_files(words: &[String]) -> Option<(&str, &str)>
+fn plan_files(words: &[String]) -> Option<(&str, &str)>
     ensures { MatchOption result ((d p : List ℕ) → IsPlan (map string_bytes words.now) d p → ⊥)
         (λ names. IsPlan (map string_bytes words.now) names.0.now names.1.now) }
 {
@@ -14,6 +23,49 @@ pub fn plan_files(words: &[String]) -> Option<(&str, &str)>
                 && last.as_str() == "0" => { Some((domain.as_str(), problem.as_str())) }
         _ => None,
     }
+}
+
+/// The names of the domain and the problem, where the words are `ground DOMAIN PROBLEM`.
+fn ground_files(words: &[String]) -> Option<(&str, &str)>
+    ensures { MatchOption result ((d p : List ℕ) → IsGround (map string_bytes words.now) d p → ⊥)
+        (λ names. IsGround (map string_bytes words.now) names.0.now names.1.now) }
+{
+    match words {
+        [command, domain, problem] if command.as_str() == "ground" => {
+            Some((domain.as_str(), problem.as_str()))
+        }
+        _ => None,
+    }
+}
+
+/// The names of the domain and the problem, where the words are `order DOMAIN PROBLEM`.
+fn order_files(words: &[String]) -> Option<(&str, &str)>
+    ensures { MatchOption result ((d p : List ℕ) → IsOrder (map string_bytes words.now) d p → ⊥)
+        (λ names. IsOrder (map string_bytes words.now) names.0.now names.1.now) }
+{
+    match words {
+        [command, domain, problem] if command.as_str() == "order" => {
+            Some((domain.as_str(), problem.as_str()))
+        }
+        _ => None,
+    }
+}
+
+/// The command and the names of its domain and problem, where the words are such a command.
+pub fn two_files(words: &[String]) -> Option<(Command, &str, &str)>
+    ensures { MatchOption result ((c : Command) (d p : List ℕ) → IsTwo c (map string_bytes words.now) d p → ⊥)
+        (λ named. IsTwo named.0 (map string_bytes words.now) named.1.now named.2.now) }
+{
+    if let Some((domain, problem)) = plan_files(words) {
+        return Some((Command::Plan, domain, problem));
+    }
+    if let Some((domain, problem)) = ground_files(words) {
+        return Some((Command::Ground, domain, problem));
+    }
+    if let Some((domain, problem)) = order_files(words) {
+        return Some((Command::Order, domain, problem));
+    }
+    None
 }
 
 /// The names of the domain, the problem and the plan, where the words are `check DOMAIN PROBLEM PLAN`.
