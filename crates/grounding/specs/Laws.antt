@@ -1,12 +1,10 @@
 -- What makes grounding useful: executing calls of the files and running numbered actions is the same.
-use Rattle.std.specs.Prelude.{ℕ, ◌≡◌, List, [], ◌∷◌, Bool, true, Option, Some, None, slice_get, IsTrue, ◌⊎◌, ◌↔◌}
-use Rattle.std.specs.List.{list_all}
+use Rattle.std.specs.Prelude.{ℕ, ◌≡◌, List, [], ◌∷◌, Bool, true, Some, slice_get, IsTrue, ◌⊎◌, ◌↔◌}
 use Rattle.gt_core.specs.Lawful.{is_task}
-use Rattle.gt_core.specs.Task.{Task, initial_state}
+use Rattle.gt_core.specs.Task.{initial_state}
 use Rattle.gt_core.specs.Execution.{CanRun, run, IsGoal}
 use Rattle.pd_model.specs.State.{is_in}
-use Rattle.pd_model.specs.Fits.{is_call}
-use Rattle.pd_model.specs.Plan.{exec_all, meets_goal, IsPlan}
+use Rattle.pd_model.specs.Plan.{exec_all, meets_goal}
 use Rattle.pd_model.specs.declared.atoms.Atom.{Atom}
 use Rattle.pd_model.specs.declared.calls.Call.{Call}
 use Rattle.pd_model.specs.declared.parts.Parts.{Parts}
@@ -33,10 +31,9 @@ pub record RunsAlike (p : Parts) (g : Grounded) (calls : List Call) (t : List At
   pub runs : CanRun g.task (initial_state g.task) numbers
   pub same : IsSameState g (run g.task (initial_state g.task) numbers) t
 
--- calls that are executed in turn from the initial state to another
-pub record AreExecuted (p : Parts) (calls : List Call) (t : List Atom) : Type 0 where
-  pub are_calls : IsTrue (list_all (is_call p) calls)
-  pub executed : exec_all p p.init calls ≡ Some t
+-- each of these is a call, and they are executed in turn from the initial state to another
+abbrev pub AreExecuted : Parts → List Call → List Atom → Type 0
+AreExecuted p calls t = exec_all p p.init calls ≡ Some t
 
 -- what is in every closed pair is a closed pair: the least one
 abbrev pub LeastIsClosed : Type 0

@@ -1,7 +1,7 @@
 -- What is left of literals, effects and actions once every literal that is always true or never true is taken out.
 -- The facts are given as a list; the number of a fact is its place there. Of the other atoms the initial ones are
 -- constant and the rest are not reachable.
-use Rattle.std.specs.Prelude.{ℕ, zero, suc, ◌+◌, ◌*◌, List, [], ◌∷◌, Bool, true, false, not, ◌&&◌, ◌||◌, map, filter_map, length, nat_lt, Option, Some, None, if◌then◌else◌}
+use Rattle.std.specs.Prelude.{ℕ, suc, ◌+◌, ◌*◌, List, [], ◌∷◌, Bool, true, false, not, ◌&&◌, map, filter_map, length, nat_lt, Option, Some, None, if◌then◌else◌}
 use Rattle.std.specs.List.{filter, list_any}
 use Rattle.gt_core.specs.Lawful.{effect_less}
 use Rattle.gt_core.specs.Task.{Effect, Action, Task}

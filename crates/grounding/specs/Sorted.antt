@@ -1,5 +1,5 @@
 -- Lists in order, and the orders of atoms, calls and effects.
-use Rattle.std.specs.Prelude.{ℕ, ◌==◌, List, [], ◌∷◌, Bool, ◌&&◌, ◌||◌, nat_lt, IsTrue, if◌then◌else◌}
+use Rattle.std.specs.Prelude.{◌==◌, List, [], ◌∷◌, Bool, ◌&&◌, ◌||◌, nat_lt, IsTrue, if◌then◌else◌}
 use Rattle.std.specs.List.{AllByRecursion}
 use Rattle.gt_core.specs.Lawful.{list_less}
 use Rattle.pd_model.specs.declared.atoms.Atom.{Atom}

@@ -1,7 +1,6 @@
 -- The count of tuples: how much there is to look at, before any tuple is listed.
 use Rattle.std.specs.Prelude.{ℕ, ◌+◌, ◌-◌, ◌*◌, ◌^◌, List, [], ◌∷◌, length, sum_by, if◌then◌else◌, nat_le}
 use Rattle.pd_model.specs.Fits.{fitting}
-use Rattle.pd_model.specs.declared.effects.Effect.{Effect}
 use Rattle.pd_model.specs.declared.parts.Parts.{Parts}
 use Rattle.pd_model.specs.declared.schemas.Schema.{Schema}
 

@@ -71,7 +71,7 @@ impl Atom {
     ghost use Rattle.std.specs.Prelude.{◌≡◌, IfOk};
 
     /// The same atom, in memory of its own.
-    pub(crate) fn copied(&self, alloc: Global) -> Result<Atom, Memory>
+    pub fn copied(&self, alloc: Global) -> Result<Atom, Memory>
         ensures { IfOk result (λ copy. copy ≡ self.now) }
     {
         let objects = Objects::of(Vec::from_slice(alloc, self.objects.as_slice())?);

@@ -8,6 +8,7 @@ use Rattle.pd_sexp.specs.Fault.{uncommented, comment_blanked}
 use Rattle.pd_model.specs.Fits.{fits, all_fit, is_call}
 use Rattle.pd_model.specs.declared.calls.Call.{Call}
 use Rattle.pd_model.specs.declared.parts.Parts.{Parts}
+use Rattle.pd_model.specs.Names.{object_names, schema_names}
 use Rattle.pd_words.specs.Names.{number_of}
 use Rattle.pd_words.specs.Typed.{named}
 use Rattle.pd_words.specs.declared.named.Named.{Named}
@@ -18,7 +19,7 @@ use Rattle.pd_plan.specs.First.{◌>>=◌, found, wants, after, Gives}
 use Rattle.pd_plan.proofs.Steps.{after-one}
 use Rattle.pd_plan.specs.Tokens.{Token, opening, closing, word, wrong, sign, joined, tokens}
 use Rattle.pd_plan.specs.WordLists.{word_list, lists, list_on, word_lists}
-use Rattle.pd_plan.specs.PlanFile.{schema_names, object_names, argument, arguments, call_from, call_of, calls_of}
+use Rattle.pd_plan.specs.PlanFile.{argument, arguments, call_from, call_of, calls_of}
 
 -- ---- tests in order
 

@@ -1,5 +1,6 @@
 -- The calls that the bytes of a plan file spell.
-use Rattle.std.specs.Prelude.{ℕ, ◌==◌, List, [], ◌∷◌, length, map, Result, Ok, Err, slice_get}
+use Rattle.std.specs.Prelude.{ℕ, ◌==◌, List, [], ◌∷◌, length, Result, Ok, Err, slice_get}
+use Rattle.pd_model.specs.Names.{schema_names, object_names}
 use Rattle.pd_model.specs.Fits.{fits}
 use Rattle.pd_model.specs.declared.schemas.Schema.{Schema}
 use Rattle.pd_model.specs.declared.objects.ObjectDecl.{ObjectDecl}
@@ -11,14 +12,6 @@ use Rattle.pd_plan.specs.declared.lists.WordList.{WordList}
 use Rattle.pd_plan.specs.Fault.{Fault, syntax, unknown, arity, mistyped}
 use Rattle.pd_plan.specs.First.{◌>>=◌, found, wants}
 use Rattle.pd_plan.specs.WordLists.{word_lists}
-
--- the names of the actions, by number
-abbrev pub schema_names : List Schema → List (List ℕ)
-schema_names schemas = map (λ s. s.name) schemas
-
--- the names of the objects, by number
-abbrev pub object_names : List ObjectDecl → List (List ℕ)
-object_names objects = map (λ o. o.name) objects
 
 -- the object that a word names, which has to fit a type
 abbrev pub argument : Parts → ℕ → Named → Result ℕ Fault

@@ -1,52 +1,17 @@
 // The calls that lists of words spell.
-ghost use Rattle.std.specs.Prelude.{◌≡◌, ℕ, List, length, slice_index};
-ghost use Rattle.pd_model.specs.Types.{parents_of, is_under};
-ghost use Rattle.pd_model.specs.Fits.{fits};
+ghost use Rattle.std.specs.Prelude.{◌≡◌, ℕ, List};
+ghost use Rattle.pd_model.specs.Names.{object_names, schema_names};
 ghost use Rattle.pd_words.specs.Names.{number_of};
 ghost use Rattle.pd_plan.specs.First.{Gives, GivesAs};
 ghost use Rattle.pd_plan.specs.Names.{looked_up};
 ghost use Rattle.pd_plan.specs.PlanFile as plans;
-ghost use Rattle.pd_plan.specs.PlanFile.{schema_names, object_names};
 
 use crate::PlanFault;
 use crate::lists::WordList;
 use crate::names::NameNumbers;
-use pd_model::{Call, Calls, Objects, Pddl, TypeDecl};
+use pd_model::{Call, Calls, Objects, Pddl};
 use pd_words::Named;
 use std::alloc::Global;
-
-fn parent_of(types: &[TypeDecl], kind: u32) -> u32
-    ensures { result ≡ slice_index (parents_of types.now) kind }
-{
-    match types.get(kind as usize) {
-        Some(declared) => declared.parent,
-        None => 0,
-    }
-}
-
-// Whether parents lead from a type to one above it. The first object that does not fit ends the reading, so
-// that all types are walked once at most.
-fn lies_under(types: &[TypeDecl], kind: u32, above: u32) -> bool
-    ensures { result ≡ is_under (parents_of types.now) kind above }
-{
-    let mut at = kind;
-    for _ in 0..types.len() {
-        if at == above {
-            return true;
-        }
-        at = parent_of(types, at);
-    }
-    at == above
-}
-
-fn fits_type(p: &Pddl, kind: u32, object: u32) -> bool
-    ensures { result ≡ fits p.now kind object }
-{
-    match p.objects().as_slice().get(object as usize) {
-        Some(declared) => lies_under(p.types().as_slice(), declared.kind, kind),
-        None => false,
-    }
-}
 
 // The object that a word names.
 fn read_argument(p: &Pddl, objects: &NameNumbers, kind: u32, word: &Named) -> Result<u32, PlanFault>
@@ -56,7 +21,7 @@ fn read_argument(p: &Pddl, objects: &NameNumbers, kind: u32, word: &Named) -> Re
     let Some(object) = objects.number(&word.name) else {
         return Err(PlanFault::Unknown { at: word.at });
     };
-    if !fits_type(p, kind, object) {
+    if !p.fits(kind, object) {
         return Err(PlanFault::Mistyped { at: word.at });
     }
     Ok(object)

@@ -22,8 +22,8 @@ impl NameNumbers {
     ghost use Rattle.std.specs.Str.{bytes_eq};
     ghost use Rattle.pd_words.specs.Names.{number_of, or_else};
     ghost use Rattle.pd_plan.specs.Names.{looked_up};
-    ghost use Rattle.pd_plan.specs.PlanFile.{schema_names, object_names};
     ghost use Rattle.pd_plan.specs.declared.fault.PlanFault.TheVariants.{Memory};
+    ghost use Rattle.pd_model.specs.Names.{object_names, schema_names};
 
     fn new(alloc: Global) -> Self
         ensures { (name : List ℕ) → looked_up result name ≡ None }

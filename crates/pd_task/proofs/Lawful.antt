@@ -11,6 +11,7 @@ use Rattle.pd_model.specs.declared.atoms.Pattern.{Pattern}
 use Rattle.pd_model.specs.declared.conds.Cond.{Cond}
 use Rattle.pd_model.specs.declared.effects.Effect.{Effect}
 use Rattle.pd_model.specs.declared.parts.Parts.{Parts}
+use Rattle.pd_model.specs.Names.{predicate_names, arities_of}
 use Rattle.pd_words.specs.declared.fault.Fault.{Fault}
 use Rattle.pd_words.specs.declared.fault.Fault.TheVariants.{Shape, Unknown, Arity, Unsupported}
 use Rattle.pd_words.specs.declared.keyword.Keyword.{Keyword}
@@ -24,7 +25,6 @@ use Rattle.pd_words.proofs.NameLemmas.{number_below}
 use Rattle.pd_words.proofs.Sound.{bind_ok, wants_ok, if_ok, typed_keeps}
 use Rattle.pd_task.specs.Atoms.{Names, count, term, predicate, atom, one_of, two_of, literal, equality, denied, negation, and_one, condition, conditions}
 use Rattle.pd_task.specs.Effects.{Site, no_more, and_effect, removed, removal, literals, all_literals, conditional_body, conditional, under, simple, rest_of, effect, all_effects, quantified, quantified_body}
-use Rattle.pd_task.specs.Declarations.{predicate_names, arities_of}
 
 -- ---- steps
 

@@ -14,6 +14,7 @@ use Rattle.pd_model.specs.declared.types.TypeDecl.{TypeDecl}
 use Rattle.pd_model.specs.declared.schemas.Schema.{Schema}
 use Rattle.pd_model.specs.declared.atoms.Atom.{Atom}
 use Rattle.pd_model.specs.declared.parts.Parts.{Parts}
+use Rattle.pd_model.specs.Names.{type_names, object_names, schema_names}
 use Rattle.pd_words.specs.declared.fault.Fault.{Fault}
 use Rattle.pd_words.specs.declared.fault.Fault.TheVariants.{Shape, Unknown, Arity, Duplicate, Unsupported}
 use Rattle.pd_words.specs.declared.keyword.Keyword.TheVariants as heads
@@ -28,10 +29,10 @@ use Rattle.pd_words.proofs.Sound.{bind_ok, wants_ok, typed_keeps}
 use Rattle.pd_words.proofs.TypeLemmas.{TypesLawful, types_sound}
 use Rattle.pd_task.specs.Atoms.{Names, count, one_of, condition, predicate}
 use Rattle.pd_task.specs.Effects.{Site, no_more, place_of, effect}
-use Rattle.pd_task.specs.Action.{Keys, no_keys, keys_from, value_of, name_at, names_of, schema, and_action}
+use Rattle.pd_task.specs.Action.{Keys, no_keys, keys_from, value_of, name_at, schema, and_action}
 use Rattle.pd_task.specs.Frames.{section_with, find_section, items_under, domain_frame, problem_frame}
-use Rattle.pd_task.specs.Declarations.{object_names, admit_object, declare, give_objects, and_objects, and_predicate, object_at, ground_atom, init_denied, and_init}
-use Rattle.pd_task.specs.Reading.{DomainParts, type_names, names_in, and_section, domain_parts, goal_of, problem_parts}
+use Rattle.pd_task.specs.Declarations.{admit_object, declare, give_objects, and_objects, and_predicate, object_at, ground_atom, init_denied, and_init}
+use Rattle.pd_task.specs.Reading.{DomainParts, names_in, and_section, domain_parts, goal_of, problem_parts}
 use Rattle.pd_task.proofs.Lawful.{Passes, bind_any, found_ok, and_true, all_push, every_sound, each_sound, total_none, total_one, Fits, predicate_sound, takes_sound, condition_sound, lawful_effect, Typed, variable_list_sound, effect_sound, good, SiteFits}
 use Rattle.pd_task.proofs.ObjectLemmas.{map_push}
 
@@ -70,7 +71,7 @@ module _ (p : Parts) (types : List (List ℕ)) (names : Names) (size : length ty
   and_action_sound before at no_trees h = tt
   and_action_sound before at (and_tree title rest) h =
       bind_any good_schemas (name_at title) _
-      (λ name. wants_ok good_schemas (not (is_among name (names_of before))) (Duplicate (place_of title)) _
+      (λ name. wants_ok good_schemas (not (is_among name (schema_names before))) (Duplicate (place_of title)) _
       (λ _. bind_any good_schemas (keys_from at no_keys rest) _
       (λ keys. bind_ok (λ s. lawful_schema p s ≡ true) good_schemas (schema types names name keys) _ (schema_sound name keys)
       (λ new is. all_push (lawful_schema p) before new h is))))

@@ -6,3 +6,4 @@ pub mod Foralls
 pub mod Lawful
 pub mod LawfulTask
 pub mod Formed
+pub mod Rows

@@ -5,8 +5,7 @@ use Rattle.pd_model.specs.Types.{kinds_of}
 use Rattle.pd_model.specs.declared.objects.ObjectDecl.{ObjectDecl}
 use Rattle.pd_model.specs.declared.predicates.Predicate.{Predicate}
 use Rattle.pd_model.specs.declared.schemas.Schema.{Schema}
-use Rattle.pd_task.specs.Declarations.{object_names, predicate_names, arities_of}
-use Rattle.pd_task.specs.Action.{names_of}
+use Rattle.pd_model.specs.Names.{predicate_names, arities_of, object_names, schema_names}
 
 pub kind_is : (objects : List ObjectDecl) (i : ℕ) (o : ObjectDecl) → i < length objects → o ≡ get_or objects i o → slice_index (kinds_of objects) i ≡ o.kind
 kind_is objects i o lt is = get_or-map (λ o. o.kind) objects i o 0 lt ∙ ap (λ (x : ObjectDecl). x.kind) (sym is)
@@ -24,7 +23,7 @@ predicates_push predicates p = map_push (λ p. p.name) predicates p
 pub arities_push : (predicates : List Predicate) (p : Predicate) → arities_of (predicates ++ p ∷ []) ≡ arities_of predicates ++ p.arity ∷ []
 arities_push predicates p = map_push (λ p. p.arity) predicates p
 
-pub schemas_push : (schemas : List Schema) (s : Schema) → names_of (schemas ++ s ∷ []) ≡ names_of schemas ++ s.name ∷ []
+pub schemas_push : (schemas : List Schema) (s : Schema) → schema_names (schemas ++ s ∷ []) ≡ schema_names schemas ++ s.name ∷ []
 schemas_push schemas s = map_push (λ s. s.name) schemas s
 
 pub same_lengths : (predicates : List Predicate) → length (arities_of predicates) ≡ length (predicate_names predicates)

@@ -1,8 +1,9 @@
--- Actions.
-use Rattle.std.specs.Prelude.{ℕ, List, [], ◌∷◌, ◌++◌, map, Option, Some, None, is_none, Result, Ok, Err, if◌then◌else◌, not, codes}
+-- Actions (`<action-def>` of the grammar of PDDL 2.1: Fox and Long 2003, appendix A).
+use Rattle.std.specs.Prelude.{ℕ, List, [], ◌∷◌, ◌++◌, Option, Some, None, is_none, Result, Ok, Err, if◌then◌else◌, not, codes}
 use Rattle.std.specs.Str.{bytes_eq}
 use Rattle.pd_sexp.specs.Tree.{Tree, word, list, Trees, no_trees, and_tree}
 use Rattle.pd_model.specs.declared.schemas.Schema.{Schema}
+use Rattle.pd_model.specs.Names.{schema_names}
 use Rattle.pd_words.specs.declared.fault.Fault.{Fault}
 use Rattle.pd_words.specs.declared.fault.Fault.TheVariants.{Shape, Duplicate}
 use Rattle.pd_words.specs.Words.{is_name}
@@ -69,10 +70,6 @@ abbrev pub name_at : Tree → Result (List ℕ) Fault
 name_at (list at items) = Err (Shape at)
 name_at (word at text) = wants (is_name text) (Shape at) >>= λ _. Ok text
 
--- the names of the actions
-abbrev pub names_of : List Schema → List (List ℕ)
-names_of schemas = map (λ s. s.name) schemas
-
 -- What the parts of an action of this name say: its parameters, its precondition, then its effect.
 abbrev pub schema : List (List ℕ) → Names → List ℕ → Keys → Result Schema Fault
 schema types names name keys = do
@@ -87,7 +84,7 @@ abbrev pub and_action : List (List ℕ) → Names → List Schema → ℕ → Tr
 and_action types names before at no_trees = Err (Shape at)
 and_action types names before at (and_tree title rest) = do
   name ← name_at title
-  _ ← wants (not (is_among name (names_of before))) (Duplicate (place_of title))
+  _ ← wants (not (is_among name (schema_names before))) (Duplicate (place_of title))
   keys ← keys_from at no_keys rest
   new ← schema types names name keys
   Ok (before ++ new ∷ [])

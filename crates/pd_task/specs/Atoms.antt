@@ -1,4 +1,4 @@
--- Terms, atoms and conditions.
+-- Terms, atoms and conditions (`<GD>` of the grammar of PDDL 2.1: Fox and Long 2003, appendix A).
 use Rattle.std.specs.Prelude.{ℕ, suc, ◌==◌, Bool, true, false, List, [], ◌∷◌, ◌++◌, Option, Some, None, option_map, Result, Ok, Err, if◌then◌else◌, slice_index}
 use Rattle.pd_sexp.specs.Tree.{Tree, word, list, Trees, no_trees, and_tree}
 use Rattle.pd_model.specs.declared.atoms.Term.{Term}

@@ -1,6 +1,8 @@
--- Constants, objects, predicates and the initial state.
-use Rattle.std.specs.Prelude.{ℕ, ◌==◌, Bool, true, false, List, [], ◌∷◌, ◌++◌, map, Option, Some, None, Result, Ok, Err, not, slice_index}
+-- Constants, objects, predicates and the initial state (`<constants-def>`, `<object declaration>`,
+-- `<predicates-def>` and `<init>` of the grammar of PDDL 2.1: Fox and Long 2003, appendix A).
+use Rattle.std.specs.Prelude.{ℕ, ◌==◌, Bool, true, false, List, [], ◌∷◌, ◌++◌, Option, Some, None, Result, Ok, Err, not, slice_index}
 use Rattle.pd_sexp.specs.Tree.{Tree, word, list, Trees, no_trees, and_tree}
+use Rattle.pd_model.specs.Names.{object_names, predicate_names, arities_of}
 use Rattle.pd_model.specs.Types.{kinds_of}
 use Rattle.pd_model.specs.declared.objects.ObjectDecl.{ObjectDecl}
 use Rattle.pd_model.specs.declared.predicates.Predicate.{Predicate}
@@ -19,10 +21,6 @@ use Rattle.pd_task.specs.Effects.{place_of}
 use Rattle.pd_task.specs.Action.{name_at}
 
 -- ---- objects
-
--- the names of the objects, by number
-abbrev pub object_names : List ObjectDecl → List (List ℕ)
-object_names objects = map (λ o. o.name) objects
 
 -- an object has a name; whether it is declared already is asked with its type
 abbrev pub admit_object : List ObjectDecl → Named → Result (List ObjectDecl) Fault
@@ -48,14 +46,6 @@ abbrev pub and_objects : List (List ℕ) → List ObjectDecl → Trees → Resul
 and_objects types objects items = objects_from types objects [] items
 
 -- ---- predicates
-
--- the names of the predicates, by number
-abbrev pub predicate_names : List Predicate → List (List ℕ)
-predicate_names predicates = map (λ p. p.name) predicates
-
--- the numbers of arguments of the predicates, by number
-abbrev pub arities_of : List Predicate → List ℕ
-arities_of predicates = map (λ p. p.arity) predicates
 
 -- whether the word is no reserved head
 abbrev pub is_free : Keyword → Bool

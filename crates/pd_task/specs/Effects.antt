@@ -1,4 +1,4 @@
--- Effects.
+-- Effects (`<effect>` of the grammar of PDDL 2.1: Fox and Long 2003, appendix A).
 use Rattle.std.specs.Prelude.{ℕ, Bool, true, false, List, [], ◌∷◌, ◌++◌, Result, Ok, Err}
 use Rattle.pd_sexp.specs.Tree.{Tree, word, list, Trees, no_trees, and_tree}
 use Rattle.pd_model.specs.declared.conds.Cond.{Cond}

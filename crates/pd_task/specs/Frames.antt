@@ -1,4 +1,5 @@
--- The frames of files: `(define (domain NAME) section ..)` and `(define (problem NAME) section ..)`.
+-- The frames of files (`<domain>` and `<problem>` of the grammar of PDDL 2.1: Fox and Long 2003, appendix A):
+-- `(define (domain NAME) section ..)` and `(define (problem NAME) section ..)`.
 use Rattle.std.specs.Prelude.{ℕ, List, [], ◌∷◌, ◌++◌, Option, Some, None, is_some, Result, Ok, Err, if◌then◌else◌, not, codes}
 use Rattle.std.specs.Str.{bytes_eq}
 use Rattle.pd_sexp.specs.Tree.{Tree, word, list, Trees, no_trees, and_tree}

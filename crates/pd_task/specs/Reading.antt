@@ -1,7 +1,7 @@
 -- The task that a domain and a problem say, or the first cause for which they say none. The passes run in
 -- this order: the domain's frame, types, constants, predicates and actions, then the problem's frame,
 -- objects, initial state and goal.
-use Rattle.std.specs.Prelude.{ℕ, List, [], map, Option, Some, None, Result, Ok, Err, codes}
+use Rattle.std.specs.Prelude.{ℕ, List, [], Option, Some, None, Result, Ok, Err, codes}
 use Rattle.pd_sexp.specs.Tree.{Tree, Trees, no_trees, and_tree}
 use Rattle.pd_model.specs.declared.memory.Which.{Which}
 use Rattle.pd_model.specs.declared.memory.Which.TheVariants.{Domain, Problem}
@@ -11,6 +11,7 @@ use Rattle.pd_model.specs.declared.predicates.Predicate.{Predicate}
 use Rattle.pd_model.specs.declared.conds.Cond.{Cond}
 use Rattle.pd_model.specs.declared.schemas.Schema.{Schema}
 use Rattle.pd_model.specs.declared.parts.Parts.{Parts}
+use Rattle.pd_model.specs.Names.{type_names, predicate_names, arities_of, object_names}
 use Rattle.pd_words.specs.declared.fault.Fault.{Fault}
 use Rattle.pd_words.specs.declared.fault.Fault.TheVariants as faults
 use Rattle.pd_words.specs.Types.{types}
@@ -21,7 +22,7 @@ use Rattle.pd_task.specs.Atoms.{Names, condition}
 use Rattle.pd_task.specs.Effects.{no_more}
 use Rattle.pd_task.specs.Action.{and_action}
 use Rattle.pd_task.specs.Frames.{domain_frame, problem_frame, section_with, find_section, items_under}
-use Rattle.pd_task.specs.Declarations.{object_names, predicate_names, arities_of, and_objects, and_predicate, and_init}
+use Rattle.pd_task.specs.Declarations.{and_objects, and_predicate, and_init}
 
 -- what a domain declares
 pub record DomainParts : Type 0 where
@@ -29,10 +30,6 @@ pub record DomainParts : Type 0 where
   pub constants : List ObjectDecl
   pub predicates : List Predicate
   pub schemas : List Schema
-
--- the names of the types, by number
-abbrev pub type_names : List TypeDecl → List (List ℕ)
-type_names ts = map (λ t. t.name) ts
 
 -- what names stand for outside actions
 abbrev pub names_in : List Predicate → List ObjectDecl → Names

@@ -3,6 +3,7 @@ ghost use Rattle.std.specs.Prelude.{◌≡◌, ◌++◌, ◌∷◌, [], List, �
 ghost use Rattle.pd_words.specs.Names.{number_of};
 ghost use Rattle.pd_words.specs.declared.fault.ReadError.TheVariants as errors;
 ghost use Rattle.pd_sexp.specs.View.{view, views};
+ghost use Rattle.pd_model.specs.Names.{schema_names};
 ghost use Rattle.pd_words.specs.Typed as typed;
 ghost use Rattle.pd_words.specs.First.{Gives, GivesAs, Leaves};
 ghost use Rattle.pd_task.specs.Atoms.{condition};
@@ -180,11 +181,11 @@ fn push_action(
     name: &Name,
     schema: Schema,
 ) -> Result<(), ReadError>
-    requires names { names.old ≡ action.names_of schemas.old.items }
+    requires names { names.old ≡ schema_names schemas.old.items }
     requires new { number_of name.now names.old ≡ None }
     requires named { schema.name ≡ name.now }
     ensures added { OnOk result (schemas.new.items ≡ schemas.old.items ++ schema ∷ []) }
-    ensures names { OnOk result (names.new ≡ action.names_of schemas.new.items) }
+    ensures names { OnOk result (names.new ≡ schema_names schemas.new.items) }
     ensures memory { IfErr result (λ e. e ≡ errors.Memory) }
 {
     names.add(alloc, name)?;
@@ -202,9 +203,9 @@ pub fn read_action(
     at: u32,
     items: &[Tree],
 ) -> Result<(), ReadError>
-    requires { names.old ≡ action.names_of schemas.old.items }
+    requires { names.old ≡ schema_names schemas.old.items }
     ensures action { Leaves (action.and_action vocabulary.now.types.now (names_with vocabulary.now []) schemas.old.items at (views items.now)) schemas.new.items result }
-    ensures names { OnOk result (names.new ≡ action.names_of schemas.new.items) }
+    ensures names { OnOk result (names.new ≡ schema_names schemas.new.items) }
 {
     let Some((title, rest)) = items.split_first() else {
         return Err(ReadError::Fault(Fault::Shape(at)));

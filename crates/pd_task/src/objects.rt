@@ -1,11 +1,11 @@
 // Constants and objects.
 ghost use Rattle.std.specs.Prelude.{◌≡◌, ◌++◌, ◌∷◌, [], List, ℕ, length, map, OnOk};
 ghost use Rattle.pd_sexp.specs.View.{view, views};
+ghost use Rattle.pd_model.specs.Names.{object_names};
 ghost use Rattle.pd_words.specs.First.{Gives, Leaves};
 ghost use Rattle.pd_words.specs.Names.{number_of};
 ghost use Rattle.pd_words.specs.declared.named.Named.{Named};
 ghost use Rattle.pd_task.specs.Declarations as declarations;
-ghost use Rattle.pd_task.specs.Declarations.{object_names};
 
 use pd_model::ObjectDecl;
 use pd_sexp::Tree;

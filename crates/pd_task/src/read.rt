@@ -1,10 +1,9 @@
 // The passes of a domain and of a problem.
 ghost use Rattle.std.specs.Prelude.{◌≡◌, ◌++◌, ◌∷◌, [], codes, map, OnOk, IfOk, IfErr};
 ghost use Rattle.pd_sexp.specs.View.{view, views};
+ghost use Rattle.pd_model.specs.Names.{type_names, predicate_names, arities_of, object_names, schema_names};
 ghost use Rattle.pd_words.specs.First.{Gives, GivesAs, Leaves, each};
-ghost use Rattle.pd_task.specs.Action as action;
 ghost use Rattle.pd_task.specs.Frames as frames;
-ghost use Rattle.pd_task.specs.Declarations as declarations;
 ghost use Rattle.pd_task.specs.Reading as reading;
 ghost use Rattle.pd_task.specs.Scope.{names_with};
 ghost use Rattle.pd_task.specs.Tables.{domain_of};
@@ -33,9 +32,9 @@ fn read_section(
     schemas: &mut Vec<Schema>,
     section: &Tree,
 ) -> Result<(), ReadError>
-    requires { names.old ≡ action.names_of schemas.old.items }
+    requires { names.old ≡ schema_names schemas.old.items }
     ensures action { Leaves (reading.and_section vocabulary.now.types.now (names_with vocabulary.now []) schemas.old.items (view section.now)) schemas.new.items result }
-    ensures names { OnOk result (names.new ≡ action.names_of schemas.new.items) }
+    ensures names { OnOk result (names.new ≡ schema_names schemas.new.items) }
 {
     match section_with(":action", section) {
         None => Ok(()),
@@ -73,10 +72,10 @@ pub struct DomainTables {
 #[tactic(auto, using(crate::proofs::ObjectLemmas::same_lengths))]
 pub fn read_domain(alloc: Global, tree: &Tree) -> Result<DomainTables, ReadError>
     ensures domain { GivesAs domain_of (reading.domain_parts (view tree.now)) result }
-    ensures types { IfOk result (λ d. d.types.names ≡ reading.type_names d.types.decls) }
-    ensures objects { IfOk result (λ d. d.object_names ≡ declarations.object_names d.constants.items) }
-    ensures predicates { IfOk result (λ d. d.predicates.names ≡ declarations.predicate_names d.predicates.decls.items) }
-    ensures arities { IfOk result (λ d. d.predicates.arities.items ≡ declarations.arities_of d.predicates.decls.items) }
+    ensures types { IfOk result (λ d. d.types.names ≡ type_names d.types.decls) }
+    ensures objects { IfOk result (λ d. d.object_names ≡ object_names d.constants.items) }
+    ensures predicates { IfOk result (λ d. d.predicates.names ≡ predicate_names d.predicates.decls.items) }
+    ensures arities { IfOk result (λ d. d.predicates.arities.items ≡ arities_of d.predicates.decls.items) }
 {
     let sections = read_domain_frame(alloc, tree)?;
     let types = read_types(alloc, items_under(":types", sections))?;
@@ -126,10 +125,10 @@ fn read_goal(alloc: Global, vocabulary: &Vocabulary, sections: &[Tree]) -> Resul
 /// Reads a problem of a domain, pass by pass.
 #[tactic(auto, using(crate::proofs::ObjectLemmas::same_lengths))]
 pub fn read_problem(alloc: Global, domain: DomainTables, tree: &Tree) -> Result<Parts, ReadError>
-    requires types { domain.types.names ≡ reading.type_names domain.types.decls }
-    requires objects { domain.object_names ≡ declarations.object_names domain.constants.items }
-    requires predicates { domain.predicates.names ≡ declarations.predicate_names domain.predicates.decls.items }
-    requires arities { domain.predicates.arities.items ≡ declarations.arities_of domain.predicates.decls.items }
+    requires types { domain.types.names ≡ type_names domain.types.decls }
+    requires objects { domain.object_names ≡ object_names domain.constants.items }
+    requires predicates { domain.predicates.names ≡ predicate_names domain.predicates.decls.items }
+    requires arities { domain.predicates.arities.items ≡ arities_of domain.predicates.decls.items }
     ensures { Gives (reading.problem_parts (domain_of domain) (view tree.now)) result }
 {
     let DomainTables {

@@ -1,6 +1,9 @@
-// Worked rows: refusals with their places, and two tasks that are read.
-use crate::{PddlError, Which, read_pddl};
+// Small domains and problems: the first cause with its place, or the task. `proofs/Rows.antt` computes the
+// definitions on the same rows.
+use crate::{Pddl, PddlError, Term, read_pddl};
 use pd_sexp::read_tree;
+use std::alloc::{AllocError, Global};
+use std::process::Abort;
 use std::test::Fail;
 
 const LAMP: &str =
@@ -14,57 +17,154 @@ const CASE: &str =
 const CASE_PROBLEM: &str =
     "(define (problem p) (:objects home office - location d - item) (:init (at-case home)) (:goal (at-case office)))";
 
-const FILE: Which = Which::Domain;
+const CONSTANT: &str = "(define (domain d) (:predicates (p ?x)) (:constants c))";
+
+const NO_GOALS: &str = "(define (problem p) (:goal ()))";
+
+const HIDING: &str =
+    "(define (domain m) (:types a - b) (:predicates (p ?x)) (:action f :parameters (?x - a) :effect (forall (?x - b) (when (p ?x) (not (p ?x))))))";
+
+// The task, or nothing with the first cause as `shape Domain 19`; `no file` where a text is none.
+fn read(
+    alloc: Global,
+    domain: &str,
+    problem: &str,
+    cause: &mut String,
+) -> Result<Option<Pddl>, AllocError> {
+    if domain.len() > 1048576 || problem.len() > 1048576 {
+        return Ok(None);
+    }
+    let (Ok(first), Ok(second)) = (
+        read_tree(alloc, domain.as_bytes()),
+        read_tree(alloc, problem.as_bytes()),
+    ) else {
+        cause.push_str("no file")?;
+        return Ok(None);
+    };
+    match read_pddl(alloc, &first, &second) {
+        Ok(task) => return Ok(Some(task)),
+        Err(PddlError::Shape { file, at }) => write!(cause, "shape {file:?} {at}")?,
+        Err(PddlError::Unknown { file, at }) => write!(cause, "unknown {file:?} {at}")?,
+        Err(PddlError::Arity { file, at }) => write!(cause, "arity {file:?} {at}")?,
+        Err(PddlError::Duplicate { file, at }) => write!(cause, "duplicate {file:?} {at}")?,
+        Err(PddlError::Unsupported { file, at }) => write!(cause, "unsupported {file:?} {at}")?,
+        Err(PddlError::Memory) => write!(cause, "memory")?,
+    }
+    Ok(None)
+}
+
+fn compare(
+    rt: &(impl AllocGlobal + Abort),
+    domain: &str,
+    problem: &str,
+    wanted: &str,
+) -> Result<(), AllocError> {
+    let mut cause = String::new(rt.alloc());
+    let task = read(rt.alloc(), domain, problem, &mut cause)?;
+    assert_eq!(rt; task.is_none(), wanted != "", "at {domain} {problem}");
+    assert_eq!(rt; cause.as_str(), wanted, "at {domain} {problem}");
+    Ok(())
+}
 
 #[test]
-fn tells_the_first_cause(rt: HostRuntime) -> Result<(), Fail> {
+fn domains(rt: HostRuntime) -> Result<(), Fail> {
     let rows = [
-        (LAMP, LAMP_PROBLEM, None),
-        (CASE, CASE_PROBLEM, None),
+        ("(define (domain d) (:foo))", "shape Domain 19"),
         (
             "(define (domain d) (:types x - (either a b)))",
-            LAMP_PROBLEM,
-            Some(PddlError::Unsupported { file: FILE, at: 31 }),
+            "unsupported Domain 31",
         ),
         (
             "(define (domain d) (:predicates (p ?x)) (:action a :effect (q)))",
-            LAMP_PROBLEM,
-            Some(PddlError::Unknown { file: FILE, at: 60 }),
+            "unknown Domain 60",
         ),
         (
             "(define (domain d) (:predicates (p ?x)) (:action a :effect (p)))",
-            LAMP_PROBLEM,
-            Some(PddlError::Arity { file: FILE, at: 59 }),
+            "arity Domain 59",
         ),
         (
             "(define (domain d) (:action a) (:action a))",
-            LAMP_PROBLEM,
-            Some(PddlError::Duplicate { file: FILE, at: 40 }),
+            "duplicate Domain 40",
         ),
         (
-            "(define (domain d) (:foo))",
-            LAMP_PROBLEM,
-            Some(PddlError::Shape { file: FILE, at: 19 }),
+            "(define (domain d) (:action a :effect (nope)) (:predicates (and)))",
+            "shape Domain 60",
+        ),
+        ("(define (domain d) (:types ok a - a))", "shape Domain 27"),
+        (
+            "(define (domain d) (:types t) (:constants x - t y x))",
+            "duplicate Domain 50",
         ),
         (
-            LAMP,
-            "(define (problem x) (:goal (or)))",
-            Some(PddlError::Unsupported {
-                file: Which::Problem,
-                at: 27,
-            }),
+            "(define (domain d) (:types t) (:constants x - t x - u))",
+            "unknown Domain 52",
         ),
+        (HIDING, ""),
     ];
-    for (domain, problem, want) in rows {
-        assert!(rt; domain.len() <= 1048576);
-        assert!(rt; problem.len() <= 1048576);
-        let first = read_tree(rt.alloc(), domain.as_bytes())?;
-        let second = read_tree(rt.alloc(), problem.as_bytes())?;
-        let answer = match read_pddl(rt.alloc(), &first, &second) {
-            Ok(_) => None,
-            Err(error) => Some(error),
-        };
-        assert_eq!(rt; answer, want, "at {domain}");
+    for (domain, wanted) in rows {
+        compare(&rt, domain, NO_GOALS, wanted)?;
+    }
+    Ok(())
+}
+
+#[test]
+fn problems(rt: HostRuntime) -> Result<(), Fail> {
+    let rows = [
+        ("(define (problem x))", "shape Problem 0"),
+        (
+            "(define (problem x) (:goal (or)))",
+            "unsupported Problem 27",
+        ),
+        ("(define (problem x) (:goal (q)))", "unknown Problem 28"),
+        ("(define (problem x) (:goal (p ?x)))", "unknown Problem 30"),
+        ("(define (problem x) (:goal (p)))", "arity Problem 27"),
+        (
+            "(define (problem x) (:goal ()) (:goal ()))",
+            "duplicate Problem 31",
+        ),
+        (
+            "(define (problem x) (:init (not (= c c))) (:goal ()))",
+            "unsupported Problem 32",
+        ),
+        (
+            "(define (problem x) (:goal (r)) (:init q))",
+            "shape Problem 39",
+        ),
+        (NO_GOALS, ""),
+    ];
+    for (problem, wanted) in rows {
+        compare(&rt, CONSTANT, problem, wanted)?;
+    }
+    compare(&rt, LAMP, LAMP_PROBLEM, "")?;
+    compare(&rt, CASE, CASE_PROBLEM, "")?;
+    Ok(())
+}
+
+// The variable of the `forall` has the number after the parameter's, and hides it.
+#[test]
+fn hides_the_outer_variable(rt: HostRuntime) -> Result<(), Fail> {
+    let mut cause = String::new(rt.alloc());
+    let Some(task) = read(rt.alloc(), HIDING, NO_GOALS, &mut cause)? else {
+        assert!(rt; false);
+        return Ok(());
+    };
+    for (i, parent) in [0, 2, 0].iter().enumerate() {
+        assert!(rt; i < task.types().as_slice().len());
+        assert_eq!(rt; task.types().as_slice()[i].parent, *parent);
+    }
+    assert_eq!(rt; task.schemas().as_slice().len(), 1);
+    for schema in task.schemas().as_slice() {
+        assert_eq!(rt; schema.effects.as_slice().len(), 1);
+        assert_eq!(rt; schema.parameters.as_slice(), [1].as_slice());
+        for effect in schema.effects.as_slice() {
+            assert_eq!(rt; effect.over.as_slice(), [2].as_slice());
+            assert_eq!(rt; effect.cond.as_slice().len(), 1);
+            assert_eq!(rt;
+                effect.atom.terms.as_slice(),
+                [Term::Variable(1)].as_slice()
+            );
+            assert!(rt; !effect.adds);
+        }
     }
     Ok(())
 }

@@ -1,4 +1,5 @@
--- Typed lists: `- t` gives the type t to all words since the last type.
+-- Typed lists (`<typed list>` of the grammar of PDDL 2.1: Fox and Long 2003, appendix A): `- t` gives the
+-- type t to all words since the last type.
 use Rattle.std.specs.Prelude.{ℕ, suc, ◌==◌, Bool, false, List, [], ◌∷◌, ◌++◌, Result, Ok, Err, if◌then◌else◌, not, codes, length, replicate}
 use Rattle.std.specs.Str.{bytes_eq}
 use Rattle.pd_sexp.specs.Tree.{Tree, word, list, Trees, no_trees, and_tree}

@@ -1,4 +1,4 @@
--- The types of a domain.
+-- The types of a domain (`<types-def>` of the grammar of PDDL 2.1: Fox and Long 2003, appendix A).
 use Rattle.std.specs.List.{range_with_len}
 use Rattle.std.specs.Prelude.{◌≡◌, ◌<◌, ◌+◌, length, ℕ, zero, suc, slice_index, List, [], ◌∷◌, ◌++◌, map, Bool, Result, Ok, if◌then◌else◌, not, codes, unwrap_or}
 use Rattle.std.specs.Str.{bytes_eq}

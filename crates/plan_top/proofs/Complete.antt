@@ -77,7 +77,7 @@ module _ (told : List ℕ → Option (List ℕ)) (lacks : List ℕ → Bool) (ol
   no_stop file name bytes end is fits quiet (inr h) = absurd (let long = at_some (λ (b : List ℕ). most_bytes < length b) (told name) bytes is h.1.1 in omega arith)
 
   module _ (words : List (List ℕ)) where
-    plan_complete : (w : GoesWell words told old new) (end : Ending) → Comes told lacks old new words end → IsAmong (0 ∷ 1 ∷ 8 ∷ []) (status_of end)
+    pub plan_complete : (w : GoesWell words told old new) (end : Ending) → Comes told lacks old new words end → IsAmong (0 ∷ 1 ∷ 8 ∷ []) (status_of end)
     plan_complete w end (no_command e none) = absurd (none.no_plan w.domain w.problem w.named)
     plan_complete w end (of_check d p l named h) = not_both words told lacks old new w.domain w.problem d p l w.named named
     plan_complete w end (of_plan d p named (inl (inl stops))) = absurd (
@@ -95,7 +95,7 @@ module _ (told : List ℕ → Option (List ℕ)) (lacks : List ℕ → Bool) (ol
         let second = at_some (λ (s : List ℕ). DecidesPlan w.first s end) (told p) w.second (ap told two ∙ w.second_told) first in
         plan_status w.first w.second w.task end w.are_task second
 
-    check_complete : (w : ChecksWell words told old new) (end : Ending) → Comes told lacks old new words end → IsAmong (0 ∷ 1 ∷ 8 ∷ []) (status_of end)
+    pub check_complete : (w : ChecksWell words told old new) (end : Ending) → Comes told lacks old new words end → IsAmong (0 ∷ 1 ∷ 8 ∷ []) (status_of end)
     check_complete w end (no_command e none) = absurd (none.no_check w.domain w.problem w.plan_name w.named)
     check_complete w end (of_plan d p named h) = not_both words told lacks old new d p w.domain w.problem w.plan_name named w.named
     check_complete w end (of_check d p l named (inl (inl stops))) = absurd (
@@ -117,12 +117,6 @@ module _ (told : List ℕ → Option (List ℕ)) (lacks : List ℕ → Bool) (ol
         let second = at_some (λ (s : List ℕ). IfSome (told l) (λ t. DecidesCheck w.first s t end)) (told p) w.second (ap told two ∙ w.second_told) first in
         let third = at_some (λ (t : List ℕ). DecidesCheck w.first w.second t end) (told l) w.third (ap told three ∙ w.third_told) second in
         check_status w.first w.second w.third w.task w.calls end w.are_task w.are_calls third
-
-    pub complete : GoesWell words told old new → (end : Ending) → Comes told lacks old new words end → IsAmong (0 ∷ 1 ∷ 8 ∷ []) (status_of end)
-    complete = plan_complete
-
-    pub complete_check : ChecksWell words told old new → (end : Ending) → Comes told lacks old new words end → IsAmong (0 ∷ 1 ∷ 8 ∷ []) (status_of end)
-    complete_check = check_complete
 
     pub not_taken : IsNoCommand words → (end : Ending) → Comes told lacks old new words end → IsAmong (6 ∷ 7 ∷ 8 ∷ []) (status_of end)
     not_taken none end (no_command e nothing) = rw e (inr (inl refl))

@@ -25,12 +25,9 @@ use Rattle.plan_top.specs.Lines.{Says}
 use Rattle.plan_top.specs.Headline.{Printed, OfFiles, OfTask, PlanRuns, NoStepPlan, NoPlan, CallsRun}
 use Rattle.plan_top.specs.Words as words
 use Rattle.plan_top.proofs.Printed.{says_refuted, printed_is, nothing_printed}
+use Rattle.plan_top.proofs.Verdicts.{on_test}
 
 -- ---- plans
-
-on_test : (t : Bool) → (if t then verdicts.Reaches else verdicts.Short) ≡ verdicts.Reaches → IsTrue t
-on_test true h = refl
-on_test false h = cc
 
 -- calls that come to reach the goal are a plan
 reaches_is_plan : (p : Parts) (index : ℕ) (s : List Atom) (calls : List Call) → verdict_from p index s calls ≡ verdicts.Reaches → IsTrue (meets_goal p (exec_all p s calls))

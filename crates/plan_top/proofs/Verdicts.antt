@@ -15,8 +15,8 @@ use Rattle.plan_top.specs.Causes.{HoldsAtFirst, ChecksCalls, no_calls}
 use Rattle.plan_top.specs.Ends.{Answers}
 use Rattle.plan_top.specs.PlanStop.{stop_of}
 
--- whether the goal holds at first, by what no calls come to
-on_test : (t : Bool) → (if t then Reaches else Short) ≡ Reaches → IsTrue t
+-- what is tested holds where the goal is reached by it
+pub on_test : (t : Bool) → (if t then Reaches else Short) ≡ Reaches → IsTrue t
 on_test true h = refl
 on_test false h = cc
 

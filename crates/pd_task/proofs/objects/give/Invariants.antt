@@ -1,6 +1,7 @@
 use Rattle.std.proofs.Common.{◌≡◌, drop}
-use Rattle.pd_task.specs.Declarations.{give_objects, object_names}
+use Rattle.pd_task.specs.Declarations.{give_objects}
 use Rattle.pd_task.proofs.objects.give.Given as goal
+use Rattle.pd_model.specs.Names.{object_names}
 
 abbrev pub invariant-loop-word : goal.invariant-loop-word
 invariant-loop-word l =

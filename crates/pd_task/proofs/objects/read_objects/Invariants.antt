@@ -1,6 +1,7 @@
 use Rattle.std.proofs.Common.{◌≡◌, length}
 use Rattle.pd_sexp.specs.View.{views}
-use Rattle.pd_task.specs.Declarations.{and_objects, objects_from, object_names}
+use Rattle.pd_model.specs.Names.{object_names}
+use Rattle.pd_task.specs.Declarations.{and_objects, objects_from}
 use Rattle.pd_task.proofs.objects.read_objects.Given as goal
 
 abbrev pub invariant-loop-item : goal.invariant-loop-item

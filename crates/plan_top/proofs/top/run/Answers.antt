@@ -2,7 +2,7 @@ use Rattle.std.proofs.Common.{codes, map, string_bytes, sym, ◌∙◌}
 use Rattle.plan_top.specs.Causes.{Comes}
 use Rattle.plan_top.proofs.Stopped.{ending_answers}
 use Rattle.plan_top.proofs.Headlines.{plan_runs, refuted_steps, refuted_plans, reached, unnamed, nothing_said}
-use Rattle.plan_top.proofs.Complete.{complete, complete_check, not_taken}
+use Rattle.plan_top.proofs.Complete.{plan_complete, check_complete, not_taken}
 use Rattle.plan_top.proofs.top.run.Goals as goal
 
 pub returns-in_default-clause-refuted_steps : goal.returns-in_default-clause-refuted_steps
@@ -74,9 +74,9 @@ returns-clause-not_taken g c none =
 pub returns-clause-complete : goal.returns-clause-complete
 returns-clause-complete g c well quiet =
     let comes = ending_answers (Comes (g.S.Shelf.told c.args.shelf.now) (g.S.Shelf.lacks c.args.shelf.now) (g.S.Shelf.failed c.args.shelf.now) (g.S.Shelf.failed c.decide.new.shelf) (map string_bytes c.args.words.now)) c.decide.result c.in-Some.ending c.decide.ensures.cause c.in-Some.ensures in
-    rw c.status.ensures (complete (g.S.Shelf.told c.args.shelf.now) (g.S.Shelf.lacks c.args.shelf.now) (g.S.Shelf.failed c.args.shelf.now) (g.S.Shelf.failed c.decide.new.shelf) (map string_bytes c.args.words.now) well c.in-Some.ending comes)
+    rw c.status.ensures (plan_complete (g.S.Shelf.told c.args.shelf.now) (g.S.Shelf.lacks c.args.shelf.now) (g.S.Shelf.failed c.args.shelf.now) (g.S.Shelf.failed c.decide.new.shelf) (map string_bytes c.args.words.now) well c.in-Some.ending comes)
 
 pub returns-clause-complete_check : goal.returns-clause-complete_check
 returns-clause-complete_check g c well quiet =
     let comes = ending_answers (Comes (g.S.Shelf.told c.args.shelf.now) (g.S.Shelf.lacks c.args.shelf.now) (g.S.Shelf.failed c.args.shelf.now) (g.S.Shelf.failed c.decide.new.shelf) (map string_bytes c.args.words.now)) c.decide.result c.in-Some.ending c.decide.ensures.cause c.in-Some.ensures in
-    rw c.status.ensures (complete_check (g.S.Shelf.told c.args.shelf.now) (g.S.Shelf.lacks c.args.shelf.now) (g.S.Shelf.failed c.args.shelf.now) (g.S.Shelf.failed c.decide.new.shelf) (map string_bytes c.args.words.now) well c.in-Some.ending comes)
+    rw c.status.ensures (check_complete (g.S.Shelf.told c.args.shelf.now) (g.S.Shelf.lacks c.args.shelf.now) (g.S.Shelf.failed c.args.shelf.now) (g.S.Shelf.failed c.decide.new.shelf) (map string_bytes c.args.words.now) well c.in-Some.ending comes)
