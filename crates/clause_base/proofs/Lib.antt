@@ -1,0 +1,5 @@
+pub mod ClauseLemmas
+pub mod Rising
+pub mod Neighbours
+pub mod Refutation
+pub mod WorkedRows

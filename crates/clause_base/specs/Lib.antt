@@ -1,0 +1,6 @@
+pub mod Literal
+pub mod Clause
+pub mod Formula
+pub mod Derivation
+pub mod Choice
+pub mod ChoiceLaw

@@ -1,0 +1,105 @@
+ghost use Rattle.std.specs.Prelude.{◌≡◌, ◌∷◌, [], ◌++◌, List, ℕ, OnOk, OnErr};
+
+use crate::clause::Clause;
+use crate::memory::Memory;
+use std::alloc::Global;
+use std::marker::Model;
+
+/// A list of numbers of clauses. The clauses of a formula are numbered from 0, and those of a log's entries go on from there.
+#[derive(Debug, Drop)]
+pub struct Hints {
+    items: Vec<u32>,
+}
+
+impl Model for Hints {
+    ghost Value = { List ℕ };
+
+    ghost view = { λ h. h.items.items };
+}
+
+impl Hints {
+    /// The list of these numbers. It takes no memory.
+    pub fn of(items: Vec<u32>) -> Hints
+        ensures { result ≡ items.items }
+    {
+        Hints { items }
+    }
+
+    /// The numbers as a vector. It takes no memory.
+    pub fn into_vec(self) -> Vec<u32>
+        ensures { result.items ≡ self }
+    {
+        self.items
+    }
+
+    /// The numbers.
+    pub fn as_slice(&self) -> &[u32]
+        ensures { result.now ≡ self.now }
+    {
+        self.items.as_slice()
+    }
+}
+
+/// A learned clause, with the numbers of the clauses that it is learned from, in the order in which they force a literal;
+/// the last one is the clause that is then false.
+#[derive(Debug, Drop)]
+pub struct Entry {
+    pub clause: Clause,
+    pub hints: Hints,
+}
+
+/// A list of entries, each learned from a formula and the entries before it.
+#[derive(Debug, Drop)]
+pub struct Log {
+    entries: Vec<Entry>,
+}
+
+impl Model for Log {
+    ghost use Rattle.std.specs.Prelude.{List};
+    ghost use Rattle.clause_base.specs.declared.log.Entry.{Entry};
+
+    ghost Value = { List Entry };
+
+    ghost view = { λ l. l.entries.items };
+}
+
+impl Log {
+    /// The log without entries. It takes no memory, and keeps the allocator for the entries to come.
+    pub fn new(alloc: Global) -> Log
+        ensures { result ≡ [] }
+    {
+        Log {
+            entries: Vec::new(alloc),
+        }
+    }
+
+    /// The log of these entries. It takes no memory.
+    pub fn of(entries: Vec<Entry>) -> Log
+        ensures { result ≡ entries.items }
+    {
+        Log { entries }
+    }
+
+    /// The entries as a vector. It takes no memory.
+    pub fn into_vec(self) -> Vec<Entry>
+        ensures { result.items ≡ self }
+    {
+        self.entries
+    }
+
+    /// The entries.
+    pub fn as_slice(&self) -> &[Entry]
+        ensures { result.now ≡ self.now }
+    {
+        self.entries.as_slice()
+    }
+
+    /// Adds an entry at the end. After want of memory the log is unchanged.
+    pub fn push(&mut self, entry: Entry) -> Result<(), Memory>
+        ensures ok { OnOk result (self.new ≡ self.old ++ entry ∷ []) }
+        ensures err { OnErr result (self.new ≡ self.old) }
+    {
+        self.entries.push(entry)?;
+        Ok(())
+    }
+}
