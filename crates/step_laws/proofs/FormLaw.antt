@@ -1,0 +1,156 @@
+use Rattle.std.proofs.Common.{arith, ◌≡◌, ◌==◌, ℕ, zero, suc, ◌+◌, ◌-◌, ◌*◌, ◌/◌, ◌<◌, ◌≤◌, List, [], ◌∷◌, ◌++◌, map, length, Bool, true, false, not, ◌||◌, ◌&&◌, refl, sym, ap, ◌∙◌, subst, if◌then◌else◌}
+use Rattle.std.specs.List.{filter}
+use Rattle.std.proofs.lemmas.Bool.Decides.{nat_tests}
+use Rattle.gt_core.specs.Literal.{holds, all_hold, is_in, range_from}
+use Rattle.gt_core.specs.Task.{Task, effects, precondition, actions_of, initial_state}
+use Rattle.gt_core.specs.Execution.{makes, loses, next_of_one, CanRun, run}
+use Rattle.gt_core.specs.Interference.{disables, Knows}
+use Rattle.gt_core.specs.Step.{gained, lost, IsStep, IsStepPlan}
+use Rattle.gt_core.specs.Published.{Pairwise, order_of, KeepsApart}
+use Rattle.gt_core.specs.Layout.{action_at}
+use Rattle.gt_core.proofs.Basics.{Among, each_at, each_from, any_same, all_same, same_if, apart, same_test}
+use Rattle.gt_core.proofs.Literals.{holds_same, in_among, among_in, among_range}
+use Rattle.gt_core.proofs.Pairwise.{flat_among, filtered, into_filter}
+use Rattle.step_laws.specs.Variables.{layout_of}
+use Rattle.gt_core.proofs.PublishedLaw.{published_keeps_apart, published_all}
+use Rattle.gt_core.proofs.RunLaw.{runs_in_order}
+use Rattle.clause_base.specs.Formula.{Satisfies, IsUnsatisfiable}
+use Rattle.step_laws.specs.Coded.{formula_of}
+use Rattle.step_laws.specs.Form.{Ordered, IsOrdered, set_at, member_at, IsPlanOf, steps_for}
+use Rattle.step_laws.proofs.PlanLaw.{LooseStep, plan_of}
+use Rattle.step_laws.proofs.FormulaLaw.{IsInRange, plan_satisfies, v as of_plan}
+use Rattle.step_laws.proofs.CodedLaw.{encoded, decoded}
+use Rattle.step_laws.proofs.Ranges.{in_range_of, member_below}
+
+-- The two laws of a form: what a satisfying assignment stands for is a step plan, and each step plan is such.
+
+-- states that give each fact one truth
+abbrev pub Agree : Task → (ℕ → Bool) → (ℕ → Bool) → Type 0
+Agree task s u = (f : ℕ) → f < task.facts → s f ≡ u f
+
+module _ (form : Ordered) (is : IsOrdered form) where
+  abbrev task : Task
+  task = form.task
+
+  abbrev order : List ℕ
+  order = order_of form.components
+
+  in_range : IsInRange form.task form.known.clauses form.components
+  in_range = in_range_of form is
+
+  ordered : KeepsApart form.task form.known.clauses form.components
+  ordered = published_keeps_apart form.task form.known.clauses form.components is.published
+
+  placed : (a : ℕ) → a < length form.task.actions → Among a (order_of form.components)
+  placed a lt =
+      published_all form.task form.known.clauses form.components is.published a
+      (among_in (actions_of form.task) a (among_range (length form.task.actions) 0 a (omega arith) (omega arith)))
+
+  -- what stands in the order is an action
+  listed_below : (a : ℕ) → Among a (order_of form.components) → a < length form.task.actions
+  listed_below a i = let r = flat_among (λ ks. ks) form.components a i in member_below form is r.0 r.1 a r.2
+
+  -- a step's members matter only where they stand in the order
+  step_members : (s t : ℕ → Bool) (p q : ℕ → Bool) → ((a : ℕ) → q a ≡ true → p a ≡ true × a < length form.task.actions) → ((a : ℕ) → Among a order → p a ≡ q a) → LooseStep task order s p t → IsStep task order s q t
+  step_members s t p q sub same step = record {
+    runs = λ a x. record { action = (sub a x).1; able = step.runs a (sub a x).0 };
+    no_clash = λ a b f x y. step.no_clash a b f (sub a x).0 (sub b y).0;
+    ordered = weaker order step.ordered;
+    after = λ f lt.
+        let g = any_same (λ e. p e.action && ((e.literal == 2 * f) && all_hold s e.condition)) (λ e. q e.action && ((e.literal == 2 * f) && all_hold s e.condition)) (effects task) (λ e i. ap (λ (b : Bool). b && ((e.literal == 2 * f) && all_hold s e.condition)) (same e.action (placed e.action (in_range.effect_actions e i)))) in
+        let l = any_same (λ e. p e.action && loses task s e.action f) (λ e. q e.action && loses task s e.action f) (effects task) (λ e i. ap (λ (b : Bool). b && loses task s e.action f) (same e.action (placed e.action (in_range.effect_actions e i)))) in
+        step.after f lt ∙ ap (λ (b : Bool). b || (s f && not (lost task s p f))) g ∙ ap (λ (b : Bool). gained task s q f || (s f && not b)) l;
+  }
+    where
+      weaker : (ks : List ℕ) → Pairwise (λ a b. p a ≡ true → p b ≡ true → disables task a b ≡ false) ks → Pairwise (λ a b. q a ≡ true → q b ≡ true → disables task a b ≡ false) ks
+      weaker [] h = tt
+      weaker (k ∷ ks) h = (each_from _ ks (λ b i x y. each_at _ ks b h.0 i (sub k x).0 (sub b y).0), weaker ks h.1)
+
+  set_by : (f : ℕ → List ℕ) (first m t : ℕ) → t < m → set_at (map f (range_from first m)) t ≡ f (first + t)
+  set_by f first zero t lt = absurd (omega arith)
+  set_by f first (suc m) t lt = by (t == 0) refl (λ e. let ne : t ≡ 0 → ⊥ = λ s. apart (t == 0) (same_test t 0 s) e in set_by f (first + 1) m (t - 1) (omega arith))
+    where
+      by : (b : Bool) → (t == 0) ≡ b → (b ≡ false → set_at (map f (range_from (first + 1) m)) (t - 1) ≡ f ((first + 1) + (t - 1))) → (if b then f first else set_at (map f (range_from (first + 1) m)) (t - 1)) ≡ f (first + t)
+      by true e on = let s : first ≡ first + t = grind (arith, nat_tests) in ap f s
+      by false e on =
+          let ne : t ≡ 0 → ⊥ = λ s. apart (t == 0) (same_test t 0 s) e in
+          let s : (first + 1) + (t - 1) ≡ first + t = omega arith in on refl ∙ ap f s
+
+  length_map : (f : ℕ → List ℕ) (first m : ℕ) → length (map f (range_from first m)) ≡ m
+  length_map f first zero = refl
+  length_map f first (suc m) = let h = length_map f (first + 1) m in omega arith
+
+  -- the first law of an encoding: what a satisfying assignment stands for is a plan
+  pub plans : (n : ℕ) (v : ℕ → Bool) → Satisfies v (formula_of form.task form.known.clauses form.components n).clauses → IsPlanOf form n (steps_for form n v)
+  plans n v s =
+      let z = layout_of form.task form.components n in
+      let p = plan_of form.task form.known.clauses form.components n v (in_range_of form is).effect_facts ordered (decoded v _ s) in
+      record {
+        long = length_map (λ t. filter (λ a. v (action_at z t a)) order) 0 n;
+        plan = record {
+          states = p.states;
+          begins = p.begins;
+          reaches = p.reaches;
+          leads = λ t lt.
+              let set : set_at (steps_for form n v) t ≡ filter (λ a. v (action_at z t a)) order = let e : 0 + t ≡ t = omega arith in set_by (λ t. filter (λ a. v (action_at z t a)) order) 0 n t lt ∙ ap (λ (k : ℕ). filter (λ a. v (action_at z k a)) order) e in
+              subst (λ (x : List ℕ). IsStep task order (p.states t) (λ a. is_in x a) (p.states (t + 1))) (sym set)
+              (step_members (p.states t) (p.states (t + 1)) (λ a. v (action_at z t a)) (is_in (filter (λ a. v (action_at z t a)) order))
+              (λ a x. let r = filtered (λ a. v (action_at z t a)) order a (in_among _ a x) in (r.1, listed_below a r.0))
+              (λ a i. same_if _ _ (λ x. among_in _ a (into_filter (λ a. v (action_at z t a)) order a i x)) (λ x. (filtered (λ a. v (action_at z t a)) order a (in_among _ a x)).1))
+              (p.leads t lt));
+        };
+      }
+
+  holds_agree : (s u : ℕ → Bool) → Agree task s u → (ls : List ℕ) → ((l : ℕ) → Among l ls → l / 2 < task.facts) → all_hold s ls ≡ all_hold u ls
+  holds_agree s u h ls w = all_same (holds s) (holds u) ls (λ l i. holds_same s u l (h (l / 2) (w l i)))
+
+  makes_agree : (s u : ℕ → Bool) → Agree task s u → (a l : ℕ) → makes task s a l ≡ makes task u a l
+  makes_agree s u h a l =
+      any_same _ (λ e. (e.action == a) && ((e.literal == l) && all_hold u e.condition)) (effects task) (λ e i.
+      ap (λ (b : Bool). (e.action == a) && ((e.literal == l) && b)) (holds_agree s u h e.condition (in_range.conditions e i)))
+
+  one_agrees : (s u : ℕ → Bool) → Agree task s u → (a : ℕ) → Agree task (next_of_one task s a) (next_of_one task u a)
+  one_agrees s u h a f lt = rw (makes_agree s u h a (2 * f), makes_agree s u h a (2 * f + 1), h f lt)
+
+  -- a run from one state is a run from one that agrees
+  run_agrees : (ks : List ℕ) (s u : ℕ → Bool) → Agree task s u → CanRun task s ks → CanRun task u ks × Agree task (run task s ks) (run task u ks)
+  run_agrees [] s u h c = (tt, h)
+  run_agrees (k ∷ ks) s u h c =
+      let r = run_agrees ks (next_of_one task s k) (next_of_one task u k) (one_agrees s u h k) c.1 in
+      ((record { action = c.0.action; able = sym (holds_agree s u h (precondition task k) (in_range.preconditions k)) ∙ c.0.able }, r.0), r.1)
+
+  run_parts : (ks ls : List ℕ) (s : ℕ → Bool) → CanRun task s ks → CanRun task (run task s ks) ls → CanRun task s (ks ++ ls) × ((f : ℕ) → run task s (ks ++ ls) f ≡ run task (run task s ks) ls f)
+  run_parts [] ls s c d = (d, λ f. refl)
+  run_parts (k ∷ ks) ls s c d = let r = run_parts ks ls (next_of_one task s k) c.1 d in ((c.0, r.0), r.1)
+
+  -- each state of a step plan is reached by actions, up to the facts
+  pub record Reached (s : ℕ → Bool) : Type 0 where
+    pub by : List ℕ
+    pub can : CanRun task (initial_state task) by
+    pub to : Agree task (run task (initial_state task) by) s
+
+  reached : (steps : ℕ → ℕ → Bool) (n : ℕ) (p : IsStepPlan task order steps n) (t : ℕ) → t ≤ n → Reached (p.states t)
+  reached steps n p zero le = record { by = []; can = tt; to = λ f lt. sym (p.begins f lt) }
+  reached steps n p (suc t) le =
+      let r = reached steps n p t (omega arith) in
+      let step = p.leads t (omega arith) in
+      let one = runs_in_order task form.known.clauses form.components (p.states t) (steps t) (p.states (t + 1)) is.published step in
+      let more = run_agrees (filter (steps t) order) (p.states t) (run task (initial_state task) r.by) (λ f lt. sym (r.to f lt)) one.runs in
+      let all = run_parts r.by (filter (steps t) order) (initial_state task) r.can more.0 in
+      let e : t + 1 ≡ suc t = omega arith in
+      record { by = r.by ++ filter (steps t) order; can = all.0; to = λ f lt. all.1 f ∙ sym (more.1 f lt) ∙ one.leads f lt ∙ ap (λ (k : ℕ). p.states k f) e }
+
+  knows_agree : (s u : ℕ → Bool) → Agree task s u → Knows form.known.clauses s → Knows form.known.clauses u
+  knows_agree s u h k = each_from _ form.known.clauses (λ p i.
+      let w = in_range.known p i in
+      let x = holds_same s u p.0 (h (p.0 / 2) w.0) in
+      let y = holds_same s u p.1 (h (p.1 / 2) w.1) in
+      let c : (holds s p.0 || holds s p.1) ≡ true = each_at _ form.known.clauses p k i in
+      rw (x, y) at c)
+
+  -- the second law: where no assignment satisfies the formula there is no plan
+  pub refutes : (n : ℕ) → IsUnsatisfiable (formula_of form.task form.known.clauses form.components n).clauses → (steps : List (List ℕ)) → IsPlanOf form n steps → ⊥
+  refutes n none steps plan =
+      let p = plan.plan in
+      none (of_plan form.task form.known.clauses form.components n in_range (member_at steps) p.states) (encoded _ _ (plan_satisfies form.task form.known.clauses form.components n in_range (member_at steps) p.states p.begins p.leads p.reaches
+      (λ t le. let r = reached (member_at steps) n p t le in knows_agree _ (p.states t) r.to (is.hold r.by r.can))))
