@@ -11,16 +11,17 @@ use Rattle.gt_core.specs.Layout.{action_at}
 use Rattle.gt_core.proofs.Basics.{Among, each_at, each_from, any_same, all_same, same_if, apart, same_test}
 use Rattle.gt_core.proofs.Literals.{holds_same, in_among, among_in, among_range}
 use Rattle.gt_core.proofs.Pairwise.{flat_among, filtered, into_filter}
-use Rattle.step_laws.specs.Variables.{layout_of}
+use Rattle.step_clauses.specs.Variables.{layout_of}
 use Rattle.gt_core.proofs.PublishedLaw.{published_keeps_apart, published_all}
 use Rattle.gt_core.proofs.RunLaw.{runs_in_order}
 use Rattle.clause_base.specs.Formula.{Satisfies, IsUnsatisfiable}
-use Rattle.step_laws.specs.Coded.{formula_of}
+use Rattle.step_clauses.specs.Coded.{formula_of}
 use Rattle.step_laws.specs.Form.{Ordered, IsOrdered, set_at, member_at, IsPlanOf, steps_for}
 use Rattle.step_laws.proofs.PlanLaw.{LooseStep, plan_of}
-use Rattle.step_laws.proofs.FormulaLaw.{IsInRange, plan_satisfies, v as of_plan}
-use Rattle.step_laws.proofs.CodedLaw.{encoded, decoded}
+use Rattle.step_laws.proofs.FormulaLaw.{plan_satisfies, v as of_plan}
+use Rattle.step_clauses.proofs.CodedLaw.{encoded, decoded}
 use Rattle.step_laws.proofs.Ranges.{in_range_of, member_below}
+use Rattle.step_clauses.proofs.InRange.{IsInRange}
 
 -- The two laws of a form: what a satisfying assignment stands for is a step plan, and each step plan is such.
 

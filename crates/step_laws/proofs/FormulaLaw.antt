@@ -9,29 +9,19 @@ use Rattle.gt_core.specs.Layout.{Layout, action_at, conditional_at, chain_at, fa
 use Rattle.gt_core.proofs.Basics.{apart, Among, all_at, all_from, each_at, each_from, any_same, all_same, or_split, or_left, or_right, not_false, not_true, test_same}
 use Rattle.gt_core.proofs.Literals.{holds_same, below_range}
 use Rattle.gt_core.proofs.Pairwise.{among_left, flat_among, pairwise_both}
-use Rattle.step_laws.specs.Clause.{Is, Not, clause_true, AllTrue}
-use Rattle.step_laws.specs.Chain.{enter_clauses, pass_clauses}
-use Rattle.step_laws.specs.Variables.{Row, rows, has_condition, Chain, chains_from, chain_places, chains, layout_of, variable_at}
-use Rattle.step_laws.specs.Formula.{literal_over, precondition_clauses, effect_clauses, frame_clauses, chain_clauses, step_clauses, initial_clauses, goal_clauses, is_single, known_clause, known_clauses, clauses_of_horizon}
-use Rattle.step_laws.proofs.Satisfied.{joined, satisfied_all, satisfied_map_all}
+use Rattle.step_clauses.specs.Clause.{Is, Not, clause_true, AllTrue}
+use Rattle.step_clauses.specs.Chain.{enter_clauses, pass_clauses}
+use Rattle.step_clauses.specs.Variables.{Row, rows, has_condition, Chain, chains_from, chain_places, chains, layout_of, variable_at}
+use Rattle.step_clauses.specs.Formula.{literal_over, precondition_clauses, effect_clauses, frame_clauses, chain_clauses, step_clauses, initial_clauses, goal_clauses, is_single, known_clause, known_clauses, clauses_of_horizon}
+use Rattle.step_clauses.proofs.Satisfied.{joined, satisfied_all, satisfied_map_all}
 use Rattle.step_laws.proofs.StepLaw.{is_effective, StepHolds, StepMeans, HasFacts, step_holds}
-use Rattle.step_laws.proofs.StepClauses.{over, effect_of_row, Means, unconditional, precondition_in, hold_clauses, preconditions_write}
+use Rattle.step_laws.proofs.StepClauses.{over, effect_of_row, Means, unconditional, hold_clauses, preconditions_write}
 use Rattle.step_laws.proofs.ChainLaw.{NoneBefore, enter_holds, pass_holds}
 use Rattle.gt_core.specs.Execution.{IsGoal}
-use Rattle.step_laws.proofs.Counts.{conditional_count}
+use Rattle.step_clauses.proofs.InRange.{HasFacts, IsInRange, precondition_in, past}
+use Rattle.step_clauses.proofs.Counts.{conditional_count}
 use Rattle.step_laws.proofs.Assignment.{Agrees, at, at_agrees, agrees_within, conditional_values, length-conditional_values, conditional_value, chain_values, length-chain_values, chain_at_place, has_chain_values, values, at_action, at_conditional, at_chain, at_fact}
 use Rattle.gt_core.proofs.RunLaw.{disables_over}
-
--- all numbers of a task and its order are in range
-pub record IsInRange (task : Task) (clauses : List (ℕ × ℕ)) (components : List (List ℕ)) : Type 0 where
-  pub effect_facts : HasFacts task
-  pub effect_actions : (e : EffectOf) → Among e (effects task) → e.action < length task.actions
-  pub conditions : (e : EffectOf) → Among e (effects task) → (c : ℕ) → Among c e.condition → c / 2 < task.facts
-  pub preconditions : (a l : ℕ) → Among l (precondition task a) → l / 2 < task.facts
-  pub goals : (l : ℕ) → Among l task.goal → l / 2 < task.facts
-  pub known : (p : ℕ × ℕ) → Among p clauses → (p.0 / 2 < task.facts) × (p.1 / 2 < task.facts)
-  pub members : (ks : List ℕ) → Among ks components → (a : ℕ) → Among a ks → a < length task.actions
-  pub distinct : (ks : List ℕ) → Among ks components → Pairwise (λ a b. (a == b) ≡ false) ks
 
 pairwise_first : {A : Type 0} (R : A → A → Type 0) (xs ys : List A) → Pairwise R (xs ++ ys) → Pairwise R xs
 pairwise_first R [] ys p = tt
@@ -45,12 +35,6 @@ pairwise_in : {A : Type 0} (R : A → A → Type 0) (xss : List (List A)) (xs : 
 pairwise_in R [] xs a p = absurd a
 pairwise_in R (ys ∷ xss) xs (inl e) p = subst (λ zs. Pairwise R zs) (sym e) (pairwise_first R ys _ p)
 pairwise_in R (ys ∷ xss) xs (inr a) p = pairwise_in R xss xs a (pairwise_rest R ys _ p)
-
--- no action past the last has a precondition
-pub past : (xs : List Action) (a : ℕ) → (a < length xs) ⊎ (precondition_in xs a ≡ [])
-past [] a = inr refl
-past (x ∷ xs) zero = inl (omega arith)
-past (x ∷ xs) (suc a) = elim (past xs a) [ inl h ↦ inl (omega arith) | inr h ↦ inr h ]
 
 module _ (task : Task) (clauses : List (ℕ × ℕ)) (components : List (List ℕ)) (n : ℕ) (range_of : IsInRange task clauses components) (steps states : ℕ → ℕ → Bool) where
   abbrev z : Layout

@@ -1,13 +1,10 @@
-pub mod Satisfied
 pub mod ChainLaw
 pub mod StepLaw
 pub mod StepClauses
 pub mod OrderLaw
 pub mod PlanLaw
-pub mod Counts
 pub mod Assignment
 pub mod FormulaLaw
-pub mod CodedLaw
 pub mod Ranges
 pub mod FormLaw
 pub mod SequenceLaw

@@ -8,13 +8,13 @@ use Rattle.gt_core.specs.Published.{Pairwise, KeepsApart}
 use Rattle.gt_core.proofs.Basics.{Among, passing, any_at, all_at, each_at, each_from, or_split, or_left, or_right, and_split, and_both, not_split, not_false, not_true, apart, same_test, test_same}
 use Rattle.gt_core.proofs.Literals.{opposite_holds, opposite_twice, half_opposite, among_range}
 use Rattle.gt_core.proofs.Pairwise.{pairwise_map, pairwise_all, among_map, among_flat}
-use Rattle.step_laws.specs.Clause.{AllTrue}
-use Rattle.step_laws.specs.Chain.{chain_length, enter_clauses, pass_clauses}
-use Rattle.step_laws.specs.Variables.{Chain, chains_from, chain_places, chains}
-use Rattle.step_laws.specs.Formula.{chain_clauses}
-use Rattle.step_laws.proofs.Satisfied.{parted, satisfied_each}
-use Rattle.step_laws.proofs.StepLaw.{HasFacts}
+use Rattle.step_clauses.specs.Clause.{AllTrue}
+use Rattle.step_clauses.specs.Chain.{chain_length, enter_clauses, pass_clauses}
+use Rattle.step_clauses.specs.Variables.{Chain, chains_from, chain_places, chains}
+use Rattle.step_clauses.specs.Formula.{chain_clauses}
+use Rattle.step_clauses.proofs.Satisfied.{parted, satisfied_each}
 use Rattle.step_laws.proofs.ChainLaw.{NoneBefore, chain_holds}
+use Rattle.step_clauses.proofs.InRange.{HasFacts}
 
 -- two actions that can run in one state without a clash are not kept apart by what is known of it
 pub clause_known : (clauses : List (ℕ × ℕ)) (s : ℕ → Bool) (l m : ℕ) → Knows clauses s → has_clause clauses l m ≡ true → (holds s l ≡ true) ⊎ (holds s m ≡ true)

@@ -10,13 +10,14 @@ use Rattle.gt_core.specs.Layout.{Layout, action_at, conditional_at, chain_at, fa
 use Rattle.gt_core.proofs.Basics.{passing, all_from, each_from, or_split, or_left, or_right, and_split, same_test, test_same}
 use Rattle.gt_core.proofs.Literals.{among_range}
 use Rattle.gt_core.proofs.Pairwise.{pairwise_flat}
-use Rattle.step_laws.specs.Clause.{Is, Not, truth, clause_true, AllTrue}
-use Rattle.step_laws.specs.Variables.{Row, rows, has_condition, chains, layout_of, variable_at}
-use Rattle.step_laws.specs.Formula.{literal_over, precondition_clauses, effect_clauses, frame_clauses, chain_clauses, step_clauses, initial_clauses, goal_clauses, is_single, known_clause, known_clauses, clauses_of_horizon}
-use Rattle.step_laws.proofs.Satisfied.{parted, satisfied_each, satisfied_map_each}
-use Rattle.step_laws.proofs.StepLaw.{HasFacts, step_means}
+use Rattle.step_clauses.specs.Clause.{Is, Not, truth, clause_true, AllTrue}
+use Rattle.step_clauses.specs.Variables.{Row, rows, has_condition, chains, layout_of, variable_at}
+use Rattle.step_clauses.specs.Formula.{literal_over, precondition_clauses, effect_clauses, frame_clauses, chain_clauses, step_clauses, initial_clauses, goal_clauses, is_single, known_clause, known_clauses, clauses_of_horizon}
+use Rattle.step_clauses.proofs.Satisfied.{parted, satisfied_each, satisfied_map_each}
+use Rattle.step_laws.proofs.StepLaw.{step_means}
 use Rattle.step_laws.proofs.StepClauses.{over, IsShared, clauses_hold, preconditions_read}
 use Rattle.step_laws.proofs.OrderLaw.{across, within}
+use Rattle.step_clauses.proofs.InRange.{HasFacts}
 
 -- what the clauses of a step say of its true actions, of which some may be no actions of the task
 pub record LooseStep (task : Task) (order : List ℕ) (s members t : ℕ → Bool) : Type 0 where

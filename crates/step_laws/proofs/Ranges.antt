@@ -10,7 +10,7 @@ use Rattle.gt_core.proofs.Literals.{in_among, among_in, below_range}
 use Rattle.gt_core.proofs.Within.{literals_within, effects_within, lawful, precondition_within}
 use Rattle.gt_core.proofs.PublishedLaw.{components_of_list, component_apart}
 use Rattle.step_laws.specs.Form.{Ordered, IsOrdered}
-use Rattle.step_laws.proofs.FormulaLaw.{IsInRange, past}
+use Rattle.step_clauses.proofs.InRange.{IsInRange, past}
 
 -- The numbers of a lawful task, of its known clauses and of its published order are in range.
 

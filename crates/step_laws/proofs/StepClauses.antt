@@ -6,10 +6,11 @@ use Rattle.std.specs.Prelude.{slice_index_or}
 use Rattle.gt_core.specs.Task.{Action, Task, EffectOf, effects}
 use Rattle.gt_core.proofs.Basics.{Among, all_at, all_from, or_left, or_right, and_split, and_both}
 use Rattle.gt_core.proofs.Literals.{opposite_holds, among_range, below_range}
-use Rattle.step_laws.specs.Clause.{Literal, Is, Not, truth, clause_true, AllTrue}
-use Rattle.step_laws.specs.Variables.{Row, rows_from, rows, has_condition}
-use Rattle.step_laws.specs.Formula.{literal_over, precondition_clauses, effects_with, meaning_clauses, result_clause, effect_clauses, frame_clauses}
-use Rattle.step_laws.proofs.Satisfied.{joined, parted, satisfied_each, satisfied_all, satisfied_map_each, satisfied_map_all, implies, implied}
+use Rattle.step_clauses.specs.Clause.{Literal, Is, Not, truth, clause_true, AllTrue}
+use Rattle.step_clauses.specs.Variables.{Row, rows_from, rows, has_condition}
+use Rattle.step_clauses.specs.Formula.{literal_over, precondition_clauses, effects_with, meaning_clauses, result_clause, effect_clauses, frame_clauses}
+use Rattle.step_clauses.proofs.Satisfied.{joined, parted, satisfied_each, satisfied_all, satisfied_map_each, satisfied_map_all, implies, implied}
+use Rattle.step_clauses.proofs.InRange.{precondition_in}
 use Rattle.step_laws.proofs.StepLaw.{is_effective, StepHolds}
 
 over_by : (v : ℕ → Bool) (k : ℕ) (b : Bool) → truth v (if b then Is k else Not k) ≡ (if b then v k else not (v k))
@@ -35,10 +36,6 @@ pub effect_of_row : (j : ℕ) (es : List EffectOf) (r : Row) → Among r (rows_f
 effect_of_row j [] r a = absurd a
 effect_of_row j (d ∷ es) r (inl s) = inl (ap (λ (x : Row). x.effect) s)
 effect_of_row j (d ∷ es) r (inr a) = inr (effect_of_row (if has_condition d then j + 1 else j) es r a)
-
--- the precondition of an action from a list of them; past the last, none
-abbrev pub precondition_in : List Action → ℕ → List ℕ
-precondition_in xs k = (slice_index_or xs k (record { precondition = []; effects = [] })).precondition
 
 module _ (v : ℕ → Bool) (act now next : ℕ → ℕ) (var : Row → ℕ) where
   abbrev members : ℕ → Bool

@@ -7,6 +7,7 @@ use Rattle.gt_core.specs.Step.{gained, lost, next}
 use Rattle.gt_core.proofs.Basics.{Among, passing, any_at, or_left, and_split, and_both, not_split, not_false, not_true, apart, cases, same_test, test_same}
 use Rattle.gt_core.proofs.Literals.{holds_add, holds_delete, add_is_even, delete_opposite, even_is_add, odd_is_delete}
 use Rattle.gt_core.proofs.Makers.{Maker, maker, made, gainer, gained_by, loser, lost_by}
+use Rattle.step_clauses.proofs.InRange.{HasFacts}
 
 -- the effect is one of an active member: it is a member's, and its condition holds
 abbrev pub is_effective : (ℕ → Bool) → (ℕ → Bool) → EffectOf → Bool
@@ -22,10 +23,6 @@ pub record StepHolds (task : Task) (members s t : ℕ → Bool) : Type 0 where
 pub record StepMeans (task : Task) (members s t : ℕ → Bool) : Type 0 where
   pub no_clash : (a b f : ℕ) → members a ≡ true → members b ≡ true → gains task s a f ≡ true → loses task s b f ≡ true → ⊥
   pub after : (f : ℕ) → f < task.facts → t f ≡ next task s members f
-
--- each effect's fact is one of the task's
-abbrev pub HasFacts : Task → Type 0
-HasFacts task = (e : EffectOf) → Among e (effects task) → e.literal / 2 < task.facts
 
 pub maker_active : (task : Task) (members s : ℕ → Bool) (a l : ℕ) (m : Maker task s a l) → members a ≡ true → is_effective members s m.effect ≡ true
 maker_active task members s a l m e = and_both (members m.effect.action) _ (ap members m.action ∙ e) m.condition

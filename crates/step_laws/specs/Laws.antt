@@ -2,7 +2,7 @@ use Rattle.std.specs.Prelude.{ℕ, ◌≤◌, List, Bool, length}
 use Rattle.gt_core.specs.Task.{initial_state}
 use Rattle.gt_core.specs.Execution.{CanRun, run, IsGoal}
 use Rattle.clause_base.specs.Formula.{Satisfies, IsUnsatisfiable}
-use Rattle.step_laws.specs.Coded.{formula_of}
+use Rattle.step_clauses.specs.Coded.{formula_of}
 use Rattle.step_laws.specs.Form.{Ordered, IsOrdered, IsPlanOf, steps_for}
 
 -- an assignment that satisfies the formula of a horizon stands for a step plan, each set listed in published order

@@ -1,7 +1,2 @@
-pub mod Clause
-pub mod Chain
-pub mod Variables
-pub mod Formula
-pub mod Coded
 pub mod Form
 pub mod Laws

@@ -4,9 +4,9 @@ use Rattle.gt_core.specs.Literal.{opposite, range}
 use Rattle.gt_core.specs.Task.{Task, EffectOf, Action, initial_state}
 use Rattle.gt_core.specs.Interference.{takes, reads}
 use Rattle.gt_core.specs.Layout.{Layout, action_at, chain_at, fact_at}
-use Rattle.step_laws.specs.Clause.{Literal, Is, Not}
-use Rattle.step_laws.specs.Chain.{enter_clauses, pass_clauses}
-use Rattle.step_laws.specs.Variables.{Row, rows, has_condition, Chain, chains, layout_of, variable_at}
+use Rattle.step_clauses.specs.Clause.{Literal, Is, Not}
+use Rattle.step_clauses.specs.Chain.{enter_clauses, pass_clauses}
+use Rattle.step_clauses.specs.Variables.{Row, rows, has_condition, Chain, chains, layout_of, variable_at}
 
 -- Below, `act`, `var`, `now` and `next` give the variable of an action, of an effect, and of a fact before and after
 -- one step; `clauses` are the known clauses.

@@ -5,7 +5,7 @@ use Rattle.gt_core.specs.Task.{Task, EffectOf, effects}
 use Rattle.gt_core.specs.Lawful.{conditional_in}
 use Rattle.gt_core.specs.Interference.{takes, reads}
 use Rattle.gt_core.specs.Layout.{Layout, action_at, conditional_at}
-use Rattle.step_laws.specs.Chain.{chain_length}
+use Rattle.step_clauses.specs.Chain.{chain_length}
 
 -- an effect is conditional where its condition is not empty
 abbrev pub has_condition : EffectOf → Bool

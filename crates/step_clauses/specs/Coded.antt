@@ -4,9 +4,9 @@ use Rattle.gt_core.specs.Task.{Task}
 use Rattle.gt_core.specs.Layout.{variables}
 use Rattle.clause_base.specs.Clause.{clause_of}
 use Rattle.clause_base.specs.Formula.{Cnf}
-use Rattle.step_laws.specs.Clause.{Literal, code}
-use Rattle.step_laws.specs.Variables.{layout_of}
-use Rattle.step_laws.specs.Formula.{clauses_of_horizon}
+use Rattle.step_clauses.specs.Clause.{Literal, code}
+use Rattle.step_clauses.specs.Variables.{layout_of}
+use Rattle.step_clauses.specs.Formula.{clauses_of_horizon}
 
 -- clauses in codes, each sorted and with equal literals once; a clause with an opposite pair is left out
 abbrev pub coded : List (List Literal) → List (List ℕ)

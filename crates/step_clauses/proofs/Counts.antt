@@ -4,7 +4,7 @@ use Rattle.std.specs.List.{filter}
 use Rattle.std.proofs.lemmas.List.Sums.{sum_by-cons}
 use Rattle.gt_core.specs.Task.{Task, Effect, Action, EffectOf, owned, effects_from, effects}
 use Rattle.gt_core.specs.Lawful.{is_conditional, conditional_in}
-use Rattle.step_laws.specs.Variables.{has_condition}
+use Rattle.step_clauses.specs.Variables.{has_condition}
 
 -- How many conditional effects a task has.
 

@@ -1,7 +1,7 @@
 use Rattle.std.proofs.Common.{◌≡◌, ℕ, List, [], ◌∷◌, ◌++◌, map, Bool, true, false, not, ◌||◌, refl, sym, ap, ◌∙◌, subst, inl, inr}
 use Rattle.std.specs.List.{flat_map}
 use Rattle.gt_core.proofs.Basics.{Among, or_left, not_false}
-use Rattle.step_laws.specs.Clause.{Literal, clause_true, AllTrue}
+use Rattle.step_clauses.specs.Clause.{Literal, clause_true, AllTrue}
 
 -- Satisfied lists of clauses, in parts.
 

@@ -1,6 +1,6 @@
 use Rattle.std.specs.Prelude.{ℕ, ◌+◌, List, [], ◌∷◌, ◌++◌, Bool, ◌&&◌, ◌||◌, if◌then◌else◌}
 use Rattle.std.specs.List.{list_any}
-use Rattle.step_laws.specs.Clause.{Literal, Is, Not}
+use Rattle.step_clauses.specs.Clause.{Literal, Is, Not}
 
 -- A chain is over the members of a component in published order and one fact literal. `takes` says which members may
 -- take the literal away, and `reads` which read it. Each reader that has a taker before it has one chain variable,

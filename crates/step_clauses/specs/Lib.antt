@@ -1,0 +1,7 @@
+pub mod Clause
+pub mod Chain
+pub mod Variables
+pub mod Formula
+pub mod Coded
+pub mod Moved
+pub mod Laws
