@@ -14,7 +14,7 @@ use Rattle.step_clauses.specs.Chain.{enter_clauses, pass_clauses}
 use Rattle.step_clauses.specs.Variables.{Row, rows, has_condition, Chain, chains_from, chain_places, chains, layout_of, variable_at}
 use Rattle.step_clauses.specs.Formula.{literal_over, precondition_clauses, effect_clauses, frame_clauses, chain_clauses, step_clauses, initial_clauses, goal_clauses, is_single, known_clause, known_clauses, clauses_of_horizon}
 use Rattle.step_clauses.proofs.Satisfied.{joined, satisfied_all, satisfied_map_all}
-use Rattle.step_laws.proofs.StepLaw.{is_effective, StepHolds, StepMeans, HasFacts, step_holds}
+use Rattle.step_laws.proofs.StepLaw.{is_effective, StepHolds, StepMeans, step_holds}
 use Rattle.step_laws.proofs.StepClauses.{over, effect_of_row, Means, unconditional, hold_clauses, preconditions_write}
 use Rattle.step_laws.proofs.ChainLaw.{NoneBefore, enter_holds, pass_holds}
 use Rattle.gt_core.specs.Execution.{IsGoal}

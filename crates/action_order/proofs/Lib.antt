@@ -1,0 +1,13 @@
+pub mod Lists
+pub mod WalkLaw
+pub mod CloseLaw
+pub mod MoveLaw
+pub mod ClassLaw
+pub mod QuotientLaw
+pub mod ReadyLaw
+pub mod DrawLaw
+pub mod GroupLaw
+pub mod ListedLaw
+pub mod EdgeLaw
+pub mod OrderLaw
+pub mod PublishLaw

@@ -1,0 +1,27 @@
+use Rattle.std.proofs.Common.{arith, ◌≡◌, ◌<◌, vec_len, length, true, false, sym, ◌∙◌, rules}
+use Rattle.action_order.specs.Walk.{ends_past}
+use Rattle.action_order.proofs.Lists.{front_last, last_past, none_past}
+use Rattle.action_order.proofs.WalkLaw.{joined_once}
+use Rattle.action_order.proofs.walk.Walk.join.Goals as goal
+
+pub loop-self-preserved : goal.loop-self-preserved
+loop-self-preserved c =
+    let i = c.loop-self.invariant in
+    let starts = c.loop-self.self.starts.items in
+    let long : vec_len c.loop-self.self.starts ≡ length starts = search rules in
+    let past : ends_past c.args.to starts ≡ true = rw (← c.as_slice.ensures.value) (sym c.ends_past.ensures ∙ c.loop-self-test.true) in
+    let last = last_past starts c.args.to past in
+    record {
+      walk = rw (c.pop.ensures.rest, long)
+        (joined_once c.args.targets.now _ _ _ starts _ _ _ _ c.args.from c.args.to i.walk (front_last starts _ last.0) (rw i.stack c.requires.from.0) (rw i.work c.requires.from.1) last.1 (rw i.stack c.requires.reached));
+      marks = i.marks;
+      next = i.next;
+      stack = i.stack;
+      work = i.work;
+    }
+
+pub returns-clause-joined : goal.returns-clause-joined
+returns-clause-joined c =
+    let i = c.loop-self.invariant in
+    let none : ends_past c.args.to c.loop-self.self.starts.items ≡ false = rw (← c.as_slice.ensures.value) (sym c.ends_past.ensures ∙ c.loop-self-test.false) in
+    none_past c.loop-self.self.starts.items c.args.to i.walk.starts_rising none

@@ -1,0 +1,49 @@
+//! The members of the components.
+
+ghost use Rattle.std.specs.Prelude.{◌≡◌, ℕ, ◌<◌, ◌≤◌, [], replicate, length, slice_index_or, OnOk, IfOk};
+ghost use Rattle.std.specs.List.{AllByRecursion};
+ghost use Rattle.action_order.specs.Graph.{class_at};
+ghost use Rattle.action_order.specs.Group.{members, listed};
+
+use crate::numbers::ActNumbers;
+use std::alloc::{AllocError, Global};
+
+fn empty_groups(alloc: Global, count: usize) -> Result<Vec<ActNumbers>, AllocError>
+    ensures { IfOk result (λ groups. groups.items ≡ replicate count []) }
+{
+    let mut groups = Vec::new(alloc);
+    while groups.len() < count {
+        groups.push(ActNumbers::of(Vec::new(alloc)))?;
+    }
+    Ok(groups)
+}
+
+/// The members of each component, by its number.
+fn group(alloc: Global, numbers: &[usize], count: usize) -> Result<Vec<ActNumbers>, AllocError>
+    requires below { AllByRecursion (λ c. c < count) numbers.now }
+    requires few { length numbers.now ≤ 16384 }
+    ensures long { IfOk result (λ groups. length groups.items ≡ count) }
+    ensures members { IfOk result (λ groups. (c : ℕ) → c < count → slice_index_or groups.items c [] ≡ members numbers.now c) }
+{
+    let mut groups = empty_groups(alloc, count)?;
+    for (a, number) in numbers.iter().enumerate() {
+        let list = &mut groups[*number];
+        list.push(a as u32)?;
+    }
+    Ok(groups)
+}
+
+/// The components in an order of their numbers.
+pub fn list(alloc: Global, numbers: &[usize], count: usize, order: &[usize]) -> Result<Vec<ActNumbers>, AllocError>
+    requires below { AllByRecursion (λ c. c < count) numbers.now }
+    requires few { length numbers.now ≤ 16384 }
+    requires order { AllByRecursion (λ c. c < count) order.now }
+    ensures { IfOk result (λ components. components.items ≡ listed numbers.now order.now) }
+{
+    let groups = group(alloc, numbers, count)?;
+    let mut components = Vec::new(alloc);
+    for c in order {
+        components.push(groups[*c].copy(alloc)?)?;
+    }
+    Ok(components)
+}

@@ -1,0 +1,64 @@
+//! Tests on tasks written by hand.
+
+use crate::publish::publish;
+use gt_core::act::{Act, Acts};
+use gt_core::eff::{Eff, Effs};
+use gt_core::lits::{Bits, Lits};
+use gt_core::pairs::Pairs;
+use gt_core::task::Task;
+use std::test::Fail;
+
+/// An action without effect conditions.
+fn act(rt: &impl AllocGlobal, pre: &[u32], lits: &[u32]) -> Result<Act, Fail> {
+    let mut effects = Vec::new(rt.alloc());
+    for lit in lits {
+        effects.push(Eff::new(Lits::of(Vec::new(rt.alloc())), *lit))?;
+    }
+    Ok(Act::new(
+        Lits::of(Vec::from_slice(rt.alloc(), pre)?),
+        Effs::of(effects),
+    ))
+}
+
+/// A task without a goal, whose facts are true at first.
+fn task(rt: &impl AllocGlobal, facts: u32, acts: Vec<Act>) -> Result<Task, Fail> {
+    let init = Bits::of(vec![in rt.alloc(); true; facts as usize]?);
+    let goal = Lits::of(Vec::new(rt.alloc()));
+    let task = Task::try_new(facts, init, goal, false, Acts::of(acts)).ok_or("no task")?;
+    Ok(task)
+}
+
+/// What the command `order` tells of the order: the number of components, and for each place the component and the
+/// action.
+fn told(rt: &impl AllocGlobal, task: &Task) -> Result<Vec<u32>, Fail> {
+    let pairs = Pairs::empty(rt.alloc(), task.facts()).map_err(|_| "no memory")?;
+    let order = publish(rt.alloc(), task, &pairs).map_err(|_| "no memory")?;
+    let mut told = Vec::new(rt.alloc());
+    told.push(order.components())?;
+    for group in order.groups() {
+        for a in group.as_slice() {
+            told.push(*a)?;
+        }
+    }
+    Ok(told)
+}
+
+#[test]
+fn user_before_burner(rt: HostRuntime) -> Result<(), Fail> {
+    // Facts p 0, q 1, r 2. Action 0 burns p, action 1 needs it.
+    let burn = act(&rt, &[], &[1, 4])?;
+    let using = act(&rt, &[0], &[2])?;
+    let task = task(&rt, 3, vec![in rt.alloc(); burn, using]?)?;
+    assert_eq!(rt; told(&rt, &task)?.as_slice(), [2, 1, 0].as_slice());
+    Ok(())
+}
+
+#[test]
+fn each_takes_the_other_s_need(rt: HostRuntime) -> Result<(), Fail> {
+    // Facts p 0, q 1, r 2, s 3. Each action takes what the other needs: one component.
+    let one = act(&rt, &[0], &[2, 7])?;
+    let two = act(&rt, &[6], &[1, 4])?;
+    let task = task(&rt, 4, vec![in rt.alloc(); one, two]?)?;
+    assert_eq!(rt; told(&rt, &task)?.as_slice(), [1, 0, 1].as_slice());
+    Ok(())
+}
