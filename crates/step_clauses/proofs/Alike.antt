@@ -1,11 +1,9 @@
-use Rattle.std.proofs.Common.{arith, ◌≡◌, ◌==◌, ℕ, zero, suc, ◌+◌, ◌-◌, ◌*◌, ◌/◌, ◌%◌, ◌<◌, ◌≤◌, List, [], ◌∷◌, ◌++◌, map, length, Bool, true, false, not, ◌||◌, ◌&&◌, refl, sym, ap, ◌∙◌, subst, if◌then◌else◌, ◌⊎◌, inl, inr}
+use Rattle.std.proofs.Common.{arith, ◌≡◌, ◌==◌, ℕ, zero, suc, ◌+◌, ◌*◌, ◌/◌, ◌%◌, ◌<◌, ◌≤◌, List, [], ◌∷◌, ◌++◌, map, length, Bool, true, false, ◌||◌, ◌&&◌, refl, sym, ap, subst, if◌then◌else◌, inl, inr}
 use Rattle.std.specs.List.{list_any, filter, flat_map}
-use Rattle.std.proofs.lemmas.Bool.Decides.{nat_tests}
 use Rattle.gt_core.specs.Literal.{opposite, range}
 use Rattle.gt_core.specs.Task.{Task, Action, EffectOf, effects}
-use Rattle.gt_core.specs.Lawful.{conditional_in}
 use Rattle.gt_core.specs.Interference.{takes, reads}
-use Rattle.gt_core.proofs.Basics.{Among, apart}
+use Rattle.gt_core.proofs.Basics.{Among}
 use Rattle.gt_core.proofs.Literals.{below_range, half_opposite}
 use Rattle.gt_core.proofs.Pairwise.{flat_among}
 use Rattle.step_clauses.specs.Clause.{Literal, Is, Not}
@@ -124,9 +122,11 @@ module _ (R : ℕ → ℕ → Type 0) where
     pass_one : (seen r t : Bool) (i k : ℕ) (ks : List ℕ) → R (act k) (act' k) → ((j : ℕ) → j < i + ((if seen && r then 1 else 0) + chain_length takes reads (seen || t) ks) → R (var j) (var' j)) → Alike R (if seen && r then (Not (var i) ∷ Not (act k) ∷ []) ∷ if_read reads ks (Not (var i) ∷ Is (var (i + 1)) ∷ []) else []) (if seen && r then (Not (var' i) ∷ Not (act' k) ∷ []) ∷ if_read reads ks (Not (var' i) ∷ Is (var' (i + 1)) ∷ []) else [])
     pass_one false r t i k ks a h = tt
     pass_one true false t i k ks a h = tt
-    pass_one true true t i k ks a h =
-        ((h i (omega arith), (a, tt)), read_alike (Not (var i) ∷ Is (var (i + 1)) ∷ []) (Not (var' i) ∷ Is (var' (i + 1)) ∷ []) (list_any reads ks) (λ e.
-        let one = has_one takes reads ks (true || t) refl e in (h i (omega arith), (h (i + 1) (omega arith), tt))))
+    pass_one true true t i k ks a h = (
+      (h i (omega arith), (a, tt)),
+      read_alike (Not (var i) ∷ Is (var (i + 1)) ∷ []) (Not (var' i) ∷ Is (var' (i + 1)) ∷ []) (list_any reads ks) (λ e.
+          let one = has_one takes reads ks (true || t) refl e in (h i (omega arith), (h (i + 1) (omega arith), tt))),
+    )
 
     pub pass_alike : (seen : Bool) (i : ℕ) (ks : List ℕ) → ((k : ℕ) → Among k ks → R (act k) (act' k)) → ((j : ℕ) → j < i + chain_length takes reads seen ks → R (var j) (var' j)) → Alike R (pass_clauses act var takes reads seen i ks) (pass_clauses act' var' takes reads seen i ks)
     pass_alike seen i [] a h = tt
@@ -163,10 +163,18 @@ module _ (R : ℕ → ℕ → Type 0) where
       by true = (
         (y, (a, tt)),
         zipped_parts (ClauseAlike R) (map (λ c. Not (var r) ∷ literal_over now c ∷ []) r.effect.condition) _ (map (λ c. Not (var' r) ∷ literal_over now' c ∷ []) r.effect.condition) _
-        (zipped_map (ClauseAlike R) (λ c. Not (var r) ∷ literal_over now c ∷ []) (λ c. Not (var' r) ∷ literal_over now' c ∷ []) r.effect.condition (λ c j.
-        (y, (over_alike now now' c (hf (c / 2) (w c j)), tt))))
-        ((y, (a, zipped_map (LiteralAlike R) (λ c. literal_over now (opposite c)) (λ c. literal_over now' (opposite c)) r.effect.condition (λ c j.
-          over_alike now now' (opposite c) (hf (opposite c / 2) (let h = half_opposite c in let k = w c j in omega (arith, h, k)))))), tt),
+            (zipped_map (ClauseAlike R) (λ c. Not (var r) ∷ literal_over now c ∷ []) (λ c. Not (var' r) ∷ literal_over now' c ∷ []) r.effect.condition (λ c j.
+            (y, (over_alike now now' c (hf (c / 2) (w c j)), tt)))) (
+              (
+                y,
+                (
+                  a,
+                  zipped_map (LiteralAlike R) (λ c. literal_over now (opposite c)) (λ c. literal_over now' (opposite c)) r.effect.condition (λ c j.
+                      over_alike now now' (opposite c) (hf (opposite c / 2) (let h = half_opposite c in let k = w c j in omega (arith, h, k)))),
+                ),
+              ),
+              tt,
+            ),
       )
 
   result_alike : (next next' : ℕ → ℕ) (var var' : Row → ℕ) (all : List Row) (r : Row) → R (var r) (var' r) → R (next (r.effect.literal / 2)) (next' (r.effect.literal / 2)) → ((x : Row) → Among x all → R (var x) (var' x)) → ClauseAlike R (result_clause next var all r) (result_clause next' var' all r)
@@ -216,8 +224,8 @@ module _ (R : ℕ → ℕ → Type 0) where
 
       -- the clauses of a step
       pub step_alike : Alike R
-        (precondition_clauses act now 0 task.actions ++ (effect_clauses act now next var (rows task) (rows task) ++ (frame_clauses now next var (rows task) (range task.facts) ++ chain_clauses act chain task (chains task components))))
-        (precondition_clauses act' now' 0 task.actions ++ (effect_clauses act' now' next' var' (rows task) (rows task) ++ (frame_clauses now' next' var' (rows task) (range task.facts) ++ chain_clauses act' chain' task (chains task components))))
+          (precondition_clauses act now 0 task.actions ++ (effect_clauses act now next var (rows task) (rows task) ++ (frame_clauses now next var (rows task) (range task.facts) ++ chain_clauses act chain task (chains task components))))
+          (precondition_clauses act' now' 0 task.actions ++ (effect_clauses act' now' next' var' (rows task) (rows task) ++ (frame_clauses now' next' var' (rows task) (range task.facts) ++ chain_clauses act' chain' task (chains task components))))
       step_alike =
           zipped_parts (ClauseAlike R) (precondition_clauses act now 0 task.actions) _ (precondition_clauses act' now' 0 task.actions) _
           (preconditions_alike act act' now now' task.facts (length task.actions) 0 task.actions names.actions names.before (omega arith) is.preconditions)
@@ -225,10 +233,10 @@ module _ (R : ℕ → ℕ → Type 0) where
           (zipped_flat (ClauseAlike R) (λ r. meaning_clauses act now var r ++ result_clause next var (rows task) r ∷ []) (λ r. meaning_clauses act' now' var' r ++ result_clause next' var' (rows task) r ∷ []) (rows task) effect_alike)
           (zipped_parts (ClauseAlike R) (frame_clauses now next var (rows task) (range task.facts)) _ (frame_clauses now' next' var' (rows task) (range task.facts)) _
           (zipped_flat (ClauseAlike R) (λ f. (Not (now f) ∷ Is (next f) ∷ effects_with var (λ e. e.literal == 2 * f + 1) (rows task)) ∷ (Is (now f) ∷ Not (next f) ∷ effects_with var (λ e. e.literal == 2 * f) (rows task)) ∷ []) (λ f. (Not (now' f) ∷ Is (next' f) ∷ effects_with var' (λ e. e.literal == 2 * f + 1) (rows task)) ∷ (Is (now' f) ∷ Not (next' f) ∷ effects_with var' (λ e. e.literal == 2 * f) (rows task)) ∷ []) (range task.facts) (λ f i.
-            let lf = below_range task.facts f i in
-            let a = names.before f lf in
-            let b = names.after f lf in
-            ((a, (b, with_alike var var' (λ e. e.literal == 2 * f + 1) (rows task) names.effects)), ((a, (b, with_alike var var' (λ e. e.literal == 2 * f) (rows task) names.effects)), tt))))
+          let lf = below_range task.facts f i in
+          let a = names.before f lf in
+          let b = names.after f lf in
+          ((a, (b, with_alike var var' (λ e. e.literal == 2 * f + 1) (rows task) names.effects)), ((a, (b, with_alike var var' (λ e. e.literal == 2 * f) (rows task) names.effects)), tt))))
           (zipped_flat (ClauseAlike R) _ _ (chains task components) chain_alike)))
 
     -- the known clauses

@@ -1,4 +1,4 @@
-use Rattle.std.proofs.Common.{arith, ◌≡◌, ◌==◌, ℕ, zero, suc, ◌+◌, ◌/◌, ◌<◌, List, [], ◌∷◌, length, false, refl, ◌⊎◌, inl, inr}
+use Rattle.std.proofs.Common.{arith, ◌≡◌, ◌==◌, ℕ, zero, suc, ◌/◌, ◌<◌, List, [], ◌∷◌, length, false, refl, ◌⊎◌, inl, inr}
 use Rattle.std.specs.Prelude.{slice_index_or}
 use Rattle.gt_core.specs.Task.{Action, Task, EffectOf, effects, precondition}
 use Rattle.gt_core.specs.Published.{Pairwise}
@@ -30,4 +30,3 @@ pub past : (xs : List Action) (a : ℕ) → (a < length xs) ⊎ (precondition_in
 past [] a = inr refl
 past (x ∷ xs) zero = inl (omega arith)
 past (x ∷ xs) (suc a) = elim (past xs a) [ inl h ↦ inl (omega arith) | inr h ↦ inr h ]
-

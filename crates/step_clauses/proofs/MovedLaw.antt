@@ -1,13 +1,12 @@
-use Rattle.std.proofs.Common.{arith, ◌≡◌, ◌==◌, ℕ, zero, suc, ◌+◌, ◌-◌, ◌*◌, ◌/◌, ◌%◌, ◌<◌, ◌≤◌, List, [], ◌∷◌, map, length, Bool, true, false, not, refl, sym, ap, ◌∙◌, if◌then◌else◌, nat_lt, ◌⊎◌, inl, inr}
+use Rattle.std.proofs.Common.{arith, ◌≡◌, ◌==◌, ℕ, ◌+◌, ◌-◌, ◌*◌, ◌/◌, ◌%◌, ◌<◌, ◌≤◌, List, [], ◌∷◌, map, length, Bool, true, false, refl, sym, ap, ◌∙◌, if◌then◌else◌, nat_lt, ◌⊎◌, inl, inr}
 use Rattle.std.specs.List.{filter, flat_map}
 use Rattle.std.proofs.lemmas.Bool.Decides.{nat_tests}
 use Rattle.std.proofs.lemmas.Nat.{row_fits}
 use Rattle.gt_core.specs.Task.{Task, EffectOf, effects}
-use Rattle.gt_core.specs.Lawful.{conditional_in}
 use Rattle.gt_core.specs.Layout.{Layout, width, action_at, conditional_at, chain_at, fact_at}
 use Rattle.gt_core.proofs.Basics.{Among, apart}
 use Rattle.clause_base.specs.Literal.{opposite}
-use Rattle.step_clauses.specs.Variables.{Row, rows, rows_from, has_condition, chain_variables_in, chain_places, layout_of, variable_at}
+use Rattle.step_clauses.specs.Variables.{Row, rows, rows_from, has_condition, layout_of, variable_at}
 use Rattle.step_clauses.specs.Formula.{step_clauses, known_clause, known_clauses}
 use Rattle.step_clauses.specs.Coded.{coded}
 use Rattle.step_clauses.specs.Moved.{moved_code, one_step, one_time}

@@ -1,5 +1,5 @@
-use Rattle.std.proofs.Common.{arith, ◌≡◌, ◌==◌, ℕ, zero, suc, ◌+◌, ◌-◌, ◌*◌, ◌/◌, ◌%◌, ◌<◌, ◌≤◌, List, [], ◌∷◌, ◌++◌, map, length, Bool, true, false, ◌||◌, ◌&&◌, refl, sym, ap, ◌∙◌, fold, if◌then◌else◌, nat_lt, inl, inr, Option, Some, None}
-use Rattle.std.specs.List.{list_any, flat_map, cons_option}
+use Rattle.std.proofs.Common.{arith, ◌≡◌, ◌==◌, ℕ, zero, suc, ◌+◌, ◌-◌, ◌*◌, ◌%◌, ◌<◌, ◌≤◌, List, [], ◌∷◌, ◌++◌, map, length, Bool, true, false, ◌||◌, ◌&&◌, refl, ap, ◌∙◌, if◌then◌else◌, nat_lt, inl, inr, Some, None}
+use Rattle.std.specs.List.{flat_map, cons_option}
 use Rattle.std.proofs.lemmas.Bool.Decides.{nat_tests}
 use Rattle.gt_core.specs.Literal.{range, range_from}
 use Rattle.gt_core.specs.Task.{Task, initial_state}
@@ -11,10 +11,10 @@ use Rattle.clause_base.specs.Literal.{opposite}
 use Rattle.clause_base.specs.Clause.{has_opposite_pair, put, clause_of}
 use Rattle.step_clauses.specs.Clause.{Literal, Is, Not, code}
 use Rattle.step_clauses.specs.Chain.{chain_length, if_read, enter_clauses, pass_clauses}
-use Rattle.step_clauses.specs.Variables.{layout_of, chains, Chain, chains_from, chain_places, chain_variables_in, rows, variable_at}
-use Rattle.step_clauses.specs.Formula.{literal_over, step_clauses, precondition_clauses, effect_clauses, frame_clauses, chain_clauses, initial_clauses, goal_clauses, known_clause, known_clauses}
+use Rattle.step_clauses.specs.Variables.{layout_of, chains, chains_from, chain_places, chain_variables_in, rows, variable_at}
+use Rattle.step_clauses.specs.Formula.{literal_over, step_clauses, precondition_clauses, effect_clauses, frame_clauses, chain_clauses, initial_clauses, goal_clauses, known_clauses}
 use Rattle.step_clauses.specs.Coded.{coded, literals_in, size_of}
-use Rattle.step_clauses.specs.Moved.{moved_code, one_step, one_time}
+use Rattle.step_clauses.specs.Moved.{one_step, one_time}
 use Rattle.step_clauses.proofs.CodedLaw.{coded-append}
 use Rattle.step_clauses.proofs.InRange.{IsInRange}
 use Rattle.step_clauses.proofs.Renamed.{literals_in-renamed}

@@ -1,16 +1,16 @@
-use Rattle.std.proofs.Common.{arith, ◌≡◌, ◌==◌, ℕ, zero, suc, ◌+◌, ◌-◌, ◌*◌, ◌/◌, ◌%◌, ◌<◌, ◌≤◌, List, [], ◌∷◌, ◌++◌, map, length, Bool, true, false, refl, sym, ap, ◌∙◌, fold, if◌then◌else◌, nat_lt, inl, inr, Option, Some, None, All}
-use Rattle.std.specs.List.{filter, flat_map, cons_option, AllByRecursion}
+use Rattle.std.proofs.Common.{arith, ◌≡◌, ◌==◌, ℕ, ◌+◌, ◌*◌, ◌/◌, ◌<◌, ◌≤◌, List, [], ◌∷◌, map, length, Bool, true, false, refl, fold, if◌then◌else◌, nat_lt, Some, None, All}
+use Rattle.std.specs.List.{cons_option, AllByRecursion}
 use Rattle.std.proofs.lemmas.Nat.{row_fits}
 use Rattle.std.proofs.lemmas.List.Elements.{All-nil, All-cons}
 use Rattle.gt_core.specs.Literal.{range}
 use Rattle.gt_core.specs.Task.{Task, effects, initial_state}
 use Rattle.gt_core.specs.Layout.{Layout, width, variables, action_at, conditional_at, chain_at, fact_at}
-use Rattle.gt_core.proofs.Basics.{Among, each_from}
+use Rattle.gt_core.proofs.Basics.{Among}
 use Rattle.gt_core.proofs.Literals.{below_range}
-use Rattle.clause_base.specs.Clause.{HasVariablesBelow, has_opposite_pair, put, clause_of}
+use Rattle.clause_base.specs.Clause.{HasVariablesBelow, has_opposite_pair, put}
 use Rattle.step_clauses.specs.Clause.{Literal, Is, Not, code}
 use Rattle.step_clauses.specs.Variables.{Row, rows, has_condition, layout_of, variable_at}
-use Rattle.step_clauses.specs.Formula.{literal_over, step_clauses, known_clauses, initial_clauses, goal_clauses}
+use Rattle.step_clauses.specs.Formula.{step_clauses, known_clauses, initial_clauses, goal_clauses}
 use Rattle.step_clauses.specs.Coded.{coded}
 use Rattle.step_clauses.proofs.Counts.{conditional_count}
 use Rattle.step_clauses.proofs.InRange.{IsInRange}

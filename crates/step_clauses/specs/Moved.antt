@@ -1,7 +1,6 @@
 use Rattle.std.specs.Prelude.{ℕ, ◌+◌, ◌-◌, ◌*◌, nat_lt, if◌then◌else◌, List}
 use Rattle.std.specs.List.{flat_map}
 use Rattle.gt_core.specs.Task.{Task}
-use Rattle.step_clauses.specs.Clause.{Literal}
 use Rattle.step_clauses.specs.Variables.{layout_of}
 use Rattle.step_clauses.specs.Formula.{step_clauses, known_clause}
 use Rattle.step_clauses.specs.Coded.{coded}

@@ -1,7 +1,7 @@
-use Rattle.std.proofs.Common.{arith, ◌≡◌, ◌==◌, ℕ, zero, suc, ◌+◌, ◌*◌, ◌/◌, ◌<◌, ◌≤◌, List, [], ◌∷◌, ◌++◌, map, length, Bool, true, false, ◌||◌, ◌&&◌, refl, sym, ap, ◌∙◌, subst, if◌then◌else◌, ◌⊎◌, inl, inr}
+use Rattle.std.proofs.Common.{arith, ◌≡◌, ◌==◌, ℕ, ◌+◌, ◌*◌, ◌/◌, ◌<◌, ◌≤◌, List, [], ◌∷◌, ◌++◌, map, length, Bool, true, false, ◌||◌, ◌&&◌, refl, sym, ap, ◌∙◌, subst, if◌then◌else◌, ◌⊎◌, inl, inr}
 use Rattle.std.specs.List.{flat_map}
 use Rattle.gt_core.specs.Literal.{opposite, holds, all_hold, range}
-use Rattle.gt_core.specs.Task.{Action, Task, EffectOf, effects, precondition, initial_state}
+use Rattle.gt_core.specs.Task.{Task, EffectOf, effects, precondition, initial_state}
 use Rattle.gt_core.specs.Interference.{disables, Knows, takes, reads}
 use Rattle.gt_core.specs.Step.{IsStep}
 use Rattle.gt_core.specs.Published.{Pairwise, order_of}
@@ -18,7 +18,7 @@ use Rattle.step_laws.proofs.StepLaw.{is_effective, StepHolds, StepMeans, step_ho
 use Rattle.step_laws.proofs.StepClauses.{over, effect_of_row, Means, unconditional, hold_clauses, preconditions_write}
 use Rattle.step_laws.proofs.ChainLaw.{NoneBefore, enter_holds, pass_holds}
 use Rattle.gt_core.specs.Execution.{IsGoal}
-use Rattle.step_clauses.proofs.InRange.{HasFacts, IsInRange, precondition_in, past}
+use Rattle.step_clauses.proofs.InRange.{IsInRange, past}
 use Rattle.step_clauses.proofs.Counts.{conditional_count}
 use Rattle.step_laws.proofs.Assignment.{Agrees, at, at_agrees, agrees_within, conditional_values, length-conditional_values, conditional_value, chain_values, length-chain_values, chain_at_place, has_chain_values, values, at_action, at_conditional, at_chain, at_fact}
 use Rattle.gt_core.proofs.RunLaw.{disables_over}

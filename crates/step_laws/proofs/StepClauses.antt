@@ -2,7 +2,6 @@ use Rattle.std.proofs.Common.{arith, ◌≡◌, ◌==◌, ℕ, zero, suc, ◌+�
 use Rattle.std.specs.List.{list_any, filter}
 use Rattle.std.proofs.lemmas.Bool.Decides.{nat_tests}
 use Rattle.gt_core.specs.Literal.{opposite, holds, all_hold, range}
-use Rattle.std.specs.Prelude.{slice_index_or}
 use Rattle.gt_core.specs.Task.{Action, Task, EffectOf, effects}
 use Rattle.gt_core.proofs.Basics.{Among, all_at, all_from, or_left, or_right, and_split, and_both}
 use Rattle.gt_core.proofs.Literals.{opposite_holds, among_range, below_range}
