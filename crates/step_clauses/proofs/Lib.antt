@@ -7,3 +7,4 @@ pub mod Renamed
 pub mod MovedLaw
 pub mod SizeLaw
 pub mod Within
+mod WorkedRows

@@ -30,7 +30,7 @@ pub size_append : (cs ds : List (List Literal)) → literals_in (coded (cs ++ ds
 size_append cs ds = rw (coded-append cs ds) (literals_append (coded cs) (coded ds))
 
 -- a literal by itself is a clause
-not_opposite : (l : ℕ) → (l == opposite l) ≡ false
+pub not_opposite : (l : ℕ) → (l == opposite l) ≡ false
 not_opposite l = not_true (l == opposite l) (λ e. apart_by l (l % 2 == 0) refl (test_same l (opposite l) e))
   where
     apart_by : (l : ℕ) (b : Bool) → (l % 2 == 0) ≡ b → l ≡ (if b then l + 1 else l - 1) → ⊥

@@ -10,7 +10,7 @@ ghost use Rattle.step_encoding.specs.Numbers.{HasNumbersOf, literals_of};
 use crate::steps::Steps;
 use clause_base::formula::Formula;
 use gt_core::layout::Layout;
-use gt_core::memory::Memory;
+use clause_base::memory::Memory;
 use std::alloc::Global;
 
 /// Why there is no formula.

@@ -7,5 +7,7 @@
 #![tactic(auto)]
 
 pub mod form;
+mod ends;
 mod moving;
 pub mod steps;
+mod truth;

@@ -3,12 +3,14 @@
 ghost use Rattle.std.specs.Prelude.{◌≡◌, ℕ, ◌+◌, ◌*◌, ◌/◌, ◌≤◌, ◌<◌, [], ◌∷◌, ◌++◌, map, OnOk, IfOk};
 ghost use Rattle.std.specs.List.{AllByRecursion};
 ghost use Rattle.clause_base.specs.Clause.{HasVariablesBelow};
+ghost use Rattle.gt_core.specs.Layout.{width};
 ghost use Rattle.step_clauses.specs.Moved.{moved_code};
 
 use clause_base::clause::Clause;
 use clause_base::formula::Formula;
 use clause_base::literal::{Lit, Lits};
-use gt_core::memory::Memory;
+use clause_base::memory::Memory;
+use gt_core::layout::Layout;
 use std::alloc::Global;
 
 /// Where the variables of one step go: the first `width` begin at `step`, and those after them at `facts`.
@@ -62,4 +64,38 @@ pub(crate) fn add_moved(alloc: Global, formula: &mut Formula, clauses: &[Clause]
         formula.add(moved_clause(alloc, clause, to)?)?;
     }
     Ok(())
+}
+
+/// Where the variables of one step go in a step of a layout.
+pub(crate) fn step_shift(layout: &Layout, step: u32) -> Shift
+    requires { step < layout.now.horizon }
+    ensures width { result.width ≡ width layout.now }
+    ensures step { result.step ≡ step * width layout.now }
+    ensures facts { result.facts ≡ layout.now.horizon * width layout.now + step * layout.now.facts }
+    ensures small { result.width ≤ 2147483647 }
+    ensures order { result.step + result.width ≤ result.facts }
+{
+    let width = u64::from(layout.actions) + u64::from(layout.conditional) + u64::from(layout.chains);
+    let facts = u64::from(layout.horizon) * width + u64::from(step) * u64::from(layout.facts);
+    Shift {
+        width: width as u32,
+        step: (u64::from(step) * width) as u32,
+        facts: facts as u32,
+    }
+}
+
+/// Where the variables of the facts go at a time of a layout.
+pub(crate) fn time_shift(layout: &Layout, time: u32) -> Shift
+    requires { time ≤ layout.now.horizon }
+    ensures width { result.width ≡ 0 }
+    ensures step { result.step ≡ 0 }
+    ensures facts { result.facts ≡ layout.now.horizon * width layout.now + time * layout.now.facts }
+{
+    let width = u64::from(layout.actions) + u64::from(layout.conditional) + u64::from(layout.chains);
+    let facts = u64::from(layout.horizon) * width + u64::from(time) * u64::from(layout.facts);
+    Shift {
+        width: 0,
+        step: 0,
+        facts: facts as u32,
+    }
 }
