@@ -54,13 +54,22 @@ fn initial_value(task: &Task, fact: u32) -> bool
 }
 
 /// Adds that each fact has its initial value at time 0.
-pub(crate) fn add_initial(alloc: Global, task: &Task, layout: &Layout, formula: &mut Formula) -> Result<(), Memory>
+pub(crate) fn add_initial(
+    alloc: Global,
+    task: &Task,
+    layout: &Layout,
+    formula: &mut Formula,
+) -> Result<(), Memory>
     requires facts { layout.now.facts ≡ task.now.facts }
     requires variables { formula.old.variables ≡ variables layout.now }
     ensures { OnOk result (formula.new ≡ added formula.old (coded (initial_clauses layout.now task.now))) }
 {
     for f in 0..task.facts() {
-        add_single(alloc, formula, fact_lit(layout, 0, f, initial_value(task, f)))?;
+        add_single(
+            alloc,
+            formula,
+            fact_lit(layout, 0, f, initial_value(task, f)),
+        )?;
     }
     Ok(())
 }
@@ -79,7 +88,12 @@ pub(crate) fn add_hopeless(alloc: Global, task: &Task, formula: &mut Formula) ->
 }
 
 /// Adds that the goal holds at the last time.
-pub(crate) fn add_goal(alloc: Global, task: &Task, layout: &Layout, formula: &mut Formula) -> Result<(), Memory>
+pub(crate) fn add_goal(
+    alloc: Global,
+    task: &Task,
+    layout: &Layout,
+    formula: &mut Formula,
+) -> Result<(), Memory>
     requires facts { layout.now.facts ≡ task.now.facts }
     requires variables { formula.old.variables ≡ variables layout.now }
     ensures { OnOk result (formula.new ≡ added formula.old (map (λ l. code (literal_over (fact_at layout.now layout.now.horizon) l) ∷ []) task.now.goal)) }

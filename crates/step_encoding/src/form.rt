@@ -9,8 +9,8 @@ ghost use Rattle.step_encoding.specs.Numbers.{HasNumbersOf, literals_of};
 
 use crate::steps::Steps;
 use clause_base::formula::Formula;
-use gt_core::layout::Layout;
 use clause_base::memory::Memory;
+use gt_core::layout::Layout;
 use std::alloc::Global;
 
 /// Why there is no formula.

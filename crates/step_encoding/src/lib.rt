@@ -6,8 +6,8 @@
 //! actions (Rintanen, Heljanko and Niemelä 2006).
 #![tactic(auto)]
 
-pub mod form;
 mod ends;
+pub mod form;
 mod moving;
 pub mod steps;
 mod truth;

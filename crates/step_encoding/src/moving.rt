@@ -50,7 +50,12 @@ fn moved_clause(alloc: Global, clause: &Clause, to: Shift) -> Result<Clause, Mem
 }
 
 /// Adds clauses to a formula with their variables moved.
-pub(crate) fn add_moved(alloc: Global, formula: &mut Formula, clauses: &[Clause], to: Shift) -> Result<(), Memory>
+pub(crate) fn add_moved(
+    alloc: Global,
+    formula: &mut Formula,
+    clauses: &[Clause],
+    to: Shift,
+) -> Result<(), Memory>
     requires width { to.width ≤ 2147483647 }
     requires order { to.step + to.width ≤ to.facts }
     requires small { formula.old.variables ≤ 2147483647 }
@@ -75,7 +80,9 @@ pub(crate) fn step_shift(layout: &Layout, step: u32) -> Shift
     ensures small { result.width ≤ 2147483647 }
     ensures order { result.step + result.width ≤ result.facts }
 {
-    let width = u64::from(layout.actions) + u64::from(layout.conditional) + u64::from(layout.chains);
+    let width = u64::from(layout.actions)
+        + u64::from(layout.conditional)
+        + u64::from(layout.chains);
     let facts = u64::from(layout.horizon) * width + u64::from(step) * u64::from(layout.facts);
     Shift {
         width: width as u32,
@@ -91,7 +98,9 @@ pub(crate) fn time_shift(layout: &Layout, time: u32) -> Shift
     ensures step { result.step ≡ 0 }
     ensures facts { result.facts ≡ layout.now.horizon * width layout.now + time * layout.now.facts }
 {
-    let width = u64::from(layout.actions) + u64::from(layout.conditional) + u64::from(layout.chains);
+    let width = u64::from(layout.actions)
+        + u64::from(layout.conditional)
+        + u64::from(layout.chains);
     let facts = u64::from(layout.horizon) * width + u64::from(time) * u64::from(layout.facts);
     Shift {
         width: 0,

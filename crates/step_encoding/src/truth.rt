@@ -21,7 +21,13 @@ fn is_true(values: &[bool], variable: u32) -> bool
 }
 
 /// Appends the members of a component that are true in a step.
-fn add_true(layout: &Layout, step: u32, members: &[u32], values: &[bool], into: &mut Vec<u32>) -> Result<(), Memory>
+fn add_true(
+    layout: &Layout,
+    step: u32,
+    members: &[u32],
+    values: &[bool],
+    into: &mut Vec<u32>,
+) -> Result<(), Memory>
     requires step { step < layout.now.horizon }
     requires members { AllByRecursion (λ a. a < layout.now.actions) members.now }
     requires values { length values.now ≡ variables layout.now }
@@ -36,7 +42,13 @@ fn add_true(layout: &Layout, step: u32, members: &[u32], values: &[bool], into: 
 }
 
 /// The actions that are true in a step, in published order.
-pub(crate) fn true_actions(alloc: Global, layout: &Layout, step: u32, order: &Order, values: &[bool]) -> Result<ActNumbers, Memory>
+pub(crate) fn true_actions(
+    alloc: Global,
+    layout: &Layout,
+    step: u32,
+    order: &Order,
+    values: &[bool],
+) -> Result<ActNumbers, Memory>
     requires step { step < layout.now.horizon }
     requires members { AllByRecursion (λ ks. AllByRecursion (λ a. a < layout.now.actions) ks) order.now }
     requires values { length values.now ≡ variables layout.now }
