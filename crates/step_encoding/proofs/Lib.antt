@@ -1,2 +1,3 @@
 pub mod Movable
 pub mod Parts
+pub mod Whole
