@@ -1,9 +1,7 @@
-use Rattle.std.proofs.Common.{arith, ◌≡◌, ℕ, zero, suc, ◌+◌, ◌-◌, ◌<◌, ◌≤◌, List, [], ◌∷◌, map, length, Bool, true, false, refl, sym, ap, ◌∙◌, subst, ◌⊎◌, inl, inr}
+use Rattle.std.proofs.Common.{arith, ◌≡◌, ℕ, zero, suc, ◌<◌, List, [], ◌∷◌, map, length, true, false, refl, sym, ap, ◌∙◌, inl, inr}
 use Rattle.std.proofs.lemmas.Bool.{cases_lt}
 use Rattle.gt_core.specs.Literal.{is_in}
-use Rattle.gt_core.specs.Published.{Reaches}
-use Rattle.gt_core.proofs.Basics.{or_left, same_test}
-use Rattle.action_order.specs.Graph.{leads, IsClassed, class_at}
+use Rattle.action_order.specs.Graph.{IsClassed, class_at}
 use Rattle.action_order.specs.Walk.{item, mark_of, IsWalk, number_of}
 use Rattle.action_order.specs.declared.walk.Mark.{Mark}
 use Rattle.action_order.specs.declared.walk.Mark.TheVariants.{Unseen, At, Done}
@@ -13,9 +11,9 @@ use Rattle.action_order.specs.declared.walk.Mark.TheVariants.{Unseen, At, Done}
 -- with no work left the stack is empty
 pub stack_empty : (targets : List (List ℕ)) (marks : List Mark) (next stack starts work roots : List ℕ) → IsWalk targets marks next stack starts work roots → length work ≡ 0 → length stack ≡ 0
 stack_empty targets marks next stack starts work roots w e = elim (cases_lt 0 (length stack)) [
-      inl h ↦ absurd (none work e 0 (w.starts_in_work 0 (w.bottom h)))
-    | inr h ↦ omega arith
-    ]
+  | inl h ↦ absurd (none work e 0 (w.starts_in_work 0 (w.bottom h)))
+  | inr h ↦ omega arith
+]
   where
     none : (xs : List ℕ) → length xs ≡ 0 → (x : ℕ) → is_in xs x ≡ true → ⊥
     none [] e x i = let f : false ≡ true = i in cc
@@ -42,16 +40,16 @@ module _ (targets : List (List ℕ)) (marks : List Mark) (next stack starts work
 
   pub classed : IsClassed targets (map number_of marks) roots
   classed = record {
-      long = length-numbers marks ∙ w.marks_long;
-      below = λ a lt. w.finished.known a (class_at (map number_of marks) a) lt (all_done a lt);
-      connected = λ a b la lb e. w.finished.connected a b (class_at (map number_of marks) a) la lb (all_done a la) (all_done b lb ∙ ap Done (sym e));
-      falls = λ a b la lb e.
+    long = length-numbers marks ∙ w.marks_long;
+    below = λ a lt. w.finished.known a (class_at (map number_of marks) a) lt (all_done a lt);
+    connected = λ a b la lb e. w.finished.connected a b (class_at (map number_of marks) a) la lb (all_done a la) (all_done b lb ∙ ap Done (sym e));
+    falls = λ a b la lb e.
         let r = w.finished.falls a b (class_at (map number_of marks) a) la (all_done a la) e in
         let same : Done r.0 ≡ Done (class_at (map number_of marks) b) = sym r.1 ∙ all_done b lb in
         let is : r.0 ≡ class_at (map number_of marks) b = cc in
         let le = r.2 in omega arith;
-      used = λ c lt.
+    used = λ c lt.
         let r = w.finished.used c lt in
         let same : Done (class_at (map number_of marks) (item roots c)) ≡ Done c = sym (all_done (item roots c) r.0) ∙ r.1 in
         (r.0, let is : class_at (map number_of marks) (item roots c) ≡ c = cc in is);
-    }
+  }

@@ -1,4 +1,4 @@
-use Rattle.std.proofs.Common.{arith, ◌≡◌, ◌==◌, ℕ, zero, suc, ◌+◌, ◌<◌, ◌≤◌, List, [], ◌∷◌, ◌++◌, length, Bool, true, false, refl, sym, ap, ◌∙◌, subst, set, replicate, ◌⊎◌, inl, inr}
+use Rattle.std.proofs.Common.{◌≡◌, ◌==◌, ℕ, ◌+◌, ◌<◌, List, [], ◌∷◌, ◌++◌, length, Bool, true, false, refl, sym, ap, ◌∙◌, set, ◌⊎◌, inl, inr}
 use Rattle.std.specs.Prelude.{slice_index_or, if◌then◌else◌}
 use Rattle.std.specs.List.{filter}
 use Rattle.std.proofs.lemmas.List.{get_or-set_same, get_or-set_other}
@@ -27,12 +27,12 @@ group_more classes groups a own is lt h c lc = by (cases_eq c own)
     by (inl s) =
         let test : (class_at classes a == c) ≡ true = same_test _ _ (sym is ∙ sym s) in
         ap (λ (x : ℕ). slice_index_or (set groups own (slice_index_or groups own [] ++ a ∷ [])) x []) s
-          ∙ get_or-set_same groups own (slice_index_or groups own [] ++ a ∷ []) [] lt
-          ∙ ap (λ (xs : List ℕ). xs ++ a ∷ []) (h own lt ∙ ap (members_below classes a) (sym s))
-          ∙ sym (members_more classes a c true test)
+        ∙ get_or-set_same groups own (slice_index_or groups own [] ++ a ∷ []) [] lt
+        ∙ ap (λ (xs : List ℕ). xs ++ a ∷ []) (h own lt ∙ ap (members_below classes a) (sym s))
+        ∙ sym (members_more classes a c true test)
     by (inr n) =
         let test : (class_at classes a == c) ≡ false = not_true (class_at classes a == c) (λ e. n (sym (test_same _ _ e) ∙ sym is)) in
         get_or-set_other groups own c (slice_index_or groups own [] ++ a ∷ []) [] n
-          ∙ h c lc
-          ∙ sym (append_nil (members_below classes a c))
-          ∙ sym (members_more classes a c false test)
+        ∙ h c lc
+        ∙ sym (append_nil (members_below classes a c))
+        ∙ sym (members_more classes a c false test)

@@ -1,14 +1,14 @@
 use Rattle.std.proofs.Common.{arith, ◌≡◌, ◌==◌, ℕ, zero, suc, ◌+◌, ◌<◌, ◌≤◌, List, [], ◌∷◌, ◌++◌, map, length, Bool, true, false, refl, sym, ap, ◌∙◌, subst, ◌⊎◌, inl, inr}
-use Rattle.std.specs.List.{filter, AllByRecursion}
-use Rattle.std.proofs.lemmas.Bool.{cases_lt, cases_eq}
+use Rattle.std.specs.List.{AllByRecursion}
+use Rattle.std.proofs.lemmas.Bool.{cases_eq}
 use Rattle.gt_core.specs.Literal.{is_in, range, range_from}
 use Rattle.gt_core.specs.Published.{Reaches, here, along, IsMutual, IsComponent, IsReady, IsNext, IsListed, Pairwise}
 use Rattle.gt_core.proofs.Basics.{Among, each_at, each_from, not_true, or_left, or_right, or_split, same_test, test_same, apart}
-use Rattle.gt_core.proofs.Literals.{in_among, among_in, in_split, in_left, in_right, among_range, below_range, in_range}
-use Rattle.gt_core.proofs.Pairwise.{pairwise_map, pairwise_filter, filtered, into_filter}
+use Rattle.gt_core.proofs.Literals.{in_among, among_in, in_split, in_left, in_right, among_range, below_range}
+use Rattle.gt_core.proofs.Pairwise.{pairwise_filter, filtered, into_filter}
 use Rattle.action_order.specs.Graph.{leads, class_at, IsGraph, IsClassed}
 use Rattle.action_order.specs.Walk.{item, targets_of}
-use Rattle.action_order.specs.Draw.{Crosses, IsQuotient, AreNames, IsDrawnNext, AreDrawn, IsDraw}
+use Rattle.action_order.specs.Draw.{IsQuotient, AreNames, IsDrawnNext, AreDrawn, IsDraw}
 use Rattle.std.specs.Prelude.{if◌then◌else◌}
 use Rattle.gt_core.specs.Published.{order_of}
 use Rattle.action_order.specs.Order.{name_in}
@@ -73,14 +73,14 @@ module _ (targets : List (List ℕ)) (classes roots : List ℕ) (rows : List (Li
 
   component : (c : ℕ) → IsComponent edge vertices (members classes c)
   component c = record {
-      of_actions = λ a i. in_vertices a (member_of c a i).0;
-      each_way = λ a b i j.
+    of_actions = λ a i. in_vertices a (member_of c a i).0;
+    each_way = λ a b i j.
         let x = member_of c a i in
         let y = member_of c b j in
         record { there = classed.connected a b x.0 y.0 (x.1 ∙ sym y.1); back = classed.connected b a y.0 x.0 (y.1 ∙ sym x.1) };
-      whole = λ a b i j m. let x = member_of c a i in is_member c b (vertex_below b j) (same_class a b x.0 (vertex_below b j) m ∙ x.1);
-      rising = members_rising c;
-    }
+    whole = λ a b i j m. let x = member_of c a i in is_member c b (vertex_below b j) (same_class a b x.0 (vertex_below b j) m ∙ x.1);
+    rising = members_rising c;
+  }
 
   -- a component's members begin with its name
   record Named (c : ℕ) : Type 0 where
@@ -101,9 +101,9 @@ module _ (targets : List (List ℕ)) (classes roots : List ℕ) (rows : List (Li
       let down : item names c ≤ k = subst (λ (x : ℕ). item names x ≤ k) own.1 (named.least k (let b = own.0 in omega arith)) in
       let r : Pairwise (λ a b. a < b) (k ∷ ks) = subst (λ (xs : List ℕ). Pairwise (λ a b. a < b) xs) e (members_rising c) in
       let up : k ≤ item names c = elim (or_split (k == item names c) (is_in ks (item names c)) i) [
-          inl s ↦ let t = test_same k (item names c) s in omega arith
+        | inl s ↦ let t = test_same k (item names c) s in omega arith
         | inr j ↦ let t = each_at (λ b. k < b) ks (item names c) r.0 (in_among ks (item names c) j) in omega arith
-        ] in
+      ] in
       let same : k ≡ item names c = omega arith in
       record { others = ks; is = e ∙ ap (λ (x : ℕ). x ∷ ks) same }
 
@@ -117,24 +117,24 @@ module _ (targets : List (List ℕ)) (classes roots : List ℕ) (rows : List (Li
 
   agrees_more : (taken before ks : List ℕ) (c : ℕ) → members classes c ≡ ks → Agrees taken before → Agrees (taken ++ ks) (before ++ c ∷ [])
   agrees_more taken before ks c e g = record {
-      drawn = λ a lt i. elim (in_split taken ks a i) [
-        inl j ↦ in_push_old before c (class_at classes a) (g.drawn a lt j)
+    drawn = λ a lt i. elim (in_split taken ks a i) [
+      | inl j ↦ in_push_old before c (class_at classes a) (g.drawn a lt j)
       | inr j ↦ let m = member_of c a (subst (λ (xs : List ℕ). is_in xs a ≡ true) (sym e) j) in
           subst (λ (x : ℕ). is_in (before ++ c ∷ []) x ≡ true) (sym m.1) (in_push_new before c)
-      ];
-      taken_too = λ a lt i. elim (in_push before c (class_at classes a) i) [
-        inl j ↦ in_left taken ks a (g.taken_too a lt j)
+    ];
+    taken_too = λ a lt i. elim (in_push before c (class_at classes a) i) [
+      | inl j ↦ in_left taken ks a (g.taken_too a lt j)
       | inr s ↦ in_right taken ks a (subst (λ (xs : List ℕ). is_in xs a ≡ true) e (is_member c a lt s))
-      ];
-    }
+    ];
+  }
 
   next_component : (taken before : List ℕ) (c : ℕ) → Agrees taken before → IsDrawnNext rows names before c → (n : Named c) → IsNext edge vertices taken (item names c) n.others
   next_component taken before c g d n = record {
-      component = subst (λ (xs : List ℕ). IsComponent edge vertices xs) n.is (component c);
-      new = not_true (is_in taken (item names c)) (λ h. apart (is_in before c) (subst (λ (x : ℕ). is_in before x ≡ true) name_class (g.drawn (item names c) name_below h)) d.new);
-      ready = λ a b i j e. ready_for a b (member_of c a (subst (λ (xs : List ℕ). is_in xs a ≡ true) (sym n.is) i)) (vertex_below b j) e (cases_eq (class_at classes b) c);
-      least = λ other ls lt k none ready. no_lesser other ls lt k none ready;
-    }
+    component = subst (λ (xs : List ℕ). IsComponent edge vertices xs) n.is (component c);
+    new = not_true (is_in taken (item names c)) (λ h. apart (is_in before c) (subst (λ (x : ℕ). is_in before x ≡ true) name_class (g.drawn (item names c) name_below h)) d.new);
+    ready = λ a b i j e. ready_for a b (member_of c a (subst (λ (xs : List ℕ). is_in xs a ≡ true) (sym n.is) i)) (vertex_below b j) e (cases_eq (class_at classes b) c);
+    least = λ other ls lt k none ready. no_lesser other ls lt k none ready;
+  }
     where
       below : c < length roots
       below = let l = q.long in let b = d.below in omega arith
@@ -160,16 +160,16 @@ module _ (targets : List (List ℕ)) (classes roots : List ℕ) (rows : List (Li
           let o_below : o < length rows = let b = classed.below other lo in let x = q.long in omega arith in
           let o_new : is_in before o ≡ false = not_true (is_in before o) (λ h. apart (is_in taken other) (g.taken_too other lo h) none) in
           let o_ready : (x : ℕ) → leads rows o x ≡ true → is_in before x ≡ true = λ x e.
-            let s = q.sound o x (let y = q.long in omega arith) e in
-            let cross = s.0 in
-            let member : is_in (other ∷ ls) cross.source ≡ true = k.whole other cross.source first (in_vertices cross.source cross.source_below) (record {
-              there = classed.connected other cross.source lo cross.source_below (sym cross.source_class);
-              back = classed.connected cross.source other cross.source_below lo cross.source_class;
-            }) in
-            elim (ready cross.source cross.target member (in_vertices cross.target cross.target_below) cross.edge) [
-              inl i ↦ absurd (s.1 (sym cross.target_class ∙ same_class other cross.target lo cross.target_below (k.each_way other cross.target first i)))
+          let s = q.sound o x (let y = q.long in omega arith) e in
+          let cross = s.0 in
+          let member : is_in (other ∷ ls) cross.source ≡ true = k.whole other cross.source first (in_vertices cross.source cross.source_below) (record {
+            there = classed.connected other cross.source lo cross.source_below (sym cross.source_class);
+            back = classed.connected cross.source other cross.source_below lo cross.source_class;
+          }) in
+          elim (ready cross.source cross.target member (in_vertices cross.target cross.target_below) cross.edge) [
+            | inl i ↦ absurd (s.1 (sym cross.target_class ∙ same_class other cross.target lo cross.target_below (k.each_way other cross.target first i)))
             | inr i ↦ subst (λ (y : ℕ). is_in before y ≡ true) cross.target_class (g.drawn cross.target cross.target_below i)
-            ] in
+          ] in
           let le = d.least o o_below o_new o_ready in
           let down : item names o ≤ other = named.least other (omega arith) in
           omega arith
@@ -180,13 +180,13 @@ module _ (targets : List (List ℕ)) (classes roots : List ℕ) (rows : List (Li
       let c = class_at classes a in
       let lc : c < length rows = let b = classed.below a lt in let l = q.long in omega arith in
       elim (in_split before [] c (all c lc)) [
-        inl j ↦ g.taken_too a lt j
-      | inr j ↦ absurd (let f : false ≡ true = j in cc)
+        | inl j ↦ g.taken_too a lt j
+        | inr j ↦ absurd (let f : false ≡ true = j in cc)
       ]
   listed_from (c ∷ after) before taken d all g =
       let n = named_list c (let l = q.long in let b = d.0.below in omega arith) in
       let more : IsListed edge vertices (taken ++ item names c ∷ n.others) (map (members classes) after) =
-        listed_from after (before ++ c ∷ []) (taken ++ item names c ∷ n.others) d.1 (λ x lx. subst (λ (xs : List ℕ). is_in xs x ≡ true) (moved before) (all x lx)) (agrees_more taken before (item names c ∷ n.others) c n.is g) in
+      listed_from after (before ++ c ∷ []) (taken ++ item names c ∷ n.others) d.1 (λ x lx. subst (λ (xs : List ℕ). is_in xs x ≡ true) (moved before) (all x lx)) (agrees_more taken before (item names c ∷ n.others) c n.is g) in
       subst (λ (xs : List ℕ). IsListed edge vertices taken (xs ∷ map (members classes) after)) (sym n.is) (next_component taken before c g d.0 n, more)
     where
       moved : (ys : List ℕ) → ys ++ c ∷ after ≡ (ys ++ c ∷ []) ++ after
@@ -218,17 +218,17 @@ module _ (targets : List (List ℕ)) (classes roots : List ℕ) (rows : List (Li
   name_listed (c ∷ order) a lt below i =
       let n = named_list c (below c (or_left (c == c) (is_in order c) (same_test c c refl))) in
       subst (λ (xs : List ℕ). name_in (xs ∷ listed classes order) a ≡ item names (class_at classes a)) (sym n.is)
-        (name_first order c a lt n (cases_eq (class_at classes a) c) (λ s. name_listed order a lt (λ x j. below x (or_right (c == x) (is_in order x) j)) (elim (or_split (c == class_at classes a) (is_in order (class_at classes a)) i) [
-          inl e ↦ absurd (s (sym (test_same c (class_at classes a) e)))
+      (name_first order c a lt n (cases_eq (class_at classes a) c) (λ s. name_listed order a lt (λ x j. below x (or_right (c == x) (is_in order x) j)) (elim (or_split (c == class_at classes a) (is_in order (class_at classes a)) i) [
+        | inl e ↦ absurd (s (sym (test_same c (class_at classes a) e)))
         | inr j ↦ j
-        ])))
+      ])))
 
   pub listed_below : (order : List ℕ) (a : ℕ) → is_in (order_of (listed classes order)) a ≡ true → a < length targets
   listed_below [] a i = absurd (let f : false ≡ true = i in cc)
   listed_below (c ∷ order) a i = elim (in_split (members classes c) (order_of (listed classes order)) a i) [
-      inl j ↦ (member_of c a j).0
+    | inl j ↦ (member_of c a j).0
     | inr j ↦ listed_below order a j
-    ]
+  ]
 
 -- a name by the number of its component
 pub name_item : (names classes : List ℕ) (a : ℕ) → a < length classes → item (map (item names) classes) a ≡ item names (class_at classes a)

@@ -1,12 +1,12 @@
-use Rattle.std.proofs.Common.{arith, ◌≡◌, ◌≢◌, ◌==◌, ℕ, zero, suc, ◌+◌, ◌-◌, ◌<◌, ◌≤◌, List, [], ◌∷◌, ◌++◌, length, take, Bool, true, false, ◌||◌, refl, sym, ap, ◌∙◌, subst, ◌⊎◌, inl, inr, get_or, set}
-use Rattle.std.specs.Prelude.{slice_index_or, nat_lt, ◌&&◌}
-use Rattle.std.specs.List.{list_any, AllByRecursion}
-use Rattle.std.proofs.lemmas.List.{take_more, get_or_append_left, get_or_push, length_push, get_or-set_same, get_or-set_other}
-use Rattle.std.proofs.lemmas.Bool.{cases_lt, cases_eq}
+use Rattle.std.proofs.Common.{arith, ◌≡◌, ◌==◌, ℕ, zero, suc, ◌+◌, ◌-◌, ◌<◌, ◌≤◌, List, [], ◌∷◌, ◌++◌, length, take, Bool, true, false, refl, sym, ap, ◌∙◌, subst, ◌⊎◌, inl, inr}
+use Rattle.std.specs.Prelude.{slice_index_or, nat_lt}
+use Rattle.std.specs.List.{AllByRecursion}
+use Rattle.std.proofs.lemmas.List.{take_more, get_or_append_left, get_or_push, length_push}
+use Rattle.std.proofs.lemmas.Bool.{cases_lt}
 use Rattle.std.proofs.lemmas.Bool.Decides.{nat_tests}
 use Rattle.gt_core.specs.Literal.{is_in, range, range_from}
 use Rattle.gt_core.specs.Published.{Reaches, here, along, Pairwise}
-use Rattle.gt_core.proofs.Basics.{Among, each_at, each_from, and_split, or_split, or_left, or_right, same_test, test_same}
+use Rattle.gt_core.proofs.Basics.{each_at, each_from, and_split, or_split, or_left, or_right, same_test, test_same}
 use Rattle.gt_core.proofs.Literals.{in_among, among_in, in_split, in_left, in_right}
 use Rattle.std.proofs.Math.Seq.{take-length}
 use Rattle.action_order.specs.Walk.{item, IsLast, ends_past}
@@ -28,8 +28,8 @@ place_cases xs y p lt =
 pub in_push : (xs : List ℕ) (y x : ℕ) → is_in (xs ++ y ∷ []) x ≡ true → (is_in xs x ≡ true) ⊎ (x ≡ y)
 in_push xs y x h =
     elim (in_split xs (y ∷ []) x h) [
-      inl i ↦ inl i
-    | inr i ↦ elim (or_split (y == x) false i) [ inl e ↦ inr (sym (test_same y x e)) | inr e ↦ absurd (let f : false ≡ true = e in cc) ]
+      | inl i ↦ inl i
+      | inr i ↦ elim (or_split (y == x) false i) [ inl e ↦ inr (sym (test_same y x e)) | inr e ↦ absurd (let f : false ≡ true = e in cc) ]
     ]
 
 pub in_push_new : (xs : List ℕ) (y : ℕ) → is_in (xs ++ y ∷ []) y ≡ true
@@ -44,12 +44,13 @@ Rising xs = Pairwise (λ a b. a < b) xs
 
 pub rising_push : (xs : List ℕ) (y : ℕ) → Rising xs → ((x : ℕ) → is_in xs x ≡ true → x < y) → Rising (xs ++ y ∷ [])
 rising_push [] y r h = (tt, tt)
-rising_push (x ∷ xs) y r h =
-    (each_from _ (xs ++ y ∷ []) (λ z i. elim (in_push xs y z (among_in _ z i)) [
-        inl k ↦ each_at (λ b. x < b) xs z r.0 (in_among xs z k)
-      | inr e ↦ let lt = h x (or_left (x == x) (is_in xs x) (same_test x x refl)) in omega arith
-      ]),
-     rising_push xs y r.1 (λ z k. h z (or_right (x == z) (is_in xs z) k)))
+rising_push (x ∷ xs) y r h = (
+  each_from _ (xs ++ y ∷ []) (λ z i. elim (in_push xs y z (among_in _ z i)) [
+    | inl k ↦ each_at (λ b. x < b) xs z r.0 (in_among xs z k)
+    | inr e ↦ let lt = h x (or_left (x == x) (is_in xs x) (same_test x x refl)) in omega arith
+  ]),
+  rising_push xs y r.1 (λ z k. h z (or_right (x == z) (is_in xs z) k)),
+)
 
 pub rising_front : (xs : List ℕ) (y : ℕ) → Rising (xs ++ y ∷ []) → Rising xs
 rising_front [] y r = tt
@@ -60,10 +61,10 @@ pub rising_last : (xs : List ℕ) (y x : ℕ) → Rising (xs ++ y ∷ []) → is
 rising_last [] y x r h = absurd (let f : false ≡ true = h in cc)
 rising_last (z ∷ xs) y x r h =
     elim (or_split (z == x) (is_in xs x) h) [
-      inl e ↦
-        let s = test_same z x e in
-        let lt : z < y = each_at (λ b. z < b) (xs ++ y ∷ []) y r.0 (in_among _ y (in_push_new xs y)) in omega arith
-    | inr k ↦ rising_last xs y x r.1 k
+      | inl e ↦
+          let s = test_same z x e in
+          let lt : z < y = each_at (λ b. z < b) (xs ++ y ∷ []) y r.0 (in_among _ y (in_push_new xs y)) in omega arith
+      | inr k ↦ rising_last xs y x r.1 k
     ]
 
 -- paths
@@ -84,8 +85,8 @@ pub place_of : (xs : List ℕ) (x : ℕ) → is_in xs x ≡ true → Place xs x
 place_of [] x h = absurd (let f : false ≡ true = h in cc)
 place_of (y ∷ xs) x h =
     elim (or_split (y == x) (is_in xs x) h) [
-      inl e ↦ record { place = 0; within = omega arith; is = test_same y x e }
-    | inr k ↦ let r = place_of xs x k in record { place = suc r.place; within = let w = r.within in omega arith; is = r.is }
+      | inl e ↦ record { place = 0; within = omega arith; is = test_same y x e }
+      | inr k ↦ let r = place_of xs x k in record { place = suc r.place; within = let w = r.within in omega arith; is = r.is }
     ]
 
 pub in_at : (xs : List ℕ) (i : ℕ) → i < length xs → is_in xs (item xs i) ≡ true
@@ -110,15 +111,15 @@ front_last xs x l =
 -- where a rising list does not end past a number, none of it is
 pub none_past : (xs : List ℕ) (to : ℕ) → Rising xs → ends_past to xs ≡ false → (s : ℕ) → is_in xs s ≡ true → s ≤ to
 none_past xs to r e s i = elim (cases_lt 0 (length xs)) [
-      inl some ↦
-        let last : item xs (length xs - 1) ≤ to = below some e in
-        let is = front_last xs (item xs (length xs - 1)) (record { some = some; is = refl }) in
-        elim (in_push (take (length xs - 1) xs) (item xs (length xs - 1)) s (subst (λ (ys : List ℕ). is_in ys s ≡ true) is i)) [
-          inl k ↦ let lt = rising_last (take (length xs - 1) xs) (item xs (length xs - 1)) s (subst (λ (ys : List ℕ). Rising ys) is r) k in omega arith
+  | inl some ↦
+      let last : item xs (length xs - 1) ≤ to = below some e in
+      let is = front_last xs (item xs (length xs - 1)) (record { some = some; is = refl }) in
+      elim (in_push (take (length xs - 1) xs) (item xs (length xs - 1)) s (subst (λ (ys : List ℕ). is_in ys s ≡ true) is i)) [
+        | inl k ↦ let lt = rising_last (take (length xs - 1) xs) (item xs (length xs - 1)) s (subst (λ (ys : List ℕ). Rising ys) is r) k in omega arith
         | inr s_is ↦ omega arith
-        ]
-    | inr none ↦ let p = place_of xs s i in let w = p.within in absurd (omega arith)
-    ]
+      ]
+  | inr none ↦ let p = place_of xs s i in let w = p.within in absurd (omega arith)
+]
   where
     below : 0 < length xs → ends_past to xs ≡ false → item xs (length xs - 1) ≤ to
     below some no_end = grind (arith, nat_tests)
@@ -138,8 +139,8 @@ pub last_greatest : (xs : List ℕ) (x : ℕ) → Rising xs → IsLast xs x → 
 last_greatest xs x r l y i =
     let is = front_last xs x l in
     elim (in_push (take (length xs - 1) xs) x y (subst (λ (ys : List ℕ). is_in ys y ≡ true) is i)) [
-      inl k ↦ let lt = rising_last (take (length xs - 1) xs) x y (subst (λ (ys : List ℕ). Rising ys) is r) k in omega arith
-    | inr e ↦ omega arith
+      | inl k ↦ let lt = rising_last (take (length xs - 1) xs) x y (subst (λ (ys : List ℕ). Rising ys) is r) k in omega arith
+      | inr e ↦ omega arith
     ]
 
 pub last_in : (xs : List ℕ) (x : ℕ) → IsLast xs x → is_in xs x ≡ true

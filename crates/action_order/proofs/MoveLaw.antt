@@ -1,16 +1,14 @@
-use Rattle.std.proofs.Common.{arith, ◌≡◌, ◌≢◌, ◌==◌, ℕ, zero, suc, ◌+◌, ◌-◌, ◌*◌, ◌<◌, ◌≤◌, List, [], ◌∷◌, ◌++◌, length, take, Bool, true, false, ◌&&◌, refl, sym, ap, ◌∙◌, subst, ◌⊎◌, inl, inr, get_or, set, sum, sum_by}
+use Rattle.std.proofs.Common.{arith, ◌≡◌, ◌==◌, ℕ, suc, ◌+◌, ◌-◌, ◌<◌, ◌≤◌, List, [], ◌∷◌, length, Bool, true, false, refl, sym, ◌∙◌, inl, inr, set, sum, sum_by}
 use Rattle.std.specs.Prelude.{nat_lt}
-use Rattle.std.proofs.lemmas.Bool.{cases_lt, cases_eq}
+use Rattle.std.proofs.lemmas.Bool.{cases_lt}
 use Rattle.std.proofs.lemmas.Bool.Decides.{nat_tests}
 use Rattle.std.proofs.lemmas.List.Sums.{sum_by-set, sum_by-cons}
-use Rattle.std.proofs.lemmas.List.{length-set, get_or-set_same, get_or-set_other}
 use Rattle.gt_core.specs.Literal.{is_in}
-use Rattle.gt_core.specs.Published.{Reaches, here, along, Pairwise}
+use Rattle.gt_core.specs.Published.{Reaches}
 use Rattle.gt_core.proofs.Basics.{and_split, and_both, not_true, test_same, same_test}
 use Rattle.action_order.specs.Graph.{leads}
-use Rattle.action_order.specs.Walk.{item, mark_of, targets_of, IsSeen, IsStart, IsWalk, AllReach, IsLast, ends_with, work_left}
+use Rattle.action_order.specs.Walk.{item, targets_of, IsWalk, AllReach, IsLast, ends_with, work_left}
 use Rattle.action_order.specs.declared.walk.Mark.{Mark}
-use Rattle.action_order.specs.declared.walk.Mark.TheVariants.{Unseen, At, Done}
 use Rattle.action_order.proofs.Lists.{reaches_more, reaches_edge, last_in, last_greatest}
 
 -- What one move of the walk may rely on, and that the work that is left falls.
@@ -27,9 +25,9 @@ module _ (targets : List (List ℕ)) (marks : List Mark) (next stack starts work
 
   some_start : 0 < length starts
   some_start = elim (cases_lt 0 (length starts)) [
-      inl h ↦ h
+    | inl h ↦ h
     | inr h ↦ let lt = last_place in absurd (none starts (omega arith) (w.bottom (omega arith)))
-    ]
+  ]
     where
       none : (xs : List ℕ) → length xs ≡ 0 → is_in xs 0 ≡ true → ⊥
       none [] e i = let f : false ≡ true = i in cc
@@ -47,10 +45,10 @@ module _ (targets : List (List ℕ)) (marks : List Mark) (next stack starts work
       let here_on = reaches_edge edge (item stack place) v e in
       let top_le : top_start ≤ place = greatest_work top_start (w.starts_in_work top_start (last_in starts top_start top_last)) in
       elim (cases_lt place p) [
-        inl h ↦
-          let up = w.back p top_start lt (record { start = last_in starts top_start top_last; before = omega arith; last = λ r i lr. last_greatest starts top_start w.starts_rising top_last r i }) in
-          reaches_more edge _ _ _ up (reaches_more edge _ _ _ (w.path top_start place top_le last_place) here_on)
-      | inr h ↦ reaches_more edge _ _ _ (w.path p place h last_place) here_on
+        | inl h ↦
+            let up = w.back p top_start lt (record { start = last_in starts top_start top_last; before = omega arith; last = λ r i lr. last_greatest starts top_start w.starts_rising top_last r i }) in
+            reaches_more edge _ _ _ up (reaches_more edge _ _ _ (w.path top_start place top_le last_place) here_on)
+        | inr h ↦ reaches_more edge _ _ _ (w.path p place h last_place) here_on
       ]
 
   pub reach_at : (v q : ℕ) → edge (item stack place) v ≡ true → item stack q ≡ v → Reaches edge (item stack place) (item stack q)

@@ -1,16 +1,16 @@
-use Rattle.std.proofs.Common.{arith, ◌≡◌, ◌==◌, ℕ, zero, suc, ◌+◌, ◌<◌, ◌≤◌, List, [], ◌∷◌, ◌++◌, length, Bool, true, false, not, refl, sym, ap, ◌∙◌, subst, ◌⊎◌, inl, inr, set, Some, Option}
+use Rattle.std.proofs.Common.{arith, ◌≡◌, ◌==◌, ℕ, zero, suc, ◌+◌, ◌<◌, ◌≤◌, List, [], ◌∷◌, ◌++◌, length, Bool, true, false, not, refl, sym, ap, ◌∙◌, subst, inl, inr, set, Some}
 use Rattle.std.specs.Prelude.{slice_get, if◌then◌else◌}
 use Rattle.std.specs.List.{filter, AllByRecursion}
 use Rattle.std.proofs.lemmas.List.{length-append, get_or-set_same, get_or-set_other}
 use Rattle.std.proofs.lemmas.Bool.{cases_lt}
 use Rattle.gt_core.specs.Literal.{is_in}
 use Rattle.gt_core.specs.Published.{IsListed, Pairwise, order_of}
-use Rattle.gt_core.proofs.Basics.{Among, each_at, each_from, apart, same_test, test_same, cases, not_true, not_false, not_split}
+use Rattle.gt_core.proofs.Basics.{each_at, each_from, apart, same_test, test_same, not_true, not_split}
 use Rattle.gt_core.proofs.Literals.{in_among, among_in}
 use Rattle.gt_core.proofs.Pairwise.{pairwise_filter, filtered}
 use Rattle.action_order.specs.Walk.{item}
-use Rattle.action_order.specs.Order.{IsOrder, name_in}
-use Rattle.action_order.proofs.Lists.{Place, place_of, in_at}
+use Rattle.action_order.specs.Order.{IsOrder}
+use Rattle.action_order.proofs.Lists.{place_of, in_at}
 
 -- The look-ups of an order, and how long it is.
 
@@ -60,11 +60,11 @@ at_most_once : (n : ℕ) (xs : List ℕ) → Unequal xs → length xs ≤ length
 at_most_once n [] u = omega arith
 at_most_once n (x ∷ xs) u =
     once_by x xs (without n xs) (x == n)
-      (λ e.
-        let same = test_same x n e in
-        let none : AllByRecursion (λ y. (y == n) ≡ false) xs = each_from _ xs (λ y i. not_true (y == n) (λ s. apart (x == y) (same_test x y (same ∙ sym (test_same y n s))) (each_at (λ z. (x == z) ≡ false) xs y u.0 i))) in
-        ap (length {A = ℕ}) (kept_whole n xs none))
-      (at_most_once n xs u.1)
+    (λ e.
+    let same = test_same x n e in
+    let none : AllByRecursion (λ y. (y == n) ≡ false) xs = each_from _ xs (λ y i. not_true (y == n) (λ s. apart (x == y) (same_test x y (same ∙ sym (test_same y n s))) (each_at (λ z. (x == z) ≡ false) xs y u.0 i))) in
+    ap (length {A = ℕ}) (kept_whole n xs none))
+    (at_most_once n xs u.1)
 
 -- unequal numbers below n are at most n
 pub few_unequal : (n : ℕ) (xs : List ℕ) → ((x : ℕ) → is_in xs x ≡ true → x < n) → Unequal xs → length xs ≤ n
@@ -73,10 +73,10 @@ few_unequal zero (x ∷ xs) h u = absurd (let lt = h x (among_in (x ∷ xs) x (i
 few_unequal (suc n) xs h u =
     let ys = without n xs in
     let below : (x : ℕ) → is_in ys x ≡ true → x < n = λ x i.
-      let p = filtered (λ x. not (x == n)) xs x (in_among ys x i) in
-      let lt = h x (among_in xs x p.0) in
-      let ne : x ≡ n → ⊥ = λ e. apart (x == n) (same_test x n e) (not_split (x == n) p.1) in
-      omega arith in
+    let p = filtered (λ x. not (x == n)) xs x (in_among ys x i) in
+    let lt = h x (among_in xs x p.0) in
+    let ne : x ≡ n → ⊥ = λ e. apart (x == n) (same_test x n e) (not_split (x == n) p.1) in
+    omega arith in
     let r = few_unequal n ys below (pairwise_filter (λ x. not (x == n)) (λ a b. (a == b) ≡ false) (λ a b. (a == b) ≡ false) xs (λ a b x y q. q) u) in
     let once = at_most_once n xs u in omega arith
 
@@ -96,8 +96,8 @@ each_below (x ∷ xs) n h = (h 0 (omega arith), each_below xs n (λ a lt. h (suc
 -- one more place was written
 pub placed_more : (order places : List ℕ) (count p : ℕ) → length places ≡ count → p < length order → item order p < count → ((k q : ℕ) → k < q → q < length order → item order k ≡ item order q → ⊥) → ((k : ℕ) → k < p → item places (item order k) ≡ k) → (k : ℕ) → k < p + 1 → item (set places (item order p) p) (item order k) ≡ k
 placed_more order places count p long lp below unequal h k lk = elim (cases_lt k p) [
-      inl lt ↦ get_or-set_other places (item order p) (item order k) p 0 (λ e. unequal k p lt lp e) ∙ h k lt
-    | inr ge ↦
-        let s : k ≡ p = omega arith in
-        subst (λ (x : ℕ). item (set places (item order p) p) (item order x) ≡ x) (sym s) (get_or-set_same places (item order p) p 0 (omega arith))
-    ]
+  | inl lt ↦ get_or-set_other places (item order p) (item order k) p 0 (λ e. unequal k p lt lp e) ∙ h k lt
+  | inr ge ↦
+      let s : k ≡ p = omega arith in
+      subst (λ (x : ℕ). item (set places (item order p) p) (item order x) ≡ x) (sym s) (get_or-set_same places (item order p) p 0 (omega arith))
+]

@@ -1,4 +1,4 @@
-use Rattle.std.proofs.Common.{arith, ◌≡◌, ◌==◌, ℕ, suc, ◌+◌, ◌<◌, ◌≤◌, List, [], ◌∷◌, ◌++◌, length, Bool, true, false, not, ◌&&◌, refl, sym, ap, ◌∙◌, subst, ◌⊎◌, inl, inr}
+use Rattle.std.proofs.Common.{arith, ◌≡◌, ◌==◌, ℕ, suc, ◌<◌, ◌≤◌, List, [], ◌∷◌, ◌++◌, length, Bool, true, false, not, ◌&&◌, refl, sym, ap, ◌∙◌, subst, inl, inr}
 use Rattle.std.specs.Prelude.{slice_index_or}
 use Rattle.std.specs.List.{AllByRecursion}
 use Rattle.std.proofs.lemmas.List.{get_or_past}
@@ -7,13 +7,13 @@ use mathlib.Core.Path.{fun_ext}
 use Rattle.gt_core.specs.Literal.{is_in, range}
 use Rattle.gt_core.specs.Task.{Task, Action, action, actions_of}
 use Rattle.gt_core.specs.Interference.{has_edge}
-use Rattle.gt_core.specs.Published.{IsListed, IsPublished, order_of, Pairwise}
+use Rattle.gt_core.specs.Published.{IsListed, IsPublished, order_of}
 use Rattle.gt_core.proofs.Basics.{each_from}
 use Rattle.gt_core.proofs.Literals.{in_among, among_in, in_split, below_range}
 use Rattle.gt_core.proofs.PublishedLaw.{published_apart}
 use Rattle.action_order.specs.Graph.{leads, IsGraph}
-use Rattle.action_order.specs.Walk.{item, targets_of}
-use Rattle.action_order.specs.Edge.{edge_in, act_at, disables_acts, together_acts, IsRow, AreTargets}
+use Rattle.action_order.specs.Walk.{item}
+use Rattle.action_order.specs.Edge.{disables_acts, together_acts, AreTargets}
 use Rattle.action_order.specs.Order.{IsOrder, name_in}
 use Rattle.action_order.proofs.EdgeLaw.{edge_is}
 use Rattle.action_order.proofs.Lists.{in_at}
@@ -33,9 +33,9 @@ listed_actions : (edge : ℕ → ℕ → Bool) (actions taken : List ℕ) (compo
 listed_actions edge actions taken [] h a i = absurd (let f : false ≡ true = i in cc)
 listed_actions edge actions taken ([] ∷ rest) h a i = absurd h
 listed_actions edge actions taken ((name ∷ ks) ∷ rest) h a i = elim (in_split (name ∷ ks) (order_of rest) a i) [
-      inl j ↦ h.0.component.of_actions a j
-    | inr j ↦ listed_actions edge actions (taken ++ name ∷ ks) rest h.1 a j
-    ]
+  | inl j ↦ h.0.component.of_actions a j
+  | inr j ↦ listed_actions edge actions (taken ++ name ∷ ks) rest h.1 a j
+]
 
 module _ (task : Task) (clauses : List (ℕ × ℕ)) (targets : List (List ℕ)) (t : AreTargets clauses task.actions targets) where
   pub is_graph : IsGraph targets
@@ -45,19 +45,19 @@ module _ (task : Task) (clauses : List (ℕ × ℕ)) (targets : List (List ℕ))
   past_edge a b le =
       let nothing : Action = record { precondition = []; effects = [] } in
       edge_is task clauses a b
-        ∙ ap (λ (x : Action). (not (a == b) && disables_acts x (action task b)) && together_acts clauses (action task a) (action task b)) (get_or_past task.actions a nothing le)
-        ∙ none_left (not (a == b)) (together_acts clauses (action task a) (action task b))
+      ∙ ap (λ (x : Action). (not (a == b) && disables_acts x (action task b)) && together_acts clauses (action task a) (action task b)) (get_or_past task.actions a nothing le)
+      ∙ none_left (not (a == b)) (together_acts clauses (action task a) (action task b))
 
   leads_is : (a b : ℕ) → leads targets a b ≡ has_edge task clauses a b
   leads_is a b = elim (cases_lt a (length task.actions)) [
-      inl lt ↦ (t.rows a lt).tells b ∙ sym (edge_is task clauses a b)
+    | inl lt ↦ (t.rows a lt).tells b ∙ sym (edge_is task clauses a b)
     | inr le ↦ ap (λ (xs : List ℕ). is_in xs b) (get_or_past targets a [] (let l = t.long in omega arith)) ∙ sym (past_edge a b le)
-    ]
+  ]
 
   pub is_published : (components : List (List ℕ)) → IsListed (leads targets) (range (length targets)) [] components → IsPublished task clauses components
   is_published components h =
       subst (λ (e : ℕ → ℕ → Bool). IsListed e (actions_of task) [] components) (fun_ext (λ a. fun_ext (λ b. leads_is a b)))
-        (subst (λ (n : ℕ). IsListed (leads targets) (range n) [] components) t.long h)
+      (subst (λ (n : ℕ). IsListed (leads targets) (range n) [] components) t.long h)
 
 module _ (task : Task) (clauses : List (ℕ × ℕ)) (components : List (List ℕ)) (p : IsPublished task clauses components) where
   pub action_below : (a : ℕ) → is_in (order_of components) a ≡ true → a < length task.actions
@@ -77,9 +77,10 @@ module _ (task : Task) (clauses : List (ℕ × ℕ)) (components : List (List �
 
   pub is_order : (order places names : List ℕ) → length task.actions ≤ 16384 → order ≡ order_of components → length places ≡ length task.actions → ((q : ℕ) → q < length order → item places (item order q) ≡ q) → length names ≡ length task.actions → ((a : ℕ) → a < length task.actions → item names a ≡ name_in components a) → IsOrder components order places names
   is_order order places names few flat places_long placed names_long named = record {
-      flat = flat;
-      placed = λ q lt. (let b = action_below (item order q) (subst (λ (xs : List ℕ). is_in xs (item order q) ≡ true) flat (in_at order q lt)) in omega arith, placed q lt);
-      names_long = names_long ∙ sym places_long;
-      named = λ a i. named a (action_below a (subst (λ (xs : List ℕ). is_in xs a ≡ true) flat i));
-      few = let c = components_few in omega arith;
-    }
+    flat = flat;
+    placed = λ q lt. (let b = action_below (item order q) (subst (λ (xs : List ℕ). is_in xs (item order q) ≡ true) flat (in_at order q lt)) in omega arith, placed q lt);
+    names_long = names_long ∙ sym places_long;
+    named = λ a i. named a (action_below a (subst (λ (xs : List ℕ). is_in xs a ≡ true) flat i));
+    few = let c = components_few in omega arith;
+    short = let n = ap (length {A = ℕ}) flat in let f = order_few in omega arith;
+  }

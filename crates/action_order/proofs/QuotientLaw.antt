@@ -1,5 +1,4 @@
-use Rattle.std.proofs.Common.{arith, ◌≡◌, ◌==◌, ℕ, ◌+◌, ◌<◌, ◌≤◌, List, [], ◌∷◌, ◌++◌, map, length, Bool, true, false, not, refl, sym, ap, ◌∙◌, subst, ◌⊎◌, inl, inr, set}
-use Rattle.std.specs.List.{filter}
+use Rattle.std.proofs.Common.{arith, ◌≡◌, ◌==◌, ℕ, ◌+◌, ◌<◌, List, [], ◌∷◌, ◌++◌, map, length, true, not, refl, sym, ◌∙◌, subst, inl, inr, set}
 use Rattle.std.proofs.lemmas.List.{length-set, get_or-set_same, get_or-set_other}
 use Rattle.std.proofs.lemmas.Bool.{cases_lt, cases_eq}
 use Rattle.gt_core.specs.Literal.{is_in}
@@ -40,7 +39,7 @@ crossed classes own targets d i =
 crosses : (classes : List ℕ) (own : ℕ) (targets : List ℕ) (b : ℕ) → is_in targets b ≡ true → (class_at classes b ≡ own → ⊥) → is_in (crossing classes own targets) (class_at classes b) ≡ true
 crosses classes own targets b i ne =
     among_in _ (class_at classes b) (into_filter (λ d. not (d == own)) (map (class_at classes) targets) (class_at classes b) (among_map (class_at classes) targets b (in_among targets b i))
-      (not_false (class_at classes b == own) (not_true (class_at classes b == own) (λ e. ne (test_same _ _ e)))))
+    (not_false (class_at classes b == own) (not_true (class_at classes b == own) (λ e. ne (test_same _ _ e)))))
 
 module _ (targets : List (List ℕ)) (classes roots : List ℕ) (a : ℕ) (rows : List (List ℕ)) (graph : IsGraph targets) (classed : IsClassed targets classes roots) (q : IsQuotient targets classes (length roots) a rows) (lt : a < length targets) where
   abbrev own : ℕ
@@ -72,35 +71,35 @@ module _ (targets : List (List ℕ)) (classes roots : List ℕ) (a : ℕ) (rows 
 
   sound_after : (c d : ℕ) → c < length roots → leads after c d ≡ true → Crosses targets classes c d × (d ≡ c → ⊥)
   sound_after c d lc e = elim (cases_eq c own) [
-      inl s ↦
+    | inl s ↦
         let here : is_in (row ++ more) d ≡ true = subst (λ (xs : List ℕ). is_in xs d ≡ true) own_row (subst (λ (x : ℕ). is_in (targets_of after x) d ≡ true) s e) in
         subst (λ (x : ℕ). Crosses targets classes x d × (d ≡ x → ⊥)) (sym s) (elim (in_split row more d here) [
-          inl i ↦ q.sound own d (classed.below a lt) i
-        | inr i ↦ new_sound d i
+          | inl i ↦ q.sound own d (classed.below a lt) i
+          | inr i ↦ new_sound d i
         ])
     | inr n ↦ q.sound c d lc (subst (λ (xs : List ℕ). is_in xs d ≡ true) (other_row c n) e)
-    ]
+  ]
 
   kept : (c d : ℕ) → leads rows c d ≡ true → leads after c d ≡ true
   kept c d e = elim (cases_eq c own) [
-      inl s ↦ subst (λ (x : ℕ). is_in (targets_of after x) d ≡ true) (sym s) (subst (λ (xs : List ℕ). is_in xs d ≡ true) (sym own_row) (in_left row more d (subst (λ (x : ℕ). is_in (targets_of rows x) d ≡ true) s e)))
+    | inl s ↦ subst (λ (x : ℕ). is_in (targets_of after x) d ≡ true) (sym s) (subst (λ (xs : List ℕ). is_in xs d ≡ true) (sym own_row) (in_left row more d (subst (λ (x : ℕ). is_in (targets_of rows x) d ≡ true) s e)))
     | inr n ↦ subst (λ (xs : List ℕ). is_in xs d ≡ true) (sym (other_row c n)) e
-    ]
+  ]
 
   complete_after : (x b : ℕ) → x < a + 1 → b < length targets → leads targets x b ≡ true → (class_at classes b ≡ class_at classes x → ⊥) → leads after (class_at classes x) (class_at classes b) ≡ true
   complete_after x b lx lb e ne = elim (cases_lt x a) [
-      inl h ↦ kept _ _ (q.complete x b h lb e ne)
+    | inl h ↦ kept _ _ (q.complete x b h lb e ne)
     | inr h ↦
         let s : x ≡ a = omega arith in
         let e' : is_in (targets_of targets a) b ≡ true = subst (λ (y : ℕ). leads targets y b ≡ true) s e in
         let ne' : class_at classes b ≡ own → ⊥ = subst (λ (y : ℕ). class_at classes b ≡ class_at classes y → ⊥) s ne in
         subst (λ (y : ℕ). leads after (class_at classes y) (class_at classes b) ≡ true) (sym s)
-          (subst (λ (xs : List ℕ). is_in xs (class_at classes b) ≡ true) (sym own_row) (in_right row more (class_at classes b) (crosses classes own (targets_of targets a) b e' ne')))
-    ]
+        (subst (λ (xs : List ℕ). is_in xs (class_at classes b) ≡ true) (sym own_row) (in_right row more (class_at classes b) (crosses classes own (targets_of targets a) b e' ne')))
+  ]
 
   pub quotient_more : IsQuotient targets classes (length roots) (a + 1) after
   quotient_more = record {
-      long = length-set rows own (row ++ more) ∙ q.long;
-      sound = sound_after;
-      complete = complete_after;
-    }
+    long = length-set rows own (row ++ more) ∙ q.long;
+    sound = sound_after;
+    complete = complete_after;
+  }

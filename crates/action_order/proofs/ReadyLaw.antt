@@ -1,4 +1,4 @@
-use Rattle.std.proofs.Common.{arith, ◌≡◌, ℕ, ◌<◌, ◌==◌, List, [], ◌∷◌, length, Bool, true, false, refl, sym, ap, ◌∙◌, subst, ◌⊎◌, inl, inr, Ordering, Less, Equal, Greater, cond}
+use Rattle.std.proofs.Common.{arith, ◌≡◌, ℕ, ◌<◌, ◌==◌, List, [], ◌∷◌, Bool, true, false, refl, sym, subst, ◌⊎◌, inl, inr, Ordering, Less, Equal, Greater, cond}
 use Rattle.std.specs.Prelude.{nat_lt}
 use Rattle.std.specs.List.{All}
 use Rattle.std.specs.Ordering.{nat_cmp, match_ordering}
@@ -9,7 +9,7 @@ use Rattle.gt_core.specs.Literal.{is_in}
 use Rattle.gt_core.proofs.Basics.{or_split, or_left, or_right, same_test, test_same}
 use Rattle.action_order.specs.Walk.{item}
 use Rattle.action_order.specs.Draw.{IsFirst, IsWith}
-use Rattle.action_order.proofs.Lists.{Place, place_of}
+use Rattle.action_order.proofs.Lists.{place_of}
 
 -- An ordered set of numbers by what stands in it.
 
@@ -47,8 +47,8 @@ only_choose Less k y x xs more m h = elim (or_split (k == x) (is_in (y ∷ xs) x
 only_choose Equal k y x xs more m h = inr h
 only_choose Greater k y x xs more m h =
     elim (or_split (y == x) (is_in more x) h) [
-      inl e ↦ inr (or_left (y == x) _ e)
-    | inr i ↦ elim (m i) [ inl s ↦ inl s | inr j ↦ inr (or_right (y == x) _ j) ]
+      | inl e ↦ inr (or_left (y == x) _ e)
+      | inr i ↦ elim (m i) [ inl s ↦ inl s | inr j ↦ inr (or_right (y == x) _ j) ]
     ]
 
 pub with_key : (xs : List ℕ) (k : ℕ) → IsWith xs k (insert_key nat_cmp xs k)
@@ -63,9 +63,11 @@ with_key (y ∷ xs) k =
 
 pub first_key : (before : List ℕ) (k : ℕ) (after : List ℕ) → before ≡ k ∷ after → All (IsLtBy nat_cmp k) after → IsFirst before k after
 first_key before k after e above = record {
-    among = rw e (or_left (k == k) _ (same_test k k refl));
-    others = λ x h. (rw e (or_right (k == x) _ h),
-      let p = place_of after x h in
-      subst (λ (y : ℕ). k < y) p.is (nat_less k (item after p.place) (above p.place 0 p.within)));
-    rest = λ x h. elim (or_split (k == x) (is_in after x) (rw e at h)) [ inl s ↦ inl (sym (test_same k x s)) | inr i ↦ inr i ];
-  }
+  among = rw e (or_left (k == k) _ (same_test k k refl));
+  others = λ x h. (
+    rw e (or_right (k == x) _ h),
+    let p = place_of after x h in
+        subst (λ (y : ℕ). k < y) p.is (nat_less k (item after p.place) (above p.place 0 p.within)),
+  );
+  rest = λ x h. elim (or_split (k == x) (is_in after x) (rw e at h)) [ inl s ↦ inl (sym (test_same k x s)) | inr i ↦ inr i ];
+}

@@ -1,6 +1,6 @@
-use Rattle.std.specs.Prelude.{◌≡◌, ℕ, ◌+◌, ◌<◌, ◌≤◌, ◌⊎◌, ◌==◌, List, [], ◌∷◌, ◌++◌, Bool, true, false, not, map, length, slice_index_or}
+use Rattle.std.specs.Prelude.{◌≡◌, ℕ, ◌<◌, ◌≤◌, ◌⊎◌, ◌==◌, List, [], ◌∷◌, ◌++◌, Bool, true, false, not, map, length, slice_index_or}
 use Rattle.std.specs.List.{filter}
-use Rattle.gt_core.specs.Literal.{is_in, range}
+use Rattle.gt_core.specs.Literal.{is_in}
 use Rattle.action_order.specs.Graph.{leads, class_at}
 use Rattle.action_order.specs.Walk.{item, targets_of}
 

@@ -29,7 +29,7 @@ excludes_one clauses qs p = list_any (exclusive clauses p) qs
 abbrev pub together_acts : List (ℕ × ℕ) → Action → Action → Bool
 together_acts clauses x y =
     not (list_any (excludes_one clauses y.precondition) x.precondition)
-      && (not (clash_in x.effects y.effects) && not (clash_in y.effects x.effects))
+    && (not (clash_in x.effects y.effects) && not (clash_in y.effects x.effects))
 
 -- a fact stands in an effect condition
 abbrev pub asked_in : List Effect → ℕ → Bool

@@ -16,3 +16,4 @@ pub record IsOrder (components : List (List ℕ)) (order places names : List ℕ
   pub names_long : length names ≡ length places
   pub named : (a : ℕ) → is_in order a ≡ true → item names a ≡ name_in components a
   pub few : length components ≤ 16384
+  pub short : length order ≤ 16384

@@ -1,4 +1,4 @@
-use Rattle.std.specs.Prelude.{◌≡◌, ℕ, zero, ◌<◌, ◌≤◌, ◌⊎◌, List, [], Bool, true, false, ◌&&◌, ◌+◌, ◌-◌, ◌*◌, ◌==◌, nat_lt, sum, sum_by, length, slice_index_or}
+use Rattle.std.specs.Prelude.{◌≡◌, ℕ, ◌<◌, ◌≤◌, ◌⊎◌, List, [], Bool, true, ◌&&◌, ◌+◌, ◌-◌, ◌*◌, ◌==◌, nat_lt, sum, sum_by, length, slice_index_or}
 use Rattle.gt_core.specs.Literal.{is_in}
 use Rattle.gt_core.specs.Published.{Reaches, Pairwise}
 use Rattle.action_order.specs.Graph.{leads}

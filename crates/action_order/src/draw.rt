@@ -43,7 +43,13 @@ impl Draw {
     ghost use Rattle.action_order.specs.DrawOf.{IsDrawingOf, DrawsNext};
 
     /// Looks at one of the components to be looked at: it is ready, or waits for a target.
-    fn settle(&mut self, rows: &[Row], names: &[u32], free: &[usize], i: usize) -> Result<(), AllocError>
+    fn settle(
+        &mut self,
+        rows: &[Row],
+        names: &[u32],
+        free: &[usize],
+        i: usize,
+    ) -> Result<(), AllocError>
         requires rows { AreRows rows.now names.now }
         requires drawing { IsDrawingOf rows.now names.now self.old (drop i free.now) }
         requires i { i < length free.now }
@@ -82,7 +88,13 @@ impl Draw {
     }
 
     /// Draws a component that is ready.
-    fn draw(&mut self, alloc: Global, rows: &[Row], names: &[u32], t: usize) -> Result<(), AllocError>
+    fn draw(
+        &mut self,
+        alloc: Global,
+        rows: &[Row],
+        names: &[u32],
+        t: usize,
+    ) -> Result<(), AllocError>
         requires rows { AreRows rows.now names.now }
         requires next { DrawsNext rows.now names.now self.old t }
         ensures drawing { OnOk result (IsDrawingOf rows.now names.now self.new []) }
@@ -124,7 +136,12 @@ fn numbers_below(alloc: Global, count: usize) -> Result<Vec<usize>, AllocError>
 }
 
 /// All components, drawn; `numbers` gives the component of a name.
-pub fn draw_all(alloc: Global, rows: &[Row], names: &[u32], numbers: &[usize]) -> Result<Vec<usize>, AllocError>
+pub fn draw_all(
+    alloc: Global,
+    rows: &[Row],
+    names: &[u32],
+    numbers: &[usize],
+) -> Result<Vec<usize>, AllocError>
     requires rows { AreRows rows.now names.now }
     requires named { AreNamed rows.now names.now numbers.now }
     ensures { IfOk result (λ order. IsDraw rows.now names.now order.items) }

@@ -43,7 +43,9 @@ fn excludes(pairs: &Pairs, lits: &[u32], others: &[u32]) -> bool
 fn surely(effects: &[Eff], lit: u32) -> bool
     ensures { result ≡ sure_in effects.now lit }
 {
-    effects.iter().any(|e| e.lit() == lit && e.cond().is_empty())
+    effects
+        .iter()
+        .any(|e| e.lit() == lit && e.cond().is_empty())
 }
 
 fn maybe(effects: &[Eff], lit: u32) -> bool
@@ -55,7 +57,9 @@ fn maybe(effects: &[Eff], lit: u32) -> bool
 fn clash(gaining: &[Eff], losing: &[Eff]) -> bool
     ensures { result ≡ clash_in gaining.now losing.now }
 {
-    gaining.iter().any(|e| clash_at(gaining, losing, e.lit() / 2))
+    gaining
+        .iter()
+        .any(|e| clash_at(gaining, losing, e.lit() / 2))
 }
 
 fn clash_at(gaining: &[Eff], losing: &[Eff], fact: u32) -> bool
@@ -97,9 +101,7 @@ fn has_literal(lits: &[u32], lit: u32) -> bool
 fn disables(a: &Act, b: &Act) -> bool
     ensures { result ≡ disables_acts a.now b.now }
 {
-    a.effects()
-        .iter()
-        .any(|e| touches(b, e.lit()))
+    a.effects().iter().any(|e| touches(b, e.lit()))
 }
 
 fn touches(act: &Act, lit: u32) -> bool

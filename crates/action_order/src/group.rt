@@ -34,7 +34,12 @@ fn group(alloc: Global, numbers: &[usize], count: usize) -> Result<Vec<ActNumber
 }
 
 /// The components in an order of their numbers.
-pub fn list(alloc: Global, numbers: &[usize], count: usize, order: &[usize]) -> Result<Vec<ActNumbers>, AllocError>
+pub fn list(
+    alloc: Global,
+    numbers: &[usize],
+    count: usize,
+    order: &[usize],
+) -> Result<Vec<ActNumbers>, AllocError>
     requires below { AllByRecursion (λ c. c < count) numbers.now }
     requires few { length numbers.now ≤ 16384 }
     requires order { AllByRecursion (λ c. c < count) order.now }

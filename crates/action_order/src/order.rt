@@ -31,7 +31,12 @@ impl Order {
     ghost use Rattle.action_order.specs.Order.{name_in, IsOrder};
 
     /// The order of these components, with what is looked up in it.
-    pub(crate) fn of(components: Vec<ActNumbers>, order: Vec<u32>, places: Vec<u32>, names: Vec<u32>) -> Order
+    pub(crate) fn of(
+        components: Vec<ActNumbers>,
+        order: Vec<u32>,
+        places: Vec<u32>,
+        names: Vec<u32>,
+    ) -> Order
         requires { IsOrder components.items order.items places.items names.items }
         ensures { result ≡ components.items }
     {
@@ -55,6 +60,7 @@ impl Order {
     pub fn at(&self, place: u32) -> u32
         requires { place < length (order_of self.now) }
         ensures at { slice_get (order_of self.now) place ≡ Some result }
+        ensures among { is_in (order_of self.now) result ≡ true }
         ensures alone { (p : ℕ) → slice_get (order_of self.now) p ≡ Some result → p ≡ place }
     {
         self.order[place as usize]
@@ -66,6 +72,13 @@ impl Order {
         ensures { result ≡ name_in self.now a }
     {
         self.names[a as usize]
+    }
+
+    /// How many actions there are.
+    pub fn actions(&self) -> u32
+        ensures { result ≡ length (order_of self.now) }
+    {
+        self.order.len() as u32
     }
 
     /// How many components there are.

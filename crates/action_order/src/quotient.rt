@@ -10,7 +10,12 @@ use crate::row::{Row, empty_rows};
 use std::alloc::{AllocError, Global};
 
 /// Appends the components that a vertex of a component has edges to, other than its own.
-fn add_crossing(row: &mut Row, numbers: &[usize], own: usize, targets: &[u32]) -> Result<(), AllocError>
+fn add_crossing(
+    row: &mut Row,
+    numbers: &[usize],
+    own: usize,
+    targets: &[u32],
+) -> Result<(), AllocError>
     requires { AllByRecursion (λ b. b < length numbers.now) targets.now }
     ensures { OnOk result (row.new ≡ row.old ++ crossing numbers.now own targets.now) }
 {
@@ -24,7 +29,12 @@ fn add_crossing(row: &mut Row, numbers: &[usize], own: usize, targets: &[u32]) -
 }
 
 /// The graph of the components of a graph.
-pub fn quotient(alloc: Global, targets: &[ActNumbers], numbers: &[usize], roots: &[u32]) -> Result<Vec<Row>, AllocError>
+pub fn quotient(
+    alloc: Global,
+    targets: &[ActNumbers],
+    numbers: &[usize],
+    roots: &[u32],
+) -> Result<Vec<Row>, AllocError>
     requires graph { IsGraph targets.now }
     requires classes { IsClassed targets.now numbers.now roots.now }
     ensures { IfOk result (λ rows. IsQuotient targets.now numbers.now (length roots.now) (length targets.now) rows.items) }

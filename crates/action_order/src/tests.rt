@@ -6,6 +6,7 @@ use gt_core::eff::{Eff, Effs};
 use gt_core::lits::{Bits, Lits};
 use gt_core::pairs::Pairs;
 use gt_core::task::Task;
+use std::process::Abort;
 use std::test::Fail;
 
 /// An action without effect conditions.
@@ -30,15 +31,16 @@ fn task(rt: &impl AllocGlobal, facts: u32, acts: Vec<Act>) -> Result<Task, Fail>
 
 /// What the command `order` tells of the order: the number of components, and for each place the component and the
 /// action.
-fn told(rt: &impl AllocGlobal, task: &Task) -> Result<Vec<u32>, Fail> {
+fn told(rt: &(impl AllocGlobal + Abort), task: &Task) -> Result<Vec<u32>, Fail> {
     let pairs = Pairs::empty(rt.alloc(), task.facts()).map_err(|_| "no memory")?;
     let order = publish(rt.alloc(), task, &pairs).map_err(|_| "no memory")?;
     let mut told = Vec::new(rt.alloc());
     told.push(order.components())?;
-    for group in order.groups() {
-        for a in group.as_slice() {
-            told.push(*a)?;
-        }
+    for place in 0..order.actions() {
+        let a = order.at(place);
+        assert_eq!(rt; order.place(a), place);
+        told.push(order.component(a))?;
+        told.push(a)?;
     }
     Ok(told)
 }
@@ -49,7 +51,7 @@ fn user_before_burner(rt: HostRuntime) -> Result<(), Fail> {
     let burn = act(&rt, &[], &[1, 4])?;
     let using = act(&rt, &[0], &[2])?;
     let task = task(&rt, 3, vec![in rt.alloc(); burn, using]?)?;
-    assert_eq!(rt; told(&rt, &task)?.as_slice(), [2, 1, 0].as_slice());
+    assert_eq!(rt; told(&rt, &task)?.as_slice(), [2, 1, 1, 0, 0].as_slice());
     Ok(())
 }
 
@@ -59,6 +61,6 @@ fn each_takes_the_other_s_need(rt: HostRuntime) -> Result<(), Fail> {
     let one = act(&rt, &[0], &[2, 7])?;
     let two = act(&rt, &[6], &[1, 4])?;
     let task = task(&rt, 4, vec![in rt.alloc(); one, two]?)?;
-    assert_eq!(rt; told(&rt, &task)?.as_slice(), [1, 0, 1].as_slice());
+    assert_eq!(rt; told(&rt, &task)?.as_slice(), [1, 0, 0, 0, 1].as_slice());
     Ok(())
 }

@@ -36,7 +36,11 @@ fn add(alloc: Global, formula: &mut Formula, lits: &[Lit]) -> Result<(), Memory>
 fn chain(alloc: Global) -> Result<Formula, Memory> {
     let mut formula = Formula::new(alloc, 0, VARIABLES);
     for v in 0..LINKS {
-        add(alloc, &mut formula, &[Lit::of(v, false), Lit::of(v + 1, true)])?;
+        add(
+            alloc,
+            &mut formula,
+            &[Lit::of(v, false), Lit::of(v + 1, true)],
+        )?;
     }
     add(alloc, &mut formula, &[Lit::of(LINKS, false)])?;
     add(alloc, &mut formula, &[Lit::of(0, true)])?;
@@ -55,7 +59,7 @@ fn hints(alloc: Global) -> Result<Hints, Memory> {
 
 /// The clause of the entry with this number: a literal past the chain, and at last none.
 fn learned(alloc: Global, number: u32) -> Result<Clause, Memory> {
-    if number + 1 == ENTRIES {
+    if number == ENTRIES - 1 {
         return Ok(Clause::empty(alloc));
     }
     let variable = LINKS + 1 + number % (VARIABLES - LINKS - 1);

@@ -1,4 +1,4 @@
-use Rattle.std.proofs.Common.{arith, ◌≡◌, ◌<◌, List, ℕ, [], length, sym, ◌∙◌, subst}
+use Rattle.std.proofs.Common.{arith, ◌<◌, List, ℕ, [], length, ◌∙◌, subst}
 use Rattle.action_order.specs.Graph.{class_at}
 use Rattle.action_order.specs.Draw.{IsDrawing}
 use Rattle.gt_core.proofs.Literals.{below_range, in_among}
@@ -17,7 +17,7 @@ release-requires-clause-below c =
 pub returns-in-None : goal.returns-in-None
 returns-in-None c =
     all_drawn c.args.rows.now c.args.names.now _ _ _ _ c.requires.rows.falls
-      (subst (λ (ks : List ℕ). IsDrawing c.args.rows.now c.args.names.now c.loop-draw.draw.drawn.items c.loop-draw.draw.passed.items c.loop-draw.draw.waiting.items ks c.loop-draw.draw.order.items []) c.in-None.ensures.none c.loop-draw.invariant)
+    (subst (λ (ks : List ℕ). IsDrawing c.args.rows.now c.args.names.now c.loop-draw.draw.drawn.items c.loop-draw.draw.passed.items c.loop-draw.draw.waiting.items ks c.loop-draw.draw.order.items []) c.in-None.ensures.none c.loop-draw.invariant)
 
 pub loop-draw-smaller : goal.loop-draw-smaller
 loop-draw-smaller c =

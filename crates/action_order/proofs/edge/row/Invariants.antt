@@ -7,6 +7,6 @@ use Rattle.action_order.proofs.edge.row.Given as goal
 
 abbrev pub invariant-loop-b : goal.invariant-loop-b
 invariant-loop-b l = record {
-    tells : (k : ℕ) → is_in l.row k ≡ (nat_lt k l.b && edge_in l.pairs.clauses l.acts l.a k);
-    below : AllByRecursion (λ k. k < length l.acts) l.row;
-  }
+  tells : (k : ℕ) → is_in l.row k ≡ (nat_lt k l.b && edge_in l.pairs.clauses l.acts l.a k);
+  below : AllByRecursion (λ k. k < length l.acts) l.row;
+}

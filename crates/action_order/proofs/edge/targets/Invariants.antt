@@ -5,6 +5,6 @@ use Rattle.action_order.proofs.edge.targets.Given as goal
 
 abbrev pub invariant-loop-a : goal.invariant-loop-a
 invariant-loop-a l = record {
-    long : length l.targets.items ≡ l.a;
-    rows : (k : ℕ) → k < l.a → IsRow l.pairs.clauses l.acts k (slice_index_or l.targets.items k []);
-  }
+  long : length l.targets.items ≡ l.a;
+  rows : (k : ℕ) → k < l.a → IsRow l.pairs.clauses l.acts k (slice_index_or l.targets.items k []);
+}

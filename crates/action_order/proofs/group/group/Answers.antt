@@ -1,4 +1,4 @@
-use Rattle.std.proofs.Common.{arith, ◌≡◌, ◌<◌, [], length, refl, sym, ◌∙◌}
+use Rattle.std.proofs.Common.{arith, ◌<◌, [], length, refl, ◌∙◌}
 use Rattle.std.proofs.lemmas.List.{get_or_read, length-set}
 use Rattle.action_order.specs.Graph.{class_at}
 use Rattle.action_order.proofs.Lists.{each_number}

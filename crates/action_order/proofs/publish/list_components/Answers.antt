@@ -1,12 +1,9 @@
-use Rattle.std.proofs.Common.{arith, ◌≡◌, ◌<◌, ℕ, length, sym, ◌∙◌, ap, subst, rules}
+use Rattle.std.proofs.Common.{arith, ◌≡◌, ◌<◌, ℕ, length, sym, ◌∙◌, subst, rules}
 use Rattle.std.specs.List.{AllByRecursion}
 use Rattle.gt_core.proofs.Literals.{in_among}
 use Rattle.gt_core.proofs.Basics.{each_at}
 use Rattle.action_order.specs.Graph.{class_at}
-use Rattle.action_order.specs.Walk.{item}
 use Rattle.action_order.specs.Draw.{IsQuotient, IsDraw, AreNames}
-use Rattle.action_order.specs.Group.{listed}
-use Rattle.action_order.specs.Order.{name_in}
 use Rattle.action_order.proofs.DrawLaw.{drawn_below}
 use Rattle.action_order.proofs.OrderLaw.{each_below}
 use Rattle.action_order.proofs.ListedLaw.{is_listed, name_listed, name_item}
@@ -30,7 +27,7 @@ names_of-requires c =
     let named : AreNames n (length r) (length n) c.in_ok-least.least.items = rw (← c.as_slice-numbers.ensures.value, ← c.as_slice-2.ensures.value) c.in_ok-least.ensures in
     let classed = c.in_ok-found.ensures in
     rw (c.as_slice-numbers.ensures.value, c.as_slice-6.ensures.value) (each_below n (length c.in_ok-least.least.items) (λ a lt.
-      let b = classed.below a (let l = classed.long in omega arith) in let l = named.long in omega arith))
+    let b = classed.below a (let l = classed.long in omega arith) in let l = named.long in omega arith))
 
 pub returns-clause-listed : goal.returns-clause-listed
 returns-clause-listed c =
@@ -41,7 +38,7 @@ returns-clause-listed c =
     let d : IsDraw c.in_ok-rows.rows.items c.in_ok-least.least.items c.in_ok-order.order.items = rw (← c.as_slice-3.ensures.value, ← c.as_slice-4.ensures.value) c.in_ok-order.ensures in
     let named : AreNames n (length r) (length n) c.in_ok-least.least.items = rw (← c.as_slice-numbers.ensures.value, ← c.as_slice-2.ensures.value) c.in_ok-least.ensures in
     rw (c.in_ok-components.ensures, c.as_slice-numbers.ensures.value, c.as_slice-5.ensures.value)
-      (is_listed t n r c.in_ok-rows.rows.items c.in_ok-least.least.items c.requires.graph c.in_ok-found.ensures q named c.in_ok-order.order.items d)
+    (is_listed t n r c.in_ok-rows.rows.items c.in_ok-least.least.items c.requires.graph c.in_ok-found.ensures q named c.in_ok-order.order.items d)
 
 pub returns-clause-names : goal.returns-clause-names
 returns-clause-names c =
@@ -53,7 +50,7 @@ returns-clause-names c =
     let named : AreNames n (length r) (length n) c.in_ok-least.least.items = rw (← c.as_slice-numbers.ensures.value, ← c.as_slice-2.ensures.value) c.in_ok-least.ensures in
     let classed = c.in_ok-found.ensures in
     rw (c.in_ok-names.ensures, c.in_ok-components.ensures, c.as_slice-6.ensures.value, c.as_slice-numbers.ensures.value, c.as_slice-5.ensures.value) (λ a lt.
-      name_item c.in_ok-least.least.items n a (let l = classed.long in omega arith)
-        ∙ sym (name_listed t n r c.in_ok-rows.rows.items c.in_ok-least.least.items c.requires.graph classed q named c.in_ok-order.order.items a lt
-          (λ x i. let b = each_at (λ x. x < length c.in_ok-rows.rows.items) c.in_ok-order.order.items x (drawn_below c.in_ok-rows.rows.items _ _ _ d.drawn) (in_among _ x i) in let l = q.long in omega arith)
-          (d.all (class_at n a) (let b = classed.below a lt in let l = q.long in omega arith))))
+    name_item c.in_ok-least.least.items n a (let l = classed.long in omega arith)
+    ∙ sym (name_listed t n r c.in_ok-rows.rows.items c.in_ok-least.least.items c.requires.graph classed q named c.in_ok-order.order.items a lt
+    (λ x i. let b = each_at (λ x. x < length c.in_ok-rows.rows.items) c.in_ok-order.order.items x (drawn_below c.in_ok-rows.rows.items _ _ _ d.drawn) (in_among _ x i) in let l = q.long in omega arith)
+    (d.all (class_at n a) (let b = classed.below a lt in let l = q.long in omega arith))))

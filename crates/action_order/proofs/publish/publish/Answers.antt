@@ -1,9 +1,8 @@
-use Rattle.std.proofs.Common.{arith, ◌≡◌, ◌<◌, ℕ, List, length, sym, ◌∙◌, ap, subst, rules}
+use Rattle.std.proofs.Common.{arith, ◌≡◌, ◌<◌, ℕ, length, sym, ◌∙◌, subst, rules}
 use Rattle.std.specs.List.{AllByRecursion}
 use Rattle.gt_core.specs.Published.{IsPublished, order_of}
 use Rattle.gt_core.proofs.Within.{lawful}
 use Rattle.gt_core.proofs.PublishedLaw.{published_keeps_apart}
-use Rattle.action_order.specs.Walk.{item}
 use Rattle.action_order.specs.Edge.{AreTargets}
 use Rattle.action_order.proofs.PublishLaw.{is_graph, is_published, order_below, order_unequal, order_few, is_order}
 use Rattle.action_order.proofs.publish.publish.Goals as goal

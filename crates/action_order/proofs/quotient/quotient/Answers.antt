@@ -1,4 +1,4 @@
-use Rattle.std.proofs.Common.{arith, ◌≡◌, ◌<◌, [], length, sym, ◌∙◌}
+use Rattle.std.proofs.Common.{arith, ◌≡◌, ◌<◌, [], length}
 use Rattle.std.proofs.lemmas.List.{get_or_read}
 use Rattle.action_order.specs.Graph.{class_at}
 use Rattle.action_order.specs.Walk.{targets_of}

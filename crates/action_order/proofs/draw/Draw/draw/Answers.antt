@@ -1,4 +1,4 @@
-use Rattle.std.proofs.Common.{arith, ◌≡◌, ◌<◌, [], length, refl, sym, ◌∙◌, ap}
+use Rattle.std.proofs.Common.{arith, ◌≡◌, ◌<◌, [], length, refl, ◌∙◌}
 use Rattle.std.proofs.lemmas.List.{get_or_read}
 use Rattle.action_order.specs.Walk.{item, targets_of}
 use Rattle.action_order.proofs.Lists.{in_at}
@@ -10,15 +10,15 @@ release-requires-clause-drawing c =
     let n = c.requires.next in
     let lt : c.args.t < length c.args.self.now.waiting.items = let l = n.drawing.waiting_long in let b = n.below in omega arith in
     let free : c.as_slice.result.now ≡ targets_of c.args.self.now.waiting.items c.args.t =
-      c.as_slice.ensures ∙ c.replace-free.ensures.value ∙ get_or_read c.args.self.now.waiting.items c.args.t c.index_mut-2.result.now lt c.index_mut-2.ensures.value [] in
+    c.as_slice.ensures ∙ c.replace-free.ensures.value ∙ get_or_read c.args.self.now.waiting.items c.args.t c.index_mut-2.result.now lt c.index_mut-2.ensures.value [] in
     let dest : c.replace-free.new.dest ≡ [] = c.replace-free.ensures.after ∙ c.new.ensures in
     rw (free, dest, c.in_ok-push.ensures.items)
-      (drawn_one c.args.rows.now c.args.names.now _ _ _ n.ready _ _ (item c.args.names.now c.args.t) c.args.t c.requires.rows.apart n.drawing n.first n.below refl)
+    (drawn_one c.args.rows.now c.args.names.now _ _ _ n.ready _ _ (item c.args.names.now c.args.t) c.args.t c.requires.rows.apart n.drawing n.first n.below refl)
 
 pub release-requires-clause-below : goal.release-requires-clause-below
 release-requires-clause-below c =
     let n = c.requires.next in
     let lt : c.args.t < length c.args.self.now.waiting.items = let l = n.drawing.waiting_long in let b = n.below in omega arith in
     let free : c.as_slice.result.now ≡ targets_of c.args.self.now.waiting.items c.args.t =
-      c.as_slice.ensures ∙ c.replace-free.ensures.value ∙ get_or_read c.args.self.now.waiting.items c.args.t c.index_mut-2.result.now lt c.index_mut-2.ensures.value [] in
+    c.as_slice.ensures ∙ c.replace-free.ensures.value ∙ get_or_read c.args.self.now.waiting.items c.args.t c.index_mut-2.result.now lt c.index_mut-2.ensures.value [] in
     rw free (λ i li. n.drawing.waiting_below c.args.t (item (targets_of c.args.self.now.waiting.items c.args.t) i) (in_at _ i li))

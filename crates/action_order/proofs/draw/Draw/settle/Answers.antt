@@ -12,8 +12,8 @@ pass-passed-requires-clause-below c =
     let d = c.requires.drawing in
     let row = c.as_slice-row.ensures ∙ get_or_read c.args.rows.now (item c.args.free.now c.args.i) c.index-rows-c.result c.requires.below c.index-rows-c.is [] in
     rw (row, c.as_slice.ensures.value) (λ i li.
-      let b = c.requires.rows.falls (item c.args.free.now c.args.i) (item (targets_of c.args.rows.now (item c.args.free.now c.args.i)) i) c.requires.below (in_at _ i li) in
-      let long = d.drawn_long in let lc = c.requires.below in omega arith)
+    let b = c.requires.rows.falls (item c.args.free.now c.args.i) (item (targets_of c.args.rows.now (item c.args.free.now c.args.i)) i) c.requires.below (in_at _ i li) in
+    let long = d.drawn_long in let lc = c.requires.below in omega arith)
 
 pub index_mut-list-requires : goal.index_mut-list-requires
 index_mut-list-requires c =
@@ -42,7 +42,7 @@ returns-then-passed-row-clause-drawing c =
     let needed : leads rows own on ≡ true = in_at (targets_of rows own) c.pass-passed.result lt in
     let below = c.requires.rows.falls own on lc needed in
     let old : c.index_mut-list.result.now ≡ targets_of c.args.self.now.waiting.items on =
-      rw row at (get_or_read c.args.self.now.waiting.items _ c.index_mut-list.result.now (rw row (let l = d.waiting_long in omega arith)) c.index_mut-list.ensures.value []) in
+    rw row at (get_or_read c.args.self.now.waiting.items _ c.index_mut-list.result.now (rw row (let l = d.waiting_long in omega arith)) c.index_mut-list.ensures.value []) in
     rw (c.in_ok-push.ensures, row, old) (waits_for rows c.args.names.now _ _ _ _ _ _ own on lc (omega arith) more needed (passed.stops lt))
 
 pub returns-clause-drawing : goal.returns-clause-drawing

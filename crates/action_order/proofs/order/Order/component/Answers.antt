@@ -1,4 +1,4 @@
-use Rattle.std.proofs.Common.{arith, ◌≡◌, ◌<◌, length, vec_len, sym, ◌∙◌, ap, rules}
+use Rattle.std.proofs.Common.{arith, ◌≡◌, ◌<◌, length, vec_len, ◌∙◌, rules}
 use Rattle.std.proofs.lemmas.List.{get_or_read}
 use Rattle.action_order.proofs.OrderLaw.{placed_at}
 use Rattle.action_order.proofs.order.Order.component.Goals as goal

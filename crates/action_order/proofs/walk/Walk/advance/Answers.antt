@@ -1,4 +1,3 @@
-use Rattle.std.proofs.Common.{arith, ◌≡◌, ◌<◌, length}
 use Rattle.std.proofs.lemmas.List.{get_or_read}
 use Rattle.action_order.proofs.WalkLaw.{advanced}
 use Rattle.action_order.proofs.walk.Walk.advance.Goals as goal

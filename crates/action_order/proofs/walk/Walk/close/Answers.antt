@@ -1,9 +1,9 @@
-use Rattle.std.proofs.Common.{arith, ◌≡◌, ◌-◌, ◌<◌, vec_len, length, take, rules, sym, ap, ◌∙◌, subst}
+use Rattle.std.proofs.Common.{arith, ◌≡◌, vec_len, length, rules}
 use Rattle.std.proofs.lemmas.List.{get_or_read}
 use Rattle.action_order.specs.Walk.{MarksFrom}
 use Rattle.action_order.specs.declared.walk.Mark.TheVariants.{Done}
 use Rattle.action_order.proofs.Lists.{front_last, last_in}
-use Rattle.action_order.proofs.CloseLaw.{closed, closed_keeps}
+use Rattle.action_order.proofs.CloseLaw.{closed}
 use Rattle.action_order.proofs.walk.Walk.close.Goals as goal
 
 pub index-requires : goal.index-requires
@@ -26,4 +26,4 @@ returns-clause-walk c =
     let root = get_or_read c.args.self.now.stack.items c.args.place c.index.result.now lt c.index.ensures 0 in
     let finish : MarksFrom c.args.self.now.marks.items c.finish.new.marks.items c.args.self.now.stack.items c.args.place (length c.args.self.now.stack.items) (Done (length c.args.self.now.roots.items)) = rw (← number, ← c.as_slice.ensures.value) c.finish.ensures in
     rw (c.truncate.ensures.items, c.pop.ensures.rest, c.pop-2.ensures.rest, c.in_ok-push.ensures.items, starts_long, work_long, root)
-      (closed c.args.targets.now _ _ _ _ _ _ _ _ _ c.args.place w lt (front_last _ c.args.place c.requires.start) (front_last _ c.args.place c.requires.last) c.requires.spent finish)
+    (closed c.args.targets.now _ _ _ _ _ _ _ _ _ c.args.place w lt (front_last _ c.args.place c.requires.start) (front_last _ c.args.place c.requires.last) c.requires.spent finish)

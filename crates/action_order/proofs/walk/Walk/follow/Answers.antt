@@ -1,4 +1,4 @@
-use Rattle.std.proofs.Common.{arith, ◌≡◌, ◌<◌, length, sym, ◌∙◌, rules}
+use Rattle.std.proofs.Common.{arith, ◌≡◌, ◌<◌, length, sym, ◌∙◌}
 use Rattle.std.proofs.lemmas.List.{get_or_read, length_push}
 use Rattle.action_order.specs.Walk.{mark_of}
 use Rattle.action_order.specs.declared.walk.Mark.TheVariants.{Unseen, At}

@@ -1,4 +1,4 @@
-use Rattle.std.proofs.Common.{arith, ◌≡◌, ◌<◌, vec_len, length, true, false, sym, ◌∙◌, rules}
+use Rattle.std.proofs.Common.{◌≡◌, vec_len, length, true, false, sym, ◌∙◌, rules}
 use Rattle.action_order.specs.Walk.{ends_past}
 use Rattle.action_order.proofs.Lists.{front_last, last_past, none_past}
 use Rattle.action_order.proofs.WalkLaw.{joined_once}
@@ -13,7 +13,7 @@ loop-self-preserved c =
     let last = last_past starts c.args.to past in
     record {
       walk = rw (c.pop.ensures.rest, long)
-        (joined_once c.args.targets.now _ _ _ starts _ _ _ _ c.args.from c.args.to i.walk (front_last starts _ last.0) (rw i.stack c.requires.from.0) (rw i.work c.requires.from.1) last.1 (rw i.stack c.requires.reached));
+          (joined_once c.args.targets.now _ _ _ starts _ _ _ _ c.args.from c.args.to i.walk (front_last starts _ last.0) (rw i.stack c.requires.from.0) (rw i.work c.requires.from.1) last.1 (rw i.stack c.requires.reached));
       marks = i.marks;
       next = i.next;
       stack = i.stack;

@@ -1,4 +1,4 @@
-use Rattle.std.proofs.Common.{arith, ◌≡◌, ◌-◌, vec_len, length, take, rules, ap, ◌∙◌}
+use Rattle.std.proofs.Common.{◌≡◌, vec_len, length, rules}
 use Rattle.action_order.proofs.Lists.{front_last}
 use Rattle.action_order.proofs.WalkLaw.{left}
 use Rattle.action_order.proofs.walk.Walk.leave.Goals as goal
@@ -7,4 +7,4 @@ pub returns-clause-walk : goal.returns-clause-walk
 returns-clause-walk c =
     let long : vec_len c.args.self.now.work ≡ length c.args.self.now.work.items = search rules in
     rw (c.pop.ensures.rest, long)
-      (left c.args.targets.now _ _ _ _ _ _ c.args.place _ c.requires.walk (front_last _ c.args.place c.requires.last) c.requires.spent c.requires.no_start)
+    (left c.args.targets.now _ _ _ _ _ _ c.args.place _ c.requires.walk (front_last _ c.args.place c.requires.last) c.requires.spent c.requires.no_start)

@@ -1,6 +1,5 @@
-use Rattle.std.proofs.Common.{arith, ◌≡◌, ◌<◌, length, vec_len, sym, ◌∙◌, rules}
+use Rattle.std.proofs.Common.{arith, ◌≡◌, length, vec_len, rules}
 use Rattle.std.proofs.lemmas.List.{get_or_read}
-use Rattle.action_order.specs.Walk.{item}
 use Rattle.action_order.proofs.walk.Walk.pending.Goals as goal
 
 pub index-followed-requires : goal.index-followed-requires

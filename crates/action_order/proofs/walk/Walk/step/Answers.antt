@@ -1,4 +1,4 @@
-use Rattle.std.proofs.Common.{arith, ◌≡◌, ◌+◌, ◌<◌, ◌≤◌, [], length, sum, sum_by, sym, ◌∙◌, ap}
+use Rattle.std.proofs.Common.{arith, ◌≡◌, ◌+◌, ◌<◌, ◌≤◌, [], length, sum}
 use Rattle.action_order.specs.Walk.{item, targets_of}
 use Rattle.action_order.proofs.Lists.{each_number}
 use Rattle.action_order.proofs.MoveLaw.{last_place, next_total, sum_after, falls_after}

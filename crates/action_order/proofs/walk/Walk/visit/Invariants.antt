@@ -5,10 +5,10 @@ use Rattle.action_order.proofs.walk.Walk.visit.Given as goal
 
 abbrev pub invariant-loop-self : goal.invariant-loop-self
 invariant-loop-self l = record {
-    walk : IsWalkOf l.targets l.self;
-    keeps : KeepsSeen l.fn.self.marks.items l.self.marks.items;
-    seen : mark_of l.self.marks.items l.root ≡ Unseen → ⊥;
-  }
+  walk : IsWalkOf l.targets l.self;
+  keeps : KeepsSeen l.fn.self.marks.items l.self.marks.items;
+  seen : mark_of l.self.marks.items l.root ≡ Unseen → ⊥;
+}
 
 abbrev pub decreases-loop-self : goal.decreases-loop-self
 decreases-loop-self l = work_left l.targets l.self.next.items l.self.work.items

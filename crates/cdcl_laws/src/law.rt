@@ -1,0 +1,22 @@
+ghost use Rattle.cdcl_laws.specs.Laws.{StartIsSound, AfterIsSound, AfterIsOnly, AfterAddsUp, AfterSettled, AfterIsWithin, QuietIsShort};
+
+/// What holds of each state of a run, and that a run may be cut wherever one likes.
+pub fn runs_are_sound()
+    ensures start { StartIsSound }
+    ensures sound { AfterIsSound }
+    ensures only { AfterIsOnly }
+    ensures adds_up { AfterAddsUp }
+    ensures settled { AfterSettled }
+    ensures within { AfterIsWithin }
+    ensures short { QuietIsShort }
+{}
+
+#[cfg(test)]
+mod tests {
+    use super::*;
+
+    #[test]
+    fn the_laws_can_be_called() {
+        runs_are_sound();
+    }
+}

@@ -1,0 +1,17 @@
+use Rattle.std.proofs.Common.{arith, ◌≡◌, length, sym, ◌∙◌, ap}
+use Rattle.cdcl_rules.specs.State.{value_of}
+use Rattle.cdcl_trail.specs.Mirrored.{TrailView}
+use Rattle.cdcl_trail.proofs.Mirrors.{value_got, values_len}
+use Rattle.cdcl_trail.proofs.trail.Trail.value.Goals as goal
+
+pub get-requires : goal.get-requires
+get-requires c =
+    let t = c.self.inside in
+    let n : length t.values ≡ t.variables = values_len t.variables t.entries.items t.values t.levels.items t.level c.self.invariant in
+    let v : t.variables ≡ c.args.self.now.variables = ap (λ (w : TrailView). w.variables) c.self.view_is in
+    omega (arith, n, v, c.requires)
+
+pub returns : goal.returns
+returns c =
+    let t = c.self.inside in
+    sym (value_got t.variables t.entries.items t.values t.levels.items t.level c.args.v c.get.result c.self.invariant c.get.ensures) ∙ ap (λ (w : TrailView). value_of w.entries c.args.v) c.self.view_is

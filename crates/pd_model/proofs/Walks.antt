@@ -1,0 +1,90 @@
+-- Loops over objects, types and effects.
+use Rattle.std.proofs.Common.{◌≡◌, ℕ, zero, suc, ◌+◌, ◌-◌, ◌<◌, Bool, true, false, cond, List, [], ◌∷◌, ◌++◌, length, take, drop, get_or, map, refl, ap, ◌∙◌, sym, append_assoc, arith}
+use Rattle.std.specs.Prelude.{◌==◌, ◌||◌, slice_index}
+use Rattle.std.specs.List.{flat_map, filter, range_with_len, slice_get}
+use Rattle.std.proofs.lemmas.List.{append-nil, take_more, nil_from_length, take_at, length-append}
+use Rattle.std.proofs.lemmas.List.Concat.{flat_map-append, flat_map-cons}
+use Rattle.std.proofs.lemmas.List.Elements.{filter-append}
+use Rattle.std.proofs.lemmas.List.FromFn.{filter_of_map_range_with_len_more}
+use Rattle.std.proofs.Common.{Some}
+use Rattle.pd_model.specs.Types.{leads_to}
+use Rattle.pd_model.specs.Fits.{tuples, all_fit}
+use Rattle.pd_model.specs.declared.parts.Parts.{Parts}
+
+pub leads_step : (parents : List ℕ) (n i at above : ℕ) → i < n → (at ≡ above → ⊥) → leads_to parents (n - (i + 1)) (slice_index parents at) above ≡ leads_to parents (n - i) at above
+leads_step parents n i at above lt ne =
+    let k : n - i ≡ suc (n - (i + 1)) = omega arith in
+    let differs : (at == above) ≡ false = grind (arith, ne) in
+    rw (k, differs) refl
+
+leads_from_root : (parents : List ℕ) (n above : ℕ) → slice_index parents 0 ≡ 0 → leads_to parents n 0 above ≡ (0 == above)
+leads_from_root parents zero above root = refl
+leads_from_root parents (suc n) above root = rw (root, leads_from_root parents n above root) (or_itself (0 == above))
+  where
+    or_itself : (b : Bool) → (b || b) ≡ b
+    or_itself true = refl
+    or_itself false = refl
+
+-- nothing lies above type 0
+pub at_root : (parents : List ℕ) (n at above : ℕ) → slice_index parents 0 ≡ 0 → at ≡ 0 → (at ≡ above → ⊥) → leads_to parents n at above ≡ false
+at_root parents n at above root is ne =
+    let other : (0 == above) ≡ false = grind (arith, rw is at ne) in
+    rw is (leads_from_root parents n above root ∙ other)
+
+map_id : (xs : List ℕ) → map (λ x. x) xs ≡ xs
+map_id [] = refl
+map_id (x ∷ xs) = ap (λ (ys : List ℕ). x ∷ ys) (map_id xs)
+
+pub picked_more : (pick : ℕ → Bool) (i : ℕ) → filter pick (range_with_len 0 (i + 1)) ≡ filter pick (range_with_len 0 i) ++ cond (pick i) (i ∷ []) []
+picked_more pick i =
+    let more = filter_of_map_range_with_len_more pick (λ x. x) 0 i i (omega arith) in
+    rw (map_id, map_id) at more
+
+prefixed : {A : Type 0} (f : List ℕ → List A) (o : ℕ) (ts : List (List ℕ)) → flat_map f (map (λ os. o ∷ os) ts) ≡ flat_map (λ os. f (o ∷ os)) ts
+prefixed f o [] = refl
+prefixed f o (t ∷ ts) = rw (flat_map-cons, flat_map-cons, prefixed f o ts) refl
+
+pub by_first : {A : Type 0} (f : List ℕ → List A) (ts : List (List ℕ)) (os : List ℕ) → flat_map f (flat_map (λ o. map (λ more. o ∷ more) ts) os) ≡ flat_map (λ o. flat_map (λ more. f (o ∷ more)) ts) os
+by_first f ts [] = refl
+by_first f ts (o ∷ os) = rw (flat_map-cons, flat_map-cons, flat_map-append, prefixed f o ts, by_first f ts os) refl
+
+pub moved : {A : Type 0} (f : List ℕ → List A) (objects : List ℕ) (o : ℕ) (ts : List (List ℕ)) → flat_map (λ more. f ((objects ++ o ∷ []) ++ more)) ts ≡ flat_map (λ more. f (objects ++ o ∷ more)) ts
+moved f objects o [] = refl
+moved f objects o (t ∷ ts) = rw (flat_map-cons, flat_map-cons, append_assoc objects (o ∷ []) t, moved f objects o ts) refl
+
+pub for_none : {A : Type 0} (f : List ℕ → List A) (p : Parts) (objects over : List ℕ) → length over ≡ 0 → flat_map (λ more. f (objects ++ more)) (tuples p over) ≡ f objects
+for_none f p objects over none = rw (nil_from_length over none, append-nil, append-nil) refl
+
+-- one more object
+pub one_more : {A : Type 0} (f : List ℕ → List A) (objects : List ℕ) (ts : List (List ℕ)) (os : List ℕ) (i : ℕ) (o : ℕ) (old into next : List A) → i < length os → o ≡ get_or os i o
+    → into ≡ old ++ flat_map (λ o. flat_map (λ more. f (objects ++ o ∷ more)) ts) (take i os)
+    → next ≡ into ++ flat_map (λ more. f ((objects ++ o ∷ []) ++ more)) ts
+    → next ≡ old ++ flat_map (λ o. flat_map (λ more. f (objects ++ o ∷ more)) ts) (take (i + 1) os)
+one_more {A} f objects ts os i o old into next lt at so_far added =
+    let g : ℕ → List A = λ o. flat_map (λ more. f (objects ++ o ∷ more)) ts in
+    let both : next ≡ (old ++ flat_map g (take i os)) ++ g o = rw (← so_far) (added ∙ ap (λ (ys : List _). into ++ ys) (moved f objects o ts)) in
+    rw (take_more os i o lt, ← at, flat_map-append, append-nil, ← append_assoc) both
+
+pub popped : (xs ys zs : List ℕ) (o n : ℕ) → zs ≡ xs ++ o ∷ [] → length zs ≡ n → ys ≡ take (n - 1) zs → ys ≡ xs
+popped xs ys zs o n is long rest =
+    let less : n - 1 ≡ length xs = omega (arith, long, ap length is, length-append xs (o ∷ [])) in
+    rest ∙ rw (less, is, take_at) refl
+
+chosen : {X A : Type 0} (g : X → List A) (b : Bool) (x : X) (front : List A) → front ++ flat_map g (cond b (x ∷ []) []) ≡ front ++ cond b (g x) []
+chosen g true x front = ap (λ (ys : List _). front ++ ys) (append-nil (g x))
+chosen g false x front = refl
+
+pub signed_more : {X A : Type 0} (g : X → List A) (pick : X → Bool) (xs : List X) (i : ℕ) (x : X) → i < length xs → x ≡ get_or xs i x
+    → flat_map g (filter pick (take (i + 1) xs)) ≡ flat_map g (filter pick (take i xs)) ++ cond (pick x) (g x) []
+signed_more g pick xs i x lt at = rw (take_more xs i x lt, ← at, filter-append, flat_map-append) (chosen g (pick x) x (flat_map g (filter pick (take i xs))))
+
+pub found_at : {X : Type 0} (xs : List X) (n : ℕ) (x : X) → n < length xs → x ≡ get_or xs n x → slice_get xs n ≡ Some x
+found_at [] n x lt at = absurd (omega (arith, lt))
+found_at (y ∷ ys) zero x lt at = ap (λ (z : _). Some z) (sym at)
+found_at (y ∷ ys) (suc n) x lt at = found_at ys n x (omega (arith, lt)) at
+
+-- a type is left, and no object
+pub none_left : (p : Parts) (kinds : List ℕ) (i : ℕ) (rest : List ℕ) → i < length kinds → length rest ≡ 0 → all_fit p (drop i kinds) rest ≡ false
+none_left p [] i rest lt none = absurd (omega (arith, lt))
+none_left p (kind ∷ kinds) zero rest lt none = rw (nil_from_length rest none) refl
+none_left p (kind ∷ kinds) (suc i) rest lt none = none_left p kinds i rest (omega (arith, lt)) none

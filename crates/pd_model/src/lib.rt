@@ -1,0 +1,39 @@
+//! The parts of a planning task, and what it means to execute calls of its actions: PDDL 2.1, level 1
+//! (Fox and Long 2003).
+//!
+//! `specs/State.antt` says what a state is, `specs/Instance.antt` when a literal holds in it,
+//! `specs/Fits.antt` which objects an action may be called with, `specs/Exec.antt` what a call does, and
+//! `specs/Plan.antt` which lists of calls are plans. `specs/WellFormed.antt` says what each task keeps.
+#![tactic(auto)]
+
+mod atoms;
+mod calls;
+mod conds;
+mod effects;
+mod exec;
+mod fits;
+mod instance;
+mod memory;
+mod objects;
+mod parts;
+mod pddl;
+mod predicates;
+mod run;
+mod schemas;
+mod state;
+#[cfg(test)]
+mod tests;
+mod types;
+
+pub use atoms::{Atom, Atoms, Pattern, Term, Terms};
+pub use calls::{Call, Calls, Verdict};
+pub use conds::{Cond, Conds};
+pub use effects::{Effect, Effects};
+pub use memory::{Memory, Which};
+pub use objects::{ObjectDecl, ObjectDecls, Objects};
+pub use parts::Parts;
+pub use pd_sexp::Name;
+pub use pddl::Pddl;
+pub use predicates::{Predicate, Predicates};
+pub use schemas::{Schema, Schemas};
+pub use types::{TypeDecl, TypeNumbers, Types};

@@ -1,0 +1,6 @@
+pub mod Steps
+pub mod Lookups
+pub mod Kept
+pub mod Rows
+pub mod DepotTask
+pub mod Spelled

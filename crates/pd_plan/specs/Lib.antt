@@ -1,0 +1,10 @@
+pub mod Fault
+pub mod First
+pub mod Tokens
+pub mod WordLists
+pub mod Names
+pub mod PlanFile
+pub mod Spells
+pub mod Progress
+pub mod Reader
+pub mod Depot

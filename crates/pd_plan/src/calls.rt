@@ -1,0 +1,132 @@
+// The calls that lists of words spell.
+ghost use Rattle.std.specs.Prelude.{◌≡◌, ℕ, List, length, slice_index};
+ghost use Rattle.pd_model.specs.Types.{parents_of, is_under};
+ghost use Rattle.pd_model.specs.Fits.{fits};
+ghost use Rattle.pd_words.specs.Names.{number_of};
+ghost use Rattle.pd_plan.specs.First.{Gives, GivesAs};
+ghost use Rattle.pd_plan.specs.Names.{looked_up};
+ghost use Rattle.pd_plan.specs.PlanFile as plans;
+ghost use Rattle.pd_plan.specs.PlanFile.{schema_names, object_names};
+
+use crate::PlanFault;
+use crate::lists::WordList;
+use crate::names::NameNumbers;
+use pd_model::{Call, Calls, Objects, Pddl, TypeDecl};
+use pd_words::Named;
+use std::alloc::Global;
+
+fn parent_of(types: &[TypeDecl], kind: u32) -> u32
+    ensures { result ≡ slice_index (parents_of types.now) kind }
+{
+    match types.get(kind as usize) {
+        Some(declared) => declared.parent,
+        None => 0,
+    }
+}
+
+// Whether parents lead from a type to one above it. The first object that does not fit ends the reading, so
+// that all types are walked once at most.
+fn lies_under(types: &[TypeDecl], kind: u32, above: u32) -> bool
+    ensures { result ≡ is_under (parents_of types.now) kind above }
+{
+    let mut at = kind;
+    for _ in 0..types.len() {
+        if at == above {
+            return true;
+        }
+        at = parent_of(types, at);
+    }
+    at == above
+}
+
+fn fits_type(p: &Pddl, kind: u32, object: u32) -> bool
+    ensures { result ≡ fits p.now kind object }
+{
+    match p.objects().as_slice().get(object as usize) {
+        Some(declared) => lies_under(p.types().as_slice(), declared.kind, kind),
+        None => false,
+    }
+}
+
+// The object that a word names.
+fn read_argument(p: &Pddl, objects: &NameNumbers, kind: u32, word: &Named) -> Result<u32, PlanFault>
+    requires { (name : List ℕ) → looked_up objects.now name ≡ number_of name (object_names p.now.objects) }
+    ensures { Gives (plans.argument p.now kind word.now) result }
+{
+    let Some(object) = objects.number(&word.name) else {
+        return Err(PlanFault::Unknown { at: word.at });
+    };
+    if !fits_type(p, kind, object) {
+        return Err(PlanFault::Mistyped { at: word.at });
+    }
+    Ok(object)
+}
+
+// The objects that words name, one for each type.
+#[tactic(auto, using(crate::proofs::Kept::no_words))]
+fn read_arguments(
+    alloc: Global,
+    p: &Pddl,
+    objects: &NameNumbers,
+    kinds: &[u32],
+    words: &[Named],
+) -> Result<Objects, PlanFault>
+    requires { (name : List ℕ) → looked_up objects.now name ≡ number_of name (object_names p.now.objects) }
+    ensures { Gives (plans.arguments p.now kinds.now words.now) result }
+{
+    let mut numbers = Vec::new(alloc);
+    let mut rest = words;
+    for kind in kinds {
+        let Some((word, others)) = rest.split_first() else {
+            return Ok(Objects::of(numbers));
+        };
+        numbers.push(read_argument(p, objects, *kind, word)?)?;
+        rest = others;
+    }
+    Ok(Objects::of(numbers))
+}
+
+// The call that a list spells.
+fn read_call(
+    alloc: Global,
+    p: &Pddl,
+    schemas: &NameNumbers,
+    objects: &NameNumbers,
+    list: &WordList,
+) -> Result<Call, PlanFault>
+    requires schemas { (name : List ℕ) → looked_up schemas.now name ≡ number_of name (schema_names p.now.schemas) }
+    requires objects { (name : List ℕ) → looked_up objects.now name ≡ number_of name (object_names p.now.objects) }
+    ensures { Gives (plans.call_of p.now list.now) result }
+{
+    let Some((name, words)) = list.words.as_slice().split_first() else {
+        return Err(PlanFault::Syntax { at: list.at });
+    };
+    let Some(number) = schemas.number(&name.name) else {
+        return Err(PlanFault::Unknown { at: name.at });
+    };
+    let Some(schema) = p.schemas().as_slice().get(number as usize) else {
+        return Err(PlanFault::Unknown { at: name.at });
+    };
+    let kinds = schema.parameters.as_slice();
+    if words.len() != kinds.len() {
+        return Err(PlanFault::Arity { at: list.at });
+    }
+    let objects = read_arguments(alloc, p, objects, kinds, words)?;
+    Ok(Call {
+        schema: number,
+        objects,
+    })
+}
+
+/// The calls that the lists spell. Names are looked up in tables.
+pub fn read_calls(alloc: Global, p: &Pddl, lists: &[WordList]) -> Result<Calls, PlanFault>
+    ensures { Gives (plans.calls_of p.now lists.now) result }
+{
+    let schemas = NameNumbers::of_schemas(alloc, p.schemas().as_slice())?;
+    let objects = NameNumbers::of_objects(alloc, p.objects().as_slice())?;
+    let mut calls = Vec::new(alloc);
+    for list in lists {
+        calls.push(read_call(alloc, p, &schemas, &objects, list)?)?;
+    }
+    Ok(Calls::of(calls))
+}

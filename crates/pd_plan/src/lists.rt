@@ -1,0 +1,62 @@
+// The lists of words that a plan file is.
+ghost use Rattle.std.specs.Prelude.{◌≡◌, ◌≤◌, length};
+ghost use Rattle.pd_plan.specs.First.{GivesAs};
+ghost use Rattle.pd_plan.specs.WordLists.{word_lists};
+
+use crate::PlanFault;
+use crate::reader::Reader;
+use pd_words::Named;
+use std::alloc::Global;
+use std::marker::Model;
+
+/// Words with their places, from the left.
+#[derive(Debug, Drop)]
+pub struct Words {
+    items: Vec<Named>,
+}
+
+impl Model for Words {
+    ghost use Rattle.std.specs.Prelude.{List};
+    ghost use Rattle.pd_words.specs.declared.named.Named.{Named};
+
+    ghost Value = { List Named };
+
+    ghost view = { λ l. l.items.items };
+}
+
+impl Words {
+    ghost use Rattle.std.specs.Prelude.{◌≡◌};
+
+    /// The list of these words; takes no memory.
+    pub fn of(items: Vec<Named>) -> Self
+        ensures { result ≡ items.items }
+    {
+        Words { items }
+    }
+
+    /// The words.
+    pub fn as_slice(&self) -> &[Named]
+        ensures { result.now ≡ self.now }
+    {
+        &self.items
+    }
+}
+
+/// A list of words, and the offset of its parenthesis.
+#[derive(Debug, Drop)]
+pub struct WordList {
+    pub at: u32,
+    pub words: Words,
+}
+
+/// Reads the lists of words, in one pass over the bytes.
+pub fn read_lists(alloc: Global, bytes: &[u8]) -> Result<Vec<WordList>, PlanFault>
+    requires { length bytes.now ≤ 1048576 }
+    ensures { GivesAs (λ lists. lists.items) (word_lists bytes.now) result }
+{
+    let mut reader = Reader::new(alloc);
+    for (at, byte) in bytes.iter().enumerate() {
+        reader.step(at as u32, *byte)?;
+    }
+    reader.finish(bytes.len() as u32)
+}

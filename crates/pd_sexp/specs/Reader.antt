@@ -1,0 +1,54 @@
+-- Where a `Reader` stands, in the words of `Progress`. Only private clauses speak of it.
+use Rattle.std.specs.Prelude.{◌≡◌, ℕ, List, map, reverse, Some, None, Result, Ok, Err}
+use Rattle.pd_sexp.specs.Progress as at
+use Rattle.pd_sexp.specs.View.{view}
+use Rattle.pd_sexp.specs.declared.tree.Tree.{Tree}
+use Rattle.pd_sexp.specs.declared.tree.TreeError.{TreeError}
+use Rattle.pd_sexp.specs.declared.tree.TreeError.TheVariants.{Syntax, Deep, Memory}
+use Rattle.pd_sexp.specs.declared.reader.Frame.{Frame}
+use Rattle.pd_sexp.specs.declared.reader.Reader.{Reader}
+use Rattle.pd_sexp.specs.declared.reader.Place.{Place}
+use Rattle.pd_sexp.specs.declared.reader.Place.TheVariants.{Before, Inside, After}
+use Rattle.pd_sexp.specs.declared.reader.Spot.{Spot}
+use Rattle.pd_sexp.specs.declared.reader.Spot.TheVariants.{Gap, Comment, Word}
+
+abbrev pub frame_of : Frame → at.Frame
+frame_of frame = record { at = frame.at; items = map view frame.items.items }
+
+-- the innermost list stands last in a reader and first in the words of `Progress`
+abbrev pub outer_of : List Frame → List at.Frame
+outer_of frames = reverse (map frame_of frames)
+
+abbrev pub place_of : Place → at.Frame → List at.Frame → at.Place
+place_of Before frame outer = at.before
+place_of Inside frame outer = at.inside frame outer
+place_of After frame outer = at.after frame
+
+abbrev pub state_from : Spot → at.Frame → List at.Frame → ℕ → List ℕ → at.State
+state_from (Gap place) frame outer start letters = at.gap (place_of place frame outer)
+state_from (Comment place) frame outer start letters = at.comment (place_of place frame outer)
+state_from Word frame outer start letters = at.word frame outer start letters
+
+abbrev pub state_of : Reader → at.State
+state_of r = state_from r.spot (frame_of r.frame) (outer_of r.outer.items) r.start r.letters.items
+
+-- One byte more was read, or no file goes on so, or a list stands too deep; of want of memory nothing is said.
+abbrev pub Steps : at.State → ℕ → ℕ → at.State → Result (Unit {0}) TreeError → Type 0
+Steps old offset b new (Ok done) = (at.step old offset b ≡ Some new) × (at.IsTooDeep old b → ⊥)
+Steps old offset b new (Err (Syntax place)) = (place ≡ offset) × (at.step old offset b ≡ None)
+Steps old offset b new (Err (Deep place)) = (place ≡ offset) × at.IsTooDeep old b × ((next : at.State) × (at.step old offset b ≡ Some next))
+Steps old offset b new (Err Memory) = Unit {0}
+
+-- the same of a byte that is neither blank nor a semicolon, in a gap
+abbrev pub TakesToken : at.Place → ℕ → ℕ → at.State → Result (Unit {0}) TreeError → Type 0
+TakesToken place offset b new (Ok done) = (at.token place offset b ≡ Some new) × (at.IsTooDeep (at.gap place) b → ⊥)
+TakesToken place offset b new (Err (Syntax at_byte)) = (at_byte ≡ offset) × (at.token place offset b ≡ None)
+TakesToken place offset b new (Err (Deep at_byte)) = (at_byte ≡ offset) × at.IsTooDeep (at.gap place) b × ((next : at.State) × (at.token place offset b ≡ Some next))
+TakesToken place offset b new (Err Memory) = Unit {0}
+
+-- the file ends here with this tree, or too early
+abbrev pub Ends : at.State → ℕ → Result Tree TreeError → Type 0
+Ends state length (Ok tree) = at.finished state ≡ Some (view tree)
+Ends state length (Err (Syntax place)) = (place ≡ length) × (at.finished state ≡ None)
+Ends state length (Err (Deep place)) = ⊥
+Ends state length (Err Memory) = ⊥

@@ -1,0 +1,11 @@
+use Rattle.std.proofs.Common.{◌≡◌, [], drop}
+use Rattle.pd_sexp.specs.View.{views}
+use Rattle.pd_task.specs.Effects.{all_effects}
+use Rattle.pd_task.specs.Scope.{site_of}
+use Rattle.pd_task.proofs.effects.+read_effect.Given as goal
+
+abbrev pub invariant-loop-item : goal.invariant-loop-item
+invariant-loop-item l =
+    (l.scope ≡ l.fn.scope)
+    × (all_effects l.vocabulary.types.now (site_of l.vocabulary l.fn.scope []) l.into.items (views (drop l.item-index l.rest))
+    ≡ all_effects l.vocabulary.types.now (site_of l.vocabulary l.fn.scope []) l.fn.into.items (views l.rest))

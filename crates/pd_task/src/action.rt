@@ -1,0 +1,219 @@
+// Actions.
+ghost use Rattle.std.specs.Prelude.{◌≡◌, ◌++◌, ◌∷◌, [], List, ℕ, None, Some, option_map, length, IfOk, OnOk, IfErr};
+ghost use Rattle.pd_words.specs.Names.{number_of};
+ghost use Rattle.pd_words.specs.declared.fault.ReadError.TheVariants as errors;
+ghost use Rattle.pd_sexp.specs.View.{view, views};
+ghost use Rattle.pd_words.specs.Typed as typed;
+ghost use Rattle.pd_words.specs.First.{Gives, GivesAs, Leaves};
+ghost use Rattle.pd_task.specs.Atoms.{condition};
+ghost use Rattle.pd_task.specs.Effects as effects;
+ghost use Rattle.pd_task.specs.Action as action;
+ghost use Rattle.pd_task.specs.Scope.{names_with, site_of};
+ghost use Rattle.pd_task.specs.KeyValues.{keys_of};
+
+use crate::cond::read_cond;
+use crate::effects::{place_of, read_effect};
+use crate::scope::Scope;
+use crate::vocabulary::Vocabulary;
+use pd_model::{Cond, Conds, Effect, Effects, Schema, TypeNumbers};
+use pd_sexp::{Name, Tree};
+use pd_words::{Fault, ReadError, Table, Variables, copy_name, is, is_name, read_variable_list};
+use std::alloc::Global;
+
+/// A key of an action.
+#[derive(Clone, Copy, Debug, PartialEq, Eq)]
+pub enum Key {
+    Parameters,
+    Precondition,
+    Effect,
+}
+
+/// The values of the keys that stand in an action.
+#[derive(Drop)]
+pub struct Keys<'a> {
+    pub parameters: Option<&'a Tree>,
+    pub precondition: Option<&'a Tree>,
+    pub effect: Option<&'a Tree>,
+}
+
+fn read_key(tree: &Tree) -> Result<Key, ReadError>
+    ensures { Gives (action.key_of (view tree.now)) result }
+{
+    match tree {
+        Tree::List { at, .. } => Err(ReadError::Fault(Fault::Shape(*at))),
+        Tree::Word { at, text } => {
+            if is(text, ":parameters") {
+                Ok(Key::Parameters)
+            } else if is(text, ":precondition") {
+                Ok(Key::Precondition)
+            } else if is(text, ":effect") {
+                Ok(Key::Effect)
+            } else {
+                Err(ReadError::Fault(Fault::Shape(*at)))
+            }
+        }
+    }
+}
+
+// The keys and values after the name of the action at this place.
+fn read_keys(at: u32, items: &[Tree]) -> Result<Keys<'_>, ReadError>
+    ensures { GivesAs keys_of (action.keys_from at action.no_keys (views items.now)) result }
+{
+    let mut parameters = None;
+    let mut precondition = None;
+    let mut effect = None;
+    let mut rest = items;
+    while let Some((word, after)) = rest.split_first() {
+        let key = read_key(word)?;
+        let taken = match key {
+            Key::Parameters => parameters.is_some(),
+            Key::Precondition => precondition.is_some(),
+            Key::Effect => effect.is_some(),
+        };
+        if taken {
+            return Err(ReadError::Fault(Fault::Duplicate(place_of(word))));
+        }
+        let Some((value, later)) = after.split_first() else {
+            return Err(ReadError::Fault(Fault::Shape(at)));
+        };
+        match key {
+            Key::Parameters => parameters = Some(value),
+            Key::Precondition => precondition = Some(value),
+            Key::Effect => effect = Some(value),
+        }
+        rest = later;
+    }
+    Ok(Keys {
+        parameters,
+        precondition,
+        effect,
+    })
+}
+
+/// Tests that a tree is a name, and lends it.
+pub fn name_at(tree: &Tree) -> Result<&Name, ReadError>
+    ensures { GivesAs (λ n. n.now) (action.name_at (view tree.now)) result }
+{
+    match tree {
+        Tree::List { at, .. } => Err(ReadError::Fault(Fault::Shape(*at))),
+        Tree::Word { at, text } => {
+            if !is_name(text) {
+                return Err(ReadError::Fault(Fault::Shape(*at)));
+            }
+            Ok(text)
+        }
+    }
+}
+
+fn read_parameters(
+    alloc: Global,
+    types: &Table,
+    tree: Option<&Tree>,
+) -> Result<Variables, ReadError>
+    ensures { GivesAs (λ v. typed.listed v.names v.kinds.items) (typed.variable_list types.now (action.value_of (option_map (λ t. view t.now) tree.entry))) result }
+{
+    match tree {
+        None => Ok(Variables::new(alloc)),
+        Some(tree) => read_variable_list(alloc, types, tree),
+    }
+}
+
+fn read_precondition(
+    alloc: Global,
+    vocabulary: &Vocabulary,
+    scope: &Scope,
+    tree: Option<&Tree>,
+) -> Result<Conds, ReadError>
+    ensures { Gives (condition (names_with vocabulary.now scope.now.levels) [] (action.value_of (option_map (λ t. view t.now) tree.entry))) result }
+{
+    let mut conds = Vec::new(alloc);
+    if let Some(tree) = tree {
+        read_cond(alloc, vocabulary, scope, tree, &mut conds)?;
+    }
+    Ok(Conds::of(conds))
+}
+
+fn read_effects(
+    alloc: Global,
+    vocabulary: &Vocabulary,
+    scope: &mut Scope,
+    tree: Option<&Tree>,
+) -> Result<Effects, ReadError>
+    ensures { Gives (effects.effect vocabulary.now.types.now (site_of vocabulary.now scope.old []) [] (action.value_of (option_map (λ t. view t.now) tree.entry))) result }
+{
+    let mut found = Vec::new(alloc);
+    if let Some(tree) = tree {
+        read_effect(alloc, vocabulary, scope, tree, &mut found)?;
+    }
+    Ok(Effects::of(found))
+}
+
+// The parts of an action of this name.
+fn read_schema(
+    alloc: Global,
+    vocabulary: &Vocabulary,
+    name: &Name,
+    keys: &Keys,
+) -> Result<Schema, ReadError>
+    ensures schema { Gives (action.schema vocabulary.now.types.now (names_with vocabulary.now []) name.now (keys_of keys.now)) result }
+    ensures name { IfOk result (λ s. s.name ≡ name.now) }
+{
+    let variables = read_parameters(alloc, vocabulary.types, keys.parameters)?;
+    let Variables { names, kinds } = variables;
+    let mut scope = Scope::of(alloc, names)?;
+    let pre = read_precondition(alloc, vocabulary, &scope, keys.precondition)?;
+    let effects = read_effects(alloc, vocabulary, &mut scope, keys.effect)?;
+    Ok(Schema {
+        name: copy_name(alloc, name)?,
+        parameters: TypeNumbers::of(kinds),
+        pre,
+        effects,
+    })
+}
+
+// Adds an action of this name. It fails only for want of memory.
+#[tactic(auto, using(crate::proofs::ObjectLemmas::schemas_push))]
+fn push_action(
+    alloc: Global,
+    names: &mut Table,
+    schemas: &mut Vec<Schema>,
+    name: &Name,
+    schema: Schema,
+) -> Result<(), ReadError>
+    requires names { names.old ≡ action.names_of schemas.old.items }
+    requires new { number_of name.now names.old ≡ None }
+    requires named { schema.name ≡ name.now }
+    ensures added { OnOk result (schemas.new.items ≡ schemas.old.items ++ schema ∷ []) }
+    ensures names { OnOk result (names.new ≡ action.names_of schemas.new.items) }
+    ensures memory { IfErr result (λ e. e ≡ errors.Memory) }
+{
+    names.add(alloc, name)?;
+    schemas.push(schema)?;
+    Ok(())
+}
+
+/// Adds the action that the list at this place, with these items after `:action`, is. The table has the
+/// names of the actions so far.
+pub fn read_action(
+    alloc: Global,
+    vocabulary: &Vocabulary,
+    names: &mut Table,
+    schemas: &mut Vec<Schema>,
+    at: u32,
+    items: &[Tree],
+) -> Result<(), ReadError>
+    requires { names.old ≡ action.names_of schemas.old.items }
+    ensures action { Leaves (action.and_action vocabulary.now.types.now (names_with vocabulary.now []) schemas.old.items at (views items.now)) schemas.new.items result }
+    ensures names { OnOk result (names.new ≡ action.names_of schemas.new.items) }
+{
+    let Some((title, rest)) = items.split_first() else {
+        return Err(ReadError::Fault(Fault::Shape(at)));
+    };
+    let name = name_at(title)?;
+    if names.number(name).is_some() {
+        return Err(ReadError::Fault(Fault::Duplicate(place_of(title))));
+    }
+    let keys = read_keys(at, rest)?;
+    let schema = read_schema(alloc, vocabulary, name, &keys)?;
+    push_action(alloc, names, schemas, name, schema)
+}

@@ -1,0 +1,19 @@
+// Words with their places.
+ghost use Rattle.std.specs.Prelude.{◌≡◌, IfOk};
+
+use pd_sexp::Name;
+use std::alloc::{AllocError, Global};
+
+/// A word, and the offset of its first byte.
+#[derive(Debug, Drop)]
+pub struct Named {
+    pub at: u32,
+    pub name: Name,
+}
+
+/// A copy of a word.
+pub fn copy_name(alloc: Global, name: &Name) -> Result<Name, AllocError>
+    ensures { IfOk result (λ n. n ≡ name.now) }
+{
+    Ok(Name::of(Vec::from_slice(alloc, name.as_slice())?))
+}

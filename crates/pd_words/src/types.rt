@@ -1,0 +1,254 @@
+// The types of a domain.
+ghost use Rattle.std.specs.Prelude.{◌≡◌, ◌<◌, ◌≤◌, ◌++◌, ◌∷◌, [], ℕ, zero, suc, List, length, map, IfOk, OnOk, IfErr};
+ghost use Rattle.pd_sexp.specs.View.{views};
+ghost use Rattle.pd_model.specs.Types.{parents_of};
+ghost use Rattle.pd_words.specs.First.{Gives, GivesAs};
+ghost use Rattle.pd_words.specs.Types as types;
+ghost use Rattle.pd_words.specs.Types.{AreParents};
+ghost use Rattle.pd_words.specs.TypeList.{declared};
+ghost use Rattle.pd_words.specs.declared.fault.ReadError.TheVariants as errors;
+
+use crate::ancestors::{ancestors, is_rooted};
+use crate::fault::{Fault, ReadError};
+use crate::named::{Named, copy_name};
+use crate::table::Table;
+use crate::typed::{OBJECT, read_type_name};
+use crate::words::{is, is_dash, is_name};
+use pd_model::{TypeDecl, Types};
+use pd_sexp::{Name, Tree};
+use std::alloc::Global;
+
+fn is_object(name: &Name) -> bool
+    ensures { result ≡ types.is_object name.now }
+{
+    is(name, "object")
+}
+
+fn object_name(alloc: Global) -> Result<Name, ReadError>
+    ensures name { IfOk result (λ n. n ≡ types.object_name) }
+    ensures memory { IfErr result (λ e. e ≡ errors.Memory) }
+{
+    Ok(Name::of(Vec::from_slice(alloc, "object".as_bytes())?))
+}
+
+// The types of a list so far.
+#[derive(Drop)]
+struct Declared {
+    // Their names, `object` first.
+    names: Table,
+    // Where each but `object` stands.
+    places: Vec<u32>,
+    // The names of their parents.
+    parents: Vec<Name>,
+}
+
+impl Declared {
+    ghost use Rattle.std.specs.Prelude.{◌≡◌, IfOk, IfErr};
+    ghost use Rattle.pd_words.specs.Types as types;
+    ghost use Rattle.pd_words.specs.TypeList.{declared};
+    ghost use Rattle.pd_words.specs.First.{Leaves};
+    ghost use Rattle.pd_words.specs.declared.fault.ReadError.TheVariants as errors;
+
+    fn new(alloc: Global) -> Result<Self, ReadError>
+        ensures declared { IfOk result (λ d. declared d ≡ types.only_object) }
+        ensures memory { IfErr result (λ e. e ≡ errors.Memory) }
+    {
+        let mut names = Table::new(alloc);
+        let object = object_name(alloc)?;
+        names.add(alloc, &object)?;
+        Ok(Declared {
+            names,
+            places: Vec::new(alloc),
+            parents: Vec::new(alloc),
+        })
+    }
+
+    #[tactic(auto, using(crate::proofs::NameLemmas::number_none))]
+    fn admit(&mut self, alloc: Global, word: &Named) -> Result<(), ReadError>
+        ensures { Leaves (types.admit_type (declared self.old) word.now) (declared self.new) result }
+    {
+        if !is_name(&word.name) {
+            return Err(ReadError::Fault(Fault::Shape(word.at)));
+        }
+        if is_object(&word.name) {
+            return Ok(());
+        }
+        if self.names.number(&word.name).is_some() {
+            return Err(ReadError::Fault(Fault::Duplicate(word.at)));
+        }
+        self.names.add(alloc, &word.name)?;
+        self.places.push(word.at)?;
+        Ok(())
+    }
+
+    fn give(&mut self, alloc: Global, parent: &Name, waiting: &[Named]) -> Result<(), ReadError>
+        ensures { Leaves (types.give_parent (declared self.old) parent.now waiting.now) (declared self.new) result }
+    {
+        for word in waiting {
+            self.give_one(alloc, parent, word)?;
+        }
+        Ok(())
+    }
+
+    fn give_one(&mut self, alloc: Global, parent: &Name, word: &Named) -> Result<(), ReadError>
+        ensures { Leaves (types.give_one (declared self.old) parent.now word.now) (declared self.new) result }
+    {
+        if !is_object(&word.name) {
+            self.parents.push(copy_name(alloc, parent)?)?;
+            return Ok(());
+        }
+        if !is_object(parent) {
+            return Err(ReadError::Fault(Fault::Duplicate(word.at)));
+        }
+        Ok(())
+    }
+}
+
+fn read_declared(alloc: Global, items: &[Tree]) -> Result<Declared, ReadError>
+    ensures { GivesAs declared (types.declared_from types.only_object [] (views items.now)) result }
+{
+    let mut types = Declared::new(alloc)?;
+    let mut waiting = Vec::new(alloc);
+    let mut rest = items;
+    while let Some((item, after)) = rest.split_first() {
+        match item {
+            Tree::List { at, .. } => return Err(ReadError::Fault(Fault::Shape(*at))),
+            Tree::Word { at, text } => {
+                if is_dash(text) {
+                    let Some((parent, later)) = after.split_first() else {
+                        return Err(ReadError::Fault(Fault::Shape(*at)));
+                    };
+                    if waiting.as_slice().is_empty() {
+                        return Err(ReadError::Fault(Fault::Shape(*at)));
+                    }
+                    let parent = read_type_name(alloc, parent)?;
+                    types.give(alloc, &parent.name, waiting.as_slice())?;
+                    waiting.clear();
+                    rest = later;
+                } else {
+                    let name = copy_name(alloc, text)?;
+                    let word = Named { at: *at, name };
+                    types.admit(alloc, &word)?;
+                    waiting.push(word)?;
+                    rest = after;
+                }
+            }
+        }
+    }
+    let object = object_name(alloc)?;
+    types.give(alloc, &object, waiting.as_slice())?;
+    Ok(types)
+}
+
+// Adds a name if it is not there.
+#[tactic(auto, using(crate::proofs::NameLemmas::number_none))]
+fn add_name(alloc: Global, names: &mut Table, name: &Name) -> Result<(), ReadError>
+    ensures added { OnOk result (names.new ≡ types.with_name names.old name.now) }
+    ensures memory { IfErr result (λ e. e ≡ errors.Memory) }
+{
+    if names.number(name).is_some() {
+        return Ok(());
+    }
+    names.add(alloc, name)
+}
+
+// Adds each parent that is not there.
+fn add_parents(alloc: Global, names: &mut Table, parents: &[Name]) -> Result<(), ReadError>
+    ensures added { OnOk result (names.new ≡ types.with_parents names.old parents.now) }
+    ensures memory { IfErr result (λ e. e ≡ errors.Memory) }
+{
+    for parent in parents {
+        add_name(alloc, names, parent)?;
+    }
+    Ok(())
+}
+
+// The numbers of the parents, that of `object` first.
+fn parent_numbers(alloc: Global, names: &Table, parents: &[Name]) -> Result<Vec<u32>, ReadError>
+    ensures numbers { IfOk result (λ v. v.items ≡ 0 ∷ map (types.number_in names.now) parents.now) }
+    ensures memory { IfErr result (λ e. e ≡ errors.Memory) }
+{
+    let mut numbers = Vec::new(alloc);
+    numbers.push(OBJECT)?;
+    for parent in parents {
+        numbers.push(names.number(parent).unwrap_or(OBJECT))?;
+    }
+    Ok(numbers)
+}
+
+// The types of these names under these parents.
+fn types_under(alloc: Global, names: &[Name], numbers: &[u32]) -> Result<Vec<TypeDecl>, ReadError>
+    ensures types { IfOk result (λ v. v.items ≡ types.types_under names.now numbers.now) }
+    ensures memory { IfErr result (λ e. e ≡ errors.Memory) }
+{
+    let mut decls = Vec::new(alloc);
+    let mut rest = numbers;
+    for name in names {
+        let name = copy_name(alloc, name)?;
+        let parent = match rest.split_first() {
+            None => OBJECT,
+            Some((number, after)) => {
+                rest = after;
+                *number
+            }
+        };
+        decls.push(TypeDecl { name, parent })?;
+    }
+    Ok(decls)
+}
+
+fn parents_in(alloc: Global, decls: &[TypeDecl]) -> Result<Vec<u32>, ReadError>
+    ensures parents { IfOk result (λ v. v.items ≡ parents_of decls.now) }
+    ensures memory { IfErr result (λ e. e ≡ errors.Memory) }
+{
+    let mut parents = Vec::new(alloc);
+    for decl in decls {
+        parents.push(decl.parent)?;
+    }
+    Ok(parents)
+}
+
+// Tests that each declared type lies under `object`.
+fn check_rooted(alloc: Global, parents: &[u32], places: &[u32]) -> Result<(), ReadError>
+    requires parents { AreParents parents.now }
+    requires room { length places.now < length parents.now }
+    ensures { Gives (types.rooted parents.now 1 places.now) result }
+{
+    let last = ancestors(alloc, parents, parents.len())?;
+    let mut kind: usize = 1;
+    for place in places {
+        if !is_rooted(parents, last.as_slice(), kind) {
+            return Err(ReadError::Fault(Fault::Shape(*place)));
+        }
+        kind += 1;
+    }
+    Ok(())
+}
+
+/// The types of a domain, by number, and their names.
+#[derive(Debug, Drop)]
+pub struct TypeTable {
+    pub decls: Types,
+    pub names: Table,
+}
+
+/// Reads the items of the section of types.
+pub fn read_types(alloc: Global, items: &[Tree]) -> Result<TypeTable, ReadError>
+    ensures types { GivesAs (λ t. t.decls) (types.types (views items.now)) result }
+    ensures names { IfOk result (λ t. t.names ≡ map (λ d. d.name) t.decls) }
+{
+    let Declared {
+        mut names,
+        places,
+        parents,
+    } = read_declared(alloc, items)?;
+    add_parents(alloc, &mut names, parents.as_slice())?;
+    let numbers = parent_numbers(alloc, &names, parents.as_slice())?;
+    let decls = types_under(alloc, names.names(), numbers.as_slice())?;
+    let above = parents_in(alloc, decls.as_slice())?;
+    check_rooted(alloc, above.as_slice(), places.as_slice())?;
+    Ok(TypeTable {
+        decls: Types::of(decls),
+        names,
+    })
+}

@@ -1,0 +1,4 @@
+pub mod Outside
+pub mod Calls
+pub mod MemShelf
+pub mod MemSink

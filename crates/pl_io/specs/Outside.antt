@@ -1,0 +1,45 @@
+-- What the calls of a shelf and of a sink leave behind.
+use Rattle.std.specs.Prelude.{◌≡◌, ◌<◌, ◌≤◌, ◌⊎◌, ◌+◌, ◌-◌, ◌^◌, ℕ, List, [], ◌∷◌, ◌++◌, length, take, min, count_by}
+use Rattle.std.specs.Prelude.{Option, option_map, Result, OnErr}
+use Rattle.std.specs.Str.{bytes_eq}
+
+-- the list of faults is as it was, or has this name once more, at its end
+abbrev pub Notes : List (List ℕ) → List (List ℕ) → List ℕ → Type 0
+Notes old new name = (new ≡ old) ⊎ (new ≡ old ++ name ∷ [])
+
+-- the count of faults for a name: how often it stands in the list
+abbrev pub fault_count : List ℕ → List (List ℕ) → ℕ
+fault_count name faults = count_by (bytes_eq name) faults
+
+-- the count of faults for this name rose
+abbrev pub FaultRose : List ℕ → List (List ℕ) → List (List ℕ) → Type 0
+FaultRose name old new = fault_count name old < fault_count name new
+
+-- some bytes, or none, were appended
+abbrev pub Took : List ℕ → List ℕ → Type 0
+Took old new = (bytes : List ℕ) × (new ≡ old ++ bytes)
+
+-- the file has at most so many bytes, and all of them were appended
+abbrev pub TookWhole : ℕ → List ℕ → List ℕ → List ℕ → Type 0
+TookWhole most old new file = (length file ≤ most) × (new ≡ old ++ file)
+
+-- the file has more bytes than these, and so many of its first ones were appended
+abbrev pub TookFirst : ℕ → List ℕ → List ℕ → List ℕ → Type 0
+TookFirst most old new file = (most < length file) × (new ≡ old ++ take most file)
+
+-- what a sink has taken once it took these bytes too, where it tells that
+abbrev pub appended : Option (List ℕ) → List ℕ → Option (List ℕ)
+appended old bytes = option_map (λ before. before ++ bytes) old
+
+-- some front of the text was taken, where the sink tells that
+abbrev pub TakesFront : Option (List ℕ) → Option (List ℕ) → List ℕ → Type 0
+TakesFront old new text = (count : ℕ) × (count ≤ length text) × (new ≡ appended old (take count text))
+
+-- the count rose, or stands at its last value
+abbrev pub Rose : ℕ → ℕ → Type 0
+Rose before now = min (before + 1) (2 ^ 64 - 1) ≤ now
+
+-- the count never falls, and an error comes only where it rose or stands at its last value
+pub record HasCause {T E : Type 0} (before now : ℕ) (result : Result T E) : Type 0 where
+  pub later : before ≤ now
+  pub failed : OnErr result (Rose before now)

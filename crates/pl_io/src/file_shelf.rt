@@ -1,0 +1,196 @@
+// The shelf of the running program: the files of the system, by their paths. It tells no content.
+ghost use Rattle.std.specs.Prelude.{◌≡◌, ◌≤◌, ◌+◌, ◌++◌, ℕ, List, [], ◌∷◌, length, None, false};
+ghost use Rattle.pl_io.specs.Outside.{Took};
+
+use crate::{Bytes, Names, Shelf, TakeError, Taken};
+use std::alloc::Global;
+use std::fs::{self, OpenFile};
+use std::io::{ErrorKind, Read};
+use std::rt::Files;
+
+/// How many bytes are asked of the system at a time.
+const CHUNK: usize = 16384;
+
+/// The files of the system, by their paths. What can't be opened and read to its end, as a folder, is a fault.
+#[derive(Drop)]
+pub struct FileShelf<'a, H> {
+    rt: &'a H,
+    alloc: Global,
+    failed: Names,
+}
+
+impl<'a, H: Files> FileShelf<'a, H> {
+    /// The files that the runtime `rt` reaches. It takes no memory; `alloc` serves the names of faults later.
+    pub fn new(rt: &'a H, alloc: Global) -> FileShelf<'a, H>
+        ensures { ⟦<FileShelf<'a, H> as Shelf>⟧.failed result ≡ [] }
+    {
+        FileShelf {
+            rt,
+            alloc,
+            failed: Names::of(Vec::new(alloc)),
+        }
+    }
+}
+
+/// Want of memory of the system is no fault of the file.
+fn cause_of(kind: ErrorKind) -> TakeError {
+    if kind == ErrorKind::OutOfMemory {
+        TakeError::Memory
+    } else {
+        TakeError::Failed
+    }
+}
+
+/// Reads to the end of the file, or until more than `most` bytes were met.
+fn read_front<R: Read>(file: &mut R, most: usize, into: &mut Vec<u8>) -> Result<Taken, TakeError>
+    ensures appends { Took into.old.items into.new.items }
+    ensures whole_fits { result ≡ Ok Taken.Whole → length into.new.items ≤ length into.old.items + most }
+    ensures longer_fills { result ≡ Ok Taken.Longer → length into.new.items ≡ length into.old.items + most }
+{
+    let mut chunk = [0u8; CHUNK];
+    let mut left = most;
+    for _ in 0..u64::MAX {
+        let count = match file.read(&mut chunk) {
+            Ok(count) => count,
+            Err(error) => {
+                if error.kind() == ErrorKind::Interrupted {
+                    continue;
+                }
+                return Err(cause_of(error.kind()));
+            }
+        };
+        if count == 0 {
+            return Ok(Taken::Whole);
+        }
+        let kept = count.min(left);
+        into.extend_from_slice(&chunk[..kept])?;
+        if kept < count {
+            return Ok(Taken::Longer);
+        }
+        left -= kept;
+    }
+    Err(TakeError::Failed)
+}
+
+/// How many bytes the file has by its own account, but at most `most`; 0 where it gives none.
+fn size_of<F: OpenFile>(file: &F, most: usize) -> usize {
+    match file.metadata() {
+        Ok(metadata) => usize::try_from(metadata.len()).unwrap_or(most).min(most),
+        Err(_) => 0,
+    }
+}
+
+/// Opens the file and reads it into room that is made once, where its size is known.
+fn open_and_read<H: Files>(
+    rt: &H,
+    name: &str,
+    most: usize,
+    into: &mut Vec<u8>,
+) -> Result<Taken, TakeError>
+    ensures appends { Took into.old.items into.new.items }
+    ensures whole_fits { result ≡ Ok Taken.Whole → length into.new.items ≤ length into.old.items + most }
+    ensures longer_fills { result ≡ Ok Taken.Longer → length into.new.items ≡ length into.old.items + most }
+{
+    match fs::open(rt, name) {
+        Ok(file) => {
+            let mut file = file;
+            into.reserve_exact(size_of(&file, most))?;
+            read_front(&mut file, most, into)
+        }
+        Err(error) => Err(cause_of(error.kind())),
+    }
+}
+
+impl<'a, H: Files> Shelf for FileShelf<'a, H> {
+    ghost told = { λ _ _. None };
+
+    ghost lacks = { λ _ _. false };
+
+    ghost failed = { λ shelf. shelf.failed };
+
+    #[tactic(auto, using(crate::proofs::Counted::counting))]
+    fn take(&mut self, name: &str, most: usize, into: &mut Vec<u8>) -> Result<Taken, TakeError> {
+        // The room for a fault is taken before the file is read.
+        let entry = Bytes::copy_of(self.alloc, name.as_bytes())?;
+        self.failed.make_room()?;
+        match open_and_read(self.rt, name, most, into) {
+            Err(TakeError::Failed) => {
+                self.failed.push(entry)?;
+                Err(TakeError::Failed)
+            }
+            other => other,
+        }
+    }
+}
+
+#[cfg(test)]
+mod tests {
+    use super::*;
+    use std::io;
+    use std::test::Fail;
+
+    // Is interrupted, gives two bytes, is interrupted again, gives two more, and then fails.
+    #[derive(Drop)]
+    struct Faulty {
+        reads: u8,
+    }
+
+    impl Read for Faulty {
+        fn read(&mut self, buf: &mut [u8]) -> io::Result<usize> {
+            self.reads = self.reads.saturating_add(1);
+            if self.reads > 4 || buf.len() < 2 {
+                return Err(io::Error::from(ErrorKind::Other));
+            }
+            if self.reads % 2 == 1 {
+                return Err(io::Error::from(ErrorKind::Interrupted));
+            }
+            buf[0] = b'a';
+            buf[1] = b'b';
+            Ok(2)
+        }
+    }
+
+    #[test]
+    fn reads_on_after_an_interruption(rt: HostRuntime) -> Result<(), Fail> {
+        let mut into = vec![in rt.alloc(); b'>']?;
+        assert_eq!(rt;
+            read_front(&mut Faulty { reads: 0 }, 3, &mut into),
+            Ok(Taken::Longer)
+        );
+        assert_eq!(rt; into.as_slice(), ">aba".as_bytes());
+        into.clear();
+        assert_eq!(rt;
+            read_front(&mut Faulty { reads: 0 }, 9, &mut into),
+            Err(TakeError::Failed)
+        );
+        assert_eq!(rt; into.as_slice(), "abab".as_bytes());
+        Ok(())
+    }
+
+    #[test]
+    fn takes_a_real_file(rt: HostRuntime) -> Result<(), Fail> {
+        let alloc = rt.alloc();
+        fs::write(&rt, "shelf-file", "(define)")?;
+        let mut shelf = FileShelf::new(&rt, alloc);
+        let cases = [
+            ("shelf-file", 9, Ok(Taken::Whole), ">(define)"),
+            ("shelf-file", 8, Ok(Taken::Whole), ">(define)"),
+            ("shelf-file", 7, Ok(Taken::Longer), ">(define"),
+            ("shelf-none", 8, Err(TakeError::Failed), ">"),
+            (".", 8, Err(TakeError::Failed), ">"),
+            ("", 8, Err(TakeError::Failed), ">"),
+        ];
+        for (name, most, answer, left) in cases {
+            let mut into = vec![in alloc; b'>']?;
+            assert_eq!(rt;
+                shelf.take(name, most, &mut into),
+                answer,
+                "at {name} {most}"
+            );
+            assert_eq!(rt; into.as_slice(), left.as_bytes(), "at {name} {most}");
+        }
+        assert_eq!(rt; shelf.failed.as_slice().len(), 3);
+        fs::remove_file(&rt, "shelf-file")?;
+        Ok(())
+    }
+}

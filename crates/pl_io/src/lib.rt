@@ -1,0 +1,31 @@
+//! The world outside the planner: a shelf of named files that it reads, and a sink of bytes that it writes to.
+//!
+//! Code that reads or writes is generic over [`Shelf`] and [`Sink`], so that one contract speaks of the program and of a
+//! run in memory. [`MemShelf`] and [`MemSink`] tell what they hold; [`FileShelf`] and [`OutSink`] stand before the
+//! system's files and the standard output, and tell no content. [`put_all`] is a whole caller of a sink.
+#![tactic(auto)]
+
+mod file_shelf;
+mod lists;
+mod mem_shelf;
+mod mem_sink;
+mod out_sink;
+mod outside;
+
+pub use file_shelf::FileShelf;
+pub use lists::{Bytes, Files, NamedFile, Names, Numbers};
+pub use mem_shelf::MemShelf;
+pub use mem_sink::MemSink;
+pub use out_sink::OutSink;
+pub use outside::{PutFailed, Shelf, Sink, TakeError, Taken, put_all};
+use std::alloc::AllocError;
+
+/// Want of memory: no room was to be had, and nothing else went wrong.
+#[derive(Clone, Copy, Debug, PartialEq, Eq)]
+pub struct Memory;
+
+impl From<AllocError> for Memory {
+    fn from(_: AllocError) -> Memory {
+        Memory
+    }
+}

@@ -1,0 +1,181 @@
+// A shelf in memory, for runs without a file system: it tells all its files, and fails where it was told to.
+ghost use Rattle.std.specs.Prelude.{◌≡◌, ◌≢◌, ◌↔◌, ◌≤◌, ◌+◌, ◌++◌, ℕ, List, [], ◌∷◌, length, option_map, IsTrue, IsSome, IsErr, OnErr, OnOk, IfSome, Contains};
+ghost use Rattle.pl_io.specs.Outside.{Notes, Took, TookWhole, TookFirst, fault_count, FaultRose};
+ghost use Rattle.pl_io.specs.Calls.{next_call, NextFails};
+ghost use Rattle.pl_io.specs.MemShelf.{bytes_at, has_none};
+
+use crate::{Bytes, Files, NamedFile, Names, Numbers, Shelf, TakeError, Taken};
+use std::alloc::{AllocError, Global};
+use std::marker::Model;
+
+/// Files in memory, by name. The calls of `take` whose numbers, counted from 1, are listed as failing fail.
+#[derive(Drop)]
+pub struct MemShelf {
+    alloc: Global,
+    files: Files,
+    failing: Numbers,
+    calls: u32,
+    failed: Names,
+}
+
+impl Model for MemShelf {
+    ghost use Rattle.pl_io.specs.MemShelf.{ShelfInMemory};
+
+    ghost Value = { ShelfInMemory };
+
+    ghost view = { λ shelf. record { files = shelf.files; failing = shelf.failing; calls = shelf.calls; failed = shelf.failed } };
+}
+
+impl MemShelf {
+    /// A shelf of these files whose calls with the numbers of `failing` fail. It takes no memory; `alloc` serves the
+    /// names of faults later.
+    pub fn new(alloc: Global, files: Files, failing: Numbers) -> MemShelf
+        ensures { result ≡ record { files = files; failing = failing; calls = 0; failed = [] } }
+    {
+        MemShelf {
+            alloc,
+            files,
+            failing,
+            calls: 0,
+            failed: Names::of(Vec::new(alloc)),
+        }
+    }
+
+    /// The names at which the shelf failed, in the order of the calls.
+    pub fn failed(&self) -> &[Bytes]
+        ensures { result.now ≡ self.now.failed }
+    {
+        self.failed.as_slice()
+    }
+
+    /// Counts a call, and answers whether it is one of those that fail.
+    fn next_fails(&mut self) -> bool
+        ensures count { self.new ≡ record self.old { calls = next_call self.old.calls } }
+        ensures fails { IsTrue result ↔ NextFails self.old.failing self.old.calls }
+    {
+        self.calls = self.calls.saturating_add(1);
+        self.failing.as_slice().contains(&self.calls)
+    }
+
+    /// Writes a fault down.
+    fn note(&mut self, name: &str) -> Result<(), AllocError>
+        ensures ok { OnOk result (self.new ≡ record self.old { failed = self.old.failed ++ name.now ∷ [] }) }
+        ensures err { OnErr result (self.new ≡ self.old) }
+    {
+        let entry = Bytes::copy_of(self.alloc, name.as_bytes())?;
+        self.failed.push(entry)
+    }
+}
+
+/// The bytes of the first file of this name.
+fn find<'a>(files: &'a [NamedFile], name: &[u8]) -> Option<&'a Bytes>
+    ensures { option_map (λ bytes. bytes.now) result ≡ bytes_at files.now name.now }
+{
+    for file in files {
+        if file.name.as_slice() == name {
+            return Some(&file.bytes);
+        }
+    }
+    None
+}
+
+/// Appends these bytes, at most `most` of them.
+fn append_front(bytes: &[u8], most: usize, into: &mut Vec<u8>) -> Result<Taken, AllocError>
+    ensures whole { result ≡ Ok Taken.Whole → TookWhole most into.old.items into.new.items bytes.now }
+    ensures longer { result ≡ Ok Taken.Longer → TookFirst most into.old.items into.new.items bytes.now }
+    ensures err { OnErr result (into.new.items ≡ into.old.items) }
+{
+    if bytes.len() <= most {
+        into.extend_from_slice(bytes)?;
+        Ok(Taken::Whole)
+    } else {
+        into.extend_from_slice(&bytes[..most])?;
+        Ok(Taken::Longer)
+    }
+}
+
+impl Shelf for MemShelf {
+    ghost told = { λ shelf. bytes_at shelf.files };
+
+    ghost lacks = { λ shelf. has_none shelf.files };
+
+    ghost failed = { λ shelf. shelf.failed };
+
+    #[tactic(auto, using(crate::proofs::Counted::counting))]
+    fn take(&mut self, name: &str, most: usize, into: &mut Vec<u8>) -> Result<Taken, TakeError>
+        // As of every shelf.
+        ensures told { bytes_at self.new.files ≡ bytes_at self.old.files }
+        ensures lacks { has_none self.new.files ≡ has_none self.old.files }
+        ensures appends { Took into.old.items into.new.items }
+        ensures whole { result ≡ Ok Taken.Whole → IfSome (bytes_at self.old.files name.now) (TookWhole most into.old.items into.new.items) }
+        ensures whole_fits { result ≡ Ok Taken.Whole → length into.new.items ≤ length into.old.items + most }
+        ensures longer { result ≡ Ok Taken.Longer → IfSome (bytes_at self.old.files name.now) (TookFirst most into.old.items into.new.items) }
+        ensures longer_fills { result ≡ Ok Taken.Longer → length into.new.items ≡ length into.old.items + most }
+        ensures notes { Notes self.old.failed self.new.failed name.now }
+        ensures never_falls { (other : List ℕ) → fault_count other self.old.failed ≤ fault_count other self.new.failed }
+        ensures cause { result ≡ Err TakeError.Failed → self.new.failed ≡ self.old.failed ++ name.now ∷ [] }
+        ensures rose { result ≡ Err TakeError.Failed → FaultRose name.now self.old.failed self.new.failed }
+        ensures missing { IsTrue (has_none self.old.files name.now) → IsErr result }
+
+        // The listed calls fail, and no other call for a name that is there; an error leaves `into` as it was.
+        ensures listed { NextFails self.old.failing self.old.calls → IsErr result }
+        ensures only_listed { ¬ NextFails self.old.failing self.old.calls → IsSome (bytes_at self.old.files name.now) → result ≢ Err TakeError.Failed }
+        ensures err { OnErr result (into.new.items ≡ into.old.items) }
+
+        // But for a fault and the count of calls the shelf stays as it was.
+        ensures quiet { OnOk result (self.new ≡ record self.old { calls = next_call self.old.calls }) }
+        ensures kept { self.new ≡ record self.old { calls = next_call self.old.calls; failed = self.new.failed } }
+    {
+        if !self.next_fails()
+            && let Some(bytes) = find(self.files.as_slice(), name.as_bytes())
+        {
+            return Ok(append_front(bytes.as_slice(), most, into)?);
+        }
+        self.note(name)?;
+        Err(TakeError::Failed)
+    }
+}
+
+#[cfg(test)]
+mod tests {
+    use super::*;
+    use std::test::Fail;
+
+    fn bytes(alloc: Global, text: &str) -> Result<Bytes, AllocError> {
+        Bytes::copy_of(alloc, text.as_bytes())
+    }
+
+    #[test]
+    fn takes_files_and_fails_where_told(rt: HostRuntime) -> Result<(), Fail> {
+        let alloc = rt.alloc();
+        let mut files = Vec::new(alloc);
+        files.push(NamedFile {
+            name: bytes(alloc, "domain")?,
+            bytes: bytes(alloc, "(define)")?,
+        })?;
+        let failing = Numbers::of(vec![in alloc; 5]?);
+        let mut shelf = MemShelf::new(alloc, Files::of(files), failing);
+        let cases = [
+            ("domain", 9, Ok(Taken::Whole), ">(define)"),
+            ("domain", 8, Ok(Taken::Whole), ">(define)"),
+            ("domain", 7, Ok(Taken::Longer), ">(define"),
+            ("problem", 8, Err(TakeError::Failed), ">"),
+            ("domain", 8, Err(TakeError::Failed), ">"),
+            ("domain", 0, Ok(Taken::Longer), ">"),
+        ];
+        for (name, most, answer, left) in cases {
+            let mut into = vec![in alloc; b'>']?;
+            assert_eq!(rt;
+                shelf.take(name, most, &mut into),
+                answer,
+                "at {name} {most}"
+            );
+            assert_eq!(rt; into.as_slice(), left.as_bytes(), "at {name} {most}");
+        }
+        let failed = shelf.failed();
+        assert_eq!(rt; failed.len(), 2);
+        assert_eq!(rt; failed[0].as_slice(), "problem".as_bytes());
+        assert_eq!(rt; failed[1].as_slice(), "domain".as_bytes());
+        Ok(())
+    }
+}

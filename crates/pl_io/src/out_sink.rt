@@ -1,0 +1,96 @@
+// The sink of the running program: the standard output. It tells no content.
+ghost use Rattle.std.specs.Prelude.{◌≡◌, ◌<◌, ◌≤◌, ◌+◌, ℕ, length, None, IfSome};
+
+use crate::{PutFailed, Sink};
+use std::io::{self, ErrorKind, Write};
+
+/// The standard output. Each error is a fault, and so is a write that takes nothing.
+#[derive(Drop)]
+pub struct OutSink<'a, H> {
+    rt: &'a H,
+    faults: u64,
+}
+
+impl<'a, H: Print> OutSink<'a, H> {
+    /// The standard output of the runtime `rt`. It takes no memory.
+    pub fn new(rt: &'a H) -> OutSink<'a, H>
+        ensures { ⟦<OutSink<'a, H> as Sink>⟧.faults result ≡ 0 }
+    {
+        OutSink { rt, faults: 0 }
+    }
+}
+
+/// Writes some of the text, and answers how many bytes. A write that a signal interrupted is made again.
+fn write_some<W: Write>(out: &mut W, text: &[u8]) -> Option<usize>
+    ensures { IfSome result (λ count. (0 < count) × (count ≤ length text.now)) }
+{
+    for _ in 0..u64::MAX {
+        match out.write(text) {
+            Ok(0) => return None,
+            Ok(count) => return Some(count),
+            Err(error) => {
+                if error.kind() != ErrorKind::Interrupted {
+                    return None;
+                }
+            }
+        }
+    }
+    None
+}
+
+impl<'a, H: Print> Sink for OutSink<'a, H> {
+    ghost taken = { λ _. None };
+
+    ghost faults = { λ sink. sink.faults };
+
+    fn put(&mut self, text: &[u8]) -> Result<usize, PutFailed> {
+        match write_some(&mut io::writer(self.rt), text) {
+            Some(count) => Ok(count),
+            None => {
+                self.faults = self.faults.saturating_add(1);
+                Err(PutFailed)
+            }
+        }
+    }
+}
+
+#[cfg(test)]
+mod tests {
+    use super::*;
+    use crate::put_all;
+
+    // Is interrupted, takes a byte, and then takes nothing.
+    #[derive(Drop)]
+    struct Stingy {
+        writes: u8,
+    }
+
+    impl Write for Stingy {
+        fn write(&mut self, buf: &[u8]) -> io::Result<usize> {
+            self.writes = self.writes.saturating_add(1);
+            match self.writes {
+                1 => Err(io::Error::from(ErrorKind::Interrupted)),
+                2 => Ok(buf.len().min(1)),
+                _ => Ok(0),
+            }
+        }
+
+        fn flush(&mut self) -> io::Result<()> {
+            Ok(())
+        }
+    }
+
+    #[test]
+    fn writes_again_after_an_interruption(rt: HostRuntime) {
+        let mut out = Stingy { writes: 0 };
+        assert_eq!(rt; write_some(&mut out, b"ab"), Some(1));
+        assert_eq!(rt; write_some(&mut out, b"b"), None);
+    }
+
+    #[test]
+    fn puts_to_the_standard_output(rt: HostRuntime) {
+        let mut sink = OutSink::new(&rt);
+        assert_eq!(rt; put_all(&mut sink, b"; written\n"), Ok(()));
+        assert_eq!(rt; sink.faults, 0);
+    }
+}

@@ -1,0 +1,79 @@
+ghost use Rattle.std.specs.Prelude.{◌≡◌, ◌++◌, IfOk, OnOk};
+ghost use Rattle.plan_gen.specs.Corridor.{corridor_head, corridor_init, corridor_goal, corridor_problem, door, doors};
+
+use crate::{Memory, Text};
+use std::alloc::Global;
+
+// The domain of a corridor.
+pub(crate) const DOMAIN: &str = "(define (domain corridor)
+(:predicates (in ?r) (door ?a ?b))
+(:action walk :parameters (?a ?b)
+:precondition (and (in ?a) (door ?a ?b))
+:effect (and (in ?b) (not (in ?a)))))
+";
+
+// The problem of a corridor whose last room is `number`.
+pub(crate) fn problem(alloc: Global, number: u32) -> Result<Text, Memory>
+    ensures { IfOk result (λ text. text ≡ corridor_problem number) }
+{
+    let mut text = Text::new(alloc);
+    put_head(&mut text, number)?;
+    put_init(&mut text, number)?;
+    put_goal(&mut text, number)?;
+    Ok(text)
+}
+
+// Puts the problem's head.
+fn put_head(text: &mut Text, number: u32) -> Result<(), Memory>
+    ensures { OnOk result (text.new ≡ text.old ++ corridor_head number) }
+{
+    text.put("(define (problem corridor-")?;
+    text.put_number(number)?;
+    text.put(")\n(:domain corridor)\n(:objects r0")?;
+    text.put_numbered(" r", "", number)?;
+    text.put(")\n")?;
+    Ok(())
+}
+
+// Puts the initial state.
+fn put_init(text: &mut Text, number: u32) -> Result<(), Memory>
+    ensures { OnOk result (text.new ≡ text.old ++ corridor_init number) }
+{
+    text.put("(:init (in r0)")?;
+    put_doors(text, number)?;
+    text.put(")\n")?;
+    Ok(())
+}
+
+// Puts the goal and the end of the problem.
+fn put_goal(text: &mut Text, number: u32) -> Result<(), Memory>
+    ensures { OnOk result (text.new ≡ text.old ++ corridor_goal number) }
+{
+    text.put("(:goal (in r")?;
+    text.put_number(number)?;
+    text.put(")))\n")?;
+    Ok(())
+}
+
+// Puts the doors between each of the first `count` rooms and the next room.
+fn put_doors(text: &mut Text, count: u32) -> Result<(), Memory>
+    ensures { OnOk result (text.new ≡ text.old ++ doors count) }
+{
+    for room in 0..count {
+        put_door(text, room, room + 1)?;
+        put_door(text, room + 1, room)?;
+    }
+    Ok(())
+}
+
+// Puts a door from the room of one number to the room of another.
+fn put_door(text: &mut Text, from: u32, to: u32) -> Result<(), Memory>
+    ensures { OnOk result (text.new ≡ text.old ++ door from to) }
+{
+    text.put(" (door r")?;
+    text.put_number(from)?;
+    text.put(" r")?;
+    text.put_number(to)?;
+    text.put(")")?;
+    Ok(())
+}

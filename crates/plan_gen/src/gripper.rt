@@ -1,0 +1,64 @@
+ghost use Rattle.std.specs.Prelude.{◌≡◌, ◌++◌, IfOk, OnOk};
+ghost use Rattle.plan_gen.specs.Gripper.{gripper_head, gripper_init, gripper_goal, gripper_problem};
+
+use crate::{Memory, Text};
+use std::alloc::Global;
+
+// The domain of the gripper.
+pub(crate) const DOMAIN: &str = "(define (domain gripper)
+(:predicates (room ?r) (ball ?b) (gripper ?g) (at-robby ?r) (at ?b ?r) (free ?g) (carry ?o ?g))
+(:action move :parameters (?from ?to)
+:precondition (and (room ?from) (room ?to) (at-robby ?from))
+:effect (and (at-robby ?to) (not (at-robby ?from))))
+(:action pick :parameters (?obj ?room ?gripper)
+:precondition (and (ball ?obj) (room ?room) (gripper ?gripper) (at ?obj ?room) (at-robby ?room) (free ?gripper))
+:effect (and (carry ?obj ?gripper) (not (at ?obj ?room)) (not (free ?gripper))))
+(:action drop :parameters (?obj ?room ?gripper)
+:precondition (and (ball ?obj) (room ?room) (gripper ?gripper) (carry ?obj ?gripper) (at-robby ?room))
+:effect (and (at ?obj ?room) (free ?gripper) (not (carry ?obj ?gripper)))))
+";
+
+// The problem of the gripper with `number` balls.
+pub(crate) fn problem(alloc: Global, number: u32) -> Result<Text, Memory>
+    ensures { IfOk result (λ text. text ≡ gripper_problem number) }
+{
+    let mut text = Text::new(alloc);
+    put_head(&mut text, number)?;
+    put_init(&mut text, number)?;
+    put_goal(&mut text, number)?;
+    Ok(text)
+}
+
+// Puts the problem's head.
+fn put_head(text: &mut Text, number: u32) -> Result<(), Memory>
+    ensures { OnOk result (text.new ≡ text.old ++ gripper_head number) }
+{
+    text.put("(define (problem gripper-")?;
+    text.put_number(number)?;
+    text.put(")\n(:domain gripper)\n(:objects rooma roomb")?;
+    text.put_numbered(" ball", "", number)?;
+    text.put(" left right)\n")?;
+    Ok(())
+}
+
+// Puts the initial state.
+fn put_init(text: &mut Text, number: u32) -> Result<(), Memory>
+    ensures { OnOk result (text.new ≡ text.old ++ gripper_init number) }
+{
+    text.put("(:init (room rooma) (room roomb)")?;
+    text.put_numbered(" (ball ball", ")", number)?;
+    text.put(" (gripper left) (gripper right) (at-robby rooma)")?;
+    text.put_numbered(" (at ball", " rooma)", number)?;
+    text.put(" (free left) (free right))\n")?;
+    Ok(())
+}
+
+// Puts the goal and the end of the problem.
+fn put_goal(text: &mut Text, number: u32) -> Result<(), Memory>
+    ensures { OnOk result (text.new ≡ text.old ++ gripper_goal number) }
+{
+    text.put("(:goal (and")?;
+    text.put_numbered(" (at ball", " roomb)", number)?;
+    text.put(")))\n")?;
+    Ok(())
+}

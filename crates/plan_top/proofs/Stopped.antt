@@ -1,0 +1,24 @@
+-- What is known of a call that ends the run is handed on.
+use Rattle.std.proofs.Common.{◌≡◌, Result, Ok, Err, Some, None, subst}
+use Rattle.plan_top.specs.declared.ending.Ending.{Ending}
+use Rattle.plan_top.specs.declared.stop.Stop.{Stop}
+use Rattle.plan_top.specs.declared.stop.Stop.TheVariants.{Ends, Memory}
+use Rattle.plan_top.specs.Ends.{EndsBy, StopsBy, Answers, ending_in}
+
+pub EndsBy-weaker : (claim other : Ending → Type 0) → ((end : Ending) → claim end → other end) → (stop : Stop) → EndsBy claim stop → EndsBy other stop
+EndsBy-weaker claim other weaker (Ends end) h = weaker end h
+EndsBy-weaker claim other weaker Memory h = tt
+
+pub StopsBy-weaker : {A : Type 0} (claim other : Ending → Type 0) → ((end : Ending) → claim end → other end) → (r : Result A Stop) → StopsBy claim r → StopsBy other r
+StopsBy-weaker claim other weaker (Ok x) h = tt
+StopsBy-weaker claim other weaker (Err stop) h = EndsBy-weaker claim other weaker stop h
+
+pub Answers-weaker : (claim other : Ending → Type 0) → ((end : Ending) → claim end → other end) → (r : Result Ending Stop) → Answers claim r → Answers other r
+Answers-weaker claim other weaker (Ok end) h = weaker end h
+Answers-weaker claim other weaker (Err stop) h = EndsBy-weaker claim other weaker stop h
+
+-- the ending that there is, is of the kind that was answered
+pub ending_answers : (claim : Ending → Type 0) (r : Result Ending Stop) (end : Ending) → Answers claim r → Some end ≡ ending_in r → claim end
+ending_answers claim (Ok other) end h is = let same : other ≡ end = cc in subst claim same h
+ending_answers claim (Err (Ends other)) end h is = let same : other ≡ end = cc in subst claim same h
+ending_answers claim (Err Memory) end h is = absurd (let never : Some end ≡ None = is in cc)

@@ -1,0 +1,178 @@
+//! How a run ends, with the exit status and the text due.
+ghost use Rattle.std.specs.Prelude.{◌≡◌, ◌<◌, ◌^◌, ◌++◌, OnOk, IfOk, codes, decimal};
+ghost use Rattle.plan_top.specs.Ending.{status_of, text_of, word_of, kind_word};
+ghost use Rattle.plan_top.specs.Causes.{IsSmall};
+
+use itoa::Buffer;
+use pd_model::Which;
+use pl_io::{Bytes, Memory};
+use std::alloc::Global;
+
+/// What is wrong with a file that is refused.
+#[derive(Clone, Copy, Debug, PartialEq, Eq)]
+pub enum Kind {
+    Syntax,
+    Deep,
+    Shape,
+    Unknown,
+    Arity,
+    Duplicate,
+    Unsupported,
+    Mistyped,
+}
+
+/// How a run ends, but for want of memory and a write fault.
+#[derive(Clone, Copy, Debug, PartialEq, Eq)]
+pub enum Ending {
+    /// The goal holds at first: horizon 0 has a plan.
+    Found,
+    /// Horizon 0, the last one, is refuted.
+    Refuted,
+    /// The checked calls are a plan.
+    Reaches,
+    /// This call, counted from 0, is the first that cannot run.
+    Blocked { index: u32 },
+    /// All calls run, and the goal does not hold in the last state.
+    Short,
+    /// A file is refused, at the offset of a byte.
+    Refused { kind: Kind, file: Which, at: u32 },
+    /// A file has more bytes than may be.
+    TooLong(Which),
+    /// A file could not be read.
+    ReadFault(Which),
+    /// The words are none that are taken.
+    Usage,
+}
+
+impl Ending {
+    /// The exit status.
+    pub fn status(self) -> u8
+        ensures { result ≡ status_of self }
+    {
+        match self {
+            Ending::Found | Ending::Reaches => 0,
+            Ending::Refuted | Ending::Blocked { .. } | Ending::Short => 1,
+            Ending::Refused { .. } => 3,
+            Ending::TooLong(_) => 4,
+            Ending::ReadFault(_) => 5,
+            Ending::Usage => 7,
+        }
+    }
+
+    /// The text due, made whole.
+    pub fn text(self, alloc: Global) -> Result<Bytes, Memory>
+        ensures text { IfOk result (λ t. t ≡ text_of self) }
+        ensures small { OnOk result (IsSmall self) }
+    {
+        match self {
+            Ending::Found => found(alloc),
+            Ending::Refuted => refuted(alloc),
+            Ending::Reaches => copied(alloc, "; reaches the goal\n"),
+            Ending::Blocked { index } => blocked(alloc, index),
+            Ending::Short => copied(alloc, "; goal not reached\n"),
+            Ending::Refused { kind, file, at } => refusal(alloc, kind, file, at),
+            Ending::TooLong(file) => of_file(alloc, "; limit file ", file),
+            Ending::ReadFault(file) => of_file(alloc, "; read fault ", file),
+            Ending::Usage => copied(alloc, "; usage: plan, check, ground, order or gen\n"),
+        }
+    }
+}
+
+// The two long texts stand in functions of their own, which keeps their proofs apart.
+fn found(alloc: Global) -> Result<Bytes, Memory>
+    ensures { IfOk result (λ t. t ≡ text_of Ending.Found) }
+{
+    copied(
+        alloc,
+        "; horizon 0 plan conflicts 0\n; conflicts 0 of 100000\n; plan of 0 steps with 0 actions\n",
+    )
+}
+
+fn refuted(alloc: Global) -> Result<Bytes, Memory>
+    ensures { IfOk result (λ t. t ≡ text_of Ending.Refuted) }
+{
+    copied(
+        alloc,
+        "; horizon 0 refuted conflicts 1\n; conflicts 1 of 100000\n; exhausted at horizon 0\n",
+    )
+}
+
+fn file_word(file: Which) -> &'static str
+    ensures { result.now ≡ word_of file }
+{
+    match file {
+        Which::Domain => "domain",
+        Which::Problem => "problem",
+        Which::Plan => "plan",
+    }
+}
+
+fn word_of_kind(kind: Kind) -> &'static str
+    ensures { result.now ≡ kind_word kind }
+{
+    match kind {
+        Kind::Syntax => "syntax",
+        Kind::Deep => "deep",
+        Kind::Shape => "shape",
+        Kind::Unknown => "unknown",
+        Kind::Arity => "arity",
+        Kind::Duplicate => "duplicate",
+        Kind::Unsupported => "unsupported",
+        Kind::Mistyped => "type",
+    }
+}
+
+fn copied(alloc: Global, text: &str) -> Result<Bytes, Memory>
+    ensures { IfOk result (λ t. t ≡ text.now) }
+{
+    Ok(Bytes::of(Vec::from_slice(alloc, text.as_bytes())?))
+}
+
+fn of_file(alloc: Global, front: &str, file: Which) -> Result<Bytes, Memory>
+    ensures { IfOk result (λ t. t ≡ front.now ++ (word_of file ++ codes "\n")) }
+{
+    let mut text = Vec::from_slice(alloc, front.as_bytes())?;
+    text.extend_from_slice(file_word(file).as_bytes())?;
+    text.extend_from_slice(b"\n")?;
+    Ok(Bytes::of(text))
+}
+
+// Adds a number in decimal.
+fn push_number(text: &mut Vec<u8>, number: u64) -> Result<(), Memory>
+    ensures { OnOk result (text.new.items ≡ text.old.items ++ decimal number) }
+{
+    let mut buffer = Buffer::new();
+    text.extend_from_slice(buffer.format(number).as_bytes())?;
+    Ok(())
+}
+
+fn blocked(alloc: Global, index: u32) -> Result<Bytes, Memory>
+    ensures text { IfOk result (λ t. t ≡ text_of (Ending.Blocked index)) }
+    ensures small { OnOk result (index < 2 ^ 32) }
+{
+    let mut text = Vec::from_slice(alloc, b"; blocked at action ")?;
+    push_number(&mut text, u64::from(index) + 1)?;
+    text.extend_from_slice(b"\n")?;
+    Ok(Bytes::of(text))
+}
+
+fn refusal(alloc: Global, kind: Kind, file: Which, at: u32) -> Result<Bytes, Memory>
+    ensures text { IfOk result (λ t. t ≡ text_of (Ending.Refused kind file at)) }
+    ensures small { OnOk result (at < 2 ^ 32) }
+{
+    let mut text = Vec::from_slice(alloc, b"; refused ")?;
+    text.extend_from_slice(word_of_kind(kind).as_bytes())?;
+    text.extend_from_slice(b" ")?;
+    push_place(&mut text, file, at)?;
+    Ok(Bytes::of(text))
+}
+
+fn push_place(text: &mut Vec<u8>, file: Which, at: u32) -> Result<(), Memory>
+    ensures { OnOk result (text.new.items ≡ text.old.items ++ (word_of file ++ (codes " " ++ (decimal at ++ codes "\n")))) }
+{
+    text.extend_from_slice(file_word(file).as_bytes())?;
+    text.extend_from_slice(b" ")?;
+    push_number(text, u64::from(at))?;
+    text.extend_from_slice(b"\n")?;
+    Ok(())
+}

@@ -1,0 +1,17 @@
+//! The planner's top call: from the words of a command line and the bytes of files to a report and an
+//! exit status.
+#![tactic(auto)]
+
+mod answer;
+mod decide;
+mod ending;
+mod stop;
+mod take;
+mod task;
+#[cfg(test)]
+mod tests;
+mod top;
+mod words;
+
+pub use ending::{Ending, Kind};
+pub use top::{Status, run};

@@ -1,0 +1,68 @@
+//! Reading the task that two files say.
+ghost use Rattle.std.specs.Prelude.{◌≡◌, ◌≤◌, ℕ, length, IfOk};
+ghost use Rattle.pd_sexp.specs.Fault.{Reads};
+ghost use Rattle.pd_sexp.specs.View.{view};
+ghost use Rattle.pd_task.specs.Reading.{reading};
+ghost use Rattle.plan_top.specs.Causes.{AreTask, RefusesTask, RefusesTree, RefusesTrees, most_bytes};
+ghost use Rattle.plan_top.specs.Ends.{StopsBy};
+
+use crate::stop::Stop;
+use crate::{Ending, Kind};
+use pd_model::{Pddl, Which};
+use pd_sexp::{Tree, TreeError, read_tree};
+use pd_task::{PddlError, read_pddl};
+use std::alloc::Global;
+
+fn refuse(kind: Kind, file: Which, at: u32) -> Stop
+    ensures { result ≡ Stop.Ends (Ending.Refused kind file at) }
+{
+    Stop::Ends(Ending::Refused { kind, file, at })
+}
+
+/// The tree of a file.
+pub fn tree_of(alloc: Global, file: Which, bytes: &[u8]) -> Result<Tree, Stop>
+    requires { length bytes.now ≤ most_bytes }
+    ensures tree { IfOk result (λ tree. Reads bytes.now (view tree)) }
+    ensures stops { StopsBy (RefusesTree bytes.now file) result }
+{
+    match read_tree(alloc, bytes) {
+        Ok(tree) => Ok(tree),
+        Err(TreeError::Syntax { at }) => Err(refuse(Kind::Syntax, file, at)),
+        Err(TreeError::Deep { at }) => Err(refuse(Kind::Deep, file, at)),
+        Err(TreeError::Memory) => Err(Stop::Memory),
+    }
+}
+
+/// The task that two trees say.
+pub fn task_of(alloc: Global, domain: &Tree, problem: &Tree) -> Result<Pddl, Stop>
+    ensures task { IfOk result (λ task. reading (view domain.now) (view problem.now) ≡ Ok task) }
+    ensures stops { StopsBy (RefusesTrees (view domain.now) (view problem.now)) result }
+{
+    match read_pddl(alloc, domain, problem) {
+        Ok(task) => Ok(task),
+        Err(PddlError::Shape { file, at }) => Err(refuse(Kind::Shape, file, at)),
+        Err(PddlError::Unknown { file, at }) => Err(refuse(Kind::Unknown, file, at)),
+        Err(PddlError::Arity { file, at }) => Err(refuse(Kind::Arity, file, at)),
+        Err(PddlError::Duplicate { file, at }) => Err(refuse(Kind::Duplicate, file, at)),
+        Err(PddlError::Unsupported { file, at }) => Err(refuse(Kind::Unsupported, file, at)),
+        Err(PddlError::Memory) => Err(Stop::Memory),
+    }
+}
+
+/// The task that the bytes of two files say.
+pub fn read_task(alloc: Global, domain: &[u8], problem: &[u8]) -> Result<Pddl, Stop>
+    requires domain_fits { length domain.now ≤ most_bytes }
+    requires problem_fits { length problem.now ≤ most_bytes }
+    ensures task { IfOk result (AreTask domain.now problem.now) }
+    ensures stops { StopsBy (RefusesTask domain.now problem.now) result }
+{
+    let first = match tree_of(alloc, Which::Domain, domain) {
+        Ok(tree) => tree,
+        Err(stop) => return Err(stop),
+    };
+    let second = match tree_of(alloc, Which::Problem, problem) {
+        Ok(tree) => tree,
+        Err(stop) => return Err(stop),
+    };
+    task_of(alloc, &first, &second)
+}

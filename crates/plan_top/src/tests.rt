@@ -1,0 +1,258 @@
+use crate::{Status, run};
+use pl_io::{Bytes, Files, MemShelf, MemSink, NamedFile, Numbers};
+use std::alloc::{AllocError, Global};
+use std::test::Fail;
+
+const LAMP: &[u8] =
+    b"(define (domain lamp) (:predicates (on) (broken)) (:action flip :parameters () :precondition (not (on)) :effect (on)))";
+
+const DARK: &[u8] = b"(define (problem p) (:domain lamp) (:init) (:goal (on)))";
+
+const LIT: &[u8] = b"(define (problem p) (:init (on)) (:goal (on)))";
+
+const DROPPER: &[u8] =
+    b"(define (domain d) (:predicates (p) (q) (g)) (:action drop :effect (and (q) (not (p)))) (:action gain :effect (when (p) (g))))";
+
+const DROPPED: &[u8] = b"(define (problem x) (:init (p)) (:goal (and (q) (g))))";
+
+const BRIEFCASE: &[u8] =
+    b"(define (domain b) (:types item location) (:predicates (at-case ?l - location) (at ?i - item ?l - location) (in ?i - item)) (:action move :parameters (?m ?l - location) :precondition (at-case ?m) :effect (and (at-case ?l) (not (at-case ?m)) (forall (?z - item) (when (in ?z) (and (at ?z ?l) (not (at ?z ?m))))))))";
+
+const CASE_AT_HOME: &[u8] =
+    b"(define (problem x) (:objects home office - location d - item) (:init (at-case home)) (:goal (at-case office)))";
+
+const HOPPER: &[u8] =
+    b"(define (domain h) (:predicates (at ?x)) (:action hop :parameters (?a ?b) :precondition (at ?a) :effect (and (not (at ?a)) (at ?b))))";
+
+const FARTHER_HOPPER: &[u8] =
+    b"(define (domain h) (:predicates (at ?x)) (:action hop :parameters (?a ?b) :precondition (and (at ?a) (not (= ?a ?b))) :effect (and (not (at ?a)) (at ?b))))";
+
+const HOPPED: &[u8] = b"(define (problem x) (:objects r) (:init (at r)) (:goal (at r)))";
+
+const FOUND: &str =
+    "; horizon 0 plan conflicts 0\n; conflicts 0 of 100000\n; plan of 0 steps with 0 actions\n";
+
+const REFUTED: &str =
+    "; horizon 0 refuted conflicts 1\n; conflicts 1 of 100000\n; exhausted at horizon 0\n";
+
+const USAGE: &str = "; usage: plan, check, ground, order or gen\n";
+
+fn named(alloc: Global, name: &str, bytes: &[u8]) -> Result<NamedFile, AllocError> {
+    Ok(NamedFile {
+        name: Bytes::of(Vec::from_slice(alloc, name.as_bytes())?),
+        bytes: Bytes::of(Vec::from_slice(alloc, bytes)?),
+    })
+}
+
+// The files "d", "p" and "l", of which the last may be missing, on a shelf whose calls of these numbers fail.
+fn shelf(
+    alloc: Global,
+    files: (&[u8], &[u8], Option<&[u8]>),
+    failing: &[u32],
+) -> Result<MemShelf, AllocError> {
+    let mut all = Vec::new(alloc);
+    all.push(named(alloc, "d", files.0)?)?;
+    all.push(named(alloc, "p", files.1)?)?;
+    if let Some(plan) = files.2 {
+        all.push(named(alloc, "l", plan)?)?;
+    }
+    Ok(MemShelf::new(
+        alloc,
+        Files::of(all),
+        Numbers::of(Vec::from_slice(alloc, failing)?),
+    ))
+}
+
+fn words(alloc: Global, words: &[&str]) -> Result<Vec<String>, AllocError> {
+    let mut owned = Vec::new(alloc);
+    for word in words {
+        owned.push(String::from_str(alloc, word)?)?;
+    }
+    Ok(owned)
+}
+
+// The status and the text of a run.
+fn answer<H>(
+    rt: &H,
+    alloc: Global,
+    given: &[&str],
+    files: (&[u8], &[u8], Option<&[u8]>),
+    failing: &[u32],
+) -> Result<(Status, Vec<u8>), Fail> {
+    let mut shelf = shelf(alloc, files, failing)?;
+    let mut sink = MemSink::new(alloc, 1000, Numbers::of(Vec::new(alloc)), 1000)?;
+    let words = words(alloc, given)?;
+    let status = run(rt, alloc, &words, &mut shelf, &mut sink);
+    Ok((status, Vec::from_slice(alloc, sink.taken())?))
+}
+
+const PLAN: &[&str] = &["plan", "d", "p", "--max-horizon", "0"];
+
+const CHECK: &[&str] = &["check", "d", "p", "l"];
+
+#[test]
+fn horizon_zero(rt: HostRuntime) -> Result<(), Fail> {
+    let rows: [(&[u8], &[u8], &str, u8); 5] = [
+        (LAMP, LIT, FOUND, 0),
+        (LAMP, DARK, REFUTED, 1),
+        (b"", DARK, "; refused syntax domain 0\n", 3),
+        (LAMP, b"", "; refused syntax problem 0\n", 3),
+        (
+            b"(DEFINE (Domain LAMP) ; \x00\xff\r\n (:Predicates (On)))\r\n;",
+            LIT,
+            FOUND,
+            0,
+        ),
+    ];
+    for (domain, problem, text, status) in rows {
+        let (got, taken) = answer(&rt, rt.alloc(), PLAN, (domain, problem, None), &[])?;
+        assert_eq!(rt; got.0, status);
+        assert_eq!(rt; taken.as_slice(), text.as_bytes());
+    }
+    Ok(())
+}
+
+// Both commands refuse a file in the same words.
+#[test]
+fn refused_domains(rt: HostRuntime) -> Result<(), Fail> {
+    let rows: [(&[u8], &str); 8] = [
+        (b"(define (domain d)", "; refused syntax domain 18\n"),
+        (b"(define (domain m) \x00)", "; refused syntax domain 19\n"),
+        (
+            b"(define (domain d) (:types x - (either a b)))",
+            "; refused unsupported domain 31\n",
+        ),
+        (
+            b"(define (domain d) (:predicates (p ?x)) (:action a :effect (q)))",
+            "; refused unknown domain 60\n",
+        ),
+        (
+            b"(define (domain d) (:predicates (p ?x)) (:action a :effect (p)))",
+            "; refused arity domain 59\n",
+        ),
+        (
+            b"(define (domain d) (:action a) (:action a))",
+            "; refused duplicate domain 40\n",
+        ),
+        (b"(define (domain d) (:foo))", "; refused shape domain 19\n"),
+        (&[b'('; 65], "; refused deep domain 64\n"),
+    ];
+    for (domain, text) in rows {
+        let (planned, taken) = answer(&rt, rt.alloc(), PLAN, (domain, DARK, None), &[])?;
+        assert_eq!(rt; planned.0, 3);
+        assert_eq!(rt; taken.as_slice(), text.as_bytes());
+        let (checked, taken) = answer(&rt, rt.alloc(), CHECK, (domain, DARK, Some(b"")), &[])?;
+        assert_eq!(rt; checked.0, 3);
+        assert_eq!(rt; taken.as_slice(), text.as_bytes());
+    }
+    let problem = b"(define (problem x) (:goal (or)))";
+    let (status, taken) = answer(&rt, rt.alloc(), PLAN, (LAMP, problem, None), &[])?;
+    assert_eq!(rt; status.0, 3);
+    assert_eq!(rt;
+        taken.as_slice(),
+        b"; refused unsupported problem 27\n".as_slice()
+    );
+    Ok(())
+}
+
+#[test]
+fn checked_calls(rt: HostRuntime) -> Result<(), Fail> {
+    let rows: [(&[u8], &[u8], &[u8], &str, u8); 8] = [
+        (LAMP, DARK, b"(flip)", "; reaches the goal\n", 0),
+        (LAMP, DARK, b"(flip) (flip)", "; blocked at action 2\n", 1),
+        (LAMP, DARK, b"", "; goal not reached\n", 1),
+        (LAMP, DARK, b"(flap)", "; refused unknown plan 1\n", 3),
+        (
+            DROPPER,
+            DROPPED,
+            b"(drop) (gain)",
+            "; goal not reached\n",
+            1,
+        ),
+        (
+            BRIEFCASE,
+            CASE_AT_HOME,
+            b"(move d home)",
+            "; refused type plan 6\n",
+            3,
+        ),
+        (
+            HOPPER,
+            HOPPED,
+            b"(HOP r r) ; same place",
+            "; reaches the goal\n",
+            0,
+        ),
+        (
+            FARTHER_HOPPER,
+            HOPPED,
+            b"(HOP r r) ; same place",
+            "; blocked at action 1\n",
+            1,
+        ),
+    ];
+    for (domain, problem, plan, text, status) in rows {
+        let (got, taken) = answer(&rt, rt.alloc(), CHECK, (domain, problem, Some(plan)), &[])?;
+        assert_eq!(rt; got.0, status);
+        assert_eq!(rt; taken.as_slice(), text.as_bytes());
+    }
+    Ok(())
+}
+
+// Each file is taken once, in the order of the words.
+#[test]
+fn failing_shelves(rt: HostRuntime) -> Result<(), Fail> {
+    let rows: [(u32, &str, u8); 4] = [
+        (1, "; read fault domain\n", 5),
+        (2, "; read fault problem\n", 5),
+        (3, "; read fault plan\n", 5),
+        (4, "; goal not reached\n", 1),
+    ];
+    for (call, text, status) in rows {
+        let (got, taken) = answer(&rt, rt.alloc(), CHECK, (LAMP, DARK, Some(b"")), &[call])?;
+        assert_eq!(rt; got.0, status);
+        assert_eq!(rt; taken.as_slice(), text.as_bytes());
+    }
+    let (missing, taken) = answer(&rt, rt.alloc(), CHECK, (LAMP, DARK, None), &[])?;
+    assert_eq!(rt; missing.0, 5);
+    assert_eq!(rt; taken.as_slice(), b"; read fault plan\n".as_slice());
+    Ok(())
+}
+
+#[test]
+fn limits(rt: HostRuntime) -> Result<(), Fail> {
+    let alloc = rt.alloc();
+    let mut domain = Vec::from_slice(alloc, LAMP)?;
+    domain.resize(1048576, b' ')?;
+    let (status, taken) = answer(&rt, alloc, PLAN, (&domain, LIT, None), &[])?;
+    assert_eq!(rt; status.0, 0);
+    assert_eq!(rt; taken.as_slice(), FOUND.as_bytes());
+    domain.push(b' ')?;
+    let (status, taken) = answer(&rt, alloc, PLAN, (&domain, LIT, None), &[])?;
+    assert_eq!(rt; status.0, 4);
+    assert_eq!(rt; taken.as_slice(), b"; limit file domain\n".as_slice());
+    Ok(())
+}
+
+#[test]
+fn a_failing_sink_and_words_that_are_not_taken(rt: HostRuntime) -> Result<(), Fail> {
+    let alloc = rt.alloc();
+    let mut files = shelf(alloc, (LAMP, DARK, None), &[])?;
+    let mut sink = MemSink::new(alloc, 10, Numbers::of(vec![in alloc; 2]?), 1000)?;
+    let given = words(alloc, PLAN)?;
+    let status = run(&rt, alloc, &given, &mut files, &mut sink);
+    assert_eq!(rt; status.0, 6);
+    assert_eq!(rt; sink.taken(), b"; horizon ".as_slice());
+    let rows: [&[&str]; 4] = [
+        &[],
+        &["plan"],
+        &["plan", "d", "p", "--max-horizon", "1"],
+        &["check", "d", "p"],
+    ];
+    for given in rows {
+        let (status, taken) = answer(&rt, alloc, given, (LAMP, DARK, None), &[])?;
+        assert_eq!(rt; status.0, 7);
+        assert_eq!(rt; taken.as_slice(), USAGE.as_bytes());
+    }
+    Ok(())
+}
