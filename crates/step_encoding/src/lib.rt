@@ -7,7 +7,13 @@
 #![tactic(auto)]
 
 mod ends;
+pub mod exists;
 pub mod form;
+mod joining;
 mod moving;
+mod sizes;
 pub mod steps;
 mod truth;
+
+#[cfg(test)]
+mod tests;

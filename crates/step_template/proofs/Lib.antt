@@ -1,0 +1,7 @@
+pub mod Bounds
+pub mod Groups
+pub mod RowLaw
+pub mod EffectLaw
+pub mod IndexLaw
+pub mod FrameLaw
+pub mod KnownLaw
