@@ -14,6 +14,3 @@ mod moving;
 mod sizes;
 pub mod steps;
 mod truth;
-
-#[cfg(test)]
-mod tests;

@@ -5,3 +5,4 @@ pub mod EffectLaw
 pub mod IndexLaw
 pub mod FrameLaw
 pub mod KnownLaw
+pub mod StepLaw

@@ -1,0 +1,11 @@
+use Rattle.std.proofs.Common.{arith, ◌≡◌, ℕ, List, ◌∙◌, ap}
+use Rattle.gt_core.specs.Layout.{Layout}
+use Rattle.step_clauses.specs.Variables.{layout_of, chain_variables_in, chain_places}
+use Rattle.step_template.proofs.StepLaw.{step_joined}
+use Rattle.step_template.proofs.template.one_step.Goals as goal
+
+pub returns-clause-clauses : goal.returns-clause-clauses
+returns-clause-clauses c =
+    let task = c.args.task.now in
+    let components = c.args.order.now in
+    step_joined c.one_layout-layout.result task components c.new-clauses.result.items c.add_preconditions.new.clauses.items c.add_effects.new.clauses.items c.add_frames.new.clauses.items c.add_clauses.new.clauses.items ? c.new-clauses.ensures.items c.in_ok-add_preconditions.ensures c.in_ok-add_effects.ensures c.in_ok-add_frames.ensures ?
