@@ -10,6 +10,7 @@ ghost use Rattle.step_encoding.specs.Given.{numbers_of, plans_of, refutes_of};
 
 use crate::form::{FormError, StepForm};
 use crate::joining;
+use crate::sizes::literals_in;
 use crate::steps::Steps;
 use crate::truth::true_actions;
 use action_order::order::Order;
@@ -21,6 +22,8 @@ use gt_core::pairs::Pairs;
 use gt_core::task::Task;
 use std::alloc::Global;
 use std::marker::Model;
+use step_template::known::one_time;
+use step_template::template::{OneStep, one_step};
 
 /// The encoding of steps in which the members run in one published order. The clauses of one step, and the known
 /// clauses at one time, are worked out once; those of a horizon are these with their variables moved.
@@ -46,6 +49,47 @@ impl<'a> Model for ExistsForm<'a> {
     ghost view = { λ f. record { task = f.task.now; known = f.pairs.now; components = f.order.now } };
 
     ghost invariant = { λ f. IsBuilt (record { task = f.task.now; known = f.pairs.now; components = f.order.now }) f.conditional f.chains f.step.items f.known.items f.step_size f.known_size };
+}
+
+impl<'a> ExistsForm<'a> {
+    ghost use Rattle.step_laws.specs.Form.{HoldsWherever};
+    ghost use Rattle.gt_core.specs.Published.{IsPublished};
+
+    /// The encoding for a task with an order of its actions: the published one under known clauses, each of which holds
+    /// in every state that a sequence of actions reaches.
+    pub fn new(
+        alloc: Global,
+        task: &'a Task,
+        pairs: &'a Pairs,
+        order: &'a Order,
+    ) -> Result<ExistsForm<'a>, Memory>
+        requires facts { pairs.now.facts ≡ task.now.facts }
+        requires hold { HoldsWherever task.now pairs.now.clauses }
+        requires published { IsPublished task.now pairs.now.clauses order.now }
+        ensures { IfOk result (λ form. form ≡ record { task = task.now; known = pairs.now; components = order.now }) }
+    {
+        let _facts = task.facts();
+        let _count = pairs.count();
+        let OneStep {
+            conditional,
+            chains,
+            clauses,
+        } = one_step(alloc, task, order)?;
+        let known = one_time(alloc, pairs)?;
+        let step_size = literals_in(clauses.as_slice())?;
+        let known_size = literals_in(known.as_slice())?;
+        Ok(ExistsForm {
+            task,
+            pairs,
+            order,
+            conditional,
+            chains,
+            step: clauses,
+            known,
+            step_size,
+            known_size,
+        })
+    }
 }
 
 impl<'a> StepForm for ExistsForm<'a> {

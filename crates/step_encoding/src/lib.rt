@@ -14,3 +14,6 @@ mod moving;
 mod sizes;
 pub mod steps;
 mod truth;
+
+#[cfg(test)]
+mod tests;

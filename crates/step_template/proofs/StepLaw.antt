@@ -28,6 +28,8 @@ pub step_joined : (z : Layout) (task : Task) (components : List (List ℕ)) (non
     → fourth ≡ third ++ coded (chain_clauses (action_at z 0) (chain_at z 0) task (chains task components))
     → fourth ≡ one_step task components
 step_joined z task components none first second third fourth e n h1 h2 h3 h4 =
-    two_parts _ _ none first fourth h1 (two_parts _ _ first second fourth h2 (two_parts _ _ second third fourth h3 h4))
+    two_parts (precondition_clauses (action_at z 0) (fact_at z 0) 0 task.actions) (effect_clauses (action_at z 0) (fact_at z 0) (fact_at z 1) (variable_at z 0) (rows task) (rows task) ++ (frame_clauses (fact_at z 0) (fact_at z 1) (variable_at z 0) (rows task) (range task.facts) ++ chain_clauses (action_at z 0) (chain_at z 0) task (chains task components))) none first fourth h1
+    (two_parts (effect_clauses (action_at z 0) (fact_at z 0) (fact_at z 1) (variable_at z 0) (rows task) (rows task)) (frame_clauses (fact_at z 0) (fact_at z 1) (variable_at z 0) (rows task) (range task.facts) ++ chain_clauses (action_at z 0) (chain_at z 0) task (chains task components)) first second fourth h2
+    (two_parts (frame_clauses (fact_at z 0) (fact_at z 1) (variable_at z 0) (rows task) (range task.facts)) (chain_clauses (action_at z 0) (chain_at z 0) task (chains task components)) second third fourth h3 h4))
     ∙ ap (λ (r : List (List ℕ)). r ++ coded (step_clauses z task components 0)) n
     ∙ ap (λ (x : Layout). coded (step_clauses x task components 0)) e

@@ -9,3 +9,4 @@ pub mod known;
 mod literals;
 mod numbers;
 mod preconditions;
+pub mod template;
