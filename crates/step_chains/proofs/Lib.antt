@@ -1,0 +1,5 @@
+pub mod Tests
+pub mod LinkLaw
+pub mod WalkLaw
+pub mod ExtendLaw
+pub mod ClauseLaw

@@ -1,0 +1,101 @@
+use Rattle.std.proofs.Common.{arith, ◌≡◌, ◌+◌, ◌≤◌, ◌<◌, ℕ, List, [], ◌∷◌, ◌++◌, length, Bool, true, false, ◌&&◌, ◌||◌, refl, sym, ap, ◌∙◌, if◌then◌else◌, cond, count_by, drop, get_or, nat_lt}
+use Rattle.std.specs.List.{list_any}
+use Rattle.std.proofs.lemmas.List.{drop_more, append_assoc}
+use Rattle.std.proofs.lemmas.List.Sums.{sum_by-cons}
+use Rattle.std.proofs.lemmas.Bool.Decides.{nat_tests}
+use Rattle.step_clauses.specs.Clause.{Literal, Is, Not}
+use Rattle.step_clauses.specs.Coded.{coded}
+use Rattle.step_clauses.proofs.CodedLaw.{coded-append}
+use Rattle.step_chains.specs.declared.link.Link.{Link}
+use Rattle.step_chains.specs.Links.{link_count, enter_links, pass_links}
+use Rattle.step_chains.proofs.LinkLaw.{left_counts}
+
+-- A walk along the links of a chain: what is seen, the next variable, and how many readers are left.
+
+abbrev pub readers : List Link → ℕ
+readers ks = count_by (λ k. k.reads) ks
+
+readers-cons : (k : Link) (ks : List Link) → readers (k ∷ ks) ≡ cond k.reads 1 0 + readers ks
+readers-cons k ks = sum_by-cons (λ x. cond x.reads 1 0) k ks
+
+some_left_by : (r : Bool) (n : ℕ) (more : Bool) → nat_lt 0 n ≡ more → nat_lt 0 (cond r 1 0 + n) ≡ (r || more)
+some_left_by true n more e = grind (arith, nat_tests)
+some_left_by false n more e = let z : 0 + n ≡ n = omega arith in ap (nat_lt 0) z ∙ e
+
+-- a reader is left where their number is not 0
+some_left : (ks : List Link) → nat_lt 0 (readers ks) ≡ list_any (λ k. k.reads) ks
+some_left [] = refl
+some_left (k ∷ ks) = ap (nat_lt 0) (readers-cons k ks) ∙ some_left_by k.reads (readers ks) (list_any (λ x. x.reads) ks) (some_left ks)
+
+-- one link of a walk, with the links after it
+pub record IsAt (links : List Link) (i : ℕ) (k : Link) : Type 0 where
+  pub here : drop i links ≡ k ∷ drop (i + 1) links
+
+pub at : (links items : List Link) (i : ℕ) (d k : Link) → items ≡ links → i < length items → k ≡ get_or items i d → IsAt links i k
+at links items i d k e lt is = record {
+  here = drop_more links i d (rw e at lt) ∙ ap (λ (x : Link). x ∷ drop (i + 1) links) (ap (λ (xs : List Link). get_or xs i d) (sym e) ∙ sym is);
+}
+
+pub reader_left : (links : List Link) (i : ℕ) (k : Link) (left : ℕ) → IsAt links i k → left ≡ readers (drop i links) → k.reads ≡ true → 1 ≤ left
+reader_left links i k left is e r =
+    let n = e ∙ ap readers is.here ∙ readers-cons k (drop (i + 1) links) ∙ ap (λ (b : Bool). cond b 1 0 + readers (drop (i + 1) links)) r in
+    omega (arith, n)
+
+pub left_next : (links : List Link) (i : ℕ) (k : Link) (left after : ℕ) → IsAt links i k → left ≡ readers (drop i links) → (if k.reads then 1 else 0) + after ≡ left → after ≡ readers (drop (i + 1) links)
+left_next links i k left after is e f = by k.reads (f ∙ e ∙ ap readers is.here ∙ readers-cons k (drop (i + 1) links))
+  where
+    by : (r : Bool) → (if r then 1 else 0) + after ≡ cond r 1 0 + readers (drop (i + 1) links) → after ≡ readers (drop (i + 1) links)
+    by true h = omega (arith, h)
+    by false h = omega (arith, h)
+
+pub count_next :
+    (links : List Link) (i : ℕ) (k : Link) (seen : Bool) (next most : ℕ) → IsAt links i k → next + link_count seen (drop i links) ≤ most
+    → (if seen && k.reads then next + 1 else next) + link_count (seen || k.takes) (drop (i + 1) links) ≤ most
+count_next links i k seen next most is le = by (seen && k.reads) (link_count (seen || k.takes) (drop (i + 1) links)) (rw is.here at le)
+  where
+    by : (b : Bool) (n : ℕ) → next + ((if b then 1 else 0) + n) ≤ most → (if b then next + 1 else next) + n ≤ most
+    by true n h = omega (arith, h)
+    by false n h = omega (arith, h)
+
+-- where a taker was seen and a reader is left, a variable is left
+pub variable_left : (ks : List Link) (seen : Bool) (next most left : ℕ) → seen ≡ true → next + link_count seen ks ≤ most → left ≡ readers ks → nat_lt 0 left ≡ true → next < most
+variable_left ks seen next most left s le e t =
+    let c = left_counts ks (sym (some_left ks) ∙ ap (nat_lt 0) (sym e) ∙ t) in
+    let h : next + link_count true ks ≤ most = rw s at le in
+    omega (arith, c, h)
+
+pub append_coded : (before : List (List ℕ)) (xs ys : List (List Literal)) → before ++ coded (xs ++ ys) ≡ (before ++ coded xs) ++ coded ys
+append_coded before xs ys = ap (λ (cs : List (List ℕ)). before ++ cs) (coded-append xs ys) ∙ sym (append_assoc before (coded xs) (coded ys))
+
+-- the clauses of one link come first
+one_next :
+    (links : List Link) (i left : ℕ) (before after : List (List ℕ)) (whole : List (List Literal)) (one : Bool → List (List Literal)) (rest : List (List Literal))
+    → left ≡ readers (drop (i + 1) links) → whole ≡ one (list_any (λ k. k.reads) (drop (i + 1) links)) ++ rest
+    → after ≡ before ++ coded (one (nat_lt 0 left)) → before ++ coded whole ≡ after ++ coded rest
+one_next links i left before after whole one rest e w a =
+    ap (λ (cs : List (List Literal)). before ++ coded cs) w
+    ∙ ap (λ (b : Bool). before ++ coded (one b ++ rest)) (sym (some_left (drop (i + 1) links)) ∙ ap (nat_lt 0) (sym e))
+    ∙ append_coded before (one (nat_lt 0 left)) rest
+    ∙ ap (λ (cs : List (List ℕ)). cs ++ coded rest) (sym a)
+
+module _ (act var : ℕ → ℕ) where
+  pub enter_next :
+      (links : List Link) (i : ℕ) (k : Link) (seen : Bool) (next left : ℕ) (before after : List (List ℕ)) → IsAt links i k
+      → left ≡ readers (drop (i + 1) links)
+      → after ≡ before ++ coded (if k.takes then (if nat_lt 0 left then (Not (act k.action) ∷ Is (var (if seen && k.reads then next + 1 else next)) ∷ []) ∷ [] else []) else [])
+      → before ++ coded (enter_links act var seen next (drop i links)) ≡ after ++ coded (enter_links act var (seen || k.takes) (if seen && k.reads then next + 1 else next) (drop (i + 1) links))
+  enter_next links i k seen next left before after is e a =
+      let j = if seen && k.reads then next + 1 else next in
+      one_next links i left before after (enter_links act var seen next (drop i links))
+      (λ b. if k.takes then (if b then (Not (act k.action) ∷ Is (var j) ∷ []) ∷ [] else []) else [])
+      (enter_links act var (seen || k.takes) j (drop (i + 1) links)) e (ap (enter_links act var seen next) is.here) a
+
+  pub pass_next :
+      (links : List Link) (i : ℕ) (k : Link) (seen : Bool) (next left : ℕ) (before after : List (List ℕ)) → IsAt links i k
+      → left ≡ readers (drop (i + 1) links)
+      → after ≡ before ++ coded (if seen && k.reads then (Not (var next) ∷ Not (act k.action) ∷ []) ∷ (if nat_lt 0 left then (Not (var next) ∷ Is (var (next + 1)) ∷ []) ∷ [] else []) else [])
+      → before ++ coded (pass_links act var seen next (drop i links)) ≡ after ++ coded (pass_links act var (seen || k.takes) (if seen && k.reads then next + 1 else next) (drop (i + 1) links))
+  pass_next links i k seen next left before after is e a =
+      one_next links i left before after (pass_links act var seen next (drop i links))
+      (λ b. if seen && k.reads then (Not (var next) ∷ Not (act k.action) ∷ []) ∷ (if b then (Not (var next) ∷ Is (var (next + 1)) ∷ []) ∷ [] else []) else [])
+      (pass_links act var (seen || k.takes) (if seen && k.reads then next + 1 else next) (drop (i + 1) links)) e (ap (pass_links act var seen next) is.here) a
