@@ -4,9 +4,13 @@
 //! SIZES times adds up the sizes of all horizons up to 255. It prints a count for each. `bench/formulas` times it.
 #![tactic(auto)]
 
+ghost use Rattle.std.specs.Prelude.{◌≡◌, []};
+ghost use Rattle.gt_core.specs.Published.{IsPublished};
+
 mod rooms;
 
 use crate::rooms::rooms;
+use action_order::order::Order;
 use action_order::publish::publish;
 use gt_core::pairs::Pairs;
 use gt_core::task::Task;
@@ -39,12 +43,48 @@ fn build(rt: &(impl Print + AllocGlobal), form: &ExistsForm, horizon: u32) -> io
     }
 }
 
-/// Makes the form, and does what was asked.
+/// Does what was asked with a form.
 fn measure(
     rt: &(impl Print + AllocGlobal),
-    task: &Task,
+    form: &ExistsForm,
     horizon: u32,
     sizes: u32,
+) -> io::Result<()> {
+    if horizon > 0 {
+        build(rt, form, horizon)?;
+    }
+    for _ in 0..sizes {
+        let sum = all_sizes(form);
+        println!(rt; "sizes: {sum}")?;
+    }
+    Ok(())
+}
+
+/// Makes the form under no known clause, and does what was asked.
+fn measure_ordered(
+    rt: &(impl Print + AllocGlobal),
+    task: &Task,
+    pairs: &Pairs,
+    order: &Order,
+    asked: (u32, u32),
+) -> io::Result<()>
+    requires facts { pairs.now.facts ≡ task.now.facts }
+    requires none { pairs.now.clauses ≡ [] }
+    requires published { IsPublished task.now pairs.now.clauses order.now }
+{
+    let components = order.components();
+    println!(rt; "form: {components} components")?;
+    match ExistsForm::new(rt.alloc(), task, pairs, order) {
+        Ok(form) => measure(rt, &form, asked.0, asked.1),
+        Err(_) => println!(rt; "no memory"),
+    }
+}
+
+/// Makes the published order and the form, and does what was asked.
+fn measure_task(
+    rt: &(impl Print + AllocGlobal),
+    task: &Task,
+    asked: (u32, u32),
 ) -> io::Result<()> {
     let Ok(pairs) = Pairs::empty(rt.alloc(), task.facts()) else {
         return println!(rt; "no memory");
@@ -52,19 +92,7 @@ fn measure(
     let Ok(order) = publish(rt.alloc(), task, &pairs) else {
         return println!(rt; "no memory");
     };
-    let Ok(form) = ExistsForm::new(rt.alloc(), task, &pairs, &order) else {
-        return println!(rt; "no memory");
-    };
-    let components = order.components();
-    println!(rt; "form: {components} components")?;
-    if horizon > 0 {
-        build(rt, &form, horizon)?;
-    }
-    for _ in 0..sizes {
-        let sum = all_sizes(&form);
-        println!(rt; "sizes: {sum}")?;
-    }
-    Ok(())
+    measure_ordered(rt, task, &pairs, &order, asked)
 }
 
 /// The number that a word of the command line spells, or another one.
@@ -81,7 +109,7 @@ fn main(rt: HostRuntime) -> io::Result<()> {
     let horizon = number(words.get(2), 3);
     let sizes = number(words.get(3), 1);
     match rooms(rt.alloc(), count) {
-        Ok(Some(task)) => measure(&rt, &task, horizon, sizes),
+        Ok(Some(task)) => measure_task(&rt, &task, (horizon, sizes)),
         Ok(None) => println!(rt; "too many rooms"),
         Err(_) => println!(rt; "no memory"),
     }

@@ -2,6 +2,9 @@
 //! The file `stdout` is not this program's: `bench/list-formulas` wrote it, from the definition of the clauses alone.
 #![tactic(auto)]
 
+ghost use Rattle.std.specs.Prelude.{◌≡◌, []};
+ghost use Rattle.gt_core.specs.Published.{IsPublished};
+
 mod dice;
 mod tasks;
 
@@ -63,7 +66,25 @@ fn print_form(rt: &(impl Print + AllocGlobal), form: &ExistsForm) -> io::Result<
     }
 }
 
-/// Prints a task's order and formula.
+/// Prints a task's order and formula, under no known clause.
+fn print_ordered(
+    rt: &(impl Print + AllocGlobal),
+    task: &Task,
+    pairs: &Pairs,
+    order: &Order,
+) -> io::Result<()>
+    requires facts { pairs.now.facts ≡ task.now.facts }
+    requires none { pairs.now.clauses ≡ [] }
+    requires published { IsPublished task.now pairs.now.clauses order.now }
+{
+    print_order(rt, order)?;
+    match ExistsForm::new(rt.alloc(), task, pairs, order) {
+        Ok(form) => print_form(rt, &form),
+        Err(_) => println!(rt; "no memory"),
+    }
+}
+
+/// Prints a task's published order and its formula.
 fn print_task(rt: &(impl Print + AllocGlobal), task: &Task) -> io::Result<()> {
     let Ok(pairs) = Pairs::empty(rt.alloc(), task.facts()) else {
         return println!(rt; "no memory");
@@ -71,11 +92,7 @@ fn print_task(rt: &(impl Print + AllocGlobal), task: &Task) -> io::Result<()> {
     let Ok(order) = publish(rt.alloc(), task, &pairs) else {
         return println!(rt; "no memory");
     };
-    print_order(rt, &order)?;
-    let Ok(form) = ExistsForm::new(rt.alloc(), task, &pairs, &order) else {
-        return println!(rt; "no memory");
-    };
-    print_form(rt, &form)
+    print_ordered(rt, task, &pairs, &order)
 }
 
 fn main(rt: HostRuntime) -> io::Result<()> {

@@ -68,12 +68,12 @@ fn form_of<'a>(
 }
 
 /// The clauses of a formula, each as its length and its codes.
-fn told(rt: &impl AllocGlobal, formula: &Formula) -> Result<Vec<u32>, Fail> {
+fn told(rt: &impl AllocGlobal, formula: &Formula) -> Result<Vec<usize>, Fail> {
     let mut told = Vec::new(rt.alloc());
     for clause in formula.clauses() {
-        told.push(clause.as_slice().len() as u32)?;
+        told.push(clause.as_slice().len())?;
         for lit in clause.as_slice() {
-            told.push(lit.0)?;
+            told.push(lit.0 as usize)?;
         }
     }
     Ok(told)
@@ -104,7 +104,7 @@ fn is_model(formula: &Formula, values: &[bool]) -> bool
 }
 
 /// The clauses of a horizon's formula, told.
-fn clauses_of(rt: &impl AllocGlobal, form: &ExistsForm, n: u32) -> Result<Vec<u32>, Fail>
+fn clauses_of(rt: &impl AllocGlobal, form: &ExistsForm, n: u32) -> Result<Vec<usize>, Fail>
     requires { n ≤ 255 }
 {
     let Ok(formula) = form.formula(rt.alloc(), n) else {
@@ -124,13 +124,21 @@ fn variables_of(form: &ExistsForm, n: u32) -> (u32, u32)
     (layout.variables(), layout.chains)
 }
 
+/// Puts numbers at the end.
+fn push_all(told: &mut Vec<usize>, numbers: &[u32]) -> Result<(), Fail> {
+    for number in numbers {
+        told.push(*number as usize)?;
+    }
+    Ok(())
+}
+
 /// The steps of an assignment that satisfies a horizon's formula, each as its length and its actions.
 fn steps_of(
     rt: &impl AllocGlobal,
     form: &ExistsForm,
     n: u32,
     values: &[bool],
-) -> Result<Vec<u32>, Fail>
+) -> Result<Vec<usize>, Fail>
     requires { n ≤ 255 }
 {
     let Ok(formula) = form.formula(rt.alloc(), n) else {
@@ -144,8 +152,8 @@ fn steps_of(
     };
     let mut told = Vec::new(rt.alloc());
     for step in steps.as_slice() {
-        told.push(step.as_slice().len() as u32)?;
-        told.extend_from_slice(step.as_slice())?;
+        told.push(step.as_slice().len())?;
+        push_all(&mut told, step.as_slice())?;
     }
     Ok(told)
 }

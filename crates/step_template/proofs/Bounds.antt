@@ -1,7 +1,7 @@
-use Rattle.std.proofs.Common.{arith, ◌≡◌, ℕ, zero, suc, ◌+◌, ◌*◌, ◌/◌, ◌<◌, ◌≤◌, List, [], ◌∷◌, ◌++◌, length, refl, ap, subst, ◌∙◌, sym}
+use Rattle.std.proofs.Common.{arith, ◌≡◌, ℕ, zero, suc, ◌<◌, ◌≤◌, List, [], ◌∷◌, length}
 use Rattle.std.specs.Prelude.{slice_index_or}
 use Rattle.std.specs.List.{AllByRecursion}
-use Rattle.gt_core.specs.Layout.{Layout, IsLayout, width, action_at, conditional_at, chain_at, fact_at}
+use Rattle.gt_core.specs.Layout.{Layout, IsLayout, action_at, conditional_at, fact_at}
 use Rattle.gt_core.proofs.LayoutLaw.{step_within, time_within}
 
 -- Variables of the first step, and of facts, have codes in 32 bits.

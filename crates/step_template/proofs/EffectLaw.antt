@@ -1,12 +1,11 @@
-use Rattle.std.proofs.Common.{arith, ◌≡◌, ◌==◌, ℕ, zero, ◌+◌, ◌*◌, ◌/◌, ◌%◌, ◌<◌, ◌≤◌, List, [], ◌∷◌, ◌++◌, map, length, take, drop, get_or, Bool, true, false, ◌&&◌, if◌then◌else◌, count_by, not, refl, sym, ap, ◌∙◌, subst}
-use Rattle.std.specs.List.{filter, flat_map, cons_option, AllByRecursion}
+use Rattle.std.proofs.Common.{arith, ◌≡◌, ◌==◌, ℕ, ◌+◌, ◌*◌, ◌%◌, ◌<◌, List, [], ◌∷◌, ◌++◌, map, length, take, drop, get_or, Bool, true, false, ◌&&◌, if◌then◌else◌, count_by, not, refl, sym, ap, ◌∙◌, subst}
+use Rattle.std.specs.List.{filter, cons_option, AllByRecursion}
 use Rattle.std.proofs.lemmas.List.{drop_more}
 use Rattle.gt_core.specs.Literal.{opposite}
-use Rattle.gt_core.specs.Task.{Effect, Action, EffectOf, Task, owned, effects_from, action}
+use Rattle.gt_core.specs.Task.{Effect, Action, Task, owned, effects_from, action}
 use Rattle.gt_core.specs.Lawful.{is_conditional, conditional_in}
 use Rattle.gt_core.specs.Active.{EffectWithin}
 use Rattle.gt_core.specs.Layout.{Layout, action_at, fact_at}
-use Rattle.gt_core.proofs.Basics.{Among}
 use Rattle.clause_base.specs.Clause.{clause_of}
 use Rattle.step_clauses.specs.Clause.{Literal, Is, Not, code}
 use Rattle.step_clauses.specs.Variables.{Row, rows, rows_from, variable_at}
@@ -15,7 +14,7 @@ use Rattle.step_clauses.specs.Coded.{coded}
 use Rattle.step_clauses.proofs.CodedLaw.{coded-append}
 use Rattle.step_template.specs.Rows.{row_of, rows_of, number_after, made_by}
 use Rattle.step_template.proofs.Groups.{joined_twice, rest}
-use Rattle.step_template.proofs.RowLaw.{rows_step, rows_parts, only_of, conditional_taken}
+use Rattle.step_template.proofs.RowLaw.{rows_step, rows_parts, only_of}
 
 -- The clauses of effects, part by part.
 

@@ -1,5 +1,5 @@
 use Rattle.std.proofs.Common.{arith, ◌≡◌, ◌==◌, ℕ, ◌+◌, ◌*◌, ◌/◌, ◌%◌, List, [], ◌∷◌, ◌++◌, map, Bool, true, false, if◌then◌else◌, refl, sym, ap, ◌∙◌}
-use Rattle.std.specs.List.{flat_map, cons_option}
+use Rattle.std.specs.List.{cons_option}
 use Rattle.std.proofs.lemmas.Bool.Decides.{nat_tests}
 use Rattle.gt_core.specs.Literal.{range}
 use Rattle.gt_core.specs.Task.{Task}
@@ -11,7 +11,6 @@ use Rattle.step_clauses.specs.Variables.{rows, variable_at}
 use Rattle.step_clauses.specs.Formula.{literal_over, effects_with, frame_clauses}
 use Rattle.step_clauses.specs.Coded.{coded}
 use Rattle.step_template.specs.Rows.{made}
-use Rattle.step_template.proofs.Groups.{joined_twice}
 use Rattle.step_template.proofs.EffectLaw.{two_parts, one_clause}
 
 -- The frame clauses, fact by fact.

@@ -1,15 +1,14 @@
-use Rattle.std.proofs.Common.{arith, ◌≡◌, ◌==◌, ◌≢◌, ℕ, zero, suc, ◌+◌, ◌*◌, ◌<◌, ◌≤◌, List, [], ◌∷◌, ◌++◌, map, length, drop, get_or, set, replicate, Bool, true, false, if◌then◌else◌, count_by, refl, sym, ap, ◌∙◌}
-use Rattle.std.specs.List.{filter}
+use Rattle.std.proofs.Common.{arith, ◌≡◌, ◌==◌, ◌≢◌, ℕ, ◌+◌, ◌*◌, ◌<◌, ◌≤◌, List, [], ◌∷◌, ◌++◌, map, length, drop, get_or, set, Bool, true, false, if◌then◌else◌, count_by, refl, sym, ap, ◌∙◌}
 use Rattle.std.proofs.lemmas.List.{drop_more, drop_all, get_or-set_same, get_or-set_other}
 use Rattle.std.proofs.lemmas.Bool.Decides.{nat_tests}
-use Rattle.gt_core.specs.Task.{Effect, Action, EffectOf, owned, effects_from}
+use Rattle.gt_core.specs.Task.{Effect, Action, owned, effects_from}
 use Rattle.gt_core.specs.Lawful.{is_conditional}
 use Rattle.gt_core.specs.Layout.{Layout}
 use Rattle.gt_core.proofs.Basics.{same_test}
 use Rattle.step_clauses.specs.Clause.{Is, code}
 use Rattle.step_clauses.specs.Variables.{Row, rows_from, variable_at}
 use Rattle.step_template.specs.Rows.{row_of, rows_of, number_after, made}
-use Rattle.step_template.proofs.Groups.{joined_twice, rest}
+use Rattle.step_template.proofs.Groups.{rest}
 use Rattle.step_template.proofs.RowLaw.{made_parts, rows_parts, rows_step}
 
 -- The index of effects by literal, as it grows.

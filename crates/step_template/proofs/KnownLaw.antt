@@ -1,5 +1,5 @@
-use Rattle.std.proofs.Common.{arith, ◌≡◌, ◌==◌, ℕ, ◌+◌, ◌*◌, ◌/◌, ◌%◌, ◌<◌, List, [], ◌∷◌, ◌++◌, map, length, drop, get_or, slice_get, Some, Bool, true, false, ◌&&◌, ◌||◌, if◌then◌else◌, refl, sym, ap, ◌∙◌}
-use Rattle.std.specs.List.{flat_map, list_any, cons_option}
+use Rattle.std.proofs.Common.{arith, ◌≡◌, ◌==◌, ℕ, ◌+◌, ◌/◌, ◌%◌, List, [], ◌∷◌, ◌++◌, drop, slice_get, Some, Bool, true, false, ◌&&◌, ◌||◌, if◌then◌else◌, refl, sym, ap, ◌∙◌}
+use Rattle.std.specs.List.{flat_map, cons_option}
 use Rattle.std.proofs.lemmas.List.{drop_more}
 use Rattle.std.proofs.lemmas.Option.{slice_get_within, get_or_from_slice_get}
 use Rattle.std.proofs.lemmas.Bool.Decides.{nat_tests}
@@ -10,7 +10,7 @@ use Rattle.step_clauses.specs.Clause.{Literal, Is, Not, code}
 use Rattle.step_clauses.specs.Formula.{literal_over, is_single, known_clause}
 use Rattle.step_clauses.specs.Coded.{coded}
 use Rattle.step_clauses.proofs.CodedLaw.{coded-append}
-use Rattle.step_template.proofs.Groups.{joined_twice, rest}
+use Rattle.step_template.proofs.Groups.{rest}
 
 -- The known clauses, one by one.
 

@@ -1,6 +1,6 @@
 use Rattle.std.proofs.Common.{arith, ◌≡◌, ◌==◌, ℕ, zero, suc, ◌+◌, ◌*◌, ◌<◌, ◌≤◌, List, [], ◌∷◌, ◌++◌, map, length, take, drop, get_or, Bool, true, false, ◌&&◌, if◌then◌else◌, cond, count_by, refl, sym, ap, ◌∙◌}
 use Rattle.std.specs.List.{filter}
-use Rattle.std.proofs.lemmas.List.{drop_more, take_more, drop_all}
+use Rattle.std.proofs.lemmas.List.{drop_more, take_more}
 use Rattle.std.proofs.lemmas.List.Sums.{sum_by-cons, sum_by-append}
 use Rattle.std.proofs.lemmas.Bool.Decides.{nat_tests}
 use Rattle.gt_core.specs.Task.{Effect, Action, EffectOf, owned, effects_from}
@@ -8,10 +8,9 @@ use Rattle.gt_core.specs.Lawful.{is_conditional, conditional_in}
 use Rattle.gt_core.specs.Layout.{Layout}
 use Rattle.gt_core.proofs.Basics.{same_test}
 use Rattle.step_clauses.specs.Clause.{Is, code}
-use Rattle.step_clauses.specs.Variables.{Row, rows_from, has_condition, variable_at}
-use Rattle.step_clauses.specs.Formula.{effects_with}
+use Rattle.step_clauses.specs.Variables.{Row, rows_from, variable_at}
 use Rattle.step_template.specs.Rows.{row_of, rows_of, number_after, made_by, made}
-use Rattle.step_template.proofs.Groups.{joined_twice, rest}
+use Rattle.step_template.proofs.Groups.{rest}
 
 -- Effects with their numbers.
 

@@ -2,7 +2,7 @@ use Rattle.std.specs.Prelude.{◌≡◌, ℕ, ◌+◌, ◌*◌, ◌<◌, ◌==�
 use Rattle.gt_core.specs.Task.{Task, Effect, owned}
 use Rattle.gt_core.specs.Lawful.{is_conditional}
 use Rattle.gt_core.specs.Layout.{Layout}
-use Rattle.step_clauses.specs.Clause.{Literal, code}
+use Rattle.step_clauses.specs.Clause.{code}
 use Rattle.step_clauses.specs.Variables.{Row, rows, rows_from, variable_at}
 use Rattle.step_clauses.specs.Formula.{effects_with}
 

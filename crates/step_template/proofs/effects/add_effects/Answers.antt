@@ -1,9 +1,7 @@
-use Rattle.std.proofs.Common.{arith, ◌≡◌, ◌<◌, ◌+◌, ℕ, List, length, count_by, ap, ◌∙◌, subst, sym, [], take}
-use Rattle.std.specs.List.{AllByRecursion}
+use Rattle.std.proofs.Common.{arith, ◌≡◌, ◌<◌, ◌+◌, ℕ, List, length, count_by, ap, ◌∙◌, []}
 use Rattle.gt_core.specs.Layout.{Layout}
 use Rattle.gt_core.specs.Task.{Action, Effect, action}
-use Rattle.gt_core.specs.Lawful.{is_conditional, conditional_in}
-use Rattle.gt_core.specs.Active.{EffectWithin}
+use Rattle.gt_core.specs.Lawful.{is_conditional}
 use Rattle.gt_core.proofs.Within.{action_effects_within}
 use Rattle.step_template.proofs.RowLaw.{conditional_taken}
 use Rattle.step_template.proofs.EffectLaw.{actions_step, effects_by}

@@ -1,4 +1,4 @@
-use Rattle.std.proofs.Common.{◌≡◌, ℕ, ◌%◌, ◌==◌, List, [], ◌∷◌, ◌++◌, if◌then◌else◌, ap, ◌∙◌}
+use Rattle.std.proofs.Common.{ℕ, ◌%◌, ◌==◌, List, [], ◌∷◌, ◌++◌, if◌then◌else◌, ap, ◌∙◌}
 use Rattle.gt_core.specs.Literal.{opposite}
 use Rattle.gt_core.specs.Layout.{fact_at}
 use Rattle.step_clauses.specs.Clause.{code}

@@ -1,4 +1,4 @@
-use Rattle.std.proofs.Common.{arith, ◌≡◌, ℕ, ◌<◌, ◌+◌, ◌*◌, List, length, [], ◌∙◌}
+use Rattle.std.proofs.Common.{arith, ◌<◌, ◌+◌, ◌*◌, length, [], ◌∙◌}
 use Rattle.std.proofs.lemmas.List.{get_or_read}
 use Rattle.step_template.proofs.FrameLaw.{frame_step}
 use Rattle.step_template.proofs.frames.add_frames.Goals as goal

@@ -1,4 +1,4 @@
-use Rattle.std.proofs.Common.{◌≡◌, ℕ, ◌+◌, ◌*◌, ◌++◌, [], length, take, drop, slice_index_or}
+use Rattle.std.proofs.Common.{◌≡◌, ℕ, ◌*◌, ◌++◌, [], length, take, drop, slice_index_or}
 use Rattle.gt_core.specs.Task.{effects_from}
 use Rattle.gt_core.specs.Lawful.{conditional_in}
 use Rattle.step_clauses.specs.Variables.{rows, rows_from}

@@ -1,4 +1,4 @@
-use Rattle.std.proofs.Common.{◌≡◌, sym, ◌∙◌}
+use Rattle.std.proofs.Common.{sym, ◌∙◌}
 use Rattle.step_template.proofs.KnownLaw.{single_is, known_double}
 use Rattle.step_template.proofs.known.add_known.Goals as goal
 

@@ -1,4 +1,4 @@
-use Rattle.std.proofs.Common.{arith, ◌≡◌, ◌<◌, length, ap, ◌∙◌, []}
+use Rattle.std.proofs.Common.{arith, ◌<◌, length, ap, ◌∙◌, []}
 use Rattle.gt_core.specs.Layout.{Layout, action_at, fact_at}
 use Rattle.gt_core.specs.Task.{Action, precondition}
 use Rattle.gt_core.proofs.Within.{precondition_within}

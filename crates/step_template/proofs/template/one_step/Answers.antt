@@ -1,7 +1,6 @@
-use Rattle.std.proofs.Common.{arith, ◌≡◌, ℕ, List, ◌∙◌, ap, length}
+use Rattle.std.proofs.Common.{arith, ◌≡◌, ℕ, ◌∙◌, ap, length}
 use Rattle.gt_core.specs.Lawful.{conditional_in}
-use Rattle.gt_core.specs.Layout.{Layout}
-use Rattle.step_clauses.specs.Variables.{layout_of, chain_variables_in, chain_places}
+use Rattle.step_clauses.specs.Variables.{chain_variables_in, chain_places}
 use Rattle.step_template.proofs.StepLaw.{step_joined}
 use Rattle.step_template.proofs.template.one_step.Goals as goal
 
