@@ -9,5 +9,8 @@ pub mod DrawLaw
 pub mod GroupLaw
 pub mod ListedLaw
 pub mod EdgeLaw
+pub mod SetLaw
+pub mod SureLaw
+pub mod ReadersLaw
 pub mod OrderLaw
 pub mod PublishLaw

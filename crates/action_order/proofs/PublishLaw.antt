@@ -1,4 +1,4 @@
-use Rattle.std.proofs.Common.{arith, ◌≡◌, ◌==◌, ℕ, suc, ◌<◌, ◌≤◌, List, [], ◌∷◌, ◌++◌, length, Bool, true, false, not, ◌&&◌, refl, sym, ap, ◌∙◌, subst, inl, inr}
+use Rattle.std.proofs.Common.{arith, ◌≡◌, ◌==◌, ℕ, suc, ◌<◌, ◌≤◌, List, [], ◌∷◌, ◌++◌, length, Bool, true, false, not, ◌&&◌, ◌*◌, ◌/◌, refl, sym, ap, ◌∙◌, subst, inl, inr, None}
 use Rattle.std.specs.Prelude.{slice_index_or}
 use Rattle.std.specs.List.{AllByRecursion}
 use Rattle.std.proofs.lemmas.List.{get_or_past}
@@ -8,18 +8,31 @@ use Rattle.gt_core.specs.Literal.{is_in, range}
 use Rattle.gt_core.specs.Task.{Task, Action, action, actions_of}
 use Rattle.gt_core.specs.Interference.{has_edge}
 use Rattle.gt_core.specs.Published.{IsListed, IsPublished, order_of}
-use Rattle.gt_core.proofs.Basics.{each_from}
+use Rattle.gt_core.specs.Lawful.{is_task, is_action, is_literal_set}
+use Rattle.gt_core.proofs.Basics.{and_split, all_at, each_at, each_from}
+use Rattle.gt_core.proofs.Within.{lawful, literals_within, effects_within}
 use Rattle.gt_core.proofs.Literals.{in_among, among_in, in_split, below_range}
 use Rattle.gt_core.proofs.PublishedLaw.{published_apart}
 use Rattle.action_order.specs.Graph.{leads, IsGraph}
 use Rattle.action_order.specs.Walk.{item}
 use Rattle.action_order.specs.Edge.{disables_acts, together_acts, AreTargets}
+use Rattle.action_order.specs.Readers.{ActionWithin}
 use Rattle.action_order.specs.Order.{IsOrder, name_in}
 use Rattle.action_order.proofs.EdgeLaw.{edge_is}
 use Rattle.action_order.proofs.Lists.{in_at}
 use Rattle.action_order.proofs.OrderLaw.{unequal_places, few_unequal, few_components}
 
 -- The listed components of the graph of the targets are the published order.
+
+-- the literals of a task's actions are in range
+pub acts_within : (task : Task) → is_task task ≡ true → AllByRecursion (ActionWithin task.facts) task.actions
+acts_within task e = each_from _ task.actions (λ x i.
+  let a = and_split (is_literal_set task.facts x.precondition) _ (all_at (is_action task.facts) task.actions x (lawful task e).each i) in
+  let half = literals_within task.facts x.precondition a.0 in
+  record {
+    precondition = each_from _ x.precondition (λ l j. let h = each_at (λ k. k / 2 < task.facts) x.precondition l half j in omega arith);
+    effects = effects_within task.facts None x.effects a.1;
+  })
 
 none_left : (x y : Bool) → ((x && false) && y) ≡ false
 none_left true y = refl

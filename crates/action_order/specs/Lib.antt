@@ -4,4 +4,8 @@ pub mod Draw
 pub mod DrawOf
 pub mod Group
 pub mod Edge
+pub mod Members
+pub mod Readers
+pub mod Sure
+pub mod Finder
 pub mod Order

@@ -8,7 +8,8 @@ ghost use Rattle.action_order.specs.Group.{members, listed};
 use crate::numbers::ActNumbers;
 use std::alloc::{AllocError, Global};
 
-fn empty_groups(alloc: Global, count: usize) -> Result<Vec<ActNumbers>, AllocError>
+/// So many empty lists.
+pub fn empty_groups(alloc: Global, count: usize) -> Result<Vec<ActNumbers>, AllocError>
     ensures { IfOk result (λ groups. groups.items ≡ replicate count []) }
 {
     let mut groups = Vec::new(alloc);

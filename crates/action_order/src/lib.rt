@@ -3,13 +3,17 @@
 
 mod draw;
 mod edge;
+mod finder;
 mod group;
+mod number_set;
 pub mod numbers;
 pub mod order;
 pub mod publish;
 mod quotient;
+mod readers;
 mod ready;
 mod row;
+mod sure;
 #[cfg(test)]
 mod tests;
 mod walk;

@@ -9,7 +9,7 @@ ghost use Rattle.action_order.specs.Walk.{item};
 ghost use Rattle.action_order.specs.Order.{name_in};
 
 use crate::draw::draw_all;
-use crate::edge;
+use crate::finder::targets;
 use crate::group::list;
 use crate::numbers::ActNumbers;
 use crate::order::Order;
@@ -90,7 +90,7 @@ pub fn publish(alloc: Global, task: &Task, pairs: &Pairs) -> Result<Order, Memor
     ensures published { IfOk result (λ order. IsPublished task.now pairs.now.clauses order) }
     ensures apart { IfOk result (λ order. KeepsApart task.now pairs.now.clauses order) }
 {
-    let targets = edge::targets(alloc, task.acts(), pairs)?;
+    let targets = targets(alloc, task.facts(), task.acts(), pairs)?;
     let listing = list_components(alloc, targets.as_slice())?;
     let order = flatten(alloc, listing.components.as_slice())?;
     let places = places_of(alloc, order.as_slice(), targets.len())?;

@@ -29,10 +29,23 @@ fn task(rt: &impl AllocGlobal, facts: u32, acts: Vec<Act>) -> Result<Task, Fail>
     Ok(task)
 }
 
-/// What the command `order` tells of the order: the number of components, and for each place the component and the
-/// action.
+/// What the command `order` tells of the order, under no clauses: the number of components, and for each place the
+/// component and the action.
 fn told(rt: &(impl AllocGlobal + Abort), task: &Task) -> Result<Vec<u32>, Fail> {
-    let pairs = Pairs::empty(rt.alloc(), task.facts()).map_err(|_| "no memory")?;
+    told_under(rt, task, &[])
+}
+
+/// The same under clauses of two literals.
+fn told_under(
+    rt: &(impl AllocGlobal + Abort),
+    task: &Task,
+    clauses: &[(u32, u32)],
+) -> Result<Vec<u32>, Fail> {
+    let mut pairs = Pairs::empty(rt.alloc(), task.facts()).map_err(|_| "no memory")?;
+    for (l, m) in clauses {
+        pairs.add(*l, *m).map_err(|_| "no memory")?;
+    }
+    assert_eq!(rt; pairs.count() as usize, clauses.len());
     let order = publish(rt.alloc(), task, &pairs).map_err(|_| "no memory")?;
     let mut told = Vec::new(rt.alloc());
     told.push(order.components())?;
@@ -52,6 +65,9 @@ fn user_before_burner(rt: HostRuntime) -> Result<(), Fail> {
     let using = act(&rt, &[0], &[2])?;
     let task = task(&rt, 3, vec![in rt.alloc(); burn, using]?)?;
     assert_eq!(rt; told(&rt, &task)?.as_slice(), [2, 1, 1, 0, 0].as_slice());
+    // The invariants: p or r, not p or not r.
+    let under = told_under(&rt, &task, &[(0, 4), (1, 5)])?;
+    assert_eq!(rt; under.as_slice(), [2, 1, 1, 0, 0].as_slice());
     Ok(())
 }
 
@@ -62,5 +78,20 @@ fn each_takes_the_other_s_need(rt: HostRuntime) -> Result<(), Fail> {
     let two = act(&rt, &[6], &[1, 4])?;
     let task = task(&rt, 4, vec![in rt.alloc(); one, two]?)?;
     assert_eq!(rt; told(&rt, &task)?.as_slice(), [1, 0, 0, 0, 1].as_slice());
+    // Under the clause that not both needs hold, no edge is left.
+    let under = told_under(&rt, &task, &[(1, 7)])?;
+    assert_eq!(rt; under.as_slice(), [2, 0, 0, 1, 1].as_slice());
+    Ok(())
+}
+
+#[test]
+fn effect_condition_is_read(rt: HostRuntime) -> Result<(), Fail> {
+    // Facts p 0, q 1, g 2. Action 0 deletes p; action 1 adds g where p holds.
+    let drop = act(&rt, &[], &[1, 2])?;
+    let when = Lits::of(vec![in rt.alloc(); 0]?);
+    let effects = vec![in rt.alloc(); Eff::new(when, 4)]?;
+    let gain = Act::new(Lits::of(Vec::new(rt.alloc())), Effs::of(effects));
+    let task = task(&rt, 3, vec![in rt.alloc(); drop, gain]?)?;
+    assert_eq!(rt; told(&rt, &task)?.as_slice(), [2, 1, 1, 0, 0].as_slice());
     Ok(())
 }

@@ -10,3 +10,4 @@ pub mod Within
 pub mod NextLaw
 pub mod LayoutLaw
 pub mod ClausesLaw
+pub mod PutLaw

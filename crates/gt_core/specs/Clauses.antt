@@ -1,4 +1,4 @@
-use Rattle.std.specs.Prelude.{◌≡◌, ℕ, ◌+◌, ◌*◌, ◌/◌, ◌<◌, ◌≤◌, ◌⊎◌, List, Bool, false, length, slice_index_or}
+use Rattle.std.specs.Prelude.{◌≡◌, ℕ, ◌+◌, ◌*◌, ◌/◌, ◌<◌, ◌≤◌, ◌⊎◌, ◌==◌, ◌&&◌, ◌||◌, nat_lt, if◌then◌else◌, List, ◌∷◌, ◌++◌, Bool, false, length, take, drop, slice_index_or}
 use Rattle.std.specs.List.{AllByRecursion}
 use Rattle.gt_core.specs.Interference.{has_clause}
 use Rattle.gt_core.specs.Published.{Pairwise}
@@ -26,3 +26,27 @@ pub record IsKnownClauses (known : KnownClauses) : Type 0 where
 pub record IsTable (facts : ℕ) (clauses : List (ℕ × ℕ)) (known : List Bool) : Type 0 where
   pub long : length known ≡ (2 * facts) * (2 * facts)
   pub tells : (l m : ℕ) → l < 2 * facts → m < 2 * facts → slice_index_or known (l * (2 * facts) + m) false ≡ has_clause clauses l m
+
+-- two lists have the same clauses
+abbrev pub SameClauses : List (ℕ × ℕ) → List (ℕ × ℕ) → Type 0
+SameClauses cs ds = (l m : ℕ) → has_clause cs l m ≡ has_clause ds l m
+
+-- two literals, the smaller first
+abbrev pub in_order : ℕ → ℕ → ℕ × ℕ
+in_order l m = if nat_lt l m then (l, m) else (m, l)
+
+-- the test of IsBefore
+abbrev pub is_before : ℕ × ℕ → ℕ × ℕ → Bool
+is_before c d = nat_lt c.0 d.0 || ((c.0 == d.0) && nat_lt c.1 d.1)
+
+-- a place in a sorted list up to which clauses come before one, and from which on they come after it
+pub record IsPlaceOf (clauses : List (ℕ × ℕ)) (one : ℕ × ℕ) (place : ℕ) : Type 0 where
+  pub within : place ≤ length clauses
+  pub before : AllByRecursion (λ c. IsBefore c one) (take place clauses)
+  pub after : AllByRecursion (IsBefore one) (drop place clauses)
+
+-- a list with a clause put in where it belongs
+pub record IsPutIn (before : List (ℕ × ℕ)) (one : ℕ × ℕ) (after : List (ℕ × ℕ)) : Type 0 where
+  pub place : ℕ
+  pub sorted : IsPlaceOf before one place
+  pub is : after ≡ take place before ++ one ∷ drop place before

@@ -4,6 +4,7 @@
 #![tactic(auto)]
 
 pub mod act;
+mod clause_list;
 pub mod eff;
 mod lawful;
 pub mod laws;

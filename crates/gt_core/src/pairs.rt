@@ -1,5 +1,6 @@
 //! Clauses of one or two fact literals that are known of the states of a task.
 
+use crate::clause_list::{in_order, mark, put_in};
 use crate::memory::Memory;
 use std::alloc::Global;
 use std::marker::Model;
@@ -24,9 +25,10 @@ impl Model for Pairs {
 }
 
 impl Pairs {
-    ghost use Rattle.std.specs.Prelude.{◌≡◌, ◌≤◌, ◌<◌, [], length, slice_get, Some, IfOk};
+    ghost use Rattle.std.specs.Prelude.{◌≡◌, ◌≤◌, ◌<◌, ◌*◌, [], ◌∷◌, length, slice_get, Some, IfOk, OnOk, OnErr};
+    ghost use Rattle.gt_core.specs.Literal.{opposite};
     ghost use Rattle.gt_core.specs.Interference.{has_clause};
-    ghost use Rattle.gt_core.specs.Clauses.{KnownClauses, IsKnownClauses};
+    ghost use Rattle.gt_core.specs.Clauses.{KnownClauses, IsKnownClauses, SameClauses};
 
     /// The set without a clause, over so many facts.
     pub fn empty(alloc: Global, facts: u32) -> Result<Pairs, Memory>
@@ -40,6 +42,27 @@ impl Pairs {
             clauses: Vec::new(alloc),
             known,
         })
+    }
+
+    /// Adds the clause of two literals that are not opposite, or of one literal, given twice. The order of the two has
+    /// no effect, and a clause that is there already stays once. After want of memory the set is as it was.
+    pub fn add(&mut self, l: u32, m: u32) -> Result<(), Memory>
+        requires l { l < 2 * self.old.facts }
+        requires m { m < 2 * self.old.facts }
+        requires apart { m ≡ opposite l → ⊥ }
+        ensures added { OnOk result (SameClauses self.new.clauses ((l, m) ∷ self.old.clauses)) }
+        ensures facts { self.new.facts ≡ self.old.facts }
+        ensures lawful { IsKnownClauses self.new }
+        ensures kept { OnErr result (self.new ≡ self.old) }
+    {
+        if self.has(l, m) {
+            return Ok(());
+        }
+        put_in(&mut self.clauses, in_order(l, m))?;
+        let side = 2 * self.facts as usize;
+        mark(&mut self.known, side, l as usize, m as usize);
+        mark(&mut self.known, side, m as usize, l as usize);
+        Ok(())
     }
 
     /// How many facts the clauses are over.
@@ -90,6 +113,28 @@ mod tests {
         let pairs = Pairs::empty(rt.alloc(), 3).map_err(|_| "no memory")?;
         assert_eq!(rt; (pairs.facts(), pairs.count()), (3, 0));
         assert!(rt; !pairs.has(0, 4) && !pairs.has(0, 0) && !pairs.has(7, 0));
+        Ok(())
+    }
+
+    #[test]
+    fn clause_stays_once(rt: HostRuntime) -> Result<(), Fail> {
+        let mut pairs = Pairs::empty(rt.alloc(), 3).map_err(|_| "no memory")?;
+        pairs.add(4, 0).map_err(|_| "no memory")?;
+        pairs.add(0, 4).map_err(|_| "no memory")?;
+        assert_eq!(rt; (pairs.count(), pairs.at(0)), (1, (0, 4)));
+        assert!(rt; pairs.has(0, 4) && pairs.has(4, 0) && !pairs.has(0, 0));
+        Ok(())
+    }
+
+    #[test]
+    fn clauses_are_sorted(rt: HostRuntime) -> Result<(), Fail> {
+        let mut pairs = Pairs::empty(rt.alloc(), 3).map_err(|_| "no memory")?;
+        for (l, m) in [(5, 1), (3, 3), (4, 0), (2, 0)] {
+            pairs.add(l, m).map_err(|_| "no memory")?;
+        }
+        assert_eq!(rt; pairs.count(), 4);
+        let told = (pairs.at(0), pairs.at(1), pairs.at(2), pairs.at(3));
+        assert_eq!(rt; told, ((0, 2), (0, 4), (1, 5), (3, 3)));
         Ok(())
     }
 }

@@ -4,8 +4,11 @@ use Rattle.gt_core.specs.Published.{IsPublished, order_of}
 use Rattle.gt_core.proofs.Within.{lawful}
 use Rattle.gt_core.proofs.PublishedLaw.{published_keeps_apart}
 use Rattle.action_order.specs.Edge.{AreTargets}
-use Rattle.action_order.proofs.PublishLaw.{is_graph, is_published, order_below, order_unequal, order_few, is_order}
+use Rattle.action_order.proofs.PublishLaw.{acts_within, is_graph, is_published, order_below, order_unequal, order_few, is_order}
 use Rattle.action_order.proofs.publish.publish.Goals as goal
+
+pub targets-requires-clause-within : goal.targets-requires-clause-within
+targets-requires-clause-within c = rw (c.acts.ensures.acts, c.facts.ensures.facts) (acts_within c.args.task.now c.acts.ensures.lawful)
 
 pub list_components-requires-clause-graph : goal.list_components-requires-clause-graph
 list_components-requires-clause-graph c =
