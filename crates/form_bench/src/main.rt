@@ -14,8 +14,7 @@ use action_order::order::Order;
 use action_order::publish::publish;
 use gt_core::pairs::Pairs;
 use gt_core::task::Task;
-use std::env;
-use std::io;
+use std::{env, io};
 use step_encoding::exists::ExistsForm;
 use step_encoding::form::StepForm;
 
@@ -81,11 +80,7 @@ fn measure_ordered(
 }
 
 /// Makes the published order and the form, and does what was asked.
-fn measure_task(
-    rt: &(impl Print + AllocGlobal),
-    task: &Task,
-    asked: (u32, u32),
-) -> io::Result<()> {
+fn measure_task(rt: &(impl Print + AllocGlobal), task: &Task, asked: (u32, u32)) -> io::Result<()> {
     let Ok(pairs) = Pairs::empty(rt.alloc(), task.facts()) else {
         return println!(rt; "no memory");
     };

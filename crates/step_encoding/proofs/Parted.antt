@@ -27,8 +27,8 @@ whole z task steps times = record {
   name = z.horizon;
   variables = variables z;
   clauses = coded (initial_clauses z task)
-  ++ (((if task.hopeless then [] ∷ [] else []) ++ map (λ l. code (literal_over (fact_at z z.horizon) l) ∷ []) task.goal)
-  ++ (flat_map (step_part z steps) (range z.horizon) ++ flat_map (time_part z times) (range (z.horizon + 1))));
+      ++ (((if task.hopeless then [] ∷ [] else []) ++ map (λ l. code (literal_over (fact_at z z.horizon) l) ∷ []) task.goal)
+      ++ (flat_map (step_part z steps) (range z.horizon) ++ flat_map (time_part z times) (range (z.horizon + 1))));
 }
 
 module _ (form : Ordered) (is : IsOrdered form) (n : ℕ) where

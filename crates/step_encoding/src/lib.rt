@@ -13,7 +13,6 @@ mod joining;
 mod moving;
 mod sizes;
 pub mod steps;
-mod truth;
-
 #[cfg(test)]
 mod tests;
+mod truth;

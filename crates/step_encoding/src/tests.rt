@@ -33,20 +33,14 @@ fn act(rt: &impl AllocGlobal, pre: &[u32], lits: &[u32]) -> Result<Act, Fail> {
 }
 
 /// A task with these initial values, goal and actions.
-fn task(
-    rt: &impl AllocGlobal,
-    init: &[bool],
-    goal: &[u32],
-    acts: Vec<Act>,
-) -> Result<Task, Fail> {
+fn task(rt: &impl AllocGlobal, init: &[bool], goal: &[u32], acts: Vec<Act>) -> Result<Task, Fail> {
     let facts = init.len();
     if facts > 2048 {
         return Err("too many facts".into());
     }
     let init = Bits::of(Vec::from_slice(rt.alloc(), init)?);
     let goal = Lits::of(Vec::from_slice(rt.alloc(), goal)?);
-    let task =
-        Task::try_new(facts as u32, init, goal, false, Acts::of(acts)).ok_or("no task")?;
+    let task = Task::try_new(facts as u32, init, goal, false, Acts::of(acts)).ok_or("no task")?;
     Ok(task)
 }
 

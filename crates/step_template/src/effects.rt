@@ -79,7 +79,7 @@ fn add_reason(
 {
     let mut lits = vec![in alloc;
         Lit::of(variable, true),
-        Lit::of(action_variable(layout, action), false)
+        Lit::of(action_variable(layout, action), false),
     ]?;
     push_opposites(layout, condition, &mut lits)?;
     add_clause(alloc, clauses, lits.as_slice())
@@ -126,10 +126,7 @@ fn push_add(
     ensures { OnOk result (lits.new.items ≡ lits.old.items ++ made_by layout.now action lit (row_of action number effect.now ∷ [])) }
 {
     if effect.lit() == lit {
-        lits.push(Lit::of(
-            effect_variable(layout, action, number, effect),
-            true,
-        ))?;
+        lits.push(Lit::of(effect_variable(layout, action, number, effect), true))?;
     }
     Ok(())
 }
@@ -199,7 +196,7 @@ fn add_result(
 {
     let mut lits = vec![in alloc;
         Lit::of(effect_variable(layout, action, number, effect), false),
-        literal_at(layout, 1, effect.lit())
+        literal_at(layout, 1, effect.lit()),
     ]?;
     push_overruling(layout, action, first, effects, effect.lit(), &mut lits)?;
     add_clause(alloc, clauses, lits.as_slice())?;

@@ -25,8 +25,7 @@ loop-a-preserved c =
     let next : c.loop-a.first + c.conditional_among.result ≡ c.loop-a.first + count_by is_conditional c.effects-effects.result.now = ap (λ (k : ℕ). c.loop-a.first + k) c.conditional_among.ensures in
     let count = ap (λ (es : List Effect). count_by is_conditional es) is in
     let taken = conditional_taken task.actions a (record { precondition = []; effects = [] }) lt in
-    let first = c.loop-a.invariant.0 in
-    (
+    let first = c.loop-a.invariant.0 in (
       omega (arith, next, count, taken, first),
       actions_step c.args.layout.now task a c.loop-a.first (c.loop-a.first + c.conditional_among.result) c.effects-effects.result.now _ c.loop-a.clauses.items c.add_effects_of.new.clauses.items lt is first next c.loop-a.invariant.1 c.in_ok-add_effects_of.ensures,
     )
