@@ -13,6 +13,4 @@ mod joining;
 mod moving;
 mod sizes;
 pub mod steps;
-#[cfg(test)]
-mod tests;
 mod truth;
