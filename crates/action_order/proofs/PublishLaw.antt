@@ -27,12 +27,12 @@ use Rattle.action_order.proofs.OrderLaw.{unequal_places, few_unequal, few_compon
 -- the literals of a task's actions are in range
 pub acts_within : (task : Task) → is_task task ≡ true → AllByRecursion (ActionWithin task.facts) task.actions
 acts_within task e = each_from _ task.actions (λ x i.
-  let a = and_split (is_literal_set task.facts x.precondition) _ (all_at (is_action task.facts) task.actions x (lawful task e).each i) in
-  let half = literals_within task.facts x.precondition a.0 in
-  record {
-    precondition = each_from _ x.precondition (λ l j. let h = each_at (λ k. k / 2 < task.facts) x.precondition l half j in omega arith);
-    effects = effects_within task.facts None x.effects a.1;
-  })
+    let a = and_split (is_literal_set task.facts x.precondition) _ (all_at (is_action task.facts) task.actions x (lawful task e).each i) in
+    let half = literals_within task.facts x.precondition a.0 in
+    record {
+      precondition = each_from _ x.precondition (λ l j. let h = each_at (λ k. k / 2 < task.facts) x.precondition l half j in omega arith);
+      effects = effects_within task.facts None x.effects a.1;
+    })
 
 none_left : (x y : Bool) → ((x && false) && y) ≡ false
 none_left true y = refl

@@ -28,10 +28,10 @@ pub entered_then : (first second both : ℕ → Bool) (b : ℕ) (before between 
 entered_then first second both b before between after one two is = record {
   long = two.long ∙ one.long;
   tells = λ k x lt.
-    two.tells k x (let l = one.long in omega arith)
-    ∙ ap (λ (t : Bool). (second k && (b == x)) || t) (one.tells k x lt)
-    ∙ turned (first k) (second k) (b == x) (is_in (targets_of before k) x)
-    ∙ ap (λ (t : Bool). (t && (b == x)) || is_in (targets_of before k) x) (sym (is k));
+      two.tells k x (let l = one.long in omega arith)
+      ∙ ap (λ (t : Bool). (second k && (b == x)) || t) (one.tells k x lt)
+      ∙ turned (first k) (second k) (b == x) (is_in (targets_of before k) x)
+      ∙ ap (λ (t : Bool). (t && (b == x)) || is_in (targets_of before k) x) (sym (is k));
 }
 
 -- one list with one more number
@@ -62,9 +62,11 @@ readers_more reads acts keys b before after r e = record {
     always : (t u : Bool) → ((t && true) || (false && u)) ≡ (true && t)
     always true u = refl
     always false u = refl
+
     never : (t u : Bool) → ((t && false) || u) ≡ u
     never true u = refl
     never false u = refl
+
     by : (k x : ℕ) (t : Bool) → (b == x) ≡ t → ((reads (act_at acts b) k && t) || (nat_lt x b && reads (act_at acts x) k)) ≡ (nat_lt x (b + 1) && reads (act_at acts x) k)
     by k x true s =
         let no : nat_lt b b ≡ false = grind (arith, nat_tests) in
@@ -77,9 +79,9 @@ readers_more reads acts keys b before after r e = record {
 -- each reader is an action
 pub readers_below : (reads : Action → ℕ → Bool) (acts : List Action) (keys n : ℕ) (lists : List (List ℕ)) → AreReaders reads acts keys n lists → AllByRecursion (AllByRecursion (λ b. b < n)) lists
 readers_below reads acts keys n lists r = from lists (λ k lt. each_from _ (targets_of lists k) (λ b i.
-  let t : (nat_lt b n && reads (act_at acts b) k) ≡ true = sym (r.tells k b (let l = r.long in omega arith)) ∙ among_in (targets_of lists k) b i in
-  let u : nat_lt b n ≡ true = (and_split (nat_lt b n) _ t).0 in
-  grind (arith, nat_tests)))
+    let t : (nat_lt b n && reads (act_at acts b) k) ≡ true = sym (r.tells k b (let l = r.long in omega arith)) ∙ among_in (targets_of lists k) b i in
+    let u : nat_lt b n ≡ true = (and_split (nat_lt b n) _ t).0 in
+    grind (arith, nat_tests)))
   where
     from : (ls : List (List ℕ)) → ((k : ℕ) → k < length ls → AllByRecursion (λ b. b < n) (targets_of ls k)) → AllByRecursion (AllByRecursion (λ b. b < n)) ls
     from [] h = tt
@@ -109,9 +111,9 @@ opposite_below l f lt = by (l % 2 == 0) refl
 
 -- the actions that are found are those that the action disables
 pub touched_is : (facts : ℕ) (acts : List Action) (needing asking : List (List ℕ)) (x : Action) (made : List ℕ)
-  → AreReaders needs acts (2 * facts) (length acts) needing → AreReaders asks_of acts facts (length acts) asking
-  → ((l : ℕ) → is_in made l ≡ may_in x.effects l) → AllByRecursion (λ l. l < 2 * facts) made
-  → (b : ℕ) → is_touched needing asking made b ≡ disables_acts x (act_at acts b)
+    → AreReaders needs acts (2 * facts) (length acts) needing → AreReaders asks_of acts facts (length acts) asking
+    → ((l : ℕ) → is_in made l ≡ may_in x.effects l) → AllByRecursion (λ l. l < 2 * facts) made
+    → (b : ℕ) → is_touched needing asking made b ≡ disables_acts x (act_at acts b)
 touched_is facts acts needing asking x made n a m below b =
     any_same _ (touches (act_at acts b)) made (λ l i.
     let lt = each_at (λ k. k < 2 * facts) made l below i in

@@ -113,7 +113,7 @@ chosen_test false s t false x e h = e
 
 -- one more number of a list, which is chosen where it passes a test
 pub chosen_more : (t : ℕ → Bool) (among chosen : List ℕ) (i : ℕ) → i < length among → ((k : ℕ) → is_in chosen k ≡ (is_in (take i among) k && t k))
-  → (k : ℕ) → ((t (item among i) && (item among i == k)) || is_in chosen k) ≡ (is_in (take (i + 1) among) k && t k)
+    → (k : ℕ) → ((t (item among i) && (item among i == k)) || is_in chosen k) ≡ (is_in (take (i + 1) among) k && t k)
 chosen_more t among chosen i lt h k =
     chosen_test (item among i == k) (is_in (take i among) k) (t k) (t (item among i)) (is_in chosen k) (h k) (λ q. ap t (test_same (item among i) k q))
     ∙ ap (λ (b : Bool). b && t k) (sym (any_more (λ y. y == k) among i 0 lt))

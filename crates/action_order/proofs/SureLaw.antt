@@ -24,8 +24,8 @@ kept_test false c s t false x e h = e
 
 -- one more effect, whose literal is listed where it is surely made true
 pub sure_more : (effects : List Effect) (made sure : List ℕ) (i : ℕ) (d : Effect) → i < length effects
-  → ((l : ℕ) → is_in made l ≡ may_in effects l) → ((l : ℕ) → is_in sure l ≡ is_sure_of (take i effects) effects l)
-  → (l : ℕ) → ((makes_surely made (slice_index_or effects i d) && ((slice_index_or effects i d).literal == l)) || is_in sure l) ≡ is_sure_of (take (i + 1) effects) effects l
+    → ((l : ℕ) → is_in made l ≡ may_in effects l) → ((l : ℕ) → is_in sure l ≡ is_sure_of (take i effects) effects l)
+    → (l : ℕ) → ((makes_surely made (slice_index_or effects i d) && ((slice_index_or effects i d).literal == l)) || is_in sure l) ≡ is_sure_of (take (i + 1) effects) effects l
 sure_more effects made sure i d lt m s l =
     let e = slice_index_or effects i d in
     kept_test (e.literal == l) (length e.condition == 0) (sure_in (take i effects) l) ((l % 2 == 0) || not (may_in effects (l - 1))) (makes_surely made e) (is_in sure l) (s l) (λ q.
@@ -39,10 +39,10 @@ pushed false sure x l = refl
 -- a literal that is surely made true is that of an effect
 pub sure_below : (top : ℕ) (effects : List Effect) (sure : List ℕ) → ((l : ℕ) → is_in sure l ≡ is_sure effects l) → AllByRecursion (λ e. e.literal < top) effects → AllByRecursion (λ l. l < top) sure
 sure_below top effects sure s h = each_from _ sure (λ l i.
-  let t : is_sure effects l ≡ true = sym (s l) ∙ among_in sure l i in
-  let p = passing (λ e. (e.literal == l) && (length e.condition == 0)) effects (and_split (sure_in effects l) _ t).0 in
-  let same = test_same p.one.literal l (and_split (p.one.literal == l) _ p.passes).0 in
-  subst (λ (k : ℕ). k < top) same (each_at (λ x. x.literal < top) effects p.one h p.among))
+    let t : is_sure effects l ≡ true = sym (s l) ∙ among_in sure l i in
+    let p = passing (λ e. (e.literal == l) && (length e.condition == 0)) effects (and_split (sure_in effects l) _ t).0 in
+    let same = test_same p.one.literal l (and_split (p.one.literal == l) _ p.passes).0 in
+    subst (λ (k : ℕ). k < top) same (each_at (λ x. x.literal < top) effects p.one h p.among))
 
 pub gain_is : (effects : List Effect) (f : ℕ) → is_sure effects (2 * f) ≡ sure_in effects (2 * f)
 gain_is effects f = let even : ((2 * f) % 2 == 0) ≡ true = add_is_even (2 * f) f refl in rw even (all (sure_in effects (2 * f)))
@@ -96,7 +96,7 @@ opposed x y l s o = by (l % 2 == 0) refl
 -- a gain of the one is a loss of the other, or the other way round, where the opposite of a literal that the one
 -- surely makes true is one that the other surely makes true
 pub clash_is : (x y : List Effect) (own sure : List ℕ) → ((l : ℕ) → is_in own l ≡ is_sure x l) → ((l : ℕ) → is_in sure l ≡ is_sure y l)
-  → list_any (λ l. is_in own (opposite l)) sure ≡ (clash_in x y || clash_in y x)
+    → list_any (λ l. is_in own (opposite l)) sure ≡ (clash_in x y || clash_in y x)
 clash_is x y own sure o s = same_if _ _
     (λ h.
     let p = passing (λ l. is_in own (opposite l)) sure h in
@@ -114,7 +114,7 @@ clash_is x y own sure o s = same_if _ _
     found l a b = any_at (λ k. is_in own (opposite k)) sure l (in_among sure l (s l ∙ a)) (o (opposite l) ∙ b)
 
 pub together_by : (clauses : List (ℕ × ℕ)) (x y : Action) (own sure : List ℕ) → ((l : ℕ) → is_in own l ≡ is_sure x.effects l) → ((l : ℕ) → is_in sure l ≡ is_sure y.effects l)
-  → (not (list_any (excludes_one clauses y.precondition) x.precondition) && not (list_any (λ l. is_in own (opposite l)) sure)) ≡ together_acts clauses x y
+    → (not (list_any (excludes_one clauses y.precondition) x.precondition) && not (list_any (λ l. is_in own (opposite l)) sure)) ≡ together_acts clauses x y
 together_by clauses x y own sure o s =
     ap (λ (b : Bool). not (list_any (excludes_one clauses y.precondition) x.precondition) && b) (ap not (clash_is x.effects y.effects own sure o s) ∙ neither (clash_in x.effects y.effects) (clash_in y.effects x.effects))
   where

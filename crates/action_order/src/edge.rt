@@ -47,13 +47,7 @@ fn opposes(set: &NumberSet, lits: &[u32]) -> bool
 }
 
 /// Whether two actions may share a step; `sure_of_a` and `sure_of_b` have the literals that they surely make true.
-pub fn together(
-    pairs: &Pairs,
-    a: &Act,
-    b: &Act,
-    sure_of_a: &NumberSet,
-    sure_of_b: &[u32],
-) -> bool
+pub fn together(pairs: &Pairs, a: &Act, b: &Act, sure_of_a: &NumberSet, sure_of_b: &[u32]) -> bool
     requires sure_of_a { (l : ℕ) → is_in sure_of_a.now.members l ≡ is_sure a.now.effects l }
     requires sure_of_b { (l : ℕ) → is_in sure_of_b.now l ≡ is_sure b.now.effects l }
     ensures { result ≡ together_acts pairs.now.clauses a.now b.now }

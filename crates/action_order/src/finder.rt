@@ -155,7 +155,15 @@ impl Finder {
     {
         self.fill(facts, acts, a)?;
         let touched = self.touched.as_slice();
-        let row = partners(alloc, acts, pairs, self.sure.as_slice(), &self.own, touched, a)?;
+        let row = partners(
+            alloc,
+            acts,
+            pairs,
+            self.sure.as_slice(),
+            &self.own,
+            touched,
+            a,
+        )?;
         Ok(row)
     }
 }

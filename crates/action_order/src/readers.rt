@@ -47,11 +47,7 @@ fn enter_precondition(
 }
 
 /// Puts an action into the list of the fact of each literal of an effect condition.
-fn enter_condition(
-    lists: &mut Vec<ActNumbers>,
-    condition: &[u32],
-    b: u32,
-) -> Result<(), AllocError>
+fn enter_condition(lists: &mut Vec<ActNumbers>, condition: &[u32], b: u32) -> Result<(), AllocError>
     requires { AllByRecursion (λ l. l / 2 < length lists.old.items) condition.now }
     ensures { OnOk result (IsEntered (has_fact condition.now) b lists.old.items lists.new.items) }
 {

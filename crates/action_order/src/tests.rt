@@ -43,9 +43,12 @@ fn told_under(
 ) -> Result<Vec<u32>, Fail> {
     let mut pairs = Pairs::empty(rt.alloc(), task.facts()).map_err(|_| "no memory")?;
     for (l, m) in clauses {
+        let facts = pairs.facts();
+        assert!(rt; *l / 2 < facts && *m / 2 < facts && *l / 2 != *m / 2);
         pairs.add(*l, *m).map_err(|_| "no memory")?;
     }
     assert_eq!(rt; pairs.count() as usize, clauses.len());
+    assert!(rt; pairs.facts() == task.facts());
     let order = publish(rt.alloc(), task, &pairs).map_err(|_| "no memory")?;
     let mut told = Vec::new(rt.alloc());
     told.push(order.components())?;

@@ -16,8 +16,7 @@ use gt_core::memory::Memory;
 use gt_core::pairs::Pairs;
 use gt_core::task::Task;
 use std::alloc::{AllocError, Global};
-use std::env;
-use std::io;
+use std::{env, io};
 
 /// How many facts a task has.
 const FACTS: u32 = 2048;

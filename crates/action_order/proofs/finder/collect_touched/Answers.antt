@@ -48,10 +48,10 @@ loop-lit-preserved c =
     record {
       bound = c.in_ok-insert_all-2.ensures.bound ∙ c.in_ok-insert_all.ensures.bound ∙ c.loop-lit.invariant.bound;
       touched = λ b.
-        c.in_ok-insert_all-2.ensures.members b
-        ∙ ap (λ (t : Bool). is_in c.as_slice-in-loop-lit.result.now b || t) (c.in_ok-insert_all.ensures.members b ∙ ap (λ (t : Bool). is_in c.as_slice.result.now b || t) (c.loop-lit.invariant.touched b))
-        ∙ ap (λ (xs : List ℕ). is_in xs b || (is_in c.as_slice.result.now b || is_touched needing asking (take i lits) b)) two
-        ∙ ap (λ (xs : List ℕ). is_in (targets_of asking (l / 2)) b || (is_in xs b || is_touched needing asking (take i lits) b)) one
-        ∙ three (is_in (targets_of needing (opposite l)) b) (is_in (targets_of asking (l / 2)) b) (is_touched needing asking (take i lits) b)
-        ∙ sym (any_more (λ k. is_in (targets_of needing (opposite k)) b || is_in (targets_of asking (k / 2)) b) lits i 0 c.loop-lit-test.true);
+          c.in_ok-insert_all-2.ensures.members b
+          ∙ ap (λ (t : Bool). is_in c.as_slice-in-loop-lit.result.now b || t) (c.in_ok-insert_all.ensures.members b ∙ ap (λ (t : Bool). is_in c.as_slice.result.now b || t) (c.loop-lit.invariant.touched b))
+          ∙ ap (λ (xs : List ℕ). is_in xs b || (is_in c.as_slice.result.now b || is_touched needing asking (take i lits) b)) two
+          ∙ ap (λ (xs : List ℕ). is_in (targets_of asking (l / 2)) b || (is_in xs b || is_touched needing asking (take i lits) b)) one
+          ∙ three (is_in (targets_of needing (opposite l)) b) (is_in (targets_of asking (l / 2)) b) (is_touched needing asking (take i lits) b)
+          ∙ sym (any_more (λ k. is_in (targets_of needing (opposite k)) b || is_in (targets_of asking (k / 2)) b) lits i 0 c.loop-lit-test.true);
     }

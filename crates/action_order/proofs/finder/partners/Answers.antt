@@ -24,7 +24,7 @@ loop-b-preserved c =
     let b = item among i in
     let below : b < length acts = each_number _ among i 0 c.requires.among c.loop-b-test.true in
     let more : (k : ℕ) → ((c.is_partner.result && (b == k)) || is_in row k) ≡ (is_in (take (i + 1) among) k && t k) =
-        λ k. ap (λ (s : Bool). (s && (b == k)) || is_in row k) c.is_partner.ensures ∙ chosen_more t among row i c.loop-b-test.true c.loop-b.invariant.tells k in
+    λ k. ap (λ (s : Bool). (s && (b == k)) || is_in row k) c.is_partner.ensures ∙ chosen_more t among row i c.loop-b-test.true c.loop-b.invariant.tells k in
     elim c.if-is_partner.branch [
       | then-is_partner+in_ok-push w ↦
           let yes : c.is_partner.result ≡ true = w.if-is_partner.true in

@@ -19,8 +19,8 @@ loop-effect-preserved c =
     record {
       bound = c.in_ok-insert.ensures.bound ∙ c.loop-effect.invariant.bound;
       literals = λ k.
-        c.in_ok-insert.ensures.members k
-        ∙ ap (λ (t : Bool). (c.lit.result == k) || t) (c.loop-effect.invariant.literals k)
-        ∙ ap (λ (n : ℕ). (n == k) || may_in (take i effects) k) (c.lit.ensures ∙ ap (λ (e : Effect). e.literal) c.effect-item.is)
-        ∙ sym (any_more (λ e. e.literal == k) effects i c.effect-item.result c.loop-effect-test.true);
+          c.in_ok-insert.ensures.members k
+          ∙ ap (λ (t : Bool). (c.lit.result == k) || t) (c.loop-effect.invariant.literals k)
+          ∙ ap (λ (n : ℕ). (n == k) || may_in (take i effects) k) (c.lit.ensures ∙ ap (λ (e : Effect). e.literal) c.effect-item.is)
+          ∙ sym (any_more (λ e. e.literal == k) effects i c.effect-item.result c.loop-effect-test.true);
     }

@@ -16,8 +16,8 @@ loop-effect-preserved c k =
     let sure = c.loop-effect.sure.items in
     let law = sure_more effects c.args.made.now.members sure i e c.loop-effect-test.true c.requires.made c.loop-effect.invariant k in
     let more : ((c.makes_surely.result && (e.literal == k)) || is_in sure k) ≡ is_sure_of (take (i + 1) effects) effects k =
-        ap (λ (t : Bool). (t && (e.literal == k)) || is_in sure k) c.makes_surely.ensures
-        ∙ ap (λ (x : Effect). (makes_surely c.args.made.now.members x && (x.literal == k)) || is_in sure k) c.effect-item.is ∙ law in
+    ap (λ (t : Bool). (t && (e.literal == k)) || is_in sure k) c.makes_surely.ensures
+    ∙ ap (λ (x : Effect). (makes_surely c.args.made.now.members x && (x.literal == k)) || is_in sure k) c.effect-item.is ∙ law in
     elim c.if-makes_surely.branch [
       | then-makes_surely+in_ok-push w ↦
           let pushed : c.if-makes_surely.sure.items ≡ sure ++ e.literal ∷ [] = let s = w.sure-is in let p = w.in_ok-push.ensures.items in let l = w.lit.ensures in cc in

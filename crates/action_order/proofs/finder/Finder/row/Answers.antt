@@ -23,9 +23,9 @@ returns-clause-row c =
     let a = c.args.a in
     record {
       tells = λ b.
-        c.in_ok-row.ensures.tells b
-        ∙ ap (λ (xs : List ℕ). is_in xs b && is_partner clauses acts a b) c.as_slice-touched.ensures.members
-        ∙ ap (λ (t : Bool). t && is_partner clauses acts a b) (c.in_ok-fill.ensures.touched b)
-        ∙ edge_turned (disables_acts (act_at acts a) (act_at acts b)) (not (a == b)) (together_acts clauses (act_at acts a) (act_at acts b));
+          c.in_ok-row.ensures.tells b
+          ∙ ap (λ (xs : List ℕ). is_in xs b && is_partner clauses acts a b) c.as_slice-touched.ensures.members
+          ∙ ap (λ (t : Bool). t && is_partner clauses acts a b) (c.in_ok-fill.ensures.touched b)
+          ∙ edge_turned (disables_acts (act_at acts a) (act_at acts b)) (not (a == b)) (together_acts clauses (act_at acts a) (act_at acts b));
       below = c.in_ok-row.ensures.below;
     }
