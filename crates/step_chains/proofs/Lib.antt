@@ -1,4 +1,4 @@
-pub mod Tests
+pub mod ReadLaw
 pub mod LinkLaw
 pub mod WalkLaw
 pub mod ExtendLaw

@@ -9,7 +9,5 @@ mod chain;
 mod chains;
 mod clauses;
 mod link;
-#[cfg(test)]
-mod tests;
 
 pub use chains::Chains;

@@ -1,4 +1,4 @@
-use Rattle.step_chains.proofs.Tests.{link_is}
+use Rattle.step_chains.proofs.ReadLaw.{link_is}
 use Rattle.step_chains.proofs.link.link_to.Goals as goal
 
 pub returns : goal.returns
