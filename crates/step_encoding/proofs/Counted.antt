@@ -1,9 +1,8 @@
-use Rattle.std.proofs.Common.{arith, ◌≡◌, ℕ, ◌+◌, ◌*◌, ◌<◌, ◌≤◌, List, [], ◌∷◌, ◌++◌, map, length, refl, sym, ap, ◌∙◌, subst}
+use Rattle.std.proofs.Common.{◌≡◌, ℕ, ◌+◌, ◌*◌, ◌≤◌, List, [], ◌∷◌, ◌++◌, map, length, refl, sym, ap, ◌∙◌, subst}
 use Rattle.gt_core.specs.Literal.{range}
 use Rattle.gt_core.specs.Lawful.{conditional_in}
-use Rattle.gt_core.specs.Layout.{Layout, variables}
 use Rattle.action_order.proofs.Lists.{range_more}
-use Rattle.step_clauses.specs.Variables.{layout_of, chain_variables_in, chain_places}
+use Rattle.step_clauses.specs.Variables.{chain_variables_in, chain_places}
 use Rattle.step_clauses.specs.Coded.{literals_in, formula_of}
 use Rattle.step_clauses.specs.Moved.{one_step, one_time}
 use Rattle.step_clauses.proofs.SizeLaw.{size_law}

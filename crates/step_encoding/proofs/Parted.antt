@@ -1,4 +1,4 @@
-use Rattle.std.proofs.Common.{arith, ◌≡◌, ℕ, ◌+◌, ◌*◌, ◌<◌, ◌≤◌, List, [], ◌∷◌, ◌++◌, map, refl, sym, ap, ◌∙◌, if◌then◌else◌, inl, inr}
+use Rattle.std.proofs.Common.{arith, ◌≡◌, ℕ, ◌+◌, ◌*◌, List, [], ◌∷◌, ◌++◌, map, refl, sym, ap, ◌∙◌, if◌then◌else◌, inl, inr}
 use Rattle.std.specs.List.{flat_map}
 use Rattle.gt_core.specs.Literal.{range}
 use Rattle.gt_core.specs.Task.{Task}
@@ -8,7 +8,7 @@ use Rattle.gt_core.proofs.Literals.{below_range}
 use Rattle.clause_base.specs.Formula.{Cnf}
 use Rattle.step_clauses.specs.Clause.{code}
 use Rattle.step_clauses.specs.Variables.{layout_of}
-use Rattle.step_clauses.specs.Formula.{literal_over, initial_clauses, goal_clauses, step_clauses, known_clauses, clauses_of_horizon}
+use Rattle.step_clauses.specs.Formula.{literal_over, initial_clauses, goal_clauses, step_clauses, known_clauses}
 use Rattle.step_clauses.specs.Coded.{coded, formula_of}
 use Rattle.step_clauses.specs.Moved.{one_step, one_time}
 use Rattle.step_laws.specs.Form.{Ordered, IsOrdered}

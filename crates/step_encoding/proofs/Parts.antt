@@ -1,16 +1,16 @@
-use Rattle.std.proofs.Common.{arith, ◌≡◌, ◌==◌, ℕ, zero, suc, ◌+◌, ◌-◌, ◌*◌, ◌/◌, ◌%◌, ◌<◌, ◌≤◌, List, [], ◌∷◌, ◌++◌, map, length, Bool, true, false, refl, sym, ap, ◌∙◌, if◌then◌else◌}
+use Rattle.std.proofs.Common.{arith, ◌≡◌, ℕ, zero, suc, ◌+◌, ◌*◌, ◌/◌, ◌<◌, ◌≤◌, List, [], ◌∷◌, ◌++◌, map, length, Bool, true, false, refl, sym, ap, ◌∙◌, if◌then◌else◌}
 use Rattle.std.specs.List.{flat_map}
 use Rattle.std.proofs.lemmas.Nat.{row_fits}
 use Rattle.gt_core.specs.Literal.{range, range_from}
 use Rattle.gt_core.specs.Task.{Task, initial_state}
-use Rattle.gt_core.specs.Layout.{Layout, width, fact_at, variables}
+use Rattle.gt_core.specs.Layout.{Layout, fact_at, variables}
 use Rattle.std.specs.Prelude.{slice_index_or}
 use Rattle.gt_core.specs.Lawful.{is_task}
 use Rattle.gt_core.proofs.Basics.{each_at}
 use Rattle.gt_core.proofs.Within.{literals_within, lawful, among_at}
 use Rattle.clause_base.specs.Clause.{IsClause}
 use Rattle.clause_base.specs.Formula.{Cnf}
-use Rattle.step_clauses.specs.Clause.{Literal, Is, Not, code}
+use Rattle.step_clauses.specs.Clause.{Is, Not, code}
 use Rattle.step_clauses.specs.Formula.{literal_over, initial_clauses, goal_clauses}
 use Rattle.step_clauses.specs.Coded.{coded}
 use Rattle.step_clauses.proofs.CodedLaw.{coded-append}

@@ -1,4 +1,4 @@
-use Rattle.std.proofs.Common.{arith, ◌≡◌, ◌==◌, ℕ, zero, suc, ◌+◌, ◌-◌, ◌*◌, ◌/◌, ◌%◌, ◌<◌, ◌≤◌, List, [], ◌∷◌, ◌++◌, map, length, drop, get_or, Bool, true, false, refl, sym, ap, ◌∙◌, subst, if◌then◌else◌, All}
+use Rattle.std.proofs.Common.{arith, ◌≡◌, ℕ, zero, suc, ◌+◌, ◌*◌, ◌/◌, ◌<◌, ◌≤◌, List, [], ◌∷◌, ◌++◌, map, length, drop, get_or, Bool, true, false, refl, sym, ap, ◌∙◌, subst, if◌then◌else◌, All}
 use Rattle.std.specs.Prelude.{nat_le, nat_lt}
 use Rattle.std.specs.List.{filter, flat_map, AllByRecursion}
 use Rattle.std.proofs.lemmas.List.{drop_more}
@@ -9,14 +9,13 @@ use Rattle.gt_core.specs.Task.{Task}
 use Rattle.gt_core.specs.Lawful.{are_rising, conditional_in, is_task}
 use Rattle.gt_core.specs.Layout.{Layout, width, variables}
 use Rattle.gt_core.specs.Published.{order_of}
-use Rattle.gt_core.proofs.Basics.{Among, and_split, each_from}
+use Rattle.gt_core.proofs.Basics.{and_split, each_from}
 use Rattle.gt_core.proofs.Within.{lawful}
 use Rattle.clause_base.specs.Clause.{HasVariablesBelow}
-use Rattle.clause_base.specs.Formula.{Cnf}
 use Rattle.step_clauses.specs.Clause.{Literal}
 use Rattle.step_clauses.specs.Variables.{layout_of, chain_variables_in, chain_places}
-use Rattle.step_clauses.specs.Formula.{step_clauses, known_clauses, initial_clauses, goal_clauses, clauses_of_horizon}
-use Rattle.step_clauses.specs.Coded.{coded, literals_in, formula_of, size_of}
+use Rattle.step_clauses.specs.Formula.{step_clauses, known_clauses, initial_clauses, goal_clauses}
+use Rattle.step_clauses.specs.Coded.{coded, literals_in, formula_of}
 use Rattle.step_clauses.specs.Moved.{moved_code, one_step, one_time}
 use Rattle.step_clauses.proofs.CodedLaw.{coded-append}
 use Rattle.step_clauses.proofs.InRange.{IsInRange}

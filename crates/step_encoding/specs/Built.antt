@@ -1,4 +1,4 @@
-use Rattle.std.specs.Prelude.{◌≡◌, ℕ, ◌≤◌, List, length}
+use Rattle.std.specs.Prelude.{◌≡◌, ℕ, ◌≤◌, List}
 use Rattle.gt_core.specs.Lawful.{conditional_in}
 use Rattle.step_clauses.specs.Variables.{chain_variables_in, chain_places}
 use Rattle.step_clauses.specs.Coded.{literals_in}

@@ -1,6 +1,6 @@
 //! The clauses of a formula at its first and its last time.
 
-ghost use Rattle.std.specs.Prelude.{◌≡◌, ℕ, ◌/◌, ◌≤◌, ◌<◌, [], ◌∷◌, map, if◌then◌else◌, OnOk};
+ghost use Rattle.std.specs.Prelude.{◌≡◌, ◌/◌, ◌≤◌, ◌<◌, [], ◌∷◌, map, if◌then◌else◌, OnOk};
 ghost use Rattle.gt_core.specs.Task.{initial_state};
 ghost use Rattle.gt_core.specs.Layout.{fact_at, variables};
 ghost use Rattle.step_clauses.specs.Clause.{Is, Not, code};

@@ -1,11 +1,10 @@
 //! The encoding of exists-steps.
 
-ghost use Rattle.std.specs.Prelude.{◌≡◌, ℕ, ◌≤◌, ◌<◌, IfOk, length};
+ghost use Rattle.std.specs.Prelude.{◌≡◌, IfOk};
 ghost use Rattle.clause_base.specs.Formula.{assignment_of};
 ghost use Rattle.step_clauses.specs.Variables.{layout_of};
 ghost use Rattle.step_clauses.specs.Coded.{formula_of};
 ghost use Rattle.step_laws.specs.Form.{IsOrdered, IsPlanOf, steps_for};
-ghost use Rattle.step_encoding.specs.Numbers.{literals_of};
 ghost use Rattle.step_encoding.specs.Given.{numbers_of, plans_of, refutes_of};
 
 use crate::form::{FormError, StepForm};

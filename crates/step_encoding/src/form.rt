@@ -1,9 +1,8 @@
 //! What an encoding of step plans by formulas is.
 
-ghost use Rattle.std.specs.Prelude.{◌≡◌, ℕ, ◌≤◌, ◌<◌, List, Bool, IfOk, IsOk, length};
+ghost use Rattle.std.specs.Prelude.{◌≡◌, ℕ, ◌≤◌, ◌<◌, List, Bool, IfOk, IsOk};
 ghost use Rattle.gt_core.specs.Task.{Task};
-ghost use Rattle.gt_core.specs.Lawful.{conditional_in};
-ghost use Rattle.gt_core.specs.Layout.{Layout as LayoutNumbers, variables};
+ghost use Rattle.gt_core.specs.Layout.{Layout as LayoutNumbers};
 ghost use Rattle.clause_base.specs.Formula.{Cnf, IsModel, IsUnsatisfiable};
 ghost use Rattle.step_encoding.specs.Numbers.{HasNumbersOf, literals_of};
 

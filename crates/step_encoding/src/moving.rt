@@ -1,8 +1,7 @@
 //! Clauses with their variables moved.
 
-ghost use Rattle.std.specs.Prelude.{◌≡◌, ℕ, ◌+◌, ◌*◌, ◌/◌, ◌≤◌, ◌<◌, [], ◌∷◌, ◌++◌, map, OnOk, IfOk};
+ghost use Rattle.std.specs.Prelude.{◌≡◌, ◌+◌, ◌*◌, ◌/◌, ◌≤◌, ◌<◌, ◌++◌, map, OnOk, IfOk};
 ghost use Rattle.std.specs.List.{AllByRecursion};
-ghost use Rattle.clause_base.specs.Clause.{HasVariablesBelow};
 ghost use Rattle.gt_core.specs.Layout.{width};
 ghost use Rattle.step_clauses.specs.Moved.{moved_code};
 

@@ -1,6 +1,6 @@
 //! The actions that an assignment makes true.
 
-ghost use Rattle.std.specs.Prelude.{◌≡◌, ℕ, ◌<◌, ◌++◌, length, OnOk, IfOk};
+ghost use Rattle.std.specs.Prelude.{◌≡◌, ◌<◌, ◌++◌, length, OnOk, IfOk};
 ghost use Rattle.std.specs.List.{filter, AllByRecursion};
 ghost use Rattle.gt_core.specs.Layout.{action_at, variables};
 ghost use Rattle.gt_core.specs.Published.{order_of};

@@ -1,9 +1,8 @@
 //! The known clauses at one time.
 
-ghost use Rattle.std.specs.Prelude.{◌≡◌, ◌+◌, ◌*◌, ◌/◌, ◌≤◌, ◌<◌, [], ◌∷◌, ◌++◌, length, OnOk, IfOk};
-ghost use Rattle.step_clauses.specs.Clause.{code};
+ghost use Rattle.std.specs.Prelude.{◌≡◌, ◌+◌, ◌++◌, OnOk, IfOk};
 ghost use Rattle.step_clauses.specs.Coded.{coded};
-ghost use Rattle.step_clauses.specs.Formula.{literal_over, known_clause};
+ghost use Rattle.step_clauses.specs.Formula.{known_clause};
 ghost use Rattle.step_clauses.specs.Moved.{one_time};
 
 use crate::literals::add_clause;

@@ -2,7 +2,7 @@
 
 ghost use Rattle.std.specs.Prelude.{◌≡◌, ◌/◌, ◌≤◌, ◌<◌, [], ◌++◌, OnOk};
 ghost use Rattle.std.specs.List.{cons_option};
-ghost use Rattle.gt_core.specs.Layout.{action_at, conditional_at, chain_at, fact_at};
+ghost use Rattle.gt_core.specs.Layout.{action_at, conditional_at, fact_at};
 ghost use Rattle.clause_base.specs.Clause.{clause_of};
 ghost use Rattle.step_clauses.specs.Clause.{code};
 ghost use Rattle.step_clauses.specs.Formula.{literal_over};

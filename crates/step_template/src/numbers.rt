@@ -1,6 +1,6 @@
 //! The numbers and the variables of effects.
 
-ghost use Rattle.std.specs.Prelude.{◌≡◌, ◌+◌, ◌≤◌, ◌<◌, true, count_by};
+ghost use Rattle.std.specs.Prelude.{◌≡◌, ◌≤◌, ◌<◌, true, count_by};
 ghost use Rattle.gt_core.specs.Lawful.{is_conditional, conditional_in};
 ghost use Rattle.step_clauses.specs.Variables.{variable_at};
 ghost use Rattle.step_template.specs.Rows.{row_of, number_after};

@@ -3,7 +3,7 @@
 ghost use Rattle.std.specs.Prelude.{◌≡◌, ◌≤◌, ◌<◌, length, IfOk};
 ghost use Rattle.std.specs.List.{AllByRecursion};
 ghost use Rattle.gt_core.specs.Lawful.{conditional_in};
-ghost use Rattle.step_clauses.specs.Variables.{layout_of, chain_variables_in, chain_places};
+ghost use Rattle.step_clauses.specs.Variables.{chain_variables_in, chain_places};
 ghost use Rattle.step_clauses.specs.Moved.{one_step};
 
 use crate::effects::add_effects;

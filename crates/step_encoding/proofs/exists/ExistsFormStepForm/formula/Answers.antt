@@ -1,4 +1,4 @@
-use Rattle.std.proofs.Common.{◌≡◌, ap, ◌∙◌, subst}
+use Rattle.std.proofs.Common.{ap, ◌∙◌, subst}
 use Rattle.step_clauses.specs.Moved.{one_step, one_time}
 use Rattle.step_laws.specs.Form.{Ordered, IsOrdered}
 use Rattle.step_encoding.proofs.Parted.{formula_from, steps_fit, times_fit}

@@ -1,4 +1,4 @@
-use Rattle.std.proofs.Common.{◌≡◌, ℕ, List, length, ap, ◌∙◌}
+use Rattle.std.proofs.Common.{length, ap, ◌∙◌}
 use Rattle.step_clauses.specs.Coded.{literals_in}
 use Rattle.step_laws.specs.Form.{Ordered}
 use Rattle.step_encoding.proofs.Counted.{size_from}
