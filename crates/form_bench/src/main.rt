@@ -99,7 +99,9 @@ fn number(word: Option<&String>, other: u32) -> u32 {
 }
 
 fn main(rt: HostRuntime) -> io::Result<()> {
-    let words = env::args(&rt)?.collect::<Vec<String>>(rt.alloc())?;
+    let Ok(words) = env::args(&rt)?.collect::<Vec<String>>(rt.alloc()) else {
+        return println!(rt; "no memory");
+    };
     let count = number(words.get(1), 4);
     let horizon = number(words.get(2), 3);
     let sizes = number(words.get(3), 1);

@@ -1,5 +1,7 @@
 //! A robot in rooms that stand in a circle, with a lamp in each room.
 
+ghost use Rattle.std.specs.Prelude.{◌<◌};
+
 use gt_core::act::{Act, Acts};
 use gt_core::eff::{Eff, Effs};
 use gt_core::lits::{Bits, Lits};
@@ -13,6 +15,22 @@ fn act(alloc: Global, pre: &[u32], lits: &[u32]) -> Result<Act, AllocError> {
         effects.push(Eff::new(Lits::of(Vec::new(alloc)), *lit))?;
     }
     Ok(Act::new(Lits::of(Vec::from_slice(alloc, pre)?), Effs::of(effects)))
+}
+
+/// The next room in the circle.
+fn after(room: u32, rooms: u32) -> u32
+    requires { room < rooms }
+    ensures { result < rooms }
+{
+    if room + 1 < rooms { room + 1 } else { 0 }
+}
+
+/// The room before in the circle.
+fn before(room: u32, rooms: u32) -> u32
+    requires { room < rooms }
+    ensures { result < rooms }
+{
+    if room > 0 { room - 1 } else { rooms - 1 }
 }
 
 /// The robot goes from one room to another.
@@ -39,8 +57,8 @@ pub(crate) fn rooms(alloc: Global, rooms: u32) -> Result<Option<Task>, AllocErro
     let mut acts = Vec::new(alloc);
     for room in 0..rooms {
         let lamp = rooms + room;
-        acts.push(go(alloc, room, (room + 1) % rooms)?)?;
-        acts.push(go(alloc, room, (room + rooms - 1) % rooms)?)?;
+        acts.push(go(alloc, room, after(room, rooms))?)?;
+        acts.push(go(alloc, room, before(room, rooms))?)?;
         acts.push(act(alloc, &[2 * room, 2 * lamp + 1], &[2 * lamp])?)?;
         acts.push(act(alloc, &[2 * room, 2 * lamp], &[2 * lamp + 1])?)?;
         goal.push(2 * lamp)?;
