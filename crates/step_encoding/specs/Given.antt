@@ -1,5 +1,4 @@
 use Rattle.std.specs.Prelude.{ℕ, List, Bool, refl}
-use Rattle.gt_core.specs.Layout.{variables}
 use Rattle.clause_base.specs.Formula.{IsModel, IsUnsatisfiable, assignment_of}
 use Rattle.step_clauses.specs.Variables.{layout_of}
 use Rattle.step_clauses.specs.Coded.{formula_of}
