@@ -6,4 +6,3 @@ pub mod Tupled
 pub mod Put
 pub mod Leaving
 pub mod Assembled
-pub mod TwoActionsTask
