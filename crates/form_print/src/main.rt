@@ -111,11 +111,7 @@ fn print_horizon(
 }
 
 /// Prints what was asked of a form.
-fn print_form(
-    rt: &(impl Print + AllocGlobal),
-    form: &ExistsForm,
-    asked: Asked,
-) -> io::Result<()> {
+fn print_form(rt: &(impl Print + AllocGlobal), form: &ExistsForm, asked: Asked) -> io::Result<()> {
     for n in 0..4 {
         let size = form.size(n);
         println!(rt; "size {n} {size}")?;

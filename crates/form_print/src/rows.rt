@@ -12,10 +12,7 @@ fn act(alloc: Global, pre: &[u32], lits: &[u32]) -> Result<Act, AllocError> {
     for lit in lits {
         effects.push(Eff::new(Lits::of(Vec::new(alloc)), *lit))?;
     }
-    Ok(Act::new(
-        Lits::of(Vec::from_slice(alloc, pre)?),
-        Effs::of(effects),
-    ))
+    Ok(Act::new(Lits::of(Vec::from_slice(alloc, pre)?), Effs::of(effects)))
 }
 
 /// A lamp that is off and is to be on: flip turns it on where it is off.
