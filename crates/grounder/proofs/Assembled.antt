@@ -1,18 +1,17 @@
 -- What was found makes a grounded task.
-use Rattle.std.proofs.Common.{◌≡◌, ℕ, ◌≤◌, List, true, refl, ap, sym, ◌∙◌, subst, length}
+use Rattle.std.proofs.Common.{◌≡◌, List, ap, sym, ◌∙◌, subst}
 use Rattle.std.specs.Prelude.{not}
 use Rattle.std.specs.List.{filter}
 use Rattle.gt_core.specs.Task.{Task}
-use Rattle.gt_core.specs.Lawful.{is_task, conditional_in}
 use Rattle.pd_model.specs.State.{is_in}
 use Rattle.pd_model.specs.declared.atoms.Atom.{Atom}
 use Rattle.pd_model.specs.declared.calls.Call.{Call}
 use Rattle.pd_model.specs.declared.parts.Parts.{Parts}
 use Rattle.grounding.specs.Sorted.{atom_less, call_less, IsSorted}
-use Rattle.grounding.specs.Grounded.{Grounded, IsGrounded}
+use Rattle.grounding.specs.Grounded.{IsGrounded}
 use Rattle.grounding.specs.Simplify.{task_of}
 use Rattle.grounding.specs.Found.{IsLeastPair, is_constant, facts_of, actions_of, grounded_by, grounded_from}
-use Rattle.grounding.specs.Laws.{LeastIsGrounded, GroundedIsTask}
+use Rattle.grounding.specs.Laws.{LeastIsGrounded}
 use Rattle.grounder.specs.Putting.{HasExactly}
 
 pub grounded_is : LeastIsGrounded → (p : Parts) (reached : List Atom) (kept : List Call) → IsLeastPair p reached kept → IsSorted atom_less reached → IsSorted call_less kept

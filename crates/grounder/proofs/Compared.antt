@@ -1,6 +1,6 @@
 -- What `cmp` answers at numbers, lists, atoms and effects is the order of the definitions, and to put a key into a
 -- set is to put it into a sorted list.
-use Rattle.std.proofs.Common.{arith, ◌≡◌, ℕ, ◌==◌, List, [], ◌∷◌, Bool, true, false, cond, ◌&&◌, ◌||◌, refl, ap, sym, ◌∙◌, map}
+use Rattle.std.proofs.Common.{arith, ◌≡◌, ℕ, ◌==◌, List, [], ◌∷◌, Bool, true, false, cond, ◌&&◌, ◌||◌, refl, ap, sym, ◌∙◌}
 use Rattle.std.specs.Prelude.{nat_lt}
 use Rattle.std.specs.declared.cmp.Ordering.{Ordering}
 use Rattle.std.specs.declared.cmp.Ordering.TheVariants.{Less, Equal, Greater}
@@ -88,10 +88,10 @@ effect_put [] k = refl
 effect_put (l ∷ keys) k =
     mapped (key_cmp k l)
     ∙ place_step (effect_at k ∷ effect_at l ∷ effects_at keys) (effect_at l ∷ effects_at keys) (effect_at l ∷ effects_at (insert_key key_cmp keys k)) (effect_at l ∷ insert_in effect_less (effect_at k) (effects_at keys))
-      (key_cmp k l) (effect_less (effect_at k) (effect_at l)) (effect_less (effect_at l) (effect_at k))
-      (first_lt k.literal l.literal _ _ (lists_lt k.condition.items l.condition.items))
-      (first_gt k.literal l.literal _ _ (lists_gt k.condition.items l.condition.items))
-      (ap (λ (es : List Effect). effect_at l ∷ es) (effect_put keys k))
+    (key_cmp k l) (effect_less (effect_at k) (effect_at l)) (effect_less (effect_at l) (effect_at k))
+    (first_lt k.literal l.literal _ _ (lists_lt k.condition.items l.condition.items))
+    (first_gt k.literal l.literal _ _ (lists_gt k.condition.items l.condition.items))
+    (ap (λ (es : List Effect). effect_at l ∷ es) (effect_put keys k))
   where
     mapped : (o : Ordering) → effects_at (match_ordering o (k ∷ l ∷ keys) (l ∷ keys) (l ∷ insert_key key_cmp keys k))
         ≡ match_ordering o (effect_at k ∷ effect_at l ∷ effects_at keys) (effect_at l ∷ effects_at keys) (effect_at l ∷ effects_at (insert_key key_cmp keys k))

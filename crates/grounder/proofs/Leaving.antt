@@ -91,7 +91,7 @@ left_change p reached objects e b are i l all all_is old mid new so_far one =
     let within : i < size (map (fitting p) e.over) = omega (arith, l, are.count, ap size are.domains) in
     let below : i < length (changes_of p objects e) = omega (arith, within, count_is p objects e) in
     let this : change_of e all ≡ get_or (changes_of p objects e) i (change_of e all) =
-        sym (change_at p objects e i (change_of e all) within ∙ ap (change_of e) ((λ j. objects ++ tuple_at (sym are.domains j) i) ∙ sym all_is)) in
+    sym (change_at p objects e i (change_of e all) within ∙ ap (change_of e) ((λ j. objects ++ tuple_at (sym are.domains j) i) ∙ sym all_is)) in
     left_more (deletes reached) (changes_of p objects e) i (change_of e all) old mid new below this so_far one
 
 pub left_changes : (p : Parts) (reached : List Atom) (objects : List ℕ) (e : Effect) (b : Bindings) → AreBindings p e.over b → (i : ℕ) → b.count ≤ i → (old new : List Atom)

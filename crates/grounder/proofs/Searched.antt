@@ -1,5 +1,5 @@
 -- A binary search over sorted atoms.
-use Rattle.std.proofs.Common.{arith, rules, ◌≡◌, ℕ, ◌+◌, ◌<◌, ◌≤◌, zero, suc, List, [], ◌∷◌, Bool, true, false, cond, length, get_or, refl, ap, sym, ◌∙◌, subst, add-one, Some, None, ◌⊎◌, inl, inr}
+use Rattle.std.proofs.Common.{arith, rules, ◌≡◌, ℕ, ◌+◌, ◌<◌, zero, suc, List, [], ◌∷◌, Bool, true, cond, length, get_or, refl, ap, sym, ◌∙◌, subst, add-one, Some, None, inl, inr}
 use Rattle.std.specs.Prelude.{slice_get}
 use Rattle.std.specs.declared.cmp.Ordering.{Ordering}
 use Rattle.std.specs.declared.cmp.Ordering.TheVariants.{Less, Equal, Greater}
@@ -8,10 +8,10 @@ use Rattle.std.specs.Cmp.{IsTotalOrder}
 use Rattle.std.specs.Cmp.Rules.{comparing}
 use Rattle.std.specs.List.{HoldsAt}
 use Rattle.std.specs.List.Sorted.{IsSortedBy, IsNonDecreasingBy, IsPartitionPoint}
-use Rattle.std.proofs.lemmas.Bool.{cases_Bool, cases_lt, both_ways, false_from_ne_true}
+use Rattle.std.proofs.lemmas.Bool.{cases_lt, both_ways, false_from_ne_true}
 use Rattle.std.proofs.lemmas.List.Sorted.{searchable_from_sorted}
 use Rattle.pd_model.specs.declared.atoms.Atom.{Atom}
-use Rattle.pd_model.specs.State.{is_in, same_atom}
+use Rattle.pd_model.specs.State.{is_in}
 use Rattle.pd_model.proofs.Equality.{atom_cmp, tied, same_is, same_refl}
 use Rattle.grounding.specs.Sorted.{atom_less, IsSorted}
 use Rattle.grounding.specs.Simplify.{place}

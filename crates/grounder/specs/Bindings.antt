@@ -1,6 +1,6 @@
 -- The tuples of objects for variables, by number.
 use Rattle.std.specs.Prelude.{ℕ, ◌≡◌, ◌*◌, ◌/◌, ◌%◌, List, [], ◌∷◌, length, map, slice_index}
-use Rattle.pd_model.specs.Fits.{fitting, tuples}
+use Rattle.pd_model.specs.Fits.{fitting}
 use Rattle.pd_model.specs.declared.parts.Parts.{Parts}
 use Rattle.grounder.specs.declared.bindings.Bindings.{Bindings}
 

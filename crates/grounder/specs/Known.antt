@@ -1,5 +1,5 @@
 -- What is known while literals are simplified.
-use Rattle.std.specs.Prelude.{ℕ, ◌≤◌, length}
+use Rattle.std.specs.Prelude.{◌≤◌, length}
 use Rattle.pd_model.specs.State.{SameState}
 use Rattle.pd_model.specs.declared.parts.Parts.{Parts}
 use Rattle.grounding.specs.Sorted.{atom_less, IsSorted}

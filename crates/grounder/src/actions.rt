@@ -37,7 +37,13 @@ fn is_able(alloc: Global, p: &Pddl, known: &Known, call: &Call) -> Result<bool, 
     let Some(schema) = p.schemas().as_slice().get(call.schema as usize) else {
         return Ok(true);
     };
-    all_may_be_true(alloc, p, known, call.objects.as_slice(), schema.pre.as_slice())
+    all_may_be_true(
+        alloc,
+        p,
+        known,
+        call.objects.as_slice(),
+        schema.pre.as_slice(),
+    )
 }
 
 /// The actions among the kept calls, in order.

@@ -1,5 +1,5 @@
 //! The tuples of objects for the variables of a `forall`, by number. None is listed.
-ghost use Rattle.std.specs.Prelude.{◌≡◌, ◌<◌, ◌++◌, ◌^◌, IfOk, OnOk, length, map};
+ghost use Rattle.std.specs.Prelude.{◌≡◌, ◌<◌, ◌++◌, IfOk, OnOk, map};
 ghost use Rattle.pd_model.specs.Fits.{fitting};
 ghost use Rattle.grounding.specs.Tuples.{told};
 ghost use Rattle.grounder.specs.Bindings.{size, tuple_at, AreBindings};

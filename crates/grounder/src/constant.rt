@@ -4,7 +4,7 @@ ghost use Rattle.std.specs.List.{list_any, filter};
 ghost use Rattle.pd_model.specs.State.{is_in};
 ghost use Rattle.grounding.specs.Instance.{change_of, changes_of, instance_of};
 ghost use Rattle.grounding.specs.Sorted.{IsSorted, atom_less};
-ghost use Rattle.grounding.specs.Found.{deletes, is_deleted, is_constant, facts_of};
+ghost use Rattle.grounding.specs.Found.{deletes, is_constant};
 ghost use Rattle.grounder.specs.Putting.{LeavesOut, HasExactly};
 
 use crate::bindings::bindings_of;

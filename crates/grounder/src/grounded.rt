@@ -16,11 +16,11 @@ use crate::known::Known;
 use crate::literals::any_never;
 use crate::simplify::simplified;
 use crate::tuples::count_tuples;
+use grounding::laws::laws;
 use gt_core::act::{Act, Acts};
 use gt_core::eff::Effs;
 use gt_core::lits::{Bits, Lits};
 use gt_core::task::Task;
-use grounding::laws::laws;
 use pd_model::{Atom, Atoms, Call, Calls, Memory, Pddl, State};
 use reachability::reach;
 use std::alloc::Global;
@@ -74,10 +74,7 @@ fn action_of(alloc: Global, p: &Pddl, known: &Known, call: &Call) -> Result<Act,
     ensures { IfOk result (λ act. act ≡ action_of p.now known.now.facts (instance_of p.now call.now)) }
 {
     let Some(schema) = p.schemas().as_slice().get(call.schema as usize) else {
-        return Ok(Act::new(
-            Lits::of(Vec::new(alloc)),
-            Effs::of(Vec::new(alloc)),
-        ));
+        return Ok(Act::new(Lits::of(Vec::new(alloc)), Effs::of(Vec::new(alloc))));
     };
     let objects = call.objects.as_slice();
     let pre = simplified(alloc, p, known, objects, schema.pre.as_slice())?;

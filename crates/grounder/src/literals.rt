@@ -20,12 +20,7 @@ fn agrees(objects: &[u32], left: Term, right: Term, want: bool) -> bool
 }
 
 /// Whether the literal may hold, as far as the reachable atoms say.
-fn may_hold(
-    alloc: Global,
-    reached: &[Atom],
-    objects: &[u32],
-    cond: &Cond,
-) -> Result<bool, Memory>
+fn may_hold(alloc: Global, reached: &[Atom], objects: &[u32], cond: &Cond) -> Result<bool, Memory>
     requires { IsSorted atom_less reached.now }
     ensures { IfOk result (λ answer. answer ≡ may_hold reached.now (literal_of objects.now cond.now)) }
 {

@@ -1,4 +1,4 @@
-use Rattle.std.proofs.Common.{arith, ◌≡◌, ◌<◌, ◌||◌, ◌*◌, ◌/◌, ℕ, List, [], Bool, length, true, false, refl, sym, ap, ◌∙◌, take}
+use Rattle.std.proofs.Common.{arith, ◌≡◌, ◌<◌, ◌||◌, ◌/◌, ℕ, List, [], Bool, length, true, false, refl, sym, ap, ◌∙◌, take}
 use Rattle.std.proofs.lemmas.List.{get_or_read}
 use Rattle.gt_core.specs.Literal.{opposite, is_in}
 use Rattle.action_order.specs.Walk.{item, targets_of}

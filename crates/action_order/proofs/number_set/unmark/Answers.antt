@@ -1,4 +1,4 @@
-use Rattle.std.proofs.Common.{arith, ◌≡◌, ◌<◌, length, ◌∙◌}
+use Rattle.std.proofs.Common.{arith, ◌<◌, length, ◌∙◌}
 use Rattle.std.proofs.lemmas.List.{length-set}
 use Rattle.action_order.specs.Walk.{item}
 use Rattle.action_order.proofs.Lists.{in_at}

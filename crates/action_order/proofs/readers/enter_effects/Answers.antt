@@ -1,4 +1,4 @@
-use Rattle.std.proofs.Common.{◌≡◌, ◌+◌, take, List, ℕ, sym, ap, ◌∙◌, subst}
+use Rattle.std.proofs.Common.{◌+◌, take, List, ℕ, subst}
 use Rattle.gt_core.specs.Task.{Effect}
 use Rattle.action_order.specs.Edge.{asked_in}
 use Rattle.action_order.specs.Readers.{IsEntered, has_fact}

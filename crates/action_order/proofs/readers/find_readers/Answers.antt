@@ -1,7 +1,7 @@
-use Rattle.std.proofs.Common.{◌≡◌, ◌*◌, ℕ, List, length, ap, ◌∙◌, subst}
+use Rattle.std.proofs.Common.{◌*◌, subst}
 use Rattle.gt_core.specs.Literal.{is_in}
-use Rattle.gt_core.specs.Task.{Effect, Action}
-use Rattle.action_order.specs.Edge.{act_at, asked_in}
+use Rattle.gt_core.specs.Task.{Action}
+use Rattle.action_order.specs.Edge.{asked_in}
 use Rattle.action_order.specs.Readers.{IsEntered, needs, asks_of}
 use Rattle.action_order.proofs.ReadersLaw.{no_readers, readers_more, act_is, within_at}
 use Rattle.action_order.proofs.readers.find_readers.Goals as goal

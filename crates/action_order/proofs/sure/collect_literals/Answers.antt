@@ -1,4 +1,4 @@
-use Rattle.std.proofs.Common.{arith, ◌≡◌, ◌==◌, ◌<◌, ◌||◌, ℕ, Bool, sym, ap, ◌∙◌, subst, take}
+use Rattle.std.proofs.Common.{arith, ◌==◌, ◌<◌, ◌||◌, ℕ, Bool, sym, ap, ◌∙◌, subst, take}
 use Rattle.gt_core.specs.Task.{Effect}
 use Rattle.action_order.specs.Edge.{may_in}
 use Rattle.action_order.proofs.Lists.{each_number}

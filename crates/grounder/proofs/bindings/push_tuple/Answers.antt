@@ -1,4 +1,4 @@
-use Rattle.std.proofs.Common.{arith, ◌≡◌, ◌<◌, ◌/◌, ◌%◌, ℕ, List, length, get_or}
+use Rattle.std.proofs.Common.{◌/◌, length, get_or}
 use Rattle.grounder.proofs.Tupled.{pushed_at, push_more}
 use Rattle.grounder.proofs.bindings.push_tuple.Goals as goal
 

@@ -1,4 +1,4 @@
-use Rattle.std.proofs.Common.{◌∙◌, sym}
+use Rattle.std.proofs.Common.{◌∙◌}
 use Rattle.grounder.proofs.Leaving.{left_change, left_changes}
 use Rattle.grounder.proofs.constant.leave_out_instances.Goals as goal
 

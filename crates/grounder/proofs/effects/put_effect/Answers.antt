@@ -1,6 +1,5 @@
 use Rattle.std.proofs.Common.{arith, ◌∙◌, sym, ap}
 use Rattle.grounding.specs.Instance.{change_of}
-use Rattle.grounding.specs.Simplify.{place, fact_literal}
 use Rattle.grounder.specs.Putting.{effects_at}
 use Rattle.grounder.proofs.Placed.{placed}
 use Rattle.grounder.proofs.Put.{left_put, literal_is}
@@ -20,4 +19,4 @@ returns c =
     let condition = rw c.as_slice-conds.ensures at (c.into_vec-condition.ensures ∙ c.in_ok-simplified.ensures) in
     ap effects_at c.in_ok-insert.ensures.keys
     ∙ left_put c.args.p.now facts change c.args.into.now.keys (record { literal = c.fact_literal-literal.result; condition = c.into_vec-condition.result })
-      at.has never condition (c.fact_literal-literal.ensures ∙ literal_is facts change.atom c.in-Some.place c.args.effect.now.adds at.at)
+    at.has never condition (c.fact_literal-literal.ensures ∙ literal_is facts change.atom c.in-Some.place c.args.effect.now.adds at.at)

@@ -1,4 +1,4 @@
-use Rattle.std.proofs.Common.{arith, ◌-◌, ◌∙◌, sym, List, [], ap}
+use Rattle.std.proofs.Common.{arith, ◌-◌, ◌∙◌, sym, List, ap}
 use Rattle.grounding.specs.Instance.{Change}
 use Rattle.grounder.specs.Putting.{effects_at, put_changes}
 use Rattle.grounder.proofs.Put.{none_put, change_put}

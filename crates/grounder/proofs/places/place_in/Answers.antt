@@ -1,4 +1,3 @@
-use Rattle.std.proofs.Common.{sym, ◌∙◌}
 use Rattle.grounder.proofs.Searched.{found, not_found}
 use Rattle.grounder.proofs.places.place_in.Goals as goal
 

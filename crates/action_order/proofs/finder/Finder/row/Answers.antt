@@ -1,4 +1,4 @@
-use Rattle.std.proofs.Common.{◌≡◌, ◌<◌, ◌&&◌, ◌==◌, ℕ, List, Bool, not, length, ap, ◌∙◌, subst}
+use Rattle.std.proofs.Common.{◌<◌, ◌&&◌, ◌==◌, ℕ, List, Bool, not, ap, ◌∙◌, subst}
 use Rattle.std.specs.List.{AllByRecursion}
 use Rattle.gt_core.specs.Literal.{is_in}
 use Rattle.action_order.specs.Walk.{targets_of}

@@ -1,0 +1,189 @@
+//! Prints formulas: those of two worked tasks, and those of twenty small tasks that are drawn from numbers. The file
+//! `stdout` is not this program's: `bench/list-formulas` wrote it, from the definition of the clauses alone.
+#![tactic(auto)]
+
+ghost use Rattle.std.specs.Prelude.{◌≡◌, ◌≤◌, []};
+ghost use Rattle.gt_core.specs.Published.{IsPublished};
+
+mod dice;
+mod model;
+mod rows;
+mod tasks;
+
+use crate::dice::Dice;
+use crate::model::is_model;
+use action_order::order::Order;
+use action_order::publish::publish;
+use clause_base::clause::Clause;
+use clause_base::formula::Formula;
+use gt_core::pairs::Pairs;
+use gt_core::task::Task;
+use std::alloc::AllocError;
+use std::io;
+use step_encoding::exists::ExistsForm;
+use step_encoding::form::StepForm;
+
+/// How many tasks are drawn.
+const TASKS: u32 = 20;
+
+/// What is printed of a task: the formula of a horizon, and the steps of an assignment where it satisfies it.
+#[derive(Clone, Copy, Debug)]
+struct Asked<'a> {
+    horizon: u32,
+    values: &'a [bool],
+}
+
+/// Prints numbers, a blank before each.
+fn print_numbers(rt: &impl Print, numbers: &[u32]) -> io::Result<()> {
+    for number in numbers {
+        print!(rt; " {number}")?;
+    }
+    Ok(())
+}
+
+/// Prints the components of an order.
+fn print_order(rt: &impl Print, order: &Order) -> io::Result<()> {
+    print!(rt; "order")?;
+    for group in order.groups() {
+        print!(rt; " |")?;
+        print_numbers(rt, group.as_slice())?;
+    }
+    println!(rt; "")
+}
+
+/// Prints the codes of a clause.
+fn print_clause(rt: &impl Print, clause: &Clause) -> io::Result<()> {
+    print!(rt; "clause")?;
+    for lit in clause.as_slice() {
+        let code = lit.0;
+        print!(rt; " {code}")?;
+    }
+    println!(rt; "")
+}
+
+/// Prints a formula.
+fn print_formula(rt: &impl Print, formula: &Formula) -> io::Result<()> {
+    let (name, variables) = (formula.name(), formula.variables());
+    println!(rt; "formula {name} variables {variables}")?;
+    for clause in formula.clauses() {
+        print_clause(rt, clause)?;
+    }
+    Ok(())
+}
+
+/// Prints how many variables a horizon has of each kind.
+fn print_layout(rt: &impl Print, form: &ExistsForm, n: u32) -> io::Result<()>
+    requires { n ≤ 255 }
+{
+    if form.size(n) > 4_000_000 {
+        return println!(rt; "too large");
+    }
+    let z = form.layout(n);
+    let (actions, conditional, chains, facts) = (z.actions, z.conditional, z.chains, z.facts);
+    println!(rt; "layout {n} {actions} {conditional} {chains} {facts}")
+}
+
+/// Prints a horizon's formula, and the steps of an assignment where it satisfies it.
+fn print_horizon(
+    rt: &(impl Print + AllocGlobal),
+    form: &ExistsForm,
+    n: u32,
+    values: &[bool],
+) -> io::Result<()>
+    requires { n ≤ 255 }
+{
+    let Ok(formula) = form.formula(rt.alloc(), n) else {
+        return println!(rt; "no formula");
+    };
+    print_formula(rt, &formula)?;
+    if !is_model(&formula, values) {
+        return println!(rt; "no model");
+    }
+    let Ok(steps) = form.steps_of(rt.alloc(), n, values) else {
+        return println!(rt; "no memory");
+    };
+    for step in steps.as_slice() {
+        print!(rt; "step")?;
+        print_numbers(rt, step.as_slice())?;
+        println!(rt; "")?;
+    }
+    Ok(())
+}
+
+/// Prints what was asked of a form.
+fn print_form(rt: &(impl Print + AllocGlobal), form: &ExistsForm, asked: Asked) -> io::Result<()> {
+    for n in 0..4 {
+        let size = form.size(n);
+        println!(rt; "size {n} {size}")?;
+    }
+    if asked.horizon > 255 {
+        return println!(rt; "a horizon is at most 255");
+    }
+    print_layout(rt, form, asked.horizon)?;
+    print_horizon(rt, form, asked.horizon, asked.values)
+}
+
+/// Prints a task's order and formula, under no known clause.
+fn print_ordered(
+    rt: &(impl Print + AllocGlobal),
+    task: &Task,
+    pairs: &Pairs,
+    order: &Order,
+    asked: Asked,
+) -> io::Result<()>
+    requires facts { pairs.now.facts ≡ task.now.facts }
+    requires none { pairs.now.clauses ≡ [] }
+    requires published { IsPublished task.now pairs.now.clauses order.now }
+{
+    print_order(rt, order)?;
+    match ExistsForm::new(rt.alloc(), task, pairs, order) {
+        Ok(form) => print_form(rt, &form, asked),
+        Err(_) => println!(rt; "no memory"),
+    }
+}
+
+/// Prints a task's published order and its formula.
+fn print_task(rt: &(impl Print + AllocGlobal), task: &Task, asked: Asked) -> io::Result<()> {
+    let Ok(pairs) = Pairs::empty(rt.alloc(), task.facts()) else {
+        return println!(rt; "no memory");
+    };
+    let Ok(order) = publish(rt.alloc(), task, &pairs) else {
+        return println!(rt; "no memory");
+    };
+    print_ordered(rt, task, &pairs, &order, asked)
+}
+
+/// Prints a task that was made, or why there is none.
+fn print_made(
+    rt: &(impl Print + AllocGlobal),
+    made: &Result<Option<Task>, AllocError>,
+    asked: Asked,
+) -> io::Result<()> {
+    match made {
+        Ok(Some(task)) => print_task(rt, task, asked),
+        Ok(None) => println!(rt; "no task"),
+        Err(_) => println!(rt; "no memory"),
+    }
+}
+
+fn main(rt: HostRuntime) -> io::Result<()> {
+    println!(rt; "lamp")?;
+    let flipped = [true, false, true];
+    let one_step = Asked {
+        horizon: 1,
+        values: &flipped,
+    };
+    print_made(&rt, &rows::lamp(rt.alloc()), one_step)?;
+    println!(rt; "rivals")?;
+    print_made(&rt, &rows::rivals(rt.alloc()), one_step)?;
+    for number in 0..TASKS {
+        println!(rt; "task {number}")?;
+        let mut dice = Dice::new(number);
+        let two_steps = Asked {
+            horizon: 2,
+            values: &[],
+        };
+        print_made(&rt, &tasks::task(rt.alloc(), &mut dice), two_steps)?;
+    }
+    Ok(())
+}

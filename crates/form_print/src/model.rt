@@ -1,0 +1,34 @@
+//! Whether an assignment satisfies a formula.
+
+ghost use Rattle.std.specs.Prelude.{◌≡◌, true};
+ghost use Rattle.clause_base.specs.Clause.{clause_value};
+ghost use Rattle.clause_base.specs.Literal.{literal_value};
+ghost use Rattle.clause_base.specs.Formula.{IsModel, assignment_of};
+
+use clause_base::clause::Clause;
+use clause_base::formula::Formula;
+use clause_base::literal::Lit;
+
+/// Whether an assignment makes a literal true.
+fn literal_value(values: &[bool], lit: Lit) -> bool
+    ensures { result ≡ literal_value (assignment_of values.now) lit }
+{
+    let place = lit.variable() as usize;
+    let value = place < values.len() && values[place];
+    if lit.is_positive() { value } else { !value }
+}
+
+/// Whether an assignment makes a clause true.
+fn clause_value(values: &[bool], clause: &Clause) -> bool
+    ensures { result ≡ clause_value (assignment_of values.now) clause.now }
+{
+    clause.as_slice().iter().any(|l| literal_value(values, *l))
+}
+
+/// Whether an assignment satisfies a formula.
+pub(crate) fn is_model(formula: &Formula, values: &[bool]) -> bool
+    ensures { result ≡ true → IsModel formula.now values.now }
+{
+    formula.variables() as usize == values.len()
+        && formula.clauses().iter().all(|c| clause_value(values, c))
+}

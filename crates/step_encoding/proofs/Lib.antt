@@ -1,0 +1,6 @@
+pub mod Movable
+pub mod Parts
+pub mod Whole
+pub mod Joined
+pub mod Parted
+pub mod Counted

@@ -1,0 +1,9 @@
+use Rattle.std.proofs.Common.{◌≡◌}
+use Rattle.std.specs.List.{flat_map}
+use Rattle.gt_core.specs.Literal.{range}
+use Rattle.step_encoding.specs.Added.{added}
+use Rattle.step_encoding.proofs.Parts.{initial_part}
+use Rattle.step_encoding.proofs.ends.add_initial.Given as goal
+
+abbrev pub invariant-loop-f : goal.invariant-loop-f
+invariant-loop-f l = l.formula ≡ added l.initial.formula (flat_map (initial_part l.layout l.task) (range l.f))

@@ -1,0 +1,4 @@
+pub mod Numbers
+pub mod Built
+pub mod Given
+pub mod Added

@@ -1,0 +1,86 @@
+//! What an encoding of step plans by formulas is.
+
+ghost use Rattle.std.specs.Prelude.{◌≡◌, ℕ, ◌≤◌, ◌<◌, List, Bool, IfOk, IsOk};
+ghost use Rattle.gt_core.specs.Task.{Task};
+ghost use Rattle.gt_core.specs.Layout.{Layout as LayoutNumbers};
+ghost use Rattle.clause_base.specs.Formula.{Cnf, IsModel, IsUnsatisfiable};
+ghost use Rattle.step_encoding.specs.Numbers.{HasNumbersOf, literals_of};
+
+use crate::steps::Steps;
+use clause_base::formula::Formula;
+use clause_base::memory::Memory;
+use gt_core::layout::Layout;
+use std::alloc::Global;
+
+/// Why there is no formula.
+#[derive(Clone, Copy, Debug, PartialEq, Eq)]
+pub enum FormError {
+    /// The formula has more than 4,000,000 literals.
+    Literals { count: u64 },
+    /// There was no memory for the formula.
+    Memory,
+}
+
+impl From<Memory> for FormError {
+    fn from(_: Memory) -> Self {
+        FormError::Memory
+    }
+}
+
+/// A way to say by formulas that a task has a plan of n steps, for each horizon n up to 255.
+pub trait StepForm {
+    /// What the form stands on is as it must be.
+    ghost is_form: { Self → Type 0 };
+
+    /// The task that this is a form of.
+    ghost task: { Self → Task };
+
+    /// The layout of the variables of a horizon.
+    ghost layout_of: { Self → ℕ → LayoutNumbers };
+
+    /// The formula of a horizon.
+    ghost formula_of: { Self → ℕ → Cnf };
+
+    /// Which lists of so many sets of actions are plans.
+    ghost is_plan: { Self → ℕ → List (List ℕ) → Type 0 };
+
+    /// The list of sets that an assignment stands for, each in the order in which it is listed.
+    ghost stands_for: { Self → ℕ → List Bool → List (List ℕ) };
+
+    /// The layout has the task's numbers of actions, conditional effects and facts, and the formula has the horizon
+    /// as its name and the layout's number of variables.
+    ghost numbers: { (form : Self) (n : ℕ) → HasNumbersOf (task form) n (layout_of form n) (formula_of form n) };
+
+    /// The list that a satisfying assignment stands for is a plan.
+    ghost plans: { (form : Self) (n : ℕ) (values : List Bool) → is_form form → IsModel (formula_of form n) values → is_plan form n (stands_for form n values) };
+
+    /// Where no assignment satisfies the formula there is no plan.
+    ghost refutes: { (form : Self) (n : ℕ) → is_form form → IsUnsatisfiable (formula_of form n).clauses → (steps : List (List ℕ)) → is_plan form n steps → ⊥ };
+
+    /// The layout of a horizon of which the formula has at most 4,000,000 literals.
+    fn layout(&self, n: u32) -> Layout
+        requires horizon { n ≤ 255 }
+        requires size { literals_of (formula_of self.now n) ≤ 4000000 }
+        ensures { result ≡ layout_of self.now n };
+
+    /// How many literals the formula of a horizon has. It takes no memory, and does not build the formula.
+    fn size(&self, n: u32) -> u64
+        requires { n ≤ 255 }
+        ensures size { result ≡ literals_of (formula_of self.now n) }
+        ensures lawful { is_form self.now };
+
+    /// The formula of a horizon. `Literals` comes exactly where it has more than 4,000,000 of them, with their count.
+    fn formula(&self, alloc: Global, n: u32) -> Result<Formula, FormError>
+        requires { n ≤ 255 }
+        ensures formula { IfOk result (λ formula. formula ≡ formula_of self.now n) }
+        ensures small { IsOk result → literals_of (formula_of self.now n) ≤ 4000000 }
+        ensures literals { (count : ℕ) → result ≡ Err (FormError.Literals count) → (4000000 < count) × (count ≡ literals_of (formula_of self.now n)) }
+        ensures memory { result ≡ Err FormError.Memory → literals_of (formula_of self.now n) ≤ 4000000 };
+
+    /// The steps that a satisfying assignment stands for.
+    fn steps_of(&self, alloc: Global, n: u32, values: &[bool]) -> Result<Steps, Memory>
+        requires horizon { n ≤ 255 }
+        requires size { literals_of (formula_of self.now n) ≤ 4000000 }
+        requires model { IsModel (formula_of self.now n) values.now }
+        ensures { IfOk result (λ steps. steps ≡ stands_for self.now n values.now) };
+}

@@ -1,0 +1,16 @@
+//! Formulas of which the satisfying assignments are step plans, and the way back from an assignment to the steps.
+//!
+//! `StepForm` is what a search over horizons needs of an encoding: the layout of the variables of a horizon, the size
+//! of its formula without building it, the formula, and the steps that a satisfying assignment stands for, with the two
+//! laws that tie formulas to plans. `ExistsForm` is the encoding of exists-steps with one published order of the
+//! actions (Rintanen, Heljanko and Niemelä 2006).
+#![tactic(auto)]
+
+mod ends;
+pub mod exists;
+pub mod form;
+mod joining;
+mod moving;
+mod sizes;
+pub mod steps;
+mod truth;

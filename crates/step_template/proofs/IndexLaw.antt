@@ -1,0 +1,77 @@
+use Rattle.std.proofs.Common.{arith, ◌≡◌, ◌==◌, ◌≢◌, ℕ, ◌+◌, ◌*◌, ◌<◌, ◌≤◌, List, [], ◌∷◌, ◌++◌, map, length, drop, get_or, set, Bool, true, false, if◌then◌else◌, count_by, refl, sym, ap, ◌∙◌}
+use Rattle.std.proofs.lemmas.List.{drop_more, drop_all, get_or-set_same, get_or-set_other}
+use Rattle.std.proofs.lemmas.Bool.Decides.{nat_tests}
+use Rattle.gt_core.specs.Task.{Effect, Action, owned, effects_from}
+use Rattle.gt_core.specs.Lawful.{is_conditional}
+use Rattle.gt_core.specs.Layout.{Layout}
+use Rattle.gt_core.proofs.Basics.{same_test}
+use Rattle.step_clauses.specs.Clause.{Is, code}
+use Rattle.step_clauses.specs.Variables.{Row, rows_from, variable_at}
+use Rattle.step_template.specs.Rows.{row_of, rows_of, number_after, made}
+use Rattle.step_template.proofs.Groups.{rest}
+use Rattle.step_template.proofs.RowLaw.{made_parts, rows_parts, rows_step}
+
+-- The index of effects by literal, as it grows.
+
+pub none_more : (xs : List ℕ) → xs ++ [] ≡ xs
+none_more [] = refl
+none_more (x ∷ xs) = ap (λ (r : List ℕ). x ∷ r) (none_more xs)
+
+made_at_one : (z : Layout) (a j l : ℕ) (e : Effect) → e.literal ≡ l → made z l (row_of a j e ∷ []) ≡ (2 * variable_at z 0 (row_of a j e)) ∷ []
+made_at_one z a j l e h = by (e.literal == l) (same_test e.literal l h)
+  where
+    by : (c : Bool) → c ≡ true → map code (map (λ r. Is (variable_at z 0 r)) (if c then row_of a j e ∷ [] else [])) ≡ (2 * variable_at z 0 (row_of a j e)) ∷ []
+    by true y = refl
+    by false y = cc
+
+made_at_none : (z : Layout) (a j l : ℕ) (e : Effect) → (e.literal == l) ≡ false → made z l (row_of a j e ∷ []) ≡ []
+made_at_none z a j l e h = by (e.literal == l) h
+  where
+    by : (c : Bool) → c ≡ false → map code (map (λ r. Is (variable_at z 0 r)) (if c then row_of a j e ∷ [] else [])) ≡ []
+    by true y = cc
+    by false y = refl
+
+-- one variable under its literal
+pub index_put : (z : Layout) (a j : ℕ) (e : Effect) (old new : List (List ℕ)) (k v : ℕ) (row : List ℕ) → e.literal < length old → k ≡ e.literal → v ≡ variable_at z 0 (row_of a j e) → row ≡ get_or old k [] ++ (2 * v) ∷ [] → new ≡ set old k row → (l : ℕ) → get_or new l [] ≡ get_or old l [] ++ made z l (row_of a j e ∷ [])
+index_put z a j e old new k v row lt is n h g l = by (e.literal == l) refl
+  where
+    by : (c : Bool) → (e.literal == l) ≡ c → get_or new l [] ≡ get_or old l [] ++ made z l (row_of a j e ∷ [])
+    by true t =
+        let s : e.literal ≡ l = grind (arith, nat_tests) in
+        let at : k < length old = omega (arith, is, lt) in
+        ap (λ (xs : List (List ℕ)). get_or xs l []) g
+        ∙ ap (λ (i : ℕ). get_or (set old k row) i []) (sym (is ∙ s))
+        ∙ get_or-set_same old k row [] at
+        ∙ h
+        ∙ ap (λ (i : ℕ). get_or old i [] ++ (2 * v) ∷ []) (is ∙ s)
+        ∙ ap (λ (u : ℕ). get_or old l [] ++ (2 * u) ∷ []) n
+        ∙ ap (λ (r : List ℕ). get_or old l [] ++ r) (sym (made_at_one z a j l e s))
+    by false t =
+        let other : l ≢ k = λ q. grind (arith, nat_tests) in
+        ap (λ (xs : List (List ℕ)). get_or xs l []) g
+        ∙ get_or-set_other old k l row [] other
+        ∙ sym (none_more (get_or old l []))
+        ∙ ap (λ (r : List ℕ). get_or old l [] ++ r) (sym (made_at_none z a j l e t))
+
+-- one more effect
+pub made_step : (z : Layout) (a l number next : ℕ) (es : List Effect) (i : ℕ) (d e : Effect) (whole before after : List ℕ) → i < length es → e ≡ get_or es i d → next ≡ number_after number e → whole ≡ before ++ made z l (rows_of a number (drop i es)) → after ≡ before ++ made z l (row_of a number e ∷ []) → whole ≡ after ++ made z l (rows_of a next (drop (i + 1) es))
+made_step z a l number next es i d e whole before after lt is n h g =
+    rest whole before after (made z l (row_of a number e ∷ [])) (made z l (rows_of a (number_after number e) (drop (i + 1) es)))
+    (h ∙ ap (λ (r : List Row). before ++ made z l r) (rows_step a number es i d e lt is)
+    ∙ ap (λ (r : List ℕ). before ++ r) (made_parts z l (row_of a number e ∷ []) (rows_of a (number_after number e) (drop (i + 1) es)))) g
+    ∙ ap (λ (k : ℕ). after ++ made z l (rows_of a k (drop (i + 1) es))) (sym n)
+
+-- one more action
+pub made_more : (z : Layout) (l a first next : ℕ) (acts : List Action) (d : Action) (es : List Effect) (whole before after : List ℕ) → a < length acts → es ≡ (get_or acts a d).effects → next ≡ first + count_by is_conditional es → whole ≡ before ++ made z l (rows_from first (effects_from a (drop a acts))) → after ≡ before ++ made z l (rows_of a first es) → whole ≡ after ++ made z l (rows_from next (effects_from (a + 1) (drop (a + 1) acts)))
+made_more z l a first next acts d es whole before after lt is n h g =
+    rest whole before after (made z l (rows_of a first es)) (made z l (rows_from (first + count_by is_conditional es) (effects_from (a + 1) (drop (a + 1) acts))))
+    (h ∙ ap (λ (xs : List Action). before ++ made z l (rows_from first (effects_from a xs))) (drop_more acts a d lt)
+    ∙ ap (λ (ds : List Effect). before ++ made z l (rows_from first (owned a ds ++ effects_from (a + 1) (drop (a + 1) acts)))) (sym is)
+    ∙ ap (λ (r : List Row). before ++ made z l r) (rows_parts a first es (effects_from (a + 1) (drop (a + 1) acts)))
+    ∙ ap (λ (r : List ℕ). before ++ r) (made_parts z l (rows_of a first es) (rows_from (first + count_by is_conditional es) (effects_from (a + 1) (drop (a + 1) acts))))) g
+    ∙ ap (λ (k : ℕ). after ++ made z l (rows_from k (effects_from (a + 1) (drop (a + 1) acts)))) (sym n)
+
+-- past the last action
+pub made_whole : (z : Layout) (l a first : ℕ) (acts : List Action) (whole before : List ℕ) → length acts ≤ a → whole ≡ before ++ made z l (rows_from first (effects_from a (drop a acts))) → before ≡ whole
+made_whole z l a first acts whole before le h =
+    sym (h ∙ ap (λ (xs : List Action). before ++ made z l (rows_from first (effects_from a xs))) (drop_all a acts le) ∙ none_more before)

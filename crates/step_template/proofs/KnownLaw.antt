@@ -1,0 +1,83 @@
+use Rattle.std.proofs.Common.{arith, ◌≡◌, ◌==◌, ℕ, ◌+◌, ◌/◌, ◌%◌, List, [], ◌∷◌, ◌++◌, drop, slice_get, Some, Bool, true, false, ◌&&◌, ◌||◌, if◌then◌else◌, refl, sym, ap, ◌∙◌}
+use Rattle.std.specs.List.{flat_map, cons_option}
+use Rattle.std.proofs.lemmas.List.{drop_more}
+use Rattle.std.proofs.lemmas.Option.{slice_get_within, get_or_from_slice_get}
+use Rattle.std.proofs.lemmas.Bool.Decides.{nat_tests}
+use Rattle.gt_core.specs.Interference.{has_clause}
+use Rattle.gt_core.proofs.Basics.{same_test}
+use Rattle.clause_base.specs.Clause.{clause_of}
+use Rattle.step_clauses.specs.Clause.{Literal, Is, Not, code}
+use Rattle.step_clauses.specs.Formula.{literal_over, is_single, known_clause}
+use Rattle.step_clauses.specs.Coded.{coded}
+use Rattle.step_clauses.proofs.CodedLaw.{coded-append}
+use Rattle.step_template.proofs.Groups.{rest}
+
+-- The known clauses, one by one.
+
+-- where fact f has variable f, a literal's code is the literal
+pub plain_code : (l : ℕ) → l ≡ code (literal_over (λ f. f) l)
+plain_code l = by (l % 2 == 0) refl
+  where
+    by : (b : Bool) → (l % 2 == 0) ≡ b → l ≡ code (if b then Is (l / 2) else Not (l / 2))
+    by true e = let h : l % 2 ≡ 0 = grind (arith, nat_tests) in omega (arith, h)
+    by false e = let h : l % 2 ≡ 1 = grind (arith, nat_tests) in omega (arith, h)
+
+or_self : (b : Bool) → (b || b) ≡ b
+or_self true = refl
+or_self false = refl
+
+-- a literal is known by itself where its clause with itself is
+pub single_is : (clauses : List (ℕ × ℕ)) (l : ℕ) → has_clause clauses l l ≡ is_single clauses l
+single_is [] l = refl
+single_is (c ∷ cs) l = rw (or_self ((c.0 == l) && (c.1 == l)), single_is cs l) refl
+
+no_more : (xs : List (List ℕ)) → xs ++ [] ≡ xs
+no_more [] = refl
+no_more (x ∷ xs) = ap (λ (r : List (List ℕ)). x ∷ r) (no_more xs)
+
+module _ (clauses : List (ℕ × ℕ)) (l m : ℕ) (before after : List (List ℕ)) where
+  abbrev Known : Type 0
+  Known = after ≡ before ++ coded (known_clause (λ f. f) clauses (l, m))
+
+  abbrev single : List (List Literal)
+  single = (literal_over (λ f. f) l ∷ []) ∷ []
+
+  abbrev double : List (List Literal)
+  double = (literal_over (λ f. f) l ∷ literal_over (λ f. f) m ∷ []) ∷ []
+
+  pub known_single : l ≡ m → after ≡ before ++ cons_option (clause_of (l ∷ [])) [] → Known
+  known_single e h = h ∙ ap (λ (k : ℕ). before ++ cons_option (clause_of (k ∷ [])) []) (plain_code l) ∙ ap (λ (cs : List (List Literal)). before ++ coded cs) (by (l == m) (same_test l m e) (if is_single clauses l || is_single clauses m then [] else double))
+    where
+      by : (b : Bool) → b ≡ true → (cs : List (List Literal)) → single ≡ (if b then single else cs)
+      by true e cs = refl
+      by false e cs = cc
+
+  pub known_left_out : (l ≡ m → ⊥) → (is_single clauses l || is_single clauses m) ≡ true → after ≡ before → Known
+  known_left_out n t h = h ∙ sym (no_more before) ∙ ap (λ (cs : List (List Literal)). before ++ coded cs) (by (l == m) (is_single clauses l || is_single clauses m) refl t)
+    where
+      by : (b c : Bool) → (l == m) ≡ b → c ≡ true → [] ≡ (if b then single else if c then [] else double)
+      by true c e f = let s : l ≡ m = grind (arith, nat_tests) in absurd (n s)
+      by false true e f = refl
+      by false false e f = cc
+
+  pub known_double : (l ≡ m → ⊥) → is_single clauses l ≡ false → is_single clauses m ≡ false → after ≡ before ++ cons_option (clause_of (l ∷ m ∷ [])) [] → Known
+  known_double n s t h =
+      h ∙ ap (λ (k : ℕ). before ++ cons_option (clause_of (k ∷ m ∷ [])) []) (plain_code l)
+      ∙ ap (λ (k : ℕ). before ++ cons_option (clause_of (code (literal_over (λ f. f) l) ∷ k ∷ [])) []) (plain_code m)
+      ∙ ap (λ (cs : List (List Literal)). before ++ coded cs) (by (l == m) (is_single clauses l) (is_single clauses m) refl s t)
+    where
+      by : (b c d : Bool) → (l == m) ≡ b → c ≡ false → d ≡ false → double ≡ (if b then single else if c || d then [] else double)
+      by true c d e f g = let s : l ≡ m = grind (arith, nat_tests) in absurd (n s)
+      by false true d e f g = cc
+      by false false true e f g = cc
+      by false false false e f g = refl
+
+-- one more
+pub known_step : (clauses : List (ℕ × ℕ)) (i : ℕ) (c d : ℕ × ℕ) (whole before after : List (List ℕ)) → slice_get clauses i ≡ Some c → whole ≡ before ++ coded (flat_map (known_clause (λ f. f) clauses) (drop i clauses)) → after ≡ before ++ coded (known_clause (λ f. f) clauses c) → whole ≡ after ++ coded (flat_map (known_clause (λ f. f) clauses) (drop (i + 1) clauses))
+known_step clauses i c d whole before after at h g =
+    let lt = slice_get_within clauses i c at in
+    let is = get_or_from_slice_get clauses i c d at in
+    rest whole before after (coded (known_clause (λ f. f) clauses c)) (coded (flat_map (known_clause (λ f. f) clauses) (drop (i + 1) clauses)))
+    (h ∙ ap (λ (xs : List (ℕ × ℕ)). before ++ coded (flat_map (known_clause (λ f. f) clauses) xs)) (drop_more clauses i d lt)
+    ∙ ap (λ (x : ℕ × ℕ). before ++ coded (known_clause (λ f. f) clauses x ++ flat_map (known_clause (λ f. f) clauses) (drop (i + 1) clauses))) is
+    ∙ ap (λ (r : List (List ℕ)). before ++ r) (coded-append (known_clause (λ f. f) clauses c) (flat_map (known_clause (λ f. f) clauses) (drop (i + 1) clauses)))) g

@@ -1,0 +1,174 @@
+use Rattle.std.proofs.Common.{arith, ◌≡◌, ◌==◌, ℕ, zero, suc, ◌+◌, ◌*◌, ◌<◌, ◌≤◌, List, [], ◌∷◌, ◌++◌, map, length, take, drop, get_or, Bool, true, false, ◌&&◌, if◌then◌else◌, cond, count_by, refl, sym, ap, ◌∙◌}
+use Rattle.std.specs.List.{filter}
+use Rattle.std.proofs.lemmas.List.{drop_more, take_more}
+use Rattle.std.proofs.lemmas.List.Sums.{sum_by-cons, sum_by-append}
+use Rattle.std.proofs.lemmas.Bool.Decides.{nat_tests}
+use Rattle.gt_core.specs.Task.{Effect, Action, EffectOf, owned, effects_from}
+use Rattle.gt_core.specs.Lawful.{is_conditional, conditional_in}
+use Rattle.gt_core.specs.Layout.{Layout}
+use Rattle.gt_core.proofs.Basics.{same_test}
+use Rattle.step_clauses.specs.Clause.{Is, code}
+use Rattle.step_clauses.specs.Variables.{Row, rows_from, variable_at}
+use Rattle.step_template.specs.Rows.{row_of, rows_of, number_after, made_by, made}
+use Rattle.step_template.proofs.Groups.{rest}
+
+-- Effects with their numbers.
+
+-- an effect's number is one of the layout's
+pub number_fits : (number top : ℕ) (es : List Effect) (i : ℕ) (d e : Effect) → number + count_by is_conditional (drop i es) ≤ top → i < length es → e ≡ get_or es i d → is_conditional e ≡ true → number < top
+number_fits number top es i d e le lt is t =
+    let x = ap (count_by is_conditional) (drop_more es i d lt) in
+    let y = sum_by-cons (λ f. cond (is_conditional f) 1 0) (get_or es i d) (drop (i + 1) es) in
+    let z = ap {B = ℕ} (λ (f : Effect). cond (is_conditional f) 1 0) (sym is) in
+    let w = ap {B = ℕ} (λ (b : Bool). cond b 1 0) t in
+    omega (arith, le, x, y, z, w)
+
+-- and so is the next
+pub number_next : (number top next : ℕ) (es : List Effect) (i : ℕ) (d e : Effect) → number + count_by is_conditional (drop i es) ≤ top → i < length es → e ≡ get_or es i d → next ≡ number_after number e → next + count_by is_conditional (drop (i + 1) es) ≤ top
+number_next number top next es i d e le lt is n = by (is_conditional e) refl n
+  where
+    by : (b : Bool) → is_conditional e ≡ b → next ≡ (if b then number + 1 else number) → next + count_by is_conditional (drop (i + 1) es) ≤ top
+    by true t m =
+        let x = ap (count_by is_conditional) (drop_more es i d lt) in
+        let y = sum_by-cons (λ f. cond (is_conditional f) 1 0) (get_or es i d) (drop (i + 1) es) in
+        let z = ap {B = ℕ} (λ (f : Effect). cond (is_conditional f) 1 0) (sym is) in
+        let w = ap {B = ℕ} (λ (b : Bool). cond b 1 0) t in
+        omega (arith, le, x, y, z, w, m)
+    by false t m =
+        let x = ap (count_by is_conditional) (drop_more es i d lt) in
+        let y = sum_by-cons (λ f. cond (is_conditional f) 1 0) (get_or es i d) (drop (i + 1) es) in
+        omega (arith, le, x, y, m)
+
+-- one action's conditional effects more
+pub conditional_more : (acts : List Action) (i : ℕ) (d : Action) → i < length acts → conditional_in (drop i acts) ≡ count_by is_conditional (get_or acts i d).effects + conditional_in (drop (i + 1) acts)
+conditional_more acts i d lt = ap conditional_in (drop_more acts i d lt) ∙ sum_by-cons (λ a. count_by is_conditional a.effects) (get_or acts i d) (drop (i + 1) acts)
+
+pub conditional_taken : (acts : List Action) (i : ℕ) (d : Action) → i < length acts → conditional_in (take (i + 1) acts) ≡ conditional_in (take i acts) + count_by is_conditional (get_or acts i d).effects
+conditional_taken acts i d lt =
+    let x = ap conditional_in (take_more acts i d lt) in
+    let y = sum_by-append (λ a. count_by is_conditional a.effects) (take i acts) (get_or acts i d ∷ []) in
+    let z = sum_by-cons (λ a. count_by is_conditional a.effects) (get_or acts i d) [] in
+    omega (arith, x, y, z)
+
+pub taken_and_left : (acts : List Action) (i : ℕ) → conditional_in (take i acts) + conditional_in (drop i acts) ≡ conditional_in acts
+taken_and_left [] zero = refl
+taken_and_left [] (suc i) = refl
+taken_and_left (x ∷ acts) zero = omega arith
+taken_and_left (x ∷ acts) (suc i) =
+    let a = sum_by-cons (λ a. count_by is_conditional a.effects) x (take i acts) in
+    let b = sum_by-cons (λ a. count_by is_conditional a.effects) x acts in
+    let h = taken_and_left acts i in
+    omega (arith, a, b, h)
+
+-- rows in two parts
+pub rows_parts : (a j : ℕ) (es : List Effect) (more : List EffectOf) → rows_from j (owned a es ++ more) ≡ rows_from j (owned a es) ++ rows_from (j + count_by is_conditional es) more
+rows_parts a j [] more = ap (λ (k : ℕ). rows_from k more) (omega arith)
+rows_parts a j (e ∷ es) more =
+    ap (λ (r : List Row). row_of a j e ∷ r) (rows_parts a (number_after j e) es more
+    ∙ ap (λ (k : ℕ). rows_from (number_after j e) (owned a es) ++ rows_from k more) (by (is_conditional e) refl))
+  where
+    by : (b : Bool) → is_conditional e ≡ b → (if b then j + 1 else j) + count_by is_conditional es ≡ j + count_by is_conditional (e ∷ es)
+    by true t = let y = sum_by-cons (λ f. cond (is_conditional f) 1 0) e es in let w = ap {B = ℕ} (λ (b : Bool). cond b 1 0) t in omega (arith, y, w)
+    by false t = let y = sum_by-cons (λ f. cond (is_conditional f) 1 0) e es in let w = ap {B = ℕ} (λ (b : Bool). cond b 1 0) t in omega (arith, y, w)
+
+filter_parts : (p : Row → Bool) (xs ys : List Row) → filter p (xs ++ ys) ≡ filter p xs ++ filter p ys
+filter_parts p [] ys = refl
+filter_parts p (x ∷ xs) ys = by (p x) (filter_parts p xs ys)
+  where
+    by : (b : Bool) → filter p (xs ++ ys) ≡ filter p xs ++ filter p ys → (if b then x ∷ filter p (xs ++ ys) else filter p (xs ++ ys)) ≡ (if b then x ∷ filter p xs else filter p xs) ++ filter p ys
+    by true h = ap (λ (r : List Row). x ∷ r) h
+    by false h = h
+
+codes_parts : (z : Layout) (xs ys : List Row) → map code (map (λ r. Is (variable_at z 0 r)) (xs ++ ys)) ≡ map code (map (λ r. Is (variable_at z 0 r)) xs) ++ map code (map (λ r. Is (variable_at z 0 r)) ys)
+codes_parts z [] ys = refl
+codes_parts z (x ∷ xs) ys = ap (λ (r : List ℕ). 2 * variable_at z 0 x ∷ r) (codes_parts z xs ys)
+
+-- the variables of effects in two parts
+pub made_by_parts : (z : Layout) (a l : ℕ) (xs ys : List Row) → made_by z a l (xs ++ ys) ≡ made_by z a l xs ++ made_by z a l ys
+made_by_parts z a l xs ys =
+    ap (λ (r : List Row). map code (map (λ r. Is (variable_at z 0 r)) r)) (filter_parts (λ r. (r.effect.action == a) && (r.effect.literal == l)) xs ys)
+    ∙ codes_parts z (filter (λ r. (r.effect.action == a) && (r.effect.literal == l)) xs) (filter (λ r. (r.effect.action == a) && (r.effect.literal == l)) ys)
+
+pub made_parts : (z : Layout) (l : ℕ) (xs ys : List Row) → made z l (xs ++ ys) ≡ made z l xs ++ made z l ys
+made_parts z l xs ys =
+    ap (λ (r : List Row). map code (map (λ r. Is (variable_at z 0 r)) r)) (filter_parts (λ r. r.effect.literal == l) xs ys)
+    ∙ codes_parts z (filter (λ r. r.effect.literal == l) xs) (filter (λ r. r.effect.literal == l) ys)
+
+-- one more effect
+pub rows_step : (a number : ℕ) (es : List Effect) (i : ℕ) (d e : Effect) → i < length es → e ≡ get_or es i d → rows_of a number (drop i es) ≡ row_of a number e ∷ rows_of a (number_after number e) (drop (i + 1) es)
+rows_step a number es i d e lt is =
+    ap (rows_of a number) (drop_more es i d lt)
+    ∙ ap (λ (f : Effect). row_of a number f ∷ rows_of a (number_after number f) (drop (i + 1) es)) (sym is)
+
+pub adds_step : (z : Layout) (a l number next : ℕ) (es : List Effect) (i : ℕ) (d e : Effect) (whole before after : List ℕ) → i < length es → e ≡ get_or es i d → next ≡ number_after number e → whole ≡ before ++ made_by z a l (rows_of a number (drop i es)) → after ≡ before ++ made_by z a l (row_of a number e ∷ []) → whole ≡ after ++ made_by z a l (rows_of a next (drop (i + 1) es))
+adds_step z a l number next es i d e whole before after lt is n h g =
+    rest whole before after (made_by z a l (row_of a number e ∷ [])) (made_by z a l (rows_of a (number_after number e) (drop (i + 1) es)))
+    (h ∙ ap (λ (r : List Row). before ++ made_by z a l r) (rows_step a number es i d e lt is)
+    ∙ ap (λ (r : List ℕ). before ++ r) (made_by_parts z a l (row_of a number e ∷ []) (rows_of a (number_after number e) (drop (i + 1) es)))) g
+    ∙ ap (λ (k : ℕ). after ++ made_by z a l (rows_of a k (drop (i + 1) es))) (sym n)
+
+-- an effect with the literal, and one with another
+pub made_one : (z : Layout) (a j l : ℕ) (e : Effect) → e.literal ≡ l → made_by z a l (row_of a j e ∷ []) ≡ (2 * variable_at z 0 (row_of a j e)) ∷ []
+made_one z a j l e h = by (a == a) (e.literal == l) (same_test a a refl) (same_test e.literal l h)
+  where
+    by : (b c : Bool) → b ≡ true → c ≡ true → map code (map (λ r. Is (variable_at z 0 r)) (if b && c then row_of a j e ∷ [] else [])) ≡ (2 * variable_at z 0 (row_of a j e)) ∷ []
+    by true true x y = refl
+    by true false x y = cc
+    by false c x y = cc
+
+pub made_none : (z : Layout) (a j l : ℕ) (e : Effect) → (e.literal ≡ l → ⊥) → made_by z a l (row_of a j e ∷ []) ≡ []
+made_none z a j l e h = by (a == a) (e.literal == l) refl
+  where
+    by : (b c : Bool) → (e.literal == l) ≡ c → map code (map (λ r. Is (variable_at z 0 r)) (if b && c then row_of a j e ∷ [] else [])) ≡ []
+    by true true y = let s : e.literal ≡ l = grind (arith, nat_tests) in absurd (h s)
+    by true false y = refl
+    by false c y = refl
+
+-- Of all rows only those of an action have it.
+
+none_of_owned : (q : EffectOf → Bool) (a b j : ℕ) (es : List Effect) → (b == a) ≡ false → filter (λ r. (r.effect.action == a) && q r.effect) (rows_from j (owned b es)) ≡ []
+none_of_owned q a b j [] n = refl
+none_of_owned q a b j (e ∷ es) n = by (b == a) (q (row_of b j e).effect) n (none_of_owned q a b (number_after j e) es n)
+  where
+    by : (c d : Bool) → c ≡ false → filter (λ r. (r.effect.action == a) && q r.effect) (rows_from (number_after j e) (owned b es)) ≡ [] → (if c && d then row_of b j e ∷ filter (λ r. (r.effect.action == a) && q r.effect) (rows_from (number_after j e) (owned b es)) else filter (λ r. (r.effect.action == a) && q r.effect) (rows_from (number_after j e) (owned b es))) ≡ []
+    by true d x h = cc
+    by false d x h = h
+
+not_same : (a b : ℕ) → (a ≡ b → ⊥) → (a == b) ≡ false
+not_same a b h = by (a == b) refl
+  where
+    by : (c : Bool) → (a == b) ≡ c → c ≡ false
+    by true e = let s : a ≡ b = grind (arith, nat_tests) in absurd (h s)
+    by false e = refl
+
+none_from : (q : EffectOf → Bool) (a b j : ℕ) (xs : List Action) → a < b → filter (λ r. (r.effect.action == a) && q r.effect) (rows_from j (effects_from b xs)) ≡ []
+none_from q a b j [] lt = refl
+none_from q a b j (x ∷ xs) lt =
+    ap (filter (λ r. (r.effect.action == a) && q r.effect)) (rows_parts b j x.effects (effects_from (b + 1) xs))
+    ∙ filter_parts (λ r. (r.effect.action == a) && q r.effect) (rows_from j (owned b x.effects)) (rows_from (j + count_by is_conditional x.effects) (effects_from (b + 1) xs))
+    ∙ ap (λ (r : List Row). r ++ filter (λ r. (r.effect.action == a) && q r.effect) (rows_from (j + count_by is_conditional x.effects) (effects_from (b + 1) xs))) (none_of_owned q a b j x.effects (not_same b a (λ e. absurd (omega (arith, e, lt)))))
+    ∙ none_from q a (b + 1) (j + count_by is_conditional x.effects) xs (omega arith)
+
+none_more : (xs : List Row) → xs ++ [] ≡ xs
+none_more [] = refl
+none_more (x ∷ xs) = ap (λ (r : List Row). x ∷ r) (none_more xs)
+
+pub only_of : (q : EffectOf → Bool) (a b k j : ℕ) (xs : List Action) (d : Action) → k < length xs → a ≡ b + k → filter (λ r. (r.effect.action == a) && q r.effect) (rows_from j (effects_from b xs)) ≡ filter (λ r. (r.effect.action == a) && q r.effect) (rows_from (j + conditional_in (take k xs)) (owned a (get_or xs k d).effects))
+only_of q a b k j [] d lt e = absurd (omega arith)
+only_of q a b zero j (x ∷ xs) d lt e =
+    let s : a ≡ b = omega (arith, e) in
+    let t : j ≡ j + 0 = omega arith in
+    ap (filter (λ r. (r.effect.action == a) && q r.effect)) (rows_parts b j x.effects (effects_from (b + 1) xs))
+    ∙ filter_parts (λ r. (r.effect.action == a) && q r.effect) (rows_from j (owned b x.effects)) (rows_from (j + count_by is_conditional x.effects) (effects_from (b + 1) xs))
+    ∙ ap (λ (r : List Row). filter (λ r. (r.effect.action == a) && q r.effect) (rows_from j (owned b x.effects)) ++ r) (none_from q a (b + 1) (j + count_by is_conditional x.effects) xs (omega (arith, e)))
+    ∙ none_more (filter (λ r. (r.effect.action == a) && q r.effect) (rows_from j (owned b x.effects)))
+    ∙ ap (λ (k : ℕ). filter (λ r. (r.effect.action == a) && q r.effect) (rows_from j (owned k x.effects))) (sym s)
+    ∙ ap (λ (k : ℕ). filter (λ r. (r.effect.action == a) && q r.effect) (rows_from k (owned a x.effects))) t
+only_of q a b (suc k) j (x ∷ xs) d lt e =
+    let y = sum_by-cons (λ a. count_by is_conditional a.effects) x (take k xs) in
+    let t : j + count_by is_conditional x.effects + conditional_in (take k xs) ≡ j + conditional_in (x ∷ take k xs) = omega (arith, y) in
+    ap (filter (λ r. (r.effect.action == a) && q r.effect)) (rows_parts b j x.effects (effects_from (b + 1) xs))
+    ∙ filter_parts (λ r. (r.effect.action == a) && q r.effect) (rows_from j (owned b x.effects)) (rows_from (j + count_by is_conditional x.effects) (effects_from (b + 1) xs))
+    ∙ ap (λ (r : List Row). r ++ filter (λ r. (r.effect.action == a) && q r.effect) (rows_from (j + count_by is_conditional x.effects) (effects_from (b + 1) xs))) (none_of_owned q a b j x.effects (not_same b a (λ h. absurd (omega (arith, e, h)))))
+    ∙ only_of q a (b + 1) k (j + count_by is_conditional x.effects) xs d (omega (arith, lt)) (omega (arith, e))
+    ∙ ap (λ (k2 : ℕ). filter (λ r. (r.effect.action == a) && q r.effect) (rows_from k2 (owned a (get_or xs k d).effects))) t

@@ -1,0 +1,11 @@
+use Rattle.std.proofs.Common.{◌≡◌, ◌∷◌, [], ◌++◌, map, drop}
+use Rattle.gt_core.specs.Layout.{fact_at}
+use Rattle.step_clauses.specs.Clause.{Not}
+use Rattle.step_clauses.specs.Formula.{literal_over}
+use Rattle.step_clauses.specs.Coded.{coded}
+use Rattle.step_template.proofs.effects.add_conditions.Given as goal
+
+abbrev pub invariant-loop-lit : goal.invariant-loop-lit
+invariant-loop-lit l =
+    l.initial.clauses.items ++ coded (map (λ m. Not l.variable ∷ literal_over (fact_at l.layout 0) m ∷ []) l.condition)
+    ≡ l.clauses.items ++ coded (map (λ m. Not l.variable ∷ literal_over (fact_at l.layout 0) m ∷ []) (drop l.lit-index l.condition))

@@ -1,0 +1,26 @@
+use Rattle.std.proofs.Common.{◌≡◌, ℕ, ◌+◌, ◌*◌, List, [], ◌∷◌, ◌++◌, map, true, refl, ap, ◌∙◌}
+use Rattle.std.specs.List.{cons_option}
+use Rattle.gt_core.specs.Literal.{opposite}
+use Rattle.gt_core.specs.Lawful.{is_conditional}
+use Rattle.gt_core.specs.Layout.{action_at, fact_at}
+use Rattle.clause_base.specs.Clause.{clause_of}
+use Rattle.step_clauses.specs.Clause.{Is, Not}
+use Rattle.step_clauses.specs.Formula.{literal_over}
+use Rattle.step_clauses.specs.Coded.{coded}
+use Rattle.step_template.proofs.EffectLaw.{meaning_parts, conditional_if}
+use Rattle.step_template.proofs.effects.add_meaning.Goals as goal
+
+pub returns : goal.returns
+returns c =
+    let z = c.args.layout.now in
+    let v = c.effect_variable-variable.result in
+    let t : is_conditional c.args.effect.now ≡ true = conditional_if c.args.effect.now c.cond.result.now c.is_empty.result c.cond.ensures c.is_empty.ensures c.if-is_empty.false in
+    meaning_parts z c.args.action c.args.number c.args.effect.now v c.args.effect.now.condition c.args.clauses.now.items c.add_clause.new.clauses.items c.add_conditions.new.clauses.items c.add_reason.new.clauses.items t c.effect_variable-variable.ensures.value refl
+    (c.in_ok-add_clause.ensures
+    ∙ ap (λ (k : ℕ). c.args.clauses.now.items ++ cons_option (clause_of (k ∷ c.of-in_step.result ∷ [])) []) c.of.ensures
+    ∙ ap (λ (k : ℕ). c.args.clauses.now.items ++ cons_option (clause_of ((2 * v + 1) ∷ k ∷ [])) []) c.of-in_step.ensures
+    ∙ ap (λ (k : ℕ). c.args.clauses.now.items ++ cons_option (clause_of ((2 * v + 1) ∷ (2 * k) ∷ [])) []) c.action_variable.ensures.value)
+    (c.in_ok-add_conditions.ensures
+    ∙ ap (λ (ls : List ℕ). c.add_clause.new.clauses.items ++ coded (map (λ m. Not v ∷ literal_over (fact_at z 0) m ∷ []) ls)) c.cond-2.ensures)
+    (c.in_ok-add_reason.ensures
+    ∙ ap (λ (ls : List ℕ). c.add_conditions.new.clauses.items ++ coded ((Is v ∷ Not (action_at z 0 c.args.action) ∷ map (λ m. literal_over (fact_at z 0) (opposite m)) ls) ∷ [])) c.cond-3.ensures)

@@ -1,0 +1,10 @@
+use Rattle.std.proofs.Common.{◌≡◌, ◌++◌, drop}
+use Rattle.gt_core.specs.Layout.{action_at, fact_at}
+use Rattle.step_clauses.specs.Formula.{precondition_clauses}
+use Rattle.step_clauses.specs.Coded.{coded}
+use Rattle.step_template.proofs.preconditions.add_preconditions.Given as goal
+
+abbrev pub invariant-loop-a : goal.invariant-loop-a
+invariant-loop-a l =
+    l.initial.clauses.items ++ coded (precondition_clauses (action_at l.layout 0) (fact_at l.layout 0) 0 l.task.actions)
+    ≡ l.clauses.items ++ coded (precondition_clauses (action_at l.layout 0) (fact_at l.layout 0) l.a (drop l.a l.task.actions))

@@ -1,0 +1,32 @@
+use Rattle.std.specs.Prelude.{◌≡◌, ℕ, ◌+◌, ◌*◌, ◌<◌, ◌==◌, List, ◌&&◌, if◌then◌else◌, map, length, slice_index_or, []}
+use Rattle.gt_core.specs.Task.{Task, Effect, owned}
+use Rattle.gt_core.specs.Lawful.{is_conditional}
+use Rattle.gt_core.specs.Layout.{Layout}
+use Rattle.step_clauses.specs.Clause.{code}
+use Rattle.step_clauses.specs.Variables.{Row, rows, rows_from, variable_at}
+use Rattle.step_clauses.specs.Formula.{effects_with}
+
+-- an effect of an action, with the number that it has where it is conditional
+abbrev pub row_of : ℕ → ℕ → Effect → Row
+row_of a j e = record { effect = record { action = a; condition = e.condition; literal = e.literal }; number = j }
+
+-- the effects of an action, the first conditional one of which has a number
+abbrev pub rows_of : ℕ → ℕ → List Effect → List Row
+rows_of a j es = rows_from j (owned a es)
+
+-- the number after an effect
+abbrev pub number_after : ℕ → Effect → ℕ
+number_after j e = if is_conditional e then j + 1 else j
+
+-- the codes of the variables in the first step of an action's effects with a literal
+abbrev pub made_by : Layout → ℕ → ℕ → List Row → List ℕ
+made_by z a l rs = map code (effects_with (variable_at z 0) (λ e. (e.action == a) && (e.literal == l)) rs)
+
+-- the codes of the variables in the first step of all effects with a literal
+abbrev pub made : Layout → ℕ → List Row → List ℕ
+made z l rs = map code (effects_with (variable_at z 0) (λ e. e.literal == l) rs)
+
+-- for each fact literal, the variables of the effects that make it true
+pub record IsIndex (z : Layout) (task : Task) (index : List (List ℕ)) : Type 0 where
+  pub long : length index ≡ 2 * task.facts
+  pub each : (l : ℕ) → l < 2 * task.facts → slice_index_or index l [] ≡ made z l (rows task)

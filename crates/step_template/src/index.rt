@@ -1,0 +1,129 @@
+//! The effects of a task by the literal that they make true.
+
+ghost use Rattle.std.specs.Prelude.{◌≡◌, ℕ, ◌+◌, ◌*◌, ◌≤◌, ◌<◌, [], ◌∷◌, ◌++◌, true, length, count_by, replicate, slice_index_or, OnOk, IfOk};
+ghost use Rattle.std.specs.List.{AllByRecursion};
+ghost use Rattle.gt_core.specs.Active.{EffectWithin};
+ghost use Rattle.gt_core.specs.Lawful.{is_conditional, conditional_in};
+ghost use Rattle.step_template.specs.Rows.{row_of, rows_of, made, IsIndex};
+
+use crate::numbers::{conditional_among, effect_variable, number_after};
+use clause_base::literal::Lit;
+use clause_base::memory::Memory;
+use gt_core::eff::Eff;
+use gt_core::layout::Layout;
+use gt_core::task::Task;
+use std::alloc::Global;
+use std::marker::Model;
+
+/// The variables of effects, as literals.
+#[derive(Debug, Drop)]
+pub(crate) struct Makers {
+    items: Vec<Lit>,
+}
+
+impl Model for Makers {
+    ghost use Rattle.std.specs.Prelude.{ℕ, List};
+
+    ghost Value = { List ℕ };
+
+    ghost view = { λ m. m.items.items };
+}
+
+impl Makers {
+    ghost use Rattle.std.specs.Prelude.{◌≡◌, [], ◌∷◌, ◌++◌, OnOk};
+
+    fn new(alloc: Global) -> Makers
+        ensures { result ≡ [] }
+    {
+        Makers {
+            items: Vec::new(alloc),
+        }
+    }
+
+    fn push(&mut self, lit: Lit) -> Result<(), Memory>
+        ensures { OnOk result (self.new ≡ self.old ++ lit ∷ []) }
+    {
+        self.items.push(lit)?;
+        Ok(())
+    }
+
+    pub(crate) fn as_slice(&self) -> &[Lit]
+        ensures { result.now ≡ self.now }
+    {
+        self.items.as_slice()
+    }
+}
+
+/// So many empty lists.
+fn empty_makers(alloc: Global, count: usize) -> Result<Vec<Makers>, Memory>
+    ensures { IfOk result (λ makers. makers.items ≡ replicate count []) }
+{
+    let mut makers = Vec::with_capacity(alloc, count)?;
+    while makers.len() < count {
+        makers.push(Makers::new(alloc))?;
+    }
+    Ok(makers)
+}
+
+/// Puts the variable of an effect under its literal.
+fn index_effect(
+    layout: &Layout,
+    action: u32,
+    number: u32,
+    effect: &Eff,
+    index: &mut Vec<Makers>,
+) -> Result<(), Memory>
+    requires horizon { 0 < layout.now.horizon }
+    requires action { action < layout.now.actions }
+    requires number { is_conditional effect.now ≡ true → number < layout.now.conditional }
+    requires literal { effect.now.literal < length index.old.items }
+    ensures long { length index.new.items ≡ length index.old.items }
+    ensures each { OnOk result ((l : ℕ) → slice_index_or index.new.items l [] ≡ slice_index_or index.old.items l [] ++ made layout.now l (row_of action number effect.now ∷ [])) }
+{
+    let variable = effect_variable(layout, action, number, effect);
+    index[effect.lit() as usize].push(Lit::of(variable, true))?;
+    Ok(())
+}
+
+/// Puts the variables of an action's effects under their literals.
+fn index_effects_of(
+    layout: &Layout,
+    action: u32,
+    first: u32,
+    effects: &[Eff],
+    index: &mut Vec<Makers>,
+) -> Result<(), Memory>
+    requires horizon { 0 < layout.now.horizon }
+    requires action { action < layout.now.actions }
+    requires numbers { first + count_by is_conditional effects.now ≤ layout.now.conditional }
+    requires few { layout.now.conditional ≤ 65536 }
+    requires within { AllByRecursion (EffectWithin layout.now.facts) effects.now }
+    requires long { length index.old.items ≡ 2 * layout.now.facts }
+    ensures long { length index.new.items ≡ length index.old.items }
+    ensures each { OnOk result ((l : ℕ) → slice_index_or index.new.items l [] ≡ slice_index_or index.old.items l [] ++ made layout.now l (rows_of action first effects.now)) }
+{
+    let mut number = first;
+    for effect in effects {
+        index_effect(layout, action, number, effect, index)?;
+        number = number_after(number, effect);
+    }
+    Ok(())
+}
+
+/// For each fact literal, the variables of the effects that make it true.
+pub(crate) fn index_of(alloc: Global, layout: &Layout, task: &Task) -> Result<Vec<Makers>, Memory>
+    requires horizon { 0 < layout.now.horizon }
+    requires actions { layout.now.actions ≡ length task.now.actions }
+    requires conditional { layout.now.conditional ≡ conditional_in task.now.actions }
+    requires facts { layout.now.facts ≡ task.now.facts }
+    ensures { IfOk result (λ index. IsIndex layout.now task.now index.items) }
+{
+    let mut index = empty_makers(alloc, 2 * task.facts() as usize)?;
+    let mut first = 0;
+    for a in 0..layout.actions {
+        let effects = task.act(a).effects();
+        index_effects_of(layout, a, first, effects, &mut index)?;
+        first += conditional_among(effects) as u32;
+    }
+    Ok(index)
+}

@@ -1,0 +1,12 @@
+//! The clauses of one step of a horizon's formula, and those of one time: every horizon's are these with their variables
+//! moved. Each clause group has a file of its own, and is what the definition in `step_clauses` lists of it.
+#![tactic(auto)]
+
+mod effects;
+mod frames;
+mod index;
+pub mod known;
+mod literals;
+mod numbers;
+mod preconditions;
+pub mod template;
