@@ -1,4 +1,4 @@
-use Rattle.std.proofs.Common.{arith, ◌≡◌, ◌+◌, ◌≤◌, ℕ, zero, suc, List, [], ◌∷◌, ◌++◌, map, length, codes, decimal, drop, slice_get, Option, Some, None, refl, sym, ap, ◌∙◌}
+use Rattle.std.proofs.Common.{arith, ◌≡◌, ◌+◌, ◌≤◌, ℕ, zero, suc, List, [], ◌∷◌, ◌++◌, map, length, codes, decimal, drop, slice_get, Some, sym, ap, ◌∙◌}
 use Rattle.std.proofs.lemmas.List.{append_assoc, drop_all, append-nil}
 use Rattle.task_text.specs.Text.{numbered}
 
@@ -27,9 +27,9 @@ one_line n before text after =
     ∙ ap (λ (xs : List ℕ). codes "; " ++ xs) (append_assoc (decimal n) (codes " ") (text ++ (codes "\n" ++ after)))))
 
 pub line_next :
-  {X : Type 0} (line : X → List ℕ) (xs : List X) (n : ℕ) (x : X) (before one two after : List ℕ)
-  → slice_get xs n ≡ Some x → one ≡ before ++ front n → two ≡ one ++ line x → after ≡ two ++ codes "\n"
-  → before ++ numbered n (map line (drop n xs)) ≡ after ++ numbered (n + 1) (map line (drop (n + 1) xs))
+    {X : Type 0} (line : X → List ℕ) (xs : List X) (n : ℕ) (x : X) (before one two after : List ℕ)
+    → slice_get xs n ≡ Some x → one ≡ before ++ front n → two ≡ one ++ line x → after ≡ two ++ codes "\n"
+    → before ++ numbered n (map line (drop n xs)) ≡ after ++ numbered (n + 1) (map line (drop (n + 1) xs))
 line_next line xs n x before one two after e o t a =
     ap (λ ys. before ++ numbered n (map line ys)) (rest_at xs n x e)
     ∙ one_line n before (line x) (numbered (n + 1) (map line (drop (n + 1) xs)))
@@ -38,7 +38,7 @@ line_next line xs n x before one two after e o t a =
     ∙ ap (λ (ys : List ℕ). ys ++ numbered (n + 1) (map line (drop (n + 1) xs))) (sym a)
 
 pub lines_done :
-  {X : Type 0} (line : X → List ℕ) (xs : List X) (n : ℕ) (before after : List ℕ) → length xs ≤ n
-  → before ++ numbered 0 (map line xs) ≡ after ++ numbered n (map line (drop n xs)) → after ≡ before ++ numbered 0 (map line xs)
+    {X : Type 0} (line : X → List ℕ) (xs : List X) (n : ℕ) (before after : List ℕ) → length xs ≤ n
+    → before ++ numbered 0 (map line xs) ≡ after ++ numbered n (map line (drop n xs)) → after ≡ before ++ numbered 0 (map line xs)
 lines_done line xs n before after le e =
     sym (append-nil after) ∙ ap (λ ys. after ++ numbered n (map line ys)) (sym (drop_all n xs le)) ∙ sym e

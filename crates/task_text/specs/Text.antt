@@ -7,17 +7,18 @@ use Rattle.action_order.specs.Order.{name_in}
 use Rattle.pd_model.specs.declared.atoms.Atom.{Atom}
 use Rattle.pd_model.specs.declared.calls.Call.{Call}
 use Rattle.pd_model.specs.declared.parts.Parts.{Parts}
+use Rattle.pd_model.specs.Names.{predicate_names, object_names, schema_names}
 use Rattle.grounding.specs.Grounded.{Grounded}
 
 -- the name of a predicate, of an object, and of an action, by its number
 abbrev pub predicate_name : Parts → ℕ → List ℕ
-predicate_name p n = slice_index_or (map (λ d. d.name) p.predicates) n []
+predicate_name p n = slice_index_or (predicate_names p.predicates) n []
 
 abbrev pub object_name : Parts → ℕ → List ℕ
-object_name p n = slice_index_or (map (λ d. d.name) p.objects) n []
+object_name p n = slice_index_or (object_names p.objects) n []
 
 abbrev pub schema_name : Parts → ℕ → List ℕ
-schema_name p n = slice_index_or (map (λ d. d.name) p.schemas) n []
+schema_name p n = slice_index_or (schema_names p.schemas) n []
 
 -- `(name object ..)` with single spaces
 abbrev pub spelled : List ℕ → List (List ℕ) → List ℕ

@@ -47,12 +47,7 @@ fn push_objects(p: &Pddl, objects: &[u32], text: &mut Vec<u8>) -> Result<(), Mem
 }
 
 /// Appends a list of a name and objects.
-fn push_spelled(
-    p: &Pddl,
-    name: &[u8],
-    objects: &[u32],
-    text: &mut Vec<u8>,
-) -> Result<(), Memory>
+fn push_spelled(p: &Pddl, name: &[u8], objects: &[u32], text: &mut Vec<u8>) -> Result<(), Memory>
     ensures { OnOk result (text.new.items ≡ text.old.items ++ spelled name.now (map (object_name p.now) objects.now)) }
 {
     text.extend_from_slice(b"(")?;
@@ -66,12 +61,22 @@ fn push_spelled(
 pub(crate) fn push_atom(p: &Pddl, atom: &Atom, text: &mut Vec<u8>) -> Result<(), Memory>
     ensures { OnOk result (text.new.items ≡ text.old.items ++ atom_text p.now atom.now) }
 {
-    push_spelled(p, predicate_name(p, atom.predicate), atom.objects.as_slice(), text)
+    push_spelled(
+        p,
+        predicate_name(p, atom.predicate),
+        atom.objects.as_slice(),
+        text,
+    )
 }
 
 /// Appends a call.
 pub(crate) fn push_call(p: &Pddl, call: &Call, text: &mut Vec<u8>) -> Result<(), Memory>
     ensures { OnOk result (text.new.items ≡ text.old.items ++ call_text p.now call.now) }
 {
-    push_spelled(p, schema_name(p, call.schema), call.objects.as_slice(), text)
+    push_spelled(
+        p,
+        schema_name(p, call.schema),
+        call.objects.as_slice(),
+        text,
+    )
 }

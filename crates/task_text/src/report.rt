@@ -55,12 +55,7 @@ pub fn push_ground(p: &Pddl, g: &Grounded, text: &mut Vec<u8>) -> Result<(), Mem
 }
 
 /// Appends the counts of an order of actions.
-fn push_counts(
-    actions: u32,
-    components: u32,
-    pairs: u32,
-    text: &mut Vec<u8>,
-) -> Result<(), Memory>
+fn push_counts(actions: u32, components: u32, pairs: u32, text: &mut Vec<u8>) -> Result<(), Memory>
     ensures { OnOk result (text.new.items ≡ text.old.items ++ order_counts actions components pairs) }
 {
     text.extend_from_slice(b"; actions ")?;
@@ -115,6 +110,11 @@ pub fn push_order(
     requires actions { (a : _) → is_in (order_of order.now) a ≡ true → a < length g.now.calls }
     ensures { OnOk result (text.new.items ≡ text.old.items ++ order_text p.now g.now order.now pairs) }
 {
-    push_counts(g.task().acts().len() as u32, order.components(), pairs, text)?;
+    push_counts(
+        g.task().acts().len() as u32,
+        order.components(),
+        pairs,
+        text,
+    )?;
     push_places(p, g, order, text)
 }

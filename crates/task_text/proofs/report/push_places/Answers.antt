@@ -1,4 +1,4 @@
-use Rattle.std.proofs.Common.{arith, ◌≡◌, ◌≤◌, ◌∙◌, length}
+use Rattle.std.proofs.Common.{arith, ◌≤◌, ◌∙◌, length}
 use Rattle.gt_core.specs.Published.{order_of}
 use Rattle.task_text.specs.Text.{placed}
 use Rattle.task_text.proofs.LineLaw.{line_next, lines_done}
