@@ -149,6 +149,12 @@ pub data DecidesCheck (domain problem plan_bytes : List ℕ) (end : Ending) : Ty
   checked : (task : Parts) → AreTask domain problem task → ChecksCalls task plan_bytes end → DecidesCheck domain problem plan_bytes end
   check_refused : RefusesTask domain problem end → DecidesCheck domain problem plan_bytes end
 
+-- a file was taken: it is not told to be missing, its bytes are what is told of them, and they are no more than may be
+pub record IsTaken (told : List ℕ → Option (List ℕ)) (lacks : List ℕ → Bool) (name bytes : List ℕ) : Type 0 where
+  pub there : IsTrue (lacks name) → ⊥
+  pub whole : IfSome (told name) (λ file. bytes ≡ file)
+  pub fits : length bytes ≤ most_bytes
+
 -- What a shelf tells: the bytes of names, and of which names there is no file. Then its faults before and after.
 module _ (told : List ℕ → Option (List ℕ)) (lacks : List ℕ → Bool) (old new : List (List ℕ)) where
   -- the file is not told to be missing, and what is told of its bytes meets the claim
