@@ -6,3 +6,4 @@ pub mod Tupled
 pub mod Put
 pub mod Leaving
 pub mod Assembled
+pub mod TwoActionsTask

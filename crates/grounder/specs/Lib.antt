@@ -3,3 +3,4 @@ pub mod Places
 pub mod Bindings
 pub mod Putting
 pub mod Counting
+pub mod TwoActions
