@@ -44,7 +44,7 @@ task_refusal domain problem end (no_task first second one two r) = refusal_is r.
 
 -- the ending tells of a limit
 pub limit_is : (domain problem : List ℕ) (end : Ending) → LimitsTask domain problem end → (what : Limit) × (count : ℕ) × (end ≡ TooMany what count)
-limit_is domain problem end (task, are, what, count, e, over) = (what, count, e)
+limit_is domain problem end l = (l.2.0, l.2.1, l.2.2)
 
 stop_answer : (command : Command) (domain problem : List ℕ) (end : Ending) → StopsGrounding domain problem end → is_answer command end ≡ true
 stop_answer commands.Plan domain problem end (inl r) = rw (task_refusal domain problem end r).3 refl
@@ -107,7 +107,7 @@ module _ (told : List ℕ → Option (List ℕ)) (lacks : List ℕ → Bool) (ol
   later middle rises file name end (inl h) = let before = rises name in let after = h.1 in inl (h.0, omega arith)
   later middle rises file name end (inr h) = inr h
 
-  fits_taken : (name bytes : List ℕ) → IsTaken told lacks name bytes → Fits told lacks old new name
+  pub fits_taken : (name bytes : List ℕ) → IsTaken told lacks name bytes → Fits told lacks old new name
   fits_taken name bytes t = fits_of name bytes t.there t.whole t.fits
 
   pub two_whole : (command : Command) (domain problem first second : List ℕ) → IsTaken told lacks domain first → IsTaken told lacks problem second

@@ -1,6 +1,6 @@
-use Rattle.std.proofs.Common.{inl, inr, arith}
+use Rattle.std.proofs.Common.{inl, inr}
 use Rattle.pd_model.specs.declared.memory.Which.TheVariants.{Problem}
-use Rattle.plan_top.specs.Causes.{Stops, StopsAt, plan_files, IsTaken}
+use Rattle.plan_top.specs.Causes.{Stops, StopsAt, plan_files}
 use Rattle.plan_top.proofs.Stopped.{EndsBy-weaker}
 use Rattle.plan_top.proofs.Decided.{fits_of, later}
 use Rattle.plan_top.proofs.take.take_two.Goals as goal
