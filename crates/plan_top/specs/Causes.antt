@@ -124,7 +124,7 @@ pub data DecidesGround (domain problem : List ℕ) (end : Ending) : Type 0 where
 -- what two files decide for `order`: as long as no clauses are known, the order is that without any
 pub data DecidesOrder (domain problem : List ℕ) (end : Ending) : Type 0 where
   ordered : (task : Parts) (g : Grounded) (components : List (List ℕ)) → end ≡ Listing (order_text task g components 0) → AreGrounded domain problem task g
-    → IsPublished g.task [] components → DecidesOrder domain problem end
+      → IsPublished g.task [] components → DecidesOrder domain problem end
   order_stopped : StopsGrounding domain problem end → DecidesOrder domain problem end
 
 -- what two files decide for a command

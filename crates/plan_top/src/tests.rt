@@ -249,9 +249,7 @@ fn listings(rt: HostRuntime) -> Result<(), Fail> {
 // Where one action adds and deletes an atom, the add wins.
 #[test]
 fn adds_win(rt: HostRuntime) -> Result<(), Fail> {
-    let Ok(both) = ground_task(rt.alloc(), BOTH, NOT_P_AT_FIRST) else {
-        return Err(Fail);
-    };
+    let both = ground_task(rt.alloc(), BOTH, NOT_P_AT_FIRST).expect(&rt, "a task");
     let task = both.grounded.task();
     assert_eq!(rt; task.facts(), 1);
     assert_eq!(rt; task.acts().len(), 1);
@@ -284,12 +282,7 @@ fn grounding_limits(rt: HostRuntime) -> Result<(), Fail> {
         (ACTION_EACH, 16384, FOUND, 0),
         (ACTION_EACH, 16385, "; limit actions 16385\n", 4),
         (EFFECT_EACH_PAIR, 256, FOUND, 0),
-        (
-            EFFECT_EACH_PAIR_AND_ONE,
-            256,
-            "; limit effects 65537\n",
-            4,
-        ),
+        (EFFECT_EACH_PAIR_AND_ONE, 256, "; limit effects 65537\n", 4),
     ];
     for (domain, count, text, status) in rows {
         let problem = many_objects(rt.alloc(), count)?;
