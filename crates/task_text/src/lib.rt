@@ -7,5 +7,7 @@ mod conditional;
 mod lines;
 mod names;
 mod report;
+#[cfg(test)]
+mod tests;
 
 pub use report::{push_ground, push_order};
