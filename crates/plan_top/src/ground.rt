@@ -48,12 +48,7 @@ pub fn ground_task(alloc: Global, domain: &[u8], problem: &[u8]) -> Result<Groun
     ensures grounded { IfOk result (λ t. AreGrounded domain.now problem.now t.task t.grounded) }
     ensures stops { StopsBy (StopsGrounding domain.now problem.now) result }
 {
-    let task = match read_task(alloc, domain, problem) {
-        Ok(task) => task,
-        Err(stop) => return Err(stop),
-    };
-    match grounded_of(alloc, &task) {
-        Ok(grounded) => Ok(GroundTask { task, grounded }),
-        Err(stop) => Err(stop),
-    }
+    let task = read_task(alloc, domain, problem)?;
+    let grounded = grounded_of(alloc, &task)?;
+    Ok(GroundTask { task, grounded })
 }

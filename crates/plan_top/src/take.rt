@@ -58,13 +58,7 @@ pub fn take_two<S: Shelf>(
     ensures second { IfOk result (λ two. IsTaken (S.told shelf.old) (S.lacks shelf.old) problem.now two.problem.items) }
     ensures stops { StopsBy (StopsAt (S.told shelf.old) (S.lacks shelf.old) (S.failed shelf.old) (S.failed shelf.new) (plan_files (S.told shelf.old) (S.lacks shelf.old) (S.failed shelf.old) (S.failed shelf.new) domain.now problem.now)) result }
 {
-    let domain = match take_file(alloc, Which::Domain, domain, shelf) {
-        Ok(bytes) => bytes,
-        Err(stop) => return Err(stop),
-    };
-    let problem = match take_file(alloc, Which::Problem, problem, shelf) {
-        Ok(bytes) => bytes,
-        Err(stop) => return Err(stop),
-    };
+    let domain = take_file(alloc, Which::Domain, domain, shelf)?;
+    let problem = take_file(alloc, Which::Problem, problem, shelf)?;
     Ok(TwoFiles { domain, problem })
 }
