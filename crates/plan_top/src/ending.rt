@@ -1,7 +1,6 @@
 //! How a run ends, with the exit status and the text due.
 ghost use Rattle.std.specs.Prelude.{◌≡◌, ◌<◌, ◌^◌, ◌++◌, OnOk, IfOk, codes, decimal};
-ghost use Rattle.plan_top.specs.Ending.{status_of, text_of, word_of, kind_word, limit_word};
-ghost use Rattle.plan_top.specs.Causes.{IsSmall};
+ghost use Rattle.plan_top.specs.Ending.{status_of, text_of, word_of, kind_word, limit_word, IsSmall};
 
 use itoa::Buffer;
 use pd_model::Which;

@@ -1,6 +1,6 @@
 //! Grounding the task that two files say.
 ghost use Rattle.std.specs.Prelude.{◌≡◌, ◌≤◌, ℕ, length, IfOk};
-ghost use Rattle.plan_top.specs.Causes.{AreGrounded, StopsGrounding, Limits, most_bytes};
+ghost use Rattle.plan_top.specs.Causes.{AreGrounded, StopsGrounding, TellsOver, most_bytes};
 ghost use Rattle.grounding.specs.Grounded.{IsGrounded};
 ghost use Rattle.grounding.specs.Limits.{IsWithin};
 ghost use Rattle.plan_top.specs.Ends.{StopsBy};
@@ -29,7 +29,7 @@ fn too_many(what: Limit, count: u64) -> Stop
 fn grounded_of(alloc: Global, task: &Pddl) -> Result<Grounded, Stop>
     ensures grounded { IfOk result (IsGrounded task.now) }
     ensures within { IfOk result (IsWithin task.now) }
-    ensures stops { StopsBy (Limits task.now) result }
+    ensures stops { StopsBy (TellsOver task.now) result }
 {
     match ground(alloc, task) {
         Ok(grounded) => Ok(grounded),

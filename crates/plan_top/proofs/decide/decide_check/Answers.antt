@@ -1,7 +1,7 @@
 use Rattle.std.proofs.Common.{inl, inr, arith}
 use Rattle.pd_model.specs.declared.memory.Which.TheVariants.{Plan}
 use Rattle.std.specs.Prelude.{[], ◌∷◌}
-use Rattle.plan_top.specs.Causes.{ComesCheck, DecidesCheck, Stops, StopsAt, plan_files, IsTaken}
+use Rattle.plan_top.specs.Causes.{ComesCheck, DecidesCheck, Stops, StopsAt, task_files, IsTaken}
 use Rattle.plan_top.proofs.Stopped.{Answers-handed, Answers-weaker}
 use Rattle.plan_top.proofs.Decided.{check_whole, fits_taken, later, longer}
 use Rattle.plan_top.proofs.decide.decide_check.Goals as goal
@@ -12,7 +12,7 @@ returns-in_err-two-clause-cause g c =
     let lacks = g.S.Shelf.lacks c.args.shelf.now in
     let old = g.S.Shelf.failed c.args.shelf.now in
     let new = g.S.Shelf.failed c.take_two.new.shelf in
-    let files = plan_files told lacks old new c.args.domain.now c.args.problem.now in
+    let files = task_files c.args.domain.now c.args.problem.now in
     Answers-handed (StopsAt told lacks old new files) (ComesCheck told lacks old new c.args.domain.now c.args.problem.now c.args.plan.now)
     (λ end h. inl (longer told lacks old new files ((Plan, c.args.plan.now) ∷ []) end h)) c.in_err-two.field-0.0 c.from_residual.result c.from_residual.ensures.1 c.in_err-two.ensures.stops
 
