@@ -13,6 +13,7 @@ use Rattle.pd_model.specs.declared.calls.Verdict.TheVariants as verdicts
 use Rattle.pd_model.specs.declared.memory.Which.{Which}
 use Rattle.pd_model.specs.declared.parts.Parts.{Parts}
 use Rattle.pd_plan.specs.PlanFile.{plan_file}
+use Rattle.pd_plan.proofs.Spelled.{spelled}
 use Rattle.pd_plan.specs.Fault as plan
 use Rattle.plan_top.specs.declared.ending.Ending.{Ending}
 use Rattle.plan_top.specs.declared.ending.Ending.TheVariants.{Found, Refuted, Listing, Reaches, Blocked, Short, Refused, TooLong, TooMany, ReadFault, Usage}
@@ -76,7 +77,7 @@ verdict_reaches verdicts.Short zero = absurd (omega arith)
 
 plan_found : (first second : List ℕ) (end : Ending) → status_of end ≡ 0 → DecidesPlan first second end → (end ≡ Found) × ((task : Parts) × AreTask first second task × PlanRuns (text_of Found) task)
 plan_found first second end zero (found task g e are holds) =
-    (e, (task, are.are, (([], tt, holds), inr (inr (inl refl)), λ h components is published sets. plan_of_none task h is _ sets holds)))
+    (e, (task, are.are, (([], spelled task (text_of Found) [] tt, holds), inr (inr (inl refl)), λ h components is published sets. plan_of_none task h is _ sets holds)))
 plan_found first second end zero (refuted task g e are fails) = absurd (let one = ap status_of e in omega arith)
 plan_found first second end zero (plan_stopped s) = not_low end (omega arith) (stopped_status first second end s)
 

@@ -1,5 +1,5 @@
 //! Grounding the task that two files say.
-ghost use Rattle.std.specs.Prelude.{◌≡◌, ◌≤◌, ℕ, length, IfOk};
+ghost use Rattle.std.specs.Prelude.{◌≡◌, ◌≤◌, length, IfOk};
 ghost use Rattle.plan_top.specs.Causes.{AreGrounded, StopsGrounding, TellsOver, most_bytes};
 ghost use Rattle.grounding.specs.Grounded.{IsGrounded};
 ghost use Rattle.grounding.specs.Limits.{IsWithin};

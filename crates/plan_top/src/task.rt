@@ -1,5 +1,5 @@
 //! Reading the task that two files say.
-ghost use Rattle.std.specs.Prelude.{◌≡◌, ◌≤◌, ℕ, length, IfOk};
+ghost use Rattle.std.specs.Prelude.{◌≡◌, ◌≤◌, length, IfOk};
 ghost use Rattle.pd_sexp.specs.Fault.{Reads};
 ghost use Rattle.pd_sexp.specs.View.{view};
 ghost use Rattle.pd_task.specs.Reading.{reading};

@@ -35,7 +35,7 @@ pub struct Status(pub u8);
 /// Reads the words, takes the files from the shelf, decides, and writes the text due into the sink.
 ///
 /// The words are those after the program's name: `plan DOMAIN PROBLEM --max-horizon 0`, `ground DOMAIN PROBLEM`,
-/// `order DOMAIN PROBLEM` or `check DOMAIN PROBLEM PLAN`.
+/// `order DOMAIN PROBLEM` or `check DOMAIN PROBLEM PLAN`. `_rt` stands for the runtime, of which nothing is asked yet.
 pub fn run<H, S: Shelf, K: Sink>(
     _rt: &H,
     alloc: Global,
