@@ -12,7 +12,7 @@ returns-in_err-both c = Answers-handed (StopsGrounding c.args.domain.now c.args.
 
 pub push_order-requires-clause-actions : goal.push_order-requires-clause-actions
 push_order-requires-clause-actions c =
-    placed_calls c.in_ok-both.both.task c.in_ok-both.both.grounded c.in_ok-order.order c.in_ok-both.ensures.grounded.grounded (rw (c.task.ensures, c.in_ok-pairs.ensures) at c.in_ok-order.ensures.published)
+    placed_calls c.in_ok-both.both.task c.in_ok-both.both.grounded c.in_ok-order.order c.in_ok-both.ensures.grounded.grounded (rw (c.task-task.ensures, c.in_ok-pairs.ensures) at c.in_ok-order.ensures.published)
 
 pub returns : goal.returns
 returns c =
@@ -20,7 +20,7 @@ returns c =
     let g = c.in_ok-both.both.grounded in
     let order = c.in_ok-order.order in
     let known = length (known_clauses g.task) in
-    let count = rw (c.in_ok-pairs.ensures, c.task.ensures) at c.count.ensures.count in
+    let count = rw c.in_ok-pairs.ensures at c.count.ensures.count in
     let appended = rw count at c.in_ok-push_order.ensures in
     let text : c.of.result ≡ order_text task g order known = c.of.ensures ∙ appended ∙ ap (λ (xs : List ℕ). xs ++ order_text task g order known) c.new-text.ensures.items in
-    ordered task g order (ap Listing text) c.in_ok-both.ensures.grounded (rw (c.task.ensures, c.in_ok-pairs.ensures) at c.in_ok-order.ensures.published)
+    ordered task g order (ap Listing text) c.in_ok-both.ensures.grounded (rw (c.task-task.ensures, c.in_ok-pairs.ensures) at c.in_ok-order.ensures.published)
