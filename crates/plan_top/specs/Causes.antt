@@ -1,5 +1,5 @@
 -- When each ending of a run comes.
-use Rattle.std.specs.Prelude.{◌≡◌, ◌⊎◌, ◌<◌, ◌≤◌, ◌^◌, ℕ, List, [], ◌∷◌, length, Bool, IsTrue, Option, Some, None, IfSome, Ok, Err}
+use Rattle.std.specs.Prelude.{◌≡◌, ◌⊎◌, ◌<◌, ◌≤◌, ℕ, List, [], ◌∷◌, length, Bool, IsTrue, Option, Some, None, IfSome, Ok, Err}
 use Rattle.pl_io.specs.Outside.{FaultRose}
 use Rattle.pd_sexp.specs.Tree.{Tree}
 use Rattle.pd_sexp.specs.Fault.{syntax, deep, IsFault, Reads}

@@ -1,5 +1,5 @@
 -- What a printed plan, a refuted horizon and a checked plan promise of the files.
-use Rattle.std.specs.Prelude.{◌≡◌, ◌≤◌, ℕ, List, [], ◌++◌, length, codes, Bool, Option, Some, IfSome, Ok}
+use Rattle.std.specs.Prelude.{◌≡◌, ◌≤◌, ℕ, List, ◌++◌, length, codes, Bool, Option, Some, IfSome, Ok}
 use Rattle.pd_model.specs.Plan.{IsPlan}
 use Rattle.pd_model.specs.declared.calls.Call.{Call}
 use Rattle.pd_model.specs.declared.parts.Parts.{Parts}

@@ -64,7 +64,7 @@ fn answer_order(alloc: Global, domain: &[u8], problem: &[u8]) -> Result<Ending, 
     let pairs = known_of(alloc, task)?;
     let order = publish(alloc, task, &pairs)?;
     let mut text = Vec::new(alloc);
-    push_order(&both.task, &both.grounded, &order, pairs.count(), &mut text)?;
+    push_order(&both.task, &both.grounded, &order, &pairs, &mut text)?;
     Ok(Ending::Listing(Bytes::of(text)))
 }
 
