@@ -6,8 +6,8 @@ ghost use Rattle.pd_task.specs.Reading.{reading};
 ghost use Rattle.plan_top.specs.Causes.{AreTask, RefusesTask, RefusesTree, RefusesTrees, most_bytes};
 ghost use Rattle.plan_top.specs.Ends.{StopsBy};
 
-use crate::stop::{Stop, refuse};
 use crate::Kind;
+use crate::stop::{Stop, refuse};
 use pd_model::{Pddl, Which};
 use pd_sexp::{Tree, TreeError, read_tree};
 use pd_task::{PddlError, read_pddl};
