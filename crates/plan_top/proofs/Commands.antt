@@ -1,5 +1,5 @@
 -- Words are those of one command.
-use Rattle.std.proofs.Common.{◌≡◌, ◌∙◌, sym, List, [], ◌∷◌, ℕ, codes, refl}
+use Rattle.std.proofs.Common.{◌≡◌, ◌∙◌, sym, List, ℕ, codes, refl}
 use Rattle.plan_top.specs.Words.{IsTwo, IsCheck}
 use Rattle.plan_top.specs.declared.words.Command.{Command}
 use Rattle.plan_top.specs.declared.words.Command.TheVariants as commands

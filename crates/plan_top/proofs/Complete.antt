@@ -70,7 +70,7 @@ not_over task g limits.Effects count is within over =
 
 not_stopped : (domain problem : List ℕ) (task : Parts) (g : Grounded) (end : Ending) → AreGrounded domain problem task g → StopsGrounding domain problem end → ⊥
 not_stopped domain problem task g end are (inl r) = not_refused domain problem task end are.are r
-not_stopped domain problem task g end are (inr (other, others, what, count, e, over)) =
+not_stopped domain problem task g end are (inr (other, others, (what, count, e, over))) =
     not_over task g what count are.grounded are.within (subst (λ (t : Parts). IsOver what t count) (same_task domain problem task other are.are others) over)
 
 -- ---- what is decided

@@ -1,5 +1,5 @@
 -- What bytes decide, the files of a shelf decide.
-use Rattle.std.proofs.Common.{◌≡◌, ◌≤◌, ℕ, Bool, true, List, length, Option, Some, None, subst, refl, arith, inl, inr}
+use Rattle.std.proofs.Common.{◌≡◌, ◌≤◌, ℕ, Bool, true, List, [], ◌∷◌, ◌++◌, length, Option, Some, None, subst, refl, arith, inl, inr}
 use Rattle.std.specs.Prelude.{IsTrue, IfSome}
 use Rattle.pl_io.specs.Outside.{fault_count}
 use Rattle.pd_model.specs.declared.memory.Which.{Which}
@@ -18,7 +18,7 @@ use Rattle.plan_top.specs.declared.ending.Limit.{Limit}
 use Rattle.plan_top.specs.declared.words.Command.{Command}
 use Rattle.plan_top.specs.declared.words.Command.TheVariants as commands
 use Rattle.pd_model.specs.declared.memory.Which.TheVariants.{Domain, Problem}
-use Rattle.plan_top.specs.Causes.{RefusesTask, domain_tree, problem_tree, no_task, refusal_of, refusal_of_plan, ending_of, LimitsTask, StopsGrounding, Decides, found, refuted, plan_stopped, grounded, ground_stopped, ordered, order_stopped, is_answer, DecidesCheck, checked, check_refused, answered, no_calls, Stops, ComesTwo, ComesCheck, Fits, IsTaken, most_bytes}
+use Rattle.plan_top.specs.Causes.{RefusesTask, domain_tree, problem_tree, no_task, refusal_of, refusal_of_plan, ending_of, LimitsTask, StopsGrounding, Decides, found, refuted, plan_stopped, grounded, ground_stopped, ordered, order_stopped, is_answer, DecidesCheck, checked, check_refused, answered, no_calls, Stops, StopsAt, ComesTwo, ComesCheck, Fits, IsTaken, most_bytes}
 
 -- ---- which answers the contents give
 
@@ -44,7 +44,7 @@ task_refusal domain problem end (no_task first second one two r) = refusal_is r.
 
 -- the ending tells of a limit
 pub limit_is : (domain problem : List ℕ) (end : Ending) → LimitsTask domain problem end → (what : Limit) × (count : ℕ) × (end ≡ TooMany what count)
-limit_is domain problem end (task, are, what, count, e, over) = (what, count, e)
+limit_is domain problem end l = (l.2.0, l.2.1, l.2.2)
 
 stop_answer : (command : Command) (domain problem : List ℕ) (end : Ending) → StopsGrounding domain problem end → is_answer command end ≡ true
 stop_answer commands.Plan domain problem end (inl r) = rw (task_refusal domain problem end r).3 refl
@@ -107,7 +107,7 @@ module _ (told : List ℕ → Option (List ℕ)) (lacks : List ℕ → Bool) (ol
   later middle rises file name end (inl h) = let before = rises name in let after = h.1 in inl (h.0, omega arith)
   later middle rises file name end (inr h) = inr h
 
-  fits_taken : (name bytes : List ℕ) → IsTaken told lacks name bytes → Fits told lacks old new name
+  pub fits_taken : (name bytes : List ℕ) → IsTaken told lacks name bytes → Fits told lacks old new name
   fits_taken name bytes t = fits_of name bytes t.there t.whole t.fits
 
   pub two_whole : (command : Command) (domain problem first second : List ℕ) → IsTaken told lacks domain first → IsTaken told lacks problem second
@@ -119,15 +119,20 @@ module _ (told : List ℕ → Option (List ℕ)) (lacks : List ℕ → Bool) (ol
     at_told (λ d. IfSome (told problem) (λ p. Decides command d p end)) (told domain) first one.whole (at_told (λ p. Decides command first p end) (told problem) second two.whole h),
   )
 
-  module _ (domain problem first second : List ℕ) (one : Fits told lacks old new domain) (first_told : IsTold (told domain) first) where
-    pub check_whole : (plan_name third : List ℕ) → Fits told lacks old new problem → Fits told lacks old new plan_name → IsTold (told problem) second → IsTold (told plan_name) third → (end : Ending)
-        → DecidesCheck first second third end → ComesCheck told lacks old new domain problem plan_name end
-    check_whole plan_name third two three second_told third_told end h = inr (
-      one,
-      two,
-      three,
-      check_answer first second third end h,
-      at_told (λ d. IfSome (told problem) (λ p. IfSome (told plan_name) (λ l. DecidesCheck d p l end))) (told domain) first first_told
-          (at_told (λ p. IfSome (told plan_name) (λ l. DecidesCheck first p l end)) (told problem) second second_told
-          (at_told (λ l. DecidesCheck first second l end) (told plan_name) third third_told h)),
-    )
+  pub check_whole : (domain problem plan_name first second third : List ℕ) → IsTaken told lacks domain first → IsTaken told lacks problem second → IsTaken told lacks plan_name third
+      → (end : Ending) → DecidesCheck first second third end → ComesCheck told lacks old new domain problem plan_name end
+  check_whole domain problem plan_name first second third one two three end h = inr (
+    fits_taken domain first one,
+    fits_taken problem second two,
+    fits_taken plan_name third three,
+    check_answer first second third end h,
+    at_told (λ d. IfSome (told problem) (λ p. IfSome (told plan_name) (λ l. DecidesCheck d p l end))) (told domain) first one.whole
+        (at_told (λ p. IfSome (told plan_name) (λ l. DecidesCheck first p l end)) (told problem) second two.whole
+        (at_told (λ l. DecidesCheck first second l end) (told plan_name) third three.whole h)),
+  )
+
+  -- of more files the same is told
+  pub longer : (files more : List (Which × List ℕ)) (end : Ending) → StopsAt told lacks old new files end → StopsAt told lacks old new (files ++ more) end
+  longer [] more end h = absurd h
+  longer (file ∷ others) more end (inl stops) = inl stops
+  longer (file ∷ others) more end (inr after) = inr (after.0, longer others more end after.1)

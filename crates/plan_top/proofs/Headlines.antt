@@ -1,5 +1,5 @@
 -- What the headline says follows from an ending's cause.
-use Rattle.std.proofs.Common.{◌≡◌, ◌≤◌, ◌+◌, ◌⊎◌, ℕ, Bool, true, false, List, [], ◌∷◌, ◌++◌, take, drop, Option, Some, None, Ok, codes, refl, sym, ap, subst, ◌∙◌, arith, inl, inr, if◌then◌else◌}
+use Rattle.std.proofs.Common.{◌≡◌, ◌≤◌, ◌+◌, ◌⊎◌, ℕ, Bool, true, false, List, [], ◌∷◌, ◌++◌, take, drop, Option, Some, None, Ok, codes, refl, sym, ap, subst, ◌∙◌, arith, inl, inr}
 use Rattle.std.specs.Prelude.{IsTrue, IfSome}
 use Rattle.std.proofs.lemmas.List.{take-append-drop}
 use Rattle.pl_io.specs.Outside.{appended, TakesFront}
@@ -14,12 +14,9 @@ use Rattle.pd_model.specs.declared.memory.Which.{Which}
 use Rattle.pd_model.specs.declared.parts.Parts.{Parts}
 use Rattle.pd_plan.specs.PlanFile.{plan_file}
 use Rattle.pd_plan.specs.Fault as plan
-use Rattle.pd_task.specs.declared.error.PddlError.{PddlError}
-use Rattle.pd_task.specs.declared.error.PddlError.TheVariants as errors
-use Rattle.plan_top.specs.declared.ending.Kind.TheVariants as kinds
 use Rattle.plan_top.specs.declared.ending.Ending.{Ending}
 use Rattle.plan_top.specs.declared.ending.Ending.TheVariants.{Found, Refuted, Listing, Reaches, Blocked, Short, Refused, TooLong, TooMany, ReadFault, Usage}
-use Rattle.plan_top.specs.Causes.{AreTask, AreGrounded, HoldsAtFirst, RefusesTask, refusal_of_plan, ending_of, StopsGrounding, LimitsTask, Decides, DecidesPlan, found, refuted, plan_stopped, DecidesGround, grounded, ground_stopped, DecidesOrder, ordered, order_stopped, is_answer, DecidesCheck, checked, check_refused, answered, no_calls, StopsAt, plan_files, check_files, Comes, no_command, of_two, of_check, IsSmall}
+use Rattle.plan_top.specs.Causes.{AreTask, HoldsAtFirst, RefusesTask, refusal_of_plan, ending_of, StopsGrounding, Decides, DecidesPlan, found, refuted, plan_stopped, DecidesGround, grounded, ground_stopped, DecidesOrder, ordered, order_stopped, is_answer, DecidesCheck, checked, check_refused, answered, no_calls, StopsAt, plan_files, check_files, Comes, no_command, of_two, of_check, IsSmall}
 use Rattle.plan_top.specs.Ending.{status_of, text_of}
 use Rattle.plan_top.specs.Lines.{Says}
 use Rattle.plan_top.specs.Headline.{Printed, OfFiles, PlanRuns, NoStepPlan, NoPlan, TellsGround, TellsOrder, CallsRun}

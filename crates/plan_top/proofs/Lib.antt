@@ -4,6 +4,7 @@ pub mod Four
 pub mod Stopped
 pub mod Verdicts
 pub mod AtFirst
+pub mod Ordered
 pub mod Commands
 pub mod Decided
 pub mod Printed

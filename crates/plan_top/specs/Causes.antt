@@ -124,7 +124,7 @@ pub data DecidesGround (domain problem : List ℕ) (end : Ending) : Type 0 where
 -- what two files decide for `order`: as long as no clauses are known, the order is that without any
 pub data DecidesOrder (domain problem : List ℕ) (end : Ending) : Type 0 where
   ordered : (task : Parts) (g : Grounded) (components : List (List ℕ)) → end ≡ Listing (order_text task g components 0) → AreGrounded domain problem task g
-    → IsPublished g.task [] components → DecidesOrder domain problem end
+      → IsPublished g.task [] components → DecidesOrder domain problem end
   order_stopped : StopsGrounding domain problem end → DecidesOrder domain problem end
 
 -- what two files decide for a command
@@ -148,6 +148,12 @@ pub data ChecksCalls (task : Parts) (plan_bytes : List ℕ) (end : Ending) : Typ
 pub data DecidesCheck (domain problem plan_bytes : List ℕ) (end : Ending) : Type 0 where
   checked : (task : Parts) → AreTask domain problem task → ChecksCalls task plan_bytes end → DecidesCheck domain problem plan_bytes end
   check_refused : RefusesTask domain problem end → DecidesCheck domain problem plan_bytes end
+
+-- a file was taken: it is not told to be missing, its bytes are what is told of them, and they are no more than may be
+pub record IsTaken (told : List ℕ → Option (List ℕ)) (lacks : List ℕ → Bool) (name bytes : List ℕ) : Type 0 where
+  pub there : IsTrue (lacks name) → ⊥
+  pub whole : IfSome (told name) (λ file. bytes ≡ file)
+  pub fits : length bytes ≤ most_bytes
 
 -- What a shelf tells: the bytes of names, and of which names there is no file. Then its faults before and after.
 module _ (told : List ℕ → Option (List ℕ)) (lacks : List ℕ → Bool) (old new : List (List ℕ)) where

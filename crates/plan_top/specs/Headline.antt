@@ -1,11 +1,10 @@
 -- What a printed plan, a refuted horizon and a checked plan promise of the files.
-use Rattle.std.specs.Prelude.{◌≡◌, ◌≤◌, ℕ, List, [], ◌∷◌, ◌++◌, length, codes, Bool, Option, Some, IfSome, Ok}
+use Rattle.std.specs.Prelude.{◌≡◌, ◌≤◌, ℕ, List, [], ◌++◌, length, codes, Bool, Option, Some, IfSome, Ok}
 use Rattle.pd_model.specs.Plan.{IsPlan}
 use Rattle.pd_model.specs.declared.calls.Call.{Call}
 use Rattle.pd_model.specs.declared.parts.Parts.{Parts}
 use Rattle.pd_plan.specs.PlanFile.{plan_file}
 use Rattle.pd_plan.specs.Spells.{Spells}
-use Rattle.plan_top.specs.Words as words
 use Rattle.plan_top.specs.Among.{IsAmong}
 use Rattle.gt_core.specs.Task.{Task}
 use Rattle.gt_core.specs.Published.{IsPublished, order_of}

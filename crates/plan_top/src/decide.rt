@@ -61,17 +61,12 @@ fn decide_check<S: Shelf>(
     ensures lacks { S.lacks shelf.new ≡ S.lacks shelf.old }
     ensures never_falls { (name : List ℕ) → fault_count name (S.failed shelf.old) ≤ fault_count name (S.failed shelf.new) }
 {
-    let first = match take_file(alloc, Which::Domain, domain, shelf) {
-        Ok(bytes) => bytes,
+    let two = match take_two(alloc, domain, problem, shelf) {
+        Ok(two) => two,
         Err(stop) => return Err(stop),
     };
-    let second = match take_file(alloc, Which::Problem, problem, shelf) {
-        Ok(bytes) => bytes,
-        Err(stop) => return Err(stop),
-    };
-    let third = match take_file(alloc, Which::Plan, plan, shelf) {
-        Ok(bytes) => bytes,
-        Err(stop) => return Err(stop),
-    };
-    answer_check(alloc, &first, &second, &third)
+    match take_file(alloc, Which::Plan, plan, shelf) {
+        Ok(bytes) => answer_check(alloc, &two.domain, &two.problem, &bytes),
+        Err(stop) => Err(stop),
+    }
 }

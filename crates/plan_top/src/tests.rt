@@ -1,4 +1,6 @@
+use crate::ground::ground_task;
 use crate::{Status, run};
+use itoa::Buffer;
 use pl_io::{Bytes, Files, MemShelf, MemSink, NamedFile, Numbers};
 use std::alloc::{AllocError, Global};
 use std::test::Fail;
@@ -28,6 +30,49 @@ const FARTHER_HOPPER: &[u8] =
     b"(define (domain h) (:predicates (at ?x)) (:action hop :parameters (?a ?b) :precondition (and (at ?a) (not (= ?a ?b))) :effect (and (not (at ?a)) (at ?b))))";
 
 const HOPPED: &[u8] = b"(define (problem x) (:objects r) (:init (at r)) (:goal (at r)))";
+
+// A constant atom that an action needs to be false.
+const CONSTANT: &[u8] =
+    b"(define (domain d) (:predicates (p) (q)) (:action a :precondition (not (p)) :effect (q)))";
+
+// The same with an action that deletes the atom.
+const DELETED: &[u8] =
+    b"(define (domain d) (:predicates (p) (q)) (:action a :precondition (not (p)) :effect (q)) (:action b :effect (not (p))))";
+
+const P_AT_FIRST: &[u8] = b"(define (problem x) (:init (p)) (:goal ()))";
+
+const BURNER: &[u8] =
+    b"(define (domain d) (:predicates (p) (q) (r)) (:action burn :effect (and (r) (not (p)))) (:action use :precondition (p) :effect (q)))";
+
+const BURNED: &[u8] = b"(define (problem x) (:init (p)) (:goal (and (q) (r))))";
+
+const RING: &[u8] =
+    b"(define (domain d) (:predicates (p) (q) (r) (s)) (:action one :precondition (p) :effect (and (q) (not (s)))) (:action two :precondition (s) :effect (and (r) (not (p)))))";
+
+const RING_AT_FIRST: &[u8] = b"(define (problem x) (:init (p) (s)) (:goal (and (q) (r))))";
+
+const BOTH: &[u8] =
+    b"(define (domain d) (:predicates (p)) (:action both :effect (and (p) (not (p)))))";
+
+const NOT_P_AT_FIRST: &[u8] = b"(define (problem x) (:init) (:goal (p)))";
+
+const PAIR: &[u8] =
+    b"(define (domain d) (:predicates (p ?x)) (:action pair :parameters (?x ?y) :precondition (and (p ?x) (p ?y))))";
+
+const PAIR_AND_ONE: &[u8] =
+    b"(define (domain d) (:predicates (p ?x)) (:action pair :parameters (?x ?y) :precondition (and (p ?x) (p ?y))) (:action one))";
+
+const FACT_EACH: &[u8] =
+    b"(define (domain d) (:predicates (p ?x)) (:action a :parameters (?x) :effect (p ?x)))";
+
+const ACTION_EACH: &[u8] =
+    b"(define (domain d) (:predicates (q)) (:action a :parameters (?x) :effect (q)))";
+
+const EFFECT_EACH_PAIR: &[u8] =
+    b"(define (domain d) (:predicates (p ?x) (q ?x)) (:action make :parameters (?x) :effect (p ?x)) (:action big :effect (forall (?x ?y) (when (p ?x) (q ?y)))))";
+
+const EFFECT_EACH_PAIR_AND_ONE: &[u8] =
+    b"(define (domain d) (:predicates (p ?x) (q ?x) (r)) (:action make :parameters (?x) :effect (p ?x)) (:action big :effect (forall (?x ?y) (when (p ?x) (q ?y)))) (:action one :effect (and (r) (when (not (r)) (not (r))))))";
 
 const FOUND: &str =
     "; horizon 0 plan conflicts 0\n; conflicts 0 of 100000\n; plan of 0 steps with 0 actions\n";
@@ -87,6 +132,10 @@ fn answer<H>(
 }
 
 const PLAN: &[&str] = &["plan", "d", "p", "--max-horizon", "0"];
+
+const GROUND: &[&str] = &["ground", "d", "p"];
+
+const ORDER: &[&str] = &["order", "d", "p"];
 
 const CHECK: &[&str] = &["check", "d", "p", "l"];
 
@@ -152,6 +201,95 @@ fn refused_domains(rt: HostRuntime) -> Result<(), Fail> {
         taken.as_slice(),
         b"; refused unsupported problem 27\n".as_slice()
     );
+    Ok(())
+}
+
+#[test]
+fn listings(rt: HostRuntime) -> Result<(), Fail> {
+    let rows: [(&[&str], &[u8], &[u8], &str); 5] = [
+        (
+            GROUND,
+            LAMP,
+            DARK,
+            "; facts 1\n; 0 (on)\n; actions 1\n; 0 (flip)\n; effects 0\n",
+        ),
+        (
+            GROUND,
+            CONSTANT,
+            P_AT_FIRST,
+            "; facts 1\n; 0 (q)\n; actions 0\n; effects 0\n",
+        ),
+        (
+            GROUND,
+            DELETED,
+            P_AT_FIRST,
+            "; facts 2\n; 0 (p)\n; 1 (q)\n; actions 2\n; 0 (a)\n; 1 (b)\n; effects 0\n",
+        ),
+        (
+            ORDER,
+            BURNER,
+            BURNED,
+            "; actions 2 components 2 pairs 0\n; 0 1 (use)\n; 1 0 (burn)\n",
+        ),
+        (
+            ORDER,
+            RING,
+            RING_AT_FIRST,
+            "; actions 2 components 1 pairs 0\n; 0 0 (one)\n; 1 0 (two)\n",
+        ),
+    ];
+    for (given, domain, problem, text) in rows {
+        let (got, taken) = answer(&rt, rt.alloc(), given, (domain, problem, None), &[])?;
+        assert_eq!(rt; got.0, 0);
+        assert_eq!(rt; taken.as_slice(), text.as_bytes());
+    }
+    Ok(())
+}
+
+// Where one action adds and deletes an atom, the add wins.
+#[test]
+fn adds_win(rt: HostRuntime) -> Result<(), Fail> {
+    let both = ground_task(rt.alloc(), BOTH, NOT_P_AT_FIRST).expect(&rt, "a task");
+    let task = both.grounded.task();
+    assert_eq!(rt; task.facts(), 1);
+    assert_eq!(rt; task.acts().len(), 1);
+    let mut next = [false];
+    assert!(rt; task.next(&[false], 0, &mut next));
+    assert!(rt; next[0]);
+    Ok(())
+}
+
+// A problem of so many objects, `o0`, `o1`, .., of which nothing is asked.
+fn many_objects(alloc: Global, count: u32) -> Result<Vec<u8>, AllocError> {
+    let mut text = Vec::from_slice(alloc, b"(define (problem x) (:objects")?;
+    for number in 0..count {
+        text.extend_from_slice(b" o")?;
+        let mut buffer = Buffer::new();
+        text.extend_from_slice(buffer.format(number).as_bytes())?;
+    }
+    text.extend_from_slice(b") (:goal ()))")?;
+    Ok(text)
+}
+
+// Each limit, met and passed by one.
+#[test]
+fn grounding_limits(rt: HostRuntime) -> Result<(), Fail> {
+    let rows: [(&[u8], u32, &str, u8); 8] = [
+        (PAIR, 2000, FOUND, 0),
+        (PAIR_AND_ONE, 2000, "; limit tuples 4000001\n", 4),
+        (FACT_EACH, 2048, FOUND, 0),
+        (FACT_EACH, 2049, "; limit facts 2049\n", 4),
+        (ACTION_EACH, 16384, FOUND, 0),
+        (ACTION_EACH, 16385, "; limit actions 16385\n", 4),
+        (EFFECT_EACH_PAIR, 256, FOUND, 0),
+        (EFFECT_EACH_PAIR_AND_ONE, 256, "; limit effects 65537\n", 4),
+    ];
+    for (domain, count, text, status) in rows {
+        let problem = many_objects(rt.alloc(), count)?;
+        let (got, taken) = answer(&rt, rt.alloc(), PLAN, (domain, &problem, None), &[])?;
+        assert_eq!(rt; got.0, status);
+        assert_eq!(rt; taken.as_slice(), text.as_bytes());
+    }
     Ok(())
 }
 
@@ -243,11 +381,13 @@ fn a_failing_sink_and_words_that_are_not_taken(rt: HostRuntime) -> Result<(), Fa
     let status = run(&rt, alloc, &given, &mut files, &mut sink);
     assert_eq!(rt; status.0, 6);
     assert_eq!(rt; sink.taken(), b"; horizon ".as_slice());
-    let rows: [&[&str]; 4] = [
+    let rows: [&[&str]; 6] = [
         &[],
         &["plan"],
         &["plan", "d", "p", "--max-horizon", "1"],
         &["check", "d", "p"],
+        &["ground", "d"],
+        &["order", "d", "p", "q"],
     ];
     for given in rows {
         let (status, taken) = answer(&rt, alloc, given, (LAMP, DARK, None), &[])?;

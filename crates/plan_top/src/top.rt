@@ -97,13 +97,14 @@ pub fn run<H, S: Shelf, K: Sink>(
     let Some(ending) = ended(decide(alloc, words, shelf)) else {
         return Status(8);
     };
+    let status = ending.status();
     let Ok(due) = ending.text(alloc) else {
         return Status(8);
     };
     let Ok(()) = put_all(sink, due.as_slice()) else {
         return Status(6);
     };
-    Status(ending.status())
+    Status(status)
 }
 
 /// The ending, answered or handed on; none for want of memory.
