@@ -7,3 +7,4 @@ pub mod Put
 pub mod Leaving
 pub mod Assembled
 pub mod TwoActionsTask
+pub mod Listed

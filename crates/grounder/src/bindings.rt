@@ -4,7 +4,8 @@ ghost use Rattle.pd_model.specs.Fits.{fitting};
 ghost use Rattle.grounding.specs.Tuples.{told};
 ghost use Rattle.grounder.specs.Bindings.{size, tuple_at, AreBindings};
 
-use pd_model::{Memory, Objects, Pddl, fitting_objects};
+use atom_join::Domains;
+use pd_model::{Memory, Objects};
 use std::alloc::Global;
 
 /// The objects that fit the type of each variable, and how many tuples of them there are.
@@ -15,12 +16,12 @@ pub(crate) struct Bindings {
 }
 
 /// The objects that fit each of these types.
-fn domains_of(alloc: Global, p: &Pddl, over: &[u32]) -> Result<Vec<Objects>, Memory>
-    ensures { IfOk result (λ domains. domains.items ≡ map (fitting p.now) over.now) }
+fn domains_of(alloc: Global, lists: &Domains, over: &[u32]) -> Result<Vec<Objects>, Memory>
+    ensures { IfOk result (λ domains. domains.items ≡ map (fitting lists.now) over.now) }
 {
     let mut domains = Vec::with_capacity(alloc, over.len())?;
     for kind in over {
-        domains.push(Objects::of(fitting_objects(alloc, p, *kind)?))?;
+        domains.push(Objects::of(lists.copied(alloc, *kind)?))?;
     }
     Ok(domains)
 }
@@ -37,10 +38,10 @@ fn size_of(domains: &[Objects]) -> u64
 }
 
 /// The bindings of variables of these types. So many that their number takes more than 64 bits are want of memory.
-pub(crate) fn bindings_of(alloc: Global, p: &Pddl, over: &[u32]) -> Result<Bindings, Memory>
-    ensures { IfOk result (λ b. AreBindings p.now over.now b) }
+pub(crate) fn bindings_of(alloc: Global, lists: &Domains, over: &[u32]) -> Result<Bindings, Memory>
+    ensures { IfOk result (λ b. AreBindings lists.now over.now b) }
 {
-    let domains = domains_of(alloc, p, over)?;
+    let domains = domains_of(alloc, lists, over)?;
     let count = size_of(&domains);
     if count == u64::MAX {
         return Err(Memory);

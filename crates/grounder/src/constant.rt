@@ -9,7 +9,8 @@ ghost use Rattle.grounder.specs.Putting.{LeavesOut, HasExactly};
 
 use crate::bindings::bindings_of;
 use crate::literals::all_may_hold;
-use pd_model::{Atom, Atoms, Call, Effect, Memory, Pddl, State, instance_of};
+use atom_join::Domains;
+use pd_model::{Atom, Atoms, Call, Effect, Memory, State, instance_of};
 use reachability::Reached;
 use std::alloc::Global;
 
@@ -34,7 +35,7 @@ fn leave_out_deleted(
 /// Takes out the atoms of the possible instances of a delete.
 fn leave_out_instances(
     alloc: Global,
-    p: &Pddl,
+    domains: &Domains,
     reached: &[Atom],
     objects: &[u32],
     effect: &Effect,
@@ -42,9 +43,13 @@ fn leave_out_instances(
 ) -> Result<(), Memory>
     requires sorted { IsSorted atom_less reached.now }
     requires delete { effect.now.adds ≡ false }
-    ensures { OnOk result (LeavesOut (λ a. list_any (deletes reached.now a) (changes_of p.now objects.now effect.now)) constant.old constant.new) }
+    ensures { OnOk result (LeavesOut (λ a. list_any (deletes reached.now a) (changes_of domains.now objects.now effect.now)) constant.old constant.new) }
 {
-    let bindings = bindings_of(alloc, p, effect.over.as_slice())?;
+    let over = effect.over.as_slice();
+    if !domains.have_objects(over) {
+        return Ok(());
+    }
+    let bindings = bindings_of(alloc, domains, over)?;
     for number in 0..bindings.count {
         let objects = bindings.extended(alloc, objects, number)?;
         leave_out_deleted(alloc, reached, &objects, effect, constant)?;
@@ -55,50 +60,72 @@ fn leave_out_instances(
 /// Takes out the atoms of the possible instances of an effect, where it is a delete.
 fn leave_out_effect(
     alloc: Global,
-    p: &Pddl,
+    domains: &Domains,
     reached: &[Atom],
     objects: &[u32],
     effect: &Effect,
     constant: &mut State,
 ) -> Result<(), Memory>
     requires { IsSorted atom_less reached.now }
-    ensures { OnOk result (LeavesOut (λ a. list_any (deletes reached.now a) (changes_of p.now objects.now effect.now)) constant.old constant.new) }
+    ensures { OnOk result (LeavesOut (λ a. list_any (deletes reached.now a) (changes_of domains.now objects.now effect.now)) constant.old constant.new) }
 {
     if effect.adds {
         return Ok(());
     }
-    leave_out_instances(alloc, p, reached, objects, effect, constant)
+    leave_out_instances(alloc, domains, reached, objects, effect, constant)
 }
 
 /// Takes out the atoms that a call's possible deletes name.
 fn leave_out_call(
     alloc: Global,
-    p: &Pddl,
+    domains: &Domains,
     reached: &[Atom],
     call: &Call,
     constant: &mut State,
 ) -> Result<(), Memory>
     requires { IsSorted atom_less reached.now }
-    ensures { OnOk result (LeavesOut (λ a. list_any (deletes reached.now a) (instance_of p.now call.now).changes) constant.old constant.new) }
+    ensures { OnOk result (LeavesOut (λ a. list_any (deletes reached.now a) (instance_of domains.now call.now).changes) constant.old constant.new) }
 {
-    let Some(schema) = p.schemas().as_slice().get(call.schema as usize) else {
+    let Some(schema) = domains
+        .task()
+        .schemas()
+        .as_slice()
+        .get(call.schema as usize)
+    else {
         return Ok(());
     };
     for effect in schema.effects.as_slice() {
-        leave_out_effect(alloc, p, reached, call.objects.as_slice(), effect, constant)?;
+        leave_out_effect(
+            alloc,
+            domains,
+            reached,
+            call.objects.as_slice(),
+            effect,
+            constant,
+        )?;
     }
     Ok(())
 }
 
 /// The constant atoms: the initial ones that no possible delete of a kept call names.
-pub(crate) fn constant_atoms(alloc: Global, p: &Pddl, reached: &Reached) -> Result<State, Memory>
+pub(crate) fn constant_atoms(
+    alloc: Global,
+    domains: &Domains,
+    reached: &Reached,
+) -> Result<State, Memory>
     requires { IsSorted atom_less reached.now.atoms }
-    ensures { IfOk result (λ constant. HasExactly (is_constant p.now reached.now.atoms reached.now.calls) constant) }
+    ensures { IfOk result (λ constant. HasExactly (is_constant domains.now reached.now.atoms reached.now.calls) constant) }
 {
     let mut constant = State::new(alloc);
-    constant.add_all(p.init().as_slice())?;
+    constant.add_all(domains.task().init().as_slice())?;
     for call in reached.calls.as_slice() {
-        leave_out_call(alloc, p, reached.atoms.as_slice(), call, &mut constant)?;
+        leave_out_call(
+            alloc,
+            domains,
+            reached.atoms.as_slice(),
+            call,
+            &mut constant,
+        )?;
     }
     Ok(constant)
 }

@@ -61,7 +61,11 @@ fn put_instances(
     requires { IsKnown p.now known.now }
     ensures { OnOk result (effects_at into.new.keys ≡ put_changes p.now known.now.facts (changes_of p.now objects.now effect.now) (effects_at into.old.keys)) }
 {
-    let bindings = bindings_of(alloc, p, effect.over.as_slice())?;
+    let over = effect.over.as_slice();
+    if !known.domains.have_objects(over) {
+        return Ok(());
+    }
+    let bindings = bindings_of(alloc, known.domains, over)?;
     for number in (0..bindings.count).rev() {
         let objects = bindings.extended(alloc, objects, number)?;
         put_effect(alloc, p, known, &objects, effect, into)?;

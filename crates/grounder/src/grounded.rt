@@ -16,6 +16,7 @@ use crate::known::Known;
 use crate::literals::any_never;
 use crate::simplify::simplified;
 use crate::tuples::count_tuples;
+use atom_join::Domains;
 use grounding::laws::laws;
 use gt_core::act::{Act, Acts};
 use gt_core::eff::Effs;
@@ -107,16 +108,20 @@ fn initial_values(alloc: Global, p: &Pddl, known: &Known) -> Result<Bits, Memory
     Ok(Bits::of(values))
 }
 
-/// The facts and the initial atoms of a task.
-fn known_of(alloc: Global, p: &Pddl, facts: Atoms) -> Result<Known, Memory>
+/// A task with its facts and its initial atoms.
+fn known_of<'a>(alloc: Global, domains: &'a Domains<'a>, facts: Atoms) -> Result<Known<'a>, Memory>
     requires sorted { IsSorted atom_less facts }
     requires few { length facts ≤ most_facts }
-    ensures known { IfOk result (λ known. IsKnown p.now known) }
+    ensures known { IfOk result (λ known. IsKnown domains.now known) }
     ensures facts { IfOk result (λ known. known.facts ≡ facts) }
 {
     let mut initial = State::new(alloc);
-    initial.add_all(p.init().as_slice())?;
-    Ok(Known { facts, initial })
+    initial.add_all(domains.task().init().as_slice())?;
+    Ok(Known {
+        domains,
+        facts,
+        initial,
+    })
 }
 
 /// The task of facts, calls and their actions.
@@ -154,14 +159,15 @@ pub fn ground(alloc: Global, p: &Pddl) -> Result<Grounded, GroundError>
     if count > 4_000_000 {
         return Err(GroundError::Tuples { count });
     }
+    let domains = Domains::of(alloc, p)?;
     let reached = reach(alloc, p)?;
-    let constant = constant_atoms(alloc, p, &reached)?;
+    let constant = constant_atoms(alloc, &domains, &reached)?;
     let facts = facts_of(alloc, reached.atoms, &constant)?;
     let count = facts.as_slice().len() as u64;
     if count > 2048 {
         return Err(GroundError::Facts { count });
     }
-    let known = known_of(alloc, p, facts)?;
+    let known = known_of(alloc, &domains, facts)?;
     let calls = actions_of(alloc, p, &known, reached.calls)?;
     let count = calls.as_slice().len() as u64;
     if count > 16384 {

@@ -4,4 +4,4 @@ use Rattle.grounder.specs.Putting.{LeavesOut}
 use Rattle.grounder.proofs.constant.constant_atoms.Given as goal
 
 abbrev pub invariant-loop-call : goal.invariant-loop-call
-invariant-loop-call l = LeavesOut (is_deleted l.p l.reached.atoms (take l.call-index l.call-items)) l.p.init l.constant
+invariant-loop-call l = LeavesOut (is_deleted l.domains l.reached.atoms (take l.call-index l.call-items)) l.domains.init l.constant

@@ -7,4 +7,4 @@ use Rattle.grounder.proofs.constant.leave_out_instances.Given as goal
 
 abbrev pub invariant-loop-number : goal.invariant-loop-number
 invariant-loop-number l =
-    LeavesOut (λ a. list_any (deletes l.reached a) (take l.number (changes_of l.p l.objects l.effect))) l.fn.constant l.constant
+    LeavesOut (λ a. list_any (deletes l.reached a) (take l.number (changes_of l.domains l.objects l.effect))) l.fn.constant l.constant
