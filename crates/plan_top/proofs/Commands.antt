@@ -1,6 +1,6 @@
 -- Words are those of one command.
 use Rattle.std.proofs.Common.{◌≡◌, ◌∙◌, sym, List, ℕ, codes, refl}
-use Rattle.plan_top.specs.Words.{IsTwo, IsCheck}
+use Rattle.plan_top.specs.Words.{IsTwo, IsCheckCommand}
 use Rattle.plan_top.specs.declared.words.Command.{Command}
 use Rattle.plan_top.specs.declared.words.Command.TheVariants as commands
 
@@ -18,7 +18,7 @@ same_two words commands.Ground commands.Order d p domain problem one two = other
 same_two words commands.Order commands.Plan d p domain problem one two = other_words words _ _ one two (λ e. let never : codes "order" ≡ codes "plan" = cc in cc)
 same_two words commands.Order commands.Ground d p domain problem one two = other_words words _ _ one two (λ e. let never : codes "order" ≡ codes "ground" = cc in cc)
 
-pub not_both : (words : List (List ℕ)) (c : Command) (domain problem first second third : List ℕ) → IsTwo c words domain problem → IsCheck words first second third → ⊥
+pub not_both : (words : List (List ℕ)) (c : Command) (domain problem first second third : List ℕ) → IsTwo c words domain problem → IsCheckCommand words first second third → ⊥
 not_both words commands.Plan domain problem first second third one two = other_words words _ _ one two (λ e. let never : codes "plan" ≡ codes "check" = cc in cc)
 not_both words commands.Ground domain problem first second third one two = other_words words _ _ one two (λ e. let never : codes "ground" ≡ codes "check" = cc in cc)
 not_both words commands.Order domain problem first second third one two = other_words words _ _ one two (λ e. let never : codes "order" ≡ codes "check" = cc in cc)

@@ -16,7 +16,8 @@ use Rattle.plan_top.specs.declared.ending.Kind.{Kind}
 use Rattle.plan_top.specs.declared.ending.Kind.TheVariants as kinds
 use Rattle.plan_top.specs.declared.ending.Ending.{Ending}
 use Rattle.plan_top.specs.Among.{IsAmong}
-use Rattle.plan_top.specs.Causes.{AreTask, RefusesTask, IsTreeFault, domain_tree, problem_tree, no_task, ending_of, IsOver, AreGrounded, StopsGrounding, Decides, found, refuted, plan_stopped, grounded, ground_stopped, ordered, order_stopped, DecidesCheck, checked, check_refused, answered, no_calls, Stops, Comes, no_command, of_two, of_check, GoesWell, ChecksWell, most_bytes}
+use Rattle.plan_top.specs.Causes.{AreTask, RefusesTask, IsTreeFault, domain_tree, problem_tree, no_task, ending_of, IsOver, AreGrounded, StopsGrounding, Decides, found, refuted, plan_stopped, grounded, ground_stopped, ordered, order_stopped, DecidesCheck, checked, check_refused, answered, no_calls, Stops, Comes, no_command, of_two, of_check, most_bytes}
+use Rattle.plan_top.specs.Complete.{GoesWell, ChecksWell}
 use Rattle.plan_top.specs.Ending.{status_of}
 use Rattle.plan_top.specs.Words.{IsNoCommand}
 use Rattle.plan_top.specs.declared.ending.Limit.{Limit}

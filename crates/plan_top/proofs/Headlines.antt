@@ -13,11 +13,12 @@ use Rattle.pd_model.specs.declared.calls.Verdict.TheVariants as verdicts
 use Rattle.pd_model.specs.declared.memory.Which.{Which}
 use Rattle.pd_model.specs.declared.parts.Parts.{Parts}
 use Rattle.pd_plan.specs.PlanFile.{plan_file}
+use Rattle.pd_plan.proofs.Spelled.{spelled}
 use Rattle.pd_plan.specs.Fault as plan
 use Rattle.plan_top.specs.declared.ending.Ending.{Ending}
 use Rattle.plan_top.specs.declared.ending.Ending.TheVariants.{Found, Refuted, Listing, Reaches, Blocked, Short, Refused, TooLong, TooMany, ReadFault, Usage}
-use Rattle.plan_top.specs.Causes.{AreTask, HoldsAtFirst, RefusesTask, refusal_of_plan, ending_of, StopsGrounding, Decides, DecidesPlan, found, refuted, plan_stopped, DecidesGround, grounded, ground_stopped, DecidesOrder, ordered, order_stopped, is_answer, DecidesCheck, checked, check_refused, answered, no_calls, StopsAt, plan_files, check_files, Comes, no_command, of_two, of_check, IsSmall}
-use Rattle.plan_top.specs.Ending.{status_of, text_of}
+use Rattle.plan_top.specs.Causes.{AreTask, HoldsAtFirst, RefusesTask, refusal_of_plan, ending_of, StopsGrounding, Decides, DecidesPlan, found, refuted, plan_stopped, DecidesGround, grounded, ground_stopped, DecidesOrder, ordered, order_stopped, is_answer, DecidesCheck, checked, check_refused, answered, no_calls, StopsAt, task_files, check_files, Comes, no_command, of_two, of_check}
+use Rattle.plan_top.specs.Ending.{status_of, text_of, IsSmall}
 use Rattle.plan_top.specs.Lines.{Says}
 use Rattle.plan_top.specs.Headline.{Printed, OfFiles, PlanRuns, NoStepPlan, NoPlan, TellsGround, TellsOrder, CallsRun}
 use Rattle.plan_top.specs.Words as words
@@ -76,7 +77,7 @@ verdict_reaches verdicts.Short zero = absurd (omega arith)
 
 plan_found : (first second : List ℕ) (end : Ending) → status_of end ≡ 0 → DecidesPlan first second end → (end ≡ Found) × ((task : Parts) × AreTask first second task × PlanRuns (text_of Found) task)
 plan_found first second end zero (found task g e are holds) =
-    (e, (task, are.are, (([], tt, holds), inr (inr (inl refl)), λ h components is published sets. plan_of_none task h is _ sets holds)))
+    (e, (task, are.are, (([], spelled task (text_of Found) [] tt, holds), inr (inr (inl refl)), λ h components is published sets. plan_of_none task h is _ sets holds)))
 plan_found first second end zero (refuted task g e are fails) = absurd (let one = ap status_of e in omega arith)
 plan_found first second end zero (plan_stopped s) = not_low end (omega arith) (stopped_status first second end s)
 
@@ -147,10 +148,10 @@ module _ (given : List (List ℕ)) (told : List ℕ → Option (List ℕ)) (lack
   plan_answers_list_nothing (ReadFault file) h = tt
   plan_answers_list_nothing Usage h = tt
 
-  nothing_listed : (end : Ending) (domain problem : List ℕ) → words.IsPlan given domain problem → Comes told lacks old new given end → ListsNothing end
+  nothing_listed : (end : Ending) (domain problem : List ℕ) → words.IsPlanCommand given domain problem → Comes told lacks old new given end → ListsNothing end
   nothing_listed end domain problem named (no_command e none) = rw e tt
   nothing_listed end domain problem named (of_check d p l other h) = absurd (not_both given commands.Plan domain problem d p l named other)
-  nothing_listed end domain problem named (of_two c d p other (inl stops)) = stops_list_nothing (plan_files told lacks old new d p) end stops
+  nothing_listed end domain problem named (of_two c d p other (inl stops)) = stops_list_nothing (task_files d p) end stops
   nothing_listed end domain problem named (of_two c d p other (inr h)) =
       plan_answers_list_nothing end (subst (λ (x : Command). IsTrue (is_answer x end)) (same_two given c commands.Plan d p domain problem other named).0 h.2)
 
@@ -160,7 +161,7 @@ module _ (given : List (List ℕ)) (told : List ℕ → Option (List ℕ)) (lack
         → IsTrue (is_answer command end) × IfSome (told domain) (λ first. IfSome (told problem) (λ second. Decides command first second end))
     decided command domain problem named small (no_command e none) = absurd (none.no_two command domain problem named)
     decided command domain problem named small (of_check d p l other h) = absurd (not_both given command domain problem d p l named other)
-    decided command domain problem named small (of_two c d p other (inl stops)) = low end small (stop_status (plan_files told lacks old new d p) end stops)
+    decided command domain problem named small (of_two c d p other (inl stops)) = low end small (stop_status (task_files d p) end stops)
     decided command domain problem named small (of_two c d p other (inr h)) =
         let same = same_two given c command d p domain problem other named in (
           subst (λ (x : Command). IsTrue (is_answer x end)) same.0 h.2,
@@ -179,22 +180,22 @@ module _ (given : List (List ℕ)) (told : List ℕ → Option (List ℕ)) (lack
         (λ first second decides. let f = from first second decides in (f.0, f.1, subst (λ (xs : List ℕ). claim xs f.0) (sym is) f.2))
         (decided command domain problem named (omega arith) comes).1
 
-    pub plan_runs : (domain problem : List ℕ) → after ≡ appended before (text_of end) → status_of end ≡ 0 → words.IsPlan given domain problem → OfFiles told domain problem (PlanRuns text)
+    pub plan_runs : (domain problem : List ℕ) → after ≡ appended before (text_of end) → status_of end ≡ 0 → words.IsPlanCommand given domain problem → OfFiles told domain problem (PlanRuns text)
     plan_runs domain problem all zero named =
         listed commands.Plan PlanRuns (λ first second decides. let f = plan_found first second end zero decides in (f.1.0, f.1.1, subst (λ (x : Ending). PlanRuns (text_of x) f.1.0) (sym f.0) f.1.2)) domain problem all zero named
 
-    pub ground_told : (domain problem : List ℕ) → after ≡ appended before (text_of end) → status_of end ≡ 0 → words.IsGround given domain problem → OfFiles told domain problem (TellsGround text)
+    pub ground_told : (domain problem : List ℕ) → after ≡ appended before (text_of end) → status_of end ≡ 0 → words.IsGroundCommand given domain problem → OfFiles told domain problem (TellsGround text)
     ground_told domain problem all zero named = listed commands.Ground TellsGround (λ first second decides. ground_listed first second end zero decides) domain problem all zero named
 
-    pub order_told : (domain problem : List ℕ) → after ≡ appended before (text_of end) → status_of end ≡ 0 → words.IsOrder given domain problem → OfFiles told domain problem (TellsOrder text)
+    pub order_told : (domain problem : List ℕ) → after ≡ appended before (text_of end) → status_of end ≡ 0 → words.IsOrderCommand given domain problem → OfFiles told domain problem (TellsOrder text)
     order_told domain problem all zero named = listed commands.Order TellsOrder (λ first second decides. order_listed first second end zero decides) domain problem all zero named
 
     -- the words of `plan` list nothing
-    plan_lists_nothing : (domain problem : List ℕ) → words.IsPlan given domain problem → ListsNothing end
+    plan_lists_nothing : (domain problem : List ℕ) → words.IsPlanCommand given domain problem → ListsNothing end
     plan_lists_nothing domain problem named = nothing_listed end domain problem named comes
 
     refutes : IsSmall end → TakesFront before after (text_of end) → (claim : ℕ → Parts → Type 0) → ((task : Parts) → (HoldsAtFirst task → ⊥) → claim 0 task)
-        → (domain problem : List ℕ) (horizon conflicts : ℕ) → words.IsPlan given domain problem → Says text horizon (codes "refuted") conflicts → OfFiles told domain problem (claim horizon)
+        → (domain problem : List ℕ) (horizon conflicts : ℕ) → words.IsPlanCommand given domain problem → Says text horizon (codes "refuted") conflicts → OfFiles told domain problem (claim horizon)
     refutes small front claim from domain problem horizon conflicts named says =
         let text_is : text ≡ take front.0 (text_of end) = printed_is before after text (take front.0 (text_of end)) printed front.2 in
         let parts : text_of end ≡ text ++ drop front.0 (text_of end) = sym (take-append-drop front.0 (text_of end)) ∙ ap (λ (xs : List ℕ). xs ++ drop front.0 (text_of end)) (sym text_is) in
@@ -204,18 +205,18 @@ module _ (given : List (List ℕ)) (told : List ℕ → Option (List ℕ)) (lack
         (two_weaker (λ first second. DecidesPlan first second end) (λ first second. (task : Parts) × AreTask first second task × claim 0 task) (told domain) (told problem)
         (λ first second decides. let f = plan_refuted first second end one decides in (f.0, f.1, from f.0 f.2)) (decided commands.Plan domain problem named (omega (arith, one)) comes).1)
 
-    pub refuted_steps : IsSmall end → TakesFront before after (text_of end) → (domain problem : List ℕ) (horizon conflicts : ℕ) → words.IsPlan given domain problem → Says text horizon (codes "refuted") conflicts
+    pub refuted_steps : IsSmall end → TakesFront before after (text_of end) → (domain problem : List ℕ) (horizon conflicts : ℕ) → words.IsPlanCommand given domain problem → Says text horizon (codes "refuted") conflicts
         → OfFiles told domain problem (NoStepPlan horizon)
     refuted_steps small front = refutes small front NoStepPlan no_step_plan
 
-    pub refuted_plans : IsSmall end → TakesFront before after (text_of end) → (domain problem : List ℕ) (horizon conflicts : ℕ) → words.IsPlan given domain problem → Says text horizon (codes "refuted") conflicts
+    pub refuted_plans : IsSmall end → TakesFront before after (text_of end) → (domain problem : List ℕ) (horizon conflicts : ℕ) → words.IsPlanCommand given domain problem → Says text horizon (codes "refuted") conflicts
         → OfFiles told domain problem (NoPlan horizon)
     refuted_plans small front = refutes small front NoPlan no_plan
 
-  pub reached : (end : Ending) (domain problem plan_name : List ℕ) → status_of end ≡ 0 → words.IsCheck given domain problem plan_name → Comes told lacks old new given end → CallsRun told domain problem plan_name
+  pub reached : (end : Ending) (domain problem plan_name : List ℕ) → status_of end ≡ 0 → words.IsCheckCommand given domain problem plan_name → Comes told lacks old new given end → CallsRun told domain problem plan_name
   reached end domain problem plan_name zero named (no_command e none) = absurd (none.no_check domain problem plan_name named)
   reached end domain problem plan_name zero named (of_two c d p other h) = absurd (not_both given c d p domain problem plan_name other named)
-  reached end domain problem plan_name zero named (of_check d p l other (inl stops)) = low end (omega arith) (stop_status (check_files told lacks old new d p l) end stops)
+  reached end domain problem plan_name zero named (of_check d p l other (inl stops)) = low end (omega arith) (stop_status (check_files d p l) end stops)
   reached end domain problem plan_name zero named (of_check d p l other (inr h)) =
       let e = sym other ∙ named in
       let one : d ≡ domain = cc in
@@ -250,9 +251,9 @@ module _ (given : List (List ℕ)) (told : List ℕ → Option (List ℕ)) (lack
 
   pub unnamed : (end : Ending) → status_of end ≡ 7 → Comes told lacks old new given end → words.IsNoCommand given
   unnamed end seven (no_command e none) = none
-  unnamed end seven (of_two c d p named (inl stops)) = late end seven (stop_status (plan_files told lacks old new d p) end stops)
+  unnamed end seven (of_two c d p named (inl stops)) = late end seven (stop_status (task_files d p) end stops)
   unnamed end seven (of_two c d p named (inr h)) = absurd (usage_answers c (rw (seven_only end seven) at h.2))
-  unnamed end seven (of_check d p l named (inl stops)) = late end seven (stop_status (check_files told lacks old new d p l) end stops)
+  unnamed end seven (of_check d p l named (inl stops)) = late end seven (stop_status (check_files d p l) end stops)
   unnamed end seven (of_check d p l named (inr h)) = absurd (let answers = h.3 in let never : false ≡ true = rw (seven_only end seven) at answers in cc)
 
 -- where nothing was written nothing is said

@@ -4,7 +4,6 @@ pub mod Four
 pub mod Stopped
 pub mod Verdicts
 pub mod AtFirst
-pub mod Ordered
 pub mod Commands
 pub mod Decided
 pub mod Printed

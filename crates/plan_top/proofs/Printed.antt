@@ -12,12 +12,11 @@ use Rattle.pd_model.specs.declared.memory.Which.{Which}
 use Rattle.pd_model.specs.declared.memory.Which.TheVariants.{Domain, Problem, Plan}
 use Rattle.plan_top.specs.declared.ending.Kind.{Kind}
 use Rattle.plan_top.specs.declared.ending.Kind.TheVariants as kinds
-use Rattle.plan_top.specs.Causes.{IsSmall}
 use Rattle.plan_top.specs.declared.ending.Ending.{Ending}
 use Rattle.plan_top.specs.declared.ending.Ending.TheVariants.{Found, Refuted, Listing, Reaches, Blocked, Short, Refused, TooLong, TooMany, ReadFault, Usage}
 use Rattle.plan_top.specs.declared.ending.Limit.{Limit}
 use Rattle.plan_top.specs.declared.ending.Limit.TheVariants as limits
-use Rattle.plan_top.specs.Ending.{text_of, kind_word, limit_word, word_of}
+use Rattle.plan_top.specs.Ending.{text_of, kind_word, limit_word, word_of, IsSmall}
 use Rattle.plan_top.specs.Lines.{lines_from, lines_of, Says}
 use Rattle.plan_top.specs.Among.{IsAmong}
 use Rattle.plan_top.specs.Headline.{Printed}

@@ -1,5 +1,7 @@
 -- What is known of a call that ends the run is handed on.
 use Rattle.std.proofs.Common.{◌≡◌, Result, Ok, Err, Some, None, subst}
+use Rattle.std.specs.Prelude.{IsErrAnd}
+use Rattle.std.proofs.lemmas.Result.{err_from_is_err_and}
 use Rattle.plan_top.specs.declared.ending.Ending.{Ending}
 use Rattle.plan_top.specs.declared.stop.Stop.{Stop}
 use Rattle.plan_top.specs.declared.stop.Stop.TheVariants.{Ends, Memory}
@@ -16,6 +18,13 @@ StopsBy-weaker claim other weaker (Err stop) h = EndsBy-weaker claim other weake
 pub Answers-weaker : (claim other : Ending → Type 0) → ((end : Ending) → claim end → other end) → (r : Result Ending Stop) → Answers claim r → Answers other r
 Answers-weaker claim other weaker (Ok end) h = weaker end h
 Answers-weaker claim other weaker (Err stop) h = EndsBy-weaker claim other weaker stop h
+
+-- a stop that is handed on as it is
+pub Stops-handed : {A : Type 0} (claim other : Ending → Type 0) → ((end : Ending) → claim end → other end) → (stop : Stop) (r : Result A Stop) → IsErrAnd r (λ told. told ≡ stop) → EndsBy claim stop → StopsBy other r
+Stops-handed claim other weaker stop r handed h = let p = err_from_is_err_and r handed in rw (p.1, p.2) (EndsBy-weaker claim other weaker stop h)
+
+pub Answers-handed : (claim other : Ending → Type 0) → ((end : Ending) → claim end → other end) → (stop : Stop) (r : Result Ending Stop) → IsErrAnd r (λ told. told ≡ stop) → EndsBy claim stop → Answers other r
+Answers-handed claim other weaker stop r handed h = let p = err_from_is_err_and r handed in rw (p.1, p.2) (EndsBy-weaker claim other weaker stop h)
 
 -- the ending that there is, is of the kind that was answered
 pub ending_answers : (claim : Ending → Type 0) (r : Result Ending Stop) (end : Ending) → Answers claim r → Some end ≡ ending_in r → claim end

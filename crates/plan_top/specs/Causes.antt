@@ -1,5 +1,5 @@
 -- When each ending of a run comes.
-use Rattle.std.specs.Prelude.{◌≡◌, ◌⊎◌, ◌<◌, ◌≤◌, ◌^◌, ℕ, List, [], ◌∷◌, length, Bool, IsTrue, Option, Some, None, IfSome, Ok, Err}
+use Rattle.std.specs.Prelude.{◌≡◌, ◌⊎◌, ◌<◌, ◌≤◌, ℕ, List, [], ◌∷◌, length, Bool, IsTrue, Option, Some, None, IfSome, Ok, Err}
 use Rattle.pl_io.specs.Outside.{FaultRose}
 use Rattle.pd_sexp.specs.Tree.{Tree}
 use Rattle.pd_sexp.specs.Fault.{syntax, deep, IsFault, Reads}
@@ -18,10 +18,10 @@ use Rattle.pd_plan.specs.Fault as plan
 use Rattle.pd_plan.specs.PlanFile.{plan_file}
 use Rattle.grounding.specs.Grounded.{Grounded, IsGrounded}
 use Rattle.grounding.specs.Limits.{IsWithin, IsOverTuples, IsOverFacts, IsOverActions, IsOverEffects}
-use Rattle.gt_core.specs.Published.{IsPublished}
 use Rattle.task_text.specs.Text.{ground_text, order_text}
+use Rattle.plan_top.specs.Known.{known_clauses, IsOrdered}
 use Rattle.plan_top.specs.Ending.{is_plan_answer, is_listing_answer, is_check_answer}
-use Rattle.plan_top.specs.Words.{IsTwo, IsCheck, IsNoCommand}
+use Rattle.plan_top.specs.Words.{IsTwo, IsCheckCommand, IsNoCommand}
 use Rattle.plan_top.specs.declared.words.Command.{Command}
 use Rattle.plan_top.specs.declared.words.Command.TheVariants as commands
 use Rattle.plan_top.specs.declared.ending.Limit.{Limit}
@@ -89,8 +89,8 @@ IsOver limits.Actions task count = IsOverActions task count
 IsOver limits.Effects task count = IsOverEffects task count
 
 -- a task is past a limit, of which the ending tells
-abbrev pub Limits : Parts → Ending → Type 0
-Limits task end = (what : Limit) × (count : ℕ) × (end ≡ TooMany what count) × IsOver what task count
+abbrev pub TellsOver : Parts → Ending → Type 0
+TellsOver task end = (what : Limit) × (count : ℕ) × (end ≡ TooMany what count) × IsOver what task count
 
 -- two files are a task, and it is grounded within the limits
 pub record AreGrounded (domain problem : List ℕ) (task : Parts) (g : Grounded) : Type 0 where
@@ -100,7 +100,7 @@ pub record AreGrounded (domain problem : List ℕ) (task : Parts) (g : Grounded)
 
 -- the task of two files is past a limit, of which the ending tells
 abbrev pub LimitsTask : List ℕ → List ℕ → Ending → Type 0
-LimitsTask domain problem end = (task : Parts) × AreTask domain problem task × Limits task end
+LimitsTask domain problem end = (task : Parts) × AreTask domain problem task × TellsOver task end
 
 -- why two files are not grounded: they are no task, or past a limit
 abbrev pub StopsGrounding : List ℕ → List ℕ → Ending → Type 0
@@ -121,10 +121,10 @@ pub data DecidesGround (domain problem : List ℕ) (end : Ending) : Type 0 where
   grounded : (task : Parts) (g : Grounded) → end ≡ Listing (ground_text task g) → AreGrounded domain problem task g → DecidesGround domain problem end
   ground_stopped : StopsGrounding domain problem end → DecidesGround domain problem end
 
--- what two files decide for `order`: as long as no clauses are known, the order is that without any
+-- what two files decide for `order`
 pub data DecidesOrder (domain problem : List ℕ) (end : Ending) : Type 0 where
-  ordered : (task : Parts) (g : Grounded) (components : List (List ℕ)) → end ≡ Listing (order_text task g components 0) → AreGrounded domain problem task g
-      → IsPublished g.task [] components → DecidesOrder domain problem end
+  ordered : (task : Parts) (g : Grounded) (components : List (List ℕ)) → end ≡ Listing (order_text task g components (length (known_clauses g.task))) → AreGrounded domain problem task g
+      → IsOrdered g.task components → DecidesOrder domain problem end
   order_stopped : StopsGrounding domain problem end → DecidesOrder domain problem end
 
 -- what two files decide for a command
@@ -149,6 +149,14 @@ pub data DecidesCheck (domain problem plan_bytes : List ℕ) (end : Ending) : Ty
   checked : (task : Parts) → AreTask domain problem task → ChecksCalls task plan_bytes end → DecidesCheck domain problem plan_bytes end
   check_refused : RefusesTask domain problem end → DecidesCheck domain problem plan_bytes end
 
+-- the files that a command of a domain and a problem takes, in order
+abbrev pub task_files : List ℕ → List ℕ → List (Which × List ℕ)
+task_files domain problem = (Domain, domain) ∷ (Problem, problem) ∷ []
+
+-- the files that `check` takes, in order
+abbrev pub check_files : List ℕ → List ℕ → List ℕ → List (Which × List ℕ)
+check_files domain problem plan_name = (Domain, domain) ∷ (Problem, problem) ∷ (Plan, plan_name) ∷ []
+
 -- a file was taken: it is not told to be missing, its bytes are what is told of them, and they are no more than may be
 pub record IsTaken (told : List ℕ → Option (List ℕ)) (lacks : List ℕ → Bool) (name bytes : List ℕ) : Type 0 where
   pub there : IsTrue (lacks name) → ⊥
@@ -161,11 +169,11 @@ module _ (told : List ℕ → Option (List ℕ)) (lacks : List ℕ → Bool) (ol
   abbrev pub IsThere : List ℕ → (List ℕ → Type 0) → Type 0
   IsThere name claim = (IsTrue (lacks name) → ⊥) × IfSome (told name) claim
 
-  -- the file was taken whole
+  -- the file is there, and has no more bytes than a file may have
   abbrev pub Fits : List ℕ → Type 0
   Fits name = IsThere name (λ bytes. length bytes ≤ most_bytes)
 
-  -- the file is there, and has more bytes than a file may have
+  -- the file is there, and has more
   abbrev pub IsTooLong : List ℕ → Type 0
   IsTooLong name = IsThere name (λ bytes. most_bytes < length bytes)
 
@@ -178,17 +186,9 @@ module _ (told : List ℕ → Option (List ℕ)) (lacks : List ℕ → Bool) (ol
   StopsAt [] end = ⊥
   StopsAt (file ∷ others) end = Stops file.0 file.1 end ⊎ (Fits file.1 × StopsAt others end)
 
-  -- the files that a command of two files takes, in order
-  abbrev pub plan_files : List ℕ → List ℕ → List (Which × List ℕ)
-  plan_files domain problem = (Domain, domain) ∷ (Problem, problem) ∷ []
-
-  -- the files that `check` takes, in order
-  abbrev pub check_files : List ℕ → List ℕ → List ℕ → List (Which × List ℕ)
-  check_files domain problem plan_name = (Domain, domain) ∷ (Problem, problem) ∷ (Plan, plan_name) ∷ []
-
   -- when an ending comes for a command of a domain and a problem with these names
   abbrev pub ComesTwo : Command → List ℕ → List ℕ → Ending → Type 0
-  ComesTwo command domain problem end = StopsAt (plan_files domain problem) end
+  ComesTwo command domain problem end = StopsAt (task_files domain problem) end
       ⊎ (Fits domain × Fits problem × IsTrue (is_answer command end) × IfSome (told domain) (λ first. IfSome (told problem) (λ second. Decides command first second end)))
 
   -- the same for `check`
@@ -201,60 +201,11 @@ module _ (told : List ℕ → Option (List ℕ)) (lacks : List ℕ → Bool) (ol
   pub data Comes (words : List (List ℕ)) (end : Ending) : Type 0 where
     no_command : end ≡ Usage → IsNoCommand words → Comes words end
     of_two : (command : Command) (domain problem : List ℕ) → IsTwo command words domain problem → ComesTwo command domain problem end → Comes words end
-    of_check : (domain problem plan_name : List ℕ) → IsCheck words domain problem plan_name → ComesCheck domain problem plan_name end → Comes words end
+    of_check : (domain problem plan_name : List ℕ) → IsCheckCommand words domain problem plan_name → ComesCheck domain problem plan_name end → Comes words end
 
 -- the count of faults of a file that the words name rose
 abbrev pub FaultOf : List (List ℕ) → List (List ℕ) → List (List ℕ) → Type 0
 FaultOf old new words =
     ((command : Command) × (domain : List ℕ) × (problem : List ℕ) × IsTwo command words domain problem × (FaultRose domain old new ⊎ FaultRose problem old new))
-    ⊎ ((domain : List ℕ) × (problem : List ℕ) × (plan_name : List ℕ) × IsCheck words domain problem plan_name
+    ⊎ ((domain : List ℕ) × (problem : List ℕ) × (plan_name : List ℕ) × IsCheckCommand words domain problem plan_name
     × (FaultRose domain old new ⊎ (FaultRose problem old new ⊎ FaultRose plan_name old new)))
-
--- a place, an index or a count of a report is a number of the program
-abbrev pub IsSmall : Ending → Type 0
-IsSmall (TooMany what count) = count < 2 ^ 64
-IsSmall (Refused kind file at) = at < 2 ^ 32
-IsSmall (Blocked index) = index < 2 ^ 32
-IsSmall _ = Unit {0}
-
--- the words name two files whose bytes are told, within the limit and a task that is grounded within the limits, and no
--- fault of either was noted
-pub record GoesWell (words : List (List ℕ)) (told : List ℕ → Option (List ℕ)) (old new : List (List ℕ)) : Type 0 where
-  pub command : Command
-  pub domain : List ℕ
-  pub problem : List ℕ
-  pub first : List ℕ
-  pub second : List ℕ
-  pub task : Parts
-  pub g : Grounded
-  pub named : IsTwo command words domain problem
-  pub first_told : told domain ≡ Some first
-  pub second_told : told problem ≡ Some second
-  pub first_fits : length first ≤ most_bytes
-  pub second_fits : length second ≤ most_bytes
-  pub are_grounded : AreGrounded first second task g
-  pub first_read : FaultRose domain old new → ⊥
-  pub second_read : FaultRose problem old new → ⊥
-
--- the words name three files whose bytes are told, within the limit, a task and calls of it, and no fault of any was noted
-pub record ChecksWell (words : List (List ℕ)) (told : List ℕ → Option (List ℕ)) (old new : List (List ℕ)) : Type 0 where
-  pub domain : List ℕ
-  pub problem : List ℕ
-  pub plan_name : List ℕ
-  pub first : List ℕ
-  pub second : List ℕ
-  pub third : List ℕ
-  pub task : Parts
-  pub calls : List Call
-  pub named : IsCheck words domain problem plan_name
-  pub first_told : told domain ≡ Some first
-  pub second_told : told problem ≡ Some second
-  pub third_told : told plan_name ≡ Some third
-  pub first_fits : length first ≤ most_bytes
-  pub second_fits : length second ≤ most_bytes
-  pub third_fits : length third ≤ most_bytes
-  pub are_task : AreTask first second task
-  pub are_calls : plan_file task third ≡ Ok calls
-  pub first_read : FaultRose domain old new → ⊥
-  pub second_read : FaultRose problem old new → ⊥
-  pub third_read : FaultRose plan_name old new → ⊥

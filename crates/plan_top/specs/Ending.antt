@@ -1,5 +1,5 @@
 -- The exit status and the text of each ending of a run.
-use Rattle.std.specs.Prelude.{ℕ, ◌+◌, Bool, true, false, List, ◌++◌, codes, decimal}
+use Rattle.std.specs.Prelude.{ℕ, ◌+◌, ◌<◌, ◌^◌, Bool, true, false, List, ◌++◌, codes, decimal}
 use Rattle.pd_model.specs.declared.memory.Which.{Which}
 use Rattle.pd_model.specs.declared.memory.Which.TheVariants.{Domain, Problem, Plan}
 use Rattle.plan_top.specs.declared.ending.Kind.{Kind}
@@ -83,3 +83,10 @@ is_check_answer (Blocked index) = true
 is_check_answer Short = true
 is_check_answer (Refused kind file at) = true
 is_check_answer _ = false
+
+-- a place, an index or a count of a report is a number of the program
+abbrev pub IsSmall : Ending → Type 0
+IsSmall (TooMany what count) = count < 2 ^ 64
+IsSmall (Refused kind file at) = at < 2 ^ 32
+IsSmall (Blocked index) = index < 2 ^ 32
+IsSmall _ = Unit {0}

@@ -1,16 +1,16 @@
 -- What a printed plan, a refuted horizon and a checked plan promise of the files.
-use Rattle.std.specs.Prelude.{◌≡◌, ◌≤◌, ℕ, List, [], ◌++◌, length, codes, Bool, Option, Some, IfSome, Ok}
+use Rattle.std.specs.Prelude.{◌≡◌, ◌≤◌, ℕ, List, ◌++◌, length, codes, Bool, Option, Some, IfSome, Ok}
 use Rattle.pd_model.specs.Plan.{IsPlan}
 use Rattle.pd_model.specs.declared.calls.Call.{Call}
 use Rattle.pd_model.specs.declared.parts.Parts.{Parts}
 use Rattle.pd_plan.specs.PlanFile.{plan_file}
-use Rattle.pd_plan.specs.Spells.{Spells}
 use Rattle.plan_top.specs.Among.{IsAmong}
 use Rattle.gt_core.specs.Task.{Task}
-use Rattle.gt_core.specs.Published.{IsPublished, order_of}
+use Rattle.gt_core.specs.Published.{order_of}
 use Rattle.gt_core.specs.Step.{IsStepPlan}
 use Rattle.grounding.specs.Grounded.{Grounded, IsGrounded}
 use Rattle.task_text.specs.Text.{ground_text, order_text}
+use Rattle.plan_top.specs.Known.{known_clauses, IsOrdered}
 use Rattle.plan_top.specs.Causes.{AreTask}
 use Rattle.plan_top.specs.Lines.{lines_of}
 
@@ -22,14 +22,14 @@ Printed old new text = (before : List ℕ) × (old ≡ Some before) × (new ≡ 
 abbrev pub OfFiles : (List ℕ → Option (List ℕ)) → List ℕ → List ℕ → (Parts → Type 0) → Type 0
 OfFiles told domain problem claim = IfSome (told domain) (λ first. IfSome (told problem) (λ second. (task : Parts) × AreTask first second task × claim task))
 
--- what is claimed of a task holds of what it is grounded to, and of its actions in published order; no clauses are known
+-- what is claimed of a task holds of what it is grounded to, and of its actions in published order
 abbrev pub OfGrounded : Parts → (Task → List ℕ → Type 0) → Type 0
-OfGrounded task claim = (g : Grounded) (components : List (List ℕ)) → IsGrounded task g → IsPublished g.task [] components → claim g.task (order_of components)
+OfGrounded task claim = (g : Grounded) (components : List (List ℕ)) → IsGrounded task g → IsOrdered g.task components → claim g.task (order_of components)
 
--- The text is a plan file that spells a plan, and its steps, of which it says that there are none, are a step plan.
+-- The text is a plan file whose calls are a plan, and its steps, of which it says that there are none, are a step plan.
 abbrev pub PlanRuns : List ℕ → Parts → Type 0
 PlanRuns text task =
-    ((calls : List Call) × Spells task text calls × IsPlan task calls)
+    ((calls : List Call) × (plan_file task text ≡ Ok calls) × IsPlan task calls)
     × IsAmong (lines_of text) (codes "; plan of 0 steps with 0 actions") × OfGrounded task (λ t order. (sets : ℕ → ℕ → Bool) → IsStepPlan t order sets 0)
 
 -- no list of so many sets of actions is a step plan
@@ -50,6 +50,6 @@ CallsRun told domain problem plan =
 abbrev pub TellsGround : List ℕ → Parts → Type 0
 TellsGround text task = (g : Grounded) × IsGrounded task g × (text ≡ ground_text task g)
 
--- the text has the actions of a task in published order, where no clauses are known
+-- the text has the actions of a task in published order
 abbrev pub TellsOrder : List ℕ → Parts → Type 0
-TellsOrder text task = (g : Grounded) × (components : List (List ℕ)) × IsGrounded task g × IsPublished g.task [] components × (text ≡ order_text task g components 0)
+TellsOrder text task = (g : Grounded) × (components : List (List ℕ)) × IsGrounded task g × IsOrdered g.task components × (text ≡ order_text task g components (length (known_clauses g.task)))

@@ -1,6 +1,8 @@
 pub mod Words
 pub mod Ending
+pub mod Known
 pub mod Causes
+pub mod Complete
 pub mod Among
 pub mod Lines
 pub mod Headline

@@ -1,17 +1,17 @@
 //! What the bytes of the files decide.
-ghost use Rattle.std.specs.Prelude.{◌≡◌, ◌≤◌, [], length, IfOk};
+ghost use Rattle.std.specs.Prelude.{◌≡◌, ◌≤◌, length, IfOk};
 ghost use Rattle.plan_top.specs.Causes.{Decides, DecidesPlan, DecidesGround, DecidesOrder, DecidesCheck, ChecksCalls, ending_of, most_bytes};
-ghost use Rattle.plan_top.specs.Ends.{Answers, StopsBy};
-ghost use Rattle.gt_core.specs.Published.{IsPublished};
+ghost use Rattle.plan_top.specs.Ends.{Answers};
+ghost use Rattle.plan_top.specs.Known.{known_clauses};
 ghost use Rattle.plan_top.specs.PlanStop.{stop_of};
 
 use crate::ground::ground_task;
-use crate::stop::Stop;
+use crate::stop::{Stop, refuse};
 use crate::task::read_task;
 use crate::words::Command;
 use crate::{Ending, Kind};
-use action_order::order::Order;
 use action_order::publish::publish;
+use gt_core::memory::Memory;
 use gt_core::pairs::Pairs;
 use gt_core::task::Task;
 use pd_model::{Pddl, Verdict, Which};
@@ -26,15 +26,11 @@ fn answer_plan(alloc: Global, domain: &[u8], problem: &[u8]) -> Result<Ending, S
     requires problem_fits { length problem.now ≤ most_bytes }
     ensures { Answers (DecidesPlan domain.now problem.now) result }
 {
-    let both = match ground_task(alloc, domain, problem) {
-        Ok(both) => both,
-        Err(stop) => return Err(stop),
-    };
-    match both.task.run_plan(alloc, &[]) {
-        Ok(Verdict::Reaches) => Ok(Ending::Found),
-        Ok(Verdict::Blocked { .. }) => Ok(Ending::Refuted),
-        Ok(Verdict::Short) => Ok(Ending::Refuted),
-        Err(_) => Err(Stop::Memory),
+    let both = ground_task(alloc, domain, problem)?;
+    match both.task.run_plan(alloc, &[])? {
+        Verdict::Reaches => Ok(Ending::Found),
+        Verdict::Blocked { .. } => Ok(Ending::Refuted),
+        Verdict::Short => Ok(Ending::Refuted),
     }
 }
 
@@ -44,29 +40,17 @@ fn answer_ground(alloc: Global, domain: &[u8], problem: &[u8]) -> Result<Ending,
     requires problem_fits { length problem.now ≤ most_bytes }
     ensures { Answers (DecidesGround domain.now problem.now) result }
 {
-    let both = match ground_task(alloc, domain, problem) {
-        Ok(both) => both,
-        Err(stop) => return Err(stop),
-    };
+    let both = ground_task(alloc, domain, problem)?;
     let mut text = Vec::new(alloc);
-    match push_ground(&both.task, &both.grounded, &mut text) {
-        Ok(()) => Ok(Ending::Listing(Bytes::of(text))),
-        Err(_) => Err(Stop::Memory),
-    }
+    push_ground(&both.task, &both.grounded, &mut text)?;
+    Ok(Ending::Listing(Bytes::of(text)))
 }
 
-/// The order of a ground task's actions, where no clauses are known.
-fn order_of(alloc: Global, task: &Task) -> Result<Order, Stop>
-    ensures published { IfOk result (λ order. IsPublished task.now [] order) }
-    ensures stops { StopsBy (λ end. ⊥) result }
+/// The clauses that are known of a ground task.
+fn known_of(alloc: Global, task: &Task) -> Result<Pairs, Memory>
+    ensures { IfOk result (λ pairs. pairs ≡ record { facts = task.now.facts; clauses = known_clauses task.now }) }
 {
-    let Ok(pairs) = Pairs::empty(alloc, task.facts()) else {
-        return Err(Stop::Memory);
-    };
-    match publish(alloc, task, &pairs) {
-        Ok(order) => Ok(order),
-        Err(_) => Err(Stop::Memory),
-    }
+    Pairs::empty(alloc, task.facts())
 }
 
 /// What two files decide for the command `order`.
@@ -75,18 +59,13 @@ fn answer_order(alloc: Global, domain: &[u8], problem: &[u8]) -> Result<Ending, 
     requires problem_fits { length problem.now ≤ most_bytes }
     ensures { Answers (DecidesOrder domain.now problem.now) result }
 {
-    let both = match ground_task(alloc, domain, problem) {
-        Ok(both) => both,
-        Err(stop) => return Err(stop),
-    };
-    let Ok(order) = order_of(alloc, both.grounded.task()) else {
-        return Err(Stop::Memory);
-    };
+    let both = ground_task(alloc, domain, problem)?;
+    let task = both.grounded.task();
+    let pairs = known_of(alloc, task)?;
+    let order = publish(alloc, task, &pairs)?;
     let mut text = Vec::new(alloc);
-    match push_order(&both.task, &both.grounded, &order, 0, &mut text) {
-        Ok(()) => Ok(Ending::Listing(Bytes::of(text))),
-        Err(_) => Err(Stop::Memory),
-    }
+    push_order(&both.task, &both.grounded, &order, &pairs, &mut text)?;
+    Ok(Ending::Listing(Bytes::of(text)))
 }
 
 /// What two files decide for a command.
@@ -119,10 +98,8 @@ pub fn answer_check(
     requires plan_fits { length plan.now ≤ most_bytes }
     ensures { Answers (DecidesCheck domain.now problem.now plan.now) result }
 {
-    match read_task(alloc, domain, problem) {
-        Ok(task) => check_calls(alloc, &task, plan),
-        Err(stop) => Err(stop),
-    }
+    let task = read_task(alloc, domain, problem)?;
+    check_calls(alloc, &task, plan)
 }
 
 // What the calls of a plan file come to.
@@ -134,10 +111,7 @@ fn check_calls(alloc: Global, task: &Pddl, plan: &[u8]) -> Result<Ending, Stop>
         Ok(calls) => calls,
         Err(fault) => return Err(stop_by(fault)),
     };
-    match task.run_plan(alloc, calls.as_slice()) {
-        Ok(verdict) => Ok(ending(verdict)),
-        Err(_) => Err(Stop::Memory),
-    }
+    Ok(ending(task.run_plan(alloc, calls.as_slice())?))
 }
 
 fn ending(verdict: Verdict) -> Ending
@@ -155,26 +129,10 @@ fn stop_by(fault: PlanFault) -> Stop
 {
     let file = Which::Plan;
     match fault {
-        PlanFault::Syntax { at } => Stop::Ends(Ending::Refused {
-            kind: Kind::Syntax,
-            file,
-            at,
-        }),
-        PlanFault::Unknown { at } => Stop::Ends(Ending::Refused {
-            kind: Kind::Unknown,
-            file,
-            at,
-        }),
-        PlanFault::Arity { at } => Stop::Ends(Ending::Refused {
-            kind: Kind::Arity,
-            file,
-            at,
-        }),
-        PlanFault::Mistyped { at } => Stop::Ends(Ending::Refused {
-            kind: Kind::Mistyped,
-            file,
-            at,
-        }),
+        PlanFault::Syntax { at } => refuse(Kind::Syntax, file, at),
+        PlanFault::Unknown { at } => refuse(Kind::Unknown, file, at),
+        PlanFault::Arity { at } => refuse(Kind::Arity, file, at),
+        PlanFault::Mistyped { at } => refuse(Kind::Mistyped, file, at),
         PlanFault::Memory => Stop::Memory,
     }
 }

@@ -43,10 +43,8 @@ fn decide_two<S: Shelf>(
     ensures lacks { S.lacks shelf.new ≡ S.lacks shelf.old }
     ensures never_falls { (name : List ℕ) → fault_count name (S.failed shelf.old) ≤ fault_count name (S.failed shelf.new) }
 {
-    match take_two(alloc, domain, problem, shelf) {
-        Ok(two) => answer_two(alloc, command, &two.domain, &two.problem),
-        Err(stop) => Err(stop),
-    }
+    let two = take_two(alloc, domain, problem, shelf)?;
+    answer_two(alloc, command, &two.domain, &two.problem)
 }
 
 fn decide_check<S: Shelf>(
@@ -61,12 +59,7 @@ fn decide_check<S: Shelf>(
     ensures lacks { S.lacks shelf.new ≡ S.lacks shelf.old }
     ensures never_falls { (name : List ℕ) → fault_count name (S.failed shelf.old) ≤ fault_count name (S.failed shelf.new) }
 {
-    let two = match take_two(alloc, domain, problem, shelf) {
-        Ok(two) => two,
-        Err(stop) => return Err(stop),
-    };
-    match take_file(alloc, Which::Plan, plan, shelf) {
-        Ok(bytes) => answer_check(alloc, &two.domain, &two.problem, &bytes),
-        Err(stop) => Err(stop),
-    }
+    let two = take_two(alloc, domain, problem, shelf)?;
+    let calls = take_file(alloc, Which::Plan, plan, shelf)?;
+    answer_check(alloc, &two.domain, &two.problem, &calls)
 }

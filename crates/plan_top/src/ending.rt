@@ -1,7 +1,6 @@
 //! How a run ends, with the exit status and the text due.
 ghost use Rattle.std.specs.Prelude.{◌≡◌, ◌<◌, ◌^◌, ◌++◌, OnOk, IfOk, codes, decimal};
-ghost use Rattle.plan_top.specs.Ending.{status_of, text_of, word_of, kind_word, limit_word};
-ghost use Rattle.plan_top.specs.Causes.{IsSmall};
+ghost use Rattle.plan_top.specs.Ending.{status_of, text_of, word_of, kind_word, limit_word, IsSmall};
 
 use itoa::Buffer;
 use pd_model::Which;
@@ -11,22 +10,34 @@ use std::alloc::Global;
 /// What is wrong with a file that is refused.
 #[derive(Clone, Copy, Debug, PartialEq, Eq)]
 pub enum Kind {
+    /// The bytes are no text tree.
     Syntax,
+    /// Lists stand too deep in one another.
     Deep,
+    /// An item that does not belong there, or one that is missing.
     Shape,
+    /// A name that is declared nowhere.
     Unknown,
+    /// Too few or too many terms.
     Arity,
+    /// A name or a section that stands twice.
     Duplicate,
+    /// PDDL that is not read.
     Unsupported,
+    /// An object that does not fit its parameter; told as `type`.
     Mistyped,
 }
 
 /// What there may be too much of in a task.
 #[derive(Clone, Copy, Debug, PartialEq, Eq)]
 pub enum Limit {
+    /// Tuples of objects for parameters and `forall`s: at most 4,000,000.
     Tuples,
+    /// Facts: at most 2,048.
     Facts,
+    /// Actions: at most 16,384.
     Actions,
+    /// Effects with a condition: at most 65,536.
     Effects,
 }
 
@@ -49,7 +60,7 @@ pub enum Ending {
     Refused { kind: Kind, file: Which, at: u32 },
     /// A file has more bytes than may be.
     TooLong(Which),
-    /// The task is past a limit, with the count.
+    /// The task is past a limit, with the count; past 2^64 - 1, that number.
     TooMany { what: Limit, count: u64 },
     /// A file could not be read.
     ReadFault(Which),

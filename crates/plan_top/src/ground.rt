@@ -1,6 +1,6 @@
 //! Grounding the task that two files say.
-ghost use Rattle.std.specs.Prelude.{◌≡◌, ◌≤◌, ℕ, length, IfOk};
-ghost use Rattle.plan_top.specs.Causes.{AreGrounded, StopsGrounding, Limits, most_bytes};
+ghost use Rattle.std.specs.Prelude.{◌≡◌, ◌≤◌, length, IfOk};
+ghost use Rattle.plan_top.specs.Causes.{AreGrounded, StopsGrounding, TellsOver, most_bytes};
 ghost use Rattle.grounding.specs.Grounded.{IsGrounded};
 ghost use Rattle.grounding.specs.Limits.{IsWithin};
 ghost use Rattle.plan_top.specs.Ends.{StopsBy};
@@ -29,7 +29,7 @@ fn too_many(what: Limit, count: u64) -> Stop
 fn grounded_of(alloc: Global, task: &Pddl) -> Result<Grounded, Stop>
     ensures grounded { IfOk result (IsGrounded task.now) }
     ensures within { IfOk result (IsWithin task.now) }
-    ensures stops { StopsBy (Limits task.now) result }
+    ensures stops { StopsBy (TellsOver task.now) result }
 {
     match ground(alloc, task) {
         Ok(grounded) => Ok(grounded),
@@ -48,12 +48,7 @@ pub fn ground_task(alloc: Global, domain: &[u8], problem: &[u8]) -> Result<Groun
     ensures grounded { IfOk result (λ t. AreGrounded domain.now problem.now t.task t.grounded) }
     ensures stops { StopsBy (StopsGrounding domain.now problem.now) result }
 {
-    let task = match read_task(alloc, domain, problem) {
-        Ok(task) => task,
-        Err(stop) => return Err(stop),
-    };
-    match grounded_of(alloc, &task) {
-        Ok(grounded) => Ok(GroundTask { task, grounded }),
-        Err(stop) => Err(stop),
-    }
+    let task = read_task(alloc, domain, problem)?;
+    let grounded = grounded_of(alloc, &task)?;
+    Ok(GroundTask { task, grounded })
 }

@@ -2,8 +2,8 @@
 ghost use Rattle.std.specs.Prelude.{◌≡◌};
 ghost use Rattle.plan_top.specs.declared.stop.Stop.TheVariants as stop;
 
-use crate::Ending;
-use pd_model::Memory;
+use crate::{Ending, Kind};
+use pd_model::{Memory, Which};
 
 /// The run ends, or memory is wanting.
 #[derive(Debug, Drop)]
@@ -20,4 +20,19 @@ impl From<Memory> for Stop {
     fn from(_: Memory) -> Self {
         Stop::Memory
     }
+}
+
+impl From<gt_core::memory::Memory> for Stop {
+    ghost from_gives = { λ _ e. e ≡ stop.Memory };
+
+    fn from(_: gt_core::memory::Memory) -> Self {
+        Stop::Memory
+    }
+}
+
+/// The end of a run that refuses a file, at the offset of a byte.
+pub fn refuse(kind: Kind, file: Which, at: u32) -> Stop
+    ensures { result ≡ Stop.Ends (Ending.Refused kind file at) }
+{
+    Stop::Ends(Ending::Refused { kind, file, at })
 }

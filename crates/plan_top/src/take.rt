@@ -1,7 +1,7 @@
 //! Taking files from the shelf.
 ghost use Rattle.std.specs.Prelude.{◌≡◌, ◌≤◌, ℕ, List, length, IsTrue, OnOk, IfOk, IfSome};
 ghost use Rattle.pl_io.specs.Outside.{fault_count};
-ghost use Rattle.plan_top.specs.Causes.{Stops, StopsAt, plan_files, IsTaken, most_bytes};
+ghost use Rattle.plan_top.specs.Causes.{Stops, StopsAt, task_files, IsTaken, most_bytes};
 ghost use Rattle.plan_top.specs.Ends.{StopsBy};
 
 use crate::Ending;
@@ -56,15 +56,9 @@ pub fn take_two<S: Shelf>(
     ensures never_falls { (other : List ℕ) → fault_count other (S.failed shelf.old) ≤ fault_count other (S.failed shelf.new) }
     ensures first { IfOk result (λ two. IsTaken (S.told shelf.old) (S.lacks shelf.old) domain.now two.domain.items) }
     ensures second { IfOk result (λ two. IsTaken (S.told shelf.old) (S.lacks shelf.old) problem.now two.problem.items) }
-    ensures stops { StopsBy (StopsAt (S.told shelf.old) (S.lacks shelf.old) (S.failed shelf.old) (S.failed shelf.new) (plan_files (S.told shelf.old) (S.lacks shelf.old) (S.failed shelf.old) (S.failed shelf.new) domain.now problem.now)) result }
+    ensures stops { StopsBy (StopsAt (S.told shelf.old) (S.lacks shelf.old) (S.failed shelf.old) (S.failed shelf.new) (task_files domain.now problem.now)) result }
 {
-    let domain = match take_file(alloc, Which::Domain, domain, shelf) {
-        Ok(bytes) => bytes,
-        Err(stop) => return Err(stop),
-    };
-    let problem = match take_file(alloc, Which::Problem, problem, shelf) {
-        Ok(bytes) => bytes,
-        Err(stop) => return Err(stop),
-    };
+    let domain = take_file(alloc, Which::Domain, domain, shelf)?;
+    let problem = take_file(alloc, Which::Problem, problem, shelf)?;
     Ok(TwoFiles { domain, problem })
 }

@@ -1,23 +1,17 @@
 //! Reading the task that two files say.
-ghost use Rattle.std.specs.Prelude.{◌≡◌, ◌≤◌, ℕ, length, IfOk};
+ghost use Rattle.std.specs.Prelude.{◌≡◌, ◌≤◌, length, IfOk};
 ghost use Rattle.pd_sexp.specs.Fault.{Reads};
 ghost use Rattle.pd_sexp.specs.View.{view};
 ghost use Rattle.pd_task.specs.Reading.{reading};
 ghost use Rattle.plan_top.specs.Causes.{AreTask, RefusesTask, RefusesTree, RefusesTrees, most_bytes};
 ghost use Rattle.plan_top.specs.Ends.{StopsBy};
 
-use crate::stop::Stop;
-use crate::{Ending, Kind};
+use crate::Kind;
+use crate::stop::{Stop, refuse};
 use pd_model::{Pddl, Which};
 use pd_sexp::{Tree, TreeError, read_tree};
 use pd_task::{PddlError, read_pddl};
 use std::alloc::Global;
-
-fn refuse(kind: Kind, file: Which, at: u32) -> Stop
-    ensures { result ≡ Stop.Ends (Ending.Refused kind file at) }
-{
-    Stop::Ends(Ending::Refused { kind, file, at })
-}
 
 /// The tree of a file.
 pub fn tree_of(alloc: Global, file: Which, bytes: &[u8]) -> Result<Tree, Stop>
@@ -56,13 +50,7 @@ pub fn read_task(alloc: Global, domain: &[u8], problem: &[u8]) -> Result<Pddl, S
     ensures task { IfOk result (AreTask domain.now problem.now) }
     ensures stops { StopsBy (RefusesTask domain.now problem.now) result }
 {
-    let first = match tree_of(alloc, Which::Domain, domain) {
-        Ok(tree) => tree,
-        Err(stop) => return Err(stop),
-    };
-    let second = match tree_of(alloc, Which::Problem, problem) {
-        Ok(tree) => tree,
-        Err(stop) => return Err(stop),
-    };
+    let first = tree_of(alloc, Which::Domain, domain)?;
+    let second = tree_of(alloc, Which::Problem, problem)?;
     task_of(alloc, &first, &second)
 }

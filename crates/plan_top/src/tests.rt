@@ -274,19 +274,27 @@ fn many_objects(alloc: Global, count: u32) -> Result<Vec<u8>, AllocError> {
 // Each limit, met and passed by one.
 #[test]
 fn grounding_limits(rt: HostRuntime) -> Result<(), Fail> {
-    let rows: [(&[u8], u32, &str, u8); 8] = [
-        (PAIR, 2000, FOUND, 0),
-        (PAIR_AND_ONE, 2000, "; limit tuples 4000001\n", 4),
-        (FACT_EACH, 2048, FOUND, 0),
-        (FACT_EACH, 2049, "; limit facts 2049\n", 4),
-        (ACTION_EACH, 16384, FOUND, 0),
-        (ACTION_EACH, 16385, "; limit actions 16385\n", 4),
-        (EFFECT_EACH_PAIR, 256, FOUND, 0),
-        (EFFECT_EACH_PAIR_AND_ONE, 256, "; limit effects 65537\n", 4),
+    let rows: [(&[&str], &[u8], u32, &str, u8); 10] = [
+        (PLAN, PAIR, 2000, FOUND, 0),
+        (PLAN, PAIR_AND_ONE, 2000, "; limit tuples 4000001\n", 4),
+        (PLAN, FACT_EACH, 2048, FOUND, 0),
+        (PLAN, FACT_EACH, 2049, "; limit facts 2049\n", 4),
+        (GROUND, FACT_EACH, 2049, "; limit facts 2049\n", 4),
+        (PLAN, ACTION_EACH, 16384, FOUND, 0),
+        (PLAN, ACTION_EACH, 16385, "; limit actions 16385\n", 4),
+        (ORDER, ACTION_EACH, 16385, "; limit actions 16385\n", 4),
+        (PLAN, EFFECT_EACH_PAIR, 256, FOUND, 0),
+        (
+            PLAN,
+            EFFECT_EACH_PAIR_AND_ONE,
+            256,
+            "; limit effects 65537\n",
+            4,
+        ),
     ];
-    for (domain, count, text, status) in rows {
+    for (given, domain, count, text, status) in rows {
         let problem = many_objects(rt.alloc(), count)?;
-        let (got, taken) = answer(&rt, rt.alloc(), PLAN, (domain, &problem, None), &[])?;
+        let (got, taken) = answer(&rt, rt.alloc(), given, (domain, &problem, None), &[])?;
         assert_eq!(rt; got.0, status);
         assert_eq!(rt; taken.as_slice(), text.as_bytes());
     }
@@ -354,6 +362,10 @@ fn failing_shelves(rt: HostRuntime) -> Result<(), Fail> {
     let (missing, taken) = answer(&rt, rt.alloc(), CHECK, (LAMP, DARK, None), &[])?;
     assert_eq!(rt; missing.0, 5);
     assert_eq!(rt; taken.as_slice(), b"; read fault plan\n".as_slice());
+    let without = &["plan", "d", "no problem", "--max-horizon", "0"];
+    let (missing, taken) = answer(&rt, rt.alloc(), without, (LAMP, DARK, None), &[])?;
+    assert_eq!(rt; missing.0, 5);
+    assert_eq!(rt; taken.as_slice(), b"; read fault problem\n".as_slice());
     Ok(())
 }
 

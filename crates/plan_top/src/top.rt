@@ -1,9 +1,10 @@
 //! The top call.
-ghost use Rattle.std.specs.Prelude.{◌≡◌, ◌≢◌, ◌≤◌, ◌⊎◌, ℕ, List, [], ◌∷◌, map, string_bytes, codes};
-ghost use Rattle.pl_io.specs.Outside.{appended, TakesFront, Rose, FaultRose, fault_count};
+ghost use Rattle.std.specs.Prelude.{◌≡◌, ◌≢◌, ◌≤◌, ℕ, List, [], ◌∷◌, map, string_bytes, codes};
+ghost use Rattle.pl_io.specs.Outside.{appended, TakesFront, Rose, fault_count};
 ghost use Rattle.plan_top.specs.Among.{IsAmong};
-ghost use Rattle.plan_top.specs.Words.{IsPlan, IsGround, IsOrder, IsCheck, IsNoCommand};
-ghost use Rattle.plan_top.specs.Causes.{Comes, FaultOf, GoesWell, ChecksWell};
+ghost use Rattle.plan_top.specs.Words.{IsPlanCommand, IsGroundCommand, IsOrderCommand, IsCheckCommand, IsNoCommand};
+ghost use Rattle.plan_top.specs.Causes.{Comes, FaultOf};
+ghost use Rattle.plan_top.specs.Complete.{GoesWell, ChecksWell};
 ghost use Rattle.plan_top.specs.Ending.{status_of, text_of};
 ghost use Rattle.plan_top.specs.Lines.{Says};
 ghost use Rattle.plan_top.specs.Headline.{Printed, OfFiles, PlanRuns, NoStepPlan, NoPlan, TellsGround, TellsOrder, CallsRun};
@@ -34,7 +35,7 @@ pub struct Status(pub u8);
 /// Reads the words, takes the files from the shelf, decides, and writes the text due into the sink.
 ///
 /// The words are those after the program's name: `plan DOMAIN PROBLEM --max-horizon 0`, `ground DOMAIN PROBLEM`,
-/// `order DOMAIN PROBLEM` or `check DOMAIN PROBLEM PLAN`.
+/// `order DOMAIN PROBLEM` or `check DOMAIN PROBLEM PLAN`. `_rt` stands for the runtime, of which nothing is asked yet.
 pub fn run<H, S: Shelf, K: Sink>(
     _rt: &H,
     alloc: Global,
@@ -44,26 +45,26 @@ pub fn run<H, S: Shelf, K: Sink>(
 ) -> Status
     // A printed plan leads from the initial state to the goal.
     ensures plan_runs { (text domain problem : List ℕ) → result.0 ≡ 0 → Printed (K.taken sink.old) (K.taken sink.new) text
-        → IsPlan (map string_bytes words.now) domain problem → OfFiles (S.told shelf.old) domain problem (PlanRuns text) }
+        → IsPlanCommand (map string_bytes words.now) domain problem → OfFiles (S.told shelf.old) domain problem (PlanRuns text) }
 
     // A horizon that is printed as refuted has no step plan of so many steps.
     ensures refuted_steps { (text domain problem : List ℕ) (horizon conflicts : ℕ) → Printed (K.taken sink.old) (K.taken sink.new) text
-        → IsPlan (map string_bytes words.now) domain problem → Says text horizon (codes "refuted") conflicts
+        → IsPlanCommand (map string_bytes words.now) domain problem → Says text horizon (codes "refuted") conflicts
         → OfFiles (S.told shelf.old) domain problem (NoStepPlan horizon) }
 
     // Nor is there a plan of at most so many actions.
     ensures refuted_plans { (text domain problem : List ℕ) (horizon conflicts : ℕ) → Printed (K.taken sink.old) (K.taken sink.new) text
-        → IsPlan (map string_bytes words.now) domain problem → Says text horizon (codes "refuted") conflicts
+        → IsPlanCommand (map string_bytes words.now) domain problem → Says text horizon (codes "refuted") conflicts
         → OfFiles (S.told shelf.old) domain problem (NoPlan horizon) }
 
     // The facts and actions, and the order, that are printed are those of the task.
     ensures ground_told { (text domain problem : List ℕ) → result.0 ≡ 0 → Printed (K.taken sink.old) (K.taken sink.new) text
-        → IsGround (map string_bytes words.now) domain problem → OfFiles (S.told shelf.old) domain problem (TellsGround text) }
+        → IsGroundCommand (map string_bytes words.now) domain problem → OfFiles (S.told shelf.old) domain problem (TellsGround text) }
     ensures order_told { (text domain problem : List ℕ) → result.0 ≡ 0 → Printed (K.taken sink.old) (K.taken sink.new) text
-        → IsOrder (map string_bytes words.now) domain problem → OfFiles (S.told shelf.old) domain problem (TellsOrder text) }
+        → IsOrderCommand (map string_bytes words.now) domain problem → OfFiles (S.told shelf.old) domain problem (TellsOrder text) }
 
     // Calls that are answered as a plan are one.
-    ensures reached { (domain problem plan : List ℕ) → result.0 ≡ 0 → IsCheck (map string_bytes words.now) domain problem plan
+    ensures reached { (domain problem plan : List ℕ) → result.0 ≡ 0 → IsCheckCommand (map string_bytes words.now) domain problem plan
         → CallsRun (S.told shelf.old) domain problem plan }
 
     // Each status has its cause, and with every status but 6 the bytes taken are exactly the text due.

@@ -1,6 +1,6 @@
 //! The words of the command line.
 ghost use Rattle.std.specs.Prelude.{ℕ, List, map, string_bytes, MatchOption};
-ghost use Rattle.plan_top.specs.Words.{IsPlan, IsGround, IsOrder, IsTwo, IsCheck};
+ghost use Rattle.plan_top.specs.Words.{IsPlanCommand, IsGroundCommand, IsOrderCommand, IsTwo, IsCheckCommand};
 ghost use Rattle.plan_top.specs.declared.words.Command.{Command};
 
 /// A command of a domain and a problem.
@@ -13,8 +13,8 @@ pub enum Command {
 
 /// The names of the domain and the problem, where the words are `plan DOMAIN PROBLEM --max-horizon 0`.
 fn plan_files(words: &[String]) -> Option<(&str, &str)>
-    ensures { MatchOption result ((d p : List ℕ) → IsPlan (map string_bytes words.now) d p → ⊥)
-        (λ names. IsPlan (map string_bytes words.now) names.0.now names.1.now) }
+    ensures { MatchOption result ((d p : List ℕ) → IsPlanCommand (map string_bytes words.now) d p → ⊥)
+        (λ names. IsPlanCommand (map string_bytes words.now) names.0.now names.1.now) }
 {
     match words {
         [command, domain, problem, option, last]
@@ -27,8 +27,8 @@ fn plan_files(words: &[String]) -> Option<(&str, &str)>
 
 /// The names of the domain and the problem, where the words are `ground DOMAIN PROBLEM`.
 fn ground_files(words: &[String]) -> Option<(&str, &str)>
-    ensures { MatchOption result ((d p : List ℕ) → IsGround (map string_bytes words.now) d p → ⊥)
-        (λ names. IsGround (map string_bytes words.now) names.0.now names.1.now) }
+    ensures { MatchOption result ((d p : List ℕ) → IsGroundCommand (map string_bytes words.now) d p → ⊥)
+        (λ names. IsGroundCommand (map string_bytes words.now) names.0.now names.1.now) }
 {
     match words {
         [command, domain, problem] if command.as_str() == "ground" => {
@@ -40,8 +40,8 @@ fn ground_files(words: &[String]) -> Option<(&str, &str)>
 
 /// The names of the domain and the problem, where the words are `order DOMAIN PROBLEM`.
 fn order_files(words: &[String]) -> Option<(&str, &str)>
-    ensures { MatchOption result ((d p : List ℕ) → IsOrder (map string_bytes words.now) d p → ⊥)
-        (λ names. IsOrder (map string_bytes words.now) names.0.now names.1.now) }
+    ensures { MatchOption result ((d p : List ℕ) → IsOrderCommand (map string_bytes words.now) d p → ⊥)
+        (λ names. IsOrderCommand (map string_bytes words.now) names.0.now names.1.now) }
 {
     match words {
         [command, domain, problem] if command.as_str() == "order" => {
@@ -70,8 +70,8 @@ pub fn two_files(words: &[String]) -> Option<(Command, &str, &str)>
 
 /// The names of the domain, the problem and the plan, where the words are `check DOMAIN PROBLEM PLAN`.
 pub fn check_files(words: &[String]) -> Option<(&str, &str, &str)>
-    ensures { MatchOption result ((d p l : List ℕ) → IsCheck (map string_bytes words.now) d p l → ⊥)
-        (λ names. IsCheck (map string_bytes words.now) names.0.now names.1.now names.2.now) }
+    ensures { MatchOption result ((d p l : List ℕ) → IsCheckCommand (map string_bytes words.now) d p l → ⊥)
+        (λ names. IsCheckCommand (map string_bytes words.now) names.0.now names.1.now names.2.now) }
 {
     match words {
         [command, domain, problem, plan] if command.as_str() == "check" => {

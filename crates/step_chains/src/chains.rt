@@ -37,7 +37,8 @@ impl Model for Chains {
 impl Chains {
     ghost use Rattle.step_chains.specs.Found.{no_chains};
 
-    /// The chains of a task in an order of its actions; want of memory past 1,073,741,824 chain variables.
+    /// The chains of a task in an order of its actions. The only error is want of memory, by which more than
+    /// 1,073,741,824 chain variables would be told too; no task has so many.
     pub fn find(alloc: Global, task: &Task, order: &Order) -> Result<Chains, Memory>
         requires members { AllByRecursion (λ ks. AllByRecursion (λ a. a < length task.now.actions) ks) order.now }
         ensures { IfOk result (λ c. AreChains task.now order.now c) }

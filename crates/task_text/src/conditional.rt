@@ -1,6 +1,6 @@
 //! How many effects have a condition.
-ghost use Rattle.std.specs.Prelude.{◌≡◌, ◌≤◌, true, count_by};
-ghost use Rattle.gt_core.specs.Lawful.{is_conditional, conditional_in, is_task};
+ghost use Rattle.std.specs.Prelude.{◌≡◌, ◌≤◌, count_by};
+ghost use Rattle.gt_core.specs.Lawful.{is_conditional, conditional_in};
 
 use gt_core::act::Act;
 use gt_core::eff::Eff;

@@ -14,8 +14,8 @@ pub(crate) fn push_number(number: u32, text: &mut Vec<u8>) -> Result<(), Memory>
     Ok(())
 }
 
-/// Appends the front of a numbered line.
-pub(crate) fn push_front(number: u32, text: &mut Vec<u8>) -> Result<(), Memory>
+/// Appends the start of a numbered line.
+pub(crate) fn push_line_start(number: u32, text: &mut Vec<u8>) -> Result<(), Memory>
     ensures { OnOk result (text.new.items ≡ text.old.items ++ (codes "; " ++ (decimal number ++ codes " "))) }
 {
     text.extend_from_slice(b"; ")?;

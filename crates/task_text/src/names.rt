@@ -1,5 +1,5 @@
 //! Atoms and calls, spelled by their names.
-ghost use Rattle.std.specs.Prelude.{◌≡◌, ◌++◌, List, ℕ, map, codes, OnOk};
+ghost use Rattle.std.specs.Prelude.{◌≡◌, ◌++◌, List, map, codes, OnOk};
 ghost use Rattle.std.specs.List.{flat_map};
 ghost use Rattle.task_text.specs.Text.{predicate_name, object_name, schema_name, spelled, atom_text, call_text};
 

@@ -1,16 +1,16 @@
 //! The lines of a ground task and of a published order.
-ghost use Rattle.std.specs.Prelude.{◌≡◌, ◌++◌, ◌<◌, ◌≤◌, map, length, true, OnOk};
+ghost use Rattle.std.specs.Prelude.{◌≡◌, ◌++◌, ◌<◌, map, length, true, OnOk};
 ghost use Rattle.gt_core.specs.Literal.{is_in};
-ghost use Rattle.gt_core.specs.Published.{order_of};
+ghost use Rattle.gt_core.specs.Published.{IsPublished, order_of};
 ghost use Rattle.grounding.specs.Grounded.{IsGrounded};
-ghost use Rattle.grounding.specs.Limits.{IsWithin};
-ghost use Rattle.task_text.specs.Text.{atom_text, call_text, call_at, placed, numbered, ground_text, order_counts, order_text};
+ghost use Rattle.task_text.specs.Text.{atom_text, call_text, placed, numbered, ground_text, order_counts, order_text};
 
 use crate::conditional::conditional_effects;
-use crate::lines::{push_count, push_front, push_number};
+use crate::lines::{push_count, push_line_start, push_number};
 use crate::names::{push_atom, push_call};
 use action_order::order::Order;
 use grounder::Grounded;
+use gt_core::pairs::Pairs;
 use pd_model::{Memory, Pddl};
 
 /// Appends the lines of the facts, of which there are so many.
@@ -19,7 +19,7 @@ fn push_facts(p: &Pddl, g: &Grounded, facts: u32, text: &mut Vec<u8>) -> Result<
     ensures { OnOk result (text.new.items ≡ text.old.items ++ numbered 0 (map (atom_text p.now) g.now.facts)) }
 {
     for f in 0..facts {
-        push_front(f, text)?;
+        push_line_start(f, text)?;
         push_atom(p, g.fact(f), text)?;
         text.extend_from_slice(b"\n")?;
     }
@@ -32,14 +32,15 @@ fn push_actions(p: &Pddl, g: &Grounded, actions: u32, text: &mut Vec<u8>) -> Res
     ensures { OnOk result (text.new.items ≡ text.old.items ++ numbered 0 (map (call_text p.now) g.now.calls)) }
 {
     for a in 0..actions {
-        push_front(a, text)?;
+        push_line_start(a, text)?;
         push_call(p, g.call(a), text)?;
         text.extend_from_slice(b"\n")?;
     }
     Ok(())
 }
 
-/// Appends the facts and the actions of a ground task, and how many effects have a condition.
+/// Appends the facts and the actions of a ground task, and how many effects have a condition. The only error is want of
+/// memory; `text` then holds no more than a part.
 pub fn push_ground(p: &Pddl, g: &Grounded, text: &mut Vec<u8>) -> Result<(), Memory>
     requires { IsGrounded p.now g.now }
     ensures { OnOk result (text.new.items ≡ text.old.items ++ ground_text p.now g.now) }
@@ -91,29 +92,31 @@ fn push_places(p: &Pddl, g: &Grounded, order: &Order, text: &mut Vec<u8>) -> Res
     ensures { OnOk result (text.new.items ≡ text.old.items ++ numbered 0 (map (placed p.now g.now order.now) (order_of order.now))) }
 {
     for place in 0..order.actions() {
-        push_front(place, text)?;
+        push_line_start(place, text)?;
         push_placed(p, g, order, order.at(place), text)?;
         text.extend_from_slice(b"\n")?;
     }
     Ok(())
 }
 
-/// Appends the actions of a ground task in published order, each with its component, over so many known clauses.
+/// Appends the actions of a ground task in the order that was published under the known clauses `pairs`, each with its
+/// component. The only error is want of memory; `text` then holds no more than a part.
+#[tactic(auto, using(crate::proofs::Placed::placed_calls))]
 pub fn push_order(
     p: &Pddl,
     g: &Grounded,
     order: &Order,
-    pairs: u32,
+    pairs: &Pairs,
     text: &mut Vec<u8>,
 ) -> Result<(), Memory>
     requires grounded { IsGrounded p.now g.now }
-    requires actions { (a : _) → is_in (order_of order.now) a ≡ true → a < length g.now.calls }
-    ensures { OnOk result (text.new.items ≡ text.old.items ++ order_text p.now g.now order.now pairs) }
+    requires published { IsPublished g.now.task pairs.now.clauses order.now }
+    ensures { OnOk result (text.new.items ≡ text.old.items ++ order_text p.now g.now order.now (length pairs.now.clauses)) }
 {
     push_counts(
         g.task().acts().len() as u32,
         order.components(),
-        pairs,
+        pairs.count(),
         text,
     )?;
     push_places(p, g, order, text)

@@ -6,8 +6,8 @@ use Rattle.task_text.proofs.report.push_actions.Goals as goal
 pub loop-a-preserved : goal.loop-a-preserved
 loop-a-preserved c =
     c.loop-a.invariant
-    ∙ line_next (call_text c.args.p.now) c.args.g.now.calls c.loop-a.a c.call.result.now c.loop-a.text.items c.push_front.new.text.items c.push_call.new.text.items c.extend_from_slice.new.self.items
-    c.call.ensures c.in_ok-push_front.ensures c.in_ok-push_call.ensures c.in_ok-extend_from_slice.ensures.items
+    ∙ line_next (call_text c.args.p.now) c.args.g.now.calls c.loop-a.a c.call.result.now c.loop-a.text.items c.push_line_start.new.text.items c.push_call.new.text.items c.extend_from_slice.new.self.items
+    c.call.ensures c.in_ok-push_line_start.ensures c.in_ok-push_call.ensures c.in_ok-extend_from_slice.ensures.items
 
 pub returns : goal.returns
 returns c =

@@ -6,8 +6,8 @@ use Rattle.task_text.proofs.report.push_facts.Goals as goal
 pub loop-f-preserved : goal.loop-f-preserved
 loop-f-preserved c =
     c.loop-f.invariant
-    ∙ line_next (atom_text c.args.p.now) c.args.g.now.facts c.loop-f.f c.fact.result.now c.loop-f.text.items c.push_front.new.text.items c.push_atom.new.text.items c.extend_from_slice.new.self.items
-    c.fact.ensures c.in_ok-push_front.ensures c.in_ok-push_atom.ensures c.in_ok-extend_from_slice.ensures.items
+    ∙ line_next (atom_text c.args.p.now) c.args.g.now.facts c.loop-f.f c.fact.result.now c.loop-f.text.items c.push_line_start.new.text.items c.push_atom.new.text.items c.extend_from_slice.new.self.items
+    c.fact.ensures c.in_ok-push_line_start.ensures c.in_ok-push_atom.ensures c.in_ok-extend_from_slice.ensures.items
 
 pub returns : goal.returns
 returns c =

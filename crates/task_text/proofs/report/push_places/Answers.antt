@@ -7,8 +7,8 @@ use Rattle.task_text.proofs.report.push_places.Goals as goal
 pub loop-place-preserved : goal.loop-place-preserved
 loop-place-preserved c =
     c.loop-place.invariant
-    ∙ line_next (placed c.args.p.now c.args.g.now c.args.order.now) (order_of c.args.order.now) c.loop-place.place c.at.result c.loop-place.text.items c.push_front.new.text.items c.push_placed.new.text.items c.extend_from_slice.new.self.items
-    c.at.ensures.at c.in_ok-push_front.ensures c.in_ok-push_placed.ensures c.in_ok-extend_from_slice.ensures.items
+    ∙ line_next (placed c.args.p.now c.args.g.now c.args.order.now) (order_of c.args.order.now) c.loop-place.place c.at.result c.loop-place.text.items c.push_line_start.new.text.items c.push_placed.new.text.items c.extend_from_slice.new.self.items
+    c.at.ensures.at c.in_ok-push_line_start.ensures c.in_ok-push_placed.ensures c.in_ok-extend_from_slice.ensures.items
 
 pub returns : goal.returns
 returns c =
