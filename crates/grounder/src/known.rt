@@ -3,8 +3,8 @@
 use atom_join::Domains;
 use pd_model::{Atoms, State};
 
-/// The task with the objects that fit its types, the facts, in order, and the initial atoms. Of the atoms that are no facts, the initial ones are constant and
-/// the rest are not reachable.
+/// The task with the objects that fit its types, the facts, in order, and the initial atoms. Of the atoms that are no
+/// facts, the initial ones are constant and the rest are not reachable.
 #[derive(Drop)]
 pub(crate) struct Known<'a> {
     pub(crate) domains: &'a Domains<'a>,
