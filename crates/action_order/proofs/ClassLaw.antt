@@ -1,16 +1,16 @@
 use Rattle.std.proofs.Common.{arith, ◌≡◌, ℕ, zero, suc, ◌<◌, List, [], ◌∷◌, map, length, true, false, refl, sym, ap, ◌∙◌, inl, inr}
 use Rattle.std.proofs.lemmas.Bool.{cases_lt}
 use Rattle.gt_core.specs.Literal.{is_in}
-use Rattle.action_order.specs.Graph.{IsClassed, class_at}
-use Rattle.action_order.specs.Walk.{item, mark_of, IsWalk, number_of}
+use Rattle.action_order.specs.Graph.{IsClassed, class_at, item}
+use Rattle.action_order.specs.Walk.{mark_of, IsWalk, number_of}
 use Rattle.action_order.specs.declared.walk.Mark.{Mark}
 use Rattle.action_order.specs.declared.walk.Mark.TheVariants.{Unseen, At, Done}
 
 -- The finished walk gives the components.
 
 -- with no work left the stack is empty
-pub stack_empty : (targets : List (List ℕ)) (marks : List Mark) (next stack starts work roots : List ℕ) → IsWalk targets marks next stack starts work roots → length work ≡ 0 → length stack ≡ 0
-stack_empty targets marks next stack starts work roots w e = elim (cases_lt 0 (length stack)) [
+pub stack_empty : (targets : List (List ℕ)) (marks : List Mark) (stack starts work roots : List ℕ) → IsWalk targets marks stack starts work roots → length work ≡ 0 → length stack ≡ 0
+stack_empty targets marks stack starts work roots w e = elim (cases_lt 0 (length stack)) [
   | inl h ↦ absurd (none work e 0 (w.starts_in_work 0 (w.bottom h)))
   | inr h ↦ omega arith
 ]
@@ -33,7 +33,7 @@ length-numbers : (marks : List Mark) → length (map number_of marks) ≡ length
 length-numbers [] = refl
 length-numbers (m ∷ marks) = let h = length-numbers marks in omega arith
 
-module _ (targets : List (List ℕ)) (marks : List Mark) (next stack starts work roots : List ℕ) (w : IsWalk targets marks next stack starts work roots) (empty : length stack ≡ 0) (seen : (v : ℕ) → v < length targets → mark_of marks v ≡ Unseen → ⊥) where
+module _ (targets : List (List ℕ)) (marks : List Mark) (stack starts work roots : List ℕ) (w : IsWalk targets marks stack starts work roots) (empty : length stack ≡ 0) (seen : (v : ℕ) → v < length targets → mark_of marks v ≡ Unseen → ⊥) where
   all_done : (v : ℕ) → v < length targets → mark_of marks v ≡ Done (class_at (map number_of marks) v)
   all_done v lt =
       mark_done (mark_of marks v) (seen v lt) (λ p e. let o = (w.on_stack v p lt e).0 in omega arith) ∙ ap Done (sym (number_at marks v))

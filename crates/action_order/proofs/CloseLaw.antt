@@ -1,27 +1,20 @@
-use Rattle.std.proofs.Common.{arith, ◌≡◌, ℕ, ◌<◌, ◌≤◌, List, [], ◌∷◌, ◌++◌, length, take, Bool, true, refl, sym, ap, ◌∙◌, subst, ◌⊎◌, inl, inr}
-use Rattle.std.proofs.lemmas.List.{length_push, length-take-le, get_or-take, get_or_past}
+use Rattle.std.proofs.Common.{arith, ◌≡◌, ℕ, ◌<◌, ◌≤◌, List, [], ◌∷◌, ◌++◌, length, take, Bool, true, false, ◌&&◌, refl, sym, ap, ◌∙◌, subst, ◌⊎◌, inl, inr}
+use Rattle.std.specs.Prelude.{nat_lt}
+use Rattle.std.proofs.lemmas.List.{length_push, length-take-le, get_or-take}
+use Rattle.bit_rows.specs.Bits.{row_has}
 use Rattle.std.proofs.lemmas.Bool.{cases_lt, cases_eq}
 use Rattle.gt_core.specs.Literal.{is_in}
 use Rattle.gt_core.specs.Published.{Reaches, Pairwise}
-use Rattle.action_order.specs.Graph.{leads}
-use Rattle.action_order.specs.Walk.{item, mark_of, targets_of, IsSeen, IsStart, AreFinished, IsWalk, KeepsSeen, MarksFrom}
+use Rattle.action_order.specs.Graph.{leads, item}
+use Rattle.action_order.specs.Walk.{mark_of, IsSeen, IsOpen, IsSegmentStart, AreFinished, IsWalk, KeepsSeen, MarksFrom, is_unseen, is_stacked, AreSets, TakesFrom}
 use Rattle.action_order.specs.declared.walk.Mark.{Mark}
 use Rattle.action_order.specs.declared.walk.Mark.TheVariants.{Unseen, At, Done}
-use Rattle.action_order.proofs.Lists.{push_old, push_new, place_cases, in_push, in_push_new, in_push_old, rising_front, rising_last, reaches_more, place_of}
-use Rattle.action_order.proofs.WalkLaw.{at_apart, not_done, done_same, unseen_at, unseen_done}
+use Rattle.action_order.proofs.Lists.{push_old, push_new, place_cases, in_push, in_push_new, in_push_old, rising_front, rising_last, reaches_more}
+use Rattle.action_order.proofs.WalkLaw.{at_apart, not_done, done_same, unseen_at, unseen_done, mark_cases, marked_below}
 
 -- The last segment of the stack, whose edges were all followed, is a component.
 
-mark_cases : (m : Mark) → (m ≡ Unseen) ⊎ (((p : ℕ) × (m ≡ At p)) ⊎ ((c : ℕ) × (m ≡ Done c)))
-mark_cases Unseen = inl refl
-mark_cases (At p) = inr (inl (p, refl))
-mark_cases (Done c) = inr (inr (c, refl))
-
--- what has a mark is a vertex
-marked_below : (marks : List Mark) (v : ℕ) → (mark_of marks v ≡ Unseen → ⊥) → v < length marks
-marked_below marks v h = elim (cases_lt v (length marks)) [ inl l ↦ l | inr l ↦ absurd (h (get_or_past marks v Unseen l)) ]
-
-module _ (targets : List (List ℕ)) (marks after : List Mark) (next stack starts work roots first front : List ℕ) (place : ℕ) (w : IsWalk targets marks next stack starts work roots) (place_lt : place < length stack) (starts_is : starts ≡ first ++ place ∷ []) (work_is : work ≡ front ++ place ∷ []) (done : item next (item stack place) ≡ length (targets_of targets (item stack place))) (finish : MarksFrom marks after stack place (length stack) (Done (length roots))) where
+module _ (targets : List (List ℕ)) (marks after : List Mark) (stack starts work roots first front : List ℕ) (place : ℕ) (w : IsWalk targets marks stack starts work roots) (place_lt : place < length stack) (starts_is : starts ≡ first ++ place ∷ []) (work_is : work ≡ front ++ place ∷ []) (done : (u : ℕ) → leads targets (item stack place) u ≡ true → mark_of marks u ≡ Unseen → ⊥) (finish : MarksFrom marks after stack place (length stack) (Done (length roots))) where
   abbrev edge : ℕ → ℕ → Bool
   edge = leads targets
 
@@ -103,26 +96,23 @@ module _ (targets : List (List ℕ)) (marks after : List Mark) (next stack start
   work_below p i = rising_last front place p (subst (λ (xs : List ℕ). Pairwise (λ a b. a < b) xs) work_is w.work_rising) i
 
   -- all edges of the segment were followed
-  all_followed : (p : ℕ) → place ≤ p → p < length stack → item next (item stack p) ≡ length (targets_of targets (item stack p))
-  all_followed p le lp = elim (w.spent p lp) [
-    | inl k ↦ elim (split_work p k) [
+  all_followed : (p v : ℕ) → place ≤ p → p < length stack → edge (item stack p) v ≡ true → IsSeen marks starts p v
+  all_followed p v le lp e = elim (w.seen p v lp e) [
+    | inl o ↦ elim (split_work p o.1) [
       | inl j ↦ let b = work_below p j in absurd (omega arith)
-      | inr e ↦ subst (λ (x : ℕ). item next (item stack x) ≡ length (targets_of targets (item stack x))) (sym e) done
+      | inr s ↦ absurd (done v (subst (λ (q : ℕ). edge (item stack q) v ≡ true) s e) o.0)
     ]
-    | inr f ↦ f
+    | inr a ↦ a
   ]
 
-  segment_start : (p : ℕ) → place ≤ p → IsStart starts p place
+  segment_start : (p : ℕ) → place ≤ p → IsSegmentStart starts p place
   segment_start p le = record { start = place_start; before = le; last = λ r i lr. elim (split_start r i) [ inl k ↦ let b = start_below r k in omega arith | inr e ↦ omega arith ] }
 
   -- an edge from the segment leads into it, or to an earlier component
   segment_falls : (u v : ℕ) → InSegment u → edge u v ≡ true → (d : ℕ) × (mark_of after v ≡ Done d) × (d ≤ number)
   segment_falls u v s e =
-      let t : is_in (targets_of targets (item stack s.spot)) v ≡ true = subst (λ (x : ℕ). is_in (targets_of targets x) v ≡ true) (sym s.is) e in
-      let k = place_of (targets_of targets (item stack s.spot)) v t in
-      let all = all_followed s.spot s.from s.below in
-      let within = k.within in
-      let h : IsSeen marks starts s.spot v = subst (λ (x : ℕ). IsSeen marks starts s.spot x) k.is (w.seen s.spot k.place s.below (omega arith)) in
+      let t : edge (item stack s.spot) v ≡ true = subst (λ (x : ℕ). edge x v ≡ true) (sym s.is) e in
+      let h = all_followed s.spot v s.from s.below t in
       elim h [
         | inl d ↦ let b = w.finished.known v d.0 (vertex_done v d.0 d.1) d.1 in (d.0, done_later v d.0 d.1, omega arith)
         | inr a ↦
@@ -168,6 +158,13 @@ module _ (targets : List (List ℕ)) (marks after : List Mark) (next stack start
         | inr l ↦ inl (number, ap (mark_of after) (sym o.1) ∙ finish.marked a.0 l o.0)
       ]
 
+  closed_or_open : (p x : ℕ) → p < place → IsOpen marks work p x ⊎ IsSeen marks starts p x → IsOpen after front p x ⊎ IsSeen after first p x
+  closed_or_open p x lt (inl o) = inl (
+    finish.others x (λ q le lq s. unseen_at (mark_of marks x) q o.0 (ap (mark_of marks) (sym s) ∙ w.placed q lq)) ∙ o.0,
+    elim (split_work p o.1) [ inl j ↦ j | inr e ↦ absurd (omega arith) ],
+  )
+  closed_or_open p x lt (inr a) = inr (closed_seen p x lt a)
+
   closed_on_stack : (v p : ℕ) → v < length targets → mark_of after v ≡ At p → (p < length rest) × (item rest p ≡ v)
   closed_on_stack v p lv e =
       let o = w.on_stack v p lv (before_finish v (At p) e (λ s. not_done (At p) p number refl s)) in
@@ -180,31 +177,64 @@ module _ (targets : List (List ℕ)) (marks after : List Mark) (next stack start
   pub closed_keeps : KeepsSeen marks after
   closed_keeps v seen e = seen (before_finish v Unseen e (λ s. unseen_done Unseen number refl s))
 
-  pub closed : IsWalk targets after next rest first front found
+  -- the vertices that were not seen are the same
+  pub closed_unseen : (v : ℕ) → is_unseen (mark_of after v) ≡ is_unseen (mark_of marks v)
+  closed_unseen v = elim (mark_cases (mark_of marks v)) [
+    | inl u ↦ ap is_unseen (finish.others v (λ q le lq s. unseen_at (mark_of marks v) q u (ap (mark_of marks) (sym s) ∙ w.placed q lq)))
+    | inr r ↦ elim (mark_cases (mark_of after v)) [
+      | inl u ↦ absurd (seen_before r (before_finish v Unseen u (λ s. unseen_done Unseen number refl s)))
+      | inr q ↦ not_unseen (mark_of after v) q ∙ sym (not_unseen (mark_of marks v) r)
+    ]
+  ]
+    where
+      not_unseen : (m : Mark) → ((p : ℕ) × (m ≡ At p)) ⊎ ((c : ℕ) × (m ≡ Done c)) → is_unseen m ≡ false
+      not_unseen m (inl a) = ap is_unseen a.1
+      not_unseen m (inr d) = ap is_unseen d.1
+
+      seen_before : ((p : ℕ) × (mark_of marks v ≡ At p)) ⊎ ((c : ℕ) × (mark_of marks v ≡ Done c)) → mark_of marks v ≡ Unseen → ⊥
+      seen_before (inl a) u = unseen_at (mark_of marks v) a.0 u a.1
+      seen_before (inr d) u = unseen_done (mark_of marks v) d.0 u d.1
+
+  -- so the rows of bits are those of the marks
+  pub closed_sets : (unseen stacked left : List ℕ) → AreSets marks unseen stacked → TakesFrom stack place (length stack) stacked left → AreSets after unseen left
+  closed_sets unseen stacked left a t = record {
+    unseen = λ v. a.unseen v ∙ ap (λ (n : ℕ). nat_lt v n && is_unseen (mark_of marks v)) (sym finish.long) ∙ ap (λ (b : Bool). nat_lt v (length after) && b) (sym (closed_unseen v));
+    stacked = λ v. by v (mark_cases (mark_of marks v));
+  }
+    where
+      apart_from : (v : ℕ) → ((p : ℕ) → mark_of marks v ≡ At p → ⊥) → (q : ℕ) → place ≤ q → q < length stack → item stack q ≡ v → ⊥
+      apart_from v n q le lq s = n q (ap (mark_of marks) (sym s) ∙ w.placed q lq)
+
+      same : (v : ℕ) → ((q : ℕ) → place ≤ q → q < length stack → item stack q ≡ v → ⊥) → row_has left v ≡ is_stacked (mark_of after v)
+      same v n = t.others v n ∙ a.stacked v ∙ ap is_stacked (sym (finish.others v n))
+
+      by : (v : ℕ) → (mark_of marks v ≡ Unseen) ⊎ (((p : ℕ) × (mark_of marks v ≡ At p)) ⊎ ((c : ℕ) × (mark_of marks v ≡ Done c))) → row_has left v ≡ is_stacked (mark_of after v)
+      by v (inl u) = same v (apart_from v (λ p e. unseen_at (mark_of marks v) p u e))
+      by v (inr (inr d)) = same v (apart_from v (λ p e. not_done (mark_of marks v) p d.0 e d.1))
+      by v (inr (inl q)) =
+          let o = w.on_stack v q.0 (vertex_at v q.0 q.1) q.1 in
+          elim (cases_lt q.0 place) [
+            | inl l ↦ same v (λ r le lr s. let e = at_apart (mark_of marks v) q.0 r q.1 (ap (mark_of marks) (sym s) ∙ w.placed r lr) in omega arith)
+            | inr l ↦
+                ap (row_has left) (sym o.1) ∙ t.taken q.0 l o.0
+                ∙ sym (ap (λ (x : ℕ). is_stacked (mark_of after x)) (sym o.1) ∙ ap is_stacked (finish.marked q.0 l o.0))
+          ]
+
+  pub closed : IsWalk targets after rest first front found
   closed = record {
     marks_long = finish.long ∙ w.marks_long;
-    next_long = w.next_long;
-    next_within = w.next_within;
     vertex = λ p lt. let h = low p lt in rw (rest_item p h) (w.vertex p (omega arith));
     placed = λ p lt. let h = low p lt in ap (mark_of after) (rest_item p h) ∙ low_mark p h;
     on_stack = closed_on_stack;
-    untouched = λ v lv e. w.untouched v lv (before_finish v Unseen e (λ s. unseen_done Unseen number refl s));
     path = λ p q le lt. let h = low q lt in rw (rest_item q h, rest_item p (omega arith)) (w.path p q le (omega arith));
     back = λ p s lt st.
         let h = low p lt in
         let b = st.before in
         rw (rest_item p h, rest_item s (omega arith)) (w.back p s (omega arith) (record { start = old_start s st.start; before = st.before; last = λ r i lr. elim (split_start r i) [ inl k ↦ st.last r k lr | inr e ↦ absurd (omega arith) ] }));
-    seen = λ p i lt li.
+    seen = λ p x lt li.
         let h = low p lt in
-        let is = rest_item p h in
-        let li' : i < item next (item stack p) = subst (λ (x : ℕ). i < item next x) is li in
-        subst (λ (x : ℕ). IsSeen after first p (item (targets_of targets x) i)) (sym is) (closed_seen p (item (targets_of targets (item stack p)) i) h (w.seen p i (omega arith) li'));
-    spent = λ p lt.
-        let h = low p lt in
-        elim (w.spent p (omega arith)) [
-          | inl k ↦ elim (split_work p k) [ inl j ↦ inl j | inr e ↦ absurd (omega arith) ]
-          | inr f ↦ inr (rw (rest_item p h) f)
-        ];
+        let li' : edge (item stack p) x ≡ true = subst (λ (y : ℕ). edge y x ≡ true) (rest_item p h) li in
+        closed_or_open p x h (w.seen p x (omega arith) li');
     work_within = λ p i. let b = work_below p i in let l = rest_long in omega arith;
     work_rising = rising_front front place (subst (λ (xs : List ℕ). Pairwise (λ a b. a < b) xs) work_is w.work_rising);
     starts_in_work = λ s i. let b = start_below s i in elim (split_work s (w.starts_in_work s (old_start s i))) [ inl j ↦ j | inr e ↦ absurd (omega arith) ];

@@ -6,16 +6,16 @@ use Rattle.gt_core.specs.Published.{Reaches, here, along, IsMutual, IsComponent,
 use Rattle.gt_core.proofs.Basics.{Among, each_at, each_from, not_true, or_left, or_right, or_split, same_test, test_same, apart}
 use Rattle.gt_core.proofs.Literals.{in_among, among_in, in_split, in_left, in_right, among_range, below_range}
 use Rattle.gt_core.proofs.Pairwise.{pairwise_filter, filtered, into_filter}
-use Rattle.action_order.specs.Graph.{leads, class_at, IsGraph, IsClassed}
-use Rattle.action_order.specs.Walk.{item, targets_of}
-use Rattle.action_order.specs.Draw.{IsQuotient, AreNames, IsDrawnNext, AreDrawn, IsDraw}
+use Rattle.action_order.specs.Graph.{leads, item, class_at, IsGraph, IsClassed}
+use Rattle.action_order.specs.Quotient.{IsQuotient, AreNames}
+use Rattle.action_order.specs.Sorting.{IsTakenNext, AreTaken, IsTopologicalOrder}
 use Rattle.std.specs.Prelude.{if◌then◌else◌}
 use Rattle.gt_core.specs.Published.{order_of}
 use Rattle.action_order.specs.Order.{name_in}
 use Rattle.action_order.specs.Group.{members, listed}
-use Rattle.action_order.proofs.Lists.{in_push, in_push_new, in_push_old, each_number, each_at_in}
+use Rattle.action_order.proofs.Lists.{in_push, in_push_new, in_push_old}
 
--- The drawn components are the published order of the graph.
+-- The sorted components are the published order of the graph.
 
 from_first : (n first : ℕ) → AllByRecursion (λ b. first ≤ b) (range_from first n)
 from_first n first = each_from _ (range_from first n) (λ b i. at_least n first b i)
@@ -30,7 +30,7 @@ range_rising zero first = tt
 range_rising (suc n) first =
     (each_from _ (range_from (first + 1) n) (λ b i. let h = each_at (λ b. first + 1 ≤ b) (range_from (first + 1) n) b (from_first n (first + 1)) i in omega arith), range_rising n (first + 1))
 
-module _ (targets : List (List ℕ)) (classes roots : List ℕ) (rows : List (List ℕ)) (names : List ℕ) (graph : IsGraph targets) (classed : IsClassed targets classes roots) (q : IsQuotient targets classes (length roots) (length targets) rows) (named : AreNames classes (length roots) (length classes) names) where
+module _ (targets : List (List ℕ)) (classes roots : List ℕ) (rows : List (List ℕ)) (names : List ℕ) (graph : IsGraph targets) (classed : IsClassed targets classes roots) (q : IsQuotient targets classes (length roots) rows) (named : AreNames classes (length roots) (length classes) names) where
   abbrev edge : ℕ → ℕ → Bool
   edge = leads targets
 
@@ -38,7 +38,7 @@ module _ (targets : List (List ℕ)) (classes roots : List ℕ) (rows : List (Li
   vertices = range (length targets)
 
   target_below : (a b : ℕ) → a < length targets → edge a b ≡ true → b < length targets
-  target_below a b lt e = each_at_in (targets_of targets a) b (each_number _ targets a [] graph lt) e
+  target_below a b lt e = graph a b e
 
   -- along a path the numbers of the components do not rise
   path_falls : (a b : ℕ) → a < length targets → Reaches edge a b → class_at classes b ≤ class_at classes a
@@ -110,15 +110,15 @@ module _ (targets : List (List ℕ)) (classes roots : List ℕ) (rows : List (Li
   named_list : (c : ℕ) → c < length roots → Named c
   named_list c lc = named_by c lc (members classes c) refl
 
-  -- the actions that were taken are those of the components that were drawn
+  -- the actions that were taken are those of the components that were
   record Agrees (taken before : List ℕ) : Type 0 where
-    drawn : (a : ℕ) → a < length targets → is_in taken a ≡ true → is_in before (class_at classes a) ≡ true
+    component_too : (a : ℕ) → a < length targets → is_in taken a ≡ true → is_in before (class_at classes a) ≡ true
     taken_too : (a : ℕ) → a < length targets → is_in before (class_at classes a) ≡ true → is_in taken a ≡ true
 
   agrees_more : (taken before ks : List ℕ) (c : ℕ) → members classes c ≡ ks → Agrees taken before → Agrees (taken ++ ks) (before ++ c ∷ [])
   agrees_more taken before ks c e g = record {
-    drawn = λ a lt i. elim (in_split taken ks a i) [
-      | inl j ↦ in_push_old before c (class_at classes a) (g.drawn a lt j)
+    component_too = λ a lt i. elim (in_split taken ks a i) [
+      | inl j ↦ in_push_old before c (class_at classes a) (g.component_too a lt j)
       | inr j ↦ let m = member_of c a (subst (λ (xs : List ℕ). is_in xs a ≡ true) (sym e) j) in
           subst (λ (x : ℕ). is_in (before ++ c ∷ []) x ≡ true) (sym m.1) (in_push_new before c)
     ];
@@ -128,10 +128,10 @@ module _ (targets : List (List ℕ)) (classes roots : List ℕ) (rows : List (Li
     ];
   }
 
-  next_component : (taken before : List ℕ) (c : ℕ) → Agrees taken before → IsDrawnNext rows names before c → (n : Named c) → IsNext edge vertices taken (item names c) n.others
+  next_component : (taken before : List ℕ) (c : ℕ) → Agrees taken before → IsTakenNext rows names classes before c → (n : Named c) → IsNext edge vertices taken (item names c) n.others
   next_component taken before c g d n = record {
     component = subst (λ (xs : List ℕ). IsComponent edge vertices xs) n.is (component c);
-    new = not_true (is_in taken (item names c)) (λ h. apart (is_in before c) (subst (λ (x : ℕ). is_in before x ≡ true) name_class (g.drawn (item names c) name_below h)) d.new);
+    new = not_true (is_in taken (item names c)) (λ h. apart (is_in before c) (subst (λ (x : ℕ). is_in before x ≡ true) name_class (g.component_too (item names c) name_below h)) d.new);
     ready = λ a b i j e. ready_for a b (member_of c a (subst (λ (xs : List ℕ). is_in xs a ≡ true) (sym n.is) i)) (vertex_below b j) e (cases_eq (class_at classes b) c);
     least = λ other ls lt k none ready. no_lesser other ls lt k none ready;
   }
@@ -148,8 +148,8 @@ module _ (targets : List (List ℕ)) (classes roots : List ℕ) (rows : List (Li
       ready_for : (a b : ℕ) → (a < length targets) × (class_at classes a ≡ c) → b < length targets → edge a b ≡ true → (class_at classes b ≡ c) ⊎ (class_at classes b ≡ c → ⊥) → (is_in (item names c ∷ n.others) b ≡ true) ⊎ (is_in taken b ≡ true)
       ready_for a b m lb e (inl s) = inl (subst (λ (xs : List ℕ). is_in xs b ≡ true) n.is (is_member c b lb s))
       ready_for a b m lb e (inr ne) =
-          let t : leads rows (class_at classes a) (class_at classes b) ≡ true = q.complete a b m.0 lb e (λ s. ne (s ∙ m.1)) in
-          inr (g.taken_too b lb (d.ready (class_at classes b) (subst (λ (x : ℕ). leads rows x (class_at classes b) ≡ true) m.1 t)))
+          let t : leads rows (class_at classes a) b ≡ true = q.complete a b m.0 e (λ s. ne (s ∙ m.1)) in
+          inr (g.taken_too b lb (d.ready b (subst (λ (x : ℕ). leads rows x b ≡ true) m.1 t)))
 
       no_lesser : (other : ℕ) (ls : List ℕ) → other < item names c → IsComponent edge vertices (other ∷ ls) → is_in taken other ≡ false → IsReady edge vertices taken (other ∷ ls) → ⊥
       no_lesser other ls lt k none ready =
@@ -159,22 +159,23 @@ module _ (targets : List (List ℕ)) (classes roots : List ℕ) (rows : List (Li
           let l = classed.long in
           let o_below : o < length rows = let b = classed.below other lo in let x = q.long in omega arith in
           let o_new : is_in before o ≡ false = not_true (is_in before o) (λ h. apart (is_in taken other) (g.taken_too other lo h) none) in
-          let o_ready : (x : ℕ) → leads rows o x ≡ true → is_in before x ≡ true = λ x e.
-          let s = q.sound o x (let y = q.long in omega arith) e in
+          let o_ready : (b : ℕ) → leads rows o b ≡ true → is_in before (class_at classes b) ≡ true = λ b e.
+          let s = q.sound o b e in
           let cross = s.0 in
+          let lb = graph cross.source b cross.edge in
           let member : is_in (other ∷ ls) cross.source ≡ true = k.whole other cross.source first (in_vertices cross.source cross.source_below) (record {
             there = classed.connected other cross.source lo cross.source_below (sym cross.source_class);
             back = classed.connected cross.source other cross.source_below lo cross.source_class;
           }) in
-          elim (ready cross.source cross.target member (in_vertices cross.target cross.target_below) cross.edge) [
-            | inl i ↦ absurd (s.1 (sym cross.target_class ∙ same_class other cross.target lo cross.target_below (k.each_way other cross.target first i)))
-            | inr i ↦ subst (λ (y : ℕ). is_in before y ≡ true) cross.target_class (g.drawn cross.target cross.target_below i)
+          elim (ready cross.source b member (in_vertices b lb) cross.edge) [
+            | inl i ↦ absurd (s.1 (same_class other b lo lb (k.each_way other b first i)))
+            | inr i ↦ g.component_too b lb i
           ] in
           let le = d.least o o_below o_new o_ready in
           let down : item names o ≤ other = named.least other (omega arith) in
           omega arith
 
-  listed_from : (after before taken : List ℕ) → AreDrawn rows names before after → ((c : ℕ) → c < length rows → is_in (before ++ after) c ≡ true) → Agrees taken before → IsListed edge vertices taken (map (members classes) after)
+  listed_from : (after before taken : List ℕ) → AreTaken rows names classes before after → ((c : ℕ) → c < length rows → is_in (before ++ after) c ≡ true) → Agrees taken before → IsListed edge vertices taken (map (members classes) after)
   listed_from [] before taken d all g = λ a i.
       let lt = vertex_below a i in
       let c = class_at classes a in
@@ -193,8 +194,8 @@ module _ (targets : List (List ℕ)) (classes roots : List ℕ) (rows : List (Li
       moved [] = refl
       moved (y ∷ ys) = ap (λ (ws : List ℕ). y ∷ ws) (moved ys)
 
-  pub is_listed : (order : List ℕ) → IsDraw rows names order → IsListed edge vertices [] (listed classes order)
-  is_listed order d = listed_from order [] [] d.drawn d.all (record { drawn = λ a lt i. absurd (let f : false ≡ true = i in cc); taken_too = λ a lt i. absurd (let f : false ≡ true = i in cc) })
+  pub is_listed : (order : List ℕ) → IsTopologicalOrder rows names classes order → IsListed edge vertices [] (listed classes order)
+  is_listed order d = listed_from order [] [] d.taken d.all (record { component_too = λ a lt i. absurd (let f : false ≡ true = i in cc); taken_too = λ a lt i. absurd (let f : false ≡ true = i in cc) })
 
   name_first : (order : List ℕ) (c a : ℕ) → a < length targets → (n : Named c) → (class_at classes a ≡ c) ⊎ (class_at classes a ≡ c → ⊥) → (((class_at classes a ≡ c) → ⊥) → name_in (listed classes order) a ≡ item names (class_at classes a)) → name_in ((item names c ∷ n.others) ∷ listed classes order) a ≡ item names (class_at classes a)
   name_first order c a lt n (inl s) h =

@@ -9,7 +9,8 @@ use Rattle.gt_core.specs.Published.{Reaches, here, along, Pairwise}
 use Rattle.gt_core.proofs.Basics.{each_at, each_from, and_split, or_split, or_left, or_right, same_test, test_same}
 use Rattle.gt_core.proofs.Literals.{in_among, among_in, in_split, in_left, in_right}
 use Rattle.std.proofs.Math.Seq.{take-length}
-use Rattle.action_order.specs.Walk.{item, IsLast, ends_past}
+use Rattle.action_order.specs.Graph.{item}
+use Rattle.action_order.specs.Walk.{IsLast, ends_past}
 
 -- Lists with one more element at their end, and paths.
 

@@ -1,19 +1,19 @@
-use Rattle.std.proofs.Common.{arith, ◌≡◌, ◌==◌, ℕ, suc, ◌+◌, ◌-◌, ◌<◌, ◌≤◌, List, [], ◌∷◌, length, Bool, true, false, refl, sym, ◌∙◌, inl, inr, set, sum, sum_by}
+use Rattle.std.proofs.Common.{arith, ◌≡◌, ◌==◌, ℕ, suc, ◌+◌, ◌-◌, ◌<◌, ◌≤◌, List, [], ◌∷◌, length, Bool, true, false, refl, sym, ◌∙◌, ap, cond, inl, inr, set, count_by}
 use Rattle.std.specs.Prelude.{nat_lt}
 use Rattle.std.proofs.lemmas.Bool.{cases_lt}
 use Rattle.std.proofs.lemmas.Bool.Decides.{nat_tests}
 use Rattle.std.proofs.lemmas.List.Sums.{sum_by-set, sum_by-cons}
 use Rattle.gt_core.specs.Literal.{is_in}
-use Rattle.gt_core.specs.Published.{Reaches}
 use Rattle.gt_core.proofs.Basics.{and_split, and_both, not_true, test_same, same_test}
-use Rattle.action_order.specs.Graph.{leads}
-use Rattle.action_order.specs.Walk.{item, targets_of, IsWalk, AllReach, IsLast, ends_with, work_left}
+use Rattle.action_order.specs.Graph.{leads, item}
+use Rattle.action_order.specs.Walk.{mark_of, is_unseen, IsWalk, AllReach, IsLast, ends_with}
 use Rattle.action_order.specs.declared.walk.Mark.{Mark}
+use Rattle.action_order.specs.declared.walk.Mark.TheVariants.{Unseen, At}
 use Rattle.action_order.proofs.Lists.{reaches_more, reaches_edge, last_in, last_greatest}
 
 -- What one move of the walk may rely on, and that the work that is left falls.
 
-module _ (targets : List (List ℕ)) (marks : List Mark) (next stack starts work roots : List ℕ) (w : IsWalk targets marks next stack starts work roots) (place : ℕ) (last : IsLast work place) where
+module _ (targets : List (List ℕ)) (marks : List Mark) (stack starts work roots : List ℕ) (w : IsWalk targets marks stack starts work roots) (place : ℕ) (last : IsLast work place) where
   abbrev edge : ℕ → ℕ → Bool
   edge = leads targets
 
@@ -51,9 +51,6 @@ module _ (targets : List (List ℕ)) (marks : List Mark) (next stack starts work
         | inr h ↦ reaches_more edge _ _ _ (w.path p place h last_place) here_on
       ]
 
-  pub reach_at : (v q : ℕ) → edge (item stack place) v ≡ true → item stack q ≡ v → Reaches edge (item stack place) (item stack q)
-  reach_at v q e is = rw is (reaches_edge edge (item stack place) v e)
-
   -- a start that is not the last one is not the last place with work
   pub no_start : ends_with place starts ≡ false → is_in starts place ≡ false
   no_start e = not_true _ (λ i.
@@ -70,20 +67,24 @@ is_last xs x e =
     let a : nat_lt 0 (length xs) ≡ true = p.0 in
     record { some = grind (arith, nat_tests); is = test_same _ _ p.1 }
 
-pub next_total : (targets : List (List ℕ)) (next : List ℕ) → length next ≡ length targets → ((v : ℕ) → v < length targets → item next v ≤ length (targets_of targets v)) → sum next ≤ sum_by length targets
-next_total [] [] e h = omega arith
-next_total [] (k ∷ next) e h = absurd (omega arith)
-next_total (t ∷ targets) [] e h = absurd (omega arith)
-next_total (t ∷ targets) (k ∷ next) e h =
-    let a : k ≤ length t = h 0 (omega arith) in
-    let r = next_total targets next (omega arith) (λ v lt. h (suc v) (omega arith)) in
-    let x = sum_by-cons (λ (x : ℕ). x) k next in
-    let y = sum_by-cons length t targets in
-    omega arith
+-- the lists of marks with the same vertices that were not seen
+pub same_unseen : (before after : List Mark) → length after ≡ length before → ((v : ℕ) → is_unseen (mark_of after v) ≡ is_unseen (mark_of before v)) → count_by is_unseen after ≡ count_by is_unseen before
+same_unseen [] [] l h = refl
+same_unseen [] (n ∷ after) l h = absurd (omega arith)
+same_unseen (m ∷ before) [] l h = absurd (omega arith)
+same_unseen (m ∷ before) (n ∷ after) l h =
+    let r = same_unseen before after (omega arith) (λ v. h (suc v)) in
+    let x : count_by is_unseen (m ∷ before) ≡ cond (is_unseen m) 1 0 + count_by is_unseen before = sum_by-cons (λ (m : Mark). cond (is_unseen m) 1 0) m before in
+    let y : count_by is_unseen (n ∷ after) ≡ cond (is_unseen n) 1 0 + count_by is_unseen after = sum_by-cons (λ (m : Mark). cond (is_unseen m) 1 0) n after in
+    let same : is_unseen n ≡ is_unseen m = h 0 in
+    y ∙ ap (λ (b : Bool). cond b 1 0 + count_by is_unseen after) same ∙ ap (λ (k : ℕ). cond (is_unseen m) 1 0 + k) r ∙ sym x
 
--- one more edge was followed
-pub sum_after : (next : List ℕ) (v : ℕ) → v < length next → sum (set next v (item next v + 1)) ≡ sum next + 1
-sum_after next v lt = let s = sum_by-set (λ (x : ℕ). x) next v (item next v + 1) 0 lt in omega arith
+fewer : (x y : ℕ) (b : Bool) → b ≡ true → x + cond b 1 0 ≡ y + 0 → y ≡ x + 1
+fewer x y true e s = omega arith
+fewer x y false e s = cc
 
-pub falls_after : (targets : List (List ℕ)) (before after works work : List ℕ) → sum after ≡ sum before + 1 → sum after ≤ sum_by length targets → length works ≤ length work + 1 → work_left targets after works < work_left targets before work
-falls_after targets before after works work s le l = omega arith
+-- one more vertex was seen
+pub fewer_unseen : (marks : List Mark) (v place : ℕ) → v < length marks → mark_of marks v ≡ Unseen → count_by is_unseen marks ≡ count_by is_unseen (set marks v (At place)) + 1
+fewer_unseen marks v place lt e =
+    fewer (count_by is_unseen (set marks v (At place))) (count_by is_unseen marks) (is_unseen (mark_of marks v)) (ap is_unseen e)
+    (sum_by-set (λ (m : Mark). cond (is_unseen m) 1 0) marks v (At place) Unseen lt)

@@ -8,7 +8,7 @@ use Rattle.gt_core.specs.Published.{IsListed, Pairwise, order_of}
 use Rattle.gt_core.proofs.Basics.{each_at, each_from, apart, same_test, test_same, not_true, not_split}
 use Rattle.gt_core.proofs.Literals.{in_among, among_in}
 use Rattle.gt_core.proofs.Pairwise.{pairwise_filter, filtered}
-use Rattle.action_order.specs.Walk.{item}
+use Rattle.action_order.specs.Graph.{item, class_at, IsClassed}
 use Rattle.action_order.specs.Order.{IsOrder}
 use Rattle.action_order.proofs.Lists.{place_of, in_at}
 
@@ -101,3 +101,21 @@ placed_more order places count p long lp below unequal h k lk = elim (cases_lt k
       let s : k ≡ p = omega arith in
       subst (λ (x : ℕ). item (set places (item order p) p) (item order x) ≡ x) (sym s) (get_or-set_same places (item order p) p 0 (omega arith))
 ]
+
+-- numbers at different places that differ
+unequal_from : (xs : List ℕ) → ((i j : ℕ) → i < j → j < length xs → item xs i ≡ item xs j → ⊥) → Unequal xs
+unequal_from [] h = tt
+unequal_from (x ∷ xs) h = (
+  each_from _ xs (λ y i. not_true (x == y) (λ e.
+      let p = place_of xs y (among_in xs y i) in
+      let w = p.within in
+      h 0 (suc p.place) (omega arith) (omega arith) (test_same x y e ∙ sym p.is))),
+  unequal_from xs (λ i j lt lj e. h (suc i) (suc j) (omega arith) (omega arith) e),
+)
+
+-- there are no more components than vertices
+pub few_roots : (rows : List (List ℕ)) (classes roots : List ℕ) → IsClassed rows classes roots → length roots ≤ length rows
+few_roots rows classes roots k =
+    few_unequal (length rows) roots
+    (λ x i. let p = place_of roots x i in subst (λ (y : ℕ). y < length rows) p.is (k.used p.place p.within).0)
+    (unequal_from roots (λ i j lt lj e. let same = sym (k.used i (omega arith)).1 ∙ ap (class_at classes) e ∙ (k.used j lj).1 in omega arith))

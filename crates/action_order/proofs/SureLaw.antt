@@ -2,14 +2,27 @@ use Rattle.std.proofs.Common.{arith, ◌≡◌, ◌==◌, ℕ, ◌+◌, ◌-◌,
 use Rattle.std.specs.Prelude.{slice_index_or, if◌then◌else◌}
 use Rattle.std.specs.List.{list_any, AllByRecursion}
 use Rattle.gt_core.specs.Literal.{opposite, is_in}
-use Rattle.gt_core.specs.Task.{Effect, Action}
+use Rattle.gt_core.specs.Task.{Effect}
 use Rattle.gt_core.proofs.Basics.{passing, any_at, each_at, each_from, and_split, and_both, or_split, or_left, or_right, same_if, test_same}
 use Rattle.gt_core.proofs.Literals.{in_among, among_in, add_opposite, delete_opposite, even_is_add, odd_is_delete, add_is_even, delete_is_odd}
-use Rattle.action_order.specs.Edge.{sure_in, may_in, lost_in, clash_in, together_acts, excludes_one}
-use Rattle.action_order.specs.Sure.{is_sure, is_sure_of, makes_surely}
-use Rattle.action_order.proofs.SetLaw.{any_more, in_pushed}
+use Rattle.gt_core.specs.Interference.{action_may_make, action_surely_makes, action_surely_loses, actions_clash}
+use Rattle.action_order.specs.Readers.{of_effects}
+use Rattle.action_order.specs.Sure.{is_sure, is_sure_of, makes_surely, AreMade}
+use Rattle.action_order.proofs.GrowLaw.{any_more, in_pushed}
 
 -- The literals that an action surely makes true, and what they say of two actions.
+
+abbrev sure_in : List Effect → ℕ → Bool
+sure_in effects l = action_surely_makes (of_effects effects) l
+
+abbrev may_in : List Effect → ℕ → Bool
+may_in effects l = action_may_make (of_effects effects) l
+
+abbrev lost_in : List Effect → ℕ → Bool
+lost_in effects f = action_surely_loses (of_effects effects) f
+
+abbrev clash_in : List Effect → List Effect → Bool
+clash_in gaining losing = actions_clash (of_effects gaining) (of_effects losing)
 
 kept_test : (q c s t b x : Bool) → x ≡ (s && t) → (q ≡ true → b ≡ (c && t)) → ((b && q) || x) ≡ (((q && c) || s) && t)
 kept_test true true s true b x e h = let y = h refl in rw y refl
@@ -24,7 +37,7 @@ kept_test false c s t false x e h = e
 
 -- one more effect, whose literal is listed where it is surely made true
 pub sure_more : (effects : List Effect) (made sure : List ℕ) (i : ℕ) (d : Effect) → i < length effects
-    → ((l : ℕ) → is_in made l ≡ may_in effects l) → ((l : ℕ) → is_in sure l ≡ is_sure_of (take i effects) effects l)
+    → AreMade made effects → ((l : ℕ) → is_in sure l ≡ is_sure_of (take i effects) effects l)
     → (l : ℕ) → ((makes_surely made (slice_index_or effects i d) && ((slice_index_or effects i d).literal == l)) || is_in sure l) ≡ is_sure_of (take (i + 1) effects) effects l
 sure_more effects made sure i d lt m s l =
     let e = slice_index_or effects i d in
@@ -95,12 +108,13 @@ opposed x y l s o = by (l % 2 == 0) refl
 
 -- a gain of the one is a loss of the other, or the other way round, where the opposite of a literal that the one
 -- surely makes true is one that the other surely makes true
-pub clash_is : (x y : List Effect) (own sure : List ℕ) → ((l : ℕ) → is_in own l ≡ is_sure x l) → ((l : ℕ) → is_in sure l ≡ is_sure y l)
-    → list_any (λ l. is_in own (opposite l)) sure ≡ (clash_in x y || clash_in y x)
-clash_is x y own sure o s = same_if _ _
+pub clash_is : (x y : List Effect) (own : ℕ → Bool) (sure : List ℕ) → ((l : ℕ) → is_in sure l ≡ is_sure y l) → ((l : ℕ) → is_in sure l ≡ true → own (opposite l) ≡ is_sure x (opposite l))
+    → list_any (λ l. own (opposite l)) sure ≡ (clash_in x y || clash_in y x)
+clash_is x y own sure s o = same_if _ _
     (λ h.
-    let p = passing (λ l. is_in own (opposite l)) sure h in
-    opposed x y p.one (sym (s p.one) ∙ among_in sure p.one p.among) (sym (o (opposite p.one)) ∙ p.passes))
+    let p = passing (λ l. own (opposite l)) sure h in
+    let i = among_in sure p.one p.among in
+    opposed x y p.one (sym (s p.one) ∙ i) (sym (o p.one i) ∙ p.passes))
     (λ h. elim (or_split (clash_in x y) (clash_in y x) h) [
       | inl a ↦
           let c = clash_of x y a in
@@ -110,14 +124,5 @@ clash_is x y own sure o s = same_if _ _
           found (2 * c.fact) (gain_is y c.fact ∙ c.gained) (subst (λ (k : ℕ). is_sure x k ≡ true) (sym (add_opposite (2 * c.fact) c.fact refl)) (loss_is x c.fact ∙ c.lost))
     ])
   where
-    found : (l : ℕ) → is_sure y l ≡ true → is_sure x (opposite l) ≡ true → list_any (λ k. is_in own (opposite k)) sure ≡ true
-    found l a b = any_at (λ k. is_in own (opposite k)) sure l (in_among sure l (s l ∙ a)) (o (opposite l) ∙ b)
-
-pub together_by : (clauses : List (ℕ × ℕ)) (x y : Action) (own sure : List ℕ) → ((l : ℕ) → is_in own l ≡ is_sure x.effects l) → ((l : ℕ) → is_in sure l ≡ is_sure y.effects l)
-    → (not (list_any (excludes_one clauses y.precondition) x.precondition) && not (list_any (λ l. is_in own (opposite l)) sure)) ≡ together_acts clauses x y
-together_by clauses x y own sure o s =
-    ap (λ (b : Bool). not (list_any (excludes_one clauses y.precondition) x.precondition) && b) (ap not (clash_is x.effects y.effects own sure o s) ∙ neither (clash_in x.effects y.effects) (clash_in y.effects x.effects))
-  where
-    neither : (a b : Bool) → not (a || b) ≡ (not a && not b)
-    neither true b = refl
-    neither false b = refl
+    found : (l : ℕ) → is_sure y l ≡ true → is_sure x (opposite l) ≡ true → list_any (λ k. own (opposite k)) sure ≡ true
+    found l a b = let i = s l ∙ a in any_at (λ k. own (opposite k)) sure l (in_among sure l i) (o l i ∙ b)

@@ -1,13 +1,17 @@
-use Rattle.std.proofs.Common.{arith, ◌≡◌, ℕ, ◌+◌, ◌<◌, ◌≤◌, List, [], ◌∷◌, ◌++◌, length, Bool, true, false, sym, ap, ◌∙◌, subst, ◌⊎◌, inl, inr, set}
-use Rattle.std.proofs.lemmas.List.{length_push, length-set, get_or-set_same, get_or-set_other}
+use Rattle.std.proofs.Common.{arith, ◌≡◌, ℕ, ◌+◌, ◌<◌, ◌≤◌, List, [], ◌∷◌, ◌++◌, length, Bool, true, false, ◌&&◌, refl, sym, ap, ◌∙◌, subst, ◌⊎◌, inl, inr, set}
+use Rattle.std.specs.Prelude.{nat_lt, Option, Some, None, if◌then◌else◌}
+use Rattle.std.proofs.lemmas.List.{length_push, length-set, get_or-set_same, get_or-set_other, get_or_past}
+use Rattle.std.proofs.lemmas.Bool.Decides.{nat_tests}
+use Rattle.bit_rows.specs.Bits.{row_has, IsLeastFrom}
+use Rattle.gt_core.proofs.Basics.{and_split, and_both, apart}
 use Rattle.std.proofs.lemmas.Bool.{cases_lt, cases_eq}
 use Rattle.gt_core.specs.Literal.{is_in}
 use Rattle.gt_core.specs.Published.{Reaches, here, Pairwise}
-use Rattle.action_order.specs.Graph.{leads}
-use Rattle.action_order.specs.Walk.{item, mark_of, targets_of, IsSeen, IsStart, AreFinished, IsWalk, AllReach}
+use Rattle.action_order.specs.Graph.{leads, item}
+use Rattle.action_order.specs.Walk.{mark_of, is_unseen, is_stacked, lower, place_of as place_in, IsSeen, IsOpen, IsSegmentStart, AreFinished, IsWalk, AllReach, KeepsSeen, IsLowest, IsLowestBelow}
 use Rattle.action_order.specs.declared.walk.Mark.{Mark}
 use Rattle.action_order.specs.declared.walk.Mark.TheVariants.{Unseen, At, Done}
-use Rattle.action_order.proofs.Lists.{push_old, push_new, place_cases, in_push, in_push_new, in_push_old, rising_push, rising_front, rising_last, reaches_more}
+use Rattle.action_order.proofs.Lists.{push_old, push_new, place_cases, in_push, in_push_new, in_push_old, rising_push, rising_front, rising_last, reaches_more, reaches_edge}
 
 -- What each move of the depth-first walk keeps.
 
@@ -33,12 +37,104 @@ other_mark marks v u m ne = get_or-set_other marks v u m Unseen ne
 own_mark : (marks : List Mark) (v : ℕ) (m : Mark) → v < length marks → mark_of (set marks v m) v ≡ m
 own_mark marks v m lt = get_or-set_same marks v m Unseen lt
 
+pub mark_cases : (m : Mark) → (m ≡ Unseen) ⊎ (((p : ℕ) × (m ≡ At p)) ⊎ ((c : ℕ) × (m ≡ Done c)))
+mark_cases Unseen = inl refl
+mark_cases (At p) = inr (inl (p, refl))
+mark_cases (Done c) = inr (inr (c, refl))
+
+pub unseen_is : (m : Mark) → is_unseen m ≡ true → m ≡ Unseen
+unseen_is Unseen e = refl
+unseen_is (At p) e = cc
+unseen_is (Done c) e = cc
+
+pub stacked_at : (m : Mark) → is_stacked m ≡ true → m ≡ At (place_in m)
+stacked_at Unseen e = cc
+stacked_at (At p) e = refl
+stacked_at (Done c) e = cc
+
+-- what has a mark is a vertex
+pub marked_below : (marks : List Mark) (v : ℕ) → (mark_of marks v ≡ Unseen → ⊥) → v < length marks
+marked_below marks v h = elim (cases_lt v (length marks)) [ inl l ↦ l | inr l ↦ absurd (h (get_or_past marks v Unseen l)) ]
+
+-- a vertex that was seen keeps its mark where another gets one
+pub keeps_marked : (marks : List Mark) (v : ℕ) (m : Mark) → (m ≡ Unseen → ⊥) → KeepsSeen marks (set marks v m)
+keeps_marked marks v m ne u seen e = elim (cases_lt v (length marks)) [
+  | inl lt ↦ elim (cases_eq u v) [
+    | inl s ↦ ne (sym (own_mark marks v m lt) ∙ ap (mark_of (set marks v m)) (sym s) ∙ e)
+    | inr n ↦ seen (sym (other_mark marks v u m n) ∙ e)
+  ]
+  | inr ge ↦ elim (cases_eq u v) [
+    | inl s ↦ seen (get_or_past marks u Unseen (omega arith))
+    | inr n ↦ seen (sym (other_mark marks v u m n) ∙ e)
+  ]
+]
+
+-- the least number of two rows, where there is one
+pub common_in : (p : ℕ → Bool) (from : ℕ) (r : Option ℕ) (x : ℕ) → IsLeastFrom p from r → r ≡ Some x → (from ≤ x) × (p x ≡ true) × ((j : ℕ) → from ≤ j → j < x → p j ≡ false)
+common_in p from r x h e = subst (IsLeastFrom p from) e h
+
+pub common_none : (p : ℕ → Bool) (from : ℕ) (r : Option ℕ) → IsLeastFrom p from r → r ≡ None → (j : ℕ) → from ≤ j → p j ≡ false
+common_none p from r h e = subst (IsLeastFrom p from) e h
+
+pub common_below : (a b : Bool) → (a && b) ≡ true → a ≡ true
+common_below true b e = refl
+common_below false b e = e
+
+-- one more target on the stack
+pub lowest_more : (targets : List (List ℕ)) (marks : List Mark) (v from x place : ℕ) (low : Option ℕ) (stacked : List ℕ) → ((u : ℕ) → row_has stacked u ≡ is_stacked (mark_of marks u)) → IsLowestBelow targets marks v from low → ((j : ℕ) → from ≤ j → j < x → (leads targets v j && row_has stacked j) ≡ false) → (leads targets v x && row_has stacked x) ≡ true → place ≡ place_in (mark_of marks x) → IsLowestBelow targets marks v (x + 1) (Some (lower low place))
+lowest_more targets marks v from x place low stacked sets below between both is = by low below
+  where
+    here : (leads targets v x ≡ true) × (mark_of marks x ≡ At place)
+    here = let p = and_split (leads targets v x) (row_has stacked x) both in (p.0, stacked_at (mark_of marks x) (sym (sets x) ∙ p.1) ∙ ap At (sym is))
+
+    none_between : (u p : ℕ) → from ≤ u → u < x → leads targets v u ≡ true → mark_of marks u ≡ At p → ⊥
+    none_between u p f l e m = apart (leads targets v u && row_has stacked u) (and_both (leads targets v u) (row_has stacked u) e (sets u ∙ ap is_stacked m)) (between u f l)
+
+    own : (u p : ℕ) → u ≡ x → mark_of marks u ≡ At p → p ≡ place
+    own u p s m = at_apart (mark_of marks x) p place (ap (mark_of marks) (sym s) ∙ m) here.1
+
+    each : (bound : ℕ) → ((u p : ℕ) → u < from → leads targets v u ≡ true → mark_of marks u ≡ At p → bound ≤ p) → bound ≤ place → (u p : ℕ) → u < x + 1 → leads targets v u ≡ true → mark_of marks u ≡ At p → bound ≤ p
+    each bound old le u p lt e m = elim (cases_lt u from) [
+      | inl l ↦ old u p l e m
+      | inr f ↦ elim (cases_lt u x) [
+        | inl l ↦ absurd (none_between u p f l e m)
+        | inr g ↦ let s : u ≡ x = omega arith in let o = own u p s m in omega arith
+      ]
+    ]
+
+    chosen : (other : ℕ) → ((u : ℕ) × (leads targets v u ≡ true) × (mark_of marks u ≡ At other)) × ((u p : ℕ) → u < from → leads targets v u ≡ true → mark_of marks u ≡ At p → other ≤ p) → (t : Bool) → nat_lt other place ≡ t → IsLowestBelow targets marks v (x + 1) (Some (if t then other else place))
+    chosen other b true e = (b.0, each other b.1 (let l : other < place = grind (arith, nat_tests) in omega arith))
+    chosen other b false e =
+        let l : place ≤ other = grind (arith, nat_tests) in
+        ((x, here.0, here.1), each place (λ u p lt f m. let k = b.1 u p lt f m in omega arith) (omega arith))
+
+    by : (low : Option ℕ) → IsLowestBelow targets marks v from low → IsLowestBelow targets marks v (x + 1) (Some (lower low place))
+    by None b = ((x, here.0, here.1), each place (λ u p lt e m. absurd (b u p lt e m)) (omega arith))
+    by (Some other) b = chosen other b (nat_lt other place) refl
+
+-- with no target on the stack from a vertex on
+pub lowest_all : (targets : List (List ℕ)) (marks : List Mark) (v from : ℕ) (low : Option ℕ) (stacked : List ℕ) → ((u : ℕ) → row_has stacked u ≡ is_stacked (mark_of marks u)) → IsLowestBelow targets marks v from low → ((j : ℕ) → from ≤ j → (leads targets v j && row_has stacked j) ≡ false) → IsLowest targets marks v low
+lowest_all targets marks v from low stacked sets below none = by low below
+  where
+    none_from : (u p : ℕ) → from ≤ u → leads targets v u ≡ true → mark_of marks u ≡ At p → ⊥
+    none_from u p f e m = apart (leads targets v u && row_has stacked u) (and_both (leads targets v u) (row_has stacked u) e (sets u ∙ ap is_stacked m)) (none u f)
+
+    by : (low : Option ℕ) → IsLowestBelow targets marks v from low → IsLowest targets marks v low
+    by None b = λ u p e m. elim (cases_lt u from) [ inl l ↦ b u p l e m | inr f ↦ none_from u p f e m ]
+    by (Some to) b = (b.0, λ u p e m. elim (cases_lt u from) [ inl l ↦ b.1 u p l e m | inr f ↦ absurd (none_from u p f e m) ])
+
+-- a target at the bottom of the stack is the lowest
+pub lowest_bottom : (targets : List (List ℕ)) (marks : List Mark) (v x place : ℕ) (stacked : List ℕ) → ((u : ℕ) → row_has stacked u ≡ is_stacked (mark_of marks u)) → (leads targets v x && row_has stacked x) ≡ true → place ≡ place_in (mark_of marks x) → place ≡ 0 → IsLowest targets marks v (Some 0)
+lowest_bottom targets marks v x place stacked sets both is zero_place =
+    let p = and_split (leads targets v x) (row_has stacked x) both in
+    ((x, p.0, stacked_at (mark_of marks x) (sym (sets x) ∙ p.1) ∙ ap At (sym is ∙ zero_place)), λ u q e m. omega arith)
+
 module _ (targets : List (List ℕ)) where
   abbrev edge : ℕ → ℕ → Bool
   edge = leads targets
 
   -- a vertex that was not seen goes onto the stack
-  module _ (marks : List Mark) (next stack starts work roots : List ℕ) (w : IsWalk targets marks next stack starts work roots) (v : ℕ) (vertex : v < length targets) (unseen : mark_of marks v ≡ Unseen) where
+  module _ (marks : List Mark) (stack starts work roots : List ℕ) (w : IsWalk targets marks stack starts work roots) (v : ℕ) (vertex : v < length targets) (unseen : mark_of marks v ≡ Unseen) (reached : AllReach targets stack v) where
     abbrev top : ℕ
     top = length stack
 
@@ -47,10 +143,6 @@ module _ (targets : List (List ℕ)) where
 
     own : mark_of marked v ≡ At top
     own = own_mark marks v (At top) (let l = w.marks_long in omega arith)
-
-    -- a vertex that was seen keeps its mark
-    kept : (u : ℕ) (m : Mark) → (mark_of marks u ≡ Unseen → ⊥) → mark_of marked u ≡ mark_of marks u
-    kept u m seen = other_mark marks v u (At top) (λ e. seen (ap (mark_of marks) e ∙ unseen))
 
     done_before : (u c : ℕ) → mark_of marked u ≡ Done c → mark_of marks u ≡ Done c
     done_before u c e = elim (cases_eq u v) [
@@ -74,116 +166,137 @@ module _ (targets : List (List ℕ)) where
           used = λ c lt. let r = f.used c lt in (r.0, done_after (item roots c) c r.1);
         }
 
-    opened_seen : (p x : ℕ) → p < top → IsSeen marks starts p x → IsSeen marked (starts ++ top ∷ []) p x
-    opened_seen p x lt (inl d) = inl (d.0, done_after x d.0 d.1)
-    opened_seen p x lt (inr a) = inr (a.0, at_after x a.0 a.1, λ s i le. elim (in_push starts top s i) [ inl k ↦ a.2 s k le | inr e ↦ absurd (omega arith) ])
+    -- with these starts of segments afterwards
+    module _ (after : List ℕ) (old : (s : ℕ) → is_in after s ≡ true → (is_in starts s ≡ true) ⊎ (s ≡ top)) (kept : (s : ℕ) → is_in starts s ≡ true → is_in after s ≡ true) where
+      seen_old : (p x : ℕ) → p < top → IsOpen marks work p x ⊎ IsSeen marks starts p x → IsOpen marked (work ++ top ∷ []) p x ⊎ IsSeen marked after p x
+      seen_old p x lt (inl o) = elim (cases_eq x v) [
+        | inl s ↦ inr (inr (top, ap (mark_of marked) s ∙ own, λ r i le. omega arith))
+        | inr n ↦ inl (other_mark marks v x (At top) n ∙ o.0, in_push_old work top p o.1)
+      ]
+      seen_old p x lt (inr (inl d)) = inr (inl (d.0, done_after x d.0 d.1))
+      seen_old p x lt (inr (inr a)) = inr (inr (a.0, at_after x a.0 a.1, λ s i le. elim (old s i) [ inl k ↦ a.2 s k le | inr e ↦ absurd (omega arith) ]))
 
-    pub opened : AllReach targets stack v → IsWalk targets marked next (stack ++ v ∷ []) (starts ++ top ∷ []) (work ++ top ∷ []) roots
-    opened reached = record {
-      marks_long = length-set marks v (At top) ∙ w.marks_long;
-      next_long = w.next_long;
-      next_within = w.next_within;
-      vertex = λ p lt. elim (place_cases stack v p lt) [
-        | inl h ↦ rw (push_old stack v p h) (w.vertex p h)
-        | inr e ↦ rw (push_new stack v p e) vertex
-      ];
-      placed = λ p lt. elim (place_cases stack v p lt) [
-        | inl h ↦ ap (mark_of marked) (push_old stack v p h) ∙ at_after (item stack p) p (w.placed p h)
-        | inr e ↦ ap (mark_of marked) (push_new stack v p e) ∙ own ∙ ap At (sym e)
-      ];
-      on_stack = λ u p lt e. elim (cases_eq u v) [
-        | inl s ↦
-            let p_is : p ≡ top = at_apart (mark_of marked v) p top (ap (mark_of marked) (sym s) ∙ e) own in
-            let l = length_push stack v in
-            (omega arith, push_new stack v p p_is ∙ sym s)
-        | inr n ↦
-            let r = w.on_stack u p lt (sym (other_mark marks v u (At top) n) ∙ e) in
-            let l = length_push stack v in
-            (let h = r.0 in omega arith, push_old stack v p r.0 ∙ r.1)
-      ];
-      untouched = λ u lt e. elim (cases_eq u v) [
-        | inl s ↦ absurd (unseen_at (mark_of marked v) top (ap (mark_of marked) (sym s) ∙ e) own)
-        | inr n ↦ w.untouched u lt (sym (other_mark marks v u (At top) n) ∙ e)
-      ];
-      path = λ p q le lt. elim (place_cases stack v q lt) [
-        | inl h ↦ rw (push_old stack v q h, push_old stack v p (omega arith)) (w.path p q le h)
-        | inr e ↦ path_to_new p q le e
-      ];
-      back = λ p s lt st. elim (place_cases stack v p lt) [
-        | inl h ↦ back_old p s h st
-        | inr e ↦ back_new p s e st
-      ];
-      seen = λ p i lt li. elim (place_cases stack v p lt) [
-        | inl h ↦
-            let is = push_old stack v p h in
-            let li' : i < item next (item stack p) = subst (λ (x : ℕ). i < item next x) is li in
-            subst (λ (x : ℕ). IsSeen marked (starts ++ top ∷ []) p (item (targets_of targets x) i)) (sym is) (opened_seen p (item (targets_of targets (item stack p)) i) h (w.seen p i h li'))
-        | inr e ↦
-            let li' : i < item next v = subst (λ (x : ℕ). i < item next x) (push_new stack v p e) li in
-            let z = w.untouched v vertex unseen in absurd (omega arith)
-      ];
-      spent = λ p lt. elim (place_cases stack v p lt) [
-        | inl h ↦ elim (w.spent p h) [
-          | inl i ↦ inl (in_push_old work top p i)
-          | inr e ↦ inr (rw (push_old stack v p h) e)
-        ]
-        | inr e ↦ inl (subst (λ (x : ℕ). is_in (work ++ top ∷ []) x ≡ true) (sym e) (in_push_new work top))
-      ];
-      work_within = λ p i. let l = length_push stack v in elim (in_push work top p i) [
-        | inl k ↦ let h = w.work_within p k in omega arith
-        | inr e ↦ omega arith
-      ];
-      work_rising = rising_push work top w.work_rising (λ x i. w.work_within x i);
-      starts_in_work = λ s i. elim (in_push starts top s i) [
-        | inl k ↦ in_push_old work top s (w.starts_in_work s k)
-        | inr e ↦ subst (λ (x : ℕ). is_in (work ++ top ∷ []) x ≡ true) (sym e) (in_push_new work top)
-      ];
-      starts_rising = rising_push starts top w.starts_rising (λ x i. w.work_within x (w.starts_in_work x i));
-      bottom = λ lt. elim (cases_lt 0 top) [
-        | inl h ↦ in_push_old starts top 0 (w.bottom h)
-        | inr e ↦ let z : 0 ≡ top = omega arith in subst (λ (x : ℕ). is_in (starts ++ top ∷ []) x ≡ true) (sym z) (in_push_new starts top)
-      ];
-      finished = opened_finished;
-    }
-      where
-        path_to_new : (p q : ℕ) → p ≤ q → q ≡ top → Reaches edge (item (stack ++ v ∷ []) p) (item (stack ++ v ∷ []) q)
-        path_to_new p q le e = elim (cases_lt p top) [
-          | inl h ↦ rw (push_new stack v q e, push_old stack v p h) (reached p h)
-          | inr h ↦ let p_is : p ≡ top = omega arith in rw (push_new stack v q e, push_new stack v p p_is) (here v)
-        ]
+      path_to_new : (p q : ℕ) → p ≤ q → q ≡ top → Reaches edge (item (stack ++ v ∷ []) p) (item (stack ++ v ∷ []) q)
+      path_to_new p q le e = elim (cases_lt p top) [
+        | inl h ↦ rw (push_new stack v q e, push_old stack v p h) (reached p h)
+        | inr h ↦ let p_is : p ≡ top = omega arith in rw (push_new stack v q e, push_new stack v p p_is) (here v)
+      ]
 
-        back_old : (p s : ℕ) → p < top → IsStart (starts ++ top ∷ []) p s → Reaches edge (item (stack ++ v ∷ []) p) (item (stack ++ v ∷ []) s)
-        back_old p s h st = elim (in_push starts top s st.start) [
-          | inl k ↦
-              let le = st.before in
-              rw (push_old stack v p h, push_old stack v s (omega arith)) (w.back p s h (record { start = k; before = st.before; last = λ r i lr. st.last r (in_push_old starts top r i) lr }))
-          | inr e ↦ let le = st.before in absurd (omega arith)
-        ]
+      back_old : (p s : ℕ) → p < top → IsSegmentStart after p s → Reaches edge (item (stack ++ v ∷ []) p) (item (stack ++ v ∷ []) s)
+      back_old p s h st = elim (old s st.start) [
+        | inl k ↦
+            let le = st.before in
+            rw (push_old stack v p h, push_old stack v s (omega arith)) (w.back p s h (record { start = k; before = st.before; last = λ r i lr. st.last r (kept r i) lr }))
+        | inr e ↦ let le = st.before in absurd (omega arith)
+      ]
 
-        back_new : (p s : ℕ) → p ≡ top → IsStart (starts ++ top ∷ []) p s → Reaches edge (item (stack ++ v ∷ []) p) (item (stack ++ v ∷ []) s)
-        back_new p s e st =
-            let up = st.last top (in_push_new starts top) (omega arith) in
-            let down = st.before in
-            let s_is : s ≡ p = omega arith in
-            subst (λ (x : ℕ). Reaches edge (item (stack ++ v ∷ []) p) (item (stack ++ v ∷ []) x)) (sym s_is) (here _)
+      opened : Pairwise (λ a b. a < b) after → is_in after 0 ≡ true → ((s : ℕ) → IsSegmentStart after top s → Reaches edge v (item (stack ++ v ∷ []) s)) → ((u : ℕ) → edge v u ≡ true → IsOpen marked (work ++ top ∷ []) top u ⊎ IsSeen marked after top u) → IsWalk targets marked (stack ++ v ∷ []) after (work ++ top ∷ []) roots
+      opened rising bottom own_back own_seen = record {
+        marks_long = length-set marks v (At top) ∙ w.marks_long;
+        vertex = λ p lt. elim (place_cases stack v p lt) [
+          | inl h ↦ rw (push_old stack v p h) (w.vertex p h)
+          | inr e ↦ rw (push_new stack v p e) vertex
+        ];
+        placed = λ p lt. elim (place_cases stack v p lt) [
+          | inl h ↦ ap (mark_of marked) (push_old stack v p h) ∙ at_after (item stack p) p (w.placed p h)
+          | inr e ↦ ap (mark_of marked) (push_new stack v p e) ∙ own ∙ ap At (sym e)
+        ];
+        on_stack = λ u p lt e. elim (cases_eq u v) [
+          | inl s ↦
+              let p_is : p ≡ top = at_apart (mark_of marked v) p top (ap (mark_of marked) (sym s) ∙ e) own in
+              let l = length_push stack v in
+              (omega arith, push_new stack v p p_is ∙ sym s)
+          | inr n ↦
+              let r = w.on_stack u p lt (sym (other_mark marks v u (At top) n) ∙ e) in
+              let l = length_push stack v in
+              (let h = r.0 in omega arith, push_old stack v p r.0 ∙ r.1)
+        ];
+        path = λ p q le lt. elim (place_cases stack v q lt) [
+          | inl h ↦ rw (push_old stack v q h, push_old stack v p (omega arith)) (w.path p q le h)
+          | inr e ↦ path_to_new p q le e
+        ];
+        back = λ p s lt st. elim (place_cases stack v p lt) [
+          | inl h ↦ back_old p s h st
+          | inr e ↦ rw (push_new stack v p e) (own_back s (subst (λ (q : ℕ). IsSegmentStart after q s) e st))
+        ];
+        seen = λ p x lt li. elim (place_cases stack v p lt) [
+          | inl h ↦
+              let is = push_old stack v p h in
+              let li' : edge (item stack p) x ≡ true = subst (λ (y : ℕ). edge y x ≡ true) is li in
+              seen_old p x h (w.seen p x h li')
+          | inr e ↦
+              let li' : edge v x ≡ true = subst (λ (y : ℕ). edge y x ≡ true) (push_new stack v p e) li in
+              subst (λ (q : ℕ). IsOpen marked (work ++ top ∷ []) q x ⊎ IsSeen marked after q x) (sym e) (own_seen x li')
+        ];
+        work_within = λ p i. let l = length_push stack v in elim (in_push work top p i) [
+          | inl k ↦ let h = w.work_within p k in omega arith
+          | inr e ↦ omega arith
+        ];
+        work_rising = rising_push work top w.work_rising (λ x i. w.work_within x i);
+        starts_in_work = λ s i. elim (old s i) [
+          | inl k ↦ in_push_old work top s (w.starts_in_work s k)
+          | inr e ↦ subst (λ (x : ℕ). is_in (work ++ top ∷ []) x ≡ true) (sym e) (in_push_new work top)
+        ];
+        starts_rising = rising;
+        bottom = λ lt. bottom;
+        finished = opened_finished;
+      }
+
+    -- what is not on the stack yet is open, or finished, or the vertex itself
+    target_of : (after : List ℕ) → ((p : ℕ) (u : ℕ) → mark_of marks u ≡ At p → edge v u ≡ true → (s : ℕ) → is_in after s ≡ true → s ≤ top → s ≤ p) → (u : ℕ) → edge v u ≡ true → IsOpen marked (work ++ top ∷ []) top u ⊎ IsSeen marked after top u
+    target_of after low u e = elim (cases_eq u v) [
+      | inl s ↦ inr (inr (top, ap (mark_of marked) s ∙ own, λ r i le. le))
+      | inr n ↦ elim (mark_cases (mark_of marks u)) [
+        | inl un ↦ inl (other_mark marks v u (At top) n ∙ un, in_push_new work top)
+        | inr r ↦ elim r [
+          | inl a ↦ inr (inr (a.0, at_after u a.0 a.1, λ s i le. low a.0 u a.1 e s i le))
+          | inr d ↦ inr (inl (d.0, done_after u d.0 d.1))
+        ]
+      ]
+    ]
+
+    -- as a segment of its own, where it leads to none of the stack
+    pub opened_alone : ((u p : ℕ) → edge v u ≡ true → mark_of marks u ≡ At p → ⊥) → IsWalk targets marked (stack ++ v ∷ []) (starts ++ top ∷ []) (work ++ top ∷ []) roots
+    opened_alone none =
+        opened (starts ++ top ∷ []) (λ s i. in_push starts top s i) (λ s i. in_push_old starts top s i)
+        (rising_push starts top w.starts_rising (λ x i. w.work_within x (w.starts_in_work x i)))
+        (elim (cases_lt 0 top) [
+          | inl h ↦ in_push_old starts top 0 (w.bottom h)
+          | inr e ↦ let z : 0 ≡ top = omega arith in subst (λ (x : ℕ). is_in (starts ++ top ∷ []) x ≡ true) (sym z) (in_push_new starts top)
+        ])
+        (λ s st.
+        let up = st.last top (in_push_new starts top) (omega arith) in
+        let down = st.before in
+        let s_is : s ≡ top = omega arith in
+        rw (push_new stack v s s_is) (here v))
+        (target_of (starts ++ top ∷ []) (λ p u m e s i le. absurd (none u p e m)))
+
+    -- into the last segment, where it leads to a place of it
+    pub opened_joined : (to u : ℕ) → edge v u ≡ true → mark_of marks u ≡ At to → u < length targets → ((x p : ℕ) → edge v x ≡ true → mark_of marks x ≡ At p → to ≤ p) → ((s : ℕ) → is_in starts s ≡ true → s ≤ to) → IsWalk targets marked (stack ++ v ∷ []) starts (work ++ top ∷ []) roots
+    opened_joined to u e at below lowest joined =
+        let o = w.on_stack u to below at in
+        opened starts (λ s i. inl i) (λ s i. i) w.starts_rising (let h = o.0 in w.bottom (omega arith))
+        (λ s st.
+        let le = joined s st.start in
+        let h = o.0 in
+        rw (push_old stack v s (omega arith))
+        (reaches_more edge v u (item stack s) (reaches_edge edge v u e)
+        (subst (λ (x : ℕ). Reaches edge x (item stack s)) o.1 (w.back to s o.0 (record { start = st.start; before = le; last = λ r i lr. st.last r i (let a = joined r i in omega arith) })))))
+        (target_of starts (λ p x m ex s i le. let a = joined s i in let b = lowest x p ex m in omega arith))
 
   -- the last segment joins the one before it, where an edge leads back
-  pub joined_once : (marks : List Mark) (next stack starts work roots front : List ℕ) (start from to : ℕ) → IsWalk targets marks next stack starts work roots → starts ≡ front ++ start ∷ [] → from < length stack → ((y : ℕ) → is_in work y ≡ true → y ≤ from) → to < start → Reaches edge (item stack from) (item stack to) → IsWalk targets marks next stack front work roots
-  joined_once marks next stack starts work roots front start from to w is from_lt greatest back_to reached = record {
+  pub joined_once : (marks : List Mark) (stack starts work roots front : List ℕ) (start to : ℕ) → IsWalk targets marks stack starts work roots → starts ≡ front ++ start ∷ [] → to < length stack → to < start → AllReach targets stack (item stack to) → IsWalk targets marks stack front work roots
+  joined_once marks stack starts work roots front start to w is to_lt back_to reached = record {
     marks_long = w.marks_long;
-    next_long = w.next_long;
-    next_within = w.next_within;
     vertex = w.vertex;
     placed = w.placed;
     on_stack = w.on_stack;
-    untouched = w.untouched;
     path = w.path;
     back = λ p s lt st. elim (cases_lt p start) [
       | inl h ↦ w.back p s lt (record { start = old s st.start; before = st.before; last = λ r i le. elim (split r i) [ inl k ↦ st.last r k le | inr e ↦ absurd (omega arith) ] })
       | inr h ↦ through p s lt h st
     ];
-    seen = λ p i lt li. fewer p (item (targets_of targets (item stack p)) i) (w.seen p i lt li);
-    spent = w.spent;
+    seen = λ p x lt li. elim (w.seen p x lt li) [ inl o ↦ inl o | inr a ↦ inr (fewer p x a) ];
     work_within = w.work_within;
     work_rising = w.work_rising;
     starts_in_work = λ s i. w.starts_in_work s (old s i);
@@ -201,124 +314,35 @@ module _ (targets : List (List ℕ)) where
       below : (s : ℕ) → is_in front s ≡ true → s < start
       below s i = rising_last front start s (subst (λ (xs : List ℕ). Pairwise (λ a b. a < b) xs) is w.starts_rising) i
 
-      start_in : is_in starts start ≡ true
-      start_in = rw is (in_push_new front start)
-
-      start_le : start ≤ from
-      start_le = greatest start (w.starts_in_work start start_in)
-
       fewer : (p x : ℕ) → IsSeen marks starts p x → IsSeen marks front p x
       fewer p x (inl d) = inl d
       fewer p x (inr a) = inr (a.0, a.1, λ s i le. a.2 s (old s i) le)
 
       -- from the last segment along the edge back, and on to the start before
-      through : (p s : ℕ) → p < length stack → start ≤ p → IsStart front p s → Reaches edge (item stack p) (item stack s)
+      through : (p s : ℕ) → p < length stack → start ≤ p → IsSegmentStart front p s → Reaches edge (item stack p) (item stack s)
       through p s lt h st =
-          let up : Reaches edge (item stack p) (item stack start) = w.back p start lt (record { start = start_in; before = h; last = λ r i le. elim (split r i) [ inl k ↦ let b = below r k in omega arith | inr e ↦ omega arith ] }) in
-          let over : Reaches edge (item stack start) (item stack from) = w.path start from start_le from_lt in
-          let there : Reaches edge (item stack p) (item stack to) = reaches_more edge _ _ _ up (reaches_more edge _ _ _ over reached) in
+          let there : Reaches edge (item stack p) (item stack to) = reached p lt in
           let s_below = below s st.start in
           elim (cases_lt to s) [
             | inl k ↦ reaches_more edge _ _ _ there (w.path to s (omega arith) (omega arith))
             | inr k ↦ reaches_more edge _ _ _ there (w.back to s (omega arith) (record { start = old s st.start; before = k; last = λ r i le. elim (split r i) [ inl j ↦ st.last r j (let b = below r j in omega arith) | inr e ↦ absurd (omega arith) ] }))
           ]
 
-  -- one more edge of a vertex on the stack was followed
-  module _ (marks : List Mark) (next stack starts work roots : List ℕ) (place : ℕ) (w : IsWalk targets marks next stack starts work roots) (lt : place < length stack) (more : item next (item stack place) < length (targets_of targets (item stack place))) (now : IsSeen marks starts place (item (targets_of targets (item stack place)) (item next (item stack place)))) where
-    abbrev v : ℕ
-    v = item stack place
-
-    abbrev edge_number : ℕ
-    edge_number = item next v
-
-    abbrev after : List ℕ
-    after = set next v (edge_number + 1)
-
-    own_next : item after v ≡ edge_number + 1
-    own_next = get_or-set_same next v (edge_number + 1) 0 (let a = w.next_long in let b = w.vertex place lt in omega arith)
-
-    other_next : (u : ℕ) → (u ≡ v → ⊥) → item after u ≡ item next u
-    other_next u n = get_or-set_other next v u (edge_number + 1) 0 n
-
-    other_place : (p : ℕ) → p < length stack → (p ≡ place → ⊥) → item stack p ≡ v → ⊥
-    other_place p lp n e = n (at_apart (mark_of marks v) p place (ap (mark_of marks) (sym e) ∙ w.placed p lp) (w.placed place lt))
-
-    seen_here : (k : ℕ) → k < edge_number + 1 → IsSeen marks starts place (item (targets_of targets v) k)
-    seen_here k lk = elim (cases_lt k edge_number) [
-      | inl h ↦ w.seen place k lt h
-      | inr h ↦ let e : k ≡ edge_number = omega arith in subst (λ (x : ℕ). IsSeen marks starts place (item (targets_of targets v) x)) (sym e) now
-    ]
-
-    seen_after : (p k : ℕ) → p < length stack → k < item after (item stack p) → IsSeen marks starts p (item (targets_of targets (item stack p)) k)
-    seen_after p k lp lk = elim (cases_eq p place) [
-      | inl e ↦
-          let h : k < item after v = subst (λ (x : ℕ). k < item after (item stack x)) e lk in
-          let own = own_next in
-          subst (λ (x : ℕ). IsSeen marks starts x (item (targets_of targets (item stack x)) k)) (sym e) (seen_here k (omega arith))
-      | inr n ↦ let o = other_next (item stack p) (other_place p lp n) in w.seen p k lp (omega arith)
-    ]
-
-    spent_after : (p : ℕ) → p < length stack → (is_in work p ≡ true) ⊎ (item after (item stack p) ≡ length (targets_of targets (item stack p)))
-    spent_after p lp = elim (w.spent p lp) [
-      | inl k ↦ inl k
-      | inr f ↦ elim (cases_eq p place) [
-        | inl e ↦ let g : edge_number ≡ length (targets_of targets v) = subst (λ (x : ℕ). item next (item stack x) ≡ length (targets_of targets (item stack x))) e f in absurd (omega arith)
-        | inr n ↦ inr (other_next (item stack p) (other_place p lp n) ∙ f)
-      ]
-    ]
-
-    within_after : (u : ℕ) → u < length targets → item after u ≤ length (targets_of targets u)
-    within_after u lu = elim (cases_eq u v) [
-      | inl s ↦ let own = own_next in subst (λ (x : ℕ). item after x ≤ length (targets_of targets x)) (sym s) (omega arith)
-      | inr n ↦ let o = other_next u n in let h = w.next_within u lu in omega arith
-    ]
-
-    untouched_after : (u : ℕ) → u < length targets → mark_of marks u ≡ Unseen → item after u ≡ 0
-    untouched_after u lu e = elim (cases_eq u v) [
-      | inl s ↦ absurd (unseen_at (mark_of marks v) place (ap (mark_of marks) (sym s) ∙ e) (w.placed place lt))
-      | inr n ↦ other_next u n ∙ w.untouched u lu e
-    ]
-
-    pub advanced : IsWalk targets marks after stack starts work roots
-    advanced = record {
-      marks_long = w.marks_long;
-      next_long = length-set next v (edge_number + 1) ∙ w.next_long;
-      next_within = within_after;
-      vertex = w.vertex;
-      placed = w.placed;
-      on_stack = w.on_stack;
-      untouched = untouched_after;
-      path = w.path;
-      back = w.back;
-      seen = seen_after;
-      spent = spent_after;
-      work_within = w.work_within;
-      work_rising = w.work_rising;
-      starts_in_work = w.starts_in_work;
-      starts_rising = w.starts_rising;
-      bottom = w.bottom;
-      finished = w.finished;
-    }
-
   -- a place whose edges were all followed leaves the work
-  pub left : (marks : List Mark) (next stack starts work roots : List ℕ) (place : ℕ) (front : List ℕ) → IsWalk targets marks next stack starts work roots → work ≡ front ++ place ∷ [] → item next (item stack place) ≡ length (targets_of targets (item stack place)) → is_in starts place ≡ false → IsWalk targets marks next stack starts front roots
-  left marks next stack starts work roots place front w is done none = record {
+  pub left : (marks : List Mark) (stack starts work roots : List ℕ) (place : ℕ) (front : List ℕ) → IsWalk targets marks stack starts work roots → work ≡ front ++ place ∷ [] → ((u : ℕ) → edge (item stack place) u ≡ true → mark_of marks u ≡ Unseen → ⊥) → is_in starts place ≡ false → IsWalk targets marks stack starts front roots
+  left marks stack starts work roots place front w is done none = record {
     marks_long = w.marks_long;
-    next_long = w.next_long;
-    next_within = w.next_within;
     vertex = w.vertex;
     placed = w.placed;
     on_stack = w.on_stack;
-    untouched = w.untouched;
     path = w.path;
     back = w.back;
-    seen = w.seen;
-    spent = λ p lp. elim (w.spent p lp) [
-      | inl k ↦ elim (split p k) [
-        | inl j ↦ inl j
-        | inr e ↦ inr (subst (λ (x : ℕ). item next (item stack x) ≡ length (targets_of targets (item stack x))) (sym e) done)
+    seen = λ p x lt li. elim (w.seen p x lt li) [
+      | inl o ↦ elim (split p o.1) [
+        | inl j ↦ inl (o.0, j)
+        | inr e ↦ absurd (done x (subst (λ (q : ℕ). edge (item stack q) x ≡ true) e li) o.0)
       ]
-      | inr f ↦ inr f
+      | inr a ↦ inr a
     ];
     work_within = λ p i. w.work_within p (rw is (in_push_old front place p i));
     work_rising = rising_front front place (subst (λ (xs : List ℕ). Pairwise (λ a b. a < b) xs) is w.work_rising);
@@ -333,3 +357,10 @@ module _ (targets : List (List ℕ)) where
     where
       split : (s : ℕ) → is_in work s ≡ true → (is_in front s ≡ true) ⊎ (s ≡ place)
       split s i = in_push front place s (rw is at i)
+
+-- the lowest place that a vertex leads to
+pub lowest_place : (targets : List (List ℕ)) (marks : List Mark) (stack starts work roots : List ℕ) → IsWalk targets marks stack starts work roots → (v to : ℕ) → (l : IsLowest targets marks v (Some to)) → (to < length stack) × (item stack to ≡ l.0.0)
+lowest_place targets marks stack starts work roots w v to l =
+    let below = marked_below marks l.0.0 (λ e. unseen_at (mark_of marks l.0.0) to e l.0.2) in
+    let long = w.marks_long in
+    w.on_stack l.0.0 to (omega arith) l.0.2

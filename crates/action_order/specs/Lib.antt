@@ -1,11 +1,11 @@
 pub mod Graph
 pub mod Walk
-pub mod Draw
-pub mod DrawOf
+pub mod Quotient
+pub mod KeySet
+pub mod Sorting
+pub mod SortingOf
 pub mod Group
-pub mod Edge
-pub mod Members
 pub mod Readers
 pub mod Sure
-pub mod Finder
+pub mod Edges
 pub mod Order

@@ -1,34 +1,52 @@
-use Rattle.std.specs.Prelude.{◌≡◌, ℕ, ◌*◌, ◌/◌, ◌<◌, ◌==◌, List, Bool, ◌&&◌, ◌||◌, nat_lt, length}
+use Rattle.std.specs.Prelude.{◌≡◌, ℕ, ◌*◌, ◌/◌, ◌<◌, ◌==◌, List, [], Bool, true, ◌&&◌, ◌||◌, nat_lt, length, slice_index_or}
 use Rattle.std.specs.List.{AllByRecursion, list_any}
-use Rattle.gt_core.specs.Literal.{is_in}
-use Rattle.gt_core.specs.Task.{Action}
+use Rattle.bit_rows.specs.Bits.{row_has}
+use Rattle.gt_core.specs.Literal.{range}
+use Rattle.gt_core.specs.Task.{Effect, Action}
 use Rattle.gt_core.specs.Active.{EffectWithin}
-use Rattle.action_order.specs.Walk.{targets_of}
-use Rattle.action_order.specs.Edge.{act_at, asked_in}
+use Rattle.gt_core.specs.Interference.{action_needs, action_asks, exclusive}
+use Rattle.action_order.specs.Graph.{row_at}
 
 -- the literals of an action are of so many facts
 pub record ActionWithin (facts : ℕ) (x : Action) : Type 0 where
   pub precondition : AllByRecursion (λ l. l < 2 * facts) x.precondition
   pub effects : AllByRecursion (EffectWithin facts) x.effects
 
--- lists by a key, with one more number in each whose key passes a test
+-- an action of a list; past the last, one that does nothing
+abbrev pub act_at : List Action → ℕ → Action
+act_at acts a = slice_index_or acts a (record { precondition = []; effects = [] })
+
+-- the action with these effects and no precondition
+abbrev pub of_effects : List Effect → Action
+of_effects effects = record { precondition = []; effects = effects }
+
+-- rows by a key, with one more number in each whose key passes a test
 pub record IsEntered (keys : ℕ → Bool) (b : ℕ) (before after : List (List ℕ)) : Type 0 where
   pub long : length after ≡ length before
-  pub tells : (k x : ℕ) → k < length before → is_in (targets_of after k) x ≡ ((keys k && (b == x)) || is_in (targets_of before k) x)
+  pub tells : (k x : ℕ) → k < length before → row_has (row_at after k) x ≡ ((keys k && (b == x)) || row_has (row_at before k) x)
 
--- lists by a key, each of the actions below a number that read its key
-pub record AreReaders (reads : Action → ℕ → Bool) (acts : List Action) (keys upto : ℕ) (lists : List (List ℕ)) : Type 0 where
-  pub long : length lists ≡ keys
-  pub tells : (k b : ℕ) → k < keys → is_in (targets_of lists k) b ≡ (nat_lt b upto && reads (act_at acts b) k)
+-- rows by a key, each of the numbers below one that pass a test with the key
+pub record AreRowsOf (test : ℕ → ℕ → Bool) (keys upto : ℕ) (rows : List (List ℕ)) : Type 0 where
+  pub long : length rows ≡ keys
+  pub tells : (k b : ℕ) → k < keys → row_has (row_at rows k) b ≡ (nat_lt b upto && test b k)
 
--- an action needs a literal
-abbrev pub needs : Action → ℕ → Bool
-needs x l = is_in x.precondition l
+-- an action of a list needs a literal
+abbrev pub needs : List Action → ℕ → ℕ → Bool
+needs acts b l = action_needs (act_at acts b) l
 
--- an action has a fact in an effect condition
-abbrev pub asks_of : Action → ℕ → Bool
-asks_of x f = asked_in x.effects f
+-- an action of a list has a fact in an effect condition
+abbrev pub asks_of : List Action → ℕ → ℕ → Bool
+asks_of acts b f = action_asks (act_at acts b) f
 
 -- a condition has a literal of a fact
 abbrev pub has_fact : List ℕ → ℕ → Bool
 has_fact condition f = list_any (λ c. c / 2 == f) condition
+
+-- a number is in the row of a literal that a literal excludes
+abbrev pub is_excluded : List (ℕ × ℕ) → List (List ℕ) → ℕ → ℕ → ℕ → Bool
+is_excluded clauses needing p upto b = list_any (λ q. exclusive clauses p q && row_has (row_at needing q) b) (range upto)
+
+-- for each literal that some action needs, the actions whose precondition it excludes
+pub record AreExclusions (clauses : List (ℕ × ℕ)) (needing : List (List ℕ)) (upto : ℕ) (rows : List (List ℕ)) : Type 0 where
+  pub long : length rows ≡ upto
+  pub tells : (p a b : ℕ) → p < upto → row_has (row_at needing p) a ≡ true → row_has (row_at rows p) b ≡ is_excluded clauses needing p (length needing) b

@@ -1,14 +1,16 @@
 use Rattle.std.specs.Prelude.{◌≡◌, ℕ, ◌-◌, ◌%◌, ◌<◌, ◌==◌, List, Bool, not, ◌&&◌, ◌||◌, length}
 use Rattle.std.specs.List.{AllByRecursion}
+use Rattle.bit_rows.specs.Bits.{row_has}
 use Rattle.gt_core.specs.Literal.{is_in}
 use Rattle.gt_core.specs.Task.{Effect, Action}
-use Rattle.action_order.specs.Edge.{sure_in, may_in, act_at}
-use Rattle.action_order.specs.Walk.{targets_of}
+use Rattle.gt_core.specs.Interference.{action_may_make, action_surely_makes}
+use Rattle.action_order.specs.Graph.{row_at}
+use Rattle.action_order.specs.Readers.{act_at, of_effects}
 
 -- some of an action's effects surely make a literal true: one of them has no condition, and no effect of the action
 -- adds the fact where it is a delete
 abbrev pub is_sure_of : List Effect → List Effect → ℕ → Bool
-is_sure_of some effects l = sure_in some l && ((l % 2 == 0) || not (may_in effects (l - 1)))
+is_sure_of some effects l = action_surely_makes (of_effects some) l && ((l % 2 == 0) || not (action_may_make (of_effects effects) (l - 1)))
 
 -- a literal that an action surely makes true: of a sure gain, or of a sure loss
 abbrev pub is_sure : List Effect → ℕ → Bool
@@ -22,8 +24,12 @@ pub record IsSure (top : ℕ) (effects : List Effect) (sure : List ℕ) : Type 0
 -- the same of each action
 pub record AreSure (top : ℕ) (acts : List Action) (sure : List (List ℕ)) : Type 0 where
   pub long : length sure ≡ length acts
-  pub each : (a : ℕ) → a < length acts → IsSure top (act_at acts a).effects (targets_of sure a)
+  pub each : (a : ℕ) → a < length acts → IsSure top (act_at acts a).effects (row_at sure a)
 
--- an effect surely makes its literal true, where a set has the literals of all effects of its action
+-- a row has the literals of all effects
+abbrev pub AreMade : List ℕ → List Effect → Type 0
+AreMade made effects = (l : ℕ) → row_has made l ≡ action_may_make (of_effects effects) l
+
+-- an effect surely makes its literal true, where a row has the literals of all effects of its action
 abbrev pub makes_surely : List ℕ → Effect → Bool
-makes_surely made e = (length e.condition == 0) && ((e.literal % 2 == 0) || not (is_in made (e.literal - 1)))
+makes_surely made e = (length e.condition == 0) && ((e.literal % 2 == 0) || not (row_has made (e.literal - 1)))

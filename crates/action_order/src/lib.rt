@@ -1,18 +1,15 @@
 //! The published order of a task's actions: one order in which the members of every step can run.
 #![tactic(auto)]
 
-mod draw;
-mod edge;
-mod finder;
+mod edges;
 mod group;
-mod number_set;
 pub mod numbers;
 pub mod order;
 pub mod publish;
 mod quotient;
 mod readers;
 mod ready;
-mod row;
+mod sort;
 mod sure;
 #[cfg(test)]
 mod tests;

@@ -18,8 +18,7 @@ impl Model for ActNumbers {
 }
 
 impl ActNumbers {
-    ghost use Rattle.std.specs.Prelude.{◌≡◌, ℕ, ◌==◌, ◌||◌, [], ◌∷◌, ◌++◌, OnOk, IfOk};
-    ghost use Rattle.gt_core.specs.Literal.{is_in};
+    ghost use Rattle.std.specs.Prelude.{◌≡◌, [], ◌∷◌, ◌++◌, OnOk, IfOk};
 
     /// The list of these numbers.
     pub fn of(items: Vec<u32>) -> ActNumbers
@@ -50,17 +49,6 @@ impl ActNumbers {
         Ok(())
     }
 
-    /// Puts a number at the end, unless it stands there.
-    pub(crate) fn push_new(&mut self, number: u32) -> Result<(), AllocError>
-        ensures { OnOk result ((x : ℕ) → is_in self.new x ≡ ((number == x) || is_in self.old x)) }
-    {
-        if ends_with(self.items.as_slice(), number) {
-            return Ok(());
-        }
-        self.items.push(number)?;
-        Ok(())
-    }
-
     /// Another list of these numbers.
     pub(crate) fn copy(&self, alloc: Global) -> Result<ActNumbers, AllocError>
         ensures { IfOk result (λ copy. copy ≡ self.now) }
@@ -68,19 +56,5 @@ impl ActNumbers {
         Ok(ActNumbers {
             items: Vec::from_slice(alloc, self.items.as_slice())?,
         })
-    }
-}
-
-ghost use Rattle.std.specs.Prelude.{◌≡◌, true};
-ghost use Rattle.std.specs.Bool.{OnTrue};
-ghost use Rattle.gt_core.specs.Literal.{is_in};
-
-/// Whether numbers end with one.
-fn ends_with(numbers: &[u32], number: u32) -> bool
-    ensures { OnTrue result (is_in numbers.now number ≡ true) }
-{
-    match numbers.len() {
-        0 => false,
-        count => numbers[count - 1] == number,
     }
 }

@@ -25,7 +25,7 @@ impl Model for Order {
 }
 
 impl Order {
-    ghost use Rattle.std.specs.Prelude.{◌≡◌, ℕ, ◌<◌, length, true, slice_get, Some};
+    ghost use Rattle.std.specs.Prelude.{◌≡◌, ℕ, ◌<◌, ◌≤◌, length, true, slice_get, Some};
     ghost use Rattle.gt_core.specs.Literal.{is_in};
     ghost use Rattle.gt_core.specs.Published.{order_of};
     ghost use Rattle.action_order.specs.Order.{name_in, IsOrder};
@@ -90,7 +90,8 @@ impl Order {
 
     /// The components in their order, each with its actions rising.
     pub fn groups(&self) -> &[ActNumbers]
-        ensures { result.now ≡ self.now }
+        ensures groups { result.now ≡ self.now }
+        ensures short { length (order_of self.now) ≤ 16384 }
     {
         self.components.as_slice()
     }

@@ -3,18 +3,18 @@
 ghost use Rattle.std.specs.Prelude.{◌≡◌, ℕ, ◌<◌, ◌≤◌, [], length, map, IfOk};
 ghost use Rattle.std.specs.List.{AllByRecursion};
 ghost use Rattle.gt_core.specs.Literal.{range};
-ghost use Rattle.gt_core.specs.Published.{IsListed, IsPublished, KeepsApart, order_of};
-ghost use Rattle.action_order.specs.Graph.{IsGraph, leads};
-ghost use Rattle.action_order.specs.Walk.{item};
+ghost use Rattle.gt_core.specs.Published.{IsListed, IsPublished, KeepsApart, HasEachOnce, order_of};
+ghost use Rattle.action_order.specs.Graph.{IsGraph, leads, item};
 ghost use Rattle.action_order.specs.Order.{name_in};
 
-use crate::draw::draw_all;
-use crate::finder::targets;
+use crate::edges::edges;
 use crate::group::list;
 use crate::numbers::ActNumbers;
 use crate::order::Order;
 use crate::quotient::{names, quotient};
+use crate::sort::sort_components;
 use crate::walk::find_components;
+use bit_rows::row::BitRow;
 use gt_core::memory::Memory;
 use gt_core::pairs::Pairs;
 use gt_core::task::Task;
@@ -40,18 +40,18 @@ fn names_of(alloc: Global, names: &[u32], numbers: &[usize]) -> Result<Vec<u32>,
 }
 
 /// The components of a graph in the published order.
-fn list_components(alloc: Global, targets: &[ActNumbers]) -> Result<Listing, AllocError>
-    requires graph { IsGraph targets.now }
-    requires few { length targets.now ≤ 16384 }
-    ensures listed { IfOk result (λ r. IsListed (leads targets.now) (range (length targets.now)) [] r.components.items) }
-    ensures long { IfOk result (λ r. length r.names.items ≡ length targets.now) }
-    ensures names { IfOk result (λ r. (a : ℕ) → a < length targets.now → item r.names.items a ≡ name_in r.components.items a) }
+fn list_components(alloc: Global, targets: Vec<BitRow>) -> Result<Listing, AllocError>
+    requires graph { IsGraph targets.items }
+    requires few { length targets.items ≤ 16384 }
+    ensures listed { IfOk result (λ r. IsListed (leads targets.items) (range (length targets.items)) [] r.components.items) }
+    ensures long { IfOk result (λ r. length r.names.items ≡ length targets.items) }
+    ensures names { IfOk result (λ r. (a : ℕ) → a < length targets.items → item r.names.items a ≡ name_in r.components.items a) }
 {
-    let found = find_components(alloc, targets)?;
+    let found = find_components(alloc, targets.as_slice())?;
     let numbers = found.numbers.as_slice();
     let rows = quotient(alloc, targets, numbers, found.roots.as_slice())?;
     let least = names(alloc, numbers, found.roots.as_slice())?;
-    let order = draw_all(alloc, rows.as_slice(), least.as_slice(), numbers)?;
+    let order = sort_components(alloc, rows.as_slice(), least.as_slice(), numbers)?;
     let components = list(alloc, numbers, rows.len(), order.as_slice())?;
     let names = names_of(alloc, least.as_slice(), numbers)?;
     Ok(Listing { components, names })
@@ -89,10 +89,12 @@ pub fn publish(alloc: Global, task: &Task, pairs: &Pairs) -> Result<Order, Memor
     requires { pairs.now.facts ≡ task.now.facts }
     ensures published { IfOk result (λ order. IsPublished task.now pairs.now.clauses order) }
     ensures apart { IfOk result (λ order. KeepsApart task.now pairs.now.clauses order) }
+    ensures each_once { IfOk result (λ order. HasEachOnce task.now order) }
 {
-    let targets = targets(alloc, task.facts(), task.acts(), pairs)?;
-    let listing = list_components(alloc, targets.as_slice())?;
+    let targets = edges(alloc, task.facts(), task.acts(), pairs)?;
+    let count = targets.len();
+    let listing = list_components(alloc, targets)?;
     let order = flatten(alloc, listing.components.as_slice())?;
-    let places = places_of(alloc, order.as_slice(), targets.len())?;
+    let places = places_of(alloc, order.as_slice(), count)?;
     Ok(Order::of(listing.components, order, places, listing.names))
 }

@@ -1,49 +1,57 @@
 //! The graph of the components, and their names.
 
-ghost use Rattle.std.specs.Prelude.{◌≡◌, ℕ, ◌<◌, ◌≤◌, ◌++◌, length, OnOk, IfOk};
-ghost use Rattle.std.specs.List.{AllByRecursion};
+ghost use Rattle.std.specs.Prelude.{◌≡◌, ℕ, ◌<◌, ◌≤◌, length, IfOk};
 ghost use Rattle.action_order.specs.Graph.{IsGraph, IsClassed, class_at};
-ghost use Rattle.action_order.specs.Draw.{crossing, IsQuotient, AreNames};
+ghost use Rattle.action_order.specs.Quotient.{AreUnited, IsWithoutOwn, IsQuotient, AreNames};
 
-use crate::numbers::ActNumbers;
-use crate::row::{Row, empty_rows};
+use bit_rows::row::{BitRow, empty_rows};
 use std::alloc::{AllocError, Global};
 
-/// Appends the components that a vertex of a component has edges to, other than its own.
-fn add_crossing(
-    row: &mut Row,
+/// The rows of the vertices of each component, as one.
+fn unite(
+    alloc: Global,
+    mut targets: Vec<BitRow>,
     numbers: &[usize],
-    own: usize,
-    targets: &[u32],
-) -> Result<(), AllocError>
-    requires { AllByRecursion (λ b. b < length numbers.now) targets.now }
-    ensures { OnOk result (row.new ≡ row.old ++ crossing numbers.now own targets.now) }
+    count: usize,
+) -> Result<Vec<BitRow>, AllocError>
+    requires long { length numbers.now ≡ length targets.items }
+    requires below { (a : ℕ) → a < length numbers.now → class_at numbers.now a < count }
+    ensures { IfOk result (λ rows. AreUnited targets.items numbers.now count 0 rows.items) }
 {
-    for b in targets {
-        let number = numbers[*b as usize];
-        if number != own {
-            row.push(number)?;
-        }
+    let mut rows = empty_rows(alloc, count)?;
+    while let Some(row) = targets.pop() {
+        let whole = &mut rows[numbers[targets.len()]];
+        whole.unite(&row)?;
     }
-    Ok(())
+    Ok(rows)
 }
 
-/// The graph of the components of a graph.
+/// Takes each vertex out of the row of its own component.
+fn leave_own_out(rows: &mut Vec<BitRow>, numbers: &[usize])
+    requires few { length numbers.now ≤ 16384 }
+    requires below { (a : ℕ) → a < length numbers.now → class_at numbers.now a < length rows.old.items }
+    ensures { IsWithoutOwn numbers.now (length numbers.now) rows.old.items rows.new.items }
+{
+    for (b, number) in numbers.iter().enumerate() {
+        let row = &mut rows[*number];
+        row.remove(b as u32);
+    }
+}
+
+/// The graph of the components of a graph: each leads to the vertices outside it to which one of its own has an edge.
 pub fn quotient(
     alloc: Global,
-    targets: &[ActNumbers],
+    targets: Vec<BitRow>,
     numbers: &[usize],
     roots: &[u32],
-) -> Result<Vec<Row>, AllocError>
-    requires graph { IsGraph targets.now }
-    requires classes { IsClassed targets.now numbers.now roots.now }
-    ensures { IfOk result (λ rows. IsQuotient targets.now numbers.now (length roots.now) (length targets.now) rows.items) }
+) -> Result<Vec<BitRow>, AllocError>
+    requires graph { IsGraph targets.items }
+    requires few { length targets.items ≤ 16384 }
+    requires classes { IsClassed targets.items numbers.now roots.now }
+    ensures { IfOk result (λ rows. IsQuotient targets.items numbers.now (length roots.now) rows.items) }
 {
-    let mut rows = empty_rows(alloc, roots.len())?;
-    for (a, row) in targets.iter().enumerate() {
-        let own = numbers[a];
-        add_crossing(&mut rows[own], numbers, own, row.as_slice())?;
-    }
+    let mut rows = unite(alloc, targets, numbers, roots.len())?;
+    leave_own_out(&mut rows, numbers);
     Ok(rows)
 }
 

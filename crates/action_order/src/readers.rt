@@ -1,69 +1,69 @@
-//! Which actions read a literal, in their precondition or in the condition of an effect.
+//! Which actions read a literal, in their precondition or in the condition of an effect, and which cannot share a step
+//! with one that needs it.
 
-ghost use Rattle.std.specs.Prelude.{◌≡◌, ℕ, ◌*◌, ◌/◌, ◌<◌, ◌≤◌, ◌==◌, length, OnOk, IfOk};
+ghost use Rattle.std.specs.Prelude.{◌≡◌, ℕ, ◌*◌, ◌/◌, ◌<◌, ◌≤◌, ◌==◌, ◌&&◌, ◌||◌, length, OnOk, IfOk};
 ghost use Rattle.std.specs.List.{AllByRecursion};
+ghost use Rattle.bit_rows.specs.Bits.{row_has};
 ghost use Rattle.gt_core.specs.Literal.{is_in};
 ghost use Rattle.gt_core.specs.Active.{EffectWithin};
-ghost use Rattle.action_order.specs.Edge.{asked_in};
-ghost use Rattle.action_order.specs.Readers.{ActionWithin, IsEntered, AreReaders, needs, asks_of, has_fact};
+ghost use Rattle.gt_core.specs.Interference.{action_asks, exclusive};
+ghost use Rattle.action_order.specs.Graph.{row_at};
+ghost use Rattle.action_order.specs.Readers.{ActionWithin, IsEntered, AreRowsOf, AreExclusions, of_effects, needs, asks_of, has_fact, is_excluded};
 
-use crate::group::empty_groups;
-use crate::numbers::ActNumbers;
+use bit_rows::row::{BitRow, empty_rows};
 use gt_core::act::Act;
 use gt_core::eff::Eff;
+use gt_core::lits::opposite;
+use gt_core::pairs::Pairs;
 use std::alloc::{AllocError, Global};
 
 /// For each literal the actions that have it in their precondition, and for each fact the actions that have it in an
 /// effect condition.
 #[derive(Drop)]
 pub struct Readers {
-    pub needing: Vec<ActNumbers>,
-    pub asking: Vec<ActNumbers>,
+    pub needing: Vec<BitRow>,
+    pub asking: Vec<BitRow>,
 }
 
-/// Puts an action into the list of a key, unless it came last.
-fn enter(lists: &mut Vec<ActNumbers>, key: usize, b: u32) -> Result<(), AllocError>
-    requires { key < length lists.old.items }
-    ensures { OnOk result (IsEntered (λ k. key == k) b lists.old.items lists.new.items) }
+/// Puts a number into the row of a key.
+fn enter(rows: &mut Vec<BitRow>, key: usize, b: u32) -> Result<(), AllocError>
+    requires { key < length rows.old.items }
+    ensures { OnOk result (IsEntered (λ k. key == k) b rows.old.items rows.new.items) }
 {
-    let list = &mut lists[key];
-    list.push_new(b)?;
+    let row = &mut rows[key];
+    row.insert(b)?;
     Ok(())
 }
 
-/// Puts an action into the list of each of its precondition's literals.
-fn enter_precondition(
-    lists: &mut Vec<ActNumbers>,
-    precondition: &[u32],
-    b: u32,
-) -> Result<(), AllocError>
-    requires { AllByRecursion (λ l. l < length lists.old.items) precondition.now }
-    ensures { OnOk result (IsEntered (is_in precondition.now) b lists.old.items lists.new.items) }
+/// Puts a number into the row of each of some literals.
+pub fn enter_literals(rows: &mut Vec<BitRow>, lits: &[u32], b: u32) -> Result<(), AllocError>
+    requires { AllByRecursion (λ l. l < length rows.old.items) lits.now }
+    ensures { OnOk result (IsEntered (is_in lits.now) b rows.old.items rows.new.items) }
 {
-    for lit in precondition {
-        enter(lists, *lit as usize, b)?;
+    for lit in lits {
+        enter(rows, *lit as usize, b)?;
     }
     Ok(())
 }
 
-/// Puts an action into the list of the fact of each literal of an effect condition.
-fn enter_condition(lists: &mut Vec<ActNumbers>, condition: &[u32], b: u32) -> Result<(), AllocError>
-    requires { AllByRecursion (λ l. l / 2 < length lists.old.items) condition.now }
-    ensures { OnOk result (IsEntered (has_fact condition.now) b lists.old.items lists.new.items) }
+/// Puts an action into the row of the fact of each literal of an effect condition.
+fn enter_condition(rows: &mut Vec<BitRow>, condition: &[u32], b: u32) -> Result<(), AllocError>
+    requires { AllByRecursion (λ l. l / 2 < length rows.old.items) condition.now }
+    ensures { OnOk result (IsEntered (has_fact condition.now) b rows.old.items rows.new.items) }
 {
     for lit in condition {
-        enter(lists, (*lit / 2) as usize, b)?;
+        enter(rows, (*lit / 2) as usize, b)?;
     }
     Ok(())
 }
 
-/// Puts an action into the list of each fact of its effect conditions.
-fn enter_effects(lists: &mut Vec<ActNumbers>, effects: &[Eff], b: u32) -> Result<(), AllocError>
-    requires { AllByRecursion (EffectWithin (length lists.old.items)) effects.now }
-    ensures { OnOk result (IsEntered (asked_in effects.now) b lists.old.items lists.new.items) }
+/// Puts an action into the row of each fact of its effect conditions.
+fn enter_effects(rows: &mut Vec<BitRow>, effects: &[Eff], b: u32) -> Result<(), AllocError>
+    requires { AllByRecursion (EffectWithin (length rows.old.items)) effects.now }
+    ensures { OnOk result (IsEntered (action_asks (of_effects effects.now)) b rows.old.items rows.new.items) }
 {
     for effect in effects {
-        enter_condition(lists, effect.cond(), b)?;
+        enter_condition(rows, effect.cond(), b)?;
     }
     Ok(())
 }
@@ -73,14 +73,76 @@ pub fn find_readers(alloc: Global, facts: u32, acts: &[Act]) -> Result<Readers, 
     requires facts { facts ≤ 2048 }
     requires few { length acts.now ≤ 16384 }
     requires within { AllByRecursion (ActionWithin facts) acts.now }
-    ensures needing { IfOk result (λ r. AreReaders needs acts.now (2 * facts) (length acts.now) r.needing.items) }
-    ensures asking { IfOk result (λ r. AreReaders asks_of acts.now facts (length acts.now) r.asking.items) }
+    ensures needing { IfOk result (λ r. AreRowsOf (needs acts.now) (2 * facts) (length acts.now) r.needing.items) }
+    ensures asking { IfOk result (λ r. AreRowsOf (asks_of acts.now) facts (length acts.now) r.asking.items) }
 {
-    let mut needing = empty_groups(alloc, 2 * facts as usize)?;
-    let mut asking = empty_groups(alloc, facts as usize)?;
+    let mut needing = empty_rows(alloc, 2 * facts as usize)?;
+    let mut asking = empty_rows(alloc, facts as usize)?;
     for (b, act) in acts.iter().enumerate() {
-        enter_precondition(&mut needing, act.pre(), b as u32)?;
+        enter_literals(&mut needing, act.pre(), b as u32)?;
         enter_effects(&mut asking, act.effects(), b as u32)?;
     }
     Ok(Readers { needing, asking })
+}
+
+/// Whether two literals never hold together, as far as is known.
+fn exclusive(pairs: &Pairs, p: u32, q: u32) -> bool
+    ensures { result ≡ exclusive pairs.now.clauses p q }
+{
+    q == opposite(p)
+        || pairs.has(opposite(p), opposite(q))
+        || pairs.has(opposite(p), opposite(p))
+        || pairs.has(opposite(q), opposite(q))
+}
+
+/// Puts in the actions that need a literal, where another excludes it.
+fn add_excluded(
+    row: &mut BitRow,
+    pairs: &Pairs,
+    needing: &[BitRow],
+    p: u32,
+    q: usize,
+) -> Result<(), AllocError>
+    requires few { length needing.now ≤ 4096 }
+    requires q { q < length needing.now }
+    ensures { OnOk result ((b : ℕ) → row_has row.new b ≡ ((exclusive pairs.now.clauses p q && row_has (row_at needing.now q) b) || row_has row.old b)) }
+{
+    if needing[q].is_without_room() || !exclusive(pairs, p, q as u32) {
+        return Ok(());
+    }
+    row.unite(&needing[q])?;
+    Ok(())
+}
+
+/// The actions with a precondition that a literal excludes.
+fn excluded(alloc: Global, pairs: &Pairs, needing: &[BitRow], p: u32) -> Result<BitRow, AllocError>
+    requires { length needing.now ≤ 4096 }
+    ensures { IfOk result (λ row. (b : ℕ) → row_has row b ≡ is_excluded pairs.now.clauses needing.now p (length needing.now) b) }
+{
+    let mut row = BitRow::new(alloc);
+    for q in 0..needing.len() {
+        add_excluded(&mut row, pairs, needing, p, q)?;
+    }
+    Ok(row)
+}
+
+/// For each literal that some action needs, the actions with a precondition that it excludes.
+pub fn find_exclusions(
+    alloc: Global,
+    pairs: &Pairs,
+    needing: &[BitRow],
+) -> Result<Vec<BitRow>, AllocError>
+    requires { length needing.now ≤ 4096 }
+    ensures { IfOk result (λ rows. AreExclusions pairs.now.clauses needing.now (length needing.now) rows.items) }
+{
+    let mut rows = Vec::new(alloc);
+    for p in 0..needing.len() {
+        let row = if needing[p].is_without_room() {
+            BitRow::new(alloc)
+        } else {
+            excluded(alloc, pairs, needing, p as u32)?
+        };
+        rows.push(row)?;
+    }
+    Ok(rows)
 }

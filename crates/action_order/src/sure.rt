@@ -1,25 +1,21 @@
 //! The literals that an action surely makes true: those of its sure gains and of its sure losses.
 
-ghost use Rattle.std.specs.Prelude.{◌≡◌, ℕ, ◌*◌, ◌<◌, ◌≤◌, ◌||◌, [], length, OnOk, IfOk};
+ghost use Rattle.std.specs.Prelude.{◌≡◌, ℕ, ◌*◌, ◌<◌, ◌≤◌, false, OnOk, IfOk};
 ghost use Rattle.std.specs.List.{AllByRecursion};
-ghost use Rattle.gt_core.specs.Literal.{is_in};
-ghost use Rattle.gt_core.specs.Active.{EffectWithin};
-ghost use Rattle.action_order.specs.Edge.{may_in};
+ghost use Rattle.bit_rows.specs.Bits.{row_has};
 ghost use Rattle.action_order.specs.Readers.{ActionWithin};
-ghost use Rattle.action_order.specs.Sure.{IsSure, AreSure, makes_surely};
+ghost use Rattle.action_order.specs.Sure.{IsSure, AreSure, AreMade, makes_surely};
 
-use crate::number_set::NumberSet;
+use bit_rows::row::BitRow;
 use gt_core::act::Act;
 use gt_core::eff::Eff;
 use gt_core::lits::Lits;
 use std::alloc::{AllocError, Global};
 
 /// Puts the literals of effects into an empty set.
-pub fn collect_literals(made: &mut NumberSet, effects: &[Eff]) -> Result<(), AllocError>
-    requires empty { made.old.members ≡ [] }
-    requires within { AllByRecursion (λ e. e.literal < made.old.bound) effects.now }
-    ensures bound { made.new.bound ≡ made.old.bound }
-    ensures literals { OnOk result ((l : ℕ) → is_in made.new.members l ≡ may_in effects.now l) }
+fn collect_literals(made: &mut BitRow, effects: &[Eff]) -> Result<(), AllocError>
+    requires { (l : ℕ) → row_has made.old l ≡ false }
+    ensures { OnOk result (AreMade made.new effects.now) }
 {
     for effect in effects {
         made.insert(effect.lit())?;
@@ -28,19 +24,24 @@ pub fn collect_literals(made: &mut NumberSet, effects: &[Eff]) -> Result<(), All
 }
 
 /// Whether an effect surely makes its literal true; `made` has the literals of all effects of its action.
-fn makes_surely(effect: &Eff, made: &NumberSet) -> bool
-    ensures { result ≡ makes_surely made.now.members effect.now }
+fn makes_surely(effect: &Eff, made: &BitRow) -> bool
+    ensures { result ≡ makes_surely made.now effect.now }
 {
     let lit = effect.lit();
-    effect.cond().is_empty() && (lit % 2 == 0 || !made.contains(lit - 1))
+    !effect.is_conditional() && (lit % 2 == 0 || !made.contains(lit - 1))
 }
 
 /// The literals that effects without a condition make true, less those of facts that some effect adds and one
 /// deletes: of these the adds alone. `made` has the literals of all effects.
-fn sure_literals(alloc: Global, effects: &[Eff], made: &NumberSet) -> Result<Lits, AllocError>
-    requires made { (l : ℕ) → is_in made.now.members l ≡ may_in effects.now l }
-    requires within { AllByRecursion (λ e. e.literal < made.now.bound) effects.now }
-    ensures { IfOk result (λ sure. IsSure made.now.bound effects.now sure) }
+fn sure_literals(
+    alloc: Global,
+    effects: &[Eff],
+    made: &BitRow,
+    facts: u32,
+) -> Result<Lits, AllocError>
+    requires made { AreMade made.now effects.now }
+    requires within { AllByRecursion (λ e. e.literal < 2 * facts) effects.now }
+    ensures { IfOk result (λ sure. IsSure (2 * facts) effects.now sure) }
 {
     let mut sure = Vec::new(alloc);
     for effect in effects {
@@ -57,12 +58,12 @@ pub fn all_sure(alloc: Global, facts: u32, acts: &[Act]) -> Result<Vec<Lits>, Al
     requires within { AllByRecursion (ActionWithin facts) acts.now }
     ensures { IfOk result (λ sure. AreSure (2 * facts) acts.now sure.items) }
 {
-    let mut made = NumberSet::new(alloc, 2 * facts as usize)?;
+    let mut made = BitRow::new(alloc);
     let mut all = Vec::new(alloc);
     for act in acts {
         made.clear();
         collect_literals(&mut made, act.effects())?;
-        all.push(sure_literals(alloc, act.effects(), &made)?)?;
+        all.push(sure_literals(alloc, act.effects(), &made, facts)?)?;
     }
     Ok(all)
 }

@@ -3,15 +3,18 @@
 //! into segments, each strongly connected by the edges that were followed, and each leads to the next. An edge back
 //! into an earlier segment joins all segments from there on; the last segment is a component once its edges were
 //! all followed. So an edge leads to a component that is finished earlier, or to its own.
+//!
+//! Edges are not followed one by one: when a vertex goes onto the stack, the lowest place that one of its targets has
+//! there is looked up, and then, as long as there is one, its least target that was not seen is visited. Both are
+//! found by words of the row of its targets.
 
-ghost use Rattle.std.specs.Prelude.{◌≡◌, ℕ, ◌+◌, ◌*◌, ◌<◌, ◌≤◌, ◌⊎◌, ◌++◌, [], ◌∷◌, length, map, slice_set, true, false, OnOk, IfOk, IfSome, IfNone, vec_len};
+ghost use Rattle.std.specs.Prelude.{◌≡◌, ℕ, ◌+◌, ◌<◌, ◌≤◌, ◌++◌, [], ◌∷◌, length, map, slice_set, true, false, nat_lt, Some, None, OnOk, IfOk, vec_len};
+ghost use Rattle.bit_rows.specs.Bits.{row_has};
 ghost use Rattle.gt_core.specs.Literal.{is_in};
-ghost use Rattle.gt_core.specs.Published.{Reaches};
-ghost use Rattle.action_order.specs.Graph.{leads, IsGraph, IsClassed};
-ghost use Rattle.action_order.specs.Walk.{item, IsLast, MarksFrom, ends_past, ends_with, number_of};
+ghost use Rattle.action_order.specs.Graph.{item, leads, IsGraph, IsClassed};
+ghost use Rattle.action_order.specs.Walk.{IsLast, MarksFrom, TakesFrom, lower, place_of, ends_past, ends_with, number_of};
 
-use crate::numbers::ActNumbers;
-use gt_core::memory::Memory;
+use bit_rows::row::BitRow;
 use std::alloc::{AllocError, Global};
 
 /// How far a vertex is: not seen yet, at a place of the stack, or in a finished component.
@@ -22,12 +25,14 @@ pub enum Mark {
     Done(usize),
 }
 
-/// The state of the walk: the mark of each vertex and how many of its edges were followed; the stack, the places
-/// where its segments start and those whose edges are not all followed; one vertex of each finished component.
+/// The state of the walk: the mark of each vertex; those that were not seen and those on the stack, as rows of bits;
+/// the stack, the places where its segments start and those whose edges are not all followed; one vertex of each
+/// finished component.
 #[derive(Drop)]
 pub struct Walk {
     marks: Vec<Mark>,
-    next: Vec<usize>,
+    unseen: BitRow,
+    stacked: BitRow,
     stack: Vec<u32>,
     starts: Vec<usize>,
     work: Vec<usize>,
@@ -35,40 +40,69 @@ pub struct Walk {
 }
 
 impl Walk {
-    ghost use Rattle.action_order.specs.Walk.{mark_of, targets_of, IsSeen, IsWalkOf, KeepsSeen, AllReach, IsGreatest, IsPending, work_left};
+    ghost use Rattle.action_order.specs.Walk.{mark_of, IsWalkOf, AreSets, KeepsSeen, AllReach, IsLowest, work_left};
 
-    /// Puts a vertex that was not seen onto the stack, as a segment of its own.
-    fn open(&mut self, targets: &[ActNumbers], v: u32) -> Result<(), AllocError>
-        requires walk { IsWalkOf targets.now self.old }
-        requires vertex { v < length targets.now }
-        requires unseen { mark_of self.old.marks.items v ≡ Mark.Unseen }
-        requires reached { AllReach targets.now self.old.stack.items v }
-        ensures walk { OnOk result (IsWalkOf targets.now self.new) }
-        ensures keeps { OnOk result (KeepsSeen self.old.marks.items self.new.marks.items) }
-        ensures now { OnOk result (mark_of self.new.marks.items v ≡ Mark.At (length self.old.stack.items)) }
-        ensures next { OnOk result (self.new.next.items ≡ self.old.next.items) }
+    /// Marks a vertex as one at the end of the stack, and puts it there.
+    fn stack_up(&mut self, v: u32) -> Result<(), AllocError>
+        requires sets { AreSets self.old.marks.items self.old.unseen self.old.stacked }
+        requires vertex { v < length self.old.marks.items }
+        ensures sets { OnOk result (AreSets self.new.marks.items self.new.unseen self.new.stacked) }
+        ensures marks { OnOk result (self.new.marks.items ≡ slice_set self.old.marks.items v (Mark.At (length self.old.stack.items))) }
         ensures stack { OnOk result (self.new.stack.items ≡ self.old.stack.items ++ v ∷ []) }
-        ensures starts { OnOk result (self.new.starts.items ≡ self.old.starts.items ++ length self.old.stack.items ∷ []) }
         ensures work { OnOk result (self.new.work.items ≡ self.old.work.items ++ length self.old.stack.items ∷ []) }
+        ensures starts { OnOk result (self.new.starts.items ≡ self.old.starts.items) }
+        ensures roots { OnOk result (self.new.roots.items ≡ self.old.roots.items) }
     {
         let place = self.stack.len();
         self.stack.push(v)?;
-        self.starts.push(place)?;
         self.work.push(place)?;
+        self.stacked.insert(v)?;
+        self.unseen.remove(v);
         self.marks[v as usize] = Mark::At(place);
         Ok(())
     }
 
-    /// Joins all segments from that of a place on, which the last segment reaches.
-    fn join(&mut self, targets: &[ActNumbers], from: usize, to: usize)
+    /// Puts a vertex that was not seen and leads to none of the stack onto it, as a segment of its own.
+    fn push_alone(&mut self, targets: &[BitRow], v: u32) -> Result<(), AllocError>
         requires walk { IsWalkOf targets.now self.old }
-        requires from { (from < length self.old.stack.items) × IsGreatest self.old.work.items from }
+        requires vertex { v < length targets.now }
+        requires unseen { mark_of self.old.marks.items v ≡ Mark.Unseen }
+        requires reached { AllReach targets.now self.old.stack.items v }
+        requires alone { IsLowest targets.now self.old.marks.items v None }
+        ensures walk { OnOk result (IsWalkOf targets.now self.new) }
+        ensures marks { OnOk result (self.new.marks.items ≡ slice_set self.old.marks.items v (Mark.At (length self.old.stack.items))) }
+        ensures work { OnOk result (self.new.work.items ≡ self.old.work.items ++ length self.old.stack.items ∷ []) }
+    {
+        let place = self.stack.len();
+        self.starts.push(place)?;
+        self.stack_up(v)?;
+        Ok(())
+    }
+
+    /// Puts a vertex that was not seen onto the stack, into the last segment; it leads to a place of that segment.
+    fn push_joined(&mut self, targets: &[BitRow], v: u32, to: usize) -> Result<(), AllocError>
+        requires walk { IsWalkOf targets.now self.old }
+        requires vertex { v < length targets.now }
+        requires unseen { mark_of self.old.marks.items v ≡ Mark.Unseen }
+        requires reached { AllReach targets.now self.old.stack.items v }
+        requires lowest { IsLowest targets.now self.old.marks.items v (Some to) }
+        requires joined { (s : ℕ) → is_in self.old.starts.items s ≡ true → s ≤ to }
+        ensures walk { OnOk result (IsWalkOf targets.now self.new) }
+        ensures marks { OnOk result (self.new.marks.items ≡ slice_set self.old.marks.items v (Mark.At (length self.old.stack.items))) }
+        ensures work { OnOk result (self.new.work.items ≡ self.old.work.items ++ length self.old.stack.items ∷ []) }
+    {
+        self.stack_up(v)?;
+        Ok(())
+    }
+
+    /// Joins all segments from that of a place on, which every place of the stack reaches.
+    fn join(&mut self, targets: &[BitRow], to: usize)
+        requires walk { IsWalkOf targets.now self.old }
         requires to { to < length self.old.stack.items }
-        requires reached { Reaches (leads targets.now) (item self.old.stack.items from) (item self.old.stack.items to) }
+        requires reached { AllReach targets.now self.old.stack.items (item self.old.stack.items to) }
         ensures walk { IsWalkOf targets.now self.new }
         ensures joined { (s : ℕ) → is_in self.new.starts.items s ≡ true → s ≤ to }
         ensures marks { self.new.marks.items ≡ self.old.marks.items }
-        ensures next { self.new.next.items ≡ self.old.next.items }
         ensures stack { self.new.stack.items ≡ self.old.stack.items }
         ensures work { self.new.work.items ≡ self.old.work.items }
     {
@@ -77,30 +111,64 @@ impl Walk {
         }
     }
 
-    /// Counts one more edge of the vertex at a place as followed.
-    fn advance(&mut self, targets: &[ActNumbers], place: usize, followed: usize)
-        requires walk { IsWalkOf targets.now self.old }
-        requires place { place < length self.old.stack.items }
-        requires followed { followed ≡ item self.old.next.items (item self.old.stack.items place) + 1 }
-        requires more { item self.old.next.items (item self.old.stack.items place) < length (targets_of targets.now (item self.old.stack.items place)) }
-        requires seen { IsSeen self.old.marks.items self.old.starts.items place (item (targets_of targets.now (item self.old.stack.items place)) (item self.old.next.items (item self.old.stack.items place))) }
-        ensures walk { IsWalkOf targets.now self.new }
-        ensures next { self.new.next.items ≡ slice_set self.old.next.items (item self.old.stack.items place) (item self.old.next.items (item self.old.stack.items place) + 1) }
-        ensures marks { self.new.marks.items ≡ self.old.marks.items }
-        ensures work { self.new.work.items ≡ self.old.work.items }
+    /// The lowest place of the stack that a vertex leads to.
+    fn lowest(&self, targets: &[BitRow], v: u32) -> Option<usize>
+        requires walk { IsWalkOf targets.now self.now }
+        requires graph { IsGraph targets.now }
+        requires few { length targets.now ≤ 16384 }
+        requires vertex { v < length targets.now }
+        ensures { IsLowest targets.now self.now.marks.items v result }
     {
-        let v = self.stack[place] as usize;
-        self.next[v] = followed;
+        let row = &targets[v as usize];
+        let mut lowest = None;
+        let mut from = 0;
+        'look: loop {
+            match row.least_common(&self.stacked, from) {
+                None => return lowest,
+                Some(w) => {
+                    let place = place_of(self.marks[w as usize]);
+                    if place == 0 {
+                        return Some(0);
+                    }
+                    lowest = lower(lowest, place);
+                    from = w + 1;
+                }
+            }
+        }
+    }
+
+    /// Puts a vertex that was not seen onto the stack.
+    fn open(&mut self, targets: &[BitRow], v: u32) -> Result<(), AllocError>
+        requires walk { IsWalkOf targets.now self.old }
+        requires graph { IsGraph targets.now }
+        requires few { length targets.now ≤ 16384 }
+        requires vertex { v < length targets.now }
+        requires unseen { mark_of self.old.marks.items v ≡ Mark.Unseen }
+        requires reached { AllReach targets.now self.old.stack.items v }
+        ensures walk { OnOk result (IsWalkOf targets.now self.new) }
+        ensures marks { OnOk result (self.new.marks.items ≡ slice_set self.old.marks.items v (Mark.At (length self.old.stack.items))) }
+        ensures work { OnOk result (self.new.work.items ≡ self.old.work.items ++ length self.old.stack.items ∷ []) }
+    {
+        match self.lowest(targets, v) {
+            None => {
+                self.push_alone(targets, v)?;
+                Ok(())
+            }
+            Some(to) => {
+                self.join(targets, to);
+                self.push_joined(targets, v, to)?;
+                Ok(())
+            }
+        }
     }
 
     /// Takes the last place off the work: its edges were all followed, and it starts no segment.
-    fn leave(&mut self, targets: &[ActNumbers], place: usize)
+    fn leave(&mut self, targets: &[BitRow], place: usize)
         requires walk { IsWalkOf targets.now self.old }
         requires last { IsLast self.old.work.items place }
-        requires spent { item self.old.next.items (item self.old.stack.items place) ≡ length (targets_of targets.now (item self.old.stack.items place)) }
+        requires spent { (u : ℕ) → leads targets.now (item self.old.stack.items place) u ≡ true → mark_of self.old.marks.items u ≡ Mark.Unseen → ⊥ }
         requires no_start { is_in self.old.starts.items place ≡ false }
         ensures walk { IsWalkOf targets.now self.new }
-        ensures next { self.new.next.items ≡ self.old.next.items }
         ensures marks { self.new.marks.items ≡ self.old.marks.items }
         ensures work { vec_len self.new.work + 1 ≡ vec_len self.old.work }
     {
@@ -108,105 +176,71 @@ impl Walk {
     }
 
     /// Finishes the last segment, whose edges were all followed, as a component.
-    fn close(&mut self, targets: &[ActNumbers], place: usize) -> Result<(), AllocError>
+    fn close(&mut self, targets: &[BitRow], place: usize) -> Result<(), AllocError>
         requires walk { IsWalkOf targets.now self.old }
         requires last { IsLast self.old.work.items place }
         requires start { IsLast self.old.starts.items place }
-        requires spent { item self.old.next.items (item self.old.stack.items place) ≡ length (targets_of targets.now (item self.old.stack.items place)) }
+        requires spent { (u : ℕ) → leads targets.now (item self.old.stack.items place) u ≡ true → mark_of self.old.marks.items u ≡ Mark.Unseen → ⊥ }
         ensures walk { OnOk result (IsWalkOf targets.now self.new) }
         ensures keeps { OnOk result (KeepsSeen self.old.marks.items self.new.marks.items) }
-        ensures next { OnOk result (self.new.next.items ≡ self.old.next.items) }
-        ensures work { OnOk result (vec_len self.new.work + 1 ≡ vec_len self.old.work) }
+        ensures less { OnOk result (work_left self.new.marks.items self.new.work.items < work_left self.old.marks.items self.old.work.items) }
     {
         let number = self.roots.len();
         self.roots.push(self.stack[place])?;
         finish(&mut self.marks, self.stack.as_slice(), place, number);
+        unstack(&mut self.stacked, self.stack.as_slice(), place);
         self.stack.truncate(place);
         self.starts.pop();
         self.work.pop();
         Ok(())
     }
 
-    /// Follows an edge from the last place with work to a vertex.
-    fn follow(&mut self, targets: &[ActNumbers], place: usize, w: u32) -> Result<(), AllocError>
-        requires walk { IsWalkOf targets.now self.old }
-        requires last { IsLast self.old.work.items place }
-        requires vertex { w < length targets.now }
-        requires edge { leads targets.now (item self.old.stack.items place) w ≡ true }
-        ensures walk { OnOk result (IsWalkOf targets.now self.new) }
-        ensures keeps { OnOk result (KeepsSeen self.old.marks.items self.new.marks.items) }
-        ensures seen { OnOk result (IsSeen self.new.marks.items self.new.starts.items place w) }
-        ensures next { OnOk result (self.new.next.items ≡ self.old.next.items) }
-        ensures place { OnOk result (item self.new.stack.items place ≡ item self.old.stack.items place) }
-        ensures within { OnOk result (place < length self.new.stack.items) }
-        ensures work { OnOk result (length self.new.work.items ≤ length self.old.work.items + 1) }
-    {
-        match self.marks[w as usize] {
-            Mark::Unseen => self.open(targets, w)?,
-            Mark::At(to) => self.join(targets, place, to),
-            Mark::Done(_) => {}
-        }
-        Ok(())
-    }
-
     /// Leaves the last place with work, whose edges were all followed; its segment is a component where it starts one.
-    fn retreat(&mut self, targets: &[ActNumbers], place: usize) -> Result<(), AllocError>
+    fn retreat(&mut self, targets: &[BitRow], place: usize) -> Result<(), AllocError>
         requires walk { IsWalkOf targets.now self.old }
         requires last { IsLast self.old.work.items place }
-        requires spent { item self.old.next.items (item self.old.stack.items place) ≡ length (targets_of targets.now (item self.old.stack.items place)) }
+        requires spent { (u : ℕ) → leads targets.now (item self.old.stack.items place) u ≡ true → mark_of self.old.marks.items u ≡ Mark.Unseen → ⊥ }
         ensures walk { OnOk result (IsWalkOf targets.now self.new) }
         ensures keeps { OnOk result (KeepsSeen self.old.marks.items self.new.marks.items) }
-        ensures next { OnOk result (self.new.next.items ≡ self.old.next.items) }
-        ensures work { OnOk result (vec_len self.new.work + 1 ≡ vec_len self.old.work) }
+        ensures less { OnOk result (work_left self.new.marks.items self.new.work.items < work_left self.old.marks.items self.old.work.items) }
     {
         if ends_with(self.starts.as_slice(), place) {
-            return self.close(targets, place);
+            self.close(targets, place)?;
+            return Ok(());
         }
         self.leave(targets, place);
         Ok(())
     }
 
     /// One move of the walk, at the last place with work.
-    fn step(&mut self, targets: &[ActNumbers]) -> Result<(), AllocError>
+    fn step(&mut self, targets: &[BitRow]) -> Result<(), AllocError>
         requires walk { IsWalkOf targets.now self.old }
         requires graph { IsGraph targets.now }
+        requires few { length targets.now ≤ 16384 }
         requires work { 0 < length self.old.work.items }
         ensures walk { OnOk result (IsWalkOf targets.now self.new) }
         ensures keeps { OnOk result (KeepsSeen self.old.marks.items self.new.marks.items) }
-        ensures less { OnOk result (work_left targets.now self.new.next.items self.new.work.items < work_left targets.now self.old.next.items self.old.work.items) }
+        ensures less { OnOk result (work_left self.new.marks.items self.new.work.items < work_left self.old.marks.items self.old.work.items) }
     {
         let place = last(self.work.as_slice());
-        match self.pending(targets, place) {
-            None => self.retreat(targets, place),
-            Some((w, followed)) => {
-                self.follow(targets, place, w)?;
-                self.advance(targets, place, followed);
+        let row = &targets[self.stack[place] as usize];
+        match row.least_common(&self.unseen, 0) {
+            None => {
+                self.retreat(targets, place)?;
+                Ok(())
+            }
+            Some(w) => {
+                self.open(targets, w)?;
                 Ok(())
             }
         }
     }
 
-    /// The target of the first edge from a place that was not followed, and how many are once it is.
-    fn pending(&self, targets: &[ActNumbers], place: usize) -> Option<(u32, usize)>
-        requires walk { IsWalkOf targets.now self.now }
-        requires place { place < length self.now.stack.items }
-        ensures none { IfNone result (item self.now.next.items (item self.now.stack.items place) ≡ length (targets_of targets.now (item self.now.stack.items place))) }
-        ensures some { IfSome result (λ r. IsPending (targets_of targets.now (item self.now.stack.items place)) (item self.now.next.items (item self.now.stack.items place)) r.0 r.1) }
-    {
-        let v = self.stack[place] as usize;
-        let followed = self.next[v];
-        let row = targets[v].as_slice();
-        if followed < row.len() {
-            Some((row[followed], followed + 1))
-        } else {
-            None
-        }
-    }
-
     /// Walks over all vertices that are reached from one and were not seen, from an empty stack to an empty stack.
-    fn visit(&mut self, targets: &[ActNumbers], root: u32) -> Result<(), AllocError>
+    fn visit(&mut self, targets: &[BitRow], root: u32) -> Result<(), AllocError>
         requires walk { IsWalkOf targets.now self.old }
         requires graph { IsGraph targets.now }
+        requires few { length targets.now ≤ 16384 }
         requires root { root < length targets.now }
         requires start { length self.old.stack.items ≡ 0 }
         ensures walk { OnOk result (IsWalkOf targets.now self.new) }
@@ -222,8 +256,10 @@ impl Walk {
     }
 
     /// Puts a vertex onto the empty stack, unless it was seen.
-    fn enter(&mut self, targets: &[ActNumbers], root: u32) -> Result<(), AllocError>
+    fn enter(&mut self, targets: &[BitRow], root: u32) -> Result<(), AllocError>
         requires walk { IsWalkOf targets.now self.old }
+        requires graph { IsGraph targets.now }
+        requires few { length targets.now ≤ 16384 }
         requires root { root < length targets.now }
         requires start { length self.old.stack.items ≡ 0 }
         ensures walk { OnOk result (IsWalkOf targets.now self.new) }
@@ -237,13 +273,15 @@ impl Walk {
     }
 
     /// The walk that has seen nothing.
-    fn new(alloc: Global, targets: &[ActNumbers]) -> Result<Walk, AllocError>
+    fn new(alloc: Global, targets: &[BitRow]) -> Result<Walk, AllocError>
+        requires { length targets.now ≤ 16384 }
         ensures walk { IfOk result (λ walk. IsWalkOf targets.now walk) }
         ensures start { IfOk result (λ walk. length walk.stack.items ≡ 0) }
     {
         Ok(Walk {
             marks: vec![in alloc; Mark::Unseen; targets.len()]?,
-            next: vec![in alloc; 0; targets.len()]?,
+            unseen: row_below(alloc, targets.len())?,
+            stacked: BitRow::new(alloc),
             stack: Vec::new(alloc),
             starts: Vec::new(alloc),
             work: Vec::new(alloc),
@@ -271,7 +309,7 @@ pub struct Components {
 }
 
 /// The components of a graph.
-pub fn find_components(alloc: Global, targets: &[ActNumbers]) -> Result<Components, AllocError>
+pub fn find_components(alloc: Global, targets: &[BitRow]) -> Result<Components, AllocError>
     requires graph { IsGraph targets.now }
     requires few { length targets.now ≤ 16384 }
     ensures { IfOk result (λ r. IsClassed targets.now r.numbers.items r.roots.items) }
@@ -319,6 +357,48 @@ fn ends_past(places: &[usize], to: usize) -> bool
     match places.len() {
         0 => false,
         count => places[count - 1] > to,
+    }
+}
+
+/// The place of a vertex on the stack.
+fn place_of(mark: Mark) -> usize
+    ensures { result ≡ place_of mark }
+{
+    match mark {
+        Mark::At(place) => place,
+        _ => 0,
+    }
+}
+
+/// The lower of two places, of which the first may not be there.
+fn lower(lowest: Option<usize>, place: usize) -> Option<usize>
+    ensures { result ≡ Some (lower lowest place) }
+{
+    match lowest {
+        Some(other) if other < place => Some(other),
+        _ => Some(place),
+    }
+}
+
+/// The numbers below one.
+fn row_below(alloc: Global, count: usize) -> Result<BitRow, AllocError>
+    requires { count ≤ 16384 }
+    ensures { IfOk result (λ row. (k : ℕ) → row_has row k ≡ nat_lt k count) }
+{
+    let mut row = BitRow::new(alloc);
+    for number in 0..count {
+        row.insert(number as u32)?;
+    }
+    Ok(row)
+}
+
+/// Takes the vertices from a place of the stack on out of a set.
+fn unstack(stacked: &mut BitRow, stack: &[u32], place: usize)
+    requires { place ≤ length stack.now }
+    ensures { TakesFrom stack.now place (length stack.now) stacked.old stacked.new }
+{
+    for i in place..stack.len() {
+        stacked.remove(stack[i]);
     }
 }
 

@@ -1,101 +1,89 @@
 -- What the next event of a sound state gives: what is learned is a clause that is false, and the state after it is sound.
-use Rattle.std.proofs.Common.{arith, ◌≡◌, ℕ, ◌+◌, ◌*◌, ◌<◌, List, [], ◌∷◌, ◌++◌, length, All, Bool, true, false, refl, sym, ap, ◌∙◌, subst, Option, Some, None, unwrap_or, zero-add, length-append}
-use Rattle.std.specs.List.{slice_get}
+use Rattle.std.proofs.Common.{◌≡◌, ℕ, ◌*◌, ◌<◌, List, [], length, replicate, All, Bool, true, false, refl, sym, ap, ◌∙◌, subst, Option, Some, None}
 use Rattle.std.proofs.lemmas.List.{append-nil}
 use Rattle.clause_base.specs.Formula.{Cnf, IsWithinVariables}
-use Rattle.clause_base.specs.Clause.{IsClause, IsRising, HasVariablesBelow}
-use Rattle.clause_base.specs.Derivation.{clauses_of}
+use Rattle.clause_base.specs.Clause.{IsClause, IsRising}
 use Rattle.clause_base.specs.declared.log.Entry.{Entry}
 use Rattle.cdcl_rules.specs.declared.standing.Standing.{Standing}
 use Rattle.cdcl_rules.specs.declared.standing.Standing.TheVariants.{Going}
 use Rattle.cdcl_rules.specs.declared.event.Event.{Event}
 use Rattle.cdcl_rules.specs.declared.event.Event.TheVariants.{Conflict, Decide, Finish}
 use Rattle.cdcl_rules.specs.declared.trail.Assigned.{Assigned}
-use Rattle.cdcl_rules.specs.State.{State, values_of}
-use Rattle.cdcl_rules.specs.Event.{first_asked, chosen_event}
+use Rattle.cdcl_rules.specs.State.{State, clause_at, is_on, values_of}
+use Rattle.cdcl_rules.specs.Trail.{AllFalse}
+use Rattle.cdcl_rules.specs.Pending.{open_ones, first_pending}
+use Rattle.cdcl_rules.specs.Event.{asked, chosen_event, event_of}
 use Rattle.cdcl_rules.specs.Learn.{learned, Learned}
 use Rattle.cdcl_rules.specs.Open.{IsOpenEvent}
-use Rattle.cdcl_rules.specs.Run.{start_of, apply, is_going}
+use Rattle.cdcl_rules.specs.Run.{start_of, apply, after_conflict, is_going}
+use Rattle.clause_base.specs.Choice.{Known}
+use Rattle.cdcl_rules.proofs.Members.{at_clause}
+use Rattle.cdcl_rules.proofs.Pending.{Asks, asks}
 use Rattle.cdcl_laws.specs.Sound.{IsSound}
-use Rattle.cdcl_laws.proofs.Asked.{FirstAsks, first_asks}
-use Rattle.cdcl_laws.proofs.Lawful.{IsGood, learned_good, good_clause, good_below}
-use Rattle.cdcl_laws.proofs.Kept.{lawful_at, members_below, sound_next}
+use Rattle.cdcl_laws.proofs.Lawful.{IsGood, good_clause}
+use Rattle.cdcl_laws.proofs.Kept.{conflict_good, learnt, all_rising, sound_next, sound_undropped}
 use Rattle.cdcl_laws.proofs.Fuel.{opens}
 use Rattle.cdcl_laws.proofs.Start.{start_sound}
+use Rattle.clause_base.specs.Derivation.{clause_kept}
 use Rattle.cdcl_trail.specs.Mirrored.{TrailView}
-use Rattle.conflict_walk.specs.Draft.{places}
-use Rattle.conflict_walk.specs.Walk.{IsReasoned, IsRefuted, all_clauses, clause_at}
-use Rattle.conflict_walk.proofs.Walks.{sound_reasoned, get_below}
-use Rattle.cdcl_core.specs.Search.{IsKept, IsNextEvent, state_of}
+use Rattle.conflict_walk.specs.Clauses.{ClausesView}
+use Rattle.conflict_walk.specs.Resolvent.{ResolventView, IsEmptied}
+use Rattle.watch_lists.specs.Pending.{WatchesView}
+use Rattle.cdcl_core.specs.Search.{IsKept, IsNextEvent, state_of, asked_first}
 
 -- two states with the same parts
-pub state_same : (n m : ℕ) (cs ds : List (List ℕ)) (t u : List Assigned) (j k : ℕ) (l h : List Entry) (x y : Standing) → n ≡ m → cs ≡ ds → t ≡ u → j ≡ k → l ≡ h → x ≡ y → (let s : State = record { variables = n; clauses = cs; trail = t; conflicts = j; log = l; standing = x } in s) ≡ (let r : State = record { variables = m; clauses = ds; trail = u; conflicts = k; log = h; standing = y } in r)
-state_same n m cs ds t u j k l h x y a b c d e f = cc
+pub state_same : (n m g h : ℕ) (cs ds : List (List ℕ)) (ks ls : List Bool) (t u : List Assigned) (j k : ℕ) (l i : List Entry) (x y : Standing) → n ≡ m → g ≡ h → cs ≡ ds → ks ≡ ls → t ≡ u → j ≡ k → l ≡ i → x ≡ y → (let s : State = record { variables = n; given = g; clauses = cs; kept = ks; trail = t; conflicts = j; log = l; standing = x } in s) ≡ (let r : State = record { variables = m; given = h; clauses = ds; kept = ls; trail = u; conflicts = k; log = i; standing = y } in r)
+state_same n m g h cs ds ks ls t u j k l i x y a a' b b' c d e f = cc
 
-pub start_is : (f : Cnf) → state_of f [] [] 0 Going ≡ start_of f
-start_is f = state_same f.variables f.variables (f.clauses ++ []) f.clauses [] [] 0 0 [] [] Going Going refl (append-nil f.clauses) refl refl refl refl
+-- the clauses of a formula before any event
+abbrev pub given_clauses : Cnf → ClausesView
+given_clauses f = record { formula = f; log = []; kept = replicate (length f.clauses) true }
 
-pub kept_start : (f : Cnf) (log : List Entry) (trail : TrailView) (draft : List Bool) → log ≡ [] → trail ≡ record { variables = f.variables; entries = [] } → places 0 draft ≡ [] → length draft ≡ 2 * f.variables → All IsClause f.clauses → IsWithinVariables f → IsKept f log trail draft 0 Going false
-kept_start f log trail draft l t e w c b = rw (l, t) (record {
+pub start_is : (f : Cnf) → state_of (given_clauses f) [] Going ≡ start_of f
+start_is f = ap (λ (cs : List (List ℕ)). let s : State = record { variables = f.variables; given = length f.clauses; clauses = cs; kept = replicate (length f.clauses) true; trail = []; conflicts = 0; log = []; standing = Going } in s) (append-nil f.clauses)
+
+pub kept_start : (f : Cnf) (clauses : ClausesView) (trail : TrailView) (watches : WatchesView) (resolvent : ResolventView) → clauses ≡ given_clauses f → trail ≡ record { variables = f.variables; entries = [] } → watches ≡ record { variables = f.variables; clauses = f.clauses; kept = replicate (length f.clauses) true; trail = [] } → IsEmptied resolvent → length resolvent.on ≡ 2 * f.variables → All IsClause f.clauses → IsWithinVariables f → IsKept clauses trail watches resolvent Going false
+kept_start f clauses trail watches resolvent l t m e w c b = rw (l, t, m) (record {
   over = refl;
   wide = w;
   empty = λ h. e;
   going = λ h. let z : false ≡ true = h in cc;
-  few = omega arith;
   sound = subst (IsSound f) (sym (start_is f)) (start_sound f c b);
+  mirrored = λ h g. ap (λ (cs : List (List ℕ)). let v : WatchesView = record { variables = f.variables; clauses = cs; kept = replicate (length f.clauses) true; trail = [] } in v) (sym (append-nil f.clauses));
 })
 
--- a conflict that comes next is in a clause whose literals are all false
-conflict_by : (s : State) (i : ℕ) (o : Option Event) (c : Option ℕ) → first_asked s.trail 0 s.clauses ≡ o → Conflict i ≡ elim o as (λ _. Event) [ Some event ↦ event | None ↦ chosen_event c ] → FirstAsks s.trail 0 s.clauses (Conflict i)
-conflict_by s i (Some e) c a h = subst (FirstAsks s.trail 0 s.clauses) (sym h) (first_asks s.trail 0 s.clauses e a)
+-- a conflict that comes next is in a clause that is kept and whose literals are all false
+conflict_by : (s : State) (i : ℕ) (o : Option ℕ) (c : Option ℕ) → first_pending s ≡ o → Conflict i ≡ elim o as (λ _. Event) [ Some n ↦ asked n (open_ones (is_on s.trail) (clause_at s.clauses n)) | None ↦ chosen_event c ] → Asks s (Conflict i)
+conflict_by s i (Some n) c a h = subst (Asks s) (sym h) (asks s n a)
 conflict_by s i None None a h = let z : Conflict i ≡ Finish = h in cc
 conflict_by s i None (Some l) a h = let z : Conflict i ≡ Decide l = h in cc
 
-pub conflict_asks : (f : Cnf) (s : State) (i : ℕ) → IsNextEvent f s (Conflict i) → FirstAsks s.trail 0 s.clauses (Conflict i)
-conflict_asks f s i n = conflict_by s i (first_asked s.trail 0 s.clauses) (n.0 (values_of s.variables s.trail)) refl n.2
+pub conflict_asks : (f : Cnf) (s : State) (i : ℕ) → IsNextEvent f s (Conflict i) → Asks s (Conflict i)
+conflict_asks f s i n = conflict_by s i (first_pending s) (n.0 (values_of s.variables s.trail)) refl n.2
 
-conflict_named : (s : State) (i : ℕ) (a : FirstAsks s.trail 0 s.clauses (Conflict i)) → slice_get s.clauses i ≡ Some a.clause
-conflict_named s i a = subst (λ (n : ℕ). slice_get s.clauses n ≡ Some a.clause) (sym (a.asks.0 ∙ zero-add a.place)) a.named
+-- what a conflict's clause has
+pub record IsConflict (s : State) (i : ℕ) : Type 0 where
+  pub in_range : i < length s.clauses
+  pub rising : IsRising (clause_at s.clauses i)
+  pub all_false : AllFalse s.trail (clause_at s.clauses i)
 
--- what the walk from a conflict asks for
-pub record CanLearn (clauses : List (List ℕ)) (log : List Entry) (trail : TrailView) (number : ℕ) : Type 0 where
-  pub reasoned : IsReasoned (all_clauses clauses log) trail
-  pub named : number < length clauses + length log
-  pub rising : IsRising (clause_at (all_clauses clauses log) number)
-  pub refuted : IsRefuted trail.entries (clause_at (all_clauses clauses log) number)
-
-length_clauses_of : (log : List Entry) → length (clauses_of log) ≡ length log
-length_clauses_of [] = refl
-length_clauses_of (e ∷ log) = let h = length_clauses_of log in omega (arith, h)
-
-pub can_learn : (f : Cnf) (log : List Entry) (trail : TrailView) (conflicts : ℕ) (standing : Standing) (i : ℕ) → IsSound f (state_of f log trail.entries conflicts standing) → trail.variables ≡ f.variables → IsNextEvent f (state_of f log trail.entries conflicts standing) (Conflict i) → CanLearn f.clauses log trail i
-can_learn f log trail conflicts standing i o v n =
-    let s = state_of f log trail.entries conflicts standing in
+pub conflict_is : (f : Cnf) (s : State) (i : ℕ) → IsSound f s → IsNextEvent f s (Conflict i) → IsConflict s i
+conflict_is f s i o n =
     let a = conflict_asks f s i n in
-    let named = conflict_named s i a in
-    let is : a.clause ≡ clause_at s.clauses i = sym (ap (λ (k : Option (List ℕ)). unwrap_or k []) named) in
-    let below = get_below s.clauses i a.clause named in
-    let long = length-append f.clauses (clauses_of log) in
-    record {
-      reasoned = sound_reasoned f s trail.variables o v;
-      named = omega (arith, below, long, length_clauses_of log);
-      rising = subst IsRising is (lawful_at f.variables s.clauses i a.clause o.lawful named).clause.rising;
-      refuted = subst (IsRefuted trail.entries) is a.asks.1;
-    }
+    record { in_range = a.0.in_range; rising = at_clause IsRising s.clauses i tt (all_rising f.variables s.clauses o.lawful); all_false = a.1 }
 
 -- the learned clause is sorted, false and over the variables
 pub learned_is_good : (f : Cnf) (s : State) (i : ℕ) → IsSound f s → IsNextEvent f s (Conflict i) → IsGood f.variables s.trail (learned s.clauses s.trail i).clause
-learned_is_good f s i o n =
-    let a = conflict_asks f s i n in
-    let named = conflict_named s i a in
-    let law = lawful_at f.variables s.clauses i a.clause o.lawful named in
-    learned_good f.variables s.clauses s.trail i a.clause o.trail (members_below f.variables s.clauses o.lawful) named law.clause.rising a.asks.1
+learned_is_good f s i o n = let a = conflict_asks f s i n in conflict_good f s i o a.0 a.1
 
 pub learned_is_clause : (f : Cnf) (s : State) (i : ℕ) → IsSound f s → IsNextEvent f s (Conflict i) → IsClause (learned s.clauses s.trail i).clause
-learned_is_clause f s i o n = good_clause f.variables s.clauses s.trail (learned s.clauses s.trail i).clause o.trail (learned_is_good f s i o n)
+learned_is_clause f s i o n = good_clause f.variables (clause_kept f.clauses s.log) s.trail (learned s.clauses s.trail i).clause o.trail (learned_is_good f s i o n)
 
-pub learned_is_below : (f : Cnf) (s : State) (i : ℕ) → IsSound f s → IsNextEvent f s (Conflict i) → HasVariablesBelow f.variables (learned s.clauses s.trail i).clause
-learned_is_below f s i o n = good_below f.variables s.trail (learned s.clauses s.trail i).clause (learned_is_good f s i o n)
+pub learned_is_false : (f : Cnf) (s : State) (i : ℕ) → IsSound f s → IsNextEvent f s (Conflict i) → AllFalse s.trail (learned s.clauses s.trail i).clause
+learned_is_false f s i o n = (learned_is_good f s i o n).refuted
+
+pub undropped_sound : (f : Cnf) (s : State) (i : ℕ) → IsSound f s → IsNextEvent f s (Conflict i) → IsSound f (after_conflict s (learned s.clauses s.trail i) [])
+undropped_sound f s i o n = let a = conflict_asks f s i n in sound_undropped f s i o (learnt f s i o a.0 a.1)
 
 pub next_sound : (f : Cnf) (s : State) (e : Event) → IsSound f s → is_going s.standing ≡ true → IsNextEvent f s e → IsSound f (apply s e)
 next_sound f s e o g n = subst (λ (x : Event). IsSound f (apply s x)) (sym n.2) (sound_next f n.0 s n.1 o g)
@@ -103,8 +91,19 @@ next_sound f s e o g n = subst (λ (x : Event). IsSound f (apply s x)) (sym n.2)
 pub next_open : (f : Cnf) (s : State) (e : Event) → IsSound f s → IsNextEvent f s e → IsOpenEvent s e
 next_open f s e o n = subst (IsOpenEvent s) (sym n.2) (opens f n.0 s n.1 o)
 
-pub learned_is_refuted : (f : Cnf) (s : State) (i : ℕ) → IsSound f s → IsNextEvent f s (Conflict i) → IsRefuted s.trail (learned s.clauses s.trail i).clause
-learned_is_refuted f s i o n = (learned_is_good f s i o n).refuted
-
 pub learned_same : (k l h j : List ℕ) → k ≡ l → h ≡ j → (let x : Learned = record { clause = k; hints = h } in x) ≡ (let y : Learned = record { clause = l; hints = j } in y)
 learned_same k l h j e f = cc
+
+-- what a clause asks for is the next event, and else the choice is
+event_by : (choose : Known → Option ℕ) (s : State) (p : Option ℕ) (o : Option Event) → elim p as (λ _. Option Event) [ Some n ↦ Some (asked n (open_ones (is_on s.trail) (clause_at s.clauses n))) | None ↦ None ] ≡ o → elim o as (λ _. Event) [ Some e ↦ e | None ↦ chosen_event (choose (values_of s.variables s.trail)) ] ≡ elim p as (λ _. Event) [ Some n ↦ asked n (open_ones (is_on s.trail) (clause_at s.clauses n)) | None ↦ chosen_event (choose (values_of s.variables s.trail)) ]
+event_by choose s p o e = ap (λ (q : Option Event). elim q as (λ _. Event) [ Some e ↦ e | None ↦ chosen_event (choose (values_of s.variables s.trail)) ]) (sym e) ∙ by p
+  where
+    by : (r : Option ℕ) → elim (elim r as (λ _. Option Event) [ Some n ↦ Some (asked n (open_ones (is_on s.trail) (clause_at s.clauses n))) | None ↦ None ]) as (λ _. Event) [ Some e ↦ e | None ↦ chosen_event (choose (values_of s.variables s.trail)) ] ≡ elim r as (λ _. Event) [ Some n ↦ asked n (open_ones (is_on s.trail) (clause_at s.clauses n)) | None ↦ chosen_event (choose (values_of s.variables s.trail)) ]
+    by None = refl
+    by (Some n) = refl
+
+pub asked_event : (choose : Known → Option ℕ) (s : State) (e : Event) → asked_first s ≡ Some e → e ≡ event_of choose s
+asked_event choose s e h = event_by choose s (first_pending s) (Some e) h
+
+pub chosen_next : (choose : Known → Option ℕ) (s : State) → asked_first s ≡ None → chosen_event (choose (values_of s.variables s.trail)) ≡ event_of choose s
+chosen_next choose s h = event_by choose s (first_pending s) None h

@@ -1,3 +1,5 @@
-pub mod Scans
 pub mod Keeps
+pub mod Reasons
+pub mod Scans
 pub mod Shorts
+pub mod Watching

@@ -1,19 +1,23 @@
-use Rattle.std.specs.Prelude.{◌≡◌, ◌==◌, if◌then◌else◌, ◌+◌, ◌%◌, ℕ, ◌*◌, ◌≤◌, List, [], ◌++◌, length, Bool, true, false, Option}
+use Rattle.std.specs.Prelude.{◌≡◌, ℕ, ◌*◌, List, [], ◌∷◌, ◌++◌, length, take, map, slice_set, if◌then◌else◌, Bool, true, false, Option, Some, None}
 use Rattle.clause_base.specs.Formula.{Cnf}
+use Rattle.clause_base.specs.Clause.{IsClause, HasVariablesBelow}
 use Rattle.clause_base.specs.Choice.{Known}
 use Rattle.clause_base.specs.Derivation.{clauses_of}
-use Rattle.clause_base.specs.declared.log.Entry.{Entry}
 use Rattle.cdcl_rules.specs.declared.standing.Standing.{Standing}
 use Rattle.cdcl_rules.specs.declared.standing.Standing.TheVariants.{Going}
 use Rattle.cdcl_rules.specs.declared.event.Event.{Event}
 use Rattle.cdcl_rules.specs.declared.trail.Assigned.{Assigned}
-use Rattle.cdcl_rules.specs.State.{State}
-use Rattle.cdcl_rules.specs.Event.{event_of}
-use Rattle.cdcl_rules.specs.Learn.{back_level}
+use Rattle.cdcl_rules.specs.State.{State, clause_at, is_kept, is_on}
+use Rattle.cdcl_rules.specs.Pending.{open_ones, first_pending}
+use Rattle.cdcl_rules.specs.Event.{asked, event_of}
+use Rattle.cdcl_rules.specs.Learn.{backjump_level}
+use Rattle.cdcl_rules.specs.Run.{is_restart, is_going}
 use Rattle.cdcl_rules.specs.Open.{Opens}
 use Rattle.cdcl_laws.specs.Sound.{IsSound}
 use Rattle.cdcl_trail.specs.Mirrored.{TrailView}
-use Rattle.conflict_walk.specs.Draft.{places}
+use Rattle.conflict_walk.specs.Clauses.{ClausesView, all_clauses}
+use Rattle.conflict_walk.specs.Resolvent.{ResolventView, IsEmptied}
+use Rattle.watch_lists.specs.Pending.{WatchesView}
 
 -- a search for an assignment, as its clients see it
 pub record SearchView : Type 0 where
@@ -28,30 +32,62 @@ pub record SolverView (C : Type 0) : Type 0 where
   pub chooser : C
   pub spoilt : Bool
 
--- the state that these parts stand for: the clauses are the formula's, and then those that the log's entries add
-abbrev pub state_of : Cnf → List Entry → List Assigned → ℕ → Standing → State
-state_of f log trail conflicts standing = record {
-  variables = f.variables;
-  clauses = f.clauses ++ clauses_of log;
+-- the state that these parts stand for: the conflicts are the clauses that were learned
+abbrev pub state_of : ClausesView → List Assigned → Standing → State
+state_of clauses trail standing = record {
+  variables = clauses.formula.variables;
+  given = length clauses.formula.clauses;
+  clauses = all_clauses clauses;
+  kept = clauses.kept;
   trail = trail;
-  conflicts = conflicts;
-  log = log;
+  conflicts = length (clauses_of clauses.log);
+  log = clauses.log;
   standing = standing;
 }
 
--- what a search keeps: a sound state, a trail over the formula's variables and a draft that is empty unless it is spoilt
-pub record IsKept (f : Cnf) (log : List Entry) (trail : TrailView) (draft : List Bool) (conflicts : ℕ) (standing : Standing) (spoilt : Bool) : Type 0 where
-  pub over : trail.variables ≡ f.variables
-  pub wide : length draft ≡ 2 * f.variables
-  pub empty : spoilt ≡ false → places 0 draft ≡ []
+-- these clauses as they are watched on a trail
+abbrev pub watched : ClausesView → List Assigned → WatchesView
+watched clauses trail = record {
+  variables = clauses.formula.variables;
+  clauses = all_clauses clauses;
+  kept = clauses.kept;
+  trail = map (λ a. a.literal) trail;
+}
+
+-- what is watched are all clauses but the last, on a trail that went back since to this one
+pub record IsBehind (watches : WatchesView) (clauses : ClausesView) (trail : List Assigned) : Type 0 where
+  pub last : List ℕ
+  pub lawful : IsClause last
+  pub below : HasVariablesBelow watches.variables last
+  pub variables : watches.variables ≡ clauses.formula.variables
+  pub clauses_are : watches.clauses ++ last ∷ [] ≡ all_clauses clauses
+  pub kept_are : watches.kept ++ true ∷ [] ≡ clauses.kept
+  pub back : take (length trail) watches.trail ≡ map (λ a. a.literal) trail
+
+-- each of these clauses is kept when its turn comes to be dropped
+abbrev pub AreKept : List Bool → List ℕ → Type 0
+AreKept kept [] = Unit {0}
+AreKept kept (n ∷ numbers) = (is_kept kept n ≡ true) × AreKept (slice_set kept n false) numbers
+
+-- what a search keeps: a sound state, a trail over the formula's variables and a resolvent that is empty unless it is spoilt; as
+-- long as it is going its clauses are watched on its trail
+pub record IsKept (clauses : ClausesView) (trail : TrailView) (watches : WatchesView) (resolvent : ResolventView) (standing : Standing) (spoilt : Bool) : Type 0 where
+  pub over : trail.variables ≡ clauses.formula.variables
+  pub wide : length resolvent.on ≡ 2 * clauses.formula.variables
+  pub empty : spoilt ≡ false → IsEmptied resolvent
   pub going : spoilt ≡ true → standing ≡ Going
-  pub few : conflicts ≤ 1073741824
-  pub sound : IsSound f (state_of f log trail.entries conflicts standing)
+  pub sound : IsSound clauses.formula (state_of clauses trail.entries standing)
+  pub mirrored : spoilt ≡ false → is_going standing ≡ true → watches ≡ watched clauses trail.entries
+
+-- what the first clause asks for that is kept and pending
+abbrev pub asked_first : State → Option Event
+asked_first s =
+    elim (first_pending s) [ Some number ↦ Some (asked number (open_ones (is_on s.trail) (clause_at s.clauses number))) | None ↦ None ]
 
 -- an event is the next one of a state, for some chooser whose choices are open
 abbrev pub IsNextEvent : Cnf → State → Event → Type 0
 IsNextEvent f s e = (choose : Known → Option ℕ) × (Opens f.variables choose) × (e ≡ event_of choose s)
 
--- the level to go back to after a conflict that teaches a clause
+-- the level to backtrack to after a conflict that teaches a clause
 abbrev pub level_after : State → List ℕ → ℕ
-level_after s clause = if (s.conflicts + 1) % 64 == 0 then 0 else back_level s.trail clause
+level_after s clause = if is_restart s then 0 else backjump_level s.trail clause

@@ -14,6 +14,7 @@
 #[cfg(test)]
 mod cases;
 mod pending;
+mod reduce;
 mod search;
 pub mod solver;
 #[cfg(test)]

@@ -1,15 +1,16 @@
 //! What a solver has but for its chooser: the formula, the log, the trail and how it stands.
 ghost use Rattle.std.specs.Prelude.{◌≡◌, ◌<◌, ◌≤◌, ◌/◌, [], ◌++◌, ◌∷◌, true, false, None, All, length, IfOk, OnOk, OnErr};
-ghost use Rattle.cdcl_rules.specs.State.{values_of, value_of};
-ghost use Rattle.cdcl_rules.specs.Event.{first_asked};
-ghost use Rattle.cdcl_rules.specs.Learn.{learned};
-ghost use Rattle.cdcl_rules.specs.Run.{start_of, apply, with_learned, is_going, is_conflict};
-ghost use Rattle.cdcl_laws.specs.Sound.{IsSound};
 ghost use Rattle.clause_base.specs.Clause.{IsClause};
-ghost use Rattle.conflict_walk.specs.Walk.{IsRefuted};
-ghost use Rattle.cdcl_core.specs.Search.{SearchView, IsNextEvent, level_after};
+ghost use Rattle.clause_base.specs.Derivation.{clauses_of};
+ghost use Rattle.cdcl_rules.specs.State.{values_of, value_of};
+ghost use Rattle.cdcl_rules.specs.Trail.{AllFalse};
+ghost use Rattle.cdcl_rules.specs.Learn.{learned};
+ghost use Rattle.cdcl_rules.specs.Run.{start_of, apply, with_learned, after_conflict, is_restart, is_going, is_conflict};
+ghost use Rattle.cdcl_laws.specs.Sound.{IsSound};
+ghost use Rattle.cdcl_core.specs.Search.{SearchView, IsNextEvent, asked_first, level_after};
 
-use crate::pending::first_asked;
+use crate::pending::{asked, follow};
+use crate::reduce::reduce;
 use cdcl_rules::event::Event;
 use cdcl_rules::standing::Standing;
 use cdcl_rules::trail::Assigned;
@@ -17,27 +18,28 @@ use cdcl_trail::trail::Trail;
 use clause_base::clause::Clause;
 use clause_base::formula::Formula;
 use clause_base::literal::Lit;
-use clause_base::log::{Entry, Hints, Log};
+use clause_base::log::Log;
 use clause_base::memory::Memory;
 use clause_base::values::Values;
-use conflict_walk::back::back_level;
-use conflict_walk::draft::Draft;
-use conflict_walk::learn::{Lesson, learn};
+use conflict_walk::backjump::backjump_level;
+use conflict_walk::clauses::Clauses;
+use conflict_walk::learn::{Learned, learn};
+use conflict_walk::resolvent::Resolvent;
 use std::alloc::Global;
 use std::marker::Model;
+use watch_lists::watches::Watches;
 
-/// At each so manyth conflict the trail goes back to level 0.
+/// At each so manyth conflict the search restarts: it backtracks to level 0, and drops learned clauses.
 const RESTART: u64 = 64;
 
-/// A search over a formula. Its learned clauses stand in the log alone.
+/// A search over a formula.
 #[derive(Drop)]
 pub struct Search {
     alloc: Global,
-    formula: Formula,
-    log: Log,
+    clauses: Clauses,
     trail: Trail,
-    draft: Draft,
-    conflicts: u64,
+    watches: Watches,
+    resolvent: Resolvent,
     standing: Standing,
     spoilt: bool,
 }
@@ -47,9 +49,9 @@ impl Model for Search {
 
     ghost Value = { SearchView };
 
-    ghost view = { λ s. record { formula = s.formula; state = state_of s.formula s.log s.trail.entries s.conflicts s.standing; spoilt = s.spoilt } };
+    ghost view = { λ s. record { formula = s.clauses.formula; state = state_of s.clauses s.trail.entries s.standing; spoilt = s.spoilt } };
 
-    ghost invariant = { λ s. IsKept s.formula s.log s.trail s.draft s.conflicts s.standing s.spoilt };
+    ghost invariant = { λ s. IsKept s.clauses s.trail s.watches s.resolvent s.standing s.spoilt };
 }
 
 impl Search {
@@ -58,16 +60,15 @@ impl Search {
         ensures { IfOk result (λ s. s ≡ record { formula = formula; state = start_of formula; spoilt = false }) }
     {
         let variables = formula.variables();
-        let _lawful = formula.clauses();
+        let _lawful = formula.count();
         Ok(Search {
             alloc,
-            log: Log::new(alloc),
             trail: Trail::new(alloc, variables)?,
-            draft: Draft::new(alloc, variables)?,
-            conflicts: 0,
+            watches: Watches::new(alloc, &formula)?,
+            resolvent: Resolvent::new(alloc, variables)?,
             standing: Standing::Going,
             spoilt: false,
-            formula,
+            clauses: Clauses::new(alloc, formula)?,
         })
     }
 
@@ -75,23 +76,23 @@ impl Search {
     pub fn formula(&self) -> &Formula
         ensures { result.now ≡ self.now.formula }
     {
-        &self.formula
+        self.clauses.formula()
     }
 
-    /// The log of what was learned.
+    /// The log of what was learned and dropped.
     pub fn log(&self) -> &Log
         ensures { result.now ≡ self.now.state.log }
     {
-        &self.log
+        self.clauses.log()
     }
 
-    /// How many conflicts were handled.
+    /// How many conflicts were handled, each of which taught a clause.
     pub fn conflicts(&self) -> u64
         ensures value { result ≡ self.now.state.conflicts }
         ensures few { result ≤ 1073741824 }
         ensures sound { IsSound self.now.formula self.now.state }
     {
-        self.conflicts
+        self.clauses.learned_count() as u64
     }
 
     /// How it stands.
@@ -132,80 +133,107 @@ impl Search {
         self.trail.entries()
     }
 
-    /// What the first clause asks for that asks for anything.
+    /// Lets a chooser's search for the least variable without a value begin where it should.
+    pub fn pass_given(&mut self)
+        ensures { self.new ≡ self.old }
+    {
+        self.trail.pass_given();
+    }
+
+    /// What the first clause asks for that is kept and pending.
     pub fn asked(&self) -> Option<Event>
-        ensures event { result ≡ first_asked self.now.state.trail 0 self.now.state.clauses }
+        requires sane { self.now.spoilt ≡ false }
+        requires going { is_going self.now.state.standing ≡ true }
+        ensures event { result ≡ asked_first self.now.state }
         ensures sound { IsSound self.now.formula self.now.state }
     {
-        first_asked(&self.trail, self.formula.clauses(), self.log.as_slice())
+        match self.watches.least_pending() {
+            None => None,
+            Some(number) => Some(asked(&self.trail, number, self.clauses.clause(number))),
+        }
     }
 
     /// What the conflict in a clause teaches. After want of memory the search is spoilt.
-    fn lesson(&mut self, number: u32) -> Result<Lesson, Memory>
+    fn learned(&mut self, number: u32) -> Result<Learned, Memory>
         requires sane { self.old.spoilt ≡ false }
         requires going { is_going self.old.state.standing ≡ true }
         requires next { IsNextEvent self.old.formula self.old.state (Event.Conflict number) }
-        ensures clause { IfOk result (λ lesson. lesson.lits ≡ (learned self.old.state.clauses self.old.state.trail number).clause) }
-        ensures hints { IfOk result (λ lesson. lesson.hints ≡ (learned self.old.state.clauses self.old.state.trail number).hints) }
+        ensures clause { IfOk result (λ new. new.lits ≡ (learned self.old.state.clauses self.old.state.trail number).clause) }
+        ensures hints { IfOk result (λ new. new.hints ≡ (learned self.old.state.clauses self.old.state.trail number).hints) }
         ensures ok { OnOk result (self.new ≡ self.old) }
         ensures err { OnErr result (self.new ≡ record self.old { spoilt = true }) }
     {
         self.spoilt = true;
-        let lesson = learn(
+        let learned = learn(
             self.alloc,
-            &mut self.draft,
-            self.formula.clauses(),
-            self.log.as_slice(),
+            &mut self.resolvent,
+            &self.clauses,
             &self.trail,
             number,
         )?;
         self.spoilt = false;
-        Ok(lesson)
+        Ok(learned)
     }
 
-    /// The level to go back to after a conflict: 0 at each 64th, else the greatest of the learned clause's literals that is not
-    /// the current one.
+    /// Whether the next conflict brings a restart.
+    fn is_restart(&self) -> bool
+        requires { self.now.state.conflicts < 1073741824 }
+        ensures { result ≡ is_restart self.now.state }
+    {
+        (self.conflicts() + 1) % RESTART == 0
+    }
+
+    /// The level to backtrack to after a conflict: 0 at a restart, else the greatest of the learned clause's literals that is
+    /// not the current one.
     fn level_after(&self, lits: &[Lit]) -> u32
         requires room { self.now.state.conflicts < 1073741824 }
-        requires below { All (λ l. l / 2 < self.now.formula.variables) lits.now }
-        requires refuted { IsRefuted self.now.state.trail lits.now }
+        requires all_false { AllFalse self.now.state.trail lits.now }
         ensures { result ≡ level_after self.now.state lits.now }
     {
-        if (self.conflicts + 1) % RESTART == 0 {
+        if self.is_restart() {
             0
         } else {
-            back_level(&self.trail, lits)
+            backjump_level(&self.trail, lits)
         }
     }
 
-    /// Enters what a conflict teaches: its clause and hints into the log, and the conflict into the count. With the empty
-    /// clause all is refuted, else the trail goes back. After want of memory the search is spoilt.
-    fn enter(&mut self, lesson: Lesson) -> Result<(), Memory>
+    /// Enters what a conflict teaches: its clause and hints into the log, which counts the conflict. With the empty clause all
+    /// is refuted, else the trail backtracks, and at a restart clauses are dropped. After want of memory the search is spoilt;
+    /// it may then have entered the clause.
+    fn enter(&mut self, new: Learned) -> Result<(), Memory>
         requires sane { self.old.spoilt ≡ false }
         requires going { is_going self.old.state.standing ≡ true }
         requires room { self.old.state.conflicts < 1073741824 }
-        requires clause { IsClause lesson.lits }
-        requires below { All (λ l. l / 2 < self.old.formula.variables) lesson.lits }
-        requires refuted { IsRefuted self.old.state.trail lesson.lits }
-        requires sound { IsSound self.old.formula (with_learned self.old.state (record { clause = lesson.lits; hints = lesson.hints })) }
-        ensures ok { OnOk result (self.new ≡ record self.old { state = with_learned self.old.state (record { clause = lesson.lits; hints = lesson.hints }) }) }
-        ensures err { OnErr result (self.new ≡ record self.old { spoilt = true }) }
+        requires clause { IsClause new.lits }
+        requires all_false { AllFalse self.old.state.trail new.lits }
+        requires undropped { IsSound self.old.formula (after_conflict self.old.state (record { clause = new.lits; hints = new.hints }) []) }
+        requires sound { IsSound self.old.formula (with_learned self.old.state (record { clause = new.lits; hints = new.hints })) }
+        ensures ok { OnOk result (self.new ≡ record self.old { state = with_learned self.old.state (record { clause = new.lits; hints = new.hints }) }) }
+        ensures formula { self.new.formula ≡ self.old.formula }
+        ensures spoilt { OnErr result (self.new.spoilt ≡ true) }
     {
-        let clause = Clause::of_sorted(lesson.lits);
-        let level = self.level_after(clause.as_slice());
+        let clause = Clause::of_sorted(new.lits);
         let is_empty = clause.as_slice().is_empty();
+        let is_restart = self.is_restart();
+        let level = self.level_after(clause.as_slice());
         self.spoilt = true;
-        self.log.push(Entry {
-            clause,
-            hints: lesson.hints,
-        })?;
-        self.spoilt = false;
-        self.conflicts += 1;
+        self.clauses.learn(clause, new.hints)?;
         if is_empty {
             self.standing = Standing::Refuted;
+            self.spoilt = false;
             return Ok(());
         }
-        self.trail.cut(level);
+        self.trail.backtrack(level);
+        follow(&mut self.watches, &self.clauses, &self.trail)?;
+        if is_restart {
+            reduce(
+                self.alloc,
+                &mut self.clauses,
+                &mut self.watches,
+                &self.trail,
+            )?;
+        }
+        self.spoilt = false;
         Ok(())
     }
 
@@ -219,8 +247,10 @@ impl Search {
         ensures ok { OnOk result (self.new ≡ record self.old { state = record self.old.state { trail = self.old.state.trail ++ entry ∷ [] } }) }
         ensures err { OnErr result (self.new ≡ record self.old { spoilt = true }) }
     {
+        let lit = entry.literal;
         self.spoilt = true;
         self.trail.push(entry)?;
+        self.watches.assign(lit);
         self.spoilt = false;
         Ok(())
     }
@@ -234,7 +264,7 @@ impl Search {
         self.standing = Standing::Found;
     }
 
-    /// Applies the next event. After want of memory the search is spoilt, and else as it was.
+    /// Applies the next event. After want of memory the search is spoilt.
     pub fn apply(&mut self, event: Event) -> Result<(), Memory>
         requires sane { self.old.spoilt ≡ false }
         requires going { is_going self.old.state.standing ≡ true }
@@ -242,12 +272,13 @@ impl Search {
         requires room { is_conflict event ≡ true → self.old.state.conflicts < 1073741824 }
         requires next { IsNextEvent self.old.formula self.old.state event }
         ensures ok { OnOk result (self.new ≡ record self.old { state = apply self.old.state event }) }
-        ensures err { OnErr result (self.new ≡ record self.old { spoilt = true }) }
+        ensures formula { self.new.formula ≡ self.old.formula }
+        ensures spoilt { OnErr result (self.new.spoilt ≡ true) }
     {
         match event {
             Event::Conflict(number) => {
-                let lesson = self.lesson(number)?;
-                self.enter(lesson)
+                let learned = self.learned(number)?;
+                self.enter(learned)
             }
             Event::Force(literal, clause) => self.assign(Assigned {
                 literal,

@@ -1,16 +1,17 @@
-ghost use Rattle.std.specs.Prelude.{◌≡◌, ◌≤◌, ◌+◌, ◌<◌, ◌++◌, true, false, ◌&&◌, nat_le, length, IfOk, OnOk, OnErr};
+ghost use Rattle.std.specs.Prelude.{◌≡◌, ◌≤◌, ◌+◌, ◌*◌, ◌<◌, ◌++◌, true, false, ◌&&◌, nat_le, length, IfOk, OnOk, OnErr};
 ghost use Rattle.clause_base.specs.Formula.{Satisfies};
-ghost use Rattle.clause_base.specs.Derivation.{IsDerivation, EndsEmpty};
+ghost use Rattle.clause_base.specs.Derivation.{clauses_of, IsDerivation, EndsEmpty};
 ghost use Rattle.cdcl_rules.specs.State.{value_of};
 ghost use Rattle.cdcl_rules.specs.Event.{event_of};
 ghost use Rattle.cdcl_rules.specs.Open.{Opens};
 ghost use Rattle.cdcl_rules.specs.Run.{start_of, apply, after, is_going, is_conflict, IsAfter};
-ghost use Rattle.cdcl_laws.specs.Sound.{IsSound, made_true};
-ghost use Rattle.cdcl_laws.specs.Laws.{AddsUp, SettledStays};
+ghost use Rattle.cdcl_laws.specs.Sound.{IsSound, IsSolution, made_true};
+ghost use Rattle.cdcl_laws.specs.Laws.{AddsUp, SettledStays, ComesToRestAlways, Grants};
 ghost use Rattle.cdcl_core.specs.Search.{SolverView, IsNextEvent};
 ghost use Rattle.cdcl_core.specs.Between.{IsShortBetween};
 
 use crate::search::Search;
+use cdcl_laws::law::runs_are_sound;
 use cdcl_rules::event::Event;
 use cdcl_rules::standing::Standing;
 use clause_base::chooser::Chooser;
@@ -54,27 +55,31 @@ impl<C: Chooser> Solver<C> {
         ensures value { result ≡ self.now.state.standing }
         ensures spoilt { self.now.spoilt ≡ true → result ≡ Standing.Going }
         ensures found { result ≡ Standing.Found → Satisfies (made_true self.now.state.trail) self.now.formula.clauses }
+        ensures solved { result ≡ Standing.Found → IsSolution self.now.formula self.now.state.trail }
         ensures refuted { result ≡ Standing.Refuted → EndsEmpty self.now.state.log }
     {
         let _sound = self.search.conflicts();
         self.search.standing()
     }
 
-    /// How many conflicts it has handled, each of which is an entry of its log.
+    /// How many conflicts it has handled, each of which taught a clause of its log.
     pub fn conflicts(&self) -> u64
         ensures value { result ≡ self.now.state.conflicts }
         ensures few { result ≤ 1073741824 }
-        ensures counted { result ≡ length self.now.state.log }
+        ensures counted { result ≡ length (clauses_of self.now.state.log) }
         ensures sound { IsSound self.now.formula self.now.state }
     {
         self.search.conflicts()
     }
 
-    /// The clauses that it has learned, each with the clauses that it is learned from: a derivation from the formula.
+    /// What it has learned, each clause with the clauses that it is learned from, and what it has dropped: a derivation from the
+    /// formula, with at most two entries for each conflict, since a learned clause is dropped at most once.
     pub fn log(&self) -> &Log
         ensures value { result.now ≡ self.now.state.log }
-        ensures derivation { IsDerivation self.now.formula.clauses self.now.state.log }
+        ensures derivation { IsDerivation self.now.formula.variables self.now.formula.clauses self.now.state.log }
+        ensures short_log { length self.now.state.log ≤ 2 * self.now.state.conflicts }
     {
+        runs_are_sound();
         let _sound = self.search.conflicts();
         self.search.log()
     }
@@ -117,6 +122,8 @@ impl<C: Chooser> Solver<C> {
 
     /// The next event.
     fn event(&mut self) -> Event
+        requires sane { self.old.spoilt ≡ false }
+        requires going { is_going self.old.state.standing ≡ true }
         ensures event { result ≡ event_of (C.choice self.old.chooser) self.old.state }
         ensures kept { self.new ≡ self.old }
         ensures opens { Opens self.old.formula.variables (C.choice self.old.chooser) }
@@ -124,10 +131,13 @@ impl<C: Chooser> Solver<C> {
     {
         match self.search.asked() {
             Some(event) => event,
-            None => match self.chooser.choose(self.search.values()) {
-                None => Event::Finish,
-                Some(lit) => Event::Decide(lit),
-            },
+            None => {
+                self.search.pass_given();
+                match self.chooser.choose(self.search.values()) {
+                    None => Event::Finish,
+                    Some(lit) => Event::Decide(lit),
+                }
+            }
         }
     }
 
@@ -139,7 +149,9 @@ impl<C: Chooser> Solver<C> {
         requires room { is_conflict event ≡ true → self.old.state.conflicts < 1073741824 }
         requires next { IsNextEvent self.old.formula self.old.state event }
         ensures ok { OnOk result (self.new ≡ record self.old { state = apply self.old.state event }) }
-        ensures err { OnErr result (self.new ≡ record self.old { spoilt = true }) }
+        ensures formula { self.new.formula ≡ self.old.formula }
+        ensures chooser { self.new.chooser ≡ self.old.chooser }
+        ensures spoilt { OnErr result (self.new.spoilt ≡ true) }
     {
         self.search.apply(event)
     }
@@ -174,6 +186,8 @@ impl<C: Chooser> Solver<C> {
         ensures within { OnOk result (self.new.state.conflicts ≤ self.old.state.conflicts + conflicts) }
         ensures adds_up { AddsUp (C.choice self.old.chooser) self.old.state }
         ensures settled { SettledStays (C.choice self.old.chooser) self.old.state }
+        ensures comes_to_rest { ComesToRestAlways (C.choice self.old.chooser) self.old.state }
+        ensures grants { Grants (C.choice self.old.chooser) self.old.state }
         ensures short { IsShortBetween (C.choice self.old.chooser) self.old.state }
         ensures formula { self.new.formula ≡ self.old.formula }
         ensures chooser { self.new.chooser ≡ self.old.chooser }

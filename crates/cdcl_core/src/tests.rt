@@ -5,7 +5,7 @@ use clause_base::chooser::PlainChooser;
 use clause_base::clause::Clause;
 use clause_base::formula::Formula;
 use clause_base::literal::Lit;
-use clause_base::log::Entry;
+use clause_base::log::{Entry, Hints};
 use std::alloc::Global;
 use std::process::Abort;
 use std::test::Fail;
@@ -23,7 +23,38 @@ fn add_clause(
     Ok(())
 }
 
-/// The formula of clauses in the DIMACS form, one a line.
+/// A word of a formula in the DIMACS form: its digits so far, and whether a minus stands before them.
+#[derive(Clone, Copy)]
+struct Word {
+    number: u32,
+    negative: bool,
+}
+
+/// No word yet.
+const NO_WORD: Word = Word {
+    number: 0,
+    negative: false,
+};
+
+/// Ends a word: a number is a literal of the clause that is read, and 0 ends the clause.
+fn end_word(
+    rt: &impl Abort,
+    alloc: Global,
+    formula: &mut Formula,
+    lits: &mut Vec<Lit>,
+    word: Word,
+) -> Result<(), Fail> {
+    if word.number == 0 {
+        add_clause(rt, alloc, formula, lits.as_slice())?;
+        lits.clear();
+        return Ok(());
+    }
+    assert!(rt; word.number <= 1000);
+    lits.push(Lit::of(word.number - 1, !word.negative))?;
+    Ok(())
+}
+
+/// The formula of clauses in the DIMACS form, each ended by 0.
 pub fn formula_of(
     rt: &impl Abort,
     alloc: Global,
@@ -33,41 +64,47 @@ pub fn formula_of(
     assert!(rt; variables <= 1000);
     let mut formula = Formula::new(alloc, 0, variables);
     let mut lits = Vec::new(alloc);
-    let mut negative = false;
-    let mut number: u32 = 0;
+    let mut word = NO_WORD;
     for byte in text.as_bytes() {
         match *byte {
-            b'-' => negative = true,
-            b'0'..=b'9' => number = number.wrapping_mul(10).wrapping_add((*byte - b'0') as u32),
-            b'\n' => {
-                add_clause(rt, alloc, &mut formula, lits.as_slice())?;
-                lits.clear();
-                number = 0;
+            b'-' => word.negative = true,
+            b'0'..=b'9' => {
+                word.number = word
+                    .number
+                    .wrapping_mul(10)
+                    .wrapping_add((*byte - b'0') as u32)
             }
             _ => {
-                assert!(rt; 0 < number && number <= 1000);
-                lits.push(Lit::of(number - 1, !negative))?;
-                negative = false;
-                number = 0;
+                end_word(rt, alloc, &mut formula, &mut lits, word)?;
+                word = NO_WORD;
             }
         }
     }
+    end_word(rt, alloc, &mut formula, &mut lits, word)?;
     Ok(formula)
 }
 
-/// A line of the log.
-fn line_of(alloc: Global, entry: &Entry) -> Result<String, Fail> {
+/// A line of the log for a learned clause.
+fn learned_line(alloc: Global, clause: &Clause, hints: &Hints) -> Result<String, Fail> {
     let mut line = String::new(alloc);
     line.push_str("learn")?;
-    for lit in entry.clause.as_slice() {
+    for lit in clause.as_slice() {
         line.push_str(format!(in alloc; " {}", lit.0)?.as_str())?;
     }
     line.push_str(" by")?;
-    for hint in entry.hints.as_slice() {
+    for hint in hints.as_slice() {
         line.push_str(format!(in alloc; " {hint}")?.as_str())?;
     }
     line.push_str("\n")?;
     Ok(line)
+}
+
+/// A line of the log.
+fn line_of(alloc: Global, entry: &Entry) -> Result<String, Fail> {
+    match entry {
+        Entry::Learn { clause, hints } => learned_line(alloc, clause, hints),
+        Entry::Drop { number } => Ok(format!(in alloc; "drop {number}\n")?),
+    }
 }
 
 /// How a solver stands, its conflicts and its log.

@@ -11,8 +11,9 @@ use Rattle.cdcl_rules.proofs.Cutting.{stays}
 use Rattle.cdcl_rules.proofs.RunLaws.{settled_rests, below}
 use Rattle.cdcl_rules.proofs.Measure.{events_left, events_left-le, fewer_left}
 use Rattle.cdcl_laws.specs.Sound.{IsSound}
-use Rattle.cdcl_laws.specs.Laws.{AfterAddsUp, AfterSettled, AfterIsWithin, is_assignment, IsQuiet, QuietIsShort}
+use Rattle.cdcl_laws.specs.Laws.{AfterAddsUp, AfterSettled, AfterIsWithin, is_assignment, IsQuiet, QuietIsShort, LogIsShort}
 use Rattle.cdcl_laws.proofs.Kept.{sound_next}
+use Rattle.cdcl_laws.proofs.Logs.{logged_short}
 use Rattle.cdcl_laws.proofs.Fuel.{after_cut, opens}
 
 from_after : (f : Cnf) (choose : Known → Option ℕ) (x : State) (k : ℕ) (more : List ℕ) → Opens f.variables choose → IsSound f x → fold (after choose) (after choose x k) more ≡ after choose x (fold ◌+◌ k more)
@@ -59,3 +60,7 @@ quiet_short f choose x n c o g q =
     let h = quiet_left f choose n x c o g q in
     let l = events_left-le x (is_going x.standing) refl in
     omega (arith, h, l, o.many)
+
+-- a log is short
+pub log_short : LogIsShort
+log_short f s o = let h = logged_short f s.clauses s.kept s.log o.logged in omega (arith, h, o.counted)

@@ -1,7 +1,11 @@
-pub mod Asked
-pub mod Trails
+pub mod Orders
+pub mod Logs
 pub mod Lawful
+pub mod Drops
+pub mod Values
+pub mod Models
 pub mod Kept
 pub mod Fuel
 pub mod Start
 pub mod Cuts
+pub mod Stops

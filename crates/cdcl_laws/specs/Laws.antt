@@ -1,4 +1,4 @@
-use Rattle.std.specs.Prelude.{◌≡◌, ℕ, zero, suc, ◌+◌, ◌≤◌, List, ◌∷◌, Option, All, Bool, true, false, fold, sum}
+use Rattle.std.specs.Prelude.{◌≡◌, ℕ, zero, suc, ◌+◌, ◌*◌, ◌≤◌, List, ◌∷◌, Option, All, Bool, true, false, fold, sum, length}
 use Rattle.clause_base.specs.Formula.{Cnf, IsWithinVariables}
 use Rattle.clause_base.specs.Clause.{IsClause}
 use Rattle.clause_base.specs.Choice.{Known}
@@ -42,6 +42,36 @@ AfterSettled = (choose : Known → Option ℕ) (x : State) → SettledStays choo
 abbrev pub AfterIsWithin : Type 0
 AfterIsWithin = (choose : Known → Option ℕ) (x : State) (k : ℕ) → (after choose x k).conflicts ≤ x.conflicts + k
 
+-- a run comes to rest
+abbrev pub ComesToRestAlways : (Known → Option ℕ) → State → Type 0
+ComesToRestAlways choose x = (k : ℕ) → IsAfter choose x k (after choose x k)
+
+-- from each sound state on a run comes to rest
+abbrev pub AfterRests : Type 0
+AfterRests = (f : Cnf) (choose : Known → Option ℕ) (x : State) → Opens f.variables choose → IsSound f x → ComesToRestAlways choose x
+
+-- to grant exactly so many conflicts as a run used of those granted leads to the same state
+abbrev pub IsAgain : (Known → Option ℕ) → State → Type 0
+IsAgain choose x = (j k : ℕ) → j ≤ k → x.conflicts + j ≡ (after choose x k).conflicts → after choose x j ≡ after choose x k
+
+-- a run that is still going has used all that it was granted
+abbrev pub IsUsedUp : (Known → Option ℕ) → State → Type 0
+IsUsedUp choose x = (k : ℕ) → is_going (after choose x k).standing ≡ true → (after choose x k).conflicts ≡ x.conflicts + k
+
+-- where more conflicts are granted, no fewer are handled
+abbrev pub Rises : (Known → Option ℕ) → State → Type 0
+Rises choose x = (j k : ℕ) → (after choose x j).conflicts ≤ (after choose x (j + k)).conflicts
+
+-- what is granted and what is used, from each sound state on
+pub record Grants (choose : Known → Option ℕ) (x : State) : Type 0 where
+  pub again : IsAgain choose x
+  pub used_up : IsUsedUp choose x
+  pub rises : Rises choose x
+
+-- from each sound state on
+abbrev pub AfterGrants : Type 0
+AfterGrants = (f : Cnf) (choose : Known → Option ℕ) (x : State) → Opens f.variables choose → IsSound f x → Grants choose x
+
 -- an event that puts a literal on the trail
 abbrev pub is_assignment : Event → Bool
 is_assignment (Conflict i) = false
@@ -57,3 +87,7 @@ IsQuiet choose (suc n) s = (is_assignment (event_of choose s) ≡ true) × IsQui
 -- so many events without a conflict are no more than the variables
 abbrev pub QuietIsShort : Type 0
 QuietIsShort = (f : Cnf) (choose : Known → Option ℕ) (x : State) (n : ℕ) → Opens f.variables choose → IsSound f x → is_going x.standing ≡ true → IsQuiet choose n x → n ≤ f.variables
+
+-- a log has at most two entries for each conflict, since a learned clause is dropped at most once
+abbrev pub LogIsShort : Type 0
+LogIsShort = (f : Cnf) (s : State) → IsSound f s → length s.log ≤ 2 * s.conflicts

@@ -1,4 +1,4 @@
-ghost use Rattle.cdcl_laws.specs.Laws.{StartIsSound, AfterIsSound, AfterIsOnly, AfterAddsUp, AfterSettled, AfterIsWithin, QuietIsShort};
+ghost use Rattle.cdcl_laws.specs.Laws.{StartIsSound, AfterIsSound, AfterIsOnly, AfterAddsUp, AfterSettled, AfterIsWithin, AfterRests, AfterGrants, QuietIsShort, LogIsShort};
 
 /// What holds of each state of a run, and that a run may be cut wherever one likes.
 pub fn runs_are_sound()
@@ -8,7 +8,10 @@ pub fn runs_are_sound()
     ensures adds_up { AfterAddsUp }
     ensures settled { AfterSettled }
     ensures within { AfterIsWithin }
+    ensures rests { AfterRests }
+    ensures grants { AfterGrants }
     ensures short { QuietIsShort }
+    ensures short_log { LogIsShort }
 {}
 
 #[cfg(test)]

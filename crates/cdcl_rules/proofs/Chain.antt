@@ -1,5 +1,5 @@
-use Rattle.std.proofs.Common.{arith, ◌≡◌, ◌==◌, ℕ, zero, suc, ◌<◌, List, [], ◌∷◌, ◌++◌, Bool, true, false, not, ◌||◌, ◌&&◌, refl, sym, ap, ◌∙◌, subst, filter, if◌then◌else◌, Some, ◌⊎◌, inl, inr}
-use Rattle.std.specs.List.{list_any, slice_get, AllByRecursion}
+use Rattle.std.proofs.Common.{arith, ◌≡◌, ◌==◌, ℕ, ◌<◌, List, [], ◌∷◌, ◌++◌, Bool, true, false, not, ◌||◌, ◌&&◌, refl, sym, ap, ◌∙◌, filter, Option, Some, ◌⊎◌, inl, inr}
+use Rattle.std.specs.List.{AllByRecursion}
 use Rattle.std.proofs.lemmas.Bool.Decides.{nat_tests}
 use Rattle.std.proofs.lemmas.List.Folds.{list_any-append}
 use Rattle.clause_base.specs.Literal.{opposite}
@@ -7,9 +7,8 @@ use Rattle.clause_base.specs.Clause.{IsRising}
 use Rattle.clause_base.proofs.ClauseLemmas.{list_any-fold}
 use Rattle.clause_base.specs.Derivation.{open_literals, leads_to_conflict, effect_of_open, Forces}
 use Rattle.cdcl_rules.specs.Learn.{resolvent}
-
-abbrev pub is_in : List ℕ → ℕ → Bool
-is_in lits l = list_any (λ f. f == l) lits
+use Rattle.cdcl_rules.proofs.Tests.{or_true}
+use Rattle.cdcl_rules.proofs.Members.{is_in, head_in, tail_in, is_in-filter}
 
 -- under these false literals the clause forces the literal
 pub record IsUnit (false_ones clause : List ℕ) (l : ℕ) : Type 0 where
@@ -19,23 +18,23 @@ pub record IsUnit (false_ones clause : List ℕ) (l : ℕ) : Type 0 where
   pub free : is_in false_ones (opposite l) ≡ false
 
 -- all literals of the clause are false
-pub record IsFalse (clauses : List (List ℕ)) (false_ones hints : List ℕ) : Type 0 where
+pub record IsFalse (named : ℕ → Option (List ℕ)) (false_ones hints : List ℕ) : Type 0 where
   pub hint : ℕ
   pub clause : List ℕ
   pub only : hints ≡ hint ∷ []
-  pub named : slice_get clauses hint ≡ Some clause
+  pub is_named : named hint ≡ Some clause
   pub all : (m : ℕ) → is_in clause m ≡ true → is_in false_ones m ≡ true
 
-pub record Forced (clauses : List (List ℕ)) (false_ones : List ℕ) (hint l : ℕ) : Type 0 where
+pub record Forced (named : ℕ → Option (List ℕ)) (false_ones : List ℕ) (hint l : ℕ) : Type 0 where
   pub clause : List ℕ
-  pub named : slice_get clauses hint ≡ Some clause
+  pub is_named : named hint ≡ Some clause
   pub unit : IsUnit false_ones clause l
 
 -- the hints force these literals in turn, and end in a false clause
-abbrev pub Chain : List (List ℕ) → List ℕ → List ℕ → List ℕ → Type 0
-Chain clauses fs hints [] = IsFalse clauses fs hints
-Chain clauses fs [] (l ∷ ls) = ⊥
-Chain clauses fs (h ∷ hints) (l ∷ ls) = Forced clauses fs h l × Chain clauses (fs ++ opposite l ∷ []) hints ls
+abbrev pub Chain : (ℕ → Option (List ℕ)) → List ℕ → List ℕ → List ℕ → Type 0
+Chain named fs hints [] = IsFalse named fs hints
+Chain named fs [] (l ∷ ls) = ⊥
+Chain named fs (h ∷ hints) (l ∷ ls) = Forced named fs h l × Chain named (fs ++ opposite l ∷ []) hints ls
 
 -- neither the literal nor its opposite is among these
 abbrev pub IsFresh : List ℕ → ℕ → Type 0
@@ -62,18 +61,14 @@ fresh_less : (fs : List ℕ) (x : ℕ) (ls : List ℕ) → AllByRecursion (IsFre
 fresh_less fs x [] a = tt
 fresh_less fs x (l ∷ ls) a = (((push_false fs x l a.0.0).0, (push_false fs x (opposite l) a.0.1).0), fresh_less fs x ls a.1)
 
-chain_fresh : (clauses : List (List ℕ)) (fs hints ls : List ℕ) → Chain clauses fs hints ls → AllByRecursion (IsFresh fs) ls
-chain_fresh clauses fs hints [] c = tt
-chain_fresh clauses fs [] (l ∷ ls) c = absurd c
-chain_fresh clauses fs (h ∷ hints) (l ∷ ls) c = ((c.0.unit.open_here, c.0.unit.free), fresh_less fs (opposite l) ls (chain_fresh clauses (fs ++ opposite l ∷ []) hints ls c.1))
+chain_fresh : (named : ℕ → Option (List ℕ)) (fs hints ls : List ℕ) → Chain named fs hints ls → AllByRecursion (IsFresh fs) ls
+chain_fresh named fs hints [] c = tt
+chain_fresh named fs [] (l ∷ ls) c = absurd c
+chain_fresh named fs (h ∷ hints) (l ∷ ls) c = ((c.0.unit.open_here, c.0.unit.free), fresh_less fs (opposite l) ls (chain_fresh named (fs ++ opposite l ∷ []) hints ls c.1))
 
 both_all : (fs gs : List ℕ) (x : ℕ) (ls : List ℕ) → AllByRecursion (IsFresh gs) ls → AllByRecursion (IsFresh (fs ++ x ∷ [])) ls → AllByRecursion (IsFresh (gs ++ x ∷ [])) ls
 both_all fs gs x [] a b = tt
 both_all fs gs x (l ∷ ls) a b = (push_both fs gs x l a.0 b.0, both_all fs gs x ls a.1 b.1)
-
-or_true : (c : Bool) → (c || true) ≡ true
-or_true true = refl
-or_true false = refl
 
 abbrev pub IsWithin : List ℕ → List ℕ → Type 0
 IsWithin fs gs = (m : ℕ) → is_in fs m ≡ true → is_in gs m ≡ true
@@ -87,46 +82,25 @@ push_within fs gs x w m e = rw is_in-push (by (is_in fs m) (x == m) refl (sym (i
     by false false h t = cc
 
 -- a chain holds under more false literals, where what it forces stays fresh
-pub chain_more : (clauses : List (List ℕ)) (fs gs hints ls : List ℕ) → IsWithin fs gs → AllByRecursion (IsFresh gs) ls → Chain clauses fs hints ls → Chain clauses gs hints ls
-chain_more clauses fs gs hints [] w a c = record { hint = c.hint; clause = c.clause; only = c.only; named = c.named; all = λ m e. w m (c.all m e) }
-chain_more clauses fs gs [] (l ∷ ls) w a c = c
-chain_more clauses fs gs (h ∷ hints) (l ∷ ls) w a c =
+pub chain_more : (named : ℕ → Option (List ℕ)) (fs gs hints ls : List ℕ) → IsWithin fs gs → AllByRecursion (IsFresh gs) ls → Chain named fs hints ls → Chain named gs hints ls
+chain_more named fs gs hints [] w a c = record { hint = c.hint; clause = c.clause; only = c.only; is_named = c.is_named; all = λ m e. w m (c.all m e) }
+chain_more named fs gs [] (l ∷ ls) w a c = c
+chain_more named fs gs (h ∷ hints) (l ∷ ls) w a c =
     let u = c.0.unit in
-    let fresh = chain_fresh clauses (fs ++ opposite l ∷ []) hints ls c.1 in (
+    let fresh = chain_fresh named (fs ++ opposite l ∷ []) hints ls c.1 in (
       record {
         clause = c.0.clause;
-        named = c.0.named;
+        is_named = c.0.is_named;
         unit = record { has = u.has; rest = λ m e. widen (u.rest m e); open_here = a.0.0; free = a.0.1 };
       },
-      chain_more clauses (fs ++ opposite l ∷ []) (gs ++ opposite l ∷ []) hints ls (push_within fs gs (opposite l) w) (both_all fs gs (opposite l) ls a.1 fresh) c.1,
+      chain_more named (fs ++ opposite l ∷ []) (gs ++ opposite l ∷ []) hints ls (push_within fs gs (opposite l) w) (both_all fs gs (opposite l) ls a.1 fresh) c.1,
     )
   where
     widen : {m : ℕ} → (m ≡ l) ⊎ (is_in fs m ≡ true) → (m ≡ l) ⊎ (is_in gs m ≡ true)
     widen (inl e) = inl e
     widen {m} (inr e) = inr (w m e)
 
-and_false : (c : Bool) → (c && false) ≡ false
-and_false true = refl
-and_false false = refl
-
-filter_by : (p : ℕ → Bool) (l : ℕ) (lits : List ℕ) (m : ℕ) (pl same : Bool) → p l ≡ pl → (l == m) ≡ same → is_in (filter p lits) m ≡ (is_in lits m && p m) → is_in (if pl then l ∷ filter p lits else filter p lits) m ≡ ((l == m || is_in lits m) && p m)
-filter_by p l lits m true true e f h =
-    let k : l ≡ m = grind (arith, nat_tests) in
-    let pm : p m ≡ true = ap p (sym k) ∙ e in
-    rw (f, pm)
-filter_by p l lits m true false e f h = rw (f) h
-filter_by p l lits m false true e f h =
-    let k : l ≡ m = grind (arith, nat_tests) in
-    let pm : p m ≡ false = ap p (sym k) ∙ e in
-    let none : is_in (filter p lits) m ≡ false = h ∙ ap (λ b. is_in lits m && b) pm ∙ and_false (is_in lits m) in
-    rw (f, pm) none
-filter_by p l lits m false false e f h = rw f h
-
 -- the members of a resolvent
-pub is_in-filter : (p : ℕ → Bool) (lits : List ℕ) (m : ℕ) → is_in (filter p lits) m ≡ (is_in lits m && p m)
-is_in-filter p [] m = refl
-is_in-filter p (l ∷ lits) m = filter_by p l lits m (p l) (l == m) refl refl (is_in-filter p lits m)
-
 pub is_in-resolvent : (clause : List ℕ) (x : ℕ) (forcing : List ℕ) (m : ℕ) → is_in (resolvent clause x forcing) m ≡ ((is_in clause m && not (m == opposite x)) || (is_in forcing m && not (m == x)))
 is_in-resolvent clause x forcing m =
     list_any-fold (λ f. f == m) (filter (λ l. not (l == opposite x)) clause) (filter (λ l. not (l == x)) forcing)
@@ -145,14 +119,14 @@ lost_in clause x forcing m true f e =
 lost_in clause x forcing m false f e = rw (is_in-resolvent clause x forcing m, e, f) refl
 
 -- one step of the walk: to resolve on a literal that a clause forces puts the clause before the hints
-pub chain_resolved : (clauses : List (List ℕ)) (clause forcing hints ls : List ℕ) (x r : ℕ) → slice_get clauses r ≡ Some forcing → is_in forcing x ≡ true → IsFresh (resolvent clause x forcing) x → AllByRecursion (IsFresh (resolvent clause x forcing ++ opposite x ∷ [])) ls → Chain clauses clause hints ls → Chain clauses (resolvent clause x forcing) (r ∷ hints) (x ∷ ls)
-chain_resolved clauses clause forcing hints ls x r named has fresh all c = (
+pub chain_resolved : (named : ℕ → Option (List ℕ)) (clause forcing hints ls : List ℕ) (x r : ℕ) → named r ≡ Some forcing → is_in forcing x ≡ true → IsFresh (resolvent clause x forcing) x → AllByRecursion (IsFresh (resolvent clause x forcing ++ opposite x ∷ [])) ls → Chain named clause hints ls → Chain named (resolvent clause x forcing) (r ∷ hints) (x ∷ ls)
+chain_resolved named clause forcing hints ls x r is_named has fresh all c = (
   record {
     clause = forcing;
-    named = named;
+    is_named = is_named;
     unit = record { has = has; rest = λ m e. rest_in m e; open_here = fresh.0; free = fresh.1 };
   },
-  chain_more clauses clause (resolvent clause x forcing ++ opposite x ∷ []) hints ls within all c,
+  chain_more named clause (resolvent clause x forcing ++ opposite x ∷ []) hints ls within all c,
 )
   where
     rest_in : (m : ℕ) → is_in forcing m ≡ true → (m ≡ x) ⊎ (is_in (resolvent clause x forcing) m ≡ true)
@@ -160,12 +134,6 @@ chain_resolved clauses clause forcing hints ls x r named has fresh all c = (
 
     within : IsWithin clause (resolvent clause x forcing ++ opposite x ∷ [])
     within m e = rw is_in-push (lost_in clause x forcing m (m == opposite x) refl e)
-
-head_in : (m : ℕ) (clause : List ℕ) → is_in (m ∷ clause) m ≡ true
-head_in m clause = let e : (m == m) ≡ true = grind (arith, nat_tests) in rw e
-
-tail_in : (m : ℕ) (clause : List ℕ) (k : ℕ) → is_in clause k ≡ true → is_in (m ∷ clause) k ≡ true
-tail_in m clause k e = rw e (or_true (m == k))
 
 other : (fs : List ℕ) (m : ℕ) (clause : List ℕ) (l k : ℕ) → m ≡ l → m < k → (k ≡ l) ⊎ (is_in fs k ≡ true) → is_in fs k ≡ true
 other fs m clause l k s g (inl e) = absurd (omega arith)
@@ -212,18 +180,13 @@ unit_open : (fs clause : List ℕ) (l : ℕ) → IsRising clause → IsUnit fs c
 unit_open fs [] l r u = let h : false ≡ true = u.has in cc
 unit_open fs (m ∷ clause) l r u = unit_by fs m clause l (m == l) refl r u (unit_open fs clause l (rising_tail m clause r))
 
-at_place : (clauses : List (List ℕ)) (k : ℕ) (c : List ℕ) → AllByRecursion IsRising clauses → slice_get clauses k ≡ Some c → IsRising c
-at_place [] k c r e = cc
-at_place (d ∷ clauses) zero c r e = let s : d ≡ c = cc in subst IsRising s r.0
-at_place (d ∷ clauses) (suc k) c r e = at_place clauses k c r.1 e
-
 forces : (fs : List ℕ) (l : ℕ) → is_in fs (opposite l) ≡ false → effect_of_open fs (l ∷ []) ≡ Forces l
 forces fs l e = rw (e, effect_of_open) refl
 
 -- a chain is what the definition of a derived entry asks for
-pub chain_leads : (clauses : List (List ℕ)) (fs hints ls : List ℕ) → AllByRecursion IsRising clauses → Chain clauses fs hints ls → leads_to_conflict (λ n. slice_get clauses n) fs hints ≡ true
-chain_leads clauses fs hints [] r c = rw (c.only, c.named, open_none fs c.clause c.all) refl
-chain_leads clauses fs [] (l ∷ ls) r c = absurd c
-chain_leads clauses fs (h ∷ hints) (l ∷ ls) r c =
-    rw (c.0.named, unit_open fs c.0.clause l (at_place clauses h c.0.clause r c.0.named) c.0.unit, forces fs l c.0.unit.free)
-    (chain_leads clauses (fs ++ opposite l ∷ []) hints ls r c.1)
+pub chain_leads : (named : ℕ → Option (List ℕ)) (fs hints ls : List ℕ) → ((n : ℕ) (clause : List ℕ) → named n ≡ Some clause → IsRising clause) → Chain named fs hints ls → leads_to_conflict named fs hints ≡ true
+chain_leads named fs hints [] r c = rw (c.only, c.is_named, open_none fs c.clause c.all) refl
+chain_leads named fs [] (l ∷ ls) r c = absurd c
+chain_leads named fs (h ∷ hints) (l ∷ ls) r c =
+    rw (c.0.is_named, unit_open fs c.0.clause l (r h c.0.clause c.0.is_named) c.0.unit, forces fs l c.0.unit.free)
+    (chain_leads named (fs ++ opposite l ∷ []) hints ls r c.1)

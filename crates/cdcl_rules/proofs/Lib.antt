@@ -1,7 +1,11 @@
+pub mod Tests
+pub mod Members
+pub mod Chain
+pub mod WalkLaw
+pub mod Pending
+pub mod Trails
 pub mod Cutting
 pub mod RunLaws
 pub mod Measure
 pub mod Advance
-pub mod Chain
-pub mod WalkLaw
 pub mod Vector

@@ -1,20 +1,23 @@
-use Rattle.std.proofs.Common.{arith, ◌≡◌, ℕ, zero, suc, ◌+◌, ◌*◌, ◌/◌, ◌%◌, ◌==◌, ◌<◌, ◌≤◌, Bool, true, false, not, ◌||◌, refl, sym, ◌∙◌, if◌then◌else◌, ap, List, [], ◌∷◌, ◌++◌, Option, Some, None, filter, All, length, ◌⊎◌, inl, inr, zero-add, add-zero}
+use Rattle.std.proofs.Common.{arith, ◌≡◌, ℕ, zero, suc, ◌+◌, ◌*◌, ◌/◌, ◌%◌, ◌==◌, ◌<◌, ◌≤◌, Bool, true, false, ◌||◌, refl, sym, ◌∙◌, if◌then◌else◌, ap, List, [], ◌∷◌, ◌++◌, Option, Some, None, All, length, ◌⊎◌, inl, inr, zero-add, add-zero}
 use Rattle.std.specs.Prelude.{is_none}
-use Rattle.std.specs.List.{list_any, slice_get, AllByRecursion}
+use Rattle.std.specs.List.{slice_get, AllByRecursion}
 use Rattle.std.proofs.lemmas.Bool.Decides.{nat_tests}
 use Rattle.std.proofs.lemmas.List.Folds.{list_any-append}
-use Rattle.std.proofs.lemmas.List.Elements.{recursion_from_All}
+use Rattle.std.proofs.lemmas.List.Elements.{All-nil, recursion_from_All}
 use Rattle.std.proofs.Math.Nat.{eq-or-lt_of_le}
 use Rattle.clause_base.specs.Literal.{opposite}
 use Rattle.clause_base.specs.Clause.{HasVariablesBelow}
 use Rattle.cdcl_rules.specs.declared.trail.Assigned.{Assigned}
 use Rattle.cdcl_rules.specs.declared.event.Event.{Event}
 use Rattle.cdcl_rules.specs.declared.event.Event.TheVariants.{Conflict, Force, Decide, Finish}
-use Rattle.cdcl_rules.specs.State.{State, is_on, value_of, values_of, values_from}
+use Rattle.cdcl_rules.specs.State.{State, clause_at, is_on, value_of, values_of, values_from}
+use Rattle.cdcl_rules.specs.Pending.{open_ones, first_pending}
 use Rattle.clause_base.specs.Choice.{Known, IsOpenChoice}
-use Rattle.cdcl_rules.specs.Event.{event_of, asked, asked_by_open, first_asked, chosen_event}
+use Rattle.cdcl_rules.specs.Event.{event_of, asked, chosen_event}
 use Rattle.cdcl_rules.specs.Run.{is_going, is_conflict, apply}
 use Rattle.cdcl_rules.specs.Open.{IsOpenEvent}
+use Rattle.cdcl_rules.proofs.Members.{member_of, at_clause}
+use Rattle.cdcl_rules.proofs.Pending.{Asks, asks}
 
 -- how many of n variables from v on have no value
 abbrev pub open_count : List Assigned → ℕ → ℕ → ℕ
@@ -92,43 +95,15 @@ value_of-open trail l e f =
           rw (p, q)
     ]
 
--- the first open literal of a clause with no true one
-abbrev IsOpenIn : List Assigned → ℕ → ℕ → Type 0
-IsOpenIn trail n l = (l / 2 < n) × (is_on trail l ≡ false) × (is_on trail (opposite l) ≡ false)
-
-found_here : (trail : List Assigned) (n m : ℕ) (clause : List ℕ) (l : ℕ) (rest : List ℕ) (here off : Bool) → m / 2 < n → is_on trail m ≡ here → is_on trail (opposite m) ≡ off → (here || list_any (is_on trail) clause) ≡ false → (if not off then m ∷ filter (λ x. not (is_on trail (opposite x))) clause else filter (λ x. not (is_on trail (opposite x))) clause) ≡ l ∷ rest → (list_any (is_on trail) clause ≡ false → filter (λ x. not (is_on trail (opposite x))) clause ≡ l ∷ rest → IsOpenIn trail n l) → IsOpenIn trail n l
-found_here trail n m clause l rest true off b h o a e later = cc
-found_here trail n m clause l rest false true b h o a e later = later a e
-found_here trail n m clause l rest false false b h o a e later = let same : m ≡ l = cc in rw (← same) (b, h, o)
-
-found : (trail : List Assigned) (n : ℕ) (clause : List ℕ) (l : ℕ) (rest : List ℕ) → AllByRecursion (λ m. m / 2 < n) clause → list_any (is_on trail) clause ≡ false → filter (λ m. not (is_on trail (opposite m))) clause ≡ l ∷ rest → IsOpenIn trail n l
-found trail n [] l rest b a e = cc
-found trail n (m ∷ clause) l rest b a e = found_here trail n m clause l rest (is_on trail m) (is_on trail (opposite m)) b.0 refl refl a e (found trail n clause l rest b.1)
-
-asked_by_open-open : (s : State) (number : ℕ) (opened : List ℕ) (event : Event) → ((l : ℕ) (rest : List ℕ) → opened ≡ l ∷ rest → IsOpenIn s.trail s.variables l) → asked_by_open number opened ≡ Some event → IsOpenEvent s event
-asked_by_open-open s number [] event o e = let same : Conflict number ≡ event = cc in rw (← same) tt
-asked_by_open-open s number (l ∷ []) event o e =
-    let same : Force l number ≡ event = cc in
-    let h = o l [] refl in
-    rw (← same) (h.0, value_of-open s.trail l h.1 h.2)
-asked_by_open-open s number (l ∷ m ∷ rest) event o e = cc
-
 -- what a clause asks for is open
-asked_open : (s : State) (number : ℕ) (clause : List ℕ) (event : Event) (b : Bool) → HasVariablesBelow s.variables clause → list_any (is_on s.trail) clause ≡ b → (if b then None else asked_by_open number (filter (λ l. not (is_on s.trail (opposite l))) clause)) ≡ Some event → IsOpenEvent s event
-asked_open s number clause event true v a e = cc
-asked_open s number clause event false v a e =
-    asked_by_open-open s number _ event (λ l rest h. found s.trail s.variables clause l rest (recursion_from_All (λ m. m / 2 < s.variables) clause v) a h) e
-
-first_open_by : (s : State) (number : ℕ) (clauses : List (List ℕ)) (event : Event) (o : Option Event) → (o ≡ Some event → IsOpenEvent s event) → (first_asked s.trail (number + 1) clauses ≡ Some event → IsOpenEvent s event) → elim o [ Some x ↦ Some x | None ↦ first_asked s.trail (number + 1) clauses ] ≡ Some event → IsOpenEvent s event
-first_open_by s number clauses event (Some x) here later e = here e
-first_open_by s number clauses event None here later e = later e
-
-pub first_open : (s : State) (number : ℕ) (clauses : List (List ℕ)) (event : Event) → AllByRecursion (HasVariablesBelow s.variables) clauses → first_asked s.trail number clauses ≡ Some event → IsOpenEvent s event
-first_open s number [] event b e = cc
-first_open s number (clause ∷ clauses) event b e =
-    first_open_by s number clauses event (asked s.trail number clause)
-    (asked_open s number clause event (list_any (is_on s.trail) clause) b.0 refl)
-    (first_open s (number + 1) clauses event b.1) e
+asked_open : (s : State) (e : Event) → AllByRecursion (HasVariablesBelow s.variables) s.clauses → Asks s e → IsOpenEvent s e
+asked_open s (Conflict i) b a = tt
+asked_open s (Force l i) b a =
+    let v = at_clause (HasVariablesBelow s.variables) s.clauses i (All-nil (λ m. m / 2 < s.variables)) b in
+    let c = recursion_from_All (λ m. m / 2 < s.variables) (clause_at s.clauses i) v in
+    (member_of (λ m. m / 2 < s.variables) (clause_at s.clauses i) l c a.1.has, value_of-open s.trail l a.1.off a.1.free)
+asked_open s (Decide l) b a = absurd a
+asked_open s Finish b a = absurd a
 
 -- the values of the variables from v on
 pub values_from-at : (trail : List Assigned) (v n k : ℕ) (o : Option Bool) → slice_get (values_from trail v n) k ≡ Some o → (k < n) × (value_of trail (v + k) ≡ o)
@@ -148,12 +123,12 @@ length-values_from trail v zero = refl
 length-values_from trail v (suc n) = ap suc (length-values_from trail (v + 1) n)
 
 -- an event is open, whichever it is
-event_open_by : (choose : Known → Option ℕ) (s : State) (o : Option Event) → first_asked s.trail 0 s.clauses ≡ o → (IsOpenChoice (values_of s.variables s.trail) (choose (values_of s.variables s.trail))) → All (HasVariablesBelow s.variables) s.clauses → IsOpenEvent s (elim o [ Some event ↦ event | None ↦ chosen_event (choose (values_of s.variables s.trail)) ])
-event_open_by choose s (Some event) e c b = first_open s 0 s.clauses event (recursion_from_All (HasVariablesBelow s.variables) s.clauses b) e
+event_open_by : (choose : Known → Option ℕ) (s : State) (o : Option ℕ) → first_pending s ≡ o → (IsOpenChoice (values_of s.variables s.trail) (choose (values_of s.variables s.trail))) → All (HasVariablesBelow s.variables) s.clauses → IsOpenEvent s (elim o [ Some number ↦ asked number (open_ones (is_on s.trail) (clause_at s.clauses number)) | None ↦ chosen_event (choose (values_of s.variables s.trail)) ])
+event_open_by choose s (Some n) e c b = asked_open s _ (recursion_from_All (HasVariablesBelow s.variables) s.clauses b) (asks s n e)
 event_open_by choose s None e c b = chosen_open s (choose (values_of s.variables s.trail)) c
 
 pub event_open : (choose : Known → Option ℕ) (s : State) → All (HasVariablesBelow s.variables) s.clauses → ((values : Known) → length values ≡ s.variables → IsOpenChoice values (choose values)) → IsOpenEvent s (event_of choose s)
-event_open choose s b c = event_open_by choose s (first_asked s.trail 0 s.clauses) refl (c _ (length-values_from s.trail 0 s.variables)) b
+event_open choose s b c = event_open_by choose s (first_pending s) refl (c _ (length-values_from s.trail 0 s.variables)) b
 
 pub open_count-le : (trail : List Assigned) (v n : ℕ) → open_count trail v n ≤ n
 open_count-le trail v zero = omega arith

@@ -2,6 +2,7 @@ use Rattle.std.proofs.Common.{◌≡◌, ℕ, [], ◌∷◌, map, refl}
 use Rattle.clause_base.specs.Formula.{Cnf}
 use Rattle.cdcl_rules.specs.declared.standing.Standing.TheVariants.{Refuted}
 use Rattle.clause_base.specs.Choice.{plain_choice}
+use Rattle.clause_base.specs.declared.log.Entry.TheVariants.{Learn}
 use Rattle.cdcl_rules.specs.State.{State}
 use Rattle.cdcl_rules.specs.Run.{start_of, next, rests}
 use Rattle.cdcl_rules.specs.Machine.{turns}
@@ -25,6 +26,6 @@ refuted_at_two : (reached 2).standing ≡ Refuted
 unfolding vector reached
 refuted_at_two = refl
 
-log_at_two : (reached 2).log ≡ record { clause = 0 ∷ []; hints = 0 ∷ 1 ∷ [] } ∷ record { clause = []; hints = 4 ∷ 2 ∷ 3 ∷ [] } ∷ []
+log_at_two : (reached 2).log ≡ Learn (0 ∷ []) (0 ∷ 1 ∷ []) ∷ Learn [] (4 ∷ 2 ∷ 3 ∷ []) ∷ []
 unfolding vector reached
 log_at_two = refl

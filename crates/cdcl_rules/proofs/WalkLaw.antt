@@ -5,36 +5,30 @@ use Rattle.clause_base.specs.Literal.{opposite}
 use Rattle.clause_base.specs.Clause.{IsRising}
 use Rattle.clause_base.specs.Derivation.{leads_to_conflict}
 use Rattle.cdcl_rules.specs.declared.trail.Assigned.{Assigned}
-use Rattle.cdcl_rules.specs.State.{is_on, decision_count}
+use Rattle.cdcl_rules.specs.State.{clause_at, is_on, decision_count}
 use Rattle.cdcl_rules.specs.Trail.{IsReason, HasReason, IsEntry, IsTrail}
 use Rattle.cdcl_rules.specs.Learn.{resolvent, walk, current, Learned, learned}
-use Rattle.cdcl_rules.proofs.Chain.{is_in, IsFresh, Chain, chain_resolved, chain_leads, is_in-resolvent, is_in-push}
+use Rattle.cdcl_rules.proofs.Tests.{or_split, or_none, and_split, not_split, not_true, apart, same_test, test_same}
+use Rattle.cdcl_rules.proofs.Members.{is_in}
+use Rattle.cdcl_rules.proofs.Chain.{IsFresh, Chain, chain_resolved, chain_leads, is_in-resolvent, is_in-push}
 
 pub opposite_twice : (l : ℕ) → opposite (opposite l) ≡ l
 opposite_twice l = grind (arith, nat_tests)
 
 -- what the walk keeps, over the entries that are left
-pub record IsWalk (clauses : List (List ℕ)) (entries : List Assigned) (i : ℕ) (c : Learned) : Type 0 where
+pub record IsWalk (named : ℕ → Option (List ℕ)) (entries : List Assigned) (i : ℕ) (c : Learned) : Type 0 where
   pub forced : List ℕ
-  pub chain : Chain clauses c.clause (c.hints ++ i ∷ []) forced
+  pub chain : Chain named c.clause (c.hints ++ i ∷ []) forced
   pub refuted : (m : ℕ) → is_in c.clause m ≡ true → is_on entries (opposite m) ≡ true
   pub later : AllByRecursion (λ l. (is_on entries l ≡ false) × (is_on entries (opposite l) ≡ false)) forced
-
-pub or_split : (a b : Bool) → (a || b) ≡ true → (a ≡ true) ⊎ (b ≡ true)
-or_split true b e = inl refl
-or_split false b e = inr e
-
-pub or_none : (a b : Bool) → (a || b) ≡ false → (a ≡ false) × (b ≡ false)
-or_none true b e = cc
-or_none false b e = (refl, e)
 
 older_later : (a : Assigned) (older : List Assigned) (ls : List ℕ) → AllByRecursion (λ l. (is_on (a ∷ older) l ≡ false) × (is_on (a ∷ older) (opposite l) ≡ false)) ls → AllByRecursion (λ l. (is_on older l ≡ false) × (is_on older (opposite l) ≡ false)) ls
 older_later a older [] h = tt
 older_later a older (l ∷ ls) h = (((or_none (a.literal == l) (is_on older l) h.0.0).1, (or_none (a.literal == opposite l) (is_on older (opposite l)) h.0.1).1), older_later a older ls h.1)
 
 -- an entry whose opposite is not in the clause is passed over
-passed : (clauses : List (List ℕ)) (a : Assigned) (older : List Assigned) (i : ℕ) (c : Learned) → is_in c.clause (opposite a.literal) ≡ false → IsWalk clauses (a ∷ older) i c → IsWalk clauses older i c
-passed clauses a older i c off w = record {
+passed : (named : ℕ → Option (List ℕ)) (a : Assigned) (older : List Assigned) (i : ℕ) (c : Learned) → is_in c.clause (opposite a.literal) ≡ false → IsWalk named (a ∷ older) i c → IsWalk named older i c
+passed named a older i c off w = record {
   forced = w.forced;
   chain = w.chain;
   refuted = λ m e. by m e (or_split (a.literal == opposite m) (is_on older (opposite m)) (w.refuted m e));
@@ -48,28 +42,6 @@ passed clauses a older i c off w = record {
         let t : opposite a.literal ≡ m = ap opposite s ∙ opposite_twice m in
         let u : is_in c.clause m ≡ false = ap (is_in c.clause) (sym t) ∙ off in
         cc
-
-pub and_split : (a b : Bool) → (a && b) ≡ true → (a ≡ true) × (b ≡ true)
-and_split true b e = (refl, e)
-and_split false b e = cc
-
-pub not_split : (b : Bool) → not b ≡ true → b ≡ false
-not_split true e = cc
-not_split false e = refl
-
-pub not_true : (b : Bool) → (b ≡ true → ⊥) → b ≡ false
-not_true true h = absurd (h refl)
-not_true false h = refl
-
-pub apart : (b : Bool) → b ≡ true → b ≡ false → ⊥
-apart true e f = cc
-apart false e f = cc
-
-pub same_test : (m n : ℕ) → m ≡ n → (m == n) ≡ true
-same_test m n e = grind (arith, nat_tests)
-
-pub test_same : (m n : ℕ) → (m == n) ≡ true → m ≡ n
-test_same m n e = grind (arith, nat_tests)
 
 opposite_of : (l m : ℕ) → l ≡ opposite m → opposite l ≡ m
 opposite_of l m e = ap opposite e ∙ opposite_twice m
@@ -116,8 +88,8 @@ fresh_all a older clause [] r h = tt
 fresh_all a older clause (l ∷ ls) r h = (fresh_one a older clause l r h.0.0 h.0.1, fresh_all a older clause ls r h.1)
 
 -- to resolve on an entry keeps the walk
-resolved : (clauses : List (List ℕ)) (a : Assigned) (older : List Assigned) (i r : ℕ) (c : Learned) → IsEntry clauses a older → (reason : IsReason clauses older a.literal r) → IsWalk clauses (a ∷ older) i c → IsWalk clauses older i (record { clause = resolvent c.clause a.literal reason.clause; hints = r ∷ c.hints })
-resolved clauses a older i r c entry reason w =
+resolved : (named : ℕ → Option (List ℕ)) (a : Assigned) (older : List Assigned) (i r : ℕ) (c : Learned) → IsEntry named a older → (reason : IsReason named older a.literal r) → IsWalk named (a ∷ older) i c → IsWalk named older i (record { clause = resolvent c.clause a.literal reason.clause; hints = r ∷ c.hints })
+resolved named a older i r c entry reason w =
     let refuted = resolvent_refuted a older c.clause reason.clause w.refuted reason.others in
     let x = a.literal in
     let new = resolvent c.clause a.literal reason.clause in
@@ -127,39 +99,43 @@ resolved clauses a older i r c entry reason w =
     ) in
     record {
       forced = x ∷ w.forced;
-      chain = chain_resolved clauses c.clause reason.clause (c.hints ++ i ∷ []) w.forced x r reason.named reason.has fresh (fresh_all a older new w.forced refuted w.later) w.chain;
+      chain = chain_resolved named c.clause reason.clause (c.hints ++ i ∷ []) w.forced x r reason.is_named reason.has fresh (fresh_all a older new w.forced refuted w.later) w.chain;
       refuted = refuted;
       later = ((entry.off, entry.free), older_later a older w.forced w.later);
     }
 
-abbrev pub Ends : List (List ℕ) → ℕ → Learned → Type 0
-Ends clauses i c = (forced : List ℕ) × Chain clauses c.clause (c.hints ++ i ∷ []) forced
+-- the clauses that are named are among these, at their numbers
+abbrev pub Names : (ℕ → Option (List ℕ)) → List (List ℕ) → Type 0
+Names named clauses = (n : ℕ) (k : List ℕ) → named n ≡ Some k → slice_get clauses n ≡ Some k
 
-walk_by : (clauses : List (List ℕ)) (trail : List Assigned) (a : Assigned) (older : List Assigned) (i : ℕ) (c : Learned) (found stop : Bool) (o : Option ℕ) → is_in c.clause (opposite a.literal) ≡ found → IsEntry clauses a older → HasReason clauses older a.literal o → IsWalk clauses (a ∷ older) i c → ((d : Learned) → IsWalk clauses older i d → Ends clauses i (walk clauses trail older d)) → Ends clauses i (if not found then walk clauses trail older c else if stop then c else elim o [ None ↦ c | Some r ↦ walk clauses trail older (record { clause = resolvent c.clause a.literal (unwrap_or (slice_get clauses r) []); hints = r ∷ c.hints }) ])
-walk_by clauses trail a older i c false stop o f entry reason w on = on c (passed clauses a older i c f w)
-walk_by clauses trail a older i c true true o f entry reason w on = (w.forced, w.chain)
-walk_by clauses trail a older i c true false None f entry reason w on = (w.forced, w.chain)
-walk_by clauses trail a older i c true false (Some r) f entry reason w on =
-    let same : reason.clause ≡ unwrap_or (slice_get clauses r) [] = sym (ap (λ (o : Option (List ℕ)). unwrap_or o []) reason.named) in
-    let next = subst (λ (k : List ℕ). IsWalk clauses older i (record { clause = resolvent c.clause a.literal k; hints = r ∷ c.hints })) same (resolved clauses a older i r c entry reason w) in
+abbrev pub Ends : (ℕ → Option (List ℕ)) → ℕ → Learned → Type 0
+Ends named i c = (forced : List ℕ) × Chain named c.clause (c.hints ++ i ∷ []) forced
+
+walk_by : (named : ℕ → Option (List ℕ)) (clauses : List (List ℕ)) → Names named clauses → (trail : List Assigned) (a : Assigned) (older : List Assigned) (i : ℕ) (c : Learned) (found stop : Bool) (o : Option ℕ) → is_in c.clause (opposite a.literal) ≡ found → IsEntry named a older → HasReason named older a.literal o → IsWalk named (a ∷ older) i c → ((d : Learned) → IsWalk named older i d → Ends named i (walk clauses trail older d)) → Ends named i (if not found then walk clauses trail older c else if stop then c else elim o [ None ↦ c | Some r ↦ walk clauses trail older (record { clause = resolvent c.clause a.literal (clause_at clauses r); hints = r ∷ c.hints }) ])
+walk_by named clauses names trail a older i c false stop o f entry reason w on = on c (passed named a older i c f w)
+walk_by named clauses names trail a older i c true true o f entry reason w on = (w.forced, w.chain)
+walk_by named clauses names trail a older i c true false None f entry reason w on = (w.forced, w.chain)
+walk_by named clauses names trail a older i c true false (Some r) f entry reason w on =
+    let same : reason.clause ≡ clause_at clauses r = sym (ap (λ (o : Option (List ℕ)). unwrap_or o []) (names r reason.clause reason.is_named)) in
+    let next = subst (λ (k : List ℕ). IsWalk named older i (record { clause = resolvent c.clause a.literal k; hints = r ∷ c.hints })) same (resolved named a older i r c entry reason w) in
     on _ next
 
 -- the walk ends in a clause that its hints derive
-pub walk_keeps : (clauses : List (List ℕ)) (trail entries : List Assigned) (i : ℕ) (c : Learned) → IsTrail clauses entries → IsWalk clauses entries i c → Ends clauses i (walk clauses trail entries c)
-walk_keeps clauses trail [] i c t w = (w.forced, w.chain)
-walk_keeps clauses trail (a ∷ older) i c t w =
-    walk_by clauses trail a older i c (is_in c.clause (opposite a.literal)) (not (decision_count trail == 0) && (length (current trail c.clause) == 1)) a.reason refl t.0 t.0.reason w (λ d v. walk_keeps clauses trail older i d t.1 v)
+pub walk_keeps : (named : ℕ → Option (List ℕ)) (clauses : List (List ℕ)) → Names named clauses → (trail entries : List Assigned) (i : ℕ) (c : Learned) → IsTrail named entries → IsWalk named entries i c → Ends named i (walk clauses trail entries c)
+walk_keeps named clauses names trail [] i c t w = (w.forced, w.chain)
+walk_keeps named clauses names trail (a ∷ older) i c t w =
+    walk_by named clauses names trail a older i c (is_in c.clause (opposite a.literal)) (not (decision_count trail == 0) && (length (current trail c.clause) == 1)) a.reason refl t.0 t.0.reason w (λ d v. walk_keeps named clauses names trail older i d t.1 v)
 
--- the learned clause is derived by its hints from the clauses
-pub learned_derived : (clauses : List (List ℕ)) (trail : List Assigned) (i : ℕ) (k : List ℕ) → AllByRecursion IsRising clauses → IsTrail clauses (reverse trail) → slice_get clauses i ≡ Some k → ((m : ℕ) → is_in k m ≡ true → is_on (reverse trail) (opposite m) ≡ true) → leads_to_conflict (λ n. slice_get clauses n) (learned clauses trail i).clause (learned clauses trail i).hints ≡ true
-learned_derived clauses trail i k rising t named false_ones =
-    let begin : Learned = record { clause = unwrap_or (slice_get clauses i) []; hints = [] } in
-    let is : k ≡ unwrap_or (slice_get clauses i) [] = sym (ap (λ (o : Option (List ℕ)). unwrap_or o []) named) in
-    let w : IsWalk clauses (reverse trail) i begin = record {
+-- the learned clause is derived by its hints from the clauses that are named
+pub learned_derived : (named : ℕ → Option (List ℕ)) (clauses : List (List ℕ)) → Names named clauses → (trail : List Assigned) (i : ℕ) (k : List ℕ) → ((n : ℕ) (clause : List ℕ) → named n ≡ Some clause → IsRising clause) → IsTrail named (reverse trail) → named i ≡ Some k → ((m : ℕ) → is_in k m ≡ true → is_on (reverse trail) (opposite m) ≡ true) → leads_to_conflict named (learned clauses trail i).clause (learned clauses trail i).hints ≡ true
+learned_derived named clauses names trail i k rising t is_named false_ones =
+    let begin : Learned = record { clause = clause_at clauses i; hints = [] } in
+    let is : k ≡ clause_at clauses i = sym (ap (λ (o : Option (List ℕ)). unwrap_or o []) (names i k is_named)) in
+    let w : IsWalk named (reverse trail) i begin = record {
       forced = [];
-      chain = record { hint = i; clause = k; only = refl; named = named; all = λ m e. ap (λ (c : List ℕ). is_in c m) (sym is) ∙ e };
+      chain = record { hint = i; clause = k; only = refl; is_named = is_named; all = λ m e. ap (λ (c : List ℕ). is_in c m) (sym is) ∙ e };
       refuted = λ m e. false_ones m (ap (λ (c : List ℕ). is_in c m) is ∙ e);
       later = tt;
     } in
-    let end = walk_keeps clauses trail (reverse trail) i begin t w in
-    chain_leads clauses _ _ end.0 rising end.1
+    let end = walk_keeps named clauses names trail (reverse trail) i begin t w in
+    chain_leads named _ _ end.0 rising end.1

@@ -1,9 +1,9 @@
-use Rattle.std.specs.Prelude.{ℕ, ◌+◌, ◌-◌, ◌==◌, ◌&&◌, max, List, [], ◌∷◌, ◌++◌, map, not, Some, None, if◌then◌else◌, filter, reverse, length, slice_get, unwrap_or, fold}
+use Rattle.std.specs.Prelude.{ℕ, ◌+◌, ◌-◌, ◌==◌, ◌&&◌, max, List, [], ◌∷◌, ◌++◌, map, not, Some, None, if◌then◌else◌, filter, reverse, length, fold}
 use Rattle.std.specs.List.{list_any}
 use Rattle.clause_base.specs.Literal.{opposite}
 use Rattle.clause_base.specs.Clause.{put}
 use Rattle.cdcl_rules.specs.declared.trail.Assigned.{Assigned}
-use Rattle.cdcl_rules.specs.State.{decision_count}
+use Rattle.cdcl_rules.specs.State.{clause_at, decision_count}
 
 -- the resolvent of two clauses on a literal of the second, whose opposite the first has
 abbrev pub resolvent : List ℕ → ℕ → List ℕ → List ℕ
@@ -39,22 +39,22 @@ walk clauses trail (a ∷ entries) c =
     else if not (decision_count trail == 0) && (length (current trail c.clause) == 1) then c
     else elim a.reason [
       | None ↦ c
-      | Some r ↦ walk clauses trail entries (record { clause = resolvent c.clause a.literal (unwrap_or (slice_get clauses r) []); hints = r ∷ c.hints })
+      | Some r ↦ walk clauses trail entries (record { clause = resolvent c.clause a.literal (clause_at clauses r); hints = r ∷ c.hints })
     ]
 
 -- what a conflict in clause i teaches
 abbrev pub learned : List (List ℕ) → List Assigned → ℕ → Learned
 learned clauses trail i =
-    let end = walk clauses trail (reverse trail) (record { clause = unwrap_or (slice_get clauses i) []; hints = [] }) in
+    let end = walk clauses trail (reverse trail) (record { clause = clause_at clauses i; hints = [] }) in
     record { clause = end.clause; hints = end.hints ++ i ∷ [] }
 
--- the entries of a trail up to a level
-abbrev pub cut : ℕ → List Assigned → List Assigned
-cut level [] = []
-cut level (a ∷ trail) =
-    elim a.reason [ Some r ↦ a ∷ cut level trail | None ↦ if level == 0 then [] else a ∷ cut (level - 1) trail ]
+-- the entries of a trail up to a level, to which it backtracks
+abbrev pub backtracked : ℕ → List Assigned → List Assigned
+backtracked level [] = []
+backtracked level (a ∷ trail) =
+    elim a.reason [ Some r ↦ a ∷ backtracked level trail | None ↦ if level == 0 then [] else a ∷ backtracked (level - 1) trail ]
 
--- the level to go back to: the greatest of a clause's literals that is not the current one, or 0
-abbrev pub back_level : List Assigned → List ℕ → ℕ
-back_level trail clause =
+-- the backjump level of a learned clause: the greatest of its literals that is not the current one, or 0
+abbrev pub backjump_level : List Assigned → List ℕ → ℕ
+backjump_level trail clause =
     fold max 0 (map (level_of trail) (filter (λ l. not (level_of trail l == decision_count trail)) clause))

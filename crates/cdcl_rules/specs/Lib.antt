@@ -1,7 +1,9 @@
 pub mod Machine
 pub mod State
 pub mod Trail
+pub mod Pending
 pub mod Event
 pub mod Open
 pub mod Learn
+pub mod Reduce
 pub mod Run

@@ -1,29 +1,64 @@
-use Rattle.std.specs.Prelude.{◌≡◌, ℕ, ◌+◌, ◌%◌, ◌*◌, ◌==◌, ◌&&◌, ◌||◌, [], ◌∷◌, ◌++◌, Bool, true, false, not, Option, Some, None, if◌then◌else◌, length, nat_le}
+use Rattle.std.specs.Prelude.{◌≡◌, ℕ, List, map, replicate, ◌+◌, ◌%◌, ◌*◌, ◌==◌, ◌&&◌, ◌||◌, [], ◌∷◌, ◌++◌, Bool, true, false, not, Option, Some, None, if◌then◌else◌, length, nat_le}
 use Rattle.cdcl_rules.specs.declared.standing.Standing.{Standing}
 use Rattle.cdcl_rules.specs.declared.standing.Standing.TheVariants.{Going, Found, Refuted}
 use Rattle.clause_base.specs.Formula.{Cnf}
 use Rattle.clause_base.specs.Choice.{Known}
+use Rattle.clause_base.specs.declared.log.Entry.TheVariants.{Learn, Drop}
+use Rattle.cdcl_rules.specs.declared.trail.Assigned.{Assigned}
 use Rattle.cdcl_rules.specs.State.{State}
 use Rattle.cdcl_rules.specs.declared.event.Event.{Event}
 use Rattle.cdcl_rules.specs.declared.event.Event.TheVariants.{Conflict, Force, Decide, Finish}
 use Rattle.cdcl_rules.specs.Event.{event_of}
-use Rattle.cdcl_rules.specs.Learn.{Learned, learned, cut, back_level}
+use Rattle.cdcl_rules.specs.Learn.{Learned, learned, backtracked, backjump_level}
+use Rattle.cdcl_rules.specs.Reduce.{candidates, first_half, kept_without}
 use Rattle.cdcl_rules.specs.Machine.{turns, ComesToRest}
 
--- the state over a formula before any event
+-- the state over a formula before any event: all its clauses are kept
 abbrev pub start_of : Cnf → State
-start_of f = record { variables = f.variables; clauses = f.clauses; trail = []; conflicts = 0; log = []; standing = Going }
-
--- what a conflict leaves: its clause and log entry are appended and it is counted; with the empty clause all is refuted, else
--- the trail is cut to the clause's level, or to level 0 at each 64th conflict
-abbrev pub with_learned : State → Learned → State
-with_learned s new = record s {
-  clauses = s.clauses ++ new.clause ∷ [];
-  log = s.log ++ record { clause = new.clause; hints = new.hints } ∷ [];
-  conflicts = s.conflicts + 1;
-  standing = if length new.clause == 0 then Refuted else Going;
-  trail = if length new.clause == 0 then s.trail else cut (if (s.conflicts + 1) % 64 == 0 then 0 else back_level s.trail new.clause) s.trail;
+start_of f = record {
+  variables = f.variables;
+  given = length f.clauses;
+  clauses = f.clauses;
+  kept = replicate (length f.clauses) true;
+  trail = [];
+  conflicts = 0;
+  log = [];
+  standing = Going;
 }
+
+-- the next conflict brings a restart: it is a 64th one
+abbrev pub is_restart : State → Bool
+is_restart s = (s.conflicts + 1) % 64 == 0
+
+-- the trail after a conflict that teaches a clause: it backtracks to the clause's level, at a restart to level 0; with the empty
+-- clause it stays
+abbrev pub trail_after : State → List ℕ → List Assigned
+trail_after s clause =
+    if length clause == 0 then s.trail else backtracked (if is_restart s then 0 else backjump_level s.trail clause) s.trail
+
+-- the numbers of the clauses that are dropped after a conflict that teaches a clause: at a restart, unless the clause is empty,
+-- the first half of the candidates
+abbrev pub dropped_after : State → List ℕ → List ℕ
+dropped_after s clause =
+    if not (length clause == 0) && is_restart s
+    then first_half (candidates s.given (s.clauses ++ clause ∷ []) (s.kept ++ true ∷ []) (trail_after s clause))
+    else []
+
+-- what a conflict leaves where these clauses are dropped: its clause is appended and kept, and its log entry is; it is counted;
+-- with the empty clause all is refuted, else the trail goes back; what is dropped is no longer kept and has its log entries
+abbrev pub after_conflict : State → Learned → List ℕ → State
+after_conflict s new dropped = record s {
+  clauses = s.clauses ++ new.clause ∷ [];
+  kept = kept_without (s.kept ++ true ∷ []) dropped;
+  trail = trail_after s new.clause;
+  conflicts = s.conflicts + 1;
+  log = s.log ++ Learn new.clause new.hints ∷ map Drop dropped;
+  standing = if length new.clause == 0 then Refuted else Going;
+}
+
+-- what a conflict leaves that teaches a clause
+abbrev pub with_learned : State → Learned → State
+with_learned s new = after_conflict s new (dropped_after s new.clause)
 
 -- what an event leaves
 abbrev pub apply : State → Event → State

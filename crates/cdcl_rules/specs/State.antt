@@ -1,18 +1,29 @@
-use Rattle.std.specs.Prelude.{ℕ, zero, suc, ◌+◌, ◌*◌, ◌==◌, List, [], ◌∷◌, Bool, true, false, Option, Some, None, if◌then◌else◌}
+use Rattle.std.specs.Prelude.{ℕ, zero, suc, ◌+◌, ◌*◌, ◌==◌, List, [], ◌∷◌, Bool, true, false, Option, Some, None, if◌then◌else◌, slice_get, slice_index_or, unwrap_or}
 use Rattle.std.specs.List.{list_any}
 use Rattle.clause_base.specs.Choice.{Known}
 use Rattle.clause_base.specs.declared.log.Entry.{Entry}
 use Rattle.cdcl_rules.specs.declared.standing.Standing.{Standing}
 use Rattle.cdcl_rules.specs.declared.trail.Assigned.{Assigned}
 
--- a solver's state: the clauses are the formula's and then the learned ones, and the trail begins with its oldest entry
+-- a solver's state over so many variables: the clauses are those given by the formula and then the learned ones, in order of
+-- their numbers, each with whether it is kept; the trail begins with its oldest entry
 pub record State : Type 0 where
   pub variables : ℕ
+  pub given : ℕ
   pub clauses : List (List ℕ)
+  pub kept : List Bool
   pub trail : List Assigned
   pub conflicts : ℕ
   pub log : List Entry
   pub standing : Standing
+
+-- the clause with this number, or the empty one where there is none
+abbrev pub clause_at : List (List ℕ) → ℕ → List ℕ
+clause_at clauses number = unwrap_or (slice_get clauses number) []
+
+-- the clause with this number is kept
+abbrev pub is_kept : List Bool → ℕ → Bool
+is_kept kept number = slice_index_or kept number false
 
 -- a literal is true: it stands on the trail
 abbrev pub is_on : List Assigned → ℕ → Bool

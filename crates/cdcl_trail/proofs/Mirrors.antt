@@ -3,15 +3,17 @@ use Rattle.std.specs.List.{slice_get, AllByRecursion}
 use Rattle.std.specs.Option.{option_eq}
 use Rattle.std.proofs.Math.Bool.{beq}
 use Rattle.std.proofs.Math.Nat.{eq-or-lt_of_le}
-use Rattle.std.proofs.lemmas.List.{reverse-append, length-reverse}
+use Rattle.std.proofs.lemmas.List.{reverse-append, length-reverse, get_or_default}
 use Rattle.std.proofs.lemmas.List.Elements.{All-push, All-from_recursion, recursion_from_All}
 use Rattle.std.proofs.lemmas.Bool.Decides.{nat_tests}
 use Rattle.cdcl_rules.specs.declared.trail.Assigned.{Assigned}
 use Rattle.clause_base.specs.Choice.{Known}
 use Rattle.cdcl_rules.specs.State.{is_on, value_of, values_of, values_from, decision_count}
-use Rattle.cdcl_rules.specs.Learn.{level_from, cut}
+use Rattle.clause_base.specs.Literal.{opposite}
+use Rattle.cdcl_rules.specs.Learn.{level_from, level_of, backtracked}
 use Rattle.cdcl_rules.proofs.Measure.{open_count, open_count-le, count_lt, is_on-more, length-values_from, values_from-at}
-use Rattle.cdcl_laws.proofs.Trails.{is_on-reverse}
+use Rattle.cdcl_rules.proofs.Tests.{or_true}
+use Rattle.cdcl_rules.proofs.Trails.{is_on-reverse}
 use Rattle.cdcl_trail.specs.Mirrored.{IsMirrored, IsOnce, step_of}
 
 value_of-reverse : (es : List Assigned) (v : ℕ) → value_of (reverse es) v ≡ value_of es v
@@ -31,10 +33,6 @@ count_fits n (a ∷ es) o b =
     let f = count_lt (reverse es) a 0 n (value_of-reverse es (a.literal / 2) ∙ o.0) (omega arith) (omega (arith, m)) in
     let g : open_count (reverse (a ∷ es)) 0 n ≡ open_count (reverse es ++ a ∷ []) 0 n = ap (λ (t : List Assigned). open_count t 0 n) r in
     omega (arith, h, f, g)
-  where
-    or_true : (b : Bool) → (b || true) ≡ true
-    or_true true = refl
-    or_true false = refl
 
 decisions_le : (es : List Assigned) → decision_count es ≤ length es
 decisions_le [] = omega arith
@@ -170,7 +168,7 @@ level-own k (b ∷ es) a e = by (b.literal == a.literal) refl b.reason refl (λ 
         let h : is_on es a.literal ≡ false = ap (λ (c : Bool). c || is_on es a.literal) (sym f) ∙ e in
         rw (f, g) (on k h)
 
-off_of_none : (es : List Assigned) (l : ℕ) → value_of es (l / 2) ≡ None → is_on es l ≡ false
+pub off_of_none : (es : List Assigned) (l : ℕ) → value_of es (l / 2) ≡ None → is_on es l ≡ false
 off_of_none es l e = by (is_on es l) refl
   where
     by : (b : Bool) → is_on es l ≡ b → b ≡ false
@@ -227,28 +225,28 @@ mirrored_pop n xs vs ls level less a m e =
       small = m.small;
     }
 
--- to cut below the last entry's level leaves it out
-pub cut_push : (t : ℕ) (xs : List Assigned) (a : Assigned) → t < decision_count (xs ++ a ∷ []) → cut t (xs ++ a ∷ []) ≡ cut t xs
-cut_push t [] a h = by a.reason (t == 0) refl h
+-- to backtrack below the last entry's level leaves it out
+pub backtracked_push : (t : ℕ) (xs : List Assigned) (a : Assigned) → t < decision_count (xs ++ a ∷ []) → backtracked t (xs ++ a ∷ []) ≡ backtracked t xs
+backtracked_push t [] a h = by a.reason (t == 0) refl h
   where
     by : (o : Option ℕ) (z : Bool) → (t == 0) ≡ z → t < elim o as (λ _. ℕ) [ None ↦ 1 + 0 | Some r ↦ 0 ] → elim o as (λ _. List Assigned) [ Some r ↦ a ∷ [] | None ↦ if z then [] else a ∷ [] ] ≡ []
     by None true f k = refl
     by None false f k = absurd (let y : t ≡ 0 = omega arith in let x : (t == 0) ≡ true = grind (arith, nat_tests) in let w : true ≡ false = sym x ∙ f in cc)
     by (Some r) z f k = absurd (omega arith)
-cut_push t (b ∷ xs) a h = by b.reason (t == 0) refl h (λ (s : ℕ). cut_push s xs a)
+backtracked_push t (b ∷ xs) a h = by b.reason (t == 0) refl h (λ (s : ℕ). backtracked_push s xs a)
   where
-    by : (o : Option ℕ) (z : Bool) → (t == 0) ≡ z → t < elim o as (λ _. ℕ) [ None ↦ 1 + decision_count (xs ++ a ∷ []) | Some r ↦ decision_count (xs ++ a ∷ []) ] → ((s : ℕ) → s < decision_count (xs ++ a ∷ []) → cut s (xs ++ a ∷ []) ≡ cut s xs) → elim o as (λ _. List Assigned) [ Some r ↦ b ∷ cut t (xs ++ a ∷ []) | None ↦ if z then [] else b ∷ cut (t - 1) (xs ++ a ∷ []) ] ≡ elim o as (λ _. List Assigned) [ Some r ↦ b ∷ cut t xs | None ↦ if z then [] else b ∷ cut (t - 1) xs ]
+    by : (o : Option ℕ) (z : Bool) → (t == 0) ≡ z → t < elim o as (λ _. ℕ) [ None ↦ 1 + decision_count (xs ++ a ∷ []) | Some r ↦ decision_count (xs ++ a ∷ []) ] → ((s : ℕ) → s < decision_count (xs ++ a ∷ []) → backtracked s (xs ++ a ∷ []) ≡ backtracked s xs) → elim o as (λ _. List Assigned) [ Some r ↦ b ∷ backtracked t (xs ++ a ∷ []) | None ↦ if z then [] else b ∷ backtracked (t - 1) (xs ++ a ∷ []) ] ≡ elim o as (λ _. List Assigned) [ Some r ↦ b ∷ backtracked t xs | None ↦ if z then [] else b ∷ backtracked (t - 1) xs ]
     by None true f k on = refl
     by None false f k on =
         let p : (t ≡ 0 → ⊥) = λ (y : t ≡ 0). let x : (t == 0) ≡ true = grind (arith, nat_tests) in let w : true ≡ false = sym x ∙ f in cc in
         ap (λ (ys : List Assigned). b ∷ ys) (on (t - 1) (omega (arith, p, k)))
     by (Some r) z f k on = ap (λ (ys : List Assigned). b ∷ ys) (on t k)
 
-pub cut_all : (t : ℕ) (xs : List Assigned) → decision_count xs ≤ t → cut t xs ≡ xs
-cut_all t [] h = refl
-cut_all t (b ∷ xs) h = by b.reason (t == 0) refl h (λ (s : ℕ). cut_all s xs)
+pub backtracked_all : (t : ℕ) (xs : List Assigned) → decision_count xs ≤ t → backtracked t xs ≡ xs
+backtracked_all t [] h = refl
+backtracked_all t (b ∷ xs) h = by b.reason (t == 0) refl h (λ (s : ℕ). backtracked_all s xs)
   where
-    by : (o : Option ℕ) (z : Bool) → (t == 0) ≡ z → elim o as (λ _. ℕ) [ None ↦ 1 + decision_count xs | Some r ↦ decision_count xs ] ≤ t → ((s : ℕ) → decision_count xs ≤ s → cut s xs ≡ xs) → elim o as (λ _. List Assigned) [ Some r ↦ b ∷ cut t xs | None ↦ if z then [] else b ∷ cut (t - 1) xs ] ≡ b ∷ xs
+    by : (o : Option ℕ) (z : Bool) → (t == 0) ≡ z → elim o as (λ _. ℕ) [ None ↦ 1 + decision_count xs | Some r ↦ decision_count xs ] ≤ t → ((s : ℕ) → decision_count xs ≤ s → backtracked s xs ≡ xs) → elim o as (λ _. List Assigned) [ Some r ↦ b ∷ backtracked t xs | None ↦ if z then [] else b ∷ backtracked (t - 1) xs ] ≡ b ∷ xs
     by None true f k on = absurd (let y : t ≡ 0 = grind (arith, nat_tests) in omega (arith, y, k))
     by None false f k on = ap (λ (ys : List Assigned). b ∷ ys) (on (t - 1) (omega (arith, k)))
     by (Some r) z f k on = ap (λ (ys : List Assigned). b ∷ ys) (on t k)
@@ -346,3 +344,16 @@ replicated_from v (suc n) = ap (λ (xs : Known). None ∷ xs) (replicated_from (
 pub mirrored_new : (n : ℕ) (es : List Assigned) (vs : Known) (ls : List ℕ) → n ≤ 2147483647 → es ≡ [] → vs ≡ replicate n no_value → length ls ≡ n → IsMirrored n es vs ls 0
 mirrored_new n es vs ls s e v l =
     subst (λ (xs : List Assigned). IsMirrored n xs vs ls 0) (sym e) (mirrored_none n vs ls s (v ∙ replicated_from 0 n) l)
+
+pub half_opposite : (l : ℕ) → opposite l / 2 ≡ l / 2
+half_opposite l = grind (arith, nat_tests)
+
+-- a false literal is of one of the variables
+pub false_below : (n : ℕ) (es : List Assigned) (vs : Known) (ls : List ℕ) (level l : ℕ) → IsMirrored n es vs ls level → is_on es (opposite l) ≡ true → l / 2 < n
+false_below n es vs ls level l m e = let h = on_below n es m.below (opposite l) e in omega (arith, h, half_opposite l)
+
+-- its level is in the table
+pub level_at : (n : ℕ) (es : List Assigned) (vs : Known) (ls : List ℕ) (level l d : ℕ) → IsMirrored n es vs ls level → is_on es (opposite l) ≡ true → get_or ls (l / 2) d ≡ level_of es l
+level_at n es vs ls level l d m e =
+    let b : l / 2 < length ls = omega (arith, m.levels_len, false_below n es vs ls level l m e) in
+    get_or_default ls (l / 2) d 0 b ∙ ap (λ (v : ℕ). get_or ls v 0) (sym (half_opposite l)) ∙ m.levels_are (opposite l) e

@@ -1,7 +1,7 @@
-ghost use Rattle.std.specs.Prelude.{◌≡◌, ◌<◌, ◌≤◌, ◌+◌, ◌/◌, ℕ, [], ◌++◌, ◌∷◌, true, None, All, length, IfOk, OnOk, OnErr, slice_index};
+ghost use Rattle.std.specs.Prelude.{◌≡◌, ◌<◌, ◌≤◌, ◌+◌, ◌/◌, ◌==◌, [], ◌++◌, ◌∷◌, true, None, All, length, IfOk, OnOk, OnErr};
 ghost use Rattle.clause_base.specs.Literal.{opposite};
 ghost use Rattle.cdcl_rules.specs.State.{is_on, value_of, values_of, decision_count};
-ghost use Rattle.cdcl_rules.specs.Learn.{cut, level_from};
+ghost use Rattle.cdcl_rules.specs.Learn.{backtracked, level_of};
 ghost use Rattle.cdcl_trail.specs.Mirrored.{IsMirrored, TrailView, step_of};
 
 use cdcl_rules::trail::Assigned;
@@ -121,13 +121,31 @@ impl Trail {
         self.level
     }
 
-    /// For each variable with a value its level; of the others nothing is said.
-    pub fn levels(&self) -> &[u32]
-        ensures many { length result.now ≡ self.now.variables }
+    /// The level at which a false literal became false.
+    pub fn level_of(&self, lit: Lit) -> u32
+        requires { is_on self.now.entries (opposite lit) ≡ true }
+        ensures level { result ≡ level_of self.now.entries lit }
+        ensures below { lit / 2 < self.now.variables }
         ensures small { self.now.variables ≤ 2147483647 }
-        ensures levels { (l : ℕ) → is_on self.now.entries l ≡ true → slice_index result.now (l / 2) ≡ level_from 0 self.now.entries l }
     {
-        self.levels.as_slice()
+        self.levels[lit.variable() as usize]
+    }
+
+    /// Whether a false literal became false at the current level.
+    pub fn is_current(&self, lit: Lit) -> bool
+        requires { is_on self.now.entries (opposite lit) ≡ true }
+        ensures current { result ≡ (level_of self.now.entries lit == decision_count self.now.entries) }
+        ensures below { lit / 2 < self.now.variables }
+        ensures small { self.now.variables ≤ 2147483647 }
+    {
+        self.level_of(lit) == self.level
+    }
+
+    /// Lets a chooser's search for the least variable without a value begin where it should. The trail stays as it is.
+    pub fn pass_given(&mut self)
+        ensures { self.new ≡ self.old }
+    {
+        self.values.pass_given();
     }
 
     /// Makes a literal true whose variable has no value. After want of memory the trail is unchanged.
@@ -146,8 +164,8 @@ impl Trail {
     }
 
     /// Takes back what stands above a level.
-    pub fn cut(&mut self, level: u32)
-        ensures { self.new ≡ record self.old { entries = cut level self.old.entries } }
+    pub fn backtrack(&mut self, level: u32)
+        ensures { self.new ≡ record self.old { entries = backtracked level self.old.entries } }
     {
         while self.level > level {
             match self.entries.pop() {

@@ -75,7 +75,7 @@ fn refutation(alloc: Global) -> Result<Log, Memory> {
     for number in 0..ENTRIES {
         let clause = learned(alloc, number)?;
         let hints = hints(alloc)?;
-        log.push(Entry { clause, hints })?;
+        log.push(Entry::Learn { clause, hints })?;
     }
     Ok(log)
 }
@@ -84,7 +84,7 @@ fn refutation(alloc: Global) -> Result<Log, Memory> {
 fn accepted(alloc: Global) -> Result<u32, CheckError> {
     let formula = chain(alloc)?;
     let log = refutation(alloc)?;
-    if formula.clauses().len() > 1000 || log.as_slice().len() > 1_000_000 {
+    if formula.count() > 1000 || log.as_slice().len() > 1_000_000 {
         return Err(CheckError::NotEmpty);
     }
     let checked = check(alloc, &formula, &log)?;

@@ -1,15 +1,16 @@
 -- A formula with a derivation that ends with the empty clause is unsatisfiable: an assignment that makes the named clauses
 -- true makes each forced literal true, so no hints lead to a conflict unless some literal of the entry's clause is true.
-use Rattle.std.proofs.Common.{arith, ◌≡◌, ℕ, zero, suc, ◌-◌, ◌≤◌, length, Bool, true, false, List, [], ◌∷◌, ◌++◌, take, Option, Some, None, refl, sym, IsSomeAnd}
+use Rattle.std.proofs.Common.{arith, ◌≡◌, ℕ, zero, suc, ◌-◌, ◌≤◌, length, Bool, true, false, List, [], ◌∷◌, ◌++◌, take, Option, Some, None, refl, sym, IsSomeAnd, IsTrue, if◌then◌else◌, ◌&&◌}
 use Rattle.std.specs.List.{slice_get, AllByRecursion}
 use Rattle.std.proofs.lemmas.Option.{slice_get_within, get_or_from_slice_get}
 use Rattle.std.proofs.Math.Seq.{take-suc}
 use Rattle.std.proofs.lemmas.Bool.Decides.{nat_tests}
 use Rattle.clause_base.specs.Literal.{opposite, literal_value}
-use Rattle.clause_base.specs.Clause.{has_literal, clause_value}
+use Rattle.clause_base.specs.Clause.{has_literal, clause_value, has_variables_below}
 use Rattle.clause_base.specs.Formula.{Satisfies, IsUnsatisfiable}
 use Rattle.clause_base.specs.declared.log.Entry.{Entry}
-use Rattle.clause_base.specs.Derivation.{open_literals, effect_of, effect_of_open, Effect, Conflicts, Forces, Loose, goes_on, leads_to_conflict, clauses_of, clause_named, is_derived_after, IsDerivation, IsRefutation}
+use Rattle.clause_base.specs.declared.log.Entry.TheVariants.{Learn, Drop}
+use Rattle.clause_base.specs.Derivation.{open_literals, effect_of, effect_of_open, Effect, Conflicts, Forces, Loose, goes_on, leads_to_conflict, clauses_of, is_kept_after, clause_kept, is_derived_after, learns_empty, IsDerivation, IsRefutation}
 
 -- an assignment makes each literal of a list false
 abbrev AllFalse : (ℕ → Bool) → List ℕ → Type 0
@@ -89,43 +90,64 @@ Satisfies-append : (v : ℕ → Bool) (clauses more : List (List ℕ)) → Satis
 Satisfies-append v [] more s m = m
 Satisfies-append v (c ∷ clauses) more s m = (s.0, Satisfies-append v clauses more s.1 m)
 
--- the clauses that numbers name after some entries are true where the formula's and the entries' are
-pub named_true : (v : ℕ → Bool) (clauses : List (List ℕ)) (entries : List Entry) → Satisfies v clauses → Satisfies v (clauses_of entries) → NamesTrue v (clause_named clauses entries)
-named_true v clauses entries s t = satisfied_at v (clauses ++ clauses_of entries) (Satisfies-append v clauses (clauses_of entries) s t)
+kept_is : (b : Bool) (o : Option (List ℕ)) (clause : List ℕ) → (if b then o else None) ≡ Some clause → o ≡ Some clause
+kept_is true o clause e = e
+kept_is false o clause e = cc
 
--- a derived entry's clause is true where those before it are
-entry_true : (v : ℕ → Bool) (clauses : List (List ℕ)) (earlier : List Entry) (entry : Entry) → Satisfies v clauses → Satisfies v (clauses_of earlier) → is_derived_after clauses earlier (Some entry) ≡ true → clause_value v entry.clause ≡ true
-entry_true v clauses earlier entry s b t =
-    clause_value-derived v (clause_named clauses earlier) entry.clause entry.hints (named_true v clauses earlier s b) t
+-- the clauses that numbers name after some entries, where they are kept, are true where the formula's and the entries' are
+pub kept_true : (v : ℕ → Bool) (clauses : List (List ℕ)) (entries : List Entry) → Satisfies v clauses → Satisfies v (clauses_of entries) → NamesTrue v (clause_kept clauses entries)
+kept_true v clauses entries s t k clause e =
+    satisfied_at v (clauses ++ clauses_of entries) (Satisfies-append v clauses (clauses_of entries) s t) k clause (kept_is (is_kept_after entries k) (slice_get (clauses ++ clauses_of entries) k) clause e)
 
-Satisfies-push : (v : ℕ → Bool) (before : List Entry) (entry : Entry) → Satisfies v (clauses_of before) → clause_value v entry.clause ≡ true → Satisfies v (clauses_of (before ++ entry ∷ []))
-Satisfies-push v [] entry b t = (t, tt)
-Satisfies-push v (e ∷ before) entry b t = (b.0, Satisfies-push v before entry b.1 t)
+-- the clause that an entry learns is true
+abbrev LearnsTrue : (ℕ → Bool) → Entry → Type 0
+LearnsTrue v (Learn clause hints) = clause_value v clause ≡ true
+LearnsTrue v (Drop number) = Unit {0}
 
-one_more : (v : ℕ → Bool) (clauses : List (List ℕ)) (log : List Entry) (n : ℕ) (o : Option Entry) → Satisfies v clauses → Satisfies v (clauses_of (take n log)) → slice_get log n ≡ o → is_derived_after clauses (take n log) o ≡ true → Satisfies v (clauses_of (take (suc n) log))
-one_more v clauses log n None s b e t = cc
-one_more v clauses log n (Some entry) s b e t =
+both_true : (a b : Bool) → (a && b) ≡ true → b ≡ true
+both_true true b e = e
+both_true false b e = cc
+
+-- what a derived entry learns is true where the clauses before it are
+entry_true : (v : ℕ → Bool) (variables : ℕ) (clauses : List (List ℕ)) (earlier : List Entry) (entry : Entry) → Satisfies v clauses → Satisfies v (clauses_of earlier) → is_derived_after variables clauses earlier (Some entry) ≡ true → LearnsTrue v entry
+entry_true v variables clauses earlier (Learn clause hints) s b t =
+    clause_value-derived v (clause_kept clauses earlier) clause hints (kept_true v clauses earlier s b) (both_true (has_variables_below variables clause) _ t)
+entry_true v variables clauses earlier (Drop number) s b t = tt
+
+Satisfies-push : (v : ℕ → Bool) (before : List Entry) (entry : Entry) → Satisfies v (clauses_of before) → LearnsTrue v entry → Satisfies v (clauses_of (before ++ entry ∷ []))
+Satisfies-push v [] (Learn clause hints) b t = (t, tt)
+Satisfies-push v [] (Drop number) b t = tt
+Satisfies-push v (Learn clause hints ∷ before) entry b t = (b.0, Satisfies-push v before entry b.1 t)
+Satisfies-push v (Drop number ∷ before) entry b t = Satisfies-push v before entry b t
+
+one_more : (v : ℕ → Bool) (variables : ℕ) (clauses : List (List ℕ)) (log : List Entry) (n : ℕ) (o : Option Entry) → Satisfies v clauses → Satisfies v (clauses_of (take n log)) → slice_get log n ≡ o → is_derived_after variables clauses (take n log) o ≡ true → Satisfies v (clauses_of (take (suc n) log))
+one_more v variables clauses log n None s b e t = cc
+one_more v variables clauses log n (Some entry) s b e t =
     let l = slice_get_within log n entry e in
     let g = get_or_from_slice_get log n entry entry e in
-    rw (take-suc log n entry l, g) (Satisfies-push v (take n log) entry b (entry_true v clauses (take n log) entry s b t))
+    rw (take-suc log n entry l, g) (Satisfies-push v (take n log) entry b (entry_true v variables clauses (take n log) entry s b t))
 
 -- where the formula is satisfied, the clauses of the first entries of a derivation are true
-pub entries_true : (v : ℕ → Bool) (clauses : List (List ℕ)) (log : List Entry) (n : ℕ) → Satisfies v clauses → n ≤ length log → IsDerivation clauses log → Satisfies v (clauses_of (take n log))
-entries_true v clauses log zero s l d = tt
-entries_true v clauses log (suc n) s l d =
-    let before = entries_true v clauses log n s (omega arith) d in
-    one_more v clauses log n (slice_get log n) s before refl (d n (omega arith))
+pub entries_true : (v : ℕ → Bool) (variables : ℕ) (clauses : List (List ℕ)) (log : List Entry) (n : ℕ) → Satisfies v clauses → n ≤ length log → IsDerivation variables clauses log → Satisfies v (clauses_of (take n log))
+entries_true v variables clauses log zero s l d = tt
+entries_true v variables clauses log (suc n) s l d =
+    let before = entries_true v variables clauses log n s (omega arith) d in
+    one_more v variables clauses log n (slice_get log n) s before refl (d n (omega arith))
 
-last_empty : (v : ℕ → Bool) (clauses : List (List ℕ)) (log : List Entry) (n : ℕ) (o : Option Entry) → Satisfies v clauses → IsDerivation clauses log → slice_get log n ≡ o → IsSomeAnd o (λ last. last.clause ≡ []) → ⊥
-last_empty v clauses log n None s d e h = h
-last_empty v clauses log n (Some last) s d e h =
+-- no entry that learns the empty clause learns a true one
+none_empty : (v : ℕ → Bool) (last : Entry) → LearnsTrue v last → learns_empty last ≡ true → ⊥
+none_empty v (Learn [] hints) t e = cc
+none_empty v (Learn (l ∷ clause) hints) t e = grind (arith, nat_tests)
+none_empty v (Drop number) t e = cc
+
+last_empty : (v : ℕ → Bool) (variables : ℕ) (clauses : List (List ℕ)) (log : List Entry) (n : ℕ) (o : Option Entry) → Satisfies v clauses → IsDerivation variables clauses log → slice_get log n ≡ o → IsSomeAnd o (λ last. IsTrue (learns_empty last)) → ⊥
+last_empty v variables clauses log n None s d e h = h
+last_empty v variables clauses log n (Some last) s d e h =
     let l = slice_get_within log n last e in
-    let b = entries_true v clauses log n s (omega arith) d in
-    let t : is_derived_after clauses (take n log) (Some last) ≡ true = rw e at (d n l) in
-    let holds = entry_true v clauses (take n log) last s b t in
-    let empty : clause_value v [] ≡ true = rw h at holds in
-    cc
+    let b = entries_true v variables clauses log n s (omega arith) d in
+    let t : is_derived_after variables clauses (take n log) (Some last) ≡ true = rw e at (d n l) in
+    none_empty v last (entry_true v variables clauses (take n log) last s b t) h
 
 -- a formula with a derivation that ends with the empty clause has no satisfying assignment
-pub unsatisfiable_from_refutation : (clauses : List (List ℕ)) (log : List Entry) → IsRefutation clauses log → IsUnsatisfiable clauses
-unsatisfiable_from_refutation clauses log r v s = last_empty v clauses log (length log - 1) _ s r.derived refl r.ends_empty
+pub unsatisfiable_from_refutation : (variables : ℕ) (clauses : List (List ℕ)) (log : List Entry) → IsRefutation variables clauses log → IsUnsatisfiable clauses
+unsatisfiable_from_refutation variables clauses log r v s = last_empty v variables clauses log (length log - 1) _ s r.derived refl r.ends_empty

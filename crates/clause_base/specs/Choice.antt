@@ -1,4 +1,5 @@
-use Rattle.std.specs.Prelude.{◌≡◌, ℕ, ◌+◌, ◌/◌, List, [], ◌∷◌, Bool, false, All, Option, Some, None, slice_get, IsSome}
+use Rattle.std.specs.Prelude.{◌≡◌, ℕ, ◌+◌, ◌/◌, List, [], ◌∷◌, Bool, true, false, All, Option, Some, None, slice_get, IsSome, if◌then◌else◌}
+use Rattle.std.specs.Bool.{beq}
 use Rattle.clause_base.specs.Literal.{literal_of}
 
 -- what is known of each variable: true, false or not given
@@ -9,6 +10,28 @@ Known = List (Option Bool)
 abbrev pub IsOpenChoice : Known → Option ℕ → Type 0
 IsOpenChoice values None = All (λ value. IsSome value) values
 IsOpenChoice values (Some l) = slice_get values (l / 2) ≡ Some None
+
+-- the least variable without a value, where the first of these variables has number v
+abbrev pub least_open_from : ℕ → Known → Option ℕ
+least_open_from v [] = None
+least_open_from v (None ∷ values) = Some v
+least_open_from v (Some b ∷ values) = least_open_from (v + 1) values
+
+-- the least variable without a value
+abbrev pub least_open : Known → Option ℕ
+least_open values = least_open_from 0 values
+
+-- whether two values are the same
+abbrev pub same_value : Option Bool → Option Bool → Bool
+same_value None None = true
+same_value (Some a) (Some b) = beq a b
+same_value a b = false
+
+-- the least variable at which two lists of values differ, where the first of these variables has number v
+abbrev pub first_difference : ℕ → Known → Known → Option ℕ
+first_difference v [] others = None
+first_difference v (value ∷ values) [] = None
+first_difference v (value ∷ values) (other ∷ others) = if same_value value other then first_difference (v + 1) values others else Some v
 
 -- the least variable without a value, made false; the first of these variables has number v
 abbrev pub plain_choice_from : ℕ → Known → Option ℕ

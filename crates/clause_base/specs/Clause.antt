@@ -1,5 +1,5 @@
 use Rattle.std.specs.Prelude.{◌≡◌, ℕ, ◌/◌, ◌<◌, ◌==◌, List, [], ◌∷◌, Bool, false, All, fold, nat_lt, if◌then◌else◌, Option, Some, None}
-use Rattle.std.specs.List.{list_any}
+use Rattle.std.specs.List.{list_any, list_all}
 use Rattle.clause_base.specs.Literal.{opposite, literal_value}
 
 -- a literal is among these
@@ -37,3 +37,7 @@ clause_value values clause = list_any (literal_value values) clause
 -- the variables of a clause are below a number
 abbrev pub HasVariablesBelow : ℕ → List ℕ → Type 0
 HasVariablesBelow n clause = All (λ l. l / 2 < n) clause
+
+-- the same as a test
+abbrev pub has_variables_below : ℕ → List ℕ → Bool
+has_variables_below n clause = list_all (λ l. nat_lt (l / 2) n) clause

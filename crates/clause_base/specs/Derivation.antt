@@ -1,8 +1,11 @@
 -- Derivations by reverse unit propagation (Goldberg and Novikov, 2003) along hints, as in the LRAT format (Cruz-Filipe and others, 2017).
-use Rattle.std.specs.Prelude.{◌≡◌, ℕ, ◌-◌, ◌<◌, ◌==◌, List, [], ◌∷◌, ◌++◌, map, take, length, Bool, false, not, filter, slice_get, if◌then◌else◌, Option, Some, None, IsSomeAnd, IsTrue}
+use Rattle.std.specs.Prelude.{ℕ, ◌-◌, ◌<◌, ◌==◌, ◌&&◌, List, [], ◌∷◌, ◌++◌, take, length, Bool, false, not, filter, slice_get, if◌then◌else◌, Option, Some, None, IsSomeAnd, IsTrue}
+use Rattle.std.specs.List.{list_any}
+use Rattle.std.specs.Option.{is_some}
 use Rattle.clause_base.specs.Literal.{opposite}
-use Rattle.clause_base.specs.Clause.{has_literal}
+use Rattle.clause_base.specs.Clause.{has_literal, has_variables_below}
 use Rattle.clause_base.specs.declared.log.Entry.{Entry}
+use Rattle.clause_base.specs.declared.log.Entry.TheVariants.{Learn, Drop}
 
 -- the literals of a clause that are not among those taken as false
 abbrev pub open_literals : List ℕ → List ℕ → List ℕ
@@ -38,39 +41,56 @@ leads_to_conflict named falsified [] = false
 leads_to_conflict named falsified (hint ∷ hints) =
     goes_on (λ l. leads_to_conflict named (falsified ++ opposite l ∷ []) hints) (length hints == 0) (effect_of falsified (named hint))
 
--- the clauses that entries add, in order
+-- the clauses that entries learn, in order; the formula's clauses are numbered first, then these, and an entry that drops a clause takes no number
 abbrev pub clauses_of : List Entry → List (List ℕ)
-clauses_of entries = map (λ e. e.clause) entries
+clauses_of [] = []
+clauses_of (Learn clause hints ∷ entries) = clause ∷ clauses_of entries
+clauses_of (Drop number ∷ entries) = clauses_of entries
 
--- the clause that a number names after these entries: first come the formula's, then those of the entries
-abbrev pub clause_named : List (List ℕ) → List Entry → ℕ → Option (List ℕ)
-clause_named clauses earlier number = slice_get (clauses ++ clauses_of earlier) number
+-- whether an entry drops the clause with this number
+abbrev pub drops : ℕ → Entry → Bool
+drops number (Learn clause hints) = false
+drops number (Drop dropped) = dropped == number
 
--- whether an entry follows by its hints from the clauses and the entries before it
-abbrev pub is_derived_after : List (List ℕ) → List Entry → Option Entry → Bool
-is_derived_after clauses earlier (Some entry) =
-    leads_to_conflict (clause_named clauses earlier) entry.clause entry.hints
-is_derived_after clauses earlier None = false
+-- whether the clause with this number is kept after these entries: it is from its beginning until one of them drops it
+abbrev pub is_kept_after : List Entry → ℕ → Bool
+is_kept_after earlier number = not (list_any (drops number) earlier)
 
--- the entry with this number is derived
-abbrev pub IsDerivedAt : List (List ℕ) → List Entry → ℕ → Type 0
-IsDerivedAt clauses log e = IsTrue (is_derived_after clauses (take e log) (slice_get log e))
+-- the clause that a number names after these entries, where it is kept
+abbrev pub clause_kept : List (List ℕ) → List Entry → ℕ → Option (List ℕ)
+clause_kept clauses earlier number = if is_kept_after earlier number then slice_get (clauses ++ clauses_of earlier) number else None
+
+-- whether an entry follows from a formula with so many variables and these clauses, and from the entries before it:
+-- a learned clause is over the formula's variables and follows by its hints, which name kept clauses; a clause that is dropped was kept
+abbrev pub is_derived_after : ℕ → List (List ℕ) → List Entry → Option Entry → Bool
+is_derived_after variables clauses earlier (Some (Learn clause hints)) = has_variables_below variables clause && leads_to_conflict (clause_kept clauses earlier) clause hints
+is_derived_after variables clauses earlier (Some (Drop number)) = is_some (clause_kept clauses earlier number)
+is_derived_after variables clauses earlier None = false
+
+-- the entry with this number, counted from 0 over all entries, is derived
+abbrev pub IsDerivedAt : ℕ → List (List ℕ) → List Entry → ℕ → Type 0
+IsDerivedAt variables clauses log e = IsTrue (is_derived_after variables clauses (take e log) (slice_get log e))
 
 -- each entry is derived
-abbrev pub IsDerivation : List (List ℕ) → List Entry → Type 0
-IsDerivation clauses log = (e : ℕ) → e < length log → IsDerivedAt clauses log e
+abbrev pub IsDerivation : ℕ → List (List ℕ) → List Entry → Type 0
+IsDerivation variables clauses log = (e : ℕ) → e < length log → IsDerivedAt variables clauses log e
 
--- there is a last entry, and its clause is empty
+-- an entry learns the empty clause
+abbrev pub learns_empty : Entry → Bool
+learns_empty (Learn clause hints) = length clause == 0
+learns_empty (Drop number) = false
+
+-- there is a last entry, and it learns the empty clause
 abbrev pub EndsEmpty : List Entry → Type 0
-EndsEmpty log = IsSomeAnd (slice_get log (length log - 1)) (λ last. last.clause ≡ [])
+EndsEmpty log = IsSomeAnd (slice_get log (length log - 1)) (λ last. IsTrue (learns_empty last))
 
 -- this entry is not derived, and each before it is
-pub record IsFirstUnderived (clauses : List (List ℕ)) (log : List Entry) (e : ℕ) : Type 0 where
+pub record IsFirstUnderived (variables : ℕ) (clauses : List (List ℕ)) (log : List Entry) (e : ℕ) : Type 0 where
   pub in_range : e < length log
-  pub earlier : (k : ℕ) → k < e → IsDerivedAt clauses log k
-  pub here : IsDerivedAt clauses log e → ⊥
+  pub earlier : (k : ℕ) → k < e → IsDerivedAt variables clauses log k
+  pub here : IsDerivedAt variables clauses log e → ⊥
 
--- a derivation from these clauses that ends with the empty clause
-pub record IsRefutation (clauses : List (List ℕ)) (log : List Entry) : Type 0 where
-  pub derived : IsDerivation clauses log
+-- a derivation from a formula with so many variables and these clauses, whose last entry learns the empty clause
+pub record IsRefutation (variables : ℕ) (clauses : List (List ℕ)) (log : List Entry) : Type 0 where
+  pub derived : IsDerivation variables clauses log
   pub ends_empty : EndsEmpty log

@@ -1,6 +1,8 @@
 pub mod Literal
 pub mod Clause
 pub mod Formula
+pub mod Pieces
 pub mod Derivation
 pub mod Choice
+pub mod Coded
 pub mod ChoiceLaw

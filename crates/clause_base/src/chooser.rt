@@ -5,7 +5,9 @@ ghost use Rattle.clause_base.specs.ChoiceLaw.{plain_choice-open};
 use crate::literal::Lit;
 use crate::values::Values;
 
-/// What picks the literal of a solver's decision.
+/// What picks the literal of a solver's decision. What `choice` and `fits` are is open: a type that is a chooser says it in
+/// its own clauses or in its documentation, and a caller that is generic over choosers knows of a choice only that it is open
+/// (`opens`).
 pub trait Chooser {
     /// The numbers of variables that it fits.
     ghost fits: { Self → ℕ → Type 0 };
@@ -43,11 +45,9 @@ impl Chooser for PlainChooser {
     ghost opens = { λ _ values _. plain_choice-open values };
 
     fn choose(&mut self, values: &Values) -> Option<Lit> {
-        for (v, value) in values.as_slice().iter().enumerate() {
-            if value.is_none() {
-                return Some(Lit::of(v as u32, false));
-            }
+        match values.least_open() {
+            None => None,
+            Some(v) => Some(Lit::of(v, false)),
         }
-        None
     }
 }

@@ -8,6 +8,7 @@
 
 pub mod chooser;
 pub mod clause;
+pub mod clause_list;
 pub mod formula;
 pub mod literal;
 pub mod log;

@@ -1,11 +1,11 @@
-ghost use Rattle.std.specs.Prelude.{◌≡◌, ◌∷◌, [], ◌++◌, List, ℕ, OnOk, OnErr};
+ghost use Rattle.std.specs.Prelude.{◌≡◌, ◌∷◌, [], ◌++◌, List, ℕ, map, OnOk, OnErr};
 
 use crate::clause::Clause;
 use crate::memory::Memory;
 use std::alloc::Global;
 use std::marker::Model;
 
-/// A list of numbers of clauses. The clauses of a formula are numbered from 0, and those of a log's entries go on from there.
+/// A list of numbers of clauses. The clauses of a formula are numbered from 0, and those that a log learns go on from there.
 #[derive(Debug, Drop)]
 pub struct Hints {
     items: Vec<u32>,
@@ -40,15 +40,17 @@ impl Hints {
     }
 }
 
-/// A learned clause, with the numbers of the clauses that it is learned from, in the order in which they force a literal;
-/// the last one is the clause that is then false.
+/// What a solver did with a clause.
 #[derive(Debug, Drop)]
-pub struct Entry {
-    pub clause: Clause,
-    pub hints: Hints,
+pub enum Entry {
+    /// It learned a clause, from the clauses with these numbers, in the order in which they force a literal; the last one
+    /// is the clause that is then false. The clause takes the next number.
+    Learn { clause: Clause, hints: Hints },
+    /// It keeps the clause with this number no more. This takes no number.
+    Drop { number: u32 },
 }
 
-/// A list of entries, each learned from a formula and the entries before it.
+/// A list of entries: clauses that are learned from a formula and the entries before, and clauses that are dropped.
 #[derive(Debug, Drop)]
 pub struct Log {
     entries: Vec<Entry>,
@@ -100,6 +102,18 @@ impl Log {
         ensures err { OnErr result (self.new ≡ self.old) }
     {
         self.entries.push(entry)?;
+        Ok(())
+    }
+
+    /// Adds entries that drop the clauses with these numbers, in this order. After want of memory the log is unchanged.
+    pub fn push_drops(&mut self, numbers: &[u32]) -> Result<(), Memory>
+        ensures ok { OnOk result (self.new ≡ self.old ++ map (λ n. Entry.Drop n) numbers.now) }
+        ensures err { OnErr result (self.new ≡ self.old) }
+    {
+        self.entries.reserve(numbers.len())?;
+        for number in numbers {
+            self.entries.push(Entry::Drop { number: *number })?;
+        }
         Ok(())
     }
 }

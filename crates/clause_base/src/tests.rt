@@ -2,6 +2,7 @@ ghost use Rattle.std.specs.Prelude.{length};
 
 use crate::chooser::{Chooser, PlainChooser};
 use crate::clause::Clause;
+use crate::clause_list::ClauseList;
 use crate::formula::Formula;
 use crate::literal::{Lit, Lits};
 use crate::log::{Entry, Hints, Log};
@@ -43,9 +44,28 @@ fn a_formula_lists_its_clauses(rt: HostRuntime) -> Result<(), Fail> {
         formula.add(clause)?;
     }
     assert_eq!(rt; formula.name(), 7);
-    assert_eq!(rt; formula.clauses().len(), 2);
-    assert_eq!(rt; formula.clauses()[0].as_slice(), [Lit(1)].as_slice());
-    assert_eq!(rt; formula.clauses()[1].as_slice(), [Lit(0)].as_slice());
+    formula.reserve(2, 1)?;
+    assert!(rt; formula.has_room());
+    formula.add_sorted(&[])?;
+    assert_eq!(rt; formula.count(), 3);
+    assert_eq!(rt; formula.clause(0), [Lit(1)].as_slice());
+    assert_eq!(rt; formula.clause(1), [Lit(0)].as_slice());
+    assert!(rt; formula.clause(2).is_empty());
+    Ok(())
+}
+
+#[test]
+fn a_clause_list_sorts_what_it_is_given(rt: HostRuntime) -> Result<(), Fail> {
+    let mut clauses = ClauseList::new(rt.alloc());
+    clauses.reserve(6, 3)?;
+    clauses.add_of(&[Lit(5), Lit(2), Lit(5), Lit(0)])?;
+    clauses.add_of(&[Lit(7), Lit(3), Lit(6)])?;
+    clauses.add(Clause::empty(rt.alloc()))?;
+    clauses.add_sorted(&[Lit(1), Lit(8)])?;
+    assert_eq!(rt; clauses.count(), 3);
+    assert_eq!(rt; clauses.clause(0), [Lit(0), Lit(2), Lit(5)].as_slice());
+    assert!(rt; clauses.clause(1).is_empty());
+    assert_eq!(rt; clauses.clause(2), [Lit(1), Lit(8)].as_slice());
     Ok(())
 }
 
@@ -54,10 +74,21 @@ fn a_log_lists_its_entries(rt: HostRuntime) -> Result<(), Fail> {
     let mut log = Log::new(rt.alloc());
     let hints = Hints::of([0, 1].to_vec(rt.alloc())?);
     let clause = Clause::empty(rt.alloc());
-    log.push(Entry { clause, hints })?;
+    log.push(Entry::Learn { clause, hints })?;
+    log.push_drops(&[4])?;
     let entries = Log::of(log.into_vec());
-    assert_eq!(rt; entries.as_slice().len(), 1);
-    assert_eq!(rt; entries.as_slice()[0].hints.as_slice(), [0, 1].as_slice());
+    assert_eq!(rt; entries.as_slice().len(), 2);
+    match &entries.as_slice()[0] {
+        Entry::Learn { clause, hints } => {
+            assert!(rt; clause.as_slice().is_empty());
+            assert_eq!(rt; hints.as_slice(), [0, 1].as_slice());
+        }
+        Entry::Drop { number } => assert_eq!(rt; *number, 0),
+    }
+    match &entries.as_slice()[1] {
+        Entry::Learn { clause, hints: _ } => assert!(rt; clause.as_slice().is_empty()),
+        Entry::Drop { number } => assert_eq!(rt; *number, 4),
+    }
     Ok(())
 }
 
@@ -78,9 +109,32 @@ fn the_plain_chooser_falsifies_the_least_open_variable(rt: HostRuntime) -> Resul
     assert_eq!(rt; chosen(&mut chooser, &values), Some(Lit(3)));
     values.set(1, Some(false));
     assert_eq!(rt; values.get(0), Some(true));
-    assert_eq!(rt; values.as_slice().len(), 2);
     assert_eq!(rt; chosen(&mut chooser, &values), None);
+    values.pass_given();
+    assert_eq!(rt; values.least_open(), None);
     values.set(0, None);
+    values.pass_given();
+    assert_eq!(rt; values.least_open(), Some(0));
     assert_eq!(rt; chosen(&mut chooser, &values), Some(Lit(1)));
+    Ok(())
+}
+
+#[test]
+fn values_are_compared_with_a_kept_copy(rt: HostRuntime) -> Result<(), Fail> {
+    let mut values = Values::new(rt.alloc(), 200)?;
+    let mut kept = Values::new(rt.alloc(), 200)?;
+    assert_eq!(rt; values.variables(), kept.variables());
+    assert_eq!(rt; values.first_difference(&kept, 0), None);
+    for (v, value, least) in [(150, Some(true), 150), (70, None, 150), (3, Some(false), 3)] {
+        assert!(rt; v < values.variables());
+        values.set(v, value);
+        assert_eq!(rt; values.variables(), kept.variables());
+        assert_eq!(rt; values.first_difference(&kept, 0), Some(least));
+    }
+    assert_eq!(rt; values.variables(), kept.variables());
+    assert_eq!(rt; values.first_difference(&kept, 4), Some(150));
+    assert_eq!(rt; values.first_difference(&kept, 151), None);
+    kept.set(3, Some(false));
+    assert_eq!(rt; values.first_difference(&kept, 0), Some(150));
     Ok(())
 }

@@ -1,3 +1,4 @@
+-- How many members of a draft pass a test.
 use Rattle.std.proofs.Common.{arith, ◌≡◌, ◌==◌, ℕ, zero, suc, ◌+◌, ◌<◌, ◌≤◌, List, [], ◌∷◌, length, set, Bool, true, false, not, refl, sym, ap, ◌∙◌, filter, if◌then◌else◌, zero-add, length-set}
 use Rattle.std.proofs.lemmas.Bool.Decides.{nat_tests}
 use Rattle.clause_base.specs.Clause.{put}

@@ -1,11 +1,13 @@
 use Rattle.std.proofs.Common.{replicate, arith, ◌≡◌, ◌==◌, ℕ, zero, suc, ◌+◌, ◌<◌, ◌≤◌, List, [], ◌∷◌, length, set, get_or, Bool, true, false, not, ◌||◌, refl, sym, ap, ◌∙◌, filter, if◌then◌else◌, nat_lt, ◌++◌, ◌≢◌, get_or-set_same, get_or-set_other, length-set}
 use Rattle.std.specs.List.{sum_by}
+use Rattle.std.proofs.Math.Bool.{or-true}
 use Rattle.std.specs.List.Sorted.{IsNonDecreasing, IsPermutation}
 use Rattle.std.proofs.lemmas.List.Sorted.{sum_by-IsPermutation}
 use Rattle.std.proofs.lemmas.List.Sums.{sum_by-cons}
 use Rattle.std.proofs.lemmas.Bool.Decides.{nat_tests}
 use Rattle.clause_base.specs.Clause.{put}
-use Rattle.cdcl_rules.proofs.Chain.{is_in, is_in-push}
+use Rattle.cdcl_rules.proofs.Members.{is_in}
+use Rattle.cdcl_rules.proofs.Chain.{is_in-push}
 use Rattle.conflict_walk.specs.Draft.{places, at, Covers}
 
 -- all of a list is at or past a number
@@ -170,11 +172,7 @@ in_more : (touched : List ℕ) (lit m : ℕ) → is_in touched m ≡ true → is
 in_more touched lit m h = rw (is_in-push touched lit m, h)
 
 in_last : (touched : List ℕ) (lit : ℕ) → is_in (touched ++ lit ∷ []) lit ≡ true
-in_last touched lit = let e : (lit == lit) ≡ true = grind (arith, nat_tests) in rw (is_in-push touched lit lit, e) (or_true (is_in touched lit))
-  where
-    or_true : (b : Bool) → (b || true) ≡ true
-    or_true true = refl
-    or_true false = refl
+in_last touched lit = let e : (lit == lit) ≡ true = grind (arith, nat_tests) in rw (is_in-push touched lit lit, e) (or-true (is_in touched lit))
 
 pub at-set : (on : List Bool) (i m : ℕ) (b same : Bool) → i < length on → (i == m) ≡ same → at (set on i b) m ≡ (if same then b else at on m)
 at-set on i m b true h e = let s : m ≡ i = grind (arith, nat_tests) in rw (s) (get_or-set_same on i b false h)

@@ -1,10 +1,12 @@
-//! The walk from a conflict back along the trail to the clause that is learned, and the level to go back to.
+//! A solver's clauses by number, the walk from a conflict back along the trail to the clause that is learned, and the level to
+//! backtrack to with it.
 #![tactic(auto)]
 
-pub mod back;
+pub mod backjump;
+pub mod clauses;
 pub mod draft;
 pub mod learn;
-pub mod named;
+pub mod resolvent;
 #[cfg(test)]
 mod tests;
 pub mod walk;

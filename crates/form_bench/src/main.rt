@@ -1,22 +1,68 @@
-//! A benchmark of the formulas of a horizon, on the task of a robot in rooms that stand in a circle.
+//! The formulas of large tasks, counted and summed up.
 //!
-//! `form_bench ROOMS HORIZON SIZES` makes the form of the task, builds the formula of a horizon where it is not 0, and
-//! SIZES times adds up the sizes of all horizons up to 255. It prints a count for each. `bench/formulas` times it.
+//! - `form_bench rooms ROOMS HORIZON SIZES` takes the task of a robot in rooms with lamps, of which it is known that each
+//!   is on or off and not both, and builds the formula of a horizon. It prints how many literals and clauses there are, and
+//!   a number that depends on each literal and on its place. SIZES times it adds up the sizes of all horizons up to 255.
+//! - `form_bench WORD` takes a large task of `sample_tasks`, under no known pair, and prints the sizes of two horizons.
+//!
+//! The gate runs it with the words in `args`: a body that gives up past some size fails there. The file `stdout` is not this
+//! program's: `bench/list-large-formula` wrote it, from the definition of the clauses alone. `bench/formulas` times runs.
 #![tactic(auto)]
 
-ghost use Rattle.std.specs.Prelude.{◌≡◌, []};
+ghost use Rattle.std.specs.Prelude.{◌≡◌, ◌<◌, IfOk};
 ghost use Rattle.gt_core.specs.Published.{IsPublished};
+ghost use Rattle.gt_core.specs.Reached.{HoldsWherever};
 
-mod rooms;
-
-use crate::rooms::rooms;
 use action_order::order::Order;
 use action_order::publish::publish;
+use clause_base::formula::Formula;
+use clause_base::literal::Lit;
+use gt_core::memory::Memory;
 use gt_core::pairs::Pairs;
 use gt_core::task::Task;
+use sample_tasks::kept::are_kept;
+use sample_tasks::large::large;
+use sample_tasks::rooms::{add_lamp_pairs, rooms};
+use std::alloc::{AllocError, Global};
 use std::{env, io};
 use step_encoding::exists::ExistsForm;
 use step_encoding::form::StepForm;
+
+/// What is asked of a form: the formula of a horizon where it is not 0, and how often to add up the sizes of all horizons.
+#[derive(Clone, Copy, Debug)]
+struct Asked {
+    horizon: u32,
+    sizes: u32,
+}
+
+/// The number that comes after another one by a literal.
+fn summed(sum: u64, code: u32) -> u64
+    requires { sum < 2147483648 }
+    ensures { result < 2147483648 }
+{
+    (sum * 31 + u64::from(code) + 1) % 2_147_483_648
+}
+
+/// The number that comes after another one by a clause.
+fn sum_of_clause(sum: u64, clause: &[Lit]) -> u64
+    requires { sum < 2147483648 }
+    ensures { result < 2147483648 }
+{
+    let mut total = summed(sum, (clause.len() % 65536) as u32);
+    for lit in clause {
+        total = summed(total, lit.0);
+    }
+    total
+}
+
+/// A number that depends on each literal of a formula, and on its place.
+fn sum_of(formula: &Formula) -> u64 {
+    let mut sum: u64 = 0;
+    for number in 0..formula.count() {
+        sum = sum_of_clause(sum, formula.clause(number));
+    }
+    sum
+}
 
 /// The sizes of all horizons up to 255, added up; past 2^64 - 1, that.
 fn all_sizes(form: &ExistsForm) -> u64 {
@@ -27,67 +73,106 @@ fn all_sizes(form: &ExistsForm) -> u64 {
     sum
 }
 
-/// Builds a formula, and tells how many clauses it has.
-fn build(rt: &(impl Print + AllocGlobal), form: &ExistsForm, horizon: u32) -> io::Result<()> {
+/// Builds a formula, and tells how many literals and clauses it has and what they sum up to.
+fn print_formula(
+    rt: &(impl Print + AllocGlobal),
+    form: &ExistsForm,
+    horizon: u32,
+) -> io::Result<()> {
     if horizon > 255 {
         return println!(rt; "a horizon is at most 255");
     }
     let size = form.size(horizon);
     match form.formula(rt.alloc(), horizon) {
         Ok(formula) => {
-            let clauses = formula.clauses().len();
-            println!(rt; "formula: {size} literals in {clauses} clauses")
+            let (variables, clauses, sum) = (
+                formula.variables(),
+                formula.count(),
+                sum_of(&formula),
+            );
+            println!(rt;
+                "horizon {horizon}: {variables} variables, {clauses} clauses, {size} literals, sum {sum}"
+            )
         }
-        Err(error) => println!(rt; "no formula: {error:?}"),
+        Err(error) => println!(rt; "horizon {horizon}: {error:?}"),
     }
 }
 
 /// Does what was asked with a form.
-fn measure(
-    rt: &(impl Print + AllocGlobal),
-    form: &ExistsForm,
-    horizon: u32,
-    sizes: u32,
-) -> io::Result<()> {
-    if horizon > 0 {
-        build(rt, form, horizon)?;
+fn print_form(rt: &(impl Print + AllocGlobal), form: &ExistsForm, asked: Asked) -> io::Result<()> {
+    if asked.horizon > 0 {
+        print_formula(rt, form, asked.horizon)?;
     }
-    for _ in 0..sizes {
+    let (one, two) = (form.size(1), form.size(2));
+    println!(rt; "sizes: {one} and {two} literals")?;
+    for _ in 0..asked.sizes {
         let sum = all_sizes(form);
-        println!(rt; "sizes: {sum}")?;
+        println!(rt; "all sizes: {sum}")?;
     }
     Ok(())
 }
 
-/// Makes the form under no known clause, and does what was asked.
-fn measure_ordered(
+/// Makes the form, and does what was asked.
+fn print_ordered(
     rt: &(impl Print + AllocGlobal),
     task: &Task,
     pairs: &Pairs,
     order: &Order,
-    asked: (u32, u32),
+    asked: Asked,
 ) -> io::Result<()>
     requires facts { pairs.now.facts ≡ task.now.facts }
-    requires none { pairs.now.clauses ≡ [] }
+    requires hold { HoldsWherever task.now pairs.now.clauses }
     requires published { IsPublished task.now pairs.now.clauses order.now }
 {
-    let components = order.components();
-    println!(rt; "form: {components} components")?;
+    let (components, count) = (order.components(), pairs.count());
+    println!(rt; "{components} components, {count} known pairs")?;
     match ExistsForm::new(rt.alloc(), task, pairs, order) {
-        Ok(form) => measure(rt, &form, asked.0, asked.1),
-        Err(_) => println!(rt; "no memory"),
+        Ok(form) => print_form(rt, &form, asked),
+        Err(_) => println!(rt; "no memory for the form"),
     }
 }
 
 /// Makes the published order and the form, and does what was asked.
-fn measure_task(rt: &(impl Print + AllocGlobal), task: &Task, asked: (u32, u32)) -> io::Result<()> {
-    let Ok(pairs) = Pairs::empty(rt.alloc(), task.facts()) else {
-        return println!(rt; "no memory");
+fn print_task(
+    rt: &(impl Print + AllocGlobal),
+    task: &Task,
+    pairs: &Pairs,
+    asked: Asked,
+) -> io::Result<()>
+    requires { pairs.now.facts ≡ task.now.facts }
+{
+    if !are_kept(task, pairs) {
+        return println!(rt; "a pair that is not kept");
+    }
+    match publish(rt.alloc(), task, pairs) {
+        Ok(order) => print_ordered(rt, task, pairs, &order, asked),
+        Err(Memory) => println!(rt; "no memory for the order"),
+    }
+}
+
+/// The pairs that are known of the lamps of so many rooms; of no room, none.
+fn lamp_pairs(alloc: Global, task: &Task, rooms: u32) -> Result<Pairs, Memory>
+    ensures { IfOk result (λ pairs. pairs.facts ≡ task.now.facts) }
+{
+    let mut pairs = Pairs::empty(alloc, task.facts())?;
+    add_lamp_pairs(rooms, &mut pairs)?;
+    Ok(pairs)
+}
+
+/// Does what was asked with a task that was made.
+fn print_made(
+    rt: &(impl Print + AllocGlobal),
+    made: Result<Option<Task>, AllocError>,
+    rooms: u32,
+    asked: Asked,
+) -> io::Result<()> {
+    let Ok(Some(task)) = made else {
+        return println!(rt; "no task");
     };
-    let Ok(order) = publish(rt.alloc(), task, &pairs) else {
-        return println!(rt; "no memory");
-    };
-    measure_ordered(rt, task, &pairs, &order, asked)
+    match lamp_pairs(rt.alloc(), &task, rooms) {
+        Ok(pairs) => print_task(rt, &task, &pairs, asked),
+        Err(Memory) => println!(rt; "no memory for the pairs"),
+    }
 }
 
 /// The number that a word of the command line spells, or another one.
@@ -102,12 +187,20 @@ fn main(rt: HostRuntime) -> io::Result<()> {
     let Ok(words) = env::args(&rt)?.collect::<Vec<String>>(rt.alloc()) else {
         return println!(rt; "no memory");
     };
-    let count = number(words.get(1), 4);
-    let horizon = number(words.get(2), 3);
-    let sizes = number(words.get(3), 1);
-    match rooms(rt.alloc(), count) {
-        Ok(Some(task)) => measure_task(&rt, &task, (horizon, sizes)),
-        Ok(None) => println!(rt; "too many rooms"),
-        Err(_) => println!(rt; "no memory"),
+    let Some(word) = words.get(1) else {
+        return println!(rt; "form_bench rooms ROOMS HORIZON SIZES, or form_bench WORD");
+    };
+    if word.as_str() == "rooms" {
+        let count = number(words.get(2), 3);
+        let asked = Asked {
+            horizon: number(words.get(3), 1),
+            sizes: number(words.get(4), 0),
+        };
+        return print_made(&rt, rooms(rt.alloc(), count), count, asked);
     }
+    let asked = Asked {
+        horizon: 0,
+        sizes: 0,
+    };
+    print_made(&rt, large(rt.alloc(), word.as_str()), 0, asked)
 }

@@ -1,23 +1,24 @@
-//! Prints formulas: those of two worked tasks, and those of twenty small tasks that are drawn from numbers. The file
-//! `stdout` is not this program's: `bench/list-formulas` wrote it, from the definition of the clauses alone.
+//! A test of formulas, clause by clause: prints those of two worked tasks, and those of twenty small tasks that are drawn from
+//! numbers, first under no known pair and then under all pairs that each action keeps by itself. The file `stdout` is not
+//! this program's: `bench/list-formulas` wrote it, from the definition of the clauses alone.
 #![tactic(auto)]
 
-ghost use Rattle.std.specs.Prelude.{◌≡◌, ◌≤◌, []};
+ghost use Rattle.std.specs.Prelude.{◌≡◌, ◌≤◌};
 ghost use Rattle.gt_core.specs.Published.{IsPublished};
+ghost use Rattle.gt_core.specs.Reached.{HoldsWherever};
 
-mod dice;
 mod model;
-mod rows;
-mod tasks;
 
-use crate::dice::Dice;
 use crate::model::is_model;
 use action_order::order::Order;
 use action_order::publish::publish;
-use clause_base::clause::Clause;
 use clause_base::formula::Formula;
+use clause_base::literal::Lit;
 use gt_core::pairs::Pairs;
 use gt_core::task::Task;
+use sample_tasks::dice::Dice;
+use sample_tasks::kept::{are_kept, kept_pairs};
+use sample_tasks::{drawn, worked};
 use std::alloc::AllocError;
 use std::io;
 use step_encoding::exists::ExistsForm;
@@ -52,9 +53,9 @@ fn print_order(rt: &impl Print, order: &Order) -> io::Result<()> {
 }
 
 /// Prints the codes of a clause.
-fn print_clause(rt: &impl Print, clause: &Clause) -> io::Result<()> {
+fn print_clause(rt: &impl Print, clause: &[Lit]) -> io::Result<()> {
     print!(rt; "clause")?;
-    for lit in clause.as_slice() {
+    for lit in clause {
         let code = lit.0;
         print!(rt; " {code}")?;
     }
@@ -65,8 +66,8 @@ fn print_clause(rt: &impl Print, clause: &Clause) -> io::Result<()> {
 fn print_formula(rt: &impl Print, formula: &Formula) -> io::Result<()> {
     let (name, variables) = (formula.name(), formula.variables());
     println!(rt; "formula {name} variables {variables}")?;
-    for clause in formula.clauses() {
-        print_clause(rt, clause)?;
+    for number in 0..formula.count() {
+        print_clause(rt, formula.clause(number))?;
     }
     Ok(())
 }
@@ -123,7 +124,17 @@ fn print_form(rt: &(impl Print + AllocGlobal), form: &ExistsForm, asked: Asked) 
     print_horizon(rt, form, asked.horizon, asked.values)
 }
 
-/// Prints a task's order and formula, under no known clause.
+/// Prints pairs.
+fn print_pairs(rt: &impl Print, pairs: &Pairs) -> io::Result<()> {
+    print!(rt; "pairs")?;
+    for i in 0..pairs.count() {
+        let (l, m) = pairs.at(i);
+        print!(rt; " {l},{m}")?;
+    }
+    println!(rt; "")
+}
+
+/// Prints a task's order and formula under known pairs.
 fn print_ordered(
     rt: &(impl Print + AllocGlobal),
     task: &Task,
@@ -132,7 +143,7 @@ fn print_ordered(
     asked: Asked,
 ) -> io::Result<()>
     requires facts { pairs.now.facts ≡ task.now.facts }
-    requires none { pairs.now.clauses ≡ [] }
+    requires hold { HoldsWherever task.now pairs.now.clauses }
     requires published { IsPublished task.now pairs.now.clauses order.now }
 {
     print_order(rt, order)?;
@@ -142,15 +153,35 @@ fn print_ordered(
     }
 }
 
-/// Prints a task's published order and its formula.
+/// Prints known pairs, and a task's published order and its formula under them.
+fn print_known(
+    rt: &(impl Print + AllocGlobal),
+    task: &Task,
+    pairs: &Pairs,
+    asked: Asked,
+) -> io::Result<()>
+    requires { pairs.now.facts ≡ task.now.facts }
+{
+    if !are_kept(task, pairs) {
+        return println!(rt; "a pair that is not kept");
+    }
+    print_pairs(rt, pairs)?;
+    match publish(rt.alloc(), task, pairs) {
+        Ok(order) => print_ordered(rt, task, pairs, &order, asked),
+        Err(_) => println!(rt; "no memory"),
+    }
+}
+
+/// Prints a task's formula under no known pair, and then under all that are kept.
 fn print_task(rt: &(impl Print + AllocGlobal), task: &Task, asked: Asked) -> io::Result<()> {
-    let Ok(pairs) = Pairs::empty(rt.alloc(), task.facts()) else {
+    let Ok(none) = Pairs::empty(rt.alloc(), task.facts()) else {
         return println!(rt; "no memory");
     };
-    let Ok(order) = publish(rt.alloc(), task, &pairs) else {
+    print_known(rt, task, &none, asked)?;
+    let Ok(kept) = kept_pairs(rt.alloc(), task) else {
         return println!(rt; "no memory");
     };
-    print_ordered(rt, task, &pairs, &order, asked)
+    print_known(rt, task, &kept, asked)
 }
 
 /// Prints a task that was made, or why there is none.
@@ -173,9 +204,9 @@ fn main(rt: HostRuntime) -> io::Result<()> {
         horizon: 1,
         values: &flipped,
     };
-    print_made(&rt, &rows::lamp(rt.alloc()), one_step)?;
+    print_made(&rt, &worked::lamp(rt.alloc()), one_step)?;
     println!(rt; "rivals")?;
-    print_made(&rt, &rows::rivals(rt.alloc()), one_step)?;
+    print_made(&rt, &worked::rivals(rt.alloc()), one_step)?;
     for number in 0..TASKS {
         println!(rt; "task {number}")?;
         let mut dice = Dice::new(number);
@@ -183,7 +214,7 @@ fn main(rt: HostRuntime) -> io::Result<()> {
             horizon: 2,
             values: &[],
         };
-        print_made(&rt, &tasks::task(rt.alloc(), &mut dice), two_steps)?;
+        print_made(&rt, &drawn::task(rt.alloc(), &mut dice), two_steps)?;
     }
     Ok(())
 }

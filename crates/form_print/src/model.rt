@@ -5,7 +5,6 @@ ghost use Rattle.clause_base.specs.Clause.{clause_value};
 ghost use Rattle.clause_base.specs.Literal.{literal_value};
 ghost use Rattle.clause_base.specs.Formula.{IsModel, assignment_of};
 
-use clause_base::clause::Clause;
 use clause_base::formula::Formula;
 use clause_base::literal::Lit;
 
@@ -19,16 +18,23 @@ fn literal_value(values: &[bool], lit: Lit) -> bool
 }
 
 /// Whether an assignment makes a clause true.
-fn clause_value(values: &[bool], clause: &Clause) -> bool
+fn clause_value(values: &[bool], clause: &[Lit]) -> bool
     ensures { result ≡ clause_value (assignment_of values.now) clause.now }
 {
-    clause.as_slice().iter().any(|l| literal_value(values, *l))
+    clause.iter().any(|l| literal_value(values, *l))
 }
 
 /// Whether an assignment satisfies a formula.
 pub(crate) fn is_model(formula: &Formula, values: &[bool]) -> bool
     ensures { result ≡ true → IsModel formula.now values.now }
 {
-    formula.variables() as usize == values.len()
-        && formula.clauses().iter().all(|c| clause_value(values, c))
+    if formula.variables() as usize != values.len() {
+        return false;
+    }
+    for number in 0..formula.count() {
+        if !clause_value(values, formula.clause(number)) {
+            return false;
+        }
+    }
+    true
 }

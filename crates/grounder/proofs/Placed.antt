@@ -4,7 +4,7 @@ use Rattle.pd_model.specs.declared.atoms.Atom.{Atom}
 use Rattle.pd_model.specs.State.{is_in}
 use Rattle.grounding.specs.Simplify.{place}
 use Rattle.grounding.proofs.Places.{place_below}
-use Rattle.grounder.specs.Places.{place_in}
+use Rattle.grounding.specs.Simplify.{place_in}
 
 -- the list has the atom, at this place
 pub record Placed (xs : List Atom) (a : Atom) (i : ℕ) : Type 0 where

@@ -13,7 +13,7 @@ use Rattle.pd_model.specs.Fits.{fitting}
 use Rattle.pd_model.specs.declared.calls.Call.{Call}
 use Rattle.pd_model.specs.declared.effects.Effect.{Effect as Lifted}
 use Rattle.pd_model.specs.declared.schemas.Schema.{Schema}
-use Rattle.grounding.specs.Instance.{Literal, Change, change_of, changes_of, literals_of, instance_at, instance_of}
+use Rattle.grounding.specs.Instance.{GroundLiteral, Change, change_of, changes_of, literals_of, instance_at, instance_of}
 use Rattle.grounding.specs.Sorted.{insert_in, sorted_set}
 use Rattle.grounding.specs.Simplify.{place, fact_literal, number_of, simplified, any_never, is_left, effect_of, action_of}
 use Rattle.grounder.specs.declared.bindings.Bindings.{Bindings}
@@ -24,7 +24,7 @@ use Rattle.grounder.proofs.Compared.{key_cmp, effect_put}
 use Rattle.grounder.proofs.Tupled.{count_is, change_at}
 
 -- one more literal
-pub one_put : (facts : List Atom) (x : Literal) (xs : List Literal) → put_literal (number_of facts x) (simplified facts xs) ≡ simplified facts (x ∷ xs)
+pub one_put : (facts : List Atom) (x : GroundLiteral) (xs : List GroundLiteral) → put_literal (number_of facts x) (simplified facts xs) ≡ simplified facts (x ∷ xs)
 one_put facts x xs = step (number_of facts x)
   where
     step : (o : Option ℕ) → put_literal o (sorted_set nat_lt (filter_map (number_of facts) xs)) ≡ sorted_set nat_lt (cons_option o (filter_map (number_of facts) xs))

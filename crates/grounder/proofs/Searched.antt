@@ -17,7 +17,7 @@ use Rattle.grounding.specs.Sorted.{atom_less, IsSorted}
 use Rattle.grounding.specs.Simplify.{place}
 use Rattle.grounding.proofs.Orders.{atoms}
 use Rattle.grounding.proofs.Places.{at_place, place_below, found_in, place_is}
-use Rattle.grounder.specs.Places.{place_in}
+use Rattle.grounding.specs.Simplify.{place_in}
 use Rattle.grounder.proofs.Compared.{atoms_lt}
 
 total : IsTotalOrder atom_cmp

@@ -3,7 +3,7 @@ use Rattle.std.proofs.Common.{ℕ, zero, suc, ◌<◌, Bool, true, false, length
 use Rattle.std.specs.Prelude.{IsTrue}
 use Rattle.pd_model.specs.Types.{parents_of, is_under}
 use Rattle.pd_model.specs.WellFormed.{IsWellFormed}
-use Rattle.grounder.specs.TwoActions.{task}
+use Rattle.grounder.specs.TwoActions.{task, lamps}
 
 leads : (both : Bool) (kind : ℕ) → kind < length (task both).types → IsTrue (is_under (parents_of (task both).types) kind 0)
 leads both zero lt = refl
@@ -15,6 +15,10 @@ well_formed false = record {
   few_predicates = lit< tt;
   few_objects = lit< tt;
   few_schemas = lit< tt;
+  type_names = refl;
+  predicate_names = refl;
+  object_names = refl;
+  schema_names = refl;
   has_object = refl;
   parents = refl;
   leads_to_object = leads false;
@@ -28,9 +32,32 @@ well_formed true = record {
   few_predicates = lit< tt;
   few_objects = lit< tt;
   few_schemas = lit< tt;
+  type_names = refl;
+  predicate_names = refl;
+  object_names = refl;
+  schema_names = refl;
   has_object = refl;
   parents = refl;
   leads_to_object = leads true;
+  kinds = refl;
+  schemas = refl;
+  init = refl;
+  goal = refl;
+}
+
+pub lamps_well_formed : IsWellFormed lamps
+lamps_well_formed = record {
+  few_types = lit< tt;
+  few_predicates = lit< tt;
+  few_objects = lit< tt;
+  few_schemas = lit< tt;
+  type_names = refl;
+  predicate_names = refl;
+  object_names = refl;
+  schema_names = refl;
+  has_object = refl;
+  parents = refl;
+  leads_to_object = leads false;
   kinds = refl;
   schemas = refl;
   init = refl;

@@ -1,6 +1,5 @@
 pub mod Known
-pub mod Places
 pub mod Bindings
 pub mod Putting
-pub mod Counting
+pub mod Few
 pub mod TwoActions

@@ -1,7 +1,8 @@
 //! The tuples of objects for the variables of a `forall`, by number. None is listed.
-ghost use Rattle.std.specs.Prelude.{◌≡◌, ◌<◌, ◌++◌, IfOk, OnOk, map};
+ghost use Rattle.std.specs.Prelude.{◌≡◌, ◌<◌, ◌≤◌, ◌++◌, IfOk, OnOk, map};
 ghost use Rattle.pd_model.specs.Fits.{fitting};
-ghost use Rattle.grounding.specs.Tuples.{told};
+ghost use Rattle.grounding.specs.Tuples.{product_of, saturated};
+ghost use Rattle.grounding.specs.Limits.{most_tuples};
 ghost use Rattle.grounder.specs.Bindings.{size, tuple_at, AreBindings};
 
 use atom_join::Domains;
@@ -28,7 +29,7 @@ fn domains_of(alloc: Global, lists: &Domains, over: &[u32]) -> Result<Vec<Object
 
 /// How many tuples there are with one object of each list; past the greatest number of 64 bits, that number.
 fn size_of(domains: &[Objects]) -> u64
-    ensures { result ≡ told (size domains.now) }
+    ensures { result ≡ saturated (size domains.now) }
 {
     let mut count: u64 = 1;
     for domain in domains {
@@ -37,15 +38,13 @@ fn size_of(domains: &[Objects]) -> u64
     count
 }
 
-/// The bindings of variables of these types. So many that their number takes more than 64 bits are want of memory.
+/// The bindings of variables of these types.
 pub(crate) fn bindings_of(alloc: Global, lists: &Domains, over: &[u32]) -> Result<Bindings, Memory>
+    requires { product_of lists.now over.now ≤ most_tuples }
     ensures { IfOk result (λ b. AreBindings lists.now over.now b) }
 {
     let domains = domains_of(alloc, lists, over)?;
     let count = size_of(&domains);
-    if count == u64::MAX {
-        return Err(Memory);
-    }
     Ok(Bindings { domains, count })
 }
 

@@ -6,6 +6,7 @@ ghost use Rattle.grounding.specs.Instance.{change_of, changes_of, instance_of};
 ghost use Rattle.grounding.specs.Sorted.{IsSorted, atom_less};
 ghost use Rattle.grounding.specs.Found.{deletes, is_constant};
 ghost use Rattle.grounder.specs.Putting.{LeavesOut, HasExactly};
+ghost use Rattle.grounder.specs.Few.{HasFewTuples, HasFew, HaveFew};
 
 use crate::bindings::bindings_of;
 use crate::literals::all_may_hold;
@@ -43,6 +44,7 @@ fn leave_out_instances(
 ) -> Result<(), Memory>
     requires sorted { IsSorted atom_less reached.now }
     requires delete { effect.now.adds ≡ false }
+    requires few { HasFewTuples domains.now effect.now }
     ensures { OnOk result (LeavesOut (λ a. list_any (deletes reached.now a) (changes_of domains.now objects.now effect.now)) constant.old constant.new) }
 {
     let over = effect.over.as_slice();
@@ -66,7 +68,8 @@ fn leave_out_effect(
     effect: &Effect,
     constant: &mut State,
 ) -> Result<(), Memory>
-    requires { IsSorted atom_less reached.now }
+    requires sorted { IsSorted atom_less reached.now }
+    requires few { HasFewTuples domains.now effect.now }
     ensures { OnOk result (LeavesOut (λ a. list_any (deletes reached.now a) (changes_of domains.now objects.now effect.now)) constant.old constant.new) }
 {
     if effect.adds {
@@ -83,7 +86,8 @@ fn leave_out_call(
     call: &Call,
     constant: &mut State,
 ) -> Result<(), Memory>
-    requires { IsSorted atom_less reached.now }
+    requires sorted { IsSorted atom_less reached.now }
+    requires few { HasFew domains.now call.now }
     ensures { OnOk result (LeavesOut (λ a. list_any (deletes reached.now a) (instance_of domains.now call.now).changes) constant.old constant.new) }
 {
     let Some(schema) = domains
@@ -113,7 +117,8 @@ pub(crate) fn constant_atoms(
     domains: &Domains,
     reached: &Reached,
 ) -> Result<State, Memory>
-    requires { IsSorted atom_less reached.now.atoms }
+    requires sorted { IsSorted atom_less reached.now.atoms }
+    requires few { HaveFew domains.now reached.now.calls }
     ensures { IfOk result (λ constant. HasExactly (is_constant domains.now reached.now.atoms reached.now.calls) constant) }
 {
     let mut constant = State::new(alloc);

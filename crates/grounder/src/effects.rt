@@ -1,7 +1,8 @@
 //! The effects of actions: those that are left, in order, each once.
 ghost use Rattle.std.specs.Prelude.{◌≡◌, [], IfOk, OnOk};
-ghost use Rattle.std.specs.List.{flat_map};
+ghost use Rattle.std.specs.List.{flat_map, AllByRecursion};
 ghost use Rattle.grounding.specs.Instance.{change_of, changes_of};
+ghost use Rattle.grounder.specs.Few.{HasFewTuples};
 ghost use Rattle.grounder.specs.Known.{IsKnown};
 ghost use Rattle.grounder.specs.Putting.{effects_at, put_change, put_changes};
 
@@ -58,7 +59,8 @@ fn put_instances(
     effect: &Effect,
     into: &mut BTreeSet<Keyed>,
 ) -> Result<(), Memory>
-    requires { IsKnown p.now known.now }
+    requires known { IsKnown p.now known.now }
+    requires few { HasFewTuples p.now effect.now }
     ensures { OnOk result (effects_at into.new.keys ≡ put_changes p.now known.now.facts (changes_of p.now objects.now effect.now) (effects_at into.old.keys)) }
 {
     let over = effect.over.as_slice();
@@ -92,7 +94,8 @@ pub(crate) fn effects_of(
     objects: &[u32],
     effects: &[Effect],
 ) -> Result<Effs, Memory>
-    requires { IsKnown p.now known.now }
+    requires known { IsKnown p.now known.now }
+    requires few { AllByRecursion (HasFewTuples p.now) effects.now }
     ensures { IfOk result (λ all. all ≡ put_changes p.now known.now.facts (flat_map (changes_of p.now objects.now) effects.now) []) }
 {
     let mut set = BTreeSet::new(alloc);

@@ -6,6 +6,7 @@ ghost use Rattle.grounding.specs.Simplify.{action_of, values_in, task_of};
 ghost use Rattle.grounding.specs.Sorted.{IsSorted, atom_less};
 ghost use Rattle.grounding.specs.Grounded.{IsGrounded};
 ghost use Rattle.grounding.specs.Limits.{most_facts, IsWithin, IsOverTuples, IsOverFacts, IsOverActions, IsOverEffects};
+ghost use Rattle.grounder.specs.Few.{HasFew, HaveFew};
 ghost use Rattle.grounder.specs.Known.{IsKnown};
 
 use crate::actions::actions_of;
@@ -52,7 +53,7 @@ pub enum GroundError {
     Facts { count: u64 },
     /// More than 16,384 actions.
     Actions { count: u64 },
-    /// More than 65,536 effects with a condition.
+    /// More than 65,536 effects with a condition; a count past the greatest u64 is told as that number.
     Effects { count: u64 },
     /// Memory ran out.
     Memory,
@@ -71,7 +72,8 @@ impl From<Memory> for GroundError {
 
 /// The action of a call.
 fn action_of(alloc: Global, p: &Pddl, known: &Known, call: &Call) -> Result<Act, Memory>
-    requires { IsKnown p.now known.now }
+    requires known { IsKnown p.now known.now }
+    requires few { HasFew p.now call.now }
     ensures { IfOk result (λ act. act ≡ action_of p.now known.now.facts (instance_of p.now call.now)) }
 {
     let Some(schema) = p.schemas().as_slice().get(call.schema as usize) else {
@@ -85,7 +87,8 @@ fn action_of(alloc: Global, p: &Pddl, known: &Known, call: &Call) -> Result<Act,
 
 /// The actions of calls.
 fn acts_of(alloc: Global, p: &Pddl, known: &Known, calls: &[Call]) -> Result<Acts, Memory>
-    requires { IsKnown p.now known.now }
+    requires known { IsKnown p.now known.now }
+    requires few { HaveFew p.now calls.now }
     ensures { IfOk result (λ acts. acts ≡ map (λ c. action_of p.now known.now.facts (instance_of p.now c)) calls.now) }
 {
     let mut acts = Vec::with_capacity(alloc, calls.len())?;
@@ -155,12 +158,12 @@ pub fn ground(alloc: Global, p: &Pddl) -> Result<Grounded, GroundError>
     ensures effects { (n : ℕ) → result ≡ Err (GroundError.Effects n) → IsOverEffects p.now n }
 {
     laws();
-    let count = count_tuples(alloc, p)?;
+    let count = count_tuples(p);
     if count > 4_000_000 {
         return Err(GroundError::Tuples { count });
     }
     let domains = Domains::of(alloc, p)?;
-    let reached = reach(alloc, p)?;
+    let reached = reach(alloc, &domains)?;
     let constant = constant_atoms(alloc, &domains, &reached)?;
     let facts = facts_of(alloc, reached.atoms, &constant)?;
     let count = facts.as_slice().len() as u64;
@@ -174,7 +177,7 @@ pub fn ground(alloc: Global, p: &Pddl) -> Result<Grounded, GroundError>
         return Err(GroundError::Actions { count });
     }
     let acts = acts_of(alloc, p, &known, calls.as_slice())?;
-    let count = conditional_in(acts.as_slice())?;
+    let count = conditional_in(acts.as_slice());
     if count > 65536 {
         return Err(GroundError::Effects { count });
     }

@@ -26,8 +26,11 @@ fn may_hold(alloc: Global, reached: &[Atom], objects: &[u32], cond: &Cond) -> Re
 {
     match cond {
         Cond::Has { atom, want } => {
+            if !*want {
+                return Ok(true);
+            }
             let atom = instance_of(alloc, objects, atom)?;
-            Ok(!*want || has(reached, &atom))
+            Ok(has(reached, &atom))
         }
         Cond::Same { left, right, want } => Ok(agrees(objects, *left, *right, *want)),
     }
@@ -64,8 +67,11 @@ pub(crate) fn may_be_true(
 {
     match cond {
         Cond::Has { atom, want } => {
+            if *want {
+                return Ok(true);
+            }
             let atom = instance_of(alloc, objects, atom)?;
-            Ok(*want || has(known.facts.as_slice(), &atom) || !known.initial.has(&atom))
+            Ok(has(known.facts.as_slice(), &atom) || !known.initial.has(&atom))
         }
         Cond::Same { .. } => Ok(true),
     }

@@ -2,7 +2,7 @@
 ghost use Rattle.std.specs.Prelude.{◌≡◌};
 ghost use Rattle.pd_model.specs.State.{is_in};
 ghost use Rattle.grounding.specs.Sorted.{IsSorted, atom_less};
-ghost use Rattle.grounder.specs.Places.{place_in};
+ghost use Rattle.grounding.specs.Simplify.{place_in};
 
 use pd_model::Atom;
 

@@ -1,113 +1,58 @@
 //! The count of tuples, before any is listed.
-ghost use Rattle.std.specs.Prelude.{◌≡◌, IfOk, OnOk, length, sum_by};
-ghost use Rattle.pd_model.specs.Fits.{fitting};
-ghost use Rattle.grounding.specs.Tuples.{product_of, effect_tuples, schema_tuples, tuples_in, told};
-ghost use Rattle.grounder.specs.Counting.{AreCounts};
+ghost use Rattle.std.specs.Prelude.{◌≡◌, sum_by};
+ghost use Rattle.grounding.specs.Tuples.{product_of, effect_tuples, schema_tuples, tuples_in, saturated};
 
-use pd_model::{Effect, Memory, Pddl, Schema, fitting_objects};
-use std::alloc::Global;
-use std::collections::BTreeMap;
-
-/// How many objects fit a type. They are counted once, and the count is kept.
-fn count_of(
-    alloc: Global,
-    p: &Pddl,
-    kind: u32,
-    counts: &mut BTreeMap<u32, u64>,
-) -> Result<u64, Memory>
-    requires { AreCounts p.now counts.old }
-    ensures kept { OnOk result (AreCounts p.now counts.new) }
-    ensures count { IfOk result (λ count. count ≡ length (fitting p.now kind)) }
-{
-    if let Some(count) = counts.get(&kind) {
-        return Ok(*count);
-    }
-    let count = fitting_objects(alloc, p, kind)?.len() as u64;
-    counts.insert(kind, count)?;
-    Ok(count)
-}
+use pd_model::{Effect, Pddl, Schema};
 
 /// How many tuples of objects fit these types.
-fn product_of(
-    alloc: Global,
-    p: &Pddl,
-    kinds: &[u32],
-    counts: &mut BTreeMap<u32, u64>,
-) -> Result<u64, Memory>
-    requires { AreCounts p.now counts.old }
-    ensures kept { OnOk result (AreCounts p.now counts.new) }
-    ensures count { IfOk result (λ count. count ≡ told (product_of p.now kinds.now)) }
+fn product_of(p: &Pddl, kinds: &[u32]) -> u64
+    ensures { result ≡ saturated (product_of p.now kinds.now) }
 {
     let mut product: u64 = 1;
     for kind in kinds {
-        let count = count_of(alloc, p, *kind, counts)?;
-        product = product.saturating_mul(count);
+        product = product.saturating_mul(p.fitting_count(*kind) as u64);
     }
-    Ok(product)
+    product
 }
 
 /// The tuples of an effect.
-fn effect_tuples(
-    alloc: Global,
-    p: &Pddl,
-    effect: &Effect,
-    counts: &mut BTreeMap<u32, u64>,
-) -> Result<u64, Memory>
-    requires { AreCounts p.now counts.old }
-    ensures kept { OnOk result (AreCounts p.now counts.new) }
-    ensures count { IfOk result (λ count. count ≡ told (effect_tuples p.now effect.now.over)) }
+fn effect_tuples(p: &Pddl, effect: &Effect) -> u64
+    ensures { result ≡ saturated (effect_tuples p.now effect.now.over) }
 {
     let over = effect.over.as_slice();
     if over.is_empty() {
-        return Ok(0);
+        return 0;
     }
-    product_of(alloc, p, over, counts)
+    product_of(p, over)
 }
 
 /// The tuples of effects.
-fn effects_tuples(
-    alloc: Global,
-    p: &Pddl,
-    effects: &[Effect],
-    counts: &mut BTreeMap<u32, u64>,
-) -> Result<u64, Memory>
-    requires { AreCounts p.now counts.old }
-    ensures kept { OnOk result (AreCounts p.now counts.new) }
-    ensures count { IfOk result (λ count. count ≡ told (sum_by (λ e. effect_tuples p.now e.over) effects.now)) }
+fn effects_tuples(p: &Pddl, effects: &[Effect]) -> u64
+    ensures { result ≡ saturated (sum_by (λ e. effect_tuples p.now e.over) effects.now) }
 {
     let mut sum: u64 = 0;
     for effect in effects {
-        let count = effect_tuples(alloc, p, effect, counts)?;
-        sum = sum.saturating_add(count);
+        sum = sum.saturating_add(effect_tuples(p, effect));
     }
-    Ok(sum)
+    sum
 }
 
 /// The tuples of a schema.
-fn schema_tuples(
-    alloc: Global,
-    p: &Pddl,
-    schema: &Schema,
-    counts: &mut BTreeMap<u32, u64>,
-) -> Result<u64, Memory>
-    requires { AreCounts p.now counts.old }
-    ensures kept { OnOk result (AreCounts p.now counts.new) }
-    ensures count { IfOk result (λ count. count ≡ told (schema_tuples p.now schema.now)) }
+fn schema_tuples(p: &Pddl, schema: &Schema) -> u64
+    ensures { result ≡ saturated (schema_tuples p.now schema.now) }
 {
-    let parameters = product_of(alloc, p, schema.parameters.as_slice(), counts)?;
-    let effects = effects_tuples(alloc, p, schema.effects.as_slice(), counts)?;
-    Ok(parameters.saturating_mul(1u64.saturating_add(effects)))
+    let parameters = product_of(p, schema.parameters.as_slice());
+    let effects = effects_tuples(p, schema.effects.as_slice());
+    parameters.saturating_mul(1u64.saturating_add(effects))
 }
 
-/// The count of tuples of a task; past the greatest number of 64 bits, that number.
-pub(crate) fn count_tuples(alloc: Global, p: &Pddl) -> Result<u64, Memory>
-    ensures { IfOk result (λ count. count ≡ told (tuples_in p.now)) }
+/// The count of tuples of a task; past the greatest number of 64 bits, that number. It takes no memory.
+pub(crate) fn count_tuples(p: &Pddl) -> u64
+    ensures { result ≡ saturated (tuples_in p.now) }
 {
-    let mut counts = BTreeMap::new(alloc);
     let mut sum: u64 = 0;
     for schema in p.schemas().as_slice() {
-        let count = schema_tuples(alloc, p, schema, &mut counts)?;
-        sum = sum.saturating_add(count);
+        sum = sum.saturating_add(schema_tuples(p, schema));
     }
-    Ok(sum)
+    sum
 }

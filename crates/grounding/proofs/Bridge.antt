@@ -17,15 +17,15 @@ use Rattle.pd_model.specs.declared.effects.Effect.{Effect}
 use Rattle.pd_model.specs.declared.parts.Parts.{Parts}
 use Rattle.pd_model.specs.declared.schemas.Schema.{Schema}
 use Rattle.pd_model.proofs.States.{is_in-filter}
-use Rattle.grounding.specs.Instance.{Literal, Holds, Fixed, Change, Instance, literal_of, literals_of, change_of, changes_of, instance_at, instance_of}
+use Rattle.grounding.specs.Instance.{GroundLiteral, Holds, Fixed, Change, Instance, literal_of, literals_of, change_of, changes_of, instance_at, instance_of}
 use Rattle.grounding.proofs.Lists.{any_map, any_filter, any_flat_map, any_guarded}
 
 -- whether a literal holds in a state
-abbrev pub literal_holds : List Atom → Literal → Bool
+abbrev pub literal_holds : List Atom → GroundLiteral → Bool
 literal_holds s (Holds a want) = agrees want (is_in a s)
 literal_holds s (Fixed truth) = truth
 
-abbrev pub literals_hold : List Atom → List Literal → Bool
+abbrev pub literals_hold : List Atom → List GroundLiteral → Bool
 literals_hold s literals = list_all (literal_holds s) literals
 
 -- whether a change is active, has this sign and names this atom

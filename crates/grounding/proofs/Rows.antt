@@ -6,7 +6,7 @@ use Rattle.pd_model.specs.declared.atoms.Atom.{Atom}
 use Rattle.pd_model.specs.declared.calls.Call.{Call}
 use Rattle.grounding.specs.Grounded.{Grounded}
 use Rattle.grounding.specs.Found.{grounded_from}
-use Rattle.grounding.specs.Tuples.{tuples_in, told}
+use Rattle.grounding.specs.Tuples.{tuples_in, saturated}
 use Rattle.grounding.proofs.Tasks.{atom, call, has, plain, p, flips_0, both_0, sets_twice_0, may_set_0, case, place_object, item_object}
 
 abbrev effect : List ℕ → ℕ → Effect
@@ -93,5 +93,5 @@ no_item = refl
 one_item : tuples_in (case (place_object ∷ place_object ∷ item_object ∷ [])) ≡ 12
 one_item = refl
 
-told_at_most : told (2 ^ 70) ≡ 2 ^ 64 - 1
-told_at_most = refl
+saturated_at_most : saturated (2 ^ 70) ≡ 2 ^ 64 - 1
+saturated_at_most = refl

@@ -12,7 +12,7 @@ use Rattle.pd_model.specs.Instance.{agrees}
 use Rattle.pd_model.specs.declared.atoms.Atom.{Atom}
 use Rattle.pd_model.specs.declared.parts.Parts.{Parts}
 use Rattle.pd_model.proofs.Equality.{same_is}
-use Rattle.grounding.specs.Instance.{Literal, Holds, Fixed, Change}
+use Rattle.grounding.specs.Instance.{GroundLiteral, Holds, Fixed, Change}
 use Rattle.grounding.specs.Sorted.{sorted_set}
 use Rattle.grounding.specs.Simplify.{place, fact_literal, number_of, simplified, is_never, any_never, is_left, effect_of}
 use Rattle.grounding.proofs.Lists.{any_map, any_filter}
@@ -44,13 +44,13 @@ module _ (p : Parts) (facts : List Atom) (n : ℕ → Bool) (s : List Atom) (tel
   negative a true h e = fact_holds a false h
   negative a false h e = ap not (sym (tells.others a h ∙ e))
 
-  one_literal : (x : Literal) → is_never p facts x ≡ false → option_holds n (number_of facts x) ≡ literal_holds s x
+  one_literal : (x : GroundLiteral) → is_never p facts x ≡ false → option_holds n (number_of facts x) ≡ literal_holds s x
   one_literal (Holds a true) e = positive a (is_in a facts) refl e
   one_literal (Holds a false) e = negative a (is_in a facts) refl e
   one_literal (Fixed true) e = refl
   one_literal (Fixed false) e = cc
 
-  never_one : (x : Literal) → is_never p facts x ≡ true → literal_holds s x ≡ false
+  never_one : (x : GroundLiteral) → is_never p facts x ≡ true → literal_holds s x ≡ false
   never_one (Holds a true) e = out (is_in a facts) refl e
     where
       out : (fact : Bool) → is_in a facts ≡ fact → (not fact && not (is_in a p.init)) ≡ true → is_in a s ≡ false
@@ -68,7 +68,7 @@ module _ (p : Parts) (facts : List Atom) (n : ℕ → Bool) (s : List Atom) (tel
   never_one (Fixed true) e = cc
   never_one (Fixed false) e = refl
 
-  listed_hold : (xs : List Literal) → any_never p facts xs ≡ false → list_all (holds n) (filter_map (number_of facts) xs) ≡ literals_hold s xs
+  listed_hold : (xs : List GroundLiteral) → any_never p facts xs ≡ false → list_all (holds n) (filter_map (number_of facts) xs) ≡ literals_hold s xs
   listed_hold [] e = refl
   listed_hold (x ∷ xs) e =
       let parts = or_parts (is_never p facts x) (any_never p facts xs) e in
@@ -79,11 +79,11 @@ module _ (p : Parts) (facts : List Atom) (n : ℕ → Bool) (s : List Atom) (tel
       step (Some l) ls = refl
 
   -- what is left of literals holds where they do, if none is never true
-  pub simplified_hold : (xs : List Literal) → any_never p facts xs ≡ false → all_hold n (simplified facts xs) ≡ literals_hold s xs
+  pub simplified_hold : (xs : List GroundLiteral) → any_never p facts xs ≡ false → all_hold n (simplified facts xs) ≡ literals_hold s xs
   simplified_hold xs e = all_sorted nat_lt numbers (holds n) (filter_map (number_of facts) xs) ∙ listed_hold xs e
 
   -- and else they do not hold
-  pub never_hold : (xs : List Literal) → any_never p facts xs ≡ true → literals_hold s xs ≡ false
+  pub never_hold : (xs : List GroundLiteral) → any_never p facts xs ≡ true → literals_hold s xs ≡ false
   never_hold [] e = cc
   never_hold (x ∷ xs) e = elim (or_cases (is_never p facts x) (any_never p facts xs) e) [
     | inl h ↦ and_left _ _ (never_one x h)

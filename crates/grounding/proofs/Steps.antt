@@ -8,12 +8,11 @@ use Rattle.gt_core.specs.Active.{is_active}
 use Rattle.gt_core.specs.Task.{Action, Task, action, precondition, initial_state}
 use Rattle.gt_core.specs.Execution.{makes, next_of_one}
 use Rattle.gt_core.proofs.Basics.{same_if}
-use Rattle.gt_core.proofs.NextLaw.{makes_by}
 use Rattle.pd_model.specs.State.{is_in}
 use Rattle.pd_model.specs.declared.atoms.Atom.{Atom}
 use Rattle.pd_model.specs.declared.calls.Call.{Call}
 use Rattle.pd_model.specs.declared.parts.Parts.{Parts}
-use Rattle.grounding.specs.Instance.{Literal, Holds, Fixed, instance_of}
+use Rattle.grounding.specs.Instance.{GroundLiteral, Holds, Fixed, instance_of}
 use Rattle.grounding.specs.Reach.{MayHold, AllMayHold, IsReachable, MayBeTrue, IsAction}
 use Rattle.grounding.specs.Simplify.{place, fact_literal, is_never, any_never, action_of}
 use Rattle.grounding.specs.Grounded.{IsGrounded}
@@ -46,7 +45,7 @@ module _ (p : Parts) (facts : List Atom) (calls : List Call) (is : IsGrounded p 
   initial_same f a e = ap (λ (o : Option Bool). unwrap_or o false) (get_mapped (λ b. is_in b p.init) facts f a e)
 
   -- a literal that may hold and may be true is not never true
-  one_not_never : (x : Literal) → MayHold (IsReachable p) x → MayBeTrue p x → is_never p facts x ≡ false
+  one_not_never : (x : GroundLiteral) → MayHold (IsReachable p) x → MayBeTrue p x → is_never p facts x ≡ false
   one_not_never (Holds a true) m b = by (is_in a facts) refl
     where
       by : (fact : Bool) → is_in a facts ≡ fact → (not fact && not (is_in a p.init)) ≡ false
@@ -59,17 +58,17 @@ module _ (p : Parts) (facts : List Atom) (calls : List Call) (is : IsGrounded p 
       by false h = false_from_ne_true (is_in a p.init) (λ t. b (is_constant p facts is.fact_is a t h))
   one_not_never (Fixed truth) m b = not_from_true truth m
 
-  not_never : (xs : List Literal) → AllMayHold (IsReachable p) xs → AllByRecursion (MayBeTrue p) xs → any_never p facts xs ≡ false
+  not_never : (xs : List GroundLiteral) → AllMayHold (IsReachable p) xs → AllByRecursion (MayBeTrue p) xs → any_never p facts xs ≡ false
   not_never [] m b = refl
   not_never (x ∷ xs) m b = or_from _ _ (one_not_never x m.0 b.0) (not_never xs m.1 b.1)
 
   -- what holds in a lawful state may be true
-  one_true : (s : List Atom) → IsLawful p s → (x : Literal) → literal_holds s x ≡ true → MayBeTrue p x
+  one_true : (s : List Atom) → IsLawful p s → (x : GroundLiteral) → literal_holds s x ≡ true → MayBeTrue p x
   one_true s lawful (Holds a true) t = tt
   one_true s lawful (Holds a false) t = λ constant. both_ways (not (is_in a s)) (not_from_true (is_in a s) (lawful.constant a constant)) t
   one_true s lawful (Fixed truth) t = tt
 
-  pub all_true : (s : List Atom) → IsLawful p s → (xs : List Literal) → literals_hold s xs ≡ true → AllByRecursion (MayBeTrue p) xs
+  pub all_true : (s : List Atom) → IsLawful p s → (xs : List GroundLiteral) → literals_hold s xs ≡ true → AllByRecursion (MayBeTrue p) xs
   all_true s lawful [] t = tt
   all_true s lawful (x ∷ xs) t =
       let parts = and_parts (literal_holds s x) (literals_hold s xs) t in
@@ -103,6 +102,5 @@ module _ (p : Parts) (facts : List Atom) (calls : List Call) (is : IsGrounded p 
 
       made : (sign : Bool) → makes task n k (fact_literal facts a sign) ≡ named s a sign (instance_of p c).changes
       made sign =
-          makes_by task n k (fact_literal facts a sign)
-          ∙ ap (λ (x : Action). list_any (is_active n (fact_literal facts a sign)) x.effects) (action_at k c e)
+          ap (λ (x : Action). list_any (is_active n (fact_literal facts a sign)) x.effects) (action_at k c e)
           ∙ active_named p facts n s (tells n s same lawful) a sign fact (instance_of p c).changes

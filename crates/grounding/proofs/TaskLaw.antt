@@ -11,7 +11,7 @@ use Rattle.pd_model.specs.State.{is_in}
 use Rattle.pd_model.specs.declared.atoms.Atom.{Atom}
 use Rattle.pd_model.specs.declared.calls.Call.{Call}
 use Rattle.pd_model.specs.declared.parts.Parts.{Parts}
-use Rattle.grounding.specs.Instance.{Literal, Holds, Fixed, Change, Instance, instance_of, goal_of}
+use Rattle.grounding.specs.Instance.{GroundLiteral, Holds, Fixed, Change, Instance, instance_of, goal_of}
 use Rattle.grounding.specs.Sorted.{IsSorted, sorted_set}
 use Rattle.grounding.specs.Simplify.{fact_literal, number_of, simplified, is_left, effect_of, action_of}
 use Rattle.grounding.specs.Grounded.{Grounded}
@@ -37,7 +37,7 @@ AnyBelow top None = Unit {0}
 AnyBelow top (Some l) = l < top
 
 -- the numbers of literals are those of facts
-number_below : (facts : List Atom) (xs : List Literal) → AllByRecursion (λ l. l < 2 * length facts) (filter_map (number_of facts) xs)
+number_below : (facts : List Atom) (xs : List GroundLiteral) → AllByRecursion (λ l. l < 2 * length facts) (filter_map (number_of facts) xs)
 number_below facts [] = tt
 number_below facts (x ∷ xs) = join (number_of facts x) (filter_map (number_of facts) xs) (one x) (number_below facts xs)
   where
@@ -45,7 +45,7 @@ number_below facts (x ∷ xs) = join (number_of facts x) (filter_map (number_of 
     join None ls b rest = rest
     join (Some l) ls b rest = (b, rest)
 
-    one : (x : Literal) → AnyBelow (2 * length facts) (number_of facts x)
+    one : (x : GroundLiteral) → AnyBelow (2 * length facts) (number_of facts x)
     one (Holds a want) = by (is_in a facts) refl
       where
         by : (fact : Bool) → is_in a facts ≡ fact → AnyBelow (2 * length facts) (cond fact (Some (fact_literal facts a want)) None)
@@ -53,7 +53,7 @@ number_below facts (x ∷ xs) = join (number_of facts x) (filter_map (number_of 
         by false h = tt
     one (Fixed truth) = tt
 
-is_set : (facts : List Atom) (xs : List Literal) → is_literal_set (length facts) (simplified facts xs) ≡ true
+is_set : (facts : List Atom) (xs : List GroundLiteral) → is_literal_set (length facts) (simplified facts xs) ≡ true
 is_set facts xs = rising (2 * length facts) 0 (simplified facts xs) (each_from (λ l. 0 ≤ l) (simplified facts xs) (λ l a. omega arith)) (each_sorted nat_lt numbers (λ l. l < 2 * length facts) (filter_map (number_of facts) xs) (number_below facts xs)) (is_sorted nat_lt numbers (filter_map (number_of facts) xs))
 
 -- an effect whose literals are of so many facts

@@ -12,7 +12,7 @@ use Rattle.grounding.specs.Reach.{IsReachable, IsKept, IsClosed, IsConstant, IsF
 use Rattle.grounding.specs.Sorted.{atom_less, call_less, IsSorted}
 use Rattle.grounding.specs.Grounded.{Grounded, IsGrounded}
 use Rattle.grounding.specs.Limits.{IsWithin}
-use Rattle.grounding.specs.Found.{IsSound, IsClosedLists, IsLeastPair, grounded_from}
+use Rattle.grounding.specs.Found.{IsDerivable, IsClosedLists, IsLeastPair, grounded_from}
 
 -- these numbers are those of these calls
 abbrev pub AreNumbers : Grounded → List Call → List ℕ → Type 0
@@ -79,7 +79,7 @@ OneResult = (p : Parts) (g h : Grounded) → IsGrounded p g → IsGrounded p h �
 abbrev pub SoundIsLeast : Type 0
 SoundIsLeast =
     (p : Parts) (reached : List Atom) (kept : List Call)
-    → IsSound p reached kept → IsClosedLists p reached kept → IsLeastPair p reached kept
+    → IsDerivable p reached kept → IsClosedLists p reached kept → IsLeastPair p reached kept
 
 -- what is made of the least pair, in order, is what grounding gives
 abbrev pub LeastIsGrounded : Type 0

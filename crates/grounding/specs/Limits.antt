@@ -3,7 +3,7 @@ use Rattle.std.specs.Prelude.{ℕ, ◌≡◌, ◌<◌, ◌≤◌, length}
 use Rattle.gt_core.specs.Lawful.{conditional_in}
 use Rattle.pd_model.specs.declared.parts.Parts.{Parts}
 use Rattle.grounding.specs.Grounded.{Grounded, IsGrounded}
-use Rattle.grounding.specs.Tuples.{tuples_in, told}
+use Rattle.grounding.specs.Tuples.{tuples_in, saturated}
 
 abbrev pub most_tuples : ℕ
 most_tuples = 4000000
@@ -26,7 +26,7 @@ pub record IsWithin (p : Parts) (g : Grounded) : Type 0 where
 
 pub record IsOverTuples (p : Parts) (count : ℕ) : Type 0 where
   pub over : most_tuples < tuples_in p
-  pub count_is : count ≡ told (tuples_in p)
+  pub count_is : count ≡ saturated (tuples_in p)
 
 pub record IsOverFacts (p : Parts) (count : ℕ) : Type 0 where
   pub grounded : Grounded
@@ -50,4 +50,4 @@ pub record IsOverEffects (p : Parts) (count : ℕ) : Type 0 where
   pub facts : length grounded.facts ≤ most_facts
   pub actions : length grounded.calls ≤ most_actions
   pub over : most_conditional < conditional_in grounded.task.actions
-  pub count_is : count ≡ conditional_in grounded.task.actions
+  pub count_is : count ≡ saturated (conditional_in grounded.task.actions)

@@ -9,7 +9,7 @@ use Rattle.pd_model.specs.State.{is_in, same_atom}
 use Rattle.pd_model.specs.declared.atoms.Atom.{Atom}
 use Rattle.pd_model.specs.declared.calls.Call.{Call}
 use Rattle.pd_model.specs.declared.parts.Parts.{Parts}
-use Rattle.grounding.specs.Instance.{Literal, Holds, Fixed, Change, Instance, instance_of, goal_of}
+use Rattle.grounding.specs.Instance.{GroundLiteral, Holds, Fixed, Change, Instance, instance_of, goal_of}
 use Rattle.grounding.specs.Sorted.{sorted_set}
 
 -- the place of an atom in a list
@@ -17,27 +17,31 @@ abbrev pub place : List Atom → Atom → ℕ
 place [] a = 0
 place (b ∷ atoms) a = if same_atom a b then 0 else suc (place atoms a)
 
+-- the place of an atom, where the list has it
+abbrev pub place_in : List Atom → Atom → Option ℕ
+place_in atoms a = if is_in a atoms then Some (place atoms a) else None
+
 -- the fact literal of a fact: 2f says that fact f is true, 2f + 1 that it is false
 abbrev pub fact_literal : List Atom → Atom → Bool → ℕ
 fact_literal facts a true = 2 * place facts a
 fact_literal facts a false = 2 * place facts a + 1
 
 -- the fact literal of a literal, where its atom is a fact
-abbrev pub number_of : List Atom → Literal → Option ℕ
+abbrev pub number_of : List Atom → GroundLiteral → Option ℕ
 number_of facts (Holds a want) = if is_in a facts then Some (fact_literal facts a want) else None
 number_of facts (Fixed truth) = None
 
 -- the fact literals of literals, in order, each once
-abbrev pub simplified : List Atom → List Literal → List ℕ
+abbrev pub simplified : List Atom → List GroundLiteral → List ℕ
 simplified facts literals = sorted_set nat_lt (filter_map (number_of facts) literals)
 
 -- a literal is never true: it wants an atom that is not reachable, or a constant one to be false, or is a false equation
-abbrev pub is_never : Parts → List Atom → Literal → Bool
+abbrev pub is_never : Parts → List Atom → GroundLiteral → Bool
 is_never p facts (Holds a true) = not (is_in a facts) && not (is_in a p.init)
 is_never p facts (Holds a false) = not (is_in a facts) && is_in a p.init
 is_never p facts (Fixed truth) = not truth
 
-abbrev pub any_never : Parts → List Atom → List Literal → Bool
+abbrev pub any_never : Parts → List Atom → List GroundLiteral → Bool
 any_never p facts literals = list_any (is_never p facts) literals
 
 -- an effect is left: its atom is a fact, and no literal of its condition is never true

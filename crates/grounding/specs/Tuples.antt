@@ -21,6 +21,6 @@ schema_tuples p s = product_of p s.parameters * (1 + sum_by (λ e. effect_tuples
 abbrev pub tuples_in : Parts → ℕ
 tuples_in p = sum_by (schema_tuples p) p.schemas
 
--- a count as it is told: past the greatest number of 64 bits it is told as that one
-abbrev pub told : ℕ → ℕ
-told n = if nat_le n (2 ^ 64 - 1) then n else 2 ^ 64 - 1
+-- a count that stays at the greatest number of 64 bits
+abbrev pub saturated : ℕ → ℕ
+saturated n = if nat_le n (2 ^ 64 - 1) then n else 2 ^ 64 - 1

@@ -4,7 +4,7 @@ use Rattle.gt_core.specs.Layout.{Layout, IsLayout, width}
 
 -- Products below the number of all variables.
 
-product_le : (a b c : ℕ) → a ≤ b → a * c ≤ b * c
+pub product_le : (a b c : ℕ) → a ≤ b → a * c ≤ b * c
 product_le a b c h = let m = mul-le-mul_left c h in let x = mul_comm a c in let y = mul_comm b c in omega (arith, m, x, y)
 
 -- the variables before a step

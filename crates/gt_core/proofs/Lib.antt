@@ -3,8 +3,10 @@ pub mod Pairwise
 pub mod Literals
 pub mod Makers
 pub mod PublishedLaw
+pub mod UniqueLaw
 pub mod RunLaw
 pub mod StepLaw
+pub mod SequenceLaw
 pub mod ListOrder
 pub mod Within
 pub mod NextLaw

@@ -1,9 +1,15 @@
-use Rattle.std.proofs.Common.{◌≡◌, ◌==◌, ℕ, ◌+◌, ◌*◌, Bool, true, ◌&&◌, refl, ap, ◌∙◌}
+use Rattle.std.proofs.Common.{arith, ◌≡◌, ◌==◌, ℕ, zero, suc, ◌+◌, ◌*◌, ◌<◌, List, [], ◌∷◌, length, Bool, true, false, ◌&&◌, sym, ap, ◌∙◌, subst, inl, inr}
+use Rattle.std.specs.Prelude.{slice_index_or}
+use Rattle.std.specs.List.{list_any}
 use Rattle.gt_core.specs.Literal.{all_hold}
-use Rattle.gt_core.specs.Task.{Task, EffectOf, effects}
+use Rattle.gt_core.specs.Task.{Effect, Action, Task, EffectOf, owned, effects_from, effects, action, action_numbers}
+use Rattle.gt_core.specs.Active.{is_active}
 use Rattle.gt_core.specs.Execution.{makes, gains, loses}
 use Rattle.gt_core.specs.Step.{gained, lost}
 use Rattle.gt_core.proofs.Basics.{Among, passing, any_at, and_split, and_both, same_test, test_same}
+use Rattle.gt_core.proofs.Literals.{among_range}
+use Rattle.gt_core.proofs.Pairwise.{among_left, among_right}
+use Rattle.gt_core.proofs.NextLaw.{of_action, any_of_action}
 
 -- The effects behind a gain or a loss.
 
@@ -17,15 +23,43 @@ pub record Maker (task : Task) (s : ℕ → Bool) (a l : ℕ) : Type 0 where
 
 pub maker : (task : Task) (s : ℕ → Bool) (a l : ℕ) → makes task s a l ≡ true → Maker task s a l
 maker task s a l h =
-    let p = passing _ (effects task) h in
+    let p = passing (of_action a (is_active s l)) (effects task) (any_of_action task (is_active s l) a ∙ h) in
     let x = and_split (p.one.action == a) _ p.passes in
     let y = and_split (p.one.literal == l) (all_hold s p.one.condition) x.1 in
     record { effect = p.one; among = p.among; action = test_same _ _ x.0; literal = test_same _ _ y.0; condition = y.1 }
 
 pub made : (task : Task) (s : ℕ → Bool) (a l : ℕ) → Maker task s a l → makes task s a l ≡ true
 made task s a l m =
-    any_at _ (effects task) m.effect m.among
+    sym (any_of_action task (is_active s l) a)
+    ∙ any_at (of_action a (is_active s l)) (effects task) m.effect m.among
     (and_both (m.effect.action == a) _ (same_test _ _ m.action) (and_both (m.effect.literal == l) _ (same_test _ _ m.literal) m.condition))
+
+-- an effect of an action is among all effects, beside its number
+pub own_among : (task : Task) (a : ℕ) (e : Effect) → Among e (action task a).effects → Among (record { action = a; condition = e.condition; literal = e.literal }) (effects task)
+own_among task a e i = let z : 0 + a ≡ a = omega arith in subst (λ (n : ℕ). Among (record { action = n; condition = e.condition; literal = e.literal }) (effects task)) z (own_from 0 task.actions a e i)
+  where
+    owned_among : (k : ℕ) (es : List Effect) (e : Effect) → Among e es → Among (record { action = k; condition = e.condition; literal = e.literal }) (owned k es)
+    owned_among k [] e i = absurd i
+    owned_among k (d ∷ es) e (inl s) = inl (ap (λ (x : Effect). record { action = k; condition = x.condition; literal = x.literal }) s)
+    owned_among k (d ∷ es) e (inr i) = inr (owned_among k es e i)
+
+    own_from : (first : ℕ) (xs : List Action) (a : ℕ) (e : Effect) → Among e (slice_index_or xs a (record { precondition = []; effects = [] })).effects → Among (record { action = first + a; condition = e.condition; literal = e.literal }) (effects_from first xs)
+    own_from first [] a e i = absurd i
+    own_from first (x ∷ xs) zero e i =
+        let z : first ≡ first + 0 = omega arith in
+        among_left _ _ _ (subst (λ (n : ℕ). Among (record { action = n; condition = e.condition; literal = e.literal }) (owned first x.effects)) z (owned_among first x.effects e i))
+    own_from first (x ∷ xs) (suc a) e i =
+        let z : (first + 1) + a ≡ first + suc a = omega arith in
+        among_right (owned first x.effects) _ _ (subst (λ (n : ℕ). Among (record { action = n; condition = e.condition; literal = e.literal }) (effects_from (first + 1) xs)) z (own_from (first + 1) xs a e i))
+
+-- what has an effect is one of the actions
+pub has_effect_below : (xs : List Action) (a : ℕ) (p : Effect → Bool) → list_any p (slice_index_or xs a (record { precondition = []; effects = [] })).effects ≡ true → a < length xs
+has_effect_below [] a p h = absurd (let e : false ≡ true = h in cc)
+has_effect_below (x ∷ xs) zero p h = omega arith
+has_effect_below (x ∷ xs) (suc a) p h = let r = has_effect_below xs a p h in omega arith
+
+makes_among : (task : Task) (s : ℕ → Bool) (a l : ℕ) → makes task s a l ≡ true → Among a (action_numbers task)
+makes_among task s a l h = let lt = has_effect_below task.actions a (is_active s l) h in among_range (length task.actions) 0 a (omega arith) (omega arith)
 
 -- a member gains a fact
 pub record Gainer (task : Task) (members s : ℕ → Bool) (f : ℕ) : Type 0 where
@@ -35,15 +69,13 @@ pub record Gainer (task : Task) (members s : ℕ → Bool) (f : ℕ) : Type 0 wh
 
 pub gainer : (task : Task) (members s : ℕ → Bool) (f : ℕ) → gained task s members f ≡ true → Gainer task members s f
 gainer task members s f h =
-    let p = passing _ (effects task) h in
-    let x = and_split (members p.one.action) _ p.passes in
-    let y = and_split (p.one.literal == 2 * f) (all_hold s p.one.condition) x.1 in
-    record { one = p.one.action; member = x.0; gain = made task s p.one.action (2 * f) (record { effect = p.one; among = p.among; action = refl; literal = test_same _ _ y.0; condition = y.1 }) }
+    let p = passing (λ a. members a && gains task s a f) (action_numbers task) h in
+    let x = and_split (members p.one) (gains task s p.one f) p.passes in
+    record { one = p.one; member = x.0; gain = x.1 }
 
 pub gained_by : (task : Task) (members s : ℕ → Bool) (a f : ℕ) → members a ≡ true → gains task s a f ≡ true → gained task s members f ≡ true
 gained_by task members s a f e g =
-    let m = maker task s a (2 * f) g in
-    any_at _ (effects task) m.effect m.among (and_both (members m.effect.action) _ (ap members m.action ∙ e) (and_both (m.effect.literal == 2 * f) _ (same_test _ _ m.literal) m.condition))
+    any_at (λ a. members a && gains task s a f) (action_numbers task) a (makes_among task s a (2 * f) g) (and_both (members a) (gains task s a f) e g)
 
 pub record Loser (task : Task) (members s : ℕ → Bool) (f : ℕ) : Type 0 where
   pub one : ℕ
@@ -52,11 +84,11 @@ pub record Loser (task : Task) (members s : ℕ → Bool) (f : ℕ) : Type 0 whe
 
 pub loser : (task : Task) (members s : ℕ → Bool) (f : ℕ) → lost task s members f ≡ true → Loser task members s f
 loser task members s f h =
-    let p = passing _ (effects task) h in
-    let x = and_split (members p.one.action) (loses task s p.one.action f) p.passes in
-    record { one = p.one.action; member = x.0; loss = x.1 }
+    let p = passing (λ a. members a && loses task s a f) (action_numbers task) h in
+    let x = and_split (members p.one) (loses task s p.one f) p.passes in
+    record { one = p.one; member = x.0; loss = x.1 }
 
 pub lost_by : (task : Task) (members s : ℕ → Bool) (a f : ℕ) → members a ≡ true → loses task s a f ≡ true → lost task s members f ≡ true
 lost_by task members s a f e l =
-    let m = maker task s a (2 * f + 1) (and_split (makes task s a (2 * f + 1)) _ l).0 in
-    any_at (λ e. members e.action && loses task s e.action f) (effects task) m.effect m.among (and_both (members m.effect.action) _ (ap members m.action ∙ e) (ap (λ b. loses task s b f) m.action ∙ l))
+    let m = and_split (makes task s a (2 * f + 1)) _ l in
+    any_at (λ a. members a && loses task s a f) (action_numbers task) a (makes_among task s a (2 * f + 1) m.0) (and_both (members a) (loses task s a f) e l)

@@ -4,10 +4,10 @@ use Rattle.std.specs.List.{list_any}
 use Rattle.gt_core.specs.Literal.{state_of, range, range_from}
 use Rattle.gt_core.specs.Task.{Effect, Action, Task, EffectOf, owned, effects_from, effects, action}
 use Rattle.gt_core.specs.Active.{is_active}
-use Rattle.gt_core.specs.Execution.{makes, next_of_one, next_values}
+use Rattle.gt_core.specs.Execution.{next_of_one, next_values}
 use Rattle.gt_core.proofs.Basics.{same_test, not_true, test_same}
 
--- What an action does is what its own effects do.
+-- The effects of an action among all effects of its task, and the state after it.
 
 any_append : {A : Type 0} (p : A → Bool) (xs ys : List A) → list_any p (xs ++ ys) ≡ (list_any p xs || list_any p ys)
 any_append p [] ys = refl
@@ -52,9 +52,6 @@ any_at_number p first (suc k) (x ∷ xs) =
 pub any_of_action : (task : Task) (p : Effect → Bool) (a : ℕ) → list_any (of_action a p) (effects task) ≡ list_any p (action task a).effects
 any_of_action task p a = let z : a ≡ 0 + a = omega arith in ap (λ (n : ℕ). list_any (of_action n p) (effects task)) z ∙ any_at_number p 0 a task.actions
 
-pub makes_by : (task : Task) (s : ℕ → Bool) (a l : ℕ) → makes task s a l ≡ list_any (is_active s l) (action task a).effects
-makes_by task s a l = any_of_action task (is_active s l) a
-
 -- an add over a delete, each over the state before
 pub settled : (g d now : Bool) → (g || (now && not d)) ≡ (g || (now && not (d && not g)))
 settled true d now = refl
@@ -80,4 +77,4 @@ values_are p facts values long h =
 pub next_after : (task : Task) (s : ℕ → Bool) (a : ℕ) (values : List Bool) → length values ≡ task.facts → ((f : ℕ) → f < task.facts → state_of values f ≡ (list_any (is_active s (2 * f)) (action task a).effects || (s f && not (list_any (is_active s (2 * f + 1)) (action task a).effects)))) → values ≡ next_values task s a
 next_after task s a values long h =
     values_are (next_of_one task s a) task.facts values long (λ f lt.
-    h f lt ∙ rw (makes_by task s a (2 * f), makes_by task s a (2 * f + 1)) (settled _ _ (s f)))
+    h f lt ∙ settled (list_any (is_active s (2 * f)) (action task a).effects) (list_any (is_active s (2 * f + 1)) (action task a).effects) (s f))

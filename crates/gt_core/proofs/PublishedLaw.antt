@@ -2,7 +2,7 @@ use Rattle.std.proofs.Common.{arith, ◌≡◌, ◌==◌, ℕ, ◌<◌, List, []
 use Rattle.std.specs.List.{flat_map, AllByRecursion}
 use Rattle.std.proofs.lemmas.Bool.Decides.{nat_tests}
 use Rattle.gt_core.specs.Literal.{is_in}
-use Rattle.gt_core.specs.Task.{Task, actions_of}
+use Rattle.gt_core.specs.Task.{Task, action_numbers}
 use Rattle.gt_core.specs.Interference.{together, has_edge}
 use Rattle.gt_core.specs.Published.{IsMutual, IsComponent, IsListed, IsPublished, Pairwise, order_of, KeepsApart}
 use Rattle.gt_core.proofs.Basics.{Among, each_at, each_from, or_left, and_both, not_true, apart, same_test, test_same}
@@ -76,7 +76,7 @@ module _ (task : Task) (clauses : List (ℕ × ℕ)) (components : List (List �
   edge = has_edge task clauses
 
   abbrev actions : List ℕ
-  actions = actions_of task
+  actions = action_numbers task
 
   closed_start : (a b : ℕ) → is_in [] a ≡ true → is_in actions b ≡ true → IsMutual edge a b → is_in [] b ≡ true
   closed_start a b i j m = i

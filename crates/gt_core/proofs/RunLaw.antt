@@ -1,16 +1,17 @@
 use Rattle.std.proofs.Common.{arith, ◌≡◌, ◌==◌, ℕ, ◌+◌, ◌*◌, ◌/◌, ◌%◌, ◌<◌, List, [], ◌∷◌, length, Bool, true, false, not, ◌||◌, ◌&&◌, refl, sym, ap, ◌∙◌, inl, inr}
 use Rattle.std.specs.List.{list_any, filter}
 use Rattle.gt_core.specs.Literal.{opposite, holds, all_hold, is_in}
-use Rattle.gt_core.specs.Task.{Task, EffectOf, effects, precondition, actions_of}
+use Rattle.gt_core.specs.Task.{Effect, Task, action, precondition, action_numbers}
+use Rattle.gt_core.specs.Active.{is_active}
 use Rattle.gt_core.specs.Execution.{makes, gains, loses, next_of_one, CanRun, run}
-use Rattle.gt_core.specs.Interference.{disables, takes, reads}
+use Rattle.gt_core.specs.Interference.{asks, disables, takes, reads}
 use Rattle.gt_core.specs.Published.{Pairwise, IsPublished, order_of}
 use Rattle.gt_core.specs.Step.{gained, lost, IsStep}
 use Rattle.gt_core.specs.Laws.{RunsInOrder}
-use Rattle.gt_core.proofs.Basics.{Among, passing, any_at, all_at, all_from, each_at, any_same, all_same, and_same, same_if, or_split, or_left, or_right, and_split, and_both, not_split, not_false, not_true, apart, same_test, test_same}
+use Rattle.gt_core.proofs.Basics.{Among, passing, any_at, all_at, all_from, each_at, any_same, all_same, same_if, or_split, or_left, or_right, and_split, and_both, not_split, not_false, not_true, apart, same_test, test_same}
 use Rattle.gt_core.proofs.Literals.{opposite_twice, holds_add, holds_delete, holds_same, half_opposite, even_is_add, odd_is_delete, add_opposite, delete_opposite, among_in, among_range}
 use Rattle.gt_core.proofs.Pairwise.{pairwise_both, pairwise_filter, filtered, into_filter}
-use Rattle.gt_core.proofs.Makers.{maker, gainer, gained_by, loser, lost_by}
+use Rattle.gt_core.proofs.Makers.{gainer, gained_by, loser, lost_by}
 use Rattle.gt_core.proofs.PublishedLaw.{published_apart, published_all}
 
 -- A step's members, run in published order, lead to the state after the step: what runs before an action takes
@@ -18,39 +19,33 @@ use Rattle.gt_core.proofs.PublishedLaw.{published_apart, published_all}
 
 pub disables_over : (task : Task) (m a b : ℕ) → (a == b) ≡ false → takes task m a ≡ true → reads task m b ≡ true → disables task a b ≡ true
 disables_over task m a b ne t r =
-    let p = passing _ (effects task) t in
-    let x = and_split (p.one.action == a) _ p.passes in
-    let l : p.one.literal ≡ opposite m = test_same _ _ x.1 in
+    let p = passing _ (action task a).effects t in
+    let l : p.one.literal ≡ opposite m = test_same _ _ p.passes in
     let back : opposite p.one.literal ≡ m = ap opposite l ∙ opposite_twice m in
-    let half : m / 2 ≡ p.one.literal / 2 = sym (half_opposite m) ∙ ap (λ (n : ℕ). n / 2) (sym l) in
+    let half : p.one.literal / 2 ≡ m / 2 = ap (λ (n : ℕ). n / 2) l ∙ half_opposite m in
     and_both _ _ (not_false _ ne)
-    (any_at _ (effects task) p.one p.among (and_both _ _ x.0
+    (any_at (λ e. is_in (precondition task b) (opposite e.literal) || asks task b (e.literal / 2)) (action task a).effects p.one p.among
     (elim (or_split (is_in (precondition task b) m) _ r) [
       | inl i ↦ or_left _ _ (ap (is_in (precondition task b)) back ∙ i)
-      | inr i ↦
-          let q = passing _ (effects task) i in
-          let y = and_split (q.one.action == b) _ q.passes in
-          let c = passing _ q.one.condition y.1 in
-          or_right _ _ (any_at _ (effects task) q.one q.among (and_both _ _ y.0 (any_at _ q.one.condition c.one c.among (same_test _ _ (test_same _ _ c.passes ∙ half)))))
-    ])))
+      | inr i ↦ or_right _ _ (ap (asks task b) half ∙ i)
+    ]))
 
 -- in the state u as in s: an action can run, and its effects' conditions are the same
 pub record Undisturbed (task : Task) (s u : ℕ → Bool) (b : ℕ) : Type 0 where
   pub runs : all_hold u (precondition task b) ≡ true
-  pub conditions : (e : EffectOf) → Among e (effects task) → e.action ≡ b → (c : ℕ) → Among c e.condition → u (c / 2) ≡ s (c / 2)
+  pub conditions : (e : Effect) → Among e (action task b).effects → (c : ℕ) → Among c e.condition → u (c / 2) ≡ s (c / 2)
 
 makes_same : (task : Task) (s u : ℕ → Bool) (a l : ℕ) → Undisturbed task s u a → makes task u a l ≡ makes task s a l
 makes_same task s u a l d =
-    any_same _ (λ e. (e.action == a) && ((e.literal == l) && all_hold s e.condition)) (effects task) (λ e i.
-    and_same (e.action == a) _ _ (λ x. ap (λ (b : Bool). (e.literal == l) && b)
-    (all_same (holds u) (holds s) e.condition (λ c j. holds_same u s c (d.conditions e i (test_same _ _ x) c j)))))
+    any_same (is_active u l) (is_active s l) (action task a).effects (λ e i.
+    ap (λ (b : Bool). (e.literal == l) && b) (all_same (holds u) (holds s) e.condition (λ c j. holds_same u s c (d.conditions e i c j))))
 
 -- an action that takes nothing of what another reads leaves it undisturbed
 module _ (task : Task) (s u : ℕ → Bool) (a b : ℕ) (free : (m : ℕ) → takes task m a ≡ true → reads task m b ≡ true → ⊥) where
   takes_of : (v : ℕ → Bool) (l : ℕ) → makes task v a (opposite l) ≡ true → takes task l a ≡ true
   takes_of v l h =
-      let m = maker task v a (opposite l) h in
-      any_at _ (effects task) m.effect m.among (and_both (m.effect.action == a) _ (same_test _ _ m.action) (same_test _ _ m.literal))
+      let p = passing (is_active v (opposite l)) (action task a).effects h in
+      any_at (λ e. e.literal == opposite l) (action task a).effects p.one p.among (and_split (p.one.literal == opposite l) _ p.passes).0
 
   unmade : (p : ℕ) → Among p (precondition task b) → makes task u a (opposite p) ≡ false
   unmade p i = not_true _ (λ h. free p (takes_of u p h) (or_left _ _ (any_at _ (precondition task b) p i (same_test p p refl))))
@@ -95,19 +90,19 @@ module _ (task : Task) (s u : ℕ → Bool) (a b : ℕ) (free : (m : ℕ) → ta
   half_add f = omega arith
 
   -- no effect of a touches a fact of an effect condition of b
-  untouched : (e : EffectOf) → Among e (effects task) → e.action ≡ b → (c : ℕ) → Among c e.condition → (l : ℕ) → l / 2 ≡ c / 2 → makes task u a l ≡ false
-  untouched e i x c j l h = not_true _ (λ k.
+  untouched : (e : Effect) → Among e (action task b).effects → (c : ℕ) → Among c e.condition → (l : ℕ) → l / 2 ≡ c / 2 → makes task u a l ≡ false
+  untouched e i c j l h = not_true _ (λ k.
       free (opposite l) (takes_of u (opposite l) (ap (makes task u a) (opposite_twice l) ∙ k))
-      (or_right _ _ (any_at _ (effects task) e i (and_both _ _ (same_test _ _ x) (any_at _ e.condition c j (same_test _ _ (sym h ∙ sym (half_opposite l))))))))
+      (or_right _ _ (any_at (λ d. list_any (λ n. n / 2 == opposite l / 2) d.condition) (action task b).effects e i (any_at (λ n. n / 2 == opposite l / 2) e.condition c j (same_test _ _ (sym h ∙ sym (half_opposite l)))))))
 
   pub undisturbed : Undisturbed task s u b → Undisturbed task s (next_of_one task u a) b
   undisturbed d = record {
     runs = all_from _ (precondition task b) (λ p i. still p (p % 2 == 0) refl i (all_at (holds u) (precondition task b) p d.runs i));
-    conditions = λ e i x c j.
+    conditions = λ e i c j.
         let f = c / 2 in
         keeps_same (gains task u a f) (makes task u a (2 * f + 1)) (u f)
-        (untouched e i x c j (2 * f) (half_add f)) (untouched e i x c j (2 * f + 1) (half_delete f))
-        ∙ d.conditions e i x c j;
+        (untouched e i c j (2 * f) (half_add f)) (untouched e i c j (2 * f + 1) (half_delete f))
+        ∙ d.conditions e i c j;
   }
 
 -- the gains and losses of a list of actions, in one state
@@ -160,7 +155,7 @@ runs_in_order task clauses components s members t published step =
     let o = pairwise_filter members _ (λ a b. ((a == b) ≡ false) × disables task a b ≡ false) order (λ a b x y q. (q.0, q.1 x y)) (pairwise_both _ _ order (published_apart task clauses components published) step.ordered) in
     let r = run_in_turn task s ms s (λ k i. (step.runs k (filtered members order k i).1).action) o
     (λ a b f i j. step.no_clash a b f (filtered members order a i).1 (filtered members order b j).1)
-    (λ k i. record { runs = (step.runs k (filtered members order k i).1).able; conditions = λ e a x c j. refl }) in
+    (λ k i. record { runs = (step.runs k (filtered members order k i).1).able; conditions = λ e a c j. refl }) in
     record {
       runs = r.0;
       leads = λ f lt.
@@ -176,4 +171,4 @@ runs_in_order task clauses components s members t published step =
     placed : (a : ℕ) → members a ≡ true → Among a (order_of components)
     placed a h =
         let lt = (step.runs a h).action in
-        published_all task clauses components published a (among_in (actions_of task) a (among_range (length task.actions) 0 a (omega arith) (omega arith)))
+        published_all task clauses components published a (among_in (action_numbers task) a (among_range (length task.actions) 0 a (omega arith) (omega arith)))

@@ -1,5 +1,6 @@
-use Rattle.std.specs.Prelude.{◌≡◌, ℕ, ◌+◌, ◌*◌, ◌/◌, ◌<◌, ◌≤◌, ◌⊎◌, ◌==◌, ◌&&◌, ◌||◌, nat_lt, if◌then◌else◌, List, ◌∷◌, ◌++◌, Bool, false, length, take, drop, slice_index_or}
+use Rattle.std.specs.Prelude.{◌≡◌, ℕ, ◌*◌, ◌/◌, ◌<◌, ◌≤◌, ◌⊎◌, ◌==◌, ◌&&◌, ◌||◌, nat_lt, if◌then◌else◌, List, [], ◌∷◌, ◌++◌, Bool, length, take, drop, slice_index_or}
 use Rattle.std.specs.List.{AllByRecursion}
+use Rattle.bit_rows.specs.Bits.{row_has}
 use Rattle.gt_core.specs.Interference.{has_clause}
 use Rattle.gt_core.specs.Published.{Pairwise}
 
@@ -22,10 +23,10 @@ pub record IsKnownClauses (known : KnownClauses) : Type 0 where
   pub lawful : AllByRecursion (IsClause known.facts) known.clauses
   pub sorted : Pairwise IsBefore known.clauses
 
--- a table that says of each two literals whether their clause is known
-pub record IsTable (facts : ℕ) (clauses : List (ℕ × ℕ)) (known : List Bool) : Type 0 where
-  pub long : length known ≡ (2 * facts) * (2 * facts)
-  pub tells : (l m : ℕ) → l < 2 * facts → m < 2 * facts → slice_index_or known (l * (2 * facts) + m) false ≡ has_clause clauses l m
+-- a row of bits for each literal: the literals that stand in a clause with it
+pub record AreClauseRows (facts : ℕ) (clauses : List (ℕ × ℕ)) (rows : List (List ℕ)) : Type 0 where
+  pub long : length rows ≡ 2 * facts
+  pub tells : (l m : ℕ) → l < 2 * facts → m < 2 * facts → row_has (slice_index_or rows l []) m ≡ has_clause clauses l m
 
 -- two lists have the same clauses
 abbrev pub SameClauses : List (ℕ × ℕ) → List (ℕ × ℕ) → Type 0

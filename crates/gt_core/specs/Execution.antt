@@ -1,22 +1,33 @@
-use Rattle.std.specs.Prelude.{◌≡◌, ℕ, ◌+◌, ◌*◌, ◌<◌, ◌==◌, List, [], ◌∷◌, Bool, true, false, not, ◌&&◌, ◌||◌, map, length}
+use Rattle.std.specs.Prelude.{◌≡◌, ℕ, ◌+◌, ◌*◌, ◌<◌, List, [], ◌∷◌, Bool, true, false, not, ◌&&◌, ◌||◌, map, length}
 use Rattle.std.specs.List.{list_any}
 use Rattle.gt_core.specs.Literal.{all_hold, range}
-use Rattle.gt_core.specs.Task.{Task, effects, precondition}
+use Rattle.gt_core.specs.Task.{Action, Task, action, precondition}
+use Rattle.gt_core.specs.Active.{is_active}
 
 -- Execution as in PDDL 2.1, level 1 (Fox and Long 2003): effects read the state before, and an add wins over a
 -- delete of the same action.
 
 -- an action makes a literal true: an effect of it has this literal, and its condition holds
-abbrev pub makes : Task → (ℕ → Bool) → ℕ → ℕ → Bool
-makes task s a l = list_any (λ e. (e.action == a) && ((e.literal == l) && all_hold s e.condition)) (effects task)
+abbrev pub action_makes : (ℕ → Bool) → Action → ℕ → Bool
+action_makes s x l = list_any (is_active s l) x.effects
 
 -- an action gains a fact
-abbrev pub gains : Task → (ℕ → Bool) → ℕ → ℕ → Bool
-gains task s a f = makes task s a (2 * f)
+abbrev pub action_gains : (ℕ → Bool) → Action → ℕ → Bool
+action_gains s x f = action_makes s x (2 * f)
 
 -- an action loses a fact: it deletes it and does not gain it
+abbrev pub action_loses : (ℕ → Bool) → Action → ℕ → Bool
+action_loses s x f = action_makes s x (2 * f + 1) && not (action_gains s x f)
+
+-- the same of the numbered actions of a task
+abbrev pub makes : Task → (ℕ → Bool) → ℕ → ℕ → Bool
+makes task s a l = action_makes s (action task a) l
+
+abbrev pub gains : Task → (ℕ → Bool) → ℕ → ℕ → Bool
+gains task s a f = action_gains s (action task a) f
+
 abbrev pub loses : Task → (ℕ → Bool) → ℕ → ℕ → Bool
-loses task s a f = makes task s a (2 * f + 1) && not (gains task s a f)
+loses task s a f = action_loses s (action task a) f
 
 -- the state after one action: the state before, less what is lost, with what is gained
 abbrev pub next_of_one : Task → (ℕ → Bool) → ℕ → ℕ → Bool

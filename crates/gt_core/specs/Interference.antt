@@ -1,18 +1,42 @@
 use Rattle.std.specs.Prelude.{◌≡◌, ℕ, ◌+◌, ◌*◌, ◌/◌, ◌==◌, List, Bool, true, not, ◌&&◌, ◌||◌, length}
 use Rattle.std.specs.List.{list_any, AllByRecursion}
 use Rattle.gt_core.specs.Literal.{opposite, is_in, holds}
-use Rattle.gt_core.specs.Task.{Task, effects, precondition}
+use Rattle.gt_core.specs.Task.{Action, Task, action, precondition}
+
+-- What actions do to each other: first over the actions themselves, then over the numbered actions of a task.
+
+-- an action needs a literal
+abbrev pub action_needs : Action → ℕ → Bool
+action_needs x l = is_in x.precondition l
 
 -- an action has a fact in an effect condition
-abbrev pub asks : Task → ℕ → ℕ → Bool
-asks task a f = list_any (λ e. (e.action == a) && list_any (λ c. c / 2 == f) e.condition) (effects task)
+abbrev pub action_asks : Action → ℕ → Bool
+action_asks x f = list_any (λ e. list_any (λ c. c / 2 == f) e.condition) x.effects
+
+-- an action has an effect with this literal
+abbrev pub action_may_make : Action → ℕ → Bool
+action_may_make x l = list_any (λ e. e.literal == l) x.effects
 
 -- one action disables another: an effect of it takes a precondition of the other, or has the fact of a literal in
 -- an effect condition of the other (Rintanen, Heljanko and Niemelä 2006)
-abbrev pub disables : Task → ℕ → ℕ → Bool
-disables task a b =
-    not (a == b)
-    && list_any (λ e. (e.action == a) && (is_in (precondition task b) (opposite e.literal) || asks task b (e.literal / 2))) (effects task)
+abbrev pub action_disables : Action → Action → Bool
+action_disables x y = list_any (λ e. action_needs y (opposite e.literal) || action_asks y (e.literal / 2)) x.effects
+
+-- an action has an effect without condition that makes a literal true
+abbrev pub action_surely_makes : Action → ℕ → Bool
+action_surely_makes x l = list_any (λ e. (e.literal == l) && (length e.condition == 0)) x.effects
+
+-- a sure gain: a fact that the action adds without condition
+abbrev pub action_surely_gains : Action → ℕ → Bool
+action_surely_gains x f = action_surely_makes x (2 * f)
+
+-- a sure loss: a fact that the action deletes without condition, and that no effect of it adds
+abbrev pub action_surely_loses : Action → ℕ → Bool
+action_surely_loses x f = action_surely_makes x (2 * f + 1) && not (action_may_make x (2 * f))
+
+-- some fact is a sure gain of the one and a sure loss of the other
+abbrev pub actions_clash : Action → Action → Bool
+actions_clash x y = list_any (λ e. action_surely_gains x (e.literal / 2) && action_surely_loses y (e.literal / 2)) x.effects
 
 -- Known clauses: each a pair of literals of which one holds in every state that actions reach; one literal by
 -- itself stands twice.
@@ -31,32 +55,38 @@ exclusive clauses p q =
     (q == opposite p) || (has_clause clauses (opposite p) (opposite q)
     || (has_clause clauses (opposite p) (opposite p) || has_clause clauses (opposite q) (opposite q)))
 
--- an action has an effect without condition that makes a literal true
-abbrev pub surely_makes : Task → ℕ → ℕ → Bool
-surely_makes task a l = list_any (λ e. (e.action == a) && ((e.literal == l) && (length e.condition == 0))) (effects task)
-
--- an action has an effect with this literal
-abbrev pub may_make : Task → ℕ → ℕ → Bool
-may_make task a l = list_any (λ e. (e.action == a) && (e.literal == l)) (effects task)
-
--- a sure gain: a fact that the action adds without condition
-abbrev pub surely_gains : Task → ℕ → ℕ → Bool
-surely_gains task a f = surely_makes task a (2 * f)
-
--- a sure loss: a fact that the action deletes without condition, and that no effect of it adds
-abbrev pub surely_loses : Task → ℕ → ℕ → Bool
-surely_loses task a f = surely_makes task a (2 * f + 1) && not (may_make task a (2 * f))
-
--- some fact is a sure gain of the one and a sure loss of the other
-abbrev pub surely_clash : Task → ℕ → ℕ → Bool
-surely_clash task a b = list_any (λ e. surely_gains task a (e.literal / 2) && surely_loses task b (e.literal / 2)) (effects task)
-
 -- two actions may share a step, as far as is known: their preconditions do not exclude each other, and neither
 -- surely gains what the other surely loses
+abbrev pub actions_together : List (ℕ × ℕ) → Action → Action → Bool
+actions_together clauses x y =
+    not (list_any (λ p. list_any (exclusive clauses p) y.precondition) x.precondition)
+    && (not (actions_clash x y) && not (actions_clash y x))
+
+-- The same of the numbered actions of a task. An action does not disable itself.
+
+abbrev pub asks : Task → ℕ → ℕ → Bool
+asks task a f = action_asks (action task a) f
+
+abbrev pub disables : Task → ℕ → ℕ → Bool
+disables task a b = not (a == b) && action_disables (action task a) (action task b)
+
+abbrev pub may_make : Task → ℕ → ℕ → Bool
+may_make task a l = action_may_make (action task a) l
+
+abbrev pub surely_makes : Task → ℕ → ℕ → Bool
+surely_makes task a l = action_surely_makes (action task a) l
+
+abbrev pub surely_gains : Task → ℕ → ℕ → Bool
+surely_gains task a f = action_surely_gains (action task a) f
+
+abbrev pub surely_loses : Task → ℕ → ℕ → Bool
+surely_loses task a f = action_surely_loses (action task a) f
+
+abbrev pub surely_clash : Task → ℕ → ℕ → Bool
+surely_clash task a b = actions_clash (action task a) (action task b)
+
 abbrev pub together : Task → List (ℕ × ℕ) → ℕ → ℕ → Bool
-together task clauses a b =
-    not (list_any (λ p. list_any (exclusive clauses p) (precondition task b)) (precondition task a))
-    && (not (surely_clash task a b) && not (surely_clash task b a))
+together task clauses a b = actions_together clauses (action task a) (action task b)
 
 -- the graph of the published order: an edge leads from a to b where a disables b and both may share a step
 abbrev pub has_edge : Task → List (ℕ × ℕ) → ℕ → ℕ → Bool

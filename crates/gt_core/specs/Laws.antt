@@ -1,10 +1,11 @@
-use Rattle.std.specs.Prelude.{◌≡◌, ℕ, ◌<◌, List, [], ◌∷◌, Bool}
+use Rattle.std.specs.Prelude.{◌≡◌, ℕ, ◌<◌, List, [], ◌∷◌, Bool, true}
 use Rattle.std.specs.List.{filter}
 use Rattle.gt_core.specs.Literal.{is_in}
-use Rattle.gt_core.specs.Task.{Task}
-use Rattle.gt_core.specs.Execution.{Runs, CanRun, run, next_of_one}
-use Rattle.gt_core.specs.Published.{IsPublished, order_of, KeepsApart}
-use Rattle.gt_core.specs.Step.{IsStep}
+use Rattle.gt_core.specs.Task.{Task, initial_state}
+use Rattle.gt_core.specs.Lawful.{is_task}
+use Rattle.gt_core.specs.Execution.{Runs, CanRun, run, next_of_one, IsGoal}
+use Rattle.gt_core.specs.Published.{IsPublished, order_of, KeepsApart, HasEachOnce}
+use Rattle.gt_core.specs.Step.{IsStep, IsStepPlan, sequence_of}
 
 -- the members of a step, run one after the other in published order, can each run and lead to the state after the step
 pub record RunsInOrder (task : Task) (order : List ℕ) (s members t : ℕ → Bool) : Type 0 where
@@ -29,3 +30,26 @@ EmptySetIsStep = (task : Task) (order : List ℕ) (s : ℕ → Bool) → IsStep 
 abbrev pub PublishedKeepsApart : Type 0
 PublishedKeepsApart =
     (task : Task) (clauses : List (ℕ × ℕ)) (components : List (List ℕ)) → IsPublished task clauses components → KeepsApart task clauses components
+
+-- there is one published order at most
+abbrev pub PublishedIsUnique : Type 0
+PublishedIsUnique =
+    (task : Task) (clauses : List (ℕ × ℕ)) (components others : List (List ℕ))
+    → IsPublished task clauses components → IsPublished task clauses others → components ≡ others
+
+-- a published order has every action of the task exactly once
+abbrev pub PublishedHasEachOnce : Type 0
+PublishedHasEachOnce =
+    (task : Task) (clauses : List (ℕ × ℕ)) (components : List (List ℕ)) → IsPublished task clauses components → HasEachOnce task components
+
+-- actions run one after the other from the initial state, and reach the goal
+pub record IsRunToGoal (task : Task) (actions : List ℕ) : Type 0 where
+  pub runs : CanRun task (initial_state task) actions
+  pub reaches : IsGoal task (run task (initial_state task) actions)
+
+-- a step plan, each step listed in published order, runs action by action and reaches the goal
+abbrev pub StepPlanRunsInOrder : Type 0
+StepPlanRunsInOrder =
+    (task : Task) (clauses : List (ℕ × ℕ)) (components : List (List ℕ)) (steps : ℕ → ℕ → Bool) (n : ℕ)
+    → is_task task ≡ true → IsPublished task clauses components → IsStepPlan task (order_of components) steps n
+    → IsRunToGoal task (sequence_of (order_of components) steps n)

@@ -1,11 +1,12 @@
 pub mod Literal
 pub mod Task
 pub mod Lawful
+pub mod Active
 pub mod Execution
 pub mod Interference
 pub mod Published
 pub mod Step
-pub mod Active
+pub mod Reached
 pub mod Clauses
 pub mod Layout
 pub mod Laws

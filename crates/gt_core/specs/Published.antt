@@ -1,7 +1,7 @@
-use Rattle.std.specs.Prelude.{◌≡◌, ℕ, ◌<◌, List, [], ◌∷◌, ◌++◌, Bool, true, false, ◌⊎◌}
+use Rattle.std.specs.Prelude.{◌≡◌, ℕ, ◌<◌, List, [], ◌∷◌, ◌++◌, Bool, true, false, ◌⊎◌, ◌==◌, length}
 use Rattle.std.specs.List.{flat_map, AllByRecursion}
 use Rattle.gt_core.specs.Literal.{is_in}
-use Rattle.gt_core.specs.Task.{Task, actions_of}
+use Rattle.gt_core.specs.Task.{Task, action_numbers}
 use Rattle.gt_core.specs.Interference.{has_edge, disables, together}
 
 -- each element stands so to each later one
@@ -45,11 +45,18 @@ IsListed edge actions taken ((name ∷ ks) ∷ rest) = IsNext edge actions taken
 
 -- the published order of a task under known clauses, as its list of components
 abbrev pub IsPublished : Task → List (ℕ × ℕ) → List (List ℕ) → Type 0
-IsPublished task clauses components = IsListed (has_edge task clauses) (actions_of task) [] components
+IsPublished task clauses components = IsListed (has_edge task clauses) (action_numbers task) [] components
 
 -- the actions of an order, component after component
 abbrev pub order_of : List (List ℕ) → List ℕ
 order_of components = flat_map (λ ks. ks) components
+
+-- the order has every action of the task exactly once
+pub record HasEachOnce (task : Task) (components : List (List ℕ)) : Type 0 where
+  pub has : (a : ℕ) → a < length task.actions → is_in (order_of components) a ≡ true
+  pub only : (a : ℕ) → is_in (order_of components) a ≡ true → a < length task.actions
+  pub once : Pairwise (λ a b. (a == b) ≡ false) (order_of components)
+  pub long : length (order_of components) ≡ length task.actions
 
 -- where an action disables a later one of another component, the two may not share a step
 abbrev pub KeepsApart : Task → List (ℕ × ℕ) → List (List ℕ) → Type 0

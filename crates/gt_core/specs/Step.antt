@@ -1,18 +1,18 @@
-use Rattle.std.specs.Prelude.{◌≡◌, ℕ, ◌+◌, ◌*◌, ◌<◌, ◌==◌, List, Bool, true, false, not, ◌&&◌, ◌||◌}
-use Rattle.std.specs.List.{list_any}
-use Rattle.gt_core.specs.Literal.{all_hold}
-use Rattle.gt_core.specs.Task.{Task, effects, initial_state}
+use Rattle.std.specs.Prelude.{◌≡◌, ℕ, ◌+◌, ◌<◌, List, Bool, true, false, not, ◌&&◌, ◌||◌}
+use Rattle.std.specs.List.{list_any, filter, flat_map}
+use Rattle.gt_core.specs.Literal.{range}
+use Rattle.gt_core.specs.Task.{Task, action_numbers, initial_state}
 use Rattle.gt_core.specs.Execution.{gains, loses, Runs, IsGoal}
 use Rattle.gt_core.specs.Interference.{disables}
 use Rattle.gt_core.specs.Published.{Pairwise}
 
 -- a member gains a fact
 abbrev pub gained : Task → (ℕ → Bool) → (ℕ → Bool) → ℕ → Bool
-gained task s members f = list_any (λ e. members e.action && ((e.literal == 2 * f) && all_hold s e.condition)) (effects task)
+gained task s members f = list_any (λ a. members a && gains task s a f) (action_numbers task)
 
 -- a member loses a fact
 abbrev pub lost : Task → (ℕ → Bool) → (ℕ → Bool) → ℕ → Bool
-lost task s members f = list_any (λ e. members e.action && loses task s e.action f) (effects task)
+lost task s members f = list_any (λ a. members a && loses task s a f) (action_numbers task)
 
 -- a state less all losses of the members, with all their gains
 abbrev pub next : Task → (ℕ → Bool) → (ℕ → Bool) → ℕ → Bool
@@ -37,3 +37,7 @@ pub record IsStepPlan (task : Task) (order : List ℕ) (steps : ℕ → ℕ → 
   pub begins : (f : ℕ) → f < task.facts → states 0 f ≡ initial_state task f
   pub leads : LeadsThrough task order states steps n
   pub reaches : IsGoal task (states n)
+
+-- the members of the first n sets, each set in the order
+abbrev pub sequence_of : List ℕ → (ℕ → ℕ → Bool) → ℕ → List ℕ
+sequence_of order steps n = flat_map (λ t. filter (steps t) order) (range n)

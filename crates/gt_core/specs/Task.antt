@@ -47,8 +47,8 @@ abbrev pub precondition : Task → ℕ → List ℕ
 precondition task a = (action task a).precondition
 
 -- the numbers of all actions, rising
-abbrev pub actions_of : Task → List ℕ
-actions_of task = range (length task.actions)
+abbrev pub action_numbers : Task → List ℕ
+action_numbers task = range (length task.actions)
 
 abbrev pub initial_state : Task → ℕ → Bool
 initial_state task = state_of task.initial

@@ -20,7 +20,8 @@ impl Model for Act {
 }
 
 impl Act {
-    ghost use Rattle.std.specs.Prelude.{◌≡◌};
+    ghost use Rattle.std.specs.Prelude.{◌≡◌, count_by};
+    ghost use Rattle.gt_core.specs.Lawful.{is_conditional};
 
     /// The action with this precondition and these effects.
     pub fn new(pre: Lits, effects: Effs) -> Act
@@ -41,6 +42,13 @@ impl Act {
         ensures { result.now ≡ self.now.effects }
     {
         self.effects.as_slice()
+    }
+
+    /// How many effects have a condition.
+    pub fn conditional(&self) -> usize
+        ensures { result ≡ count_by is_conditional self.now.effects }
+    {
+        self.effects().iter().filter(|e| e.is_conditional()).count()
     }
 }
 

@@ -21,6 +21,7 @@ impl Model for Eff {
 
 impl Eff {
     ghost use Rattle.std.specs.Prelude.{◌≡◌};
+    ghost use Rattle.gt_core.specs.Lawful.{is_conditional};
 
     /// The effect with this condition and this literal.
     pub fn new(cond: Lits, lit: u32) -> Eff
@@ -34,6 +35,13 @@ impl Eff {
         ensures { result.now ≡ self.now.condition }
     {
         self.cond.as_slice()
+    }
+
+    /// Whether there is a condition.
+    pub fn is_conditional(&self) -> bool
+        ensures { result ≡ is_conditional self.now }
+    {
+        !self.cond().is_empty()
     }
 
     /// The literal that comes true.

@@ -1,9 +1,9 @@
 //! The tests of what each task keeps.
 
-ghost use Rattle.std.specs.Prelude.{◌≡◌, ℕ, ◌≤◌, ◌*◌, nat_le, sum_by, count_by, None};
+ghost use Rattle.std.specs.Prelude.{◌≡◌, ℕ, ◌≤◌, ◌*◌, nat_le, None};
 ghost use Rattle.std.specs.List.{list_all};
 ghost use Rattle.std.specs.Option.{option_copied};
-ghost use Rattle.gt_core.specs.Lawful.{are_rising, list_less, effect_less, follows, are_effects, is_action, is_conditional, conditional_in};
+ghost use Rattle.gt_core.specs.Lawful.{are_rising, list_less, effect_less, follows, are_effects, is_action, conditional_in};
 
 use crate::act::Act;
 use crate::eff::Eff;
@@ -86,23 +86,28 @@ pub(crate) fn are_actions(acts: &[Act], facts: u32) -> bool
     acts.iter().all(|act| is_action(act, facts))
 }
 
-/// How many of these effects have a condition.
-fn conditional(effects: &[Eff]) -> usize
-    ensures { result ≡ count_by is_conditional effects.now }
-{
-    effects.iter().filter(|e| !e.cond().is_empty()).count()
-}
-
 pub(crate) fn has_few_conditional(acts: &[Act]) -> bool
     ensures { result ≡ nat_le (conditional_in acts.now) 65536 }
 {
     let mut left = 65536;
     for act in acts {
-        let count = conditional(act.effects());
+        let count = act.conditional();
         if count > left {
             return false;
         }
         left -= count;
     }
     true
+}
+
+/// How many effects of these actions have a condition.
+pub(crate) fn conditional_in(acts: &[Act]) -> u32
+    requires { conditional_in acts.now ≤ 65536 }
+    ensures { result ≡ conditional_in acts.now }
+{
+    let mut count = 0;
+    for act in acts {
+        count += act.conditional() as u32;
+    }
+    count
 }

@@ -1,6 +1,6 @@
 //! What makes steps and the published order useful, as a contract.
 
-ghost use Rattle.gt_core.specs.Laws.{EachStepRunsInOrder, OneActionIsStep, EmptySetIsStep, PublishedKeepsApart};
+ghost use Rattle.gt_core.specs.Laws.{EachStepRunsInOrder, OneActionIsStep, EmptySetIsStep, PublishedKeepsApart, PublishedIsUnique, PublishedHasEachOnce, StepPlanRunsInOrder};
 
 /// The laws of steps and of the published order. It does nothing.
 pub fn laws()
@@ -8,4 +8,7 @@ pub fn laws()
     ensures one_action { OneActionIsStep }
     ensures empty_set { EmptySetIsStep }
     ensures keeps_apart { PublishedKeepsApart }
+    ensures unique { PublishedIsUnique }
+    ensures each_once { PublishedHasEachOnce }
+    ensures plan_runs { StepPlanRunsInOrder }
 {}

@@ -48,7 +48,7 @@ impl Layout {
     }
 
     /// The first variable of a step, or past the last step that of the facts.
-    fn step_start(&self, step: u32) -> u32
+    pub fn step_start(&self, step: u32) -> u32
         requires { step ≤ self.now.horizon }
         ensures start { result ≡ step * width self.now }
         ensures lawful { IsLayout self.now }

@@ -79,3 +79,13 @@ impl Bits {
         self.items.as_slice()
     }
 }
+
+ghost use Rattle.std.specs.Prelude.{◌≡◌};
+ghost use Rattle.gt_core.specs.Literal.{opposite};
+
+/// The literal that says the contrary.
+pub fn opposite(lit: u32) -> u32
+    ensures { result ≡ opposite lit }
+{
+    if lit % 2 == 0 { lit + 1 } else { lit - 1 }
+}

@@ -1,27 +1,29 @@
 //! Clauses of one or two fact literals that are known of the states of a task.
 
-use crate::clause_list::{in_order, mark, put_in};
+use crate::clause_list::{in_order, make_room, mark, put_in};
 use crate::memory::Memory;
+use bit_rows::row::{BitRow, empty_rows};
 use std::alloc::Global;
 use std::marker::Model;
 
 /// A set of clauses of one fact literal, or of two literals of different facts, over so many facts. It is kept as a
-/// sorted list, and as a table that says of each two literals whether their clause is in the set.
+/// sorted list, and as a row of bits for each literal, which has the literals that stand in a clause with it. A
+/// literal without a clause takes no row.
 #[derive(Debug, Drop)]
 pub struct Pairs {
     facts: u32,
     clauses: Vec<(u32, u32)>,
-    known: Vec<bool>,
+    rows: Vec<BitRow>,
 }
 
 impl Model for Pairs {
-    ghost use Rattle.gt_core.specs.Clauses.{KnownClauses, IsKnownClauses, IsTable};
+    ghost use Rattle.gt_core.specs.Clauses.{KnownClauses, IsKnownClauses, AreClauseRows};
 
     ghost Value = { KnownClauses };
 
     ghost view = { λ p. record { facts = p.facts; clauses = p.clauses.items } };
 
-    ghost invariant = { λ p. IsKnownClauses (record { facts = p.facts; clauses = p.clauses.items }) × IsTable p.facts p.clauses.items p.known.items };
+    ghost invariant = { λ p. IsKnownClauses (record { facts = p.facts; clauses = p.clauses.items }) × AreClauseRows p.facts p.clauses.items p.rows.items };
 }
 
 impl Pairs {
@@ -35,12 +37,10 @@ impl Pairs {
         requires { facts ≤ 2048 }
         ensures { IfOk result (λ pairs. pairs ≡ record { facts = facts; clauses = [] }) }
     {
-        let side = (2 * facts) as usize;
-        let known = vec![in alloc; false; side * side]?;
         Ok(Pairs {
             facts,
             clauses: Vec::new(alloc),
-            known,
+            rows: empty_rows(alloc, 2 * facts as usize)?,
         })
     }
 
@@ -58,10 +58,11 @@ impl Pairs {
         if self.has(l, m) {
             return Ok(());
         }
+        make_room(&mut self.rows, l, m)?;
+        make_room(&mut self.rows, m, l)?;
         put_in(&mut self.clauses, in_order(l, m))?;
-        let side = 2 * self.facts as usize;
-        mark(&mut self.known, side, l as usize, m as usize);
-        mark(&mut self.known, side, m as usize, l as usize);
+        mark(&mut self.rows, l, m);
+        mark(&mut self.rows, m, l);
         Ok(())
     }
 
@@ -81,8 +82,7 @@ impl Pairs {
         if l >= side || m >= side {
             return false;
         }
-        let place = l as usize * side as usize + m as usize;
-        self.known[place]
+        self.rows[l as usize].contains(m)
     }
 
     /// How many clauses there are.

@@ -7,7 +7,7 @@ ghost use Rattle.gt_core.specs.Active.{is_active, EffectWithin};
 
 use crate::act::{Act, Acts};
 use crate::eff::Eff;
-use crate::lawful::{are_actions, are_rising, has_few_conditional};
+use crate::lawful::{are_actions, are_rising, conditional_in, has_few_conditional};
 use crate::lits::{Bits, Lits};
 use std::marker::Model;
 
@@ -38,7 +38,7 @@ impl Model for Task {
 
 impl Task {
     ghost use Rattle.gt_core.specs.Task.{Task as TaskValue, action, precondition};
-    ghost use Rattle.gt_core.specs.Lawful.{is_task};
+    ghost use Rattle.gt_core.specs.Lawful.{is_task, conditional_in};
     ghost use Rattle.gt_core.specs.Execution.{next_values};
 
     /// The task of these parts, which are those of a task.
@@ -116,6 +116,14 @@ impl Task {
         ensures lawful { is_task self.now ≡ true }
     {
         &self.acts()[act as usize]
+    }
+
+    /// How many effects of the actions have a condition.
+    pub fn conditional(&self) -> u32
+        ensures conditional { result ≡ conditional_in self.now.actions }
+        ensures few { result ≤ 65536 }
+    {
+        conditional_in(self.acts())
     }
 
     /// Whether a literal holds in a state, which has a truth value for each fact.
@@ -228,6 +236,17 @@ mod tests {
         let acts = Acts::of(vec![in rt.alloc(); act]?);
         let task = Task::try_new(1, init, goal, false, acts).ok_or("no task")?;
         Ok(task)
+    }
+
+    /// What may be shared among threads.
+    fn shared<T: Sync>(_: &T) {}
+
+    #[test]
+    fn task_is_shared_among_threads(rt: HostRuntime) -> Result<(), Fail> {
+        let task = both(&rt, false)?;
+        shared(&task);
+        assert_eq!(rt; task.conditional(), 0);
+        Ok(())
     }
 
     #[test]

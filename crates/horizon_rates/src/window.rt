@@ -54,6 +54,8 @@ impl Window {
         ensures next { IfSome result (λ h. listed self.old.rates self.old.next ≡ Some h) }
         ensures taken { IfSome result (λ h. self.new
             ≡ record self.old { live = self.old.live ++ h ∷ []; next = self.old.next + 1 }) }
+        ensures at_most_max { IfSome result (λ h. h ≤ self.old.rates.max) }
+        ensures small { IfSome result (λ h. h ≤ 255) }
     {
         if self.count >= self.rates.width {
             return None;
@@ -61,6 +63,17 @@ impl Window {
         let horizon = self.rates.nth(self.first + self.count)?;
         self.count += 1;
         Some(horizon)
+    }
+
+    /// The listed horizon that comes in next, whether or not there is room for it; `None` exactly where
+    /// the list is at its end.
+    pub fn next_listed(&self) -> Option<u32>
+        ensures value { result ≡ listed self.now.rates self.now.next }
+        ensures window { IsWindow self.now }
+        ensures at_most_max { IfSome result (λ h. h ≤ self.now.rates.max) }
+        ensures small { IfSome result (λ h. h ≤ 255) }
+    {
+        self.rates.nth(self.first + self.count)
     }
 
     /// How many horizons are live.
@@ -76,6 +89,8 @@ impl Window {
     pub fn live(&self, place: u32) -> Option<u32>
         ensures value { result ≡ slice_get self.now.live place }
         ensures window { IsWindow self.now }
+        ensures at_most_max { IfSome result (λ h. h ≤ self.now.rates.max) }
+        ensures small { IfSome result (λ h. h ≤ 255) }
     {
         if place >= self.count {
             return None;

@@ -4,3 +4,6 @@ pub mod States
 pub mod Alike
 mod Rows
 pub mod LampTask
+pub mod TypeWalk
+pub mod Rooted
+pub mod LineLaw

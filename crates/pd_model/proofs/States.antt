@@ -36,20 +36,6 @@ removed s n x h a =
     sym (any_tied a n) ∙ h a ∙ (λ i. cond (tied x a i) false (any_tied a s i))
     ∙ and_by_cond (same_atom x a) (is_in a s) ∙ sym (is_in-filter a (λ b. not (same_atom x b)) s)
 
-move_front : (x g s : Bool) → (x || (g || s)) ≡ ((g || (x || false)) || s)
-move_front true true s = refl
-move_front true false s = refl
-move_front false true s = refl
-move_front false false s = refl
-
--- one more atom added
-pub one_added : (s t n : List Atom) (xs : List Atom) (x : Atom) → SameState n (x ∷ t) → SameState t (xs ++ s) → SameState n ((xs ++ x ∷ []) ++ s)
-one_added s t n xs x one so_far a =
-    one a ∙ (λ i. same_atom a x || so_far a i) ∙ (λ i. same_atom a x || list_any-append (same_atom a) xs s i)
-    ∙ move_front (same_atom a x) (is_in a xs) (is_in a s)
-    ∙ (λ i. sym (list_any-append (same_atom a) xs (x ∷ [])) i || is_in a s)
-    ∙ sym (list_any-append (same_atom a) (xs ++ x ∷ []) s)
-
 move_not : (x d s : Bool) → (not x && (not d && s)) ≡ (not (d || (x || false)) && s)
 move_not true true s = refl
 move_not true false s = refl

@@ -1,44 +1,11 @@
 -- Loops over objects, types and effects.
-use Rattle.std.proofs.Common.{◌≡◌, ℕ, zero, suc, ◌+◌, ◌-◌, ◌<◌, Bool, true, false, cond, List, [], ◌∷◌, ◌++◌, length, take, drop, get_or, map, refl, ap, ◌∙◌, sym, append_assoc, arith}
-use Rattle.std.specs.Prelude.{◌==◌, ◌||◌, slice_index}
-use Rattle.std.specs.List.{flat_map, filter, range_with_len, slice_get}
+use Rattle.std.proofs.Common.{◌≡◌, ℕ, zero, suc, ◌+◌, ◌-◌, ◌<◌, Bool, true, false, cond, List, [], ◌∷◌, ◌++◌, length, take, drop, get_or, map, refl, ap, ◌∙◌, append_assoc, arith}
+use Rattle.std.specs.List.{flat_map, filter}
 use Rattle.std.proofs.lemmas.List.{append-nil, take_more, nil_from_length, take_at, length-append}
 use Rattle.std.proofs.lemmas.List.Concat.{flat_map-append, flat_map-cons}
 use Rattle.std.proofs.lemmas.List.Elements.{filter-append}
-use Rattle.std.proofs.lemmas.List.FromFn.{filter_of_map_range_with_len_more}
-use Rattle.std.proofs.Common.{Some}
-use Rattle.pd_model.specs.Types.{leads_to}
 use Rattle.pd_model.specs.Fits.{tuples, all_fit}
 use Rattle.pd_model.specs.declared.parts.Parts.{Parts}
-
-pub leads_step : (parents : List ℕ) (n i at above : ℕ) → i < n → (at ≡ above → ⊥) → leads_to parents (n - (i + 1)) (slice_index parents at) above ≡ leads_to parents (n - i) at above
-leads_step parents n i at above lt ne =
-    let k : n - i ≡ suc (n - (i + 1)) = omega arith in
-    let differs : (at == above) ≡ false = grind (arith, ne) in
-    rw (k, differs) refl
-
-leads_from_root : (parents : List ℕ) (n above : ℕ) → slice_index parents 0 ≡ 0 → leads_to parents n 0 above ≡ (0 == above)
-leads_from_root parents zero above root = refl
-leads_from_root parents (suc n) above root = rw (root, leads_from_root parents n above root) (or_itself (0 == above))
-  where
-    or_itself : (b : Bool) → (b || b) ≡ b
-    or_itself true = refl
-    or_itself false = refl
-
--- nothing lies above type 0
-pub at_root : (parents : List ℕ) (n at above : ℕ) → slice_index parents 0 ≡ 0 → at ≡ 0 → (at ≡ above → ⊥) → leads_to parents n at above ≡ false
-at_root parents n at above root is ne =
-    let other : (0 == above) ≡ false = grind (arith, rw is at ne) in
-    rw is (leads_from_root parents n above root ∙ other)
-
-map_id : (xs : List ℕ) → map (λ x. x) xs ≡ xs
-map_id [] = refl
-map_id (x ∷ xs) = ap (λ (ys : List ℕ). x ∷ ys) (map_id xs)
-
-pub picked_more : (pick : ℕ → Bool) (i : ℕ) → filter pick (range_with_len 0 (i + 1)) ≡ filter pick (range_with_len 0 i) ++ cond (pick i) (i ∷ []) []
-picked_more pick i =
-    let more = filter_of_map_range_with_len_more pick (λ x. x) 0 i i (omega arith) in
-    rw (map_id, map_id) at more
 
 prefixed : {A : Type 0} (f : List ℕ → List A) (o : ℕ) (ts : List (List ℕ)) → flat_map f (map (λ os. o ∷ os) ts) ≡ flat_map (λ os. f (o ∷ os)) ts
 prefixed f o [] = refl
@@ -77,11 +44,6 @@ chosen g false x front = refl
 pub signed_more : {X A : Type 0} (g : X → List A) (pick : X → Bool) (xs : List X) (i : ℕ) (x : X) → i < length xs → x ≡ get_or xs i x
     → flat_map g (filter pick (take (i + 1) xs)) ≡ flat_map g (filter pick (take i xs)) ++ cond (pick x) (g x) []
 signed_more g pick xs i x lt at = rw (take_more xs i x lt, ← at, filter-append, flat_map-append) (chosen g (pick x) x (flat_map g (filter pick (take i xs))))
-
-pub found_at : {X : Type 0} (xs : List X) (n : ℕ) (x : X) → n < length xs → x ≡ get_or xs n x → slice_get xs n ≡ Some x
-found_at [] n x lt at = absurd (omega (arith, lt))
-found_at (y ∷ ys) zero x lt at = ap (λ (z : _). Some z) (sym at)
-found_at (y ∷ ys) (suc n) x lt at = found_at ys n x (omega (arith, lt)) at
 
 -- a type is left, and no object
 pub none_left : (p : Parts) (kinds : List ℕ) (i : ℕ) (rest : List ℕ) → i < length kinds → length rest ≡ 0 → all_fit p (drop i kinds) rest ≡ false

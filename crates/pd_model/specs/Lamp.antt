@@ -1,5 +1,5 @@
 -- The task of the tests: a lamp that is flipped on where it is off, by an action that also deletes what it adds.
-use Rattle.std.specs.Prelude.{[], ◌∷◌, true, false}
+use Rattle.std.specs.Prelude.{[], ◌∷◌, true, false, codes}
 use Rattle.pd_model.specs.declared.atoms.Pattern.{Pattern}
 use Rattle.pd_model.specs.declared.conds.Cond.TheVariants.{Has}
 use Rattle.pd_model.specs.declared.schemas.Schema.{Schema}
@@ -12,7 +12,7 @@ on = record { predicate = 0; terms = [] }
 -- the action: it needs the lamp off, and both adds and deletes that it is on
 abbrev pub flip_schema : Schema
 flip_schema = record {
-  name = [];
+  name = codes "flip";
   parameters = [];
   pre = Has on false ∷ [];
   effects = record { over = []; cond = []; atom = on; adds = true } ∷ record { over = []; cond = []; atom = on; adds = false } ∷ [];
@@ -21,8 +21,8 @@ flip_schema = record {
 -- the lamp is off at first and is to be on
 abbrev pub lamp : Parts
 lamp = record {
-  types = record { name = []; parent = 0 } ∷ [];
-  predicates = record { name = []; arity = 0 } ∷ [];
+  types = record { name = codes "object"; parent = 0 } ∷ [];
+  predicates = record { name = codes "on"; arity = 0 } ∷ [];
   objects = [];
   schemas = flip_schema ∷ [];
   init = [];

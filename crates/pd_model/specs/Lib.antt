@@ -1,5 +1,9 @@
 pub mod Types
+pub mod TypeTree
+pub mod Line
+pub mod Walk
 pub mod Names
+pub mod Text
 pub mod WellFormed
 pub mod State
 pub mod Instance
@@ -8,3 +12,4 @@ pub mod Exec
 pub mod Plan
 pub mod Follows
 pub mod Lamp
+pub mod Few

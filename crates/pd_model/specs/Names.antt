@@ -1,5 +1,8 @@
 -- The names of what a task declares, by number.
-use Rattle.std.specs.Prelude.{ℕ, List, map}
+use Rattle.std.specs.Prelude.{ℕ, Bool, true, false, ◌&&◌, not, List, [], ◌∷◌, map, if◌then◌else◌}
+use Rattle.std.specs.Str.{bytes_eq}
+use Rattle.std.specs.List.{list_all}
+use Rattle.pd_sexp.specs.Word.{is_word}
 use Rattle.pd_model.specs.declared.types.TypeDecl.{TypeDecl}
 use Rattle.pd_model.specs.declared.predicates.Predicate.{Predicate}
 use Rattle.pd_model.specs.declared.objects.ObjectDecl.{ObjectDecl}
@@ -24,3 +27,17 @@ object_names objects = map (λ o. o.name) objects
 -- the names of the actions
 abbrev pub schema_names : List Schema → List (List ℕ)
 schema_names schemas = map (λ s. s.name) schemas
+
+-- whether the name stands in the list
+abbrev pub is_among : List ℕ → List (List ℕ) → Bool
+is_among name [] = false
+is_among name (n ∷ ns) = if bytes_eq name n then true else is_among name ns
+
+-- whether no name stands twice
+abbrev pub are_distinct : List (List ℕ) → Bool
+are_distinct [] = true
+are_distinct (n ∷ ns) = not (is_among n ns) && are_distinct ns
+
+-- whether each name is a word of small letters, and no name stands twice
+abbrev pub are_names : List (List ℕ) → Bool
+are_names names = list_all is_word names && are_distinct names

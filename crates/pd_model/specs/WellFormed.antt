@@ -1,7 +1,8 @@
--- What each task keeps: its numbers name something, its types lead to `object`, and an atom has as many
--- terms as its predicate takes.
+-- What each task keeps: its names are words, each of one thing; its numbers name something, its types lead to
+-- `object`, and an atom has as many terms as its predicate takes.
 use Rattle.std.specs.Prelude.{◌≡◌, ◌<◌, ℕ, ◌+◌, ◌^◌, Bool, false, ◌==◌, ◌&&◌, nat_lt, List, length, Option, Some, None, IsTrue, slice_get}
 use Rattle.std.specs.List.{list_all}
+use Rattle.pd_model.specs.Names.{type_names, predicate_names, object_names, schema_names, are_names}
 use Rattle.pd_model.specs.Types.{parents_of, kinds_of, is_under}
 use Rattle.pd_model.specs.declared.predicates.Predicate.{Predicate}
 use Rattle.pd_model.specs.declared.atoms.Term.{Term}
@@ -63,6 +64,10 @@ pub record IsWellFormed (p : Parts) : Type 0 where
   pub few_predicates : length p.predicates < 2 ^ 32
   pub few_objects : length p.objects < 2 ^ 32
   pub few_schemas : length p.schemas < 2 ^ 32
+  pub type_names : IsTrue (are_names (type_names p.types))
+  pub predicate_names : IsTrue (are_names (predicate_names p.predicates))
+  pub object_names : IsTrue (are_names (object_names p.objects))
+  pub schema_names : IsTrue (are_names (schema_names p.schemas))
   -- type 0 is `object`, its own parent
   pub has_object : slice_get (parents_of p.types) 0 ≡ Some 0
   pub parents : IsTrue (are_below (length p.types) (parents_of p.types))

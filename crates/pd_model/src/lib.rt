@@ -11,8 +11,10 @@ mod calls;
 mod conds;
 mod effects;
 mod exec;
+mod few;
 mod fits;
 mod instance;
+mod line;
 mod memory;
 mod objects;
 mod parts;
@@ -23,12 +25,15 @@ mod schemas;
 mod state;
 #[cfg(test)]
 mod tests;
+mod type_tree;
 mod types;
+mod walk;
 
 pub use atoms::{Atom, Atoms, Pattern, Term, Terms};
 pub use calls::{Call, Calls, Verdict};
 pub use conds::{Cond, Conds};
 pub use effects::{Effect, Effects};
+pub use few::few_parts;
 pub use fits::fitting_objects;
 pub use instance::{instance_of, object_of};
 pub use memory::{Memory, Which};

@@ -1,5 +1,5 @@
 -- What is read is calls, and there are no more of them than bytes.
-use Rattle.std.proofs.Common.{◌≡◌, ◌≤◌, ◌<◌, ℕ, suc, ◌+◌, Bool, true, false, cond, List, [], ◌∷◌, ◌++◌, length, Option, Some, None, Result, Ok, Err, drop, get_or, refl, sym, ap, subst, ◌∙◌, append-nil, arith}
+use Rattle.std.proofs.Common.{◌≡◌, ◌≤◌, ◌<◌, ℕ, suc, ◌+◌, Bool, true, false, cond, List, [], ◌∷◌, ◌++◌, length, Result, Ok, Err, drop, get_or, refl, sym, ap, ◌∙◌, append-nil, arith}
 use Rattle.std.proofs.lemmas.List.{drop_more}
 use Rattle.std.specs.Prelude.{◌==◌, IfOk, IsTrue, slice_get}
 use Rattle.std.specs.List.{list_all}
@@ -15,29 +15,13 @@ use Rattle.pd_words.specs.declared.named.Named.{Named}
 use Rattle.pd_plan.specs.declared.lists.WordList.{WordList}
 use Rattle.pd_plan.specs.Fault.{Fault, syntax, unknown, arity, mistyped}
 use Rattle.pd_plan.specs.declared.fault.PlanFault.{PlanFault}
-use Rattle.pd_plan.specs.First.{◌>>=◌, found, wants, after, Gives}
+use Rattle.pd_words.specs.First.{◌>>=◌, found, wants, after}
+use Rattle.pd_plan.specs.Answers.{Gives}
+use Rattle.pd_words.proofs.Sound.{bind_ok, wants_ok, found_ok, ok_is}
 use Rattle.pd_plan.proofs.Steps.{after-one}
 use Rattle.pd_plan.specs.Tokens.{Token, opening, closing, word, wrong, sign, joined, tokens}
 use Rattle.pd_plan.specs.WordLists.{word_list, lists, list_on, word_lists}
 use Rattle.pd_plan.specs.PlanFile.{argument, arguments, call_from, call_of, calls_of}
-
--- ---- tests in order
-
-bind_ok : {A B : Type 0} (P : A → Type 0) (Q : B → Type 0) (read : Result A Fault) (next : A → Result B Fault) → IfOk read P → ((x : A) → P x → IfOk (next x) Q) → IfOk (read >>= next) Q
-bind_ok P Q (Ok x) next h more = more x h
-bind_ok P Q (Err e) next h more = tt
-
-wants_ok : {B : Type 0} (Q : B → Type 0) (test : Bool) (fault : Fault) (next : Unit {0} → Result B Fault) → (test ≡ true → IfOk (next tt) Q) → IfOk (wants test fault >>= next) Q
-wants_ok Q true fault next more = more refl
-wants_ok Q false fault next more = tt
-
-found_ok : {A B : Type 0} (Q : B → Type 0) (fault : Fault) (option : Option A) (next : A → Result B Fault) → ((x : A) → option ≡ Some x → IfOk (next x) Q) → IfOk (found fault option >>= next) Q
-found_ok Q fault None next more = tt
-found_ok Q fault (Some x) next more = more x refl
-
-pub ok_is : {A : Type 0} (P : A → Type 0) (read : Result A Fault) (x : A) → read ≡ Ok x → IfOk read P → P x
-ok_is P (Ok y) x is h = let same : y ≡ x = cc in subst P same h
-ok_is P (Err e) x is h = absurd cc
 
 -- ---- calls
 

@@ -4,3 +4,4 @@ pub mod Kept
 pub mod Rows
 pub mod DepotTask
 pub mod Spelled
+pub mod PlanTextLaw

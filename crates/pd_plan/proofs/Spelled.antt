@@ -1,18 +1,18 @@
 -- A file that is written as gaps and lists is read as the calls that these spell.
 use Rattle.std.proofs.Common.{◌≡◌, ℕ, ◌+◌, ◌==◌, Bool, true, false, cond, List, [], ◌∷◌, ◌++◌, length, map, Result, Ok, Err, refl, ap, ◌∙◌, append_assoc, arith, MatchBool, length-append, ◌⊎◌, inl, inr, append-nil}
+use Rattle.std.proofs.lemmas.Bool.{and_parts}
 use Rattle.std.specs.Prelude.{IsTrue}
 use Rattle.std.specs.List.{list_all}
 use Rattle.pd_sexp.specs.Bytes.{open_paren, close_paren, semicolon, line_feed, is_blank, is_letter, lowered}
 use Rattle.pd_sexp.specs.Tree.{list, trees_of}
 use Rattle.pd_sexp.specs.File.{IsGap, IsComment, StopsWord, IsTree, AreItems}
 use Rattle.pd_sexp.specs.Fault.{uncommented, comment_blanked}
-use Rattle.pd_sexp.proofs.Bytes.{both}
 use Rattle.pd_model.specs.declared.calls.Call.{Call}
 use Rattle.pd_model.specs.declared.parts.Parts.{Parts}
 use Rattle.pd_words.specs.declared.named.Named.{Named}
 use Rattle.pd_plan.specs.declared.lists.WordList.{WordList}
 use Rattle.pd_plan.specs.Fault.{Fault, syntax}
-use Rattle.pd_plan.specs.First.{◌>>=◌}
+use Rattle.pd_words.specs.First.{◌>>=◌}
 use Rattle.pd_plan.specs.Tokens.{Token, word, sign, joined, tokens}
 use Rattle.pd_plan.specs.WordLists.{word_list, lists, list_on}
 use Rattle.pd_plan.specs.PlanFile.{call_from, calls_of, plan_file}
@@ -29,7 +29,7 @@ comment_marks o bytes = tokens o (comment_blanked bytes)
 
 -- ---- gaps
 
-choice : {P Q : Type 0} (t : Bool) → MatchBool t P Q → ((t ≡ true) × P) ⊎ ((t ≡ false) × Q)
+pub choice : {P Q : Type 0} (t : Bool) → MatchBool t P Q → ((t ≡ true) × P) ⊎ ((t ≡ false) × Q)
 choice true h = inl (refl, h)
 choice false h = inr (refl, h)
 
@@ -100,7 +100,7 @@ word_marks start o before [] (b ∷ rest) are stops =
     let still : o + length (let none : List ℕ = [] in none) ≡ o = omega arith in
     rw (append-nil before, still) (ends start before o b rest (stops_letter b rest stops))
 word_marks start o before (b ∷ w) rest are stops =
-    let letters = both (is_letter b) (list_all is_letter w) are in
+    let letters = and_parts (is_letter b) (list_all is_letter w) are in
     let longer : o + 1 + length w ≡ o + length (b ∷ w) = omega arith in
     let whole : (before ++ lowered b ∷ []) ++ map lowered w ≡ before ++ (lowered b ∷ map lowered w) = append_assoc before (lowered b ∷ []) (map lowered w) in
     ap (joined start before o) (letter_tokens o b (w ++ rest) letters.0)
@@ -110,7 +110,7 @@ word_marks start o before (b ∷ w) rest are stops =
 first_word : (o : ℕ) (w : Named) (item rest : List ℕ) → IsTree (tree_of_word w) o item → StopsWord rest → marks o (item ++ rest) ≡ word w.at w.name ∷ marks (o + length item) rest
 first_word o w [] rest is stops = absurd (is.1 refl)
 first_word o w (b ∷ item) rest is stops =
-    let letters = both (is_letter b) (list_all is_letter item) is.2 in
+    let letters = and_parts (is_letter b) (list_all is_letter item) is.2 in
     let longer : o + 1 + length item ≡ o + length (b ∷ item) = omega arith in
     let read = letter_tokens o b (item ++ rest) letters.0 ∙ word_marks o (o + 1) (lowered b ∷ []) item rest letters.1 stops in
     rw (is.0, is.3) (rw longer at read)
@@ -177,7 +177,3 @@ spelled_from p end o bytes (call ∷ calls) h =
 -- what is spelled is what is read
 pub spelled : (p : Parts) (bytes : List ℕ) (calls : List Call) → Spells p bytes calls → plan_file p bytes ≡ Ok calls
 spelled p bytes calls h = spelled_from p (length bytes) 0 bytes calls h
-
--- a file of comments alone spells no calls
-pub comments_alone : (p : Parts) (bytes : List ℕ) → IsGap true bytes → plan_file p bytes ≡ Ok []
-comments_alone p bytes h = spelled p bytes [] h

@@ -11,7 +11,8 @@ use Rattle.pd_plan.specs.declared.lists.WordList.{WordList}
 use Rattle.pd_plan.specs.declared.fault.PlanFault.{PlanFault}
 use Rattle.pd_plan.specs.declared.fault.PlanFault.TheVariants as error
 use Rattle.pd_plan.specs.Fault.{Fault, syntax}
-use Rattle.pd_plan.specs.First.{◌>>=◌, after, Fails}
+use Rattle.pd_words.specs.First.{◌>>=◌, after}
+use Rattle.pd_plan.specs.Answers.{Fails}
 use Rattle.pd_plan.specs.Tokens.{Token, opening, closing, word, wrong, sign, joined, tokens}
 use Rattle.pd_plan.specs.WordLists.{word_list, lists, list_on, word_lists}
 use Rattle.pd_plan.specs.Progress as at
@@ -24,10 +25,6 @@ equal m n h = grind (arith, h)
 
 same : (n : ℕ) → (n == n) ≡ true
 same n = grind arith
-
-pub after-none : {A : Type 0} (read : Result (List A) Fault) → after [] read ≡ read
-after-none (Ok xs) = refl
-after-none (Err e) = refl
 
 pub after-one : {A : Type 0} (front : List A) (x : A) (read : Result (List A) Fault) → after front (read >>= λ more. Ok (x ∷ more)) ≡ after (front ++ x ∷ []) read
 after-one front x (Ok more) = ap (λ ys. let whole : Result (List _) Fault = Ok ys in whole) (sym (append_assoc front (x ∷ []) more))
@@ -198,9 +195,6 @@ no_byte end (at.word done start words first letters) o = refl
 -- what is left of the bytes leads to the lists of all of them
 abbrev pub Reached : List ℕ → ℕ → State → Type 0
 Reached bytes o s = answer (length bytes) s o (drop o bytes) ≡ word_lists bytes
-
-pub at_start : (bytes : List ℕ) → Reached bytes 0 (at.gap [] between)
-at_start bytes = after-none (word_lists bytes)
 
 module _ (bytes : List ℕ) (o : ℕ) (s : State) (reached : Reached bytes o s) where
   next_byte : o < length bytes → (step s o (slice_index bytes o) >>= λ t. answer (length bytes) t (o + 1) (drop (o + 1) bytes)) ≡ word_lists bytes

@@ -1,5 +1,5 @@
 pub mod Fault
-pub mod First
+pub mod Answers
 pub mod Tokens
 pub mod WordLists
 pub mod Names
@@ -8,3 +8,5 @@ pub mod Spells
 pub mod Progress
 pub mod Reader
 pub mod Depot
+pub mod PlanText
+pub mod Laws

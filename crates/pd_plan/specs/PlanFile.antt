@@ -2,15 +2,13 @@
 use Rattle.std.specs.Prelude.{ℕ, ◌==◌, List, [], ◌∷◌, length, Result, Ok, Err, slice_get}
 use Rattle.pd_model.specs.Names.{schema_names, object_names}
 use Rattle.pd_model.specs.Fits.{fits}
-use Rattle.pd_model.specs.declared.schemas.Schema.{Schema}
-use Rattle.pd_model.specs.declared.objects.ObjectDecl.{ObjectDecl}
 use Rattle.pd_model.specs.declared.calls.Call.{Call}
 use Rattle.pd_model.specs.declared.parts.Parts.{Parts}
 use Rattle.pd_words.specs.Names.{number_of}
 use Rattle.pd_words.specs.declared.named.Named.{Named}
 use Rattle.pd_plan.specs.declared.lists.WordList.{WordList}
 use Rattle.pd_plan.specs.Fault.{Fault, syntax, unknown, arity, mistyped}
-use Rattle.pd_plan.specs.First.{◌>>=◌, found, wants}
+use Rattle.pd_words.specs.First.{◌>>=◌, found, wants}
 use Rattle.pd_plan.specs.WordLists.{word_lists}
 
 -- the object that a word names, which has to fit a type

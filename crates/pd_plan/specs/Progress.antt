@@ -6,7 +6,7 @@ use Rattle.pd_words.specs.Typed.{named}
 use Rattle.pd_words.specs.declared.named.Named.{Named}
 use Rattle.pd_plan.specs.declared.lists.WordList.{WordList}
 use Rattle.pd_plan.specs.Fault.{Fault, syntax}
-use Rattle.pd_plan.specs.First.{after}
+use Rattle.pd_words.specs.First.{after}
 use Rattle.pd_plan.specs.Tokens.{Token, tokens, joined}
 use Rattle.pd_plan.specs.WordLists.{word_list, lists, list_on}
 

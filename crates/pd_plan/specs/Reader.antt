@@ -1,9 +1,10 @@
 -- Where a `Reader` stands, in the words of `Progress`. Only private clauses speak of it.
-use Rattle.std.specs.Prelude.{◌≡◌, ℕ, List, Result, Ok, Err}
+use Rattle.std.specs.Prelude.{ℕ, List, Result}
 use Rattle.pd_words.specs.declared.named.Named.{Named}
 use Rattle.pd_plan.specs.Progress as at
 use Rattle.pd_plan.specs.Fault.{Fault}
-use Rattle.pd_plan.specs.First.{Fails}
+use Rattle.pd_words.specs.First.{LeavesOr}
+use Rattle.pd_plan.specs.Answers.{fault_of}
 use Rattle.pd_plan.specs.declared.lists.WordList.{WordList}
 use Rattle.pd_plan.specs.declared.fault.PlanFault.{PlanFault}
 use Rattle.pd_plan.specs.declared.reader.Reader.{Reader}
@@ -29,5 +30,4 @@ state_of r = state_from r.done.items r.spot r.start r.words.items r.first r.lett
 
 -- The step leads to this state, or has the fault that was told; of want of memory nothing is said.
 abbrev pub Steps : Result at.State Fault → at.State → Result (Unit {0}) PlanFault → Type 0
-Steps step new (Ok done) = step ≡ Ok new
-Steps step new (Err e) = Fails e step
+Steps step new result = LeavesOr fault_of step (λ _. new) result

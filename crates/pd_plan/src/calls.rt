@@ -2,7 +2,7 @@
 ghost use Rattle.std.specs.Prelude.{◌≡◌, ℕ, List};
 ghost use Rattle.pd_model.specs.Names.{object_names, schema_names};
 ghost use Rattle.pd_words.specs.Names.{number_of};
-ghost use Rattle.pd_plan.specs.First.{Gives, GivesAs};
+ghost use Rattle.pd_plan.specs.Answers.{Gives};
 ghost use Rattle.pd_plan.specs.Names.{looked_up};
 ghost use Rattle.pd_plan.specs.PlanFile as plans;
 

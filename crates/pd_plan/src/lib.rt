@@ -9,13 +9,14 @@
 ghost use Rattle.std.specs.Prelude.{◌≤◌, ◌<◌, ◌^◌, ℕ, IfOk, IsTrue, length};
 ghost use Rattle.std.specs.List.{list_all};
 ghost use Rattle.pd_model.specs.Fits.{is_call};
-ghost use Rattle.pd_plan.specs.First.{Gives};
+ghost use Rattle.pd_plan.specs.Answers.{Gives};
 ghost use Rattle.pd_plan.specs.PlanFile.{plan_file};
 
 mod calls;
 mod fault;
 mod lists;
 mod names;
+mod plan_text;
 mod reader;
 #[cfg(test)]
 mod tests;
@@ -24,6 +25,7 @@ use calls::read_calls;
 pub use fault::PlanFault;
 use lists::read_lists;
 use pd_model::{Calls, Pddl};
+pub use plan_text::laws;
 use std::alloc::Global;
 
 /// Reads the calls that a plan file spells, each a call of the task.

@@ -1,10 +1,7 @@
 // The reader of lists: where it stands between two bytes.
-ghost use Rattle.std.specs.Prelude.{◌≡◌};
-ghost use Rattle.pd_sexp.specs.Bytes as bytes;
-
 use crate::PlanFault;
 use crate::lists::{WordList, Words};
-use pd_sexp::Name;
+use pd_sexp::{Name, is_blank, is_letter, lowered};
 use pd_words::Named;
 use std::alloc::Global;
 use std::mem;
@@ -41,29 +38,11 @@ pub struct Reader {
     letters: Vec<u8>,
 }
 
-fn is_blank(b: u8) -> bool
-    ensures { result ≡ bytes.is_blank b }
-{
-    b == b' ' || b == b'\t' || b == b'\r' || b == b'\n'
-}
-
-fn is_letter(b: u8) -> bool
-    ensures { result ≡ bytes.is_letter b }
-{
-    33 <= b && b <= 126 && !(b == b'(' || b == b')' || b == b';')
-}
-
-fn lowered(b: u8) -> u8
-    ensures { result ≡ bytes.lowered b }
-{
-    if 65 <= b && b <= 90 { b + 32 } else { b }
-}
-
 impl Reader {
     ghost use Rattle.std.specs.Prelude.{◌≡◌, ◌<◌, ◌++◌, [], ◌∷◌, Ok, Err, IfErr, OnOk};
     ghost use Rattle.pd_sexp.specs.Bytes as bytes;
     ghost use Rattle.pd_words.specs.Typed.{named};
-    ghost use Rattle.pd_plan.specs.First.{GivesAs};
+    ghost use Rattle.pd_plan.specs.Answers.{GivesAs};
     ghost use Rattle.pd_plan.specs.Progress as reading;
     ghost use Rattle.pd_plan.specs.Reader.{state_of, place_of, Steps};
     ghost use Rattle.pd_plan.specs.declared.fault.PlanFault.TheVariants.{Memory};

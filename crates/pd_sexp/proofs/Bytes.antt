@@ -1,5 +1,5 @@
 -- Which bytes are of which kind.
-use Rattle.std.proofs.Common.{◌≡◌, ◌==◌, ◌&&◌, ℕ, Bool, true, false, refl, arith}
+use Rattle.std.proofs.Common.{◌≡◌, ◌==◌, ℕ, true, false, arith}
 use Rattle.std.proofs.lemmas.Bool.Decides.{nat_tests}
 use Rattle.pd_sexp.specs.Bytes.{open_paren, close_paren, semicolon, is_blank, is_letter}
 
@@ -17,16 +17,6 @@ letter-close b h = grind (arith, nat_tests)
 
 pub blank-semicolon : (b : ℕ) → is_blank b ≡ true → (b == semicolon) ≡ false
 blank-semicolon b h = grind (arith, nat_tests)
-
-pub eq-true : (a b : ℕ) → (a == b) ≡ true → a ≡ b
-eq-true a b h = grind (arith, nat_tests)
-
-pub true-not-false : true ≡ false → ⊥
-true-not-false h = cc
-
-pub both : (a b : Bool) → (a && b) ≡ true → (a ≡ true) × (b ≡ true)
-both true b h = (refl, h)
-both false b h = absurd (let f : false ≡ true = h in cc)
 
 pub semicolon-blank : (b : ℕ) → (b == semicolon) ≡ true → is_blank b ≡ false
 semicolon-blank b h = grind (arith, nat_tests)

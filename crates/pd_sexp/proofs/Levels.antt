@@ -1,5 +1,6 @@
 -- How many lists are open: the reader's count is that of the parentheses outside comments.
 use Rattle.std.proofs.Common.{◌≡◌, ◌+◌, ◌==◌, ℕ, suc, Bool, true, false, List, [], ◌∷◌, ◌++◌, length, Option, Some, None, refl, sym, ap, subst, ◌∙◌, arith, cond}
+use Rattle.std.proofs.lemmas.Bool.{eqb-true}
 use Rattle.std.specs.Prelude.{count_by, slice_index}
 use Rattle.std.proofs.lemmas.List.{get_or-append-add}
 use Rattle.std.proofs.lemmas.List.Sums.{sum_by-cons}
@@ -8,7 +9,7 @@ use Rattle.pd_sexp.specs.Tree.{word}
 use Rattle.pd_sexp.specs.Fault.{uncommented, comment_blanked, level_after}
 use Rattle.pd_sexp.specs.Progress as at
 use Rattle.pd_sexp.specs.Progress.{Frame, Place, State, fresh, with_item, tree_of, closed, step, run, then_run, level_of, level_in, in_comment}
-use Rattle.pd_sexp.proofs.Bytes.{letter-blank, letter-semicolon, letter-open, letter-close, blank-semicolon, blank-open, blank-close, eq-true}
+use Rattle.pd_sexp.proofs.Bytes.{letter-blank, letter-semicolon, letter-open, letter-close, blank-semicolon, blank-open, blank-close}
 use Rattle.pd_sexp.proofs.Whole.{blank-step, semicolon-step, letter-step}
 use Rattle.pd_sexp.proofs.Parts.{Kind, blank, opens_comment, opens, closes, letter, other, kind_of, other-step}
 
@@ -73,7 +74,7 @@ gap_steps (at.after frame) offset b next (other e f g h i) goes = never next (rw
 
 comment_steps : (place : Place) (offset b : ℕ) (next : State) (t : Bool) → (b == line_feed) ≡ t → step (at.comment place) offset b ≡ Some next → Steps (at.comment place) b next
 comment_steps place offset b next true is goes =
-    let b_is : b ≡ line_feed = eq-true b line_feed is in
+    let b_is : b ≡ line_feed = eqb-true b line_feed is in
     to_next (at.comment place) b (at.gap place) next (rw is at goes) (record { shown = b; seen_is = λ bs. rw is refl; levels = rw b_is refl })
 comment_steps place offset b next false is goes =
     to_next (at.comment place) b (at.comment place) next (rw is at goes) (record { shown = 32; seen_is = λ bs. rw is refl; levels = refl })
@@ -148,7 +149,7 @@ opens_here xs state b ys leads outside is = shown_is xs state b ys leads ∙ rw 
 first_seen : (commented : Bool) (b : ℕ) (ys : List ℕ) (p q : Bool) → (b == semicolon) ≡ p → (b == line_feed) ≡ q → slice_index (seen commented (b ∷ ys)) 0 ≡ open_paren → (commented ≡ false) × (b ≡ open_paren)
 first_seen false b ys true q e f h = absurd (let g : 32 ≡ open_paren = rw e at h in omega arith)
 first_seen false b ys false q e f h = (refl, rw e at h)
-first_seen true b ys p true e f h = absurd (let g : b ≡ open_paren = rw f at h in let l = eq-true b line_feed f in omega arith)
+first_seen true b ys p true e f h = absurd (let g : b ≡ open_paren = rw f at h in let l = eqb-true b line_feed f in omega arith)
 first_seen true b ys p false e f h = absurd (let g : 32 ≡ open_paren = rw f at h in omega arith)
 
 pub opens_only : (xs : List ℕ) (state : State) (b : ℕ) (ys : List ℕ) → run (at.gap at.before) 0 xs ≡ Some state

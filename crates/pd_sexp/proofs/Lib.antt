@@ -7,3 +7,4 @@ pub mod Levels
 pub mod Verdicts
 pub mod Frames
 pub mod Judged
+pub mod WordLaw

@@ -1,5 +1,6 @@
 -- What is read is a file: bytes that lead to a tree are a gap, a list and a gap.
 use Rattle.std.proofs.Common.{◌≡◌, ◌≢◌, ◌+◌, ◌==◌, ◌≤◌, ℕ, zero, suc, Bool, true, false, List, [], ◌∷◌, ◌++◌, length, map, Some, None, refl, sym, ap, subst, ◌∙◌, append_assoc, arith, length-append, append-nil, if◌then◌else◌}
+use Rattle.std.proofs.lemmas.Bool.{eqb-true}
 use Rattle.std.specs.Prelude.{IsTrue}
 use Rattle.std.specs.List.{list_all}
 use Rattle.pd_sexp.specs.Bytes.{open_paren, close_paren, semicolon, line_feed, is_blank, is_letter, lowered}
@@ -7,7 +8,7 @@ use Rattle.pd_sexp.specs.Tree.{Tree, word, list, Trees, no_trees, and_tree}
 use Rattle.pd_sexp.specs.File.{IsGap, IsComment, StopsWord, StopsTree, IsTree, AreItems, IsFile}
 use Rattle.pd_sexp.specs.Progress as at
 use Rattle.pd_sexp.specs.Progress.{Frame, Place, State, fresh, with_item, tree_of, closed, step, run, then_run, finished, tree_after}
-use Rattle.pd_sexp.proofs.Bytes.{blank-semicolon, eq-true}
+use Rattle.pd_sexp.proofs.Bytes.{blank-semicolon}
 use Rattle.pd_sexp.proofs.Whole.{with_items, trees_of-list_of, word-stops, blank-step, semicolon-step, letter-step, with_items-more, with_items-none}
 
 -- items that begin with a gap, or with the rest of a comment
@@ -108,8 +109,8 @@ pub data Kind (b : ℕ) : Type 0 where
 kind_from : (b : ℕ) (p q r s t : Bool) → is_blank b ≡ p → (b == semicolon) ≡ q → (b == open_paren) ≡ r → (b == close_paren) ≡ s → is_letter b ≡ t → Kind b
 kind_from b true q r s t e f g h i = blank e
 kind_from b false true r s t e f g h i = opens_comment f
-kind_from b false false true s t e f g h i = opens (eq-true b open_paren g)
-kind_from b false false false true t e f g h i = closes (eq-true b close_paren h)
+kind_from b false false true s t e f g h i = opens (eqb-true b open_paren g)
+kind_from b false false false true t e f g h i = closes (eqb-true b close_paren h)
 kind_from b false false false false true e f g h i = letter i
 kind_from b false false false false false e f g h i = other e f g h i
 
@@ -321,7 +322,7 @@ begin_gap offset b bs end false true r e f g go leads = begin_more true false b 
 begin_gap offset b bs end false false true e f g go leads =
     let still : offset ≡ offset + length (let none : List ℕ = [] in none) = omega arith in
     let opened : run (at.gap (at.inside (fresh offset) [])) (offset + 1) bs ≡ Some end = rw (e, f, g) at leads in
-    record { front = []; rest = bs; parts = ap (λ x. x ∷ bs) (eq-true b open_paren g); gap = tt; goes_on = rw still at opened }
+    record { front = []; rest = bs; parts = ap (λ x. x ∷ bs) (eqb-true b open_paren g); gap = tt; goes_on = rw still at opened }
 begin_gap offset b bs end false false false e f g go leads = absurd (none_ends end (rw (e, f, g) at leads))
 
 begin_comment : (offset b : ℕ) (bs : List ℕ) (end : State) (p : Bool) → (b == line_feed) ≡ p

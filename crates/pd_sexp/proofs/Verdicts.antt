@@ -22,9 +22,6 @@ pub record Reached (bytes : List ℕ) (done : ℕ) (state : State) : Type 0 wher
   pub leads : run (at.gap at.before) 0 (take done bytes) ≡ Some state
   pub shallow : (k : ℕ) → k < done → OpensTooDeep bytes k → ⊥
 
-pub Reached-start : (bytes : List ℕ) → Reached bytes 0 (at.gap at.before)
-Reached-start bytes = record { within = omega arith; leads = refl; shallow = λ k h _. absurd (omega arith) }
-
 module _ (bytes : List ℕ) (done : ℕ) (state : State) where
   one_more : done < length bytes → take (done + 1) bytes ≡ take done bytes ++ slice_index bytes done ∷ []
   one_more h = rw add-one (take-suc bytes done 0 h)

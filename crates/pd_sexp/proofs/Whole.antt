@@ -1,5 +1,6 @@
 -- What is a file is read as its tree: a file's bytes, one after another, lead from the start to the end.
 use Rattle.std.proofs.Common.{◌≡◌, ◌≢◌, ◌+◌, ◌==◌, ℕ, Bool, true, false, List, [], ◌∷◌, ◌++◌, length, map, Option, Some, None, refl, sym, ap, subst, ◌∙◌, append_assoc, arith, MatchBool, length-append, ◌⊎◌, inl, inr, append-nil, if◌then◌else◌}
+use Rattle.std.proofs.lemmas.Bool.{and_parts}
 use Rattle.std.specs.Prelude.{IsTrue}
 use Rattle.std.specs.List.{list_all}
 use Rattle.pd_sexp.specs.Bytes.{open_paren, close_paren, semicolon, line_feed, is_blank, is_letter, lowered}
@@ -7,7 +8,7 @@ use Rattle.pd_sexp.specs.Tree.{Tree, word, list, Trees, no_trees, and_tree, tree
 use Rattle.pd_sexp.specs.File.{IsGap, IsComment, StopsWord, StopsTree, IsTree, AreItems, IsFile}
 use Rattle.pd_sexp.specs.Progress as at
 use Rattle.pd_sexp.specs.Progress.{Frame, Place, State, fresh, with_item, tree_of, closed, step, run, then_run, tree_after}
-use Rattle.pd_sexp.proofs.Bytes.{letter-blank, letter-semicolon, letter-open, letter-close, semicolon-blank, both}
+use Rattle.pd_sexp.proofs.Bytes.{letter-blank, letter-semicolon, letter-open, letter-close, semicolon-blank}
 
 -- ---- one run after another
 
@@ -90,8 +91,8 @@ pub word-run : (f : Frame) (outer : List Frame) (start o : ℕ) (before w rest :
     → run (at.word f outer start before) o (w ++ rest) ≡ run (at.word f outer start (before ++ map lowered w)) (o + length w) rest
 word-run f outer start o before [] rest h = let whole : before ++ [] ≡ before = append-nil before in rw whole (ap (λ n. run (at.word f outer start before) n rest) (omega arith))
 word-run f outer start o before (b ∷ w) rest h =
-    let letter : is_letter b ≡ true = (both (is_letter b) (list_all is_letter w) h).0 in
-    let tail = word-run f outer start (o + 1) (before ++ lowered b ∷ []) w rest (both (is_letter b) (list_all is_letter w) h).1 in
+    let letter : is_letter b ≡ true = (and_parts (is_letter b) (list_all is_letter w) h).0 in
+    let tail = word-run f outer start (o + 1) (before ++ lowered b ∷ []) w rest (and_parts (is_letter b) (list_all is_letter w) h).1 in
     let joined : (before ++ lowered b ∷ []) ++ map lowered w ≡ before ++ (lowered b ∷ map lowered w) = append_assoc before (lowered b ∷ []) (map lowered w) in
     let longer : o + 1 + length w ≡ o + length (b ∷ w) = omega arith in
     rw letter (rw (joined, longer) at tail)
@@ -146,7 +147,7 @@ mutual
       → run (at.gap (at.inside f outer)) o (bytes ++ rest) ≡ run (at.gap (at.inside (with_item f t) outer)) (o + length bytes) rest
   tree-run (word place text) f outer o [] rest is stops some = absurd (is.1 refl)
   tree-run (word place text) f outer o (b ∷ w) rest is stops some =
-      let letters = both (is_letter b) (list_all is_letter w) is.2 in
+      let letters = and_parts (is_letter b) (list_all is_letter w) is.2 in
       let longer : o + 1 + length w ≡ o + length (b ∷ w) = omega arith in
       let first = ap (then_run (λ t. run t (o + 1) (w ++ rest))) (letter-step f outer o b letters.0) in
       let others = word-run f outer o (o + 1) (lowered b ∷ []) w rest letters.1 in

@@ -2,6 +2,7 @@ pub mod Bytes
 pub mod Tree
 pub mod File
 pub mod Fault
+pub mod Word
 pub mod View
 pub mod Progress
 pub mod Spot

@@ -6,9 +6,10 @@
 //! which fault other bytes have.
 #![tactic(auto)]
 
-ghost use Rattle.std.specs.Prelude.{◌≡◌, ◌≤◌, ℕ, IfOk, length};
+ghost use Rattle.std.specs.Prelude.{◌≡◌, ◌≤◌, ℕ, IfOk, IsTrue, length};
 ghost use Rattle.pd_sexp.specs.Fault.{Reads, IsFault, syntax, deep};
 ghost use Rattle.pd_sexp.specs.View.{view};
+ghost use Rattle.pd_sexp.specs.Word.{has_words};
 
 mod kinds;
 mod reader;
@@ -16,6 +17,7 @@ mod reader;
 mod tests;
 mod tree;
 
+pub use kinds::{is_blank, is_letter, lowered};
 use reader::Reader;
 use std::alloc::Global;
 pub use tree::{Name, Tree, TreeError, Trees};
@@ -28,6 +30,7 @@ pub use tree::{Name, Tree, TreeError, Trees};
 pub fn read_tree(alloc: Global, bytes: &[u8]) -> Result<Tree, TreeError>
     requires { length bytes.now ≤ 1048576 }
     ensures read { IfOk result (λ tree. Reads bytes.now (view tree)) }
+    ensures words { IfOk result (λ tree. IsTrue (has_words (view tree))) }
     ensures syntax { (at : ℕ) → result ≡ Err (TreeError.Syntax at) → IsFault bytes.now (syntax at) }
     ensures deep { (at : ℕ) → result ≡ Err (TreeError.Deep at) → IsFault bytes.now (deep at) }
 {

@@ -18,9 +18,10 @@ use Rattle.pd_words.specs.declared.keyword.Keyword.TheVariants as heads
 use Rattle.pd_words.specs.Words.{head_of}
 use Rattle.pd_words.specs.Typed.{Variables, variable_list}
 use Rattle.pd_words.specs.First.{Fails, Gives, Leaves}
-use Rattle.pd_task.specs.Standing.{Standing}
+use Rattle.pd_words.specs.Items.{no_more}
+use Rattle.pd_words.specs.Standing.{Standing}
 use Rattle.pd_task.specs.Scope.{site_of, entered}
-use Rattle.pd_task.specs.Effects.{Site, no_more, effect, simple, quantified, quantified_body}
+use Rattle.pd_task.specs.Effects.{Site, effect, simple, quantified, quantified_body}
 use Rattle.pd_task.specs.declared.vocabulary.Vocabulary.{Vocabulary}
 
 forall_at : (types : List (List ℕ)) (site : Site) (before : List Effect) (at : ℕ) (head : defs.Tree) (rest : defs.Trees) → head_of head ≡ heads.Forall

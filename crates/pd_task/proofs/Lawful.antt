@@ -2,7 +2,7 @@
 use Rattle.std.proofs.Common.{◌≡◌, ℕ, zero, suc, ◌+◌, ◌<◌, ◌≤◌, ◌==◌, Bool, true, false, ◌&&◌, cond, List, [], ◌∷◌, ◌++◌, length, slice_index, Option, Some, None, Result, Ok, Err, refl, ap, ◌∙◌, sym, subst, arith, length-append, replicate}
 use Rattle.std.specs.Prelude.{IfOk, IfSome, option_map, nat_lt, slice_get, not}
 use Rattle.std.specs.List.{list_all}
-use Rattle.std.proofs.lemmas.Bool.{lt-ltb, eqb-true, eq-eqb}
+use Rattle.std.proofs.lemmas.Bool.{lt-ltb, eqb-true, eq-eqb, and_from}
 use Rattle.pd_sexp.specs.Tree.{Tree, word, list, Trees, no_trees, and_tree}
 use Rattle.pd_model.specs.WellFormed.{are_below, takes, is_term, is_pattern, is_cond}
 use Rattle.pd_model.specs.declared.predicates.Predicate.{Predicate}
@@ -21,10 +21,11 @@ use Rattle.pd_words.specs.Words.{is_name, is_variable, head_of}
 use Rattle.pd_words.specs.Names.{number_of, variable_number, or_else, is_among}
 use Rattle.pd_words.specs.Typed.{Variables, listed, variables, variable_list, admit_variable, give_kind, type_name, type_of, object}
 use Rattle.pd_words.specs.First.{◌>>=◌, found, every, each}
-use Rattle.pd_words.proofs.NameLemmas.{number_below}
-use Rattle.pd_words.proofs.Sound.{bind_ok, wants_ok, if_ok, typed_keeps}
+use Rattle.pd_words.specs.Items.{no_more}
+use Rattle.pd_words.proofs.NameLemmas.{number_below, all_append, all_push}
+use Rattle.pd_words.proofs.Sound.{bind_ok, wants_ok, if_ok, typed_keeps, any_tree, any_trees}
 use Rattle.pd_task.specs.Atoms.{Names, count, term, predicate, atom, one_of, two_of, literal, equality, denied, negation, and_one, condition, conditions}
-use Rattle.pd_task.specs.Effects.{Site, no_more, and_effect, removed, removal, literals, all_literals, conditional_body, conditional, under, simple, rest_of, effect, all_effects, quantified, quantified_body}
+use Rattle.pd_task.specs.Effects.{Site, and_effect, removed, removal, literals, all_literals, conditional_body, conditional, under, simple, rest_of, effect, all_effects, quantified, quantified_body}
 
 -- ---- steps
 
@@ -52,32 +53,13 @@ some_weaker : (P Q : ℕ → Type 0) (o : Option ℕ) → ((i : ℕ) → P i →
 some_weaker P Q None f h = tt
 some_weaker P Q (Some i) f h = f i h
 
-pub and_true : (a b : Bool) → a ≡ true → b ≡ true → a && b ≡ true
-and_true true b h g = g
-and_true false b h g = absurd cc
-
-pub and_first : (a b : Bool) → a && b ≡ true → a ≡ true
-and_first true b h = refl
-and_first false b h = absurd cc
-
-pub and_second : (a b : Bool) → a && b ≡ true → b ≡ true
-and_second true b h = h
-and_second false b h = absurd cc
-
-pub all_append : {A : Type 0} (test : A → Bool) (xs ys : List A) → list_all test xs ≡ true → list_all test ys ≡ true → list_all test (xs ++ ys) ≡ true
-all_append test [] ys h g = g
-all_append test (x ∷ xs) ys h g = and_true (test x) (list_all test (xs ++ ys)) (and_first (test x) (list_all test xs) h) (all_append test xs ys (and_second (test x) (list_all test xs) h) g)
-
-pub all_push : {A : Type 0} (test : A → Bool) (xs : List A) (x : A) → list_all test xs ≡ true → test x ≡ true → list_all test (xs ++ x ∷ []) ≡ true
-all_push test xs x h g = all_append test xs (x ∷ []) h (and_true (test x) true g refl)
-
 pub every_sound : {A : Type 0} (test : A → Bool) (read : Tree → Result A Fault) → ((t : Tree) → Passes test (read t)) → (ts : Trees)
     → IfOk (every read ts) (λ xs. (list_all test xs ≡ true) × (length xs ≡ count ts))
 every_sound test read h no_trees = (refl, refl)
 every_sound test read h (and_tree t ts) =
     bind_ok (λ x. test x ≡ true) (λ xs. (list_all test xs ≡ true) × (length xs ≡ suc (count ts))) (read t) _ (h t)
     (λ x is. bind_ok (λ xs. (list_all test xs ≡ true) × (length xs ≡ count ts)) (λ xs. (list_all test xs ≡ true) × (length xs ≡ suc (count ts))) (every read ts) _ (every_sound test read h ts)
-    (λ xs more. (and_true (test x) (list_all test xs) is more.0, ap suc more.1)))
+    (λ xs more. (and_from (test x) (list_all test xs) is more.0, ap suc more.1)))
 
 pub each_sound : {S : Type 0} (P : S → Type 0) (step : S → Tree → Result S Fault) → ((s : S) (t : Tree) → P s → IfOk (step s t) P) → (s : S) (ts : Trees) → P s → IfOk (each step s ts) P
 each_sound P step h s no_trees is = is
@@ -155,7 +137,7 @@ module _ (p : Parts) (names : Names) (n : ℕ) (fits : Fits p names n) where
       bind_ok (λ i. i < length p.predicates) good (predicate names.predicates head) _ (predicate_sound head)
       (λ i lt. wants_ok good (count rest == slice_index names.arities i) (Arity at) _
       (λ is. bind_ok (λ xs. (list_all (is_term p n) xs ≡ true) × (length xs ≡ count rest)) good (every (term names) rest) _ (every_sound (is_term p n) (term names) term_sound rest)
-      (λ xs more. and_true (takes (slice_get p.predicates i) (length xs)) (list_all (is_term p n) xs)
+      (λ xs more. and_from (takes (slice_get p.predicates i) (length xs)) (list_all (is_term p n) xs)
       (ap (λ k. takes (slice_get p.predicates i) k) more.1 ∙ takes_sound i (count rest) lt is) more.0)))
 
   literal_sound : (want : Bool) (at : ℕ) (items : Trees) → Passes (is_cond p n) (literal names want at items)
@@ -167,7 +149,7 @@ module _ (p : Parts) (names : Names) (n : ℕ) (fits : Fits p names n) where
       bind_any good (found (Shape at) (two_of items)) _
       (λ terms. bind_ok (λ x. is_term p n x ≡ true) good (term names terms.0) _ (term_sound terms.0)
       (λ left is. bind_ok (λ x. is_term p n x ≡ true) good (term names terms.1) _ (term_sound terms.1)
-      (λ right more. and_true (is_term p n left) (is_term p n right) is more)))
+      (λ right more. and_from (is_term p n left) (is_term p n right) is more)))
 
   denied_sound : (at : ℕ) (t : Tree) → Passes (is_cond p n) (denied names at t)
   denied_sound at (word place text) = tt
@@ -237,8 +219,8 @@ module _ (p : Parts) (m : ℕ) where
       let n = m + length site.over in
       bind_ok (λ a. is_pattern p n a ≡ true) good (atom site.names at items) _ (pattern_sound p site.names n fits.names at items)
       (λ a is. all_push (lawful_effect p m) before (record { over = site.over; cond = site.cond; atom = a; adds = adds }) h
-      (and_true (are_below (length p.types) site.over && list_all (is_cond p n) site.cond) (is_pattern p n a)
-      (and_true (are_below (length p.types) site.over) (list_all (is_cond p n) site.cond) fits.over fits.cond) is))
+      (and_from (are_below (length p.types) site.over && list_all (is_cond p n) site.cond) (is_pattern p n a)
+      (and_from (are_below (length p.types) site.over) (list_all (is_cond p n) site.cond) fits.over fits.cond) is))
 
   removed_sound : (site : Site) (before : List Effect) (at : ℕ) (t : Tree) → SiteFits p site m → good before → IfOk (removed site before at t) good
   removed_sound site before at (word place text) fits h = tt
@@ -309,13 +291,13 @@ record Kinds (size : ℕ) (vs : Variables) (waiting : List Named) : Type 0 where
 
 replicate_below : (size kind n : ℕ) → kind < size → are_below size (replicate n kind) ≡ true
 replicate_below size kind zero h = refl
-replicate_below size kind (suc n) h = and_true (nat_lt kind size) (are_below size (replicate n kind)) (lt-ltb kind size h) (replicate_below size kind n h)
+replicate_below size kind (suc n) h = and_from (nat_lt kind size) (are_below size (replicate n kind)) (lt-ltb kind size h) (replicate_below size kind n h)
 
 replicate_length : (n kind : ℕ) → length (replicate n kind) ≡ n
 replicate_length zero kind = refl
 replicate_length (suc n) kind = ap suc (replicate_length n kind)
 
-type_below : (types : List (List ℕ)) (t : Tree) → IfOk (type_of types t) (λ k. k < length types)
+pub type_below : (types : List (List ℕ)) (t : Tree) → IfOk (type_of types t) (λ k. k < length types)
 type_below types t = bind_any (λ k. k < length types) (type_name t) _ (λ w. found_ok (λ k. k < length types) (Unknown w.at) (number_of w.name types) (number_below w.name types))
 
 -- each variable has a type that is declared
@@ -325,16 +307,16 @@ pub record Typed (size : ℕ) (vs : Variables) : Type 0 where
 
 pub variables_sound : (types : List (List ℕ)) (items : Trees) → 0 < length types → IfOk (variables types items) (Typed (length types))
 variables_sound types items some = last (variables types items)
-    (typed_keeps admit_variable (type_of types) give_kind object (Kinds (length types))
-    (λ vs waiting w h. wants_ok (λ next. Kinds (length types) next (waiting ++ w ∷ [])) (is_variable w.name) _ _
+    (typed_keeps admit_variable (type_of types) give_kind object any_tree any_trees (λ t ts all. tt) (λ t ts all. tt) (Kinds (length types))
+    (λ vs waiting w one h. wants_ok (λ next. Kinds (length types) next (waiting ++ w ∷ [])) (is_variable w.name) _ _
     (λ _. wants_ok (λ next. Kinds (length types) next (waiting ++ w ∷ [])) (not (is_among w.name vs.names)) _ _
     (λ _. record { count = omega (arith, h.count, length-append vs.names (w.name ∷ []), length-append waiting (w ∷ [])); below = h.below })))
-    (λ k. k < length types) (type_below types) some
+    (λ k. k < length types) (λ t one. type_below types t) some
     (λ vs waiting kind lt h. record {
       count = omega (arith, h.count, length-append vs.kinds (replicate (length waiting) kind), replicate_length (length waiting) kind);
       below = all_append (λ k. nat_lt k (length types)) vs.kinds (replicate (length waiting) kind) h.below (replicate_below (length types) kind (length waiting) lt);
     })
-    (listed [] []) [] items (record { count = refl; below = refl }))
+    (listed [] []) [] items tt (record { count = refl; below = refl }))
   where
     last : (r : Result Variables Fault) → IfOk r (λ vs. Kinds (length types) vs []) → IfOk r (Typed (length types))
     last (Ok vs) h = record { count = omega (arith, h.count); below = h.below }

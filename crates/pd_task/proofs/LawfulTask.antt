@@ -1,9 +1,9 @@
 -- What reading gives is well formed, but for bounds on how many there are: actions, objects, the initial
 -- state and the goal.
 use Rattle.std.proofs.Common.{◌≡◌, ℕ, ◌<◌, ◌≤◌, ◌==◌, Bool, true, ◌&&◌, List, [], ◌∷◌, ◌++◌, length, slice_index, Option, Some, None, Result, Ok, Err, refl, ap, ◌∙◌, sym, subst, arith, length-append}
-use Rattle.std.specs.Prelude.{IfOk, IfSome, nat_lt, slice_get, not, codes}
+use Rattle.std.specs.Prelude.{IfOk, IfSome, is_some, nat_lt, slice_get, not, codes}
 use Rattle.std.specs.List.{list_all}
-use Rattle.std.proofs.lemmas.Bool.{lt-ltb}
+use Rattle.std.proofs.lemmas.Bool.{lt-ltb, and_parts, and_from}
 use Rattle.std.proofs.lemmas.List.{length-map}
 use Rattle.pd_sexp.specs.Tree.{Tree, word, list, Trees, no_trees, and_tree}
 use Rattle.pd_model.specs.Types.{kinds_of}
@@ -14,7 +14,8 @@ use Rattle.pd_model.specs.declared.types.TypeDecl.{TypeDecl}
 use Rattle.pd_model.specs.declared.schemas.Schema.{Schema}
 use Rattle.pd_model.specs.declared.atoms.Atom.{Atom}
 use Rattle.pd_model.specs.declared.parts.Parts.{Parts}
-use Rattle.pd_model.specs.Names.{type_names, object_names, schema_names}
+use Rattle.pd_model.specs.Names.{type_names, object_names, schema_names, are_names}
+use Rattle.pd_sexp.specs.Word.{is_word}
 use Rattle.pd_words.specs.declared.fault.Fault.{Fault}
 use Rattle.pd_words.specs.declared.fault.Fault.TheVariants.{Shape, Unknown, Arity, Duplicate, Unsupported}
 use Rattle.pd_words.specs.declared.keyword.Keyword.TheVariants as heads
@@ -24,17 +25,19 @@ use Rattle.pd_words.specs.Names.{number_of, is_among}
 use Rattle.pd_words.specs.Typed.{variable_list, type_of, object}
 use Rattle.pd_words.specs.Types.{types}
 use Rattle.pd_words.specs.First.{◌>>=◌, found, every, each}
-use Rattle.pd_words.proofs.NameLemmas.{number_below}
-use Rattle.pd_words.proofs.Sound.{bind_ok, wants_ok, typed_keeps}
+use Rattle.pd_words.specs.Items.{no_more, place_of, name_at}
+use Rattle.pd_words.proofs.NameLemmas.{number_below, number_among, names_push, all_push}
+use Rattle.pd_words.proofs.Sound.{bind_ok, wants_ok, typed_keeps, OfWords, AllOfWords, first_words, other_words}
 use Rattle.pd_words.proofs.TypeLemmas.{TypesLawful, types_sound}
 use Rattle.pd_task.specs.Atoms.{Names, count, one_of, condition, predicate}
-use Rattle.pd_task.specs.Effects.{Site, no_more, place_of, effect}
-use Rattle.pd_task.specs.Action.{Keys, no_keys, keys_from, value_of, name_at, schema, and_action}
-use Rattle.pd_task.specs.Frames.{section_with, find_section, items_under, domain_frame, problem_frame}
+use Rattle.pd_task.specs.Effects.{Site, effect}
+use Rattle.pd_task.specs.Action.{Keys, no_keys, keys_from, value_of, schema, and_action}
+use Rattle.pd_words.specs.Frames.{section_with, find_section, items_under, domain_frame, problem_frame}
 use Rattle.pd_task.specs.Declarations.{admit_object, declare, give_objects, and_objects, and_predicate, object_at, ground_atom, init_denied, and_init}
 use Rattle.pd_task.specs.Reading.{DomainParts, names_in, and_section, domain_parts, goal_of, problem_parts}
-use Rattle.pd_task.proofs.Lawful.{Passes, bind_any, found_ok, and_true, all_push, every_sound, each_sound, total_none, total_one, Fits, predicate_sound, takes_sound, condition_sound, lawful_effect, Typed, variable_list_sound, effect_sound, good, SiteFits}
+use Rattle.pd_task.proofs.Lawful.{Passes, bind_any, found_ok, every_sound, each_sound, total_none, total_one, Fits, predicate_sound, takes_sound, condition_sound, lawful_effect, Typed, variable_list_sound, effect_sound, good, SiteFits, type_below}
 use Rattle.pd_task.proofs.ObjectLemmas.{map_push}
+use Rattle.pd_task.proofs.NamesLaw.{weaken, domain_words, problem_words, items_words, NamedPredicates, predicates_named, NamedSchemas, schemas_named}
 
 -- ---- actions
 
@@ -64,8 +67,8 @@ module _ (p : Parts) (types : List (List ℕ)) (names : Names) (size : length ty
       } in
       bind_ok (λ cs. list_all (is_cond p n) cs ≡ true) here (condition inside [] (value_of keys.precondition)) _ (condition_sound p inside n in_pre [] (value_of keys.precondition) refl)
       (λ pre is. bind_ok (good p n) here (effect types site [] (value_of keys.effect)) _ (effect_sound p n types size some site [] (value_of keys.effect) in_effect refl refl)
-      (λ es more. and_true (are_below (length p.types) vs.kinds && list_all (is_cond p n) pre) (list_all (lawful_effect p n) es)
-      (and_true (are_below (length p.types) vs.kinds) (list_all (is_cond p n) pre) (subst (λ k. are_below k vs.kinds ≡ true) size typed.below) is) more)))
+      (λ es more. and_from (are_below (length p.types) vs.kinds && list_all (is_cond p n) pre) (list_all (lawful_effect p n) es)
+      (and_from (are_below (length p.types) vs.kinds) (list_all (is_cond p n) pre) (subst (λ k. are_below k vs.kinds ≡ true) size typed.below) is) more)))
 
   and_action_sound : (before : List Schema) (at : ℕ) (items : Trees) → good_schemas before → IfOk (and_action types names before at items) good_schemas
   and_action_sound before at no_trees h = tt
@@ -86,31 +89,40 @@ module _ (p : Parts) (types : List (List ℕ)) (names : Names) (size : length ty
 -- ---- objects
 
 record Objects (size low : ℕ) (os : List ObjectDecl) : Type 0 where
+  names : are_names (object_names os) ≡ true
   least : low ≤ length os
   below : are_below size (kinds_of os) ≡ true
 
-declare_sound : (size least : ℕ) (os : List ObjectDecl) (kind : ℕ) (w : Named) (o : Option ℕ) → kind < size → Objects size least os → IfOk (declare os kind w o) (Objects size least)
-declare_sound size least os kind w None lt h = record {
+declare_sound : (size least : ℕ) (os : List ObjectDecl) (kind : ℕ) (w : Named) (o : Option ℕ) → number_of w.name (object_names os) ≡ o → kind < size → is_word w.name ≡ true → Objects size least os
+    → IfOk (declare os kind w o) (Objects size least)
+declare_sound size least os kind w None new lt is h = record {
+  names = rw (map_push (λ (o : ObjectDecl). o.name) os (record { name = w.name; kind = kind }))
+      (names_push (object_names os) w.name h.names is (sym (number_among w.name (object_names os)) ∙ ap is_some new));
   least = omega (arith, h.least, length-append os (record { name = w.name; kind = kind } ∷ []));
   below = rw (map_push (λ o. o.kind) os (record { name = w.name; kind = kind })) (all_push (λ k. nat_lt k size) (kinds_of os) kind h.below (lt-ltb kind size lt));
 }
-declare_sound size least os kind w (Some o) lt h = wants_ok (Objects size least) (slice_index (kinds_of os) o == kind) (Duplicate w.at) _ (λ _. h)
+declare_sound size least os kind w (Some o) new lt is h = wants_ok (Objects size least) (slice_index (kinds_of os) o == kind) (Duplicate w.at) _ (λ _. h)
 
-give_sound : (size least : ℕ) (os : List ObjectDecl) (ws : List Named) (kind : ℕ) → kind < size → Objects size least os → IfOk (give_objects os kind ws) (Objects size least)
-give_sound size least os [] kind lt h = h
-give_sound size least os (w ∷ ws) kind lt h =
-    bind_ok (Objects size least) (Objects size least) (declare os kind w (number_of w.name (object_names os))) _ (declare_sound size least os kind w (number_of w.name (object_names os)) lt h)
-    (λ next more. give_sound size least next ws kind lt more)
+-- whether the words of a typed list so far are words
+abbrev spell_words : List Named → Bool
+spell_words ws = list_all (λ w. is_word w.name) ws
 
-type_below : (types : List (List ℕ)) (t : Tree) → IfOk (type_of types t) (λ k. k < length types)
-type_below types t = bind_any (λ k. k < length types) _ _ (λ w. found_ok (λ k. k < length types) (Unknown w.at) (number_of w.name types) (number_below w.name types))
+give_sound : (size least : ℕ) (os : List ObjectDecl) (ws : List Named) (kind : ℕ) → kind < size → spell_words ws ≡ true → Objects size least os → IfOk (give_objects os kind ws) (Objects size least)
+give_sound size least os [] kind lt are h = h
+give_sound size least os (w ∷ ws) kind lt are h =
+    let parts = and_parts (is_word w.name) (spell_words ws) are in
+    bind_ok (Objects size least) (Objects size least) (declare os kind w (number_of w.name (object_names os))) _ (declare_sound size least os kind w (number_of w.name (object_names os)) refl lt (parts.0) h)
+    (λ next more. give_sound size least next ws kind lt (parts.1) more)
 
-objects_sound : (types : List (List ℕ)) (least : ℕ) (before : List ObjectDecl) (items : Trees) → 0 < length types → Objects (length types) least before → IfOk (and_objects types before items) (Objects (length types) least)
-objects_sound types least before items some h =
-    typed_keeps admit_object (type_of types) give_objects object (λ os _. Objects (length types) least os)
-    (λ os waiting w is. wants_ok (λ next. Objects (length types) least next) (is_name w.name) (Shape w.at) _ (λ _. is))
-    (λ k. k < length types) (type_below types) some
-    (λ os waiting kind lt is. give_sound (length types) least os waiting kind lt is) before [] items h
+objects_sound : (types : List (List ℕ)) (least : ℕ) (before : List ObjectDecl) (items : Trees) → 0 < length types → AllOfWords items → Objects (length types) least before → IfOk (and_objects types before items) (Objects (length types) least)
+objects_sound types least before items some all h =
+    let keeps : List ObjectDecl → List Named → Type 0 = λ os ws. Objects (length types) least os × (spell_words ws ≡ true) in
+    weaken (λ os. keeps os []) (Objects (length types) least) (and_objects types before items) (λ os kept. kept.0)
+    (typed_keeps admit_object (type_of types) give_objects object OfWords AllOfWords first_words other_words keeps
+    (λ os waiting w one is. wants_ok (λ next. keeps next (waiting ++ w ∷ [])) (is_name w.name) (Shape w.at) _ (λ _. (is.0, all_push (λ w. is_word w.name) waiting w (is.1) one)))
+    (λ k. k < length types) (λ t one. type_below types t) some
+    (λ os waiting kind lt is. weaken (Objects (length types) least) (λ next. keeps next []) (give_objects os kind waiting) (λ next more. (more, refl)) (give_sound (length types) least os waiting kind lt (is.1) (is.0)))
+    before [] items all (h, refl))
 
 -- ---- the initial state
 
@@ -130,7 +142,7 @@ module _ (p : Parts) (names : Names) (fits : Fits p names 0) where
       bind_ok (λ i. i < length p.predicates) here (predicate names.predicates head) _ (predicate_sound p names 0 fits head)
       (λ i lt. wants_ok here (count rest == slice_index names.arities i) (Arity at) _
       (λ is. bind_ok (λ xs. (list_all (λ o. nat_lt o (length p.objects)) xs ≡ true) × (length xs ≡ count rest)) here (every (object_at names) rest) _ (every_sound (λ o. nat_lt o (length p.objects)) (object_at names) object_sound rest)
-      (λ xs more. and_true (takes (slice_get p.predicates i) (length xs)) (are_below (length p.objects) xs)
+      (λ xs more. and_from (takes (slice_get p.predicates i) (length xs)) (are_below (length p.objects) xs)
       (ap (λ k. takes (slice_get p.predicates i) k) more.1 ∙ takes_sound p names 0 fits i (count rest) lt is) more.0)))
 
   push_atom : (atoms : List Atom) (at : ℕ) (items : Trees) → list_all (is_atom p) atoms ≡ true → IfOk (ground_atom names at items >>= λ a. Ok (atoms ++ a ∷ [])) (λ found. list_all (is_atom p) found ≡ true)
@@ -165,6 +177,9 @@ module _ (p : Parts) (names : Names) (fits : Fits p names 0) where
 pub record DomainLawful (d : DomainParts) : Type 0 where
   pub types : TypesLawful d.types
   pub constants : are_below (length d.types) (kinds_of d.constants) ≡ true
+  pub constant_names : are_names (object_names d.constants) ≡ true
+  pub predicate_names : NamedPredicates d.predicates
+  pub schema_names : NamedSchemas d.schemas
   pub schemas : (p : Parts) → p.types ≡ d.types → p.predicates ≡ d.predicates → length d.constants ≤ length p.objects → list_all (lawful_schema p) d.schemas ≡ true
 
 names_fit : (p : Parts) (predicates : List Predicate) (objects : List ObjectDecl) → p.predicates ≡ predicates → length objects ≤ length p.objects → Fits p (names_in predicates objects) 0
@@ -188,34 +203,53 @@ schemas_sound ts constants predicates sections some = together (each (and_sectio
     together (Ok ss) h = h
     together (Err e) h = tt
 
-pub domain_sound : (tree : Tree) → IfOk (domain_parts tree) DomainLawful
-domain_sound tree =
-    bind_any DomainLawful (domain_frame tree) _
-    (λ sections. bind_ok TypesLawful DomainLawful (types (items_under (codes ":types") sections)) _ (types_sound (items_under (codes ":types") sections))
+both_ok : {A : Type 0} (P Q : A → Type 0) (read : Result A Fault) → IfOk read P → IfOk read Q → IfOk read (λ x. P x × Q x)
+both_ok P Q (Ok x) h g = (h, g)
+both_ok P Q (Err e) h g = tt
+
+pub domain_sound : (tree : Tree) → OfWords tree → IfOk (domain_parts tree) DomainLawful
+domain_sound tree words =
+    bind_ok AllOfWords DomainLawful (domain_frame tree) _ (domain_words tree words)
+    (λ sections all. bind_ok TypesLawful DomainLawful (types (items_under (codes ":types") sections)) _ (types_sound (items_under (codes ":types") sections) (items_words (codes ":types") sections all))
     (λ ts lawful.
     let size : length (type_names ts) ≡ length ts = length-map ts (λ t. t.name) in
+    let sound : List ObjectDecl → List Predicate → List Schema → Type 0
+    = λ constants predicates ss. (p : Parts) → p.types ≡ ts → p.predicates ≡ predicates → length constants ≤ length p.objects → list_all (lawful_schema p) ss ≡ true in
     bind_ok (Objects (length (type_names ts)) 0) DomainLawful (and_objects (type_names ts) [] (items_under (codes ":constants") sections)) _
-    (objects_sound (type_names ts) 0 [] (items_under (codes ":constants") sections) (omega (arith, size, lawful.some)) (record { least = omega arith; below = refl }))
-    (λ constants good. bind_any DomainLawful (each (and_predicate (type_names ts)) [] (items_under (codes ":predicates") sections)) _
-    (λ predicates. bind_ok (λ ss. (p : Parts) → p.types ≡ ts → p.predicates ≡ predicates → length constants ≤ length p.objects → list_all (lawful_schema p) ss ≡ true) DomainLawful
-    (each (and_section (type_names ts) (names_in predicates constants)) [] sections) _ (schemas_sound ts constants predicates sections lawful.some)
-    (λ ss fine. record { types = lawful; constants = subst (λ n. are_below n (kinds_of constants) ≡ true) size good.below; schemas = fine })))))
+    (objects_sound (type_names ts) 0 [] (items_under (codes ":constants") sections) (omega (arith, size, lawful.some)) (items_words (codes ":constants") sections all) (record { names = refl; least = omega arith; below = refl }))
+    (λ constants good. bind_ok NamedPredicates DomainLawful (each (and_predicate (type_names ts)) [] (items_under (codes ":predicates") sections)) _
+    (predicates_named (type_names ts) (items_under (codes ":predicates") sections) (items_words (codes ":predicates") sections all))
+    (λ predicates named. bind_ok (λ ss. sound constants predicates ss × NamedSchemas ss) DomainLawful
+    (each (and_section (type_names ts) (names_in predicates constants)) [] sections) _
+    (both_ok (sound constants predicates) NamedSchemas (each (and_section (type_names ts) (names_in predicates constants)) [] sections)
+    (schemas_sound ts constants predicates sections lawful.some) (schemas_named (type_names ts) (names_in predicates constants) sections all))
+    (λ ss fine. record {
+      types = lawful;
+      constants = subst (λ n. are_below n (kinds_of constants) ≡ true) size good.below;
+      constant_names = good.names;
+      predicate_names = named;
+      schema_names = fine.1;
+      schemas = fine.0;
+    })))))
 
 -- well formed but for how many there are
 pub record Lawful (p : Parts) : Type 0 where
   pub types : TypesLawful p.types
+  pub predicate_names : NamedPredicates p.predicates
+  pub object_names : are_names (object_names p.objects) ≡ true
+  pub schema_names : NamedSchemas p.schemas
   pub kinds : are_below (length p.types) (kinds_of p.objects) ≡ true
   pub schemas : list_all (lawful_schema p) p.schemas ≡ true
   pub init : list_all (is_atom p) p.init ≡ true
   pub goal : list_all (is_cond p 0) p.goal ≡ true
 
-pub problem_sound : (d : DomainParts) (tree : Tree) → DomainLawful d → IfOk (problem_parts d tree) Lawful
-problem_sound d tree lawful =
+pub problem_sound : (d : DomainParts) (tree : Tree) → OfWords tree → DomainLawful d → IfOk (problem_parts d tree) Lawful
+problem_sound d tree words lawful =
     let size : length (type_names d.types) ≡ length d.types = length-map d.types (λ t. t.name) in
-    bind_any Lawful (problem_frame tree) _
-    (λ sections. bind_ok (Objects (length (type_names d.types)) (length d.constants)) Lawful (and_objects (type_names d.types) d.constants (items_under (codes ":objects") sections)) _
-    (objects_sound (type_names d.types) (length d.constants) d.constants (items_under (codes ":objects") sections) (omega (arith, size, lawful.types.some))
-    (record { least = omega arith; below = subst (λ n. are_below n (kinds_of d.constants) ≡ true) (sym size) lawful.constants }))
+    bind_ok AllOfWords Lawful (problem_frame tree) _ (problem_words tree words)
+    (λ sections all. bind_ok (Objects (length (type_names d.types)) (length d.constants)) Lawful (and_objects (type_names d.types) d.constants (items_under (codes ":objects") sections)) _
+    (objects_sound (type_names d.types) (length d.constants) d.constants (items_under (codes ":objects") sections) (omega (arith, size, lawful.types.some)) (items_words (codes ":objects") sections all)
+    (record { names = lawful.constant_names; least = omega arith; below = subst (λ n. are_below n (kinds_of d.constants) ≡ true) (sym size) lawful.constants }))
     (λ objects good.
     let p : Parts = record { types = d.types; predicates = d.predicates; objects = objects; schemas = d.schemas; init = []; goal = [] } in
     let names = names_in d.predicates objects in
@@ -225,6 +259,9 @@ problem_sound d tree lawful =
     (λ init is. bind_ok (λ cs. list_all (is_cond p 0) cs ≡ true) Lawful (goal_of names (find_section (codes ":goal") sections)) _ (goal_sound p names fits (find_section (codes ":goal") sections))
     (λ goal more. record {
       types = lawful.types;
+      predicate_names = lawful.predicate_names;
+      object_names = good.names;
+      schema_names = lawful.schema_names;
       kinds = subst (λ n. are_below n (kinds_of objects) ≡ true) size good.below;
       schemas = lawful.schemas (record { types = d.types; predicates = d.predicates; objects = objects; schemas = d.schemas; init = init; goal = goal }) refl refl good.least;
       init = is;

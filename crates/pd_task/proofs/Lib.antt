@@ -1,9 +1,9 @@
-pub mod Levels
 pub mod Loops
 pub mod ObjectLemmas
 pub mod Ands
 pub mod Foralls
 pub mod Lawful
+pub mod NamesLaw
 pub mod LawfulTask
 pub mod Formed
 pub mod Rows

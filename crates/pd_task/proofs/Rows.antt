@@ -4,10 +4,8 @@ use Rattle.std.specs.Prelude.{codes, Result}
 use Rattle.pd_sexp.specs.Tree.{Tree}
 use Rattle.pd_sexp.specs.Progress.{gap, before, run, tree_after}
 use Rattle.pd_model.specs.declared.memory.Which.TheVariants.{Domain, Problem}
-use Rattle.pd_model.specs.declared.atoms.Term.{Term}
-use Rattle.pd_model.specs.declared.atoms.Term.TheVariants.{Object, Variable}
-use Rattle.pd_model.specs.declared.atoms.Pattern.{Pattern}
-use Rattle.pd_model.specs.declared.conds.Cond.TheVariants.{Has, Same}
+use Rattle.pd_model.specs.declared.atoms.Term.TheVariants.{Variable}
+use Rattle.pd_model.specs.declared.conds.Cond.TheVariants.{Has}
 use Rattle.pd_model.specs.declared.parts.Parts.{Parts}
 use Rattle.pd_task.specs.declared.error.PddlError.{PddlError}
 use Rattle.pd_task.specs.declared.error.PddlError.TheVariants.{Shape, Unknown, Arity, Duplicate, Unsupported}

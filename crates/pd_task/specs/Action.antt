@@ -6,14 +6,14 @@ use Rattle.pd_model.specs.declared.schemas.Schema.{Schema}
 use Rattle.pd_model.specs.Names.{schema_names}
 use Rattle.pd_words.specs.declared.fault.Fault.{Fault}
 use Rattle.pd_words.specs.declared.fault.Fault.TheVariants.{Shape, Duplicate}
-use Rattle.pd_words.specs.Words.{is_name}
+use Rattle.pd_words.specs.Items.{place_of, name_at}
 use Rattle.pd_words.specs.Names.{is_among}
 use Rattle.pd_words.specs.Typed.{variable_list}
 use Rattle.pd_words.specs.First.{◌>>=◌, wants}
 use Rattle.pd_task.specs.declared.action.Key.{Key}
 use Rattle.pd_task.specs.declared.action.Key.TheVariants as key
 use Rattle.pd_task.specs.Atoms.{Names, condition}
-use Rattle.pd_task.specs.Effects.{place_of, effect}
+use Rattle.pd_task.specs.Effects.{effect}
 
 -- the key that a word is
 abbrev pub key_of : Tree → Result Key Fault
@@ -64,11 +64,6 @@ abbrev mutual
 abbrev pub value_of : Option Tree → Tree
 value_of None = list 0 no_trees
 value_of (Some t) = t
-
--- the name that a tree is
-abbrev pub name_at : Tree → Result (List ℕ) Fault
-name_at (list at items) = Err (Shape at)
-name_at (word at text) = wants (is_name text) (Shape at) >>= λ _. Ok text
 
 -- What the parts of an action of this name say: its parameters, its precondition, then its effect.
 abbrev pub schema : List (List ℕ) → Names → List ℕ → Keys → Result Schema Fault

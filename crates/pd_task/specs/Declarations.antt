@@ -2,7 +2,7 @@
 -- `<predicates-def>` and `<init>` of the grammar of PDDL 2.1: Fox and Long 2003, appendix A).
 use Rattle.std.specs.Prelude.{ℕ, ◌==◌, Bool, true, false, List, [], ◌∷◌, ◌++◌, Option, Some, None, Result, Ok, Err, not, slice_index}
 use Rattle.pd_sexp.specs.Tree.{Tree, word, list, Trees, no_trees, and_tree}
-use Rattle.pd_model.specs.Names.{object_names, predicate_names, arities_of}
+use Rattle.pd_model.specs.Names.{object_names, predicate_names}
 use Rattle.pd_model.specs.Types.{kinds_of}
 use Rattle.pd_model.specs.declared.objects.ObjectDecl.{ObjectDecl}
 use Rattle.pd_model.specs.declared.predicates.Predicate.{Predicate}
@@ -16,9 +16,8 @@ use Rattle.pd_words.specs.Words.{is_name, keyword, head_of}
 use Rattle.pd_words.specs.Names.{number_of, is_among}
 use Rattle.pd_words.specs.Typed.{type_of, typed_from, object, arity}
 use Rattle.pd_words.specs.First.{◌>>=◌, found, wants, every}
+use Rattle.pd_words.specs.Items.{place_of, name_at}
 use Rattle.pd_task.specs.Atoms.{Names, count, one_of, predicate}
-use Rattle.pd_task.specs.Effects.{place_of}
-use Rattle.pd_task.specs.Action.{name_at}
 
 -- ---- objects
 

@@ -10,17 +10,8 @@ use Rattle.pd_words.specs.declared.keyword.Keyword.TheVariants as heads
 use Rattle.pd_words.specs.Words.{head_of}
 use Rattle.pd_words.specs.Typed.{Variables, variable_list}
 use Rattle.pd_words.specs.First.{◌>>=◌, found}
+use Rattle.pd_words.specs.Items.{no_more}
 use Rattle.pd_task.specs.Atoms.{Names, one_of, atom, condition}
-
--- the place of a tree
-abbrev pub place_of : Tree → ℕ
-place_of (word at text) = at
-place_of (list at items) = at
-
--- no item is left; a surplus one is told at its place
-abbrev pub no_more : Trees → Result (Unit {0}) Fault
-no_more no_trees = Ok tt
-no_more (and_tree t rest) = Err (Shape (place_of t))
 
 -- Where an effect stands: the names in scope, the types of the variables of each `forall` round it, and
 -- the condition of the `when` round it.

@@ -1,12 +1,9 @@
 pub mod Atoms
 pub mod Effects
 pub mod Action
-pub mod Frames
 pub mod Declarations
 pub mod Reading
-pub mod Standing
 pub mod Scope
 pub mod KeyValues
 pub mod Tables
-pub mod Few
 pub mod Told

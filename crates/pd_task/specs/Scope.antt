@@ -6,7 +6,7 @@ use Rattle.pd_words.specs.declared.fault.Fault.{Fault}
 use Rattle.pd_words.specs.Typed.{variable_list}
 use Rattle.pd_words.specs.First.{◌>>=◌}
 use Rattle.pd_task.specs.declared.vocabulary.Vocabulary.{Vocabulary}
-use Rattle.pd_task.specs.Standing.{Standing}
+use Rattle.pd_words.specs.Standing.{Standing}
 use Rattle.pd_task.specs.Atoms.{Names}
 use Rattle.pd_task.specs.Effects.{Site}
 

@@ -1,11 +1,8 @@
 // Actions.
-ghost use Rattle.std.specs.Prelude.{◌≡◌, ◌++◌, ◌∷◌, [], List, ℕ, None, Some, option_map, length, IfOk, OnOk, IfErr};
-ghost use Rattle.pd_words.specs.Names.{number_of};
-ghost use Rattle.pd_words.specs.declared.fault.ReadError.TheVariants as errors;
+ghost use Rattle.std.specs.Prelude.{◌≡◌, [], option_map, IfOk};
 ghost use Rattle.pd_sexp.specs.View.{view, views};
-ghost use Rattle.pd_model.specs.Names.{schema_names};
 ghost use Rattle.pd_words.specs.Typed as typed;
-ghost use Rattle.pd_words.specs.First.{Gives, GivesAs, Leaves};
+ghost use Rattle.pd_words.specs.First.{Gives, GivesAs};
 ghost use Rattle.pd_task.specs.Atoms.{condition};
 ghost use Rattle.pd_task.specs.Effects as effects;
 ghost use Rattle.pd_task.specs.Action as action;
@@ -13,12 +10,13 @@ ghost use Rattle.pd_task.specs.Scope.{names_with, site_of};
 ghost use Rattle.pd_task.specs.KeyValues.{keys_of};
 
 use crate::cond::read_cond;
-use crate::effects::{place_of, read_effect};
-use crate::scope::Scope;
+use crate::effects::read_effect;
 use crate::vocabulary::Vocabulary;
 use pd_model::{Cond, Conds, Effect, Effects, Schema, TypeNumbers};
 use pd_sexp::{Name, Tree};
-use pd_words::{Fault, ReadError, Table, Variables, copy_name, is, is_name, read_variable_list};
+use pd_words::{
+    Fault, ReadError, Scope, Table, Variables, copy_name, is, place_of, read_variable_list,
+};
 use std::alloc::Global;
 
 /// A key of an action.
@@ -56,8 +54,8 @@ fn read_key(tree: &Tree) -> Result<Key, ReadError>
     }
 }
 
-// The keys and values after the name of the action at this place.
-fn read_keys(at: u32, items: &[Tree]) -> Result<Keys<'_>, ReadError>
+/// The keys and values after the name of the action at this place.
+pub fn read_keys(at: u32, items: &[Tree]) -> Result<Keys<'_>, ReadError>
     ensures { GivesAs keys_of (action.keys_from at action.no_keys (views items.now)) result }
 {
     let mut parameters = None;
@@ -89,21 +87,6 @@ fn read_keys(at: u32, items: &[Tree]) -> Result<Keys<'_>, ReadError>
         precondition,
         effect,
     })
-}
-
-/// Tests that a tree is a name, and lends it.
-pub fn name_at(tree: &Tree) -> Result<&Name, ReadError>
-    ensures { GivesAs (λ n. n.now) (action.name_at (view tree.now)) result }
-{
-    match tree {
-        Tree::List { at, .. } => Err(ReadError::Fault(Fault::Shape(*at))),
-        Tree::Word { at, text } => {
-            if !is_name(text) {
-                return Err(ReadError::Fault(Fault::Shape(*at)));
-            }
-            Ok(text)
-        }
-    }
 }
 
 fn read_parameters(
@@ -149,8 +132,8 @@ fn read_effects(
     Ok(Effects::of(found))
 }
 
-// The parts of an action of this name.
-fn read_schema(
+/// The parts of an action of this name.
+pub fn read_schema(
     alloc: Global,
     vocabulary: &Vocabulary,
     name: &Name,
@@ -170,51 +153,4 @@ fn read_schema(
         pre,
         effects,
     })
-}
-
-// Adds an action of this name. It fails only for want of memory.
-#[tactic(auto, using(crate::proofs::ObjectLemmas::schemas_push))]
-fn push_action(
-    alloc: Global,
-    names: &mut Table,
-    schemas: &mut Vec<Schema>,
-    name: &Name,
-    schema: Schema,
-) -> Result<(), ReadError>
-    requires names { names.old ≡ schema_names schemas.old.items }
-    requires new { number_of name.now names.old ≡ None }
-    requires named { schema.name ≡ name.now }
-    ensures added { OnOk result (schemas.new.items ≡ schemas.old.items ++ schema ∷ []) }
-    ensures names { OnOk result (names.new ≡ schema_names schemas.new.items) }
-    ensures memory { IfErr result (λ e. e ≡ errors.Memory) }
-{
-    names.add(alloc, name)?;
-    schemas.push(schema)?;
-    Ok(())
-}
-
-/// Adds the action that the list at this place, with these items after `:action`, is. The table has the
-/// names of the actions so far.
-pub fn read_action(
-    alloc: Global,
-    vocabulary: &Vocabulary,
-    names: &mut Table,
-    schemas: &mut Vec<Schema>,
-    at: u32,
-    items: &[Tree],
-) -> Result<(), ReadError>
-    requires { names.old ≡ schema_names schemas.old.items }
-    ensures action { Leaves (action.and_action vocabulary.now.types.now (names_with vocabulary.now []) schemas.old.items at (views items.now)) schemas.new.items result }
-    ensures names { OnOk result (names.new ≡ schema_names schemas.new.items) }
-{
-    let Some((title, rest)) = items.split_first() else {
-        return Err(ReadError::Fault(Fault::Shape(at)));
-    };
-    let name = name_at(title)?;
-    if names.number(name).is_some() {
-        return Err(ReadError::Fault(Fault::Duplicate(place_of(title))));
-    }
-    let keys = read_keys(at, rest)?;
-    let schema = read_schema(alloc, vocabulary, name, &keys)?;
-    push_action(alloc, names, schemas, name, schema)
 }

@@ -5,12 +5,11 @@ ghost use Rattle.pd_words.specs.First.{Gives, Leaves};
 ghost use Rattle.pd_task.specs.Atoms as atoms;
 ghost use Rattle.pd_task.specs.Scope.{names_with};
 
-use crate::scope::Scope;
 use crate::terms::{read_atom, read_term};
 use crate::vocabulary::Vocabulary;
 use pd_model::Cond;
 use pd_sexp::Tree;
-use pd_words::{Fault, Keyword, ReadError, head_keyword};
+use pd_words::{Fault, Keyword, ReadError, Scope, head_keyword};
 use std::alloc::Global;
 
 /// The one item.

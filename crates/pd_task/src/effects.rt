@@ -8,33 +8,12 @@ ghost use Rattle.pd_task.specs.Effects as effects;
 ghost use Rattle.pd_task.specs.Scope.{names_with, site_of, entered};
 
 use crate::cond::{one, read_cond};
-use crate::scope::Scope;
 use crate::terms::read_atom;
 use crate::vocabulary::Vocabulary;
 use pd_model::{Cond, Conds, Effect, Pattern, Terms, TypeNumbers};
 use pd_sexp::Tree;
-use pd_words::{Fault, Keyword, ReadError, head_keyword, read_variable_list};
+use pd_words::{Fault, Keyword, ReadError, Scope, head_keyword, no_more, read_variable_list};
 use std::alloc::{AllocError, Global};
-
-/// The place of a tree.
-pub fn place_of(tree: &Tree) -> u32
-    ensures { result ≡ effects.place_of (view tree.now) }
-{
-    match tree {
-        Tree::Word { at, .. } => *at,
-        Tree::List { at, .. } => *at,
-    }
-}
-
-/// Tests that no item is left.
-pub fn no_more(items: &[Tree]) -> Result<(), ReadError>
-    ensures { Gives (effects.no_more (views items.now)) result }
-{
-    match items.split_first() {
-        None => Ok(()),
-        Some((item, _)) => Err(ReadError::Fault(Fault::Shape(place_of(item)))),
-    }
-}
 
 fn copy_pattern(alloc: Global, pattern: &Pattern) -> Result<Pattern, AllocError>
     ensures { IfOk result (λ p. p ≡ pattern.now) }

@@ -1,4 +1,7 @@
 // Why two trees are no task.
+ghost use Rattle.std.specs.Prelude.{◌≡◌};
+ghost use Rattle.pd_task.specs.declared.error.PddlError.TheVariants as errors;
+
 use pd_model::{Memory, Which};
 use pd_words::{Fault, ReadError};
 
@@ -21,6 +24,8 @@ pub enum PddlError {
 }
 
 impl From<Memory> for PddlError {
+    ghost from_gives = { λ _ e. e ≡ errors.Memory };
+
     fn from(_: Memory) -> Self {
         PddlError::Memory
     }

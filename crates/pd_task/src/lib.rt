@@ -4,29 +4,29 @@
 //! they are none; the passes stand in the files beside it.
 #![tactic(auto)]
 
-ghost use Rattle.std.specs.Prelude.{◌≡◌, Ok, IfOk, IfErr};
+ghost use Rattle.std.specs.Prelude.{◌≡◌, Ok, IfOk, IfErr, IsTrue};
 ghost use Rattle.pd_sexp.specs.View.{view};
+ghost use Rattle.pd_sexp.specs.Word.{has_words};
 ghost use Rattle.pd_task.specs.Reading as readings;
 ghost use Rattle.pd_task.specs.Told.{IsTold, told_error};
 
 mod action;
+mod actions;
 mod cond;
 mod effects;
 mod error;
-mod few;
-mod frames;
 mod init;
 mod objects;
 mod predicates;
 mod read;
-mod scope;
+mod tables;
 mod terms;
 #[cfg(test)]
 mod tests;
 mod vocabulary;
 
 pub use error::PddlError;
-use few::few_parts;
+use pd_model::few_parts;
 pub use pd_model::{
     Atom, Atoms, Call, Calls, Cond, Conds, Effect, Effects, Memory, Name, ObjectDecl, ObjectDecls,
     Objects, Parts, Pattern, Pddl, Predicate, Predicates, Schema, Schemas, Term, Terms, TypeDecl,
@@ -43,7 +43,11 @@ use std::alloc::Global;
 /// the domain's frame, its types, constants, predicates and actions, then the problem's frame, its
 /// objects, initial state and goal. Places are offsets of bytes, from 0. `Memory` is want of memory; it
 /// also comes where more than 4,294,967,295 things of one kind would need a number.
+///
+/// The words of both trees are small letters, as those of a tree that `read_tree` gives are.
 pub fn read_pddl(alloc: Global, domain: &Tree, problem: &Tree) -> Result<Pddl, PddlError>
+    requires domain { IsTrue (has_words (view domain.now)) }
+    requires problem { IsTrue (has_words (view problem.now)) }
     ensures task { IfOk result (λ p. readings.reading (view domain.now) (view problem.now) ≡ Ok p) }
     ensures fault { IfErr result (λ e. IsTold (readings.reading (view domain.now) (view problem.now)) e) }
 {
@@ -58,7 +62,7 @@ pub fn read_pddl(alloc: Global, domain: &Tree, problem: &Tree) -> Result<Pddl, P
     if !few_parts(&parts) {
         return Err(PddlError::Memory);
     }
-    Ok(Pddl::new(parts))
+    Ok(Pddl::new(alloc, parts)?)
 }
 
 fn told(file: Which, error: ReadError) -> PddlError

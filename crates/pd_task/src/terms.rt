@@ -5,11 +5,10 @@ ghost use Rattle.pd_words.specs.First.{Gives, every};
 ghost use Rattle.pd_task.specs.Atoms.{term, atom, predicate};
 ghost use Rattle.pd_task.specs.Scope.{names_with};
 
-use crate::scope::Scope;
 use crate::vocabulary::Vocabulary;
 use pd_model::{Pattern, Term, Terms};
 use pd_sexp::Tree;
-use pd_words::{Fault, ReadError, is_name, is_variable};
+use pd_words::{Fault, ReadError, Scope, is_name, is_variable};
 use std::alloc::Global;
 
 /// A variable in scope, or a declared object.

@@ -75,10 +75,6 @@ fn domains(rt: HostRuntime) -> Result<(), Fail> {
             "unsupported Domain 31",
         ),
         (
-            "(define (domain d) (:predicates (p ?x)) (:action a :effect (q)))",
-            "unknown Domain 60",
-        ),
-        (
             "(define (domain d) (:predicates (p ?x)) (:action a :effect (p)))",
             "arity Domain 59",
         ),
@@ -89,11 +85,6 @@ fn domains(rt: HostRuntime) -> Result<(), Fail> {
         (
             "(define (domain d) (:action a :effect (nope)) (:predicates (and)))",
             "shape Domain 60",
-        ),
-        ("(define (domain d) (:types ok a - a))", "shape Domain 27"),
-        (
-            "(define (domain d) (:types t) (:constants x - t y x))",
-            "duplicate Domain 50",
         ),
         (
             "(define (domain d) (:types t) (:constants x - t x - u))",
@@ -111,13 +102,7 @@ fn domains(rt: HostRuntime) -> Result<(), Fail> {
 fn problems(rt: HostRuntime) -> Result<(), Fail> {
     let rows = [
         ("(define (problem x))", "shape Problem 0"),
-        (
-            "(define (problem x) (:goal (or)))",
-            "unsupported Problem 27",
-        ),
-        ("(define (problem x) (:goal (q)))", "unknown Problem 28"),
         ("(define (problem x) (:goal (p ?x)))", "unknown Problem 30"),
-        ("(define (problem x) (:goal (p)))", "arity Problem 27"),
         (
             "(define (problem x) (:goal ()) (:goal ()))",
             "duplicate Problem 31",
@@ -125,10 +110,6 @@ fn problems(rt: HostRuntime) -> Result<(), Fail> {
         (
             "(define (problem x) (:init (not (= c c))) (:goal ()))",
             "unsupported Problem 32",
-        ),
-        (
-            "(define (problem x) (:goal (r)) (:init q))",
-            "shape Problem 39",
         ),
         (NO_GOALS, ""),
     ];

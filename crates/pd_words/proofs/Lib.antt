@@ -1,6 +1,7 @@
+pub mod Sound
 pub mod NameLemmas
 pub mod Tables
 pub mod Lists
 pub mod Lineage
-pub mod Sound
 pub mod TypeLemmas
+pub mod Levels

@@ -3,7 +3,7 @@ use Rattle.std.proofs.Common.{◌≡◌, ◌⊎◌, inl, inr, ◌==◌, ◌||◌
 use Rattle.std.specs.Prelude.{IfOk, IfSome, unwrap_or, not}
 use Rattle.std.proofs.lemmas.List.{length-map, drop_more}
 use Rattle.pd_sexp.specs.Tree.{Tree, Trees}
-use Rattle.std.proofs.lemmas.Bool.{cases_lt, lt-ltb}
+use Rattle.std.proofs.lemmas.Bool.{cases_lt, lt-ltb, and_parts, not-true}
 use Rattle.std.specs.Prelude.{slice_get}
 use Rattle.pd_model.specs.WellFormed.{are_below}
 use Rattle.pd_model.specs.Types.{parents_of, leads_to, is_under}
@@ -13,11 +13,15 @@ use Rattle.pd_words.specs.declared.fault.Fault.TheVariants.{Shape, Duplicate}
 use Rattle.pd_words.specs.declared.named.Named.{Named}
 use Rattle.pd_words.specs.Names.{number_of, is_among}
 use Rattle.pd_words.specs.Words.{is_name}
-use Rattle.pd_words.specs.Typed.{object}
+use Rattle.pd_words.specs.Typed.{object, named, type_name}
 use Rattle.pd_words.specs.First.{◌>>=◌, wants}
 use Rattle.pd_words.specs.Types.{Declared, object_name, is_object, admit_type, parent_name, give_one, give_parent, declared_from, only_object, with_name, with_parents, types_under, number_in, types_of, types, rooted, AreParents}
-use Rattle.pd_words.proofs.NameLemmas.{number_below}
-use Rattle.pd_words.proofs.Sound.{bind_ok, wants_ok, if_ok, typed_keeps}
+use Rattle.pd_words.proofs.NameLemmas.{number_below, names_push, all_push}
+use Rattle.pd_words.proofs.Sound.{bind_ok, wants_ok, if_ok, typed_keeps, any_tree, any_trees, OfWords, AllOfWords, first_words, other_words}
+use Rattle.std.specs.List.{list_all}
+use Rattle.pd_sexp.specs.Tree.{word, list}
+use Rattle.pd_sexp.specs.Word.{is_word}
+use Rattle.pd_model.specs.Names.{type_names, are_names}
 
 pub rooted_more : (parents places : List ℕ) (kind i : ℕ) (total : Result (Unit {0}) Fault) → i < length places → is_under parents kind 0 ≡ true
     → rooted parents kind (drop i places) ≡ total → rooted parents (kind + 1) (drop (i + 1) places) ≡ total
@@ -150,8 +154,59 @@ pub declared_counted : (items : Trees) → IfOk (declared_from only_object [] it
 unfolding proper
 declared_counted items =
     weaker (declared_from only_object [] items)
-    (typed_keeps admit_type parent_name give_parent object_name Counted admits (λ _. Unit {0}) any_name tt
-    (λ d waiting parent _ h. gives d waiting parent h) only_object [] items (record { names = refl; parents = refl }))
+    (typed_keeps admit_type parent_name give_parent object_name any_tree any_trees (λ t ts all. tt) (λ t ts all. tt) Counted (λ d waiting w one h. admits d waiting w h)
+    (λ _. Unit {0}) (λ t one. any_name t) tt (λ d waiting parent _ h. gives d waiting parent h) only_object [] items tt (record { names = refl; parents = refl }))
+
+-- ---- the names of the types
+
+record HasNames (d : Declared) (waiting : List Named) : Type 0 where
+  names : are_names d.names ≡ true
+  parents : list_all is_word d.parents ≡ true
+
+names_admit : (d : Declared) (waiting : List Named) (w : Named) → is_word w.name ≡ true → HasNames d waiting → IfOk (admit_type d w) (λ next. HasNames next (waiting ++ w ∷ []))
+names_admit d waiting w is h =
+    let here : Declared → Type 0 = λ next. HasNames next (waiting ++ w ∷ []) in
+    wants_ok here (is_name w.name) (Shape w.at) _
+    (λ _. if_ok here (is_object w.name) (Ok d) _
+    (λ yes. record { names = h.names; parents = h.parents })
+    (λ no. wants_ok here (not (is_among w.name d.names)) (Duplicate w.at) _
+    (λ new. record { names = names_push d.names w.name h.names is (not-true (is_among w.name d.names) new); parents = h.parents })))
+
+names_give_one : (d : Declared) (parent : List ℕ) (w : Named) (ws more : List Named) → is_word parent ≡ true → HasNames d ws → IfOk (give_one d parent w) (λ next. HasNames next more)
+names_give_one d parent w ws more is h =
+    let here : Declared → Type 0 = λ next. HasNames next more in
+    if_ok here (is_object w.name) _ _
+    (λ yes. wants_ok here (is_object parent) (Duplicate w.at) _ (λ _. record { names = h.names; parents = h.parents }))
+    (λ no. record { names = h.names; parents = all_push is_word d.parents parent h.parents is })
+
+names_give : (d : Declared) (waiting : List Named) (parent : List ℕ) → is_word parent ≡ true → HasNames d waiting → IfOk (give_parent d parent waiting) (λ next. HasNames next [])
+names_give d [] parent is h = record { names = h.names; parents = h.parents }
+names_give d (w ∷ ws) parent is h =
+    bind_ok (λ next. HasNames next ws) (λ next. HasNames next []) (give_one d parent w) (λ next. give_parent next parent ws) (names_give_one d parent w (w ∷ ws) ws is h) (λ next more. names_give next ws parent is more)
+
+parent_word : (t : Tree) → OfWords t → IfOk (parent_name t) (λ name. is_word name ≡ true)
+parent_word (word at text) is =
+    bind_ok (λ t. is_word t.name ≡ true) (λ name. is_word name ≡ true) (type_name (word at text)) (λ t. Ok t.name)
+    (wants_ok (λ t. is_word t.name ≡ true) (is_name text) (Shape at) (λ _. Ok (named at text)) (λ _. is)) (λ t h. h)
+parent_word (list at items) is = tt
+
+declared_named : (items : Trees) → AllOfWords items → IfOk (declared_from only_object [] items) (λ d. HasNames d [])
+declared_named items all =
+    typed_keeps admit_type parent_name give_parent object_name OfWords AllOfWords first_words other_words HasNames names_admit
+    (λ name. is_word name ≡ true) parent_word refl (λ d waiting parent is h. names_give d waiting parent is h) only_object [] items all (record { names = refl; parents = refl })
+
+with_one : (b : Bool) (names : List (List ℕ)) (name : List ℕ) → is_among name names ≡ b → are_names names ≡ true → is_word name ≡ true → are_names (cond b names (names ++ name ∷ [])) ≡ true
+with_one true names name e are is = are
+with_one false names name e are is = names_push names name are is e
+
+with_all : (names parents : List (List ℕ)) → are_names names ≡ true → list_all is_word parents ≡ true → are_names (with_parents names parents) ≡ true
+with_all names [] are is = are
+with_all names (p ∷ ps) are is =
+    let parts = and_parts (is_word p) (list_all is_word ps) is in
+    with_all (with_name names p) ps (with_one (is_among p names) names p refl are (parts.0)) (parts.1)
+
+names_of : (d : Declared) → HasNames d [] → are_names (type_names (types_of d)) ≡ true
+names_of d h = rw under_names (with_all d.names d.parents h.names h.parents)
 
 -- ---- each type lies under `object`
 
@@ -210,29 +265,38 @@ first_is [] some is = absurd (omega arith)
 first_is (x ∷ xs) some is = ap Some is
 
 pub record TypesLawful (ts : List TypeDecl) : Type 0 where
+  pub names : are_names (type_names ts) ≡ true
   pub some : 0 < length ts
   pub first : slice_get (parents_of ts) 0 ≡ Some 0
   pub below : are_below (length ts) (parents_of ts) ≡ true
   pub leads : (kind : ℕ) → kind < length ts → is_under (parents_of ts) kind 0 ≡ true
 
-of_declared : (d : Declared) → (length d.names ≡ suc (length d.places)) × (length d.places ≡ length d.parents) → rooted (parents_of (types_of d)) 1 d.places ≡ Ok tt → TypesLawful (types_of d)
+-- what holds of the types that are declared
+abbrev Whole : Declared → Type 0
+Whole d = (length d.names ≡ suc (length d.places)) × (length d.places ≡ length d.parents) × HasNames d []
+
+whole : (r : Result Declared Fault) → IfOk r (λ d. (length d.names ≡ suc (length d.places)) × (length d.places ≡ length d.parents)) → IfOk r (λ d. HasNames d []) → IfOk r Whole
+whole (Ok d) counted named = (counted.0, counted.1, named)
+whole (Err e) counted named = tt
+
+of_declared : (d : Declared) → Whole d → rooted (parents_of (types_of d)) 1 d.places ≡ Ok tt → TypesLawful (types_of d)
 of_declared d counted is =
     let ts = types_of d in
     let are = lawful d (omega (arith, counted.0)) in
     let size : length (parents_of ts) ≡ length ts = length-map ts (λ t. t.parent) in
     record {
+      names = names_of d counted.2;
       some = omega (arith, are.some);
       first = first_is (parents_of ts) are.some are.object_first;
       below = all_at (parents_of ts) (length ts) (λ k lt. subst (λ n. slice_index (parents_of ts) k < n) size (are.below k lt));
       leads = each_under d counted.0 counted.1 is;
     }
 
-after_test : (d : Declared) → (length d.names ≡ suc (length d.places)) × (length d.places ≡ length d.parents) → (r : Result (Unit {0}) Fault) → rooted (parents_of (types_of d)) 1 d.places ≡ r
-    → IfOk (r >>= λ _. Ok (types_of d)) TypesLawful
+after_test : (d : Declared) → Whole d → (r : Result (Unit {0}) Fault) → rooted (parents_of (types_of d)) 1 d.places ≡ r → IfOk (r >>= λ _. Ok (types_of d)) TypesLawful
 after_test d counted (Ok u) is = of_declared d counted is
 after_test d counted (Err e) is = tt
 
-pub types_sound : (items : Trees) → IfOk (types items) TypesLawful
-types_sound items =
-    bind_ok (λ d. (length d.names ≡ suc (length d.places)) × (length d.places ≡ length d.parents)) TypesLawful (declared_from only_object [] items) _ (declared_counted items)
+pub types_sound : (items : Trees) → AllOfWords items → IfOk (types items) TypesLawful
+types_sound items all =
+    bind_ok Whole TypesLawful (declared_from only_object [] items) _ (whole (declared_from only_object [] items) (declared_counted items) (declared_named items all))
     (λ d counted. after_test d counted (rooted (parents_of (types_of d)) 1 d.places) refl)

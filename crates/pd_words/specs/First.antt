@@ -5,23 +5,25 @@ use Rattle.pd_words.specs.declared.fault.Fault.{Fault}
 use Rattle.pd_words.specs.declared.fault.ReadError.{ReadError}
 use Rattle.pd_words.specs.declared.fault.ReadError.TheVariants as errors
 
+-- ---- whatever the faults are
+
 -- what the first test gives is handed to the next ones
 infixl 10 ◌>>=◌
-abbrev pub ◌>>=◌ : {A B : Type 0} → Result A Fault → (A → Result B Fault) → Result B Fault
+abbrev pub ◌>>=◌ : {A B F : Type 0} → Result A F → (A → Result B F) → Result B F
 (Ok x) >>= f = f x
 (Err e) >>= f = Err e
 
 -- the value, or this fault where there is none
-abbrev pub found : {A : Type 0} → Fault → Option A → Result A Fault
+abbrev pub found : {A F : Type 0} → F → Option A → Result A F
 found fault None = Err fault
 found fault (Some x) = Ok x
 
 -- this fault where the test fails
-abbrev pub wants : Bool → Fault → Result (Unit {0}) Fault
+abbrev pub wants : {F : Type 0} → Bool → F → Result (Unit {0}) F
 wants test fault = if test then Ok tt else Err fault
 
 -- each item by itself, from the left
-abbrev pub every : {A : Type 0} → (Tree → Result A Fault) → Trees → Result (List A) Fault
+abbrev pub every : {A F : Type 0} → (Tree → Result A F) → Trees → Result (List A) F
 every read no_trees = Ok []
 every read (and_tree t ts) = do
   x ← read t
@@ -29,37 +31,45 @@ every read (and_tree t ts) = do
   Ok (x ∷ xs)
 
 -- each item with what the items before it gave
-abbrev pub each : {S : Type 0} → (S → Tree → Result S Fault) → S → Trees → Result S Fault
+abbrev pub each : {S F : Type 0} → (S → Tree → Result S F) → S → Trees → Result S F
 each step before no_trees = Ok before
 each step before (and_tree t ts) = do
   next ← step before t
   each step next ts
 
+-- what was read before, and what is read next
+abbrev pub after : {A F : Type 0} → List A → Result (List A) F → Result (List A) F
+after front read = read >>= λ xs. Ok (front ++ xs)
+
+-- A call failed with this fault, and reading gives it; without a fault, for want of memory.
+abbrev pub FailsWith : {X F : Type 0} → Option F → Result X F → Type 0
+FailsWith None read = Unit {0}
+FailsWith (Some fault) read = read ≡ Err fault
+
+-- A call left this in its place where it returned, and reading gives it; unless it failed with a fault or for want of memory.
+abbrev pub LeavesOr : {S X F E : Type 0} → (E → Option F) → Result S F → (X → S) → Result X E → Type 0
+LeavesOr fault_of read value (Ok x) = read ≡ Ok (value x)
+LeavesOr fault_of read value (Err e) = FailsWith (fault_of e) read
+
+-- ---- the faults of words
+
+-- the fault of an error; want of memory is none
+abbrev pub fault_of : ReadError → Option Fault
+fault_of errors.Memory = None
+fault_of (errors.Fault f) = Some f
+
 -- A call failed with the fault that reading gives, or for want of memory.
 abbrev pub Fails : {X : Type 0} → ReadError → Result X Fault → Type 0
-Fails errors.Memory read = Unit {0}
-Fails (errors.Fault f) read = read ≡ Err f
+Fails e read = FailsWith (fault_of e) read
 
 -- A call returned what reading gives, unless memory ran out.
 abbrev pub Gives : {X : Type 0} → Result X Fault → Result X ReadError → Type 0
-Gives read (Ok x) = read ≡ Ok x
-Gives read (Err e) = Fails e read
+Gives read result = LeavesOr fault_of read (λ x. x) result
 
 -- The same, with the value seen through a view.
 abbrev pub GivesAs : {X Y : Type 0} → (X → Y) → Result Y Fault → Result X ReadError → Type 0
-GivesAs view read (Ok x) = read ≡ Ok (view x)
-GivesAs view read (Err e) = Fails e read
+GivesAs view read result = LeavesOr fault_of read view result
 
 -- A call left what reading gives in its place, unless it failed.
 abbrev pub Leaves : {S X : Type 0} → Result S Fault → S → Result X ReadError → Type 0
-Leaves read new (Ok x) = read ≡ Ok new
-Leaves read new (Err e) = Fails e read
-
--- what was read before, and what is read next
-abbrev pub after : {A : Type 0} → List A → Result (List A) Fault → Result (List A) Fault
-after front read = read >>= λ xs. Ok (front ++ xs)
-
--- A call added what reading gives to what was there.
-abbrev pub Adds : {A X : Type 0} → Result (List A) Fault → List A → List A → Result X ReadError → Type 0
-Adds read old new (Ok x) = after old read ≡ Ok new
-Adds read old new (Err e) = Fails e read
+Leaves read new result = LeavesOr fault_of read (λ _. new) result

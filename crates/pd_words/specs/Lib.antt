@@ -4,3 +4,6 @@ pub mod Names
 pub mod Typed
 pub mod Types
 pub mod TypeList
+pub mod Standing
+pub mod Items
+pub mod Frames

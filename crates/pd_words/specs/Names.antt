@@ -1,16 +1,12 @@
 -- Names in order of declaration, and their numbers.
-use Rattle.std.specs.Prelude.{ℕ, suc, ◌+◌, Bool, true, false, List, [], ◌∷◌, Option, Some, None, option_map, if◌then◌else◌, length}
+use Rattle.std.specs.Prelude.{ℕ, suc, ◌+◌, List, [], ◌∷◌, Option, Some, None, option_map, if◌then◌else◌, length}
 use Rattle.std.specs.Str.{bytes_eq}
+pub use Rattle.pd_model.specs.Names.{is_among}
 
 -- the number of the first such name in a list
 abbrev pub number_of : List ℕ → List (List ℕ) → Option ℕ
 number_of name [] = None
 number_of name (n ∷ ns) = if bytes_eq name n then Some 0 else option_map suc (number_of name ns)
-
--- whether the name stands in the list
-abbrev pub is_among : List ℕ → List (List ℕ) → Bool
-is_among name [] = false
-is_among name (n ∷ ns) = if bytes_eq name n then true else is_among name ns
 
 -- this number, or the second one where there is none
 abbrev pub or_else : Option ℕ → Option ℕ → Option ℕ

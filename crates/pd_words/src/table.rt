@@ -1,5 +1,5 @@
 // Tables of names: the names in order of declaration, and a map to their numbers.
-ghost use Rattle.std.specs.Prelude.{◌≡◌, ◌<◌, ◌≤◌, ◌^◌, ℕ, List, [], ◌∷◌, ◌++◌, length, OnOk, IfErr, IfSome, is_some, None, ◌-◌};
+ghost use Rattle.std.specs.Prelude.{◌≡◌, ◌<◌, ◌≤◌, ◌^◌, ℕ, List, [], ◌∷◌, ◌++◌, length, OnOk, OnErr, IfErr, IfSome, is_some, None, ◌-◌};
 ghost use Rattle.std.specs.Ordering.{nat_cmp};
 ghost use Rattle.std.specs.Cmp.Lexicographic.{slice_cmp};
 ghost use Rattle.std.specs.BTreeMap.{get_by};
@@ -80,6 +80,7 @@ impl Table {
     pub fn add(&mut self, alloc: Global, name: &Name) -> Result<(), ReadError>
         requires { number_of name.now self.old ≡ None }
         ensures added { OnOk result (self.new ≡ self.old ++ name.now ∷ []) }
+        ensures unchanged { OnErr result (self.new ≡ self.old) }
         ensures memory { IfErr result (λ e. e ≡ errors.Memory) }
     {
         let count = self.names.as_slice().len();

@@ -1,16 +1,19 @@
-// Typed lists.
-ghost use Rattle.std.specs.Prelude.{◌≡◌, suc, ◌<◌, ◌≤◌, ◌-◌, ◌++◌, ◌∷◌, [], ℕ, List, length, replicate, IfOk, OnOk, IfErr, ◌^◌};
+// Typed lists: one loop over the items, whatever becomes of them.
+ghost use Rattle.std.specs.Prelude.{◌≡◌, [], List, Result, IfOk, IfErr};
+ghost use Rattle.pd_sexp.specs.Tree as trees;
 ghost use Rattle.pd_sexp.specs.View.{view, views};
-ghost use Rattle.pd_words.specs.First.{Gives, GivesAs};
+ghost use Rattle.pd_words.specs.declared.named.Named.{Named};
+ghost use Rattle.pd_words.specs.declared.fault.Fault.{Fault};
+ghost use Rattle.pd_words.specs.First.{Gives, Leaves};
 ghost use Rattle.pd_words.specs.Typed as typed;
 ghost use Rattle.pd_words.specs.declared.fault.ReadError.TheVariants as errors;
 
 use crate::fault::{Fault, ReadError};
 use crate::named::{Named, copy_name};
 use crate::table::Table;
-use crate::words::{is, is_dash, is_name, is_variable};
-use pd_sexp::{Name, Tree};
-use std::alloc::{AllocError, Global};
+use crate::words::{is, is_dash, is_name};
+use pd_sexp::Tree;
+use std::alloc::Global;
 
 /// The type that words have with no type after them.
 pub const OBJECT: u32 = 0;
@@ -58,60 +61,58 @@ pub fn read_type(alloc: Global, types: &Table, tree: &Tree) -> Result<u32, ReadE
     }
 }
 
-/// Variables with the numbers of their types.
-#[derive(Debug, Drop)]
-pub struct Variables {
-    pub names: Table,
-    pub kinds: Vec<u32>,
-}
+/// What a typed list is read into: variables, objects, types, or a count of arguments.
+pub trait TypedList {
+    /// What the names of types stand for.
+    type Types;
 
-/// Gives this type to so many words more.
-#[tactic(auto, using(crate::proofs::Lists::replicate_push))]
-fn fill(kinds: &mut Vec<u32>, kind: u32, count: usize) -> Result<(), AllocError>
-    ensures { OnOk result (kinds.new.items ≡ kinds.old.items ++ replicate count kind) }
-{
-    for _ in 0..count {
-        kinds.push(kind)?;
-    }
-    Ok(())
-}
+    /// What words get that stand before a type.
+    type Kind: Drop;
 
-impl Variables {
-    ghost use Rattle.std.specs.Prelude.{[]};
-    ghost use Rattle.pd_words.specs.Typed as typed;
-    ghost use Rattle.pd_words.specs.First.{Leaves};
+    /// What was read so far, as the definitions have it.
+    ghost Listed: { Type 0 };
 
-    /// No variables; takes no memory.
-    pub fn new(alloc: Global) -> Self
-        ensures names { result.names ≡ [] }
-        ensures kinds { result.kinds.items ≡ [] }
-    {
-        Variables {
-            names: Table::new(alloc),
-            kinds: Vec::new(alloc),
-        }
-    }
+    ghost listed: { Self → Listed };
 
-    // Takes a variable that stands for the first time.
-    #[tactic(auto, using(crate::proofs::NameLemmas::number_none))]
+    /// With a word more, which waits for its type.
+    ghost admits: { Listed → Named → Result Listed Fault };
+
+    /// The type that a tree names.
+    ghost kind_of: { Self.Types → trees.Tree → Result Self.Kind Fault };
+
+    /// With this type for the words since the last one.
+    ghost gives: { Listed → Self.Kind → List Named → Result Listed Fault };
+
+    /// The type of words with no type after them.
+    ghost untyped: { Self.Kind };
+
+    /// Tests a word, and takes it.
     fn admit(&mut self, alloc: Global, word: &Named) -> Result<(), ReadError>
-        ensures { Leaves (typed.admit_variable (typed.listed self.old.names self.old.kinds.items) word.now) (typed.listed self.new.names self.new.kinds.items) result }
-    {
-        if !is_variable(&word.name) {
-            return Err(ReadError::Fault(Fault::Shape(word.at)));
-        }
-        if self.names.number(&word.name).is_some() {
-            return Err(ReadError::Fault(Fault::Duplicate(word.at)));
-        }
-        self.names.add(alloc, &word.name)
-    }
+        ensures { Leaves (admits (listed self.old) word.now) (listed self.new) result };
+
+    /// Reads the type that stands after a dash.
+    fn read_kind(alloc: Global, types: &Self::Types, tree: &Tree) -> Result<Self::Kind, ReadError>
+        ensures { Gives (kind_of types.now (view tree.now)) result };
+
+    /// Gives a type to the words since the last one.
+    fn give(&mut self, alloc: Global, kind: &Self::Kind, waiting: &[Named]) -> Result<(), ReadError>
+        ensures { Leaves (gives (listed self.old) kind.now waiting.now) (listed self.new) result };
+
+    /// The type of words with no type after them. It fails only for want of memory.
+    fn no_type(alloc: Global) -> Result<Self::Kind, ReadError>
+        ensures kind { IfOk result (λ kind. kind ≡ untyped) }
+        ensures memory { IfErr result (λ e. e ≡ errors.Memory) };
 }
 
-/// The variables of a typed list, each of which may stand once.
-pub fn read_variables(alloc: Global, types: &Table, items: &[Tree]) -> Result<Variables, ReadError>
-    ensures { GivesAs (λ v. typed.listed v.names v.kinds.items) (typed.variables types.now (views items.now)) result }
+/// Reads the items of a typed list, after what was read before.
+pub fn read_typed<L: TypedList>(
+    alloc: Global,
+    types: &L::Types,
+    list: &mut L,
+    items: &[Tree],
+) -> Result<(), ReadError>
+    ensures { Leaves (typed.typed_from L.admits (L.kind_of types.now) L.gives L.untyped (L.listed list.old) [] (views items.now)) (L.listed list.new) result }
 {
-    let mut variables = Variables::new(alloc);
     let mut waiting = Vec::new(alloc);
     let mut rest = items;
     while let Some((item, after)) = rest.split_first() {
@@ -125,78 +126,20 @@ pub fn read_variables(alloc: Global, types: &Table, items: &[Tree]) -> Result<Va
                     if waiting.as_slice().is_empty() {
                         return Err(ReadError::Fault(Fault::Shape(*at)));
                     }
-                    let kind = read_type(alloc, types, kind)?;
-                    fill(&mut variables.kinds, kind, waiting.as_slice().len())?;
+                    let kind = L::read_kind(alloc, types, kind)?;
+                    list.give(alloc, &kind, waiting.as_slice())?;
                     waiting.clear();
                     rest = later;
                 } else {
                     let name = copy_name(alloc, text)?;
                     let word = Named { at: *at, name };
-                    variables.admit(alloc, &word)?;
+                    list.admit(alloc, &word)?;
                     waiting.push(word)?;
                     rest = after;
                 }
             }
         }
     }
-    fill(&mut variables.kinds, OBJECT, waiting.as_slice().len())?;
-    Ok(variables)
-}
-
-/// The variables of the typed list that the tree is.
-pub fn read_variable_list(alloc: Global, types: &Table, tree: &Tree) -> Result<Variables, ReadError>
-    ensures { GivesAs (λ v. typed.listed v.names v.kinds.items) (typed.variable_list types.now (view tree.now)) result }
-{
-    match tree {
-        Tree::Word { at, .. } => Err(ReadError::Fault(Fault::Shape(*at))),
-        Tree::List { items, .. } => read_variables(alloc, types, items.items.as_slice()),
-    }
-}
-
-/// How many arguments a predicate has, by the typed list after its name.
-pub fn read_arity(alloc: Global, types: &Table, items: &[Tree]) -> Result<u32, ReadError>
-    ensures { Gives (typed.arity types.now (views items.now)) result }
-{
-    let mut count: u32 = 0;
-    let mut waiting = Vec::new(alloc);
-    let mut rest = items;
-    while let Some((item, after)) = rest.split_first() {
-        match item {
-            Tree::List { at, .. } => return Err(ReadError::Fault(Fault::Shape(*at))),
-            Tree::Word { at, text } => {
-                if is_dash(text) {
-                    let Some((kind, later)) = after.split_first() else {
-                        return Err(ReadError::Fault(Fault::Shape(*at)));
-                    };
-                    if waiting.as_slice().is_empty() {
-                        return Err(ReadError::Fault(Fault::Shape(*at)));
-                    }
-                    read_type(alloc, types, kind)?;
-                    waiting.clear();
-                    rest = later;
-                } else {
-                    if !is_variable(text) {
-                        return Err(ReadError::Fault(Fault::Shape(*at)));
-                    }
-                    count = next_number(count)?;
-                    let name = copy_name(alloc, text)?;
-                    waiting.push(Named { at: *at, name })?;
-                    rest = after;
-                }
-            }
-        }
-    }
-    Ok(count)
-}
-
-/// The number after this one; it fails only for want of memory.
-pub fn next_number(number: u32) -> Result<u32, ReadError>
-    ensures next { IfOk result (λ n. n ≡ suc number) }
-    ensures memory { IfErr result (λ e. e ≡ errors.Memory) }
-{
-    if number == u32::MAX {
-        Err(ReadError::Memory)
-    } else {
-        Ok(number + 1)
-    }
+    let kind = L::no_type(alloc)?;
+    list.give(alloc, &kind, waiting.as_slice())
 }

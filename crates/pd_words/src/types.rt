@@ -12,8 +12,8 @@ use crate::ancestors::{ancestors, is_rooted};
 use crate::fault::{Fault, ReadError};
 use crate::named::{Named, copy_name};
 use crate::table::Table;
-use crate::typed::{OBJECT, read_type_name};
-use crate::words::{is, is_dash, is_name};
+use crate::typed::{OBJECT, TypedList, read_type_name, read_typed};
+use crate::words::{is, is_name};
 use pd_model::{TypeDecl, Types};
 use pd_sexp::{Name, Tree};
 use std::alloc::Global;
@@ -63,33 +63,6 @@ impl Declared {
         })
     }
 
-    #[tactic(auto, using(crate::proofs::NameLemmas::number_none))]
-    fn admit(&mut self, alloc: Global, word: &Named) -> Result<(), ReadError>
-        ensures { Leaves (types.admit_type (declared self.old) word.now) (declared self.new) result }
-    {
-        if !is_name(&word.name) {
-            return Err(ReadError::Fault(Fault::Shape(word.at)));
-        }
-        if is_object(&word.name) {
-            return Ok(());
-        }
-        if self.names.number(&word.name).is_some() {
-            return Err(ReadError::Fault(Fault::Duplicate(word.at)));
-        }
-        self.names.add(alloc, &word.name)?;
-        self.places.push(word.at)?;
-        Ok(())
-    }
-
-    fn give(&mut self, alloc: Global, parent: &Name, waiting: &[Named]) -> Result<(), ReadError>
-        ensures { Leaves (types.give_parent (declared self.old) parent.now waiting.now) (declared self.new) result }
-    {
-        for word in waiting {
-            self.give_one(alloc, parent, word)?;
-        }
-        Ok(())
-    }
-
     fn give_one(&mut self, alloc: Global, parent: &Name, word: &Named) -> Result<(), ReadError>
         ensures { Leaves (types.give_one (declared self.old) parent.now word.now) (declared self.new) result }
     {
@@ -104,39 +77,64 @@ impl Declared {
     }
 }
 
+impl TypedList for Declared {
+    ghost use Rattle.pd_words.specs.Types as types;
+    ghost use Rattle.pd_words.specs.TypeList.{declared};
+
+    // Types that are declared nowhere may stand after a dash.
+    type Types = ();
+
+    type Kind = Name;
+
+    ghost Listed = { types.Declared };
+
+    ghost listed = { declared };
+
+    ghost admits = { types.admit_type };
+
+    ghost kind_of = { λ _ tree. types.parent_name tree };
+
+    ghost gives = { types.give_parent };
+
+    ghost untyped = { types.object_name };
+
+    #[tactic(auto, using(crate::proofs::NameLemmas::number_none))]
+    fn admit(&mut self, alloc: Global, word: &Named) -> Result<(), ReadError> {
+        if !is_name(&word.name) {
+            return Err(ReadError::Fault(Fault::Shape(word.at)));
+        }
+        if is_object(&word.name) {
+            return Ok(());
+        }
+        if self.names.number(&word.name).is_some() {
+            return Err(ReadError::Fault(Fault::Duplicate(word.at)));
+        }
+        self.names.add(alloc, &word.name)?;
+        self.places.push(word.at)?;
+        Ok(())
+    }
+
+    fn read_kind(alloc: Global, _: &(), tree: &Tree) -> Result<Name, ReadError> {
+        Ok(read_type_name(alloc, tree)?.name)
+    }
+
+    fn give(&mut self, alloc: Global, parent: &Name, waiting: &[Named]) -> Result<(), ReadError> {
+        for word in waiting {
+            self.give_one(alloc, parent, word)?;
+        }
+        Ok(())
+    }
+
+    fn no_type(alloc: Global) -> Result<Name, ReadError> {
+        object_name(alloc)
+    }
+}
+
 fn read_declared(alloc: Global, items: &[Tree]) -> Result<Declared, ReadError>
     ensures { GivesAs declared (types.declared_from types.only_object [] (views items.now)) result }
 {
     let mut types = Declared::new(alloc)?;
-    let mut waiting = Vec::new(alloc);
-    let mut rest = items;
-    while let Some((item, after)) = rest.split_first() {
-        match item {
-            Tree::List { at, .. } => return Err(ReadError::Fault(Fault::Shape(*at))),
-            Tree::Word { at, text } => {
-                if is_dash(text) {
-                    let Some((parent, later)) = after.split_first() else {
-                        return Err(ReadError::Fault(Fault::Shape(*at)));
-                    };
-                    if waiting.as_slice().is_empty() {
-                        return Err(ReadError::Fault(Fault::Shape(*at)));
-                    }
-                    let parent = read_type_name(alloc, parent)?;
-                    types.give(alloc, &parent.name, waiting.as_slice())?;
-                    waiting.clear();
-                    rest = later;
-                } else {
-                    let name = copy_name(alloc, text)?;
-                    let word = Named { at: *at, name };
-                    types.admit(alloc, &word)?;
-                    waiting.push(word)?;
-                    rest = after;
-                }
-            }
-        }
-    }
-    let object = object_name(alloc)?;
-    types.give(alloc, &object, waiting.as_slice())?;
+    read_typed(alloc, &(), &mut types, items)?;
     Ok(types)
 }
 

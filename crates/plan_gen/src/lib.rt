@@ -7,7 +7,7 @@
 //! ```
 #![tactic(auto)]
 
-ghost use Rattle.std.specs.Prelude.{◌≡◌, ◌≤◌, IfOk};
+ghost use Rattle.std.specs.Prelude.{◌≡◌, ◌≤◌, IfOk, length};
 ghost use Rattle.plan_gen.specs.Task.{domain_of, problem_of};
 
 mod corridor;
@@ -41,6 +41,9 @@ pub fn generate(alloc: Global, kind: Kind, number: u32) -> Result<Made, Memory>
     requires number_in_range { (1 ≤ number) × (number ≤ 64) }
     ensures domain { IfOk result (λ made. made.domain ≡ domain_of kind) }
     ensures problem { IfOk result (λ made. made.problem ≡ problem_of kind number) }
+    // Neither text is longer than a file may be.
+    ensures domain_fits { IfOk result (λ made. length made.domain ≤ 1048576) }
+    ensures problem_fits { IfOk result (λ made. length made.problem ≤ 1048576) }
 {
     let (domain, problem) = match kind {
         Kind::Corridor => (corridor::DOMAIN, corridor::problem(alloc, number)?),

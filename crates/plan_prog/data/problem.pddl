@@ -1,1 +1,1 @@
-(define (problem x) (:objects a b) (:init (p a)) (:goal (p a)))
+(define (problem x) (:objects a b) (:init (p a)) (:goal (p b)))

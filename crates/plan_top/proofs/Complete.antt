@@ -1,34 +1,51 @@
 -- Words and files that are in order are answered.
-use Rattle.std.proofs.Common.{◌≡◌, ◌<◌, ◌≤◌, ℕ, Bool, List, [], ◌∷◌, length, Option, Some, Ok, Err, refl, sym, subst, ap, ◌∙◌, arith, inl, inr}
-use Rattle.std.specs.Prelude.{IfSome}
-use Rattle.pl_io.specs.Outside.{FaultRose}
+use Rattle.std.proofs.Common.{◌≡◌, ◌<◌, ◌≤◌, ℕ, ◌+◌, Bool, true, false, List, [], ◌∷◌, ◌++◌, length, Option, Some, None, Ok, Err, refl, sym, subst, ap, ◌∙◌, arith, inl, inr, if◌then◌else◌}
+use Rattle.std.specs.Prelude.{IfSome, Contains}
+use Rattle.std.specs.List.{AllZip, AllByRecursion}
 use Rattle.pd_sexp.specs.Tree.{Tree}
 use Rattle.pd_sexp.specs.Fault.{Reads}
-use Rattle.pd_model.specs.declared.calls.Call.{Call}
 use Rattle.pd_model.specs.declared.calls.Verdict.{Verdict}
 use Rattle.pd_model.specs.declared.calls.Verdict.TheVariants as verdicts
 use Rattle.pd_model.specs.Plan.{verdict}
-use Rattle.pd_model.specs.declared.memory.Which.{Which}
-use Rattle.pd_model.specs.declared.memory.Which.TheVariants.{Domain, Problem, Plan}
-use Rattle.pd_model.specs.declared.parts.Parts.{Parts}
+use Rattle.pd_model.specs.declared.calls.Call.{Call}
 use Rattle.pd_plan.specs.PlanFile.{plan_file}
+use Rattle.horizon_rates.specs.declared.settings.Settings.{Settings}
+use Rattle.race_end.specs.Ends.{EndView, Planned, Exhausted, Unfinished, end_view}
+use Rattle.plan_report.specs.Report.{report_of, summary_of}
+use Rattle.pd_model.specs.declared.parts.Parts.{Parts}
+use Rattle.plan_gen.specs.declared.Kind.{Kind as Generated}
+use Rattle.plan_gen.specs.Task.{domain_of, problem_of}
+use Rattle.plan_words.specs.Seen.{Seen, plans, checks, grounds, orders, generates, files_of}
+use Rattle.plan_words.specs.declared.request.Show.{Show}
+use Rattle.plan_words.specs.declared.request.Show.TheVariants as shows
+use Rattle.plan_words.specs.Requested.{requested}
 use Rattle.plan_top.specs.declared.ending.Kind.{Kind}
 use Rattle.plan_top.specs.declared.ending.Kind.TheVariants as kinds
-use Rattle.plan_top.specs.declared.ending.Ending.{Ending}
-use Rattle.plan_top.specs.Among.{IsAmong}
-use Rattle.plan_top.specs.Causes.{AreTask, RefusesTask, IsTreeFault, domain_tree, problem_tree, no_task, ending_of, IsOver, AreGrounded, StopsGrounding, Decides, found, refuted, plan_stopped, grounded, ground_stopped, ordered, order_stopped, DecidesCheck, checked, check_refused, answered, no_calls, Stops, Comes, no_command, of_two, of_check, most_bytes}
-use Rattle.plan_top.specs.Complete.{GoesWell, ChecksWell}
-use Rattle.plan_top.specs.Ending.{status_of}
-use Rattle.plan_top.specs.Words.{IsNoCommand}
 use Rattle.plan_top.specs.declared.ending.Limit.{Limit}
 use Rattle.plan_top.specs.declared.ending.Limit.TheVariants as limits
-use Rattle.plan_top.specs.declared.words.Command.{Command}
-use Rattle.plan_top.specs.declared.words.Command.TheVariants as commands
+use Rattle.plan_top.specs.declared.ending.Ending.{Ending}
+use Rattle.plan_top.specs.declared.ending.Ending.TheVariants.{Report}
+use Rattle.plan_top.specs.Files.{StopsFrom, RoseAmong, most_bytes}
+use Rattle.plan_top.specs.Tasks.{AreTask, RefusesTask, IsTreeFault, domain_tree, problem_tree, no_task, OnceRead, refused, read, OnceGrounded, past, within, IsOver}
+use Rattle.plan_top.specs.Raced.{OnceRaced, too_large, ended, outcome_of}
+use Rattle.plan_top.specs.Generated.{AnswersGenerated, TellsGenerated, generated_line}
+use Rattle.plan_top.specs.Causes.{Answers, Decides, AnswersPlan, AnswersGround, AnswersOrder, AnswersCheck, ending_of, ComesOf, stopped, decided, Comes}
+use Rattle.plan_top.specs.Complete.{GoesWell, AreWithin, AreInOrder, IsInOrder, IsGood}
+use Rattle.plan_top.specs.Ending.{status_of}
 use Rattle.gt_core.specs.Lawful.{conditional_in}
 use Rattle.grounding.specs.Grounded.{Grounded, IsGrounded}
 use Rattle.grounding.specs.Limits.{IsWithin}
 use Rattle.grounding.proofs.Unique.{one_result}
-use Rattle.plan_top.proofs.Commands.{same_two, not_both}
+use Rattle.plan_top.proofs.Told.{at_some, of_told_at, asked_comes, not_asked_comes}
+
+good_zero : (end : Ending) → status_of end ≡ 0 → IsGood end
+good_zero end zero = inl (0, omega arith, sym zero)
+
+good_one : (end : Ending) → status_of end ≡ 1 → IsGood end
+good_one end one = inl (1, omega arith, sym one)
+
+good_two : (end : Ending) → status_of end ≡ 2 → IsGood end
+good_two end two = inl (2, omega arith, sym two)
 
 -- ---- a task is refused for nothing
 
@@ -60,92 +77,114 @@ same_task domain problem task other are others =
 
 -- ---- nor stopped at a limit
 
-not_over : (task : Parts) (g : Grounded) (what : Limit) (count : ℕ) → IsGrounded task g → IsWithin task g → IsOver what task count → ⊥
-not_over task g limits.Tuples count is within over = let a = within.tuples in let b = over.over in omega (arith, a, b)
-not_over task g limits.Facts count is within over =
-    let a = within.facts in let b = over.over in let e = ap (λ (x : Grounded). length x.facts) (one_result task over.grounded g over.is is) in omega (arith, a, b, e)
-not_over task g limits.Actions count is within over =
-    let a = within.actions in let b = over.over in let e = ap (λ (x : Grounded). length x.calls) (one_result task over.grounded g over.is is) in omega (arith, a, b, e)
-not_over task g limits.Effects count is within over =
-    let a = within.effects in let b = over.over in let e = ap (λ (x : Grounded). conditional_in x.task.actions) (one_result task over.grounded g over.is is) in omega (arith, a, b, e)
+-- ---- nor stopped at a limit
 
-not_stopped : (domain problem : List ℕ) (task : Parts) (g : Grounded) (end : Ending) → AreGrounded domain problem task g → StopsGrounding domain problem end → ⊥
-not_stopped domain problem task g end are (inl r) = not_refused domain problem task end are.are r
-not_stopped domain problem task g end are (inr (other, others, (what, count, e, over))) =
-    not_over task g what count are.grounded are.within (subst (λ (t : Parts). IsOver what t count) (same_task domain problem task other are.are others) over)
+not_over : (task : Parts) (g : Grounded) (what : Limit) (count : ℕ) → IsGrounded task g → IsWithin task g → IsOver what task count → ⊥
+not_over task g limits.Tuples count is fits over = let a = fits.tuples in let b = over.over in omega (arith, a, b)
+not_over task g limits.Facts count is fits over =
+    let a = fits.facts in let b = over.over in let e = ap (λ (x : Grounded). length x.facts) (one_result task over.grounded g over.is is) in omega (arith, a, b, e)
+not_over task g limits.Actions count is fits over =
+    let a = fits.actions in let b = over.over in let e = ap (λ (x : Grounded). length x.calls) (one_result task over.grounded g over.is is) in omega (arith, a, b, e)
+not_over task g limits.Effects count is fits over =
+    let a = fits.effects in let b = over.over in let e = ap (λ (x : Grounded). conditional_in x.task.actions) (one_result task over.grounded g over.is is) in omega (arith, a, b, e)
 
 -- ---- what is decided
 
-verdict_status : (v : Verdict) → IsAmong (0 ∷ 1 ∷ 8 ∷ []) (status_of (ending_of v))
-verdict_status verdicts.Reaches = inl refl
-verdict_status (verdicts.Blocked index) = inr (inl refl)
-verdict_status verdicts.Short = inr (inl refl)
+grounded_good : (task : Parts) (g : Grounded) (answers : Grounded → Ending → Type 0) (end : Ending) → IsGrounded task g → IsWithin task g → ((h : Grounded) → answers h end → IsGood end) → OnceGrounded task answers end → IsGood end
+grounded_good task g answers end is fits good (past over) = absurd (not_over task g over.0 over.1 is fits over.3)
+grounded_good task g answers end is fits good (within h is_h fits_h answer) = good h answer
 
-two_status : (command : Command) (first second : List ℕ) (task : Parts) (g : Grounded) (end : Ending) → AreGrounded first second task g → Decides command first second end → IsAmong (0 ∷ 1 ∷ 8 ∷ []) (status_of end)
-two_status commands.Plan first second task g end are (found t h e ts holds) = rw e (inl refl)
-two_status commands.Plan first second task g end are (refuted t h e ts fails) = rw e (inr (inl refl))
-two_status commands.Plan first second task g end are (plan_stopped s) = absurd (not_stopped first second task g end are s)
-two_status commands.Ground first second task g end are (grounded t h e ts) = rw e (inl refl)
-two_status commands.Ground first second task g end are (ground_stopped s) = absurd (not_stopped first second task g end are s)
-two_status commands.Order first second task g end are (ordered t h components e ts published) = rw e (inl refl)
-two_status commands.Order first second task g end are (order_stopped s) = absurd (not_stopped first second task g end are s)
+-- two texts that are a task within the limits
+within_good : (domain problem : List ℕ) (answers : Parts → Grounded → Ending → Type 0) (end : Ending) → AreWithin domain problem → ((task : Parts) (g : Grounded) → answers task g end → IsGood end)
+    → OnceRead domain problem (λ task. OnceGrounded task (answers task)) end → IsGood end
+within_good domain problem answers end order good (refused r) = absurd (not_refused domain problem order.0 end order.1 r)
+within_good domain problem answers end order good (read task are well h) =
+    let same : task ≡ order.0 = same_task domain problem order.0 task order.1 are in
+    let g = order.2 in
+    grounded_good order.0 g.0 (answers order.0) end g.1 g.2 (good order.0) (subst (λ (t : Parts). OnceGrounded t (answers t) end) same h)
 
-check_status : (first second third : List ℕ) (task : Parts) (calls : List Call) (end : Ending) → AreTask first second task → plan_file task third ≡ Ok calls → DecidesCheck first second third end
-    → IsAmong (0 ∷ 1 ∷ 8 ∷ []) (status_of end)
-check_status first second third task calls end are reads (checked t ts (answered cs other e)) = rw e (verdict_status (verdict t cs))
-check_status first second third task calls end are reads (checked t ts (no_calls f other e)) =
-    absurd (let same = same_task first second task t are ts in let fails = rw same at other in let never : Ok calls ≡ Err f = sym reads ∙ fails in cc)
-check_status first second third task calls end are reads (check_refused r) = absurd (not_refused first second task end are r)
+race_good : (race : EndView) (text : List ℕ) (end : Ending) → end ≡ Report (outcome_of race) text → IsGood end
+race_good (Planned horizon steps lines) text end told = good_zero end (ap status_of told)
+race_good (Exhausted horizon lines) text end told = good_one end (ap status_of told)
+race_good (Unfinished lines) text end told = good_two end (ap status_of told)
 
-at_some : {A : Type 0} (P : A → Type 0) (o : Option A) (x : A) → o ≡ Some x → IfSome o P → P x
-at_some {A = A} P o x is h = let at = subst (λ (u : Option A). IfSome u P) is h in at
+plan_good : (settings : Settings) (task : Parts) (g : Grounded) (end : Ending) → AnswersPlan settings task g end → IsGood end
+plan_good settings task g end (too_large over) = inr (over.0, over.1, over.2)
+plan_good settings task g end (ended race comes tells) = race_good (end_view race) (report_of task g settings.budget (end_view race)) end tells.told
+
+generated_good : (kind : Generated) (number : ℕ) (settings : Settings) (g : Grounded) (end : Ending) → OnceRaced g.task settings (TellsGenerated kind number settings) end → IsGood end
+generated_good kind number settings g end (too_large over) = inr (over.0, over.1, over.2)
+generated_good kind number settings g end (ended race comes told) = race_good (end_view race) (generated_line kind number ++ summary_of settings.budget (end_view race)) end told
+
+verdict_good : (v : Verdict) → IsGood (ending_of v)
+verdict_good verdicts.Reaches = good_zero (ending_of verdicts.Reaches) refl
+verdict_good (verdicts.Blocked index) = good_one (ending_of (verdicts.Blocked index)) refl
+verdict_good verdicts.Short = good_one (ending_of verdicts.Short) refl
+
+check_good : (task : Parts) (bytes : List ℕ) (calls : List Call) (end : Ending) → plan_file task bytes ≡ Ok calls → AnswersCheck task bytes end → IsGood end
+check_good task bytes calls end is (inl h) = subst IsGood (sym h.2) (verdict_good (verdict task h.0))
+check_good task bytes calls end is (inr h) = absurd (let never : Ok calls ≡ Err h.0 = sym is ∙ h.1 in cc)
+
+checked_good : (domain problem bytes : List ℕ) (end : Ending) → (order : (task : Parts) × AreTask domain problem task × ((calls : List Call) × (plan_file task bytes ≡ Ok calls)))
+    → OnceRead domain problem (λ task. AnswersCheck task bytes) end → IsGood end
+checked_good domain problem bytes end order (refused r) = absurd (not_refused domain problem order.0 end order.1 r)
+checked_good domain problem bytes end order (read task are well h) =
+    let same : task ≡ order.0 = same_task domain problem order.0 task order.1 are in
+    check_good order.0 bytes order.2.0 end order.2.1 (subst (λ (t : Parts). AnswersCheck t bytes end) same h)
+
+answers_good : (request : Seen) (domain problem : List ℕ) (others : List (List ℕ)) (end : Ending) → IsInOrder request domain problem others → Answers request domain problem others end → IsGood end
+answers_good (plans d p n) domain problem [] end order h = within_good domain problem (AnswersPlan h.0) end order (λ task g. plan_good h.0 task g end) h.2
+answers_good (plans d p n) domain problem (o ∷ os) end order h = absurd h
+answers_good (grounds d p) domain problem [] end order h = within_good domain problem AnswersGround end order (λ task g e. good_zero end (ap status_of e)) h
+answers_good (grounds d p) domain problem (o ∷ os) end order h = absurd h
+answers_good (orders d p) domain problem [] end order h = within_good domain problem AnswersOrder end order (λ task g e. good_zero end (ap status_of e.3)) h
+answers_good (orders d p) domain problem (o ∷ os) end order h = absurd h
+answers_good (checks d p l) domain problem [] end order h = absurd h
+answers_good (checks d p l) domain problem (bytes ∷ []) end order h = checked_good domain problem bytes end order h
+answers_good (checks d p l) domain problem (bytes ∷ (o ∷ os)) end order h = absurd h
+answers_good (generates k m n s) domain problem others end order h = absurd h
+
+shown_good : (kind : Generated) (number : ℕ) (settings : Settings) (show : Show) (end : Ending) → AreWithin (domain_of kind) (problem_of kind number) → AnswersGenerated kind number settings show end → IsGood end
+shown_good kind number settings shows.Domain end order h = good_zero end (ap status_of h)
+shown_good kind number settings shows.Problem end order h = good_zero end (ap status_of h)
+shown_good kind number settings shows.None end order h =
+    within_good (domain_of kind) (problem_of kind number) (λ task g. OnceRaced g.task settings (TellsGenerated kind number settings)) end order (λ task g. generated_good kind number settings g end) h
+
+files_good : (request : Seen) (files : List (List ℕ)) (end : Ending) → AreInOrder request files → Decides request files end → IsGood end
+files_good (plans d p n) [] end order h = absurd h
+files_good (checks d p l) [] end order h = absurd h
+files_good (grounds d p) [] end order h = absurd h
+files_good (orders d p) [] end order h = absurd h
+files_good (generates k m n s) [] end order h = shown_good k m h.0 s end order h.2
+files_good (plans d p n) (domain ∷ []) end order h = absurd h
+files_good (checks d p l) (domain ∷ []) end order h = absurd h
+files_good (grounds d p) (domain ∷ []) end order h = absurd h
+files_good (orders d p) (domain ∷ []) end order h = absurd h
+files_good (generates k m n s) (domain ∷ []) end order h = absurd h
+files_good (plans d p n) (domain ∷ (problem ∷ others)) end order h = answers_good (plans d p n) domain problem others end order h
+files_good (checks d p l) (domain ∷ (problem ∷ others)) end order h = answers_good (checks d p l) domain problem others end order h
+files_good (grounds d p) (domain ∷ (problem ∷ others)) end order h = answers_good (grounds d p) domain problem others end order h
+files_good (orders d p) (domain ∷ (problem ∷ others)) end order h = answers_good (orders d p) domain problem others end order h
+files_good (generates k m n s) (domain ∷ (problem ∷ others)) end order h = absurd h
+
+-- ---- what a run comes to
 
 module _ (told : List ℕ → Option (List ℕ)) (lacks : List ℕ → Bool) (old new : List (List ℕ)) where
-  no_stop : (file : Which) (name bytes : List ℕ) (end : Ending) → told name ≡ Some bytes → length bytes ≤ most_bytes → (FaultRose name old new → ⊥) → Stops told lacks old new file name end → ⊥
-  no_stop file name bytes end is fits quiet (inl h) = quiet h.1
-  no_stop file name bytes end is fits quiet (inr h) = absurd (let long = at_some (λ (b : List ℕ). most_bytes < length b) (told name) bytes is h.1.1 in omega arith)
+  no_stop : (place : ℕ) (names files : List (List ℕ)) (end : Ending) → AllZip (λ name bytes. told name ≡ Some bytes) names files → AllByRecursion (λ bytes. length bytes ≤ most_bytes) files
+      → (RoseAmong names old new → ⊥) → StopsFrom told lacks old new place names end → ⊥
+  no_stop place [] files end are fit quiet h = h
+  no_stop place (n ∷ ns) [] end are fit quiet h = are
+  no_stop place (n ∷ ns) (f ∷ fs) end are fit quiet (inl (inl fault)) = quiet (inl fault.1)
+  no_stop place (n ∷ ns) (f ∷ fs) end are fit quiet (inl (inr long)) =
+      absurd (let past = at_some (λ (b : List ℕ). most_bytes < length b) (told n) f are.0 long.1.1 in let short = fit.0 in omega (arith, past, short))
+  no_stop place (n ∷ ns) (f ∷ fs) end are fit quiet (inr more) = no_stop (place + 1) ns fs end are.1 fit.1 (λ rose. quiet (inr rose)) more.1
 
-  module _ (words : List (List ℕ)) where
-    pub plan_complete : (w : GoesWell words told old new) (end : Ending) → Comes told lacks old new words end → IsAmong (0 ∷ 1 ∷ 8 ∷ []) (status_of end)
-    plan_complete w end (no_command e none) = absurd (none.no_two w.command w.domain w.problem w.named)
-    plan_complete w end (of_check d p l named h) = absurd (not_both words w.command w.domain w.problem d p l w.named named)
-    plan_complete w end (of_two c d p named (inl (inl stops))) = absurd (
-        let same = same_two words c w.command d p w.domain w.problem named w.named in
-        no_stop Domain w.domain w.first end w.first_told w.first_fits w.first_read (subst (λ (x : List ℕ). Stops told lacks old new Domain x end) same.1 stops))
-    plan_complete w end (of_two c d p named (inl (inr (fits, inl stops)))) = absurd (
-        let same = same_two words c w.command d p w.domain w.problem named w.named in
-        no_stop Problem w.problem w.second end w.second_told w.second_fits w.second_read (subst (λ (x : List ℕ). Stops told lacks old new Problem x end) same.2 stops))
-    plan_complete w end (of_two c d p named (inl (inr (fits, inr (more, never))))) = absurd never
-    plan_complete w end (of_two c d p named (inr h)) =
-        let same = same_two words c w.command d p w.domain w.problem named w.named in
-        let first = at_some (λ (f : List ℕ). IfSome (told p) (λ s. Decides c f s end)) (told d) w.first (ap told same.1 ∙ w.first_told) h.3 in
-        let second = at_some (λ (s : List ℕ). Decides c w.first s end) (told p) w.second (ap told same.2 ∙ w.second_told) first in
-        two_status c w.first w.second w.task w.g end w.are_grounded second
+  pub complete : (words : List (List ℕ)) (w : GoesWell words told old new) (end : Ending) → Comes told lacks old new words end → IsGood end
+  complete words w end comes = step (asked_comes told lacks old new words w.request w.asked end comes)
+    where
+      step : ComesOf told lacks old new w.request end → IsGood end
+      step (stopped h) = absurd (no_stop 0 (files_of w.request) w.files end w.are_told w.fit w.quiet h)
+      step (decided fit answer h) = files_good w.request w.files end w.in_order (of_told_at told (files_of w.request) w.files (λ files. Decides w.request files end) w.are_told h)
 
-    pub check_complete : (w : ChecksWell words told old new) (end : Ending) → Comes told lacks old new words end → IsAmong (0 ∷ 1 ∷ 8 ∷ []) (status_of end)
-    check_complete w end (no_command e none) = absurd (none.no_check w.domain w.problem w.plan_name w.named)
-    check_complete w end (of_two c d p named h) = absurd (not_both words c d p w.domain w.problem w.plan_name named w.named)
-    check_complete w end (of_check d p l named (inl (inl stops))) = absurd (
-        let e = sym named ∙ w.named in let one : d ≡ w.domain = cc in
-        no_stop Domain w.domain w.first end w.first_told w.first_fits w.first_read (subst (λ (x : List ℕ). Stops told lacks old new Domain x end) one stops))
-    check_complete w end (of_check d p l named (inl (inr (fits, inl stops)))) = absurd (
-        let e = sym named ∙ w.named in let two : p ≡ w.problem = cc in
-        no_stop Problem w.problem w.second end w.second_told w.second_fits w.second_read (subst (λ (x : List ℕ). Stops told lacks old new Problem x end) two stops))
-    check_complete w end (of_check d p l named (inl (inr (fits, inr (more, inl stops))))) = absurd (
-        let e = sym named ∙ w.named in let three : l ≡ w.plan_name = cc in
-        no_stop Plan w.plan_name w.third end w.third_told w.third_fits w.third_read (subst (λ (x : List ℕ). Stops told lacks old new Plan x end) three stops))
-    check_complete w end (of_check d p l named (inl (inr (fits, inr (more, inr (most, never)))))) = absurd never
-    check_complete w end (of_check d p l named (inr h)) =
-        let e = sym named ∙ w.named in
-        let one : d ≡ w.domain = cc in
-        let two : p ≡ w.problem = cc in
-        let three : l ≡ w.plan_name = cc in
-        let first = at_some (λ (f : List ℕ). IfSome (told p) (λ s. IfSome (told l) (λ t. DecidesCheck f s t end))) (told d) w.first (ap told one ∙ w.first_told) h.4 in
-        let second = at_some (λ (s : List ℕ). IfSome (told l) (λ t. DecidesCheck w.first s t end)) (told p) w.second (ap told two ∙ w.second_told) first in
-        let third = at_some (λ (t : List ℕ). DecidesCheck w.first w.second t end) (told l) w.third (ap told three ∙ w.third_told) second in
-        check_status w.first w.second w.third w.task w.calls end w.are_task w.are_calls third
-
-    pub not_taken : IsNoCommand words → (end : Ending) → Comes told lacks old new words end → IsAmong (6 ∷ 7 ∷ 8 ∷ []) (status_of end)
-    not_taken none end (no_command e nothing) = rw e (inr (inl refl))
-    not_taken none end (of_two c d p named h) = absurd (none.no_two c d p named)
-    not_taken none end (of_check d p l named h) = absurd (none.no_check d p l named)
+  pub not_taken : (words : List (List ℕ)) → requested words ≡ None → (end : Ending) → Comes told lacks old new words end → Contains (6 ∷ 7 ∷ 8 ∷ []) (status_of end)
+  not_taken words none end comes = let seven : status_of end ≡ 7 = ap status_of (not_asked_comes told lacks old new words none end comes) in (1, omega arith, sym seven)

@@ -1,263 +1,291 @@
--- What the headline says follows from an ending's cause.
-use Rattle.std.proofs.Common.{◌≡◌, ◌≤◌, ◌+◌, ◌⊎◌, ℕ, Bool, true, false, List, [], ◌∷◌, ◌++◌, take, drop, Option, Some, None, Ok, codes, refl, sym, ap, subst, ◌∙◌, arith, inl, inr}
-use Rattle.std.specs.Prelude.{IsTrue, IfSome}
-use Rattle.std.proofs.lemmas.List.{take-append-drop}
+-- The promises of the top call follow from the cause of its ending.
+use Rattle.std.proofs.Common.{◌≡◌, ◌≤◌, ◌+◌, ◌⊎◌, ℕ, Bool, true, false, List, [], ◌∷◌, ◌++◌, Option, Some, None, Ok, refl, sym, ap, subst, ◌∙◌, arith, inl, inr, codes}
+use Rattle.std.specs.Prelude.{IsTrue}
 use Rattle.pl_io.specs.Outside.{appended, TakesFront}
-use Rattle.pd_model.specs.Instance.{all_hold}
-use Rattle.pd_model.specs.Exec.{exec}
-use Rattle.pd_model.specs.Plan.{IsPlan, verdict, verdict_from, exec_all, meets_goal}
-use Rattle.pd_model.specs.declared.atoms.Atom.{Atom}
+use Rattle.report_lines.specs.Horizons.{Says, is_word}
+use Rattle.horizon_rates.specs.declared.settings.Settings.{Settings}
+use Rattle.pd_model.specs.Plan.{IsPlan, verdict}
+use Rattle.pd_model.specs.WellFormed.{IsWellFormed}
 use Rattle.pd_model.specs.declared.calls.Call.{Call}
 use Rattle.pd_model.specs.declared.calls.Verdict.{Verdict}
 use Rattle.pd_model.specs.declared.calls.Verdict.TheVariants as verdicts
-use Rattle.pd_model.specs.declared.memory.Which.{Which}
 use Rattle.pd_model.specs.declared.parts.Parts.{Parts}
 use Rattle.pd_plan.specs.PlanFile.{plan_file}
-use Rattle.pd_plan.proofs.Spelled.{spelled}
 use Rattle.pd_plan.specs.Fault as plan
+use Rattle.grounding.specs.Grounded.{Grounded, IsGrounded}
+use Rattle.grounding.specs.Limits.{IsWithin}
+use Rattle.race_end.specs.declared.end.RaceEnd.{RaceEnd}
+use Rattle.race_end.specs.declared.end.RaceEnd.TheVariants as races
+use Rattle.race_end.specs.Ends.{EndView, end_view, lines_in}
+use Rattle.plan_report.specs.Report.{report_of}
+use Rattle.plan_report.specs.Laws.{IsSmall as IsSmallReport, HasCalls, Tells}
+use Rattle.plan_words.specs.Seen.{Seen, Numbers, numbers, plans, checks, grounds, orders, generates, files_of}
+use Rattle.plan_words.specs.Requested.{requested}
+use Rattle.plan_top.specs.declared.ending.Outcome.{Outcome}
+use Rattle.plan_top.specs.declared.ending.Outcome.TheVariants as outcomes
 use Rattle.plan_top.specs.declared.ending.Ending.{Ending}
-use Rattle.plan_top.specs.declared.ending.Ending.TheVariants.{Found, Refuted, Listing, Reaches, Blocked, Short, Refused, TooLong, TooMany, ReadFault, Usage}
-use Rattle.plan_top.specs.Causes.{AreTask, HoldsAtFirst, RefusesTask, refusal_of_plan, ending_of, StopsGrounding, Decides, DecidesPlan, found, refuted, plan_stopped, DecidesGround, grounded, ground_stopped, DecidesOrder, ordered, order_stopped, is_answer, DecidesCheck, checked, check_refused, answered, no_calls, StopsAt, task_files, check_files, Comes, no_command, of_two, of_check}
-use Rattle.plan_top.specs.Ending.{status_of, text_of, IsSmall}
-use Rattle.plan_top.specs.Lines.{Says}
-use Rattle.plan_top.specs.Headline.{Printed, OfFiles, PlanRuns, NoStepPlan, NoPlan, TellsGround, TellsOrder, CallsRun}
-use Rattle.plan_top.specs.Words as words
-use Rattle.plan_top.specs.declared.words.Command.{Command}
-use Rattle.plan_top.specs.declared.words.Command.TheVariants as commands
-use Rattle.plan_top.proofs.AtFirst.{plan_of_none, no_plan_of_none}
-use Rattle.plan_top.proofs.Commands.{same_two, not_both}
-use Rattle.plan_top.proofs.Decided.{task_refusal, limit_is}
-use Rattle.plan_top.proofs.Printed.{says_refuted, printed_is, nothing_printed, ListsNothing}
-use Rattle.plan_top.proofs.Verdicts.{on_test}
+use Rattle.plan_top.specs.declared.ending.Ending.TheVariants.{Report, Listing, Reaches, Blocked, Short, Refused, TooLong, TooMany, TooLarge, ReadFault, Usage}
+use Rattle.plan_top.specs.Files.{StopsFrom, OfTold}
+use Rattle.plan_top.specs.Tasks.{AreTask, RefusesTask, OnceRead, refused, read, OnceGrounded, past, within, TellsOver}
+use Rattle.plan_top.specs.Raced.{ComesTo, OnceRaced, too_large, ended, outcome_of}
+use Rattle.plan_top.specs.Causes.{Decides, TellsRace, AnswersPlan, AnswersGround, AnswersOrder, AnswersCheck, refusal_of_plan, ending_of, is_answer, ComesOf, stopped, decided, Comes, no_request, of_request}
+use Rattle.plan_top.specs.Ending.{status_of, status_of_race, text_of, IsSmall}
+use Rattle.plan_top.specs.Headline.{Printed, OfFiles, PlanRuns, NoStepPlan, NoPlan, LineIsSo, SpendsAll, TellsGround, TellsOrder, CallsRun}
+use Rattle.plan_top.specs.Laws.{Laws}
+use Rattle.plan_top.proofs.Claims as claims
+use Rattle.plan_top.proofs.Told.{task_refusal, two_weaker, three_weaker, asked_comes}
+use Rattle.plan_top.proofs.Reports.{is_stop, stop_status, stop_says_nothing, printed_is, printed_front}
+use Rattle.plan_top.proofs.Verdicts.{reaches_is_plan}
 
--- ---- plans
+-- ---- endings that stop a run
 
--- calls that come to reach the goal are a plan
-reaches_is_plan : (p : Parts) (index : ℕ) (s : List Atom) (calls : List Call) → verdict_from p index s calls ≡ verdicts.Reaches → IsTrue (meets_goal p (exec_all p s calls))
-reaches_is_plan p index s [] h = on_test (all_hold s [] p.goal) h
-reaches_is_plan p index s (call ∷ calls) h = step (λ t e. reaches_is_plan p (index + 1) t calls e) (exec p s call) h
+not_low : {A : Type 0} (end : Ending) → is_stop end ≡ true → status_of end ≤ 2 → A
+not_low end stop low = let high = stop_status end stop in absurd (omega (arith, high, low))
+
+refused_stops : (domain problem : List ℕ) (end : Ending) → RefusesTask domain problem end → is_stop end ≡ true
+refused_stops domain problem end r = ap is_stop (task_refusal domain problem end r).3
+
+over_stops : (task : Parts) (end : Ending) → TellsOver task end → is_stop end ≡ true
+over_stops task end over = ap is_stop over.2
+
+fault_stops : (f : plan.Fault) → is_stop (refusal_of_plan f) ≡ true
+fault_stops (plan.syntax at) = refl
+fault_stops (plan.unknown at) = refl
+fault_stops (plan.arity at) = refl
+fault_stops (plan.mistyped at) = refl
+
+files_stop : (told : List ℕ → Option (List ℕ)) (lacks : List ℕ → Bool) (old new : List (List ℕ)) (place : ℕ) (names : List (List ℕ)) (end : Ending) → StopsFrom told lacks old new place names end → is_stop end ≡ true
+files_stop told lacks old new place [] end h = absurd h
+files_stop told lacks old new place (name ∷ names) end (inl (inl fault)) = ap is_stop fault.0
+files_stop told lacks old new place (name ∷ names) end (inl (inr long)) = ap is_stop long.0
+files_stop told lacks old new place (name ∷ names) end (inr after) = files_stop told lacks old new (place + 1) names end after.1
+
+-- two files that do not stop the run are a task of which the ending tells
+goes_on : (domain problem : List ℕ) (answers : Parts → Ending → Type 0) (end : Ending) → (is_stop end ≡ true → ⊥) → OnceRead domain problem answers end
+    → (task : Parts) × AreTask domain problem task × IsWellFormed task × answers task end
+goes_on domain problem answers end on (refused r) = absurd (on (refused_stops domain problem end r))
+goes_on domain problem answers end on (read task are well h) = (task, are, well, h)
+
+goes_within : (task : Parts) (answers : Grounded → Ending → Type 0) (end : Ending) → (is_stop end ≡ true → ⊥) → OnceGrounded task answers end → (g : Grounded) × IsGrounded task g × IsWithin task g × answers g end
+goes_within task answers end on (past over) = absurd (on (over_stops task end over))
+goes_within task answers end on (within g is fits h) = (g, is, fits, h)
+
+-- ---- the report of a race
+
+-- a race on two files came to an end, of which the ending is the report
+pub record Raced (settings : Settings) (domain problem : List ℕ) (end : Ending) : Type 0 where
+  pub task : Parts
+  pub are : AreTask domain problem task
+  pub well : IsWellFormed task
+  pub g : Grounded
+  pub grounded : IsGrounded task g
+  pub fits : IsWithin task g
+  pub race : RaceEnd
+  pub comes : ComesTo g.task settings race
+  pub tells : TellsRace settings task g race end
+
+raced : (settings : Settings) (domain problem : List ℕ) (end : Ending) → (is_stop end ≡ true → ⊥) → OnceRead domain problem (λ task. OnceGrounded task (AnswersPlan settings task)) end → Raced settings domain problem end
+raced settings domain problem end on h =
+    let r = goes_on domain problem (λ task. OnceGrounded task (AnswersPlan settings task)) end on h in
+    let w = goes_within r.0 (AnswersPlan settings r.0) end on r.3 in
+    step r w w.3
   where
-    step : ((t : List Atom) → verdict_from p (index + 1) t calls ≡ verdicts.Reaches → IsTrue (meets_goal p (exec_all p t calls))) → (o : Option (List Atom)) → elim o [ None ↦ verdicts.Blocked index | Some t ↦ verdict_from p (index + 1) t calls ] ≡ verdicts.Reaches
-        → IsTrue (meets_goal p (elim o [ None ↦ None | Some t ↦ exec_all p t calls ]))
-    step more None e = absurd (let never : verdicts.Blocked index ≡ verdicts.Reaches = e in cc)
-    step more (Some t) e = more t e
+    step : (r : (task : Parts) × AreTask domain problem task × IsWellFormed task × OnceGrounded task (AnswersPlan settings task) end)
+        → (w : (g : Grounded) × IsGrounded r.0 g × IsWithin r.0 g × AnswersPlan settings r.0 g end) → OnceRaced w.0.task settings (TellsRace settings r.0 w.0) end → Raced settings domain problem end
+    step r w (too_large over) = absurd (on (ap is_stop over.2))
+    step r w (ended race comes tells) = record { task = r.0; are = r.1; well = r.2; g = w.0; grounded = w.1; fits = w.2; race = race; comes = comes; tells = tells }
 
-no_step_plan : (task : Parts) → (HoldsAtFirst task → ⊥) → NoStepPlan 0 task
-no_step_plan task fails g components is published sets plan = no_plan_of_none task g is _ sets fails plan
+module _ (laws : Laws) (settings : Settings) (domain problem : List ℕ) (end : Ending) where
+  -- a report of status 0 is that of a plan, and one of status 2 that the budget is spent
+  plan_of : (r : Raced settings domain problem end) → status_of end ≡ 0 → PlanRuns (text_of end) r.task
+  plan_of r zero = subst (λ (e : Ending). PlanRuns (text_of e) r.task) (sym r.tells.told) (step r.race r.comes r.tells.small (sym (ap status_of r.tells.told) ∙ zero))
+    where
+      step : (race : RaceEnd) → ComesTo r.g.task settings race → IsSmallReport settings.budget (end_view race) → status_of_race (outcome_of (end_view race)) ≡ 0
+          → PlanRuns (report_of r.task r.g settings.budget (end_view race)) r.task
+      step (races.Plan horizon steps lines) comes small zero = claims.plan_runs laws settings r.task r.g r.well r.grounded r.fits horizon steps lines comes small
+      step (races.Exhausted horizon lines) comes small zero = absurd (omega arith)
+      step (races.Unfinished lines) comes small zero = absurd (omega arith)
 
-no_plan : (task : Parts) → (HoldsAtFirst task → ⊥) → NoPlan 0 task
-no_plan task fails [] short plan = fails plan
-no_plan task fails (call ∷ calls) short plan = absurd (omega arith)
+  spent_of : (r : Raced settings domain problem end) → status_of end ≡ 2 → SpendsAll (text_of end) settings.budget
+  spent_of r two = subst (λ (e : Ending). SpendsAll (text_of e) settings.budget) (sym r.tells.told) (step r.race r.comes r.tells.small (sym (ap status_of r.tells.told) ∙ two))
+    where
+      step : (race : RaceEnd) → ComesTo r.g.task settings race → IsSmallReport settings.budget (end_view race) → status_of_race (outcome_of (end_view race)) ≡ 2
+          → SpendsAll (report_of r.task r.g settings.budget (end_view race)) settings.budget
+      step (races.Plan horizon steps lines) comes small two = absurd (omega arith)
+      step (races.Exhausted horizon lines) comes small two = absurd (omega arith)
+      step (races.Unfinished lines) comes small two = claims.spends_all laws settings r.task r.g r.well r.grounded r.fits lines comes small
 
--- ---- statuses of causes
+  its_calls : (r : Raced settings domain problem end) → HasCalls r.task r.g (end_view r.race)
+  its_calls r = step r.race r.comes
+    where
+      step : (race : RaceEnd) → ComesTo r.g.task settings race → HasCalls r.task r.g (end_view race)
+      step (races.Plan horizon steps lines) comes = claims.has_calls laws settings r.task r.g r.well r.grounded r.fits horizon steps lines comes
+      step (races.Exhausted horizon lines) comes = tt
+      step (races.Unfinished lines) comes = tt
 
-pub task_refusal_status : (domain problem : List ℕ) (end : Ending) → RefusesTask domain problem end → status_of end ≡ 3
-task_refusal_status domain problem end r = ap status_of (task_refusal domain problem end r).3
+  -- what the report says of a horizon its end tells
+  said_of : (r : Raced settings domain problem end) (horizon : ℕ) (word : List ℕ) (conflicts : ℕ) → IsTrue (is_word word) → Says (text_of end) horizon word conflicts → Tells (lines_in (end_view r.race)) horizon word conflicts
+  said_of r horizon word conflicts one says =
+      laws.horizons r.task r.g settings.budget (end_view r.race) horizon word conflicts r.well r.tells.small (its_calls r) one
+      (subst (λ (e : Ending). Says (text_of e) horizon word conflicts) r.tells.told says)
 
-stopped_status : (domain problem : List ℕ) (end : Ending) → StopsGrounding domain problem end → (status_of end ≡ 3) ⊎ (status_of end ≡ 4)
-stopped_status domain problem end (inl r) = inl (task_refusal_status domain problem end r)
-stopped_status domain problem end (inr l) = inr (ap status_of (limit_is domain problem end l).2)
+-- ---- the other commands
 
-not_low : {A : Type 0} (end : Ending) → status_of end ≤ 1 → (status_of end ≡ 3) ⊎ (status_of end ≡ 4) → A
-not_low end small (inl three) = absurd (omega arith)
-not_low end small (inr four) = absurd (omega arith)
+ground_listed : (domain problem : List ℕ) (end : Ending) → (is_stop end ≡ true → ⊥) → OnceRead domain problem (λ task. OnceGrounded task (AnswersGround task)) end → (task : Parts) × AreTask domain problem task × TellsGround (text_of end) task
+ground_listed domain problem end on h =
+    let r = goes_on domain problem (λ task. OnceGrounded task (AnswersGround task)) end on h in
+    let w = goes_within r.0 (AnswersGround r.0) end on r.3 in
+    (r.0, r.1, (w.0, w.1, ap text_of w.3))
 
-fault_status : (f : plan.Fault) → status_of (refusal_of_plan f) ≡ 3
-fault_status (plan.syntax at) = refl
-fault_status (plan.unknown at) = refl
-fault_status (plan.arity at) = refl
-fault_status (plan.mistyped at) = refl
+order_listed : (domain problem : List ℕ) (end : Ending) → (is_stop end ≡ true → ⊥) → OnceRead domain problem (λ task. OnceGrounded task (AnswersOrder task)) end → (task : Parts) × AreTask domain problem task × TellsOrder (text_of end) task
+order_listed domain problem end on h =
+    let r = goes_on domain problem (λ task. OnceGrounded task (AnswersOrder task)) end on h in
+    let w = goes_within r.0 (AnswersOrder r.0) end on r.3 in
+    (r.0, r.1, (w.0, w.3.0, w.3.1, w.1, w.3.2, ap text_of w.3.3))
 
 verdict_reaches : (v : Verdict) → status_of (ending_of v) ≡ 0 → v ≡ verdicts.Reaches
 verdict_reaches verdicts.Reaches zero = refl
 verdict_reaches (verdicts.Blocked index) zero = absurd (omega arith)
 verdict_reaches verdicts.Short zero = absurd (omega arith)
 
--- ---- what was decided of the bytes
+calls_reach : (task : Parts) (bytes : List ℕ) (end : Ending) → status_of end ≡ 0 → AnswersCheck task bytes end → (calls : List Call) × (plan_file task bytes ≡ Ok calls) × IsPlan task calls
+calls_reach task bytes end zero (inl h) =
+    let reaches = verdict_reaches (verdict task h.0) (sym (ap status_of h.2) ∙ zero) in
+    (h.0, h.1, reaches_is_plan task 0 task.init h.0 reaches)
+calls_reach task bytes end zero (inr h) = not_low end (ap is_stop h.2 ∙ fault_stops h.0) (omega arith)
 
-plan_found : (first second : List ℕ) (end : Ending) → status_of end ≡ 0 → DecidesPlan first second end → (end ≡ Found) × ((task : Parts) × AreTask first second task × PlanRuns (text_of Found) task)
-plan_found first second end zero (found task g e are holds) =
-    (e, (task, are.are, (([], spelled task (text_of Found) [] tt, holds), inr (inr (inl refl)), λ h components is published sets. plan_of_none task h is _ sets holds)))
-plan_found first second end zero (refuted task g e are fails) = absurd (let one = ap status_of e in omega arith)
-plan_found first second end zero (plan_stopped s) = not_low end (omega arith) (stopped_status first second end s)
-
-plan_refuted : (first second : List ℕ) (end : Ending) → status_of end ≡ 1 → DecidesPlan first second end → (task : Parts) × AreTask first second task × (HoldsAtFirst task → ⊥)
-plan_refuted first second end one (found task g e are holds) = absurd (let zero = ap status_of e in omega arith)
-plan_refuted first second end one (refuted task g e are fails) = (task, are.are, fails)
-plan_refuted first second end one (plan_stopped s) = not_low end (omega arith) (stopped_status first second end s)
-
-ground_listed : (first second : List ℕ) (end : Ending) → status_of end ≡ 0 → DecidesGround first second end → (task : Parts) × AreTask first second task × TellsGround (text_of end) task
-ground_listed first second end zero (grounded task g e are) = (task, are.are, (g, are.grounded, ap text_of e))
-ground_listed first second end zero (ground_stopped s) = not_low end (omega arith) (stopped_status first second end s)
-
-order_listed : (first second : List ℕ) (end : Ending) → status_of end ≡ 0 → DecidesOrder first second end → (task : Parts) × AreTask first second task × TellsOrder (text_of end) task
-order_listed first second end zero (ordered task g components e are published) = (task, are.are, (g, components, are.grounded, published, ap text_of e))
-order_listed first second end zero (order_stopped s) = not_low end (omega arith) (stopped_status first second end s)
-
-calls_reach : (first second third : List ℕ) (end : Ending) → status_of end ≡ 0 → DecidesCheck first second third end
-    → (task : Parts) × (calls : List Call) × AreTask first second task × (plan_file task third ≡ Ok calls) × IsPlan task calls
-calls_reach first second third end zero (checked task are (answered calls reads e)) =
-    let reaches = verdict_reaches (verdict task calls) (sym (ap status_of e) ∙ zero) in
-    (task, calls, are, reads, reaches_is_plan task 0 task.init calls reaches)
-calls_reach first second third end zero (checked task are (no_calls f reads e)) = absurd (let three = ap status_of e ∙ fault_status f in omega arith)
-calls_reach first second third end zero (check_refused r) = absurd (let three = task_refusal_status first second end r in omega arith)
+check_reached : (domain problem bytes : List ℕ) (end : Ending) → status_of end ≡ 0 → OnceRead domain problem (λ task. AnswersCheck task bytes) end
+    → (task : Parts) × (calls : List Call) × AreTask domain problem task × (plan_file task bytes ≡ Ok calls) × IsPlan task calls
+check_reached domain problem bytes end zero h =
+    let r = goes_on domain problem (λ task. AnswersCheck task bytes) end (λ stop. not_low end stop (omega arith)) h in
+    let c = calls_reach r.0 bytes end zero r.3 in
+    (r.0, c.0, r.1, c.1, c.2)
 
 -- ---- what is told
 
-told_weaker : (P Q : List ℕ → Type 0) (told : Option (List ℕ)) → ((bytes : List ℕ) → P bytes → Q bytes) → IfSome told P → IfSome told Q
-told_weaker P Q None weaker h = tt
-told_weaker P Q (Some bytes) weaker h = weaker bytes h
+module _ (laws : Laws) (words : List (List ℕ)) (told : List ℕ → Option (List ℕ)) (lacks : List ℕ → Bool) (old new : List (List ℕ)) (end : Ending) (comes : Comes told lacks old new words end) where
+  -- what was decided for a request that does not stop
+  decided_for : (request : Seen) → requested words ≡ Some request → (is_stop end ≡ true → ⊥) → OfTold told (files_of request) (λ files. Decides request files end)
+  decided_for request asked on = step (asked_comes told lacks old new words request asked end comes)
+    where
+      step : ComesOf told lacks old new request end → OfTold told (files_of request) (λ files. Decides request files end)
+      step (stopped h) = absurd (on (files_stop told lacks old new 0 (files_of request) end h))
+      step (decided fit answer h) = h
 
-two_weaker : (P Q : List ℕ → List ℕ → Type 0) (one two : Option (List ℕ)) → ((first second : List ℕ) → P first second → Q first second)
-    → IfSome one (λ first. IfSome two (λ second. P first second)) → IfSome one (λ first. IfSome two (λ second. Q first second))
-two_weaker P Q one two weaker = told_weaker (λ first. IfSome two (λ second. P first second)) (λ first. IfSome two (λ second. Q first second)) one
-    (λ first. told_weaker (λ second. P first second) (λ second. Q first second) two (weaker first))
+  -- a claim on the task of a race that came to an end
+  of_race : (domain problem : List ℕ) (settings : Settings) (claim : Parts → Type 0) → requested words ≡ Some (plans domain problem (numbers settings)) → (is_stop end ≡ true → ⊥)
+      → ((first second : List ℕ) (r : Raced settings first second end) → claim r.task) → OfFiles told domain problem claim
+  of_race domain problem settings claim asked on from =
+      two_weaker (λ first second. Decides (plans domain problem (numbers settings)) (first ∷ second ∷ []) end) (λ first second. (task : Parts) × AreTask first second task × claim task) (told domain) (told problem)
+      (λ first second h.
+      let same : h.0 ≡ settings = laws.settings h.0 settings h.1 in
+      let r = raced settings first second end on (subst (λ (s : Settings). OnceRead first second (λ task. OnceGrounded task (AnswersPlan s task)) end) same h.2) in
+      (r.task, r.are, from first second r))
+      (decided_for (plans domain problem (numbers settings)) asked on)
 
-three_weaker : (P Q : List ℕ → List ℕ → List ℕ → Type 0) (one two three : Option (List ℕ)) → ((first second third : List ℕ) → P first second third → Q first second third)
-    → IfSome one (λ first. IfSome two (λ second. IfSome three (λ third. P first second third))) → IfSome one (λ first. IfSome two (λ second. IfSome three (λ third. Q first second third)))
-three_weaker P Q one two three weaker = two_weaker (λ first second. IfSome three (λ third. P first second third)) (λ first second. IfSome three (λ third. Q first second third)) one two
-    (λ first second. told_weaker (λ third. P first second third) (λ third. Q first second third) three (weaker first second))
+  -- a claim on the task of a listing
+  of_listing : (request : Seen) (domain problem : List ℕ) (claim : Parts → Type 0) → files_of request ≡ domain ∷ problem ∷ [] → requested words ≡ Some request → status_of end ≡ 0
+      → ((first second : List ℕ) → (is_stop end ≡ true → ⊥) → Decides request (first ∷ second ∷ []) end → (task : Parts) × AreTask first second task × claim task) → OfFiles told domain problem claim
+  of_listing request domain problem claim names asked zero from =
+      let on : is_stop end ≡ true → ⊥ = λ stop. not_low end stop (omega arith) in
+      two_weaker (λ first second. Decides request (first ∷ second ∷ []) end) (λ first second. (task : Parts) × AreTask first second task × claim task) (told domain) (told problem)
+      (λ first second h. from first second on h)
+      (subst (λ (ns : List (List ℕ)). OfTold told ns (λ files. Decides request files end)) names (decided_for request asked on))
 
-module _ (given : List (List ℕ)) (told : List ℕ → Option (List ℕ)) (lacks : List ℕ → Bool) (old new : List (List ℕ)) where
-  pub stop_status : (files : List (Which × List ℕ)) (end : Ending) → StopsAt told lacks old new files end → (status_of end ≡ 4) ⊎ (status_of end ≡ 5)
-  stop_status [] end h = absurd h
-  stop_status (file ∷ others) end (inl (inl fault)) = inr (ap status_of fault.0)
-  stop_status (file ∷ others) end (inl (inr long)) = inl (ap status_of long.0)
-  stop_status (file ∷ others) end (inr after) = stop_status others end after.1
-
-  low : {A : Type 0} (end : Ending) → status_of end ≤ 1 → (status_of end ≡ 4) ⊎ (status_of end ≡ 5) → A
-  low end small (inl four) = absurd (omega arith)
-  low end small (inr five) = absurd (omega arith)
-
-  stops_list_nothing : (files : List (Which × List ℕ)) (end : Ending) → StopsAt told lacks old new files end → ListsNothing end
-  stops_list_nothing [] end h = absurd h
-  stops_list_nothing (file ∷ others) end (inl (inl fault)) = rw fault.0 tt
-  stops_list_nothing (file ∷ others) end (inl (inr long)) = rw long.0 tt
-  stops_list_nothing (file ∷ others) end (inr after) = stops_list_nothing others end after.1
-
-  plan_answers_list_nothing : (end : Ending) → is_answer commands.Plan end ≡ true → ListsNothing end
-  plan_answers_list_nothing Found h = tt
-  plan_answers_list_nothing Refuted h = tt
-  plan_answers_list_nothing (Listing text) h = let never : false ≡ true = h in cc
-  plan_answers_list_nothing Reaches h = tt
-  plan_answers_list_nothing (Blocked index) h = tt
-  plan_answers_list_nothing Short h = tt
-  plan_answers_list_nothing (Refused kind file at) h = tt
-  plan_answers_list_nothing (TooLong file) h = tt
-  plan_answers_list_nothing (TooMany what count) h = tt
-  plan_answers_list_nothing (ReadFault file) h = tt
-  plan_answers_list_nothing Usage h = tt
-
-  nothing_listed : (end : Ending) (domain problem : List ℕ) → words.IsPlanCommand given domain problem → Comes told lacks old new given end → ListsNothing end
-  nothing_listed end domain problem named (no_command e none) = rw e tt
-  nothing_listed end domain problem named (of_check d p l other h) = absurd (not_both given commands.Plan domain problem d p l named other)
-  nothing_listed end domain problem named (of_two c d p other (inl stops)) = stops_list_nothing (task_files d p) end stops
-  nothing_listed end domain problem named (of_two c d p other (inr h)) =
-      plan_answers_list_nothing end (subst (λ (x : Command). IsTrue (is_answer x end)) (same_two given c commands.Plan d p domain problem other named).0 h.2)
-
-  module _ (end : Ending) (comes : Comes told lacks old new given end) (before after : Option (List ℕ)) (text : List ℕ) (printed : Printed before after text) where
-    -- what the words of a command decided, of the files that they name
-    decided : (command : Command) (domain problem : List ℕ) → words.IsTwo command given domain problem → status_of end ≤ 1 → Comes told lacks old new given end
-        → IsTrue (is_answer command end) × IfSome (told domain) (λ first. IfSome (told problem) (λ second. Decides command first second end))
-    decided command domain problem named small (no_command e none) = absurd (none.no_two command domain problem named)
-    decided command domain problem named small (of_check d p l other h) = absurd (not_both given command domain problem d p l named other)
-    decided command domain problem named small (of_two c d p other (inl stops)) = low end small (stop_status (task_files d p) end stops)
-    decided command domain problem named small (of_two c d p other (inr h)) =
-        let same = same_two given c command d p domain problem other named in (
-          subst (λ (x : Command). IsTrue (is_answer x end)) same.0 h.2,
-          subst (λ (x : Command). IfSome (told domain) (λ first. IfSome (told problem) (λ second. Decides x first second end))) same.0
-              (subst (λ (x : List ℕ). IfSome (told domain) (λ first. IfSome (told x) (λ second. Decides c first second end))) same.2
-              (subst (λ (x : List ℕ). IfSome (told x) (λ first. IfSome (told p) (λ second. Decides c first second end))) same.1 h.3)),
-        )
-
-    -- with status 0 the text is that of the ending
-    listed : (command : Command) (claim : List ℕ → Parts → Type 0)
-        → ((first second : List ℕ) → Decides command first second end → (task : Parts) × AreTask first second task × claim (text_of end) task)
-        → (domain problem : List ℕ) → after ≡ appended before (text_of end) → status_of end ≡ 0 → words.IsTwo command given domain problem → OfFiles told domain problem (claim text)
-    listed command claim from domain problem all zero named =
-        let is : text ≡ text_of end = printed_is before after text (text_of end) printed all in
-        two_weaker (λ first second. Decides command first second end) (λ first second. (task : Parts) × AreTask first second task × claim text task) (told domain) (told problem)
-        (λ first second decides. let f = from first second decides in (f.0, f.1, subst (λ (xs : List ℕ). claim xs f.0) (sym is) f.2))
-        (decided command domain problem named (omega arith) comes).1
-
-    pub plan_runs : (domain problem : List ℕ) → after ≡ appended before (text_of end) → status_of end ≡ 0 → words.IsPlanCommand given domain problem → OfFiles told domain problem (PlanRuns text)
-    plan_runs domain problem all zero named =
-        listed commands.Plan PlanRuns (λ first second decides. let f = plan_found first second end zero decides in (f.1.0, f.1.1, subst (λ (x : Ending). PlanRuns (text_of x) f.1.0) (sym f.0) f.1.2)) domain problem all zero named
-
-    pub ground_told : (domain problem : List ℕ) → after ≡ appended before (text_of end) → status_of end ≡ 0 → words.IsGroundCommand given domain problem → OfFiles told domain problem (TellsGround text)
-    ground_told domain problem all zero named = listed commands.Ground TellsGround (λ first second decides. ground_listed first second end zero decides) domain problem all zero named
-
-    pub order_told : (domain problem : List ℕ) → after ≡ appended before (text_of end) → status_of end ≡ 0 → words.IsOrderCommand given domain problem → OfFiles told domain problem (TellsOrder text)
-    order_told domain problem all zero named = listed commands.Order TellsOrder (λ first second decides. order_listed first second end zero decides) domain problem all zero named
-
-    -- the words of `plan` list nothing
-    plan_lists_nothing : (domain problem : List ℕ) → words.IsPlanCommand given domain problem → ListsNothing end
-    plan_lists_nothing domain problem named = nothing_listed end domain problem named comes
-
-    refutes : IsSmall end → TakesFront before after (text_of end) → (claim : ℕ → Parts → Type 0) → ((task : Parts) → (HoldsAtFirst task → ⊥) → claim 0 task)
-        → (domain problem : List ℕ) (horizon conflicts : ℕ) → words.IsPlanCommand given domain problem → Says text horizon (codes "refuted") conflicts → OfFiles told domain problem (claim horizon)
-    refutes small front claim from domain problem horizon conflicts named says =
-        let text_is : text ≡ take front.0 (text_of end) = printed_is before after text (take front.0 (text_of end)) printed front.2 in
-        let parts : text_of end ≡ text ++ drop front.0 (text_of end) = sym (take-append-drop front.0 (text_of end)) ∙ ap (λ (xs : List ℕ). xs ++ drop front.0 (text_of end)) (sym text_is) in
-        let only = says_refuted end text (drop front.0 (text_of end)) horizon conflicts (plan_lists_nothing domain problem named) small parts says in
-        let one : status_of end ≡ 1 = ap status_of only.0 in
-        subst (λ (n : ℕ). OfFiles told domain problem (claim n)) (sym only.1)
-        (two_weaker (λ first second. DecidesPlan first second end) (λ first second. (task : Parts) × AreTask first second task × claim 0 task) (told domain) (told problem)
-        (λ first second decides. let f = plan_refuted first second end one decides in (f.0, f.1, from f.0 f.2)) (decided commands.Plan domain problem named (omega (arith, one)) comes).1)
-
-    pub refuted_steps : IsSmall end → TakesFront before after (text_of end) → (domain problem : List ℕ) (horizon conflicts : ℕ) → words.IsPlanCommand given domain problem → Says text horizon (codes "refuted") conflicts
-        → OfFiles told domain problem (NoStepPlan horizon)
-    refuted_steps small front = refutes small front NoStepPlan no_step_plan
-
-    pub refuted_plans : IsSmall end → TakesFront before after (text_of end) → (domain problem : List ℕ) (horizon conflicts : ℕ) → words.IsPlanCommand given domain problem → Says text horizon (codes "refuted") conflicts
-        → OfFiles told domain problem (NoPlan horizon)
-    refuted_plans small front = refutes small front NoPlan no_plan
-
-  pub reached : (end : Ending) (domain problem plan_name : List ℕ) → status_of end ≡ 0 → words.IsCheckCommand given domain problem plan_name → Comes told lacks old new given end → CallsRun told domain problem plan_name
-  reached end domain problem plan_name zero named (no_command e none) = absurd (none.no_check domain problem plan_name named)
-  reached end domain problem plan_name zero named (of_two c d p other h) = absurd (not_both given c d p domain problem plan_name other named)
-  reached end domain problem plan_name zero named (of_check d p l other (inl stops)) = low end (omega arith) (stop_status (check_files d p l) end stops)
-  reached end domain problem plan_name zero named (of_check d p l other (inr h)) =
-      let e = sym other ∙ named in
-      let one : d ≡ domain = cc in
-      let two : p ≡ problem = cc in
-      let three : l ≡ plan_name = cc in
-      subst (λ (x : List ℕ). CallsRun told x problem plan_name) one (subst (λ (x : List ℕ). CallsRun told d x plan_name) two (subst (λ (x : List ℕ). CallsRun told d p x) three
-      (three_weaker (λ first second third. DecidesCheck first second third end)
+  pub reached : (domain problem plan_name : List ℕ) → status_of end ≡ 0 → requested words ≡ Some (checks domain problem plan_name) → CallsRun told domain problem plan_name
+  reached domain problem plan_name zero asked =
+      three_weaker (λ first second third. Decides (checks domain problem plan_name) (first ∷ second ∷ third ∷ []) end)
       (λ first second third. (task : Parts) × (calls : List Call) × AreTask first second task × (plan_file task third ≡ Ok calls) × IsPlan task calls)
-      (told d) (told p) (told l) (λ first second third decides. calls_reach first second third end zero decides) h.4)))
+      (told domain) (told problem) (told plan_name) (λ first second third h. check_reached first second third end zero h)
+      (decided_for (checks domain problem plan_name) asked (λ stop. not_low end stop (omega arith)))
 
-  seven_only : (end : Ending) → status_of end ≡ 7 → end ≡ Usage
-  seven_only Found seven = absurd (omega arith)
-  seven_only Refuted seven = absurd (omega arith)
-  seven_only (Listing text) seven = absurd (omega arith)
-  seven_only Reaches seven = absurd (omega arith)
-  seven_only (Blocked index) seven = absurd (omega arith)
-  seven_only Short seven = absurd (omega arith)
-  seven_only (Refused kind file at) seven = absurd (omega arith)
-  seven_only (TooLong file) seven = absurd (omega arith)
-  seven_only (TooMany what count) seven = absurd (omega arith)
-  seven_only (ReadFault file) seven = absurd (omega arith)
-  seven_only Usage seven = refl
+  module _ (before after : Option (List ℕ)) (text : List ℕ) (printed : Printed before after text) where
+    pub plan_runs : (domain problem : List ℕ) (settings : Settings) → after ≡ appended before (text_of end) → status_of end ≡ 0 → requested words ≡ Some (plans domain problem (numbers settings)) → OfFiles told domain problem (PlanRuns text)
+    plan_runs domain problem settings all zero asked =
+        let is : text ≡ text_of end = printed_is before after text (text_of end) printed all in
+        of_race domain problem settings (PlanRuns text) asked (λ stop. not_low end stop (omega arith))
+        (λ first second r. subst (λ (xs : List ℕ). PlanRuns xs r.task) (sym is) (plan_of laws settings first second end r zero))
 
-  usage_answers : (command : Command) → is_answer command Usage ≡ true → ⊥
-  usage_answers commands.Plan h = let never : false ≡ true = h in cc
-  usage_answers commands.Ground h = let never : false ≡ true = h in cc
-  usage_answers commands.Order h = let never : false ≡ true = h in cc
+    pub unfinished : (domain problem : List ℕ) (settings : Settings) → after ≡ appended before (text_of end) → status_of end ≡ 2 → requested words ≡ Some (plans domain problem (numbers settings)) → OfFiles told domain problem (λ task. SpendsAll text settings.budget)
+    unfinished domain problem settings all two asked =
+        let is : text ≡ text_of end = printed_is before after text (text_of end) printed all in
+        of_race domain problem settings (λ task. SpendsAll text settings.budget) asked (λ stop. not_low end stop (omega arith))
+        (λ first second r. subst (λ (xs : List ℕ). SpendsAll xs settings.budget) (sym is) (spent_of laws settings first second end r two))
 
-  late : {A : Type 0} (end : Ending) → status_of end ≡ 7 → (status_of end ≡ 4) ⊎ (status_of end ≡ 5) → A
-  late end seven (inl four) = absurd (omega arith)
-  late end seven (inr five) = absurd (omega arith)
+    pub ground_told : (domain problem : List ℕ) → after ≡ appended before (text_of end) → status_of end ≡ 0 → requested words ≡ Some (grounds domain problem) → OfFiles told domain problem (TellsGround text)
+    ground_told domain problem all zero asked =
+        let is : text ≡ text_of end = printed_is before after text (text_of end) printed all in
+        of_listing (grounds domain problem) domain problem (TellsGround text) refl asked zero
+        (λ first second on h. subst (λ (xs : List ℕ). (task : Parts) × AreTask first second task × TellsGround xs task) (sym is) (ground_listed first second end on h))
 
-  pub unnamed : (end : Ending) → status_of end ≡ 7 → Comes told lacks old new given end → words.IsNoCommand given
-  unnamed end seven (no_command e none) = none
-  unnamed end seven (of_two c d p named (inl stops)) = late end seven (stop_status (task_files d p) end stops)
-  unnamed end seven (of_two c d p named (inr h)) = absurd (usage_answers c (rw (seven_only end seven) at h.2))
-  unnamed end seven (of_check d p l named (inl stops)) = late end seven (stop_status (check_files d p l) end stops)
-  unnamed end seven (of_check d p l named (inr h)) = absurd (let answers = h.3 in let never : false ≡ true = rw (seven_only end seven) at answers in cc)
+    pub order_told : (domain problem : List ℕ) → after ≡ appended before (text_of end) → status_of end ≡ 0 → requested words ≡ Some (orders domain problem) → OfFiles told domain problem (TellsOrder text)
+    order_told domain problem all zero asked =
+        let is : text ≡ text_of end = printed_is before after text (text_of end) printed all in
+        of_listing (orders domain problem) domain problem (TellsOrder text) refl asked zero
+        (λ first second on h. subst (λ (xs : List ℕ). (task : Parts) × AreTask first second task × TellsOrder xs task) (sym is) (order_listed first second end on h))
 
--- where nothing was written nothing is said
-pub nothing_said : {A : Type 0} (taken : Option (List ℕ)) (text : List ℕ) (horizon conflicts : ℕ) (word : List ℕ) → Printed taken taken text → Says text horizon word conflicts → A
-nothing_said taken text horizon conflicts word printed says =
-    let none = nothing_printed taken text printed in
-    absurd (let said = subst (λ (xs : List ℕ). Says xs horizon word conflicts) none says in said.4)
+    -- what the text says of a horizon, the end of the race tells
+    of_said : IsSmall end → TakesFront before after (text_of end) → (domain problem : List ℕ) (settings : Settings) (horizon : ℕ) (word : List ℕ) (conflicts : ℕ) (claim : Parts → Type 0)
+        → requested words ≡ Some (plans domain problem (numbers settings)) → IsTrue (is_word word) → Says text horizon word conflicts
+        → ((first second : List ℕ) (r : Raced settings first second end) → Tells (lines_in (end_view r.race)) horizon word conflicts → claim r.task) → OfFiles told domain problem claim
+    of_said small front domain problem settings horizon word conflicts claim asked one says from =
+        let due = printed_front before after text (text_of end) printed front in
+        let whole : Says (text_of end) horizon word conflicts = subst (λ (xs : List ℕ). Says xs horizon word conflicts) (sym due.1) (laws.fronts text due.0 horizon word conflicts says) in
+        of_race domain problem settings claim asked (λ stop. stop_says_nothing laws.entries end stop small horizon word conflicts one whole)
+        (λ first second r. from first second r (said_of laws settings first second end r horizon word conflicts one whole))
+
+    pub refuted_steps : IsSmall end → TakesFront before after (text_of end) → (domain problem : List ℕ) (settings : Settings) (horizon conflicts : ℕ)
+        → requested words ≡ Some (plans domain problem (numbers settings)) → Says text horizon (codes "refuted") conflicts → OfFiles told domain problem (NoStepPlan horizon)
+    refuted_steps small front domain problem settings horizon conflicts asked says =
+        of_said small front domain problem settings horizon (codes "refuted") conflicts (NoStepPlan horizon) asked refl says
+        (λ first second r tells. claims.no_step_plan laws settings r.task r.g r.well r.grounded r.fits r.race r.comes horizon conflicts tells)
+
+    pub refuted_plans : IsSmall end → TakesFront before after (text_of end) → (domain problem : List ℕ) (settings : Settings) (horizon conflicts : ℕ)
+        → requested words ≡ Some (plans domain problem (numbers settings)) → Says text horizon (codes "refuted") conflicts → OfFiles told domain problem (NoPlan horizon)
+    refuted_plans small front domain problem settings horizon conflicts asked says =
+        of_said small front domain problem settings horizon (codes "refuted") conflicts (NoPlan horizon) asked refl says
+        (λ first second r tells. claims.no_plan laws settings r.task r.g r.well r.grounded r.fits r.race r.comes horizon conflicts tells)
+
+    pub lines : IsSmall end → TakesFront before after (text_of end) → (domain problem word : List ℕ) (settings : Settings) (horizon conflicts : ℕ)
+        → requested words ≡ Some (plans domain problem (numbers settings)) → IsTrue (is_word word) → Says text horizon word conflicts → OfFiles told domain problem (LineIsSo settings horizon word conflicts)
+    lines small front domain problem word settings horizon conflicts asked one says =
+        of_said small front domain problem settings horizon word conflicts (LineIsSo settings horizon word conflicts) asked one says
+        (λ first second r tells. claims.line_is_so laws settings r.task r.g r.well r.grounded r.fits r.race r.comes horizon word conflicts tells)
+
+-- ---- words that are not taken
+
+usage_answers : (request : Seen) → is_answer request Usage ≡ true → ⊥
+usage_answers (plans d p n) h = let never : false ≡ true = h in cc
+usage_answers (checks d p l) h = let never : false ≡ true = h in cc
+usage_answers (grounds d p) h = let never : false ≡ true = h in cc
+usage_answers (orders d p) h = let never : false ≡ true = h in cc
+usage_answers (generates k m n s) h = let never : false ≡ true = h in cc
+
+race_status : (outcome : Outcome) → status_of_race outcome ≤ 2
+race_status outcomes.Planned = omega arith
+race_status outcomes.Exhausted = omega arith
+race_status outcomes.Unfinished = omega arith
+
+seven_only : (end : Ending) → status_of end ≡ 7 → end ≡ Usage
+seven_only (Report outcome text) seven = absurd (let low = race_status outcome in omega (arith, low))
+seven_only (Listing text) seven = absurd (omega arith)
+seven_only Reaches seven = absurd (omega arith)
+seven_only (Blocked index) seven = absurd (omega arith)
+seven_only Short seven = absurd (omega arith)
+seven_only (Refused kind file at) seven = absurd (omega arith)
+seven_only (TooLong file) seven = absurd (omega arith)
+seven_only (TooMany what count) seven = absurd (omega arith)
+seven_only (TooLarge horizon count) seven = absurd (omega arith)
+seven_only (ReadFault file) seven = absurd (omega arith)
+seven_only Usage seven = refl
+
+stop_not_usage : (end : Ending) → end ≡ Usage → is_stop end ≡ true → ⊥
+stop_not_usage end is stop = let never : false ≡ true = sym (ap is_stop is) ∙ stop in cc
+
+never_usage : (told : List ℕ → Option (List ℕ)) (lacks : List ℕ → Bool) (old new : List (List ℕ)) (request : Seen) (end : Ending) → end ≡ Usage → ComesOf told lacks old new request end → ⊥
+never_usage told lacks old new request end is (stopped h) = stop_not_usage end is (files_stop told lacks old new 0 (files_of request) end h)
+never_usage told lacks old new request end is (decided fit answer h) = usage_answers request (subst (λ (e : Ending). is_answer request e ≡ true) is answer)
+
+pub unnamed : (words : List (List ℕ)) (told : List ℕ → Option (List ℕ)) (lacks : List ℕ → Bool) (old new : List (List ℕ)) (end : Ending) → status_of end ≡ 7 → Comes told lacks old new words end → requested words ≡ None
+unnamed words told lacks old new end seven (no_request none e) = none
+unnamed words told lacks old new end seven (of_request request asked h) = absurd (never_usage told lacks old new request end (seven_only end seven) h)

@@ -1,11 +1,12 @@
-pub mod Five
-pub mod Three
-pub mod Four
 pub mod Stopped
+pub mod Taking
 pub mod Verdicts
-pub mod AtFirst
-pub mod Commands
-pub mod Decided
-pub mod Printed
+pub mod Known
+pub mod Claims
+pub mod Told
+pub mod Answered
+pub mod Reports
 pub mod Headlines
 pub mod Complete
+mod OneTask
+mod OneReport

@@ -1,52 +1,53 @@
 -- Words and files that are in order, so that they are answered.
-use Rattle.std.specs.Prelude.{◌≡◌, ◌≤◌, ℕ, List, length, Option, Some, Ok}
-use Rattle.pl_io.specs.Outside.{FaultRose}
+use Rattle.std.specs.Prelude.{◌≡◌, ◌⊎◌, ◌≤◌, Contains, ℕ, List, [], ◌∷◌, length, Option, Some, Ok}
+use Rattle.std.specs.List.{AllZip, AllByRecursion}
 use Rattle.pd_model.specs.declared.calls.Call.{Call}
 use Rattle.pd_model.specs.declared.parts.Parts.{Parts}
 use Rattle.pd_plan.specs.PlanFile.{plan_file}
-use Rattle.grounding.specs.Grounded.{Grounded}
-use Rattle.plan_top.specs.Causes.{AreTask, AreGrounded, most_bytes}
-use Rattle.plan_top.specs.Words.{IsTwo, IsCheckCommand}
-use Rattle.plan_top.specs.declared.words.Command.{Command}
+use Rattle.grounding.specs.Grounded.{Grounded, IsGrounded}
+use Rattle.grounding.specs.Limits.{IsWithin}
+use Rattle.plan_gen.specs.Task.{domain_of, problem_of}
+use Rattle.plan_words.specs.Seen.{Seen, plans, checks, grounds, orders, generates, files_of}
+use Rattle.plan_words.specs.Requested.{requested}
+use Rattle.plan_top.specs.Files.{most_bytes, RoseAmong}
+use Rattle.plan_top.specs.Tasks.{AreTask}
+use Rattle.plan_top.specs.Ending.{status_of}
+use Rattle.plan_top.specs.declared.ending.Ending.{Ending}
+use Rattle.plan_top.specs.declared.ending.Ending.TheVariants.{TooLarge}
 
--- the words name two files whose bytes are told, within the limit and a task that is grounded within the limits, and no
--- fault of either was noted
+-- a task is grounded within the limits
+abbrev pub GroundsWithin : Parts → Type 0
+GroundsWithin task = (g : Grounded) × IsGrounded task g × IsWithin task g
+
+-- two texts are a task that is grounded within the limits
+abbrev pub AreWithin : List ℕ → List ℕ → Type 0
+AreWithin domain problem = (task : Parts) × AreTask domain problem task × GroundsWithin task
+
+-- a domain and a problem are in order for a request, with the files after them
+abbrev pub IsInOrder : Seen → List ℕ → List ℕ → List (List ℕ) → Type 0
+IsInOrder (plans d p n) domain problem [] = AreWithin domain problem
+IsInOrder (grounds d p) domain problem [] = AreWithin domain problem
+IsInOrder (orders d p) domain problem [] = AreWithin domain problem
+IsInOrder (checks d p l) domain problem (bytes ∷ []) = (task : Parts) × AreTask domain problem task × ((calls : List Call) × (plan_file task bytes ≡ Ok calls))
+IsInOrder request domain problem others = ⊥
+
+-- the files of a request are in order; of a generated task, its texts
+abbrev pub AreInOrder : Seen → List (List ℕ) → Type 0
+AreInOrder (generates kind number n show) [] = AreWithin (domain_of kind) (problem_of kind number)
+AreInOrder request (domain ∷ problem ∷ others) = IsInOrder request domain problem others
+AreInOrder request files = ⊥
+
+-- The words ask for a request; the bytes of its files are told, within the limit and in order; and no fault of any was
+-- noted.
 pub record GoesWell (words : List (List ℕ)) (told : List ℕ → Option (List ℕ)) (old new : List (List ℕ)) : Type 0 where
-  pub command : Command
-  pub domain : List ℕ
-  pub problem : List ℕ
-  pub first : List ℕ
-  pub second : List ℕ
-  pub task : Parts
-  pub g : Grounded
-  pub named : IsTwo command words domain problem
-  pub first_told : told domain ≡ Some first
-  pub second_told : told problem ≡ Some second
-  pub first_fits : length first ≤ most_bytes
-  pub second_fits : length second ≤ most_bytes
-  pub are_grounded : AreGrounded first second task g
-  pub first_read : FaultRose domain old new → ⊥
-  pub second_read : FaultRose problem old new → ⊥
+  pub request : Seen
+  pub files : List (List ℕ)
+  pub asked : requested words ≡ Some request
+  pub are_told : AllZip (λ name bytes. told name ≡ Some bytes) (files_of request) files
+  pub fit : AllByRecursion (λ bytes. length bytes ≤ most_bytes) files
+  pub in_order : AreInOrder request files
+  pub quiet : RoseAmong (files_of request) old new → ⊥
 
--- the words name three files whose bytes are told, within the limit, a task and calls of it, and no fault of any was noted
-pub record ChecksWell (words : List (List ℕ)) (told : List ℕ → Option (List ℕ)) (old new : List (List ℕ)) : Type 0 where
-  pub domain : List ℕ
-  pub problem : List ℕ
-  pub plan_name : List ℕ
-  pub first : List ℕ
-  pub second : List ℕ
-  pub third : List ℕ
-  pub task : Parts
-  pub calls : List Call
-  pub named : IsCheckCommand words domain problem plan_name
-  pub first_told : told domain ≡ Some first
-  pub second_told : told problem ≡ Some second
-  pub third_told : told plan_name ≡ Some third
-  pub first_fits : length first ≤ most_bytes
-  pub second_fits : length second ≤ most_bytes
-  pub third_fits : length third ≤ most_bytes
-  pub are_task : AreTask first second task
-  pub are_calls : plan_file task third ≡ Ok calls
-  pub first_read : FaultRose domain old new → ⊥
-  pub second_read : FaultRose problem old new → ⊥
-  pub third_read : FaultRose plan_name old new → ⊥
+-- the exit statuses of words and files that are in order: 4 for a formula that is too large alone
+abbrev pub IsGood : Ending → Type 0
+IsGood end = Contains (0 ∷ 1 ∷ 2 ∷ []) (status_of end) ⊎ ((horizon : ℕ) × (count : ℕ) × (end ≡ TooLarge horizon count))

@@ -15,9 +15,9 @@ StopsBy claim (Ok x) = Unit {0}
 StopsBy claim (Err stop) = EndsBy claim stop
 
 -- the ending, answered or handed on, is of this kind
-abbrev pub Answers : (Ending → Type 0) → Result Ending Stop → Type 0
-Answers claim (Ok end) = claim end
-Answers claim (Err stop) = EndsBy claim stop
+abbrev pub EndsAs : (Ending → Type 0) → Result Ending Stop → Type 0
+EndsAs claim (Ok end) = claim end
+EndsAs claim (Err stop) = EndsBy claim stop
 
 -- the ending, if there is one
 abbrev pub ending_in : Result Ending Stop → Option Ending

@@ -1,18 +1,31 @@
--- What a printed plan, a refuted horizon and a checked plan promise of the files.
-use Rattle.std.specs.Prelude.{◌≡◌, ◌≤◌, ℕ, List, ◌++◌, length, codes, Bool, Option, Some, IfSome, Ok}
+-- What a report and a checked plan promise of the files.
+use Rattle.std.specs.Prelude.{◌≡◌, ◌⊎◌, ◌≤◌, ◌<◌, ℕ, ◌+◌, List, [], ◌∷◌, ◌++◌, map, length, codes, Bool, Option, Some, IfSome, Ok, Contains}
+use Rattle.report_lines.specs.Lines.{lines_of}
+use Rattle.report_lines.specs.Horizons.{Entry, entry_line}
+use Rattle.clause_base.specs.Derivation.{IsRefutation}
+use Rattle.clause_base.specs.declared.log.Entry as log
+use Rattle.cdcl_rules.specs.State.{State}
+use Rattle.cdcl_rules.specs.declared.standing.Standing.{Standing}
+use Rattle.cdcl_rules.specs.declared.standing.Standing.TheVariants.{Going, Found, Refuted}
+use Rattle.horizon_rates.specs.declared.settings.Settings.{Settings}
+use Rattle.horizon_run.specs.Run.{reached}
 use Rattle.pd_model.specs.Plan.{IsPlan}
 use Rattle.pd_model.specs.declared.calls.Call.{Call}
 use Rattle.pd_model.specs.declared.parts.Parts.{Parts}
 use Rattle.pd_plan.specs.PlanFile.{plan_file}
-use Rattle.plan_top.specs.Among.{IsAmong}
 use Rattle.gt_core.specs.Task.{Task}
 use Rattle.gt_core.specs.Published.{order_of}
 use Rattle.gt_core.specs.Step.{IsStepPlan}
 use Rattle.grounding.specs.Grounded.{Grounded, IsGrounded}
 use Rattle.task_text.specs.Text.{ground_text, order_text}
-use Rattle.plan_top.specs.Known.{known_clauses, IsOrdered}
-use Rattle.plan_top.specs.Causes.{AreTask}
-use Rattle.plan_top.specs.Lines.{lines_of}
+use Rattle.race.specs.Input.{RaceInput}
+use Rattle.race_end.specs.Ends.{Word, WordRefuted, WordDropped, WordOpen, WordPlan}
+use Rattle.step_plans.specs.Plans.{AreStepPlan, AreListed, actions_in}
+use Rattle.plan_report.specs.Report.{word_text, plan_line, conflicts_line, calls_by_step}
+use Rattle.plan_report.specs.Laws.{TellsSteps}
+use Rattle.plan_top.specs.Known.{IsOrdered}
+use Rattle.plan_top.specs.Raced.{form_of, input_of}
+use Rattle.plan_top.specs.Tasks.{AreTask}
 
 -- the bytes that a sink took in between, where it tells them
 abbrev pub Printed : Option (List ℕ) → Option (List ℕ) → List ℕ → Type 0
@@ -22,23 +35,77 @@ Printed old new text = (before : List ℕ) × (old ≡ Some before) × (new ≡ 
 abbrev pub OfFiles : (List ℕ → Option (List ℕ)) → List ℕ → List ℕ → (Parts → Type 0) → Type 0
 OfFiles told domain problem claim = IfSome (told domain) (λ first. IfSome (told problem) (λ second. (task : Parts) × AreTask first second task × claim task))
 
--- what is claimed of a task holds of what it is grounded to, and of its actions in published order
-abbrev pub OfGrounded : Parts → (Task → List ℕ → Type 0) → Type 0
-OfGrounded task claim = (g : Grounded) (components : List (List ℕ)) → IsGrounded task g → IsOrdered g.task components → claim g.task (order_of components)
+-- What a task is grounded to, the clauses that are known of it, and its actions in published order, as their components:
+-- there are such, there are no others, and the claim holds of them.
+pub record OfGrounded (task : Parts) (claim : Grounded → List (ℕ × ℕ) → List (List ℕ) → Type 0) : Type 0 where
+  pub g : Grounded
+  pub clauses : List (ℕ × ℕ)
+  pub components : List (List ℕ)
+  pub grounded : IsGrounded task g
+  pub ordered : IsOrdered g.task clauses components
+  pub only : (h : Grounded) (others : List (ℕ × ℕ)) (parts : List (List ℕ)) → IsGrounded task h → IsOrdered h.task others parts → (h ≡ g) × (others ≡ clauses) × (parts ≡ components)
+  pub holds : claim g clauses components
 
--- The text is a plan file whose calls are a plan, and its steps, of which it says that there are none, are a step plan.
+-- ---- plans
+
+-- under its step lines, which are as many as its line of the plan says, the text has the calls of a step plan, each step in
+-- published order
+abbrev pub HasStepPlan : List ℕ → Parts → Grounded → List (ℕ × ℕ) → List (List ℕ) → Type 0
+HasStepPlan text task g clauses components =
+    (steps : List (List ℕ)) × (n : ℕ) × Contains (lines_of text) (plan_line n (length (actions_in steps))) × TellsSteps text (calls_by_step task g steps)
+    × AreStepPlan g.task (order_of components) steps n × AreListed (order_of components) steps
+
+-- the text is a plan file whose calls are a plan, and its steps are a step plan
 abbrev pub PlanRuns : List ℕ → Parts → Type 0
-PlanRuns text task =
-    ((calls : List Call) × (plan_file task text ≡ Ok calls) × IsPlan task calls)
-    × IsAmong (lines_of text) (codes "; plan of 0 steps with 0 actions") × OfGrounded task (λ t order. (sets : ℕ → ℕ → Bool) → IsStepPlan t order sets 0)
+PlanRuns text task = ((calls : List Call) × (plan_file task text ≡ Ok calls) × IsPlan task calls) × OfGrounded task (HasStepPlan text task)
+
+-- ---- horizons
 
 -- no list of so many sets of actions is a step plan
 abbrev pub NoStepPlan : ℕ → Parts → Type 0
-NoStepPlan horizon task = OfGrounded task (λ t order. (sets : ℕ → ℕ → Bool) → IsStepPlan t order sets horizon → ⊥)
+NoStepPlan horizon task = OfGrounded task (λ g clauses components. (sets : ℕ → ℕ → Bool) → IsStepPlan g.task (order_of components) sets horizon → ⊥)
 
 -- no list of at most so many calls is a plan
 abbrev pub NoPlan : ℕ → Parts → Type 0
 NoPlan horizon task = (calls : List Call) → length calls ≤ horizon → IsPlan task calls → ⊥
+
+-- how the solver of a horizon stands where a line has this word
+abbrev pub standing_of : Word → Standing
+standing_of WordRefuted = Refuted
+standing_of WordDropped = Going
+standing_of WordOpen = Going
+standing_of WordPlan = Found
+
+-- the state of a horizon's solver after so many conflicts
+abbrev pub state_of : RaceInput → ℕ → ℕ → State
+state_of input horizon conflicts = reached (input.choose horizon) (input.formula horizon) conflicts
+
+-- a line of a horizon is so: the state after its conflicts has exactly so many and stands as its word says, and the log of a
+-- refuted one is a derivation of the empty clause from the horizon's formula
+pub record IsSo (input : RaceInput) (horizon : ℕ) (word : List ℕ) (conflicts : ℕ) : Type 0 where
+  pub word_is : Word
+  pub told : word ≡ word_text word_is
+  pub exactly : (state_of input horizon conflicts).conflicts ≡ conflicts
+  pub stands : (state_of input horizon conflicts).standing ≡ standing_of word_is
+  pub derived : word_is ≡ WordRefuted → IsRefutation (input.formula horizon).variables (input.formula horizon).clauses (state_of input horizon conflicts).log
+
+-- the same of the race on a task
+abbrev pub LineIsSo : Settings → ℕ → List ℕ → ℕ → Parts → Type 0
+LineIsSo settings horizon word conflicts task = OfGrounded task (λ g clauses components. IsSo (input_of (form_of g.task clauses components) settings) horizon word conflicts)
+
+-- ---- the budget
+
+-- the conflicts of entries
+abbrev pub conflicts_of : List Entry → ℕ
+conflicts_of [] = 0
+conflicts_of (e ∷ es) = e.conflicts + conflicts_of es
+
+-- the text is the lines of some horizons, whose conflicts are the budget, the line that says so, and `; unfinished`
+abbrev pub SpendsAll : List ℕ → ℕ → Type 0
+SpendsAll text budget =
+    (entries : List Entry) × (lines_of text ≡ map entry_line entries ++ (conflicts_line budget budget ∷ (codes "; unfinished" ∷ []))) × (conflicts_of entries ≡ budget)
+
+-- ---- the other commands
 
 -- three files of these names are a task and calls of it that are a plan, where their bytes are told
 abbrev pub CallsRun : (List ℕ → Option (List ℕ)) → List ℕ → List ℕ → List ℕ → Type 0
@@ -52,4 +119,5 @@ TellsGround text task = (g : Grounded) × IsGrounded task g × (text ≡ ground_
 
 -- the text has the actions of a task in published order
 abbrev pub TellsOrder : List ℕ → Parts → Type 0
-TellsOrder text task = (g : Grounded) × (components : List (List ℕ)) × IsGrounded task g × IsOrdered g.task components × (text ≡ order_text task g components (length (known_clauses g.task)))
+TellsOrder text task =
+    (g : Grounded) × (clauses : List (ℕ × ℕ)) × (components : List (List ℕ)) × IsGrounded task g × IsOrdered g.task clauses components × (text ≡ order_text task g components (length clauses))

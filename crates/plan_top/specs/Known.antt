@@ -1,12 +1,13 @@
--- The clauses that are known of a ground task.
-use Rattle.std.specs.Prelude.{ℕ, List, []}
+-- The clauses that are known of a ground task, and its published order under them.
+use Rattle.std.specs.Prelude.{◌≡◌, ℕ, List, []}
 use Rattle.gt_core.specs.Task.{Task}
 use Rattle.gt_core.specs.Published.{IsPublished}
 
--- none are looked for yet
-abbrev pub known_clauses : Task → List (ℕ × ℕ)
-known_clauses task = []
+-- these are the clauses that are known: none are looked for yet
+abbrev pub AreKnown : Task → List (ℕ × ℕ) → Type 0
+AreKnown task clauses = clauses ≡ []
 
--- the published order of a task's actions, as its components, under the clauses that are known
-abbrev pub IsOrdered : Task → List (List ℕ) → Type 0
-IsOrdered task components = IsPublished task (known_clauses task) components
+-- the clauses that are known of a task, and the published order of its actions under them, as its components
+pub record IsOrdered (task : Task) (clauses : List (ℕ × ℕ)) (components : List (List ℕ)) : Type 0 where
+  pub known : AreKnown task clauses
+  pub published : IsPublished task clauses components

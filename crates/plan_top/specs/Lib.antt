@@ -1,10 +1,12 @@
-pub mod Words
 pub mod Ending
+pub mod Ends
 pub mod Known
+pub mod Files
+pub mod Tasks
+pub mod Raced
+pub mod Generated
 pub mod Causes
 pub mod Complete
-pub mod Among
-pub mod Lines
 pub mod Headline
-pub mod Ends
-pub mod PlanStop
+pub mod Laws
+pub mod OneReport

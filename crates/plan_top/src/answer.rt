@@ -1,117 +1,190 @@
-//! What the bytes of the files decide.
-ghost use Rattle.std.specs.Prelude.{◌≡◌, ◌≤◌, length, IfOk};
-ghost use Rattle.plan_top.specs.Causes.{Decides, DecidesPlan, DecidesGround, DecidesOrder, DecidesCheck, ChecksCalls, ending_of, most_bytes};
-ghost use Rattle.plan_top.specs.Ends.{Answers};
-ghost use Rattle.plan_top.specs.Known.{known_clauses};
-ghost use Rattle.plan_top.specs.PlanStop.{stop_of};
+//! What the bytes of its files decide for a request.
+ghost use Rattle.std.specs.Prelude.{◌≡◌, ◌≤◌, ◌<◌, ◌^◌, length, IsTrue, IfOk, Ok};
+ghost use Rattle.std.specs.List.{list_all, AllByRecursion};
+ghost use Rattle.pd_model.specs.Fits.{is_call};
+ghost use Rattle.pd_plan.specs.PlanFile.{plan_file};
+ghost use Rattle.plan_words.specs.Seen.{seen, files_of, IsSized};
+ghost use Rattle.plan_top.specs.Files.{most_bytes};
+ghost use Rattle.plan_top.specs.Tasks.{OnceRead, OnceGrounded};
+ghost use Rattle.plan_top.specs.Causes.{Decides, AnswersPlan, AnswersGround, AnswersOrder, AnswersCheck, RefusesCalls, ending_of};
+ghost use Rattle.plan_top.specs.Ends.{EndsAs, StopsBy};
 
+use crate::generated::answer_gen;
 use crate::ground::ground_task;
+use crate::raced::{known_of, outcome, raced};
 use crate::stop::{Stop, refuse};
 use crate::task::read_task;
-use crate::words::Command;
 use crate::{Ending, Kind};
 use action_order::publish::publish;
-use gt_core::memory::Memory;
-use gt_core::pairs::Pairs;
-use gt_core::task::Task;
-use pd_model::{Pddl, Verdict, Which};
+use horizon_rates::Settings;
+use pd_model::{Calls, Pddl, Verdict, Which};
 use pd_plan::{PlanFault, read_plan};
 use pl_io::Bytes;
+use plan_report::report_text;
+use plan_words::Request;
+use solver_pool::Gate;
 use std::alloc::Global;
+use std::sync::Wait;
+use std::thread::Threads;
 use task_text::{push_ground, push_order};
 
-/// What two files decide for the command `plan`.
-fn answer_plan(alloc: Global, domain: &[u8], problem: &[u8]) -> Result<Ending, Stop>
-    requires domain_fits { length domain.now ≤ most_bytes }
-    requires problem_fits { length problem.now ≤ most_bytes }
-    ensures { Answers (DecidesPlan domain.now problem.now) result }
+/// What the bytes of its files, in the order of the words, decide for a request.
+pub fn answer<H: Threads + Wait + Sync, G: Gate>(
+    rt: &H,
+    alloc: Global,
+    request: &Request<'_>,
+    files: &[Bytes],
+    gate: &G,
+) -> Result<Ending, Stop>
+    requires fit { AllByRecursion (λ bytes. length bytes ≤ most_bytes) files.now }
+    requires count { length files.now ≡ length (files_of (seen request.now)) }
+    requires sized { IsSized (seen request.now) }
+    ensures { EndsAs (Decides (seen request.now) files.now) result }
 {
-    let both = ground_task(alloc, domain, problem)?;
-    match both.task.run_plan(alloc, &[])? {
-        Verdict::Reaches => Ok(Ending::Found),
-        Verdict::Blocked { .. } => Ok(Ending::Refuted),
-        Verdict::Short => Ok(Ending::Refuted),
+    match request {
+        Request::Plan { settings, .. } => {
+            answer_plan(
+                rt,
+                alloc,
+                files[0].as_slice(),
+                files[1].as_slice(),
+                settings,
+                gate,
+            )
+        }
+        Request::Ground { .. } => answer_ground(alloc, files[0].as_slice(), files[1].as_slice()),
+        Request::Order { .. } => answer_order(alloc, files[0].as_slice(), files[1].as_slice()),
+        Request::Check { .. } => answer_check(
+            alloc,
+            files[0].as_slice(),
+            files[1].as_slice(),
+            files[2].as_slice(),
+        ),
+        Request::Gen {
+            kind,
+            number,
+            settings,
+            show,
+        } => answer_gen(rt, alloc, *kind, *number, *show, settings, gate),
     }
 }
 
-/// What two files decide for the command `ground`.
+// What a domain and a problem come to for the command `plan`.
+fn answer_plan<H: Threads + Wait + Sync, G: Gate>(
+    rt: &H,
+    alloc: Global,
+    domain: &[u8],
+    problem: &[u8],
+    settings: &Settings,
+    gate: &G,
+) -> Result<Ending, Stop>
+    requires domain_fits { length domain.now ≤ most_bytes }
+    requires problem_fits { length problem.now ≤ most_bytes }
+    ensures { EndsAs (OnceRead domain.now problem.now (λ task. OnceGrounded task (AnswersPlan settings.now task))) result }
+{
+    let task = read_task(alloc, domain, problem)?;
+    plan_task(rt, alloc, &task, settings, gate)
+}
+
+// What a task comes to for the command `plan`.
+fn plan_task<H: Threads + Wait + Sync, G: Gate>(
+    rt: &H,
+    alloc: Global,
+    task: &Pddl,
+    settings: &Settings,
+    gate: &G,
+) -> Result<Ending, Stop>
+    ensures { EndsAs (OnceGrounded task.now (AnswersPlan settings.now task.now)) result }
+{
+    let grounded = ground_task(alloc, task)?;
+    let end = raced(rt, alloc, grounded.task(), settings, gate)?;
+    let text = report_text(alloc, task, &grounded, &end, settings.budget)?;
+    Ok(Ending::Report {
+        outcome: outcome(&end),
+        text: Bytes::of(text.into_vec()),
+    })
+}
+
+// What a domain and a problem come to for the command `ground`.
 fn answer_ground(alloc: Global, domain: &[u8], problem: &[u8]) -> Result<Ending, Stop>
     requires domain_fits { length domain.now ≤ most_bytes }
     requires problem_fits { length problem.now ≤ most_bytes }
-    ensures { Answers (DecidesGround domain.now problem.now) result }
+    ensures { EndsAs (OnceRead domain.now problem.now (λ task. OnceGrounded task (AnswersGround task))) result }
 {
-    let both = ground_task(alloc, domain, problem)?;
+    let task = read_task(alloc, domain, problem)?;
+    list_task(alloc, &task)
+}
+
+// What a task comes to for the command `ground`.
+fn list_task(alloc: Global, task: &Pddl) -> Result<Ending, Stop>
+    ensures { EndsAs (OnceGrounded task.now (AnswersGround task.now)) result }
+{
+    let grounded = ground_task(alloc, task)?;
     let mut text = Vec::new(alloc);
-    push_ground(&both.task, &both.grounded, &mut text)?;
+    push_ground(task, &grounded, &mut text)?;
     Ok(Ending::Listing(Bytes::of(text)))
 }
 
-/// The clauses that are known of a ground task.
-fn known_of(alloc: Global, task: &Task) -> Result<Pairs, Memory>
-    ensures { IfOk result (λ pairs. pairs ≡ record { facts = task.now.facts; clauses = known_clauses task.now }) }
-{
-    Pairs::empty(alloc, task.facts())
-}
-
-/// What two files decide for the command `order`.
+// What a domain and a problem come to for the command `order`.
 fn answer_order(alloc: Global, domain: &[u8], problem: &[u8]) -> Result<Ending, Stop>
     requires domain_fits { length domain.now ≤ most_bytes }
     requires problem_fits { length problem.now ≤ most_bytes }
-    ensures { Answers (DecidesOrder domain.now problem.now) result }
+    ensures { EndsAs (OnceRead domain.now problem.now (λ task. OnceGrounded task (AnswersOrder task))) result }
 {
-    let both = ground_task(alloc, domain, problem)?;
-    let task = both.grounded.task();
-    let pairs = known_of(alloc, task)?;
-    let order = publish(alloc, task, &pairs)?;
+    let task = read_task(alloc, domain, problem)?;
+    order_task(alloc, &task)
+}
+
+// What a task comes to for the command `order`.
+fn order_task(alloc: Global, task: &Pddl) -> Result<Ending, Stop>
+    ensures { EndsAs (OnceGrounded task.now (AnswersOrder task.now)) result }
+{
+    let grounded = ground_task(alloc, task)?;
+    let acts = grounded.task();
+    let pairs = known_of(alloc, acts)?;
+    let order = publish(alloc, acts, &pairs)?;
     let mut text = Vec::new(alloc);
-    push_order(&both.task, &both.grounded, &order, &pairs, &mut text)?;
+    push_order(task, &grounded, &order, &pairs, &mut text)?;
     Ok(Ending::Listing(Bytes::of(text)))
 }
 
-/// What two files decide for a command.
-pub fn answer_two(
-    alloc: Global,
-    command: Command,
-    domain: &[u8],
-    problem: &[u8],
-) -> Result<Ending, Stop>
-    requires domain_fits { length domain.now ≤ most_bytes }
-    requires problem_fits { length problem.now ≤ most_bytes }
-    ensures { Answers (Decides command domain.now problem.now) result }
-{
-    match command {
-        Command::Plan => answer_plan(alloc, domain, problem),
-        Command::Ground => answer_ground(alloc, domain, problem),
-        Command::Order => answer_order(alloc, domain, problem),
-    }
-}
-
-/// What three files decide for the command `check`.
-pub fn answer_check(
-    alloc: Global,
-    domain: &[u8],
-    problem: &[u8],
-    plan: &[u8],
-) -> Result<Ending, Stop>
+// What a domain, a problem and a plan come to for the command `check`.
+fn answer_check(alloc: Global, domain: &[u8], problem: &[u8], plan: &[u8]) -> Result<Ending, Stop>
     requires domain_fits { length domain.now ≤ most_bytes }
     requires problem_fits { length problem.now ≤ most_bytes }
     requires plan_fits { length plan.now ≤ most_bytes }
-    ensures { Answers (DecidesCheck domain.now problem.now plan.now) result }
+    ensures { EndsAs (OnceRead domain.now problem.now (λ task. AnswersCheck task plan.now)) result }
 {
     let task = read_task(alloc, domain, problem)?;
-    check_calls(alloc, &task, plan)
+    check_task(alloc, &task, plan)
 }
 
-// What the calls of a plan file come to.
-fn check_calls(alloc: Global, task: &Pddl, plan: &[u8]) -> Result<Ending, Stop>
+// What a task comes to for the command `check`, with the bytes of a plan file.
+fn check_task(alloc: Global, task: &Pddl, plan: &[u8]) -> Result<Ending, Stop>
     requires { length plan.now ≤ most_bytes }
-    ensures { Answers (ChecksCalls task.now plan.now) result }
+    ensures { EndsAs (AnswersCheck task.now plan.now) result }
 {
-    let calls = match read_plan(alloc, plan, task) {
-        Ok(calls) => calls,
-        Err(fault) => return Err(stop_by(fault)),
-    };
+    let calls = read_calls(alloc, task, plan)?;
     Ok(ending(task.run_plan(alloc, calls.as_slice())?))
+}
+
+// The calls of a plan file.
+fn read_calls(alloc: Global, task: &Pddl, plan: &[u8]) -> Result<Calls, Stop>
+    requires { length plan.now ≤ most_bytes }
+    ensures calls { IfOk result (λ calls. plan_file task.now plan.now ≡ Ok calls) }
+    ensures are_calls { IfOk result (λ calls. IsTrue (list_all (is_call task.now) calls)) }
+    ensures few { IfOk result (λ calls. length calls < 2 ^ 32) }
+    ensures stops { StopsBy (RefusesCalls task.now plan.now) result }
+{
+    let file = Which::Plan;
+    match read_plan(alloc, plan, task) {
+        Ok(calls) => Ok(calls),
+        Err(PlanFault::Syntax { at }) => Err(refuse(Kind::Syntax, file, at)),
+        Err(PlanFault::Unknown { at }) => Err(refuse(Kind::Unknown, file, at)),
+        Err(PlanFault::Arity { at }) => Err(refuse(Kind::Arity, file, at)),
+        Err(PlanFault::Mistyped { at }) => Err(refuse(Kind::Mistyped, file, at)),
+        Err(PlanFault::Memory) => Err(Stop::Memory),
+    }
 }
 
 fn ending(verdict: Verdict) -> Ending
@@ -121,18 +194,5 @@ fn ending(verdict: Verdict) -> Ending
         Verdict::Reaches => Ending::Reaches,
         Verdict::Blocked { index } => Ending::Blocked { index },
         Verdict::Short => Ending::Short,
-    }
-}
-
-fn stop_by(fault: PlanFault) -> Stop
-    ensures { result ≡ stop_of fault }
-{
-    let file = Which::Plan;
-    match fault {
-        PlanFault::Syntax { at } => refuse(Kind::Syntax, file, at),
-        PlanFault::Unknown { at } => refuse(Kind::Unknown, file, at),
-        PlanFault::Arity { at } => refuse(Kind::Arity, file, at),
-        PlanFault::Mistyped { at } => refuse(Kind::Mistyped, file, at),
-        PlanFault::Memory => Stop::Memory,
     }
 }

@@ -1,10 +1,10 @@
 //! How a run ends, with the exit status and the text due.
-ghost use Rattle.std.specs.Prelude.{◌≡◌, ◌<◌, ◌^◌, ◌++◌, OnOk, IfOk, codes, decimal};
-ghost use Rattle.plan_top.specs.Ending.{status_of, text_of, word_of, kind_word, limit_word, IsSmall};
+ghost use Rattle.std.specs.Prelude.{◌≡◌, ◌<◌, ◌^◌, ◌++◌, OnOk, IfOk, IsOk, codes, decimal};
+ghost use Rattle.plan_top.specs.Ending.{status_of_race, status_of, text_of, bytes_of, word_of, kind_word, limit_word, IsSmall};
 
-use itoa::Buffer;
 use pd_model::Which;
 use pl_io::{Bytes, Memory};
+use report_lines::push_number;
 use std::alloc::Global;
 
 /// What is wrong with a file that is refused.
@@ -41,14 +41,23 @@ pub enum Limit {
     Effects,
 }
 
+/// How a race ended.
+#[derive(Clone, Copy, Debug, PartialEq, Eq)]
+pub enum Outcome {
+    /// With a plan.
+    Planned,
+    /// The last listed horizon is refuted.
+    Exhausted,
+    /// The budget is spent.
+    Unfinished,
+}
+
 /// How a run ends, but for want of memory and a write fault.
 #[derive(Debug, Drop)]
 pub enum Ending {
-    /// The goal holds at first: horizon 0 has a plan.
-    Found,
-    /// Horizon 0, the last one, is refuted.
-    Refuted,
-    /// The lines of a ground task, or of its actions in published order.
+    /// A race ended, with its report.
+    Report { outcome: Outcome, text: Bytes },
+    /// The lines of a ground task, or of its actions in published order, or a text of a generated task.
     Listing(Bytes),
     /// The checked calls are a plan.
     Reaches,
@@ -62,10 +71,25 @@ pub enum Ending {
     TooLong(Which),
     /// The task is past a limit, with the count; past 2^64 - 1, that number.
     TooMany { what: Limit, count: u64 },
+    /// The formula of a horizon has too many literals, when the horizon's turn to start comes.
+    TooLarge { horizon: u32, count: u64 },
     /// A file could not be read.
     ReadFault(Which),
     /// The words are none that are taken.
     Usage,
+}
+
+impl Outcome {
+    /// The exit status of a race that ended so.
+    fn status(self) -> u8
+        ensures { result ≡ status_of_race self }
+    {
+        match self {
+            Outcome::Planned => 0,
+            Outcome::Exhausted => 1,
+            Outcome::Unfinished => 2,
+        }
+    }
 }
 
 impl Ending {
@@ -74,53 +98,57 @@ impl Ending {
         ensures { result ≡ status_of self.now }
     {
         match self {
-            Ending::Found | Ending::Listing(_) | Ending::Reaches => 0,
-            Ending::Refuted | Ending::Blocked { .. } | Ending::Short => 1,
+            Ending::Report { outcome, .. } => outcome.status(),
+            Ending::Listing(_) | Ending::Reaches => 0,
+            Ending::Blocked { .. } | Ending::Short => 1,
             Ending::Refused { .. } => 3,
-            Ending::TooLong(_) | Ending::TooMany { .. } => 4,
+            Ending::TooLong(_) | Ending::TooMany { .. } | Ending::TooLarge { .. } => 4,
             Ending::ReadFault(_) => 5,
             Ending::Usage => 7,
         }
     }
 
-    /// The text due, made whole.
-    pub fn text(self, alloc: Global) -> Result<Bytes, Memory>
-        ensures text { IfOk result (λ t. t ≡ text_of self) }
+    /// The text due, made whole. A text that is always the same takes no memory.
+    pub fn text(self, alloc: Global) -> Result<Due, Memory>
+        ensures text { IfOk result (λ due. bytes_of due ≡ text_of self) }
         ensures small { OnOk result (IsSmall self) }
+        ensures usage { self ≡ Ending.Usage → IsOk result }
     {
         match self {
-            Ending::Found => found(alloc),
-            Ending::Refuted => refuted(alloc),
-            Ending::Listing(text) => Ok(text),
-            Ending::Reaches => copied(alloc, "; reaches the goal\n"),
-            Ending::Blocked { index } => blocked(alloc, index),
-            Ending::Short => copied(alloc, "; goal not reached\n"),
-            Ending::Refused { kind, file, at } => refusal(alloc, kind, file, at),
-            Ending::TooLong(file) => of_file(alloc, "; limit file ", file),
-            Ending::TooMany { what, count } => too_many(alloc, what, count),
-            Ending::ReadFault(file) => of_file(alloc, "; read fault ", file),
-            Ending::Usage => copied(alloc, "; usage: plan, check, ground, order or gen\n"),
+            Ending::Report { text, .. } => Ok(Due::Made(text)),
+            Ending::Listing(text) => Ok(Due::Made(text)),
+            Ending::Reaches => Ok(Due::Fixed("; reaches the goal\n")),
+            Ending::Blocked { index } => Ok(Due::Made(blocked(alloc, index)?)),
+            Ending::Short => Ok(Due::Fixed("; goal not reached\n")),
+            Ending::Refused { kind, file, at } => Ok(Due::Made(refusal(alloc, kind, file, at)?)),
+            Ending::TooLong(file) => Ok(Due::Made(of_file(alloc, "; limit file ", file)?)),
+            Ending::TooMany { what, count } => Ok(Due::Made(too_many(alloc, what, count)?)),
+            Ending::TooLarge { horizon, count } => Ok(Due::Made(too_large(alloc, horizon, count)?)),
+            Ending::ReadFault(file) => Ok(Due::Made(of_file(alloc, "; read fault ", file)?)),
+            Ending::Usage => Ok(Due::Fixed("; usage: plan, check, ground, order or gen\n")),
         }
     }
 }
 
-// The two long texts stand in functions of their own, which keeps their proofs apart.
-fn found(alloc: Global) -> Result<Bytes, Memory>
-    ensures { IfOk result (λ t. t ≡ text_of Ending.Found) }
-{
-    copied(
-        alloc,
-        "; horizon 0 plan conflicts 0\n; conflicts 0 of 100000\n; plan of 0 steps with 0 actions\n",
-    )
+/// A text that is due.
+#[derive(Debug, Drop)]
+pub enum Due {
+    /// One that was made.
+    Made(Bytes),
+    /// One that is always the same.
+    Fixed(&'static str),
 }
 
-fn refuted(alloc: Global) -> Result<Bytes, Memory>
-    ensures { IfOk result (λ t. t ≡ text_of Ending.Refuted) }
-{
-    copied(
-        alloc,
-        "; horizon 0 refuted conflicts 1\n; conflicts 1 of 100000\n; exhausted at horizon 0\n",
-    )
+impl Due {
+    /// Its bytes.
+    pub fn as_slice(&self) -> &[u8]
+        ensures { result.now ≡ bytes_of self.now }
+    {
+        match self {
+            Due::Made(bytes) => bytes.as_slice(),
+            Due::Fixed(text) => text.as_bytes(),
+        }
+    }
 }
 
 fn file_word(file: Which) -> &'static str
@@ -159,12 +187,6 @@ fn word_of_limit(what: Limit) -> &'static str
     }
 }
 
-fn copied(alloc: Global, text: &str) -> Result<Bytes, Memory>
-    ensures { IfOk result (λ t. t ≡ text.now) }
-{
-    Ok(Bytes::of(Vec::from_slice(alloc, text.as_bytes())?))
-}
-
 fn of_file(alloc: Global, front: &str, file: Which) -> Result<Bytes, Memory>
     ensures { IfOk result (λ t. t ≡ front.now ++ (word_of file ++ codes "\n")) }
 {
@@ -172,15 +194,6 @@ fn of_file(alloc: Global, front: &str, file: Which) -> Result<Bytes, Memory>
     text.extend_from_slice(file_word(file).as_bytes())?;
     text.extend_from_slice(b"\n")?;
     Ok(Bytes::of(text))
-}
-
-// Adds a number in decimal.
-fn push_number(text: &mut Vec<u8>, number: u64) -> Result<(), Memory>
-    ensures { OnOk result (text.new.items ≡ text.old.items ++ decimal number) }
-{
-    let mut buffer = Buffer::new();
-    text.extend_from_slice(buffer.format(number).as_bytes())?;
-    Ok(())
 }
 
 fn too_many(alloc: Global, what: Limit, count: u64) -> Result<Bytes, Memory>
@@ -191,6 +204,18 @@ fn too_many(alloc: Global, what: Limit, count: u64) -> Result<Bytes, Memory>
     text.extend_from_slice(word_of_limit(what).as_bytes())?;
     text.extend_from_slice(b" ")?;
     push_number(&mut text, count)?;
+    text.extend_from_slice(b"\n")?;
+    Ok(Bytes::of(text))
+}
+
+fn too_large(alloc: Global, horizon: u32, count: u64) -> Result<Bytes, Memory>
+    ensures text { IfOk result (λ t. t ≡ text_of (Ending.TooLarge horizon count)) }
+    ensures small { OnOk result ((horizon < 2 ^ 64) × (count < 2 ^ 64)) }
+{
+    let mut text = Vec::from_slice(alloc, b"; limit literals ")?;
+    push_number(&mut text, count)?;
+    text.extend_from_slice(b" horizon ")?;
+    push_number(&mut text, u64::from(horizon))?;
     text.extend_from_slice(b"\n")?;
     Ok(Bytes::of(text))
 }

@@ -5,14 +5,16 @@
 mod answer;
 mod decide;
 mod ending;
+mod generated;
 mod ground;
+mod laws;
+mod raced;
 mod stop;
 mod take;
 mod task;
 #[cfg(test)]
 mod tests;
 mod top;
-mod words;
 
-pub use ending::{Ending, Kind, Limit};
+pub use ending::{Ending, Kind, Limit, Outcome};
 pub use top::{Status, run};

@@ -4,6 +4,7 @@ ghost use Rattle.plan_top.specs.declared.stop.Stop.TheVariants as stop;
 
 use crate::{Ending, Kind};
 use pd_model::{Memory, Which};
+use std::alloc::AllocError;
 
 /// The run ends, or memory is wanting.
 #[derive(Debug, Drop)]
@@ -26,6 +27,38 @@ impl From<gt_core::memory::Memory> for Stop {
     ghost from_gives = { λ _ e. e ≡ stop.Memory };
 
     fn from(_: gt_core::memory::Memory) -> Self {
+        Stop::Memory
+    }
+}
+
+impl From<clause_base::memory::Memory> for Stop {
+    ghost from_gives = { λ _ e. e ≡ stop.Memory };
+
+    fn from(_: clause_base::memory::Memory) -> Self {
+        Stop::Memory
+    }
+}
+
+impl From<plan_words::Memory> for Stop {
+    ghost from_gives = { λ _ e. e ≡ stop.Memory };
+
+    fn from(_: plan_words::Memory) -> Self {
+        Stop::Memory
+    }
+}
+
+impl From<plan_gen::Memory> for Stop {
+    ghost from_gives = { λ _ e. e ≡ stop.Memory };
+
+    fn from(_: plan_gen::Memory) -> Self {
+        Stop::Memory
+    }
+}
+
+impl From<AllocError> for Stop {
+    ghost from_gives = { λ _ e. e ≡ stop.Memory };
+
+    fn from(_: AllocError) -> Self {
         Stop::Memory
     }
 }

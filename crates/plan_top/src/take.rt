@@ -1,20 +1,62 @@
 //! Taking files from the shelf.
-ghost use Rattle.std.specs.Prelude.{◌≡◌, ◌≤◌, ℕ, List, length, IsTrue, OnOk, IfOk, IfSome};
-ghost use Rattle.pl_io.specs.Outside.{fault_count};
-ghost use Rattle.plan_top.specs.Causes.{Stops, StopsAt, task_files, IsTaken, most_bytes};
+ghost use Rattle.std.specs.Prelude.{◌≡◌, ◌≤◌, ℕ, List, [], ◌∷◌, ◌++◌, length, IsTrue, OnOk, IfOk, IfSome};
+ghost use Rattle.std.specs.List.{AllZip};
+ghost use Rattle.pl_io.specs.Outside.{Notes};
+ghost use Rattle.plan_words.specs.Seen.{seen, files_of};
+ghost use Rattle.plan_top.specs.Files.{Stops, StopsFrom, IsTaken, NotesAmong, file_at, most_bytes};
 ghost use Rattle.plan_top.specs.Ends.{StopsBy};
 
 use crate::Ending;
 use crate::stop::Stop;
 use pd_model::Which;
-use pl_io::{Shelf, TakeError, Taken};
-use std::alloc::Global;
+use pl_io::{Bytes, Shelf, TakeError, Taken};
+use plan_words::Request;
+use std::alloc::{AllocError, Global};
 
 /// How many bytes a file may have.
 const MOST_BYTES: usize = 1_048_576;
 
-/// The bytes of a file.
-pub fn take_file<S: Shelf>(
+/// Takes the files of a request, in the order of the words, each at most once: the bytes of each.
+pub fn take_files<S: Shelf>(
+    alloc: Global,
+    request: &Request<'_>,
+    shelf: &mut S,
+) -> Result<Vec<Bytes>, Stop>
+    ensures told { S.told shelf.new ≡ S.told shelf.old }
+    ensures lacks { S.lacks shelf.new ≡ S.lacks shelf.old }
+    ensures noted { NotesAmong (files_of (seen request.now)) (S.failed shelf.old) (S.failed shelf.new) }
+    ensures taken { IfOk result (λ files. AllZip (IsTaken (S.told shelf.old) (S.lacks shelf.old)) (files_of (seen request.now)) files.items) }
+    ensures stops { StopsBy (StopsFrom (S.told shelf.old) (S.lacks shelf.old) (S.failed shelf.old) (S.failed shelf.new) 0 (files_of (seen request.now))) result }
+{
+    let mut files = Vec::new(alloc);
+    'taking: while let Some(name) = request.file(files.len()) {
+        let bytes = take_file(alloc, file_of(files.len()), name, shelf)?;
+        keep(&mut files, bytes)?;
+    }
+    Ok(files)
+}
+
+// Keeps the bytes of one more file.
+fn keep(files: &mut Vec<Bytes>, bytes: Vec<u8>) -> Result<(), AllocError>
+    ensures { OnOk result (files.new.items ≡ files.old.items ++ bytes.items ∷ []) }
+{
+    files.push(Bytes::of(bytes))?;
+    Ok(())
+}
+
+// What the file at a place among those of a request is.
+fn file_of(place: usize) -> Which
+    ensures { result ≡ file_at place }
+{
+    match place {
+        0 => Which::Domain,
+        1 => Which::Problem,
+        _ => Which::Plan,
+    }
+}
+
+// The bytes of a file.
+fn take_file<S: Shelf>(
     alloc: Global,
     file: Which,
     name: &str,
@@ -22,7 +64,7 @@ pub fn take_file<S: Shelf>(
 ) -> Result<Vec<u8>, Stop>
     ensures told { S.told shelf.new ≡ S.told shelf.old }
     ensures lacks { S.lacks shelf.new ≡ S.lacks shelf.old }
-    ensures never_falls { (other : List ℕ) → fault_count other (S.failed shelf.old) ≤ fault_count other (S.failed shelf.new) }
+    ensures notes { Notes (S.failed shelf.old) (S.failed shelf.new) name.now }
     ensures there { OnOk result (IsTrue (S.lacks shelf.old name.now) → ⊥) }
     ensures whole { IfOk result (λ bytes. IfSome (S.told shelf.old name.now) (λ told. bytes.items ≡ told)) }
     ensures fits { IfOk result (λ bytes. length bytes.items ≤ most_bytes) }
@@ -35,30 +77,4 @@ pub fn take_file<S: Shelf>(
         Err(TakeError::Failed) => Err(Stop::Ends(Ending::ReadFault(file))),
         Err(TakeError::Memory) => Err(Stop::Memory),
     }
-}
-
-/// The bytes of a domain and of a problem.
-#[derive(Drop)]
-pub struct TwoFiles {
-    pub domain: Vec<u8>,
-    pub problem: Vec<u8>,
-}
-
-/// Takes a domain and a problem, in this order.
-pub fn take_two<S: Shelf>(
-    alloc: Global,
-    domain: &str,
-    problem: &str,
-    shelf: &mut S,
-) -> Result<TwoFiles, Stop>
-    ensures told { S.told shelf.new ≡ S.told shelf.old }
-    ensures lacks { S.lacks shelf.new ≡ S.lacks shelf.old }
-    ensures never_falls { (other : List ℕ) → fault_count other (S.failed shelf.old) ≤ fault_count other (S.failed shelf.new) }
-    ensures first { IfOk result (λ two. IsTaken (S.told shelf.old) (S.lacks shelf.old) domain.now two.domain.items) }
-    ensures second { IfOk result (λ two. IsTaken (S.told shelf.old) (S.lacks shelf.old) problem.now two.problem.items) }
-    ensures stops { StopsBy (StopsAt (S.told shelf.old) (S.lacks shelf.old) (S.failed shelf.old) (S.failed shelf.new) (task_files domain.now problem.now)) result }
-{
-    let domain = take_file(alloc, Which::Domain, domain, shelf)?;
-    let problem = take_file(alloc, Which::Problem, problem, shelf)?;
-    Ok(TwoFiles { domain, problem })
 }

@@ -1,9 +1,12 @@
 //! Reading the task that two files say.
-ghost use Rattle.std.specs.Prelude.{◌≡◌, ◌≤◌, length, IfOk};
+ghost use Rattle.std.specs.Prelude.{◌≡◌, ◌≤◌, length, IsTrue, IfOk};
 ghost use Rattle.pd_sexp.specs.Fault.{Reads};
 ghost use Rattle.pd_sexp.specs.View.{view};
+ghost use Rattle.pd_sexp.specs.Word.{has_words};
+ghost use Rattle.pd_model.specs.WellFormed.{IsWellFormed};
 ghost use Rattle.pd_task.specs.Reading.{reading};
-ghost use Rattle.plan_top.specs.Causes.{AreTask, RefusesTask, RefusesTree, RefusesTrees, most_bytes};
+ghost use Rattle.plan_top.specs.Files.{most_bytes};
+ghost use Rattle.plan_top.specs.Tasks.{AreTask, RefusesTask, RefusesTree, RefusesTrees};
 ghost use Rattle.plan_top.specs.Ends.{StopsBy};
 
 use crate::Kind;
@@ -17,6 +20,7 @@ use std::alloc::Global;
 pub fn tree_of(alloc: Global, file: Which, bytes: &[u8]) -> Result<Tree, Stop>
     requires { length bytes.now ≤ most_bytes }
     ensures tree { IfOk result (λ tree. Reads bytes.now (view tree)) }
+    ensures words { IfOk result (λ tree. IsTrue (has_words (view tree))) }
     ensures stops { StopsBy (RefusesTree bytes.now file) result }
 {
     match read_tree(alloc, bytes) {
@@ -29,11 +33,17 @@ pub fn tree_of(alloc: Global, file: Which, bytes: &[u8]) -> Result<Tree, Stop>
 
 /// The task that two trees say.
 pub fn task_of(alloc: Global, domain: &Tree, problem: &Tree) -> Result<Pddl, Stop>
+    requires domain_words { IsTrue (has_words (view domain.now)) }
+    requires problem_words { IsTrue (has_words (view problem.now)) }
     ensures task { IfOk result (λ task. reading (view domain.now) (view problem.now) ≡ Ok task) }
+    ensures well_formed { IfOk result IsWellFormed }
     ensures stops { StopsBy (RefusesTrees (view domain.now) (view problem.now)) result }
 {
     match read_pddl(alloc, domain, problem) {
-        Ok(task) => Ok(task),
+        Ok(task) => {
+            let _types = task.types();
+            Ok(task)
+        }
         Err(PddlError::Shape { file, at }) => Err(refuse(Kind::Shape, file, at)),
         Err(PddlError::Unknown { file, at }) => Err(refuse(Kind::Unknown, file, at)),
         Err(PddlError::Arity { file, at }) => Err(refuse(Kind::Arity, file, at)),
@@ -48,6 +58,7 @@ pub fn read_task(alloc: Global, domain: &[u8], problem: &[u8]) -> Result<Pddl, S
     requires domain_fits { length domain.now ≤ most_bytes }
     requires problem_fits { length problem.now ≤ most_bytes }
     ensures task { IfOk result (AreTask domain.now problem.now) }
+    ensures well_formed { IfOk result IsWellFormed }
     ensures stops { StopsBy (RefusesTask domain.now problem.now) result }
 {
     let first = tree_of(alloc, Which::Domain, domain)?;

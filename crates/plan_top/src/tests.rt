@@ -1,9 +1,13 @@
 use crate::ground::ground_task;
+use crate::task::read_task;
 use crate::{Status, run};
 use itoa::Buffer;
 use pl_io::{Bytes, Files, MemShelf, MemSink, NamedFile, Numbers};
+use solver_pool::OpenGate;
 use std::alloc::{AllocError, Global};
+use std::sync::Wait;
 use std::test::Fail;
+use std::thread::Threads;
 
 const LAMP: &[u8] =
     b"(define (domain lamp) (:predicates (on) (broken)) (:action flip :parameters () :precondition (not (on)) :effect (on)))";
@@ -89,23 +93,23 @@ fn named(alloc: Global, name: &str, bytes: &[u8]) -> Result<NamedFile, AllocErro
     })
 }
 
-// The files "d", "p" and "l", of which the last may be missing, on a shelf whose calls of these numbers fail.
+// The files "d", "p" and "l", of which the last may be missing, on a shelf whose calls of these numbers fail, and also
+// the one after `most` calls.
 fn shelf(
     alloc: Global,
     files: (&[u8], &[u8], Option<&[u8]>),
     failing: &[u32],
+    most: u32,
 ) -> Result<MemShelf, AllocError> {
+    let mut failing = Vec::from_slice(alloc, failing)?;
+    failing.push(most.wrapping_add(1))?;
     let mut all = Vec::new(alloc);
     all.push(named(alloc, "d", files.0)?)?;
     all.push(named(alloc, "p", files.1)?)?;
     if let Some(plan) = files.2 {
         all.push(named(alloc, "l", plan)?)?;
     }
-    Ok(MemShelf::new(
-        alloc,
-        Files::of(all),
-        Numbers::of(Vec::from_slice(alloc, failing)?),
-    ))
+    Ok(MemShelf::new(alloc, Files::of(all), Numbers::of(failing)))
 }
 
 fn words(alloc: Global, words: &[&str]) -> Result<Vec<String>, AllocError> {
@@ -116,18 +120,26 @@ fn words(alloc: Global, words: &[&str]) -> Result<Vec<String>, AllocError> {
     Ok(owned)
 }
 
-// The status and the text of a run.
-fn answer<H>(
+// The status and the text of a run, or status 255 where the shelf noted a fault that is not told. A call more than the
+// words name files fails, and so is a fault.
+fn answer<H: Threads + Wait + Sync>(
     rt: &H,
     alloc: Global,
     given: &[&str],
     files: (&[u8], &[u8], Option<&[u8]>),
     failing: &[u32],
 ) -> Result<(Status, Vec<u8>), Fail> {
-    let mut shelf = shelf(alloc, files, failing)?;
+    let most = match given {
+        ["check", ..] => 3,
+        _ => 2,
+    };
+    let mut shelf = shelf(alloc, files, failing, most)?;
     let mut sink = MemSink::new(alloc, 1000, Numbers::of(Vec::new(alloc)), 1000)?;
     let words = words(alloc, given)?;
-    let status = run(rt, alloc, &words, &mut shelf, &mut sink);
+    let status = run(rt, alloc, &words, &mut shelf, &mut sink, &OpenGate);
+    if shelf.failed().is_empty() == (status.0 == 5) {
+        return Ok((Status(255), Vec::new(alloc)));
+    }
     Ok((status, Vec::from_slice(alloc, sink.taken())?))
 }
 
@@ -249,8 +261,9 @@ fn listings(rt: HostRuntime) -> Result<(), Fail> {
 // Where one action adds and deletes an atom, the add wins.
 #[test]
 fn adds_win(rt: HostRuntime) -> Result<(), Fail> {
-    let both = ground_task(rt.alloc(), BOTH, NOT_P_AT_FIRST).expect(&rt, "a task");
-    let task = both.grounded.task();
+    let read = read_task(rt.alloc(), BOTH, NOT_P_AT_FIRST).expect(&rt, "a task");
+    let grounded = ground_task(rt.alloc(), &read).expect(&rt, "a task within the limits");
+    let task = grounded.task();
     assert_eq!(rt; task.facts(), 1);
     assert_eq!(rt; task.acts().len(), 1);
     let mut next = [false];
@@ -352,7 +365,7 @@ fn failing_shelves(rt: HostRuntime) -> Result<(), Fail> {
         (1, "; read fault domain\n", 5),
         (2, "; read fault problem\n", 5),
         (3, "; read fault plan\n", 5),
-        (4, "; goal not reached\n", 1),
+        (5, "; goal not reached\n", 1),
     ];
     for (call, text, status) in rows {
         let (got, taken) = answer(&rt, rt.alloc(), CHECK, (LAMP, DARK, Some(b"")), &[call])?;
@@ -369,34 +382,53 @@ fn failing_shelves(rt: HostRuntime) -> Result<(), Fail> {
     Ok(())
 }
 
+/// How many bytes a file may have.
+const MOST: usize = 1048576;
+
+// A text with blanks after it, up to so many bytes.
+fn padded(alloc: Global, text: &[u8], count: usize) -> Result<Vec<u8>, AllocError> {
+    let mut bytes = Vec::from_slice(alloc, text)?;
+    bytes.resize(count, b' ')?;
+    Ok(bytes)
+}
+
 #[test]
 fn limits(rt: HostRuntime) -> Result<(), Fail> {
     let alloc = rt.alloc();
-    let mut domain = Vec::from_slice(alloc, LAMP)?;
-    domain.resize(1048576, b' ')?;
-    let (status, taken) = answer(&rt, alloc, PLAN, (&domain, LIT, None), &[])?;
-    assert_eq!(rt; status.0, 0);
-    assert_eq!(rt; taken.as_slice(), FOUND.as_bytes());
-    domain.push(b' ')?;
-    let (status, taken) = answer(&rt, alloc, PLAN, (&domain, LIT, None), &[])?;
-    assert_eq!(rt; status.0, 4);
-    assert_eq!(rt; taken.as_slice(), b"; limit file domain\n".as_slice());
+    let rows: [(&[&str], usize, usize, usize, &str, u8); 8] = [
+        (CHECK, MOST, MOST, MOST, "; reaches the goal\n", 0),
+        (CHECK, MOST, MOST, MOST + 1, "; limit file plan\n", 4),
+        (CHECK, MOST, MOST + 1, MOST + 1, "; limit file problem\n", 4),
+        (CHECK, MOST + 1, MOST + 1, 10, "; limit file domain\n", 4),
+        (PLAN, MOST, MOST, 10, FOUND, 0),
+        (PLAN, MOST, MOST + 1, 10, "; limit file problem\n", 4),
+        (GROUND, MOST + 1, 100, 10, "; limit file domain\n", 4),
+        (ORDER, 200, MOST + 1, 10, "; limit file problem\n", 4),
+    ];
+    for (given, first, second, third, text, wanted) in rows {
+        let domain = padded(alloc, LAMP, first)?;
+        let problem = padded(alloc, LIT, second)?;
+        let plan = padded(alloc, b"", third)?;
+        let (status, taken) = answer(&rt, alloc, given, (&domain, &problem, Some(&plan)), &[])?;
+        assert_eq!(rt; status.0, wanted);
+        assert_eq!(rt; taken.as_slice(), text.as_bytes());
+    }
     Ok(())
 }
 
 #[test]
 fn a_failing_sink_and_words_that_are_not_taken(rt: HostRuntime) -> Result<(), Fail> {
     let alloc = rt.alloc();
-    let mut files = shelf(alloc, (LAMP, DARK, None), &[])?;
+    let mut files = shelf(alloc, (LAMP, DARK, None), &[], 2)?;
     let mut sink = MemSink::new(alloc, 10, Numbers::of(vec![in alloc; 2]?), 1000)?;
     let given = words(alloc, PLAN)?;
-    let status = run(&rt, alloc, &given, &mut files, &mut sink);
+    let status = run(&rt, alloc, &given, &mut files, &mut sink, &OpenGate);
     assert_eq!(rt; status.0, 6);
     assert_eq!(rt; sink.taken(), b"; horizon ".as_slice());
     let rows: [&[&str]; 6] = [
         &[],
         &["plan"],
-        &["plan", "d", "p", "--max-horizon", "1"],
+        &["plan", "d", "p", "--max-horizon", "256"],
         &["check", "d", "p"],
         &["ground", "d"],
         &["order", "d", "p", "q"],

@@ -1,30 +1,38 @@
 //! The top call.
-ghost use Rattle.std.specs.Prelude.{◌≡◌, ◌≢◌, ◌≤◌, ℕ, List, [], ◌∷◌, map, string_bytes, codes};
+ghost use Rattle.std.specs.Prelude.{◌≡◌, ◌≢◌, ◌≤◌, ◌⊎◌, ℕ, List, [], ◌∷◌, map, string_bytes, codes, Some, None, IsTrue, Contains};
 ghost use Rattle.pl_io.specs.Outside.{appended, TakesFront, Rose, fault_count};
-ghost use Rattle.plan_top.specs.Among.{IsAmong};
-ghost use Rattle.plan_top.specs.Words.{IsPlanCommand, IsGroundCommand, IsOrderCommand, IsCheckCommand, IsNoCommand};
-ghost use Rattle.plan_top.specs.Causes.{Comes, FaultOf};
-ghost use Rattle.plan_top.specs.Complete.{GoesWell, ChecksWell};
+ghost use Rattle.report_lines.specs.Horizons.{Says, is_word};
+ghost use Rattle.horizon_rates.specs.declared.settings.Settings.{Settings};
+ghost use Rattle.plan_words.specs.Seen.{plans, checks, grounds, orders, numbers};
+ghost use Rattle.plan_words.specs.Requested.{requested, command_named};
+ghost use Rattle.plan_top.specs.Files.{NotesAmong};
+ghost use Rattle.plan_top.specs.Causes.{Comes, FaultOf, names_in};
+ghost use Rattle.plan_top.specs.Complete.{GoesWell, IsGood};
 ghost use Rattle.plan_top.specs.Ending.{status_of, text_of};
-ghost use Rattle.plan_top.specs.Lines.{Says};
-ghost use Rattle.plan_top.specs.Headline.{Printed, OfFiles, PlanRuns, NoStepPlan, NoPlan, TellsGround, TellsOrder, CallsRun};
+ghost use Rattle.plan_top.specs.Headline.{Printed, OfFiles, PlanRuns, NoStepPlan, NoPlan, LineIsSo, SpendsAll, TellsGround, TellsOrder, CallsRun};
+ghost use Rattle.plan_top.specs.OneReport.{AskForOneRace, HasRead};
 ghost use Rattle.plan_top.specs.Ends.{ending_in};
 ghost use Rattle.plan_top.specs.declared.ending.Ending.{Ending};
 
 use crate::decide::decide;
 use crate::ending::Ending;
+use crate::laws::laws;
 use crate::stop::Stop;
 use pl_io::{Shelf, Sink, put_all};
+use solver_pool::Gate;
 use std::alloc::Global;
+use std::sync::Wait;
+use std::thread::Threads;
 
 /// An exit status.
 ///
 /// | Status | When |
 /// |---|---|
-/// | 0 | a plan was found; the task or its order is told; the checked calls are a plan |
+/// | 0 | a plan was found; a task, its order or a generated text is told; the checked calls are a plan |
 /// | 1 | the last horizon is refuted; the checked calls are none |
+/// | 2 | the budget is spent |
 /// | 3 | an input file is refused |
-/// | 4 | a file has more bytes than it may have, or the task is past a limit |
+/// | 4 | a file has more bytes than it may have, or the task or a formula is past a limit |
 /// | 5 | a file could not be read |
 /// | 6 | the report could not be written |
 /// | 7 | the words are none that are taken |
@@ -34,37 +42,47 @@ pub struct Status(pub u8);
 
 /// Reads the words, takes the files from the shelf, decides, and writes the text due into the sink.
 ///
-/// The words are those after the program's name: `plan DOMAIN PROBLEM --max-horizon 0`, `ground DOMAIN PROBLEM`,
-/// `order DOMAIN PROBLEM` or `check DOMAIN PROBLEM PLAN`. `_rt` stands for the runtime, of which nothing is asked yet.
-pub fn run<H, S: Shelf, K: Sink>(
-    _rt: &H,
+/// The words are those after the program's name: a command (`plan`, `check`, `ground`, `order` or `gen`), and what it takes.
+/// The workers of a race tell the gate of each turn; the report is the same for any number of them.
+pub fn run<H: Threads + Wait + Sync, S: Shelf, K: Sink, G: Gate>(
+    rt: &H,
     alloc: Global,
     words: &[String],
     shelf: &mut S,
     sink: &mut K,
+    gate: &G,
 ) -> Status
-    // A printed plan leads from the initial state to the goal.
-    ensures plan_runs { (text domain problem : List ℕ) → result.0 ≡ 0 → Printed (K.taken sink.old) (K.taken sink.new) text
-        → IsPlanCommand (map string_bytes words.now) domain problem → OfFiles (S.told shelf.old) domain problem (PlanRuns text) }
+    // A printed plan leads from the initial state to the goal, and its steps are a step plan.
+    ensures plan_runs { (text domain problem : List ℕ) (settings : Settings) → result.0 ≡ 0 → Printed (K.taken sink.old) (K.taken sink.new) text
+        → requested (map string_bytes words.now) ≡ Some (plans domain problem (numbers settings)) → OfFiles (S.told shelf.old) domain problem (PlanRuns text) }
 
     // A horizon that is printed as refuted has no step plan of so many steps.
-    ensures refuted_steps { (text domain problem : List ℕ) (horizon conflicts : ℕ) → Printed (K.taken sink.old) (K.taken sink.new) text
-        → IsPlanCommand (map string_bytes words.now) domain problem → Says text horizon (codes "refuted") conflicts
+    ensures refuted_steps { (text domain problem : List ℕ) (settings : Settings) (horizon conflicts : ℕ) → Printed (K.taken sink.old) (K.taken sink.new) text
+        → requested (map string_bytes words.now) ≡ Some (plans domain problem (numbers settings)) → Says text horizon (codes "refuted") conflicts
         → OfFiles (S.told shelf.old) domain problem (NoStepPlan horizon) }
 
     // Nor is there a plan of at most so many actions.
-    ensures refuted_plans { (text domain problem : List ℕ) (horizon conflicts : ℕ) → Printed (K.taken sink.old) (K.taken sink.new) text
-        → IsPlanCommand (map string_bytes words.now) domain problem → Says text horizon (codes "refuted") conflicts
+    ensures refuted_plans { (text domain problem : List ℕ) (settings : Settings) (horizon conflicts : ℕ) → Printed (K.taken sink.old) (K.taken sink.new) text
+        → requested (map string_bytes words.now) ≡ Some (plans domain problem (numbers settings)) → Says text horizon (codes "refuted") conflicts
         → OfFiles (S.told shelf.old) domain problem (NoPlan horizon) }
+
+    // Unfinished is printed only where the conflicts of the horizons are the budget.
+    ensures unfinished { (text domain problem : List ℕ) (settings : Settings) → result.0 ≡ 2 → Printed (K.taken sink.old) (K.taken sink.new) text
+        → requested (map string_bytes words.now) ≡ Some (plans domain problem (numbers settings)) → OfFiles (S.told shelf.old) domain problem (λ task. SpendsAll text settings.budget) }
+
+    // Each line of a horizon is so: after exactly so many conflicts its solver stands as the word says.
+    ensures lines { (text domain problem word : List ℕ) (settings : Settings) (horizon conflicts : ℕ) → Printed (K.taken sink.old) (K.taken sink.new) text
+        → requested (map string_bytes words.now) ≡ Some (plans domain problem (numbers settings)) → IsTrue (is_word word) → Says text horizon word conflicts
+        → OfFiles (S.told shelf.old) domain problem (LineIsSo settings horizon word conflicts) }
 
     // The facts and actions, and the order, that are printed are those of the task.
     ensures ground_told { (text domain problem : List ℕ) → result.0 ≡ 0 → Printed (K.taken sink.old) (K.taken sink.new) text
-        → IsGroundCommand (map string_bytes words.now) domain problem → OfFiles (S.told shelf.old) domain problem (TellsGround text) }
+        → requested (map string_bytes words.now) ≡ Some (grounds domain problem) → OfFiles (S.told shelf.old) domain problem (TellsGround text) }
     ensures order_told { (text domain problem : List ℕ) → result.0 ≡ 0 → Printed (K.taken sink.old) (K.taken sink.new) text
-        → IsOrderCommand (map string_bytes words.now) domain problem → OfFiles (S.told shelf.old) domain problem (TellsOrder text) }
+        → requested (map string_bytes words.now) ≡ Some (orders domain problem) → OfFiles (S.told shelf.old) domain problem (TellsOrder text) }
 
     // Calls that are answered as a plan are one.
-    ensures reached { (domain problem plan : List ℕ) → result.0 ≡ 0 → IsCheckCommand (map string_bytes words.now) domain problem plan
+    ensures reached { (domain problem plan : List ℕ) → result.0 ≡ 0 → requested (map string_bytes words.now) ≡ Some (checks domain problem plan)
         → CallsRun (S.told shelf.old) domain problem plan }
 
     // Each status has its cause, and with every status but 6 the bytes taken are exactly the text due.
@@ -76,12 +94,18 @@ pub fn run<H, S: Shelf, K: Sink>(
     ensures front { result.0 ≡ 6 → (end : Ending)
         × Comes (S.told shelf.old) (S.lacks shelf.old) (S.failed shelf.old) (S.failed shelf.new) (map string_bytes words.now) end
         × TakesFront (K.taken sink.old) (K.taken sink.new) (text_of end) }
-    ensures usage { result.0 ≡ 7 → IsNoCommand (map string_bytes words.now) }
-    ensures not_taken { IsNoCommand (map string_bytes words.now) → IsAmong (6 ∷ 7 ∷ 8 ∷ []) result.0 }
-    ensures untouched { IsNoCommand (map string_bytes words.now) → shelf.new ≡ shelf.old }
+    ensures usage { result.0 ≡ 7 → requested (map string_bytes words.now) ≡ None }
+    ensures not_taken { requested (map string_bytes words.now) ≡ None → Contains (6 ∷ 7 ∷ 8 ∷ []) result.0 }
+    // Where the first word names no command, that is told whatever memory there is.
+    ensures no_command { command_named (map string_bytes words.now) ≡ None → Contains (6 ∷ 7 ∷ []) result.0 }
+    ensures untouched { requested (map string_bytes words.now) ≡ None → shelf.new ≡ shelf.old }
 
     // With 8 the sink was not touched.
     ensures nothing { result.0 ≡ 8 → sink.new ≡ sink.old }
+
+    // Files are taken by the names that the words give, each at most once: the names at which the shelf failed are the old
+    // ones, followed by names among these, at most one for each.
+    ensures noted { NotesAmong (names_in (map string_bytes words.now)) (S.failed shelf.old) (S.failed shelf.new) }
 
     // What a shelf tells stays as it was, and no count of faults falls.
     ensures told { S.told shelf.new ≡ S.told shelf.old }
@@ -89,13 +113,18 @@ pub fn run<H, S: Shelf, K: Sink>(
     ensures never_falls { (name : List ℕ) → fault_count name (S.failed shelf.old) ≤ fault_count name (S.failed shelf.new) }
     ensures faults { K.faults sink.old ≤ K.faults sink.new }
 
+    // What is printed is what each run prints on the same files, by words that ask for the same plan but for the slice and
+    // the workers.
+    ensures same_report { (others before after : List (List ℕ)) (end : Ending) → AskForOneRace (S.told shelf.old) (map string_bytes words.now) others
+        → Comes (S.told shelf.old) (S.lacks shelf.old) before after others end → HasRead end → result.0 ≢ 5 → result.0 ≢ 6 → result.0 ≢ 8
+        → (result.0 ≡ status_of end) × (K.taken sink.new ≡ appended (K.taken sink.old) (text_of end)) }
+
     // Words that are taken and files in order give an answer, where no fault comes from outside.
     ensures complete { GoesWell (map string_bytes words.now) (S.told shelf.old) (S.failed shelf.old) (S.failed shelf.new)
-        → (Rose (K.faults sink.old) (K.faults sink.new) → ⊥) → IsAmong (0 ∷ 1 ∷ 8 ∷ []) result.0 }
-    ensures complete_check { ChecksWell (map string_bytes words.now) (S.told shelf.old) (S.failed shelf.old) (S.failed shelf.new)
-        → (Rose (K.faults sink.old) (K.faults sink.new) → ⊥) → IsAmong (0 ∷ 1 ∷ 8 ∷ []) result.0 }
+        → (Rose (K.faults sink.old) (K.faults sink.new) → ⊥) → (result.0 ≡ 8) ⊎ ((end : Ending) × (result.0 ≡ status_of end) × IsGood end × (K.taken sink.new ≡ appended (K.taken sink.old) (text_of end))) }
 {
-    let Some(ending) = ended(decide(alloc, words, shelf)) else {
+    laws();
+    let Some(ending) = ended(decide(rt, alloc, words, shelf, gate)) else {
         return Status(8);
     };
     let status = ending.status();

@@ -1,7 +1,8 @@
-use Rattle.std.proofs.Common.{arith, ◌≡◌, ◌≢◌, ◌==◌, ℕ, ◌<◌, ◌≤◌, List, [], ◌∷◌, length, set, get_or, Bool, true, false, ◌||◌, All, refl, sym, ap, ◌∙◌, length-set, get_or-set_other, zero, suc}
+use Rattle.std.proofs.Common.{arith, ◌≡◌, ◌==◌, ℕ, ◌<◌, List, [], ◌∷◌, length, get_or, Bool, true, false, ◌||◌, All, refl, sym, ap, ◌∙◌, length-set, get_or-set_other, zero, suc}
 use Rattle.std.specs.List.{slice_set}
 use Rattle.std.proofs.lemmas.Bool.Decides.{nat_tests}
 use Rattle.clause_base.specs.Clause.{has_literal}
+use Rattle.clause_base.proofs.Rising.{has_at}
 use Rattle.rup_check.specs.Marked.{mark_at, IsMarked, unmarked}
 
 -- what is marked is in the table
@@ -9,18 +10,6 @@ marked_within : (marks : List Bool) (l : ℕ) → mark_at marks l ≡ true → l
 marked_within [] l h = cc
 marked_within (b ∷ marks) zero h = omega arith
 marked_within (b ∷ marks) (suc l) h = let r = marked_within marks l h in omega arith
-
-or_true : (b : Bool) → (b || true) ≡ true
-or_true true = refl
-or_true false = refl
-
-self_is : (x : ℕ) → (x == x) ≡ true
-self_is x = grind (arith, nat_tests)
-
-has_at : (lits : List ℕ) (k d : ℕ) → k < length lits → has_literal lits (get_or lits k d) ≡ true
-has_at [] k d h = absurd (omega arith)
-has_at (x ∷ lits) zero d h = ap (λ c. c || has_literal lits x) (self_is x)
-has_at (x ∷ lits) (suc k) d h = ap (λ c. (x == get_or lits k d) || c) (has_at lits k d (omega arith)) ∙ or_true (x == get_or lits k d)
 
 pub falsified_within : (marks : List Bool) (falsified : List ℕ) → IsMarked marks falsified → All (λ l. l < length marks) falsified
 falsified_within marks falsified m k d h = marked_within marks (get_or falsified k d) (m (get_or falsified k d) ∙ has_at falsified k d h)

@@ -1,10 +1,10 @@
-ghost use Rattle.std.specs.Prelude.{◌≡◌, ℕ, ◌+◌, ◌++◌, ◌<◌, ◌≤◌, ◌^◌, All, length, IfOk, IfSome, IfNone, OnOk, IsOkUnless, IsTrue, ◌↔◌};
-ghost use Rattle.clause_base.specs.Clause.{HasVariablesBelow};
+ghost use Rattle.std.specs.Prelude.{◌≡◌, ℕ, ◌+◌, ◌<◌, ◌^◌, length, IfOk, IfSome, IfNone, OnOk, IsOkUnless, IsTrue, ◌↔◌};
 ghost use Rattle.clause_base.specs.Formula.{IsUnsatisfiable};
-ghost use Rattle.clause_base.specs.Derivation.{IsDerivation, EndsEmpty, IsFirstUnderived, IsRefutation, clauses_of};
-ghost use Rattle.rup_check.specs.Certificate.{Certifies, IsEarned};
+ghost use Rattle.clause_base.specs.Derivation.{IsDerivation, EndsEmpty, IsFirstUnderived, IsRefutation, learns_empty};
+ghost use Rattle.rup_check.specs.Certificate.{Certifies};
 
-use crate::entry::is_derived_at;
+use crate::entry::is_derived;
+use crate::kept::Kept;
 use crate::marks::Marks;
 use clause_base::formula::Formula;
 use clause_base::log::{Entry, Log};
@@ -12,8 +12,9 @@ use clause_base::memory::Memory;
 use std::alloc::Global;
 use std::marker::Model;
 
-/// The mark of an accepted log. Only `check` makes one, and no function can make one for nothing: its invariant is that
-/// some formula of this name was refuted by a log of this length.
+/// The mark of an accepted log: `check` gives it, with a clause that says which formula and log it is of and that the
+/// formula has no satisfying assignment. Nothing else makes one, since its fields are private; that is all that protects it.
+/// The mark alone does not say what was refuted: a formula of one empty clause is refuted under every name.
 #[derive(Debug, Drop)]
 pub struct Checked {
     name: u32,
@@ -21,20 +22,17 @@ pub struct Checked {
 }
 
 impl Model for Checked {
-    ghost use Rattle.rup_check.specs.Certificate.{Stamp, IsEarned};
+    ghost use Rattle.rup_check.specs.Certificate.{Stamp};
 
     ghost Value = { Stamp };
 
     ghost view = { λ c. record { name = c.name; entries = c.entries } };
-
-    ghost invariant = { λ c. IsEarned (record { name = c.name; entries = c.entries }) };
 }
 
 impl Checked {
     /// The name of the formula.
     pub fn name(&self) -> u32
-        ensures value { result ≡ self.now.name }
-        ensures earned { IsEarned self.now }
+        ensures { result ≡ self.now.name }
     {
         self.name
     }
@@ -50,12 +48,12 @@ impl Checked {
 /// Why a log is not accepted.
 #[derive(Clone, Copy, Debug, PartialEq, Eq)]
 pub enum CheckError {
-    /// The first entry, counted from 0, that does not follow from the formula and the entries before it.
+    /// The first entry, counted from 0 over all entries, that does not follow from the formula and the entries before it.
     Rejected {
         /// Its number in the log.
         entry: u32,
     },
-    /// All entries follow, and the last one's clause is not empty, or there is no entry.
+    /// All entries follow, and the last one does not learn the empty clause, or there is no entry.
     NotEmpty,
     /// Want of memory, which says nothing of the log.
     Memory,
@@ -71,25 +69,23 @@ impl From<Memory> for CheckError {
     }
 }
 
-/// How many variables the formula and the entries' clauses speak of, at most.
-fn variables_of(formula: &Formula, entries: &[Entry]) -> u32
-    ensures enough { All (HasVariablesBelow result) (formula.now.clauses ++ clauses_of entries.now) }
-    ensures small { result ≤ 2147483648 }
-{
-    let mut variables = formula.variables();
-    for entry in entries {
-        variables = variables.max(entry.clause.variables_needed());
-    }
-    variables
-}
-
-/// Whether there is a last entry and its clause is empty.
+/// Whether there is a last entry and it learns the empty clause.
 fn ends_empty(entries: &[Entry]) -> bool
     ensures { IsTrue result ↔ EndsEmpty entries.now }
 {
     match entries.last() {
         None => false,
-        Some(last) => last.clause.as_slice().is_empty(),
+        Some(last) => learns_empty(last),
+    }
+}
+
+/// Whether an entry learns the empty clause.
+fn learns_empty(entry: &Entry) -> bool
+    ensures { result ≡ learns_empty entry.now }
+{
+    match entry {
+        Entry::Learn { clause, hints: _ } => clause.as_slice().is_empty(),
+        Entry::Drop { number: _ } => false,
     }
 }
 
@@ -100,30 +96,33 @@ fn first_underived(
     entries: &[Entry],
 ) -> Result<Option<u32>, Memory>
     requires { length formula.now.clauses + length entries.now < 2 ^ 32 }
-    ensures found { IfOk result (λ first. IfSome first (IsFirstUnderived formula.now.clauses entries.now)) }
-    ensures none { IfOk result (λ first. IfNone first (IsDerivation formula.now.clauses entries.now)) }
+    ensures found { IfOk result (λ first. IfSome first (IsFirstUnderived formula.now.variables formula.now.clauses entries.now)) }
+    ensures none { IfOk result (λ first. IfNone first (IsDerivation formula.now.variables formula.now.clauses entries.now)) }
 {
-    let clauses = formula.clauses();
-    let mut marks = Marks::new(alloc, variables_of(formula, entries) as usize)?;
+    let mut marks = Marks::new(alloc, formula.variables() as usize)?;
+    let mut kept = Kept::new(alloc, formula.count())?;
     for number in 0..entries.len() {
-        if !is_derived_at(&mut marks, clauses, entries, number)? {
+        let entry = &entries[number];
+        if !is_derived(&mut marks, formula, &kept, entry)? {
             return Ok(Some(number as u32));
         }
+        kept.record(entry)?;
     }
     Ok(None)
 }
 
-/// Checks that a log derives the empty clause from a formula, each entry by its hints (reverse unit propagation: Goldberg
-/// and Novikov, 2003). It takes time linear in the literals of the clauses that the hints name.
+/// Checks that a log derives the empty clause from a formula: each learned clause by its hints (reverse unit propagation:
+/// Goldberg and Novikov, 2003), which name kept clauses, and each clause that is dropped was kept. It takes time linear in
+/// the literals of the learned clauses and of those that the hints name.
 pub fn check(alloc: Global, formula: &Formula, log: &Log) -> Result<Checked, CheckError>
     requires { length formula.now.clauses + length log.now < 2 ^ 32 }
 
     ensures certified { IfOk result (λ checked. Certifies checked formula.now log.now) }
     ensures unsatisfiable { OnOk result (IsUnsatisfiable formula.now.clauses) }
-    ensures accepted { IsRefutation formula.now.clauses log.now → IsOkUnless result CheckError.Memory }
+    ensures accepted { IsRefutation formula.now.variables formula.now.clauses log.now → IsOkUnless result CheckError.Memory }
 
-    ensures rejected { (e : ℕ) → result ≡ Err (CheckError.Rejected e) → IsFirstUnderived formula.now.clauses log.now e }
-    ensures not_empty { result ≡ Err CheckError.NotEmpty → IsDerivation formula.now.clauses log.now × (EndsEmpty log.now → ⊥) }
+    ensures rejected { (e : ℕ) → result ≡ Err (CheckError.Rejected e) → IsFirstUnderived formula.now.variables formula.now.clauses log.now e }
+    ensures not_empty { result ≡ Err CheckError.NotEmpty → IsDerivation formula.now.variables formula.now.clauses log.now × (EndsEmpty log.now → ⊥) }
 {
     let entries = log.as_slice();
     if let Some(entry) = first_underived(alloc, formula, entries)? {

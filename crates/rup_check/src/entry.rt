@@ -1,41 +1,30 @@
-ghost use Rattle.std.specs.Prelude.{◌≡◌, ◌++◌, ◌<◌, [], All, length, take, slice_get, IfOk, OnOk, option_copied};
+ghost use Rattle.std.specs.Prelude.{◌≡◌, ◌++◌, [], All, IfOk, OnOk};
 ghost use Rattle.clause_base.specs.Clause.{HasVariablesBelow};
-ghost use Rattle.clause_base.specs.Derivation.{leads_to_conflict, clauses_of, clause_named, is_derived_after};
+ghost use Rattle.clause_base.specs.Derivation.{leads_to_conflict};
+ghost use Rattle.rup_check.specs.Kept.{kept_named, is_derived_by};
 
 use crate::effect::{Effect, effect_of};
+use crate::kept::Kept;
 use crate::marks::Marks;
-use clause_base::clause::Clause;
+use clause_base::formula::Formula;
 use clause_base::literal::Lit;
 use clause_base::log::Entry;
 use clause_base::memory::Memory;
 
-/// The clause that a number names after some entries.
-fn clause_named<'a>(clauses: &'a [Clause], earlier: &'a [Entry], number: usize) -> Option<&'a [Lit]>
-    ensures { option_copied result ≡ clause_named clauses.now earlier.now number }
-{
-    if number < clauses.len() {
-        Some(clauses[number].as_slice())
-    } else if number - clauses.len() < earlier.len() {
-        Some(earlier[number - clauses.len()].clause.as_slice())
-    } else {
-        None
-    }
-}
-
-/// Whether the hints lead from what is taken as false to a conflict. Each forced literal's negation is then taken as
-/// false too.
+/// Whether the hints lead from what is taken as false to a conflict, where they name kept clauses. Each forced literal's
+/// negation is then taken as false too.
 fn leads_to_conflict(
     marks: &mut Marks,
-    clauses: &[Clause],
-    earlier: &[Entry],
+    formula: &Formula,
+    kept: &Kept,
     hints: &[u32],
 ) -> Result<bool, Memory>
-    requires { All (HasVariablesBelow marks.old.variables) (clauses.now ++ clauses_of earlier.now) }
-    ensures answer { IfOk result (λ b. b ≡ leads_to_conflict (clause_named clauses.now earlier.now) marks.old.falsified hints.now) }
+    requires { All (HasVariablesBelow marks.old.variables) (formula.now.clauses ++ kept.now.learned) }
+    ensures answer { IfOk result (λ b. b ≡ leads_to_conflict (kept_named formula.now.clauses kept.now.learned kept.now.dropped.items) marks.old.falsified hints.now) }
     ensures variables { marks.new.variables ≡ marks.old.variables }
 {
     for (i, hint) in hints.iter().enumerate() {
-        let Some(clause) = clause_named(clauses, earlier, *hint as usize) else {
+        let Some(clause) = kept.clause(formula, *hint) else {
             return Ok(false);
         };
         match effect_of(marks, clause) {
@@ -47,38 +36,47 @@ fn leads_to_conflict(
     Ok(false)
 }
 
-/// Whether an entry follows by its hints from the clauses and the earlier entries. The marks are left as they were, with
-/// no literal taken as false.
-fn is_derived_after(
+/// Whether a clause follows by its hints. The marks are left as they were, with no literal taken as false.
+fn follows(
     marks: &mut Marks,
-    clauses: &[Clause],
-    earlier: &[Entry],
+    formula: &Formula,
+    kept: &Kept,
+    clause: &[Lit],
+    hints: &[u32],
+) -> Result<bool, Memory>
+    requires empty { marks.old.falsified ≡ [] }
+    requires named { All (HasVariablesBelow marks.old.variables) (formula.now.clauses ++ kept.now.learned) }
+    requires below { HasVariablesBelow marks.old.variables clause.now }
+    ensures answer { IfOk result (λ b. b ≡ leads_to_conflict (kept_named formula.now.clauses kept.now.learned kept.now.dropped.items) clause.now hints.now) }
+    ensures kept { OnOk result (marks.new ≡ marks.old) }
+{
+    marks.falsify_all(clause)?;
+    let conflict = leads_to_conflict(marks, formula, kept, hints)?;
+    marks.clear();
+    Ok(conflict)
+}
+
+/// Whether an entry follows from the formula and what is known after the entries before it. The marks are left as they
+/// were, with no literal taken as false.
+pub fn is_derived(
+    marks: &mut Marks,
+    formula: &Formula,
+    kept: &Kept,
     entry: &Entry,
 ) -> Result<bool, Memory>
     requires empty { marks.old.falsified ≡ [] }
-    requires named { All (HasVariablesBelow marks.old.variables) (clauses.now ++ clauses_of earlier.now) }
-    requires below { HasVariablesBelow marks.old.variables entry.now.clause }
-    ensures answer { IfOk result (λ b. b ≡ is_derived_after clauses.now earlier.now (Some entry.now)) }
+    requires over { marks.old.variables ≡ formula.now.variables }
+    requires named { All (HasVariablesBelow formula.now.variables) (formula.now.clauses ++ kept.now.learned) }
+    ensures answer { IfOk result (λ b. b ≡ is_derived_by formula.now.variables formula.now.clauses kept.now.learned kept.now.dropped.items entry.now) }
     ensures kept { OnOk result (marks.new ≡ marks.old) }
 {
-    marks.falsify_all(entry.clause.as_slice())?;
-    let derived = leads_to_conflict(marks, clauses, earlier, entry.hints.as_slice())?;
-    marks.clear();
-    Ok(derived)
-}
-
-/// Whether the entry with this number follows from the clauses and the entries before it.
-pub fn is_derived_at(
-    marks: &mut Marks,
-    clauses: &[Clause],
-    entries: &[Entry],
-    number: usize,
-) -> Result<bool, Memory>
-    requires in_range { number < length entries.now }
-    requires empty { marks.old.falsified ≡ [] }
-    requires named { All (HasVariablesBelow marks.old.variables) (clauses.now ++ clauses_of entries.now) }
-    ensures answer { IfOk result (λ b. b ≡ is_derived_after clauses.now (take number entries.now) (slice_get entries.now number)) }
-    ensures kept { OnOk result (marks.new ≡ marks.old) }
-{
-    is_derived_after(marks, clauses, &entries[..number], &entries[number])
+    match entry {
+        Entry::Learn { clause, hints } => {
+            if !clause.fits(formula.variables()) {
+                return Ok(false);
+            }
+            follows(marks, formula, kept, clause.as_slice(), hints.as_slice())
+        }
+        Entry::Drop { number } => Ok(kept.clause(formula, *number).is_some()),
+    }
 }

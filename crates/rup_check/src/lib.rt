@@ -1,7 +1,8 @@
 //! A checker of derivations by reverse unit propagation along hints.
 //!
 //! `check` says whether a log derives the empty clause from a formula, entry by entry, and answers the first entry that
-//! does not follow. It searches for nothing: an entry is read once, and so are the clauses that its hints name. A formula
+//! does not follow. It searches for nothing: an entry is read once, and so are the clauses that its hints name. Clauses that
+//! an entry drops are no hints after it. A formula
 //! with an accepted log has no satisfying assignment, which is a clause of `check`; so a `Checked` is worth as much as the
 //! definitions of `clause_base`, whatever made the log.
 #![tactic(auto)]
@@ -9,6 +10,7 @@
 pub mod check;
 mod effect;
 mod entry;
+mod kept;
 mod marks;
 #[cfg(test)]
 mod tests;

@@ -16,9 +16,15 @@ fn clause_of(rt: &impl Abort, alloc: Global, codes: &[u32]) -> Result<Clause, Fa
     Ok(Clause::of(alloc, lits.as_slice())?.expect(rt, "a clause"))
 }
 
-/// A formula with one variable or more, of clauses by the codes of their literals.
-fn formula_of(rt: &impl Abort, alloc: Global, clauses: &[&[u32]]) -> Result<Formula, Fail> {
-    let mut formula = Formula::new(alloc, 7, 3);
+/// A formula over so many variables, of clauses by the codes of their literals.
+fn formula_of(
+    rt: &impl Abort,
+    alloc: Global,
+    variables: u32,
+    clauses: &[&[u32]],
+) -> Result<Formula, Fail> {
+    assert!(rt; variables < 100);
+    let mut formula = Formula::new(alloc, 7, variables);
     for codes in clauses {
         let clause = clause_of(rt, alloc, codes)?;
         assert!(rt; formula.has_room() && clause.fits(formula.variables()));
@@ -27,13 +33,25 @@ fn formula_of(rt: &impl Abort, alloc: Global, clauses: &[&[u32]]) -> Result<Form
     Ok(formula)
 }
 
-/// A log of clauses by their codes, each with its hints.
-fn log_of(rt: &impl Abort, alloc: Global, entries: &[(&[u32], &[u32])]) -> Result<Log, Fail> {
+/// An entry as data: a clause by its codes with its hints, or the number of a clause that is dropped.
+#[derive(Drop)]
+enum Line<'a> {
+    Learn(&'a [u32], &'a [u32]),
+    Drop(u32),
+}
+
+/// A log of these entries.
+fn log_of(rt: &impl Abort, alloc: Global, lines: &[Line]) -> Result<Log, Fail> {
     let mut log = Log::new(alloc);
-    for (codes, hints) in entries {
-        let clause = clause_of(rt, alloc, codes)?;
-        let hints = Hints::of(Vec::from_slice(alloc, hints)?);
-        log.push(Entry { clause, hints })?;
+    for line in lines {
+        match line {
+            Line::Learn(codes, hints) => {
+                let clause = clause_of(rt, alloc, codes)?;
+                let hints = Hints::of(Vec::from_slice(alloc, hints)?);
+                log.push(Entry::Learn { clause, hints })?;
+            }
+            Line::Drop(number) => log.push(Entry::Drop { number: *number })?,
+        }
     }
     Ok(log)
 }
@@ -42,13 +60,12 @@ fn log_of(rt: &impl Abort, alloc: Global, entries: &[(&[u32], &[u32])]) -> Resul
 fn answer(
     rt: &impl Abort,
     alloc: Global,
-    clauses: &[&[u32]],
-    entries: &[(&[u32], &[u32])],
+    formula: &Formula,
+    lines: &[Line],
 ) -> Result<Result<(u32, u32), CheckError>, Fail> {
-    let formula = formula_of(rt, alloc, clauses)?;
-    let log = log_of(rt, alloc, entries)?;
-    assert!(rt; formula.clauses().len() < 100 && log.as_slice().len() < 100);
-    match check(alloc, &formula, &log) {
+    let log = log_of(rt, alloc, lines)?;
+    assert!(rt; formula.count() < 100 && log.as_slice().len() < 100);
+    match check(alloc, formula, &log) {
         Ok(checked) => Ok(Ok((checked.name(), checked.entries()))),
         Err(error) => Ok(Err(error)),
     }
@@ -56,32 +73,77 @@ fn answer(
 
 #[test]
 fn two_opposite_facts_are_refuted(rt: HostRuntime) -> Result<(), Fail> {
+    let formula = formula_of(&rt, rt.alloc(), 1, &[&[1], &[0]])?;
     let rejected = Err(CheckError::Rejected { entry: 0 });
-    let cases: [(&[(&[u32], &[u32])], Result<(u32, u32), CheckError>); 7] = [
-        (&[(&[], &[0, 1])], Ok((7, 1))),
-        (&[(&[], &[1, 0])], Ok((7, 1))),
-        (&[(&[], &[0])], rejected),
+    let cases: [(&[Line], Result<(u32, u32), CheckError>); 7] = [
+        (&[Line::Learn(&[], &[0, 1])], Ok((7, 1))),
+        (&[Line::Learn(&[], &[1, 0])], Ok((7, 1))),
+        (&[Line::Learn(&[], &[0])], rejected),
         (&[], Err(CheckError::NotEmpty)),
-        (&[(&[0], &[1])], Err(CheckError::NotEmpty)),
-        (&[(&[], &[0, 2])], rejected),
-        (&[(&[], &[])], rejected),
+        (&[Line::Learn(&[0], &[1])], Err(CheckError::NotEmpty)),
+        (&[Line::Learn(&[], &[0, 2])], rejected),
+        (&[Line::Learn(&[], &[])], rejected),
     ];
-    for (entries, expected) in cases {
-        assert_eq!(rt; answer(&rt, rt.alloc(), &[&[1], &[0]], entries)?, expected);
+    for (lines, expected) in cases {
+        assert_eq!(rt; answer(&rt, rt.alloc(), &formula, lines)?, expected);
+    }
+    Ok(())
+}
+
+#[test]
+fn a_dropped_clause_is_no_hint(rt: HostRuntime) -> Result<(), Fail> {
+    let formula = formula_of(&rt, rt.alloc(), 1, &[&[1], &[0]])?;
+    let cases: [(&[Line], Result<(u32, u32), CheckError>); 7] = [
+        (
+            &[Line::Drop(1), Line::Learn(&[], &[0, 1])],
+            Err(CheckError::Rejected { entry: 1 }),
+        ),
+        (
+            &[Line::Drop(1), Line::Drop(1)],
+            Err(CheckError::Rejected { entry: 1 }),
+        ),
+        (&[Line::Drop(2)], Err(CheckError::Rejected { entry: 0 })),
+        (
+            &[Line::Learn(&[], &[0, 1]), Line::Drop(2)],
+            Err(CheckError::NotEmpty),
+        ),
+        (
+            &[Line::Learn(&[2], &[0, 1])],
+            Err(CheckError::Rejected { entry: 0 }),
+        ),
+        (
+            &[
+                Line::Learn(&[0], &[1]),
+                Line::Drop(1),
+                Line::Learn(&[], &[0, 2]),
+            ],
+            Ok((7, 3)),
+        ),
+        (
+            &[
+                Line::Learn(&[0], &[1]),
+                Line::Drop(1),
+                Line::Learn(&[], &[0, 3]),
+            ],
+            Err(CheckError::Rejected { entry: 2 }),
+        ),
+    ];
+    for (lines, expected) in cases {
+        assert_eq!(rt; answer(&rt, rt.alloc(), &formula, lines)?, expected);
     }
     Ok(())
 }
 
 #[test]
 fn a_learned_clause_serves_the_next_entry(rt: HostRuntime) -> Result<(), Fail> {
-    let clauses: [&[u32]; 4] = [&[0, 2], &[0, 3], &[1, 4], &[1, 5]];
+    let formula = formula_of(&rt, rt.alloc(), 3, &[&[0, 2], &[0, 3], &[1, 4], &[1, 5]])?;
     let cases: [(&[u32], Result<(u32, u32), CheckError>); 2] = [
         (&[4, 2, 3], Ok((7, 2))),
         (&[2, 4, 3], Err(CheckError::Rejected { entry: 1 })),
     ];
     for (hints, expected) in cases {
-        let entries: [(&[u32], &[u32]); 2] = [(&[0], &[0, 1]), (&[], hints)];
-        assert_eq!(rt; answer(&rt, rt.alloc(), &clauses, &entries)?, expected);
+        let lines = [Line::Learn(&[0], &[0, 1]), Line::Learn(&[], hints)];
+        assert_eq!(rt; answer(&rt, rt.alloc(), &formula, &lines)?, expected);
     }
     Ok(())
 }

@@ -1,46 +1,58 @@
-use Rattle.std.proofs.Common.{arith, ◌≡◌, ◌+◌, ◌*◌, ◌≤◌, ◌<◌, ℕ, suc, List, [], ◌∷◌, ◌++◌, map, length, Bool, true, false, refl, sym, ap, ◌∙◌, drop, get_or, subst, if◌then◌else◌}
+use Rattle.std.proofs.Common.{arith, ◌≡◌, ◌+◌, ◌-◌, ◌*◌, ◌≤◌, ◌<◌, ℕ, zero, suc, List, [], ◌∷◌, ◌++◌, map, length, Bool, true, false, refl, sym, ap, ◌∙◌, drop, get_or, subst, if◌then◌else◌, length-append}
 use Rattle.std.specs.List.{AllByRecursion}
 use Rattle.std.proofs.lemmas.List.{append-nil, append_assoc, map-append}
 use Rattle.action_order.proofs.Lists.{range_more}
 use Rattle.std.proofs.lemmas.List.{drop_more, drop_all}
 use Rattle.std.proofs.lemmas.Grind.{flat_map-append}
+use Rattle.std.proofs.lemmas.List.Sums.{sum_by-cons, sum_by-append}
 use Rattle.gt_core.specs.Interference.{takes, reads}
 use Rattle.gt_core.specs.Literal.{range}
 use Rattle.gt_core.specs.Task.{Task}
+use Rattle.gt_core.specs.Lawful.{is_task}
+use Rattle.gt_core.specs.Published.{order_of}
+use Rattle.gt_core.proofs.Within.{lawful}
+use Rattle.step_clauses.proofs.SizeLaw.{length-range_from}
+use Rattle.std.proofs.Math.Nat.{mul-le-mul_right}
 use Rattle.step_clauses.specs.Clause.{Literal}
 use Rattle.step_clauses.specs.Chain.{chain_length, enter_clauses, pass_clauses}
 use Rattle.step_clauses.specs.Formula.{chain_clauses}
 use Rattle.step_clauses.specs.Variables.{chains_from, chain_places, chain_variables_in}
 use Rattle.step_chains.specs.declared.link.Link.{Link}
 use Rattle.step_chains.specs.Links.{link_of, links_of, touches, link_count, pass_links}
-use Rattle.step_chains.specs.Found.{LinkedChain, FoundChains, linked_clauses, found_clauses, Extends, AreWithin, IsChainWithin}
+use Rattle.step_chains.specs.Chains.{LinkedChain, LinkedChains, linked_clauses, all_clauses, Extends, AreWithin, IsChainWithin, HasRoom, links_in, members_in, no_chains}
+use Rattle.step_chains.specs.Index.{IsIndexOf}
 use Rattle.step_chains.proofs.LinkLaw.{count_is, enter_is, pass_is, enter_none, pass_none}
 
 -- Chains that are found one after the other.
 
-pub nothing_found : (task : Task) (f : FoundChains) → Extends task [] f f
-nothing_found task f = record { clauses = λ act var rest. refl; variables = omega arith; actions = refl }
+pub nothing_found : (task : Task) (f : LinkedChains) → Extends task [] f f
+nothing_found task f = record { clauses = λ act var rest. refl; variables = omega arith; actions = refl; few = omega arith }
 
 variables_more : (task : Task) (ps qs : List (List ℕ × ℕ)) → chain_variables_in task (ps ++ qs) ≡ chain_variables_in task ps + chain_variables_in task qs
 variables_more task [] qs = omega arith
 variables_more task (p ∷ ps) qs = let h = variables_more task ps qs in omega (arith, h)
 
+members_more : (ps qs : List (List ℕ × ℕ)) → members_in (ps ++ qs) ≡ members_in ps + members_in qs
+members_more ps qs = sum_by-append (λ (p : List ℕ × ℕ). length p.0) ps qs
+
 -- first some, then others
-pub found_twice : (task : Task) (ps qs : List (List ℕ × ℕ)) (a b c : FoundChains) → Extends task ps a b → Extends task qs b c → Extends task (ps ++ qs) a c
+pub found_twice : (task : Task) (ps qs : List (List ℕ × ℕ)) (a b c : LinkedChains) → Extends task ps a b → Extends task qs b c → Extends task (ps ++ qs) a c
 found_twice task ps qs a b c one two = record {
   clauses = λ act var rest.
       two.clauses act var rest ∙ one.clauses act var (qs ++ rest)
-      ∙ ap (λ (places : List (List ℕ × ℕ)). found_clauses act var a.chains ++ chain_clauses act var task (chains_from task a.variables places)) (sym (append_assoc ps qs rest));
+      ∙ ap (λ (places : List (List ℕ × ℕ)). all_clauses act var a.chains ++ chain_clauses act var task (chains_from task a.variables places)) (sym (append_assoc ps qs rest));
   variables = let x = one.variables in let y = two.variables in let z = variables_more task ps qs in omega (arith, x, y, z);
   actions = two.actions ∙ one.actions;
+  few = let x = one.few in let y = two.few in let z = members_more ps qs in omega (arith, x, y, z);
 }
 
 -- a chain without a variable is left out
-pub none_found : (task : Task) (members : List ℕ) (m : ℕ) (f : FoundChains) → link_count false (links_of task m members) ≡ 0 → Extends task ((members, m) ∷ []) f f
+pub none_found : (task : Task) (members : List ℕ) (m : ℕ) (f : LinkedChains) → link_count false (links_of task m members) ≡ 0 → Extends task ((members, m) ∷ []) f f
 none_found task members m f e = record {
-  clauses = λ act var rest. ap (λ (cs : List (List Literal)). found_clauses act var f.chains ++ cs) (clauses act var rest);
+  clauses = λ act var rest. ap (λ (cs : List (List Literal)). all_clauses act var f.chains ++ cs) (clauses act var rest);
   variables = let n = none in omega (arith, n);
   actions = refl;
+  few = omega arith;
 }
   where
     none : chain_length (takes task m) (reads task m) false members ≡ 0
@@ -62,21 +74,43 @@ none_found task members m f e = record {
 abbrev pub linked : ℕ → List Link → LinkedChain
 linked first links = record { first = first; links = links }
 
+links_more : (cs : List LinkedChain) (c : LinkedChain) → links_in (cs ++ c ∷ []) ≡ links_in cs + length c.links
+links_more cs c =
+    let a = sum_by-append (λ (k : LinkedChain). length k.links) cs (c ∷ []) in
+    let b = sum_by-cons (λ (k : LinkedChain). length k.links) c [] in
+    omega (arith, a, b)
+
+-- no more links than members
+links_few : (task : Task) (m : ℕ) (members : List ℕ) → length (links_of task m members) ≤ length members
+links_few task m [] = omega arith
+links_few task m (a ∷ members) = by (touches (link_of task m a)) (links_few task m members)
+  where
+    by : (b : Bool) → length (links_of task m members) ≤ length members → length (if b then link_of task m a ∷ links_of task m members else links_of task m members) ≤ length (a ∷ members)
+    by true h = omega (arith, h)
+    by false h = omega (arith, h)
+
 -- a chain comes after those that were found
 pub one_found :
-    (task : Task) (members : List ℕ) (m : ℕ) (old new : FoundChains) (links : List Link)
+    (task : Task) (members : List ℕ) (m : ℕ) (old new : LinkedChains) (links : List Link)
     → links ≡ links_of task m members → new.chains ≡ old.chains ++ linked old.variables links ∷ []
     → new.variables ≡ old.variables + link_count false links → new.actions ≡ old.actions
     → Extends task ((members, m) ∷ []) old new
 one_found task members m old new links is e n a = record {
   clauses = λ act var rest.
-      ap (λ (cs : List LinkedChain). found_clauses act var cs ++ after act var rest new.variables) same
+      ap (λ (cs : List LinkedChain). all_clauses act var cs ++ after act var rest new.variables) same
       ∙ ap (λ (cs : List (List Literal)). cs ++ after act var rest new.variables) (flat_map-append (linked_clauses act var) old.chains (one ∷ []))
-      ∙ append_assoc (found_clauses act var old.chains) (linked_clauses act var one ++ []) (after act var rest new.variables)
-      ∙ ap (λ (cs : List (List Literal)). found_clauses act var old.chains ++ (cs ++ after act var rest new.variables)) (append-nil (linked_clauses act var one) ∙ parts act var)
-      ∙ ap (λ (k : ℕ). found_clauses act var old.chains ++ (whole act var ++ after act var rest k)) many;
+      ∙ append_assoc (all_clauses act var old.chains) (linked_clauses act var one ++ []) (after act var rest new.variables)
+      ∙ ap (λ (cs : List (List Literal)). all_clauses act var old.chains ++ (cs ++ after act var rest new.variables)) (append-nil (linked_clauses act var one) ∙ parts act var)
+      ∙ ap (λ (k : ℕ). all_clauses act var old.chains ++ (whole act var ++ after act var rest k)) many;
   variables = let h = many in omega (arith, h);
   actions = a;
+  few =
+      let h = ap links_in e in
+      let l = links_more old.chains (linked old.variables links) in
+      let k = ap length is in
+      let f = links_few task m members in
+      let g = sum_by-cons (λ (p : List ℕ × ℕ). length p.0) (members, m) [] in
+      omega (arith, h, l, k, f, g);
 }
   where
     one : LinkedChain
@@ -121,11 +155,15 @@ chains_within_more actions few more (c ∷ cs) le all = (
 
 -- and so the chains stay within their numbers
 pub within_more :
-    (task : Task) (m : ℕ) (members : List ℕ) (old new : FoundChains) (links : List Link)
-    → AreWithin old → AllByRecursion (λ a. a < old.actions) members → links ≡ links_of task m members
+    (old new : LinkedChains) (links : List Link)
+    → AreWithin old → AllByRecursion (λ k. k.action < old.actions) links
     → new.chains ≡ old.chains ++ linked old.variables links ∷ [] → new.variables ≡ old.variables + link_count false links
-    → new.actions ≡ old.actions → new.variables ≤ 1073741824 → AreWithin new
-within_more task m members old new links w all is e n a few = record { few = few; chains = subst (λ (cs : List LinkedChain). AllByRecursion (IsChainWithin new.actions new.variables) cs) (sym e) (subst (λ (n : ℕ). AllByRecursion (IsChainWithin n new.variables) (old.chains ++ linked old.variables links ∷ [])) (sym a) both) }
+    → new.actions ≡ old.actions → link_count false links ≤ length links → HasRoom old (length links) → AreWithin new
+within_more old new links w all e n a some room = record {
+  few = let h = ap links_in e in let l = links_more old.chains (linked old.variables links) in omega (arith, h, l, room);
+  variables = let h = ap links_in e in let l = links_more old.chains (linked old.variables links) in let v = w.variables in omega (arith, h, l, n, some, v);
+  chains = subst (λ (cs : List LinkedChain). AllByRecursion (IsChainWithin new.actions new.variables) cs) (sym e) (subst (λ (n : ℕ). AllByRecursion (IsChainWithin n new.variables) (old.chains ++ linked old.variables links ∷ [])) (sym a) both);
+}
   where
     grows : old.variables ≤ new.variables
     grows = omega (arith, n)
@@ -133,10 +171,11 @@ within_more task m members old new links w all is e n a few = record { few = few
     both : AllByRecursion (IsChainWithin old.actions new.variables) (old.chains ++ linked old.variables links ∷ [])
     both = put_last (IsChainWithin old.actions new.variables) old.chains (linked old.variables links)
         (chains_within_more old.actions old.variables new.variables old.chains grows w.chains)
-        (record {
-          variables_few = omega (arith, n);
-          actions_few = subst (λ (ls : List Link). AllByRecursion (λ k. k.action < old.actions) ls) (sym is) (links_within task m old.actions members all);
-        })
+        (record { variables_few = omega (arith, n); actions_few = all })
+
+-- the room that is left
+pub room_left : (task : Task) (places : List (List ℕ × ℕ)) (old new : LinkedChains) (n : ℕ) → Extends task places old new → HasRoom old (members_in places + n) → HasRoom new n
+room_left task places old new n e room = let f = e.few in omega (arith, f, room)
 
 -- a component of fewer than two members has no chain with a variable
 short_count : (t r : ℕ → Bool) (members : List ℕ) → length members < 2 → chain_length t r false members ≡ 0
@@ -150,7 +189,7 @@ short_count t r (a ∷ b ∷ members) lt = elim (never (length members) lt) [ ]
 short_links : (task : Task) (members : List ℕ) (m : ℕ) → length members < 2 → link_count false (links_of task m members) ≡ 0
 short_links task members m lt = count_is task m false members ∙ short_count (takes task m) (reads task m) members lt
 
-pub short_found : (task : Task) (members : List ℕ) (f : FoundChains) → length members < 2 → Extends task (chain_places task (members ∷ [])) f f
+pub short_found : (task : Task) (members : List ℕ) (f : LinkedChains) → length members < 2 → Extends task (chain_places task (members ∷ [])) f f
 short_found task members f lt = ends (by (range (2 * task.facts)))
   where
     by : (ms : List ℕ) → Extends task (map (λ m. (members, m)) ms) f f
@@ -160,19 +199,70 @@ short_found task members f lt = ends (by (range (2 * task.facts)))
     ends : Extends task (map (λ m. (members, m)) (range (2 * task.facts))) f f → Extends task (map (λ m. (members, m)) (range (2 * task.facts)) ++ []) f f
     ends h = subst (λ (places : List (List ℕ × ℕ)). Extends task places f f) (sym (append-nil (map (λ m. (members, m)) (range (2 * task.facts))))) h
 
+-- the members at the places of a component's first literals
+places_count : (members : List ℕ) (ms : List ℕ) → members_in (map (λ (k : ℕ). (members, k)) ms) ≡ length ms * length members
+places_count members [] = omega arith
+places_count members (m ∷ ms) =
+    let h = places_count members ms in
+    let s = sum_by-cons (λ (p : List ℕ × ℕ). length p.0) (members, m) (map (λ (k : ℕ). (members, k)) ms) in
+    let d : length (m ∷ ms) * length members ≡ length members + length ms * length members = omega arith in
+    omega (arith, h, s, d)
+
+-- the room of one literal of a component more
+pub room_of_literal :
+    (task : Task) (members : List ℕ) (m : ℕ) (links : List Link) (old now : LinkedChains)
+    → Extends task (map (λ k. (members, k)) (range m)) old now → m < 2 * task.facts → is_task task ≡ true
+    → links ≡ links_of task m members → HasRoom old (4096 * length members) → HasRoom now (length links)
+room_of_literal task members m links old now e lt t is room =
+    let f = e.few in
+    let c = places_count members (range m) in
+    let r = length-range_from 0 m in
+    let q = ap (λ (k : ℕ). k * length members) r in
+    let l = ap length is in
+    let g = links_few task m members in
+    let facts = (lawful task t).facts in
+    let more : (m + 1) * length members ≤ 4096 * length members = mul-le-mul_right (length members) (omega (arith, lt, facts)) in
+    let d : (m + 1) * length members ≡ m * length members + length members = omega arith in
+    omega (arith, f, c, q, l, g, more, d, room)
+
+-- the room that a component takes
+pub room_of_component : (task : Task) (members : List ℕ) (rest : ℕ) (old new : LinkedChains) → is_task task ≡ true → Extends task (chain_places task (members ∷ [])) old new → HasRoom old (4096 * length members + rest) → HasRoom new rest
+room_of_component task members rest old new t e room =
+    let f = e.few in
+    let n = ap members_in (append-nil (map (λ (k : ℕ). (members, k)) (range (2 * task.facts)))) in
+    let c = places_count members (range (2 * task.facts)) in
+    let q = ap (λ (k : ℕ). k * length members) (length-range_from 0 (2 * task.facts)) in
+    let facts = (lawful task t).facts in
+    let more : (2 * task.facts) * length members ≤ 4096 * length members = mul-le-mul_right (length members) (omega (arith, facts)) in
+    omega (arith, f, n, c, q, more, room)
+
 -- literal after literal
-pub literal_more : (task : Task) (members : List ℕ) (m : ℕ) (a b c : FoundChains) → Extends task (map (λ k. (members, k)) (range m)) a b → Extends task ((members, m) ∷ []) b c → Extends task (map (λ k. (members, k)) (range (m + 1))) a c
+pub literal_more : (task : Task) (members : List ℕ) (m : ℕ) (a b c : LinkedChains) → Extends task (map (λ k. (members, k)) (range m)) a b → Extends task ((members, m) ∷ []) b c → Extends task (map (λ k. (members, k)) (range (m + 1))) a c
 literal_more task members m a b c one two =
     subst (λ (places : List (List ℕ × ℕ)). Extends task places a c) (sym (map-append (λ k. (members, k)) (range m) (m ∷ [])) ∙ ap (map (λ k. (members, k))) (sym (range_more m)))
     (found_twice task (map (λ k. (members, k)) (range m)) ((members, m) ∷ []) a b c one two)
 
-pub all_literals : (task : Task) (members : List ℕ) (m : ℕ) (a b : FoundChains) → m ≡ 2 * task.facts → Extends task (map (λ k. (members, k)) (range m)) a b → Extends task (chain_places task (members ∷ [])) a b
+-- literals that no member touches have no chain
+literals_skipped : (task : Task) (members : List ℕ) (m k : ℕ) (a b : LinkedChains) → ((l : ℕ) → m ≤ l → l < m + k → links_of task l members ≡ []) → Extends task (map (λ q. (members, q)) (range m)) a b → Extends task (map (λ q. (members, q)) (range (m + k))) a b
+literals_skipped task members m zero a b none e = subst (λ (n : ℕ). Extends task (map (λ q. (members, q)) (range n)) a b) (omega arith) e
+literals_skipped task members m (suc k) a b none e =
+    let before = literals_skipped task members m k a b (λ l le lt. none l le (omega (arith, lt))) e in
+    let last = none_found task members (m + k) b (ap (link_count false) (none (m + k) (omega arith) (omega arith))) in
+    subst (λ (n : ℕ). Extends task (map (λ q. (members, q)) (range n)) a b) (omega arith) (literal_more task members (m + k) a b b before last)
+
+pub skip_to : (task : Task) (members : List ℕ) (index : List (List Link)) (m n : ℕ) (a b : LinkedChains) → IsIndexOf task members index → m ≤ n → n ≤ 2 * task.facts → ((l : ℕ) → m ≤ l → l < n → get_or index l [] ≡ []) → Extends task (map (λ q. (members, q)) (range m)) a b → Extends task (map (λ q. (members, q)) (range n)) a b
+skip_to task members index m n a b is le top none e =
+    let whole : m + (n - m) ≡ n = omega (arith, le) in
+    subst (λ (k : ℕ). Extends task (map (λ q. (members, q)) (range k)) a b) whole
+    (literals_skipped task members m (n - m) a b (λ l low lt. let less : l < n = omega (arith, lt, whole) in sym (is.each l (omega (arith, less, top))) ∙ none l low less) e)
+
+pub all_literals : (task : Task) (members : List ℕ) (m : ℕ) (a b : LinkedChains) → m ≡ 2 * task.facts → Extends task (map (λ k. (members, k)) (range m)) a b → Extends task (chain_places task (members ∷ [])) a b
 all_literals task members m a b e h =
     subst (λ (places : List (List ℕ × ℕ)). Extends task places a b) (ap (λ (n : ℕ). map (λ k. (members, k)) (range n)) e ∙ sym (append-nil (map (λ k. (members, k)) (range (2 * task.facts))))) h
 
 -- component after component
 pub component_more :
-    (task : Task) (order : List (List ℕ)) (i : ℕ) (members : List ℕ) (a b c : FoundChains)
+    (task : Task) (order : List (List ℕ)) (i : ℕ) (members : List ℕ) (a b c : LinkedChains)
     → drop i order ≡ members ∷ drop (i + 1) order → Extends task (chain_places task (members ∷ [])) a b
     → Extends task (chain_places task (drop (i + 1) order)) b c → Extends task (chain_places task (drop i order)) a c
 component_more task order i members a b c e one two =
@@ -181,13 +271,31 @@ component_more task order i members a b c e one two =
     (found_twice task (chain_places task (members ∷ [])) (chain_places task (drop (i + 1) order)) a b c one two)
 
 pub group_more :
-    (task : Task) (order items : List (List ℕ)) (i : ℕ) (d group members : List ℕ) (a b : FoundChains)
+    (task : Task) (order items : List (List ℕ)) (i : ℕ) (d group members : List ℕ) (a b : LinkedChains)
     → items ≡ order → i < length items → group ≡ get_or items i d → members ≡ group → Extends task (chain_places task (members ∷ [])) a b
-    → (new : FoundChains) → Extends task (chain_places task (drop (i + 1) order)) b new → Extends task (chain_places task (drop i order)) a new
+    → (new : LinkedChains) → Extends task (chain_places task (drop (i + 1) order)) b new → Extends task (chain_places task (drop i order)) a new
 group_more task order items i d group members a b e lt is m one new rest =
     let lt2 : i < length order = rw e at lt in
     let at : get_or order i d ≡ members = ap (λ (x : List (List ℕ)). get_or x i d) (sym e) ∙ sym is ∙ sym m in
     component_more task order i members a b new (drop_more order i d lt2 ∙ ap (λ (ks : List ℕ). ks ∷ drop (i + 1) order) at) one rest
 
-pub all_groups : (task : Task) (order : List (List ℕ)) (i : ℕ) (f : FoundChains) → length order ≤ i → Extends task (chain_places task (drop i order)) f f
+pub all_groups : (task : Task) (order : List (List ℕ)) (i : ℕ) (f : LinkedChains) → length order ≤ i → Extends task (chain_places task (drop i order)) f f
 all_groups task order i f le = subst (λ (ks : List (List ℕ)). Extends task (chain_places task ks) f f) (sym (drop_all i order le)) (nothing_found task f)
+
+pub group_at : (order items : List (List ℕ)) (i : ℕ) (d group members : List ℕ) → items ≡ order → i < length items → group ≡ get_or items i d → members ≡ group → drop i order ≡ members ∷ drop (i + 1) order
+group_at order items i d group members e lt is m =
+    let lt2 : i < length order = rw e at lt in
+    drop_more order i d lt2 ∙ ap (λ (ks : List ℕ). ks ∷ drop (i + 1) order) (ap (λ (x : List (List ℕ)). get_or x i d) (sym e) ∙ sym is ∙ sym m)
+
+-- the room that is left for the components from one on
+pub room_of_order : (order : List (List ℕ)) (i : ℕ) (members : List ℕ) (f : LinkedChains) → drop i order ≡ members ∷ drop (i + 1) order → HasRoom f (4096 * length (order_of (drop i order))) → HasRoom f (4096 * length members + 4096 * length (order_of (drop (i + 1) order)))
+room_of_order order i members f at room =
+    let l = ap (λ (ks : List (List ℕ)). length (order_of ks)) at in
+    let a = length-append members (order_of (drop (i + 1) order)) in
+    omega (arith, l, a, room)
+
+pub first_room : (actions n : ℕ) → n ≤ 16384 → HasRoom (no_chains actions) (4096 * n)
+first_room actions n le = omega (arith, le)
+
+pub variables_few : (f : LinkedChains) (n : ℕ) → n ≡ f.variables → AreWithin f → n ≤ 1073741824
+variables_few f n e w = let a = w.few in let b = w.variables in omega (arith, e, a, b)

@@ -3,9 +3,9 @@ use Rattle.std.specs.List.{list_any}
 use Rattle.gt_core.specs.Interference.{takes, reads}
 use Rattle.gt_core.specs.Task.{Task}
 use Rattle.step_clauses.specs.Clause.{Literal, Is, Not}
-use Rattle.step_clauses.specs.Chain.{chain_length, enter_clauses, pass_clauses}
+use Rattle.step_clauses.specs.Chain.{chain_length, if_read, enter_clauses, pass_clauses}
 use Rattle.step_chains.specs.declared.link.Link.{Link}
-use Rattle.step_chains.specs.Links.{links_of, link_count, if_left, enter_links, pass_links}
+use Rattle.step_chains.specs.Links.{links_of, link_count, enter_links, pass_links}
 
 -- A chain over the members that touch its literal is the chain over all members.
 
@@ -108,14 +108,14 @@ left_counts ks t = by (link_count true ks) refl
 
 -- a chain without a variable has no clause
 
-no_reader : (ks : List Link) (clause : List Literal) → link_count true ks ≡ 0 → if_left ks clause ≡ []
+no_reader : (ks : List Link) (clause : List Literal) → link_count true ks ≡ 0 → if_read (λ k. k.reads) ks clause ≡ []
 no_reader ks clause e = rw (none_left ks e) refl
 
 module _ (act var : ℕ → ℕ) where
   enter_none_by :
       (a : ℕ) (i : ℕ) (ks : List Link) → ((s : Bool) (j : ℕ) → link_count s ks ≡ 0 → enter_links act var s j ks ≡ [])
       → (seen t r : Bool) → link_count (seen || t) ks ≡ 0
-      → (if t then if_left ks (Not (act a) ∷ Is (var (if seen && r then i + 1 else i)) ∷ []) else []) ++ enter_links act var (seen || t) (if seen && r then i + 1 else i) ks ≡ []
+      → (if t then if_read (λ k. k.reads) ks (Not (act a) ∷ Is (var (if seen && r then i + 1 else i)) ∷ []) else []) ++ enter_links act var (seen || t) (if seen && r then i + 1 else i) ks ≡ []
   enter_none_by a i ks ih true true r e = rw (no_reader ks (Not (act a) ∷ Is (var (if r then i + 1 else i)) ∷ []) e) (ih true (if r then i + 1 else i) e)
   enter_none_by a i ks ih false true r e = rw (no_reader ks (Not (act a) ∷ Is (var i) ∷ []) e) (ih true i e)
   enter_none_by a i ks ih true false r e = ih true (if r then i + 1 else i) e
@@ -136,5 +136,5 @@ module _ (act var : ℕ → ℕ) where
   pass_none seen i [] e = refl
   pass_none seen i (k ∷ ks) e =
       let n = link_count (seen || k.takes) ks in
-      pass_none_by i ((Not (var i) ∷ Not (act k.action) ∷ []) ∷ if_left ks (Not (var i) ∷ Is (var (i + 1)) ∷ [])) (seen || k.takes) ks
+      pass_none_by i ((Not (var i) ∷ Not (act k.action) ∷ []) ∷ if_read (λ k. k.reads) ks (Not (var i) ∷ Is (var (i + 1)) ∷ [])) (seen || k.takes) ks
       (λ j. pass_none (seen || k.takes) j ks (rest_by (seen && k.reads) n e)) (seen && k.reads) (none_by (seen && k.reads) n e)

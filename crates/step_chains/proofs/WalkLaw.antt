@@ -1,4 +1,4 @@
-use Rattle.std.proofs.Common.{arith, ◌≡◌, ◌+◌, ◌≤◌, ◌<◌, ℕ, List, [], ◌∷◌, ◌++◌, length, Bool, true, false, ◌&&◌, ◌||◌, refl, sym, ap, ◌∙◌, if◌then◌else◌, cond, count_by, drop, get_or, nat_lt}
+use Rattle.std.proofs.Common.{arith, ◌≡◌, ◌+◌, ◌*◌, ◌≤◌, ◌<◌, ℕ, List, [], ◌∷◌, ◌++◌, length, Bool, true, false, ◌&&◌, ◌||◌, refl, sym, ap, ◌∙◌, if◌then◌else◌, cond, count_by, drop, get_or, nat_lt}
 use Rattle.std.specs.List.{list_any}
 use Rattle.std.proofs.lemmas.List.{drop_more, append_assoc}
 use Rattle.std.proofs.lemmas.List.Sums.{sum_by-cons}
@@ -7,7 +7,7 @@ use Rattle.step_clauses.specs.Clause.{Literal, Is, Not}
 use Rattle.step_clauses.specs.Coded.{coded}
 use Rattle.step_clauses.proofs.CodedLaw.{coded-append}
 use Rattle.step_chains.specs.declared.link.Link.{Link}
-use Rattle.step_chains.specs.Links.{link_count, enter_links, pass_links}
+use Rattle.step_chains.specs.Links.{link_count, enter_links, pass_links, is_read, link_size}
 use Rattle.step_chains.proofs.LinkLaw.{left_counts}
 
 -- A walk along the links of a chain: what is seen, the next variable, and how many readers are left.
@@ -99,3 +99,20 @@ module _ (act var : ℕ → ℕ) where
       one_next links i left before after (pass_links act var seen next (drop i links))
       (λ b. if seen && k.reads then (Not (var next) ∷ Not (act k.action) ∷ []) ∷ (if b then (Not (var next) ∷ Is (var (next + 1)) ∷ []) ∷ [] else []) else [])
       (pass_links act var (seen || k.takes) (if seen && k.reads then next + 1 else next) (drop (i + 1) links)) e (ap (pass_links act var seen next) is.here) a
+
+-- the literals of one link's clauses come first
+pub size_next :
+    (links : List Link) (i : ℕ) (k : Link) (seen : Bool) (size left one : ℕ) (after : Bool) → IsAt links i k → left ≡ readers (drop (i + 1) links)
+    → one ≡ (if k.takes && nat_lt 0 left then 2 else 0) + (if seen && k.reads then (if nat_lt 0 left then 4 else 2) else 0)
+    → after ≡ (seen || k.takes)
+    → size + link_size seen (drop i links) ≡ size + one + link_size after (drop (i + 1) links)
+size_next links i k seen size left one after is e o a =
+    let r = is_read (drop (i + 1) links) in
+    let read : nat_lt 0 left ≡ is_read (drop (i + 1) links) = ap (nat_lt 0) e ∙ some_left (drop (i + 1) links) in
+    let h = ap (link_size seen) is.here in
+    let o2 = o ∙ ap (λ (b : Bool). (if k.takes && b then 2 else 0) + (if seen && k.reads then (if b then 4 else 2) else 0)) read in
+    let l = ap (λ (b : Bool). link_size b (drop (i + 1) links)) a in
+    omega (arith, h, o2, l)
+
+pub size_small : (size one i : ℕ) → size ≤ 6 * i → one ≤ 6 → size + one ≤ 6 * (i + 1)
+size_small size one i h g = omega (arith, h, g)

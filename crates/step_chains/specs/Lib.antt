@@ -1,2 +1,3 @@
 pub mod Links
-pub mod Found
+pub mod Index
+pub mod Chains

@@ -1,13 +1,15 @@
 -- Chains over the members that touch a literal. Members that neither take nor read it change nothing of a chain, so
 -- they are left out.
-use Rattle.std.specs.Prelude.{ℕ, ◌+◌, List, [], ◌∷◌, ◌++◌, Bool, ◌&&◌, ◌||◌, if◌then◌else◌, map}
+use Rattle.std.specs.Prelude.{ℕ, ◌+◌, List, [], ◌∷◌, Bool, ◌&&◌, ◌||◌, if◌then◌else◌, map}
 use Rattle.std.specs.List.{list_any, filter}
 use Rattle.gt_core.specs.Interference.{takes, reads}
 use Rattle.gt_core.specs.Task.{Task}
+use Rattle.gt_core.specs.Layout.{Layout, action_at, chain_at}
 use Rattle.step_clauses.specs.Clause.{Literal, Is, Not}
+use Rattle.step_clauses.specs.Chain.{chain_length, enter_clauses, pass_clauses}
 use Rattle.step_chains.specs.declared.link.Link.{Link}
 
--- a member of a component beside a fact literal
+-- an action beside a fact literal
 abbrev pub link_of : Task → ℕ → ℕ → Link
 link_of task m a = record { action = a; takes = takes task m a; reads = reads task m a }
 
@@ -18,25 +20,36 @@ touches k = k.takes || k.reads
 abbrev pub links_of : Task → ℕ → List ℕ → List Link
 links_of task m members = filter touches (map (link_of task m) members)
 
--- how many variables a chain of links has; `seen` says that a taker stands before them
+-- the definitions of a chain, with links as its members
+
 abbrev pub link_count : Bool → List Link → ℕ
-link_count seen [] = 0
-link_count seen (k ∷ ks) = (if seen && k.reads then 1 else 0) + link_count (seen || k.takes) ks
+link_count seen ks = chain_length (λ k. k.takes) (λ k. k.reads) seen ks
 
--- one clause where a reader is left
-abbrev pub if_left : List Link → List Literal → List (List Literal)
-if_left ks clause = if list_any (λ k. k.reads) ks then clause ∷ [] else []
-
--- a taker makes the variable of the first reader after it true; variable i is the next one
 abbrev pub enter_links : (act var : ℕ → ℕ) → Bool → ℕ → List Link → List (List Literal)
-enter_links act var seen i [] = []
-enter_links act var seen i (k ∷ ks) =
-    (if k.takes then if_left ks (Not (act k.action) ∷ Is (var (if seen && k.reads then i + 1 else i)) ∷ []) else [])
-    ++ enter_links act var (seen || k.takes) (if seen && k.reads then i + 1 else i) ks
+enter_links act var seen i ks = enter_clauses (λ k. act k.action) var (λ k. k.takes) (λ k. k.reads) seen i ks
 
--- a true variable forbids its reader, and makes the next variable true
 abbrev pub pass_links : (act var : ℕ → ℕ) → Bool → ℕ → List Link → List (List Literal)
-pass_links act var seen i [] = []
-pass_links act var seen i (k ∷ ks) =
-    (if seen && k.reads then (Not (var i) ∷ Not (act k.action) ∷ []) ∷ if_left ks (Not (var i) ∷ Is (var (i + 1)) ∷ []) else [])
-    ++ pass_links act var (seen || k.takes) (if seen && k.reads then i + 1 else i) ks
+pass_links act var seen i ks = pass_clauses (λ k. act k.action) var (λ k. k.takes) (λ k. k.reads) seen i ks
+
+-- a reader is left
+abbrev pub is_read : List Link → Bool
+is_read ks = list_any (λ k. k.reads) ks
+
+-- how many literals the clauses of a chain of links have: two a clause
+abbrev pub link_size : Bool → List Link → ℕ
+link_size seen [] = 0
+link_size seen (k ∷ ks) =
+    (if k.takes && is_read ks then 2 else 0)
+    + (if seen && k.reads then (if is_read ks then 4 else 2) else 0)
+    + link_size (seen || k.takes) ks
+
+-- The clauses of one link in the first step of a layout.
+
+-- the clause by which a taker makes a variable true, where a reader is left
+abbrev pub enter_of : Layout → Link → ℕ → Bool → List (List Literal)
+enter_of z k i left = if k.takes then (if left then (Not (action_at z 0 k.action) ∷ Is (chain_at z 0 i) ∷ []) ∷ [] else []) else []
+
+-- the clauses by which a reader's variable, where it is true, forbids it and makes the next variable true, where a
+-- reader is left
+abbrev pub pass_of : Layout → ℕ → Bool → ℕ → Bool → List (List Literal)
+pass_of z action reads i left = if reads then (Not (chain_at z 0 i) ∷ Not (action_at z 0 action) ∷ []) ∷ (if left then (Not (chain_at z 0 i) ∷ Is (chain_at z 0 (i + 1)) ∷ []) ∷ [] else []) else []

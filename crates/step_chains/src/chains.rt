@@ -1,22 +1,26 @@
 //! The chains of a task.
-ghost use Rattle.std.specs.Prelude.{◌≡◌, ◌+◌, ◌*◌, ◌<◌, ◌≤◌, List, ℕ, [], ◌∷◌, length, IfOk, OnOk};
+ghost use Rattle.std.specs.Prelude.{◌≡◌, ◌+◌, ◌*◌, ◌/◌, ◌<◌, ◌≤◌, ◌==◌, List, ℕ, false, [], ◌∷◌, length, IfOk, OnOk};
 ghost use Rattle.std.specs.List.{AllByRecursion};
-ghost use Rattle.gt_core.specs.Literal.{range};
-ghost use Rattle.step_clauses.specs.Variables.{chain_places, chain_variables_in};
-ghost use Rattle.step_chains.specs.Found.{AreChains, AreWithin, Extends};
+ghost use Rattle.gt_core.specs.Task.{Task as TaskValue};
+ghost use Rattle.gt_core.specs.Published.{Pairwise};
+ghost use Rattle.gt_core.specs.Layout.{Layout as LayoutValue, action_at, chain_at};
+ghost use Rattle.step_clauses.specs.Variables.{chain_places, chains};
+ghost use Rattle.step_clauses.specs.Formula.{chain_clauses};
+ghost use Rattle.step_clauses.specs.Coded.{coded, literals_in};
+ghost use Rattle.step_chains.specs.Links.{links_of};
+ghost use Rattle.step_chains.specs.Chains.{AreChains, AreWithin, Extends, HasRoom, links_in, all_clauses};
 
-use crate::chain::{Chain, count};
-use crate::link::links;
+use crate::chain::{Chain, chain_size, count};
+use crate::index::{LinkIndex, literals};
+use crate::link::Link;
 use action_order::order::Order;
 use clause_base::memory::Memory;
 use gt_core::task::Task;
 use std::alloc::Global;
 use std::marker::Model;
 
-/// The most chain variables that chains may have: 2 to the power of 30.
-const MOST: u32 = 1073741824;
-
-/// The chains of a task that have a variable, in the order of the components and then of the literals.
+/// The chains of a task that have a variable, in the order in which they were added, with as many links as
+/// 1,073,741,824 at most.
 #[derive(Debug, Drop)]
 pub struct Chains {
     actions: u32,
@@ -25,9 +29,9 @@ pub struct Chains {
 }
 
 impl Model for Chains {
-    ghost use Rattle.step_chains.specs.Found.{FoundChains, AreWithin};
+    ghost use Rattle.step_chains.specs.Chains.{LinkedChains, AreWithin};
 
-    ghost Value = { FoundChains };
+    ghost Value = { LinkedChains };
 
     ghost view = { λ c. record { actions = c.actions; chains = c.chains.items; variables = c.variables } };
 
@@ -35,19 +39,32 @@ impl Model for Chains {
 }
 
 impl Chains {
-    ghost use Rattle.step_chains.specs.Found.{no_chains};
+    ghost use Rattle.step_chains.specs.Chains.{no_chains};
 
-    /// The chains of a task in an order of its actions. The only error is want of memory, by which more than
-    /// 1,073,741,824 chain variables would be told too; no task has so many.
+    /// The chains of exists-steps: those of each component of an order of the task's actions, component after component
+    /// and literal after literal.
     pub fn find(alloc: Global, task: &Task, order: &Order) -> Result<Chains, Memory>
         requires members { AllByRecursion (λ ks. AllByRecursion (λ a. a < length task.now.actions) ks) order.now }
-        ensures { IfOk result (λ c. AreChains task.now order.now c) }
+        requires distinct { AllByRecursion (λ ks. Pairwise (λ a b. (a == b) ≡ false) ks) order.now }
+        ensures { IfOk result (λ c. AreChains task.now (chain_places task.now order.now) c) }
     {
-        let mut found = Chains::none(alloc, task);
+        let mut chains = Chains::new(alloc, task);
+        let mut index = LinkIndex::new(alloc, task.facts())?;
         for members in order.groups() {
-            found.add_component(alloc, task, members.as_slice())?;
+            chains.add_component(alloc, task, members.as_slice(), &mut index)?;
         }
-        Ok(found)
+        Ok(chains)
+    }
+
+    /// No chain yet.
+    pub fn new(alloc: Global, task: &Task) -> Chains
+        ensures { result ≡ no_chains (length task.now.actions) }
+    {
+        Chains {
+            actions: task.acts().len() as u32,
+            chains: Vec::new(alloc),
+            variables: 0,
+        }
     }
 
     /// How many chain variables there are.
@@ -58,6 +75,36 @@ impl Chains {
         self.variables
     }
 
+    /// How many literals the clauses of the chains have in one step, whatever the layout.
+    pub fn size(&self) -> u64
+        ensures added { (z : LayoutValue) → z.actions ≡ self.now.actions → result ≡ literals_in (coded (all_clauses (action_at z 0) (chain_at z 0) self.now.chains)) }
+        ensures of_task { (task : TaskValue) (places : List (List ℕ × ℕ)) (z : LayoutValue) → AreChains task places self.now → z.actions ≡ length task.actions → result ≡ literals_in (coded (chain_clauses (action_at z 0) (chain_at z 0) task (chains task places))) }
+        ensures few { result ≤ 6442450944 }
+    {
+        let mut size = 0;
+        for chain in self.as_slice() {
+            size += chain_size(chain.links.as_slice());
+        }
+        size
+    }
+
+    /// Adds the chain over these links, if it has a variable.
+    pub fn add(&mut self, alloc: Global, links: &[Link]) -> Result<(), Memory>
+        requires actions { AllByRecursion (λ k. k.action < self.old.actions) links.now }
+        requires room { HasRoom self.old (length links.now) }
+        ensures { OnOk result ((task : TaskValue) (members : List ℕ) (m : ℕ) → links.now ≡ links_of task m members → Extends task ((members, m) ∷ []) self.old self.new) }
+    {
+        let count = count(links);
+        if count == 0 {
+            return Ok(());
+        }
+        let first = self.variables;
+        let links = Vec::from_slice(alloc, links)?;
+        self.chains.push(Chain { first, links })?;
+        self.variables = first + count as u32;
+        Ok(())
+    }
+
     /// The chains.
     pub(crate) fn as_slice(&self) -> &[Chain]
         ensures chains { result.now ≡ self.now.chains }
@@ -66,55 +113,33 @@ impl Chains {
         self.chains.as_slice()
     }
 
-    /// No chain yet.
-    fn none(alloc: Global, task: &Task) -> Chains
-        ensures { result ≡ no_chains (length task.now.actions) }
-    {
-        Chains {
-            actions: task.acts().len() as u32,
-            chains: Vec::new(alloc),
-            variables: 0,
-        }
-    }
-
     /// Adds the chains of a component; one of a single member has none.
-    fn add_component(&mut self, alloc: Global, task: &Task, members: &[u32]) -> Result<(), Memory>
+    fn add_component(
+        &mut self,
+        alloc: Global,
+        task: &Task,
+        members: &[u32],
+        index: &mut LinkIndex,
+    ) -> Result<(), Memory>
         requires members { AllByRecursion (λ a. a < length task.now.actions) members.now }
+        requires distinct { Pairwise (λ a b. (a == b) ≡ false) members.now }
         requires actions { self.old.actions ≡ length task.now.actions }
-        ensures { OnOk result (Extends task.now (chain_places task.now (members.now ∷ [])) self.old self.new) }
+        requires index { length index.old ≡ 2 * task.now.facts }
+        requires room { HasRoom self.old (4096 * length members.now) }
+        ensures added { OnOk result (Extends task.now (chain_places task.now (members.now ∷ [])) self.old self.new) }
+        ensures index { OnOk result (length index.new ≡ 2 * task.now.facts) }
     {
         if members.len() < 2 {
             return Ok(());
         }
-        for m in 0..2 * task.facts() {
-            self.add_chain(alloc, task, m, members)?;
+        index.fill(task, members)?;
+        let end = literals(task);
+        let mut m = index.next(0, end);
+        while m < end {
+            self.add(alloc, index.links(m))?;
+            let after = index.next(m + 1, end);
+            m = after;
         }
-        Ok(())
-    }
-
-    /// Adds the chain of a component and a literal, if it has a variable.
-    fn add_chain(
-        &mut self,
-        alloc: Global,
-        task: &Task,
-        m: u32,
-        members: &[u32],
-    ) -> Result<(), Memory>
-        requires members { AllByRecursion (λ a. a < length task.now.actions) members.now }
-        requires actions { self.old.actions ≡ length task.now.actions }
-        ensures { OnOk result (Extends task.now ((members.now, m) ∷ []) self.old self.new) }
-    {
-        let links = links(alloc, task, m, members)?;
-        let count = count(&links);
-        if count == 0 {
-            return Ok(());
-        }
-        if count > (MOST - self.variables) as usize {
-            return Err(Memory);
-        }
-        let first = self.variables;
-        self.chains.push(Chain { first, links })?;
-        self.variables = first + count as u32;
         Ok(())
     }
 }

@@ -5,28 +5,25 @@ ghost use Rattle.gt_core.specs.Layout.{action_at, chain_at};
 ghost use Rattle.gt_core.specs.Task.{Task};
 ghost use Rattle.clause_base.specs.Clause.{clause_of};
 ghost use Rattle.step_clauses.specs.Clause.{Is, Not, code};
-ghost use Rattle.step_clauses.specs.Coded.{coded};
+ghost use Rattle.step_clauses.specs.Coded.{Appends};
 ghost use Rattle.step_clauses.specs.Formula.{chain_clauses};
 ghost use Rattle.step_clauses.specs.Variables.{chains};
-ghost use Rattle.step_chains.specs.Links.{link_count, enter_links, pass_links};
-ghost use Rattle.step_chains.specs.Found.{AreChains, IsChainWithin, found_clauses, linked_clauses};
+ghost use Rattle.step_chains.specs.Links.{link_count, enter_links, pass_links, enter_of, pass_of};
+ghost use Rattle.step_chains.specs.Chains.{AreChains, IsChainWithin, all_clauses};
 
-use crate::chain::Chain;
+use crate::chain::{Chain, left_after, readers};
 use crate::chains::Chains;
 use crate::link::Link;
-use clause_base::clause::Clause;
+use clause_base::clause_list::ClauseList;
 use clause_base::literal::Lit;
 use clause_base::memory::Memory;
 use gt_core::layout::Layout;
-use std::alloc::Global;
 
 /// Appends the clause of two literals, unless they are opposite.
-fn add_pair(alloc: Global, clauses: &mut Vec<Clause>, one: Lit, other: Lit) -> Result<(), Memory>
-    ensures { OnOk result (clauses.new.items ≡ clauses.old.items ++ cons_option (clause_of (one ∷ other ∷ [])) []) }
+fn add_pair(clauses: &mut ClauseList, one: Lit, other: Lit) -> Result<(), Memory>
+    ensures { OnOk result (clauses.new ≡ clauses.old ++ cons_option (clause_of (one ∷ other ∷ [])) []) }
 {
-    if let Some(clause) = Clause::of(alloc, &[one, other])? {
-        clauses.push(clause)?;
-    }
+    clauses.add_of(&[one, other])?;
     Ok(())
 }
 
@@ -50,27 +47,12 @@ fn chain_lit(layout: &Layout, chain: u32, value: bool) -> Lit
     Lit::of(layout.chain(0, chain), value)
 }
 
-/// How many of the links read.
-fn readers(links: &[Link]) -> usize
-    ensures { result ≡ count_by (λ k. k.reads) links.now }
-{
-    links.iter().filter(|k| k.reads).count()
-}
-
 /// The number of the next variable after a link.
 fn next_after(link: Link, seen: bool, next: u32) -> u32
     requires { next ≤ 1073741824 }
     ensures { result ≡ (if seen && link.reads then next + 1 else next) }
 {
     if seen && link.reads { next + 1 } else { next }
-}
-
-/// How many readers are left after a link.
-fn left_after(link: Link, left: usize) -> usize
-    requires { link.reads ≡ true → 1 ≤ left }
-    ensures { (if link.reads then 1 else 0) + result ≡ left }
-{
-    if link.reads { left - 1 } else { left }
 }
 
 /// Whether a taker was seen, after a link.
@@ -82,21 +64,19 @@ fn seen_after(link: Link, seen: bool) -> bool
 
 /// Appends the clause by which a taker makes a variable true, where a reader is left.
 fn add_enter(
-    alloc: Global,
     layout: &Layout,
     link: Link,
     variable: u32,
     left: bool,
-    clauses: &mut Vec<Clause>,
+    clauses: &mut ClauseList,
 ) -> Result<(), Memory>
     requires horizon { 0 < layout.now.horizon }
     requires action { link.action < layout.now.actions }
     requires variable { link.takes ≡ true → left ≡ true → variable < layout.now.chains }
-    ensures { OnOk result (clauses.new.items ≡ clauses.old.items ++ coded (if link.takes then (if left then (Not (action_at layout.now 0 link.action) ∷ Is (chain_at layout.now 0 variable) ∷ []) ∷ [] else []) else [])) }
+    ensures { OnOk result (Appends clauses.old clauses.new (enter_of layout.now link variable left)) }
 {
     if link.takes && left {
         add_pair(
-            alloc,
             clauses,
             not_action(layout, link.action),
             chain_lit(layout, variable, true),
@@ -108,42 +88,36 @@ fn add_enter(
 /// Appends the clauses by which a reader's variable, where it is true, forbids it and makes the next variable true, where
 /// a reader is left.
 fn add_pass(
-    alloc: Global,
     layout: &Layout,
     action: u32,
     reads: bool,
     variable: u32,
     left: bool,
-    clauses: &mut Vec<Clause>,
+    clauses: &mut ClauseList,
 ) -> Result<(), Memory>
     requires horizon { 0 < layout.now.horizon }
     requires action { action < layout.now.actions }
     requires variable { reads ≡ true → variable < layout.now.chains }
     requires next { reads ≡ true → left ≡ true → variable + 1 < layout.now.chains }
-    ensures { OnOk result (clauses.new.items ≡ clauses.old.items ++ coded (if reads then (Not (chain_at layout.now 0 variable) ∷ Not (action_at layout.now 0 action) ∷ []) ∷ (if left then (Not (chain_at layout.now 0 variable) ∷ Is (chain_at layout.now 0 (variable + 1)) ∷ []) ∷ [] else []) else [])) }
+    ensures { OnOk result (Appends clauses.old clauses.new (pass_of layout.now action reads variable left)) }
 {
     if !reads {
         return Ok(());
     }
     let not = chain_lit(layout, variable, false);
-    add_pair(alloc, clauses, not, not_action(layout, action))?;
+    add_pair(clauses, not, not_action(layout, action))?;
     if left {
-        add_pair(alloc, clauses, not, chain_lit(layout, variable + 1, true))?;
+        add_pair(clauses, not, chain_lit(layout, variable + 1, true))?;
     }
     Ok(())
 }
 
 /// Appends the clauses of a chain's takers.
-fn add_enters(
-    alloc: Global,
-    layout: &Layout,
-    chain: &Chain,
-    clauses: &mut Vec<Clause>,
-) -> Result<(), Memory>
+fn add_enters(layout: &Layout, chain: &Chain, clauses: &mut ClauseList) -> Result<(), Memory>
     requires horizon { 0 < layout.now.horizon }
     requires within { IsChainWithin layout.now.actions layout.now.chains chain.now }
     requires few { layout.now.chains ≤ 1073741824 }
-    ensures { OnOk result (clauses.new.items ≡ clauses.old.items ++ coded (enter_links (action_at layout.now 0) (chain_at layout.now 0) false chain.now.first chain.now.links)) }
+    ensures { OnOk result (Appends clauses.old clauses.new (enter_links (action_at layout.now 0) (chain_at layout.now 0) false chain.now.first chain.now.links)) }
 {
     let mut seen = false;
     let mut next = chain.first;
@@ -151,23 +125,18 @@ fn add_enters(
     for link in chain.links.as_slice() {
         left = left_after(*link, left);
         next = next_after(*link, seen, next);
-        add_enter(alloc, layout, *link, next, left > 0, clauses)?;
+        add_enter(layout, *link, next, left > 0, clauses)?;
         seen = seen_after(*link, seen);
     }
     Ok(())
 }
 
 /// Appends the clauses of a chain's variables.
-fn add_passes(
-    alloc: Global,
-    layout: &Layout,
-    chain: &Chain,
-    clauses: &mut Vec<Clause>,
-) -> Result<(), Memory>
+fn add_passes(layout: &Layout, chain: &Chain, clauses: &mut ClauseList) -> Result<(), Memory>
     requires horizon { 0 < layout.now.horizon }
     requires within { IsChainWithin layout.now.actions layout.now.chains chain.now }
     requires few { layout.now.chains ≤ 1073741824 }
-    ensures { OnOk result (clauses.new.items ≡ clauses.old.items ++ coded (pass_links (action_at layout.now 0) (chain_at layout.now 0) false chain.now.first chain.now.links)) }
+    ensures { OnOk result (Appends clauses.old clauses.new (pass_links (action_at layout.now 0) (chain_at layout.now 0) false chain.now.first chain.now.links)) }
 {
     let mut seen = false;
     let mut next = chain.first;
@@ -175,7 +144,7 @@ fn add_passes(
     for link in chain.links.as_slice() {
         left = left_after(*link, left);
         let reads = seen & link.reads;
-        add_pass(alloc, layout, link.action, reads, next, left > 0, clauses)?;
+        add_pass(layout, link.action, reads, next, left > 0, clauses)?;
         next = next_after(*link, seen, next);
         seen = seen_after(*link, seen);
     }
@@ -184,21 +153,16 @@ fn add_passes(
 
 impl Chains {
     /// Appends the clauses of the chains in the first step of a layout.
-    pub fn add_clauses(
-        &self,
-        alloc: Global,
-        layout: &Layout,
-        clauses: &mut Vec<Clause>,
-    ) -> Result<(), Memory>
+    pub fn add_clauses(&self, layout: &Layout, clauses: &mut ClauseList) -> Result<(), Memory>
         requires horizon { 0 < layout.now.horizon }
         requires actions { layout.now.actions ≡ self.now.actions }
         requires chains { layout.now.chains ≡ self.now.variables }
-        ensures found { OnOk result (clauses.new.items ≡ clauses.old.items ++ coded (found_clauses (action_at layout.now 0) (chain_at layout.now 0) self.now.chains)) }
-        ensures of_task { (task : Task) (components : List (List ℕ)) → AreChains task components self.now → OnOk result (clauses.new.items ≡ clauses.old.items ++ coded (chain_clauses (action_at layout.now 0) (chain_at layout.now 0) task (chains task components))) }
+        ensures found { OnOk result (Appends clauses.old clauses.new (all_clauses (action_at layout.now 0) (chain_at layout.now 0) self.now.chains)) }
+        ensures of_task { (task : Task) (places : List (List ℕ × ℕ)) → AreChains task places self.now → OnOk result (Appends clauses.old clauses.new (chain_clauses (action_at layout.now 0) (chain_at layout.now 0) task (chains task places))) }
     {
         for chain in self.as_slice() {
-            add_enters(alloc, layout, chain, clauses)?;
-            add_passes(alloc, layout, chain, clauses)?;
+            add_enters(layout, chain, clauses)?;
+            add_passes(layout, chain, clauses)?;
         }
         Ok(())
     }

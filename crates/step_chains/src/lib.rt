@@ -1,13 +1,16 @@
-//! The chains of a task in published order, and their clauses in one step: no member of a component takes what a later
-//! member reads. (Rintanen, Heljanko and Niemelä 2006.)
+//! Chains: of the actions of a step that can run in one order only, no one takes a literal that a later one reads.
 //!
-//! `specs/Links.antt` restates the clauses of a chain over the members that touch its literal, `specs/Found.antt` says
-//! which chains a task has.
+//! For some actions in an order and a fact literal, each reader after a taker has a variable that is true where a taker
+//! before it is in the step (Rintanen, Heljanko and Niemelä 2006). `LinkIndex` says for each literal which of the
+//! actions take or read it, and `Chains` takes such links one literal after the other; it has the clauses of a task's
+//! chains, in the numbers of the first step. Which actions a chain goes over is the caller's: `Chains::find` takes the
+//! components of an order.
 #![tactic(auto)]
 
 mod chain;
-mod chains;
+pub mod chains;
 mod clauses;
-mod link;
+pub mod index;
+pub mod link;
 
 pub use chains::Chains;

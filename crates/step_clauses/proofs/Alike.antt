@@ -1,15 +1,14 @@
-use Rattle.std.proofs.Common.{arith, ◌≡◌, ◌==◌, ℕ, zero, suc, ◌+◌, ◌*◌, ◌/◌, ◌%◌, ◌<◌, ◌≤◌, List, [], ◌∷◌, ◌++◌, map, length, Bool, true, false, ◌||◌, ◌&&◌, refl, sym, ap, subst, if◌then◌else◌, inl, inr}
+use Rattle.std.proofs.Common.{arith, ◌≡◌, ◌==◌, ℕ, zero, suc, ◌+◌, ◌*◌, ◌/◌, ◌%◌, ◌<◌, ◌≤◌, List, [], ◌∷◌, ◌++◌, map, length, Bool, true, false, ◌||◌, ◌&&◌, refl, ap, if◌then◌else◌, inl, inr}
 use Rattle.std.specs.List.{list_any, filter, flat_map}
 use Rattle.gt_core.specs.Literal.{opposite, range}
 use Rattle.gt_core.specs.Task.{Task, Action, EffectOf, effects}
 use Rattle.gt_core.specs.Interference.{takes, reads}
 use Rattle.gt_core.proofs.Basics.{Among}
 use Rattle.gt_core.proofs.Literals.{below_range, half_opposite}
-use Rattle.gt_core.proofs.Pairwise.{flat_among}
 use Rattle.step_clauses.specs.Clause.{Literal, Is, Not}
 use Rattle.step_clauses.specs.Chain.{chain_length, if_read, enter_clauses, pass_clauses}
-use Rattle.step_clauses.specs.Variables.{Row, rows_from, rows, has_condition, Chain, chains_from, chain_places, chains, chain_variables_in}
-use Rattle.step_clauses.specs.Formula.{literal_over, precondition_clauses, effects_with, meaning_clauses, result_clause, effect_clauses, frame_clauses, chain_clauses, is_single, known_clause}
+use Rattle.step_clauses.specs.Variables.{Row, rows_from, rows, has_condition, Chain, chains_from, chains, chain_variables_in}
+use Rattle.step_clauses.specs.Formula.{literal_over, precondition_clauses, effects_with, meaning_clauses, result_clause, effect_clauses, frame_clauses, chain_clauses, is_single, pair_clause}
 use Rattle.step_clauses.proofs.InRange.{IsInRange, precondition_in}
 
 -- The clauses over two namings of the variables are alike: where the names of one stand so to the names of the other,
@@ -148,12 +147,12 @@ module _ (R : ℕ → ℕ → Type 0) where
       (preconditions_alike act act' now now' facts actions (a + 1) xs ha hf (omega arith) (λ k l i. w (suc k) l i))
 
   -- the names of the variables of one step, and how they stand to others
-  pub record NamesAlike (task : Task) (components : List (List ℕ)) (act act' now now' next next' chain chain' : ℕ → ℕ) (var var' : Row → ℕ) : Type 0 where
+  pub record NamesAlike (task : Task) (places : List (List ℕ × ℕ)) (act act' now now' next next' chain chain' : ℕ → ℕ) (var var' : Row → ℕ) : Type 0 where
     pub actions : (a : ℕ) → a < length task.actions → R (act a) (act' a)
     pub before : (f : ℕ) → f < task.facts → R (now f) (now' f)
     pub after : (f : ℕ) → f < task.facts → R (next f) (next' f)
     pub effects : (r : Row) → Among r (rows task) → R (var r) (var' r)
-    pub chains : (c : ℕ) → c < chain_variables_in task (chain_places task components) → R (chain c) (chain' c)
+    pub chains : (c : ℕ) → c < chain_variables_in task places → R (chain c) (chain' c)
 
   meaning_alike : (act act' now now' : ℕ → ℕ) (var var' : Row → ℕ) (facts : ℕ) (r : Row) → R (act r.effect.action) (act' r.effect.action) → R (var r) (var' r) → ((f : ℕ) → f < facts → R (now f) (now' f)) → ((c : ℕ) → Among c r.effect.condition → c / 2 < facts) → Alike R (meaning_clauses act now var r) (meaning_clauses act' now' var' r)
   meaning_alike act act' now now' var var' facts r a y hf w = by (has_condition r.effect)
@@ -184,33 +183,23 @@ module _ (R : ℕ → ℕ → Type 0) where
       by true = tt
       by false = with_alike var var' (λ e. (e.action == r.effect.action) && (e.literal == opposite r.effect.literal)) all h
 
-  module _ (task : Task) (clauses : List (ℕ × ℕ)) (components : List (List ℕ)) (is : IsInRange task clauses components) where
+  module _ (task : Task) (pairs : List (ℕ × ℕ)) (places : List (List ℕ × ℕ)) (is : IsInRange task pairs places) where
     -- the members of a chain are actions
-    chain_members : (c : Chain) → Among c (chains task components) → (k : ℕ) → Among k c.members → k < length task.actions
-    chain_members c i k j = is.members c.members (component_of c.members c.literal (member_of (chain_places task components) 0 c i)) k j
+    chain_members : (c : Chain) → Among c (chains task places) → (k : ℕ) → Among k c.members → k < length task.actions
+    chain_members c i k j = is.members (c.members, c.literal) (member_of places 0 c i) k j
       where
         member_of : (ps : List (List ℕ × ℕ)) (first : ℕ) (c : Chain) → Among c (chains_from task first ps) → Among {A = List ℕ × ℕ} (c.members, c.literal) ps
         member_of [] first c i = absurd i
         member_of (p ∷ ps) first c (inl e) = inl (ap (λ (d : Chain). (d.members, d.literal)) e)
         member_of (p ∷ ps) first c (inr i) = inr (member_of ps _ c i)
 
-        mapped : (ks ls : List ℕ) (m : ℕ) (ms : List ℕ) → Among {A = List ℕ × ℕ} (ls, m) (map (λ (m : ℕ). (ks, m)) ms) → ls ≡ ks
-        mapped ks ls m [] i = absurd i
-        mapped ks ls m (k ∷ ms) (inl e) = ap (λ (p : List ℕ × ℕ). p.0) e
-        mapped ks ls m (k ∷ ms) (inr i) = mapped ks ls m ms i
-
-        component_of : (ls : List ℕ) (m : ℕ) → Among {A = List ℕ × ℕ} (ls, m) (chain_places task components) → Among ls components
-        component_of ls m i =
-            let r = flat_among (λ ks. map (λ (m : ℕ). (ks, m)) (range (2 * task.facts))) components (ls, m) i in
-            subst (λ (x : List ℕ). Among x components) (sym (mapped r.0 ls m (range (2 * task.facts)) r.2)) r.1
-
-    module _ (act act' now now' next next' chain chain' : ℕ → ℕ) (var var' : Row → ℕ) (names : NamesAlike task components act act' now now' next next' chain chain' var var') where
-      chain_alike : (c : Chain) → Among c (chains task components) → Alike R (enter_clauses act chain (takes task c.literal) (reads task c.literal) false c.first c.members ++ pass_clauses act chain (takes task c.literal) (reads task c.literal) false c.first c.members) (enter_clauses act' chain' (takes task c.literal) (reads task c.literal) false c.first c.members ++ pass_clauses act' chain' (takes task c.literal) (reads task c.literal) false c.first c.members)
+    module _ (act act' now now' next next' chain chain' : ℕ → ℕ) (var var' : Row → ℕ) (names : NamesAlike task places act act' now now' next next' chain chain' var var') where
+      chain_alike : (c : Chain) → Among c (chains task places) → Alike R (enter_clauses act chain (takes task c.literal) (reads task c.literal) false c.first c.members ++ pass_clauses act chain (takes task c.literal) (reads task c.literal) false c.first c.members) (enter_clauses act' chain' (takes task c.literal) (reads task c.literal) false c.first c.members ++ pass_clauses act' chain' (takes task c.literal) (reads task c.literal) false c.first c.members)
       chain_alike c i =
           let t = takes task c.literal in
           let r = reads task c.literal in
           let acts : (k : ℕ) → Among k c.members → R (act k) (act' k) = λ k j. names.actions k (chain_members c i k j) in
-          let vars : (j : ℕ) → j < c.first + chain_length t r false c.members → R (chain j) (chain' j) = λ j lj. let h = first_below task (chain_places task components) 0 c i in names.chains j (omega arith) in
+          let vars : (j : ℕ) → j < c.first + chain_length t r false c.members → R (chain j) (chain' j) = λ j lj. let h = first_below task places 0 c i in names.chains j (omega arith) in
           zipped_parts (ClauseAlike R) (enter_clauses act chain t r false c.first c.members) _ (enter_clauses act' chain' t r false c.first c.members) _
           (enter_alike act act' chain chain' t r false c.first c.members acts vars)
           (pass_alike act act' chain chain' t r false c.first c.members acts vars)
@@ -224,8 +213,8 @@ module _ (R : ℕ → ℕ → Type 0) where
 
       -- the clauses of a step
       pub step_alike : Alike R
-          (precondition_clauses act now 0 task.actions ++ (effect_clauses act now next var (rows task) (rows task) ++ (frame_clauses now next var (rows task) (range task.facts) ++ chain_clauses act chain task (chains task components))))
-          (precondition_clauses act' now' 0 task.actions ++ (effect_clauses act' now' next' var' (rows task) (rows task) ++ (frame_clauses now' next' var' (rows task) (range task.facts) ++ chain_clauses act' chain' task (chains task components))))
+          (precondition_clauses act now 0 task.actions ++ (effect_clauses act now next var (rows task) (rows task) ++ (frame_clauses now next var (rows task) (range task.facts) ++ chain_clauses act chain task (chains task places))))
+          (precondition_clauses act' now' 0 task.actions ++ (effect_clauses act' now' next' var' (rows task) (rows task) ++ (frame_clauses now' next' var' (rows task) (range task.facts) ++ chain_clauses act' chain' task (chains task places))))
       step_alike =
           zipped_parts (ClauseAlike R) (precondition_clauses act now 0 task.actions) _ (precondition_clauses act' now' 0 task.actions) _
           (preconditions_alike act act' now now' task.facts (length task.actions) 0 task.actions names.actions names.before (omega arith) is.preconditions)
@@ -237,14 +226,14 @@ module _ (R : ℕ → ℕ → Type 0) where
           let a = names.before f lf in
           let b = names.after f lf in
           ((a, (b, with_alike var var' (λ e. e.literal == 2 * f + 1) (rows task) names.effects)), ((a, (b, with_alike var var' (λ e. e.literal == 2 * f) (rows task) names.effects)), tt))))
-          (zipped_flat (ClauseAlike R) _ _ (chains task components) chain_alike)))
+          (zipped_flat (ClauseAlike R) _ _ (chains task places) chain_alike)))
 
-    -- the known clauses
-    pub known_alike : (now now' : ℕ → ℕ) → ((f : ℕ) → f < task.facts → R (now f) (now' f)) → Alike R (flat_map (known_clause now clauses) clauses) (flat_map (known_clause now' clauses) clauses)
-    known_alike now now' h = zipped_flat (ClauseAlike R) (known_clause now clauses) (known_clause now' clauses) clauses one
+    -- the known pairs
+    pub known_alike : (now now' : ℕ → ℕ) → ((f : ℕ) → f < task.facts → R (now f) (now' f)) → Alike R (flat_map (pair_clause now pairs) pairs) (flat_map (pair_clause now' pairs) pairs)
+    known_alike now now' h = zipped_flat (ClauseAlike R) (pair_clause now pairs) (pair_clause now' pairs) pairs one
       where
-        one : (c : ℕ × ℕ) → Among c clauses → Alike R (known_clause now clauses c) (known_clause now' clauses c)
-        one c i = by (c.0 == c.1) (is_single clauses c.0 || is_single clauses c.1)
+        one : (c : ℕ × ℕ) → Among c pairs → Alike R (pair_clause now pairs c) (pair_clause now' pairs c)
+        one c i = by (c.0 == c.1) (is_single pairs c.0 || is_single pairs c.1)
           where
             l : LiteralAlike R (literal_over now c.0) (literal_over now' c.0)
             l = over_alike now now' c.0 (h (c.0 / 2) (is.known c i).0)

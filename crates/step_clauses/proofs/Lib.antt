@@ -4,7 +4,10 @@ pub mod CodedLaw
 pub mod InRange
 pub mod Alike
 pub mod Renamed
-pub mod MovedLaw
+pub mod ShiftLaw
 pub mod SizeLaw
+pub mod FewLaw
+pub mod Sorted
+pub mod ClauseSize
 pub mod Within
 mod WorkedRows

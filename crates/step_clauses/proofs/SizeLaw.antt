@@ -11,14 +11,14 @@ use Rattle.clause_base.specs.Literal.{opposite}
 use Rattle.clause_base.specs.Clause.{has_opposite_pair, put, clause_of}
 use Rattle.step_clauses.specs.Clause.{Literal, Is, Not, code}
 use Rattle.step_clauses.specs.Chain.{chain_length, if_read, enter_clauses, pass_clauses}
-use Rattle.step_clauses.specs.Variables.{layout_of, chains, chains_from, chain_places, chain_variables_in, rows, variable_at}
-use Rattle.step_clauses.specs.Formula.{literal_over, step_clauses, precondition_clauses, effect_clauses, frame_clauses, chain_clauses, initial_clauses, goal_clauses, known_clauses}
+use Rattle.step_clauses.specs.Variables.{layout_of, chains, chains_from, chain_variables_in, rows, variable_at}
+use Rattle.step_clauses.specs.Formula.{literal_over, step_clauses, precondition_clauses, effect_clauses, frame_clauses, chain_clauses, initial_clauses, goal_clauses, pair_clauses}
 use Rattle.step_clauses.specs.Coded.{coded, literals_in, size_of}
-use Rattle.step_clauses.specs.Moved.{one_step, one_time}
+use Rattle.step_clauses.specs.Shift.{one_step, one_time}
 use Rattle.step_clauses.proofs.CodedLaw.{coded-append}
 use Rattle.step_clauses.proofs.InRange.{IsInRange}
 use Rattle.step_clauses.proofs.Renamed.{literals_in-renamed}
-use Rattle.step_clauses.proofs.MovedLaw.{step_moved, known_moved}
+use Rattle.step_clauses.proofs.ShiftLaw.{step_moved, known_moved}
 
 -- How many literals a formula has, and that each chain variable takes one of them in each step.
 
@@ -70,9 +70,9 @@ hopeless_size : (b : Bool) → literals_in (coded (if b then [] ∷ [] else []))
 hopeless_size true = refl
 hopeless_size false = refl
 
-module _ (task : Task) (clauses : List (ℕ × ℕ)) (components : List (List ℕ)) (n : ℕ) (is : IsInRange task clauses components) where
+module _ (task : Task) (pairs : List (ℕ × ℕ)) (places : List (List ℕ × ℕ)) (n : ℕ) (is : IsInRange task pairs places) where
   abbrev z : Layout
-  z = layout_of task components n
+  z = layout_of task places n
 
   initial_size : literals_in (coded (initial_clauses z task)) ≡ task.facts
   initial_size =
@@ -87,29 +87,29 @@ module _ (task : Task) (clauses : List (ℕ × ℕ)) (components : List (List �
       let c = ap literals_in (singles (λ l. literal_over (fact_at z n) l) task.goal) ∙ count_singles (λ l. code (literal_over (fact_at z n) l)) task.goal in
       omega arith
 
-  step_size : (t : ℕ) → t < n → literals_in (coded (step_clauses z task components t)) ≡ literals_in (one_step task components)
-  step_size t lt = ap literals_in (step_moved task clauses components n is t lt) ∙ literals_in-renamed _ (one_step task components)
+  step_size : (t : ℕ) → t < n → literals_in (coded (step_clauses z task places t)) ≡ literals_in (one_step task places)
+  step_size t lt = ap literals_in (step_moved task pairs places n is t lt) ∙ literals_in-renamed _ (one_step task places)
 
-  known_size : (t : ℕ) → literals_in (coded (known_clauses z clauses t)) ≡ literals_in (one_time clauses)
-  known_size t = ap literals_in (known_moved task clauses components n is t) ∙ literals_in-renamed _ (one_time clauses)
+  known_size : (t : ℕ) → literals_in (coded (pair_clauses z pairs t)) ≡ literals_in (one_time pairs)
+  known_size t = ap literals_in (known_moved task pairs places n is t) ∙ literals_in-renamed _ (one_time pairs)
 
   -- the size of a formula is the number of facts, of goal literals, of the literals of a step for each step, and of the
-  -- known clauses for each time
-  pub size_law : size_of task clauses components n ≡ task.facts + length task.goal + n * literals_in (one_step task components) + (n + 1) * literals_in (one_time clauses)
+  -- known pairs for each time
+  pub size_law : size_of task pairs places n ≡ task.facts + length task.goal + n * literals_in (one_step task places) + (n + 1) * literals_in (one_time pairs)
   size_law =
-      let a = size_append (initial_clauses z task) (goal_clauses z task ++ (flat_map (step_clauses z task components) (range n) ++ flat_map (known_clauses z clauses) (range (n + 1)))) in
-      let b = size_append (goal_clauses z task) (flat_map (step_clauses z task components) (range n) ++ flat_map (known_clauses z clauses) (range (n + 1))) in
-      let c = size_append (flat_map (step_clauses z task components) (range n)) (flat_map (known_clauses z clauses) (range (n + 1))) in
-      let d = repeated (step_clauses z task components) (literals_in (one_step task components)) (range n) (λ t i. step_size t (below_range n t i)) in
-      let e = repeated (known_clauses z clauses) (literals_in (one_time clauses)) (range (n + 1)) (λ t i. known_size t) in
-      let l = ap (λ (k : ℕ). k * literals_in (one_step task components)) (length-range_from 0 n) in
-      let m = ap (λ (k : ℕ). k * literals_in (one_time clauses)) (length-range_from 0 (n + 1)) in
+      let a = size_append (initial_clauses z task) (goal_clauses z task ++ (flat_map (step_clauses z task places) (range n) ++ flat_map (pair_clauses z pairs) (range (n + 1)))) in
+      let b = size_append (goal_clauses z task) (flat_map (step_clauses z task places) (range n) ++ flat_map (pair_clauses z pairs) (range (n + 1))) in
+      let c = size_append (flat_map (step_clauses z task places) (range n)) (flat_map (pair_clauses z pairs) (range (n + 1))) in
+      let d = repeated (step_clauses z task places) (literals_in (one_step task places)) (range n) (λ t i. step_size t (below_range n t i)) in
+      let e = repeated (pair_clauses z pairs) (literals_in (one_time pairs)) (range (n + 1)) (λ t i. known_size t) in
+      let l = ap (λ (k : ℕ). k * literals_in (one_step task places)) (length-range_from 0 n) in
+      let m = ap (λ (k : ℕ). k * literals_in (one_time pairs)) (length-range_from 0 (n + 1)) in
       let x = initial_size in
       let y = goal_size in
       omega arith
 
 -- a put literal makes a clause that is not empty
-put_some : (lits : List ℕ) (l : ℕ) → 1 ≤ length (put lits l)
+pub put_some : (lits : List ℕ) (l : ℕ) → 1 ≤ length (put lits l)
 put_some [] l = omega arith
 put_some (m ∷ lits) l = by (nat_lt m l) (m == l)
   where
@@ -159,18 +159,18 @@ chains_size act var task first (p ∷ ps) =
     omega arith
 
 -- a step has at least as many literals as chain variables
-pub chains_within_size : (task : Task) (components : List (List ℕ)) → chain_variables_in task (chain_places task components) ≤ literals_in (one_step task components)
-chains_within_size task components =
-    let z = layout_of task components 1 in
+pub chains_within_size : (task : Task) (places : List (List ℕ × ℕ)) → chain_variables_in task places ≤ literals_in (one_step task places)
+chains_within_size task places =
+    let z = layout_of task places 1 in
     let act = action_at z 0 in
     let now = fact_at z 0 in
     let next = fact_at z 1 in
     let var = variable_at z 0 in
-    let last = chain_clauses act (chain_at z 0) task (chains task components) in
+    let last = chain_clauses act (chain_at z 0) task (chains task places) in
     let frames = frame_clauses now next var (rows task) (range task.facts) in
     let effs = effect_clauses act now next var (rows task) (rows task) in
     let a = size_append (precondition_clauses act now 0 task.actions) (effs ++ (frames ++ last)) in
     let b = size_append effs (frames ++ last) in
     let c = size_append frames last in
-    let d = chains_size act (chain_at z 0) task 0 (chain_places task components) in
+    let d = chains_size act (chain_at z 0) task 0 places in
     omega arith

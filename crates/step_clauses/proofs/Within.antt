@@ -10,12 +10,12 @@ use Rattle.gt_core.proofs.Literals.{below_range}
 use Rattle.clause_base.specs.Clause.{HasVariablesBelow, has_opposite_pair, put}
 use Rattle.step_clauses.specs.Clause.{Literal, Is, Not, code}
 use Rattle.step_clauses.specs.Variables.{Row, rows, has_condition, layout_of, variable_at}
-use Rattle.step_clauses.specs.Formula.{step_clauses, known_clauses, initial_clauses, goal_clauses}
+use Rattle.step_clauses.specs.Formula.{step_clauses, pair_clauses, initial_clauses, goal_clauses}
 use Rattle.step_clauses.specs.Coded.{coded}
 use Rattle.step_clauses.proofs.Counts.{conditional_count}
 use Rattle.step_clauses.proofs.InRange.{IsInRange}
 use Rattle.step_clauses.proofs.Alike.{Alike, ClauseAlike, NamesAlike, over_alike, effect_of_row, step_alike, known_alike, zipped_map, zipped_parts}
-use Rattle.step_clauses.proofs.MovedLaw.{number_below}
+use Rattle.step_clauses.proofs.ShiftLaw.{number_below}
 
 -- Every variable of a formula is one of its layout.
 
@@ -65,9 +65,9 @@ past_rows n w t r rest lt lr = let h = row_fits t w n w lt (omega arith) in omeg
 in_facts : (rows n facts t f : ℕ) → t ≤ n → f < facts → rows + t * facts + f < rows + (n + 1) * facts
 in_facts rows n facts t f le lf = let h = row_fits t facts (n + 1) facts (omega arith) (omega arith) in omega arith
 
-module _ (task : Task) (clauses : List (ℕ × ℕ)) (components : List (List ℕ)) (n : ℕ) (is : IsInRange task clauses components) where
+module _ (task : Task) (pairs : List (ℕ × ℕ)) (places : List (List ℕ × ℕ)) (n : ℕ) (is : IsInRange task pairs places) where
   abbrev z : Layout
-  z = layout_of task components n
+  z = layout_of task places n
 
   abbrev top : ℕ
   top = variables z
@@ -78,7 +78,7 @@ module _ (task : Task) (clauses : List (ℕ × ℕ)) (components : List (List �
   fact_below : (t f : ℕ) → t ≤ n → f < task.facts → fact_at z t f < top
   fact_below t f le lf = in_facts (n * width z) n task.facts t f le lf
 
-  names : (t : ℕ) → t < n → NamesAlike (Below top) task components (action_at z t) (action_at z t) (fact_at z t) (fact_at z t) (fact_at z (t + 1)) (fact_at z (t + 1)) (chain_at z t) (chain_at z t) (variable_at z t) (variable_at z t)
+  names : (t : ℕ) → t < n → NamesAlike (Below top) task places (action_at z t) (action_at z t) (fact_at z t) (fact_at z t) (fact_at z (t + 1)) (fact_at z (t + 1)) (chain_at z t) (chain_at z t) (variable_at z t) (variable_at z t)
   names t lt = record {
     actions = λ a la. act_below t a lt la;
     before = λ f lf. fact_below t f (omega arith) lf;
@@ -96,16 +96,16 @@ module _ (task : Task) (clauses : List (ℕ × ℕ)) (components : List (List �
       var_by r i false e = act_below t r.effect.action lt (is.effect_actions r.effect (effect_of_row 0 (effects task) r i))
 
   -- the clauses of a step
-  pub step_within : (t : ℕ) → t < n → AllByRecursion (HasVariablesBelow (variables z)) (coded (step_clauses z task components t))
+  pub step_within : (t : ℕ) → t < n → AllByRecursion (HasVariablesBelow (variables z)) (coded (step_clauses z task places t))
   step_within t lt =
-      coded_below top (step_clauses z task components t) (step_clauses z task components t)
-      (step_alike (Below top) task clauses components is (action_at z t) (action_at z t) (fact_at z t) (fact_at z t) (fact_at z (t + 1)) (fact_at z (t + 1)) (chain_at z t) (chain_at z t) (variable_at z t) (variable_at z t) (names t lt))
+      coded_below top (step_clauses z task places t) (step_clauses z task places t)
+      (step_alike (Below top) task pairs places is (action_at z t) (action_at z t) (fact_at z t) (fact_at z t) (fact_at z (t + 1)) (fact_at z (t + 1)) (chain_at z t) (chain_at z t) (variable_at z t) (variable_at z t) (names t lt))
 
-  -- the known clauses of a time
-  pub known_within : (t : ℕ) → t ≤ n → AllByRecursion (HasVariablesBelow (variables z)) (coded (known_clauses z clauses t))
+  -- the known pairs of a time
+  pub known_within : (t : ℕ) → t ≤ n → AllByRecursion (HasVariablesBelow (variables z)) (coded (pair_clauses z pairs t))
   known_within t le =
-      coded_below top (known_clauses z clauses t) (known_clauses z clauses t)
-      (known_alike (Below top) task clauses components is (fact_at z t) (fact_at z t) (λ f lf. fact_below t f le lf))
+      coded_below top (pair_clauses z pairs t) (pair_clauses z pairs t)
+      (known_alike (Below top) task pairs places is (fact_at z t) (fact_at z t) (λ f lf. fact_below t f le lf))
 
   -- the initial clauses
   pub initial_within : AllByRecursion (HasVariablesBelow (variables z)) (coded (initial_clauses z task))

@@ -1,7 +1,6 @@
-use Rattle.std.proofs.Common.{◌≡◌, ℕ, List, [], ◌∷◌, true, false, refl}
+use Rattle.std.proofs.Common.{◌≡◌, [], ◌∷◌, true, false, refl}
 use Rattle.gt_core.specs.Task.{Task}
-use Rattle.clause_base.specs.Formula.{Cnf}
-use Rattle.step_clauses.specs.Variables.{layout_of, chains}
+use Rattle.step_clauses.specs.Variables.{layout_of, chains, chain_places}
 use Rattle.step_clauses.specs.Formula.{chain_clauses}
 use Rattle.step_clauses.specs.Coded.{coded, formula_of, size_of}
 
@@ -11,11 +10,11 @@ use Rattle.step_clauses.specs.Coded.{coded, formula_of, size_of}
 lamp : Task
 lamp = record { facts = 1; initial = false ∷ []; goal = 0 ∷ []; hopeless = false; actions = record { precondition = 1 ∷ []; effects = record { condition = []; literal = 0 } ∷ [] } ∷ [] }
 
-lamp_formula : (formula_of lamp [] ((0 ∷ []) ∷ []) 1).clauses ≡ (3 ∷ []) ∷ (4 ∷ []) ∷ (1 ∷ 3 ∷ []) ∷ (1 ∷ 4 ∷ []) ∷ (3 ∷ 4 ∷ []) ∷ (0 ∷ 2 ∷ 5 ∷ []) ∷ []
+lamp_formula : (formula_of lamp [] (chain_places lamp ((0 ∷ []) ∷ [])) 1).clauses ≡ (3 ∷ []) ∷ (4 ∷ []) ∷ (1 ∷ 3 ∷ []) ∷ (1 ∷ 4 ∷ []) ∷ (3 ∷ 4 ∷ []) ∷ (0 ∷ 2 ∷ 5 ∷ []) ∷ []
 unfolding lamp
 lamp_formula = refl
 
-lamp_size : size_of lamp [] ((0 ∷ []) ∷ []) 1 ≡ 11
+lamp_size : size_of lamp [] (chain_places lamp ((0 ∷ []) ∷ [])) 1 ≡ 11
 unfolding lamp
 lamp_size = refl
 
@@ -32,11 +31,11 @@ rivals = record {
       ∷ [];
 }
 
-rivals_chain_variables : (layout_of rivals ((0 ∷ 1 ∷ []) ∷ []) 1).chains ≡ 1
+rivals_chain_variables : (layout_of rivals (chain_places rivals ((0 ∷ 1 ∷ []) ∷ [])) 1).chains ≡ 1
 unfolding rivals
 rivals_chain_variables = refl
 
 -- over actions 0 and 1 and the chain variable 2: not one or x, not x or not two
-rivals_chain_clauses : coded (chain_clauses (λ a. a) (λ c. 2) rivals (chains rivals ((0 ∷ 1 ∷ []) ∷ []))) ≡ (1 ∷ 4 ∷ []) ∷ (3 ∷ 5 ∷ []) ∷ []
+rivals_chain_clauses : coded (chain_clauses (λ a. a) (λ c. 2) rivals (chains rivals (chain_places rivals ((0 ∷ 1 ∷ []) ∷ [])))) ≡ (1 ∷ 4 ∷ []) ∷ (3 ∷ 5 ∷ []) ∷ []
 unfolding rivals
 rivals_chain_clauses = refl

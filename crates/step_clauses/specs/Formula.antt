@@ -9,7 +9,7 @@ use Rattle.step_clauses.specs.Chain.{enter_clauses, pass_clauses}
 use Rattle.step_clauses.specs.Variables.{Row, rows, has_condition, Chain, chains, layout_of, variable_at}
 
 -- Below, `act`, `var`, `now` and `next` give the variable of an action, of an effect, and of a fact before and after
--- one step; `clauses` are the known clauses.
+-- one step; `pairs` are the known pairs, of each of which one literal holds in every state.
 
 -- a fact literal over the variables of the facts
 abbrev pub literal_over : (ℕ → ℕ) → ℕ → Literal
@@ -50,19 +50,19 @@ frame_clauses now next var all facts =
     flat_map (λ f. (Not (now f) ∷ Is (next f) ∷ effects_with var (λ e. e.literal == 2 * f + 1) all)
     ∷ (Is (now f) ∷ Not (next f) ∷ effects_with var (λ e. e.literal == 2 * f) all) ∷ []) facts
 
--- no member of a component takes what a later member reads; `var` gives the chain variables
+-- no member of a chain takes what a later member reads; `var` gives the chain variables
 abbrev pub chain_clauses : (act var : ℕ → ℕ) → Task → List Chain → List (List Literal)
 chain_clauses act var task cs =
     flat_map (λ c. enter_clauses act var (takes task c.literal) (reads task c.literal) false c.first c.members
     ++ pass_clauses act var (takes task c.literal) (reads task c.literal) false c.first c.members) cs
 
 -- the clauses of step t
-abbrev pub step_clauses : Layout → Task → List (List ℕ) → ℕ → List (List Literal)
-step_clauses z task components t =
+abbrev pub step_clauses : Layout → Task → List (List ℕ × ℕ) → ℕ → List (List Literal)
+step_clauses z task places t =
     precondition_clauses (action_at z t) (fact_at z t) 0 task.actions
     ++ (effect_clauses (action_at z t) (fact_at z t) (fact_at z (t + 1)) (variable_at z t) (rows task) (rows task)
     ++ (frame_clauses (fact_at z t) (fact_at z (t + 1)) (variable_at z t) (rows task) (range task.facts)
-    ++ chain_clauses (action_at z t) (chain_at z t) task (chains task components)))
+    ++ chain_clauses (action_at z t) (chain_at z t) task (chains task places)))
 
 -- each fact has its initial value at time 0
 abbrev pub initial_clauses : Layout → Task → List (List Literal)
@@ -73,25 +73,25 @@ abbrev pub goal_clauses : Layout → Task → List (List Literal)
 goal_clauses z task =
     (if task.hopeless then [] ∷ [] else []) ++ map (λ l. literal_over (fact_at z z.horizon) l ∷ []) task.goal
 
--- a literal is a known clause by itself
+-- a literal is known by itself: a pair of it twice
 abbrev pub is_single : List (ℕ × ℕ) → ℕ → Bool
-is_single clauses l = list_any (λ c. (c.0 == l) && (c.1 == l)) clauses
+is_single pairs l = list_any (λ c. (c.0 == l) && (c.1 == l)) pairs
 
--- a known clause, left out where one of its two literals is a known clause by itself
-abbrev pub known_clause : (ℕ → ℕ) → List (ℕ × ℕ) → ℕ × ℕ → List (List Literal)
-known_clause now clauses c =
+-- the clause of a known pair, left out where one of its two literals is known by itself
+abbrev pub pair_clause : (ℕ → ℕ) → List (ℕ × ℕ) → ℕ × ℕ → List (List Literal)
+pair_clause now pairs c =
     if c.0 == c.1 then (literal_over now c.0 ∷ []) ∷ []
-    else if is_single clauses c.0 || is_single clauses c.1 then []
+    else if is_single pairs c.0 || is_single pairs c.1 then []
     else (literal_over now c.0 ∷ literal_over now c.1 ∷ []) ∷ []
 
--- the known clauses at time t
-abbrev pub known_clauses : Layout → List (ℕ × ℕ) → ℕ → List (List Literal)
-known_clauses z clauses t = flat_map (known_clause (fact_at z t) clauses) clauses
+-- the clauses of the known pairs at time t
+abbrev pub pair_clauses : Layout → List (ℕ × ℕ) → ℕ → List (List Literal)
+pair_clauses z pairs t = flat_map (pair_clause (fact_at z t) pairs) pairs
 
 -- the clauses of the formula of horizon n, in order, before each is sorted
-abbrev pub clauses_of_horizon : Task → List (ℕ × ℕ) → List (List ℕ) → ℕ → List (List Literal)
-clauses_of_horizon task clauses components n =
-    let z = layout_of task components n in
+abbrev pub clauses_of_horizon : Task → List (ℕ × ℕ) → List (List ℕ × ℕ) → ℕ → List (List Literal)
+clauses_of_horizon task pairs places n =
+    let z = layout_of task places n in
     initial_clauses z task ++ (goal_clauses z task
-    ++ (flat_map (step_clauses z task components) (range n)
-    ++ flat_map (known_clauses z clauses) (range (n + 1))))
+    ++ (flat_map (step_clauses z task places) (range n)
+    ++ flat_map (pair_clauses z pairs) (range (n + 1))))

@@ -3,5 +3,5 @@ pub mod Chain
 pub mod Variables
 pub mod Formula
 pub mod Coded
-pub mod Moved
+pub mod Shift
 pub mod Laws

@@ -25,26 +25,28 @@ rows_from j (e ∷ es) = record { effect = e; number = j } ∷ rows_from (if has
 abbrev pub rows : Task → List Row
 rows task = rows_from 0 (effects task)
 
--- a component's members in published order, a fact literal, and the number of the first chain variable
+-- members in an order, a fact literal, and the number of the first chain variable
 pub record Chain : Type 0 where
   pub members : List ℕ
   pub literal : ℕ
   pub first : ℕ
 
--- chains with their numbers; where a component and a literal have no reader after a taker, the chain has no variable
+-- Where chains go is an argument: places, each some members in an order and a fact literal.
+
+-- chains with their numbers; where members and a literal have no reader after a taker, the chain has no variable
 -- and no clause
 abbrev pub chains_from : Task → ℕ → List (List ℕ × ℕ) → List Chain
 chains_from task first [] = []
 chains_from task first (p ∷ ps) =
     record { members = p.0; literal = p.1; first = first } ∷ chains_from task (first + chain_length (takes task p.1) (reads task p.1) false p.0) ps
 
--- each component with each fact literal, by the component's place and then by the literal
+-- where chains of exists-steps go: each component with each fact literal, by the component's place and then by the literal
 abbrev pub chain_places : Task → List (List ℕ) → List (List ℕ × ℕ)
 chain_places task components = flat_map (λ ks. map (λ m. (ks, m)) (range (2 * task.facts))) components
 
--- the chains of a task in published order
-abbrev pub chains : Task → List (List ℕ) → List Chain
-chains task components = chains_from task 0 (chain_places task components)
+-- the chains of a task at places in order
+abbrev pub chains : Task → List (List ℕ × ℕ) → List Chain
+chains task places = chains_from task 0 places
 
 -- how many chain variables these have
 abbrev pub chain_variables_in : Task → List (List ℕ × ℕ) → ℕ
@@ -52,12 +54,12 @@ chain_variables_in task [] = 0
 chain_variables_in task (p ∷ ps) = chain_length (takes task p.1) (reads task p.1) false p.0 + chain_variables_in task ps
 
 -- the layout of the formula of a horizon
-abbrev pub layout_of : Task → List (List ℕ) → ℕ → Layout
-layout_of task components n = record {
+abbrev pub layout_of : Task → List (List ℕ × ℕ) → ℕ → Layout
+layout_of task places n = record {
   horizon = n;
   actions = length task.actions;
   conditional = conditional_in task.actions;
-  chains = chain_variables_in task (chain_places task components);
+  chains = chain_variables_in task places;
   facts = task.facts;
 }
 

@@ -1,8 +1,9 @@
-use Rattle.std.proofs.Common.{◌≡◌, ℕ, ◌/◌, ◌<◌, List, map, sym, ap, ◌∙◌, subst}
+use Rattle.std.proofs.Common.{arith, ◌≡◌, ℕ, ◌+◌, ◌*◌, ◌/◌, ◌<◌, ◌≤◌, List, map, sym, ap, ◌∙◌, subst}
 use Rattle.std.specs.List.{AllByRecursion}
+use Rattle.std.proofs.Math.Nat.{mul-le-mul_right}
 use Rattle.clause_base.specs.Formula.{Cnf}
-use Rattle.step_clauses.specs.Moved.{moved_code}
-use Rattle.step_encoding.specs.Added.{added}
+use Rattle.step_clauses.specs.Shift.{moved_code}
+use Rattle.step_encoding.specs.Parts.{added}
 
 -- Moving by numbers that are equal.
 
@@ -21,3 +22,7 @@ fits_by cs w s f w2 s2 f2 top top2 a b c e h =
     (subst (λ (k : ℕ). Fit cs w2 k f top) (sym b)
     (subst (λ (k : ℕ). Fit cs w2 s2 k top) (sym c)
     (subst (λ (k : ℕ). Fit cs w2 s2 f2 k) (sym e) h)))
+
+-- room for as many parts as there are has room for one more after fewer
+pub room_left : (now before t long n : ℕ) → now ≤ before + t * long → t + 1 ≤ n → before + n * long ≤ 1073741824 → now + long ≤ 1073741824
+room_left now before t long n a b c = let m = mul-le-mul_right long b in omega arith

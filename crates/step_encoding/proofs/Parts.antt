@@ -1,6 +1,7 @@
 use Rattle.std.proofs.Common.{arith, ◌≡◌, ℕ, zero, suc, ◌+◌, ◌*◌, ◌/◌, ◌<◌, ◌≤◌, List, [], ◌∷◌, ◌++◌, map, length, Bool, true, false, refl, sym, ap, ◌∙◌, if◌then◌else◌}
 use Rattle.std.specs.List.{flat_map}
 use Rattle.std.proofs.lemmas.Nat.{row_fits}
+use Rattle.std.proofs.lemmas.List.{length-append}
 use Rattle.gt_core.specs.Literal.{range, range_from}
 use Rattle.gt_core.specs.Task.{Task, initial_state}
 use Rattle.gt_core.specs.Layout.{Layout, fact_at, variables}
@@ -15,7 +16,7 @@ use Rattle.step_clauses.specs.Formula.{literal_over, initial_clauses, goal_claus
 use Rattle.step_clauses.specs.Coded.{coded}
 use Rattle.step_clauses.proofs.CodedLaw.{coded-append}
 use Rattle.step_clauses.proofs.SizeLaw.{singles, not_opposite}
-use Rattle.step_encoding.specs.Added.{added}
+use Rattle.step_encoding.specs.Parts.{added}
 
 -- Formulas to which clauses are added, and the clauses of the first and the last time.
 
@@ -51,6 +52,9 @@ added_more f g i x y e h =
     let z : 0 + i ≡ i = omega arith in
     h ∙ ap (λ (w : Cnf). added w (g i)) e ∙ added_twice f (flat_map g (range i)) (g i)
     ∙ ap (λ (cs : List (List ℕ)). added f cs) (ap (λ (k : ℕ). flat_map g (range i) ++ g k) (sym z) ∙ sym (range_more g 0 i))
+
+pub one_longer : (f g : Cnf) (c : List ℕ) → g ≡ added f (c ∷ []) → length g.clauses ≡ length f.clauses + 1
+one_longer f g c e = ap (λ (x : Cnf). length x.clauses) e ∙ length-append f.clauses (c ∷ [])
 
 -- the clause of a fact's initial value
 abbrev pub initial_part : Layout → Task → ℕ → List (List ℕ)

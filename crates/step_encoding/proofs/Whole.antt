@@ -1,29 +1,29 @@
-use Rattle.std.proofs.Common.{arith, ◌≡◌, ℕ, zero, suc, ◌+◌, ◌*◌, ◌/◌, ◌<◌, ◌≤◌, List, [], ◌∷◌, ◌++◌, map, length, drop, get_or, Bool, true, false, refl, sym, ap, ◌∙◌, subst, if◌then◌else◌, All}
-use Rattle.std.specs.Prelude.{nat_le, nat_lt}
+use Rattle.std.proofs.Common.{arith, ◌≡◌, ◌==◌, ℕ, zero, suc, ◌+◌, ◌*◌, ◌/◌, ◌<◌, ◌≤◌, List, [], ◌∷◌, ◌++◌, map, length, drop, get_or, Bool, true, false, refl, sym, ap, ◌∙◌, subst, if◌then◌else◌, All}
 use Rattle.std.specs.List.{filter, flat_map, AllByRecursion}
 use Rattle.std.proofs.lemmas.List.{drop_more}
-use Rattle.std.proofs.lemmas.Bool.Decides.{nat_tests}
 use Rattle.std.proofs.Math.Nat.{mul-le-mul_left, mul_comm}
 use Rattle.gt_core.specs.Literal.{range}
 use Rattle.gt_core.specs.Task.{Task}
-use Rattle.gt_core.specs.Lawful.{are_rising, conditional_in, is_task}
+use Rattle.gt_core.specs.Lawful.{conditional_in, is_task}
 use Rattle.gt_core.specs.Layout.{Layout, width, variables}
-use Rattle.gt_core.specs.Published.{order_of}
-use Rattle.gt_core.proofs.Basics.{and_split, each_from}
+use Rattle.gt_core.specs.Published.{Pairwise, order_of}
+use Rattle.gt_core.proofs.PublishedLaw.{component_apart}
+use Rattle.gt_core.proofs.Basics.{each_from}
 use Rattle.gt_core.proofs.Within.{lawful}
 use Rattle.clause_base.specs.Clause.{HasVariablesBelow}
 use Rattle.step_clauses.specs.Clause.{Literal}
-use Rattle.step_clauses.specs.Variables.{layout_of, chain_variables_in, chain_places}
-use Rattle.step_clauses.specs.Formula.{step_clauses, known_clauses, initial_clauses, goal_clauses}
+use Rattle.step_clauses.specs.Variables.{layout_of, chain_variables_in}
+use Rattle.step_clauses.specs.Formula.{step_clauses, pair_clauses, initial_clauses, goal_clauses}
 use Rattle.step_clauses.specs.Coded.{coded, literals_in, formula_of}
-use Rattle.step_clauses.specs.Moved.{moved_code, one_step, one_time}
+use Rattle.step_clauses.specs.Shift.{moved_code, one_step, one_time}
 use Rattle.step_clauses.proofs.CodedLaw.{coded-append}
 use Rattle.step_clauses.proofs.InRange.{IsInRange}
-use Rattle.step_clauses.proofs.MovedLaw.{step_moved, known_moved}
+use Rattle.step_clauses.proofs.ShiftLaw.{step_moved, known_moved}
 use Rattle.step_clauses.proofs.SizeLaw.{size_law, chains_within_size}
+use Rattle.step_clauses.proofs.Sorted.{set_few}
 use Rattle.step_clauses.proofs.Within.{step_within, known_within}
-use Rattle.step_laws.specs.Form.{Ordered, IsOrdered}
-use Rattle.step_laws.proofs.Ranges.{in_range_of, member_below}
+use Rattle.step_laws.specs.Form.{OrderedTask, IsOrderedTask}
+use Rattle.step_laws.proofs.Ranges.{member_below}
 
 -- The whole formula from its parts.
 
@@ -62,12 +62,9 @@ all_below : (m : ℕ) (g : ℕ → ℕ) (cs : List (List ℕ)) → AllByRecursio
 all_below m g [] h = tt
 all_below m g (c ∷ cs) h = (one_below m g c (from_all (λ l. l / 2 < m) (map g c) h.0), all_below m g cs h.1)
 
-module _ (form : Ordered) (is : IsOrdered form) (z : Layout) (n : ℕ) (e : z ≡ layout_of form.task form.components n) where
+module _ (task : Task) (pairs : List (ℕ × ℕ)) (places : List (List ℕ × ℕ)) (in_range : IsInRange task pairs places) (z : Layout) (n : ℕ) (e : z ≡ layout_of task places n) where
   abbrev zn : Layout
-  zn = layout_of form.task form.components n
-
-  abbrev in_range : IsInRange form.task form.known.clauses form.components
-  in_range = in_range_of form is
+  zn = layout_of task places n
 
   moved_same : (w s f w' s' f' : ℕ) (cs ds : List (List ℕ)) → w ≡ w' → s ≡ s' → f ≡ f' → cs ≡ ds → map (map (moved_code w s f)) cs ≡ map (map (moved_code w' s' f')) ds
   moved_same w s f w' s' f' cs ds a b c d =
@@ -75,38 +72,41 @@ module _ (form : Ordered) (is : IsOrdered form) (z : Layout) (n : ℕ) (e : z �
       ∙ ap (λ (x : ℕ). map (map (moved_code w' s' x)) cs) c ∙ ap (λ (x : List (List ℕ)). map (map (moved_code w' s' f')) x) d
 
   -- the clauses of a step are the one step's, moved
-  pub step_added : (t w s f : ℕ) (cs : List (List ℕ)) → t < n → w ≡ width z → s ≡ t * width z → f ≡ n * width z + t * z.facts → cs ≡ one_step form.task form.components → map (map (moved_code w s f)) cs ≡ coded (step_clauses z form.task form.components t)
+  pub step_added : (t w s f : ℕ) (cs : List (List ℕ)) → t < n → w ≡ width z → s ≡ t * width z → f ≡ n * width z + t * z.facts → cs ≡ one_step task places → map (map (moved_code w s f)) cs ≡ coded (step_clauses z task places t)
   step_added t w s f cs lt a b c d =
-      moved_same w s f (width zn) (t * width zn) (n * width zn + t * form.task.facts) cs (one_step form.task form.components)
+      moved_same w s f (width zn) (t * width zn) (n * width zn + t * task.facts) cs (one_step task places)
       (a ∙ ap width e) (b ∙ ap (λ (x : Layout). t * width x) e) (c ∙ ap (λ (x : Layout). n * width x + t * x.facts) e) d
-      ∙ sym (step_moved form.task form.known.clauses form.components n in_range t lt)
-      ∙ ap (λ (x : Layout). coded (step_clauses x form.task form.components t)) (sym e)
+      ∙ sym (step_moved task pairs places n in_range t lt)
+      ∙ ap (λ (x : Layout). coded (step_clauses x task places t)) (sym e)
 
   -- and their variables are below
-  pub step_fits : (t w s f m : ℕ) (cs : List (List ℕ)) → t < n → w ≡ width z → s ≡ t * width z → f ≡ n * width z + t * z.facts → m ≡ variables z → cs ≡ one_step form.task form.components → AllByRecursion (λ c. AllByRecursion (λ l. moved_code w s f l / 2 < m) c) cs
+  pub step_fits : (t w s f m : ℕ) (cs : List (List ℕ)) → t < n → w ≡ width z → s ≡ t * width z → f ≡ n * width z + t * z.facts → m ≡ variables z → cs ≡ one_step task places → AllByRecursion (λ c. AllByRecursion (λ l. moved_code w s f l / 2 < m) c) cs
   step_fits t w s f m cs lt a b c v d =
-      let same : coded (step_clauses zn form.task form.components t) ≡ map (map (moved_code w s f)) cs = ap (λ (x : Layout). coded (step_clauses x form.task form.components t)) (sym e) ∙ sym (step_added t w s f cs lt a b c d) in
+      let same : coded (step_clauses zn task places t) ≡ map (map (moved_code w s f)) cs = ap (λ (x : Layout). coded (step_clauses x task places t)) (sym e) ∙ sym (step_added t w s f cs lt a b c d) in
       let top : variables zn ≡ m = sym (v ∙ ap variables e) in
-      let h = step_within form.task form.known.clauses form.components n in_range t lt in
-      all_below m (moved_code w s f) cs (subst (λ (x : List (List ℕ)). AllByRecursion (HasVariablesBelow m) x) same (subst (λ (x : ℕ). AllByRecursion (HasVariablesBelow x) (coded (step_clauses zn form.task form.components t))) top h))
+      let h = step_within task pairs places n in_range t lt in
+      all_below m (moved_code w s f) cs (subst (λ (x : List (List ℕ)). AllByRecursion (HasVariablesBelow m) x) same (subst (λ (x : ℕ). AllByRecursion (HasVariablesBelow x) (coded (step_clauses zn task places t))) top h))
 
-  -- the known clauses of a time are the one time's, moved
-  pub time_added : (t w s f : ℕ) (cs : List (List ℕ)) → w ≡ 0 → s ≡ 0 → f ≡ n * width z + t * z.facts → cs ≡ one_time form.known.clauses → map (map (moved_code w s f)) cs ≡ coded (known_clauses z form.known.clauses t)
+  -- the known pairs of a time are the one time's, moved
+  pub time_added : (t w s f : ℕ) (cs : List (List ℕ)) → w ≡ 0 → s ≡ 0 → f ≡ n * width z + t * z.facts → cs ≡ one_time pairs → map (map (moved_code w s f)) cs ≡ coded (pair_clauses z pairs t)
   time_added t w s f cs a b c d =
-      moved_same w s f 0 0 (n * width zn + t * form.task.facts) cs (one_time form.known.clauses)
+      moved_same w s f 0 0 (n * width zn + t * task.facts) cs (one_time pairs)
       a b (c ∙ ap (λ (x : Layout). n * width x + t * x.facts) e) d
-      ∙ sym (known_moved form.task form.known.clauses form.components n in_range t)
-      ∙ ap (λ (x : Layout). coded (known_clauses x form.known.clauses t)) (sym e)
+      ∙ sym (known_moved task pairs places n in_range t)
+      ∙ ap (λ (x : Layout). coded (pair_clauses x pairs t)) (sym e)
 
-  pub time_fits : (t w s f m : ℕ) (cs : List (List ℕ)) → t ≤ n → w ≡ 0 → s ≡ 0 → f ≡ n * width z + t * z.facts → m ≡ variables z → cs ≡ one_time form.known.clauses → AllByRecursion (λ c. AllByRecursion (λ l. moved_code w s f l / 2 < m) c) cs
+  pub time_fits : (t w s f m : ℕ) (cs : List (List ℕ)) → t ≤ n → w ≡ 0 → s ≡ 0 → f ≡ n * width z + t * z.facts → m ≡ variables z → cs ≡ one_time pairs → AllByRecursion (λ c. AllByRecursion (λ l. moved_code w s f l / 2 < m) c) cs
   time_fits t w s f m cs le a b c v d =
-      let same : coded (known_clauses zn form.known.clauses t) ≡ map (map (moved_code w s f)) cs = ap (λ (x : Layout). coded (known_clauses x form.known.clauses t)) (sym e) ∙ sym (time_added t w s f cs a b c d) in
+      let same : coded (pair_clauses zn pairs t) ≡ map (map (moved_code w s f)) cs = ap (λ (x : Layout). coded (pair_clauses x pairs t)) (sym e) ∙ sym (time_added t w s f cs a b c d) in
       let top : variables zn ≡ m = sym (v ∙ ap variables e) in
-      let h = known_within form.task form.known.clauses form.components n in_range t le in
-      all_below m (moved_code w s f) cs (subst (λ (x : List (List ℕ)). AllByRecursion (HasVariablesBelow m) x) same (subst (λ (x : ℕ). AllByRecursion (HasVariablesBelow x) (coded (known_clauses zn form.known.clauses t))) top h))
+      let h = known_within task pairs places n in_range t le in
+      all_below m (moved_code w s f) cs (subst (λ (x : List (List ℕ)). AllByRecursion (HasVariablesBelow m) x) same (subst (λ (x : ℕ). AllByRecursion (HasVariablesBelow x) (coded (pair_clauses zn pairs t))) top h))
 
 -- the members of all components are actions of the layout
-pub members_fit : (form : Ordered) → IsOrdered form → (actions : ℕ) → actions ≡ length form.task.actions → AllByRecursion (λ ks. AllByRecursion (λ a. a < actions) ks) form.components
+pub distinct_fit : (form : OrderedTask) → IsOrderedTask form → AllByRecursion (λ ks. Pairwise (λ a b. (a == b) ≡ false) ks) form.components
+distinct_fit form is = each_from _ form.components (component_apart form.task form.known.clauses form.components is.published)
+
+pub members_fit : (form : OrderedTask) → IsOrderedTask form → (actions : ℕ) → actions ≡ length form.task.actions → AllByRecursion (λ ks. AllByRecursion (λ a. a < actions) ks) form.components
 members_fit form is actions e =
     each_from _ form.components (λ ks i. each_from _ ks (λ a j. let lt = member_below form is ks i a j in omega (arith, lt, e)))
 
@@ -115,16 +115,16 @@ coded_flat f [] = refl
 coded_flat f (x ∷ xs) = coded-append (f x) (flat_map f xs) ∙ ap (λ (r : List (List ℕ)). coded (f x) ++ r) (coded_flat f xs)
 
 -- the clauses of a formula are those of its ends, of its steps and of its times
-pub whole_parts : (form : Ordered) (n : ℕ) → (formula_of form.task form.known.clauses form.components n).clauses ≡ coded (initial_clauses (layout_of form.task form.components n) form.task) ++ (coded (goal_clauses (layout_of form.task form.components n) form.task) ++ (flat_map (λ t. coded (step_clauses (layout_of form.task form.components n) form.task form.components t)) (range n) ++ flat_map (λ t. coded (known_clauses (layout_of form.task form.components n) form.known.clauses t)) (range (n + 1))))
-whole_parts form n =
-    let z = layout_of form.task form.components n in
-    let steps = flat_map (step_clauses z form.task form.components) (range n) in
-    let times = flat_map (known_clauses z form.known.clauses) (range (n + 1)) in
-    coded-append (initial_clauses z form.task) (goal_clauses z form.task ++ (steps ++ times))
-    ∙ ap (λ (r : List (List ℕ)). coded (initial_clauses z form.task) ++ r) (coded-append (goal_clauses z form.task) (steps ++ times)
-    ∙ ap (λ (r : List (List ℕ)). coded (goal_clauses z form.task) ++ r) (coded-append steps times
-    ∙ ap (λ (r : List (List ℕ)). r ++ coded times) (coded_flat (step_clauses z form.task form.components) (range n))
-    ∙ ap (λ (r : List (List ℕ)). flat_map (λ t. coded (step_clauses z form.task form.components t)) (range n) ++ r) (coded_flat (known_clauses z form.known.clauses) (range (n + 1)))))
+pub whole_parts : (task : Task) (pairs : List (ℕ × ℕ)) (places : List (List ℕ × ℕ)) (n : ℕ) → (formula_of task pairs places n).clauses ≡ coded (initial_clauses (layout_of task places n) task) ++ (coded (goal_clauses (layout_of task places n) task) ++ (flat_map (λ t. coded (step_clauses (layout_of task places n) task places t)) (range n) ++ flat_map (λ t. coded (pair_clauses (layout_of task places n) pairs t)) (range (n + 1))))
+whole_parts task pairs places n =
+    let z = layout_of task places n in
+    let steps = flat_map (step_clauses z task places) (range n) in
+    let times = flat_map (pair_clauses z pairs) (range (n + 1)) in
+    coded-append (initial_clauses z task) (goal_clauses z task ++ (steps ++ times))
+    ∙ ap (λ (r : List (List ℕ)). coded (initial_clauses z task) ++ r) (coded-append (goal_clauses z task) (steps ++ times)
+    ∙ ap (λ (r : List (List ℕ)). coded (goal_clauses z task) ++ r) (coded-append steps times
+    ∙ ap (λ (r : List (List ℕ)). r ++ coded times) (coded_flat (step_clauses z task places) (range n))
+    ∙ ap (λ (r : List (List ℕ)). flat_map (λ t. coded (step_clauses z task places t)) (range n) ++ r) (coded_flat (pair_clauses z pairs) (range (n + 1)))))
 
 product_le : (a b s t : ℕ) → a ≤ b → s ≤ t → a * s ≤ b * t
 product_le a b s t h k =
@@ -135,16 +135,16 @@ product_le a b s t h k =
     omega (arith, m, n, x, y)
 
 -- where a formula has few literals, its variables have codes in 32 bits
-pub layout_fits : (form : Ordered) → IsOrdered form → (n : ℕ) → n ≤ 255 → literals_in (formula_of form.task form.known.clauses form.components n).clauses ≤ 4000000 → variables (layout_of form.task form.components n) ≤ 2147483647
-layout_fits form is n le small =
-    let law = size_law form.task form.known.clauses form.components n (in_range_of form is) in
-    let l = lawful form.task is.lawful in
-    let x = chains_within_size form.task form.components in
-    let a = product_le n 255 (length form.task.actions) 16384 le l.actions in
-    let b = product_le n 255 (conditional_in form.task.actions) 65536 le l.conditional in
-    let c = product_le n n (chain_variables_in form.task (chain_places form.task form.components)) (literals_in (one_step form.task form.components)) (omega arith) x in
-    let d = product_le (n + 1) 256 form.task.facts 2048 (omega arith) l.facts in
-    sum_fits n (length form.task.actions) (conditional_in form.task.actions) (chain_variables_in form.task (chain_places form.task form.components)) ((n + 1) * form.task.facts) (n * literals_in (one_step form.task form.components)) a b c (bound _ _ _ _ _ law small) d
+pub layout_fits : (task : Task) (pairs : List (ℕ × ℕ)) (places : List (List ℕ × ℕ)) → is_task task ≡ true → IsInRange task pairs places → (n : ℕ) → n ≤ 255 → literals_in (formula_of task pairs places n).clauses ≤ 4000000 → variables (layout_of task places n) ≤ 2147483647
+layout_fits task pairs places is in_range n le small =
+    let law = size_law task pairs places n in_range in
+    let l = lawful task is in
+    let x = chains_within_size task places in
+    let a = product_le n 255 (length task.actions) 16384 le l.actions in
+    let b = product_le n 255 (conditional_in task.actions) 65536 le l.conditional in
+    let c = product_le n n (chain_variables_in task places) (literals_in (one_step task places)) (omega arith) x in
+    let d = product_le (n + 1) 256 task.facts 2048 (omega arith) l.facts in
+    sum_fits n (length task.actions) (conditional_in task.actions) (chain_variables_in task places) ((n + 1) * task.facts) (n * literals_in (one_step task places)) a b c (bound _ _ _ _ _ law small) d
   where
     bound : (size f g s k : ℕ) → size ≡ f + g + s + k → size ≤ 4000000 → s ≤ 4000000
     bound size f g s k e h = omega arith
@@ -152,20 +152,10 @@ layout_fits form is n le small =
     sum_fits : (n a c x f s : ℕ) → n * a ≤ 255 * 16384 → n * c ≤ 255 * 65536 → n * x ≤ s → s ≤ 4000000 → f ≤ 256 * 2048 → n * (a + c + x) + f ≤ 2147483647
     sum_fits n a c x f s h i j k l = omega arith
 
-rising_few : (top low : ℕ) (ls : List ℕ) → low ≤ top → are_rising top low ls ≡ true → length ls + low ≤ top
-rising_few top low [] le e = omega arith
-rising_few top low (l ∷ ls) le e =
-    let x = and_split (nat_le low l) _ e in
-    let y = and_split (nat_lt l top) _ x.1 in
-    let a : low ≤ l = let t : nat_le low l ≡ true = x.0 in grind (arith, nat_tests) in
-    let b : l < top = let t : nat_lt l top ≡ true = y.0 in grind (arith, nat_tests) in
-    let h = rising_few top (l + 1) ls (omega arith) y.1 in
-    omega arith
-
 -- a goal has few literals
 pub goal_few : (task : Task) → is_task task ≡ true → length task.goal ≤ 4096
 goal_few task t =
     let l = lawful task t in
-    let h = rising_few (2 * task.facts) 0 task.goal (omega arith) l.goal in
+    let h = set_few task.facts task.goal l.goal in
     let f = l.facts in
     omega (arith, h, f)

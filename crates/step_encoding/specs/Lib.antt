@@ -1,4 +1,4 @@
 pub mod Numbers
-pub mod Built
-pub mod Given
-pub mod Added
+pub mod Exists
+pub mod Parts
+pub mod Laws

@@ -1,20 +1,18 @@
 //! The clauses of a formula at its first and its last time.
 
-ghost use Rattle.std.specs.Prelude.{◌≡◌, ◌/◌, ◌≤◌, ◌<◌, [], ◌∷◌, map, if◌then◌else◌, OnOk};
+ghost use Rattle.std.specs.Prelude.{◌≡◌, ◌+◌, ◌/◌, ◌≤◌, ◌<◌, [], ◌∷◌, map, length, if◌then◌else◌, OnOk};
 ghost use Rattle.gt_core.specs.Task.{initial_state};
 ghost use Rattle.gt_core.specs.Layout.{fact_at, variables};
 ghost use Rattle.step_clauses.specs.Clause.{Is, Not, code};
 ghost use Rattle.step_clauses.specs.Formula.{literal_over, initial_clauses};
 ghost use Rattle.step_clauses.specs.Coded.{coded};
-ghost use Rattle.step_encoding.specs.Added.{added};
+ghost use Rattle.step_encoding.specs.Parts.{added, HasClauseRoom};
 
-use clause_base::clause::Clause;
 use clause_base::formula::Formula;
-use clause_base::literal::{Lit, Lits};
+use clause_base::literal::Lit;
 use clause_base::memory::Memory;
 use gt_core::layout::Layout;
 use gt_core::task::Task;
-use std::alloc::Global;
 
 /// The literal that a fact has a value at a time.
 fn fact_lit(layout: &Layout, time: u32, fact: u32, value: bool) -> Lit
@@ -33,15 +31,12 @@ fn fact_lit(layout: &Layout, time: u32, fact: u32, value: bool) -> Lit
 }
 
 /// Adds the clause of one literal.
-fn add_single(alloc: Global, formula: &mut Formula, lit: Lit) -> Result<(), Memory>
-    requires { lit / 2 < formula.old.variables }
+fn add_single(formula: &mut Formula, lit: Lit) -> Result<(), Memory>
+    requires within { lit / 2 < formula.old.variables }
+    requires room { HasClauseRoom formula.old 1 }
     ensures { OnOk result (formula.new ≡ added formula.old ((lit ∷ []) ∷ [])) }
 {
-    if !formula.has_room() {
-        return Err(Memory);
-    }
-    let lits = vec![in alloc; lit]?;
-    formula.add(Clause::of_sorted(Lits::of(lits)))
+    formula.add_sorted(&[lit])
 }
 
 /// The initial value of a fact.
@@ -54,54 +49,43 @@ fn initial_value(task: &Task, fact: u32) -> bool
 }
 
 /// Adds that each fact has its initial value at time 0.
-pub(crate) fn add_initial(
-    alloc: Global,
-    task: &Task,
-    layout: &Layout,
-    formula: &mut Formula,
-) -> Result<(), Memory>
+pub fn add_initial(task: &Task, layout: &Layout, formula: &mut Formula) -> Result<(), Memory>
     requires facts { layout.now.facts ≡ task.now.facts }
     requires variables { formula.old.variables ≡ variables layout.now }
-    ensures { OnOk result (formula.new ≡ added formula.old (coded (initial_clauses layout.now task.now))) }
+    requires room { HasClauseRoom formula.old task.now.facts }
+    ensures added { OnOk result (formula.new ≡ added formula.old (coded (initial_clauses layout.now task.now))) }
+    ensures few { OnOk result (length formula.new.clauses ≤ length formula.old.clauses + task.now.facts) }
 {
     for f in 0..task.facts() {
-        add_single(
-            alloc,
-            formula,
-            fact_lit(layout, 0, f, initial_value(task, f)),
-        )?;
+        add_single(formula, fact_lit(layout, 0, f, initial_value(task, f)))?;
     }
     Ok(())
 }
 
 /// Adds the empty clause where the goal is hopeless.
-pub(crate) fn add_hopeless(alloc: Global, task: &Task, formula: &mut Formula) -> Result<(), Memory>
-    ensures { OnOk result (formula.new ≡ added formula.old (if task.now.hopeless then [] ∷ [] else [])) }
+pub fn add_hopeless(task: &Task, formula: &mut Formula) -> Result<(), Memory>
+    requires { HasClauseRoom formula.old 1 }
+    ensures added { OnOk result (formula.new ≡ added formula.old (if task.now.hopeless then [] ∷ [] else [])) }
+    ensures few { OnOk result (length formula.new.clauses ≤ length formula.old.clauses + 1) }
 {
     if task.hopeless() {
-        if !formula.has_room() {
-            return Err(Memory);
-        }
-        formula.add(Clause::empty(alloc))?;
+        formula.add_sorted(&[])?;
     }
     Ok(())
 }
 
 /// Adds that the goal holds at the last time.
-pub(crate) fn add_goal(
-    alloc: Global,
-    task: &Task,
-    layout: &Layout,
-    formula: &mut Formula,
-) -> Result<(), Memory>
+pub fn add_goal(task: &Task, layout: &Layout, formula: &mut Formula) -> Result<(), Memory>
     requires facts { layout.now.facts ≡ task.now.facts }
     requires variables { formula.old.variables ≡ variables layout.now }
-    ensures { OnOk result (formula.new ≡ added formula.old (map (λ l. code (literal_over (fact_at layout.now layout.now.horizon) l) ∷ []) task.now.goal)) }
+    requires room { HasClauseRoom formula.old (length task.now.goal) }
+    ensures added { OnOk result (formula.new ≡ added formula.old (map (λ l. code (literal_over (fact_at layout.now layout.now.horizon) l) ∷ []) task.now.goal)) }
+    ensures few { OnOk result (length formula.new.clauses ≤ length formula.old.clauses + length task.now.goal) }
 {
     let _facts = task.facts();
     for lit in task.goal() {
         let fact = fact_lit(layout, layout.horizon, *lit / 2, *lit % 2 == 0);
-        add_single(alloc, formula, fact)?;
+        add_single(formula, fact)?;
     }
     Ok(())
 }

@@ -1,19 +1,19 @@
 //! The encoding of exists-steps.
 
-ghost use Rattle.std.specs.Prelude.{◌≡◌, IfOk};
+ghost use Rattle.std.specs.Prelude.{◌≡◌, ◌<◌, ◌≤◌, IfOk};
 ghost use Rattle.clause_base.specs.Formula.{assignment_of};
 ghost use Rattle.step_clauses.specs.Variables.{layout_of};
 ghost use Rattle.step_clauses.specs.Coded.{formula_of};
-ghost use Rattle.step_laws.specs.Form.{IsOrdered, IsPlanOf, steps_for};
-ghost use Rattle.step_encoding.specs.Given.{numbers_of, plans_of, refutes_of};
+ghost use Rattle.step_laws.specs.Form.{IsOrderedTask, IsPlanOf, steps_for, places_of};
+ghost use Rattle.step_encoding.specs.Numbers.{literals_of};
+ghost use Rattle.step_encoding.specs.Laws.{numbers_of, plans_of, refutes_of, sets_of, members_of};
 
 use crate::form::{FormError, StepForm};
 use crate::joining;
-use crate::sizes::literals_in;
 use crate::steps::Steps;
 use crate::truth::true_actions;
 use action_order::order::Order;
-use clause_base::clause::Clause;
+use clause_base::clause_list::ClauseList;
 use clause_base::formula::Formula;
 use clause_base::memory::Memory;
 use gt_core::layout::Layout;
@@ -21,40 +21,43 @@ use gt_core::pairs::Pairs;
 use gt_core::task::Task;
 use std::alloc::Global;
 use std::marker::Model;
+use step_chains::Chains;
+use step_sizes::known::known_size;
+use step_sizes::step::step_size;
 use step_template::known::one_time;
-use step_template::template::{OneStep, one_step};
+use step_template::template::one_step;
 
-/// The encoding of steps in which the members run in one published order. The clauses of one step, and the known
-/// clauses at one time, are worked out once; those of a horizon are these with their variables moved.
+/// The encoding of steps in which the members run in one published order. The chains are found once, and how many literals
+/// a step has, and the known pairs at one time, is counted once; no clause is built before a formula is asked for.
 #[derive(Debug, Drop)]
 pub struct ExistsForm<'a> {
     task: &'a Task,
     pairs: &'a Pairs,
     order: &'a Order,
     conditional: u32,
-    chains: u32,
-    step: Vec<Clause>,
-    known: Vec<Clause>,
+    chains: Chains,
     step_size: u64,
     known_size: u64,
 }
 
 impl<'a> Model for ExistsForm<'a> {
-    ghost use Rattle.step_laws.specs.Form.{Ordered};
-    ghost use Rattle.step_encoding.specs.Built.{IsBuilt};
+    ghost use Rattle.step_laws.specs.Form.{OrderedTask};
+    ghost use Rattle.step_encoding.specs.Exists.{IsExistsForm};
 
-    ghost Value = { Ordered };
+    ghost Value = { OrderedTask };
 
     ghost view = { λ f. record { task = f.task.now; known = f.pairs.now; components = f.order.now } };
 
-    ghost invariant = { λ f. IsBuilt (record { task = f.task.now; known = f.pairs.now; components = f.order.now }) f.conditional f.chains f.step.items f.known.items f.step_size f.known_size };
+    ghost invariant = { λ f. IsExistsForm (record { task = f.task.now; known = f.pairs.now; components = f.order.now }) f.conditional f.chains f.step_size f.known_size };
 }
 
 impl<'a> ExistsForm<'a> {
-    ghost use Rattle.step_laws.specs.Form.{HoldsWherever};
+    ghost use Rattle.gt_core.specs.Reached.{HoldsWherever};
+    ghost use Rattle.step_laws.specs.Form.{places_of};
     ghost use Rattle.gt_core.specs.Published.{IsPublished};
+    ghost use Rattle.step_clauses.specs.Shift.{one_step};
 
-    /// The encoding for a task with an order of its actions: the published one under known clauses, each of which holds
+    /// The encoding for a task with an order of its actions: the published one under known pairs, each of which holds
     /// in every state that a sequence of actions reaches.
     pub fn new(
         alloc: Global,
@@ -69,36 +72,52 @@ impl<'a> ExistsForm<'a> {
     {
         let _facts = task.facts();
         let _count = pairs.count();
-        let OneStep {
-            conditional,
-            chains,
-            clauses,
-        } = one_step(alloc, task, order)?;
-        let known = one_time(alloc, pairs)?;
-        let step_size = literals_in(clauses.as_slice())?;
-        let known_size = literals_in(known.as_slice())?;
+        let chains = Chains::find(alloc, task, order)?;
+        let step_size = step_size(task, &chains);
         Ok(ExistsForm {
             task,
             pairs,
             order,
-            conditional,
+            conditional: task.conditional(),
             chains,
-            step: clauses,
-            known,
             step_size,
-            known_size,
+            known_size: known_size(pairs),
         })
+    }
+
+    /// The clauses of one step, where there is a step.
+    fn step(&self, alloc: Global, n: u32) -> Result<ClauseList, Memory>
+        ensures { IfOk result (λ step. 0 < n → step ≡ one_step self.now.task (places_of self.now)) }
+    {
+        if n == 0 {
+            return Ok(ClauseList::new(alloc));
+        }
+        let step = one_step(alloc, self.task, &self.chains)?;
+        Ok(step)
+    }
+
+    /// The formula of a horizon in its layout.
+    fn built(&self, alloc: Global, layout: &Layout) -> Result<Formula, Memory>
+        requires horizon { layout.now.horizon ≤ 255 }
+        requires layout { layout.now ≡ layout_of self.now.task (places_of self.now) layout.now.horizon }
+        requires small { literals_of (formula_of self.now.task self.now.known.clauses (places_of self.now) layout.now.horizon) ≤ 4000000 }
+        ensures { IfOk result (λ formula. formula ≡ formula_of self.now.task self.now.known.clauses (places_of self.now) layout.now.horizon) }
+    {
+        let step = self.step(alloc, layout.horizon)?;
+        let known = one_time(alloc, self.pairs)?;
+        let formula = joining::formula(alloc, self.task, layout, &step, &known)?;
+        Ok(formula)
     }
 }
 
 impl<'a> StepForm for ExistsForm<'a> {
-    ghost is_form = { λ form. IsOrdered form };
+    ghost is_form = { λ form. IsOrderedTask form };
 
     ghost task = { λ form. form.task };
 
-    ghost layout_of = { λ form n. layout_of form.task form.components n };
+    ghost layout_of = { λ form n. layout_of form.task (places_of form) n };
 
-    ghost formula_of = { λ form n. formula_of form.task form.known.clauses form.components n };
+    ghost formula_of = { λ form n. formula_of form.task form.known.clauses (places_of form) n };
 
     ghost is_plan = { λ form n steps. IsPlanOf form n steps };
 
@@ -108,6 +127,10 @@ impl<'a> StepForm for ExistsForm<'a> {
 
     ghost plans = { λ form n values is model. plans_of form n values is model };
 
+    ghost long = { λ form n steps plan. sets_of form n steps plan };
+
+    ghost members = { λ form n steps plan. members_of form n steps plan };
+
     ghost refutes = { λ form n is unsatisfiable steps plan. refutes_of form n is unsatisfiable steps plan };
 
     fn layout(&self, n: u32) -> Layout {
@@ -115,7 +138,7 @@ impl<'a> StepForm for ExistsForm<'a> {
             n,
             self.task.acts().len() as u32,
             self.conditional,
-            self.chains,
+            self.chains.variables(),
             self.task.facts(),
         )
     }
@@ -131,13 +154,7 @@ impl<'a> StepForm for ExistsForm<'a> {
             return Err(FormError::Literals { count });
         }
         let layout = self.layout(n);
-        match joining::formula(
-            alloc,
-            self.task,
-            &layout,
-            self.step.as_slice(),
-            self.known.as_slice(),
-        ) {
+        match self.built(alloc, &layout) {
             Ok(formula) => Ok(formula),
             Err(_) => Err(FormError::Memory),
         }

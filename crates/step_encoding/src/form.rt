@@ -1,6 +1,7 @@
 //! What an encoding of step plans by formulas is.
 
-ghost use Rattle.std.specs.Prelude.{◌≡◌, ℕ, ◌≤◌, ◌<◌, List, Bool, IfOk, IsOk};
+ghost use Rattle.std.specs.Prelude.{◌≡◌, ℕ, ◌≤◌, ◌<◌, List, Bool, length, IfOk, IsOk};
+ghost use Rattle.std.specs.List.{AllByRecursion};
 ghost use Rattle.gt_core.specs.Task.{Task};
 ghost use Rattle.gt_core.specs.Layout.{Layout as LayoutNumbers};
 ghost use Rattle.clause_base.specs.Formula.{Cnf, IsModel, IsUnsatisfiable};
@@ -53,6 +54,12 @@ pub trait StepForm {
 
     /// The list that a satisfying assignment stands for is a plan.
     ghost plans: { (form : Self) (n : ℕ) (values : List Bool) → is_form form → IsModel (formula_of form n) values → is_plan form n (stands_for form n values) };
+
+    /// A plan of n steps is a list of n sets.
+    ghost long: { (form : Self) (n : ℕ) (steps : List (List ℕ)) → is_plan form n steps → length steps ≡ n };
+
+    /// The members of a plan's sets are actions of the task.
+    ghost members: { (form : Self) (n : ℕ) (steps : List (List ℕ)) → is_plan form n steps → AllByRecursion (λ set. AllByRecursion (λ a. a < length (task form).actions) set) steps };
 
     /// Where no assignment satisfies the formula there is no plan.
     ghost refutes: { (form : Self) (n : ℕ) → is_form form → IsUnsatisfiable (formula_of form n).clauses → (steps : List (List ℕ)) → is_plan form n steps → ⊥ };

@@ -1,23 +1,24 @@
 //! Clauses with their variables moved.
 
-ghost use Rattle.std.specs.Prelude.{◌≡◌, ◌+◌, ◌*◌, ◌/◌, ◌≤◌, ◌<◌, ◌++◌, map, OnOk, IfOk};
+ghost use Rattle.std.specs.Prelude.{◌≡◌, ◌+◌, ◌*◌, ◌/◌, ◌≤◌, ◌<◌, ◌++◌, map, length, OnOk};
 ghost use Rattle.std.specs.List.{AllByRecursion};
 ghost use Rattle.gt_core.specs.Layout.{width};
-ghost use Rattle.step_clauses.specs.Moved.{moved_code};
+ghost use Rattle.step_clauses.specs.Shift.{moved_code};
+ghost use Rattle.step_encoding.specs.Parts.{HasClauseRoom};
 
-use clause_base::clause::Clause;
+use clause_base::clause_list::ClauseList;
 use clause_base::formula::Formula;
-use clause_base::literal::{Lit, Lits};
+use clause_base::literal::Lit;
 use clause_base::memory::Memory;
 use gt_core::layout::Layout;
 use std::alloc::Global;
 
 /// Where the variables of one step go: the first `width` begin at `step`, and those after them at `facts`.
 #[derive(Clone, Copy, Debug)]
-pub(crate) struct Shift {
-    pub(crate) width: u32,
-    pub(crate) step: u32,
-    pub(crate) facts: u32,
+pub struct Shift {
+    pub width: u32,
+    pub step: u32,
+    pub facts: u32,
 }
 
 /// A literal with its variable moved.
@@ -33,45 +34,44 @@ fn moved_lit(lit: Lit, to: Shift) -> Lit
     }
 }
 
-/// A clause with its variables moved.
-fn moved_clause(alloc: Global, clause: &Clause, to: Shift) -> Result<Clause, Memory>
+/// Makes these the literals of a clause with its variables moved.
+fn move_into(lits: &[Lit], to: Shift, moved: &mut Vec<Lit>) -> Result<(), Memory>
     requires width { to.width ≤ 2147483647 }
-    requires order { to.step + to.width ≤ to.facts }
-    requires fits { AllByRecursion (λ l. moved_code to.width to.step to.facts l / 2 ≤ 2147483647) clause.now }
-    ensures { IfOk result (λ moved. moved ≡ map (moved_code to.width to.step to.facts) clause.now) }
+    requires fits { AllByRecursion (λ l. moved_code to.width to.step to.facts l / 2 ≤ 2147483647) lits.now }
+    ensures { OnOk result (moved.new.items ≡ map (moved_code to.width to.step to.facts) lits.now) }
 {
-    let lits = clause.as_slice();
-    let mut moved = Vec::with_capacity(alloc, lits.len())?;
+    moved.clear();
     for lit in lits {
         moved.push(moved_lit(*lit, to))?;
     }
-    Ok(Clause::of_sorted(Lits::of(moved)))
+    Ok(())
 }
 
 /// Adds clauses to a formula with their variables moved.
-pub(crate) fn add_moved(
+pub fn add_moved(
     alloc: Global,
     formula: &mut Formula,
-    clauses: &[Clause],
+    clauses: &ClauseList,
     to: Shift,
 ) -> Result<(), Memory>
     requires width { to.width ≤ 2147483647 }
     requires order { to.step + to.width ≤ to.facts }
     requires small { formula.old.variables ≤ 2147483647 }
     requires within { AllByRecursion (λ c. AllByRecursion (λ l. moved_code to.width to.step to.facts l / 2 < formula.old.variables) c) clauses.now }
-    ensures { OnOk result (formula.new ≡ record formula.old { clauses = formula.old.clauses ++ map (map (moved_code to.width to.step to.facts)) clauses.now }) }
+    requires room { HasClauseRoom formula.old (length clauses.now) }
+    ensures moved { OnOk result (formula.new ≡ record formula.old { clauses = formula.old.clauses ++ map (map (moved_code to.width to.step to.facts)) clauses.now }) }
+    ensures few { OnOk result (length formula.new.clauses ≤ length formula.old.clauses + length clauses.now) }
 {
-    for clause in clauses {
-        if !formula.has_room() {
-            return Err(Memory);
-        }
-        formula.add(moved_clause(alloc, clause, to)?)?;
+    let mut moved = Vec::new(alloc);
+    for number in 0..clauses.count() {
+        move_into(clauses.clause(number), to, &mut moved)?;
+        formula.add_sorted(moved.as_slice())?;
     }
     Ok(())
 }
 
 /// Where the variables of one step go in a step of a layout.
-pub(crate) fn step_shift(layout: &Layout, step: u32) -> Shift
+pub fn step_shift(layout: &Layout, step: u32) -> Shift
     requires { step < layout.now.horizon }
     ensures width { result.width ≡ width layout.now }
     ensures step { result.step ≡ step * width layout.now }
@@ -91,7 +91,7 @@ pub(crate) fn step_shift(layout: &Layout, step: u32) -> Shift
 }
 
 /// Where the variables of the facts go at a time of a layout.
-pub(crate) fn time_shift(layout: &Layout, time: u32) -> Shift
+pub fn time_shift(layout: &Layout, time: u32) -> Shift
     requires { time ≤ layout.now.horizon }
     ensures width { result.width ≡ 0 }
     ensures step { result.step ≡ 0 }

@@ -2,21 +2,22 @@ use Rattle.std.proofs.Common.{arith, ◌≡◌, ◌==◌, ℕ, zero, suc, ◌+�
 use Rattle.std.specs.List.{filter}
 use Rattle.std.proofs.lemmas.Bool.Decides.{nat_tests}
 use Rattle.gt_core.specs.Literal.{holds, all_hold, is_in, range_from}
-use Rattle.gt_core.specs.Task.{Task, effects, precondition, actions_of, initial_state}
-use Rattle.gt_core.specs.Execution.{makes, loses, next_of_one, CanRun, run}
+use Rattle.gt_core.specs.Task.{Task, effects, precondition, action_numbers, initial_state}
+use Rattle.gt_core.specs.Execution.{gains, loses, CanRun, run}
 use Rattle.gt_core.specs.Interference.{disables, Knows}
 use Rattle.gt_core.specs.Step.{gained, lost, IsStep, IsStepPlan}
 use Rattle.gt_core.specs.Published.{Pairwise, order_of, KeepsApart}
 use Rattle.gt_core.specs.Layout.{action_at}
 use Rattle.gt_core.proofs.Basics.{Among, each_at, each_from, any_same, all_same, same_if, apart, same_test}
-use Rattle.gt_core.proofs.Literals.{holds_same, in_among, among_in, among_range}
+use Rattle.gt_core.proofs.Literals.{holds_same, in_among, among_in, among_range, below_range}
 use Rattle.gt_core.proofs.Pairwise.{flat_among, filtered, into_filter}
 use Rattle.step_clauses.specs.Variables.{layout_of}
-use Rattle.gt_core.proofs.PublishedLaw.{published_keeps_apart, published_all}
+use Rattle.gt_core.proofs.PublishedLaw.{published_keeps_apart, published_all, component_apart}
 use Rattle.gt_core.proofs.RunLaw.{runs_in_order}
+use Rattle.gt_core.proofs.SequenceLaw.{Agree, run_agrees, run_joined, can_run_joined}
 use Rattle.clause_base.specs.Formula.{Satisfies, IsUnsatisfiable}
 use Rattle.step_clauses.specs.Coded.{formula_of}
-use Rattle.step_laws.specs.Form.{Ordered, IsOrdered, set_at, member_at, IsPlanOf, steps_for}
+use Rattle.step_laws.specs.Form.{OrderedTask, IsOrderedTask, places_of, set_at, member_at, IsPlanOf, steps_for}
 use Rattle.step_laws.proofs.PlanLaw.{LooseStep, plan_of}
 use Rattle.step_laws.proofs.FormulaLaw.{plan_satisfies, v as of_plan}
 use Rattle.step_clauses.proofs.CodedLaw.{encoded, decoded}
@@ -25,19 +26,18 @@ use Rattle.step_clauses.proofs.InRange.{IsInRange}
 
 -- The two laws of a form: what a satisfying assignment stands for is a step plan, and each step plan is such.
 
--- states that give each fact one truth
-abbrev pub Agree : Task → (ℕ → Bool) → (ℕ → Bool) → Type 0
-Agree task s u = (f : ℕ) → f < task.facts → s f ≡ u f
-
-module _ (form : Ordered) (is : IsOrdered form) where
+module _ (form : OrderedTask) (is : IsOrderedTask form) where
   abbrev task : Task
   task = form.task
 
   abbrev order : List ℕ
   order = order_of form.components
 
-  in_range : IsInRange form.task form.known.clauses form.components
+  in_range : IsInRange form.task form.known.clauses (places_of form)
   in_range = in_range_of form is
+
+  distinct : (ks : List ℕ) → Among ks form.components → Pairwise (λ a b. (a == b) ≡ false) ks
+  distinct = component_apart form.task form.known.clauses form.components is.published
 
   ordered : KeepsApart form.task form.known.clauses form.components
   ordered = published_keeps_apart form.task form.known.clauses form.components is.published
@@ -45,7 +45,7 @@ module _ (form : Ordered) (is : IsOrdered form) where
   placed : (a : ℕ) → a < length form.task.actions → Among a (order_of form.components)
   placed a lt =
       published_all form.task form.known.clauses form.components is.published a
-      (among_in (actions_of form.task) a (among_range (length form.task.actions) 0 a (omega arith) (omega arith)))
+      (among_in (action_numbers form.task) a (among_range (length form.task.actions) 0 a (omega arith) (omega arith)))
 
   -- what stands in the order is an action
   listed_below : (a : ℕ) → Among a (order_of form.components) → a < length form.task.actions
@@ -58,8 +58,8 @@ module _ (form : Ordered) (is : IsOrdered form) where
     no_clash = λ a b f x y. step.no_clash a b f (sub a x).0 (sub b y).0;
     ordered = weaker order step.ordered;
     after = λ f lt.
-        let g = any_same (λ e. p e.action && ((e.literal == 2 * f) && all_hold s e.condition)) (λ e. q e.action && ((e.literal == 2 * f) && all_hold s e.condition)) (effects task) (λ e i. ap (λ (b : Bool). b && ((e.literal == 2 * f) && all_hold s e.condition)) (same e.action (placed e.action (in_range.effect_actions e i)))) in
-        let l = any_same (λ e. p e.action && loses task s e.action f) (λ e. q e.action && loses task s e.action f) (effects task) (λ e i. ap (λ (b : Bool). b && loses task s e.action f) (same e.action (placed e.action (in_range.effect_actions e i)))) in
+        let g = any_same (λ a. p a && gains task s a f) (λ a. q a && gains task s a f) (action_numbers task) (λ a i. ap (λ (b : Bool). b && gains task s a f) (same a (placed a (below_range (length form.task.actions) a i)))) in
+        let l = any_same (λ a. p a && loses task s a f) (λ a. q a && loses task s a f) (action_numbers task) (λ a i. ap (λ (b : Bool). b && loses task s a f) (same a (placed a (below_range (length form.task.actions) a i)))) in
         step.after f lt ∙ ap (λ (b : Bool). b || (s f && not (lost task s p f))) g ∙ ap (λ (b : Bool). gained task s q f || (s f && not b)) l;
   }
     where
@@ -82,9 +82,9 @@ module _ (form : Ordered) (is : IsOrdered form) where
   length_map f first (suc m) = let h = length_map f (first + 1) m in omega arith
 
   -- the first law of an encoding: what a satisfying assignment stands for is a plan
-  pub plans : (n : ℕ) (v : ℕ → Bool) → Satisfies v (formula_of form.task form.known.clauses form.components n).clauses → IsPlanOf form n (steps_for form n v)
+  pub plans : (n : ℕ) (v : ℕ → Bool) → Satisfies v (formula_of form.task form.known.clauses (places_of form) n).clauses → IsPlanOf form n (steps_for form n v)
   plans n v s =
-      let z = layout_of form.task form.components n in
+      let z = layout_of form.task (places_of form) n in
       let p = plan_of form.task form.known.clauses form.components n v (in_range_of form is).effect_facts ordered (decoded v _ s) in
       record {
         long = length_map (λ t. filter (λ a. v (action_at z t a)) order) 0 n;
@@ -102,28 +102,6 @@ module _ (form : Ordered) (is : IsOrdered form) where
         };
       }
 
-  holds_agree : (s u : ℕ → Bool) → Agree task s u → (ls : List ℕ) → ((l : ℕ) → Among l ls → l / 2 < task.facts) → all_hold s ls ≡ all_hold u ls
-  holds_agree s u h ls w = all_same (holds s) (holds u) ls (λ l i. holds_same s u l (h (l / 2) (w l i)))
-
-  makes_agree : (s u : ℕ → Bool) → Agree task s u → (a l : ℕ) → makes task s a l ≡ makes task u a l
-  makes_agree s u h a l =
-      any_same _ (λ e. (e.action == a) && ((e.literal == l) && all_hold u e.condition)) (effects task) (λ e i.
-      ap (λ (b : Bool). (e.action == a) && ((e.literal == l) && b)) (holds_agree s u h e.condition (in_range.conditions e i)))
-
-  one_agrees : (s u : ℕ → Bool) → Agree task s u → (a : ℕ) → Agree task (next_of_one task s a) (next_of_one task u a)
-  one_agrees s u h a f lt = rw (makes_agree s u h a (2 * f), makes_agree s u h a (2 * f + 1), h f lt)
-
-  -- a run from one state is a run from one that agrees
-  run_agrees : (ks : List ℕ) (s u : ℕ → Bool) → Agree task s u → CanRun task s ks → CanRun task u ks × Agree task (run task s ks) (run task u ks)
-  run_agrees [] s u h c = (tt, h)
-  run_agrees (k ∷ ks) s u h c =
-      let r = run_agrees ks (next_of_one task s k) (next_of_one task u k) (one_agrees s u h k) c.1 in
-      ((record { action = c.0.action; able = sym (holds_agree s u h (precondition task k) (in_range.preconditions k)) ∙ c.0.able }, r.0), r.1)
-
-  run_parts : (ks ls : List ℕ) (s : ℕ → Bool) → CanRun task s ks → CanRun task (run task s ks) ls → CanRun task s (ks ++ ls) × ((f : ℕ) → run task s (ks ++ ls) f ≡ run task (run task s ks) ls f)
-  run_parts [] ls s c d = (d, λ f. refl)
-  run_parts (k ∷ ks) ls s c d = let r = run_parts ks ls (next_of_one task s k) c.1 d in ((c.0, r.0), r.1)
-
   -- each state of a step plan is reached by actions, up to the facts
   pub record Reached (s : ℕ → Bool) : Type 0 where
     pub by : List ℕ
@@ -136,10 +114,11 @@ module _ (form : Ordered) (is : IsOrdered form) where
       let r = reached steps n p t (omega arith) in
       let step = p.leads t (omega arith) in
       let one = runs_in_order task form.known.clauses form.components (p.states t) (steps t) (p.states (t + 1)) is.published step in
-      let more = run_agrees (filter (steps t) order) (p.states t) (run task (initial_state task) r.by) (λ f lt. sym (r.to f lt)) one.runs in
-      let all = run_parts r.by (filter (steps t) order) (initial_state task) r.can more.0 in
+      let block = filter (steps t) order in
+      let more = run_agrees task is.lawful block (p.states t) (run task (initial_state task) r.by) (λ f lt. sym (r.to f lt)) one.runs in
+      let all = ap (λ (v : ℕ → Bool). v) (run_joined task (initial_state task) r.by block) in
       let e : t + 1 ≡ suc t = omega arith in
-      record { by = r.by ++ filter (steps t) order; can = all.0; to = λ f lt. all.1 f ∙ sym (more.1 f lt) ∙ one.leads f lt ∙ ap (λ (k : ℕ). p.states k f) e }
+      record { by = r.by ++ block; can = can_run_joined task (initial_state task) r.by block r.can more.0; to = λ f lt. ap (λ (v : ℕ → Bool). v f) all ∙ sym (more.1 f lt) ∙ one.leads f lt ∙ ap (λ (k : ℕ). p.states k f) e }
 
   knows_agree : (s u : ℕ → Bool) → Agree task s u → Knows form.known.clauses s → Knows form.known.clauses u
   knows_agree s u h k = each_from _ form.known.clauses (λ p i.
@@ -150,8 +129,8 @@ module _ (form : Ordered) (is : IsOrdered form) where
       rw (x, y) at c)
 
   -- the second law: where no assignment satisfies the formula there is no plan
-  pub refutes : (n : ℕ) → IsUnsatisfiable (formula_of form.task form.known.clauses form.components n).clauses → (steps : List (List ℕ)) → IsPlanOf form n steps → ⊥
+  pub refutes : (n : ℕ) → IsUnsatisfiable (formula_of form.task form.known.clauses (places_of form) n).clauses → (steps : List (List ℕ)) → IsPlanOf form n steps → ⊥
   refutes n none steps plan =
       let p = plan.plan in
-      none (of_plan form.task form.known.clauses form.components n in_range (member_at steps) p.states) (encoded _ _ (plan_satisfies form.task form.known.clauses form.components n in_range (member_at steps) p.states p.begins p.leads p.reaches
+      none (of_plan form.task form.known.clauses form.components n in_range distinct (member_at steps) p.states) (encoded _ _ (plan_satisfies form.task form.known.clauses form.components n in_range distinct (member_at steps) p.states p.begins p.leads p.reaches
       (λ t le. let r = reached (member_at steps) n p t le in knows_agree _ (p.states t) r.to (is.hold r.by r.can))))

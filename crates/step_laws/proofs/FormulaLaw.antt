@@ -12,7 +12,7 @@ use Rattle.gt_core.proofs.Pairwise.{among_left, flat_among, pairwise_both}
 use Rattle.step_clauses.specs.Clause.{Is, Not, clause_true, AllTrue}
 use Rattle.step_clauses.specs.Chain.{enter_clauses, pass_clauses}
 use Rattle.step_clauses.specs.Variables.{Row, rows, has_condition, Chain, chains_from, chain_places, chains, layout_of, variable_at}
-use Rattle.step_clauses.specs.Formula.{literal_over, precondition_clauses, effect_clauses, frame_clauses, chain_clauses, step_clauses, initial_clauses, goal_clauses, is_single, known_clause, known_clauses, clauses_of_horizon}
+use Rattle.step_clauses.specs.Formula.{literal_over, precondition_clauses, effect_clauses, frame_clauses, chain_clauses, step_clauses, initial_clauses, goal_clauses, is_single, pair_clause, pair_clauses, clauses_of_horizon}
 use Rattle.step_clauses.proofs.Satisfied.{joined, satisfied_all, satisfied_map_all}
 use Rattle.step_laws.proofs.StepLaw.{is_effective, StepHolds, StepMeans, step_holds}
 use Rattle.step_laws.proofs.StepClauses.{over, effect_of_row, Means, unconditional, hold_clauses, preconditions_write}
@@ -36,9 +36,9 @@ pairwise_in R [] xs a p = absurd a
 pairwise_in R (ys ∷ xss) xs (inl e) p = subst (λ zs. Pairwise R zs) (sym e) (pairwise_first R ys _ p)
 pairwise_in R (ys ∷ xss) xs (inr a) p = pairwise_in R xss xs a (pairwise_rest R ys _ p)
 
-module _ (task : Task) (clauses : List (ℕ × ℕ)) (components : List (List ℕ)) (n : ℕ) (range_of : IsInRange task clauses components) (steps states : ℕ → ℕ → Bool) where
+module _ (task : Task) (pairs : List (ℕ × ℕ)) (components : List (List ℕ)) (n : ℕ) (range_of : IsInRange task pairs (chain_places task components)) (distinct : (ks : List ℕ) → Among ks components → Pairwise (λ a b. (a == b) ≡ false) ks) (steps states : ℕ → ℕ → Bool) where
   abbrev z : Layout
-  z = layout_of task components n
+  z = layout_of task (chain_places task components) n
 
   abbrev places : List (List ℕ × ℕ)
   places = chain_places task components
@@ -106,17 +106,17 @@ module _ (task : Task) (clauses : List (ℕ × ℕ)) (components : List (List �
       all_from _ (precondition task a) (λ l i. v_holds t l (range_of.preconditions a l i) ∙ all_at (holds (states t)) (precondition task a) l (s.runs a (sym (v_action t a lt la) ∙ x)).able i)
   runs_by t a lt s (inr none) x = rw none
 
-  chain_step : (t : ℕ) → t < n → IsStep task (order_of components) (states t) (steps t) (states (t + 1)) → AllTrue v (chain_clauses (action_at z t) (chain_at z t) task (chains task components))
+  chain_step : (t : ℕ) → t < n → IsStep task (order_of components) (states t) (steps t) (states (t + 1)) → AllTrue v (chain_clauses (action_at z t) (chain_at z t) task (chains task places))
   chain_step t lt s =
-      satisfied_all v (λ c. enter_clauses (action_at z t) (chain_at z t) (takes task c.literal) (reads task c.literal) false c.first c.members ++ pass_clauses (action_at z t) (chain_at z t) (takes task c.literal) (reads task c.literal) false c.first c.members) (chains task components) (λ c i.
+      satisfied_all v (λ c. enter_clauses (action_at z t) (chain_at z t) (takes task c.literal) (reads task c.literal) false c.first c.members ++ pass_clauses (action_at z t) (chain_at z t) (takes task c.literal) (reads task c.literal) false c.first c.members) (chains task places) (λ c i.
       let m = member_of places 0 c i in
       let comp = component_of c.members c.literal m in
       let ks = c.members in
       let tk = takes task c.literal in
       let rd = reads task c.literal in
-      let same : (k : ℕ) → Among k ks → v (action_at z t k) ≡ steps t k = λ k j. v_action t k lt (range_of.members ks comp k j) in
+      let same : (k : ℕ) → Among k ks → v (action_at z t k) ≡ steps t k = λ k j. v_action t k lt (range_of.members (ks, c.literal) m k j) in
       let h = has_chain_values v (steps t) (action_at z t) (chain_at z t) tk rd ks same false false c.first (chain_at_place task (steps t) (λ c. v (chain_at z t c)) places 0 (chain_agrees t lt) c i) in
-      let o = pairwise_both _ _ ks (range_of.distinct ks comp) (pairwise_in _ components ks comp s.ordered) in
+      let o = pairwise_both _ _ ks (distinct ks comp) (pairwise_in _ components ks comp s.ordered) in
       let none = none_before t c.literal ks same o in
       joined v (enter_clauses (action_at z t) (chain_at z t) tk rd false c.first ks) _
       (enter_holds v (action_at z t) (chain_at z t) tk rd false false c.first ks h)
@@ -147,7 +147,7 @@ module _ (task : Task) (clauses : List (ℕ × ℕ)) (components : List (List �
       )
 
   -- a step of the plan satisfies the clauses of the step
-  pub step_satisfied : (t : ℕ) → t < n → IsStep task (order_of components) (states t) (steps t) (states (t + 1)) → AllTrue v (step_clauses z task components t)
+  pub step_satisfied : (t : ℕ) → t < n → IsStep task (order_of components) (states t) (steps t) (states (t + 1)) → AllTrue v (step_clauses z task places t)
   step_satisfied t lt s =
       let act = action_at z t in
       let now = fact_at z t in
@@ -174,20 +174,20 @@ module _ (task : Task) (clauses : List (ℕ × ℕ)) (components : List (List �
   hopeful_by false e = tt
 
   -- a step plan's assignment satisfies the formula
-  pub plan_satisfies : ((f : ℕ) → f < task.facts → states 0 f ≡ initial_state task f) → ((t : ℕ) → t < n → IsStep task (order_of components) (states t) (steps t) (states (t + 1))) → IsGoal task (states n) → ((t : ℕ) → t ≤ n → Knows clauses (states t)) → AllTrue v (clauses_of_horizon task clauses components n)
+  pub plan_satisfies : ((f : ℕ) → f < task.facts → states 0 f ≡ initial_state task f) → ((t : ℕ) → t < n → IsStep task (order_of components) (states t) (steps t) (states (t + 1))) → IsGoal task (states n) → ((t : ℕ) → t ≤ n → Knows pairs (states t)) → AllTrue v (clauses_of_horizon task pairs places n)
   plan_satisfies begins leads goal knows =
       joined v (initial_clauses z task) _
       (satisfied_map_all v (λ f. (if initial_state task f then Is (fact_at z 0 f) else Not (fact_at z 0 f)) ∷ []) (range task.facts) (λ f i. initial_by f (initial_state task f) (v_fact 0 f (below_range task.facts f i) ∙ begins f (below_range task.facts f i))))
       (joined v (goal_clauses z task) _
       (joined v (if task.hopeless then [] ∷ [] else []) _ (hopeful_by task.hopeless goal.hopeful)
       (satisfied_map_all v (λ l. literal_over (fact_at z n) l ∷ []) task.goal (λ l i. or_left _ _ (over v (fact_at z n) l ∙ v_holds n l (range_of.goals l i) ∙ all_at (holds (states n)) task.goal l goal.reached i))))
-      (joined v (flat_map (step_clauses z task components) (range n)) _
-      (satisfied_all v (step_clauses z task components) (range n) (λ t i. let lt = below_range n t i in step_satisfied t lt (leads t lt)))
-      (satisfied_all v (known_clauses z clauses) (range (n + 1)) (λ t i.
+      (joined v (flat_map (step_clauses z task places) (range n)) _
+      (satisfied_all v (step_clauses z task places) (range n) (λ t i. let lt = below_range n t i in step_satisfied t lt (leads t lt)))
+      (satisfied_all v (pair_clauses z pairs) (range (n + 1)) (λ t i.
       let lt = below_range (n + 1) t i in
-      satisfied_all v (known_clause (fact_at z t) clauses) clauses (λ p j.
+      satisfied_all v (pair_clause (fact_at z t) pairs) pairs (λ p j.
       let b = range_of.known p j in
-      let h = each_at _ clauses p (knows t (omega arith)) j in
+      let h = each_at _ pairs p (knows t (omega arith)) j in
       let x = v_holds t p.0 b.0 in
       let y = v_holds t p.1 b.1 in
-      pair_by t p.0 p.1 (p.0 == p.1) (is_single clauses p.0 || is_single clauses p.1) refl (rw (x, y) h))))))
+      pair_by t p.0 p.1 (p.0 == p.1) (is_single pairs p.0 || is_single pairs p.1) refl (rw (x, y) h))))))

@@ -8,3 +8,4 @@ pub mod FormulaLaw
 pub mod Ranges
 pub mod FormLaw
 pub mod SequenceLaw
+pub mod MembersLaw

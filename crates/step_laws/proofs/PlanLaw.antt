@@ -11,8 +11,8 @@ use Rattle.gt_core.proofs.Basics.{passing, all_from, each_from, or_split, or_lef
 use Rattle.gt_core.proofs.Literals.{among_range}
 use Rattle.gt_core.proofs.Pairwise.{pairwise_flat}
 use Rattle.step_clauses.specs.Clause.{Is, Not, truth, clause_true, AllTrue}
-use Rattle.step_clauses.specs.Variables.{Row, rows, has_condition, chains, layout_of, variable_at}
-use Rattle.step_clauses.specs.Formula.{literal_over, precondition_clauses, effect_clauses, frame_clauses, chain_clauses, step_clauses, initial_clauses, goal_clauses, is_single, known_clause, known_clauses, clauses_of_horizon}
+use Rattle.step_clauses.specs.Variables.{Row, rows, has_condition, chains, chain_places, layout_of, variable_at}
+use Rattle.step_clauses.specs.Formula.{literal_over, precondition_clauses, effect_clauses, frame_clauses, chain_clauses, step_clauses, initial_clauses, goal_clauses, is_single, pair_clause, pair_clauses, clauses_of_horizon}
 use Rattle.step_clauses.proofs.Satisfied.{parted, satisfied_each, satisfied_map_each}
 use Rattle.step_laws.proofs.StepLaw.{step_means}
 use Rattle.step_laws.proofs.StepClauses.{over, IsShared, clauses_hold, preconditions_read}
@@ -32,7 +32,7 @@ pub record LoosePlan (task : Task) (order : List ℕ) (steps : ℕ → ℕ → B
   pub leads : (t : ℕ) → t < n → LooseStep task order (states t) (steps t) (states (t + 1))
   pub reaches : IsGoal task (states n)
 
-module _ (task : Task) (clauses : List (ℕ × ℕ)) (components : List (List ℕ)) (z : Layout) (v : ℕ → Bool) where
+module _ (task : Task) (pairs : List (ℕ × ℕ)) (components : List (List ℕ)) (z : Layout) (v : ℕ → Bool) where
   -- the state and the true actions of a time
   abbrev pub state : ℕ → ℕ → Bool
   state t f = v (fact_at z t f)
@@ -48,7 +48,7 @@ module _ (task : Task) (clauses : List (ℕ × ℕ)) (components : List (List �
   shared t rs r a e = shared_by t r (has_condition r.effect) e
 
   -- satisfied clauses of a step are a step
-  pub step_of : HasFacts task → KeepsApart task clauses components → (t : ℕ) → Knows clauses (state t) → AllTrue v (step_clauses z task components t) → LooseStep task (order_of components) (state t) (true_actions t) (state (t + 1))
+  pub step_of : HasFacts task → KeepsApart task pairs components → (t : ℕ) → Knows pairs (state t) → AllTrue v (step_clauses z task (chain_places task components) t) → LooseStep task (order_of components) (state t) (true_actions t) (state (t + 1))
   step_of has o t k s =
       let act = action_at z t in
       let now = fact_at z t in
@@ -56,14 +56,14 @@ module _ (task : Task) (clauses : List (ℕ × ℕ)) (components : List (List �
       let var = variable_at z t in
       let p1 = parted v (precondition_clauses act now 0 task.actions) _ s in
       let p2 = parted v (effect_clauses act now later var (rows task) (rows task)) _ p1.1 in
-      let p3 = parted v (frame_clauses now later var (rows task) (range task.facts)) (chain_clauses act (chain_at z t) task (chains task components)) p2.1 in
+      let p3 = parted v (frame_clauses now later var (rows task) (range task.facts)) (chain_clauses act (chain_at z t) task (chains task (chain_places task components))) p2.1 in
       let means = step_means task (true_actions t) (state t) (state (t + 1)) (clauses_hold v act now later var task (shared t (rows task)) p2.0 p3.0) in
       let runs : (a : ℕ) → true_actions t a ≡ true → all_hold (state t) (precondition task a) ≡ true = λ a x.
       let e : 0 + a ≡ a = omega arith in preconditions_read v act now later var 0 task.actions p1.0 a (ap (λ (n : ℕ). v (act n)) e ∙ x) in
       record {
         runs = runs;
         no_clash = means.no_clash;
-        ordered = pairwise_flat _ components (λ ks a. within v act (chain_at z t) task components ks has p3.1 a) (across task clauses (true_actions t) (state t) components k runs means.no_clash o);
+        ordered = pairwise_flat _ components (λ ks a. within v act (chain_at z t) task components ks has p3.1 a) (across task pairs (true_actions t) (state t) components k runs means.no_clash o);
         after = means.after;
       }
 
@@ -98,12 +98,12 @@ module _ (task : Task) (clauses : List (ℕ × ℕ)) (components : List (List �
         all_from (holds (state z.horizon)) task.goal (λ l a. sym (over v (fact_at z z.horizon) l) ∙ or_false _ (satisfied_map_each v (λ l. literal_over (fact_at z z.horizon) l ∷ []) task.goal p.1 l a)),
       )
 
-  single : (t l : ℕ) → AllTrue v (known_clauses z clauses t) → is_single clauses l ≡ true → holds (state t) l ≡ true
+  single : (t l : ℕ) → AllTrue v (pair_clauses z pairs t) → is_single pairs l ≡ true → holds (state t) l ≡ true
   single t l s h =
-      let p = passing (λ p. (p.0 == l) && (p.1 == l)) clauses h in
+      let p = passing (λ p. (p.0 == l) && (p.1 == l)) pairs h in
       let x = and_split (p.one.0 == l) _ p.passes in
       let same : (p.one.0 == p.one.1) ≡ true = same_test p.one.0 p.one.1 (test_same _ _ x.0 ∙ sym (test_same _ _ x.1)) in
-      let c : AllTrue v ((literal_over (fact_at z t) p.one.0 ∷ []) ∷ []) = rw same at (satisfied_each v (known_clause (fact_at z t) clauses) clauses s p.one p.among) in
+      let c : AllTrue v ((literal_over (fact_at z t) p.one.0 ∷ []) ∷ []) = rw same at (satisfied_each v (pair_clause (fact_at z t) pairs) pairs s p.one p.among) in
       ap (holds (state t)) (sym (test_same _ _ x.0)) ∙ sym (over v (fact_at z t) p.one.0) ∙ or_false _ c.0
 
   pair_by : (t l m : ℕ) (b c : Bool) → (c ≡ true → (holds (state t) l || holds (state t) m) ≡ true) → AllTrue v (if b then (literal_over (fact_at z t) l ∷ []) ∷ [] else if c then [] else (literal_over (fact_at z t) l ∷ literal_over (fact_at z t) m ∷ []) ∷ []) → (holds (state t) l || holds (state t) m) ≡ true
@@ -115,26 +115,26 @@ module _ (task : Task) (clauses : List (ℕ × ℕ)) (components : List (List �
         | inr x ↦ or_right _ _ (sym (over v (fact_at z t) m) ∙ or_false _ x)
       ]
 
-  pub knows : (t : ℕ) → AllTrue v (known_clauses z clauses t) → Knows clauses (state t)
+  pub knows : (t : ℕ) → AllTrue v (pair_clauses z pairs t) → Knows pairs (state t)
   knows t s =
-      each_from _ clauses (λ p a. pair_by t p.0 p.1 (p.0 == p.1) (is_single clauses p.0 || is_single clauses p.1)
+      each_from _ pairs (λ p a. pair_by t p.0 p.1 (p.0 == p.1) (is_single pairs p.0 || is_single pairs p.1)
       (λ c. elim (or_split _ _ c) [ inl x ↦ or_left _ _ (single t p.0 s x) | inr x ↦ or_right _ _ (single t p.1 s x) ])
-      (satisfied_each v (known_clause (fact_at z t) clauses) clauses s p a))
+      (satisfied_each v (pair_clause (fact_at z t) pairs) pairs s p a))
 
 -- the true actions of a satisfying assignment are a step plan
-pub plan_of : (task : Task) (clauses : List (ℕ × ℕ)) (components : List (List ℕ)) (n : ℕ) (v : ℕ → Bool) → HasFacts task → KeepsApart task clauses components → AllTrue v (clauses_of_horizon task clauses components n) → LoosePlan task (order_of components) (true_actions task clauses components (layout_of task components n) v) n
-plan_of task clauses components n v has o s =
-    let z = layout_of task components n in
-    let p1 = parted v (initial_clauses z task) (goal_clauses z task ++ (flat_map (step_clauses z task components) (range n) ++ flat_map (known_clauses z clauses) (range (n + 1)))) s in
-    let p2 = parted v (goal_clauses z task) (flat_map (step_clauses z task components) (range n) ++ flat_map (known_clauses z clauses) (range (n + 1))) p1.1 in
-    let p3 = parted v (flat_map (step_clauses z task components) (range n)) (flat_map (known_clauses z clauses) (range (n + 1))) p2.1 in
-    let r = reaches task clauses components z v p2.0 in
+pub plan_of : (task : Task) (pairs : List (ℕ × ℕ)) (components : List (List ℕ)) (n : ℕ) (v : ℕ → Bool) → HasFacts task → KeepsApart task pairs components → AllTrue v (clauses_of_horizon task pairs (chain_places task components) n) → LoosePlan task (order_of components) (true_actions task pairs components (layout_of task (chain_places task components) n) v) n
+plan_of task pairs components n v has o s =
+    let z = layout_of task (chain_places task components) n in
+    let p1 = parted v (initial_clauses z task) (goal_clauses z task ++ (flat_map (step_clauses z task (chain_places task components)) (range n) ++ flat_map (pair_clauses z pairs) (range (n + 1)))) s in
+    let p2 = parted v (goal_clauses z task) (flat_map (step_clauses z task (chain_places task components)) (range n) ++ flat_map (pair_clauses z pairs) (range (n + 1))) p1.1 in
+    let p3 = parted v (flat_map (step_clauses z task (chain_places task components)) (range n)) (flat_map (pair_clauses z pairs) (range (n + 1))) p2.1 in
+    let r = reaches task pairs components z v p2.0 in
     record {
-      states = state task clauses components z v;
-      begins = begins task clauses components z v p1.0;
+      states = state task pairs components z v;
+      begins = begins task pairs components z v p1.0;
       leads = λ t lt.
-          step_of task clauses components z v has o t
-          (knows task clauses components z v t (satisfied_each v (known_clauses z clauses) (range (n + 1)) p3.1 t (among_range (n + 1) 0 t (omega arith) (omega arith))))
-          (satisfied_each v (step_clauses z task components) (range n) p3.0 t (among_range n 0 t (omega arith) (omega arith)));
+          step_of task pairs components z v has o t
+          (knows task pairs components z v t (satisfied_each v (pair_clauses z pairs) (range (n + 1)) p3.1 t (among_range (n + 1) 0 t (omega arith) (omega arith))))
+          (satisfied_each v (step_clauses z task (chain_places task components)) (range n) p3.0 t (among_range n 0 t (omega arith) (omega arith)));
       reaches = record { hopeful = r.0; reached = r.1 };
     }

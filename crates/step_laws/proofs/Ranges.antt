@@ -1,6 +1,6 @@
-use Rattle.std.proofs.Common.{arith, ◌≡◌, ℕ, ◌+◌, ◌/◌, ◌<◌, List, [], ◌∷◌, ◌++◌, length, true, sym, subst, ◌⊎◌, inl, inr}
+use Rattle.std.proofs.Common.{arith, ◌≡◌, ℕ, ◌+◌, ◌*◌, ◌/◌, ◌<◌, List, [], ◌∷◌, ◌++◌, length, map, true, sym, ap, subst, ◌⊎◌, inl, inr}
 use Rattle.std.specs.List.{list_all, AllByRecursion}
-use Rattle.gt_core.specs.Task.{Effect, Action, Task, EffectOf, owned, effects_from, effects, precondition, actions_of}
+use Rattle.gt_core.specs.Task.{Effect, Action, Task, EffectOf, owned, effects_from, effects, precondition, action_numbers}
 use Rattle.gt_core.specs.Active.{EffectWithin}
 use Rattle.gt_core.specs.Lawful.{is_literal_set, is_action, is_task}
 use Rattle.gt_core.specs.Interference.{has_edge}
@@ -8,11 +8,14 @@ use Rattle.gt_core.specs.Clauses.{IsClause}
 use Rattle.gt_core.proofs.Basics.{Among, each_at, and_split}
 use Rattle.gt_core.proofs.Literals.{in_among, among_in, below_range}
 use Rattle.gt_core.proofs.Within.{literals_within, effects_within, lawful, precondition_within}
-use Rattle.gt_core.proofs.PublishedLaw.{components_of_list, component_apart}
-use Rattle.step_laws.specs.Form.{Ordered, IsOrdered}
+use Rattle.gt_core.proofs.PublishedLaw.{components_of_list}
+use Rattle.step_laws.specs.Form.{OrderedTask, IsOrderedTask, places_of}
+use Rattle.gt_core.specs.Literal.{range}
+use Rattle.gt_core.proofs.Pairwise.{flat_among}
+use Rattle.step_clauses.specs.Variables.{chain_places}
 use Rattle.step_clauses.proofs.InRange.{IsInRange, past}
 
--- The numbers of a lawful task, of its known clauses and of its published order are in range.
+-- The numbers of a lawful task, of its known pairs and of its published order are in range.
 
 among_split : {A : Type 0} (xs ys : List A) (y : A) → Among y (xs ++ ys) → Among y xs ⊎ Among y ys
 among_split [] ys y a = inr a
@@ -55,13 +58,24 @@ precondition_by : (task : Task) → is_task task ≡ true → (a l : ℕ) → (a
 precondition_by task t a l (inl lt) i = each_at (λ l. l / 2 < task.facts) (precondition task a) l (precondition_within task a t lt) i
 precondition_by task t a l (inr e) i = absurd (subst (λ (x : List ℕ). Among l x) e i)
 
--- the members of a component are actions
-pub member_below : (form : Ordered) → IsOrdered form → (ks : List ℕ) → Among ks form.components → (a : ℕ) → Among a ks → a < length form.task.actions
-member_below form is ks i a j =
-    below_range (length form.task.actions) a (in_among (actions_of form.task) a
-    ((components_of_list (has_edge form.task form.known.clauses) (actions_of form.task) [] form.components is.published ks i).of_actions a (among_in ks a j)))
+-- the members of a chain's place are a component
+component_of : (task : Task) (components : List (List ℕ)) (p : List ℕ × ℕ) → Among p (chain_places task components) → Among p.0 components
+component_of task components p i =
+    let r = flat_among (λ ks. map (λ (m : ℕ). (ks, m)) (range (2 * task.facts))) components p i in
+    subst (λ (x : List ℕ). Among x components) (sym (mapped r.0 p (range (2 * task.facts)) r.2)) r.1
+  where
+    mapped : (ks : List ℕ) (p : List ℕ × ℕ) (ms : List ℕ) → Among {A = List ℕ × ℕ} p (map (λ (m : ℕ). (ks, m)) ms) → p.0 ≡ ks
+    mapped ks p [] i = absurd i
+    mapped ks p (k ∷ ms) (inl e) = ap (λ (q : List ℕ × ℕ). q.0) e
+    mapped ks p (k ∷ ms) (inr i) = mapped ks p ms i
 
-pub in_range_of : (form : Ordered) → IsOrdered form → IsInRange form.task form.known.clauses form.components
+-- the members of a component are actions
+pub member_below : (form : OrderedTask) → IsOrderedTask form → (ks : List ℕ) → Among ks form.components → (a : ℕ) → Among a ks → a < length form.task.actions
+member_below form is ks i a j =
+    below_range (length form.task.actions) a (in_among (action_numbers form.task) a
+    ((components_of_list (has_edge form.task form.known.clauses) (action_numbers form.task) [] form.components is.published ks i).of_actions a (among_in ks a j)))
+
+pub in_range_of : (form : OrderedTask) → IsOrderedTask form → IsInRange form.task form.known.clauses (places_of form)
 in_range_of form is = record {
   effect_facts = λ e a. (task_effects_in_range form.task is.lawful e a).literal;
   effect_actions = λ e a. (task_effects_in_range form.task is.lawful e a).action;
@@ -69,8 +83,7 @@ in_range_of form is = record {
   preconditions = λ a l i. precondition_by form.task is.lawful a l (past form.task.actions a) i;
   goals = λ l i. each_at (λ l. l / 2 < form.task.facts) form.task.goal l (literals_within form.task.facts form.task.goal (lawful form.task is.lawful).goal) i;
   known = λ p i. clause_in_range p (each_at (IsClause form.known.facts) form.known.clauses p is.known.lawful i);
-  members = λ ks i a j. member_below form is ks i a j;
-  distinct = component_apart form.task form.known.clauses form.components is.published;
+  members = λ p i a j. member_below form is p.0 (component_of form.task form.components p i) a j;
 }
   where
     clause_in_range : (p : ℕ × ℕ) → IsClause form.known.facts p → (p.0 / 2 < form.task.facts) × (p.1 / 2 < form.task.facts)

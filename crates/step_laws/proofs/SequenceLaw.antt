@@ -6,7 +6,7 @@ use Rattle.gt_core.specs.Execution.{next_of_one, CanRun, run, IsGoal}
 use Rattle.gt_core.specs.Step.{IsStep}
 use Rattle.gt_core.specs.Published.{order_of}
 use Rattle.gt_core.proofs.StepLaw.{step_of_one, step_of_none}
-use Rattle.step_laws.specs.Form.{Ordered, set_at, member_at, IsPlanOf}
+use Rattle.step_laws.specs.Form.{OrderedTask, set_at, member_at, IsPlanOf}
 
 -- A plan of at most n actions in sequence is a step plan of n steps.
 
@@ -50,7 +50,7 @@ leads task order (k ∷ ks) (suc n) s c (suc t) l =
     subst (λ (x : List ℕ). IsStep task order (state_after task (next_of_one task s k) ks t) (is_in x) (state_after task (next_of_one task s k) ks (suc t))) (later_set (k ∷ []) (one_by_one ks n) t) h
 
 -- a sequential plan of at most n actions is a step plan of n steps
-pub sequence_is_plan : (form : Ordered) (n : ℕ) (ks : List ℕ) → length ks ≤ n → CanRun form.task (initial_state form.task) ks → IsGoal form.task (run form.task (initial_state form.task) ks) → IsPlanOf form n (one_by_one ks n)
+pub sequence_is_plan : (form : OrderedTask) (n : ℕ) (ks : List ℕ) → length ks ≤ n → CanRun form.task (initial_state form.task) ks → IsGoal form.task (run form.task (initial_state form.task) ks) → IsPlanOf form n (one_by_one ks n)
 sequence_is_plan form n ks le can goal = record {
   long = length-one_by_one ks n;
   plan = record {

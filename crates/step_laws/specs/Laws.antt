@@ -3,22 +3,22 @@ use Rattle.gt_core.specs.Task.{initial_state}
 use Rattle.gt_core.specs.Execution.{CanRun, run, IsGoal}
 use Rattle.clause_base.specs.Formula.{Satisfies, IsUnsatisfiable}
 use Rattle.step_clauses.specs.Coded.{formula_of}
-use Rattle.step_laws.specs.Form.{Ordered, IsOrdered, IsPlanOf, steps_for}
+use Rattle.step_laws.specs.Form.{OrderedTask, IsOrderedTask, IsPlanOf, steps_for, places_of}
 
 -- an assignment that satisfies the formula of a horizon stands for a step plan, each set listed in published order
 abbrev pub SatisfyingIsPlan : Type 0
 SatisfyingIsPlan =
-    (form : Ordered) → IsOrdered form → (n : ℕ) (v : ℕ → Bool)
-    → Satisfies v (formula_of form.task form.known.clauses form.components n).clauses → IsPlanOf form n (steps_for form n v)
+    (form : OrderedTask) → IsOrderedTask form → (n : ℕ) (v : ℕ → Bool)
+    → Satisfies v (formula_of form.task form.known.clauses (places_of form) n).clauses → IsPlanOf form n (steps_for form n v)
 
 -- where no assignment satisfies the formula of a horizon there is no step plan of so many steps
 abbrev pub UnsatisfiableIsNoPlan : Type 0
 UnsatisfiableIsNoPlan =
-    (form : Ordered) → IsOrdered form → (n : ℕ) → IsUnsatisfiable (formula_of form.task form.known.clauses form.components n).clauses
+    (form : OrderedTask) → IsOrderedTask form → (n : ℕ) → IsUnsatisfiable (formula_of form.task form.known.clauses (places_of form) n).clauses
     → (steps : List (List ℕ)) → IsPlanOf form n steps → ⊥
 
 -- where at most n actions, one after the other, lead to the goal, there is a step plan of n steps
 abbrev pub SequenceIsPlan : Type 0
 SequenceIsPlan =
-    (form : Ordered) (n : ℕ) (ks : List ℕ) → length ks ≤ n → CanRun form.task (initial_state form.task) ks
+    (form : OrderedTask) (n : ℕ) (ks : List ℕ) → length ks ≤ n → CanRun form.task (initial_state form.task) ks
     → IsGoal form.task (run form.task (initial_state form.task) ks) → (steps : List (List ℕ)) × IsPlanOf form n steps

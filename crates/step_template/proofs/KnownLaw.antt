@@ -7,12 +7,12 @@ use Rattle.gt_core.specs.Interference.{has_clause}
 use Rattle.gt_core.proofs.Basics.{same_test}
 use Rattle.clause_base.specs.Clause.{clause_of}
 use Rattle.step_clauses.specs.Clause.{Literal, Is, Not, code}
-use Rattle.step_clauses.specs.Formula.{literal_over, is_single, known_clause}
+use Rattle.step_clauses.specs.Formula.{literal_over, is_single, pair_clause}
 use Rattle.step_clauses.specs.Coded.{coded}
 use Rattle.step_clauses.proofs.CodedLaw.{coded-append}
 use Rattle.step_template.proofs.Groups.{rest}
 
--- The known clauses, one by one.
+-- The known pairs, one by one.
 
 -- where fact f has variable f, a literal's code is the literal
 pub plain_code : (l : ℕ) → l ≡ code (literal_over (λ f. f) l)
@@ -27,7 +27,7 @@ or_self true = refl
 or_self false = refl
 
 -- a literal is known by itself where its clause with itself is
-pub single_is : (clauses : List (ℕ × ℕ)) (l : ℕ) → has_clause clauses l l ≡ is_single clauses l
+pub single_is : (pairs : List (ℕ × ℕ)) (l : ℕ) → has_clause pairs l l ≡ is_single pairs l
 single_is [] l = refl
 single_is (c ∷ cs) l = rw (or_self ((c.0 == l) && (c.1 == l)), single_is cs l) refl
 
@@ -35,9 +35,9 @@ no_more : (xs : List (List ℕ)) → xs ++ [] ≡ xs
 no_more [] = refl
 no_more (x ∷ xs) = ap (λ (r : List (List ℕ)). x ∷ r) (no_more xs)
 
-module _ (clauses : List (ℕ × ℕ)) (l m : ℕ) (before after : List (List ℕ)) where
+module _ (pairs : List (ℕ × ℕ)) (l m : ℕ) (before after : List (List ℕ)) where
   abbrev Known : Type 0
-  Known = after ≡ before ++ coded (known_clause (λ f. f) clauses (l, m))
+  Known = after ≡ before ++ coded (pair_clause (λ f. f) pairs (l, m))
 
   abbrev single : List (List Literal)
   single = (literal_over (λ f. f) l ∷ []) ∷ []
@@ -46,25 +46,25 @@ module _ (clauses : List (ℕ × ℕ)) (l m : ℕ) (before after : List (List �
   double = (literal_over (λ f. f) l ∷ literal_over (λ f. f) m ∷ []) ∷ []
 
   pub known_single : l ≡ m → after ≡ before ++ cons_option (clause_of (l ∷ [])) [] → Known
-  known_single e h = h ∙ ap (λ (k : ℕ). before ++ cons_option (clause_of (k ∷ [])) []) (plain_code l) ∙ ap (λ (cs : List (List Literal)). before ++ coded cs) (by (l == m) (same_test l m e) (if is_single clauses l || is_single clauses m then [] else double))
+  known_single e h = h ∙ ap (λ (k : ℕ). before ++ cons_option (clause_of (k ∷ [])) []) (plain_code l) ∙ ap (λ (cs : List (List Literal)). before ++ coded cs) (by (l == m) (same_test l m e) (if is_single pairs l || is_single pairs m then [] else double))
     where
       by : (b : Bool) → b ≡ true → (cs : List (List Literal)) → single ≡ (if b then single else cs)
       by true e cs = refl
       by false e cs = cc
 
-  pub known_left_out : (l ≡ m → ⊥) → (is_single clauses l || is_single clauses m) ≡ true → after ≡ before → Known
-  known_left_out n t h = h ∙ sym (no_more before) ∙ ap (λ (cs : List (List Literal)). before ++ coded cs) (by (l == m) (is_single clauses l || is_single clauses m) refl t)
+  pub known_left_out : (l ≡ m → ⊥) → (is_single pairs l || is_single pairs m) ≡ true → after ≡ before → Known
+  known_left_out n t h = h ∙ sym (no_more before) ∙ ap (λ (cs : List (List Literal)). before ++ coded cs) (by (l == m) (is_single pairs l || is_single pairs m) refl t)
     where
       by : (b c : Bool) → (l == m) ≡ b → c ≡ true → [] ≡ (if b then single else if c then [] else double)
       by true c e f = let s : l ≡ m = grind (arith, nat_tests) in absurd (n s)
       by false true e f = refl
       by false false e f = cc
 
-  pub known_double : (l ≡ m → ⊥) → is_single clauses l ≡ false → is_single clauses m ≡ false → after ≡ before ++ cons_option (clause_of (l ∷ m ∷ [])) [] → Known
+  pub known_double : (l ≡ m → ⊥) → is_single pairs l ≡ false → is_single pairs m ≡ false → after ≡ before ++ cons_option (clause_of (l ∷ m ∷ [])) [] → Known
   known_double n s t h =
       h ∙ ap (λ (k : ℕ). before ++ cons_option (clause_of (k ∷ m ∷ [])) []) (plain_code l)
       ∙ ap (λ (k : ℕ). before ++ cons_option (clause_of (code (literal_over (λ f. f) l) ∷ k ∷ [])) []) (plain_code m)
-      ∙ ap (λ (cs : List (List Literal)). before ++ coded cs) (by (l == m) (is_single clauses l) (is_single clauses m) refl s t)
+      ∙ ap (λ (cs : List (List Literal)). before ++ coded cs) (by (l == m) (is_single pairs l) (is_single pairs m) refl s t)
     where
       by : (b c d : Bool) → (l == m) ≡ b → c ≡ false → d ≡ false → double ≡ (if b then single else if c || d then [] else double)
       by true c d e f g = let s : l ≡ m = grind (arith, nat_tests) in absurd (n s)
@@ -73,11 +73,11 @@ module _ (clauses : List (ℕ × ℕ)) (l m : ℕ) (before after : List (List �
       by false false false e f g = refl
 
 -- one more
-pub known_step : (clauses : List (ℕ × ℕ)) (i : ℕ) (c d : ℕ × ℕ) (whole before after : List (List ℕ)) → slice_get clauses i ≡ Some c → whole ≡ before ++ coded (flat_map (known_clause (λ f. f) clauses) (drop i clauses)) → after ≡ before ++ coded (known_clause (λ f. f) clauses c) → whole ≡ after ++ coded (flat_map (known_clause (λ f. f) clauses) (drop (i + 1) clauses))
-known_step clauses i c d whole before after at h g =
-    let lt = slice_get_within clauses i c at in
-    let is = get_or_from_slice_get clauses i c d at in
-    rest whole before after (coded (known_clause (λ f. f) clauses c)) (coded (flat_map (known_clause (λ f. f) clauses) (drop (i + 1) clauses)))
-    (h ∙ ap (λ (xs : List (ℕ × ℕ)). before ++ coded (flat_map (known_clause (λ f. f) clauses) xs)) (drop_more clauses i d lt)
-    ∙ ap (λ (x : ℕ × ℕ). before ++ coded (known_clause (λ f. f) clauses x ++ flat_map (known_clause (λ f. f) clauses) (drop (i + 1) clauses))) is
-    ∙ ap (λ (r : List (List ℕ)). before ++ r) (coded-append (known_clause (λ f. f) clauses c) (flat_map (known_clause (λ f. f) clauses) (drop (i + 1) clauses)))) g
+pub known_step : (pairs : List (ℕ × ℕ)) (i : ℕ) (c d : ℕ × ℕ) (whole before after : List (List ℕ)) → slice_get pairs i ≡ Some c → whole ≡ before ++ coded (flat_map (pair_clause (λ f. f) pairs) (drop i pairs)) → after ≡ before ++ coded (pair_clause (λ f. f) pairs c) → whole ≡ after ++ coded (flat_map (pair_clause (λ f. f) pairs) (drop (i + 1) pairs))
+known_step pairs i c d whole before after at h g =
+    let lt = slice_get_within pairs i c at in
+    let is = get_or_from_slice_get pairs i c d at in
+    rest whole before after (coded (pair_clause (λ f. f) pairs c)) (coded (flat_map (pair_clause (λ f. f) pairs) (drop (i + 1) pairs)))
+    (h ∙ ap (λ (xs : List (ℕ × ℕ)). before ++ coded (flat_map (pair_clause (λ f. f) pairs) xs)) (drop_more pairs i d lt)
+    ∙ ap (λ (x : ℕ × ℕ). before ++ coded (pair_clause (λ f. f) pairs x ++ flat_map (pair_clause (λ f. f) pairs) (drop (i + 1) pairs))) is
+    ∙ ap (λ (r : List (List ℕ)). before ++ r) (coded-append (pair_clause (λ f. f) pairs c) (flat_map (pair_clause (λ f. f) pairs) (drop (i + 1) pairs)))) g

@@ -6,3 +6,4 @@ pub mod IndexLaw
 pub mod FrameLaw
 pub mod KnownLaw
 pub mod StepLaw
+pub mod AddersLaw

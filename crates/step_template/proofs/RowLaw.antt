@@ -10,7 +10,6 @@ use Rattle.gt_core.proofs.Basics.{same_test}
 use Rattle.step_clauses.specs.Clause.{Is, code}
 use Rattle.step_clauses.specs.Variables.{Row, rows_from, variable_at}
 use Rattle.step_template.specs.Rows.{row_of, rows_of, number_after, made_by, made}
-use Rattle.step_template.proofs.Groups.{rest}
 
 -- Effects with their numbers.
 
@@ -38,6 +37,26 @@ number_next number top next es i d e le lt is n = by (is_conditional e) refl n
         let x = ap (count_by is_conditional) (drop_more es i d lt) in
         let y = sum_by-cons (λ f. cond (is_conditional f) 1 0) (get_or es i d) (drop (i + 1) es) in
         omega (arith, le, x, y, m)
+
+-- the number of the next effect, by the effects before it
+pub number_taken : (first number next : ℕ) (es : List Effect) (i : ℕ) (d e : Effect) → number ≡ first + count_by is_conditional (take i es) → i < length es → e ≡ get_or es i d → next ≡ number_after number e → next ≡ first + count_by is_conditional (take (i + 1) es)
+number_taken first number next es i d e h lt is n = by (is_conditional e) refl n
+  where
+    by : (b : Bool) → is_conditional e ≡ b → next ≡ (if b then number + 1 else number) → next ≡ first + count_by is_conditional (take (i + 1) es)
+    by true t m =
+        let x = ap (count_by is_conditional) (take_more es i d lt) in
+        let y = sum_by-append (λ f. cond (is_conditional f) 1 0) (take i es) (get_or es i d ∷ []) in
+        let v = sum_by-cons (λ f. cond (is_conditional f) 1 0) (get_or es i d) [] in
+        let z = ap {B = ℕ} (λ (f : Effect). cond (is_conditional f) 1 0) (sym is) in
+        let w = ap {B = ℕ} (λ (b : Bool). cond b 1 0) t in
+        omega (arith, x, y, v, z, w, m, h)
+    by false t m =
+        let x = ap (count_by is_conditional) (take_more es i d lt) in
+        let y = sum_by-append (λ f. cond (is_conditional f) 1 0) (take i es) (get_or es i d ∷ []) in
+        let v = sum_by-cons (λ f. cond (is_conditional f) 1 0) (get_or es i d) [] in
+        let z = ap {B = ℕ} (λ (f : Effect). cond (is_conditional f) 1 0) (sym is) in
+        let w = ap {B = ℕ} (λ (b : Bool). cond b 1 0) t in
+        omega (arith, x, y, v, z, w, m, h)
 
 -- one action's conditional effects more
 pub conditional_more : (acts : List Action) (i : ℕ) (d : Action) → i < length acts → conditional_in (drop i acts) ≡ count_by is_conditional (get_or acts i d).effects + conditional_in (drop (i + 1) acts)
@@ -99,13 +118,6 @@ pub rows_step : (a number : ℕ) (es : List Effect) (i : ℕ) (d e : Effect) →
 rows_step a number es i d e lt is =
     ap (rows_of a number) (drop_more es i d lt)
     ∙ ap (λ (f : Effect). row_of a number f ∷ rows_of a (number_after number f) (drop (i + 1) es)) (sym is)
-
-pub adds_step : (z : Layout) (a l number next : ℕ) (es : List Effect) (i : ℕ) (d e : Effect) (whole before after : List ℕ) → i < length es → e ≡ get_or es i d → next ≡ number_after number e → whole ≡ before ++ made_by z a l (rows_of a number (drop i es)) → after ≡ before ++ made_by z a l (row_of a number e ∷ []) → whole ≡ after ++ made_by z a l (rows_of a next (drop (i + 1) es))
-adds_step z a l number next es i d e whole before after lt is n h g =
-    rest whole before after (made_by z a l (row_of a number e ∷ [])) (made_by z a l (rows_of a (number_after number e) (drop (i + 1) es)))
-    (h ∙ ap (λ (r : List Row). before ++ made_by z a l r) (rows_step a number es i d e lt is)
-    ∙ ap (λ (r : List ℕ). before ++ r) (made_by_parts z a l (row_of a number e ∷ []) (rows_of a (number_after number e) (drop (i + 1) es)))) g
-    ∙ ap (λ (k : ℕ). after ++ made_by z a l (rows_of a k (drop (i + 1) es))) (sym n)
 
 -- an effect with the literal, and one with another
 pub made_one : (z : Layout) (a j l : ℕ) (e : Effect) → e.literal ≡ l → made_by z a l (row_of a j e ∷ []) ≡ (2 * variable_at z 0 (row_of a j e)) ∷ []

@@ -7,7 +7,7 @@ use Rattle.gt_core.proofs.Within.{lawful}
 use Rattle.step_clauses.specs.Variables.{rows, variable_at, layout_of, chains}
 use Rattle.step_clauses.specs.Formula.{precondition_clauses, effect_clauses, frame_clauses, chain_clauses, step_clauses}
 use Rattle.step_clauses.specs.Coded.{coded}
-use Rattle.step_clauses.specs.Moved.{one_step}
+use Rattle.step_clauses.specs.Shift.{one_step}
 use Rattle.step_template.proofs.EffectLaw.{two_parts}
 
 -- The clauses of one step from its groups.
@@ -21,15 +21,15 @@ one_fits task t a c x f e g le h =
     let r = l.facts in
     omega (arith, e, g, le, h, p, q, r)
 
-pub step_joined : (z : Layout) (task : Task) (components : List (List ℕ)) (none first second third fourth : List (List ℕ)) → z ≡ layout_of task components 1 → none ≡ []
+pub step_joined : (z : Layout) (task : Task) (places : List (List ℕ × ℕ)) (none first second third fourth : List (List ℕ)) → z ≡ layout_of task places 1 → none ≡ []
     → first ≡ none ++ coded (precondition_clauses (action_at z 0) (fact_at z 0) 0 task.actions)
     → second ≡ first ++ coded (effect_clauses (action_at z 0) (fact_at z 0) (fact_at z 1) (variable_at z 0) (rows task) (rows task))
     → third ≡ second ++ coded (frame_clauses (fact_at z 0) (fact_at z 1) (variable_at z 0) (rows task) (range task.facts))
-    → fourth ≡ third ++ coded (chain_clauses (action_at z 0) (chain_at z 0) task (chains task components))
-    → fourth ≡ one_step task components
-step_joined z task components none first second third fourth e n h1 h2 h3 h4 =
-    two_parts (precondition_clauses (action_at z 0) (fact_at z 0) 0 task.actions) (effect_clauses (action_at z 0) (fact_at z 0) (fact_at z 1) (variable_at z 0) (rows task) (rows task) ++ (frame_clauses (fact_at z 0) (fact_at z 1) (variable_at z 0) (rows task) (range task.facts) ++ chain_clauses (action_at z 0) (chain_at z 0) task (chains task components))) none first fourth h1
-    (two_parts (effect_clauses (action_at z 0) (fact_at z 0) (fact_at z 1) (variable_at z 0) (rows task) (rows task)) (frame_clauses (fact_at z 0) (fact_at z 1) (variable_at z 0) (rows task) (range task.facts) ++ chain_clauses (action_at z 0) (chain_at z 0) task (chains task components)) first second fourth h2
-    (two_parts (frame_clauses (fact_at z 0) (fact_at z 1) (variable_at z 0) (rows task) (range task.facts)) (chain_clauses (action_at z 0) (chain_at z 0) task (chains task components)) second third fourth h3 h4))
-    ∙ ap (λ (r : List (List ℕ)). r ++ coded (step_clauses z task components 0)) n
-    ∙ ap (λ (x : Layout). coded (step_clauses x task components 0)) e
+    → fourth ≡ third ++ coded (chain_clauses (action_at z 0) (chain_at z 0) task (chains task places))
+    → fourth ≡ one_step task places
+step_joined z task places none first second third fourth e n h1 h2 h3 h4 =
+    two_parts (precondition_clauses (action_at z 0) (fact_at z 0) 0 task.actions) (effect_clauses (action_at z 0) (fact_at z 0) (fact_at z 1) (variable_at z 0) (rows task) (rows task) ++ (frame_clauses (fact_at z 0) (fact_at z 1) (variable_at z 0) (rows task) (range task.facts) ++ chain_clauses (action_at z 0) (chain_at z 0) task (chains task places))) none first fourth h1
+    (two_parts (effect_clauses (action_at z 0) (fact_at z 0) (fact_at z 1) (variable_at z 0) (rows task) (rows task)) (frame_clauses (fact_at z 0) (fact_at z 1) (variable_at z 0) (rows task) (range task.facts) ++ chain_clauses (action_at z 0) (chain_at z 0) task (chains task places)) first second fourth h2
+    (two_parts (frame_clauses (fact_at z 0) (fact_at z 1) (variable_at z 0) (rows task) (range task.facts)) (chain_clauses (action_at z 0) (chain_at z 0) task (chains task places)) second third fourth h3 h4))
+    ∙ ap (λ (r : List (List ℕ)). r ++ coded (step_clauses z task places 0)) n
+    ∙ ap (λ (x : Layout). coded (step_clauses x task places 0)) e

@@ -1,10 +1,11 @@
-use Rattle.std.specs.Prelude.{◌≡◌, ℕ, ◌+◌, ◌*◌, ◌<◌, ◌==◌, List, ◌&&◌, if◌then◌else◌, map, length, slice_index_or, []}
+use Rattle.std.specs.Prelude.{◌≡◌, ℕ, ◌+◌, ◌*◌, ◌<◌, ◌==◌, List, ◌∷◌, [], ◌++◌, true, ◌&&◌, if◌then◌else◌, map, length, slice_index_or}
 use Rattle.gt_core.specs.Task.{Task, Effect, owned}
+use Rattle.gt_core.specs.Active.{EffectWithin}
 use Rattle.gt_core.specs.Lawful.{is_conditional}
-use Rattle.gt_core.specs.Layout.{Layout}
-use Rattle.step_clauses.specs.Clause.{code}
+use Rattle.gt_core.specs.Layout.{Layout, action_at, fact_at}
+use Rattle.step_clauses.specs.Clause.{Literal, code}
 use Rattle.step_clauses.specs.Variables.{Row, rows, rows_from, variable_at}
-use Rattle.step_clauses.specs.Formula.{effects_with}
+use Rattle.step_clauses.specs.Formula.{effects_with, meaning_clauses, result_clause, effect_clauses}
 
 -- an effect of an action, with the number that it has where it is conditional
 abbrev pub row_of : ℕ → ℕ → Effect → Row
@@ -18,6 +19,13 @@ rows_of a j es = rows_from j (owned a es)
 abbrev pub number_after : ℕ → Effect → ℕ
 number_after j e = if is_conditional e then j + 1 else j
 
+-- an effect has its place in a layout: there is a step, and its action, its number and its facts are the layout's
+pub record IsPlaced (z : Layout) (a j : ℕ) (e : Effect) : Type 0 where
+  pub horizon : 0 < z.horizon
+  pub action : a < z.actions
+  pub number : is_conditional e ≡ true → j < z.conditional
+  pub within : EffectWithin z.facts e
+
 -- the codes of the variables in the first step of an action's effects with a literal
 abbrev pub made_by : Layout → ℕ → ℕ → List Row → List ℕ
 made_by z a l rs = map code (effects_with (variable_at z 0) (λ e. (e.action == a) && (e.literal == l)) rs)
@@ -30,3 +38,17 @@ made z l rs = map code (effects_with (variable_at z 0) (λ e. e.literal == l) rs
 pub record IsIndex (z : Layout) (task : Task) (index : List (List ℕ)) : Type 0 where
   pub long : length index ≡ 2 * task.facts
   pub each : (l : ℕ) → l < 2 * task.facts → slice_index_or index l [] ≡ made z l (rows task)
+
+-- The clauses of effects in the first step of a layout.
+
+abbrev pub meaning_of : Layout → Row → List (List Literal)
+meaning_of z r = meaning_clauses (action_at z 0) (fact_at z 0) (variable_at z 0) r
+
+abbrev pub result_of : Layout → List Row → Row → List Literal
+result_of z all r = result_clause (fact_at z 1) (variable_at z 0) all r
+
+abbrev pub effect_of : Layout → List Row → Row → List (List Literal)
+effect_of z all r = meaning_of z r ++ result_of z all r ∷ []
+
+abbrev pub effects_of : Layout → List Row → List Row → List (List Literal)
+effects_of z all rs = effect_clauses (action_at z 0) (fact_at z 0) (fact_at z 1) (variable_at z 0) all rs

@@ -13,7 +13,7 @@ ghost use Rattle.step_template.specs.Rows.{IsIndex};
 
 use crate::index::Makers;
 use crate::literals::{add_clause, literal_at};
-use clause_base::clause::Clause;
+use clause_base::clause_list::ClauseList;
 use clause_base::literal::Lit;
 use clause_base::memory::Memory;
 use gt_core::layout::Layout;
@@ -27,16 +27,16 @@ fn add_frame(
     lit: u32,
     contrary: u32,
     makers: &[Lit],
-    clauses: &mut Vec<Clause>,
+    clauses: &mut ClauseList,
 ) -> Result<(), Memory>
     requires horizon { 0 < layout.now.horizon }
     requires lit { lit < 2 * layout.now.facts }
     requires contrary { contrary < 2 * layout.now.facts }
-    ensures { OnOk result (clauses.new.items ≡ clauses.old.items ++ cons_option (clause_of (code (literal_over (fact_at layout.now 0) contrary) ∷ code (literal_over (fact_at layout.now 1) lit) ∷ makers.now)) []) }
+    ensures { OnOk result (clauses.new ≡ clauses.old ++ cons_option (clause_of (code (literal_over (fact_at layout.now 0) contrary) ∷ code (literal_over (fact_at layout.now 1) lit) ∷ makers.now)) []) }
 {
     let mut lits = vec![in alloc; literal_at(layout, 0, contrary), literal_at(layout, 1, lit)]?;
     lits.extend_from_slice(makers)?;
-    add_clause(alloc, clauses, lits.as_slice())?;
+    add_clause(clauses, lits.as_slice())?;
     Ok(())
 }
 
@@ -46,12 +46,12 @@ pub(crate) fn add_frames(
     layout: &Layout,
     task: &Task,
     index: &[Makers],
-    clauses: &mut Vec<Clause>,
+    clauses: &mut ClauseList,
 ) -> Result<(), Memory>
     requires horizon { 0 < layout.now.horizon }
     requires facts { layout.now.facts ≡ task.now.facts }
     requires index { IsIndex layout.now task.now index.now }
-    ensures { OnOk result (clauses.new.items ≡ clauses.old.items ++ coded (frame_clauses (fact_at layout.now 0) (fact_at layout.now 1) (variable_at layout.now 0) (rows task.now) (range task.now.facts))) }
+    ensures { OnOk result (clauses.new ≡ clauses.old ++ coded (frame_clauses (fact_at layout.now 0) (fact_at layout.now 1) (variable_at layout.now 0) (rows task.now) (range task.now.facts))) }
 {
     for f in 0..task.facts() {
         let add = 2 * f;

@@ -6,7 +6,7 @@ ghost use Rattle.gt_core.specs.Active.{EffectWithin};
 ghost use Rattle.gt_core.specs.Lawful.{is_conditional, conditional_in};
 ghost use Rattle.step_template.specs.Rows.{row_of, rows_of, made, IsIndex};
 
-use crate::numbers::{conditional_among, effect_variable, number_after};
+use crate::numbers::{Place, conditional_among, effect_variable, number_after};
 use clause_base::literal::Lit;
 use clause_base::memory::Memory;
 use gt_core::eff::Eff;
@@ -68,19 +68,18 @@ fn empty_makers(alloc: Global, count: usize) -> Result<Vec<Makers>, Memory>
 /// Puts the variable of an effect under its literal.
 fn index_effect(
     layout: &Layout,
-    action: u32,
-    number: u32,
+    place: Place,
     effect: &Eff,
     index: &mut Vec<Makers>,
 ) -> Result<(), Memory>
     requires horizon { 0 < layout.now.horizon }
-    requires action { action < layout.now.actions }
-    requires number { is_conditional effect.now ≡ true → number < layout.now.conditional }
+    requires action { place.action < layout.now.actions }
+    requires number { is_conditional effect.now ≡ true → place.number < layout.now.conditional }
     requires literal { effect.now.literal < length index.old.items }
     ensures long { length index.new.items ≡ length index.old.items }
-    ensures each { OnOk result ((l : ℕ) → slice_index_or index.new.items l [] ≡ slice_index_or index.old.items l [] ++ made layout.now l (row_of action number effect.now ∷ [])) }
+    ensures each { OnOk result ((l : ℕ) → slice_index_or index.new.items l [] ≡ slice_index_or index.old.items l [] ++ made layout.now l (row_of place.action place.number effect.now ∷ [])) }
 {
-    let variable = effect_variable(layout, action, number, effect);
+    let variable = effect_variable(layout, place, effect);
     index[effect.lit() as usize].push(Lit::of(variable, true))?;
     Ok(())
 }
@@ -104,7 +103,7 @@ fn index_effects_of(
 {
     let mut number = first;
     for effect in effects {
-        index_effect(layout, action, number, effect, index)?;
+        index_effect(layout, Place { action, number }, effect, index)?;
         number = number_after(number, effect);
     }
     Ok(())

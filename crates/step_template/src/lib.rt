@@ -2,6 +2,7 @@
 //! moved. Each clause group has a file of its own, and is what the definition in `step_clauses` lists of it.
 #![tactic(auto)]
 
+mod adders;
 mod effects;
 mod frames;
 mod index;

@@ -7,11 +7,10 @@ ghost use Rattle.clause_base.specs.Clause.{clause_of};
 ghost use Rattle.step_clauses.specs.Clause.{code};
 ghost use Rattle.step_clauses.specs.Formula.{literal_over};
 
-use clause_base::clause::Clause;
+use clause_base::clause_list::ClauseList;
 use clause_base::literal::Lit;
 use clause_base::memory::Memory;
 use gt_core::layout::Layout;
-use std::alloc::Global;
 
 /// The variable of an action in the first step.
 pub(crate) fn action_variable(layout: &Layout, a: u32) -> u32
@@ -61,15 +60,9 @@ pub(crate) fn literal_at(layout: &Layout, time: u32, lit: u32) -> Lit
 }
 
 /// Appends the clause of these literals, unless two of them are opposite.
-pub(crate) fn add_clause(
-    alloc: Global,
-    clauses: &mut Vec<Clause>,
-    lits: &[Lit],
-) -> Result<(), Memory>
-    ensures { OnOk result (clauses.new.items ≡ clauses.old.items ++ cons_option (clause_of lits.now) []) }
+pub(crate) fn add_clause(clauses: &mut ClauseList, lits: &[Lit]) -> Result<(), Memory>
+    ensures { OnOk result (clauses.new ≡ clauses.old ++ cons_option (clause_of lits.now) []) }
 {
-    if let Some(clause) = Clause::of(alloc, lits)? {
-        clauses.push(clause)?;
-    }
+    clauses.add_of(lits)?;
     Ok(())
 }

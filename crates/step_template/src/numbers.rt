@@ -1,31 +1,26 @@
 //! The numbers and the variables of effects.
 
 ghost use Rattle.std.specs.Prelude.{◌≡◌, ◌≤◌, ◌<◌, true, count_by};
-ghost use Rattle.gt_core.specs.Lawful.{is_conditional, conditional_in};
+ghost use Rattle.gt_core.specs.Lawful.{is_conditional};
 ghost use Rattle.step_clauses.specs.Variables.{variable_at};
 ghost use Rattle.step_template.specs.Rows.{row_of, number_after};
 
 use crate::literals::{action_variable, conditional_variable};
 use gt_core::eff::Eff;
 use gt_core::layout::Layout;
-use gt_core::task::Task;
+
+/// Where an effect stands: the number of its action, and the number that it has where it is conditional.
+#[derive(Clone, Copy, Debug)]
+pub(crate) struct Place {
+    pub(crate) action: u32,
+    pub(crate) number: u32,
+}
 
 /// How many of these effects have a condition.
 pub(crate) fn conditional_among(effects: &[Eff]) -> usize
     ensures { result ≡ count_by is_conditional effects.now }
 {
     effects.iter().filter(|e| !e.cond().is_empty()).count()
-}
-
-/// How many effects of a task have a condition.
-pub(crate) fn conditional_in(task: &Task) -> u32
-    ensures { result ≡ conditional_in task.now.actions }
-{
-    let mut count = 0;
-    for act in task.acts() {
-        count += conditional_among(act.effects());
-    }
-    count as u32
 }
 
 /// The number of the next conditional effect after an effect.
@@ -41,16 +36,16 @@ pub(crate) fn number_after(number: u32, effect: &Eff) -> u32
 }
 
 /// The variable of an effect in the first step: its own where it is conditional, else its action's.
-pub(crate) fn effect_variable(layout: &Layout, action: u32, number: u32, effect: &Eff) -> u32
+pub(crate) fn effect_variable(layout: &Layout, place: Place, effect: &Eff) -> u32
     requires horizon { 0 < layout.now.horizon }
-    requires action { action < layout.now.actions }
-    requires number { is_conditional effect.now ≡ true → number < layout.now.conditional }
-    ensures value { result ≡ variable_at layout.now 0 (row_of action number effect.now) }
+    requires action { place.action < layout.now.actions }
+    requires number { is_conditional effect.now ≡ true → place.number < layout.now.conditional }
+    ensures value { result ≡ variable_at layout.now 0 (row_of place.action place.number effect.now) }
     ensures small { result ≤ 2147483647 }
 {
     if effect.cond().is_empty() {
-        action_variable(layout, action)
+        action_variable(layout, place.action)
     } else {
-        conditional_variable(layout, number)
+        conditional_variable(layout, place.number)
     }
 }

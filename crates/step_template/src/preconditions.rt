@@ -8,47 +8,44 @@ ghost use Rattle.step_clauses.specs.Coded.{coded};
 ghost use Rattle.step_clauses.specs.Formula.{literal_over, precondition_clauses};
 
 use crate::literals::{action_variable, add_clause, literal_at};
-use clause_base::clause::Clause;
+use clause_base::clause_list::ClauseList;
 use clause_base::literal::Lit;
 use clause_base::memory::Memory;
 use gt_core::layout::Layout;
 use gt_core::task::Task;
-use std::alloc::Global;
 
 /// Appends the clauses of one action's precondition.
 fn add_precondition(
-    alloc: Global,
     layout: &Layout,
     action: u32,
     precondition: &[u32],
-    clauses: &mut Vec<Clause>,
+    clauses: &mut ClauseList,
 ) -> Result<(), Memory>
     requires horizon { 0 < layout.now.horizon }
     requires action { action < layout.now.actions }
     requires within { AllByRecursion (λ l. l / 2 < layout.now.facts) precondition.now }
-    ensures { OnOk result (clauses.new.items ≡ clauses.old.items ++ coded (map (λ l. Not (action_at layout.now 0 action) ∷ literal_over (fact_at layout.now 0) l ∷ []) precondition.now)) }
+    ensures { OnOk result (clauses.new ≡ clauses.old ++ coded (map (λ l. Not (action_at layout.now 0 action) ∷ literal_over (fact_at layout.now 0) l ∷ []) precondition.now)) }
 {
     let no_action = Lit::of(action_variable(layout, action), false);
     for lit in precondition {
-        add_clause(alloc, clauses, &[no_action, literal_at(layout, 0, *lit)])?;
+        add_clause(clauses, &[no_action, literal_at(layout, 0, *lit)])?;
     }
     Ok(())
 }
 
 /// Appends the clauses of all preconditions.
 pub(crate) fn add_preconditions(
-    alloc: Global,
     layout: &Layout,
     task: &Task,
-    clauses: &mut Vec<Clause>,
+    clauses: &mut ClauseList,
 ) -> Result<(), Memory>
     requires horizon { 0 < layout.now.horizon }
     requires actions { layout.now.actions ≡ length task.now.actions }
     requires facts { layout.now.facts ≡ task.now.facts }
-    ensures { OnOk result (clauses.new.items ≡ clauses.old.items ++ coded (precondition_clauses (action_at layout.now 0) (fact_at layout.now 0) 0 task.now.actions)) }
+    ensures { OnOk result (clauses.new ≡ clauses.old ++ coded (precondition_clauses (action_at layout.now 0) (fact_at layout.now 0) 0 task.now.actions)) }
 {
     for a in 0..layout.actions {
-        add_precondition(alloc, layout, a, task.act(a).pre(), clauses)?;
+        add_precondition(layout, a, task.act(a).pre(), clauses)?;
     }
     Ok(())
 }

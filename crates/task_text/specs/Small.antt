@@ -31,7 +31,7 @@ effect atom adds = record { over = []; cond = []; atom = atom; adds = adds }
 -- a task without a goal
 abbrev pub without_goal : List Predicate → List ObjectDecl → List Schema → List Atom → Parts
 without_goal predicates objects schemas init = record {
-  types = record { name = []; parent = 0 } ∷ [];
+  types = record { name = 111 ∷ []; parent = 0 } ∷ [];
   predicates = predicates;
   objects = objects;
   schemas = schemas;

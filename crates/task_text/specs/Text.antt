@@ -1,34 +1,12 @@
 -- Ground tasks and published orders as lines of text.
 use Rattle.std.specs.Prelude.{ℕ, ◌+◌, List, [], ◌∷◌, ◌++◌, map, length, codes, decimal, slice_index_or}
-use Rattle.std.specs.List.{flat_map}
 use Rattle.gt_core.specs.Lawful.{conditional_in}
 use Rattle.gt_core.specs.Published.{order_of}
 use Rattle.action_order.specs.Order.{name_in}
-use Rattle.pd_model.specs.declared.atoms.Atom.{Atom}
 use Rattle.pd_model.specs.declared.calls.Call.{Call}
 use Rattle.pd_model.specs.declared.parts.Parts.{Parts}
-use Rattle.pd_model.specs.Names.{predicate_names, object_names, schema_names}
+use Rattle.pd_model.specs.Text.{atom_text, call_text}
 use Rattle.grounding.specs.Grounded.{Grounded}
-
--- the name of a predicate, of an object, and of an action, by its number
-abbrev pub predicate_name : Parts → ℕ → List ℕ
-predicate_name p n = slice_index_or (predicate_names p.predicates) n []
-
-abbrev pub object_name : Parts → ℕ → List ℕ
-object_name p n = slice_index_or (object_names p.objects) n []
-
-abbrev pub schema_name : Parts → ℕ → List ℕ
-schema_name p n = slice_index_or (schema_names p.schemas) n []
-
--- `(name object ..)` with single spaces
-abbrev pub spelled : List ℕ → List (List ℕ) → List ℕ
-spelled name objects = codes "(" ++ (name ++ (flat_map (λ o. codes " " ++ o) objects ++ codes ")"))
-
-abbrev pub atom_text : Parts → Atom → List ℕ
-atom_text p a = spelled (predicate_name p a.predicate) (map (object_name p) a.objects)
-
-abbrev pub call_text : Parts → Call → List ℕ
-call_text p c = spelled (schema_name p c.schema) (map (object_name p) c.objects)
 
 -- one line for each text, with its number; the first has number n
 abbrev pub numbered : ℕ → List (List ℕ) → List ℕ

@@ -3,11 +3,11 @@
 //! `specs/Text.antt` says which lines.
 #![tactic(auto)]
 
-mod conditional;
 mod lines;
 mod names;
 mod report;
 #[cfg(test)]
 mod tests;
 
+pub use names::push_call;
 pub use report::{push_ground, push_order};

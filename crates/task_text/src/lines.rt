@@ -2,24 +2,15 @@
 ghost use Rattle.std.specs.Prelude.{◌≡◌, ◌++◌, codes, decimal, OnOk};
 ghost use Rattle.task_text.specs.Text.{counted};
 
-use itoa::Buffer;
 use pd_model::Memory;
-
-/// Appends a number in decimal.
-pub(crate) fn push_number(number: u32, text: &mut Vec<u8>) -> Result<(), Memory>
-    ensures { OnOk result (text.new.items ≡ text.old.items ++ decimal number) }
-{
-    let mut buffer = Buffer::new();
-    text.extend_from_slice(buffer.format(number).as_bytes())?;
-    Ok(())
-}
+use report_lines::push_number;
 
 /// Appends the start of a numbered line.
 pub(crate) fn push_line_start(number: u32, text: &mut Vec<u8>) -> Result<(), Memory>
     ensures { OnOk result (text.new.items ≡ text.old.items ++ (codes "; " ++ (decimal number ++ codes " "))) }
 {
     text.extend_from_slice(b"; ")?;
-    push_number(number, text)?;
+    push_number(text, u64::from(number))?;
     text.extend_from_slice(b" ")?;
     Ok(())
 }
@@ -31,7 +22,7 @@ pub(crate) fn push_count(word: &str, count: u32, text: &mut Vec<u8>) -> Result<(
     text.extend_from_slice(b"; ")?;
     text.extend_from_slice(word.as_bytes())?;
     text.extend_from_slice(b" ")?;
-    push_number(count, text)?;
+    push_number(text, u64::from(count))?;
     text.extend_from_slice(b"\n")?;
     Ok(())
 }

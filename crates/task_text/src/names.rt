@@ -1,7 +1,7 @@
 //! Atoms and calls, spelled by their names.
 ghost use Rattle.std.specs.Prelude.{◌≡◌, ◌++◌, List, map, codes, OnOk};
 ghost use Rattle.std.specs.List.{flat_map};
-ghost use Rattle.task_text.specs.Text.{predicate_name, object_name, schema_name, spelled, atom_text, call_text};
+ghost use Rattle.pd_model.specs.Text.{predicate_name, object_name, schema_name, spelled, atom_text, call_text};
 
 use pd_model::{Atom, Call, Memory, Pddl};
 
@@ -70,7 +70,7 @@ pub(crate) fn push_atom(p: &Pddl, atom: &Atom, text: &mut Vec<u8>) -> Result<(),
 }
 
 /// Appends a call.
-pub(crate) fn push_call(p: &Pddl, call: &Call, text: &mut Vec<u8>) -> Result<(), Memory>
+pub fn push_call(p: &Pddl, call: &Call, text: &mut Vec<u8>) -> Result<(), Memory>
     ensures { OnOk result (text.new.items ≡ text.old.items ++ call_text p.now call.now) }
 {
     push_spelled(

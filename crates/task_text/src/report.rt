@@ -3,15 +3,16 @@ ghost use Rattle.std.specs.Prelude.{◌≡◌, ◌++◌, ◌<◌, map, length, t
 ghost use Rattle.gt_core.specs.Literal.{is_in};
 ghost use Rattle.gt_core.specs.Published.{IsPublished, order_of};
 ghost use Rattle.grounding.specs.Grounded.{IsGrounded};
-ghost use Rattle.task_text.specs.Text.{atom_text, call_text, placed, numbered, ground_text, order_counts, order_text};
+ghost use Rattle.pd_model.specs.Text.{atom_text, call_text};
+ghost use Rattle.task_text.specs.Text.{placed, numbered, ground_text, order_counts, order_text};
 
-use crate::conditional::conditional_effects;
-use crate::lines::{push_count, push_line_start, push_number};
+use crate::lines::{push_count, push_line_start};
 use crate::names::{push_atom, push_call};
 use action_order::order::Order;
 use grounder::Grounded;
 use gt_core::pairs::Pairs;
 use pd_model::{Memory, Pddl};
+use report_lines::push_number;
 
 /// Appends the lines of the facts, of which there are so many.
 fn push_facts(p: &Pddl, g: &Grounded, facts: u32, text: &mut Vec<u8>) -> Result<(), Memory>
@@ -52,19 +53,19 @@ pub fn push_ground(p: &Pddl, g: &Grounded, text: &mut Vec<u8>) -> Result<(), Mem
     push_facts(p, g, facts, text)?;
     push_count("actions", actions, text)?;
     push_actions(p, g, actions, text)?;
-    push_count("effects", conditional_effects(task), text)
+    push_count("effects", task.conditional(), text)
 }
 
 /// Appends the counts of an order of actions.
-fn push_counts(actions: u32, components: u32, pairs: u32, text: &mut Vec<u8>) -> Result<(), Memory>
+fn push_counts(actions: u64, components: u64, pairs: u64, text: &mut Vec<u8>) -> Result<(), Memory>
     ensures { OnOk result (text.new.items ≡ text.old.items ++ order_counts actions components pairs) }
 {
     text.extend_from_slice(b"; actions ")?;
-    push_number(actions, text)?;
+    push_number(text, actions)?;
     text.extend_from_slice(b" components ")?;
-    push_number(components, text)?;
+    push_number(text, components)?;
     text.extend_from_slice(b" pairs ")?;
-    push_number(pairs, text)?;
+    push_number(text, pairs)?;
     text.extend_from_slice(b"\n")?;
     Ok(())
 }
@@ -81,7 +82,7 @@ fn push_placed(
     requires action { a < length g.now.calls }
     ensures { OnOk result (text.new.items ≡ text.old.items ++ placed p.now g.now order.now a) }
 {
-    push_number(order.component(a), text)?;
+    push_number(text, u64::from(order.component(a)))?;
     text.extend_from_slice(b" ")?;
     push_call(p, g.call(a), text)
 }
@@ -114,9 +115,9 @@ pub fn push_order(
     ensures { OnOk result (text.new.items ≡ text.old.items ++ order_text p.now g.now order.now (length pairs.now.clauses)) }
 {
     push_counts(
-        g.task().acts().len() as u32,
-        order.components(),
-        pairs.count(),
+        g.task().acts().len() as u64,
+        u64::from(order.components()),
+        u64::from(pairs.count()),
         text,
     )?;
     push_places(p, g, order, text)

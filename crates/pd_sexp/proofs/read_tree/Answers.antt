@@ -2,6 +2,7 @@ use Rattle.std.proofs.lemmas.Result.{err_from_is_err_and}
 use Rattle.pd_sexp.specs.Reader.{state_of}
 use Rattle.pd_sexp.proofs.Verdicts.{Reached-step}
 use Rattle.pd_sexp.proofs.Judged.{Judged, from_step, from_end, read_of, syntax_of, deep_of}
+use Rattle.pd_sexp.proofs.WordLaw.{words_of}
 use Rattle.pd_sexp.proofs.read_tree.Goals as goal
 use Rattle.pd_sexp.proofs.read_tree.Goals.{After-finish}
 
@@ -33,3 +34,6 @@ returns-clause-syntax c at is = syntax_of c.args.bytes.now c.finish.result (ende
 
 pub returns-clause-deep : goal.returns-clause-deep
 returns-clause-deep c at is = deep_of c.args.bytes.now c.finish.result (ended c) at is
+
+pub returns-clause-words : goal.returns-clause-words
+returns-clause-words c = words_of c.args.bytes.now c.finish.result (read_of c.args.bytes.now c.finish.result (ended c))

@@ -6,4 +6,4 @@ use Rattle.pd_task.proofs.read_pddl.Goals as goal
 
 pub new-requires : goal.new-requires
 new-requires c =
-    read_formed (view c.args.domain.now) (view c.args.problem.now) (domain_of c.in-Ok.tables) c.in-Ok-read_problem.parts c.in-Ok.ensures.domain c.in-Ok-read_problem.ensures (sym c.few_parts.ensures ∙ c.if-not-few_parts.false)
+    read_formed (view c.args.domain.now) (view c.args.problem.now) c.requires.domain c.requires.problem (domain_of c.in-Ok.tables) c.in-Ok-read_problem.parts c.in-Ok.ensures c.in-Ok-read_problem.ensures (sym c.few_parts.ensures ∙ c.if-not-few_parts.false)

@@ -2,55 +2,96 @@ use Rattle.std.proofs.Common.{arith, ◌≡◌, ◌<◌, ℕ, length, sym, ◌�
 use Rattle.std.specs.List.{AllByRecursion}
 use Rattle.gt_core.proofs.Literals.{in_among}
 use Rattle.gt_core.proofs.Basics.{each_at}
-use Rattle.action_order.specs.Graph.{class_at}
-use Rattle.action_order.specs.Draw.{IsQuotient, IsDraw, AreNames}
-use Rattle.action_order.proofs.DrawLaw.{drawn_below}
-use Rattle.action_order.proofs.OrderLaw.{each_below}
+use Rattle.action_order.specs.Graph.{class_at, IsClassed}
+use Rattle.action_order.specs.Quotient.{IsQuotient, AreNames}
+use Rattle.action_order.specs.Sorting.{IsTopologicalOrder}
+use Rattle.action_order.proofs.SortingLaw.{taken_below}
+use Rattle.action_order.proofs.QuotientLaw.{named_components}
+use Rattle.action_order.proofs.OrderLaw.{each_below, few_roots}
 use Rattle.action_order.proofs.ListedLaw.{is_listed, name_listed, name_item}
 use Rattle.action_order.proofs.publish.list_components.Goals as goal
 
-pub list-requires-clause-order : goal.list-requires-clause-order
-list-requires-clause-order c =
-    let t = c.args.targets.now in
+pub sort_components-requires-clause-rows : goal.sort_components-requires-clause-rows
+sort_components-requires-clause-rows c =
+    let t = c.args.targets.items in
     let n = c.in_ok-found.found.numbers.items in
     let r = c.in_ok-found.found.roots.items in
-    let q : IsQuotient t n (length r) (length t) c.in_ok-rows.rows.items = rw (← c.as_slice-numbers.ensures.value, ← c.as_slice.ensures.value) c.in_ok-rows.ensures in
-    let d : IsDraw c.in_ok-rows.rows.items c.in_ok-least.least.items c.in_ok-order.order.items = rw (← c.as_slice-3.ensures.value, ← c.as_slice-4.ensures.value) c.in_ok-order.ensures in
+    let classed : IsClassed t n r = rw (← c.as_slice.ensures.value) c.in_ok-found.ensures in
+    let q : IsQuotient t n (length r) c.in_ok-rows.rows.items = rw (← c.as_slice-numbers.ensures.value, ← c.as_slice-2.ensures.value) c.in_ok-rows.ensures in
+    let named : AreNames n (length r) (length n) c.in_ok-least.least.items = rw (← c.as_slice-numbers.ensures.value, ← c.as_slice-3.ensures.value) c.in_ok-least.ensures in
+    rw (c.as_slice-numbers.ensures.value, c.as_slice-4.ensures.value, c.as_slice-5.ensures.value) (named_components t n r c.in_ok-rows.rows.items c.in_ok-least.least.items c.requires.graph classed q named)
+
+pub sort_components-requires-clause-small : goal.sort_components-requires-clause-small
+sort_components-requires-clause-small c =
+    let t = c.args.targets.items in
+    let n = c.in_ok-found.found.numbers.items in
+    let r = c.in_ok-found.found.roots.items in
+    let classed : IsClassed t n r = rw (← c.as_slice.ensures.value) c.in_ok-found.ensures in
+    let q : IsQuotient t n (length r) c.in_ok-rows.rows.items = rw (← c.as_slice-numbers.ensures.value, ← c.as_slice-2.ensures.value) c.in_ok-rows.ensures in
+    let named : AreNames n (length r) (length n) c.in_ok-least.least.items = rw (← c.as_slice-numbers.ensures.value, ← c.as_slice-3.ensures.value) c.in_ok-least.ensures in
+    let few = few_roots t n r classed in
+    let bound = c.requires.few in
+    let l = q.long in
+    rw c.as_slice-4.ensures.value (omega arith)
+
+pub list-requires-clause-below : goal.list-requires-clause-below
+list-requires-clause-below c =
+    let t = c.args.targets.items in
+    let n = c.in_ok-found.found.numbers.items in
+    let r = c.in_ok-found.found.roots.items in
+    let classed : IsClassed t n r = rw (← c.as_slice.ensures.value) c.in_ok-found.ensures in
+    let q : IsQuotient t n (length r) c.in_ok-rows.rows.items = rw (← c.as_slice-numbers.ensures.value, ← c.as_slice-2.ensures.value) c.in_ok-rows.ensures in
+    let named : AreNames n (length r) (length n) c.in_ok-least.least.items = rw (← c.as_slice-numbers.ensures.value, ← c.as_slice-3.ensures.value) c.in_ok-least.ensures in
     let len : c.len.result ≡ length c.in_ok-rows.rows.items = search rules in
-    rw (c.as_slice-5.ensures.value) (subst (λ (m : ℕ). AllByRecursion (λ x. x < m) c.in_ok-order.order.items) (sym len) (drawn_below c.in_ok-rows.rows.items _ _ _ d.drawn))
+    rw c.as_slice-numbers.ensures.value (each_below n c.len.result (λ a lt.
+    let b = classed.below a (let l = classed.long in omega arith) in let l = q.long in omega arith))
+
+pub list-requires-clause-order : goal.list-requires-clause-order
+list-requires-clause-order c =
+    let t = c.args.targets.items in
+    let n = c.in_ok-found.found.numbers.items in
+    let r = c.in_ok-found.found.roots.items in
+    let classed : IsClassed t n r = rw (← c.as_slice.ensures.value) c.in_ok-found.ensures in
+    let q : IsQuotient t n (length r) c.in_ok-rows.rows.items = rw (← c.as_slice-numbers.ensures.value, ← c.as_slice-2.ensures.value) c.in_ok-rows.ensures in
+    let named : AreNames n (length r) (length n) c.in_ok-least.least.items = rw (← c.as_slice-numbers.ensures.value, ← c.as_slice-3.ensures.value) c.in_ok-least.ensures in
+    let d : IsTopologicalOrder c.in_ok-rows.rows.items c.in_ok-least.least.items n c.in_ok-order.order.items = rw (← c.as_slice-numbers.ensures.value, ← c.as_slice-4.ensures.value, ← c.as_slice-5.ensures.value) c.in_ok-order.ensures in
+    let len : c.len.result ≡ length c.in_ok-rows.rows.items = search rules in
+    rw (c.as_slice-6.ensures.value) (subst (λ (m : ℕ). AllByRecursion (λ x. x < m) c.in_ok-order.order.items) (sym len) (taken_below c.in_ok-rows.rows.items _ _ _ _ d.taken))
 
 pub names_of-requires : goal.names_of-requires
 names_of-requires c =
-    let t = c.args.targets.now in
+    let t = c.args.targets.items in
     let n = c.in_ok-found.found.numbers.items in
     let r = c.in_ok-found.found.roots.items in
-    let named : AreNames n (length r) (length n) c.in_ok-least.least.items = rw (← c.as_slice-numbers.ensures.value, ← c.as_slice-2.ensures.value) c.in_ok-least.ensures in
-    let classed = c.in_ok-found.ensures in
-    rw (c.as_slice-numbers.ensures.value, c.as_slice-6.ensures.value) (each_below n (length c.in_ok-least.least.items) (λ a lt.
+    let classed : IsClassed t n r = rw (← c.as_slice.ensures.value) c.in_ok-found.ensures in
+    let q : IsQuotient t n (length r) c.in_ok-rows.rows.items = rw (← c.as_slice-numbers.ensures.value, ← c.as_slice-2.ensures.value) c.in_ok-rows.ensures in
+    let named : AreNames n (length r) (length n) c.in_ok-least.least.items = rw (← c.as_slice-numbers.ensures.value, ← c.as_slice-3.ensures.value) c.in_ok-least.ensures in
+    rw (c.as_slice-numbers.ensures.value, c.as_slice-7.ensures.value) (each_below n (length c.in_ok-least.least.items) (λ a lt.
     let b = classed.below a (let l = classed.long in omega arith) in let l = named.long in omega arith))
 
 pub returns-clause-listed : goal.returns-clause-listed
 returns-clause-listed c =
-    let t = c.args.targets.now in
+    let t = c.args.targets.items in
     let n = c.in_ok-found.found.numbers.items in
     let r = c.in_ok-found.found.roots.items in
-    let q : IsQuotient t n (length r) (length t) c.in_ok-rows.rows.items = rw (← c.as_slice-numbers.ensures.value, ← c.as_slice.ensures.value) c.in_ok-rows.ensures in
-    let d : IsDraw c.in_ok-rows.rows.items c.in_ok-least.least.items c.in_ok-order.order.items = rw (← c.as_slice-3.ensures.value, ← c.as_slice-4.ensures.value) c.in_ok-order.ensures in
-    let named : AreNames n (length r) (length n) c.in_ok-least.least.items = rw (← c.as_slice-numbers.ensures.value, ← c.as_slice-2.ensures.value) c.in_ok-least.ensures in
-    rw (c.in_ok-components.ensures, c.as_slice-numbers.ensures.value, c.as_slice-5.ensures.value)
-    (is_listed t n r c.in_ok-rows.rows.items c.in_ok-least.least.items c.requires.graph c.in_ok-found.ensures q named c.in_ok-order.order.items d)
+    let classed : IsClassed t n r = rw (← c.as_slice.ensures.value) c.in_ok-found.ensures in
+    let q : IsQuotient t n (length r) c.in_ok-rows.rows.items = rw (← c.as_slice-numbers.ensures.value, ← c.as_slice-2.ensures.value) c.in_ok-rows.ensures in
+    let named : AreNames n (length r) (length n) c.in_ok-least.least.items = rw (← c.as_slice-numbers.ensures.value, ← c.as_slice-3.ensures.value) c.in_ok-least.ensures in
+    let d : IsTopologicalOrder c.in_ok-rows.rows.items c.in_ok-least.least.items n c.in_ok-order.order.items = rw (← c.as_slice-numbers.ensures.value, ← c.as_slice-4.ensures.value, ← c.as_slice-5.ensures.value) c.in_ok-order.ensures in
+    rw (c.in_ok-components.ensures, c.as_slice-numbers.ensures.value, c.as_slice-6.ensures.value)
+    (is_listed t n r c.in_ok-rows.rows.items c.in_ok-least.least.items c.requires.graph classed q named c.in_ok-order.order.items d)
 
 pub returns-clause-names : goal.returns-clause-names
 returns-clause-names c =
-    let t = c.args.targets.now in
+    let t = c.args.targets.items in
     let n = c.in_ok-found.found.numbers.items in
     let r = c.in_ok-found.found.roots.items in
-    let q : IsQuotient t n (length r) (length t) c.in_ok-rows.rows.items = rw (← c.as_slice-numbers.ensures.value, ← c.as_slice.ensures.value) c.in_ok-rows.ensures in
-    let d : IsDraw c.in_ok-rows.rows.items c.in_ok-least.least.items c.in_ok-order.order.items = rw (← c.as_slice-3.ensures.value, ← c.as_slice-4.ensures.value) c.in_ok-order.ensures in
-    let named : AreNames n (length r) (length n) c.in_ok-least.least.items = rw (← c.as_slice-numbers.ensures.value, ← c.as_slice-2.ensures.value) c.in_ok-least.ensures in
-    let classed = c.in_ok-found.ensures in
-    rw (c.in_ok-names.ensures, c.in_ok-components.ensures, c.as_slice-6.ensures.value, c.as_slice-numbers.ensures.value, c.as_slice-5.ensures.value) (λ a lt.
+    let classed : IsClassed t n r = rw (← c.as_slice.ensures.value) c.in_ok-found.ensures in
+    let q : IsQuotient t n (length r) c.in_ok-rows.rows.items = rw (← c.as_slice-numbers.ensures.value, ← c.as_slice-2.ensures.value) c.in_ok-rows.ensures in
+    let named : AreNames n (length r) (length n) c.in_ok-least.least.items = rw (← c.as_slice-numbers.ensures.value, ← c.as_slice-3.ensures.value) c.in_ok-least.ensures in
+    let d : IsTopologicalOrder c.in_ok-rows.rows.items c.in_ok-least.least.items n c.in_ok-order.order.items = rw (← c.as_slice-numbers.ensures.value, ← c.as_slice-4.ensures.value, ← c.as_slice-5.ensures.value) c.in_ok-order.ensures in
+    rw (c.in_ok-names.ensures, c.in_ok-components.ensures, c.as_slice-7.ensures.value, c.as_slice-numbers.ensures.value, c.as_slice-6.ensures.value) (λ a lt.
     name_item c.in_ok-least.least.items n a (let l = classed.long in omega arith)
     ∙ sym (name_listed t n r c.in_ok-rows.rows.items c.in_ok-least.least.items c.requires.graph classed q named c.in_ok-order.order.items a lt
-    (λ x i. let b = each_at (λ x. x < length c.in_ok-rows.rows.items) c.in_ok-order.order.items x (drawn_below c.in_ok-rows.rows.items _ _ _ d.drawn) (in_among _ x i) in let l = q.long in omega arith)
+    (λ x i. let b = each_at (λ x. x < length c.in_ok-rows.rows.items) c.in_ok-order.order.items x (taken_below c.in_ok-rows.rows.items _ _ _ _ d.taken) (in_among _ x i) in let l = q.long in omega arith)
     (d.all (class_at n a) (let b = classed.below a lt in let l = q.long in omega arith))))

@@ -3,4 +3,4 @@ use Rattle.action_order.specs.Readers.{IsEntered, has_fact}
 use Rattle.action_order.proofs.readers.enter_condition.Given as goal
 
 abbrev pub invariant-loop-lit : goal.invariant-loop-lit
-invariant-loop-lit l = IsEntered (has_fact (take l.lit-index l.condition)) l.b l.initial.lists.items l.lists.items
+invariant-loop-lit l = IsEntered (has_fact (take l.lit-index l.condition)) l.b l.initial.rows.items l.rows.items

@@ -1,8 +1,8 @@
 use Rattle.std.proofs.Common.{◌+◌, take, List, ℕ, subst}
 use Rattle.gt_core.specs.Task.{Effect}
-use Rattle.action_order.specs.Edge.{asked_in}
-use Rattle.action_order.specs.Readers.{IsEntered, has_fact}
-use Rattle.action_order.proofs.SetLaw.{any_more}
+use Rattle.gt_core.specs.Interference.{action_asks}
+use Rattle.action_order.specs.Readers.{IsEntered, has_fact, of_effects}
+use Rattle.action_order.proofs.GrowLaw.{any_more}
 use Rattle.action_order.proofs.ReadersLaw.{entered_then}
 use Rattle.action_order.proofs.readers.enter_effects.Goals as goal
 
@@ -11,6 +11,6 @@ loop-effect-preserved c =
     let i = c.loop-effect.effect-index in
     let effects = c.args.effects.now in
     let e = c.effect-item.result in
-    let one : IsEntered (has_fact e.condition) c.args.b c.loop-effect.lists.items c.enter_condition.new.lists.items = subst (λ (ls : List ℕ). IsEntered (has_fact ls) c.args.b c.loop-effect.lists.items c.enter_condition.new.lists.items) c.cond.ensures c.in_ok-enter_condition.ensures in
-    let two = subst (λ (x : Effect). IsEntered (has_fact x.condition) c.args.b c.loop-effect.lists.items c.enter_condition.new.lists.items) c.effect-item.is one in
-    entered_then (asked_in (take i effects)) _ (asked_in (take (i + 1) effects)) c.args.b c.args.lists.now.items c.loop-effect.lists.items c.enter_condition.new.lists.items c.loop-effect.invariant two (λ k. any_more (λ x. has_fact x.condition k) effects i e c.loop-effect-test.true)
+    let one : IsEntered (has_fact e.condition) c.args.b c.loop-effect.rows.items c.enter_condition.new.rows.items = subst (λ (ls : List ℕ). IsEntered (has_fact ls) c.args.b c.loop-effect.rows.items c.enter_condition.new.rows.items) c.cond.ensures c.in_ok-enter_condition.ensures in
+    let two = subst (λ (x : Effect). IsEntered (has_fact x.condition) c.args.b c.loop-effect.rows.items c.enter_condition.new.rows.items) c.effect-item.is one in
+    entered_then (action_asks (of_effects (take i effects))) _ (action_asks (of_effects (take (i + 1) effects))) c.args.b c.args.rows.now.items c.loop-effect.rows.items c.enter_condition.new.rows.items c.loop-effect.invariant two (λ k. any_more (λ x. has_fact x.condition k) effects i e c.loop-effect-test.true)

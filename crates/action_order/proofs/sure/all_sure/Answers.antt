@@ -1,51 +1,33 @@
-use Rattle.std.proofs.Common.{arith, ◌≡◌, ◌*◌, ◌+◌, ℕ, List, [], ◌∷◌, ◌++◌, length, sym, ap, ◌∙◌, subst}
+use Rattle.std.proofs.Common.{arith, ◌≡◌, ◌*◌, ◌+◌, ℕ, List, [], ◌∷◌, ◌++◌, length, refl, sym, ap, ◌∙◌, subst}
 use Rattle.std.proofs.lemmas.List.{length_push}
 use Rattle.gt_core.specs.Task.{Effect, Action}
-use Rattle.action_order.specs.Walk.{targets_of}
-use Rattle.action_order.specs.Edge.{act_at, may_in}
-use Rattle.action_order.specs.Members.{Members}
-use Rattle.action_order.specs.Sure.{IsSure}
+use Rattle.action_order.specs.Graph.{row_at}
+use Rattle.action_order.specs.Readers.{act_at}
+use Rattle.action_order.specs.Sure.{IsSure, AreMade}
 use Rattle.action_order.proofs.ReadersLaw.{effects_below, act_is, within_at}
-use Rattle.action_order.proofs.SetLaw.{pushed_each}
+use Rattle.action_order.proofs.GrowLaw.{pushed_each}
 use Rattle.action_order.proofs.sure.all_sure.Goals as goal
-
-pub loop-act-init : goal.loop-act-init
-loop-act-init c = record {
-  bound = ap (λ (m : Members). m.bound) c.in_ok-made.ensures;
-  long = let e = c.new-all.ensures.items in cc;
-  each = λ a lt. absurd (omega arith);
-}
-
-pub collect_literals-requires : goal.collect_literals-requires
-collect_literals-requires c =
-    let w = within_at c.args.facts c.args.acts.now c.loop-act.act-index c.act-item.result c.requires.within c.loop-act-test.true c.act-item.is in
-    record {
-      empty = ap (λ (m : Members). m.members) c.clear.ensures;
-      within = rw c.effects.ensures (effects_below c.args.facts c.clear.new.self.bound c.act-item.result.effects w.effects (ap (λ (m : Members). m.bound) c.clear.ensures ∙ c.loop-act.invariant.bound));
-    }
 
 pub sure_literals-requires : goal.sure_literals-requires
 sure_literals-requires c =
     let w = within_at c.args.facts c.args.acts.now c.loop-act.act-index c.act-item.result c.requires.within c.loop-act-test.true c.act-item.is in
     record {
-      made = λ l. c.in_ok-collect_literals.ensures.literals l ∙ ap (λ (es : List Effect). may_in es l) (c.effects.ensures ∙ sym c.effects-in-loop-act.ensures);
-      within = rw c.effects-in-loop-act.ensures (effects_below c.args.facts c.collect_literals.new.made.bound c.act-item.result.effects w.effects (c.in_ok-collect_literals.ensures.bound ∙ ap (λ (m : Members). m.bound) c.clear.ensures ∙ c.loop-act.invariant.bound));
+      made = subst (λ (es : List Effect). AreMade c.collect_literals.new.made es) (c.effects.ensures ∙ sym c.effects-in-loop-act.ensures) c.in_ok-collect_literals.ensures;
+      within = rw c.effects-in-loop-act.ensures (effects_below c.args.facts (2 * c.args.facts) c.act-item.result.effects w.effects refl);
     }
 
 pub loop-act-preserved : goal.loop-act-preserved
 loop-act-preserved c =
     let i = c.loop-act.act-index in
     let acts = c.args.acts.now in
-    let bound : c.collect_literals.new.made.bound ≡ 2 * c.args.facts = c.in_ok-collect_literals.ensures.bound ∙ ap (λ (m : Members). m.bound) c.clear.ensures ∙ c.loop-act.invariant.bound in
     let sure = c.in_ok-sure_literals.field-0 in
     let act = act_is acts i c.act-item.result c.loop-act-test.true c.act-item.is in
-    let one : IsSure (2 * c.args.facts) c.act-item.result.effects sure = rw (c.effects-in-loop-act.ensures, bound) at c.in_ok-sure_literals.ensures in
+    let one : IsSure (2 * c.args.facts) c.act-item.result.effects sure = rw c.effects-in-loop-act.ensures at c.in_ok-sure_literals.ensures in
     let two : IsSure (2 * c.args.facts) (act_at acts i).effects sure = subst (λ (x : Action). IsSure (2 * c.args.facts) x.effects sure) act one in
     let pushed : c.push.new.self.items ≡ c.loop-act.all.items ++ sure ∷ [] = c.in_ok-push.ensures.items in
     record {
-      bound = bound;
       long = ap length pushed ∙ length_push c.loop-act.all.items sure ∙ ap (λ (n : ℕ). n + 1) c.loop-act.invariant.long;
-      each = λ a lt. subst (λ (all : List (List ℕ)). IsSure (2 * c.args.facts) (act_at acts a).effects (targets_of all a)) (sym pushed) (pushed_each (λ k. IsSure (2 * c.args.facts) (act_at acts k).effects) c.loop-act.all.items sure i c.loop-act.invariant.long c.loop-act.invariant.each two a lt);
+      each = λ a lt. subst (λ (all : List (List ℕ)). IsSure (2 * c.args.facts) (act_at acts a).effects (row_at all a)) (sym pushed) (pushed_each (λ k. IsSure (2 * c.args.facts) (act_at acts k).effects) c.loop-act.all.items sure i c.loop-act.invariant.long c.loop-act.invariant.each two a lt);
     }
 
 pub returns : goal.returns

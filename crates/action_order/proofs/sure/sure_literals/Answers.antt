@@ -1,9 +1,9 @@
-use Rattle.std.proofs.Common.{arith, length, ◌≡◌, ◌==◌, ◌&&◌, ◌||◌, ◌+◌, ℕ, List, [], ◌∷◌, ◌++◌, take, Bool, true, false, ap, ◌∙◌}
+use Rattle.std.proofs.Common.{arith, length, ◌≡◌, ◌*◌, ◌==◌, ◌&&◌, ◌||◌, ◌+◌, ℕ, List, [], ◌∷◌, ◌++◌, take, Bool, true, false, ap, ◌∙◌}
 use Rattle.std.proofs.Math.Seq.{take-length}
 use Rattle.gt_core.specs.Literal.{is_in}
 use Rattle.gt_core.specs.Task.{Effect}
 use Rattle.action_order.specs.Sure.{is_sure, is_sure_of, makes_surely}
-use Rattle.action_order.proofs.SetLaw.{in_pushed}
+use Rattle.action_order.proofs.GrowLaw.{in_pushed}
 use Rattle.action_order.proofs.SureLaw.{sure_more, sure_below}
 use Rattle.action_order.proofs.sure.sure_literals.Goals as goal
 use Rattle.action_order.proofs.sure.sure_literals.Goals.{then-makes_surely+in_ok-push, else-makes_surely}
@@ -14,10 +14,10 @@ loop-effect-preserved c k =
     let effects = c.args.effects.now in
     let e = c.effect-item.result in
     let sure = c.loop-effect.sure.items in
-    let law = sure_more effects c.args.made.now.members sure i e c.loop-effect-test.true c.requires.made c.loop-effect.invariant k in
+    let law = sure_more effects c.args.made.now sure i e c.loop-effect-test.true c.requires.made c.loop-effect.invariant k in
     let more : ((c.makes_surely.result && (e.literal == k)) || is_in sure k) ≡ is_sure_of (take (i + 1) effects) effects k =
     ap (λ (t : Bool). (t && (e.literal == k)) || is_in sure k) c.makes_surely.ensures
-    ∙ ap (λ (x : Effect). (makes_surely c.args.made.now.members x && (x.literal == k)) || is_in sure k) c.effect-item.is ∙ law in
+    ∙ ap (λ (x : Effect). (makes_surely c.args.made.now x && (x.literal == k)) || is_in sure k) c.effect-item.is ∙ law in
     elim c.if-makes_surely.branch [
       | then-makes_surely+in_ok-push w ↦
           let pushed : c.if-makes_surely.sure.items ≡ sure ++ e.literal ∷ [] = let s = w.sure-is in let p = w.in_ok-push.ensures.items in let l = w.lit.ensures in cc in
@@ -37,4 +37,4 @@ returns c =
     let end : i ≡ length effects = omega arith in
     let whole : take i effects ≡ effects = ap (λ (n : ℕ). take n effects) end ∙ take-length effects in
     let tells : (l : ℕ) → is_in sure l ≡ is_sure effects l = λ l. c.loop-effect.invariant l ∙ ap (λ (es : List Effect). is_sure_of es effects l) whole in
-    rw c.of.ensures (record { tells = tells; below = sure_below c.args.made.now.bound effects sure tells c.requires.within })
+    rw c.of.ensures (record { tells = tells; below = sure_below (2 * c.args.facts) effects sure tells c.requires.within })

@@ -1,6 +1,7 @@
 use Rattle.cdcl_laws.proofs.Start.{start_sound}
 use Rattle.cdcl_laws.proofs.Fuel.{sound_after, after_is}
-use Rattle.cdcl_laws.proofs.Cuts.{adds_up, settled_stays, after_within, quiet_short}
+use Rattle.cdcl_laws.proofs.Cuts.{adds_up, settled_stays, after_within, quiet_short, log_short}
+use Rattle.cdcl_laws.proofs.Stops.{grants, rests_always}
 use Rattle.cdcl_laws.proofs.law.runs_are_sound.Goals as goal
 
 pub returns-clause-start : goal.returns-clause-start
@@ -23,3 +24,12 @@ returns-clause-settled c = settled_stays
 
 pub returns-clause-within : goal.returns-clause-within
 returns-clause-within c = after_within
+
+pub returns-clause-rests : goal.returns-clause-rests
+returns-clause-rests c = rests_always
+
+pub returns-clause-grants : goal.returns-clause-grants
+returns-clause-grants c = grants
+
+pub returns-clause-short_log : goal.returns-clause-short_log
+returns-clause-short_log c = log_short

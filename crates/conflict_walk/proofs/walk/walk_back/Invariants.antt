@@ -1,17 +1,16 @@
 use Rattle.std.proofs.Common.{◌≡◌, ◌≤◌, [], reverse, take, length}
 use Rattle.cdcl_rules.specs.Learn.{walk}
-use Rattle.conflict_walk.specs.Draft.{places}
-use Rattle.conflict_walk.specs.Walk.{count_at, all_clauses, IsRefuted}
+use Rattle.conflict_walk.specs.Clauses.{all_clauses}
+use Rattle.conflict_walk.specs.Resolvent.{literals, IsOver}
 use Rattle.conflict_walk.proofs.walk.walk_back.Given as goal
 
-abbrev pub invariant-loop-index : goal.invariant-loop-index
-invariant-loop-index l = record {
-  within : l.index ≤ length l.trail;
-  counted : l.count ≡ count_at l.levels l.level (places 0 l.draft);
-  size : length l.draft ≡ length l.initial.draft;
-  refuted : IsRefuted l.trail (places 0 l.draft);
-  walked : walk (all_clauses l.clauses l.log) l.trail (reverse l.trail) (record { clause = places 0 l.initial.draft; hints = [] }) ≡ walk (all_clauses l.clauses l.log) l.trail (reverse (take l.index l.trail)) (record { clause = places 0 l.draft; hints = reverse l.hints.items });
+abbrev pub invariant-walking : goal.invariant-walking
+invariant-walking l = record {
+  within : l.index ≤ length l.trail.entries;
+  over : IsOver l.trail l.resolvent;
+  size : length l.resolvent.on ≡ length l.initial.resolvent.on;
+  walked : walk (all_clauses l.clauses) l.trail.entries (reverse l.trail.entries) (record { clause = literals l.initial.resolvent; hints = [] }) ≡ walk (all_clauses l.clauses) l.trail.entries (reverse (take l.index l.trail.entries)) (record { clause = literals l.resolvent; hints = reverse l.hints.items });
 }
 
-abbrev pub decreases-loop-index : goal.decreases-loop-index
-decreases-loop-index l = l.index
+abbrev pub decreases-walking : goal.decreases-walking
+decreases-walking l = l.index

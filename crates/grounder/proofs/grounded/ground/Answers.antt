@@ -1,8 +1,17 @@
-use Rattle.std.proofs.Common.{arith, ◌≡◌, ◌∙◌, ap, length}
+use Rattle.std.proofs.Common.{arith, ◌≡◌, ◌∙◌, ap, sym, subst, length, List}
+use Rattle.std.specs.List.{list_all}
+use Rattle.pd_model.specs.declared.calls.Call.{Call}
+use Rattle.pd_model.specs.declared.parts.Parts.{Parts}
+use Rattle.grounding.specs.Instance.{instance_of}
+use Rattle.grounding.specs.Found.{IsLeastPair, may_be_true}
+use Rattle.grounder.specs.Few.{HaveFew}
+use Rattle.grounder.proofs.Few.{kept_few, left_few}
 use Rattle.gt_core.specs.Lawful.{conditional_in}
 use Rattle.grounding.specs.Simplify.{task_of}
 use Rattle.grounding.specs.Found.{grounded_by}
-use Rattle.grounder.proofs.Saturated.{few_told}
+use Rattle.gt_core.specs.Task.{Action}
+use Rattle.grounding.specs.Tuples.{saturated}
+use Rattle.grounder.proofs.Saturated.{few_saturated, many_saturated}
 use Rattle.grounder.proofs.Assembled.{grounded_is, with_task}
 use Rattle.grounder.proofs.Listed.{exact_in}
 use Rattle.grounder.proofs.grounded.ground.Goals as goal
@@ -13,18 +22,19 @@ returns-then-count-gt65536-clause-effects c =
     let facts = c.in_ok-known.known.facts in
     let calls = c.in_ok-calls.calls in
     let found = c.in_ok-reached.ensures in
-    let is = grounded_is c.laws.ensures.least_is_grounded p c.in_ok-reached.reached.atoms c.in_ok-reached.reached.calls found.least found.atoms_sorted found.calls_sorted
+    let least = subst (λ (q : Parts). IsLeastPair q c.in_ok-reached.reached.atoms c.in_ok-reached.reached.calls) c.in_ok-domains.ensures found.least in
+    let is = grounded_is c.laws.ensures.least_is_grounded p c.in_ok-reached.reached.atoms c.in_ok-reached.reached.calls least found.atoms_sorted found.calls_sorted
     c.in_ok-constant.constant facts calls (exact_in c.in_ok-domains.domains p c.in_ok-reached.reached.atoms c.in_ok-reached.reached.calls c.in_ok-constant.constant c.in_ok-domains.ensures c.in_ok-constant.ensures) (c.in_ok-known.ensures.facts ∙ c.in_ok-facts.ensures) c.in_ok-calls.ensures in
     let acts = c.as_slice-4.ensures ∙ (rw c.as_slice-3.ensures at c.in_ok-acts.ensures) in
-    let count : c.in_ok-count-2.count ≡ conditional_in (task_of p facts calls).actions = c.in_ok-count-2.ensures ∙ ap conditional_in acts in
+    let count : c.conditional_in-count.result ≡ saturated (conditional_in (task_of p facts calls).actions) = c.conditional_in-count.ensures ∙ ap (λ (xs : List Action). saturated (conditional_in xs)) acts in
     λ n e. record {
       grounded = grounded_by p facts calls;
       is = is;
-      tuples = few_told _ c.in_ok-count.count c.in_ok-count.ensures c.if-count-gt4000000.false;
+      tuples = few_saturated 4000000 _ c.count_tuples-count.result (omega arith) c.count_tuples-count.ensures c.if-count-gt4000000.false;
       facts = omega (arith, ap length c.as_slice.ensures, ap length c.in_ok-known.ensures.facts);
       actions = omega (arith, ap length c.as_slice-2.ensures);
-      over = omega (arith, count);
-      count_is = (let same : n ≡ c.in_ok-count-2.count = cc in same ∙ count);
+      over = many_saturated 65536 _ _ count c.if-count-gt65536.true;
+      count_is = (let same : n ≡ c.conditional_in-count.result = cc in same ∙ count);
     }
 
 pub task_of-requires-clause-task : goal.task_of-requires-clause-task
@@ -33,15 +43,16 @@ task_of-requires-clause-task c =
     let facts = c.in_ok-known.known.facts in
     let calls = c.in_ok-calls.calls in
     let found = c.in_ok-reached.ensures in
-    let is = grounded_is c.laws.ensures.least_is_grounded p c.in_ok-reached.reached.atoms c.in_ok-reached.reached.calls found.least found.atoms_sorted found.calls_sorted
+    let least = subst (λ (q : Parts). IsLeastPair q c.in_ok-reached.reached.atoms c.in_ok-reached.reached.calls) c.in_ok-domains.ensures found.least in
+    let is = grounded_is c.laws.ensures.least_is_grounded p c.in_ok-reached.reached.atoms c.in_ok-reached.reached.calls least found.atoms_sorted found.calls_sorted
     c.in_ok-constant.constant facts calls (exact_in c.in_ok-domains.domains p c.in_ok-reached.reached.atoms c.in_ok-reached.reached.calls c.in_ok-constant.constant c.in_ok-domains.ensures c.in_ok-constant.ensures) (c.in_ok-known.ensures.facts ∙ c.in_ok-facts.ensures) c.in_ok-calls.ensures in
     let acts = c.as_slice-4.ensures ∙ (rw c.as_slice-3.ensures at c.in_ok-acts.ensures) in
-    let count : c.in_ok-count-2.count ≡ conditional_in (task_of p facts calls).actions = c.in_ok-count-2.ensures ∙ ap conditional_in acts in
+    let count : c.conditional_in-count.result ≡ saturated (conditional_in (task_of p facts calls).actions) = c.conditional_in-count.ensures ∙ ap (λ (xs : List Action). saturated (conditional_in xs)) acts in
     rw c.as_slice-5.ensures (c.laws.ensures.grounded_is_task p (grounded_by p facts calls) is (record {
-      tuples = few_told _ c.in_ok-count.count c.in_ok-count.ensures c.if-count-gt4000000.false;
+      tuples = few_saturated 4000000 _ c.count_tuples-count.result (omega arith) c.count_tuples-count.ensures c.if-count-gt4000000.false;
       facts = omega (arith, ap length c.as_slice.ensures, ap length c.in_ok-known.ensures.facts);
       actions = omega (arith, ap length c.as_slice-2.ensures);
-      effects = omega (arith, count);
+      effects = few_saturated 65536 _ _ (omega arith) count c.if-count-gt65536.false;
     }))
 
 pub returns-clause-grounded : goal.returns-clause-grounded
@@ -50,6 +61,23 @@ returns-clause-grounded c =
     let facts = c.in_ok-known.known.facts in
     let calls = c.in_ok-calls.calls in
     let found = c.in_ok-reached.ensures in
-    let is = grounded_is c.laws.ensures.least_is_grounded p c.in_ok-reached.reached.atoms c.in_ok-reached.reached.calls found.least found.atoms_sorted found.calls_sorted
+    let least = subst (λ (q : Parts). IsLeastPair q c.in_ok-reached.reached.atoms c.in_ok-reached.reached.calls) c.in_ok-domains.ensures found.least in
+    let is = grounded_is c.laws.ensures.least_is_grounded p c.in_ok-reached.reached.atoms c.in_ok-reached.reached.calls least found.atoms_sorted found.calls_sorted
     c.in_ok-constant.constant facts calls (exact_in c.in_ok-domains.domains p c.in_ok-reached.reached.atoms c.in_ok-reached.reached.calls c.in_ok-constant.constant c.in_ok-domains.ensures c.in_ok-constant.ensures) (c.in_ok-known.ensures.facts ∙ c.in_ok-facts.ensures) c.in_ok-calls.ensures in
     with_task p facts calls c.in_ok-task.task is (rw c.as_slice-5.ensures at c.in_ok-task.ensures)
+
+pub constant_atoms-requires-clause-few : goal.constant_atoms-requires-clause-few
+constant_atoms-requires-clause-few c =
+    let p = c.args.p.now in
+    let calls = c.in_ok-reached.reached.calls in
+    let least = subst (λ (q : Parts). IsLeastPair q c.in_ok-reached.reached.atoms calls) c.in_ok-domains.ensures c.in_ok-reached.ensures.least in
+    subst (λ (q : Parts). HaveFew q calls) (sym c.in_ok-domains.ensures)
+    (kept_few p calls (few_saturated 4000000 _ c.count_tuples-count.result (omega arith) c.count_tuples-count.ensures c.if-count-gt4000000.false) (λ d h. (least.calls d).0 h))
+
+pub acts_of-requires-clause-few : goal.acts_of-requires-clause-few
+acts_of-requires-clause-few c =
+    let p = c.args.p.now in
+    let kept = c.in_ok-reached.reached.calls in
+    let least = subst (λ (q : Parts). IsLeastPair q c.in_ok-reached.reached.atoms kept) c.in_ok-domains.ensures c.in_ok-reached.ensures.least in
+    let few = kept_few p kept (few_saturated 4000000 _ c.count_tuples-count.result (omega arith) c.count_tuples-count.ensures c.if-count-gt4000000.false) (λ d h. (least.calls d).0 h) in
+    subst (HaveFew p) (sym (c.as_slice-3.ensures ∙ c.in_ok-calls.ensures)) (left_few p (λ d. list_all (may_be_true p c.in_ok-known.known.facts) (instance_of p d).precondition) kept few)

@@ -1,12 +1,10 @@
 use Rattle.std.proofs.Common.{◌≡◌, ◌+◌, ◌-◌, ◌^◌, ◌≤◌, drop}
 use Rattle.std.specs.Prelude.{sum_by}
-use Rattle.grounding.specs.Tuples.{effect_tuples, told}
-use Rattle.grounder.specs.Counting.{AreCounts}
+use Rattle.grounding.specs.Tuples.{effect_tuples, saturated}
 use Rattle.grounder.proofs.tuples.effects_tuples.Given as goal
 
 abbrev pub invariant-loop-effect : goal.invariant-loop-effect
 invariant-loop-effect l = record {
-  counts : AreCounts l.p l.counts;
-  sum : told (sum_by (λ e. effect_tuples l.p e.over) l.effects) ≡ told (l.sum + sum_by (λ e. effect_tuples l.p e.over) (drop l.effect-index l.effects));
+  sum : saturated (sum_by (λ e. effect_tuples l.p e.over) l.effects) ≡ saturated (l.sum + sum_by (λ e. effect_tuples l.p e.over) (drop l.effect-index l.effects));
   fits : l.sum ≤ 2 ^ 64 - 1;
 }

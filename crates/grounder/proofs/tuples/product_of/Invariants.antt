@@ -1,11 +1,9 @@
 use Rattle.std.proofs.Common.{◌≡◌, ◌*◌, ◌-◌, ◌^◌, ◌≤◌, drop}
-use Rattle.grounding.specs.Tuples.{product_of, told}
-use Rattle.grounder.specs.Counting.{AreCounts}
+use Rattle.grounding.specs.Tuples.{product_of, saturated}
 use Rattle.grounder.proofs.tuples.product_of.Given as goal
 
 abbrev pub invariant-loop-kind : goal.invariant-loop-kind
 invariant-loop-kind l = record {
-  counts : AreCounts l.p l.counts;
-  product : told (product_of l.p l.kinds) ≡ told (l.product * product_of l.p (drop l.kind-index l.kinds));
+  product : saturated (product_of l.p l.kinds) ≡ saturated (l.product * product_of l.p (drop l.kind-index l.kinds));
   fits : l.product ≤ 2 ^ 64 - 1;
 }

@@ -1,6 +1,8 @@
 use Rattle.gt_core.proofs.RunLaw.{runs_in_order}
 use Rattle.gt_core.proofs.StepLaw.{step_of_one, step_of_none}
 use Rattle.gt_core.proofs.PublishedLaw.{published_keeps_apart}
+use Rattle.gt_core.proofs.UniqueLaw.{published_same, each_once}
+use Rattle.gt_core.proofs.SequenceLaw.{plan_runs}
 use Rattle.gt_core.proofs.laws.laws.Goals as goal
 
 pub returns-clause-runs_in_order : goal.returns-clause-runs_in_order
@@ -14,3 +16,12 @@ returns-clause-empty_set c = step_of_none
 
 pub returns-clause-keeps_apart : goal.returns-clause-keeps_apart
 returns-clause-keeps_apart c = published_keeps_apart
+
+pub returns-clause-unique : goal.returns-clause-unique
+returns-clause-unique c = published_same
+
+pub returns-clause-each_once : goal.returns-clause-each_once
+returns-clause-each_once c = each_once
+
+pub returns-clause-plan_runs : goal.returns-clause-plan_runs
+returns-clause-plan_runs c = plan_runs

@@ -1,5 +1,5 @@
 use Rattle.std.proofs.Common.{◌≡◌, drop}
-use Rattle.pd_plan.specs.First.{after}
+use Rattle.pd_words.specs.First.{after}
 use Rattle.pd_plan.specs.PlanFile.{calls_of}
 use Rattle.pd_plan.proofs.calls.read_calls.Given as goal
 

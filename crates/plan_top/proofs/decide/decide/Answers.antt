@@ -1,22 +1,42 @@
-use Rattle.std.proofs.Common.{map, string_bytes}
-use Rattle.plan_top.specs.Causes.{Comes, ComesTwo, ComesCheck, of_two, of_check}
-use Rattle.plan_top.proofs.Stopped.{Answers-weaker}
+use Rattle.std.proofs.Common.{sym, map, string_bytes}
+use Rattle.plan_words.specs.Seen.{seen, files_of}
+use Rattle.plan_top.specs.Files.{StopsFrom}
+use Rattle.plan_top.specs.Causes.{Comes, Decides, stopped, of_request}
+use Rattle.plan_top.proofs.Stopped.{EndsAs-handed, EndsAs-weaker}
+use Rattle.plan_top.proofs.Taking.{taken_short, taken_count}
+use Rattle.plan_top.proofs.Told.{taken_comes}
 use Rattle.plan_top.proofs.decide.decide.Goals as goal
 
-pub returns-in-Some-clause-cause : goal.returns-in-Some-clause-cause
-returns-in-Some-clause-cause g c =
+pub returns-in_err-files-clause-cause : goal.returns-in_err-files-clause-cause
+returns-in_err-files-clause-cause g c =
     let told = g.S.Shelf.told c.args.shelf.now in
     let lacks = g.S.Shelf.lacks c.args.shelf.now in
     let old = g.S.Shelf.failed c.args.shelf.now in
-    let new = g.S.Shelf.failed c.decide_two.new.shelf in
-    Answers-weaker (ComesTwo told lacks old new c.in-Some.command c.in-Some.domain.now c.in-Some.problem.now) (Comes told lacks old new (map string_bytes c.args.words.now))
-    (λ end h. of_two c.in-Some.command c.in-Some.domain.now c.in-Some.problem.now c.in-Some.ensures h) c.decide_two.result c.decide_two.ensures.cause
+    let new = g.S.Shelf.failed c.take_files.new.shelf in
+    let words = map string_bytes c.args.words.now in
+    let request = seen c.in-Some.request in
+    EndsAs-handed (StopsFrom told lacks old new 0 (files_of request)) (Comes told lacks old new words)
+    (λ end h. of_request request (sym (rw c.in-Some.is at c.in_ok-request.ensures.request)) (stopped h)) c.in_err-files.field-0.0 c.from_residual-in_err-files.result c.from_residual-in_err-files.ensures.1 c.in_err-files.ensures.stops
 
-pub returns-in-Some-check_files-clause-cause : goal.returns-in-Some-check_files-clause-cause
-returns-in-Some-check_files-clause-cause g c =
+pub returns-clause-cause : goal.returns-clause-cause
+returns-clause-cause g c =
     let told = g.S.Shelf.told c.args.shelf.now in
     let lacks = g.S.Shelf.lacks c.args.shelf.now in
     let old = g.S.Shelf.failed c.args.shelf.now in
-    let new = g.S.Shelf.failed c.decide_check.new.shelf in
-    Answers-weaker (ComesCheck told lacks old new c.in-Some-check_files.domain.now c.in-Some-check_files.problem.now c.in-Some-check_files.plan.now) (Comes told lacks old new (map string_bytes c.args.words.now))
-    (λ end h. of_check c.in-Some-check_files.domain.now c.in-Some-check_files.problem.now c.in-Some-check_files.plan.now c.in-Some-check_files.ensures h) c.decide_check.result c.decide_check.ensures.cause
+    let new = g.S.Shelf.failed c.take_files.new.shelf in
+    let words = map string_bytes c.args.words.now in
+    let request = seen c.in-Some.request in
+    EndsAs-weaker (Decides request c.in_ok-files.files.items) (Comes told lacks old new words)
+    (λ end h. of_request request (sym (rw c.in-Some.is at c.in_ok-request.ensures.request)) (taken_comes told lacks old new request c.in_ok-files.files.items c.in_ok-files.ensures.taken end h))
+    c.answer.result (rw c.deref.ensures.value at c.answer.ensures)
+
+pub answer-requires-clause-fit : goal.answer-requires-clause-fit
+answer-requires-clause-fit g c κs within =
+    rw c.deref.ensures.value (taken_short (g.S.Shelf.told c.args.shelf.now) (g.S.Shelf.lacks c.args.shelf.now) (files_of (seen c.in-Some.request)) c.in_ok-files.files.items c.in_ok-files.ensures.taken)
+
+pub answer-requires-clause-count : goal.answer-requires-clause-count
+answer-requires-clause-count g c κs within =
+    rw c.deref.ensures.value (taken_count (g.S.Shelf.told c.args.shelf.now) (g.S.Shelf.lacks c.args.shelf.now) (files_of (seen c.in-Some.request)) c.in_ok-files.files.items c.in_ok-files.ensures.taken)
+
+pub answer-requires-clause-sized : goal.answer-requires-clause-sized
+answer-requires-clause-sized g c κs within = rw c.in-Some.is at c.in_ok-request.ensures.sized

@@ -1,7 +1,7 @@
 use Rattle.std.proofs.Common.{◌+◌, ◌<◌, Bool, ap, ◌∙◌, refl, drop, subst, if◌then◌else◌}
 use Rattle.gt_core.specs.Layout.{action_at, chain_at}
 use Rattle.gt_core.proofs.Basics.{or_left, and_split}
-use Rattle.step_chains.specs.Found.{LinkedChain}
+use Rattle.step_chains.specs.Chains.{LinkedChain}
 use Rattle.step_chains.proofs.WalkLaw.{at, left_next, count_next, variable_left, pass_next}
 use Rattle.step_chains.proofs.clauses.add_passes.Goals as goal
 
@@ -28,5 +28,5 @@ loop-link-preserved c =
     let s = c.seen_after-seen.ensures in (
       left,
       rw (e, s) (count_next links i _ c.loop-link.seen c.loop-link.next z.chains is inv.1),
-      inv.2 ∙ rw (e, s) (pass_next (action_at z 0) (chain_at z 0) links i _ c.loop-link.seen c.loop-link.next c.left_after-left.result c.loop-link.clauses.items c.add_pass.new.clauses.items is left c.in_ok-add_pass.ensures),
+      inv.2 ∙ rw (e, s) (pass_next (action_at z 0) (chain_at z 0) links i _ c.loop-link.seen c.loop-link.next c.left_after-left.result c.loop-link.clauses c.add_pass.new.clauses is left c.in_ok-add_pass.ensures),
     )

@@ -1,4 +1,4 @@
-use Rattle.std.proofs.Common.{◌≡◌, [], ◌∷◌, ◌++◌, map, drop}
+use Rattle.std.proofs.Common.{◌≡◌, [], ◌∷◌, ◌+◌, ◌++◌, map, length, drop}
 use Rattle.gt_core.specs.Layout.{fact_at}
 use Rattle.step_clauses.specs.Clause.{code}
 use Rattle.step_clauses.specs.Formula.{literal_over}
@@ -10,3 +10,4 @@ invariant-loop-lit l =
     × (l.formula.variables ≡ l.initial.formula.variables)
     × (l.initial.formula.clauses ++ map (λ m. code (literal_over (fact_at l.layout l.layout.horizon) m) ∷ []) l.task.goal
     ≡ l.formula.clauses ++ map (λ m. code (literal_over (fact_at l.layout l.layout.horizon) m) ∷ []) (drop l.lit-index l.task.goal))
+    × (length l.formula.clauses ≡ length l.initial.formula.clauses + l.lit-index)

@@ -7,5 +7,5 @@ use Rattle.step_template.proofs.effects.add_conditions.Given as goal
 
 abbrev pub invariant-loop-lit : goal.invariant-loop-lit
 invariant-loop-lit l =
-    l.initial.clauses.items ++ coded (map (λ m. Not l.variable ∷ literal_over (fact_at l.layout 0) m ∷ []) l.condition)
-    ≡ l.clauses.items ++ coded (map (λ m. Not l.variable ∷ literal_over (fact_at l.layout 0) m ∷ []) (drop l.lit-index l.condition))
+    l.initial.clauses ++ coded (map (λ m. Not l.variable ∷ literal_over (fact_at l.layout 0) m ∷ []) l.condition)
+    ≡ l.clauses ++ coded (map (λ m. Not l.variable ∷ literal_over (fact_at l.layout 0) m ∷ []) (drop l.lit-index l.condition))

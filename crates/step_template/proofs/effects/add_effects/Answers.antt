@@ -5,6 +5,7 @@ use Rattle.gt_core.specs.Lawful.{is_conditional}
 use Rattle.gt_core.proofs.Within.{action_effects_within}
 use Rattle.step_template.proofs.RowLaw.{conditional_taken}
 use Rattle.step_template.proofs.EffectLaw.{actions_step, effects_by}
+use Rattle.step_template.proofs.AddersLaw.{sorted_by}
 use Rattle.step_template.proofs.effects.add_effects.Goals as goal
 
 pub add_effects_of-requires-clause-within : goal.add_effects_of-requires-clause-within
@@ -27,5 +28,12 @@ loop-a-preserved c =
     let taken = conditional_taken task.actions a (record { precondition = []; effects = [] }) lt in
     let first = c.loop-a.invariant.0 in (
       omega (arith, next, count, taken, first),
-      actions_step c.args.layout.now task a c.loop-a.first (c.loop-a.first + c.conditional_among.result) c.effects-effects.result.now _ c.loop-a.clauses.items c.add_effects_of.new.clauses.items lt is first next c.loop-a.invariant.1 c.in_ok-add_effects_of.ensures,
+      actions_step c.args.layout.now task a c.loop-a.first (c.loop-a.first + c.conditional_among.result) c.effects-effects.result.now _ c.loop-a.clauses c.add_effects_of.new.clauses lt is first next c.loop-a.invariant.1 c.in_ok-add_effects_of.ensures,
     )
+
+pub add_effects_of-requires-clause-sorted : goal.add_effects_of-requires-clause-sorted
+add_effects_of-requires-clause-sorted c =
+    let e = ap (λ (z : Layout). z.actions) c.layout.view_is in
+    let task = c.args.task.now in
+    let lt : c.loop-a.a < length task.actions = let r = c.requires.actions in let t = c.loop-a-test.true in omega (arith, e, r, t) in
+    sorted_by c.args.layout.now.facts task c.loop-a.a c.effects-effects.result.now c.requires.facts c.act.ensures.lawful lt (c.effects-effects.ensures ∙ ap (λ (x : Action). x.effects) c.act.ensures.act)

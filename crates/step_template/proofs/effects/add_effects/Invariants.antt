@@ -10,5 +10,5 @@ use Rattle.step_template.proofs.effects.add_effects.Given as goal
 abbrev pub invariant-loop-a : goal.invariant-loop-a
 invariant-loop-a l =
     (l.first ≡ conditional_in (take l.a l.task.actions))
-    × (l.initial.clauses.items ++ coded (effect_clauses (action_at l.layout 0) (fact_at l.layout 0) (fact_at l.layout 1) (variable_at l.layout 0) (rows l.task) (rows l.task))
-    ≡ l.clauses.items ++ coded (effect_clauses (action_at l.layout 0) (fact_at l.layout 0) (fact_at l.layout 1) (variable_at l.layout 0) (rows l.task) (rows_from l.first (effects_from l.a (drop l.a l.task.actions)))))
+    × (l.initial.clauses ++ coded (effect_clauses (action_at l.layout 0) (fact_at l.layout 0) (fact_at l.layout 1) (variable_at l.layout 0) (rows l.task) (rows l.task))
+    ≡ l.clauses ++ coded (effect_clauses (action_at l.layout 0) (fact_at l.layout 0) (fact_at l.layout 1) (variable_at l.layout 0) (rows l.task) (rows_from l.first (effects_from l.a (drop l.a l.task.actions)))))

@@ -7,4 +7,4 @@ use Rattle.step_clauses.specs.Coded.{coded}
 use Rattle.step_template.proofs.frames.add_frames.Given as goal
 
 abbrev pub invariant-loop-f : goal.invariant-loop-f
-invariant-loop-f l = l.clauses.items ≡ l.initial.clauses.items ++ coded (frame_clauses (fact_at l.layout 0) (fact_at l.layout 1) (variable_at l.layout 0) (rows l.task) (range l.f))
+invariant-loop-f l = l.clauses ≡ l.initial.clauses ++ coded (frame_clauses (fact_at l.layout 0) (fact_at l.layout 1) (variable_at l.layout 0) (rows l.task) (range l.f))

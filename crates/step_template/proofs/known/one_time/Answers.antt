@@ -3,4 +3,4 @@ use Rattle.step_template.proofs.known.one_time.Goals as goal
 
 pub loop-i-preserved : goal.loop-i-preserved
 loop-i-preserved c =
-    known_step c.args.pairs.now.clauses c.loop-i.i c.at-l.result c.at-l.result _ c.loop-i.clauses.items c.add_known.new.clauses.items c.at-l.ensures c.loop-i.invariant c.in_ok-add_known.ensures
+    known_step c.args.pairs.now.clauses c.loop-i.i c.at-l.result c.at-l.result _ c.loop-i.clauses c.add_known.new.clauses c.at-l.ensures c.loop-i.invariant c.in_ok-add_known.ensures

@@ -7,5 +7,5 @@ use Rattle.step_template.proofs.preconditions.add_precondition.Given as goal
 
 abbrev pub invariant-loop-lit : goal.invariant-loop-lit
 invariant-loop-lit l =
-    l.initial.clauses.items ++ coded (map (λ m. Not (action_at l.layout 0 l.action) ∷ literal_over (fact_at l.layout 0) m ∷ []) l.precondition)
-    ≡ l.clauses.items ++ coded (map (λ m. Not (action_at l.layout 0 l.action) ∷ literal_over (fact_at l.layout 0) m ∷ []) (drop l.lit-index l.precondition))
+    l.initial.clauses ++ coded (map (λ m. Not (action_at l.layout 0 l.action) ∷ literal_over (fact_at l.layout 0) m ∷ []) l.precondition)
+    ≡ l.clauses ++ coded (map (λ m. Not (action_at l.layout 0 l.action) ∷ literal_over (fact_at l.layout 0) m ∷ []) (drop l.lit-index l.precondition))

@@ -19,4 +19,4 @@ loop-a-preserved c =
     let task = c.args.task.now in
     let a = c.loop-a.a in
     let lt : a < length task.actions = let r = c.requires.actions in let t = c.loop-a-test.true in omega (arith, e, r, t) in
-    precondition_step (action_at c.args.layout.now 0) (fact_at c.args.layout.now 0) task.actions a (record { precondition = []; effects = [] }) c.pre.result.now _ c.loop-a.clauses.items c.add_precondition.new.clauses.items lt (c.pre.ensures ∙ ap (λ (x : Action). x.precondition) c.act.ensures.act) c.loop-a.invariant c.in_ok-add_precondition.ensures
+    precondition_step (action_at c.args.layout.now 0) (fact_at c.args.layout.now 0) task.actions a (record { precondition = []; effects = [] }) c.pre.result.now _ c.loop-a.clauses c.add_precondition.new.clauses lt (c.pre.ensures ∙ ap (λ (x : Action). x.precondition) c.act.ensures.act) c.loop-a.invariant c.in_ok-add_precondition.ensures

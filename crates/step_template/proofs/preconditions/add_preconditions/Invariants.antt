@@ -6,5 +6,5 @@ use Rattle.step_template.proofs.preconditions.add_preconditions.Given as goal
 
 abbrev pub invariant-loop-a : goal.invariant-loop-a
 invariant-loop-a l =
-    l.initial.clauses.items ++ coded (precondition_clauses (action_at l.layout 0) (fact_at l.layout 0) 0 l.task.actions)
-    ≡ l.clauses.items ++ coded (precondition_clauses (action_at l.layout 0) (fact_at l.layout 0) l.a (drop l.a l.task.actions))
+    l.initial.clauses ++ coded (precondition_clauses (action_at l.layout 0) (fact_at l.layout 0) 0 l.task.actions)
+    ≡ l.clauses ++ coded (precondition_clauses (action_at l.layout 0) (fact_at l.layout 0) l.a (drop l.a l.task.actions))

@@ -1,6 +1,6 @@
 use Rattle.std.proofs.Common.{◌≡◌, ◌++◌, map, codes, drop}
 use Rattle.std.specs.List.{flat_map}
-use Rattle.task_text.specs.Text.{object_name}
+use Rattle.pd_model.specs.Text.{object_name}
 use Rattle.task_text.proofs.names.push_objects.Given as goal
 
 abbrev pub invariant-loop-object : goal.invariant-loop-object

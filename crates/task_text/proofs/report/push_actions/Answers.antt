@@ -1,5 +1,5 @@
 use Rattle.std.proofs.Common.{arith, ◌≤◌, ◌∙◌, length}
-use Rattle.task_text.specs.Text.{call_text}
+use Rattle.pd_model.specs.Text.{call_text}
 use Rattle.task_text.proofs.LineLaw.{line_next, lines_done}
 use Rattle.task_text.proofs.report.push_actions.Goals as goal
 

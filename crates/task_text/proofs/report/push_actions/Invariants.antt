@@ -1,5 +1,6 @@
 use Rattle.std.proofs.Common.{◌≡◌, ◌++◌, map, drop}
-use Rattle.task_text.specs.Text.{call_text, numbered}
+use Rattle.pd_model.specs.Text.{call_text}
+use Rattle.task_text.specs.Text.{numbered}
 use Rattle.task_text.proofs.report.push_actions.Given as goal
 
 abbrev pub invariant-loop-a : goal.invariant-loop-a

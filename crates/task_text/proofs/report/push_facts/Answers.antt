@@ -1,5 +1,5 @@
 use Rattle.std.proofs.Common.{arith, ◌≤◌, ◌∙◌, length}
-use Rattle.task_text.specs.Text.{atom_text}
+use Rattle.pd_model.specs.Text.{atom_text}
 use Rattle.task_text.proofs.LineLaw.{line_next, lines_done}
 use Rattle.task_text.proofs.report.push_facts.Goals as goal
 

@@ -1,5 +1,6 @@
 use Rattle.std.proofs.Common.{◌≡◌, ◌++◌, map, drop}
-use Rattle.task_text.specs.Text.{atom_text, numbered}
+use Rattle.pd_model.specs.Text.{atom_text}
+use Rattle.task_text.specs.Text.{numbered}
 use Rattle.task_text.proofs.report.push_facts.Given as goal
 
 abbrev pub invariant-loop-f : goal.invariant-loop-f

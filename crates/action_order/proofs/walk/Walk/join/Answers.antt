@@ -12,10 +12,12 @@ loop-self-preserved c =
     let past : ends_past c.args.to starts ≡ true = rw (← c.as_slice.ensures.value) (sym c.ends_past.ensures ∙ c.loop-self-test.true) in
     let last = last_past starts c.args.to past in
     record {
-      walk = rw (c.pop.ensures.rest, long)
-          (joined_once c.args.targets.now _ _ _ starts _ _ _ _ c.args.from c.args.to i.walk (front_last starts _ last.0) (rw i.stack c.requires.from.0) (rw i.work c.requires.from.1) last.1 (rw i.stack c.requires.reached));
+      walk = record {
+        walk = rw (c.pop.ensures.rest, long)
+            (joined_once c.args.targets.now _ _ starts _ _ _ _ c.args.to i.walk.walk (front_last starts _ last.0) (rw i.stack c.requires.to) last.1 (rw i.stack c.requires.reached));
+        sets = i.walk.sets;
+      };
       marks = i.marks;
-      next = i.next;
       stack = i.stack;
       work = i.work;
     }
@@ -24,4 +26,4 @@ pub returns-clause-joined : goal.returns-clause-joined
 returns-clause-joined c =
     let i = c.loop-self.invariant in
     let none : ends_past c.args.to c.loop-self.self.starts.items ≡ false = rw (← c.as_slice.ensures.value) (sym c.ends_past.ensures ∙ c.loop-self-test.false) in
-    none_past c.loop-self.self.starts.items c.args.to i.walk.starts_rising none
+    none_past c.loop-self.self.starts.items c.args.to i.walk.walk.starts_rising none

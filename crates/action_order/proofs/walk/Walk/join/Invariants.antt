@@ -6,7 +6,6 @@ abbrev pub invariant-loop-self : goal.invariant-loop-self
 invariant-loop-self l = record {
   walk : IsWalkOf l.targets l.self;
   marks : l.self.marks.items ≡ l.initial.self.marks.items;
-  next : l.self.next.items ≡ l.initial.self.next.items;
   stack : l.self.stack.items ≡ l.initial.self.stack.items;
   work : l.self.work.items ≡ l.initial.self.work.items;
 }

@@ -6,4 +6,4 @@ use Rattle.action_order.proofs.walk.Walk.retreat.Goals as goal
 pub leave-requires-clause-no_start : goal.leave-requires-clause-no_start
 leave-requires-clause-no_start c =
     let none : ends_with c.args.place c.args.self.now.starts.items ≡ false = rw (← c.as_slice.ensures.value) (sym c.ends_with.ensures ∙ c.if-ends_with.false) in
-    no_start c.args.targets.now _ _ _ _ _ _ c.requires.walk c.args.place c.requires.last none
+    no_start c.args.targets.now _ _ _ _ _ c.requires.walk.walk c.args.place c.requires.last none

@@ -1,37 +1,120 @@
-use Rattle.std.proofs.Common.{arith, ◌≡◌, ◌+◌, ◌<◌, ◌≤◌, [], length, sum}
-use Rattle.action_order.specs.Walk.{item, targets_of}
-use Rattle.action_order.proofs.Lists.{each_number}
-use Rattle.action_order.proofs.MoveLaw.{last_place, next_total, sum_after, falls_after}
+use Rattle.std.proofs.Common.{arith, ◌≡◌, ◌&&◌, ◌<◌, ℕ, true, List, [], length, vec_len, sym, ap, ◌∙◌, subst, rules}
+use Rattle.std.specs.Prelude.{nat_lt}
+use Rattle.std.proofs.lemmas.List.{get_or_read, length_push}
+use Rattle.std.proofs.lemmas.Bool.Decides.{nat_tests}
+use Rattle.bit_rows.specs.Bits.{row_has, IsLeastFrom}
+use Rattle.gt_core.proofs.Basics.{and_split, and_both, apart}
+use Rattle.action_order.specs.Graph.{row_at, item, leads}
+use Rattle.action_order.specs.Walk.{is_unseen, KeepsSeen}
+use Rattle.action_order.specs.declared.walk.Mark.TheVariants.{At}
+use Rattle.action_order.proofs.WalkLaw.{common_in, common_none, unseen_is, keeps_marked}
+use Rattle.action_order.proofs.MoveLaw.{last_place, all_reach, fewer_unseen}
 use Rattle.action_order.proofs.walk.Walk.step.Goals as goal
 
-pub pending-requires-clause-place : goal.pending-requires-clause-place
-pending-requires-clause-place c =
-    last_place c.args.targets.now _ _ _ _ _ _ c.requires.walk c.last-place.result (rw c.as_slice.ensures.value at c.last-place.ensures)
+pub index-requires : goal.index-requires
+index-requires c =
+    let last = rw c.as_slice.ensures.value at c.last-place.ensures in
+    let lt = last_place c.args.targets.now _ _ _ _ _ c.requires.walk.walk c.last-place.result last in
+    let long : vec_len c.args.self.now.stack ≡ length c.args.self.now.stack.items = search rules in
+    omega arith
 
-pub follow-requires-clause-vertex : goal.follow-requires-clause-vertex
-follow-requires-clause-vertex c =
-    let w = c.requires.walk in
-    let place = last_place c.args.targets.now _ _ _ _ _ _ w c.last-place.result (rw c.as_slice.ensures.value at c.last-place.ensures) in
-    let p = c.in-Some.ensures.some in
-    let v = item c.args.self.now.stack.items c.last-place.result in
-    let below = each_number _ c.args.targets.now v [] c.requires.graph (w.vertex c.last-place.result place) in
-    let lt = each_number _ (targets_of c.args.targets.now v) (item c.args.self.now.next.items v) 0 below p.more in
-    rw (c.in-Some.w-is, p.target_is) lt
+pub bounds-targets-index : goal.bounds-targets-index
+bounds-targets-index c =
+    let w = c.requires.walk.walk in
+    let place = c.last-place.result in
+    let last = rw c.as_slice.ensures.value at c.last-place.ensures in
+    let lt = last_place c.args.targets.now _ _ _ _ _ w place last in
+    let v = get_or_read c.args.self.now.stack.items place c.index.result.now lt c.index.ensures 0 in
+    let h = w.vertex place lt in
+    omega arith
 
-pub advance-requires-clause-seen : goal.advance-requires-clause-seen
-advance-requires-clause-seen c =
-    let p = c.in-Some.ensures.some in
-    rw (c.in_ok-follow-in-Some.ensures.place, c.in_ok-follow-in-Some.ensures.next, ← p.target_is, ← c.in-Some.w-is) c.in_ok-follow-in-Some.ensures.seen
+pub open-requires-clause-vertex : goal.open-requires-clause-vertex
+open-requires-clause-vertex c =
+    let w = c.requires.walk.walk in
+    let place = c.last-place.result in
+    let stack = c.args.self.now.stack.items in
+    let last = rw c.as_slice.ensures.value at c.last-place.ensures in
+    let lt = last_place c.args.targets.now _ _ _ _ _ w place last in
+    let v = get_or_read stack place c.index.result.now lt c.index.ensures 0 in
+    let vertex : c.index.result.now < length c.args.targets.now = let h = w.vertex place lt in omega arith in
+    let row = get_or_read c.args.targets.now c.index.result.now c.index-targets-index.result vertex c.index-targets-index.is [] ∙ ap (row_at c.args.targets.now) v in
+    let found = subst (λ (xs : List ℕ). IsLeastFrom (λ k. row_has xs k && row_has c.args.self.now.unseen k) 0 c.least_common.result) row c.least_common.ensures in
+    let f = common_in _ _ _ c.in-Some.w found c.in-Some.is in
+    let p = and_split (leads c.args.targets.now (item stack place) c.in-Some.w) (row_has c.args.self.now.unseen c.in-Some.w) f.1 in
+    c.requires.graph (item stack place) c.in-Some.w p.0
 
-pub returns-in_ok-follow-in-Some-clause-less : goal.returns-in_ok-follow-in-Some-clause-less
-returns-in_ok-follow-in-Some-clause-less c =
-    let follow = c.in_ok-follow-in-Some.ensures in
-    let w = follow.walk in
-    let before = c.follow.new.self.next.items in
-    let v = item c.follow.new.self.stack.items c.last-place.result in
-    let lt : v < length before = let x = w.vertex c.last-place.result follow.within in let y = w.next_long in omega arith in
-    let after : sum c.advance.new.self.next.items ≡ sum before + 1 = rw c.advance.ensures.next (sum_after before v lt) in
-    let a = c.advance.ensures.walk in
-    let le = next_total c.args.targets.now c.advance.new.self.next.items a.next_long a.next_within in
-    let works : length c.advance.new.self.work.items ≤ length c.args.self.now.work.items + 1 = rw c.advance.ensures.work follow.work in
-    falls_after c.args.targets.now c.args.self.now.next.items c.advance.new.self.next.items c.advance.new.self.work.items c.args.self.now.work.items (rw follow.next at after) le works
+pub open-requires-clause-unseen : goal.open-requires-clause-unseen
+open-requires-clause-unseen c =
+    let w = c.requires.walk.walk in
+    let place = c.last-place.result in
+    let stack = c.args.self.now.stack.items in
+    let last = rw c.as_slice.ensures.value at c.last-place.ensures in
+    let lt = last_place c.args.targets.now _ _ _ _ _ w place last in
+    let v = get_or_read stack place c.index.result.now lt c.index.ensures 0 in
+    let vertex : c.index.result.now < length c.args.targets.now = let h = w.vertex place lt in omega arith in
+    let row = get_or_read c.args.targets.now c.index.result.now c.index-targets-index.result vertex c.index-targets-index.is [] ∙ ap (row_at c.args.targets.now) v in
+    let found = subst (λ (xs : List ℕ). IsLeastFrom (λ k. row_has xs k && row_has c.args.self.now.unseen k) 0 c.least_common.result) row c.least_common.ensures in
+    let f = common_in _ _ _ c.in-Some.w found c.in-Some.is in
+    let p = and_split (leads c.args.targets.now (item stack place) c.in-Some.w) (row_has c.args.self.now.unseen c.in-Some.w) f.1 in
+    unseen_is _ (and_split (nat_lt c.in-Some.w (length c.args.self.now.marks.items)) _ (sym (c.requires.walk.sets.unseen c.in-Some.w) ∙ p.1)).1
+
+pub open-requires-clause-reached : goal.open-requires-clause-reached
+open-requires-clause-reached c =
+    let w = c.requires.walk.walk in
+    let place = c.last-place.result in
+    let stack = c.args.self.now.stack.items in
+    let last = rw c.as_slice.ensures.value at c.last-place.ensures in
+    let lt = last_place c.args.targets.now _ _ _ _ _ w place last in
+    let v = get_or_read stack place c.index.result.now lt c.index.ensures 0 in
+    let vertex : c.index.result.now < length c.args.targets.now = let h = w.vertex place lt in omega arith in
+    let row = get_or_read c.args.targets.now c.index.result.now c.index-targets-index.result vertex c.index-targets-index.is [] ∙ ap (row_at c.args.targets.now) v in
+    let found = subst (λ (xs : List ℕ). IsLeastFrom (λ k. row_has xs k && row_has c.args.self.now.unseen k) 0 c.least_common.result) row c.least_common.ensures in
+    let f = common_in _ _ _ c.in-Some.w found c.in-Some.is in
+    let p = and_split (leads c.args.targets.now (item stack place) c.in-Some.w) (row_has c.args.self.now.unseen c.in-Some.w) f.1 in
+    all_reach c.args.targets.now _ _ _ _ _ w place last c.in-Some.w p.0
+
+pub retreat-requires-clause-last : goal.retreat-requires-clause-last
+retreat-requires-clause-last c = rw c.as_slice.ensures.value at c.last-place.ensures
+
+pub retreat-requires-clause-spent : goal.retreat-requires-clause-spent
+retreat-requires-clause-spent c =
+    let w = c.requires.walk.walk in
+    let place = c.last-place.result in
+    let stack = c.args.self.now.stack.items in
+    let last = rw c.as_slice.ensures.value at c.last-place.ensures in
+    let lt = last_place c.args.targets.now _ _ _ _ _ w place last in
+    let v = get_or_read stack place c.index.result.now lt c.index.ensures 0 in
+    let vertex : c.index.result.now < length c.args.targets.now = let h = w.vertex place lt in omega arith in
+    let row = get_or_read c.args.targets.now c.index.result.now c.index-targets-index.result vertex c.index-targets-index.is [] ∙ ap (row_at c.args.targets.now) v in
+    let found = subst (λ (xs : List ℕ). IsLeastFrom (λ k. row_has xs k && row_has c.args.self.now.unseen k) 0 c.least_common.result) row c.least_common.ensures in
+    λ u e un.
+    let below = c.requires.graph (item stack place) u e in
+    let yes : nat_lt u (length c.args.self.now.marks.items) ≡ true = let l = w.marks_long in grind (arith, nat_tests) in
+    let there : row_has c.args.self.now.unseen u ≡ true = c.requires.walk.sets.unseen u ∙ and_both _ _ yes (ap is_unseen un) in
+    apart _ (and_both (leads c.args.targets.now (item stack place) u) (row_has c.args.self.now.unseen u) e there) (common_none _ _ _ found c.in-None.is u (omega arith))
+
+pub returns-in_ok-open-in-Some-clause-keeps : goal.returns-in_ok-open-in-Some-clause-keeps
+returns-in_ok-open-in-Some-clause-keeps c =
+    let marks = c.args.self.now.marks.items in
+    subst (KeepsSeen marks) (sym c.in_ok-open-in-Some.ensures.marks) (keeps_marked marks c.in-Some.w (At (length c.args.self.now.stack.items)) (λ e. cc))
+
+pub returns-in_ok-open-in-Some-clause-less : goal.returns-in_ok-open-in-Some-clause-less
+returns-in_ok-open-in-Some-clause-less c =
+    let w = c.requires.walk.walk in
+    let place = c.last-place.result in
+    let stack = c.args.self.now.stack.items in
+    let last = rw c.as_slice.ensures.value at c.last-place.ensures in
+    let lt = last_place c.args.targets.now _ _ _ _ _ w place last in
+    let v = get_or_read stack place c.index.result.now lt c.index.ensures 0 in
+    let vertex : c.index.result.now < length c.args.targets.now = let h = w.vertex place lt in omega arith in
+    let row = get_or_read c.args.targets.now c.index.result.now c.index-targets-index.result vertex c.index-targets-index.is [] ∙ ap (row_at c.args.targets.now) v in
+    let found = subst (λ (xs : List ℕ). IsLeastFrom (λ k. row_has xs k && row_has c.args.self.now.unseen k) 0 c.least_common.result) row c.least_common.ensures in
+    let f = common_in _ _ _ c.in-Some.w found c.in-Some.is in
+    let p = and_split (leads c.args.targets.now (item stack place) c.in-Some.w) (row_has c.args.self.now.unseen c.in-Some.w) f.1 in
+    let marks = c.args.self.now.marks.items in
+    let un = unseen_is _ (and_split (nat_lt c.in-Some.w (length marks)) _ (sym (c.requires.walk.sets.unseen c.in-Some.w) ∙ p.1)).1 in
+    let below = c.requires.graph (item stack place) c.in-Some.w p.0 in
+    let fewer = fewer_unseen marks c.in-Some.w (length stack) (let l = w.marks_long in omega arith) un in
+    let pushed = length_push c.args.self.now.work.items (length stack) in
+    let e = c.in_ok-open-in-Some.ensures in
+    rw (e.marks, e.work) (omega (arith, fewer, pushed))

@@ -11,4 +11,4 @@ invariant-loop-self l = record {
 }
 
 abbrev pub decreases-loop-self : goal.decreases-loop-self
-decreases-loop-self l = work_left l.targets l.self.next.items l.self.work.items
+decreases-loop-self l = work_left l.self.marks.items l.self.work.items

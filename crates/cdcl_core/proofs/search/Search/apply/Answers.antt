@@ -1,12 +1,12 @@
-use Rattle.std.proofs.Common.{◌<◌, ◌/◌, ℕ, subst, sym}
-use Rattle.clause_base.specs.Clause.{IsClause, HasVariablesBelow}
+use Rattle.std.proofs.Common.{◌<◌, ◌/◌, [], ℕ, subst, sym}
+use Rattle.clause_base.specs.Clause.{IsClause}
 use Rattle.cdcl_rules.specs.declared.event.Event.TheVariants.{Conflict, Force, Decide, Finish}
 use Rattle.cdcl_rules.specs.Learn.{learned, Learned}
-use Rattle.cdcl_rules.specs.Run.{with_learned}
+use Rattle.cdcl_rules.specs.Run.{with_learned, after_conflict}
 use Rattle.cdcl_laws.specs.Sound.{IsSound}
-use Rattle.conflict_walk.specs.Walk.{IsRefuted}
+use Rattle.cdcl_rules.specs.Trail.{AllFalse}
 use Rattle.cdcl_core.specs.Search.{SearchView, IsNextEvent}
-use Rattle.cdcl_core.proofs.Keeps.{learned_same, learned_is_clause, learned_is_below, learned_is_refuted, next_sound, next_open}
+use Rattle.cdcl_core.proofs.Keeps.{learned_same, learned_is_clause, learned_is_false, undropped_sound, next_sound, next_open}
 use Rattle.cdcl_core.proofs.search.Search.apply.Goals as goal
 
 pub enter-requires-clause-clause : goal.enter-requires-clause-clause
@@ -14,23 +14,25 @@ enter-requires-clause-clause c =
     let v = c.args.self.now in
     let next = subst (IsNextEvent v.formula v.state) c.in-Conflict.is c.requires.next in
     let law = learned_is_clause v.formula v.state c.in-Conflict.number c.requires.sound next in
-    subst IsClause (sym c.in_ok-lesson-in-Conflict.ensures.clause) law
+    subst IsClause (sym c.in_ok-learned-in-Conflict.ensures.clause) law
 
-pub enter-requires-clause-below : goal.enter-requires-clause-below
-enter-requires-clause-below c =
+pub enter-requires-clause-all_false : goal.enter-requires-clause-all_false
+enter-requires-clause-all_false c =
     let v = c.args.self.now in
     let next = subst (IsNextEvent v.formula v.state) c.in-Conflict.is c.requires.next in
-    let law = learned_is_below v.formula v.state c.in-Conflict.number c.requires.sound next in
-    let here = subst (HasVariablesBelow v.formula.variables) (sym c.in_ok-lesson-in-Conflict.ensures.clause) law in
-    subst (λ (w : SearchView). HasVariablesBelow w.formula.variables c.in_ok-lesson-in-Conflict.lesson.lits) (sym c.in_ok-lesson-in-Conflict.ensures.ok) here
+    let law = learned_is_false v.formula v.state c.in-Conflict.number c.requires.sound next in
+    let here = subst (AllFalse v.state.trail) (sym c.in_ok-learned-in-Conflict.ensures.clause) law in
+    subst (λ (w : SearchView). AllFalse w.state.trail c.in_ok-learned-in-Conflict.learned.lits) (sym c.in_ok-learned-in-Conflict.ensures.ok) here
 
-pub enter-requires-clause-refuted : goal.enter-requires-clause-refuted
-enter-requires-clause-refuted c =
+pub enter-requires-clause-undropped : goal.enter-requires-clause-undropped
+enter-requires-clause-undropped c =
     let v = c.args.self.now in
+    let new = learned v.state.clauses v.state.trail c.in-Conflict.number in
     let next = subst (IsNextEvent v.formula v.state) c.in-Conflict.is c.requires.next in
-    let law = learned_is_refuted v.formula v.state c.in-Conflict.number c.requires.sound next in
-    let here = subst (IsRefuted v.state.trail) (sym c.in_ok-lesson-in-Conflict.ensures.clause) law in
-    subst (λ (w : SearchView). IsRefuted w.state.trail c.in_ok-lesson-in-Conflict.lesson.lits) (sym c.in_ok-lesson-in-Conflict.ensures.ok) here
+    let law = undropped_sound v.formula v.state c.in-Conflict.number c.requires.sound next in
+    let e = learned_same new.clause c.in_ok-learned-in-Conflict.learned.lits new.hints c.in_ok-learned-in-Conflict.learned.hints (sym c.in_ok-learned-in-Conflict.ensures.clause) (sym c.in_ok-learned-in-Conflict.ensures.hints) in
+    let here = subst (λ (d : Learned). IsSound v.formula (after_conflict v.state d [])) e law in
+    subst (λ (w : SearchView). IsSound w.formula (after_conflict w.state (record { clause = c.in_ok-learned-in-Conflict.learned.lits; hints = c.in_ok-learned-in-Conflict.learned.hints }) [])) (sym c.in_ok-learned-in-Conflict.ensures.ok) here
 
 pub enter-requires-clause-sound : goal.enter-requires-clause-sound
 enter-requires-clause-sound c =
@@ -38,9 +40,9 @@ enter-requires-clause-sound c =
     let new = learned v.state.clauses v.state.trail c.in-Conflict.number in
     let next = subst (IsNextEvent v.formula v.state) c.in-Conflict.is c.requires.next in
     let law = next_sound v.formula v.state (Conflict c.in-Conflict.number) c.requires.sound c.requires.going next in
-    let e = learned_same new.clause c.in_ok-lesson-in-Conflict.lesson.lits new.hints c.in_ok-lesson-in-Conflict.lesson.hints (sym c.in_ok-lesson-in-Conflict.ensures.clause) (sym c.in_ok-lesson-in-Conflict.ensures.hints) in
+    let e = learned_same new.clause c.in_ok-learned-in-Conflict.learned.lits new.hints c.in_ok-learned-in-Conflict.learned.hints (sym c.in_ok-learned-in-Conflict.ensures.clause) (sym c.in_ok-learned-in-Conflict.ensures.hints) in
     let here = subst (λ (d : Learned). IsSound v.formula (with_learned v.state d)) e law in
-    subst (λ (w : SearchView). IsSound w.formula (with_learned w.state (record { clause = c.in_ok-lesson-in-Conflict.lesson.lits; hints = c.in_ok-lesson-in-Conflict.lesson.hints }))) (sym c.in_ok-lesson-in-Conflict.ensures.ok) here
+    subst (λ (w : SearchView). IsSound w.formula (with_learned w.state (record { clause = c.in_ok-learned-in-Conflict.learned.lits; hints = c.in_ok-learned-in-Conflict.learned.hints }))) (sym c.in_ok-learned-in-Conflict.ensures.ok) here
 
 pub assign-requires-clause-below : goal.assign-requires-clause-below
 assign-requires-clause-below c =

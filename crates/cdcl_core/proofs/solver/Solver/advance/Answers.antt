@@ -4,6 +4,7 @@ use Rattle.cdcl_rules.specs.Open.{Opens}
 use Rattle.cdcl_laws.specs.Sound.{IsSound}
 use Rattle.cdcl_laws.proofs.Fuel.{after_is}
 use Rattle.cdcl_laws.proofs.Cuts.{adds_up, after_within, settled_stays}
+use Rattle.cdcl_laws.proofs.Stops.{grants, rests_always}
 use Rattle.cdcl_core.specs.Search.{SolverView}
 use Rattle.cdcl_core.proofs.Shorts.{short_between}
 use Rattle.cdcl_core.proofs.solver.Solver.advance.Goals as goal
@@ -62,3 +63,35 @@ returns-clause-short g c =
     let opens : Opens v.formula.variables (g.C.Chooser.choice v.chooser) = λ values e. g.met.C.Chooser.opens v.chooser values (subst (g.C.Chooser.fits v.chooser) (sym e) fits) in
     let sound = subst (λ (w : SolverView g.row.C.Denot). IsSound w.formula w.state) c.self.view_is c.conflicts-sound.ensures.sound in
     short_between v.formula (g.C.Chooser.choice v.chooser) v.state opens sound
+
+pub returns-then-is_spoilt-clause-comes_to_rest : goal.returns-then-is_spoilt-clause-comes_to_rest
+returns-then-is_spoilt-clause-comes_to_rest g c =
+    let v = c.args.self.now in
+    let fits = subst (λ (w : SolverView g.row.C.Denot). g.C.Chooser.fits w.chooser w.formula.variables) c.self.view_is c.self.invariant in
+    let opens : Opens v.formula.variables (g.C.Chooser.choice v.chooser) = λ values e. g.met.C.Chooser.opens v.chooser values (subst (g.C.Chooser.fits v.chooser) (sym e) fits) in
+    let sound = subst (λ (w : SolverView g.row.C.Denot). IsSound w.formula w.state) c.self.view_is c.conflicts-sound.ensures.sound in
+    rests_always v.formula (g.C.Chooser.choice v.chooser) v.state opens sound
+
+pub returns-then-is_spoilt-clause-grants : goal.returns-then-is_spoilt-clause-grants
+returns-then-is_spoilt-clause-grants g c =
+    let v = c.args.self.now in
+    let fits = subst (λ (w : SolverView g.row.C.Denot). g.C.Chooser.fits w.chooser w.formula.variables) c.self.view_is c.self.invariant in
+    let opens : Opens v.formula.variables (g.C.Chooser.choice v.chooser) = λ values e. g.met.C.Chooser.opens v.chooser values (subst (g.C.Chooser.fits v.chooser) (sym e) fits) in
+    let sound = subst (λ (w : SolverView g.row.C.Denot). IsSound w.formula w.state) c.self.view_is c.conflicts-sound.ensures.sound in
+    grants v.formula (g.C.Chooser.choice v.chooser) v.state opens sound
+
+pub returns-clause-comes_to_rest : goal.returns-clause-comes_to_rest
+returns-clause-comes_to_rest g c =
+    let v = c.args.self.now in
+    let fits = subst (λ (w : SolverView g.row.C.Denot). g.C.Chooser.fits w.chooser w.formula.variables) c.self.view_is c.self.invariant in
+    let opens : Opens v.formula.variables (g.C.Chooser.choice v.chooser) = λ values e. g.met.C.Chooser.opens v.chooser values (subst (g.C.Chooser.fits v.chooser) (sym e) fits) in
+    let sound = subst (λ (w : SolverView g.row.C.Denot). IsSound w.formula w.state) c.self.view_is c.conflicts-sound.ensures.sound in
+    rests_always v.formula (g.C.Chooser.choice v.chooser) v.state opens sound
+
+pub returns-clause-grants : goal.returns-clause-grants
+returns-clause-grants g c =
+    let v = c.args.self.now in
+    let fits = subst (λ (w : SolverView g.row.C.Denot). g.C.Chooser.fits w.chooser w.formula.variables) c.self.view_is c.self.invariant in
+    let opens : Opens v.formula.variables (g.C.Chooser.choice v.chooser) = λ values e. g.met.C.Chooser.opens v.chooser values (subst (g.C.Chooser.fits v.chooser) (sym e) fits) in
+    let sound = subst (λ (w : SolverView g.row.C.Denot). IsSound w.formula w.state) c.self.view_is c.conflicts-sound.ensures.sound in
+    grants v.formula (g.C.Chooser.choice v.chooser) v.state opens sound

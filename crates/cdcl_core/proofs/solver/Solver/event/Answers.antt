@@ -1,13 +1,14 @@
 use Rattle.std.proofs.Common.{◌≡◌, length, sym, ap, ◌∙◌, subst}
 use Rattle.clause_base.specs.Choice.{Known}
 use Rattle.cdcl_rules.proofs.Measure.{length-values_from}
-use Rattle.cdcl_core.specs.Search.{SolverView}
+use Rattle.cdcl_core.specs.Search.{SearchView, SolverView}
 use Rattle.cdcl_core.proofs.solver.Solver.event.Goals as goal
 
 pub choose-requires : goal.choose-requires
 choose-requires g c =
-    let t = c.self.inside.search in
-    let long : length c.values.result.now ≡ t.formula.variables = ap (λ (v : Known). length v) c.values.ensures ∙ length-values_from t.state.trail 0 t.formula.variables in
+    let t = c.pass_given.new.self in
+    let long : length c.values.result.now ≡ c.self.inside.search.formula.variables =
+    ap (λ (v : Known). length v) c.values.ensures ∙ length-values_from t.state.trail 0 t.formula.variables ∙ ap (λ (w : SearchView). w.formula.variables) c.pass_given.ensures in
     subst (g.C.Chooser.fits c.self.inside.chooser) (sym long) c.self.invariant
 
 pub returns-in-Some-clause-opens : goal.returns-in-Some-clause-opens

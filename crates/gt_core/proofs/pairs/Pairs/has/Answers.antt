@@ -1,6 +1,4 @@
-use Rattle.std.proofs.Common.{arith, ◌∙◌, sym, inl, inr, false, ◌⊎◌, ◌*◌, ◌≤◌, ◌<◌, ◌+◌, length}
-use Rattle.std.proofs.lemmas.List.{get_or_read}
-use Rattle.std.proofs.lemmas.Nat.{mul-add-lt}
+use Rattle.std.proofs.Common.{sym, inl, inr, ◌⊎◌, ◌*◌, ◌≤◌}
 use Rattle.gt_core.proofs.ClausesLaw.{no_clause_past}
 use Rattle.gt_core.proofs.pairs.Pairs.has.Goals as goal
 use Rattle.gt_core.proofs.pairs.Pairs.has.Goals.{then-l-side-via-then-l-side, then-l-side-via-else-l-side+then-m-side}
@@ -12,12 +10,3 @@ returns-then-l-side c =
       | then-l-side-via-else-l-side+then-m-side w ↦ inr w.if-m-side.true
     ] in
     rw (← c.self.view_is) (sym (no_clause_past _ c.args.l c.args.m c.self.invariant.0 past))
-
-pub returns : goal.returns
-returns c =
-    let side = 2 * c.self.inside.facts in
-    let table = c.self.invariant.1 in
-    let in_table = mul-add-lt c.args.l side c.args.m side c.if-l-side.false c.if-m-side.false in
-    let within : c.args.l * side + c.args.m < length c.self.inside.known.items = omega (arith, in_table, table.long) in
-    let read = get_or_read c.self.inside.known.items _ _ within c.index.ensures false in
-    rw (← c.self.view_is) (read ∙ table.tells c.args.l c.args.m c.if-l-side.false c.if-m-side.false)

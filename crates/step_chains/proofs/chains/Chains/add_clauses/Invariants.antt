@@ -1,10 +1,10 @@
 use Rattle.std.proofs.Common.{◌≡◌, ◌++◌, drop}
 use Rattle.gt_core.specs.Layout.{action_at, chain_at}
 use Rattle.step_clauses.specs.Coded.{coded}
-use Rattle.step_chains.specs.Found.{found_clauses}
+use Rattle.step_chains.specs.Chains.{all_clauses}
 use Rattle.step_chains.proofs.chains.Chains.add_clauses.Given as goal
 
 abbrev pub invariant-loop-chain : goal.invariant-loop-chain
 invariant-loop-chain l =
-    l.initial.clauses.items ++ coded (found_clauses (action_at l.layout 0) (chain_at l.layout 0) l.self.chains)
-    ≡ l.clauses.items ++ coded (found_clauses (action_at l.layout 0) (chain_at l.layout 0) (drop l.chain-index l.self.chains))
+    l.initial.clauses ++ coded (all_clauses (action_at l.layout 0) (chain_at l.layout 0) l.self.chains)
+    ≡ l.clauses ++ coded (all_clauses (action_at l.layout 0) (chain_at l.layout 0) (drop l.chain-index l.self.chains))

@@ -1,7 +1,0 @@
-use Rattle.std.proofs.Common.{take}
-use Rattle.gt_core.specs.Literal.{is_in}
-use Rattle.action_order.specs.Readers.{IsEntered}
-use Rattle.action_order.proofs.readers.enter_precondition.Given as goal
-
-abbrev pub invariant-loop-lit : goal.invariant-loop-lit
-invariant-loop-lit l = IsEntered (is_in (take l.lit-index l.precondition)) l.b l.initial.lists.items l.lists.items

@@ -1,0 +1,312 @@
+//! Rows of bits.
+
+use crate::word::{
+    common, from_bit, has_bit, has_pair, least_bit, united, with_bit, without, without_bit,
+};
+use std::alloc::{AllocError, Global};
+use std::marker::Model;
+
+/// A set of numbers below 2^32, a bit for each number up to the greatest for which there is room. A new row has no
+/// room; room comes with the numbers that are put in.
+#[derive(Debug, Drop)]
+pub struct BitRow {
+    words: Vec<u64>,
+}
+
+impl Model for BitRow {
+    ghost use Rattle.std.specs.Prelude.{ℕ, ◌≤◌, List, length};
+
+    ghost Value = { List ℕ };
+
+    ghost view = { λ r. r.words.items };
+
+    ghost invariant = { λ r. length r.words.items ≤ 67108864 };
+}
+
+impl BitRow {
+    ghost use Rattle.std.specs.Prelude.{◌≡◌, ℕ, ◌<◌, ◌≤◌, ◌==◌, ◌||◌, ◌&&◌, not, false, OnOk, OnErr};
+    ghost use Rattle.std.specs.Bool.{OnTrue};
+    ghost use Rattle.bit_rows.specs.Bits.{room, row_has, IsLeastFrom, IsPairTest};
+
+    /// The empty set, without room.
+    pub fn new(alloc: Global) -> BitRow
+        ensures room { room result ≡ 0 }
+        ensures empty { (k : ℕ) → row_has result k ≡ false }
+    {
+        BitRow {
+            words: Vec::new(alloc),
+        }
+    }
+
+    /// Makes room for the numbers below a bound, at most 2^32. After want of memory there may be more room than before.
+    pub fn make_room(&mut self, bound: usize) -> Result<(), AllocError>
+        requires { bound ≤ 4294967296 }
+        ensures room { OnOk result (bound ≤ room self.new) }
+        ensures more { room self.old ≤ room self.new }
+        ensures has { (k : ℕ) → row_has self.new k ≡ row_has self.old k }
+    {
+        grow(&mut self.words, bound.div_ceil(64))
+    }
+
+    /// Whether there is no room, so that no number is in the set.
+    pub fn is_without_room(&self) -> bool
+        ensures { OnTrue result ((k : ℕ) → row_has self.now k ≡ false) }
+    {
+        self.words.is_empty()
+    }
+
+    /// Whether a number is in the set.
+    pub fn contains(&self, number: u32) -> bool
+        ensures { result ≡ row_has self.now number }
+    {
+        let place = (number / 64) as usize;
+        place < self.words.len() && has_bit(self.words[place], number % 64)
+    }
+
+    /// Puts in a number for which there is room.
+    pub fn set(&mut self, number: u32)
+        requires { number < room self.old }
+        ensures room { room self.new ≡ room self.old }
+        ensures has { (k : ℕ) → row_has self.new k ≡ ((number == k) || row_has self.old k) }
+    {
+        set_bit(&mut self.words, number);
+    }
+
+    /// Puts in a number. After want of memory the set is as it was.
+    pub fn insert(&mut self, number: u32) -> Result<(), AllocError>
+        ensures has { OnOk result ((k : ℕ) → row_has self.new k ≡ ((number == k) || row_has self.old k)) }
+        ensures kept { OnErr result ((k : ℕ) → row_has self.new k ≡ row_has self.old k) }
+    {
+        self.make_room(number as usize + 1)?;
+        self.set(number);
+        Ok(())
+    }
+
+    /// Takes a number out.
+    pub fn remove(&mut self, number: u32)
+        ensures room { room self.new ≡ room self.old }
+        ensures has { (k : ℕ) → row_has self.new k ≡ (not (number == k) && row_has self.old k) }
+    {
+        clear_bit(&mut self.words, number);
+    }
+
+    /// Puts in all numbers of another set. After want of memory the set is as it was.
+    pub fn unite(&mut self, other: &BitRow) -> Result<(), AllocError>
+        ensures has { OnOk result ((k : ℕ) → row_has self.new k ≡ (row_has self.old k || row_has other.now k)) }
+        ensures kept { OnErr result ((k : ℕ) → row_has self.new k ≡ row_has self.old k) }
+    {
+        let others = other.words.as_slice();
+        grow(&mut self.words, others.len())?;
+        unite_words(&mut self.words, others);
+        Ok(())
+    }
+
+    /// Puts in all numbers of another set that are not in a third. After want of memory the set is as it was.
+    pub fn unite_without(&mut self, other: &BitRow, third: &BitRow) -> Result<(), AllocError>
+        ensures has { OnOk result ((k : ℕ) → row_has self.new k ≡ (row_has self.old k || (row_has other.now k && not (row_has third.now k)))) }
+        ensures kept { OnErr result ((k : ℕ) → row_has self.new k ≡ row_has self.old k) }
+    {
+        let others = other.words.as_slice();
+        grow(&mut self.words, others.len())?;
+        unite_words_without(&mut self.words, others, third.words.as_slice());
+        Ok(())
+    }
+
+    /// Takes all numbers of another set out.
+    pub fn subtract(&mut self, other: &BitRow)
+        ensures room { room self.new ≡ room self.old }
+        ensures has { (k : ℕ) → row_has self.new k ≡ (row_has self.old k && not (row_has other.now k)) }
+    {
+        subtract_words(&mut self.words, other.words.as_slice());
+    }
+
+    /// Takes all numbers out, and the room with them.
+    pub fn clear(&mut self)
+        ensures { (k : ℕ) → row_has self.new k ≡ false }
+    {
+        self.words.clear();
+    }
+
+    /// Whether an even number and the next one are both in the set.
+    pub fn has_pair(&self) -> bool
+        ensures { IsPairTest (row_has self.now) result }
+    {
+        has_pair_in(self.words.as_slice())
+    }
+
+    /// The least number of the set that is at least `from`.
+    pub fn least(&self, from: u32) -> Option<u32>
+        ensures { IsLeastFrom (row_has self.now) from result }
+    {
+        let words = self.words.as_slice();
+        least_in(words, words, from)
+    }
+
+    /// The least number of both sets that is at least `from`.
+    pub fn least_common(&self, other: &BitRow, from: u32) -> Option<u32>
+        ensures { IsLeastFrom (λ k. row_has self.now k && row_has other.now k) from result }
+    {
+        least_in(self.words.as_slice(), other.words.as_slice(), from)
+    }
+}
+
+ghost use Rattle.std.specs.Prelude.{◌≡◌, ℕ, ◌+◌, ◌*◌, ◌/◌, ◌<◌, ◌≤◌, ◌==◌, ◌||◌, ◌&&◌, not, false, [], length, slice_index, slice_index_or, OnOk, IfOk};
+ghost use Rattle.bit_rows.specs.Bits.{IsLeastFrom, IsPairTest, row_has};
+
+/// So many empty sets.
+pub fn empty_rows(alloc: Global, count: usize) -> Result<Vec<BitRow>, AllocError>
+    ensures long { IfOk result (λ rows. length rows.items ≡ count) }
+    ensures none { IfOk result (λ rows. (j k : ℕ) → row_has (slice_index_or rows.items j []) k ≡ false) }
+{
+    let mut rows = Vec::new(alloc);
+    for _i in 0..count {
+        rows.push(BitRow::new(alloc))?;
+    }
+    Ok(rows)
+}
+
+/// Appends words without bits until there are so many.
+fn grow(words: &mut Vec<u64>, count: usize) -> Result<(), AllocError>
+    requires count { count ≤ 67108864 }
+    requires small { length words.old.items ≤ 67108864 }
+    ensures long { OnOk result (count ≤ length words.new.items) }
+    ensures more { length words.old.items ≤ length words.new.items }
+    ensures small { length words.new.items ≤ 67108864 }
+    ensures has { (k : ℕ) → row_has words.new.items k ≡ row_has words.old.items k }
+{
+    while words.len() < count {
+        words.push(0)?;
+    }
+    Ok(())
+}
+
+fn set_bit(words: &mut Vec<u64>, number: u32)
+    requires { number < 64 * length words.old.items }
+    ensures long { length words.new.items ≡ length words.old.items }
+    ensures has { (k : ℕ) → row_has words.new.items k ≡ ((number == k) || row_has words.old.items k) }
+{
+    let place = (number / 64) as usize;
+    let word = words[place];
+    words[place] = with_bit(word, number % 64);
+}
+
+fn clear_bit(words: &mut Vec<u64>, number: u32)
+    ensures long { length words.new.items ≡ length words.old.items }
+    ensures has { (k : ℕ) → row_has words.new.items k ≡ (not (number == k) && row_has words.old.items k) }
+{
+    let place = (number / 64) as usize;
+    if place < words.len() {
+        let word = words[place];
+        words[place] = without_bit(word, number % 64);
+    }
+}
+
+fn unite_words(words: &mut Vec<u64>, others: &[u64])
+    requires { length others.now ≤ length words.old.items }
+    ensures long { length words.new.items ≡ length words.old.items }
+    ensures has { (k : ℕ) → row_has words.new.items k ≡ (row_has words.old.items k || row_has others.now k) }
+{
+    for i in 0..others.len() {
+        words[i] = united(words[i], others[i]);
+    }
+}
+
+/// A word of a row, none past its end.
+fn word_at(words: &[u64], i: usize) -> u64
+    ensures { result ≡ slice_index words.now i }
+{
+    if i < words.len() { words[i] } else { 0 }
+}
+
+fn unite_words_without(words: &mut Vec<u64>, others: &[u64], thirds: &[u64])
+    requires { length others.now ≤ length words.old.items }
+    ensures long { length words.new.items ≡ length words.old.items }
+    ensures has { (k : ℕ) → row_has words.new.items k ≡ (row_has words.old.items k || (row_has others.now k && not (row_has thirds.now k))) }
+{
+    for i in 0..others.len() {
+        words[i] = united(words[i], without(others[i], word_at(thirds, i)));
+    }
+}
+
+fn subtract_words(words: &mut Vec<u64>, others: &[u64])
+    ensures long { length words.new.items ≡ length words.old.items }
+    ensures has { (k : ℕ) → row_has words.new.items k ≡ (row_has words.old.items k && not (row_has others.now k)) }
+{
+    let end = words.len().min(others.len());
+    for i in 0..end {
+        words[i] = without(words[i], others[i]);
+    }
+}
+
+fn has_pair_in(words: &[u64]) -> bool
+    ensures { IsPairTest (row_has words.now) result }
+{
+    for word in words {
+        if has_pair(*word) {
+            return true;
+        }
+    }
+    false
+}
+
+/// The least number from one on whose bit is in both of two rows of words.
+fn least_in(words: &[u64], others: &[u64], from: u32) -> Option<u32>
+    requires { length words.now ≤ 67108864 }
+    ensures { IsLeastFrom (λ k. row_has words.now k && row_has others.now k) from result }
+{
+    let end = words.len().min(others.len());
+    let first = (from / 64) as usize;
+    if first >= end {
+        return None;
+    }
+    let word = from_bit(common(words[first], others[first]), from % 64);
+    if word != 0 {
+        return Some(64 * (first as u32) + least_bit(word));
+    }
+    for i in first + 1..end {
+        let word = common(words[i], others[i]);
+        if word != 0 {
+            return Some(64 * (i as u32) + least_bit(word));
+        }
+    }
+    None
+}
+
+#[cfg(test)]
+mod tests {
+    use super::*;
+    use std::test::Fail;
+
+    #[test]
+    fn sets_of_numbers(rt: HostRuntime) -> Result<(), Fail> {
+        let mut some = BitRow::new(rt.alloc());
+        assert!(rt; some.is_without_room() && some.least(0).is_none());
+        some.insert(3)?;
+        some.insert(200)?;
+        assert!(rt;
+            some.contains(3) && some.contains(200) && !some.contains(4) && !some.contains(4000)
+        );
+        let mut more = BitRow::new(rt.alloc());
+        more.insert(64)?;
+        more.insert(200)?;
+        assert_eq!(rt; some.least_common(&more, 0), Some(200));
+        assert_eq!(rt; (some.least(4), some.least(201)), (Some(200), None));
+        more.unite(&some)?;
+        more.remove(200);
+        assert_eq!(rt;
+            (more.least(0), more.least(4), more.least(65)),
+            (Some(3), Some(64), None)
+        );
+        assert!(rt; more.has_pair() == false && some.has_pair() == false);
+        let mut rest = BitRow::new(rt.alloc());
+        rest.unite_without(&some, &more)?;
+        assert_eq!(rt; (rest.least(0), rest.least(201)), (Some(200), None));
+        rest.insert(201)?;
+        assert!(rt; rest.has_pair());
+        some.subtract(&more);
+        assert_eq!(rt; (some.least(0), some.contains(3)), (Some(200), false));
+        some.clear();
+        assert!(rt; some.least(0).is_none());
+        Ok(())
+    }
+}

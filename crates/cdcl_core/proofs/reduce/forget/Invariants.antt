@@ -1,0 +1,11 @@
+use Rattle.std.proofs.Common.{◌≡◌, drop}
+use Rattle.cdcl_rules.specs.Reduce.{kept_without}
+use Rattle.cdcl_core.specs.Search.{AreKept}
+use Rattle.cdcl_core.proofs.reduce.forget.Given as goal
+
+abbrev pub invariant-loop-number : goal.invariant-loop-number
+invariant-loop-number l = record {
+  are : AreKept l.watches.kept (drop l.number-index l.numbers);
+  same : l.watches ≡ record l.initial.watches { kept = l.watches.kept };
+  rest : kept_without l.initial.watches.kept l.numbers ≡ kept_without l.watches.kept (drop l.number-index l.numbers);
+}

@@ -1,0 +1,21 @@
+use Rattle.std.proofs.Common.{ℕ, List, [], ◌∷◌, ◌++◌, true, ap, sym, ◌∙◌, subst}
+use Rattle.clause_base.specs.Clause.{HasVariablesBelow}
+use Rattle.clause_base.specs.declared.log.Entry.TheVariants.{Learn}
+use Rattle.cdcl_rules.specs.Run.{after_conflict, is_going}
+use Rattle.cdcl_laws.proofs.Fuel.{all_below}
+use Rattle.conflict_walk.specs.Clauses.{ClausesView}
+use Rattle.cdcl_trail.specs.Mirrored.{TrailView}
+use Rattle.cdcl_core.specs.Search.{SearchView}
+use Rattle.cdcl_core.proofs.Watching.{behind, last_below}
+use Rattle.cdcl_core.proofs.search.Search.enter.Goals as goal
+
+pub follow-requires-clause-behind : goal.follow-requires-clause-behind
+follow-requires-clause-behind c =
+    let t = c.self.inside in
+    let s = c.args.self.now.state in
+    let k = c.args.new.lits in
+    let m = c.self.invariant.mirrored (ap (λ (v : SearchView). v.spoilt) c.self.view_is ∙ c.requires.sane) (ap (λ (v : SearchView). is_going v.state.standing) c.self.view_is ∙ c.requires.going) in
+    let all = all_below c.args.self.now.formula (after_conflict s (record { clause = k; hints = c.args.new.hints }) []) c.requires.undropped in
+    let below = subst (λ (v : SearchView). HasVariablesBelow v.state.variables k) (sym c.self.view_is) (last_below s.variables s.clauses k all) in
+    let learned = c.in_ok-learn.ensures.ok ∙ ap (λ (x : List ℕ). let v : ClausesView = record t.clauses { log = t.clauses.log ++ Learn x c.args.new.hints ∷ []; kept = t.clauses.kept ++ true ∷ [] } in v) c.of_sorted-clause.ensures in
+    behind t.clauses c.learn.new.self t.trail.entries c.backtrack.new.self.entries t.watches k c.args.new.hints c.level_after-level.result m learned (ap (λ (v : TrailView). v.entries) c.backtrack.ensures) c.requires.clause below

@@ -1,0 +1,5 @@
+//! Tests that cross the solver and the checker.
+#![tactic(auto)]
+
+#[cfg(test)]
+mod pigeons;

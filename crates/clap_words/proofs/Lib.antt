@@ -1,0 +1,5 @@
+mod Arguments
+mod PassedReaders
+mod NoFault
+mod Numbers
+mod Addresses

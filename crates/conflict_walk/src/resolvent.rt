@@ -1,0 +1,150 @@
+//! The clause that the walk is at. Each clause that is put in is resolved with it on one literal.
+ghost use Rattle.std.specs.Prelude.{◌≡◌, ◌*◌, ◌≤◌, ◌==◌, [], true, not, length, filter, fold, IfOk, OnOk};
+ghost use Rattle.clause_base.specs.Literal.{opposite};
+ghost use Rattle.clause_base.specs.Clause.{put};
+ghost use Rattle.cdcl_rules.specs.State.{is_on};
+ghost use Rattle.cdcl_rules.specs.Trail.{AllFalse};
+ghost use Rattle.cdcl_rules.specs.Learn.{resolvent};
+ghost use Rattle.conflict_walk.specs.Draft.{at};
+ghost use Rattle.conflict_walk.specs.Resolvent.{literals, IsEmptied, IsOver};
+ghost use Rattle.conflict_walk.specs.Walk.{OthersFalse};
+
+use crate::draft::Draft;
+use cdcl_trail::trail::Trail;
+use clause_base::literal::Lit;
+use clause_base::memory::Memory;
+use std::alloc::Global;
+use std::marker::Model;
+
+/// A clause in the making, with the number of its literals that are of the current level.
+#[derive(Drop)]
+pub struct Resolvent {
+    draft: Draft,
+    count: u32,
+}
+
+impl Model for Resolvent {
+    ghost use Rattle.conflict_walk.specs.Resolvent.{ResolventView};
+
+    ghost Value = { ResolventView };
+
+    ghost view = { λ r. record { on = r.draft; count = r.count } };
+}
+
+impl Resolvent {
+    /// The resolvent without literals, over so many variables.
+    pub fn new(alloc: Global, variables: u32) -> Result<Resolvent, Memory>
+        requires { variables ≤ 2147483647 }
+        ensures empty { IfOk result (λ r. IsEmptied r) }
+        ensures len { IfOk result (λ r. length r.on ≡ 2 * variables) }
+    {
+        Ok(Resolvent {
+            draft: Draft::new(alloc, variables)?,
+            count: 0,
+        })
+    }
+
+    /// Whether the opposite of a true literal is in.
+    pub fn has_opposite(&self, trail: &Trail, lit: Lit) -> bool
+        requires over { IsOver trail.now self.now }
+        requires is_true { is_on trail.now.entries lit ≡ true }
+        ensures { result ≡ at self.now.on (opposite lit) }
+    {
+        let opposite = lit.opposite();
+        let _level = trail.level_of(opposite);
+        self.draft.has(opposite)
+    }
+
+    /// How many literals are of the current level.
+    pub fn count(&self) -> u32
+        ensures { result ≡ self.now.count }
+    {
+        self.count
+    }
+
+    /// Puts a false literal in.
+    fn put(&mut self, trail: &Trail, lit: Lit) -> Result<(), Memory>
+        requires over { IsOver trail.now self.old }
+        requires is_false { is_on trail.now.entries (opposite lit) ≡ true }
+        ensures over { OnOk result (IsOver trail.now self.new) }
+        ensures len { length self.new.on ≡ length self.old.on }
+        ensures put { OnOk result (literals self.new ≡ put (literals self.old) lit) }
+    {
+        let current = trail.is_current(lit);
+        if self.draft.has(lit) {
+            return Ok(());
+        }
+        self.draft.put(lit)?;
+        if current {
+            self.count += 1;
+        }
+        Ok(())
+    }
+
+    /// Takes a literal out that is in.
+    fn remove(&mut self, trail: &Trail, lit: Lit)
+        requires over { IsOver trail.now self.old }
+        requires in_draft { at self.old.on lit ≡ true }
+        ensures over { IsOver trail.now self.new }
+        ensures len { length self.new.on ≡ length self.old.on }
+        ensures removed { literals self.new ≡ filter (λ l. not (l == lit)) (literals self.old) }
+    {
+        self.draft.remove(lit);
+        if trail.is_current(lit) {
+            self.count -= 1;
+        }
+    }
+
+    /// Puts false literals in.
+    pub fn put_all(&mut self, trail: &Trail, lits: &[Lit]) -> Result<(), Memory>
+        requires over { IsOver trail.now self.old }
+        requires all_false { AllFalse trail.now.entries lits.now }
+        ensures over { OnOk result (IsOver trail.now self.new) }
+        ensures len { length self.new.on ≡ length self.old.on }
+        ensures put { OnOk result (literals self.new ≡ fold put (literals self.old) lits.now) }
+    {
+        for lit in lits {
+            self.put(trail, *lit)?;
+        }
+        Ok(())
+    }
+
+    /// Puts literals in, all but one; the others are false.
+    fn put_others(&mut self, trail: &Trail, lits: &[Lit], but: Lit) -> Result<(), Memory>
+        requires over { IsOver trail.now self.old }
+        requires others { OthersFalse trail.now.entries lits.now but }
+        ensures over { OnOk result (IsOver trail.now self.new) }
+        ensures len { length self.new.on ≡ length self.old.on }
+        ensures put { OnOk result (literals self.new ≡ fold put (literals self.old) (filter (λ l. not (l == but)) lits.now)) }
+    {
+        for lit in lits {
+            if *lit != but {
+                self.put(trail, *lit)?;
+            }
+        }
+        Ok(())
+    }
+
+    /// Resolves on a literal whose opposite is in with the clause that forced it.
+    pub fn resolve(&mut self, trail: &Trail, forced: Lit, reason: &[Lit]) -> Result<(), Memory>
+        requires over { IsOver trail.now self.old }
+        requires in_draft { at self.old.on (opposite forced) ≡ true }
+        requires others { OthersFalse trail.now.entries reason.now forced }
+        ensures over { OnOk result (IsOver trail.now self.new) }
+        ensures len { length self.new.on ≡ length self.old.on }
+        ensures resolved { OnOk result (literals self.new ≡ resolvent (literals self.old) forced reason.now) }
+    {
+        self.remove(trail, forced.opposite());
+        self.put_others(trail, reason, forced)
+    }
+
+    /// Takes all literals out, in order of their codes.
+    pub fn take(&mut self, alloc: Global) -> Result<Vec<Lit>, Memory>
+        ensures taken { IfOk result (λ lits. lits.items ≡ literals self.old) }
+        ensures emptied { OnOk result (IsEmptied self.new) }
+        ensures len { length self.new.on ≡ length self.old.on }
+    {
+        self.count = 0;
+        self.draft.take(alloc)
+    }
+}

@@ -1,0 +1,4 @@
+pub mod Sets
+pub mod Steps
+pub mod Index
+pub mod Ranges

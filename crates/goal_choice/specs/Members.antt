@@ -1,0 +1,35 @@
+-- Sets of fact literals, and what the parts of a chooser keep.
+use Rattle.std.specs.Prelude.{◌≡◌, ℕ, ◌*◌, ◌/◌, ◌<◌, ◌≤◌, List, [], true, length, slice_index_or}
+use Rattle.std.specs.List.{filter, range_with_len, AllByRecursion}
+use Rattle.gt_core.specs.Layout.{Layout, width}
+use Rattle.bit_rows.specs.Bits.{row_has, room}
+use Rattle.clause_base.specs.Clause.{IsRising}
+use Rattle.goal_choice.specs.Means.{Supporter, Means}
+
+-- literals of so many facts, rising
+pub record Literals : Type 0 where
+  pub facts : ℕ
+  pub members : List ℕ
+
+-- the members of a row of bits below a number, rising
+abbrev pub members_of : List ℕ → ℕ → List ℕ
+members_of row end = filter (row_has row) (range_with_len 0 end)
+
+-- a row of bits has room for the numbers below one
+pub record IsOver (end : ℕ) (row : List ℕ) : Type 0 where
+  pub few : end ≤ 4096
+  pub room : end ≤ room row
+  pub below : (k : ℕ) → row_has row k ≡ true → k < end
+
+-- a supporter's variable is one of a step's, and it needs literals of the facts
+pub record IsWithin (z : Layout) (s : Supporter) : Type 0 where
+  pub variable : s.variable < width z
+  pub needs : AllByRecursion (λ l. l / 2 < z.facts) s.needs
+
+-- the goal is sorted and of the facts, and so are the needs of each literal's supporters
+pub record AreMeans (m : Means) : Type 0 where
+  pub few : m.layout.facts ≤ 2048
+  pub rising : IsRising m.goal
+  pub goal : AllByRecursion (λ l. l / 2 < m.layout.facts) m.goal
+  pub long : length m.supporters ≡ 2 * m.layout.facts
+  pub each : (l : ℕ) → AllByRecursion (IsWithin m.layout) (slice_index_or m.supporters l [])

@@ -1,0 +1,81 @@
+//! The chooser.
+
+ghost use Rattle.std.specs.Prelude.{◌≡◌, length, IfOk};
+ghost use Rattle.gt_core.specs.Lawful.{conditional_in};
+ghost use Rattle.gt_core.specs.Layout.{variables};
+ghost use Rattle.goal_choice.specs.Means.{means_of};
+ghost use Rattle.goal_choice.specs.Choice.{choice_by};
+ghost use Rattle.clause_base.specs.Choice.{plain_choice};
+ghost use Rattle.goal_choice.specs.ChoiceLaw.{choice-open};
+
+use crate::literals::Literals;
+use crate::means::Means;
+use crate::walk::walk;
+use clause_base::chooser::{Chooser, PlainChooser};
+use clause_base::literal::Lit;
+use clause_base::memory::Memory;
+use clause_base::values::Values;
+use gt_core::layout::Layout;
+use gt_core::task::Task;
+use std::alloc::Global;
+use std::marker::Model;
+
+/// The chooser of actions backwards from the goals. It fits the number of variables of the layout that it was made with. The
+/// sets that its walk writes over are made with it, and no answer depends on what they held.
+#[derive(Debug, Drop)]
+pub struct GoalChooser {
+    means: Means,
+    wanted: Literals,
+    before: Literals,
+}
+
+impl Model for GoalChooser {
+    ghost use Rattle.std.specs.Prelude.{◌≡◌};
+    ghost use Rattle.goal_choice.specs.Means.{Means};
+
+    ghost Value = { Means };
+
+    ghost view = { λ c. c.means };
+
+    ghost invariant = { λ c. (c.wanted.facts ≡ c.means.layout.facts) × (c.before.facts ≡ c.means.layout.facts) };
+}
+
+impl GoalChooser {
+    /// The chooser for a task over its variables by this layout.
+    pub fn new(alloc: Global, task: &Task, layout: Layout) -> Result<GoalChooser, Memory>
+        requires actions { layout.actions ≡ length task.now.actions }
+        requires conditional { layout.conditional ≡ conditional_in task.now.actions }
+        requires facts { layout.facts ≡ task.now.facts }
+        ensures { IfOk result (λ c. c ≡ means_of task.now layout) }
+    {
+        let means = Means::new(alloc, task, layout)?;
+        let facts = means.layout().facts;
+        Ok(GoalChooser {
+            means,
+            wanted: Literals::new(alloc, facts)?,
+            before: Literals::new(alloc, facts)?,
+        })
+    }
+}
+
+impl Chooser for GoalChooser {
+    ghost fits = { λ c n. n ≡ variables c.layout };
+
+    ghost choice = { λ c values. choice_by c values };
+
+    ghost opens = { λ c values _. choice-open c values };
+
+    fn choose(&mut self, values: &Values) -> Option<Lit> {
+        match walk(&self.means, values, &mut self.wanted, &mut self.before) {
+            Some(lit) => Some(lit),
+            None => least_variable_false(values),
+        }
+    }
+}
+
+/// The least variable without a value, made false.
+fn least_variable_false(values: &Values) -> Option<Lit>
+    ensures { result ≡ plain_choice values.now }
+{
+    PlainChooser::new().choose(values)
+}

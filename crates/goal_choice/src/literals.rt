@@ -1,0 +1,86 @@
+//! Sets of fact literals.
+
+ghost use Rattle.std.specs.Prelude.{◌≡◌};
+
+use bit_rows::row::BitRow;
+use clause_base::memory::Memory;
+use std::alloc::Global;
+use std::marker::Model;
+
+/// A set of literals of so many facts, as a row of bits.
+#[derive(Debug, Drop)]
+pub(crate) struct Literals {
+    facts: u32,
+    row: BitRow,
+}
+
+impl Model for Literals {
+    ghost use Rattle.std.specs.Prelude.{◌*◌};
+    ghost use Rattle.goal_choice.specs.Members.{Literals, members_of, IsOver};
+
+    ghost Value = { Literals };
+
+    ghost view = { λ s. record { facts = s.facts; members = members_of s.row (2 * s.facts) } };
+
+    ghost invariant = { λ s. IsOver (2 * s.facts) s.row };
+}
+
+impl Literals {
+    ghost use Rattle.std.specs.Prelude.{◌≡◌, ◌≤◌, ◌<◌, ◌/◌, [], ◌∷◌, fold, IfOk, IfSome, IfNone};
+    ghost use Rattle.std.specs.List.{AllByRecursion};
+    ghost use Rattle.clause_base.specs.Clause.{put};
+
+    /// The set without literals, with room for those of so many facts.
+    pub(crate) fn new(alloc: Global, facts: u32) -> Result<Literals, Memory>
+        requires { facts ≤ 2048 }
+        ensures { IfOk result (λ s. s ≡ record { facts = facts; members = [] }) }
+    {
+        let mut row = BitRow::new(alloc);
+        match row.make_room(2 * facts as usize) {
+            Ok(()) => Ok(Literals { facts, row }),
+            Err(_) => Err(Memory),
+        }
+    }
+
+    /// Puts a literal in.
+    pub(crate) fn put(&mut self, lit: u32)
+        requires { lit / 2 < self.old.facts }
+        ensures { self.new ≡ record self.old { members = put self.old.members lit } }
+    {
+        self.row.set(lit);
+    }
+
+    /// Puts literals in.
+    pub(crate) fn put_all(&mut self, lits: &[u32])
+        requires { AllByRecursion (λ l. l / 2 < self.old.facts) lits.now }
+        ensures { self.new ≡ record self.old { members = fold put self.old.members lits.now } }
+    {
+        for lit in lits {
+            self.put(*lit);
+        }
+    }
+
+    /// Takes the least literal out.
+    pub(crate) fn take_least(&mut self) -> Option<u32>
+        ensures some { IfSome result (λ l. self.old.members ≡ l ∷ self.new.members) }
+        ensures none { IfNone result (self.old.members ≡ []) }
+        ensures within { IfSome result (λ l. l / 2 < self.old.facts) }
+        ensures facts { self.new.facts ≡ self.old.facts }
+        ensures same { IfNone result (self.new ≡ self.old) }
+    {
+        match self.row.least(0) {
+            None => None,
+            Some(lit) => {
+                self.row.remove(lit);
+                Some(lit)
+            }
+        }
+    }
+
+    /// Takes all literals out.
+    pub(crate) fn clear(&mut self)
+        ensures { self.new ≡ record self.old { members = [] } }
+    {
+        'clearing: while let Some(_lit) = self.take_least() {}
+    }
+}

@@ -1,0 +1,57 @@
+//! What a wanted literal asks for.
+
+ghost use Rattle.std.specs.Prelude.{◌≡◌, ◌<◌, ◌/◌, ◌%◌, ◌==◌, not, length, Some};
+ghost use Rattle.gt_core.specs.Layout.{variables};
+ghost use Rattle.goal_choice.specs.Walk.{is_false_at, wish_of};
+ghost use Rattle.goal_choice.specs.Wishes.{meaning, WantsWithin};
+
+use crate::means::Means;
+use crate::supporter::{has_value, least_with};
+use clause_base::literal::Lit;
+use clause_base::values::Values;
+
+/// What a literal asks for that is wanted after a step.
+#[derive(Clone, Copy, Debug)]
+pub(crate) enum Wish<'a> {
+    /// A decision.
+    Choose(Lit),
+    /// That these literals hold before the step.
+    Want(&'a [u32]),
+    /// That it holds before the step.
+    Keep,
+}
+
+/// Whether a fact literal is false at a time.
+fn is_false_at(means: &Means, values: &Values, time: u32, lit: u32) -> bool
+    requires time { time < means.now.layout.horizon }
+    requires lit { lit / 2 < means.now.layout.facts }
+    requires fits { length values.now ≡ variables means.now.layout }
+    ensures { result ≡ is_false_at means.now.layout values.now time lit }
+{
+    let layout = means.layout();
+    let _all = layout.variables();
+    let variable = layout.fact(time, lit / 2);
+    has_value(values, variable, Some(lit % 2 != 0))
+}
+
+/// What a literal asks for that is wanted after a step.
+pub(crate) fn wish_for<'a>(means: &'a Means, values: &Values, step: u32, lit: u32) -> Wish<'a>
+    requires step { step < means.now.layout.horizon }
+    requires lit { lit / 2 < means.now.layout.facts }
+    requires fits { length values.now ≡ variables means.now.layout }
+    ensures wish { meaning lit result ≡ wish_of means.now values.now step lit }
+    ensures within { WantsWithin means.now.layout.facts result }
+{
+    let start = means.layout().step_start(step);
+    let supporters = means.supporters(lit);
+    if let Some(supporter) = least_with(supporters, values, start, Some(true)) {
+        return Wish::Want(supporter.needs());
+    }
+    if !is_false_at(means, values, step, lit) {
+        return Wish::Keep;
+    }
+    match least_with(supporters, values, start, None) {
+        None => Wish::Keep,
+        Some(supporter) => Wish::Choose(Lit::of(start + supporter.variable(), true)),
+    }
+}

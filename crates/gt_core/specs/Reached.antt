@@ -1,0 +1,9 @@
+use Rattle.std.specs.Prelude.{ℕ, List}
+use Rattle.gt_core.specs.Task.{Task, initial_state}
+use Rattle.gt_core.specs.Execution.{CanRun, run}
+use Rattle.gt_core.specs.Interference.{Knows}
+
+-- each of these clauses holds in every state that a sequence of actions reaches from the initial one
+abbrev pub HoldsWherever : Task → List (ℕ × ℕ) → Type 0
+HoldsWherever task clauses =
+    (ks : List ℕ) → CanRun task (initial_state task) ks → Knows clauses (run task (initial_state task) ks)

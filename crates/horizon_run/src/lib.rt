@@ -1,0 +1,20 @@
+//! The run of one horizon: a solver over the formula that says whether a plan of so many steps exists. It stops after any
+//! number of conflicts and goes on later, with another worker if need be.
+//!
+//! ```text
+//! let mut run = HorizonRun::new(alloc, task, form, 5)?;
+//! run.go_on(50)?;
+//! match run.standing() {
+//!     Standing::Found => ..    // `values` are a model of the formula
+//!     Standing::Refuted => ..  // `certify` checks its log
+//!     Standing::Going => ..    // it has handled 50 conflicts
+//! }
+//! ```
+#![tactic(auto)]
+
+mod resume;
+mod run;
+#[cfg(test)]
+mod tests;
+
+pub use run::HorizonRun;

@@ -1,0 +1,176 @@
+ghost use Rattle.std.specs.Prelude.{◌≡◌, ℕ, ◌+◌, ◌≤◌, ◌<◌, true, false, IfOk, OnOk, OnErr};
+ghost use Rattle.clause_base.specs.Formula.{IsModel};
+ghost use Rattle.clause_base.specs.Derivation.{IsRefutation};
+ghost use Rattle.cdcl_rules.specs.State.{value_of};
+ghost use Rattle.cdcl_rules.specs.Run.{after};
+ghost use Rattle.cdcl_laws.specs.Sound.{made_true};
+ghost use Rattle.rup_check.specs.Certificate.{Certifies};
+ghost use Rattle.step_encoding.specs.Numbers.{literals_of};
+ghost use Rattle.horizon_run.specs.Run.{choice_in, choice_of, moved_to, truths_of, IsMoved, IsNew, IsReached, AddsUp, Stays};
+
+use cdcl_core::solver::Solver;
+use cdcl_laws::law::runs_are_sound;
+use cdcl_rules::standing::Standing;
+use clause_base::memory::Memory;
+use goal_choice::GoalChooser;
+use gt_core::task::Task;
+use rup_check::check::{CheckError, Checked, check};
+use std::alloc::Global;
+use std::marker::Model;
+use step_encoding::form::StepForm;
+
+/// A solver over the formula of a horizon, and how many conflicts it was granted.
+#[derive(Drop)]
+pub struct HorizonRun {
+    pub(crate) solver: Solver<GoalChooser>,
+    pub(crate) granted: u64,
+}
+
+impl Model for HorizonRun {
+    ghost use Rattle.goal_choice.specs.Choice.{choice_by};
+    ghost use Rattle.horizon_run.specs.Run.{RunView, IsRun};
+
+    ghost Value = { RunView };
+
+    ghost view = { λ r. record {
+      formula = r.solver.formula;
+      means = r.solver.chooser;
+      state = r.solver.state;
+      granted = r.granted;
+      spoilt = r.solver.spoilt;
+    } };
+
+    ghost invariant = { λ r. IsRun (choice_by r.solver.chooser) r.solver.formula r.solver.state r.granted r.solver.spoilt };
+}
+
+impl HorizonRun {
+    /// The run of a horizon before its first conflict.
+    pub fn new<F: StepForm>(
+        alloc: Global,
+        task: &Task,
+        form: &F,
+        n: u32,
+    ) -> Result<HorizonRun, Memory>
+        requires form_of { F.task form.now ≡ task.now }
+        requires horizon { n ≤ 255 }
+        requires size { literals_of (F.formula_of form.now n) ≤ 4000000 }
+        ensures start { IfOk result (λ run. IsNew run) }
+        ensures formula { IfOk result (λ run. run.formula ≡ F.formula_of form.now n) }
+        ensures choice { IfOk result (λ run. choice_in run ≡ choice_of task.now (F.layout_of form.now n)) }
+    {
+        let Ok(formula) = form.formula(alloc, n) else {
+            return Err(Memory);
+        };
+        let _clauses = formula.count();
+        let _variables = formula.variables();
+        let chooser = GoalChooser::new(alloc, task, form.layout(n))?;
+        let mut solver = Solver::new(alloc, formula, chooser)?;
+        let _sound = solver.conflicts();
+        solver.advance(0)?;
+        Ok(HorizonRun { solver, granted: 0 })
+    }
+
+    /// What holds of every run, wherever it is.
+    fn keeps_laws(&self)
+        ensures moved { self.now.spoilt ≡ false → IsMoved self.now }
+        ensures reached { (k : ℕ) → IsReached (choice_in self.now) self.now.formula k }
+        ensures adds_up { AddsUp (choice_in self.now) self.now.formula }
+        ensures stays { Stays (choice_in self.now) self.now.formula }
+    {
+        let _ = &self.solver;
+        runs_are_sound();
+    }
+
+    /// Goes on until it is settled or has handled so many more conflicts. After want of memory it is spoilt: it then answers
+    /// `Memory` and stays as it is.
+    pub fn go_on(&mut self, conflicts: u32) -> Result<(), Memory>
+        requires { self.old.granted + conflicts ≤ 1073741824 }
+        ensures moved { OnOk result (self.new ≡ moved_to self.old (self.old.granted + conflicts)) }
+        ensures after { OnOk result (self.new.state ≡ after (choice_in self.old) self.old.state conflicts) }
+        ensures sane { OnOk result (self.old.spoilt ≡ false) }
+        ensures rises { OnOk result (self.old.state.conflicts ≤ self.new.state.conflicts) }
+        ensures within { OnOk result (self.new.state.conflicts ≤ self.old.state.conflicts + conflicts) }
+        ensures spoilt { OnErr result (self.new.spoilt ≡ true) }
+        ensures granted { OnErr result (self.new.granted ≡ self.old.granted) }
+        ensures formula { self.new.formula ≡ self.old.formula }
+        ensures means { self.new.means ≡ self.old.means }
+        ensures stays { self.old.spoilt ≡ true → self.new ≡ self.old }
+        ensures adds_up { AddsUp (choice_in self.old) self.old.formula }
+    {
+        self.keeps_laws();
+        if self.solver.is_spoilt() {
+            return Err(Memory);
+        }
+        self.solver.advance(conflicts)?;
+        self.granted += u64::from(conflicts);
+        Ok(())
+    }
+
+    /// How far it is.
+    pub fn standing(&self) -> Standing
+        ensures value { result ≡ self.now.state.standing }
+        ensures spoilt { self.now.spoilt ≡ true → result ≡ Standing.Going }
+        ensures moved { self.now.spoilt ≡ false → IsMoved self.now }
+        ensures reached { (k : ℕ) → IsReached (choice_in self.now) self.now.formula k }
+        ensures settled { Stays (choice_in self.now) self.now.formula }
+    {
+        self.keeps_laws();
+        self.solver.standing()
+    }
+
+    /// How many conflicts it has handled.
+    pub fn conflicts(&self) -> u64
+        ensures value { result ≡ self.now.state.conflicts }
+        ensures few { result ≤ 1073741824 }
+    {
+        self.solver.conflicts()
+    }
+
+    /// The value of a variable, if it has one.
+    pub fn value(&self, v: u32) -> Option<bool>
+        requires { v < self.now.formula.variables }
+        ensures { result ≡ value_of self.now.state.trail v }
+    {
+        self.solver.value(v)
+    }
+
+    /// Whether a variable is true.
+    fn is_true(&self, v: u32) -> bool
+        requires { v < self.now.formula.variables }
+        ensures { result ≡ made_true self.now.state.trail v }
+    {
+        matches!(self.solver.value(v), Some(true))
+    }
+
+    /// The values of a found run, variable by variable.
+    pub fn values(&self, alloc: Global) -> Result<Vec<bool>, Memory>
+        requires { self.now.state.standing ≡ Standing.Found }
+        ensures values { IfOk result (λ values. values.items ≡ truths_of self.now.formula self.now.state) }
+        ensures model { IsModel self.now.formula (truths_of self.now.formula self.now.state) }
+    {
+        let _found = self.solver.standing();
+        let _variables = self.solver.formula().variables();
+        let mut values = Vec::new(alloc);
+        for v in 0..self.solver.formula().variables() {
+            values.push(self.is_true(v))?;
+        }
+        Ok(values)
+    }
+
+    /// The mark of a refuted run: its log, checked. The marked formula has no model.
+    pub fn certify(&self, alloc: Global) -> Result<Checked, Memory>
+        requires { self.now.state.standing ≡ Standing.Refuted }
+        ensures certified { IfOk result (λ checked. Certifies checked self.now.formula self.now.state.log) }
+        ensures refutation { IsRefutation self.now.formula.variables self.now.formula.clauses self.now.state.log }
+    {
+        let _refuted = self.solver.standing();
+        let _counted = self.solver.conflicts();
+        let formula = self.solver.formula();
+        let _few = formula.count();
+        match check(alloc, formula, self.solver.log()) {
+            Ok(checked) => Ok(checked),
+            Err(CheckError::Memory) => Err(Memory),
+            Err(_) => unreachable!(),
+        }
+    }
+}

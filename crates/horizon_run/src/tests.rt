@@ -1,0 +1,115 @@
+//! The runs of two horizons of a lamp that is off, which one action turns on.
+
+ghost use Rattle.std.specs.Prelude.{◌≡◌, []};
+ghost use Rattle.gt_core.specs.Published.{IsPublished};
+
+use crate::HorizonRun;
+use action_order::order::Order;
+use action_order::publish::publish;
+use cdcl_rules::standing::Standing;
+use gt_core::act::{Act, Acts};
+use gt_core::eff::{Eff, Effs};
+use gt_core::lits::{Bits, Lits};
+use gt_core::pairs::Pairs;
+use gt_core::task::Task;
+use solver_pool::Resume;
+use std::alloc::Global;
+use std::process::Abort;
+use std::test::Fail;
+use step_encoding::exists::ExistsForm;
+use step_encoding::form::StepForm;
+
+fn lamp(alloc: Global) -> Result<Task, Fail> {
+    let pre = Lits::of(vec![in alloc; 1]?);
+    let effs = Effs::of(vec![in alloc; Eff::new(Lits::of(Vec::new(alloc)), 0)]?);
+    let acts = Acts::of(vec![in alloc; Act::new(pre, effs)]?);
+    let init = Bits::of(vec![in alloc; false]?);
+    let goal = Lits::of(vec![in alloc; 0]?);
+    Ok(Task::try_new(1, init, goal, false, acts).ok_or("no task")?)
+}
+
+/// A run over the formula of a horizon of the lamp.
+fn run_of(
+    alloc: Global,
+    task: &Task,
+    pairs: &Pairs,
+    order: &Order,
+    n: u8,
+) -> Result<HorizonRun, Fail>
+    requires facts { pairs.now.facts ≡ task.now.facts }
+    requires none { pairs.now.clauses ≡ [] }
+    requires published { IsPublished task.now pairs.now.clauses order.now }
+{
+    let form = ExistsForm::new(alloc, task, pairs, order)?;
+    let n = u32::from(n);
+    if form.size(n) > 4_000_000 {
+        return Err("too large")?;
+    }
+    Ok(HorizonRun::new(alloc, task, &form, n)?)
+}
+
+fn lamp_run(alloc: Global, n: u8) -> Result<HorizonRun, Fail> {
+    let task = lamp(alloc)?;
+    let pairs = Pairs::empty(alloc, task.facts())?;
+    let order = publish(alloc, &task, &pairs)?;
+    run_of(alloc, &task, &pairs, &order, n)
+}
+
+/// Grants a run conflicts, as a worker does.
+fn grant<R: Resume>(rt: &impl Abort, run: &mut R, conflicts: u32) -> Result<(), Fail> {
+    assert!(rt; conflicts <= 1000 && run.granted() <= 1000);
+    run.advance(conflicts)?;
+    Ok(())
+}
+
+/// How a run stands: the entries of its checked log where it is refuted, its values where it is found.
+fn standing_text(alloc: Global, run: &HorizonRun) -> Result<String, Fail> {
+    Ok(match run.standing() {
+        Standing::Going => format!(in alloc; "going")?,
+        Standing::Found => {
+            let values = run.values(alloc)?;
+            format!(in alloc; "found {:?}", values.as_slice())?
+        }
+        Standing::Refuted => {
+            let mark = run.certify(alloc)?;
+            format!(in alloc; "refuted by {} of {}", mark.entries(), mark.name())?
+        }
+    })
+}
+
+/// A line of what is seen of a run.
+fn line(alloc: Global, run: &HorizonRun) -> Result<String, Fail> {
+    let standing = standing_text(alloc, run)?;
+    let conflicts = run.conflicts();
+    let granted = run.granted();
+    let unsettled = run.unsettled();
+    Ok(format!(in alloc;
+        "{conflicts} of {granted}, {unsettled}: {}\n",
+        standing.as_str()
+    )?)
+}
+
+/// What becomes of a run as it is granted conflicts again and again.
+fn story(rt: &impl Abort, alloc: Global, n: u8, grants: &[u32]) -> Result<String, Fail> {
+    let mut run = lamp_run(alloc, n)?;
+    let mut text = line(alloc, &run)?;
+    for conflicts in grants {
+        grant(rt, &mut run, *conflicts)?;
+        text.push_str(line(alloc, &run)?.as_str())?;
+    }
+    Ok(text)
+}
+
+const NO_STEP: &str =
+    "0 of 0, true: going\n0 of 0, true: going\n1 of 1, false: refuted by 1 of 0\n1 of 6, false: refuted by 1 of 0\n";
+
+// Flip in the first step, and the lamp before and after it.
+const ONE_STEP: &str =
+    "0 of 0, false: found [true, false, true]\n0 of 5, false: found [true, false, true]\n";
+
+#[test]
+fn no_step_is_refuted_and_one_step_is_found(rt: HostRuntime) -> Result<(), Fail> {
+    assert_eq!(rt; story(&rt, rt.alloc(), 0, &[0, 1, 5])?.as_str(), NO_STEP);
+    assert_eq!(rt; story(&rt, rt.alloc(), 1, &[5])?.as_str(), ONE_STEP);
+    Ok(())
+}

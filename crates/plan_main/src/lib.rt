@@ -1,0 +1,36 @@
+//! What the planner's program does: it hands the words, the system's files and the standard output to the top call, and
+//! ends with its status.
+#![tactic(auto)]
+
+use pl_io::{FileShelf, OutSink};
+use plan_top::run;
+use solver_pool::OpenGate;
+use std::alloc::Global;
+use std::env::Args;
+use std::io;
+use std::process::ExitCode;
+use std::rt::Files;
+use std::sync::Wait;
+use std::thread::Threads;
+
+/// The exit status where the system does not give the words, also for want of memory to hold them; the top call never
+/// answers it.
+const NO_WORDS: u8 = 9;
+
+/// Runs the planner on the words that the system gives, of which the first names the program.
+pub fn run_program<H: Files + Print + Threads + Wait + Sync>(
+    rt: &H,
+    alloc: Global,
+    given: io::Result<Args<Global>>,
+) -> ExitCode {
+    let Ok(given) = given else {
+        return ExitCode::from(NO_WORDS);
+    };
+    let Ok(words) = given.skip(1).collect::<Vec<String>>(alloc) else {
+        return ExitCode::from(NO_WORDS);
+    };
+    let mut shelf = FileShelf::new(rt, alloc);
+    let mut sink = OutSink::new(rt);
+    let status = run(rt, alloc, &words, &mut shelf, &mut sink, &OpenGate);
+    ExitCode::from(status.0)
+}

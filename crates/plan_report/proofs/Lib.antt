@@ -1,0 +1,4 @@
+pub mod Lines
+pub mod Spelled
+pub mod Told
+pub mod Pushed

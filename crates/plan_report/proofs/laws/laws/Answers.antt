@@ -1,0 +1,24 @@
+use Rattle.plan_report.proofs.Told.{read_back, steps_told, horizons_told}
+use Rattle.plan_report.proofs.Spelled.{plan_read}
+use Rattle.plan_report.proofs.laws.laws.Goals as goal
+
+pub returns-clause-lines : goal.returns-clause-lines
+returns-clause-lines c p g budget end well small has =
+    read_back p g c.laws.ensures.read_back (λ call is. c.laws-2.ensures.line p call well is) (c.laws-2.ensures.begins p) budget end small has
+
+pub returns-clause-plans : goal.returns-clause-plans
+returns-clause-plans c p g budget horizon steps lines calls well small numbers is =
+    plan_read p g (record {
+      nothing = c.laws-2.ensures.nothing p;
+      comment = c.laws-2.ensures.comment p;
+      call = λ call rest calls. c.laws-2.ensures.call p call rest calls well;
+      reads = c.laws-2.ensures.reads p;
+    }) budget horizon steps lines calls small numbers is
+
+pub returns-clause-steps : goal.returns-clause-steps
+returns-clause-steps c p g budget horizon steps lines well small has =
+    steps_told p g c.laws.ensures.read_back (λ call is. c.laws-2.ensures.line p call well is) (c.laws-2.ensures.begins p) budget horizon steps lines small has
+
+pub returns-clause-horizons : goal.returns-clause-horizons
+returns-clause-horizons c p g budget end horizon word conflicts well small has one says =
+    horizons_told p g c.laws.ensures.entries (λ call is. c.laws-2.ensures.line p call well is) (c.laws-2.ensures.begins p) budget end horizon word conflicts small has one says

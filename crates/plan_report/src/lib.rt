@@ -1,0 +1,18 @@
+//! The report of a race: the lines of its horizons, the conflicts, and how it ended, with the calls of a plan.
+//!
+//! `specs/Report.antt` says which bytes. A text is its lines, joined; `laws` says what a reader finds in them: the calls
+//! of a plan, the sets of its steps, and of each horizon what the race came to.
+#![tactic(auto)]
+
+mod calls;
+mod horizons;
+pub mod laws;
+mod linear;
+mod report;
+#[cfg(test)]
+mod tests;
+mod text;
+
+pub use linear::linearise;
+pub use report::{report_text, summary_text};
+pub use text::Text;

@@ -1,0 +1,213 @@
+-- What a race that ended on a task means for the task and for its report.
+use Rattle.std.proofs.Common.{◌≡◌, ◌≤◌, ◌<◌, ℕ, zero, suc, ◌+◌, Bool, true, false, List, [], ◌∷◌, ◌++◌, map, length, get_or, codes, refl, sym, ap, subst, ◌∙◌, arith, Option, Some, None, Ok, if◌then◌else◌}
+use Rattle.std.specs.Prelude.{IsTrue, All, Contains, slice_get, slice_index_or}
+use Rattle.std.specs.List.{AllByRecursion, list_all}
+use Rattle.std.proofs.lemmas.List.Elements.{All-contains, All-map, All-from_recursion, All-contains_itself, Contains-append_right}
+use Rattle.report_lines.specs.Lines.{lines_of}
+use Rattle.report_lines.specs.Horizons.{Says, is_word, Entry, entry_line}
+use Rattle.clause_base.specs.Derivation.{IsRefutation}
+use Rattle.clause_base.specs.Formula.{assignment_of}
+use Rattle.cdcl_rules.specs.State.{State}
+use Rattle.rup_check.specs.Certificate.{Certifies}
+use Rattle.gt_core.specs.Published.{IsPublished, order_of}
+use Rattle.gt_core.specs.Step.{IsStepPlan}
+use Rattle.horizon_rates.specs.declared.settings.Settings.{Settings}
+use Rattle.pd_model.specs.Fits.{is_call}
+use Rattle.pd_model.specs.Exec.{exec, exec_schema}
+use Rattle.pd_model.specs.Plan.{IsPlan, exec_all, meets_goal}
+use Rattle.pd_model.specs.WellFormed.{IsWellFormed}
+use Rattle.pd_model.specs.declared.atoms.Atom.{Atom}
+use Rattle.pd_model.specs.declared.calls.Call.{Call}
+use Rattle.pd_model.specs.declared.parts.Parts.{Parts}
+use Rattle.pd_plan.specs.PlanFile.{plan_file}
+use Rattle.grounding.specs.Grounded.{Grounded, IsGrounded}
+use Rattle.grounding.specs.Limits.{IsWithin}
+use Rattle.grounding.specs.Laws.{AreNumbers}
+use Rattle.step_laws.specs.Form.{OrderedTask, IsPlanOf, steps_for}
+use Rattle.race_end.specs.declared.line.LineEnd.{LineEnd}
+use Rattle.race_end.specs.declared.line.LineEnd.TheVariants as ends
+use Rattle.race_end.specs.declared.line.Line.{Line}
+use Rattle.race_end.specs.declared.end.RaceEnd.{RaceEnd}
+use Rattle.race_end.specs.declared.end.RaceEnd.TheVariants as races
+use Rattle.race_end.specs.Ends.{Word, WordRefuted, LineView, EndView, Planned, Unfinished, word_of, line_view, end_view, lines_in, lines_of as lines_of_end, conflicts_in}
+use Rattle.race.specs.Input.{RaceInput}
+use Rattle.race.specs.Lines.{IsLine, AreLines, IsMarked, WhereRefuted, EachRefuted, state_of_line, standing_of as standing_at}
+use Rattle.race.specs.Ends.{WherePlanned, AreStepsOf}
+use Rattle.step_plans.specs.Plans.{AreStepPlan, AreListed, in_order, actions_in}
+use Rattle.plan_report.specs.Report.{word_text, entry_of, plan_line, conflicts_line, end_line, plan_lines, calls_by_step, last_lines, report_of}
+use Rattle.plan_report.specs.Laws.{IsSmall, HasCalls, Tells}
+use Rattle.plan_top.specs.Known.{IsOrdered}
+use Rattle.plan_top.specs.Laws.{Laws}
+use Rattle.plan_top.specs.Raced.{form_of, input_of, ComesTo}
+use Rattle.plan_top.specs.Headline.{OfGrounded, HasStepPlan, PlanRuns, NoStepPlan, NoPlan, IsSo, LineIsSo, standing_of, conflicts_of, SpendsAll}
+use Rattle.plan_top.proofs.Known.{known_once}
+
+-- ---- lines and the words in them
+
+-- what holds of each element holds of one that the list contains
+at_one : {X : Type 0} (P : X → Type 0) (xs : List X) (x : X) → AllByRecursion P xs → Contains xs x → P x
+at_one P xs x all one = All-contains P xs x (All-from_recursion P xs all) one
+
+-- a line of which this is the view
+abbrev Viewed : List Line → LineView → Type 0
+Viewed lines view = (line : Line) × Contains lines line × (line_view line ≡ view)
+
+viewed : (lines : List Line) (view : LineView) → Contains (map line_view lines) view → Viewed lines view
+viewed lines view one =
+    All-contains (Viewed lines) (map line_view lines) view (All-map (Viewed lines) line_view lines (λ i d lt. (slice_index_or lines i d, All-contains_itself lines i d lt, refl))) one
+
+lines_viewed : (race : RaceEnd) → lines_in (end_view race) ≡ map line_view (lines_of_end race)
+lines_viewed (races.Plan horizon steps lines) = refl
+lines_viewed (races.Exhausted horizon lines) = refl
+lines_viewed (races.Unfinished lines) = refl
+
+-- a line that is told as refuted has a fact of refuted horizons
+where_refuted : (end : LineEnd) (P : Type 0) → word_text (word_of end) ≡ codes "refuted" → WhereRefuted end P → P
+where_refuted (ends.Refuted stamp) P told h = h
+where_refuted ends.Dropped P told h = absurd (let never : 100 ≡ 114 = ap (λ (xs : List ℕ). get_or xs 0 0) told in omega (arith, never))
+where_refuted ends.Going P told h = absurd (let never : 111 ≡ 114 = ap (λ (xs : List ℕ). get_or xs 0 0) told in omega (arith, never))
+where_refuted ends.Found P told h = absurd (let never : 112 ≡ 114 = ap (λ (xs : List ℕ). get_or xs 0 0) told in omega (arith, never))
+
+standing_same : (end : LineEnd) → standing_at end ≡ standing_of (word_of end)
+standing_same (ends.Refuted stamp) = refl
+standing_same ends.Dropped = refl
+standing_same ends.Going = refl
+standing_same ends.Found = refl
+
+derived_of : (input : RaceInput) (h : ℕ) (state : State) (end : LineEnd) → word_of end ≡ WordRefuted → IsMarked input h state end → IsRefutation (input.formula h).variables (input.formula h).clauses state.log
+derived_of input h state (ends.Refuted stamp) is marked = marked.refutation
+derived_of input h state ends.Dropped is marked = cc
+derived_of input h state ends.Going is marked = cc
+derived_of input h state ends.Found is marked = cc
+
+line_so : (input : RaceInput) (line : Line) → IsLine input line → IsSo input line.horizon (word_text (word_of line.end)) line.conflicts
+line_so input line is = record {
+  word_is = word_of line.end;
+  told = refl;
+  exactly = is.conflicts;
+  stands = is.standing ∙ standing_same line.end;
+  derived = λ refuted. derived_of input line.horizon (state_of_line input line) line.end refuted is.marked;
+}
+
+-- ---- plans
+
+-- calls that are executed are calls of the task
+calls_fit : (p : Parts) (s : List Atom) (calls : List Call) → IsTrue (meets_goal p (exec_all p s calls)) → list_all (is_call p) calls ≡ true
+calls_fit p s [] h = refl
+calls_fit p s (call ∷ calls) h = step (is_call p call) refl (exec_schema p s call.objects (slice_get p.schemas call.schema)) (λ t. calls_fit p t calls) h
+  where
+    step : (b : Bool) → is_call p call ≡ b → (o : Option (List Atom)) → ((t : List Atom) → IsTrue (meets_goal p (exec_all p t calls)) → list_all (is_call p) calls ≡ true)
+        → IsTrue (meets_goal p (elim (if b then o else None) [ None ↦ None | Some t ↦ exec_all p t calls ])) → list_all (is_call p) (call ∷ calls) ≡ true
+    step true e None more k = absurd (let never : false ≡ true = k in cc)
+    step true e (Some t) more k = rw e (more t k)
+    step false e o more k = absurd (let never : false ≡ true = k in cc)
+
+-- the conflicts of entries are those of the lines
+conflicts_same : (lines : List LineView) → conflicts_of (map entry_of lines) ≡ conflicts_in lines
+conflicts_same [] = refl
+conflicts_same (line ∷ lines) = ap (λ (n : ℕ). line.conflicts + n) (conflicts_same lines)
+
+module _ (laws : Laws) (settings : Settings) (task : Parts) (g : Grounded) (well : IsWellFormed task) (is : IsGrounded task g) (fits : IsWithin task g) where
+  module _ (race : RaceEnd) (comes : ComesTo g.task settings race) where
+    abbrev form : OrderedTask
+    form = form_of g.task comes.clauses comes.components
+
+    abbrev order : List ℕ
+    order = order_of comes.components
+
+    only : (h : Grounded) (others : List (ℕ × ℕ)) (parts : List (List ℕ)) → IsGrounded task h → IsOrdered h.task others parts → (h ≡ g) × (others ≡ comes.clauses) × (parts ≡ comes.components)
+    only h others parts is_h ordered =
+        let same : h ≡ g = laws.one_result task h g is_h is in
+        let here : IsOrdered g.task others parts = subst (λ (x : Grounded). IsOrdered x.task others parts) same ordered in
+        let known : others ≡ comes.clauses = known_once g.task comes.clauses others comes.ordered.known here.known in
+        let published : IsPublished g.task comes.clauses parts = subst (λ (cs : List (ℕ × ℕ)). IsPublished g.task cs parts) known here.published in
+        (same, known, laws.unique g.task comes.clauses parts comes.components published comes.ordered.published)
+
+    of_grounded : (claim : Grounded → List (ℕ × ℕ) → List (List ℕ) → Type 0) → claim g comes.clauses comes.components → OfGrounded task claim
+    of_grounded claim h = record { g = g; clauses = comes.clauses; components = comes.components; grounded = is; ordered = comes.ordered; only = only; holds = h }
+
+    -- ---- refuted horizons
+
+    no_sets : (horizon : ℕ) → ((steps : List (List ℕ)) → IsPlanOf form horizon steps → ⊥) → (sets : ℕ → ℕ → Bool) → IsStepPlan g.task order sets horizon → ⊥
+    no_sets horizon none sets plan = let l = laws.lists g.task order sets horizon plan in none l.0 (record { long = l.1.long; plan = l.1.plan })
+
+    no_plans : (horizon : ℕ) → ((steps : List (List ℕ)) → IsPlanOf form horizon steps → ⊥) → NoPlan horizon task
+    no_plans horizon none calls short plan = let s = laws.short task g order horizon calls is short plan in no_sets horizon none s.0 s.1
+
+    -- a line that the end tells of a horizon
+    told_line : (horizon : ℕ) (word : List ℕ) (conflicts : ℕ) → Tells (lines_in (end_view race)) horizon word conflicts
+        → (line : Line) × Contains (lines_of_end race) line × (line.horizon ≡ horizon) × (word_text (word_of line.end) ≡ word) × (line.conflicts ≡ conflicts)
+    told_line horizon word conflicts tells =
+        let v = viewed (lines_of_end race) tells.0 (subst (λ (lines : List LineView). Contains lines tells.0) (lines_viewed race) tells.1) in
+        (v.0, v.1, ap (λ (x : LineView). x.horizon) v.2 ∙ tells.2, ap (λ (x : LineView). word_text x.word) v.2 ∙ tells.3, ap (λ (x : LineView). x.conflicts) v.2 ∙ tells.4)
+
+    refuted_line : (horizon conflicts : ℕ) → Tells (lines_in (end_view race)) horizon (codes "refuted") conflicts → (steps : List (List ℕ)) → IsPlanOf form horizon steps → ⊥
+    refuted_line horizon conflicts tells =
+        let t = told_line horizon (codes "refuted") conflicts tells in
+        let P : ℕ → Type 0 = λ h. (steps : List (List ℕ)) → IsPlanOf form h steps → ⊥ in
+        let at = at_one (λ (l : Line). WhereRefuted l.end (P l.horizon)) (lines_of_end race) t.0 comes.races.refuted t.1 in
+        subst P t.2 (where_refuted t.0.end (P t.0.horizon) t.3 at)
+
+    pub no_step_plan : (horizon conflicts : ℕ) → Tells (lines_in (end_view race)) horizon (codes "refuted") conflicts → NoStepPlan horizon task
+    no_step_plan horizon conflicts tells =
+        of_grounded (λ h clauses components. (sets : ℕ → ℕ → Bool) → IsStepPlan h.task (order_of components) sets horizon → ⊥) (no_sets horizon (refuted_line horizon conflicts tells))
+
+    pub no_plan : (horizon conflicts : ℕ) → Tells (lines_in (end_view race)) horizon (codes "refuted") conflicts → NoPlan horizon task
+    no_plan horizon conflicts tells = no_plans horizon (refuted_line horizon conflicts tells)
+
+    pub line_is_so : (horizon : ℕ) (word : List ℕ) (conflicts : ℕ) → Tells (lines_in (end_view race)) horizon word conflicts → LineIsSo settings horizon word conflicts task
+    line_is_so horizon word conflicts tells =
+        let t = told_line horizon word conflicts tells in
+        let input = input_of form settings in
+        let so = line_so input t.0 (at_one (IsLine input) (lines_of_end race) t.0 comes.races.lines t.1) in
+        let one = subst (λ (h : ℕ). IsSo input h (word_text (word_of t.0.end)) t.0.conflicts) t.2 so in
+        let two = subst (λ (w : List ℕ). IsSo input horizon w t.0.conflicts) t.3 one in
+        of_grounded (λ h clauses components. IsSo (input_of (form_of h.task clauses components) settings) horizon word conflicts)
+        (subst (λ (k : ℕ). IsSo input horizon word k) t.4 two)
+
+  -- ---- plans
+
+  -- a race that ended with a plan
+  module _ (horizon : ℕ) (steps : List (List ℕ)) (lines : List Line) (comes : ComesTo g.task settings (races.Plan horizon steps lines)) where
+    abbrev planned : EndView
+    planned = end_view (races.Plan horizon steps lines)
+
+    is_listed : AreListed (order_of comes.components) steps
+    is_listed =
+        let s = comes.races.steps in
+        subst (AreListed (order_of comes.components)) (sym s.2) (laws.listed (form_of g.task comes.clauses comes.components) horizon (assignment_of s.0))
+
+    is_plan : AreStepPlan g.task (order_of comes.components) steps horizon
+    is_plan = let p = comes.races.plan in record { long = p.long; plan = p.plan }
+
+    its_calls : (calls : List Call) × AreNumbers g calls (actions_in steps) × IsPlan task calls
+    its_calls =
+        let r = laws.run task g comes.clauses comes.components steps horizon is (laws.is_task task g is fits) comes.ordered.published is_plan in
+        (r.0, subst (AreNumbers g r.0) (laws.in_order (order_of comes.components) steps is_listed) r.1, r.2)
+
+    pub has_calls : HasCalls task g planned
+    has_calls = let c = its_calls in (c.0, c.1, calls_fit task task.init c.0 c.2)
+
+    pub plan_runs : IsSmall settings.budget planned → PlanRuns (report_of task g settings.budget planned) task
+    plan_runs small =
+        let c = its_calls in
+        let text : List ℕ = report_of task g settings.budget planned in
+        let read = laws.plans task g settings.budget horizon steps (map line_view lines) c.0 well small c.1 (calls_fit task task.init c.0 c.2) in
+        let back = laws.lines task g settings.budget planned well small has_calls in
+        let entries : List (List ℕ) = map entry_line (map entry_of (map line_view lines)) in
+        let last : Contains (last_lines task g settings.budget planned) (plan_line horizon (length (actions_in steps))) = (1, omega arith, refl) in
+        let line : Contains (lines_of text) (plan_line horizon (length (actions_in steps))) =
+        subst (λ (ls : List (List ℕ)). Contains ls (plan_line horizon (length (actions_in steps)))) (sym back) (Contains-append_right entries (last_lines task g settings.budget planned) _ last) in
+        let told = laws.steps task g settings.budget horizon steps (map line_view lines) well small has_calls in
+        ((c.0, read, c.2), of_grounded (races.Plan horizon steps lines) comes (HasStepPlan text task) (steps, horizon, line, told, is_plan, is_listed))
+
+  -- ---- the budget
+
+  pub spends_all : (lines : List Line) → ComesTo g.task settings (races.Unfinished lines) → IsSmall settings.budget (end_view (races.Unfinished lines)) → SpendsAll (report_of task g settings.budget (end_view (races.Unfinished lines))) settings.budget
+  spends_all lines comes small =
+      let back = laws.lines task g settings.budget (Unfinished (map line_view lines)) well small tt in
+      let sum : conflicts_in (map line_view lines) ≡ settings.budget = comes.races.sums in (
+        map entry_of (map line_view lines),
+        back ∙ ap (λ (n : ℕ). map entry_line (map entry_of (map line_view lines)) ++ (conflicts_line n settings.budget ∷ (codes "; unfinished" ∷ []))) sum,
+        conflicts_same (map line_view lines) ∙ sum,
+      )

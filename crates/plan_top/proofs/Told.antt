@@ -1,0 +1,193 @@
+-- What the bytes of files decide, the files of a shelf decide; and which answers they give.
+use Rattle.std.proofs.Common.{◌≡◌, ℕ, Bool, true, false, List, [], ◌∷◌, Option, Some, None, subst, refl, ◌∙◌, sym, inl, inr}
+use Rattle.std.specs.Prelude.{IfSome}
+use Rattle.std.specs.List.{AllZip}
+use Rattle.horizon_rates.specs.declared.settings.Settings.{Settings}
+use Rattle.pd_model.specs.declared.memory.Which.{Which}
+use Rattle.pd_model.specs.declared.memory.Which.TheVariants.{Domain, Problem}
+use Rattle.pd_model.specs.declared.calls.Verdict.{Verdict}
+use Rattle.pd_model.specs.declared.calls.Verdict.TheVariants as verdicts
+use Rattle.pd_model.specs.Plan.{verdict}
+use Rattle.pd_model.specs.declared.parts.Parts.{Parts}
+use Rattle.pd_task.specs.declared.error.PddlError.{PddlError}
+use Rattle.pd_task.specs.declared.error.PddlError.TheVariants as errors
+use Rattle.pd_plan.specs.Fault as plan
+use Rattle.plan_gen.specs.declared.Kind.{Kind as Generated}
+use Rattle.plan_gen.specs.Task.{domain_of, problem_of}
+use Rattle.plan_words.specs.Seen.{Seen, Numbers, plans, checks, grounds, orders, generates, files_of}
+use Rattle.plan_words.specs.Requested.{requested}
+use Rattle.plan_words.specs.declared.request.Show.{Show}
+use Rattle.plan_words.specs.declared.request.Show.TheVariants as shows
+use Rattle.plan_top.specs.declared.ending.Kind.{Kind}
+use Rattle.plan_top.specs.declared.ending.Kind.TheVariants as kinds
+use Rattle.plan_top.specs.declared.ending.Ending.{Ending}
+use Rattle.plan_top.specs.declared.ending.Ending.TheVariants.{Refused, Usage}
+use Rattle.plan_top.specs.Files.{IsTaken, OfTold}
+use Rattle.plan_top.specs.Tasks.{RefusesTask, domain_tree, problem_tree, no_task, refusal_of, OnceRead, refused, read, OnceGrounded, past, within}
+use Rattle.plan_top.specs.Raced.{OnceRaced, too_large, ended}
+use Rattle.plan_top.specs.Generated.{AnswersGenerated, TellsGenerated}
+use Rattle.plan_top.specs.Causes.{Decides, Answers, AnswersPlan, AnswersGround, AnswersOrder, AnswersCheck, is_answer, refusal_of_plan, ending_of, ComesOf, decided, Comes, no_request, of_request}
+use Rattle.plan_top.proofs.Taking.{all_fit}
+
+-- ---- endings that tell of a file
+
+-- the ending refuses a file
+abbrev pub IsRefusal : Ending → Type 0
+IsRefusal end = (kind : Kind) × (file : Which) × (at : ℕ) × (end ≡ Refused kind file at)
+
+refusal_is : (cause : PddlError) (end : Ending) → refusal_of cause ≡ Some end → IsRefusal end
+refusal_is (errors.Shape file at) end e = (kinds.Shape, file, at, cc)
+refusal_is (errors.Unknown file at) end e = (kinds.Unknown, file, at, cc)
+refusal_is (errors.Arity file at) end e = (kinds.Arity, file, at, cc)
+refusal_is (errors.Duplicate file at) end e = (kinds.Duplicate, file, at, cc)
+refusal_is (errors.Unsupported file at) end e = (kinds.Unsupported, file, at, cc)
+refusal_is errors.Memory end e = absurd (none_some end e)
+  where
+    none_some : (x : Ending) → None ≡ Some x → ⊥
+    none_some x h = cc
+
+pub task_refusal : (domain problem : List ℕ) (end : Ending) → RefusesTask domain problem end → IsRefusal end
+task_refusal domain problem end (domain_tree r) = (r.0, Domain, r.1, r.2)
+task_refusal domain problem end (problem_tree first reads r) = (r.0, Problem, r.1, r.2)
+task_refusal domain problem end (no_task first second one two r) = refusal_is r.0 end r.2
+
+-- ---- which answers the contents give
+
+refused_answer : (request : Seen) (kind : Kind) (file : Which) (at : ℕ) → is_answer request (Refused kind file at) ≡ true
+refused_answer (plans d p n) kind file at = refl
+refused_answer (checks d p l) kind file at = refl
+refused_answer (grounds d p) kind file at = refl
+refused_answer (orders d p) kind file at = refl
+refused_answer (generates k m n s) kind file at = refl
+
+-- two texts that are refused, or a task of which the answer is one
+read_answer : (request : Seen) (domain problem : List ℕ) (answers : Parts → Ending → Type 0) (end : Ending) → ((task : Parts) → answers task end → is_answer request end ≡ true)
+    → OnceRead domain problem answers end → is_answer request end ≡ true
+read_answer request domain problem answers end from (refused r) = let is = task_refusal domain problem end r in rw is.3 (refused_answer request is.0 is.1 is.2)
+read_answer request domain problem answers end from (read task are well h) = from task h
+
+verdict_answer : (d p l : List ℕ) (v : Verdict) → is_answer (checks d p l) (ending_of v) ≡ true
+verdict_answer d p l verdicts.Reaches = refl
+verdict_answer d p l (verdicts.Blocked index) = refl
+verdict_answer d p l verdicts.Short = refl
+
+fault_answer : (d p l : List ℕ) (f : plan.Fault) → is_answer (checks d p l) (refusal_of_plan f) ≡ true
+fault_answer d p l (plan.syntax at) = refl
+fault_answer d p l (plan.unknown at) = refl
+fault_answer d p l (plan.arity at) = refl
+fault_answer d p l (plan.mistyped at) = refl
+
+check_answer : (d p l : List ℕ) (task : Parts) (bytes : List ℕ) (end : Ending) → AnswersCheck task bytes end → is_answer (checks d p l) end ≡ true
+check_answer d p l task bytes end (inl h) = rw h.2 (verdict_answer d p l (verdict task h.0))
+check_answer d p l task bytes end (inr h) = rw h.2 (fault_answer d p l h.0)
+
+plan_answer : (d p : List ℕ) (n : Numbers) (settings : Settings) (task : Parts) (end : Ending) → OnceGrounded task (AnswersPlan settings task) end → is_answer (plans d p n) end ≡ true
+plan_answer d p n settings task end (past over) = rw over.2 refl
+plan_answer d p n settings task end (within g is fits (too_large over)) = rw over.2 refl
+plan_answer d p n settings task end (within g is fits (ended race comes tells)) = rw tells.told refl
+
+files_answer : (request : Seen) (domain problem : List ℕ) (others : List (List ℕ)) (end : Ending) → Answers request domain problem others end → is_answer request end ≡ true
+files_answer (plans d p n) domain problem [] end h = read_answer (plans d p n) domain problem (λ task. OnceGrounded task (AnswersPlan h.0 task)) end (λ task. plan_answer d p n h.0 task end) h.2
+files_answer (plans d p n) domain problem (o ∷ os) end h = absurd h
+files_answer (grounds d p) domain problem [] end h = read_answer (grounds d p) domain problem (λ task. OnceGrounded task (AnswersGround task)) end step h
+  where
+    step : (task : Parts) → OnceGrounded task (AnswersGround task) end → is_answer (grounds d p) end ≡ true
+    step task (past over) = rw over.2 refl
+    step task (within g is fits e) = rw e refl
+files_answer (grounds d p) domain problem (o ∷ os) end h = absurd h
+files_answer (orders d p) domain problem [] end h = read_answer (orders d p) domain problem (λ task. OnceGrounded task (AnswersOrder task)) end step h
+  where
+    step : (task : Parts) → OnceGrounded task (AnswersOrder task) end → is_answer (orders d p) end ≡ true
+    step task (past over) = rw over.2 refl
+    step task (within g is fits k) = rw k.3 refl
+files_answer (orders d p) domain problem (o ∷ os) end h = absurd h
+files_answer (checks d p l) domain problem [] end h = absurd h
+files_answer (checks d p l) domain problem (bytes ∷ []) end h = read_answer (checks d p l) domain problem (λ task. AnswersCheck task bytes) end (λ task. check_answer d p l task bytes end) h
+files_answer (checks d p l) domain problem (bytes ∷ (o ∷ os)) end h = absurd h
+files_answer (generates k m n s) domain problem others end h = absurd h
+
+generated_answer : (kind : Generated) (number : ℕ) (n : Numbers) (settings : Settings) (show : Show) (end : Ending) → AnswersGenerated kind number settings show end → is_answer (generates kind number n show) end ≡ true
+generated_answer kind number n settings shows.Domain end h = rw h refl
+generated_answer kind number n settings shows.Problem end h = rw h refl
+generated_answer kind number n settings shows.None end h = read_answer (generates kind number n shows.None) (domain_of kind) (problem_of kind number) (λ task. OnceGrounded task (λ g. OnceRaced g.task settings (TellsGenerated kind number settings))) end step h
+  where
+    step : (task : Parts) → OnceGrounded task (λ g. OnceRaced g.task settings (TellsGenerated kind number settings)) end → is_answer (generates kind number n shows.None) end ≡ true
+    step task (past over) = rw over.2 refl
+    step task (within g is fits (too_large over)) = rw over.2 refl
+    step task (within g is fits (ended race comes told)) = rw told refl
+
+decides_answer : (request : Seen) (files : List (List ℕ)) (end : Ending) → Decides request files end → is_answer request end ≡ true
+decides_answer (plans d p n) [] end h = absurd h
+decides_answer (checks d p l) [] end h = absurd h
+decides_answer (grounds d p) [] end h = absurd h
+decides_answer (orders d p) [] end h = absurd h
+decides_answer (generates k m n s) [] end h = generated_answer k m n h.0 s end h.2
+decides_answer (plans d p n) (domain ∷ []) end h = absurd h
+decides_answer (checks d p l) (domain ∷ []) end h = absurd h
+decides_answer (grounds d p) (domain ∷ []) end h = absurd h
+decides_answer (orders d p) (domain ∷ []) end h = absurd h
+decides_answer (generates k m n s) (domain ∷ []) end h = absurd h
+decides_answer (plans d p n) (domain ∷ (problem ∷ others)) end h = files_answer (plans d p n) domain problem others end h
+decides_answer (checks d p l) (domain ∷ (problem ∷ others)) end h = files_answer (checks d p l) domain problem others end h
+decides_answer (grounds d p) (domain ∷ (problem ∷ others)) end h = files_answer (grounds d p) domain problem others end h
+decides_answer (orders d p) (domain ∷ (problem ∷ others)) end h = files_answer (orders d p) domain problem others end h
+decides_answer (generates k m n s) (domain ∷ (problem ∷ others)) end h = absurd h
+
+-- ---- what is told
+
+at_told : (P : List ℕ → Type 0) (told : Option (List ℕ)) (bytes : List ℕ) → IfSome told (λ file. bytes ≡ file) → P bytes → IfSome told P
+at_told P None bytes is h = tt
+at_told P (Some file) bytes is h = subst P is h
+
+of_taken : (told : List ℕ → Option (List ℕ)) (lacks : List ℕ → Bool) (names files : List (List ℕ)) (claim : List (List ℕ) → Type 0) → AllZip (IsTaken told lacks) names files → claim files → OfTold told names claim
+of_taken told lacks [] [] claim are h = h
+of_taken told lacks [] (f ∷ fs) claim are h = absurd are
+of_taken told lacks (n ∷ ns) [] claim are h = absurd are
+of_taken told lacks (n ∷ ns) (f ∷ fs) claim are h =
+    at_told (λ bytes. OfTold told ns (λ others. claim (bytes ∷ others))) (told n) f are.0.whole (of_taken told lacks ns fs (λ others. claim (f ∷ others)) are.1 h)
+
+told_weaker : (P Q : List ℕ → Type 0) (told : Option (List ℕ)) → ((bytes : List ℕ) → P bytes → Q bytes) → IfSome told P → IfSome told Q
+told_weaker P Q None weaker h = tt
+told_weaker P Q (Some bytes) weaker h = weaker bytes h
+
+-- what follows from a claim on the bytes of two files, and of three
+pub two_weaker : (P Q : List ℕ → List ℕ → Type 0) (one two : Option (List ℕ)) → ((first second : List ℕ) → P first second → Q first second)
+    → IfSome one (λ first. IfSome two (λ second. P first second)) → IfSome one (λ first. IfSome two (λ second. Q first second))
+two_weaker P Q one two weaker = told_weaker (λ first. IfSome two (λ second. P first second)) (λ first. IfSome two (λ second. Q first second)) one
+    (λ first. told_weaker (λ second. P first second) (λ second. Q first second) two (weaker first))
+
+pub three_weaker : (P Q : List ℕ → List ℕ → List ℕ → Type 0) (one two three : Option (List ℕ)) → ((first second third : List ℕ) → P first second third → Q first second third)
+    → IfSome one (λ first. IfSome two (λ second. IfSome three (λ third. P first second third))) → IfSome one (λ first. IfSome two (λ second. IfSome three (λ third. Q first second third)))
+three_weaker P Q one two three weaker = two_weaker (λ first second. IfSome three (λ third. P first second third)) (λ first second. IfSome three (λ third. Q first second third)) one two
+    (λ first second. told_weaker (λ third. P first second third) (λ third. Q first second third) three (weaker first second))
+
+pub at_some : (P : List ℕ → Type 0) (o : Option (List ℕ)) (x : List ℕ) → o ≡ Some x → IfSome o P → P x
+at_some P o x is h = let at = subst (λ (u : Option (List ℕ)). IfSome u P) is h in at
+
+-- a claim on files whose bytes are these
+pub of_told_at : (told : List ℕ → Option (List ℕ)) (names files : List (List ℕ)) (P : List (List ℕ) → Type 0) → AllZip (λ name bytes. told name ≡ Some bytes) names files → OfTold told names P → P files
+of_told_at told [] [] P are h = h
+of_told_at told [] (f ∷ fs) P are h = absurd are
+of_told_at told (n ∷ ns) [] P are h = absurd are
+of_told_at told (n ∷ ns) (f ∷ fs) P are h =
+    of_told_at told ns fs (λ others. P (f ∷ others)) are.1 (at_some (λ bytes. OfTold told ns (λ others. P (bytes ∷ others))) (told n) f are.0 h)
+
+-- ---- what a run comes to
+
+module _ (told : List ℕ → Option (List ℕ)) (lacks : List ℕ → Bool) (old new : List (List ℕ)) where
+  -- of files that were taken, what their bytes decide comes of the request
+  pub taken_comes : (request : Seen) (files : List (List ℕ)) → AllZip (IsTaken told lacks) (files_of request) files → (end : Ending) → Decides request files end → ComesOf told lacks old new request end
+  taken_comes request files are end h =
+      decided (all_fit told lacks old new (files_of request) files are) (decides_answer request files end h) (of_taken told lacks (files_of request) files (λ fs. Decides request fs end) are h)
+
+  -- an ending of words that ask for a request comes of it
+  pub asked_comes : (words : List (List ℕ)) (request : Seen) → requested words ≡ Some request → (end : Ending) → Comes told lacks old new words end → ComesOf told lacks old new request end
+  asked_comes words request asked end (no_request none e) = absurd (let never : Some request ≡ None = sym asked ∙ none in cc)
+  asked_comes words request asked end (of_request other other_asked h) =
+      let same : Some other ≡ Some request = sym other_asked ∙ asked in
+      let is : other ≡ request = cc in
+      subst (λ (r : Seen). ComesOf told lacks old new r end) is h
+
+  pub not_asked_comes : (words : List (List ℕ)) → requested words ≡ None → (end : Ending) → Comes told lacks old new words end → end ≡ Usage
+  not_asked_comes words none end (no_request n e) = e
+  not_asked_comes words none end (of_request request asked h) = absurd (let never : Some request ≡ None = sym asked ∙ none in cc)

@@ -1,0 +1,24 @@
+use Rattle.std.proofs.Common.{◌≡◌, ◌∙◌, ℕ, List, ap, subst}
+use Rattle.gt_core.specs.Task.{Task}
+use Rattle.race_end.specs.Ends.{end_view}
+use Rattle.plan_top.specs.declared.ending.Outcome.{Outcome}
+use Rattle.plan_top.specs.declared.ending.Ending.TheVariants.{Report}
+use Rattle.plan_top.specs.Tasks.{within}
+use Rattle.plan_top.specs.Raced.{ComesTo, ended, outcome_of}
+use Rattle.plan_top.specs.Generated.{TellsGenerated}
+use Rattle.plan_top.proofs.Answered.{raced_handed}
+use Rattle.plan_top.proofs.generated.gen_task.Goals as goal
+
+pub returns-in_err-end : goal.returns-in_err-end
+returns-in_err-end g c =
+    raced_handed c.args.task.now c.in_ok-grounded.grounded c.in_ok-grounded.ensures.grounded c.in_ok-grounded.ensures.within c.args.settings.now (λ h. TellsGenerated c.args.kind c.args.number c.args.settings.now)
+    c.in_err-end.field-0.0 c.from_residual-in_err-end.result c.from_residual-in_err-end.ensures.1 (rw c.task.ensures at c.in_err-end.ensures.stops)
+
+pub returns : goal.returns
+returns g c =
+    let settings = c.args.settings.now in
+    let grounded = c.in_ok-grounded.grounded in
+    let end = c.in_ok-end.end in
+    let comes = subst (λ (t : Task). ComesTo t settings end) c.task.ensures c.in_ok-end.ensures.ended in
+    within grounded c.in_ok-grounded.ensures.grounded c.in_ok-grounded.ensures.within
+    (ended end comes (ap (λ (o : Outcome). Report o c.in_ok-text.text) c.outcome.ensures ∙ ap (Report (outcome_of (end_view end))) c.in_ok-text.ensures))

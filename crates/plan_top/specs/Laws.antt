@@ -1,0 +1,24 @@
+-- What the crates below promise of plans and reports, gathered.
+use Rattle.report_lines.specs.Laws.{FrontsSayNoMore, ReportsSayEntries}
+use Rattle.gt_core.specs.Laws.{PublishedIsUnique}
+use Rattle.grounding.specs.Laws.{OneResult, GroundedIsTask}
+use Rattle.plan_words.specs.Seen.{NumbersAreSettings}
+use Rattle.step_plans.specs.Laws.{StepPlansRun, ShortPlansAreStepPlans, SetsAreLists, ListedAreInOrder, SetsOfFormsAreListed}
+use Rattle.plan_report.specs.Laws.{LinesAreReadBack, PlansAreRead, StepsAreTold, HorizonsAreTold}
+
+pub record Laws : Type 0 where
+  pub settings : NumbersAreSettings
+  pub fronts : FrontsSayNoMore
+  pub entries : ReportsSayEntries
+  pub unique : PublishedIsUnique
+  pub one_result : OneResult
+  pub is_task : GroundedIsTask
+  pub run : StepPlansRun
+  pub short : ShortPlansAreStepPlans
+  pub lists : SetsAreLists
+  pub in_order : ListedAreInOrder
+  pub listed : SetsOfFormsAreListed
+  pub lines : LinesAreReadBack
+  pub plans : PlansAreRead
+  pub steps : StepsAreTold
+  pub horizons : HorizonsAreTold

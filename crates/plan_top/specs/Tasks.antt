@@ -1,0 +1,73 @@
+-- The task that two files are, and why they are none that can be answered.
+use Rattle.std.specs.Prelude.{◌≡◌, ℕ, List, Option, Some, None, Ok, Err}
+use Rattle.pd_sexp.specs.Tree.{Tree}
+use Rattle.pd_sexp.specs.Fault.{syntax, deep, IsFault, Reads}
+use Rattle.pd_model.specs.WellFormed.{IsWellFormed}
+use Rattle.pd_model.specs.declared.memory.Which.{Which}
+use Rattle.pd_model.specs.declared.memory.Which.TheVariants.{Domain, Problem}
+use Rattle.pd_model.specs.declared.parts.Parts.{Parts}
+use Rattle.pd_task.specs.Reading.{reading}
+use Rattle.pd_task.specs.declared.error.PddlError.{PddlError}
+use Rattle.pd_task.specs.declared.error.PddlError.TheVariants as errors
+use Rattle.grounding.specs.Grounded.{Grounded, IsGrounded}
+use Rattle.grounding.specs.Limits.{IsWithin, IsOverTuples, IsOverFacts, IsOverActions, IsOverEffects}
+use Rattle.plan_top.specs.declared.ending.Limit.{Limit}
+use Rattle.plan_top.specs.declared.ending.Limit.TheVariants as limits
+use Rattle.plan_top.specs.declared.ending.Kind.{Kind}
+use Rattle.plan_top.specs.declared.ending.Kind.TheVariants.{Syntax, Deep, Shape, Unknown, Arity, Duplicate, Unsupported}
+use Rattle.plan_top.specs.declared.ending.Ending.{Ending}
+use Rattle.plan_top.specs.declared.ending.Ending.TheVariants.{Refused, TooMany}
+
+-- two files are a task
+abbrev pub AreTask : List ℕ → List ℕ → Parts → Type 0
+AreTask domain problem task = (first : Tree) × (second : Tree) × Reads domain first × Reads problem second × (reading first second ≡ Ok task)
+
+-- a file has this fault as a tree
+abbrev pub IsTreeFault : List ℕ → Kind → ℕ → Type 0
+IsTreeFault bytes Syntax at = IsFault bytes (syntax at)
+IsTreeFault bytes Deep at = IsFault bytes (deep at)
+IsTreeFault bytes _ at = ⊥
+
+-- the ending that tells of a cause for which two trees are no task
+abbrev pub refusal_of : PddlError → Option Ending
+refusal_of (errors.Shape file at) = Some (Refused Shape file at)
+refusal_of (errors.Unknown file at) = Some (Refused Unknown file at)
+refusal_of (errors.Arity file at) = Some (Refused Arity file at)
+refusal_of (errors.Duplicate file at) = Some (Refused Duplicate file at)
+refusal_of (errors.Unsupported file at) = Some (Refused Unsupported file at)
+refusal_of errors.Memory = None
+
+-- the ending tells of a fault that a file has as a tree
+abbrev pub RefusesTree : List ℕ → Which → Ending → Type 0
+RefusesTree bytes file end = (kind : Kind) × (at : ℕ) × (end ≡ Refused kind file at) × IsTreeFault bytes kind at
+
+-- the ending tells of the cause for which two trees are no task
+abbrev pub RefusesTrees : Tree → Tree → Ending → Type 0
+RefusesTrees first second end = (cause : PddlError) × (reading first second ≡ Err cause) × (refusal_of cause ≡ Some end)
+
+-- why two files are no task: the trees before what they say, and of both the domain first
+pub data RefusesTask (domain problem : List ℕ) (end : Ending) : Type 0 where
+  domain_tree : RefusesTree domain Domain end → RefusesTask domain problem end
+  problem_tree : (first : Tree) → Reads domain first → RefusesTree problem Problem end → RefusesTask domain problem end
+  no_task : (first second : Tree) → Reads domain first → Reads problem second → RefusesTrees first second end → RefusesTask domain problem end
+
+-- What two files decide: they are refused, or a task, which is well formed, of which the answer is this.
+pub data OnceRead (domain problem : List ℕ) (answers : Parts → Ending → Type 0) (end : Ending) : Type 0 where
+  refused : RefusesTask domain problem end → OnceRead domain problem answers end
+  read : (task : Parts) → AreTask domain problem task → IsWellFormed task → answers task end → OnceRead domain problem answers end
+
+-- a task is past a limit, with this count
+abbrev pub IsOver : Limit → Parts → ℕ → Type 0
+IsOver limits.Tuples task count = IsOverTuples task count
+IsOver limits.Facts task count = IsOverFacts task count
+IsOver limits.Actions task count = IsOverActions task count
+IsOver limits.Effects task count = IsOverEffects task count
+
+-- a task is past a limit, of which the ending tells
+abbrev pub TellsOver : Parts → Ending → Type 0
+TellsOver task end = (what : Limit) × (count : ℕ) × (end ≡ TooMany what count) × IsOver what task count
+
+-- What a task comes to that is grounded first: it is past a limit, or within all, and the answer is this.
+pub data OnceGrounded (task : Parts) (answers : Grounded → Ending → Type 0) (end : Ending) : Type 0 where
+  past : TellsOver task end → OnceGrounded task answers end
+  within : (g : Grounded) → IsGrounded task g → IsWithin task g → answers g end → OnceGrounded task answers end

@@ -1,0 +1,111 @@
+//! What a generated task comes to.
+ghost use Rattle.std.specs.Prelude.{◌≡◌, ◌≤◌, ◌++◌, IfOk};
+ghost use Rattle.race_end.specs.Ends.{end_view, lines_in, conflicts_in};
+ghost use Rattle.plan_gen.specs.Task.{domain_of, problem_of};
+ghost use Rattle.plan_report.specs.Report.{summary_of};
+ghost use Rattle.plan_top.specs.Tasks.{OnceRead, OnceGrounded};
+ghost use Rattle.plan_top.specs.Raced.{OnceRaced};
+ghost use Rattle.plan_top.specs.Generated.{AnswersGenerated, TellsGenerated, kind_text, generated_line};
+ghost use Rattle.plan_top.specs.Ends.{EndsAs};
+
+use crate::Ending;
+use crate::ground::ground_task;
+use crate::raced::{outcome, raced};
+use crate::stop::Stop;
+use crate::task::read_task;
+use horizon_rates::Settings;
+use pd_model::{Memory, Pddl};
+use pl_io::Bytes;
+use plan_gen::{Kind, generate};
+use plan_report::summary_text;
+use plan_words::Show;
+use race_end::RaceEnd;
+use report_lines::push_number;
+use solver_pool::Gate;
+use std::alloc::{AllocError, Global};
+use std::sync::Wait;
+use std::thread::Threads;
+
+/// What a generated task comes to: the text that is shown, or how the race on it ended.
+pub fn answer_gen<H: Threads + Wait + Sync, G: Gate>(
+    rt: &H,
+    alloc: Global,
+    kind: Kind,
+    number: u32,
+    show: Show,
+    settings: &Settings,
+    gate: &G,
+) -> Result<Ending, Stop>
+    requires { (1 ≤ number) × (number ≤ 64) }
+    ensures { EndsAs (AnswersGenerated kind number settings.now show) result }
+{
+    let made = generate(alloc, kind, number)?;
+    match show {
+        Show::Domain => Ok(Ending::Listing(Bytes::of(made.domain.into_vec()))),
+        Show::Problem => Ok(Ending::Listing(Bytes::of(made.problem.into_vec()))),
+        Show::None => {
+            let task = read_task(alloc, made.domain.as_slice(), made.problem.as_slice())?;
+            gen_task(rt, alloc, &task, kind, number, settings, gate)
+        }
+    }
+}
+
+// What the task that was generated comes to.
+fn gen_task<H: Threads + Wait + Sync, G: Gate>(
+    rt: &H,
+    alloc: Global,
+    task: &Pddl,
+    kind: Kind,
+    number: u32,
+    settings: &Settings,
+    gate: &G,
+) -> Result<Ending, Stop>
+    ensures { EndsAs (OnceGrounded task.now (λ g. OnceRaced g.task settings.now (TellsGenerated kind number settings.now))) result }
+{
+    let grounded = ground_task(alloc, task)?;
+    let end = raced(rt, alloc, grounded.task(), settings, gate)?;
+    let text = generated_text(alloc, kind, number, &end, settings)?;
+    Ok(Ending::Report {
+        outcome: outcome(&end),
+        text,
+    })
+}
+
+// The report on a generated task.
+fn generated_text(
+    alloc: Global,
+    kind: Kind,
+    number: u32,
+    end: &RaceEnd,
+    settings: &Settings,
+) -> Result<Bytes, Memory>
+    requires { conflicts_in (lines_in (end_view end.now)) ≤ settings.now.budget }
+    ensures { IfOk result (λ text. text ≡ generated_line kind number ++ summary_of settings.now.budget (end_view end.now)) }
+{
+    let mut text = first_line(alloc, kind, number)?;
+    let summary = summary_text(alloc, end, settings.budget)?;
+    text.extend_from_slice(summary.as_slice())?;
+    Ok(Bytes::of(text))
+}
+
+// The first line of the report on a generated task.
+fn first_line(alloc: Global, kind: Kind, number: u32) -> Result<Vec<u8>, AllocError>
+    ensures { IfOk result (λ text. text.items ≡ generated_line kind number) }
+{
+    let mut text = Vec::from_slice(alloc, b"; generated ")?;
+    text.extend_from_slice(kind_word(kind).as_bytes())?;
+    text.extend_from_slice(b" ")?;
+    push_number(&mut text, u64::from(number))?;
+    text.extend_from_slice(b"\n")?;
+    Ok(text)
+}
+
+// The word for a kind of task.
+fn kind_word(kind: Kind) -> &'static str
+    ensures { result.now ≡ kind_text kind }
+{
+    match kind {
+        Kind::Corridor => "corridor",
+        Kind::Gripper => "gripper",
+    }
+}

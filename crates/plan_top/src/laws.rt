@@ -1,0 +1,14 @@
+//! What the crates below promise, gathered.
+ghost use Rattle.plan_top.specs.Laws.{Laws};
+
+/// The laws on which the promises of the top call rest, for its proof; it does nothing.
+pub fn laws()
+    ensures { Laws }
+{
+    plan_words::laws::laws();
+    report_lines::laws();
+    gt_core::laws::laws();
+    grounding::laws::laws();
+    step_plans::laws::laws();
+    plan_report::laws::laws();
+}

@@ -1,0 +1,4 @@
+mod Chain
+mod Fit
+mod SameReaders
+mod Numbers

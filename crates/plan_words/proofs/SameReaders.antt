@@ -1,0 +1,40 @@
+-- Any readers of the lists make the same commands, but for where the lists lie.
+use Rattle.std.proofs.Common.{◌≡◌, ◌∙◌, List, [], ◌∷◌, map, refl, sym, ap}
+use Rattle.std.specs.Borrow.{Bor}
+use Rattle.clap.specs.Walk.{Text, texts}
+use Rattle.clap.specs.declared.builder.value_parser.ValueParser.{ValueParser}
+use Rattle.clap.specs.declared.builder.value_parser.ValueParser.TheVariants as reader
+use Rattle.plan_words.specs.declared.command.Name.{Name}
+use Rattle.plan_words.specs.declared.command.Name.TheVariants.{Plan, Check, Ground, Order, Gen}
+use Rattle.plan_words.specs.declared.command.Readers.{Readers}
+use Rattle.clap_words.specs.Same.{IsSame, reader_anywhere, somewhere}
+use Rattle.plan_words.specs.Command.{AreReaders, TakesWords, algorithm_words, command_of, kind_words, lists, show_words}
+
+norm_texts : (xs : List (Bor Text)) → map (λ (n : Bor Text). somewhere n.now) xs ≡ map somewhere (texts xs)
+norm_texts [] = refl
+norm_texts (x ∷ xs) = ap (λ (rest : List (Bor Text)). somewhere x.now ∷ rest) (norm_texts xs)
+
+norm_lists : (words : List Text) (p q : ValueParser) → TakesWords words p → TakesWords words q → reader_anywhere p ≡ reader_anywhere q
+norm_lists words (reader.Names xs) (reader.Names ys) h k =
+    ap (λ (ns : List (Bor Text)). reader.Names (somewhere ns)) (norm_texts xs.now ∙ (ap (map somewhere) (h ∙ sym k) ∙ sym (norm_texts ys.now)))
+norm_lists words (reader.Names xs) q h k = absurd k
+norm_lists words p q h k = absurd h
+
+same_commands : (by to : Readers) → AreReaders by → AreReaders to → (name : Name) → IsSame (command_of by name) (command_of to name)
+same_commands by to are too Plan =
+    let a = norm_lists algorithm_words by.algorithms to.algorithms are.algorithms too.algorithms in
+    record { simple_a = refl; simple_b = refl; leaf_a = refl; leaf_b = refl; binary = refl; tops = rw a refl }
+same_commands by to are too Check = record { simple_a = refl; simple_b = refl; leaf_a = refl; leaf_b = refl; binary = refl; tops = refl }
+same_commands by to are too Ground = record { simple_a = refl; simple_b = refl; leaf_a = refl; leaf_b = refl; binary = refl; tops = refl }
+same_commands by to are too Order = record { simple_a = refl; simple_b = refl; leaf_a = refl; leaf_b = refl; binary = refl; tops = refl }
+same_commands by to are too Gen =
+    let a = norm_lists algorithm_words by.algorithms to.algorithms are.algorithms too.algorithms in
+    let k = norm_lists kind_words by.kinds to.kinds are.kinds too.kinds in
+    let w = norm_lists show_words by.shows to.shows are.shows too.shows in
+    record { simple_a = refl; simple_b = refl; leaf_a = refl; leaf_b = refl; binary = refl; tops = rw (a, k, w) refl }
+
+are_lists : AreReaders lists
+are_lists = record { algorithms = refl; kinds = refl; shows = refl }
+
+pub as_lists : (by : Readers) → AreReaders by → (name : Name) → IsSame (command_of by name) (command_of lists name)
+as_lists by are name = same_commands by lists are are_lists name

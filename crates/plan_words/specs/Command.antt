@@ -1,0 +1,123 @@
+-- The commands as `clap` reads them: the arguments of each, in their order.
+use Rattle.std.specs.Prelude.{map, ◌≡◌, ℕ, Option, Some, None, List, [], ◌∷◌, ◌++◌, codes, pos, true, if◌then◌else◌}
+use Rattle.std.specs.Str.{bytes_eq}
+use Rattle.clap.specs.Walk.{Text, Rule, texts}
+use Rattle.clap.specs.Simple.{App, new_app, new_rule, with_rule}
+use Rattle.clap.specs.declared.builder.action.ArgAction.TheVariants.{Set}
+use Rattle.clap.specs.declared.builder.value_parser.ValueParser.{ValueParser}
+use Rattle.clap.specs.declared.builder.value_parser.ValueParser.TheVariants as reader
+use Rattle.clap_words.specs.Same.{somewhere}
+use Rattle.plan_words.specs.declared.command.Name.{Name}
+use Rattle.plan_words.specs.declared.command.Name.TheVariants.{Plan, Check, Ground, Order, Gen}
+use Rattle.plan_words.specs.declared.command.Readers.{Readers}
+
+-- A word that has to stand there, of any text.
+abbrev pub word : Text → Rule
+word id = record (new_rule id) { required = true; action = Some Set }
+
+-- A word that has to stand there, which this reader takes.
+abbrev pub reading_word : Text → ValueParser → Rule
+reading_word id by = record (new_rule id) { required = true; action = Some Set; parser = Some by }
+
+-- `--name VALUE`, which this reader takes, and the value where it is not given.
+abbrev pub option : Text → ValueParser → Text → Rule
+option name by default = record (new_rule name) { long = Some name; action = Some Set; parser = Some by; defaults = default ∷ [] }
+
+-- `--name NUMBER`, from low to high.
+abbrev pub number : Text → ℕ → ℕ → Text → Rule
+number name low high default = option name (reader.Signed (pos low) (pos high)) default
+
+-- The reader takes exactly these words, wherever they lie in memory.
+abbrev pub TakesWords : List Text → ValueParser → Type 0
+TakesWords words (reader.Names names) = texts names.now ≡ words
+TakesWords words _ = ⊥
+
+-- The words of each list.
+abbrev pub algorithm_words : List Text
+algorithm_words = codes "a" ∷ codes "b" ∷ codes "c" ∷ []
+
+abbrev pub kind_words : List Text
+kind_words = codes "corridor" ∷ codes "gripper" ∷ []
+
+abbrev pub show_words : List Text
+show_words = codes "none" ∷ codes "domain" ∷ codes "problem" ∷ []
+
+-- A reader of a list holds references. Where they lie is of no account, and here they lie at no place in particular.
+abbrev pub one_among : List Text → ValueParser
+one_among words = reader.Names (somewhere (map somewhere words))
+
+-- The readers of the lists.
+abbrev pub lists : Readers
+lists = record { algorithms = one_among algorithm_words; kinds = one_among kind_words; shows = one_among show_words }
+
+-- The readers take the words of these lists, wherever they lie in memory.
+pub record AreReaders (by : Readers) : Type 0 where
+  pub algorithms : TakesWords algorithm_words by.algorithms
+  pub kinds : TakesWords kind_words by.kinds
+  pub shows : TakesWords show_words by.shows
+
+-- The options of a race: the window's, the list's, and those of the work.
+abbrev pub window_options : ValueParser → List Rule
+window_options algorithms =
+    option (codes "alg") algorithms (codes "a")
+    ∷ number (codes "width") 1 16 (codes "4")
+    ∷ number (codes "quota") 1 10000 (codes "50")
+    ∷ number (codes "percent") 1 99 (codes "50")
+    ∷ []
+
+abbrev pub list_options : List Rule
+list_options =
+    number (codes "growth") 101 400 (codes "150")
+    ∷ number (codes "start") 0 255 (codes "0")
+    ∷ number (codes "max-horizon") 0 255 (codes "64")
+    ∷ []
+
+abbrev pub work_options : List Rule
+work_options =
+    number (codes "budget") 0 1000000 (codes "100000")
+    ∷ number (codes "slice") 1 10000 (codes "10")
+    ∷ number (codes "workers") 1 16 (codes "4")
+    ∷ []
+
+abbrev pub options : ValueParser → List Rule
+options algorithms = window_options algorithms ++ (list_options ++ work_options)
+
+-- The words of the two files that are a task.
+abbrev pub two : List Rule
+two = word (codes "domain") ∷ word (codes "problem") ∷ []
+
+-- The word that names a command.
+abbrev pub word_of : Name → Text
+word_of Plan = codes "plan"
+word_of Check = codes "check"
+word_of Ground = codes "ground"
+word_of Order = codes "order"
+word_of Gen = codes "gen"
+
+-- What follows that word: the words in their order, then the options.
+abbrev pub rules_of : Readers → Name → List Rule
+rules_of by Plan = two ++ options by.algorithms
+rules_of by Check = two ++ word (codes "plan") ∷ []
+rules_of by Ground = two
+rules_of by Order = two
+rules_of by Gen = reading_word (codes "kind") by.kinds
+    ∷ reading_word (codes "number") (reader.Signed (pos 1) (pos 64))
+    ∷ (options by.algorithms ++ option (codes "show") by.shows (codes "none") ∷ [])
+
+-- The command with these arguments added, in their order.
+abbrev pub with_rules : App → List Rule → App
+with_rules app [] = app
+with_rules app (r ∷ rs) = with_rules (with_rule app r) rs
+
+-- The one simple command of a name.
+abbrev pub command_of : Readers → Name → App
+command_of by name = with_rules (new_app (word_of name)) (rules_of by name)
+
+-- The command that a word names.
+abbrev pub named : Text → Option Name
+named text = if bytes_eq text (codes "plan") then Some Plan
+    else if bytes_eq text (codes "check") then Some Check
+    else if bytes_eq text (codes "ground") then Some Ground
+    else if bytes_eq text (codes "order") then Some Order
+    else if bytes_eq text (codes "gen") then Some Gen
+    else None

@@ -1,0 +1,5 @@
+pub mod Among
+pub mod Command
+pub mod Ranges
+pub mod Requested
+pub mod Seen

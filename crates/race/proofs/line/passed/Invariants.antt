@@ -1,0 +1,4 @@
+use Rattle.race.proofs.line.passed.Given as goal
+
+abbrev pub ghost-open : goal.ghost-open
+ghost-open g a = g.input

@@ -1,0 +1,11 @@
+pub mod Input
+pub mod State
+pub mod Starts
+pub mod Grants
+pub mod Found
+pub mod Clears
+pub mod Race
+pub mod Lines
+pub mod Ends
+pub mod Runs
+pub mod Tied

@@ -1,0 +1,76 @@
+-- The runs of a race, as the code has them: those of the live horizons, and the jobs that workers are given.
+use Rattle.std.specs.Prelude.{◌≡◌, ℕ, ◌+◌, ◌-◌, ◌≤◌, List, [], ◌∷◌}
+use Rattle.std.specs.List.{AllByRecursion}
+use Rattle.cdcl_rules.specs.declared.standing.Standing.TheVariants.{Found, Refuted}
+use Rattle.solver_pool.specs.Job.{JobView}
+use Rattle.step_encoding.specs.Numbers.{literals_of}
+use Rattle.horizon_run.specs.Run.{RunView, choice_in, moved_to, IsMoved, IsReached}
+use Rattle.race.specs.Input.{RaceInput}
+use Rattle.race.specs.State.{LiveRun}
+
+-- a run as the definition sees it
+abbrev pub live_run_of : RunView → LiveRun
+live_run_of run = record { horizon = run.formula.name; target = run.granted; state = run.state }
+
+abbrev pub horizon_of : RunView → ℕ
+horizon_of run = run.formula.name
+
+-- a run is that of its horizon in a race
+pub record IsRunOf (input : RaceInput) (run : RunView) : Type 0 where
+  pub chosen : input.choose run.formula.name ≡ choice_in run
+  pub formula : input.formula run.formula.name ≡ run.formula
+  pub low : run.formula.name ≤ 255
+  pub small : literals_of run.formula ≤ 4000000
+  pub moved : IsMoved run
+  pub reached : (k : ℕ) → IsReached (choice_in run) run.formula k
+
+-- what is granted in all
+abbrev pub total : List ℕ → ℕ
+total [] = 0
+total (n ∷ ns) = n + total ns
+
+-- the conflicts of runs together
+abbrev pub conflicts_of : List RunView → ℕ
+conflicts_of [] = 0
+conflicts_of (r ∷ rs) = r.state.conflicts + conflicts_of rs
+
+-- each run advanced by its grant
+abbrev pub moved_all : List RunView → List ℕ → List RunView
+moved_all [] gs = []
+moved_all (r ∷ rs) [] = r ∷ rs
+moved_all (r ∷ rs) (g ∷ gs) = moved_to r (r.granted + g) ∷ moved_all rs gs
+
+-- a job for each run, up to what it was granted before and now
+abbrev pub jobs_at : List RunView → List ℕ → List (JobView RunView)
+jobs_at [] gs = []
+jobs_at (r ∷ rs) [] = []
+jobs_at (r ∷ rs) (g ∷ gs) = record { run = r; target = r.granted + g } ∷ jobs_at rs gs
+
+-- the run of a job at its target
+abbrev pub run_at : JobView RunView → RunView
+run_at j = moved_to j.run j.target
+
+-- there is one grant for each run, and no run gets too many
+abbrev pub Fits : List RunView → List ℕ → Type 0
+Fits [] [] = Unit {0}
+Fits [] (g ∷ gs) = ⊥
+Fits (r ∷ rs) [] = ⊥
+Fits (r ∷ rs) (g ∷ gs) = (r.granted + g ≤ 1073741824) × Fits rs gs
+
+-- a run before a round: it has not been granted too much, and is not refuted
+pub record IsLow (run : RunView) : Type 0 where
+  pub granted : run.granted ≤ 1000000
+  pub unrefuted : run.state.standing ≡ Refuted → ⊥
+
+abbrev pub AreLow : List RunView → Type 0
+AreLow runs = AllByRecursion IsLow runs
+
+abbrev pub AreUnfound : List RunView → Type 0
+AreUnfound runs = AllByRecursion (λ run. run.state.standing ≡ Found → ⊥) runs
+
+-- what a round granted is set aside, and its runs used no more
+pub record IsBooked (set_aside granted before after : ℕ) : Type 0 where
+  pub rose : before ≤ after
+  pub within : after - before ≤ granted
+  pub few : granted ≤ 1000000
+  pub aside : set_aside ≡ granted

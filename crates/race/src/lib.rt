@@ -1,0 +1,24 @@
+//! The race of horizons: rounds in which several horizons go on side by side, each by its grant, until one is found, the last
+//! is refuted or the budget is spent (after Rintanen, Heljanko and Niemelä 2006).
+//!
+//! `specs/Race.antt` says what a race comes to, by its rates and its budget alone: so the end of a race is the same for every
+//! number of workers and every slice.
+//!
+//! ```text
+//! match race(rt, alloc, task, form, settings, &OpenGate)? {
+//!     RaceEnd::Plan { horizon, steps, .. } => ..      // the least found horizon
+//!     RaceEnd::Exhausted { horizon, .. } => ..        // the last listed horizon is refuted
+//!     RaceEnd::Unfinished { .. } => ..                // the budget is spent
+//! }
+//! ```
+#![tactic(auto)]
+
+mod grant;
+mod line;
+mod racing;
+mod run;
+#[cfg(test)]
+mod tests;
+mod work;
+
+pub use run::{RaceError, race};

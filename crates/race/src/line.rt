@@ -1,0 +1,55 @@
+// The line of a horizon, by its run.
+ghost use Rattle.std.specs.Prelude.{◌≡◌, IfOk};
+ghost use Rattle.race.specs.Clears.{passed_line};
+ghost use Rattle.race.specs.Found.{open_line};
+ghost use Rattle.race.specs.Input.{RaceInput};
+ghost use Rattle.race.specs.Lines.{IsLine};
+ghost use Rattle.race.specs.Runs.{live_run_of, IsRunOf};
+ghost use Rattle.race_end.specs.Ends.{line_view};
+
+use cdcl_rules::standing::Standing;
+use clause_base::memory::Memory;
+use horizon_run::HorizonRun;
+use race_end::{Line, LineEnd};
+use solver_pool::Resume;
+use std::alloc::Global;
+
+/// The line of a run that ended so.
+fn line_of(run: &HorizonRun, end: LineEnd) -> Line
+    ensures { result ≡ record { horizon = run.now.formula.name; conflicts = run.now.state.conflicts; end = end } }
+{
+    Line {
+        horizon: run.horizon(),
+        conflicts: run.conflicts(),
+        end,
+    }
+}
+
+/// The line of a run that is live at the end: its log is certified where it is refuted.
+pub(crate) fn open(alloc: Global, run: &HorizonRun) -> Result<Line, Memory>
+    ghost input: { RaceInput }
+    requires run { IsRunOf input run.now }
+    ensures told { IfOk result (λ line. line_view line ≡ open_line (live_run_of run.now)) }
+    ensures line { IfOk result (λ line. IsLine input line) }
+{
+    let end = match run.standing() {
+        Standing::Refuted => LineEnd::Refuted(run.certify(alloc)?),
+        Standing::Going => LineEnd::Going,
+        Standing::Found => LineEnd::Found,
+    };
+    Ok(line_of(run, end))
+}
+
+/// The line of a run that is passed by a refuted one or refuted itself.
+pub(crate) fn passed(alloc: Global, run: &HorizonRun) -> Result<Line, Memory>
+    ghost input: { RaceInput }
+    requires run { IsRunOf input run.now }
+    requires unfound { run.now.state.standing ≡ Standing.Found → ⊥ }
+    ensures told { IfOk result (λ line. line_view line ≡ passed_line (live_run_of run.now)) }
+    ensures line { IfOk result (λ line. IsLine input line) }
+{
+    match run.standing() {
+        Standing::Refuted => open(alloc, run),
+        _ => Ok(line_of(run, LineEnd::Dropped)),
+    }
+}

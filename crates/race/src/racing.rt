@@ -1,0 +1,393 @@
+//! The rounds of a race.
+
+ghost use Rattle.std.specs.Prelude.{◌≡◌, ℕ, ◌+◌, ◌≤◌, ◌<◌, true, length, map, nat_lt, if◌then◌else◌, None, Some, slice_get, IfOk, OnOk, IfSome, IfNone};
+ghost use Rattle.std.specs.List.{AllByRecursion};
+ghost use Rattle.horizon_rates.specs.Horizons.{listed};
+ghost use Rattle.step_encoding.specs.Numbers.{literals_of};
+ghost use Rattle.horizon_run.specs.Run.{choice_of};
+ghost use Rattle.horizon_rates.specs.Ledger.{left_of};
+ghost use Rattle.race.specs.Clears.{is_refuted, any_refuted, cleared};
+ghost use Rattle.race.specs.Found.{first_found, is_found, lines};
+ghost use Rattle.race.specs.Grants.{grants, advanced};
+ghost use Rattle.race.specs.Input.{RaceInput};
+ghost use Rattle.race.specs.Lines.{AreLines};
+ghost use Rattle.race.specs.Race.{TooLarge, settled, judged, round};
+ghost use Rattle.race.specs.Runs.{live_run_of, IsRunOf, AreLow, AreUnfound, moved_all};
+ghost use Rattle.race.specs.Starts.{started, fitting, filled, too_large};
+ghost use Rattle.race.specs.State.{start};
+ghost use Rattle.race.specs.Tied.{race_state, IsTied, Stands, SpendsMore, Ends};
+ghost use Rattle.race_end.specs.Ends.{conflicts_in, line_view, end_view};
+
+use crate::grant::{book, grant_all};
+use crate::line::{open, passed};
+use crate::run::RaceError;
+use crate::work::{advance_all, conflicts_of};
+use cdcl_rules::standing::Standing;
+use clause_base::memory::Memory;
+use gt_core::task::Task;
+use horizon_rates::{Ledger, Rates, Settings, Window};
+use horizon_run::HorizonRun;
+use race_end::{Line, Lines, RaceEnd};
+use solver_pool::{Gate, Resume};
+use std::alloc::Global;
+use std::sync::Wait;
+use std::thread::Threads;
+use step_encoding::form::StepForm;
+
+/// A race between two rounds.
+#[derive(Drop)]
+pub(crate) struct Racing {
+    window: Window,
+    ledger: Ledger,
+    // The horizon that was started last.
+    last: u32,
+    // The runs of the live horizons, rising.
+    runs: Vec<HorizonRun>,
+    // The lines of the horizons that are live no more, rising.
+    lines: Vec<Line>,
+}
+
+/// What a round leads to.
+#[derive(Drop)]
+pub(crate) enum Step {
+    On(Racing),
+    End(RaceEnd),
+}
+
+/// Whether a run is found.
+fn is_found(run: &HorizonRun) -> bool
+    ensures { result ≡ is_found run.now.state.standing }
+{
+    matches!(run.standing(), Standing::Found)
+}
+
+/// Whether a run is refuted.
+fn is_refuted(run: &HorizonRun) -> bool
+    ensures { result ≡ is_refuted run.now.state.standing }
+{
+    matches!(run.standing(), Standing::Refuted)
+}
+
+/// The place of the first run that is found.
+fn find_found(runs: &[HorizonRun]) -> Option<usize>
+    ensures none { IfNone result (first_found (map live_run_of runs.now) ≡ None) }
+    ensures unfound { IfNone result (AreUnfound runs.now) }
+    ensures some { IfSome result (λ place. first_found (map live_run_of runs.now) ≡ slice_get (map live_run_of runs.now) place) }
+    ensures within { IfSome result (λ place. place < length runs.now) }
+    ensures found { IfSome result (λ place. (run : _) → slice_get runs.now place ≡ Some run → run.state.standing ≡ Standing.Found) }
+{
+    for (place, run) in runs.iter().enumerate() {
+        if is_found(run) {
+            return Some(place);
+        }
+    }
+    None
+}
+
+/// Whether some run is refuted.
+fn has_refuted(runs: &[HorizonRun]) -> bool
+    ensures { result ≡ any_refuted (map live_run_of runs.now) }
+{
+    for run in runs {
+        if is_refuted(run) {
+            return true;
+        }
+    }
+    false
+}
+
+impl Racing {
+    /// The race before its first round.
+    pub(crate) fn new(alloc: Global, settings: &Settings) -> Racing
+        ensures race { race_state result ≡ start }
+        ensures tied { (input : RaceInput) → input.rates ≡ settings.now.rates → input.budget ≡ settings.now.budget → IsTied input result }
+        ensures low { AreLow result.runs.items }
+    {
+        Racing {
+            window: Window::new(&settings.rates),
+            ledger: Ledger::new(settings.budget),
+            last: settings.rates.nth(0).unwrap_or(0),
+            runs: Vec::new(alloc),
+            lines: Vec::new(alloc),
+        }
+    }
+
+    /// The horizon that may start next: the next listed one, where there is a free place and its formula is not too large.
+    fn startable<F: StepForm>(&self, form: &F, rates: &Rates) -> Option<u32>
+        ghost input: { RaceInput }
+        requires tied { IsTied input self.now }
+        requires rates { input.rates ≡ rates.now }
+        requires formula { input.formula ≡ F.formula_of form.now }
+        ensures value { result ≡ (if nat_lt (length self.now.runs.items) input.rates.width then fitting input (listed input.rates self.now.window.next) else None) }
+        ensures low { IfSome result (λ h. h ≤ 255) }
+        ensures small { IfSome result (λ h. literals_of (F.formula_of form.now h) ≤ 4000000) }
+        ensures listed { IfSome result (λ h. listed self.now.window.rates self.now.window.next ≡ Some h) }
+        ensures narrow { IfSome result (λ h. length self.now.window.live < self.now.window.rates.width) }
+    {
+        if self.window.count() >= rates.width {
+            return None;
+        }
+        let horizon = self.window.next_listed()?;
+        if form.size(horizon) > 4_000_000 {
+            return None;
+        }
+        Some(horizon)
+    }
+
+    /// Starts the next listed horizon.
+    fn start<F: StepForm>(
+        &mut self,
+        alloc: Global,
+        task: &Task,
+        form: &F,
+        horizon: u32,
+    ) -> Result<(), Memory>
+        ghost input: { RaceInput }
+        requires tied { IsTied input self.old }
+        requires low { AreLow self.old.runs.items }
+        requires choose { input.choose ≡ (λ h. choice_of (F.task form.now) (F.layout_of form.now h)) }
+        requires formula { input.formula ≡ F.formula_of form.now }
+        requires form_of { F.task form.now ≡ task.now }
+        requires horizon { horizon ≤ 255 }
+        requires small { literals_of (F.formula_of form.now horizon) ≤ 4000000 }
+        requires listed { listed self.old.window.rates self.old.window.next ≡ Some horizon }
+        requires narrow { length self.old.window.live < self.old.window.rates.width }
+        ensures tied { OnOk result (IsTied input self.new) }
+        ensures low { OnOk result (AreLow self.new.runs.items) }
+        ensures started { OnOk result (race_state self.new ≡ started input horizon (race_state self.old)) }
+        ensures ledger { OnOk result (self.new.ledger ≡ self.old.ledger) }
+    {
+        let run = HorizonRun::new(alloc, task, form, horizon)?;
+        let _reached = run.standing();
+        self.window.take_next();
+        self.runs.push(run)?;
+        self.last = horizon;
+        Ok(())
+    }
+
+    /// Starts horizons while there are free places.
+    fn fill<F: StepForm>(
+        &mut self,
+        alloc: Global,
+        task: &Task,
+        form: &F,
+        rates: &Rates,
+    ) -> Result<(), Memory>
+        ghost input: { RaceInput }
+        requires tied { IsTied input self.old }
+        requires low { AreLow self.old.runs.items }
+        requires rates { input.rates ≡ rates.now }
+        requires choose { input.choose ≡ (λ h. choice_of (F.task form.now) (F.layout_of form.now h)) }
+        requires formula { input.formula ≡ F.formula_of form.now }
+        requires form_of { F.task form.now ≡ task.now }
+        ensures tied { OnOk result (IsTied input self.new) }
+        ensures low { OnOk result (AreLow self.new.runs.items) }
+        ensures filled { OnOk result (race_state self.new ≡ filled input (race_state self.old)) }
+        ensures ledger { OnOk result (self.new.ledger ≡ self.old.ledger) }
+    {
+        while let Some(horizon) = self.startable(form, rates) {
+            self.start(alloc, task, form, horizon)?;
+        }
+        Ok(())
+    }
+
+    /// The next listed horizon, where none is live.
+    fn too_large(&self) -> Option<u32>
+        ghost input: { RaceInput }
+        requires { IsTied input self.now }
+        ensures value { result ≡ too_large input (race_state self.now) }
+        ensures low { IfSome result (λ h. h ≤ 255) }
+    {
+        if !self.runs.is_empty() {
+            return None;
+        }
+        self.window.next_listed()
+    }
+
+    /// Grants each run what it may use, and has workers advance it. What the round used is booked at once.
+    fn advance<G: Gate, H: Threads + Wait + Sync>(
+        self,
+        rt: &H,
+        alloc: Global,
+        settings: &Settings,
+        gate: &G,
+    ) -> Result<Racing, Memory>
+        ghost input: { RaceInput }
+        requires tied { IsTied input self }
+        requires low { AreLow self.runs.items }
+        requires rates { input.rates ≡ settings.now.rates }
+        ensures tied { IfOk result (λ next. IsTied input next) }
+        ensures advanced { IfOk result (λ next. race_state next ≡ advanced input (race_state self)) }
+        ensures moved { IfOk result (λ next. next.runs.items ≡ moved_all self.runs.items (grants input.rates 0 (left_of self.ledger) (length self.runs.items))) }
+    {
+        let Racing {
+            window,
+            mut ledger,
+            last,
+            runs,
+            lines,
+        } = self;
+        let count = window.count();
+        let left = ledger.left();
+        let grants = grant_all(alloc, &mut ledger, &settings.rates, count)?;
+        let granted = left - ledger.left();
+        let before = conflicts_of(runs.as_slice());
+        let runs = advance_all(rt, alloc, runs, grants.as_slice(), settings, gate)?;
+        let after = conflicts_of(runs.as_slice());
+        book(&mut ledger, granted, before, after);
+        Ok(Racing {
+            window,
+            ledger,
+            last,
+            runs,
+            lines,
+        })
+    }
+
+    /// Closes the first live horizon, where some live one is refuted.
+    fn close_first(&mut self, alloc: Global) -> Result<(), Memory>
+        ghost input: { RaceInput }
+        requires tied { IsTied input self.old }
+        requires unfound { AreUnfound self.old.runs.items }
+        requires refuted { any_refuted (map live_run_of self.old.runs.items) ≡ true }
+        ensures tied { OnOk result (IsTied input self.new) }
+        ensures unfound { OnOk result (AreUnfound self.new.runs.items) }
+        ensures cleared { OnOk result (cleared (race_state self.new) ≡ cleared (race_state self.old)) }
+        ensures fewer { OnOk result (length self.new.runs.items < length self.old.runs.items) }
+    {
+        let _rising = self.window.count();
+        let run = self.runs.remove(0);
+        let horizon = run.horizon();
+        self.window.refute(horizon);
+        let line = passed(alloc, &run)?;
+        self.lines.push(line)?;
+        Ok(())
+    }
+
+    /// Closes the live horizons up to the last refuted one.
+    fn close(&mut self, alloc: Global) -> Result<(), Memory>
+        ghost input: { RaceInput }
+        requires tied { IsTied input self.old }
+        requires unfound { AreUnfound self.old.runs.items }
+        ensures tied { OnOk result (IsTied input self.new) }
+        ensures low { OnOk result (AreLow self.new.runs.items) }
+        ensures cleared { OnOk result (race_state self.new ≡ cleared (race_state self.old)) }
+    {
+        'closing: while has_refuted(self.runs.as_slice()) {
+            self.close_first(alloc)?;
+        }
+        Ok(())
+    }
+
+    /// The lines of all started horizons.
+    fn finish(self, alloc: Global) -> Result<Lines, Memory>
+        ghost input: { RaceInput }
+        requires { IsTied input self }
+        ensures told { IfOk result (λ ls. map line_view ls ≡ lines (race_state self)) }
+        ensures lines { IfOk result (λ ls. AreLines input ls) }
+        ensures sums { IfOk result (λ ls. conflicts_in (map line_view ls) ≡ self.ledger.spent) }
+    {
+        let mut lines = self.lines;
+        for run in &self.runs {
+            lines.push(open(alloc, run)?)?;
+        }
+        Ok(Lines::of(lines))
+    }
+
+    /// The end with the plan of the run at a place.
+    fn plan<F: StepForm>(self, alloc: Global, form: &F, place: usize) -> Result<RaceEnd, Memory>
+        ghost input: { RaceInput }
+        requires tied { IsTied input self }
+        requires formula { input.formula ≡ F.formula_of form.now }
+        requires steps { input.steps ≡ F.stands_for form.now }
+        requires within { place < length self.runs.items }
+        requires first { first_found (map live_run_of self.runs.items) ≡ slice_get (map live_run_of self.runs.items) place }
+        requires found { (run : _) → slice_get self.runs.items place ≡ Some run → run.state.standing ≡ Standing.Found }
+        ensures ends { IfOk result (λ end. Ends input end (judged input (race_state self))) }
+    {
+        let run = &self.runs[place];
+        let horizon = run.horizon();
+        let values = run.values(alloc)?;
+        let steps = form.steps_of(alloc, horizon, values.as_slice())?;
+        let lines = self.finish(alloc)?;
+        Ok(RaceEnd::Plan {
+            horizon,
+            steps,
+            lines,
+        })
+    }
+
+    /// The end of the race where the last listed horizon is refuted or the budget is spent.
+    fn settle(self, alloc: Global, settings: &Settings) -> Result<Step, Memory>
+        ghost input: { RaceInput }
+        requires tied { IsTied input self }
+        requires low { AreLow self.runs.items }
+        requires budget { input.budget ≡ settings.now.budget }
+        ensures stands { IfOk result (λ step. Stands input step (settled input (race_state self))) }
+    {
+        if self.window.ended() {
+            let horizon = self.last;
+            let lines = self.finish(alloc)?;
+            return Ok(Step::End(RaceEnd::Exhausted { horizon, lines }));
+        }
+        if self.ledger.spent() == settings.budget {
+            let lines = self.finish(alloc)?;
+            return Ok(Step::End(RaceEnd::Unfinished { lines }));
+        }
+        Ok(Step::On(self))
+    }
+
+    /// What a round comes to once its runs are advanced.
+    fn judge<F: StepForm>(
+        mut self,
+        alloc: Global,
+        form: &F,
+        settings: &Settings,
+    ) -> Result<Step, Memory>
+        ghost input: { RaceInput }
+        requires tied { IsTied input self }
+        requires budget { input.budget ≡ settings.now.budget }
+        requires formula { input.formula ≡ F.formula_of form.now }
+        requires steps { input.steps ≡ F.stands_for form.now }
+        ensures stands { IfOk result (λ step. Stands input step (judged input (race_state self))) }
+    {
+        if let Some(place) = find_found(self.runs.as_slice()) {
+            return Ok(Step::End(self.plan(alloc, form, place)?));
+        }
+        self.close(alloc)?;
+        self.settle(alloc, settings)
+    }
+
+    /// One round.
+    pub(crate) fn round<F: StepForm, G: Gate, H: Threads + Wait + Sync>(
+        mut self,
+        rt: &H,
+        alloc: Global,
+        task: &Task,
+        form: &F,
+        settings: &Settings,
+        gate: &G,
+    ) -> Result<Step, RaceError>
+        ghost input: { RaceInput }
+        requires tied { IsTied input self }
+        requires low { AreLow self.runs.items }
+        requires rates { input.rates ≡ settings.now.rates }
+        requires budget { input.budget ≡ settings.now.budget }
+        requires choose { input.choose ≡ (λ h. choice_of (F.task form.now) (F.layout_of form.now h)) }
+        requires formula { input.formula ≡ F.formula_of form.now }
+        requires steps { input.steps ≡ F.stands_for form.now }
+        requires form_of { F.task form.now ≡ task.now }
+        ensures stands { IfOk result (λ step. Stands input step (round input (race_state self))) }
+        ensures spends { IfOk result (λ step. SpendsMore self.ledger.spent step) }
+        ensures literals { (horizon count : ℕ) → result ≡ Err (RaceError.Literals horizon count)
+            → (round input (race_state self) ≡ TooLarge horizon) × (count ≡ literals_of (input.formula horizon)) × (4000000 < count) }
+    {
+        self.fill(alloc, task, form, &settings.rates)?;
+        if let Some(horizon) = self.too_large() {
+            let count = form.size(horizon);
+            return Err(RaceError::Literals { horizon, count });
+        }
+        let next = self.advance(rt, alloc, settings, gate)?;
+        Ok(next.judge(alloc, form, settings)?)
+    }
+}

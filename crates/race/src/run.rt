@@ -1,0 +1,77 @@
+ghost use Rattle.std.specs.Prelude.{◌≡◌, ℕ, ◌<◌, List, IfOk, length};
+ghost use Rattle.step_encoding.specs.Numbers.{literals_of};
+ghost use Rattle.race_end.specs.Ends.{end_view, lines_of};
+ghost use Rattle.race.specs.Input.{input_of};
+ghost use Rattle.race.specs.Race.{race_of, Ended, TooLarge};
+ghost use Rattle.race.specs.Lines.{AreLines, EachRefuted};
+ghost use Rattle.race.specs.Ends.{AreStepsOf, SumsWithin, WherePlanned, AreActions};
+
+use crate::racing::{Racing, Step};
+use clause_base::memory::Memory;
+use gt_core::task::Task;
+use horizon_rates::Settings;
+use race_end::RaceEnd;
+use solver_pool::Gate;
+use std::alloc::Global;
+use std::sync::Wait;
+use std::thread::Threads;
+use step_encoding::form::StepForm;
+
+/// Why a race has no end.
+#[derive(Clone, Copy, Debug, PartialEq, Eq)]
+pub enum RaceError {
+    /// The formula of a horizon has too many literals, and none is live when its turn to start comes.
+    Literals { horizon: u32, count: u64 },
+    /// Want of memory.
+    Memory,
+}
+
+impl From<Memory> for RaceError {
+    ghost use Rattle.race.specs.declared.run.RaceError.TheVariants.{Memory as memory};
+
+    ghost from_gives = { λ _ e. e ≡ memory };
+
+    fn from(_error: Memory) -> RaceError {
+        RaceError::Memory
+    }
+}
+
+/// Runs a race to its end, by as many workers as the settings say. Its end is the same for every number of workers and every
+/// slice. It may wait for its threads.
+///
+/// `Literals` comes where no horizon is live and the formula of the next listed one, which is told with how many literals that has,
+/// is too large: so each listed horizon below it is refuted or dropped. `Memory` is want of memory, and nothing else.
+pub fn race<F: StepForm, G: Gate, H: Threads + Wait + Sync>(
+    rt: &H,
+    alloc: Global,
+    task: &Task,
+    form: &F,
+    settings: &Settings,
+    gate: &G,
+) -> Result<RaceEnd, RaceError>
+    requires { F.task form.now ≡ task.now }
+    ensures gives { IfOk result (λ end. race_of (input_of F.StepForm form.now settings.now) ≡ Ended (end_view end)) }
+
+    // What its lines say is so, and the horizon of each refuted one has no plan.
+    ensures lines { IfOk result (λ end. AreLines (input_of F.StepForm form.now settings.now) (lines_of end)) }
+    ensures refuted { IfOk result (λ end. EachRefuted (λ h. (steps : List (List ℕ)) → F.is_plan form.now h steps → ⊥) (lines_of end)) }
+    ensures sums { IfOk result (λ end. SumsWithin settings.now.budget end) }
+
+    // The steps of its plan are those that a model of the horizon's formula stands for: a plan of as many steps as the horizon says.
+    ensures modelled { IfOk result (λ end. WherePlanned end (AreStepsOf (input_of F.StepForm form.now settings.now))) }
+    ensures plan { IfOk result (λ end. WherePlanned end (F.is_plan form.now)) }
+    ensures long { IfOk result (λ end. WherePlanned end (λ h steps. length steps ≡ h)) }
+    ensures members { IfOk result (λ end. WherePlanned end (λ h steps. AreActions task.now steps)) }
+
+    ensures literals { (horizon count : ℕ) → result ≡ Err (RaceError.Literals horizon count)
+        → (race_of (input_of F.StepForm form.now settings.now) ≡ TooLarge horizon) × (count ≡ literals_of (F.formula_of form.now horizon)) × (4000000 < count) }
+{
+    let _lawful = form.size(0);
+    let mut racing = Racing::new(alloc, settings);
+    loop {
+        match racing.round(rt, alloc, task, form, settings, gate)? {
+            Step::On(next) => racing = next,
+            Step::End(end) => return Ok(end),
+        }
+    }
+}

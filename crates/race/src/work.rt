@@ -1,0 +1,88 @@
+// The work of a round: each run is advanced by its grant.
+ghost use Rattle.std.specs.Prelude.{◌≡◌, ◌≤◌, false, length, map, IfOk};
+ghost use Rattle.std.specs.List.{AllByRecursion};
+ghost use Rattle.std.specs.List.Sorted.{IsStrictlyIncreasing};
+ghost use Rattle.race.specs.Runs.{conflicts_of, horizon_of, jobs_at, run_at, moved_all, Fits};
+
+use clause_base::memory::Memory;
+use horizon_rates::Settings;
+use horizon_run::HorizonRun;
+use solver_pool::{Gate, Job, Jobs, Resume, round};
+use std::alloc::Global;
+use std::sync::Wait;
+use std::thread::Threads;
+
+/// How many conflicts runs have handled together.
+pub(crate) fn conflicts_of(runs: &[HorizonRun]) -> u64
+    requires { length runs.now ≤ 16 }
+    ensures { result ≡ conflicts_of runs.now }
+{
+    let mut sum = 0u64;
+    for run in runs {
+        sum += run.conflicts();
+    }
+    sum
+}
+
+/// A job for each run, up to what it was granted before and now.
+fn jobs_of(
+    alloc: Global,
+    runs: Vec<HorizonRun>,
+    grants: &[u32],
+) -> Result<Vec<Job<HorizonRun>>, Memory>
+    requires { Fits runs.items grants.now }
+    ensures { IfOk result (λ jobs. jobs.items ≡ jobs_at runs.items grants.now) }
+{
+    let mut jobs = Vec::new(alloc);
+    for run in runs {
+        let target = run.granted() + grants[jobs.len()] as u64;
+        if jobs.push(Job { run, target }).is_err() {
+            return Err(Memory);
+        }
+    }
+    Ok(jobs)
+}
+
+/// The run of a job, with all of its target granted: the workers granted a settled one less.
+fn with_all_granted(job: Job<HorizonRun>) -> Result<HorizonRun, Memory>
+    ensures { IfOk result (λ run. run ≡ run_at job) }
+{
+    let rest = (job.target - job.run.granted()) as u32;
+    let Job { mut run, target: _ } = job;
+    run.go_on(rest)?;
+    Ok(run)
+}
+
+/// The runs of jobs that workers brought to their targets.
+fn runs_of(alloc: Global, jobs: Vec<Job<HorizonRun>>) -> Result<Vec<HorizonRun>, Memory>
+    ensures { IfOk result (λ runs. runs.items ≡ map run_at jobs.items) }
+{
+    let mut runs = Vec::new(alloc);
+    for job in jobs {
+        runs.push(with_all_granted(job)?)?;
+    }
+    Ok(runs)
+}
+
+/// Advances each run by its grant, by as many workers as the settings say, in turns of a slice.
+pub(crate) fn advance_all<G: Gate, H: Threads + Wait + Sync>(
+    rt: &H,
+    alloc: Global,
+    runs: Vec<HorizonRun>,
+    grants: &[u32],
+    settings: &Settings,
+    gate: &G,
+) -> Result<Vec<HorizonRun>, Memory>
+    requires fits { Fits runs.items grants.now }
+    requires few { length runs.items ≤ 16 }
+    requires rising { IsStrictlyIncreasing (map horizon_of runs.items) }
+    requires sound { AllByRecursion (λ run. run.spoilt ≡ false) runs.items }
+    ensures { IfOk result (λ out. out.items ≡ moved_all runs.items grants.now) }
+{
+    let jobs = Jobs::new(jobs_of(alloc, runs, grants)?);
+    let _rising = jobs.are_rising();
+    match round(rt, alloc, jobs, settings.workers, settings.slice, gate) {
+        Ok(back) => runs_of(alloc, back.into_vec()),
+        Err(_) => Err(Memory),
+    }
+}

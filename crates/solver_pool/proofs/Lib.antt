@@ -1,0 +1,10 @@
+pub mod Sums
+pub mod Places
+pub mod Keeps
+pub mod OneTurn
+pub mod Handed
+pub mod Passes
+pub mod Opening
+pub mod Rounded
+pub mod Ordered
+pub mod Rising

@@ -1,0 +1,10 @@
+pub mod Resume
+pub mod Job
+pub mod PassView
+pub mod Rule
+pub mod Steps
+pub mod Ring
+pub mod Serve
+pub mod Worker
+pub mod Rounds
+pub mod CountRun

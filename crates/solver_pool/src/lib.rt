@@ -1,0 +1,56 @@
+//! A pool of workers that advance stopped runs, each up to its target, and pass them on to one another through a ring.
+//!
+//! A [`Resume`] is a run that can be stopped after any number of units and advanced later: a solver that counts
+//! conflicts, say. A [`Job`] is a run with a target. [`round`] brings each job to its target with several workers:
+//!
+//! ```text
+//! let back = round(rt, alloc, jobs, 4, 10, &OpenGate)?;    // 4 workers, turns of 10 units
+//! for job in back.as_slice() { .. }                        // in rising order of horizon, each at its target
+//! ```
+//!
+//! In between, the jobs stand in a [`Ring`]. A worker that holds a [`Pass`] takes one, advances it by a slice, and
+//! returns it to the ring or keeps it where it is done ([`serve_one`]). Which worker takes which job is left to chance;
+//! what comes back is not.
+#![tactic(auto)]
+
+mod count_run;
+mod gate;
+mod job;
+mod jobs;
+mod open;
+mod pass_view;
+mod resume;
+mod ring;
+mod rounds;
+mod rule;
+mod serve;
+mod sorted;
+mod steps;
+#[cfg(test)]
+mod tests;
+mod turns;
+mod worker;
+mod workers;
+
+pub use count_run::CountRun;
+pub use gate::{Gate, OpenGate};
+pub use job::Job;
+pub use jobs::Jobs;
+pub use open::Opened;
+pub use pass_view::{BookEntry, Note, PassView};
+pub use resume::Resume;
+pub use ring::{Pass, Ring};
+pub use rounds::round;
+pub use rule::RingRule;
+pub use serve::{Served, serve_one};
+use std::alloc::AllocError;
+
+/// Want of memory: no room was to be had, and nothing else went wrong.
+#[derive(Clone, Copy, Debug, PartialEq, Eq)]
+pub struct Memory;
+
+impl From<AllocError> for Memory {
+    fn from(_: AllocError) -> Memory {
+        Memory
+    }
+}

@@ -1,0 +1,32 @@
+// What a pass knows of its ring. Contracts alone speak of it: no value of these types is made.
+use std::collections::LinkedList;
+
+/// A job with which a ring was opened.
+pub struct BookEntry<R> {
+    pub horizon: u32,
+    pub target: u64,
+    /// Its run before any unit.
+    pub origin: R,
+}
+
+/// One put or one take: of the job of which horizon, and how many units its run had been granted by then.
+pub struct Note {
+    pub horizon: u32,
+    pub granted: u64,
+}
+
+/// The view of a pass.
+pub struct PassView<R> {
+    /// Whether it is the pass that the ring was opened with.
+    pub owner: bool,
+    /// Whether it was taken in again.
+    pub ended: bool,
+    /// How many passes the owner gave out and did not take in again.
+    pub out: u64,
+    /// The jobs with which the ring was opened.
+    pub book: LinkedList<BookEntry<R>>,
+    /// Its puts, in their order.
+    pub put: LinkedList<Note>,
+    /// Its takes, in their order.
+    pub took: LinkedList<Note>,
+}

@@ -1,0 +1,69 @@
+// A run that is stopped and advanced again.
+ghost use Rattle.std.specs.Prelude.{◌≡◌, ℕ, Bool, true, false, ◌+◌, ◌≤◌, OnOk, OnErr};
+
+use crate::Memory;
+
+/// A run that is advanced by units, in parts of any size, and stops after each.
+///
+/// What `k` units make of it is told by `moved` alone, from the run's origin, and not by the parts in which they were
+/// granted. So advancing by a and then by b is advancing by a + b: the clause `moved` of `advance` holds for every k.
+/// A run that found no memory is spoilt from then on, and what state it is in is not said.
+pub trait Resume: Drop {
+    /// Of which horizon it is a run.
+    ghost horizon_of: { Self → ℕ };
+
+    /// How many units it was granted.
+    ghost granted_of: { Self → ℕ };
+
+    /// The run before any unit.
+    ghost origin_of: { Self → Self };
+
+    /// What so many units make of a run.
+    ghost moved: { Self → ℕ → Self };
+
+    /// The run apart from the number of units that a settled one was granted.
+    ghost state_of: { Self → Self };
+
+    /// Whether it has more to do.
+    ghost unsettled_at: { Self → Bool };
+
+    /// Whether it found no memory once.
+    ghost spoilt_at: { Self → Bool };
+
+    /// Advances the run by `conflicts` units. At `Ok` it is where so many units more have it; at `Memory` it is spoilt.
+    fn advance(&mut self, conflicts: u32) -> Result<(), Memory>
+        requires { granted_of self.old + conflicts ≤ 1073741824 }
+
+        // Its horizon and its origin stay.
+        ensures horizon { horizon_of self.new ≡ horizon_of self.old }
+        ensures origin { origin_of self.new ≡ origin_of self.old }
+
+        ensures granted { OnOk result (granted_of self.new ≡ granted_of self.old + conflicts) }
+        ensures sound { OnOk result (spoilt_at self.old ≡ false → spoilt_at self.new ≡ false) }
+        ensures moved { OnOk result ((k : ℕ) → state_of self.old ≡ state_of (moved (origin_of self.old) k)
+            → state_of self.new ≡ state_of (moved (origin_of self.old) (k + conflicts))) }
+
+        ensures spoilt { OnErr result (spoilt_at self.new ≡ true) }
+        ensures kept { OnErr result (granted_of self.new ≡ granted_of self.old) };
+
+    fn horizon(&self) -> u32
+        ensures { result ≡ horizon_of self.now };
+
+    /// Whether it has more to do. Once it has not, more units leave it as it is, apart from what it was granted.
+    fn unsettled(&self) -> bool
+        ensures value { result ≡ unsettled_at self.now }
+        ensures stays { (k n : ℕ) → unsettled_at (moved (origin_of self.now) k) ≡ false
+            → state_of (moved (origin_of self.now) (k + n)) ≡ state_of (moved (origin_of self.now) k) };
+
+    fn spoilt(&self) -> bool
+        ensures { result ≡ spoilt_at self.now };
+
+    /// How many units it was granted. A run that is not spoilt is where so many units from its origin have it.
+    fn granted(&self) -> u64
+        ensures value { result ≡ granted_of self.now }
+        ensures moved { spoilt_at self.now ≡ false
+            → state_of self.now ≡ state_of (moved (origin_of self.now) (granted_of self.now)) };
+
+    /// Whether a run has more to do is told by its state.
+    ghost by_state: { (r : Self) → unsettled_at (state_of r) ≡ unsettled_at r };
+}

@@ -1,0 +1,19 @@
+use Rattle.step_plans.proofs.Listed.{step_plans_run, listed_in_order, steps_listed}
+use Rattle.step_plans.proofs.Short.{short_plans}
+use Rattle.step_plans.proofs.Sets.{lists_of, are_lists}
+use Rattle.step_plans.proofs.laws.laws.Goals as goal
+
+pub returns-clause-run : goal.returns-clause-run
+returns-clause-run c p g known components steps n = step_plans_run p g known components steps n c.laws.ensures.plan_runs c.laws-2.ensures.actions_are_calls c.laws-2.ensures.goals_agree
+
+pub returns-clause-short : goal.returns-clause-short
+returns-clause-short c p g order n calls = short_plans p g order n calls c.laws.ensures.one_action c.laws.ensures.empty_set c.laws-2.ensures.calls_are_actions c.laws-2.ensures.goals_agree
+
+pub returns-clause-in_order : goal.returns-clause-in_order
+returns-clause-in_order c = listed_in_order
+
+pub returns-clause-listed : goal.returns-clause-listed
+returns-clause-listed c = steps_listed
+
+pub returns-clause-lists : goal.returns-clause-lists
+returns-clause-lists c task order sets n plan = (lists_of task sets n, are_lists task order sets n plan)

@@ -1,0 +1,9 @@
+pub mod Lists
+pub mod Fewer
+pub mod Truth
+pub mod OneList
+pub mod Closing
+pub mod Exact
+pub mod Steps
+pub mod RoundLaw
+pub mod Oks

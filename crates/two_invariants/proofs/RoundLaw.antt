@@ -1,0 +1,284 @@
+use Rattle.std.proofs.Common.{arith, ◌≡◌, ◌==◌, ℕ, suc, ◌+◌, ◌*◌, ◌/◌, ◌<◌, ◌≤◌, List, [], ◌∷◌, length, Bool, true, false, not, ◌&&◌, ◌||◌, refl, ap, sym, ◌∙◌, ◌⊎◌, inl, inr, subst}
+use Rattle.std.specs.Prelude.{if◌then◌else◌}
+use Rattle.std.specs.List.{list_any, AllByRecursion, AllZip, range_with_len}
+use Rattle.std.proofs.lemmas.Bool.{cases_lt}
+use Rattle.std.proofs.lemmas.Bool.Decides.{nat_tests}
+use Rattle.gt_core.specs.Task.{Action, Task, action}
+use Rattle.gt_core.specs.Lawful.{is_task, is_action}
+use Rattle.gt_core.specs.Active.{EffectWithin}
+use Rattle.gt_core.specs.Interference.{has_clause}
+use Rattle.gt_core.specs.Clauses.{KnownClauses, IsKnownClauses}
+use Rattle.gt_core.proofs.Basics.{Among, passing, any_at, or_split, or_left, or_right, and_split, and_both, not_false, cases, same_test, apart, each_at, each_from, all_at}
+use Rattle.gt_core.proofs.Within.{lawful, literals_within, effects_within, among_at}
+use Rattle.two_invariants.specs.Breaks.{BreaksBy, Breaks}
+use Rattle.two_invariants.specs.Closed.{IsClosed, AreInvariants}
+use Rattle.two_invariants.specs.Rows.{clause_in, AreRows, total}
+use Rattle.two_invariants.specs.Tested.{AreKnown, ActionFits, AreRowsOf, breaks_by, are_lost, act_at, IsLossOf, AreLossesOf, LossFits}
+use Rattle.two_invariants.specs.Rounds.{breaks_any, clause_count, IsRound, Surrounds}
+use Rattle.two_invariants.specs.declared.known.Known.{Known}
+use Rattle.two_invariants.specs.declared.broken.Loss.{Loss}
+use Rattle.two_invariants.proofs.Lists.{all_map}
+use Rattle.two_invariants.proofs.Fewer.{breaks_less}
+use Rattle.two_invariants.proofs.Closing.{total_below, total_less}
+use Rattle.two_invariants.proofs.Exact.{breaks_to, breaks_from, either_breaks, breaks_either, row_within}
+use Rattle.two_invariants.proofs.Steps.{opposite_below, past_rows}
+
+-- A round drops what some action breaks, and nothing else; where it drops nothing, what is left are the invariants.
+
+-- ---- the actions of a task
+
+action_fits : (facts : ℕ) (x : Action) → is_action facts x ≡ true → ActionFits (2 * facts) x
+action_fits facts x t =
+    let p = and_split _ _ t in
+    record {
+      precondition = each_from _ x.precondition (λ l i. let h : l / 2 < facts = each_at (λ l. l / 2 < facts) x.precondition l (literals_within facts x.precondition p.0) i in omega arith);
+      effects = each_from _ x.effects (λ e i.
+          let w = each_at (EffectWithin facts) x.effects e (effects_within facts _ x.effects p.1) i in
+          record {
+            literal = opposite_below e.literal facts w.literal;
+            condition = each_from _ e.condition (λ l j. let h : l / 2 < facts = each_at (λ l. l / 2 < facts) e.condition l w.condition j in omega arith);
+          });
+    }
+
+pub actions_fit : (task : Task) → is_task task ≡ true → AllByRecursion (ActionFits (2 * task.facts)) task.actions
+actions_fit task t = each_from _ task.actions (λ x i. action_fits task.facts x (all_at (is_action task.facts) task.actions x (lawful task t).each i))
+
+pub fits_at : (size : ℕ) (xs : List Action) (a : ℕ) → AllByRecursion (ActionFits size) xs → a < length xs → ActionFits size (act_at xs a)
+fits_at size xs a all lt = each_at (ActionFits size) xs (act_at xs a) all (among_at xs a _ lt)
+
+-- ---- lists of losses, one an action
+
+pub zip_acts : {B : Type 0} (P : Action → B → Type 0) (f : ℕ → Action) (xs : List Action) (k : ℕ) (ls : List B) → ((i : ℕ) → f (k + i) ≡ act_at xs i) → AllZip (λ a l. P (f a) l) (range_with_len k (length xs)) ls → AllZip P xs ls
+zip_acts P f [] k [] same z = tt
+zip_acts P f [] k (l ∷ ls) same z = z
+zip_acts P f (x ∷ xs) k [] same z = z
+zip_acts P f (x ∷ xs) k (l ∷ ls) same z = (
+  subst (λ (y : Action). P y l) (ap f (omega arith) ∙ same 0) z.0,
+  zip_acts P f xs (k + 1) ls (λ i. ap f (omega arith) ∙ same (suc i)) z.1,
+)
+
+module _ {B : Type 0} (it : B → List Loss) (facts : ℕ) (known : Known) (clauses : List (List ℕ)) where
+  abbrev lost_in_some : List B → ℕ → ℕ → Bool
+  lost_in_some lists a b = list_any (λ l. are_lost (it l) a b || are_lost (it l) b a) lists
+
+  any_lost : (xs : List Action) (ls : List B) → AllZip (λ x l. AreLossesOf facts known clauses x (it l)) xs ls → (a b : ℕ)
+      → lost_in_some ls a b ≡ list_any (λ x. (clause_in clauses a b && breaks_by facts known x a b) || (clause_in clauses b a && breaks_by facts known x b a)) xs
+  any_lost [] [] z a b = refl
+  any_lost [] (l ∷ ls) z a b = absurd z
+  any_lost (x ∷ xs) [] z a b = absurd z
+  any_lost (x ∷ xs) (l ∷ ls) z a b = λ i. (z.0.lost a b i || z.0.lost b a i) || any_lost xs ls z.1 a b i
+
+  kept_by : (p q : Action → Bool) (xs : List Action) (c d : Bool) → c ≡ d → (c && not (list_any (λ x. (c && p x) || (d && q x)) xs)) ≡ (c && not (list_any (λ x. p x || q x) xs))
+  kept_by p q xs true true e = refl
+  kept_by p q xs true false e = cc
+  kept_by p q xs false d e = refl
+
+  -- what stays where all losses are dropped
+  pub kept_is : (xs : List Action) (ls : List B) → AllZip (λ x l. AreLossesOf facts known clauses x (it l)) xs ls → (a b : ℕ) → clause_in clauses a b ≡ clause_in clauses b a
+      → (clause_in clauses a b && not (lost_in_some ls a b)) ≡ (clause_in clauses a b && not (breaks_any facts known xs a b))
+  kept_is xs ls z a b either =
+      ap (λ (t : Bool). clause_in clauses a b && not t) (any_lost xs ls z a b)
+      ∙ kept_by (λ x. breaks_by facts known x a b) (λ x. breaks_by facts known x b a) xs (clause_in clauses a b) (clause_in clauses b a) either
+
+  pub record Dropped (xs : List Action) : Type 0 where
+    pub l : ℕ
+    pub m : ℕ
+    pub below : l < 2 * facts
+    pub clause : clause_in clauses l m ≡ true
+    pub broken : breaks_any facts known xs l m ≡ true
+
+  one_loss : (x : Action) (xs : List Action) (losses : List Loss) → AreLossesOf facts known clauses x losses → not (length losses == 0) ≡ true → Dropped (x ∷ xs)
+  one_loss x xs [] are t = absurd (let e : false ≡ true = t in cc)
+  one_loss x xs (s ∷ losses) are t =
+      let first = are.each.0 in
+      let m = first.some.0 in
+      let lost : are_lost (s ∷ losses) s.literal m ≡ true = or_left _ _ (and_both (s.literal == s.literal) _ (same_test s.literal s.literal refl) first.some.1) in
+      let both = and_split _ _ (sym (are.lost s.literal m) ∙ lost) in
+      record { l = s.literal; m = m; below = first.literal; clause = both.0; broken = or_left _ _ (or_left _ _ both.1) }
+
+  -- a list with a loss has a clause that is dropped
+  pub some_loss : (xs : List Action) (ls : List B) → AllZip (λ x l. AreLossesOf facts known clauses x (it l)) xs ls → list_any (λ l. not (length (it l) == 0)) ls ≡ true → Dropped xs
+  some_loss [] [] z t = absurd (let e : false ≡ true = t in cc)
+  some_loss [] (l ∷ ls) z t = absurd z
+  some_loss (x ∷ xs) [] z t = absurd z
+  some_loss (x ∷ xs) (l ∷ ls) z t = by (or_split _ _ t) (some_loss xs ls z.1)
+    where
+      by : (not (length (it l) == 0) ≡ true) ⊎ (list_any (λ k. not (length (it k) == 0)) ls ≡ true) → (list_any (λ k. not (length (it k) == 0)) ls ≡ true → Dropped xs) → Dropped (x ∷ xs)
+      by (inl h) ih = one_loss x xs (it l) z.0 h
+      by (inr h) ih = (let d = ih h in record { l = d.l; m = d.m; below = d.below; clause = d.clause; broken = or_right _ _ d.broken })
+
+  none_at : (losses : List Loss) (a b : ℕ) → not (length losses == 0) ≡ false → (are_lost losses a b || are_lost losses b a) ≡ false
+  none_at [] a b f = refl
+  none_at (s ∷ losses) a b f = absurd (let some : (length (s ∷ losses) == 0) ≡ false = grind (arith, nat_tests) in cc)
+
+  split_none : (p q : Bool) → (p || q) ≡ false → (p ≡ false) × (q ≡ false)
+  split_none true q e = cc
+  split_none false q e = (refl, e)
+
+  -- without a loss nothing is dropped
+  pub none_lost : (ls : List B) (a b : ℕ) → list_any (λ l. not (length (it l) == 0)) ls ≡ false → lost_in_some ls a b ≡ false
+  none_lost [] a b f = refl
+  none_lost (l ∷ ls) a b f =
+      let p = split_none _ _ f in
+      λ i. none_at (it l) a b p.0 i || none_lost ls a b p.1 i
+
+  fits_of : AreRows facts clauses → (losses : List Loss) → AllByRecursion (IsLossOf (2 * facts) clauses) losses → AllByRecursion (LossFits (2 * facts)) losses
+  fits_of rows losses each = all_map _ _ (λ s h. record { literal = h.literal; from = λ m t. rows.within s.literal m (h.part m t) }) losses each
+
+  -- each loss is of literals of the task
+  pub all_fit : AreRows facts clauses → (xs : List Action) (ls : List B) → AllZip (λ x l. AreLossesOf facts known clauses x (it l)) xs ls → AllByRecursion (λ l. AllByRecursion (LossFits (2 * facts)) (it l)) ls
+  all_fit rows [] [] z = tt
+  all_fit rows [] (l ∷ ls) z = absurd z
+  all_fit rows (x ∷ xs) [] z = absurd z
+  all_fit rows (x ∷ xs) (l ∷ ls) z = (fits_of rows (it l) z.0.each, all_fit rows xs ls z.1)
+
+-- the rows of what is known
+pub known_rows : (V : ℕ → ℕ → Bool) (facts : ℕ) (known : Known) → ((l m : ℕ) → V l m ≡ true → (l < 2 * facts) × (m < 2 * facts)) → AreKnown V (2 * facts) known → AreRowsOf (2 * facts) known.rows.items
+known_rows V facts known bound are = record {
+  long = are.long;
+  each = λ k m t. elim (cases_lt k (2 * facts)) [
+    | inl lt ↦ row_within V facts known bound are k lt m t
+    | inr le ↦ absurd (apart (clause_in known.rows.items k m) t (past_rows known.rows.items k m (let n = are.long in omega arith)))
+  ];
+}
+
+pub both_within : (facts : ℕ) (rows : List (List ℕ)) → AreRows facts rows → ((l m : ℕ) → clause_in rows l m ≡ clause_in rows m l) → (l m : ℕ) → clause_in rows l m ≡ true → (l < 2 * facts) × (m < 2 * facts)
+both_within facts rows are either l m t = (are.within m l (sym (either l m) ∙ t), are.within l m t)
+
+-- ---- counts
+
+bit_less : (p q : Bool) → (p ≡ true → q ≡ true) → (if p then 1 else 0) ≤ (if q then 1 else 0)
+bit_less true true h = omega arith
+bit_less true false h = absurd (let e : false ≡ true = h refl in cc)
+bit_less false true h = omega arith
+bit_less false false h = omega arith
+
+bit_strict : (p q : Bool) → p ≡ false → q ≡ true → (if p then 1 else 0) < (if q then 1 else 0)
+bit_strict true q e f = cc
+bit_strict false true e f = omega arith
+bit_strict false false e f = cc
+
+pub count_less : (size : ℕ) (before after : List (List ℕ)) → ((l m : ℕ) → clause_in after l m ≡ true → clause_in before l m ≡ true) → (l m : ℕ) → l < size → m < size → clause_in before l m ≡ true → clause_in after l m ≡ false
+    → clause_count size after < clause_count size before
+count_less size before after part l m ll lm t f =
+    total_less (λ k. total (λ n. if clause_in before k n then 1 else 0) size) (λ k. total (λ n. if clause_in after k n then 1 else 0) size) size l
+    (λ k. total_below (λ n. if clause_in before k n then 1 else 0) (λ n. if clause_in after k n then 1 else 0) size (λ n. bit_less (clause_in after k n) (clause_in before k n) (part k n)))
+    ll
+    (total_less (λ n. if clause_in before l n then 1 else 0) (λ n. if clause_in after l n then 1 else 0) size m (λ n. bit_less (clause_in after l n) (clause_in before l n) (part l n)) lm (bit_strict (clause_in after l m) (clause_in before l m) f t))
+
+-- ---- what is left after a round
+
+and_first : (p q : Bool) → (p && q) ≡ true → p ≡ true
+and_first p q t = (and_split p q t).0
+
+either_any : (facts : ℕ) (known : Known) (xs : List Action) (l m : ℕ) → breaks_any facts known xs l m ≡ breaks_any facts known xs m l
+either_any facts known [] l m = refl
+either_any facts known (x ∷ xs) l m = λ i. swap (breaks_by facts known x l m) (breaks_by facts known x m l) i || either_any facts known xs l m i
+  where
+    swap : (p q : Bool) → (p || q) ≡ (q || p)
+    swap true true = refl
+    swap true false = refl
+    swap false true = refl
+    swap false false = refl
+
+at_number : (xs : List Action) (x : Action) → Among x xs → (a : ℕ) × (a < length xs) × (x ≡ act_at xs a)
+at_number [] x i = absurd i
+at_number (y ∷ ys) x (inl e) = (0, omega arith, e)
+at_number (y ∷ ys) x (inr i) = let r = at_number ys x i in (suc r.0, (let h = r.1 in omega arith), r.2)
+
+and_not_true : (p q : Bool) → q ≡ true → (p && not q) ≡ false
+and_not_true true true e = refl
+and_not_true false true e = refl
+and_not_true p false e = cc
+
+and_not_false : (p q : Bool) → q ≡ false → (p && not q) ≡ p
+and_not_false true false e = refl
+and_not_false false false e = refl
+and_not_false p true e = cc
+
+-- a round by lists of losses
+pub round_is : {B : Type 0} (it : B → List Loss) (task : Task) (before after : List (List ℕ)) (known : Known) (lists : List B) (dropped : Bool)
+    → AreRows task.facts before → ((l m : ℕ) → clause_in before l m ≡ clause_in before m l) → AreKnown (clause_in before) (2 * task.facts) known
+    → AllZip (λ x l. AreLossesOf task.facts known before x (it l)) task.actions lists
+    → ((a b : ℕ) → clause_in after a b ≡ (clause_in before a b && not (list_any (λ l. are_lost (it l) a b || are_lost (it l) b a) lists)))
+    → dropped ≡ list_any (λ l. not (length (it l) == 0)) lists → IsRound task before after dropped
+round_is it task before after known lists dropped rows either are zip has is =
+    let kept = λ (l m : ℕ). has l m ∙ kept_is it task.facts known before task.actions lists zip l m (either l m) in
+    record {
+      known = known;
+      are = are;
+      kept = kept;
+      fewer = λ t. (let d = some_loss it task.facts known before task.actions lists zip (sym is ∙ t) in
+          count_less (2 * task.facts) before after (λ l m h. and_first _ _ (sym (kept l m) ∙ h)) d.l d.m d.below (rows.within d.l d.m d.clause) d.clause
+          (kept d.l d.m ∙ and_not_true (clause_in before d.l d.m) (breaks_any task.facts known task.actions d.l d.m) d.broken));
+      same = λ f l m. has l m ∙ and_not_false (clause_in before l m) _ (none_lost it task.facts known before lists l m (sym is ∙ f));
+    }
+
+module _ (task : Task) (lawful_task : is_task task ≡ true) (before : List (List ℕ)) (rows : AreRows task.facts before) (around : Surrounds task before) where
+  bound : (l m : ℕ) → clause_in before l m ≡ true → (l < 2 * task.facts) × (m < 2 * task.facts)
+  bound = both_within task.facts before rows around.either
+
+  module _ (after : List (List ℕ)) (dropped : Bool) (round : IsRound task before after dropped) where
+    fewer : (l m : ℕ) → clause_in after l m ≡ true → clause_in before l m ≡ true
+    fewer l m t = and_first _ _ (sym (round.kept l m) ∙ t)
+
+    -- an action that breaks a clause by the tests breaks it
+    truly : (x : Action) → Among x task.actions → (l m : ℕ) → (breaks_by task.facts round.known x l m || breaks_by task.facts round.known x m l) ≡ true → Breaks (clause_in before) x l m
+    truly x i l m t = breaks_either (clause_in before) x l m (by (or_split _ _ t))
+      where
+        by : (breaks_by task.facts round.known x l m ≡ true) ⊎ (breaks_by task.facts round.known x m l ≡ true) → BreaksBy (clause_in before) x l m ⊎ BreaksBy (clause_in before) x m l
+        by (inl h) = inl (breaks_to (clause_in before) task.facts round.known bound round.are x (each_at _ task.actions x (actions_fit task lawful_task) i) l m h)
+        by (inr h) = inr (breaks_to (clause_in before) task.facts round.known bound round.are x (each_at _ task.actions x (actions_fit task lawful_task) i) m l h)
+
+    -- no clause of a closed set is dropped
+    closed_stay : (V : ℕ → ℕ → Bool) → IsClosed task V → (l m : ℕ) → V l m ≡ true → clause_in after l m ≡ true
+    closed_stay V closed l m v = round.kept l m ∙ and_both _ _ (around.greatest V closed l m v) (not_false _ (off (cases (breaks_any task.facts round.known task.actions l m))))
+      where
+        broken : breaks_any task.facts round.known task.actions l m ≡ true → ⊥
+        broken t =
+            let p = passing (λ x. breaks_by task.facts round.known x l m || breaks_by task.facts round.known x m l) task.actions t in
+            let n = at_number task.actions p.one p.among in
+            let b = truly p.one p.among l m p.passes in
+            closed.unbroken n.0 n.1 l m v (subst (λ (x : Action). Breaks V x l m) n.2 (breaks_less V (clause_in before) (around.greatest V closed) p.one l m b))
+
+        off : (breaks_any task.facts round.known task.actions l m ≡ true) ⊎ (breaks_any task.facts round.known task.actions l m ≡ false) → breaks_any task.facts round.known task.actions l m ≡ false
+        off (inl t) = absurd (broken t)
+        off (inr f) = f
+
+    pub still_around : Surrounds task after
+    still_around = record {
+      either = λ l m. round.kept l m ∙ (λ i. around.either l m i && not (either_any task.facts round.known task.actions l m i)) ∙ sym (round.kept m l);
+      proper = λ l m t. around.proper l m (fewer l m t);
+      initial = λ l m t. around.initial l m (fewer l m t);
+      greatest = closed_stay;
+    }
+
+    -- where nothing was dropped, no action breaks what is left
+    none_broken : dropped ≡ false → (x : Action) → Among x task.actions → (l m : ℕ) → clause_in before l m ≡ true → Breaks (clause_in before) x l m → ⊥
+    none_broken none x i l m t b = apart (clause_in after l m) (round.same none l m ∙ t)
+        (round.kept l m ∙ and_not_true (clause_in before l m) (breaks_any task.facts round.known task.actions l m)
+        (any_at (λ y. breaks_by task.facts round.known y l m || breaks_by task.facts round.known y m l) task.actions x i (by (either_breaks (clause_in before) x l m b))))
+      where
+        by : BreaksBy (clause_in before) x l m ⊎ BreaksBy (clause_in before) x m l → (breaks_by task.facts round.known x l m || breaks_by task.facts round.known x m l) ≡ true
+        by (inl h) = or_left _ _ (breaks_from (clause_in before) task.facts round.known bound round.are x (each_at _ task.actions x (actions_fit task lawful_task) i) l m h)
+        by (inr h) = or_right _ _ (breaks_from (clause_in before) task.facts round.known bound round.are x (each_at _ task.actions x (actions_fit task lawful_task) i) m l h)
+
+    closed_before : dropped ≡ false → IsClosed task (clause_in before)
+    closed_before none = record {
+      either = around.either;
+      within = λ l m t. (bound l m t).0;
+      proper = around.proper;
+      initial = around.initial;
+      unbroken = λ a lt l m t. none_broken none (action task a) (among_at task.actions a _ lt) l m t;
+    }
+
+    closed_after : dropped ≡ false → IsClosed task (clause_in after)
+    closed_after none = subst (IsClosed task) (λ i l m. sym (round.same none l m) i) (closed_before none)
+
+    -- the list of what is left has the invariants
+    pub are_invariants : dropped ≡ false → (known : KnownClauses) → IsKnownClauses known → known.facts ≡ task.facts → ((l m : ℕ) → has_clause known.clauses l m ≡ clause_in after l m) → AreInvariants task known.clauses
+    are_invariants none known listed facts same = record {
+      listed = subst (λ (n : ℕ). IsKnownClauses (record { facts = n; clauses = known.clauses })) facts listed;
+      closed = subst (IsClosed task) (λ i l m. sym (same l m) i) (closed_after none);
+      greatest = λ V closed l m v. same l m ∙ closed_stay V closed l m v;
+    }

@@ -1,0 +1,113 @@
+use Rattle.std.specs.Prelude.{◌≡◌, ℕ, zero, suc, ◌+◌, ◌*◌, ◌<◌, ◌==◌, List, [], ◌∷◌, ◌++◌, Option, Some, None, Bool, true, false, not, ◌&&◌, ◌||◌, length, slice_index_or}
+use Rattle.std.specs.List.{list_any, list_all, AllByRecursion}
+use Rattle.bit_rows.specs.Bits.{row_has}
+use Rattle.gt_core.specs.Literal.{opposite}
+use Rattle.gt_core.specs.Task.{Effect, Action}
+use Rattle.two_invariants.specs.Breaks.{is_add}
+use Rattle.two_invariants.specs.Rows.{row_at, clause_in, AreRows, IsClosure}
+use Rattle.two_invariants.specs.declared.known.Known.{Known}
+use Rattle.two_invariants.specs.declared.broken.Loss.{Loss}
+
+-- What an action breaks, as tests of sets of known literals.
+
+-- literals below a bound
+abbrev pub IsSetOf : ℕ → (ℕ → Bool) → Type 0
+IsSetOf size set = (m : ℕ) → set m ≡ true → m < size
+
+pub record AreRowsOf (size : ℕ) (rows : List (List ℕ)) : Type 0 where
+  pub long : length rows ≡ size
+  pub each : (k : ℕ) → IsSetOf size (row_has (row_at rows k))
+
+pub record EffectFits (size : ℕ) (e : Effect) : Type 0 where
+  pub literal : opposite e.literal < size
+  pub condition : AllByRecursion (λ l. l < size) e.condition
+
+pub record ActionFits (size : ℕ) (x : Action) : Type 0 where
+  pub precondition : AllByRecursion (λ l. l < size) x.precondition
+  pub effects : AllByRecursion (EffectFits size) x.effects
+
+-- what is known: from no literal, and from each literal
+pub record AreKnown (V : ℕ → ℕ → Bool) (size : ℕ) (known : Known) : Type 0 where
+  pub none : IsClosure V (λ l. V l l) (row_has known.none)
+  pub long : length known.rows.items ≡ size
+  pub each : (k : ℕ) → k < size → IsClosure V (λ m. (k == m) || row_has known.none m) (row_has (row_at known.rows.items k))
+
+-- a set with what some literals tell by themselves
+abbrev pub with_more : List (List ℕ) → (ℕ → Bool) → List ℕ → ℕ → Bool
+with_more rows set ls m = set m || list_any (λ l. row_has (row_at rows l) m) ls
+
+-- no literal of so many facts together with its opposite
+abbrev pub has_no_pair : ℕ → (ℕ → Bool) → Bool
+has_no_pair zero set = true
+has_no_pair (suc f) set = not (set (2 * f) && set (2 * f + 1)) && has_no_pair f set
+
+-- an effect has a literal, and its whole condition is known
+abbrev pub gives : (ℕ → Bool) → List Effect → ℕ → Bool
+gives set effects l = list_any (λ e. (e.literal == l) && list_all set e.condition) effects
+
+-- a literal may be taken where a set is known
+abbrev pub may_take : ℕ → (ℕ → Bool) → List Effect → ℕ → Bool
+may_take facts set effects l = has_no_pair facts set && not (is_add l && gives set effects l)
+
+-- one of some effects may take a literal
+abbrev pub loses_by : ℕ → List (List ℕ) → (ℕ → Bool) → List Effect → List Effect → ℕ → Bool
+loses_by facts rows set effects some l =
+    list_any (λ e. (e.literal == opposite l) && may_take facts (with_more rows set e.condition) effects l) some
+
+-- a literal surely holds afterwards
+abbrev pub is_sure : ℕ → List (List ℕ) → (ℕ → Bool) → List Effect → ℕ → Bool
+is_sure facts rows set effects m = (set m || gives set effects m) && not (loses_by facts rows set effects effects m)
+
+-- an effect may take l where m is not sure
+abbrev pub breaks_with : ℕ → List (List ℕ) → (ℕ → Bool) → List Effect → ℕ → ℕ → Effect → Bool
+breaks_with facts rows set effects l m e =
+    (e.literal == opposite l) && (may_take facts (with_more rows set e.condition) effects l && not (is_sure facts rows (with_more rows set e.condition) effects m))
+
+-- some effect of an action may
+abbrev pub breaks_by : ℕ → Known → Action → ℕ → ℕ → Bool
+breaks_by facts known x l m =
+    list_any (breaks_with facts known.rows.items (with_more known.rows.items (row_has known.none) x.precondition) x.effects l m) x.effects
+
+-- the clause of a literal with another is lost
+abbrev pub is_lost : Loss → ℕ → ℕ → Bool
+is_lost loss l m = (loss.literal == l) && row_has loss.from m
+
+abbrev pub are_lost : List Loss → ℕ → ℕ → Bool
+are_lost losses l m = list_any (λ loss. is_lost loss l m) losses
+
+abbrev pub may_be_lost : Option Loss → ℕ → ℕ → Bool
+may_be_lost None l m = false
+may_be_lost (Some loss) l m = is_lost loss l m
+
+-- losses with one more, where there is one
+abbrev pub with_loss : List Loss → Option Loss → List Loss
+with_loss losses None = losses
+with_loss losses (Some loss) = losses ++ loss ∷ []
+
+-- each loss has a clause of the rows
+pub record IsLossOf (size : ℕ) (rows : List (List ℕ)) (loss : Loss) : Type 0 where
+  pub literal : loss.literal < size
+  pub some : (m : ℕ) × (row_has loss.from m ≡ true)
+  pub part : (m : ℕ) → row_has loss.from m ≡ true → clause_in rows loss.literal m ≡ true
+
+-- an action of a list; past the last, one that does nothing
+abbrev pub act_at : List Action → ℕ → Action
+act_at acts a = slice_index_or acts a (record { precondition = []; effects = [] })
+
+-- what an action breaks
+pub record AreLossesOf (facts : ℕ) (known : Known) (clauses : List (List ℕ)) (x : Action) (losses : List Loss) : Type 0 where
+  pub lost : (l m : ℕ) → are_lost losses l m ≡ (clause_in clauses l m && breaks_by facts known x l m)
+  pub each : AllByRecursion (IsLossOf (2 * facts) clauses) losses
+
+-- an action of a list can be tested
+pub record CanTest (facts : ℕ) (known : Known) (clauses : List (List ℕ)) (acts : List Action) (a : ℕ) : Type 0 where
+  pub action : a < length acts
+  pub rows : AreRowsOf (2 * facts) known.rows.items
+  pub none : IsSetOf (2 * facts) (row_has known.none)
+  pub lawful : AreRows facts clauses
+  pub fits : ActionFits (2 * facts) (act_at acts a)
+
+-- a loss is of literals below a bound
+pub record LossFits (size : ℕ) (loss : Loss) : Type 0 where
+  pub literal : loss.literal < size
+  pub from : IsSetOf size (row_has loss.from)

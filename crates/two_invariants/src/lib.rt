@@ -1,0 +1,15 @@
+//! Two-literal invariants: the greatest set of clauses of one or two fact literals that are true in the initial state of
+//! a task and that no action breaks, as far as the set itself tells.
+#![tactic(auto)]
+
+mod broken;
+mod drop;
+mod first;
+mod greatest;
+mod known;
+pub mod laws;
+mod list;
+#[cfg(test)]
+mod tests;
+
+pub use greatest::find;

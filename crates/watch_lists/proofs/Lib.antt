@@ -1,0 +1,9 @@
+pub mod Filters
+pub mod Visits
+pub mod Assigns
+pub mod Undoes
+pub mod Removes
+pub mod Falls
+pub mod Adds
+pub mod Wider
+pub mod Enters

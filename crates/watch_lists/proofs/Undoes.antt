@@ -1,0 +1,37 @@
+use Rattle.std.proofs.Common.{arith, ◌≡◌, ℕ, ◌≤◌, List, length, take, Bool, true, false, sym, ap, ◌∙◌, subst}
+use Rattle.std.proofs.lemmas.List.{take-take, length-take-le}
+use Rattle.number_bits.specs.Bits.{words_have}
+use Rattle.watch_chains.specs.declared.chains.Node.{Node}
+use Rattle.watch_lists.specs.declared.visit.Watched.{Watched}
+use Rattle.watch_lists.specs.Pending.{is_pending_on}
+use Rattle.watch_lists.specs.Sound.{AreFree, IsFront, IsSound}
+
+-- on a shorter trail the watches are right with no work
+pub undo_sound : (v tv : ℕ) (cl : List (List ℕ)) (kept : List Bool) (trail : List ℕ) (wa : List Watched) (heads : List ℕ) (nodes : List Node) (words : List ℕ) (quiet : List Bool) (tv' m : ℕ) (trail' words' : List ℕ) → IsSound v tv cl kept trail wa heads nodes words quiet → tv' ≡ tv → trail' ≡ take m trail → m ≤ length trail → length words' ≡ length words → IsFront (is_pending_on cl kept trail') (words_have words') → IsSound v tv' cl kept trail' wa heads nodes words' quiet
+undo_sound v tv cl kept trail wa heads nodes words quiet tv' m trail' words' i e t h w f =
+    let l : length trail' ≡ m = ap (λ (xs : List ℕ). length xs) t ∙ length-take-le m trail h in
+    record {
+      small = i.small;
+      same = e ∙ i.same;
+      many = i.many;
+      few = i.few;
+      fit = i.fit;
+      room = omega (arith, i.room, w);
+      rest = i.rest;
+      free = λ n b. subst (λ (xs : List ℕ). AreFree cl wa kept xs) (sym (shorter n (omega (arith, b, l)))) (i.free n (omega (arith, b, l, h)));
+      front = f;
+      quiet_size = i.quiet_size;
+      quiets = λ n b q k. ap (λ (xs : List ℕ). is_pending_on cl kept xs k) (shorter n (omega (arith, b, l))) ∙ i.quiets n (omega (arith, b, l, h)) q k;
+    }
+  where
+    shorter : (n : ℕ) → n ≤ m → take n trail' ≡ take n trail
+    shorter n b = ap (λ (xs : List ℕ). take n xs) t ∙ take-take n m trail b
+
+pub front_none : (p s : ℕ → Bool) → ((k : ℕ) → p k ≡ false) → ((k : ℕ) → s k ≡ false) → IsFront p s
+front_none p s a b = record {
+  complete = λ k e. absurd (let z : true ≡ false = sym e ∙ a k in let w : ⊥ = cc in w);
+  first = λ k l. absurd (let z : true ≡ false = sym l.0 ∙ b k in let w : ⊥ = cc in w);
+}
+
+pub front_same : (p s : ℕ → Bool) → ((k : ℕ) → s k ≡ p k) → IsFront p s
+front_same p s a = record { complete = λ k e. a k ∙ e; first = λ k l. sym (a k) ∙ l.0 }

@@ -1,0 +1,10 @@
+use Rattle.std.proofs.Common.{◌≡◌, ℕ, ◌<◌, length, slice_index}
+use Rattle.watch_lists.specs.Added.{Outlasts}
+use Rattle.watch_lists.proofs.fall.latest.Given as goal
+
+abbrev pub invariant-loop-place : goal.invariant-loop-place
+invariant-loop-place l = record {
+  inside : l.best < length l.clause;
+  other : l.best ≡ l.skipped → ⊥;
+  most : (p : ℕ) → p < l.place → (p ≡ l.skipped → ⊥) → Outlasts l.truth.trail (slice_index l.clause l.best) (slice_index l.clause p);
+}

@@ -1,0 +1,15 @@
+use Rattle.std.proofs.Common.{◌≡◌, ℕ, ◌<◌, ◌≤◌, ◌-◌, length, true, false}
+use Rattle.number_bits.specs.Bits.{words_have}
+use Rattle.watch_lists.specs.Pending.{is_pending_on}
+use Rattle.watch_lists.proofs.front.clean.Given as goal
+
+abbrev pub invariant-cleaning : goal.invariant-cleaning
+invariant-cleaning l = record {
+  complete : (k : ℕ) → is_pending_on l.store l.kept l.truth.trail k ≡ true → words_have l.pending.words k ≡ true;
+  room : length l.pending.words ≡ length l.initial.pending.words;
+  none : (k : ℕ) → k < l.low → words_have l.pending.words k ≡ false;
+  low : l.low ≤ 4294967296;
+}
+
+abbrev pub decreases-cleaning : goal.decreases-cleaning
+decreases-cleaning l = 4294967296 - l.low

@@ -1,0 +1,11 @@
+use Rattle.std.proofs.Common.{◌≡◌, ℕ, ◌<◌, ◌≤◌, length, false}
+use Rattle.number_bits.specs.Bits.{words_have}
+use Rattle.watch_lists.specs.Pending.{is_pending_on}
+use Rattle.watch_lists.proofs.front.rescan.Given as goal
+
+abbrev pub invariant-loop-number : goal.invariant-loop-number
+invariant-loop-number l = record {
+  room : length l.pending.words ≡ length l.initial.pending.words;
+  before : (k : ℕ) → k < l.number → words_have l.pending.words k ≡ is_pending_on l.store l.kept l.truth.trail k;
+  after : (k : ℕ) → l.number ≤ k → words_have l.pending.words k ≡ false;
+}

@@ -1,0 +1,11 @@
+use Rattle.std.proofs.Common.{◌≡◌, length, take, false, cond}
+use Rattle.std.specs.List.{list_any, filter}
+use Rattle.clause_base.specs.Clause.{has_literal}
+use Rattle.watch_lists.specs.Pending.{is_free}
+use Rattle.watch_lists.proofs.scan.is_pending.Given as goal
+
+abbrev pub invariant-loop-lit : goal.invariant-loop-lit
+invariant-loop-lit l = record {
+  none : list_any (has_literal l.truth.trail) (take l.lit-index l.clause) ≡ false;
+  free : length (filter (is_free (has_literal l.truth.trail)) (take l.lit-index l.clause)) ≡ cond l.free 1 0;
+}

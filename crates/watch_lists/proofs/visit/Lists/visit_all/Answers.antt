@@ -1,0 +1,71 @@
+use Rattle.std.proofs.Common.{arith, ℕ, ◌∙◌, ap, length, List}
+use Rattle.clause_base.specs.Clause.{has_literal}
+use Rattle.number_bits.specs.Bits.{words_have}
+use Rattle.watch_lists.specs.Visit.{Stays}
+use Rattle.watch_lists.proofs.Visits.{listed_pop, listed_drop, own_literal, moves_on, listed_end, all_settled, linked_after}
+use Rattle.watch_lists.proofs.visit.Lists.visit_all.Goals as goal
+
+pub returns-in-None-clause-rest : goal.returns-in-None-clause-rest
+returns-in-None-clause-rest c =
+    let r = c.visits.invariant.listed in
+    let e = c.in-None.ensures in
+    let on = has_literal c.args.truth.now.trail in
+    let s = words_have c.visits.self.pending.words in
+    listed_end c.args.store.now c.visits.self.watched.items c.visits.self.chains.heads.items c.rename.new.self.heads.items c.visits.self.chains.nodes.items c.rename.new.self.nodes.items c.args.spare c.args.code c.args.kept.now on s r c.requires.fit
+    (linked_after c.visits.self.chains.heads.items c.pop.new.self.heads.items c.rename.new.self.heads.items c.visits.self.chains.nodes.items c.pop.new.self.nodes.items c.rename.new.self.nodes.items c.args.spare c.args.code r.on e r.linked c.rename.ensures.linked)
+    (c.rename.ensures.nodes ∙ e.nodes_stay) (c.rename.ensures.codes ∙ ap (λ (xs : List ℕ). length xs) e.heads_stay)
+
+pub returns-in-None-clause-settled : goal.returns-in-None-clause-settled
+returns-in-None-clause-settled c =
+    let r = c.visits.invariant.listed in
+    let e = c.in-None.ensures in
+    all_settled c.args.store.now c.visits.self.watched.items c.visits.self.chains.heads.items c.visits.self.chains.nodes.items c.args.spare c.args.code c.args.kept.now (has_literal c.args.truth.now.trail) (words_have c.visits.self.pending.words) r (e.none r.on r.linked)
+
+pub bounds-kept-node : goal.bounds-kept-node
+bounds-kept-node c =
+    let r = c.visits.invariant.listed in
+    let p = c.in-Some.ensures.from r.on r.linked in
+    let q = r.real c.in-Some.node c.args.code p.0 in
+    omega (arith, q.below, c.requires.kept)
+
+pub visit-requires-clause-real : goal.visit-requires-clause-real
+visit-requires-clause-real c =
+    let r = c.visits.invariant.listed in
+    let p = c.in-Some.ensures.from r.on r.linked in
+    r.real c.in-Some.node c.args.code p.0
+
+pub visit-requires-clause-own : goal.visit-requires-clause-own
+visit-requires-clause-own c =
+    let r = c.visits.invariant.listed in
+    let p = c.in-Some.ensures.from r.on r.linked in
+    own_literal c.args.store.now c.visits.self.watched.items c.visits.self.chains.heads.items c.visits.self.chains.nodes.items c.args.spare c.args.code c.args.kept.now c.in-Some.node (Stays c.args.store.now c.visits.self.watched.items (has_literal c.args.truth.now.trail) (words_have c.visits.self.pending.words) c.args.code) r c.requires.code p.0 c.if-kept-node.true
+
+pub visit-requires-clause-listed : goal.visit-requires-clause-listed
+visit-requires-clause-listed c =
+    let r = c.visits.invariant.listed in
+    let p = c.in-Some.ensures.from r.on r.linked in
+    listed_pop c.args.store.now c.visits.self.watched.items c.visits.self.chains.heads.items c.pop.new.self.heads.items c.visits.self.chains.nodes.items c.pop.new.self.nodes.items c.args.spare c.args.kept.now c.in-Some.node (Stays c.args.store.now c.visits.self.watched.items (has_literal c.args.truth.now.trail) (words_have c.visits.self.pending.words) c.args.code) r p.1 c.in-Some.ensures.nodes_stay c.in-Some.ensures.codes
+
+pub visits-preserved-then-kept-node : goal.visits-preserved-then-kept-node
+visits-preserved-then-kept-node c =
+    let i = c.visits.invariant in
+    record {
+      listed = c.visit.ensures.listed;
+      moves = moves_on c.args.store.now c.args.self.now.watched.items c.visits.self.watched.items c.visit.new.self.watched.items (has_literal c.args.truth.now.trail) i.moves c.visit.ensures.moves;
+      grows = λ k h. c.visit.ensures.grows k (i.grows k h);
+      room = c.visit.ensures.room ∙ i.room;
+    }
+
+pub visits-preserved : goal.visits-preserved
+visits-preserved c =
+    let i = c.visits.invariant in
+    let r = i.listed in
+    let p = c.in-Some.ensures.from r.on r.linked in
+    let W = Stays c.args.store.now c.visits.self.watched.items (has_literal c.args.truth.now.trail) (words_have c.visits.self.pending.words) c.args.code in
+    let x = listed_pop c.args.store.now c.visits.self.watched.items c.visits.self.chains.heads.items c.pop.new.self.heads.items c.visits.self.chains.nodes.items c.pop.new.self.nodes.items c.args.spare c.args.kept.now c.in-Some.node W r p.1 c.in-Some.ensures.nodes_stay c.in-Some.ensures.codes in
+    record {
+      listed = listed_drop c.args.store.now c.visits.self.watched.items c.pop.new.self.heads.items c.pop.new.self.nodes.items c.args.spare c.args.kept.now c.in-Some.node W x.0 c.if-kept-node.false;
+      moves = i.moves;
+      grows = i.grows;
+      room = i.room;
+    }

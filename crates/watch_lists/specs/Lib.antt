@@ -1,0 +1,4 @@
+pub mod Pending
+pub mod Visit
+pub mod Sound
+pub mod Added

@@ -1,0 +1,62 @@
+//! A new clause watches the two literals that are not false for longest along the trail. Wherever two of its literals are not
+//! false, these two are not, now and in each prefix of the trail.
+ghost use Rattle.std.specs.Prelude.{◌≡◌, ℕ, ◌+◌, ◌*◌, ◌<◌, ◌≤◌, length, slice_index};
+ghost use Rattle.watch_chains.specs.Linked.{ArePairLoose};
+ghost use Rattle.watch_lists.specs.Added.{HasRoom, RestsWith, FreeWith, IsQuietBelow};
+
+use crate::fall::{free_until, latest};
+use crate::visit::{Lists, Watched};
+use clause_base::literal::Lit;
+use watch_store::truth::Truth;
+
+/// No place of a clause.
+const NOWHERE: u32 = 4_294_967_295;
+
+impl Lists {
+    /// Watches two literals of a new clause that has as many. In the prefixes of the trail below the result it is not pending.
+    fn enter_long(&mut self, truth: &Truth, clause: &[Lit], number: u32) -> u32
+        requires small { truth.now.variables ≤ 2147483647 }
+        requires below { (p : ℕ) → p < length clause.now → slice_index clause.now p < 2 * truth.now.variables }
+        requires short { length clause.now ≤ 4294967295 }
+        requires two { 2 ≤ length clause.now }
+        requires codes { length self.old.chains.heads.items ≡ 2 * truth.now.variables + 1 }
+        requires room { HasRoom number self.old.watched.items self.old.chains.nodes.items self.old.pending.words }
+        requires loose { ArePairLoose self.old.chains.heads.items self.old.chains.nodes.items (2 * number) }
+        ensures rest { RestsWith clause.now number (2 * truth.now.variables) self.old.watched.items self.old.chains.heads.items self.old.chains.nodes.items self.new.watched.items self.new.chains.heads.items self.new.chains.nodes.items }
+        ensures free { FreeWith clause.now number truth.now.trail self.old.watched.items self.new.watched.items }
+        ensures quiet { IsQuietBelow clause.now truth.now.trail result }
+        ensures set { self.new.pending.words ≡ self.old.pending.words }
+    {
+        let first = latest(truth, clause, NOWHERE);
+        let second = latest(truth, clause, first);
+        self.watched[number as usize] = Watched {
+            first,
+            second,
+            from: 0,
+        };
+        let a = clause[first as usize];
+        let b = clause[second as usize];
+        self.chains.link_two(2 * number, a.0, b.0);
+        free_until(truth, b.0) + 1
+    }
+
+    /// Watches two literals of a new clause, if it has as many. In the prefixes of the trail below the result it is not
+    /// pending.
+    pub fn enter(&mut self, truth: &Truth, clause: &[Lit], number: u32) -> u32
+        requires small { truth.now.variables ≤ 2147483647 }
+        requires below { (p : ℕ) → p < length clause.now → slice_index clause.now p < 2 * truth.now.variables }
+        requires short { length clause.now ≤ 4294967295 }
+        requires codes { length self.old.chains.heads.items ≡ 2 * truth.now.variables + 1 }
+        requires room { HasRoom number self.old.watched.items self.old.chains.nodes.items self.old.pending.words }
+        requires loose { ArePairLoose self.old.chains.heads.items self.old.chains.nodes.items (2 * number) }
+        ensures rest { RestsWith clause.now number (2 * truth.now.variables) self.old.watched.items self.old.chains.heads.items self.old.chains.nodes.items self.new.watched.items self.new.chains.heads.items self.new.chains.nodes.items }
+        ensures free { FreeWith clause.now number truth.now.trail self.old.watched.items self.new.watched.items }
+        ensures quiet { IsQuietBelow clause.now truth.now.trail result }
+        ensures set { self.new.pending.words ≡ self.old.pending.words }
+    {
+        if clause.len() < 2 {
+            return 0;
+        }
+        self.enter_long(truth, clause, number)
+    }
+}

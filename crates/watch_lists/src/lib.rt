@@ -1,0 +1,10 @@
+//! Which clause is the least that is false or has one literal left: two literals of each clause are watched.
+#![tactic(auto)]
+
+mod enter;
+mod fall;
+mod front;
+mod room;
+mod scan;
+mod visit;
+pub mod watches;

@@ -1,0 +1,61 @@
+ghost use Rattle.std.specs.Prelude.{◌≡◌, ℕ, ◌*◌, ◌<◌, ◌≤◌, length, true, false, slice_index, MatchOption, IfSome};
+ghost use Rattle.clause_base.specs.Literal.{opposite};
+ghost use Rattle.clause_base.specs.Clause.{has_literal};
+ghost use Rattle.watch_lists.specs.Pending.{is_free};
+ghost use Rattle.cdcl_rules.specs.Pending.{is_pending};
+
+use clause_base::literal::Lit;
+use watch_store::truth::Truth;
+
+/// Whether a clause has no true literal and at most one that is not false.
+pub fn is_pending(truth: &Truth, clause: &[Lit]) -> bool
+    requires { (p : ℕ) → p < length clause.now → slice_index clause.now p < 2 * truth.now.variables }
+    ensures { result ≡ is_pending (has_literal truth.now.trail) clause.now }
+{
+    let mut free = false;
+    for lit in clause {
+        if truth.is_true(lit.0) {
+            return false;
+        }
+        if !truth.is_false(lit.0) {
+            if free {
+                return false;
+            }
+            free = true;
+        }
+    }
+    true
+}
+
+/// A place from `low` up to `high`, other than `skipped`, whose literal is not false.
+pub fn find_free(truth: &Truth, clause: &[Lit], skipped: u32, low: u32, high: u32) -> Option<u32>
+    requires below { (p : ℕ) → p < length clause.now → slice_index clause.now p < 2 * truth.now.variables }
+    requires high { high ≤ length clause.now }
+    ensures none { MatchOption result ((p : ℕ) → low ≤ p → p < high → (p ≡ skipped → ⊥) → is_free (has_literal truth.now.trail) (slice_index clause.now p) ≡ false) (λ p. is_free (has_literal truth.now.trail) (slice_index clause.now p) ≡ true) }
+    ensures other { IfSome result (λ p. p ≡ skipped → ⊥) }
+    ensures inside { IfSome result (λ p. p < length clause.now) }
+{
+    for place in low..high {
+        let lit = clause[place as usize];
+        if place != skipped && !truth.is_false(lit.0) {
+            return Some(place);
+        }
+    }
+    None
+}
+
+/// A place other than `skipped` whose literal is not false, sought from `from` on and then from the front.
+pub fn find_other(truth: &Truth, clause: &[Lit], skipped: u32, from: u32) -> Option<u32>
+    requires below { (p : ℕ) → p < length clause.now → slice_index clause.now p < 2 * truth.now.variables }
+    requires short { length clause.now ≤ 4294967295 }
+    ensures none { MatchOption result ((p : ℕ) → p < length clause.now → (p ≡ skipped → ⊥) → is_free (has_literal truth.now.trail) (slice_index clause.now p) ≡ false) (λ p. is_free (has_literal truth.now.trail) (slice_index clause.now p) ≡ true) }
+    ensures other { IfSome result (λ p. p ≡ skipped → ⊥) }
+    ensures inside { IfSome result (λ p. p < length clause.now) }
+{
+    let length = clause.len() as u32;
+    let middle = from.min(length);
+    match find_free(truth, clause, skipped, middle, length) {
+        Some(place) => Some(place),
+        None => find_free(truth, clause, skipped, 0, middle),
+    }
+}

@@ -1,0 +1,145 @@
+ghost use Rattle.std.specs.Prelude.{◌≡◌, ℕ, ◌+◌, ◌*◌, ◌/◌, ◌%◌, ◌<◌, ◌≤◌, ◌==◌, None, length, true, not};
+ghost use Rattle.clause_base.specs.Literal.{opposite};
+ghost use Rattle.clause_base.specs.Clause.{has_literal};
+ghost use Rattle.number_bits.specs.Bits.{words_have};
+ghost use Rattle.watch_chains.specs.Linked.{chain_length};
+ghost use Rattle.watch_lists.specs.Visit.{IsFit, IsListed, IsAtRest, IsReal, IsKept, IsOther, Stays, MovesToFree, Grows, AllSettled, literal_at, place_in};
+
+use crate::scan::find_other;
+use number_bits::flat::Flat;
+use number_bits::layer::Layer;
+use number_bits::set::NumberSet;
+use watch_chains::chains::Chains;
+use watch_store::store::Store;
+use watch_store::truth::Truth;
+
+/// A set of numbers of clauses.
+pub type Pending = Layer<Layer<Layer<Flat>>>;
+
+/// The places of a clause's two watched literals, and the place where the search for another goes on.
+#[derive(Clone, Copy, Debug)]
+pub struct Watched {
+    pub first: u32,
+    pub second: u32,
+    pub from: u32,
+}
+
+/// What changes where a literal becomes false.
+#[derive(Drop)]
+pub struct Lists {
+    pub chains: Chains,
+    pub watched: Vec<Watched>,
+    pub pending: Pending,
+}
+
+impl Watched {
+    fn at(&self, second: bool) -> u32
+        ensures { result ≡ place_in self.now second }
+    {
+        if second { self.second } else { self.first }
+    }
+
+    fn moved(&self, second: bool, place: u32) -> Watched
+        ensures own { place_in result second ≡ place }
+        ensures other { place_in result (not second) ≡ place_in self.now (not second) }
+    {
+        if second {
+            Watched {
+                first: self.first,
+                second: place,
+                from: place,
+            }
+        } else {
+            Watched {
+                first: place,
+                second: self.second,
+                from: place,
+            }
+        }
+    }
+}
+
+impl Lists {
+    /// Visits a node that was taken from the chain of a literal that is false.
+    fn visit(
+        &mut self,
+        store: &Store,
+        kept: &[bool],
+        truth: &Truth,
+        spare: u32,
+        code: u32,
+        node: u32,
+    )
+        requires spare { spare ≡ 2 * truth.now.variables }
+        requires code { code < spare }
+        requires fallen { has_literal truth.now.trail (opposite code) ≡ true }
+        requires fit { IsFit store.now spare }
+        requires room { length store.now ≤ 64 * length self.old.pending.words }
+        requires real { IsReal store.now node }
+        requires own { literal_at store.now self.old.watched.items node ≡ code }
+        requires listed { (r : IsListed store.now self.old.watched.items self.old.chains.heads.items self.old.chains.nodes.items spare (IsOther kept.now node) (Stays store.now self.old.watched.items (has_literal truth.now.trail) (words_have self.old.pending.words) code)) × (r.on node ≡ None) }
+        ensures listed { IsListed store.now self.new.watched.items self.new.chains.heads.items self.new.chains.nodes.items spare (IsKept kept.now) (Stays store.now self.new.watched.items (has_literal truth.now.trail) (words_have self.new.pending.words) code) }
+        ensures moves { MovesToFree store.now self.old.watched.items self.new.watched.items (has_literal truth.now.trail) }
+        ensures grows { Grows (words_have self.old.pending.words) (words_have self.new.pending.words) }
+        ensures room { length self.new.pending.words ≡ length self.old.pending.words }
+        ensures lengths { chain_length self.new.chains.heads.items self.new.chains.nodes.items code ≡ chain_length self.old.chains.heads.items self.old.chains.nodes.items code }
+    {
+        let note = self.chains.note(node);
+        if truth.is_true(note) {
+            self.chains.link(node, spare, note);
+            return;
+        }
+        let number = node / 2;
+        let watched = self.watched[number as usize];
+        let clause = store.clause(number);
+        let second = node % 2 == 1;
+        let other = watched.at(!second);
+        let lit = clause[other as usize];
+        let beside = lit.0;
+        if truth.is_true(beside) {
+            self.chains.link(node, spare, beside);
+            return;
+        }
+        match find_other(truth, clause, other, watched.from) {
+            Some(place) => {
+                self.watched[number as usize] = watched.moved(second, place);
+                let found = clause[place as usize];
+                self.chains.link(node, found.0, beside);
+            }
+            None => {
+                self.chains.link(node, spare, beside);
+                self.pending.insert(number);
+            }
+        }
+    }
+
+    /// Visits the clauses that watch a literal that is false.
+    pub fn visit_all(&mut self, store: &Store, kept: &[bool], truth: &Truth, spare: u32, code: u32)
+        requires spare { spare ≡ 2 * truth.now.variables }
+        requires code { code < spare }
+        requires fallen { has_literal truth.now.trail (opposite code) ≡ true }
+        requires fit { IsFit store.now spare }
+        requires kept { length kept.now ≡ length store.now }
+        requires room { length store.now ≤ 64 * length self.old.pending.words }
+        requires rest { IsAtRest store.now self.old.watched.items self.old.chains.heads.items self.old.chains.nodes.items spare kept.now }
+        ensures rest { IsAtRest store.now self.new.watched.items self.new.chains.heads.items self.new.chains.nodes.items spare kept.now }
+        ensures settled { AllSettled store.now self.new.watched.items (has_literal truth.now.trail) (words_have self.new.pending.words) code kept.now }
+        ensures moves { MovesToFree store.now self.old.watched.items self.new.watched.items (has_literal truth.now.trail) }
+        ensures grows { Grows (words_have self.old.pending.words) (words_have self.new.pending.words) }
+        ensures room { length self.new.pending.words ≡ length self.old.pending.words }
+    {
+        'visits: loop {
+            match self.chains.pop(code) {
+                None => {
+                    self.chains.rename(spare, code);
+                    return;
+                }
+                Some(node) => {
+                    if kept[(node / 2) as usize] {
+                        self.visit(store, kept, truth, spare, code, node);
+                    }
+                }
+            }
+        }
+    }
+}

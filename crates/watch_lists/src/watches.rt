@@ -1,0 +1,307 @@
+//! Which clause is the first that is kept and pending, as literals become true and are taken back and clauses come and go.
+ghost use Rattle.std.specs.Prelude.{◌≡◌, ℕ, ◌+◌, ◌*◌, ◌<◌, ◌≤◌, ◌++◌, ◌∷◌, [], take, length, replicate, true, false, slice_set, slice_index_or, IfOk, OnOk, OnErr};
+ghost use Rattle.clause_base.specs.Literal.{opposite};
+ghost use Rattle.clause_base.specs.Clause.{IsClause, has_literal, HasVariablesBelow};
+ghost use Rattle.cdcl_rules.specs.Pending.{is_pending_in, least_from};
+ghost use Rattle.number_bits.specs.Bits.{words_have};
+ghost use Rattle.watch_lists.specs.Pending.{WatchesView};
+
+use crate::front::{clean, clear, rescan};
+use crate::visit::{Lists, Pending};
+use clause_base::clause::Clause;
+use clause_base::formula::Formula;
+use clause_base::literal::Lit;
+use clause_base::memory::Memory;
+use number_bits::flat::Flat;
+use number_bits::layer::Layer;
+use number_bits::set::NumberSet;
+use std::alloc::Global;
+use std::marker::Model;
+use watch_chains::chains::Chains;
+use watch_store::store::Store;
+use watch_store::truth::Truth;
+
+/// How many clauses there may be.
+const MOST_CLAUSES: usize = 2_147_483_647;
+
+/// Clauses by number, which of them are kept, and the literals that are true, oldest first. Two literals of each clause are
+/// watched.
+#[derive(Drop)]
+pub struct Watches {
+    variables: u32,
+    store: Store,
+    kept: Vec<bool>,
+    truth: Truth,
+    lists: Lists,
+    quiet: Vec<bool>,
+}
+
+impl Model for Watches {
+    ghost use Rattle.std.specs.Prelude.{List, ℕ};
+    ghost use Rattle.watch_lists.specs.Pending.{WatchesView};
+    ghost use Rattle.watch_lists.specs.Sound.{IsSound};
+
+    ghost Value = { WatchesView };
+
+    ghost view = { λ w. record { variables = w.variables; clauses = w.store; kept = w.kept.items; trail = w.truth.trail } };
+
+    ghost invariant = { λ w. IsSound w.variables w.truth.variables w.store w.kept.items w.truth.trail w.lists.watched.items w.lists.chains.heads.items w.lists.chains.nodes.items w.lists.pending.words w.quiet.items };
+}
+
+/// Takes the flags of the lengths from one up to another away.
+fn unquiet(quiet: &mut Vec<bool>, low: u32, high: u32)
+    requires { high ≤ length quiet.old.items }
+    ensures size { length quiet.new.items ≡ length quiet.old.items }
+    ensures below { (n : ℕ) → n < low → slice_index_or quiet.new.items n false ≡ slice_index_or quiet.old.items n false }
+    ensures off { (n : ℕ) → low ≤ n → n < high → slice_index_or quiet.new.items n false ≡ false }
+{
+    for length in low..high {
+        quiet[length as usize] = false;
+    }
+}
+
+/// For each length of the trail up to the whole one, that something may be pending there.
+fn no_quiet(alloc: Global, variables: u32) -> Result<Vec<bool>, Memory>
+    requires { variables ≤ 2147483647 }
+    ensures { IfOk result (λ quiet. length quiet.items ≡ variables + 1) }
+{
+    Ok(vec![in alloc; false; variables as usize + 1]?)
+}
+
+/// An empty set of clauses.
+fn no_pending(alloc: Global) -> Pending
+    ensures { (k : ℕ) → words_have result.words k ≡ false }
+{
+    Layer::new(
+        alloc,
+        Layer::new(alloc, Layer::new(alloc, Flat::new(alloc))),
+    )
+}
+
+impl Watches {
+    /// No clauses over so many variables, none of which has a value.
+    fn empty(alloc: Global, variables: u32) -> Result<Watches, Memory>
+        requires { variables ≤ 2147483647 }
+        ensures { IfOk result (λ w. w ≡ record { variables = variables; clauses = []; kept = []; trail = [] }) }
+    {
+        let lists = Lists {
+            chains: Chains::new(alloc, 2 * variables + 1)?,
+            watched: Vec::new(alloc),
+            pending: no_pending(alloc),
+        };
+        Ok(Watches {
+            variables,
+            store: Store::new(alloc),
+            kept: Vec::new(alloc),
+            truth: Truth::new(alloc, variables)?,
+            lists,
+            quiet: no_quiet(alloc, variables)?,
+        })
+    }
+
+    /// The clauses of a formula, all kept, where no variable has a value.
+    pub fn new(alloc: Global, formula: &Formula) -> Result<Watches, Memory>
+        ensures { IfOk result (λ w. w ≡ record { variables = formula.now.variables; clauses = formula.now.clauses; kept = replicate (length formula.now.clauses) true; trail = [] }) }
+    {
+        let mut watches = Watches::empty(alloc, formula.variables())?;
+        for number in 0..formula.count() {
+            watches.add_sorted(formula.clause(number))?;
+        }
+        Ok(watches)
+    }
+
+    /// Adds a clause with the next number, kept; it may be false or have one literal left. After want of memory, or where there
+    /// would be more than 2,147,483,647 clauses, nothing has changed.
+    pub fn add(&mut self, clause: Clause) -> Result<(), Memory>
+        requires { HasVariablesBelow self.old.variables clause }
+        ensures ok { OnOk result (self.new ≡ record self.old { clauses = self.old.clauses ++ clause ∷ []; kept = self.old.kept ++ true ∷ [] }) }
+        ensures err { OnErr result (self.new ≡ self.old) }
+    {
+        self.add_sorted(clause.as_slice())
+    }
+
+    /// Adds the clause of literals that are in a clause's form already, with the next number, kept. After want of memory, or
+    /// where there would be more than 2,147,483,647 clauses, nothing has changed.
+    pub fn add_sorted(&mut self, clause: &[Lit]) -> Result<(), Memory>
+        requires lawful { IsClause clause.now }
+        requires below { HasVariablesBelow self.old.variables clause.now }
+        ensures ok { OnOk result (self.new ≡ record self.old { clauses = self.old.clauses ++ clause.now ∷ []; kept = self.old.kept ++ true ∷ [] }) }
+        ensures err { OnErr result (self.new ≡ self.old) }
+    {
+        let count = self.store.count();
+        if count >= MOST_CLAUSES {
+            return Err(Memory);
+        }
+        let number = count as u32;
+        self.kept.reserve(1)?;
+        self.lists.widen(number)?;
+        self.store.push(clause)?;
+        self.kept.push(true)?;
+        let low = self.lists.enter(&self.truth, clause, number);
+        unquiet(&mut self.quiet, low, self.truth.length());
+        self.lists.pending.insert(number);
+        clean(
+            &self.store,
+            self.kept.as_slice(),
+            &self.truth,
+            &mut self.lists.pending,
+        );
+        Ok(())
+    }
+
+    /// Makes a literal true whose variable has no value. It takes no memory.
+    pub fn assign(&mut self, lit: Lit)
+        requires below { lit < 2 * self.old.variables }
+        requires off { has_literal self.old.trail lit ≡ false }
+        requires free { has_literal self.old.trail (opposite lit) ≡ false }
+        ensures { self.new ≡ record self.old { trail = self.old.trail ++ lit ∷ [] } }
+    {
+        let length = self.truth.length();
+        self.quiet[length as usize] = self.lists.pending.least().is_none();
+        self.truth.push(lit.0);
+        let spare = 2 * self.variables;
+        self.lists.visit_all(
+            &self.store,
+            self.kept.as_slice(),
+            &self.truth,
+            spare,
+            lit.opposite().0,
+        );
+        clean(
+            &self.store,
+            self.kept.as_slice(),
+            &self.truth,
+            &mut self.lists.pending,
+        );
+    }
+
+    /// Takes back what stands above a length of the trail. It takes no memory.
+    pub fn undo_to(&mut self, length: u32)
+        ensures { self.new ≡ record self.old { trail = take length self.old.trail } }
+    {
+        if length >= self.truth.length() {
+            return;
+        }
+        self.truth.cut(length);
+        if self.quiet[length as usize] {
+            clear(&mut self.lists.pending);
+        } else {
+            rescan(
+                &self.store,
+                self.kept.as_slice(),
+                &self.truth,
+                &mut self.lists.pending,
+            );
+        }
+    }
+
+    /// Stops keeping a clause. It takes no memory.
+    pub fn remove(&mut self, number: u32)
+        requires { slice_index_or self.old.kept number false ≡ true }
+        ensures { self.new ≡ record self.old { kept = slice_set self.old.kept number false } }
+    {
+        self.kept[number as usize] = false;
+        clean(
+            &self.store,
+            self.kept.as_slice(),
+            &self.truth,
+            &mut self.lists.pending,
+        );
+    }
+
+    /// The least number of a kept clause that has no true literal and at most one that is not false. It takes no memory.
+    pub fn least_pending(&self) -> Option<u32>
+        ensures { result ≡ least_from (is_pending_in self.now.clauses self.now.kept (has_literal self.now.trail)) 0 (length self.now.clauses) }
+    {
+        self.lists.pending.least()
+    }
+}
+
+#[cfg(test)]
+mod tests {
+    use super::*;
+    use std::process::Abort;
+    use std::test::Fail;
+
+    /// Adds the clause of these literals, which fits.
+    fn add(
+        rt: &impl Abort,
+        alloc: Global,
+        watches: &mut Watches,
+        lits: &[Lit],
+    ) -> Result<(), Fail> {
+        let clause = Clause::of(alloc, lits)?.ok_or("a pair")?;
+        assert!(rt; clause.fits(watches.variables));
+        watches.add(clause)?;
+        Ok(())
+    }
+
+    /// Makes a literal true, which has no value.
+    fn assign(rt: &impl Abort, watches: &mut Watches, lit: Lit) {
+        assert!(rt; lit.0 < 2 * watches.variables);
+        assert!(rt; !watches.truth.is_true(lit.0) && !watches.truth.is_false(lit.0));
+        watches.assign(lit);
+    }
+
+    #[test]
+    fn two_clauses_ask_in_turn(rt: HostRuntime) -> Result<(), Fail> {
+        let alloc = rt.alloc();
+        let formula = Formula::new(alloc, 0, 2);
+        let mut watches = Watches::new(alloc, &formula)?;
+        add(&rt, alloc, &mut watches, &[Lit(0), Lit(2)])?;
+        add(&rt, alloc, &mut watches, &[Lit(1), Lit(2)])?;
+        assign(&rt, &mut watches, Lit(3));
+        assert_eq!(rt; watches.least_pending(), Some(0));
+        assign(&rt, &mut watches, Lit(0));
+        assert_eq!(rt; watches.least_pending(), Some(1));
+        watches.undo_to(1);
+        assert_eq!(rt; watches.least_pending(), Some(0));
+        watches.undo_to(0);
+        assert_eq!(rt; watches.least_pending(), None);
+        Ok(())
+    }
+
+    /// How many variables the long chain has.
+    const LONG: u32 = 500_000;
+
+    /// The clauses that let each variable but the first follow from the one below it, the last one first.
+    fn long_chain(rt: &impl Abort, alloc: Global) -> Result<Formula, Fail> {
+        let mut formula = Formula::new(alloc, 0, LONG);
+        for i in 0..LONG - 1 {
+            let lits = [Lit(999_997 - 2 * i), Lit(999_998 - 2 * i)];
+            let clause = Clause::of(alloc, &lits)?.ok_or("a pair")?;
+            assert!(rt; formula.has_room() && clause.fits(formula.variables()));
+            formula.add(clause)?;
+        }
+        Ok(formula)
+    }
+
+    #[test]
+    fn long_chain_asks_one_after_another(rt: HostRuntime) -> Result<(), Fail> {
+        let formula = long_chain(&rt, rt.alloc())?;
+        let mut watches = Watches::new(rt.alloc(), &formula)?;
+        for j in 0..LONG {
+            assign(&rt, &mut watches, Lit(2 * j));
+            let wanted = if j < LONG - 1 {
+                Some(LONG - 2 - j)
+            } else {
+                None
+            };
+            assert_eq!(rt; watches.least_pending(), wanted);
+        }
+        Ok(())
+    }
+
+    #[test]
+    fn removed_clause_asks_no_more(rt: HostRuntime) -> Result<(), Fail> {
+        let alloc = rt.alloc();
+        let mut watches = Watches::new(alloc, &Formula::new(alloc, 0, 2))?;
+        add(&rt, alloc, &mut watches, &[Lit(0)])?;
+        add(&rt, alloc, &mut watches, &[])?;
+        assert_eq!(rt; watches.least_pending(), Some(0));
+        assert!(rt; watches.kept.get(0) == Some(&true));
+        watches.remove(0);
+        assert_eq!(rt; watches.least_pending(), Some(1));
+        Ok(())
+    }
+}
