@@ -40,7 +40,6 @@ use Rattle.plan_top.specs.Known.{IsOrdered}
 use Rattle.plan_top.specs.Laws.{Laws}
 use Rattle.plan_top.specs.Raced.{form_of, input_of, ComesTo}
 use Rattle.plan_top.specs.Headline.{OfGrounded, HasStepPlan, PlanRuns, NoStepPlan, NoPlan, IsSo, LineIsSo, standing_of, conflicts_of, SpendsAll}
-use Rattle.plan_top.proofs.Known.{known_once}
 
 -- ---- lines and the words in them
 
@@ -119,7 +118,7 @@ module _ (laws : Laws) (settings : Settings) (task : Parts) (g : Grounded) (well
     only h others parts is_h ordered =
         let same : h ≡ g = laws.one_result task h g is_h is in
         let here : IsOrdered g.task others parts = subst (λ (x : Grounded). IsOrdered x.task others parts) same ordered in
-        let known : others ≡ comes.clauses = known_once g.task comes.clauses others comes.ordered.known here.known in
+        let known : others ≡ comes.clauses = laws.invariants g.task others comes.clauses here.known comes.ordered.known in
         let published : IsPublished g.task comes.clauses parts = subst (λ (cs : List (ℕ × ℕ)). IsPublished g.task cs parts) known here.published in
         (same, known, laws.unique g.task comes.clauses parts comes.components published comes.ordered.published)
 

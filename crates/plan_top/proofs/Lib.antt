@@ -1,7 +1,6 @@
 pub mod Stopped
 pub mod Taking
 pub mod Verdicts
-pub mod Known
 pub mod Claims
 pub mod Told
 pub mod Answered

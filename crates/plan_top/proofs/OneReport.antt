@@ -3,6 +3,7 @@ use Rattle.std.proofs.Common.{◌≡◌, ◌≤◌, ◌<◌, inl, inr, ℕ, List
 use Rattle.std.specs.Prelude.{IfSome}
 use Rattle.gt_core.specs.Task.{Task}
 use Rattle.gt_core.specs.Laws.{PublishedIsUnique}
+use Rattle.two_invariants.specs.Laws.{OneListOfInvariants}
 use Rattle.step_clauses.specs.Coded.{formula_of}
 use Rattle.step_laws.specs.Form.{OrderedTask, places_of}
 use Rattle.step_encoding.specs.Numbers.{literals_of}
@@ -27,7 +28,6 @@ use Rattle.plan_top.specs.Raced.{form_of, input_of, IsTooLarge, ComesTo, too_lar
 use Rattle.plan_top.specs.Causes.{Decides, AnswersPlan, ComesOf, stopped, decided, Comes}
 use Rattle.plan_top.specs.Ending.{status_of}
 use Rattle.plan_top.specs.OneReport.{AreSameRace, AskForOneRace, HasRead, OneEnding}
-use Rattle.plan_top.proofs.Known.{known_once}
 use Rattle.plan_top.proofs.Told.{asked_comes}
 use Rattle.plan_top.proofs.OneTask.{once_read, once_grounded}
 
@@ -42,10 +42,10 @@ same_race law s t same =
 
 -- ---- the race
 
-module _ (unique : PublishedIsUnique) (task : Task) where
+module _ (invariants : OneListOfInvariants) (unique : PublishedIsUnique) (task : Task) where
   one_form : (cs ds : List (ℕ × ℕ)) (a b : List (List ℕ)) → IsOrdered task cs a → IsOrdered task ds b → form_of task cs a ≡ form_of task ds b
   one_form cs ds a b p q =
-      let clauses : ds ≡ cs = known_once task cs ds p.known q.known in
+      let clauses : ds ≡ cs = invariants task ds cs q.known p.known in
       let components : a ≡ b = unique task cs a b p.published (subst (λ (zs : List (ℕ × ℕ)). IsPublished task zs b) clauses q.published) in
       ap₂ (form_of task) (sym clauses) components
 
@@ -81,17 +81,17 @@ module _ (unique : PublishedIsUnique) (task : Task) where
         sym p.ended ∙ (one_stage (form_of task p.clauses p.components) (form_of task q.clauses q.components) form ∙ q.races.ended) in
         cc
 
-once_raced : PublishedIsUnique → (s t : Settings) → s.rates ≡ t.rates → s.budget ≡ t.budget → (p : Parts) (g : Grounded) (x y : Ending)
+once_raced : OneListOfInvariants → PublishedIsUnique → (s t : Settings) → s.rates ≡ t.rates → s.budget ≡ t.budget → (p : Parts) (g : Grounded) (x y : Ending)
     → AnswersPlan s p g x → AnswersPlan t p g y → x ≡ y
-once_raced unique s t rates budget p g x y (too_large (h, m, e, a)) (too_large (k, n, f, b)) =
-    e ∙ (one_horizon unique g.task s t rates budget h k m n a b ∙ sym f)
-once_raced unique s t rates budget p g x y (too_large (h, m, e, a)) (ended race comes tells) =
-    absurd (not_both unique g.task s t rates budget h m race a comes)
-once_raced unique s t rates budget p g x y (ended race comes tells) (too_large (k, n, f, b)) =
-    absurd (not_both unique g.task t s (sym rates) (sym budget) k n race b comes)
-once_raced unique s t rates budget p g x y (ended race comes tells) (ended other too also) =
+once_raced invariants unique s t rates budget p g x y (too_large (h, m, e, a)) (too_large (k, n, f, b)) =
+    e ∙ (one_horizon invariants unique g.task s t rates budget h k m n a b ∙ sym f)
+once_raced invariants unique s t rates budget p g x y (too_large (h, m, e, a)) (ended race comes tells) =
+    absurd (not_both invariants unique g.task s t rates budget h m race a comes)
+once_raced invariants unique s t rates budget p g x y (ended race comes tells) (too_large (k, n, f, b)) =
+    absurd (not_both invariants unique g.task t s (sym rates) (sym budget) k n race b comes)
+once_raced invariants unique s t rates budget p g x y (ended race comes tells) (ended other too also) =
     tells.told
-    ∙ (ap₂ (λ (b : ℕ) (v : EndView). Report (outcome_of v) (report_of p g b v)) budget (one_end unique g.task s t rates budget race other comes too)
+    ∙ (ap₂ (λ (b : ℕ) (v : EndView). Report (outcome_of v) (report_of p g b v)) budget (one_end invariants unique g.task s t rates budget race other comes too)
     ∙ sym also.told)
 
 -- ---- the files
@@ -103,7 +103,7 @@ module _ (laws : Laws) (told : List ℕ → Option (List ℕ)) (lacks : List ℕ
   one_decision x y (s, is, p) (t, too, q) =
       let race = same_race laws.settings s t (subst (λ (z : Numbers). AreSameRace z (numbers t)) (sym is) (subst (λ (z : Numbers). AreSameRace n z) (sym too) same)) in
       once_read first second (λ task. OnceGrounded task (AnswersPlan s task)) (λ task. OnceGrounded task (AnswersPlan t task)) x y
-      (λ task. once_grounded laws.one_result task (AnswersPlan s task) (AnswersPlan t task) x y (λ g. once_raced laws.unique s t race.0 race.1 task g x y)) p q
+      (λ task. once_grounded laws.one_result task (AnswersPlan s task) (AnswersPlan t task) x y (λ g. once_raced laws.invariants laws.unique s t race.0 race.1 task g x y)) p q
 
   too_long : (old new : List (List ℕ)) (file : Which) (name : List ℕ) (x : Ending) → HasRead x → Stops told lacks old new file name x → (x ≡ TooLong file) × IsTooLong told lacks old new name
   too_long old new file name x has (inl fault) = absurd (subst HasRead fault.0 has)

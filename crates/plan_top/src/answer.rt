@@ -11,7 +11,7 @@ ghost use Rattle.plan_top.specs.Ends.{EndsAs, StopsBy};
 
 use crate::generated::answer_gen;
 use crate::ground::ground_task;
-use crate::raced::{known_of, outcome, raced};
+use crate::raced::{outcome, raced};
 use crate::stop::{Stop, refuse};
 use crate::task::read_task;
 use crate::{Ending, Kind};
@@ -27,6 +27,7 @@ use std::alloc::Global;
 use std::sync::Wait;
 use std::thread::Threads;
 use task_text::{push_ground, push_order};
+use two_invariants::find;
 
 /// What the bytes of its files, in the order of the words, decide for a request.
 pub fn answer<H: Threads + Wait + Sync, G: Gate>(
@@ -53,7 +54,7 @@ pub fn answer<H: Threads + Wait + Sync, G: Gate>(
             )
         }
         Request::Ground { .. } => answer_ground(alloc, files[0].as_slice(), files[1].as_slice()),
-        Request::Order { .. } => answer_order(alloc, files[0].as_slice(), files[1].as_slice()),
+        Request::Order { .. } => answer_order(rt, alloc, files[0].as_slice(), files[1].as_slice()),
         Request::Check { .. } => answer_check(
             alloc,
             files[0].as_slice(),
@@ -126,22 +127,27 @@ fn list_task(alloc: Global, task: &Pddl) -> Result<Ending, Stop>
 }
 
 // What a domain and a problem come to for the command `order`.
-fn answer_order(alloc: Global, domain: &[u8], problem: &[u8]) -> Result<Ending, Stop>
+fn answer_order<H: Threads + Sync>(
+    rt: &H,
+    alloc: Global,
+    domain: &[u8],
+    problem: &[u8],
+) -> Result<Ending, Stop>
     requires domain_fits { length domain.now ≤ most_bytes }
     requires problem_fits { length problem.now ≤ most_bytes }
     ensures { EndsAs (OnceRead domain.now problem.now (λ task. OnceGrounded task (AnswersOrder task))) result }
 {
     let task = read_task(alloc, domain, problem)?;
-    order_task(alloc, &task)
+    order_task(rt, alloc, &task)
 }
 
 // What a task comes to for the command `order`.
-fn order_task(alloc: Global, task: &Pddl) -> Result<Ending, Stop>
+fn order_task<H: Threads + Sync>(rt: &H, alloc: Global, task: &Pddl) -> Result<Ending, Stop>
     ensures { EndsAs (OnceGrounded task.now (AnswersOrder task.now)) result }
 {
     let grounded = ground_task(alloc, task)?;
     let acts = grounded.task();
-    let pairs = known_of(alloc, acts)?;
+    let pairs = find(rt, alloc, acts)?;
     let order = publish(alloc, acts, &pairs)?;
     let mut text = Vec::new(alloc);
     push_order(task, &grounded, &order, &pairs, &mut text)?;

@@ -8,6 +8,7 @@ pub fn laws()
     plan_words::laws::laws();
     report_lines::laws();
     gt_core::laws::laws();
+    two_invariants::laws::laws();
     grounding::laws::laws();
     step_plans::laws::laws();
     plan_report::laws::laws();

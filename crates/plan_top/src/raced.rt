@@ -1,17 +1,12 @@
 //! The race on a ground task.
 ghost use Rattle.std.specs.Prelude.{◌≡◌, IfOk};
-ghost use Rattle.gt_core.specs.Lawful.{is_task};
-ghost use Rattle.gt_core.specs.Reached.{HoldsWherever};
 ghost use Rattle.race_end.specs.Ends.{end_view};
-ghost use Rattle.plan_top.specs.Known.{AreKnown};
 ghost use Rattle.plan_top.specs.Raced.{ComesTo, TellsTooLarge, outcome_of};
 ghost use Rattle.plan_top.specs.Ends.{StopsBy};
 
 use crate::stop::Stop;
 use crate::{Ending, Outcome};
 use action_order::publish::publish;
-use gt_core::memory::Memory;
-use gt_core::pairs::Pairs;
 use gt_core::task::Task;
 use horizon_rates::Settings;
 use race::{RaceError, race};
@@ -21,15 +16,7 @@ use std::alloc::Global;
 use std::sync::Wait;
 use std::thread::Threads;
 use step_encoding::exists::ExistsForm;
-
-/// The clauses that are known of a ground task.
-pub fn known_of(alloc: Global, task: &Task) -> Result<Pairs, Memory>
-    ensures facts { IfOk result (λ pairs. pairs.facts ≡ task.now.facts) }
-    ensures known { IfOk result (λ pairs. AreKnown task.now pairs.clauses) }
-    ensures holds { IfOk result (λ pairs. HoldsWherever task.now pairs.clauses) }
-{
-    Pairs::empty(alloc, task.facts())
-}
+use two_invariants::find;
 
 /// What the race on a ground task comes to.
 pub fn raced<H: Threads + Wait + Sync, G: Gate>(
@@ -42,7 +29,7 @@ pub fn raced<H: Threads + Wait + Sync, G: Gate>(
     ensures ended { IfOk result (ComesTo task.now settings.now) }
     ensures stops { StopsBy (TellsTooLarge task.now settings.now) result }
 {
-    let pairs = known_of(alloc, task)?;
+    let pairs = find(rt, alloc, task)?;
     let order = publish(alloc, task, &pairs)?;
     let form = ExistsForm::new(alloc, task, &pairs, &order)?;
     match race(rt, alloc, task, &form, settings, gate) {

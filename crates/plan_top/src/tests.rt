@@ -241,13 +241,13 @@ fn listings(rt: HostRuntime) -> Result<(), Fail> {
             ORDER,
             BURNER,
             BURNED,
-            "; actions 2 components 2 pairs 0\n; 0 1 (use)\n; 1 0 (burn)\n",
+            "; actions 2 components 2 pairs 2\n; 0 1 (use)\n; 1 0 (burn)\n",
         ),
         (
             ORDER,
             RING,
             RING_AT_FIRST,
-            "; actions 2 components 1 pairs 0\n; 0 0 (one)\n; 1 0 (two)\n",
+            "; actions 2 components 1 pairs 8\n; 0 0 (one)\n; 1 0 (two)\n",
         ),
     ];
     for (given, domain, problem, text) in rows {

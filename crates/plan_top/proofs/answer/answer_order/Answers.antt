@@ -4,9 +4,9 @@ use Rattle.plan_top.proofs.Answered.{refused_handed, read_handed}
 use Rattle.plan_top.proofs.answer.answer_order.Goals as goal
 
 pub returns-in_err-task : goal.returns-in_err-task
-returns-in_err-task c =
+returns-in_err-task g c =
     refused_handed c.args.domain.now c.args.problem.now (λ task. OnceGrounded task (AnswersOrder task)) c.in_err-task.field-0.0 c.from_residual.result c.from_residual.ensures.1 c.in_err-task.ensures.stops
 
 pub returns : goal.returns
-returns c =
+returns g c =
     read_handed c.args.domain.now c.args.problem.now (λ task. OnceGrounded task (AnswersOrder task)) c.in_ok-task.task c.in_ok-task.ensures.task c.in_ok-task.ensures.well_formed c.order_task.result c.order_task.ensures

@@ -20,7 +20,7 @@ returns-in-Ok-clause-ended g c =
     record {
       clauses = pairs.clauses;
       components = order;
-      ordered = record { known = c.in_ok-pairs.ensures.known; published = c.in_ok-order.ensures.published };
+      ordered = record { known = c.in_ok-pairs.ensures.greatest; published = c.in_ok-order.ensures.published };
       races = record {
         ended = subst (λ (f : OrderedTask). stage.race_of (input_of f settings) ≡ stage.Ended (end_view end)) same c.in-Ok.ensures.gives;
         lines = subst (λ (f : OrderedTask). AreLines (input_of f settings) (lines_of end)) same c.in-Ok.ensures.lines;
@@ -49,7 +49,7 @@ returns-in-Err-Literals-clause-stops g c =
       record {
         clauses = pairs.clauses;
         components = order;
-        ordered = record { known = c.in_ok-pairs.ensures.known; published = c.in_ok-order.ensures.published };
+        ordered = record { known = c.in_ok-pairs.ensures.greatest; published = c.in_ok-order.ensures.published };
         ended = subst (λ (f : OrderedTask). stage.race_of (input_of f settings) ≡ stage.TooLarge horizon) same told.0;
         count_is = subst (λ (f : OrderedTask). count ≡ literals_of ((input_of f settings).formula horizon)) same told.1;
       },
