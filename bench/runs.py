@@ -1,0 +1,57 @@
+"""Runs of a program, measured: what the scripts beside this file share."""
+import ctypes, os, pathlib, signal, subprocess, tempfile, threading, time
+from typing import NamedTuple
+
+BECOME_PARENT_OF_ORPHANS = 36
+START = '"$@" >"$OUT" 2>"$ERR" </dev/null & echo $!'
+
+class Run(NamedTuple):
+    """How a run ended: its exit status (below 0 a signal, none where it had no time left), what it wrote, its seconds by
+    the clock and of the processor, and the greatest memory that it held, in MB."""
+    status: int | None
+    text: bytes
+    errors: bytes
+    seconds: float
+    own: float
+    memory: float
+
+    def short(self):
+        return f"{self.seconds:.2f} s, of which {self.own:.2f} s its own, {self.memory:.0f} MB"
+
+def measured(words, folder=".", limit=None, processors=None):
+    """Runs the words, for at most `limit` seconds, on these processors alone where some are given. A shell starts the
+    program and hands it over to this script: what a child of this script used at most would begin with the script's own
+    memory."""
+    ctypes.CDLL(None).prctl(BECOME_PARENT_OF_ORPHANS, 1, 0, 0, 0)
+    with tempfile.TemporaryDirectory() as room:
+        out, err = pathlib.Path(room, "out"), pathlib.Path(room, "err")
+        env = dict(os.environ, OUT=str(out), ERR=str(err))
+        narrow = (lambda: os.sched_setaffinity(0, processors)) if processors else None
+        begun = time.monotonic()
+        shell = ["sh", "-c", START, "sh", *map(str, words)]
+        child = int(subprocess.run(shell, cwd=folder, env=env, stdout=subprocess.PIPE, check=True, preexec_fn=narrow).stdout)
+        late = threading.Event()
+        def stop():
+            late.set()
+            os.kill(child, signal.SIGKILL)
+        timer = threading.Timer(limit, stop) if limit else None
+        if timer:
+            timer.start()
+        _, ended, used = os.wait4(child, 0)
+        if timer:
+            timer.cancel()
+        took = time.monotonic() - begun
+        status = None if late.is_set() else os.waitstatus_to_exitcode(ended)
+        return Run(status, out.read_bytes(), err.read_bytes(), took, used.ru_utime + used.ru_stime, used.ru_maxrss * 1024 / 1e6)
+
+def tasks(folder):
+    """The tasks of a folder and of those in it: name, domain and problem. A problem pNN.pddl has the domain
+    pNN-domain.pddl, or domain.pddl, of its folder."""
+    for problem in sorted(pathlib.Path(folder).rglob("p[0-9]*.pddl")):
+        if problem.stem.endswith("-domain"):
+            continue
+        domain = problem.with_name(problem.stem + "-domain.pddl")
+        if not domain.exists():
+            domain = problem.with_name("domain.pddl")
+        if domain.exists():
+            yield f"{problem.parent.name} {problem.stem}", domain.resolve(), problem.resolve()
