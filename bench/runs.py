@@ -1,7 +1,8 @@
 """Runs of a program, measured: what the scripts beside this file share."""
-import ctypes, os, pathlib, signal, subprocess, tempfile, threading, time
+import ctypes, os, pathlib, signal, subprocess, sys, tempfile, threading, time
 from typing import NamedTuple
 
+CRATES = pathlib.Path(__file__).resolve().parent.parent / "crates"
 BECOME_PARENT_OF_ORPHANS = 36
 START = '"$@" >"$OUT" 2>"$ERR" </dev/null & echo $!'
 
@@ -43,6 +44,20 @@ def measured(words, folder=".", limit=None, processors=None):
         took = time.monotonic() - begun
         status = None if late.is_set() else os.waitstatus_to_exitcode(ended)
         return Run(status, out.read_bytes(), err.read_bytes(), took, used.ru_utime + used.ru_stime, used.ru_maxrss * 1024 / 1e6)
+
+def planner(name=None):
+    """The program with this name, or the one that ./plan-build makes."""
+    program = pathlib.Path(name).resolve() if name else CRATES / "plan_prog/out/plan_prog"
+    if not program.exists():
+        sys.exit(f"no program {program}: ./plan-build makes one")
+    return program
+
+def built(crate, *words):
+    """The program of a crate, which is proved and built where it is not; it is run with the words."""
+    done = subprocess.run(["rt", "run", "--", *words], cwd=CRATES / crate, stdout=subprocess.PIPE, stderr=subprocess.STDOUT, text=True)
+    if done.returncode:
+        sys.exit(done.stdout)
+    return CRATES / crate / "out" / crate
 
 def tasks(folder):
     """The tasks of a folder and of those in it: name, domain and problem. A problem pNN.pddl has the domain
