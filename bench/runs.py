@@ -4,7 +4,7 @@ from typing import NamedTuple
 
 CRATES = pathlib.Path(__file__).resolve().parent.parent / "crates"
 BECOME_PARENT_OF_ORPHANS = 36
-START = '"$@" >"$OUT" 2>"$ERR" </dev/null & echo $!'
+START = '{ read go <"$GATE"; exec "$@"; } >"$OUT" 2>"$ERR" </dev/null & echo $!'
 
 class Run(NamedTuple):
     """How a run ended: its exit status (below 0 a signal, none where it had no time left), what it wrote, its seconds by
@@ -21,14 +21,14 @@ class Run(NamedTuple):
 
 def measured(words, folder=".", limit=None, processors=None):
     """Runs the words, for at most `limit` seconds, on these processors alone where some are given. A shell starts the
-    program and hands it over to this script: what a child of this script used at most would begin with the script's own
-    memory."""
+    program, hands it over to this script and ends before it begins: what a child of this script used at most would begin
+    with the script's own memory."""
     ctypes.CDLL(None).prctl(BECOME_PARENT_OF_ORPHANS, 1, 0, 0, 0)
     with tempfile.TemporaryDirectory() as room:
-        out, err = pathlib.Path(room, "out"), pathlib.Path(room, "err")
-        env = dict(os.environ, OUT=str(out), ERR=str(err))
+        out, err, gate = (pathlib.Path(room, name) for name in ("out", "err", "gate"))
+        os.mkfifo(gate)
+        env = dict(os.environ, OUT=str(out), ERR=str(err), GATE=str(gate))
         narrow = (lambda: os.sched_setaffinity(0, processors)) if processors else None
-        begun = time.monotonic()
         shell = ["sh", "-c", START, "sh", *map(str, words)]
         child = int(subprocess.run(shell, cwd=folder, env=env, stdout=subprocess.PIPE, check=True, preexec_fn=narrow).stdout)
         late = threading.Event()
@@ -38,6 +38,8 @@ def measured(words, folder=".", limit=None, processors=None):
         timer = threading.Timer(limit, stop) if limit else None
         if timer:
             timer.start()
+        begun = time.monotonic()
+        gate.write_text("go\n")
         _, ended, used = os.wait4(child, 0)
         if timer:
             timer.cancel()
@@ -59,14 +61,14 @@ def built(crate, *words):
         sys.exit(done.stdout)
     return CRATES / crate / "out" / crate
 
+def domain_of(problem):
+    """The domain of a problem pNN.pddl: pNN-domain.pddl, or domain.pddl, of its folder."""
+    own = problem.with_name(problem.stem + "-domain.pddl")
+    return own if own.exists() else problem.with_name("domain.pddl")
+
 def tasks(folder):
-    """The tasks of a folder and of those in it: name, domain and problem. A problem pNN.pddl has the domain
-    pNN-domain.pddl, or domain.pddl, of its folder."""
+    """The tasks of a folder and of those in it: name, domain and problem."""
     for problem in sorted(pathlib.Path(folder).rglob("p[0-9]*.pddl")):
-        if problem.stem.endswith("-domain"):
-            continue
-        domain = problem.with_name(problem.stem + "-domain.pddl")
-        if not domain.exists():
-            domain = problem.with_name("domain.pddl")
-        if domain.exists():
+        domain = domain_of(problem)
+        if domain.exists() and not problem.stem.endswith("-domain"):
             yield f"{problem.parent.name} {problem.stem}", domain.resolve(), problem.resolve()
