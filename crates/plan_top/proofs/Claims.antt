@@ -38,7 +38,7 @@ use Rattle.plan_report.specs.Report.{word_text, entry_of, plan_line, conflicts_l
 use Rattle.plan_report.specs.Laws.{IsSmall, HasCalls, Tells}
 use Rattle.plan_top.specs.Known.{IsOrdered}
 use Rattle.plan_top.specs.Laws.{Laws}
-use Rattle.plan_top.specs.Raced.{form_of, input_of, ComesTo}
+use Rattle.plan_top.specs.Raced.{form_of, choice_at, formula_at, input_of, ComesTo}
 use Rattle.plan_top.specs.Headline.{OfGrounded, HasStepPlan, PlanRuns, NoStepPlan, NoPlan, IsSo, LineIsSo, standing_of, conflicts_of, SpendsAll}
 
 -- ---- lines and the words in them
@@ -79,7 +79,7 @@ derived_of input h state ends.Dropped is marked = cc
 derived_of input h state ends.Going is marked = cc
 derived_of input h state ends.Found is marked = cc
 
-line_so : (input : RaceInput) (line : Line) → IsLine input line → IsSo input line.horizon (word_text (word_of line.end)) line.conflicts
+line_so : (input : RaceInput) (line : Line) → IsLine input line → IsSo (input.choose line.horizon) (input.formula line.horizon) (word_text (word_of line.end)) line.conflicts
 line_so input line is = record {
   word_is = word_of line.end;
   told = refl;
@@ -154,15 +154,15 @@ module _ (laws : Laws) (settings : Settings) (task : Parts) (g : Grounded) (well
     pub no_plan : (horizon conflicts : ℕ) → Tells (lines_in (end_view race)) horizon (codes "refuted") conflicts → NoPlan horizon task
     no_plan horizon conflicts tells = no_plans horizon (refuted_line horizon conflicts tells)
 
-    pub line_is_so : (horizon : ℕ) (word : List ℕ) (conflicts : ℕ) → Tells (lines_in (end_view race)) horizon word conflicts → LineIsSo settings horizon word conflicts task
+    pub line_is_so : (horizon : ℕ) (word : List ℕ) (conflicts : ℕ) → Tells (lines_in (end_view race)) horizon word conflicts → LineIsSo horizon word conflicts task
     line_is_so horizon word conflicts tells =
         let t = told_line horizon word conflicts tells in
         let input = input_of form settings in
         let so = line_so input t.0 (at_one (IsLine input) (lines_of_end race) t.0 comes.races.lines t.1) in
-        let one = subst (λ (h : ℕ). IsSo input h (word_text (word_of t.0.end)) t.0.conflicts) t.2 so in
-        let two = subst (λ (w : List ℕ). IsSo input horizon w t.0.conflicts) t.3 one in
-        of_grounded (λ h clauses components. IsSo (input_of (form_of h.task clauses components) settings) horizon word conflicts)
-        (subst (λ (k : ℕ). IsSo input horizon word k) t.4 two)
+        let one = subst (λ (h : ℕ). IsSo (choice_at form h) (formula_at form h) (word_text (word_of t.0.end)) t.0.conflicts) t.2 so in
+        let two = subst (λ (w : List ℕ). IsSo (choice_at form horizon) (formula_at form horizon) w t.0.conflicts) t.3 one in
+        of_grounded (λ h clauses components. IsSo (choice_at (form_of h.task clauses components) horizon) (formula_at (form_of h.task clauses components) horizon) word conflicts)
+        (subst (λ (k : ℕ). IsSo (choice_at form horizon) (formula_at form horizon) word k) t.4 two)
 
   -- ---- plans
 

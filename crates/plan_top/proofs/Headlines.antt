@@ -173,15 +173,12 @@ module _ (laws : Laws) (words : List (List ℕ)) (told : List ℕ → Option (Li
       step (decided fit answer h) = h
 
   -- a claim on the task of a race that came to an end
-  of_race : (domain problem : List ℕ) (settings : Settings) (claim : Parts → Type 0) → requested words ≡ Some (plans domain problem (numbers settings)) → (is_stop end ≡ true → ⊥)
-      → ((first second : List ℕ) (r : Raced settings first second end) → claim r.task) → OfFiles told domain problem claim
-  of_race domain problem settings claim asked on from =
-      two_weaker (λ first second. Decides (plans domain problem (numbers settings)) (first ∷ second ∷ []) end) (λ first second. (task : Parts) × AreTask first second task × claim task) (told domain) (told problem)
-      (λ first second h.
-      let same : h.0 ≡ settings = laws.settings h.0 settings h.1 in
-      let r = raced settings first second end on (subst (λ (s : Settings). OnceRead first second (λ task. OnceGrounded task (AnswersPlan s task)) end) same h.2) in
-      (r.task, r.are, from first second r))
-      (decided_for (plans domain problem (numbers settings)) asked on)
+  of_race : (domain problem : List ℕ) (n : Numbers) (claim : Parts → Type 0) → requested words ≡ Some (plans domain problem n) → (is_stop end ≡ true → ⊥)
+      → ((settings : Settings) → numbers settings ≡ n → (first second : List ℕ) (r : Raced settings first second end) → claim r.task) → OfFiles told domain problem claim
+  of_race domain problem n claim asked on from =
+      two_weaker (λ first second. Decides (plans domain problem n) (first ∷ second ∷ []) end) (λ first second. (task : Parts) × AreTask first second task × claim task) (told domain) (told problem)
+      (λ first second h. let r = raced h.0 first second end on h.2 in (r.task, r.are, from h.0 h.1 first second r))
+      (decided_for (plans domain problem n) asked on)
 
   -- a claim on the task of a listing
   of_listing : (request : Seen) (domain problem : List ℕ) (claim : Parts → Type 0) → files_of request ≡ domain ∷ problem ∷ [] → requested words ≡ Some request → status_of end ≡ 0
@@ -200,17 +197,17 @@ module _ (laws : Laws) (words : List (List ℕ)) (told : List ℕ → Option (Li
       (decided_for (checks domain problem plan_name) asked (λ stop. not_low end stop (omega arith)))
 
   module _ (before after : Option (List ℕ)) (text : List ℕ) (printed : Printed before after text) where
-    pub plan_runs : (domain problem : List ℕ) (settings : Settings) → after ≡ appended before (text_of end) → status_of end ≡ 0 → requested words ≡ Some (plans domain problem (numbers settings)) → OfFiles told domain problem (PlanRuns text)
-    plan_runs domain problem settings all zero asked =
+    pub plan_runs : (domain problem : List ℕ) (n : Numbers) → after ≡ appended before (text_of end) → status_of end ≡ 0 → requested words ≡ Some (plans domain problem n) → OfFiles told domain problem (PlanRuns text)
+    plan_runs domain problem n all zero asked =
         let is : text ≡ text_of end = printed_is before after text (text_of end) printed all in
-        of_race domain problem settings (PlanRuns text) asked (λ stop. not_low end stop (omega arith))
-        (λ first second r. subst (λ (xs : List ℕ). PlanRuns xs r.task) (sym is) (plan_of laws settings first second end r zero))
+        of_race domain problem n (PlanRuns text) asked (λ stop. not_low end stop (omega arith))
+        (λ settings same first second r. subst (λ (xs : List ℕ). PlanRuns xs r.task) (sym is) (plan_of laws settings first second end r zero))
 
-    pub unfinished : (domain problem : List ℕ) (settings : Settings) → after ≡ appended before (text_of end) → status_of end ≡ 2 → requested words ≡ Some (plans domain problem (numbers settings)) → OfFiles told domain problem (λ task. SpendsAll text settings.budget)
-    unfinished domain problem settings all two asked =
+    pub unfinished : (domain problem : List ℕ) (n : Numbers) → after ≡ appended before (text_of end) → status_of end ≡ 2 → requested words ≡ Some (plans domain problem n) → OfFiles told domain problem (λ task. SpendsAll text n.budget)
+    unfinished domain problem n all two asked =
         let is : text ≡ text_of end = printed_is before after text (text_of end) printed all in
-        of_race domain problem settings (λ task. SpendsAll text settings.budget) asked (λ stop. not_low end stop (omega arith))
-        (λ first second r. subst (λ (xs : List ℕ). SpendsAll xs settings.budget) (sym is) (spent_of laws settings first second end r two))
+        of_race domain problem n (λ task. SpendsAll text n.budget) asked (λ stop. not_low end stop (omega arith))
+        (λ settings same first second r. subst (SpendsAll text) (ap (λ (x : Numbers). x.budget) same) (subst (λ (xs : List ℕ). SpendsAll xs settings.budget) (sym is) (spent_of laws settings first second end r two)))
 
     pub ground_told : (domain problem : List ℕ) → after ≡ appended before (text_of end) → status_of end ≡ 0 → requested words ≡ Some (grounds domain problem) → OfFiles told domain problem (TellsGround text)
     ground_told domain problem all zero asked =
@@ -225,32 +222,32 @@ module _ (laws : Laws) (words : List (List ℕ)) (told : List ℕ → Option (Li
         (λ first second on h. subst (λ (xs : List ℕ). (task : Parts) × AreTask first second task × TellsOrder xs task) (sym is) (order_listed first second end on h))
 
     -- what the text says of a horizon, the end of the race tells
-    of_said : IsSmall end → TakesFront before after (text_of end) → (domain problem : List ℕ) (settings : Settings) (horizon : ℕ) (word : List ℕ) (conflicts : ℕ) (claim : Parts → Type 0)
-        → requested words ≡ Some (plans domain problem (numbers settings)) → IsTrue (is_word word) → Says text horizon word conflicts
-        → ((first second : List ℕ) (r : Raced settings first second end) → Tells (lines_in (end_view r.race)) horizon word conflicts → claim r.task) → OfFiles told domain problem claim
-    of_said small front domain problem settings horizon word conflicts claim asked one says from =
+    of_said : IsSmall end → TakesFront before after (text_of end) → (domain problem : List ℕ) (n : Numbers) (horizon : ℕ) (word : List ℕ) (conflicts : ℕ) (claim : Parts → Type 0)
+        → requested words ≡ Some (plans domain problem n) → IsTrue (is_word word) → Says text horizon word conflicts
+        → ((settings : Settings) (first second : List ℕ) (r : Raced settings first second end) → Tells (lines_in (end_view r.race)) horizon word conflicts → claim r.task) → OfFiles told domain problem claim
+    of_said small front domain problem n horizon word conflicts claim asked one says from =
         let due = printed_front before after text (text_of end) printed front in
         let whole : Says (text_of end) horizon word conflicts = subst (λ (xs : List ℕ). Says xs horizon word conflicts) (sym due.1) (laws.fronts text due.0 horizon word conflicts says) in
-        of_race domain problem settings claim asked (λ stop. stop_says_nothing laws.entries end stop small horizon word conflicts one whole)
-        (λ first second r. from first second r (said_of laws settings first second end r horizon word conflicts one whole))
+        of_race domain problem n claim asked (λ stop. stop_says_nothing laws.entries end stop small horizon word conflicts one whole)
+        (λ settings same first second r. from settings first second r (said_of laws settings first second end r horizon word conflicts one whole))
 
-    pub refuted_steps : IsSmall end → TakesFront before after (text_of end) → (domain problem : List ℕ) (settings : Settings) (horizon conflicts : ℕ)
-        → requested words ≡ Some (plans domain problem (numbers settings)) → Says text horizon (codes "refuted") conflicts → OfFiles told domain problem (NoStepPlan horizon)
-    refuted_steps small front domain problem settings horizon conflicts asked says =
-        of_said small front domain problem settings horizon (codes "refuted") conflicts (NoStepPlan horizon) asked refl says
-        (λ first second r tells. claims.no_step_plan laws settings r.task r.g r.well r.grounded r.fits r.race r.comes horizon conflicts tells)
+    pub refuted_steps : IsSmall end → TakesFront before after (text_of end) → (domain problem : List ℕ) (n : Numbers) (horizon conflicts : ℕ)
+        → requested words ≡ Some (plans domain problem n) → Says text horizon (codes "refuted") conflicts → OfFiles told domain problem (NoStepPlan horizon)
+    refuted_steps small front domain problem n horizon conflicts asked says =
+        of_said small front domain problem n horizon (codes "refuted") conflicts (NoStepPlan horizon) asked refl says
+        (λ settings first second r tells. claims.no_step_plan laws settings r.task r.g r.well r.grounded r.fits r.race r.comes horizon conflicts tells)
 
-    pub refuted_plans : IsSmall end → TakesFront before after (text_of end) → (domain problem : List ℕ) (settings : Settings) (horizon conflicts : ℕ)
-        → requested words ≡ Some (plans domain problem (numbers settings)) → Says text horizon (codes "refuted") conflicts → OfFiles told domain problem (NoPlan horizon)
-    refuted_plans small front domain problem settings horizon conflicts asked says =
-        of_said small front domain problem settings horizon (codes "refuted") conflicts (NoPlan horizon) asked refl says
-        (λ first second r tells. claims.no_plan laws settings r.task r.g r.well r.grounded r.fits r.race r.comes horizon conflicts tells)
+    pub refuted_plans : IsSmall end → TakesFront before after (text_of end) → (domain problem : List ℕ) (n : Numbers) (horizon conflicts : ℕ)
+        → requested words ≡ Some (plans domain problem n) → Says text horizon (codes "refuted") conflicts → OfFiles told domain problem (NoPlan horizon)
+    refuted_plans small front domain problem n horizon conflicts asked says =
+        of_said small front domain problem n horizon (codes "refuted") conflicts (NoPlan horizon) asked refl says
+        (λ settings first second r tells. claims.no_plan laws settings r.task r.g r.well r.grounded r.fits r.race r.comes horizon conflicts tells)
 
-    pub lines : IsSmall end → TakesFront before after (text_of end) → (domain problem word : List ℕ) (settings : Settings) (horizon conflicts : ℕ)
-        → requested words ≡ Some (plans domain problem (numbers settings)) → IsTrue (is_word word) → Says text horizon word conflicts → OfFiles told domain problem (LineIsSo settings horizon word conflicts)
-    lines small front domain problem word settings horizon conflicts asked one says =
-        of_said small front domain problem settings horizon word conflicts (LineIsSo settings horizon word conflicts) asked one says
-        (λ first second r tells. claims.line_is_so laws settings r.task r.g r.well r.grounded r.fits r.race r.comes horizon word conflicts tells)
+    pub lines : IsSmall end → TakesFront before after (text_of end) → (domain problem word : List ℕ) (n : Numbers) (horizon conflicts : ℕ)
+        → requested words ≡ Some (plans domain problem n) → IsTrue (is_word word) → Says text horizon word conflicts → OfFiles told domain problem (LineIsSo horizon word conflicts)
+    lines small front domain problem word n horizon conflicts asked one says =
+        of_said small front domain problem n horizon word conflicts (LineIsSo horizon word conflicts) asked one says
+        (λ settings first second r tells. claims.line_is_so laws settings r.task r.g r.well r.grounded r.fits r.race r.comes horizon word conflicts tells)
 
 -- ---- words that are not taken
 

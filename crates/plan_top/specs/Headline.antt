@@ -2,12 +2,12 @@
 use Rattle.std.specs.Prelude.{◌≡◌, ◌⊎◌, ◌≤◌, ◌<◌, ℕ, ◌+◌, List, [], ◌∷◌, ◌++◌, map, length, codes, Bool, Option, Some, IfSome, Ok, Contains}
 use Rattle.report_lines.specs.Lines.{lines_of}
 use Rattle.report_lines.specs.Horizons.{Entry, entry_line}
+use Rattle.clause_base.specs.Choice.{Known}
+use Rattle.clause_base.specs.Formula.{Cnf}
 use Rattle.clause_base.specs.Derivation.{IsRefutation}
 use Rattle.clause_base.specs.declared.log.Entry as log
-use Rattle.cdcl_rules.specs.State.{State}
 use Rattle.cdcl_rules.specs.declared.standing.Standing.{Standing}
 use Rattle.cdcl_rules.specs.declared.standing.Standing.TheVariants.{Going, Found, Refuted}
-use Rattle.horizon_rates.specs.declared.settings.Settings.{Settings}
 use Rattle.horizon_run.specs.Run.{reached}
 use Rattle.pd_model.specs.Plan.{IsPlan}
 use Rattle.pd_model.specs.declared.calls.Call.{Call}
@@ -18,13 +18,12 @@ use Rattle.gt_core.specs.Published.{order_of}
 use Rattle.gt_core.specs.Step.{IsStepPlan}
 use Rattle.grounding.specs.Grounded.{Grounded, IsGrounded}
 use Rattle.task_text.specs.Text.{ground_text, order_text}
-use Rattle.race.specs.Input.{RaceInput}
 use Rattle.race_end.specs.Ends.{Word, WordRefuted, WordDropped, WordOpen, WordPlan}
 use Rattle.step_plans.specs.Plans.{AreStepPlan, AreListed, actions_in}
 use Rattle.plan_report.specs.Report.{word_text, plan_line, conflicts_line, calls_by_step}
 use Rattle.plan_report.specs.Laws.{TellsSteps}
 use Rattle.plan_top.specs.Known.{IsOrdered}
-use Rattle.plan_top.specs.Raced.{form_of, input_of}
+use Rattle.plan_top.specs.Raced.{form_of, choice_at, formula_at}
 use Rattle.plan_top.specs.Tasks.{AreTask}
 
 -- the bytes that a sink took in between, where it tells them
@@ -76,22 +75,19 @@ standing_of WordDropped = Going
 standing_of WordOpen = Going
 standing_of WordPlan = Found
 
--- the state of a horizon's solver after so many conflicts
-abbrev pub state_of : RaceInput → ℕ → ℕ → State
-state_of input horizon conflicts = reached (input.choose horizon) (input.formula horizon) conflicts
-
--- a line of a horizon is so: the state after its conflicts has exactly so many and stands as its word says, and the log of a
--- refuted one is a derivation of the empty clause from the horizon's formula
-pub record IsSo (input : RaceInput) (horizon : ℕ) (word : List ℕ) (conflicts : ℕ) : Type 0 where
+-- A line is so of a solver that decides by a choice over a formula: its state after the line's conflicts has exactly so many
+-- and stands as the word says, and the log of a refuted one is a derivation of the empty clause from the formula.
+pub record IsSo (choose : Known → Option ℕ) (formula : Cnf) (word : List ℕ) (conflicts : ℕ) : Type 0 where
   pub word_is : Word
   pub told : word ≡ word_text word_is
-  pub exactly : (state_of input horizon conflicts).conflicts ≡ conflicts
-  pub stands : (state_of input horizon conflicts).standing ≡ standing_of word_is
-  pub derived : word_is ≡ WordRefuted → IsRefutation (input.formula horizon).variables (input.formula horizon).clauses (state_of input horizon conflicts).log
+  pub exactly : (reached choose formula conflicts).conflicts ≡ conflicts
+  pub stands : (reached choose formula conflicts).standing ≡ standing_of word_is
+  pub derived : word_is ≡ WordRefuted → IsRefutation formula.variables formula.clauses (reached choose formula conflicts).log
 
--- the same of the race on a task
-abbrev pub LineIsSo : Settings → ℕ → List ℕ → ℕ → Parts → Type 0
-LineIsSo settings horizon word conflicts task = OfGrounded task (λ g clauses components. IsSo (input_of (form_of g.task clauses components) settings) horizon word conflicts)
+-- the same of a horizon of a task
+abbrev pub LineIsSo : ℕ → List ℕ → ℕ → Parts → Type 0
+LineIsSo horizon word conflicts task =
+    OfGrounded task (λ g clauses components. IsSo (choice_at (form_of g.task clauses components) horizon) (formula_at (form_of g.task clauses components) horizon) word conflicts)
 
 -- ---- the budget
 

@@ -1,6 +1,7 @@
 -- The race on a ground task.
-use Rattle.std.specs.Prelude.{◌≡◌, ℕ, List, Bool}
-use Rattle.clause_base.specs.Formula.{assignment_of}
+use Rattle.std.specs.Prelude.{◌≡◌, ℕ, List, Bool, Option}
+use Rattle.clause_base.specs.Choice.{Known}
+use Rattle.clause_base.specs.Formula.{Cnf, assignment_of}
 use Rattle.gt_core.specs.Task.{Task}
 use Rattle.grounding.specs.Grounded.{Grounded}
 use Rattle.step_clauses.specs.Variables.{layout_of}
@@ -25,13 +26,21 @@ use Rattle.plan_top.specs.declared.ending.Ending.TheVariants.{TooLarge}
 abbrev pub form_of : Task → List (ℕ × ℕ) → List (List ℕ) → OrderedTask
 form_of task clauses components = record { task = task; known = record { facts = task.facts; clauses = clauses }; components = components }
 
+-- the choice of a horizon's solver
+abbrev pub choice_at : OrderedTask → ℕ → Known → Option ℕ
+choice_at form h = choice_of form.task (layout_of form.task (places_of form) h)
+
+-- the formula of a horizon
+abbrev pub formula_at : OrderedTask → ℕ → Cnf
+formula_at form h = formula_of form.task form.known.clauses (places_of form) h
+
 -- what the race on it is run on: the formulas of exists-steps, and the sets of true actions of their assignments
 abbrev pub input_of : OrderedTask → Settings → RaceInput
 input_of form settings = record {
   rates = settings.rates;
   budget = settings.budget;
-  choose = λ h. choice_of form.task (layout_of form.task (places_of form) h);
-  formula = λ h. formula_of form.task form.known.clauses (places_of form) h;
+  choose = choice_at form;
+  formula = formula_at form;
   steps = λ h values. steps_for form h (assignment_of values);
 }
 

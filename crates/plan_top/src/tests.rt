@@ -73,10 +73,10 @@ const ACTION_EACH: &[u8] =
     b"(define (domain d) (:predicates (q)) (:action a :parameters (?x) :effect (q)))";
 
 const EFFECT_EACH_PAIR: &[u8] =
-    b"(define (domain d) (:predicates (p ?x) (q ?x)) (:action make :parameters (?x) :effect (p ?x)) (:action big :effect (forall (?x ?y) (when (p ?x) (q ?y)))))";
+    b"(define (domain d) (:predicates (p ?x) (q ?x)) (:action make :parameters (?x) :effect (p ?x)) (:action big :parameters (?x) :effect (forall (?y) (when (p ?x) (q ?y)))))";
 
 const EFFECT_EACH_PAIR_AND_ONE: &[u8] =
-    b"(define (domain d) (:predicates (p ?x) (q ?x) (r)) (:action make :parameters (?x) :effect (p ?x)) (:action big :effect (forall (?x ?y) (when (p ?x) (q ?y)))) (:action one :effect (and (r) (when (not (r)) (not (r))))))";
+    b"(define (domain d) (:predicates (p ?x) (q ?x) (r)) (:action make :parameters (?x) :effect (p ?x)) (:action big :parameters (?x) :effect (forall (?y) (when (p ?x) (q ?y)))) (:action one :effect (and (r) (when (not (r)) (not (r))))))";
 
 const FOUND: &str =
     "; horizon 0 plan conflicts 0\n; conflicts 0 of 100000\n; plan of 0 steps with 0 actions\n";

@@ -2,8 +2,7 @@
 ghost use Rattle.std.specs.Prelude.{◌≡◌, ◌≢◌, ◌≤◌, ◌⊎◌, ℕ, List, [], ◌∷◌, map, string_bytes, codes, Some, None, IsTrue, Contains};
 ghost use Rattle.pl_io.specs.Outside.{appended, TakesFront, Rose, fault_count};
 ghost use Rattle.report_lines.specs.Horizons.{Says, is_word};
-ghost use Rattle.horizon_rates.specs.declared.settings.Settings.{Settings};
-ghost use Rattle.plan_words.specs.Seen.{plans, checks, grounds, orders, numbers};
+ghost use Rattle.plan_words.specs.Seen.{Numbers, plans, checks, grounds, orders};
 ghost use Rattle.plan_words.specs.Requested.{requested, command_named};
 ghost use Rattle.plan_top.specs.Files.{NotesAmong};
 ghost use Rattle.plan_top.specs.Causes.{Comes, FaultOf, names_in};
@@ -53,27 +52,27 @@ pub fn run<H: Threads + Wait + Sync, S: Shelf, K: Sink, G: Gate>(
     gate: &G,
 ) -> Status
     // A printed plan leads from the initial state to the goal, and its steps are a step plan.
-    ensures plan_runs { (text domain problem : List ℕ) (settings : Settings) → result.0 ≡ 0 → Printed (K.taken sink.old) (K.taken sink.new) text
-        → requested (map string_bytes words.now) ≡ Some (plans domain problem (numbers settings)) → OfFiles (S.told shelf.old) domain problem (PlanRuns text) }
+    ensures plan_runs { (text domain problem : List ℕ) (numbers : Numbers) → result.0 ≡ 0 → Printed (K.taken sink.old) (K.taken sink.new) text
+        → requested (map string_bytes words.now) ≡ Some (plans domain problem numbers) → OfFiles (S.told shelf.old) domain problem (PlanRuns text) }
 
     // A horizon that is printed as refuted has no step plan of so many steps.
-    ensures refuted_steps { (text domain problem : List ℕ) (settings : Settings) (horizon conflicts : ℕ) → Printed (K.taken sink.old) (K.taken sink.new) text
-        → requested (map string_bytes words.now) ≡ Some (plans domain problem (numbers settings)) → Says text horizon (codes "refuted") conflicts
+    ensures refuted_steps { (text domain problem : List ℕ) (numbers : Numbers) (horizon conflicts : ℕ) → Printed (K.taken sink.old) (K.taken sink.new) text
+        → requested (map string_bytes words.now) ≡ Some (plans domain problem numbers) → Says text horizon (codes "refuted") conflicts
         → OfFiles (S.told shelf.old) domain problem (NoStepPlan horizon) }
 
     // Nor is there a plan of at most so many actions.
-    ensures refuted_plans { (text domain problem : List ℕ) (settings : Settings) (horizon conflicts : ℕ) → Printed (K.taken sink.old) (K.taken sink.new) text
-        → requested (map string_bytes words.now) ≡ Some (plans domain problem (numbers settings)) → Says text horizon (codes "refuted") conflicts
+    ensures refuted_plans { (text domain problem : List ℕ) (numbers : Numbers) (horizon conflicts : ℕ) → Printed (K.taken sink.old) (K.taken sink.new) text
+        → requested (map string_bytes words.now) ≡ Some (plans domain problem numbers) → Says text horizon (codes "refuted") conflicts
         → OfFiles (S.told shelf.old) domain problem (NoPlan horizon) }
 
     // Unfinished is printed only where the conflicts of the horizons are the budget.
-    ensures unfinished { (text domain problem : List ℕ) (settings : Settings) → result.0 ≡ 2 → Printed (K.taken sink.old) (K.taken sink.new) text
-        → requested (map string_bytes words.now) ≡ Some (plans domain problem (numbers settings)) → OfFiles (S.told shelf.old) domain problem (λ task. SpendsAll text settings.budget) }
+    ensures unfinished { (text domain problem : List ℕ) (numbers : Numbers) → result.0 ≡ 2 → Printed (K.taken sink.old) (K.taken sink.new) text
+        → requested (map string_bytes words.now) ≡ Some (plans domain problem numbers) → OfFiles (S.told shelf.old) domain problem (λ task. SpendsAll text numbers.budget) }
 
     // Each line of a horizon is so: after exactly so many conflicts its solver stands as the word says.
-    ensures lines { (text domain problem word : List ℕ) (settings : Settings) (horizon conflicts : ℕ) → Printed (K.taken sink.old) (K.taken sink.new) text
-        → requested (map string_bytes words.now) ≡ Some (plans domain problem (numbers settings)) → IsTrue (is_word word) → Says text horizon word conflicts
-        → OfFiles (S.told shelf.old) domain problem (LineIsSo settings horizon word conflicts) }
+    ensures lines { (text domain problem word : List ℕ) (numbers : Numbers) (horizon conflicts : ℕ) → Printed (K.taken sink.old) (K.taken sink.new) text
+        → requested (map string_bytes words.now) ≡ Some (plans domain problem numbers) → IsTrue (is_word word) → Says text horizon word conflicts
+        → OfFiles (S.told shelf.old) domain problem (LineIsSo horizon word conflicts) }
 
     // The facts and actions, and the order, that are printed are those of the task.
     ensures ground_told { (text domain problem : List ℕ) → result.0 ≡ 0 → Printed (K.taken sink.old) (K.taken sink.new) text
