@@ -54,7 +54,7 @@ module _ {R : Type 0} (g : Ghosts R) where
     pub origin : g.origin_of j.run ≡ t.entry.origin
     pub run : HasServed slice before t j.run
 
-  -- a job that is spoilt, or where its target has it
+  -- a job that is spoilt or at its target
   abbrev pub IsEnded : JobView R → Type 0
   IsEnded j = (g.spoilt_at j.run ≡ true) ⊎ IsAtTarget g j
 
