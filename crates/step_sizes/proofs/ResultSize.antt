@@ -24,6 +24,7 @@ use Rattle.step_sizes.proofs.Names.{act_is, conditional_is, later_is, over_half}
 use Rattle.step_sizes.proofs.Variables.{IsOf, IsAbove, made_of, made_long, made_apart, made_none, above_unless_sure, own_if_sure}
 use Rattle.gt_core.proofs.NextLaw.{owned_append}
 use Rattle.step_sizes.proofs.CountLaw.{none_there}
+use Rattle.std.proofs.Math.Bool.{or-false}
 
 -- How many literals the clause of what an effect makes true has.
 
@@ -155,12 +156,8 @@ counts_before facts es before e after p t =
     let w = ap (λ (xs : List Effect). adds_of xs l) p.whole in
     let n = none.0 in (
       omega (arith, x, w, n),
-      ap (λ (xs : List Effect). adds_surely xs l) p.whole ∙ list_any-append (λ (d : Effect). (d.literal == l) && not (is_conditional d)) before (e ∷ after) ∙ ap (λ (b : Bool). adds_surely before l || b) none.1 ∙ or_false (adds_surely before l),
+      ap (λ (xs : List Effect). adds_surely xs l) p.whole ∙ list_any-append (λ (d : Effect). (d.literal == l) && not (is_conditional d)) before (e ∷ after) ∙ ap (λ (b : Bool). adds_surely before l || b) none.1 ∙ or-false (adds_surely before l),
     )
-  where
-    or_false : (b : Bool) → (b || false) ≡ b
-    or_false true = refl
-    or_false false = refl
 
 -- what an effect makes true
 pub result_literals : (z : Layout) (a number first facts : ℕ) (es before : List Effect) (e : Effect) (after : List Effect) → z.horizon ≡ 1 → a < z.actions → IsSplit facts es before e after

@@ -19,8 +19,8 @@ loop-a-preserved c =
     let lt : c.loop-a.a < length c.args.task.now.actions = let r = c.requires.actions in let t = c.loop-a-test.true in omega (arith, e, r, t) in (
       first_more c.args.task.now c.loop-a.a c.loop-a.first c.conditional.result c.act-act.result.now c.act-act.ensures.act c.conditional.ensures lt c.loop-a.invariant.0,
       actions_step c.args.layout.now c.args.task.now c.loop-a.a c.loop-a.first (c.loop-a.first + c.conditional.result) c.effects.result.now _ c.loop-a.clauses c.add_effects_of.new.clauses lt
-      (c.effects.ensures ∙ ap (λ (x : Action). x.effects) c.act-act.ensures.act) c.loop-a.invariant.0
-      (ap (λ (k : ℕ). c.loop-a.first + k) (c.conditional.ensures ∙ ap (count_by is_conditional) (sym c.effects.ensures))) c.loop-a.invariant.1 c.in_ok-add_effects_of.ensures,
+          (c.effects.ensures ∙ ap (λ (x : Action). x.effects) c.act-act.ensures.act) c.loop-a.invariant.0
+          (ap (λ (k : ℕ). c.loop-a.first + k) (c.conditional.ensures ∙ ap (count_by is_conditional) (sym c.effects.ensures))) c.loop-a.invariant.1 c.in_ok-add_effects_of.ensures,
     )
 
 pub add_effects_of-requires-clause-sorted : goal.add_effects_of-requires-clause-sorted
