@@ -1,6 +1,7 @@
 -- What hints lead to depends on which literals are taken as false, and not on their order.
-use Rattle.std.proofs.Common.{◌≡◌, ◌==◌, ℕ, List, [], ◌∷◌, ◌++◌, length, Bool, true, false, ◌||◌, not, Option, Some, None, filter, if◌then◌else◌, fold, refl, sym, ap, ◌∙◌}
+use Rattle.std.proofs.Common.{◌≡◌, ◌==◌, ℕ, List, [], ◌∷◌, ◌++◌, length, Bool, true, false, ◌||◌, not, Option, Some, None, filter, if◌then◌else◌, fold, drop, get_or, ◌+◌, ◌<◌, refl, sym, ap, ◌∙◌}
 use Rattle.std.specs.List.{list_any}
+use Rattle.std.proofs.lemmas.List.{drop_more}
 use Rattle.std.proofs.lemmas.List.Folds.{list_any-append}
 use Rattle.clause_base.specs.Literal.{opposite}
 use Rattle.clause_base.specs.Clause.{has_literal, put}
@@ -47,9 +48,28 @@ either false true = refl
 either false false = refl
 
 -- a literal that is put in is one that is taken as false last
-pub put_leads : (named : ℕ → Option (List ℕ)) (xs hints : List ℕ) (l : ℕ) → leads_to_conflict named (xs ++ l ∷ []) hints ≡ leads_to_conflict named (put xs l) hints
+put_leads : (named : ℕ → Option (List ℕ)) (xs hints : List ℕ) (l : ℕ) → leads_to_conflict named (xs ++ l ∷ []) hints ≡ leads_to_conflict named (put xs l) hints
 put_leads named xs hints l = leads_same named (xs ++ l ∷ []) (put xs l) (λ m. list_any-append (λ k. k == m) xs (l ∷ []) ∙ either (has_literal xs m) (l == m) ∙ sym (list_any-put (λ k. k == m) xs l)) hints
 
 -- the literals of a clause, put in one after another
-pub fold_leads : (named : ℕ → Option (List ℕ)) (clause hints : List ℕ) → leads_to_conflict named (fold put [] clause) hints ≡ leads_to_conflict named clause hints
+fold_leads : (named : ℕ → Option (List ℕ)) (clause hints : List ℕ) → leads_to_conflict named (fold put [] clause) hints ≡ leads_to_conflict named clause hints
 fold_leads named clause hints = leads_same named (fold put [] clause) clause (λ m. list_any-fold (λ k. k == m) [] clause) hints
+
+-- one hint on: where its clause forces a literal, the negation is taken as false
+pub forced_on : (named : ℕ → Option (List ℕ)) (was now hints clause : List ℕ) (i d lit opp : ℕ) → i < length hints → Some clause ≡ named (get_or hints i d) → Forces lit ≡ effect_of_open was (open_literals was clause) → opp ≡ opposite lit → now ≡ put was opp → leads_to_conflict named now (drop (i + 1) hints) ≡ leads_to_conflict named was (drop i hints)
+forced_on named was now hints clause i d lit opp h s f o p =
+    let rest : List ℕ = drop (i + 1) hints in
+    let next : ℕ → Bool = λ l. leads_to_conflict named (was ++ opposite l ∷ []) rest in
+    ap (λ (xs : List ℕ). leads_to_conflict named xs rest) p
+    ∙ sym (put_leads named was rest opp)
+    ∙ ap (λ (l : ℕ). leads_to_conflict named (was ++ l ∷ []) rest) o
+    ∙ ap (goes_on next (length rest == 0)) f
+    ∙ ap (λ (c : Option (List ℕ)). goes_on next (length rest == 0) (effect_of was c)) s
+    ∙ ap (leads_to_conflict named was) (sym (drop_more hints i d h))
+
+-- what a clause's hints lead to, its literals taken as false one after another
+pub falsified_leads : (named : ℕ → Option (List ℕ)) (was now clause hints : List ℕ) (b : Bool) → was ≡ [] → now ≡ fold put was clause → b ≡ leads_to_conflict named now hints → b ≡ leads_to_conflict named clause hints
+falsified_leads named was now clause hints b e f t =
+    t
+    ∙ ap (λ (xs : List ℕ). leads_to_conflict named xs hints) (f ∙ ap (λ (xs : List ℕ). fold put xs clause) e)
+    ∙ fold_leads named clause hints
