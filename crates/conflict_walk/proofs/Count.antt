@@ -1,9 +1,8 @@
 -- How many members of a draft pass a test.
-use Rattle.std.proofs.Common.{arith, ◌≡◌, ◌==◌, ℕ, zero, suc, ◌+◌, ◌<◌, ◌≤◌, List, [], ◌∷◌, length, set, Bool, true, false, not, refl, sym, ap, ◌∙◌, filter, if◌then◌else◌, zero-add, length-set}
+use Rattle.std.proofs.Common.{arith, ◌≡◌, ◌==◌, ℕ, zero, suc, ◌+◌, ◌<◌, ◌≤◌, List, [], ◌∷◌, length, set, Bool, true, false, refl, sym, ap, ◌∙◌, filter, if◌then◌else◌, zero-add, length-set}
 use Rattle.std.proofs.lemmas.Bool.Decides.{nat_tests}
-use Rattle.clause_base.specs.Clause.{put}
 use Rattle.lit_marks.specs.Marks.{places, at}
-use Rattle.lit_marks.proofs.Places.{places-put, places-remove, bit, at-set}
+use Rattle.lit_marks.proofs.Places.{bit, at-set}
 
 abbrev pub number : (ℕ → Bool) → List ℕ → ℕ
 number p ls = length (filter p ls)

@@ -1,5 +1,5 @@
 -- What a resolvent over a trail keeps when a literal is put in or taken out.
-use Rattle.std.proofs.Common.{arith, ◌≡◌, ◌==◌, ℕ, zero, suc, ◌+◌, ◌*◌, ◌/◌, ◌<◌, ◌≤◌, List, [], ◌∷◌, length, set, get_or, Bool, true, false, not, filter, refl, sym, ap, subst, ◌∙◌, if◌then◌else◌, zero-add, length-set}
+use Rattle.std.proofs.Common.{arith, ◌≡◌, ◌==◌, ℕ, ◌+◌, ◌*◌, ◌/◌, ◌<◌, ◌≤◌, List, length, set, get_or, Bool, true, false, not, filter, refl, sym, ap, subst, ◌∙◌, if◌then◌else◌, length-set}
 use Rattle.clause_base.specs.Literal.{opposite}
 use Rattle.clause_base.specs.Clause.{put}
 use Rattle.clause_base.proofs.Rising.{has_at}

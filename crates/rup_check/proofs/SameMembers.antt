@@ -1,11 +1,10 @@
 -- What hints lead to depends on which literals are taken as false, and not on their order.
-use Rattle.std.proofs.Common.{◌≡◌, ◌==◌, ℕ, List, [], ◌∷◌, ◌++◌, length, Bool, true, false, ◌||◌, not, Option, Some, None, filter, if◌then◌else◌, fold, drop, get_or, ◌+◌, ◌<◌, refl, sym, ap, ◌∙◌}
-use Rattle.std.specs.List.{list_any}
+use Rattle.std.proofs.Common.{◌≡◌, ◌==◌, ℕ, List, [], ◌∷◌, ◌++◌, length, Bool, true, false, ◌||◌, not, Option, Some, None, if◌then◌else◌, fold, drop, get_or, ◌+◌, ◌<◌, refl, sym, ap, ◌∙◌}
 use Rattle.std.proofs.lemmas.List.{drop_more}
 use Rattle.std.proofs.lemmas.List.Folds.{list_any-append}
 use Rattle.clause_base.specs.Literal.{opposite}
 use Rattle.clause_base.specs.Clause.{has_literal, put}
-use Rattle.clause_base.specs.Derivation.{Effect, Conflicts, Forces, Loose, open_literals, effect_of_open, effect_of, goes_on, leads_to_conflict}
+use Rattle.clause_base.specs.Derivation.{Forces, Loose, open_literals, effect_of_open, effect_of, goes_on, leads_to_conflict}
 use Rattle.clause_base.proofs.ClauseLemmas.{list_any-put, list_any-fold}
 use Rattle.rup_check.proofs.KeptLemmas.{goes_on-same}
 

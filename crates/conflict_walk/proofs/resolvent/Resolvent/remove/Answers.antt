@@ -1,4 +1,4 @@
-use Rattle.std.proofs.Common.{arith, ◌≡◌, ◌-◌, true, false, sym, ◌∙◌}
+use Rattle.std.proofs.Common.{arith, ◌-◌, true, false, sym, ◌∙◌}
 use Rattle.lit_marks.proofs.Places.{in_places}
 use Rattle.conflict_walk.proofs.Resolvents.{over_remove, left_literals, counted_one}
 use Rattle.conflict_walk.proofs.resolvent.Resolvent.remove.Goals as goal
