@@ -1,14 +1,17 @@
-use Rattle.std.proofs.Common.{replicate, arith, ◌≡◌, ◌==◌, ℕ, zero, suc, ◌+◌, ◌<◌, ◌≤◌, List, [], ◌∷◌, length, set, get_or, Bool, true, false, not, ◌||◌, refl, sym, ap, ◌∙◌, filter, if◌then◌else◌, nat_lt, ◌++◌, ◌≢◌, get_or-set_same, get_or-set_other, length-set}
+use Rattle.std.proofs.Common.{replicate, arith, ◌≡◌, ◌==◌, ℕ, zero, suc, ◌+◌, ◌<◌, ◌≤◌, List, [], ◌∷◌, length, set, get_or, Bool, true, false, not, ◌||◌, refl, sym, ap, subst, ◌∙◌, filter, if◌then◌else◌, nat_lt, ◌++◌, ◌≢◌, get_or-set_same, get_or-set_other, length-set, zero-add}
 use Rattle.std.specs.List.{sum_by}
-use Rattle.std.proofs.Math.Bool.{or-true}
+use Rattle.std.proofs.Math.Bool.{or-true, or-false}
+use Rattle.std.proofs.lemmas.List.{nil_from_length}
+use Rattle.std.proofs.lemmas.List.Folds.{list_any-append}
 use Rattle.std.specs.List.Sorted.{IsNonDecreasing, IsPermutation}
 use Rattle.std.proofs.lemmas.List.Sorted.{sum_by-IsPermutation}
 use Rattle.std.proofs.lemmas.List.Sums.{sum_by-cons}
 use Rattle.std.proofs.lemmas.Bool.Decides.{nat_tests}
-use Rattle.clause_base.specs.Clause.{put}
-use Rattle.cdcl_rules.proofs.Members.{is_in}
-use Rattle.cdcl_rules.proofs.Chain.{is_in-push}
-use Rattle.conflict_walk.specs.Draft.{places, at, Covers}
+use Rattle.clause_base.specs.Clause.{put, has_literal}
+use Rattle.lit_marks.specs.Marks.{places, at, Covers}
+
+has-push : (ls : List ℕ) (l m : ℕ) → has_literal (ls ++ l ∷ []) m ≡ (has_literal ls m || (l == m))
+has-push ls l m = list_any-append (λ k. k == m) ls (l ∷ []) ∙ ap (λ (b : Bool). has_literal ls m || b) (or-false (l == m))
 
 -- all of a list is at or past a number
 abbrev pub IsFrom : ℕ → List ℕ → Type 0
@@ -24,20 +27,20 @@ from_places v [] = tt
 from_places v (true ∷ on) = (omega arith, from_less v (v + 1) (places (v + 1) on) (omega arith) (from_places (v + 1) on))
 from_places v (false ∷ on) = from_less v (v + 1) (places (v + 1) on) (omega arith) (from_places (v + 1) on)
 
-pub not_from : (v k : ℕ) (ls : List ℕ) → k < v → IsFrom v ls → is_in ls k ≡ false
+pub not_from : (v k : ℕ) (ls : List ℕ) → k < v → IsFrom v ls → has_literal ls k ≡ false
 not_from v k [] h f = refl
 not_from v k (l ∷ ls) h f = let e : (l == k) ≡ false = grind (arith, nat_tests, f.0) in rw e (not_from v k ls h f.1)
 
 -- the members of the places
-pub is_in-places : (v : ℕ) (on : List Bool) (k : ℕ) → is_in (places v on) (v + k) ≡ at on k
-is_in-places v [] k = refl
-is_in-places v (true ∷ on) zero = let e : (v == v + 0) ≡ true = grind (arith, nat_tests) in rw e
-is_in-places v (false ∷ on) zero = not_from (v + 1) (v + 0) (places (v + 1) on) (omega arith) (from_places (v + 1) on)
-is_in-places v (true ∷ on) (suc k) =
+pub has-places : (v : ℕ) (on : List Bool) (k : ℕ) → has_literal (places v on) (v + k) ≡ at on k
+has-places v [] k = refl
+has-places v (true ∷ on) zero = let e : (v == v + 0) ≡ true = grind (arith, nat_tests) in rw e
+has-places v (false ∷ on) zero = not_from (v + 1) (v + 0) (places (v + 1) on) (omega arith) (from_places (v + 1) on)
+has-places v (true ∷ on) (suc k) =
     let e : (v == v + suc k) ≡ false = grind (arith, nat_tests) in
     let s : v + suc k ≡ v + 1 + k = omega arith in
-    rw e (ap (is_in (places (v + 1) on)) s ∙ is_in-places (v + 1) on k)
-is_in-places v (false ∷ on) (suc k) = let s : v + suc k ≡ v + 1 + k = omega arith in ap (is_in (places (v + 1) on)) s ∙ is_in-places (v + 1) on k
+    rw e (ap (has_literal (places (v + 1) on)) s ∙ has-places (v + 1) on k)
+has-places v (false ∷ on) (suc k) = let s : v + suc k ≡ v + 1 + k = omega arith in ap (has_literal (places (v + 1) on)) s ∙ has-places (v + 1) on k
 
 put_front : (v : ℕ) (ls : List ℕ) → IsFrom (v + 1) ls → put ls v ≡ v ∷ ls
 put_front v [] f = refl
@@ -160,19 +163,19 @@ same_ordered (x ∷ xs) (y ∷ ys) a b e =
 pub sorted_places : (ls : List ℕ) (on : List Bool) → IsNonDecreasing ls → ((m : ℕ) → count m ls ≡ bit (at on m)) → ls ≡ places 0 on
 sorted_places ls on h e = same_ordered ls (places 0 on) (ordered_from ls h) (ordered_places 0 on) (λ m. e m ∙ sym (ap (λ j. count j (places 0 on)) (omega arith) ∙ count-places 0 on m))
 
-covers_in : (touched : List ℕ) (lit m : ℕ) (same : Bool) → (lit == m) ≡ same → is_in (touched ++ lit ∷ []) m ≡ true → (same ≡ false) → is_in touched m ≡ true
+covers_in : (touched : List ℕ) (lit m : ℕ) (same : Bool) → (lit == m) ≡ same → has_literal (touched ++ lit ∷ []) m ≡ true → (same ≡ false) → has_literal touched m ≡ true
 covers_in touched lit m true e h f = cc
-covers_in touched lit m false e h f = or_false_right (is_in touched m) (lit == m) e (sym (is_in-push touched lit m) ∙ h)
+covers_in touched lit m false e h f = or_false_right (has_literal touched m) (lit == m) e (sym (has-push touched lit m) ∙ h)
   where
     or_false_right : (a b : Bool) → b ≡ false → (a || b) ≡ true → a ≡ true
     or_false_right true b e h = refl
     or_false_right false b e h = cc
 
-in_more : (touched : List ℕ) (lit m : ℕ) → is_in touched m ≡ true → is_in (touched ++ lit ∷ []) m ≡ true
-in_more touched lit m h = rw (is_in-push touched lit m, h)
+in_more : (touched : List ℕ) (lit m : ℕ) → has_literal touched m ≡ true → has_literal (touched ++ lit ∷ []) m ≡ true
+in_more touched lit m h = rw (has-push touched lit m, h)
 
-in_last : (touched : List ℕ) (lit : ℕ) → is_in (touched ++ lit ∷ []) lit ≡ true
-in_last touched lit = let e : (lit == lit) ≡ true = grind (arith, nat_tests) in rw (is_in-push touched lit lit, e) (or-true (is_in touched lit))
+in_last : (touched : List ℕ) (lit : ℕ) → has_literal (touched ++ lit ∷ []) lit ≡ true
+in_last touched lit = let e : (lit == lit) ≡ true = grind (arith, nat_tests) in rw (has-push touched lit lit, e) (or-true (has_literal touched lit))
 
 pub at-set : (on : List Bool) (i m : ℕ) (b same : Bool) → i < length on → (i == m) ≡ same → at (set on i b) m ≡ (if same then b else at on m)
 at-set on i m b true h e = let s : m ≡ i = grind (arith, nat_tests) in rw (s) (get_or-set_same on i b false h)
@@ -182,22 +185,25 @@ off_other : (on : List Bool) (lit m : ℕ) (same : Bool) → (lit == m) ≡ same
 off_other on lit m true e f t = let s : lit ≡ m = grind (arith, nat_tests) in let g : at on m ≡ false = ap (at on) (sym s) ∙ f in cc
 off_other on lit m false e f t = refl
 
-pub covers_off : (touched : List ℕ) (lit : ℕ) (on : List Bool) → Covers (touched ++ lit ∷ []) on → at on lit ≡ false → Covers touched on
-covers_off touched lit on c f = record {
+-- the last of those touched that is off need not be among them
+pub covers_off : (all touched : List ℕ) (lit : ℕ) (on : List Bool) → all ≡ touched ++ lit ∷ [] → Covers all on → at on lit ≡ false → Covers touched on
+covers_off all touched lit on e covers f = let c = subst (λ ls. Covers ls on) e covers in record {
   covered = λ m t. covers_in touched lit m (lit == m) refl (c.covered m t) (off_other on lit m (lit == m) refl f t);
   within = λ m h. c.within m (in_more touched lit m h);
 }
 
-pub covers_last : (touched : List ℕ) (lit : ℕ) (on : List Bool) → Covers (touched ++ lit ∷ []) on → lit < length on
-covers_last touched lit on c = c.within lit (in_last touched lit)
+pub covers_last : (all touched : List ℕ) (lit : ℕ) (on : List Bool) → all ≡ touched ++ lit ∷ [] → Covers all on → lit < length on
+covers_last all touched lit on e covers = (subst (λ ls. Covers ls on) e covers).within lit (in_last touched lit)
 
 set_false : (on : List Bool) (lit m : ℕ) (same : Bool) → lit < length on → (lit == m) ≡ same → at (set on lit false) m ≡ true → (same ≡ false) × (at on m ≡ true)
 set_false on lit m true h e t = let g = at-set on lit m false true h e in cc
 set_false on lit m false h e t = (refl, sym (at-set on lit m false false h e) ∙ t)
 
-pub covers_set : (touched : List ℕ) (lit : ℕ) (on : List Bool) → Covers (touched ++ lit ∷ []) on → Covers touched (set on lit false)
-covers_set touched lit on c =
-    let h = covers_last touched lit on c in
+-- nor where it is made off
+pub covers_set : (all touched : List ℕ) (lit : ℕ) (on : List Bool) → all ≡ touched ++ lit ∷ [] → Covers all on → Covers touched (set on lit false)
+covers_set all touched lit on e covers =
+    let c = subst (λ ls. Covers ls on) e covers in
+    let h = covers_last all touched lit on e covers in
     record {
       covered = λ m t. let s = set_false on lit m (lit == m) h refl t in covers_in touched lit m (lit == m) refl (c.covered m s.1) s.0;
       within = λ m k. let n = length-set on lit false in omega (arith, n, c.within m (in_more touched lit m k));
@@ -217,8 +223,10 @@ all_off : (b : Bool) → (b ≡ true → ⊥) → bit b ≡ 0
 all_off true h = absurd (h refl)
 all_off false h = refl
 
--- where nothing is touched nothing is in
-pub none_in : (on : List Bool) → Covers [] on → (m : ℕ) → bit (at on m) ≡ 0
+nothing_left : (touched : List ℕ) (on : List Bool) → Covers touched on → length touched ≡ 0 → Covers [] on
+nothing_left touched on c e = subst (λ ls. Covers ls on) (nil_from_length touched e) c
+
+none_in : (on : List Bool) → Covers [] on → (m : ℕ) → bit (at on m) ≡ 0
 none_in on c m = all_off (at on m) (λ (t : at on m ≡ true). let h : false ≡ true = c.covered m t in cc)
 
 none_places : (v : ℕ) (on : List Bool) → ((m : ℕ) → bit (at on m) ≡ 0) → places v on ≡ []
@@ -226,8 +234,9 @@ none_places v [] h = refl
 none_places v (true ∷ on) h = absurd (let k : 1 ≡ 0 = h 0 in omega (arith, k))
 none_places v (false ∷ on) h = none_places (v + 1) on (λ m. h (suc m))
 
-pub emptied : (on : List Bool) → Covers [] on → places 0 on ≡ []
-emptied on c = none_places 0 on (none_in on c)
+-- where nothing is left of those touched nothing is in
+pub emptied : (touched : List ℕ) (on : List Bool) → Covers touched on → length touched ≡ 0 → places 0 on ≡ []
+emptied touched on c e = none_places 0 on (none_in on (nothing_left touched on c e))
 
 count-sum : (m : ℕ) (ls : List ℕ) → count m ls ≡ sum_by (λ x. bit (x == m)) ls
 count-sum m [] = refl
@@ -236,10 +245,10 @@ count-sum m (l ∷ ls) = rw (sum_by-cons) (ap (λ n. bit (l == m) + n) (count-su
 pub count-permutation : (m : ℕ) (xs ys : List ℕ) → IsPermutation xs ys → count m ys ≡ count m xs
 count-permutation m xs ys p = count-sum m ys ∙ sum_by-IsPermutation (λ x. bit (x == m)) xs ys p ∙ sym (count-sum m xs)
 
-pub taken : (ls sorted : List ℕ) (on on0 : List Bool) → Covers [] on → ((m : ℕ) → count m ls + bit (at on m) ≡ bit (at on0 m)) → IsPermutation ls sorted → IsNonDecreasing sorted → sorted ≡ places 0 on0
-taken ls sorted on on0 c e p n = sorted_places sorted on0 n (λ m. let z = none_in on c m in let h = e m in let q = count-permutation m ls sorted p in omega arith)
+pub taken : (ls sorted touched : List ℕ) (on on0 : List Bool) → Covers touched on → length touched ≡ 0 → ((m : ℕ) → count m ls + bit (at on m) ≡ bit (at on0 m)) → IsPermutation ls sorted → IsNonDecreasing sorted → sorted ≡ places 0 on0
+taken ls sorted touched on on0 c l e p n = sorted_places sorted on0 n (λ m. let z = none_in on (nothing_left touched on c l) m in let h = e m in let q = count-permutation m ls sorted p in omega arith)
 
--- a draft of nothing
+-- a table without marks
 pub places_none : (v n : ℕ) → places v (replicate n false) ≡ []
 places_none v zero = refl
 places_none v (suc n) = places_none (v + 1) n
@@ -254,3 +263,21 @@ covers_none n touched on e f = rw (e, f) (record {
   covered = λ l h. let z : true ≡ false = sym h ∙ at_none n l in cc;
   within = λ l h. cc;
 })
+
+set_same : (on : List Bool) (i : ℕ) → at on i ≡ true → set on i true ≡ on
+set_same [] i e = refl
+set_same (b ∷ on) zero e = ap (λ (c : Bool). c ∷ on) (sym e)
+set_same (b ∷ on) (suc i) e = ap (λ (cs : List Bool). b ∷ cs) (set_same on i e)
+
+-- a literal that is in is put in once
+pub put_again : (on : List Bool) (i : ℕ) → i < length on → at on i ≡ true → places 0 on ≡ put (places 0 on) i
+put_again on i h e = ap (places 0) (sym (set_same on i e)) ∙ places-put 0 on i h ∙ ap (put (places 0 on)) (zero-add i)
+
+pub put_new : (on : List Bool) (i : ℕ) → i < length on → places 0 (set on i true) ≡ put (places 0 on) i
+put_new on i h = places-put 0 on i h ∙ ap (put (places 0 on)) (zero-add i)
+
+pub removed : (on : List Bool) (i : ℕ) → i < length on → places 0 (set on i false) ≡ filter (λ l. not (l == i)) (places 0 on)
+removed on i h = places-remove 0 on i h ∙ ap (λ k. filter (λ l. not (l == k)) (places 0 on)) (zero-add i)
+
+pub in_places : (on : List Bool) (k : ℕ) → has_literal (places 0 on) k ≡ at on k
+in_places on k = ap (has_literal (places 0 on)) (sym (zero-add k)) ∙ has-places 0 on k
