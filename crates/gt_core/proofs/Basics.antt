@@ -2,8 +2,18 @@ use Rattle.std.proofs.Common.{arith, ◌≡◌, ◌==◌, ℕ, List, [], ◌∷�
 use Rattle.std.specs.List.{list_any, list_all, AllByRecursion}
 use Rattle.std.proofs.lemmas.Bool.{both_ways}
 pub use Rattle.std.proofs.lemmas.Bool.{
-  or_cases as or_split, or_left, or_right, or_parts as or_none, and_parts as and_split, and_from as and_both, not-true as not_split, not_from_false as not_false,
-  false_from_ne_true as not_true, cases_Bool as cases, eq-eqb as same_test, eqb-true as test_same,
+  or_cases as or_split,
+  or_left,
+  or_right,
+  or_parts as or_none,
+  and_parts as and_split,
+  and_from as and_both,
+  not-true as not_split,
+  not_from_false as not_false,
+  false_from_ne_true as not_true,
+  cases_Bool as cases,
+  eq-eqb as same_test,
+  eqb-true as test_same,
 }
 
 -- Tests as facts, by the library's lemmas, and membership in lists.
