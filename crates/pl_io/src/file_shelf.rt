@@ -126,7 +126,6 @@ impl<'a, H: Files> Shelf for FileShelf<'a, H> {
 #[cfg(test)]
 mod tests {
     use super::*;
-    use crate::takes::expect_take;
     use std::io;
     use std::test::Fail;
 
@@ -182,7 +181,13 @@ mod tests {
             ("", 8, Err(TakeError::Failed), ">"),
         ];
         for (name, most, answer, left) in cases {
-            expect_take(&rt, alloc, &mut shelf, name, most, answer, left)?;
+            let mut into = vec![in alloc; b'>']?;
+            assert_eq!(rt;
+                shelf.take(name, most, &mut into),
+                answer,
+                "at {name} {most}"
+            );
+            assert_eq!(rt; into.as_slice(), left.as_bytes(), "at {name} {most}");
         }
         assert_eq!(rt; shelf.failed.as_slice().len(), 3);
         fs::remove_file(&rt, "shelf-file")?;

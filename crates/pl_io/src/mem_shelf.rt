@@ -139,7 +139,6 @@ impl Shelf for MemShelf {
 #[cfg(test)]
 mod tests {
     use super::*;
-    use crate::takes::expect_take;
     use std::test::Fail;
 
     fn bytes(alloc: Global, text: &str) -> Result<Bytes, AllocError> {
@@ -165,7 +164,13 @@ mod tests {
             ("domain", 0, Ok(Taken::Longer), ">"),
         ];
         for (name, most, answer, left) in cases {
-            expect_take(&rt, alloc, &mut shelf, name, most, answer, left)?;
+            let mut into = vec![in alloc; b'>']?;
+            assert_eq!(rt;
+                shelf.take(name, most, &mut into),
+                answer,
+                "at {name} {most}"
+            );
+            assert_eq!(rt; into.as_slice(), left.as_bytes(), "at {name} {most}");
         }
         let failed = shelf.failed();
         assert_eq!(rt; failed.len(), 2);
