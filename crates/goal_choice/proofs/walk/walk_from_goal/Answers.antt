@@ -4,7 +4,7 @@ use Rattle.gt_core.specs.Layout.{Layout}
 use Rattle.goal_choice.specs.Members.{Literals}
 use Rattle.goal_choice.specs.Walk.{wish_of, walk}
 use Rattle.goal_choice.proofs.Steps.{put_rising, step_on}
-use Rattle.goal_choice.proofs.walk.walk.Goals as goal
+use Rattle.goal_choice.proofs.walk.walk_from_goal.Goals as goal
 
 pub walking-init : goal.walking-init
 walking-init c =
@@ -23,11 +23,11 @@ walking-init c =
 pub walking-preserved : goal.walking-preserved
 walking-preserved c =
     let wish = wish_of c.args.means.now c.args.values.now in
-    let on = step_on wish _ c.walking.step c.walking.wanted.members c.step_back.new.before.members c.walking.invariant.rest c.walking-test.true c.in-None.ensures.step in
+    let on = step_on wish _ c.walking.step c.walking.wanted.members c.wanted_before.new.before.members c.walking.invariant.rest c.walking-test.true c.in-None.ensures.step in
     let low = c.walking.invariant.low in
     record {
       wanted = ap (λ (s : Literals). s.facts) c.swap.ensures.x_after ∙ c.in-None.ensures.before ∙ ap (λ (s : Literals). s.facts) c.clear-in-walking.ensures ∙ c.walking.invariant.before;
-      before = ap (λ (s : Literals). s.facts) c.swap.ensures.y_after ∙ c.in-None.ensures.wanted ∙ c.walking.invariant.wanted;
+      before = ap (λ (s : Literals). s.facts) c.swap.ensures.y_after ∙ c.walking.invariant.wanted;
       low = omega (arith, low);
       rest = on ∙ ap (λ (s : Literals). walk wish (c.walking.step - 1) s.members) (sym c.swap.ensures.x_after);
     }

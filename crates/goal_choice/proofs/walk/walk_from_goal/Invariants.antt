@@ -1,6 +1,6 @@
 use Rattle.std.proofs.Common.{◌≡◌, ◌≤◌}
 use Rattle.goal_choice.specs.Walk.{wish_of, walk}
-use Rattle.goal_choice.proofs.walk.walk.Given as goal
+use Rattle.goal_choice.proofs.walk.walk_from_goal.Given as goal
 
 abbrev pub invariant-walking : goal.invariant-walking
 invariant-walking l = record {
