@@ -68,7 +68,7 @@ past_rows rows l m le = ap (λ (r : List ℕ). row_has r m) (get_or_past rows l 
     none : (m : ℕ) → row_has [] m ≡ false
     none m = grind (arith, nat_tests)
 
-and_true : (a b : Bool) → a ≡ true → b ≡ (a && b)
+pub and_true : (a b : Bool) → a ≡ true → b ≡ (a && b)
 and_true true b e = refl
 and_true false b e = cc
 
@@ -108,7 +108,7 @@ more_within size rows set ls are within m t = by (or_split (set m) _ t)
 
 -- ---- effects that may take a literal
 
-any_rest : {A : Type 0} (p : A → Bool) (xs : List A) (i : ℕ) (x : A) → i < length xs → x ≡ get_or xs i x → list_any p (drop i xs) ≡ (p x || list_any p (drop (i + 1) xs))
+pub any_rest : {A : Type 0} (p : A → Bool) (xs : List A) (i : ℕ) (x : A) → i < length xs → x ≡ get_or xs i x → list_any p (drop i xs) ≡ (p x || list_any p (drop (i + 1) xs))
 any_rest p xs i x l at = ap (list_any p) (drop_more xs i x l) ∙ ap (λ (y : _). p y || list_any p (drop (i + 1) xs)) (sym at)
 
 flat_tests : (b o t r : Bool) → ((b && not (t && o)) && not r) ≡ (b && not ((o && t) || r))
@@ -339,9 +339,12 @@ module _ (V : ℕ → ℕ → Bool) (size : ℕ) (row : List ℕ) (l : ℕ) (eit
 
 -- ---- the losses of one more effect
 
+pub any_push : {A : Type 0} (p : A → Bool) (xs : List A) (x : A) → list_any p (xs ++ x ∷ []) ≡ (list_any p xs || p x)
+any_push p xs x = list_any-append p xs (x ∷ []) ∙ ap (λ (b : Bool). list_any p xs || b) (or-false (p x))
+
 with_lost : (losses : List Loss) (loss : Option Loss) (a m : ℕ) → are_lost (with_loss losses loss) a m ≡ (are_lost losses a m || may_be_lost loss a m)
 with_lost losses None a m = sym (or-false (are_lost losses a m))
-with_lost losses (Some s) a m = list_any-append (λ x. is_lost x a m) losses (s ∷ []) ∙ ap (λ (b : Bool). are_lost losses a m || b) (or-false (is_lost s a m))
+with_lost losses (Some s) a m = any_push (λ x. is_lost x a m) losses s
 
 pub losses_more : (losses new : List Loss) (loss : Option Loss) (p : Effect → Bool) (es : List Effect) (i : ℕ) (e : Effect) (a m : ℕ) (clause : Bool)
     → i < length es → e ≡ get_or es i e → new ≡ with_loss losses loss → may_be_lost loss a m ≡ (clause && p e)
