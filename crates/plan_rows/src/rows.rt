@@ -4,34 +4,20 @@ use crate::tasks::*;
 pub(crate) struct Row {
     // What the row shows.
     pub(crate) shows: &'static str,
-    // The words, with a blank between each two; the files have the names d, p and l.
+    // The words, with a blank between each two; the files have the names d and p.
     pub(crate) words: &'static str,
     pub(crate) domain: &'static str,
     pub(crate) problem: &'static str,
-    pub(crate) plan: &'static str,
     pub(crate) status: u8,
     pub(crate) text: &'static str,
 }
 
-pub(crate) const ROWS: [Row; 21] = [
-    Row {
-        shows: "the goal holds at first",
-        words: "plan d p --max-horizon 0",
-        domain: LAMP,
-        problem: LIT,
-        plan: "",
-        status: 0,
-        text: "; horizon 0 plan conflicts 0
-; conflicts 0 of 100000
-; plan of 0 steps with 0 actions
-",
-    },
+pub(crate) const ROWS: [Row; 19] = [
     Row {
         shows: "one step, and horizons beyond it",
         words: "plan d p",
         domain: LAMP,
         problem: DARK,
-        plan: "",
         status: 0,
         text: "; horizon 0 refuted conflicts 1
 ; horizon 1 plan conflicts 0
@@ -44,23 +30,10 @@ pub(crate) const ROWS: [Row; 21] = [
 ",
     },
     Row {
-        shows: "the last horizon is refuted",
-        words: "plan d p --max-horizon 0",
-        domain: LAMP,
-        problem: DARK,
-        plan: "",
-        status: 1,
-        text: "; horizon 0 refuted conflicts 1
-; conflicts 1 of 100000
-; exhausted at horizon 0
-",
-    },
-    Row {
         shows: "no budget for the one live horizon",
         words: "plan d p --budget 0 --width 1",
         domain: LAMP,
         problem: DARK,
-        plan: "",
         status: 2,
         text: "; horizon 0 open conflicts 0
 ; conflicts 0 of 0
@@ -72,7 +45,6 @@ pub(crate) const ROWS: [Row; 21] = [
         words: "plan d p --budget 0",
         domain: LAMP,
         problem: DARK,
-        plan: "",
         status: 0,
         text: "; horizon 0 open conflicts 0
 ; horizon 1 plan conflicts 0
@@ -89,7 +61,6 @@ pub(crate) const ROWS: [Row; 21] = [
         words: "plan d p --max-horizon 2",
         domain: LAMP,
         problem: BROKEN,
-        plan: "",
         status: 1,
         text: "; horizon 0 refuted conflicts 1
 ; horizon 1 refuted conflicts 1
@@ -103,7 +74,6 @@ pub(crate) const ROWS: [Row; 21] = [
         words: "plan d p --max-horizon 2 --budget 1",
         domain: LAMP,
         problem: BROKEN,
-        plan: "",
         status: 2,
         text: "; horizon 0 refuted conflicts 1
 ; horizon 1 open conflicts 0
@@ -117,7 +87,6 @@ pub(crate) const ROWS: [Row; 21] = [
         words: "plan d p --max-horizon 2 --budget 1 --width 1",
         domain: LAMP,
         problem: BROKEN,
-        plan: "",
         status: 2,
         text: "; horizon 0 refuted conflicts 1
 ; conflicts 1 of 1
@@ -129,7 +98,6 @@ pub(crate) const ROWS: [Row; 21] = [
         words: "plan d p --width 2",
         domain: BURNER,
         problem: BURNED,
-        plan: "",
         status: 0,
         text: "; horizon 0 refuted conflicts 1
 ; horizon 1 plan conflicts 0
@@ -145,7 +113,6 @@ pub(crate) const ROWS: [Row; 21] = [
         words: "plan d p --max-horizon 1",
         domain: RING,
         problem: RING_AT_FIRST,
-        plan: "",
         status: 1,
         text: "; horizon 0 refuted conflicts 1
 ; horizon 1 refuted conflicts 1
@@ -158,7 +125,6 @@ pub(crate) const ROWS: [Row; 21] = [
         words: "plan d p --width 2",
         domain: DROPPER,
         problem: DROPPED,
-        plan: "",
         status: 0,
         text: "; horizon 0 refuted conflicts 1
 ; horizon 1 plan conflicts 0
@@ -170,20 +136,10 @@ pub(crate) const ROWS: [Row; 21] = [
 ",
     },
     Row {
-        shows: "the other way round the goal is missed",
-        words: "check d p l",
-        domain: DROPPER,
-        problem: DROPPED,
-        plan: "(drop) (gain)",
-        status: 1,
-        text: "; goal not reached\n",
-    },
-    Row {
         shows: "forall over no object",
         words: "plan d p --width 2",
         domain: BRIEFCASE,
         problem: NO_ITEM,
-        plan: "",
         status: 0,
         text: "; horizon 0 refuted conflicts 1
 ; horizon 1 plan conflicts 0
@@ -194,20 +150,27 @@ pub(crate) const ROWS: [Row; 21] = [
 ",
     },
     Row {
-        shows: "an object of another type in a call",
-        words: "check d p l",
+        shows: "a call for each two places",
+        words: "ground d p",
         domain: BRIEFCASE,
-        problem: ONE_ITEM,
-        plan: "(move d home)",
-        status: 3,
-        text: "; refused type plan 6\n",
+        problem: NO_ITEM,
+        status: 0,
+        text: "; facts 2
+; 0 (at-case home)
+; 1 (at-case office)
+; actions 4
+; 0 (move home home)
+; 1 (move home office)
+; 2 (move office home)
+; 3 (move office office)
+; effects 0
+",
     },
     Row {
         shows: "an add wins over a delete",
         words: "plan d p --width 2",
         domain: BOTH,
         problem: NOTHING_AT_FIRST,
-        plan: "",
         status: 0,
         text: "; horizon 0 refuted conflicts 1
 ; horizon 1 plan conflicts 0
@@ -222,7 +185,6 @@ pub(crate) const ROWS: [Row; 21] = [
         words: "plan d p --width 3",
         domain: BLOCKS,
         problem: ONE_ON_ANOTHER,
-        plan: "",
         status: 0,
         text: "; horizon 0 refuted conflicts 1
 ; horizon 1 refuted conflicts 1
@@ -240,7 +202,6 @@ pub(crate) const ROWS: [Row; 21] = [
         words: "plan d p --alg c --start 2 --max-horizon 8",
         domain: LAMP,
         problem: DARK,
-        plan: "",
         status: 0,
         text: "; horizon 2 plan conflicts 0
 ; horizon 3 plan conflicts 0
@@ -258,7 +219,6 @@ pub(crate) const ROWS: [Row; 21] = [
         words: "gen corridor 1 --show problem",
         domain: "",
         problem: "",
-        plan: "",
         status: 0,
         text: "(define (problem corridor-1)
 (:domain corridor)
@@ -272,7 +232,6 @@ pub(crate) const ROWS: [Row; 21] = [
         words: "plan d p --width 17",
         domain: LAMP,
         problem: DARK,
-        plan: "",
         status: 7,
         text: "; usage: plan, check, ground, order or gen\n",
     },
@@ -281,7 +240,6 @@ pub(crate) const ROWS: [Row; 21] = [
         words: "gen corridor 15",
         domain: "",
         problem: "",
-        plan: "",
         status: 0,
         text: "; generated corridor 15
 ; conflicts 15 of 100000
@@ -293,7 +251,6 @@ pub(crate) const ROWS: [Row; 21] = [
         words: "plan d p --width 3",
         domain: GRIPPER,
         problem: TWO_BALLS,
-        plan: "",
         status: 0,
         text: "; horizon 0 refuted conflicts 1
 ; horizon 1 refuted conflicts 1
@@ -307,6 +264,49 @@ pub(crate) const ROWS: [Row; 21] = [
 ; step 2
 (drop ball1 roomb left)
 (drop ball2 roomb right)
+",
+    },
+    Row {
+        shows: "the facts and actions of a robot with two grippers",
+        words: "ground d p",
+        domain: GRIPPER,
+        problem: TWO_BALLS,
+        status: 0,
+        text: "; facts 12
+; 0 (at-robby rooma)
+; 1 (at-robby roomb)
+; 2 (at ball1 rooma)
+; 3 (at ball1 roomb)
+; 4 (at ball2 rooma)
+; 5 (at ball2 roomb)
+; 6 (free left)
+; 7 (free right)
+; 8 (carry ball1 left)
+; 9 (carry ball1 right)
+; 10 (carry ball2 left)
+; 11 (carry ball2 right)
+; actions 20
+; 0 (move rooma rooma)
+; 1 (move rooma roomb)
+; 2 (move roomb rooma)
+; 3 (move roomb roomb)
+; 4 (pick ball1 rooma left)
+; 5 (pick ball1 rooma right)
+; 6 (pick ball1 roomb left)
+; 7 (pick ball1 roomb right)
+; 8 (pick ball2 rooma left)
+; 9 (pick ball2 rooma right)
+; 10 (pick ball2 roomb left)
+; 11 (pick ball2 roomb right)
+; 12 (drop ball1 rooma left)
+; 13 (drop ball1 rooma right)
+; 14 (drop ball1 roomb left)
+; 15 (drop ball1 roomb right)
+; 16 (drop ball2 rooma left)
+; 17 (drop ball2 rooma right)
+; 18 (drop ball2 roomb left)
+; 19 (drop ball2 roomb right)
+; effects 0
 ",
     },
 ];

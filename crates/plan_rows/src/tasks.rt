@@ -5,8 +5,6 @@ pub(crate) const LAMP: &str =
 
 pub(crate) const DARK: &str = "(define (problem p) (:domain lamp) (:init) (:goal (on)))";
 
-pub(crate) const LIT: &str = "(define (problem p) (:init (on)) (:goal (on)))";
-
 // A goal that no action can reach.
 pub(crate) const BROKEN: &str = "(define (problem p) (:goal (broken)))";
 
@@ -36,16 +34,13 @@ pub(crate) const BRIEFCASE: &str = "(define (domain b) (:types item location)
 pub(crate) const NO_ITEM: &str =
     "(define (problem x) (:objects home office - location) (:init (at-case home)) (:goal (at-case office)))";
 
-pub(crate) const ONE_ITEM: &str =
-    "(define (problem x) (:objects home office - location d - item) (:init (at-case home)) (:goal (at-case office)))";
-
 // An action that adds and deletes one atom.
 pub(crate) const BOTH: &str =
     "(define (domain d) (:predicates (p)) (:action both :effect (and (p) (not (p)))))";
 
 pub(crate) const NOTHING_AT_FIRST: &str = "(define (problem x) (:init) (:goal (p)))";
 
-pub(crate) const BLOCKS: &str = "; The blocks of which every planner has been told.
+pub(crate) const BLOCKS: &str = "; The usual blocks.
 (DEFINE (DOMAIN BLOCKS)
 (:PREDICATES (ON ?X ?Y) (ONTABLE ?X) (CLEAR ?X) (HANDEMPTY) (HOLDING ?X))
 (:ACTION PICK-UP :PARAMETERS (?X)
