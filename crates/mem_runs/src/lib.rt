@@ -6,7 +6,7 @@ ghost use Rattle.pl_io.specs.Outside.{Rose};
 
 use pl_io::{Bytes, Files, MemShelf, MemSink, Memory, NamedFile, Numbers};
 use plan_top::{Status, run};
-use solver_pool::OpenGate;
+use solver_pool::{Gate, OpenGate};
 use std::alloc::{AllocError, Global};
 use std::sync::Wait;
 use std::thread::Threads;
@@ -15,15 +15,16 @@ use std::thread::Threads;
 pub type Named<'a> = (&'a str, &'a [u8]);
 
 /// Runs these words, which stand in one text with a blank between each two, on a shelf of these files, and writes into the
-/// sink. The shelf's calls with the numbers of `failing`, counted from 1, fail. `Memory` where there is no room for the
+/// sink; the workers of a race tell the gate of each turn. The shelf's calls with the numbers of `failing`, counted from 1, fail. `Memory` where there is no room for the
 /// words or the files; what the run itself answers for want of memory is status 8.
-pub fn run_into<H: Threads + Wait + Sync>(
+pub fn run_into<H: Threads + Wait + Sync, G: Gate>(
     rt: &H,
     alloc: Global,
     words: &str,
     files: &[Named],
     failing: &[u32],
     sink: &mut MemSink,
+    gate: &G,
 ) -> Result<Status, Memory>
     ensures write_fault { IfOk result (λ status. status.0 ≡ 6 → Rose sink.old.faults sink.new.faults) }
     ensures nothing { IfOk result (λ status. status.0 ≡ 8 → sink.new ≡ sink.old) }
@@ -32,7 +33,7 @@ pub fn run_into<H: Threads + Wait + Sync>(
     let words = split(alloc, words)?;
     let failing = Numbers::of(Vec::from_slice(alloc, failing)?);
     let mut shelf = MemShelf::new(alloc, shelved(alloc, files)?, failing);
-    Ok(run(rt, alloc, &words, &mut shelf, sink, &OpenGate))
+    Ok(run(rt, alloc, &words, &mut shelf, sink, gate))
 }
 
 /// Runs as `run_into` does, into a sink that fails at no call and has room for 2,000 bytes, and answers what it took.
@@ -44,7 +45,7 @@ pub fn run_once<H: Threads + Wait + Sync>(
     failing: &[u32],
 ) -> Result<(Status, Vec<u8>), Memory> {
     let mut sink = MemSink::new(alloc, 1000, Numbers::of(Vec::new(alloc)), 2000)?;
-    let status = run_into(rt, alloc, words, files, failing, &mut sink)?;
+    let status = run_into(rt, alloc, words, files, failing, &mut sink, &OpenGate)?;
     Ok((status, Vec::from_slice(alloc, sink.taken())?))
 }
 

@@ -2,6 +2,7 @@
 use crate::tasks::{DARK, LAMP};
 use mem_runs::{Named, run_into, run_once};
 use pl_io::{MemSink, Numbers};
+use solver_pool::OpenGate;
 use std::alloc::Global;
 use std::process::Abort;
 use std::sync::Wait;
@@ -54,7 +55,7 @@ fn fails_at<H: Threads + Wait + Sync + Abort>(
 ) -> Result<(), Fail> {
     assert!(rt; 0 < most);
     let mut sink = MemSink::new(alloc, most, Numbers::of(vec![in alloc; call]?), 1000)?;
-    let status = run_into(rt, alloc, words, &FILES, &[], &mut sink)?;
+    let status = run_into(rt, alloc, words, &FILES, &[], &mut sink, &OpenGate)?;
     assert_eq!(rt; status.0, 6, "{words}, call {call}");
     assert_eq!(rt; sink.taken(), front, "{words}, call {call}");
     assert_eq!(rt; sink.faults(), 1, "{words}, call {call}");

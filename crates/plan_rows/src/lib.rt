@@ -2,6 +2,8 @@
 #![tactic(auto)]
 
 #[cfg(test)]
+mod gate;
+#[cfg(test)]
 mod rows;
 #[cfg(test)]
 mod tasks;

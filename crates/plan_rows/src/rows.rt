@@ -12,7 +12,7 @@ pub(crate) struct Row {
     pub(crate) text: &'static str,
 }
 
-pub(crate) const ROWS: [Row; 19] = [
+pub(crate) const ROWS: [Row; 24] = [
     Row {
         shows: "one step, and horizons beyond it",
         words: "plan d p",
@@ -307,6 +307,61 @@ pub(crate) const ROWS: [Row; 19] = [
 ; 18 (drop ball2 roomb left)
 ; 19 (drop ball2 roomb right)
 ; effects 0
+",
+    },
+    Row {
+        shows: "the texts of corridor 1 are read and grounded",
+        words: "gen corridor 1 --max-horizon 0 --show none",
+        domain: "",
+        problem: "",
+        status: 1,
+        text: "; generated corridor 1
+; conflicts 1 of 100000
+; exhausted at horizon 0
+",
+    },
+    Row {
+        shows: "the texts of corridor 64 are read and grounded",
+        words: "gen corridor 64 --max-horizon 0 --show none",
+        domain: "",
+        problem: "",
+        status: 1,
+        text: "; generated corridor 64
+; conflicts 1 of 100000
+; exhausted at horizon 0
+",
+    },
+    Row {
+        shows: "the texts of gripper 1 are read and grounded",
+        words: "gen gripper 1 --max-horizon 0 --show none",
+        domain: "",
+        problem: "",
+        status: 1,
+        text: "; generated gripper 1
+; conflicts 1 of 100000
+; exhausted at horizon 0
+",
+    },
+    Row {
+        shows: "the texts of gripper 64 are read and grounded",
+        words: "gen gripper 64 --max-horizon 0 --show none",
+        domain: "",
+        problem: "",
+        status: 1,
+        text: "; generated gripper 64
+; conflicts 1 of 100000
+; exhausted at horizon 0
+",
+    },
+    Row {
+        shows: "a long corridor",
+        words: "gen corridor 64",
+        domain: "",
+        problem: "",
+        status: 0,
+        text: "; generated corridor 64
+; conflicts 64 of 100000
+; plan of 64 steps with 64 actions
 ",
     },
 ];

@@ -1,6 +1,8 @@
+use crate::gate::PairGate;
 use crate::rows::ROWS;
-use crate::tasks::{BLOCKS, TOWER};
-use mem_runs::run_once;
+use crate::tasks::{BLOCKS, DARK, LAMP, TOWER};
+use mem_runs::{run_into, run_once};
+use pl_io::{MemSink, Numbers};
 use std::test::Fail;
 
 #[test]
@@ -50,5 +52,21 @@ fn one_report_for_all_workers(rt: HostRuntime) -> Result<(), Fail> {
     let (status, text) = run_once(&rt, alloc, "check d p l", &files, &[])?;
     assert_eq!(rt; status.0, 0);
     assert_eq!(rt; text.as_slice(), b"; reaches the goal\n".as_slice());
+    Ok(())
+}
+
+// Two horizons of a run are at work at once.
+#[test]
+fn two_horizons_are_at_work_at_once(rt: HostRuntime) -> Result<(), Fail> {
+    let alloc = rt.alloc();
+    let files = [("d", LAMP.as_bytes()), ("p", DARK.as_bytes())];
+    let (status, text) = run_once(&rt, alloc, "plan d p", &files, &[])?;
+    assert_eq!(rt; status.0, 0);
+    let gate = PairGate::new();
+    let mut sink = MemSink::new(alloc, 1000, Numbers::of(Vec::new(alloc)), 2000)?;
+    let status = run_into(&rt, alloc, "plan d p", &files, &[], &mut sink, &gate)?;
+    assert_eq!(rt; status.0, 0);
+    assert_eq!(rt; sink.taken(), text.as_slice());
+    assert!(rt; gate.met());
     Ok(())
 }
