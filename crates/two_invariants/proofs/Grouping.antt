@@ -1,7 +1,7 @@
 use Rattle.std.proofs.Common.{arith, ◌≡◌, ◌==◌, ℕ, zero, suc, ◌+◌, ◌<◌, ◌≤◌, List, [], ◌∷◌, ◌++◌, length, get_or, set, drop, Bool, true, false, not, ◌&&◌, ◌||◌, refl, ap, sym, ◌∙◌, ◌⊎◌, inl, inr, subst, Some, None, Option}
 use Rattle.std.specs.Prelude.{nat_lt, is_some}
 use Rattle.std.specs.List.{list_any, AllByRecursion}
-use Rattle.std.proofs.lemmas.Bool.{cases_lt}
+use Rattle.std.proofs.lemmas.Bool.{cases_lt, lt-ltb as lt_test, le-ltb as ge_test}
 use Rattle.bit_rows.specs.Bits.{row_has, IsLeastFrom}
 use Rattle.gt_core.specs.Literal.{opposite}
 use Rattle.gt_core.specs.Task.{Effect}
@@ -9,7 +9,7 @@ use Rattle.gt_core.proofs.Basics.{or_split, not_true, same_test, test_same}
 use Rattle.two_invariants.specs.Tested.{EffectFits}
 use Rattle.two_invariants.specs.Groups.{effect_with, group_with, GroupFits}
 use Rattle.two_invariants.specs.declared.groups.Group.{Group}
-use Rattle.two_invariants.proofs.Steps.{any_rest, any_push, opposite_test, lt_test, ge_test}
+use Rattle.two_invariants.proofs.Steps.{any_rest, any_push, opposite_test}
 
 -- What the loops over groups of effects need.
 
