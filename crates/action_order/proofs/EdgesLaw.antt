@@ -18,7 +18,7 @@ use Rattle.action_order.specs.Sure.{AreSure}
 use Rattle.action_order.specs.Edges.{edge_in, AreEdges, is_touched, is_in_rows, is_opposed, surely}
 use Rattle.action_order.proofs.ReadersLaw.{opposite_below}
 use Rattle.action_order.proofs.SureLaw.{clash_is}
-use Rattle.action_order.proofs.Lists.{each_number}
+use Rattle.gt_core.proofs.Lists.{each_number}
 
 -- The row of an action has the actions to which an edge leads.
 

@@ -1,4 +1,4 @@
-use Rattle.std.proofs.Common.{◌≡◌, ◌==◌, ℕ, ◌+◌, ◌<◌, List, [], ◌∷◌, ◌++◌, length, Bool, true, false, refl, sym, ap, ◌∙◌, set, ◌⊎◌, inl, inr}
+use Rattle.std.proofs.Common.{◌≡◌, ◌==◌, ℕ, ◌+◌, ◌<◌, List, [], ◌∷◌, ◌++◌, length, Bool, true, false, sym, ap, ◌∙◌, set, ◌⊎◌, inl, inr}
 use Rattle.std.specs.Prelude.{slice_index_or, if◌then◌else◌}
 use Rattle.std.specs.List.{filter}
 use Rattle.std.proofs.lemmas.List.{get_or-set_same, get_or-set_other}
@@ -9,16 +9,13 @@ use Rattle.gt_core.proofs.Basics.{not_true, same_test, test_same}
 use Rattle.action_order.specs.Graph.{class_at}
 use Rattle.action_order.specs.Group.{members_below}
 use Rattle.action_order.proofs.Lists.{range_more}
+use Rattle.std.proofs.lemmas.List.{append-nil}
 
 -- One more vertex goes to the group of its component.
 
 members_more : (classes : List ℕ) (a c : ℕ) (b : Bool) → (class_at classes a == c) ≡ b → members_below classes (a + 1) c ≡ members_below classes a c ++ (if b then a ∷ [] else [])
 members_more classes a c b e =
     ap (filter (λ x. class_at classes x == c)) (range_more a) ∙ filter-append (λ x. class_at classes x == c) (range a) (a ∷ []) ∙ ap (λ (b : Bool). members_below classes a c ++ (if b then a ∷ [] else [])) e
-
-append_nil : (xs : List ℕ) → xs ++ [] ≡ xs
-append_nil [] = refl
-append_nil (x ∷ xs) = ap (λ (ys : List ℕ). x ∷ ys) (append_nil xs)
 
 pub group_more : (classes : List ℕ) (groups : List (List ℕ)) (a own : ℕ) → own ≡ class_at classes a → own < length groups → ((c : ℕ) → c < length groups → slice_index_or groups c [] ≡ members_below classes a c) → (c : ℕ) → c < length groups → slice_index_or (set groups own (slice_index_or groups own [] ++ a ∷ [])) c [] ≡ members_below classes (a + 1) c
 group_more classes groups a own is lt h c lc = by (cases_eq c own)
@@ -34,5 +31,5 @@ group_more classes groups a own is lt h c lc = by (cases_eq c own)
         let test : (class_at classes a == c) ≡ false = not_true (class_at classes a == c) (λ e. n (sym (test_same _ _ e) ∙ sym is)) in
         get_or-set_other groups own c (slice_index_or groups own [] ++ a ∷ []) [] n
         ∙ h c lc
-        ∙ sym (append_nil (members_below classes a c))
+        ∙ sym (append-nil (members_below classes a c))
         ∙ sym (members_more classes a c false test)

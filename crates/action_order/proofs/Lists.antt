@@ -1,5 +1,5 @@
 use Rattle.std.proofs.Common.{arith, ◌≡◌, ◌==◌, ℕ, zero, suc, ◌+◌, ◌-◌, ◌<◌, ◌≤◌, List, [], ◌∷◌, ◌++◌, length, take, Bool, true, false, refl, sym, ap, ◌∙◌, subst, ◌⊎◌, inl, inr}
-use Rattle.std.specs.Prelude.{slice_index_or, nat_lt}
+use Rattle.std.specs.Prelude.{nat_lt}
 use Rattle.std.specs.List.{AllByRecursion}
 use Rattle.std.proofs.lemmas.List.{take_more, get_or_append_left, get_or_push, length_push}
 use Rattle.std.proofs.lemmas.Bool.{cases_lt}
@@ -94,12 +94,6 @@ pub in_at : (xs : List ℕ) (i : ℕ) → i < length xs → is_in xs (item xs i)
 in_at [] i lt = absurd (omega arith)
 in_at (x ∷ xs) zero lt = or_left (x == x) _ (same_test x x refl)
 in_at (x ∷ xs) (suc i) lt = or_right (x == item xs i) (is_in xs (item xs i)) (in_at xs i (omega arith))
-
--- a fact of each list at its number
-pub each_number : {A : Type 0} (P : A → Type 0) (xs : List A) (i : ℕ) (d : A) → AllByRecursion P xs → i < length xs → P (slice_index_or xs i d)
-each_number P [] i d h lt = absurd (omega arith)
-each_number P (x ∷ xs) zero d h lt = h.0
-each_number P (x ∷ xs) (suc i) d h lt = each_number P xs i d h.1 (omega arith)
 
 -- a list as its front and its last element
 pub front_last : (xs : List ℕ) (x : ℕ) → IsLast xs x → xs ≡ take (length xs - 1) xs ++ x ∷ []

@@ -2,7 +2,7 @@ use Rattle.std.proofs.Common.{arith, ◌≡◌, ℕ, ◌<◌, ◌≤◌, List, [
 use Rattle.std.specs.List.{AllByRecursion}
 use mathlib.Core.Path.{fun_ext}
 use Rattle.gt_core.specs.Literal.{is_in, range}
-use Rattle.gt_core.specs.Task.{Task, action_numbers}
+use Rattle.gt_core.specs.Task.{Action, Task, action_numbers}
 use Rattle.gt_core.specs.Interference.{has_edge}
 use Rattle.gt_core.specs.Published.{IsListed, IsPublished, order_of}
 use Rattle.gt_core.specs.Lawful.{is_task, is_action, is_literal_set}
@@ -37,6 +37,10 @@ listed_actions edge actions taken ((name ∷ ks) ∷ rest) h a i = elim (in_spli
   | inl j ↦ h.0.component.of_actions a j
   | inr j ↦ listed_actions edge actions (taken ++ name ∷ ks) rest h.1 a j
 ]
+
+-- the edges of a task's actions, as they were listed
+pub edges_of : (clauses : List (ℕ × ℕ)) (acts actions : List Action) (targets : List (List ℕ)) → acts ≡ actions → AreEdges clauses acts (length acts) targets → AreEdges clauses actions (length actions) targets
+edges_of clauses acts actions targets same e = subst (λ (xs : List Action). AreEdges clauses xs (length xs) targets) same e
 
 pub is_published : (task : Task) (clauses : List (ℕ × ℕ)) (targets components : List (List ℕ)) → AreEdges clauses task.actions (length task.actions) targets → IsListed (leads targets) (range (length targets)) [] components → IsPublished task clauses components
 is_published task clauses targets components t h =

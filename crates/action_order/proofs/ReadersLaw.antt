@@ -10,7 +10,7 @@ use Rattle.gt_core.specs.Active.{EffectWithin}
 use Rattle.gt_core.proofs.Basics.{each_at, each_from, same_test, test_same, apart}
 use Rattle.action_order.specs.Graph.{row_at}
 use Rattle.action_order.specs.Readers.{ActionWithin, IsEntered, AreRowsOf, act_at}
-use Rattle.action_order.proofs.Lists.{each_number}
+use Rattle.gt_core.proofs.Lists.{each_number}
 
 -- The rows of readers.
 

@@ -1,6 +1,7 @@
 use Rattle.std.proofs.Common.{arith, ◌≡◌, ◌==◌, zero, suc, ℕ, ◌+◌, ◌-◌, ◌*◌, ◌/◌, ◌%◌, ◌^◌, ◌<◌, ◌≤◌, min, max, Bool, true, false, not, ◌||◌, ◌&&◌, refl, sym, ap, ◌∙◌, w64, bit_and, bit_or, ◌⊎◌, inl, inr}
 use Rattle.std.specs.Prelude.{nat_le, List, slice_index}
 use Rattle.std.specs.Int.{bit_at}
+use Rattle.std.proofs.lemmas.Bool.{and_parts, and_from, both_ways, not-true}
 use Rattle.std.proofs.lemmas.Bool.Decides.{nat_tests}
 use Rattle.std.proofs.lemmas.Nat.Bits.{bit_at_set_same, bit_at_set_other, bit_at_clear_same, bit_at_clear_other, bit_at-zero, bit_at_above, bit_at_and, bit_at_or, bit_at_not, bit_at-lt, bit_at-suc, bit_at_mask_inside, bit_at_mask_below, ones_shl, bit_at-trailing_zeros}
 use Rattle.bit_rows.specs.Bits.{word_has, row_has, IsPairTest}
@@ -90,14 +91,6 @@ from_has w b k h f =
 same_or_apart : (m n : ℕ) → (m ≡ n) ⊎ (m ≡ n → ⊥)
 same_or_apart m n = grind arith
 
-parts : (a b : Bool) → (a && b) ≡ true → (a ≡ true) × (b ≡ true)
-parts true b e = (refl, e)
-parts false b e = cc
-
-both : (a b : Bool) → a ≡ true → b ≡ true → (a && b) ≡ true
-both true b e f = f
-both false b e f = cc
-
 -- a test that passes at each number below n
 abbrev all_below : (ℕ → Bool) → ℕ → Bool
 all_below p zero = true
@@ -112,18 +105,14 @@ step_below p n k t below l = by (same_or_apart k n)
 
 at_below : (p : ℕ → Bool) (n k : ℕ) → all_below p n ≡ true → k < n → p k ≡ true
 at_below p zero k t l = absurd (omega arith)
-at_below p (suc n) k t l = step_below p n k (parts (p n) (all_below p n) t).0 (at_below p n k (parts (p n) (all_below p n) t).1) l
+at_below p (suc n) k t l = step_below p n k (and_parts (p n) (all_below p n) t).0 (at_below p n k (and_parts (p n) (all_below p n) t).1) l
 
 -- the mask has the even bits, and no odd one
 even_mask : (f : ℕ) → f < 32 → word_has 6148914691236517205 (2 * f) ≡ true
 even_mask f l = at_below (λ i. word_has 6148914691236517205 (2 * i)) 32 f refl l
 
 odd_mask : (f : ℕ) → f < 32 → word_has 6148914691236517205 (2 * f + 1) ≡ false
-odd_mask f l = no _ (at_below (λ i. not (word_has 6148914691236517205 (2 * i + 1))) 32 f refl l)
-  where
-    no : (b : Bool) → not b ≡ true → b ≡ false
-    no true e = cc
-    no false e = refl
+odd_mask f l = not-true _ (at_below (λ i. not (word_has 6148914691236517205 (2 * i + 1))) 32 f refl l)
 
 shifted : (w k : ℕ) → word_has (w / 2) k ≡ word_has w (k + 1)
 shifted w k = ap (λ (n : ℕ). n == 1) (sym (bit_at-suc w k)) ∙ ap (word_has w) (omega arith)
@@ -135,18 +124,15 @@ even_or_odd k = (k / 2, by (same_or_apart (k % 2) 0))
     by (inl e) = inl (omega arith)
     by (inr n) = inr (omega arith)
 
-no_clash : (b : Bool) → b ≡ true → b ≡ false → ⊥
-no_clash b t f = cc
-
 -- a bit of the word, its shift and the mask
 pair_by : (w k f : ℕ) → k < 64 → word_has w k ≡ true → word_has (w / 2) k ≡ true → word_has 6148914691236517205 k ≡ true → (k ≡ 2 * f) ⊎ (k ≡ 2 * f + 1) → (g : ℕ) × (word_has w (2 * g) ≡ true) × (word_has w (2 * g + 1) ≡ true)
 pair_by w k f l a b m (inl e) = (f, ap (word_has w) (sym e) ∙ a, ap (λ (n : ℕ). word_has w (n + 1)) (sym e) ∙ sym (shifted w k) ∙ b)
-pair_by w k f l a b m (inr e) = absurd (no_clash _ m (ap (word_has 6148914691236517205) e ∙ odd_mask f (omega arith)))
+pair_by w k f l a b m (inr e) = absurd (both_ways _ (ap (word_has 6148914691236517205) e ∙ odd_mask f (omega arith)) m)
 
 pair_at : (w k : ℕ) → k < 64 → word_has (bit_and (bit_and w (w / 2)) 6148914691236517205) k ≡ true → (f : ℕ) × (word_has w (2 * f) ≡ true) × (word_has w (2 * f + 1) ≡ true)
 pair_at w k l t =
-    let two = parts _ _ (sym (and_has (bit_and w (w / 2)) 6148914691236517205 k) ∙ t) in
-    let one = parts _ _ (sym (and_has w (w / 2) k) ∙ two.0) in
+    let two = and_parts _ _ (sym (and_has (bit_and w (w / 2)) 6148914691236517205 k) ∙ t) in
+    let one = and_parts _ _ (sym (and_has w (w / 2) k) ∙ two.0) in
     pair_by w k (even_or_odd k).0 l one.0 one.1 two.1 (even_or_odd k).1
 
 below_half : (w f : ℕ) → w < 2 ^ 64 → word_has w (2 * f + 1) ≡ true → f < 32
@@ -154,18 +140,18 @@ below_half w f fits a = by (past_or_within (2 * f + 1))
   where
     by : (2 * f + 1 < 64) ⊎ (64 ≤ 2 * f + 1) → f < 32
     by (inl l) = omega arith
-    by (inr m) = absurd (no_clash _ a (none_past w (2 * f + 1) fits m))
+    by (inr m) = absurd (both_ways _ (none_past w (2 * f + 1) fits m) a)
 
 pair_found : (w f : ℕ) → w < 2 ^ 64 → word_has w (2 * f) ≡ true → word_has w (2 * f + 1) ≡ true → word_has (bit_and (bit_and w (w / 2)) 6148914691236517205) (2 * f) ≡ true
 pair_found w f fits a b =
-    and_has (bit_and w (w / 2)) 6148914691236517205 (2 * f) ∙ both _ _
-    (and_has w (w / 2) (2 * f) ∙ both _ _ a (shifted w (2 * f) ∙ b))
+    and_has (bit_and w (w / 2)) 6148914691236517205 (2 * f) ∙ and_from _ _
+    (and_has w (w / 2) (2 * f) ∙ and_from _ _ a (shifted w (2 * f) ∙ b))
     (even_mask f (below_half w f fits b))
 
 pub pair_test : (w : ℕ) → w < 2 ^ 64 → bit_and (bit_and w (w / 2)) 6148914691236517205 < 2 ^ 64 → (t : Bool) → t ≡ (bit_and (bit_and w (w / 2)) 6148914691236517205 == 0) → IsPairTest (word_has w) (not t)
 pair_test w fits small true e =
     let zero : bit_and (bit_and w (w / 2)) 6148914691236517205 ≡ 0 = grind (arith, nat_tests) in
-    λ f a b. no_clash _ (pair_found w f fits a b) (ap (λ (n : ℕ). word_has n (2 * f)) zero ∙ zero_has (2 * f))
+    λ f a b. both_ways _ (ap (λ (n : ℕ). word_has n (2 * f)) zero ∙ zero_has (2 * f)) (pair_found w f fits a b)
 pair_test w fits small false e =
     let positive : 0 < bit_and (bit_and w (w / 2)) 6148914691236517205 = grind (arith, nat_tests) in
     let low = bit_at-trailing_zeros w64 (bit_and (bit_and w (w / 2)) 6148914691236517205) positive small in

@@ -149,7 +149,7 @@ impl Search {
     {
         match self.watches.least_pending() {
             None => None,
-            Some(number) => Some(asked(&self.trail, number, self.clauses.clause(number))),
+            Some(number) => Some(asked(&self.trail, number, self.watches.clause(number))),
         }
     }
 

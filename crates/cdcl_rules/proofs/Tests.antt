@@ -1,38 +1,8 @@
--- What tests say of their parts.
-use Rattle.std.proofs.Common.{arith, ◌≡◌, ◌==◌, ℕ, Bool, true, false, not, ◌||◌, ◌&&◌, refl, ◌⊎◌, inl, inr}
+-- What tests say of their parts: std's lemmas under the names that the proofs of runs use, and two of equal numbers.
+use Rattle.std.proofs.Common.{arith, ◌≡◌, ◌==◌, ℕ, Bool, true, false}
 use Rattle.std.proofs.lemmas.Bool.Decides.{nat_tests}
-
-pub or_true : (b : Bool) → (b || true) ≡ true
-or_true true = refl
-or_true false = refl
-
-pub and_false : (b : Bool) → (b && false) ≡ false
-and_false true = refl
-and_false false = refl
-
-pub or_split : (a b : Bool) → (a || b) ≡ true → (a ≡ true) ⊎ (b ≡ true)
-or_split true b e = inl refl
-or_split false b e = inr e
-
-pub or_none : (a b : Bool) → (a || b) ≡ false → (a ≡ false) × (b ≡ false)
-or_none true b e = cc
-or_none false b e = (refl, e)
-
-pub and_split : (a b : Bool) → (a && b) ≡ true → (a ≡ true) × (b ≡ true)
-and_split true b e = (refl, e)
-and_split false b e = cc
-
-pub and_join : (a b : Bool) → a ≡ true → b ≡ true → (a && b) ≡ true
-and_join true b e f = f
-and_join false b e f = cc
-
-pub not_split : (b : Bool) → not b ≡ true → b ≡ false
-not_split true e = cc
-not_split false e = refl
-
-pub not_true : (b : Bool) → (b ≡ true → ⊥) → b ≡ false
-not_true true h = absurd (h refl)
-not_true false h = refl
+pub use Rattle.std.proofs.Math.Bool.{or-true as or_true, and-false as and_false}
+pub use Rattle.std.proofs.lemmas.Bool.{or_cases as or_split, or_parts as or_none, and_parts as and_split, and_from as and_join, not-true as not_split, false_from_ne_true as not_true}
 
 pub apart : (b : Bool) → b ≡ true → b ≡ false → ⊥
 apart true e f = cc

@@ -1,9 +1,8 @@
 -- How many members of a draft pass a test.
-use Rattle.std.proofs.Common.{arith, ◌≡◌, ◌==◌, ℕ, zero, suc, ◌+◌, ◌<◌, ◌≤◌, List, [], ◌∷◌, length, set, Bool, true, false, not, refl, sym, ap, ◌∙◌, filter, if◌then◌else◌, zero-add, length-set}
+use Rattle.std.proofs.Common.{arith, ◌≡◌, ◌==◌, ℕ, zero, suc, ◌+◌, ◌<◌, ◌≤◌, List, [], ◌∷◌, length, set, Bool, true, false, refl, sym, ap, ◌∙◌, filter, if◌then◌else◌, zero-add, length-set}
 use Rattle.std.proofs.lemmas.Bool.Decides.{nat_tests}
-use Rattle.clause_base.specs.Clause.{put}
-use Rattle.conflict_walk.specs.Draft.{places, at}
-use Rattle.conflict_walk.proofs.Places.{places-put, places-remove, bit, at-set}
+use Rattle.lit_marks.specs.Marks.{places, at}
+use Rattle.lit_marks.proofs.Places.{bit, at-set}
 
 abbrev pub number : (ℕ → Bool) → List ℕ → ℕ
 number p ls = length (filter p ls)
@@ -33,25 +32,10 @@ number-set p v (false ∷ on) (suc i) h e =
     let r = number-set p (v + 1) on i (omega arith) e in
     omega (arith, t, r)
 
-set_same : (on : List Bool) (i : ℕ) → at on i ≡ true → set on i true ≡ on
-set_same [] i e = refl
-set_same (b ∷ on) zero e = ap (λ (c : Bool). c ∷ on) (sym e)
-set_same (b ∷ on) (suc i) e = ap (λ (cs : List Bool). b ∷ cs) (set_same on i e)
-
 set_back : (on : List Bool) (i : ℕ) → at on i ≡ true → set (set on i false) i true ≡ on
 set_back [] i e = refl
 set_back (b ∷ on) zero e = ap (λ (c : Bool). c ∷ on) (sym e)
 set_back (b ∷ on) (suc i) e = ap (λ (cs : List Bool). b ∷ cs) (set_back on i e)
-
--- a literal that is in is put in once
-pub put_again : (on : List Bool) (i : ℕ) → i < length on → at on i ≡ true → places 0 on ≡ put (places 0 on) i
-put_again on i h e = ap (places 0) (sym (set_same on i e)) ∙ places-put 0 on i h ∙ ap (put (places 0 on)) (zero-add i)
-
-pub put_new : (on : List Bool) (i : ℕ) → i < length on → places 0 (set on i true) ≡ put (places 0 on) i
-put_new on i h = places-put 0 on i h ∙ ap (put (places 0 on)) (zero-add i)
-
-pub removed : (on : List Bool) (i : ℕ) → i < length on → places 0 (set on i false) ≡ filter (λ l. not (l == i)) (places 0 on)
-removed on i h = places-remove 0 on i h ∙ ap (λ k. filter (λ l. not (l == k)) (places 0 on)) (zero-add i)
 
 pub counted_new : (p : ℕ → Bool) (on : List Bool) (i n : ℕ) (b : Bool) → i < length on → at on i ≡ false → n ≡ number p (places 0 on) → p i ≡ b → n + bit b ≡ number p (places 0 (set on i true))
 counted_new p on i n b h e c f =

@@ -1,6 +1,7 @@
 -- What a resolvent over a trail keeps when a literal is put in or taken out.
-use Rattle.std.proofs.Common.{arith, ◌≡◌, ◌==◌, ℕ, zero, suc, ◌+◌, ◌*◌, ◌<◌, ◌≤◌, List, [], ◌∷◌, length, set, get_or, Bool, true, false, refl, sym, ap, ◌∙◌, if◌then◌else◌, zero-add, length-set}
+use Rattle.std.proofs.Common.{arith, ◌≡◌, ◌==◌, ℕ, ◌+◌, ◌*◌, ◌/◌, ◌<◌, ◌≤◌, List, length, set, get_or, Bool, true, false, not, filter, refl, sym, ap, subst, ◌∙◌, if◌then◌else◌, length-set}
 use Rattle.clause_base.specs.Literal.{opposite}
+use Rattle.clause_base.specs.Clause.{put}
 use Rattle.clause_base.proofs.Rising.{has_at}
 use Rattle.cdcl_rules.specs.declared.trail.Assigned.{Assigned}
 use Rattle.cdcl_rules.specs.State.{is_on, decision_count}
@@ -9,13 +10,10 @@ use Rattle.cdcl_rules.specs.Learn.{level_of}
 use Rattle.cdcl_rules.proofs.Tests.{test_same}
 use Rattle.cdcl_rules.proofs.Members.{is_in}
 use Rattle.cdcl_trail.specs.Mirrored.{TrailView}
-use Rattle.conflict_walk.specs.Draft.{places, at}
-use Rattle.conflict_walk.specs.Resolvent.{IsOver}
-use Rattle.conflict_walk.proofs.Places.{is_in-places, at-set, bit}
+use Rattle.lit_marks.specs.Marks.{places, at}
+use Rattle.conflict_walk.specs.Resolvent.{ResolventView, literals, IsOver}
+use Rattle.lit_marks.proofs.Places.{in_places, at-set, bit, put_new, removed}
 use Rattle.conflict_walk.proofs.Count.{counted_new, counted_less, number_le}
-
-pub in_places : (on : List Bool) (k : ℕ) → is_in (places 0 on) k ≡ at on k
-in_places on k = ap (is_in (places 0 on)) (sym (zero-add k)) ∙ is_in-places 0 on k
 
 -- whether a literal is of the current level
 abbrev pub is_now : List Assigned → ℕ → Bool
@@ -35,27 +33,51 @@ remove_false trail on l a h m f = by (l == m) refl (sym (at-set on l m false (l 
     by true s t = cc
     by false s t = a m (in_places on m ∙ t)
 
-pub over_put : (trail : TrailView) (on : List Bool) (count more l : ℕ) (b : Bool) → IsOver trail (record { on = on; count = count }) → l < length on → at on l ≡ false → is_on trail.entries (opposite l) ≡ true → is_now trail.entries l ≡ b → more ≡ count + bit b → IsOver trail (record { on = set on l true; count = more })
-over_put trail on count more l b o h a e n m = record {
-  size = length-set on l true ∙ o.size;
-  all_false = put_false trail.entries on l o.all_false h e;
-  counted = m ∙ counted_new (is_now trail.entries) on l count b h a o.counted n;
-}
+-- a resolvent that is seen as one over a trail is one, with a mark for each literal of the trail
+seen_over : (trail : TrailView) (r was : ResolventView) → r ≡ was → IsOver trail was → IsOver trail r
+seen_over trail r was v o = subst (IsOver trail) (sym v) o
 
-pub over_remove : (trail : TrailView) (on : List Bool) (count less l : ℕ) (b : Bool) → IsOver trail (record { on = on; count = count }) → l < length on → at on l ≡ true → is_now trail.entries l ≡ b → count ≡ less + bit b → IsOver trail (record { on = set on l false; count = less })
-over_remove trail on count less l b o h a n e = record {
-  size = length-set on l false ∙ o.size;
-  all_false = remove_false trail.entries on l o.all_false h;
-  counted = let k = counted_less (is_now trail.entries) on l count b h a o.counted n in omega (arith, k, e);
-}
+pub marked : (trail : TrailView) (r was : ResolventView) (l : ℕ) → r ≡ was → IsOver trail was → l / 2 < trail.variables → l < length r.on
+marked trail r was l v o h = omega (arith, (seen_over trail r was v o).size, h)
+
+-- the literals after a mark was made or taken back
+pub put_literals : (trail : TrailView) (r was : ResolventView) (on : List Bool) (l : ℕ) → r ≡ was → IsOver trail was → l / 2 < trail.variables → on ≡ set r.on l true → places 0 on ≡ put (literals was) l
+put_literals trail r was on l v o h e = ap (places 0) e ∙ put_new r.on l (marked trail r was l v o h) ∙ ap (λ (w : ResolventView). put (literals w) l) v
+
+pub left_literals : (trail : TrailView) (r was : ResolventView) (on : List Bool) (l : ℕ) → r ≡ was → IsOver trail was → l / 2 < trail.variables → on ≡ set r.on l false → places 0 on ≡ filter (λ m. not (m == l)) (literals was)
+left_literals trail r was on l v o h e = ap (places 0) e ∙ removed r.on l (marked trail r was l v o h) ∙ ap (λ (w : ResolventView). filter (λ m. not (m == l)) (literals w)) v
+
+-- and what is counted
+pub over_put : (trail : TrailView) (r was : ResolventView) (on : List Bool) (more l : ℕ) (b : Bool) → r ≡ was → IsOver trail was → l / 2 < trail.variables → on ≡ set r.on l true → at r.on l ≡ false → is_on trail.entries (opposite l) ≡ true → is_now trail.entries l ≡ b → more ≡ r.count + bit b → IsOver trail (record { on = on; count = more })
+over_put trail r was on more l b v w i s a e n m =
+    let o = seen_over trail r was v w in
+    let h = marked trail r was l v w i in
+    subst (λ (ms : List Bool). IsOver trail (record { on = ms; count = more })) (sym s) (record {
+      size = length-set r.on l true ∙ o.size;
+      all_false = put_false trail.entries r.on l o.all_false h e;
+      counted = m ∙ counted_new (is_now trail.entries) r.on l r.count b h a o.counted n;
+    })
+
+pub over_remove : (trail : TrailView) (r was : ResolventView) (on : List Bool) (less l : ℕ) (b : Bool) → r ≡ was → IsOver trail was → l / 2 < trail.variables → on ≡ set r.on l false → at was.on l ≡ true → is_now trail.entries l ≡ b → r.count ≡ less + bit b → IsOver trail (record { on = on; count = less })
+over_remove trail r was on less l b v w i s a n e =
+    let o = seen_over trail r was v w in
+    let h = marked trail r was l v w i in
+    let k = counted_less (is_now trail.entries) r.on l r.count b h (ap (λ (t : ResolventView). at t.on l) v ∙ a) o.counted n in
+    subst (λ (ms : List Bool). IsOver trail (record { on = ms; count = less })) (sym s) (record {
+      size = length-set r.on l false ∙ o.size;
+      all_false = remove_false trail.entries r.on l o.all_false h;
+      counted = omega (arith, k, e);
+    })
 
 -- a literal of the current level is counted
-pub counted_one : (trail : TrailView) (on : List Bool) (count l : ℕ) → IsOver trail (record { on = on; count = count }) → l < length on → at on l ≡ true → is_now trail.entries l ≡ true → 1 ≤ count
-counted_one trail on count l o h a n = let k = counted_less (is_now trail.entries) on l count true h a o.counted n in omega (arith, k)
+pub counted_one : (trail : TrailView) (r was : ResolventView) (l : ℕ) → r ≡ was → IsOver trail was → l / 2 < trail.variables → at was.on l ≡ true → is_now trail.entries l ≡ true → 1 ≤ r.count
+counted_one trail r was l v o i a n =
+    let k = counted_less (is_now trail.entries) r.on l r.count true (marked trail r was l v o i) (ap (λ (t : ResolventView). at t.on l) v ∙ a) (seen_over trail r was v o).counted n in
+    omega (arith, k)
 
 -- there are no more than literals
-pub count_small : (trail : TrailView) (on : List Bool) (count : ℕ) → IsOver trail (record { on = on; count = count }) → count ≤ 2 * trail.variables
-count_small trail on count o = omega (arith, o.counted, o.size, number_le (is_now trail.entries) 0 on)
+pub count_small : (trail : TrailView) (r was : ResolventView) → r ≡ was → IsOver trail was → r.count ≤ 2 * trail.variables
+count_small trail r was v w = let o = seen_over trail r was v w in omega (arith, o.counted, o.size, number_le (is_now trail.entries) 0 r.on)
 
 -- a read member of a list
 pub read_in : (ls : List ℕ) (i d : ℕ) → i < length ls → is_in ls (get_or ls i d) ≡ true

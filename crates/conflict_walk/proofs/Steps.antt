@@ -12,10 +12,10 @@ use Rattle.cdcl_rules.specs.Learn.{Learned, walk, current, resolvent}
 use Rattle.cdcl_rules.proofs.Tests.{or_true, same_test}
 use Rattle.cdcl_rules.proofs.Members.{is_in}
 use Rattle.conflict_walk.specs.Walk.{stops, IsForcedBy, IsReasoned}
-use Rattle.conflict_walk.proofs.Places.{IsFrom, from_less}
+use Rattle.lit_marks.proofs.Places.{IsFrom, from_less}
 
 -- the entries that are left, the last one first
-pub entries_back : (trail : List Assigned) (index : ℕ) (a : Assigned) → 0 < index → index ≤ length trail → a ≡ get_or trail (index - 1) a → reverse (take index trail) ≡ a ∷ reverse (take (index - 1) trail)
+entries_back : (trail : List Assigned) (index : ℕ) (a : Assigned) → 0 < index → index ≤ length trail → a ≡ get_or trail (index - 1) a → reverse (take index trail) ≡ a ∷ reverse (take (index - 1) trail)
 entries_back trail index a h l e =
     let s : index - 1 + 1 ≡ index = omega arith in
     let m : take (index - 1 + 1) trail ≡ take (index - 1) trail ++ get_or trail (index - 1) a ∷ [] = take_more trail (index - 1) a (omega arith) in
@@ -24,8 +24,14 @@ entries_back trail index a h l e =
     ∙ reverse-append (take (index - 1) trail) (get_or trail (index - 1) a ∷ [])
     ∙ ap (λ (x : Assigned). x ∷ reverse (take (index - 1) trail)) (sym e)
 
-pub walk_step : (clauses : List (List ℕ)) (trail : List Assigned) (a : Assigned) (es : List Assigned) (c : Learned) (found stop : Bool) (o : Option ℕ) → is_in c.clause (opposite a.literal) ≡ found → (not (decision_count trail == 0) && (length (current trail c.clause) == 1)) ≡ stop → a.reason ≡ o → walk clauses trail (a ∷ es) c ≡ (if not found then walk clauses trail es c else if stop then c else elim o [ None ↦ c | Some r ↦ walk clauses trail es (record { clause = resolvent c.clause a.literal (clause_at clauses r); hints = r ∷ c.hints }) ])
+walk_step : (clauses : List (List ℕ)) (trail : List Assigned) (a : Assigned) (es : List Assigned) (c : Learned) (found stop : Bool) (o : Option ℕ) → is_in c.clause (opposite a.literal) ≡ found → (not (decision_count trail == 0) && (length (current trail c.clause) == 1)) ≡ stop → a.reason ≡ o → walk clauses trail (a ∷ es) c ≡ (if not found then walk clauses trail es c else if stop then c else elim o [ None ↦ c | Some r ↦ walk clauses trail es (record { clause = resolvent c.clause a.literal (clause_at clauses r); hints = r ∷ c.hints }) ])
 walk_step clauses trail a es c found stop o e f g = rw (e, f, g)
+
+-- the walk at the entry that was read last
+pub step_back : (clauses : List (List ℕ)) (trail es : List Assigned) (index : ℕ) (a : Assigned) (c : Learned) (found stop : Bool) (o : Option ℕ) → 0 < index → index ≤ length trail → es ≡ trail → a ≡ get_or es (index - 1) a → is_in c.clause (opposite a.literal) ≡ found → (not (decision_count trail == 0) && (length (current trail c.clause) == 1)) ≡ stop → a.reason ≡ o → walk clauses trail (reverse (take index trail)) c ≡ (if not found then walk clauses trail (reverse (take (index - 1) trail)) c else if stop then c else elim o [ None ↦ c | Some r ↦ walk clauses trail (reverse (take (index - 1) trail)) (record { clause = resolvent c.clause a.literal (clause_at clauses r); hints = r ∷ c.hints }) ])
+step_back clauses trail es index a c found stop o h l s e f t r =
+    let read = subst (λ (xs : List Assigned). a ≡ get_or xs (index - 1) a) s e in
+    ap (λ (xs : List Assigned). walk clauses trail xs c) (entries_back trail index a h l read) ∙ walk_step clauses trail a (reverse (take (index - 1) trail)) c found stop o f t r
 
 -- an entry of the trail is on it
 pub entry_on : (trail : List Assigned) (index : ℕ) (a : Assigned) → index < length trail → a ≡ get_or trail index a → is_on trail a.literal ≡ true
@@ -79,6 +85,9 @@ pub stop_at : (trail : List Assigned) (clause : List ℕ) (level count : ℕ) (b
 stop_at trail clause level count b e f s =
     ap (λ (n : ℕ). not (decision_count trail == 0) && (n == 1)) (sym f) ∙ ap (λ (n : ℕ). not (n == 0) && (count == 1)) (sym e) ∙ s
 
--- the walk begins with the conflict's clause
-pub begun : (old new from clause : List ℕ) → old ≡ [] → from ≡ clause → new ≡ fold put old from → IsRising clause → new ≡ clause
+begun : (old new from clause : List ℕ) → old ≡ [] → from ≡ clause → new ≡ fold put old from → IsRising clause → new ≡ clause
 begun old new from clause e f g r = g ∙ ap (λ (t : List ℕ). fold put t from) e ∙ ap (λ (t : List ℕ). fold put [] t) f ∙ rising_fold clause r
+
+-- the walk begins with the conflict's clause
+pub learned_from : (clauses : List (List ℕ)) (trail : List Assigned) (old new from clause : List ℕ) (d : Learned) → old ≡ [] → from ≡ clause → new ≡ fold put old from → IsRising clause → walk clauses trail (reverse trail) (record { clause = new; hints = [] }) ≡ d → walk clauses trail (reverse trail) (record { clause = clause; hints = [] }) ≡ d
+learned_from clauses trail old new from clause d e f g r w = subst (λ (ls : List ℕ). walk clauses trail (reverse trail) (record { clause = ls; hints = [] }) ≡ d) (begun old new from clause e f g r) w

@@ -2,7 +2,7 @@ use Rattle.std.specs.Prelude.{◌≡◌, ℕ, ◌*◌, List, [], Bool, length}
 use Rattle.cdcl_rules.specs.Trail.{AllFalse}
 use Rattle.cdcl_rules.specs.Learn.{current}
 use Rattle.cdcl_trail.specs.Mirrored.{TrailView}
-use Rattle.conflict_walk.specs.Draft.{places}
+use Rattle.lit_marks.specs.Marks.{places}
 
 -- a resolvent, as its clients see it: for each literal by its code whether it is in, and how many are of the current level
 pub record ResolventView : Type 0 where

@@ -4,7 +4,6 @@
 
 pub mod backjump;
 pub mod clauses;
-pub mod draft;
 pub mod learn;
 pub mod resolvent;
 #[cfg(test)]

@@ -5,21 +5,21 @@ ghost use Rattle.clause_base.specs.Clause.{put};
 ghost use Rattle.cdcl_rules.specs.State.{is_on};
 ghost use Rattle.cdcl_rules.specs.Trail.{AllFalse};
 ghost use Rattle.cdcl_rules.specs.Learn.{resolvent};
-ghost use Rattle.conflict_walk.specs.Draft.{at};
+ghost use Rattle.lit_marks.specs.Marks.{at};
 ghost use Rattle.conflict_walk.specs.Resolvent.{literals, IsEmptied, IsOver};
 ghost use Rattle.conflict_walk.specs.Walk.{OthersFalse};
 
-use crate::draft::Draft;
 use cdcl_trail::trail::Trail;
 use clause_base::literal::Lit;
 use clause_base::memory::Memory;
+use lit_marks::marks::Marks;
 use std::alloc::Global;
 use std::marker::Model;
 
 /// A clause in the making, with the number of its literals that are of the current level.
 #[derive(Drop)]
 pub struct Resolvent {
-    draft: Draft,
+    draft: Marks,
     count: u32,
 }
 
@@ -39,7 +39,7 @@ impl Resolvent {
         ensures len { IfOk result (λ r. length r.on ≡ 2 * variables) }
     {
         Ok(Resolvent {
-            draft: Draft::new(alloc, variables)?,
+            draft: Marks::new(alloc, variables)?,
             count: 0,
         })
     }

@@ -1,5 +1,4 @@
 use crate::clauses::Clauses;
-use crate::draft::Draft;
 use clause_base::clause::Clause;
 use clause_base::formula::Formula;
 use clause_base::literal::Lit;
@@ -7,20 +6,6 @@ use clause_base::log::Hints;
 use std::alloc::Global;
 use std::process::Abort;
 use std::test::Fail;
-
-#[test]
-fn a_draft_is_taken_in_order(rt: HostRuntime) -> Result<(), Fail> {
-    let mut draft = Draft::new(rt.alloc(), 3)?;
-    draft.put(Lit(5))?;
-    draft.put(Lit(0))?;
-    assert!(rt; draft.has(Lit(0)) && !draft.has(Lit(3)));
-    draft.put(Lit(2))?;
-    draft.remove(Lit(5));
-    let lits = draft.take(rt.alloc())?;
-    assert_eq!(rt; lits.as_slice(), [Lit(0), Lit(2)].as_slice());
-    assert!(rt; draft.take(rt.alloc())?.is_empty());
-    Ok(())
-}
 
 /// The literals of the clause with a number.
 fn clause_of<'a>(rt: &impl Abort, clauses: &'a Clauses, number: u32) -> &'a [Lit] {

@@ -8,7 +8,7 @@ use Rattle.gt_core.specs.Literal.{range_from}
 use Rattle.gt_core.specs.Task.{Task, Effect, Action, owned, effects_from, action, precondition}
 use Rattle.gt_core.specs.Lawful.{is_conditional, is_task}
 use Rattle.gt_core.specs.Active.{EffectWithin}
-use Rattle.gt_core.specs.Layout.{Layout, width}
+use Rattle.gt_core.specs.Layout.{Layout}
 use Rattle.gt_core.proofs.Within.{precondition_within, action_effects_within}
 use Rattle.step_clauses.specs.Variables.{Row, rows_from, variable_at}
 use Rattle.step_template.specs.Rows.{row_of, rows_of, number_after}
@@ -104,7 +104,7 @@ supporter_is task z a j e s v pre cond i f g h = i ∙ made v (variable_at z 0 (
     made v w ps qs cs ds f g h = cc
 
 -- it is within the layout of its task
-pub supporter_within : (task : Task) (z : Layout) (a j : ℕ) (e : Effect) → is_task task ≡ true → a < length task.actions → z.facts ≡ task.facts → EffectWithin z.facts e → variable_at z 0 (row_of a j e) < width z → IsWithin z (supporter_of task z (row_of a j e))
+pub supporter_within : (task : Task) (z : Layout) (a j : ℕ) (e : Effect) → is_task task ≡ true → a < length task.actions → z.facts ≡ task.facts → EffectWithin z.facts e → variable_at z 0 (row_of a j e) < z.actions + z.conditional → IsWithin z (supporter_of task z (row_of a j e))
 supporter_within task z a j e t lt f w v = record {
   variable = v;
   needs = all_append (λ l. l / 2 < z.facts) (precondition task a) e.condition (subst (λ (n : ℕ). AllByRecursion (λ l. l / 2 < n) (precondition task a)) (sym f) (precondition_within task a t lt)) w.condition;

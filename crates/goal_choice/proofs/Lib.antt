@@ -2,3 +2,6 @@ pub mod Sets
 pub mod Steps
 pub mod Index
 pub mod Ranges
+pub mod Unread
+pub mod Kept
+pub mod Differences

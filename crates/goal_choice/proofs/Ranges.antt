@@ -45,7 +45,7 @@ each_weaker : (P Q : Supporter → Type 0) (ss : List Supporter) → ((s : Suppo
 each_weaker P Q [] h a = tt
 each_weaker P Q (s ∷ ss) h a = (h s a.0, each_weaker P Q ss h a.1)
 
-step_below : (z : Layout) (t v : ℕ) → t < z.horizon → v < width z → t * width z + v < variables z
+step_below : (z : Layout) (t v : ℕ) → t < z.horizon → v < z.actions + z.conditional → t * width z + v < variables z
 step_below z t v lt h =
     let le : t + 1 ≤ z.horizon = omega arith in
     let m = product_le (t + 1) z.horizon (width z) le in

@@ -1,9 +1,10 @@
 -- The members of a row of bits, when its least one is taken out and when one is put in.
-use Rattle.std.proofs.Common.{arith, ◌≡◌, ◌==◌, ℕ, zero, suc, ◌+◌, ◌<◌, ◌≤◌, List, [], ◌∷◌, Bool, true, false, not, ◌&&◌, ◌||◌, if◌then◌else◌, nat_lt, refl, sym, ap, ◌∙◌}
-use Rattle.std.specs.List.{filter, range_with_len}
+use Rattle.std.proofs.Common.{arith, ◌≡◌, ◌==◌, ℕ, zero, suc, ◌+◌, ◌*◌, ◌/◌, ◌<◌, ◌≤◌, List, [], ◌∷◌, Bool, true, false, not, ◌&&◌, ◌||◌, if◌then◌else◌, nat_lt, nat_le, refl, sym, ap, ◌∙◌, ◌⊎◌, inl, inr}
+use Rattle.std.proofs.lemmas.Bool.{cases_lt, cases_order}
+use Rattle.std.specs.List.{filter, range_with_len, AllByRecursion}
 use Rattle.std.proofs.lemmas.Bool.Decides.{nat_tests}
 use Rattle.clause_base.specs.Clause.{put}
-use Rattle.goal_choice.specs.Members.{Literals}
+use Rattle.goal_choice.specs.Members.{Literals, members_from}
 
 same_above : (p q : ℕ → Bool) (k n : ℕ) → ((j : ℕ) → k ≤ j → q j ≡ p j) → filter q (range_with_len k n) ≡ filter p (range_with_len k n)
 same_above p q k zero h = refl
@@ -84,6 +85,85 @@ put_in p q l k (suc n) a b h = by (l == k) refl (λ w. put_in p q l (k + 1) n (o
         let qk : q k ≡ p k = h k ∙ rw e refl in
         let w = apart l k e a in
         rw qk (later w (p k) (on w))
+
+filter_both : (p q : ℕ → Bool) (ls : List ℕ) → filter p (filter q ls) ≡ filter (λ l. p l && q l) ls
+filter_both p q [] = refl
+filter_both p q (l ∷ ls) = by (q l) (p l) refl refl (filter_both p q ls)
+  where
+    by : (b c : Bool) → q l ≡ b → p l ≡ c → filter p (filter q ls) ≡ filter (λ k. p k && q k) ls → filter p (if b then l ∷ filter q ls else filter q ls) ≡ (if c && b then l ∷ filter (λ k. p k && q k) ls else filter (λ k. p k && q k) ls)
+    by true true d e r = rw e (ap (λ (ks : List ℕ). l ∷ ks) r)
+    by true false d e r = rw e r
+    by false true d e r = r
+    by false false d e r = r
+
+-- the members from zero on are all
+pub all_from : (ls : List ℕ) → members_from 0 ls ≡ ls
+all_from [] = refl
+all_from (l ∷ ls) = let e : nat_le 0 l ≡ true = grind (arith, nat_tests) in rw e (ap (λ (ks : List ℕ). l ∷ ks) (all_from ls))
+
+-- the least member from a number on, and those behind it
+pub next_one : (p : ℕ → Bool) (low l n : ℕ) → low ≤ l → p l ≡ true → ((j : ℕ) → low ≤ j → j < l → p j ≡ false) → l < n → members_from low (filter p (range_with_len 0 n)) ≡ l ∷ members_from (l + 1) (filter p (range_with_len 0 n))
+next_one p low l n a t m b =
+    filter_both (λ j. nat_le low j) p (range_with_len 0 n)
+    ∙ taken (λ j. nat_le low j && p j) (λ j. nat_le (l + 1) j && p j) l 0 n (omega arith) (omega (arith, b)) here below rest
+    ∙ ap (λ (ks : List ℕ). l ∷ ks) (sym (filter_both (λ j. nat_le (l + 1) j) p (range_with_len 0 n)))
+  where
+    here : (nat_le low l && p l) ≡ true
+    here = let e : nat_le low l ≡ true = grind (arith, nat_tests) in rw (e, t) refl
+
+    below : (j : ℕ) → 0 ≤ j → j < l → (nat_le low j && p j) ≡ false
+    below j z k = by (cases_lt j low)
+      where
+        by : (j < low) ⊎ (low ≤ j) → (nat_le low j && p j) ≡ false
+        by (inl h) = let e : nat_le low j ≡ false = grind (arith, nat_tests) in rw e refl
+        by (inr h) = let e : nat_le low j ≡ true = grind (arith, nat_tests) in rw (e, m j h k) refl
+
+    rest : (j : ℕ) → (nat_le (l + 1) j && p j) ≡ (not (l == j) && (nat_le low j && p j))
+    rest j = by (cases_order j l)
+      where
+        by : (j ≡ l) ⊎ ((j < l) ⊎ (l < j)) → (nat_le (l + 1) j && p j) ≡ (not (l == j) && (nat_le low j && p j))
+        by (inl h) =
+            let e : nat_le (l + 1) j ≡ false = grind (arith, nat_tests) in
+            let f : (l == j) ≡ true = grind (arith, nat_tests) in
+            rw (e, f) refl
+        by (inr (inl h)) =
+            let e : nat_le (l + 1) j ≡ false = grind (arith, nat_tests) in
+            let f : (l == j) ≡ false = grind (arith, nat_tests) in
+            rw (e, f) (sym (below j (omega arith) h))
+        by (inr (inr h)) =
+            let e : nat_le (l + 1) j ≡ true = grind (arith, nat_tests) in
+            let f : (l == j) ≡ false = grind (arith, nat_tests) in
+            let g : nat_le low j ≡ true = grind (arith, nat_tests) in
+            rw (e, f, g) refl
+
+-- there is none from a number on
+pub no_next : (p : ℕ → Bool) (low n : ℕ) → ((j : ℕ) → low ≤ j → p j ≡ false) → members_from low (filter p (range_with_len 0 n)) ≡ []
+no_next p low n h = filter_both (λ j. nat_le low j) p (range_with_len 0 n) ∙ none_in (λ j. nat_le low j && p j) 0 n (λ j z. by j (cases_lt j low))
+  where
+    by : (j : ℕ) → (j < low) ⊎ (low ≤ j) → (nat_le low j && p j) ≡ false
+    by j (inl k) = let e : nat_le low j ≡ false = grind (arith, nat_tests) in rw e refl
+    by j (inr k) = let e : nat_le low j ≡ true = grind (arith, nat_tests) in rw (e, h j k) refl
+
+-- the numbers below twice a count are literals of so many facts
+pub within_facts : (p : ℕ → Bool) (facts k n : ℕ) → k + n ≤ 2 * facts → AllByRecursion (λ l. l / 2 < facts) (filter p (range_with_len k n))
+within_facts p facts k zero h = tt
+within_facts p facts k (suc n) h = by (p k) (within_facts p facts (k + 1) n (omega (arith, h)))
+  where
+    by : (b : Bool) → AllByRecursion (λ l. l / 2 < facts) (filter p (range_with_len (k + 1) n)) → AllByRecursion (λ l. l / 2 < facts) (if b then k ∷ filter p (range_with_len (k + 1) n) else filter p (range_with_len (k + 1) n))
+    by true r = (omega (arith, h), r)
+    by false r = r
+
+-- a number that is not in is none of the members
+pub is_absent : (p : ℕ → Bool) (l k n : ℕ) → p l ≡ false → AllByRecursion (λ m. m ≡ l → ⊥) (filter p (range_with_len k n))
+is_absent p l k zero e = tt
+is_absent p l k (suc n) e = by (p k) refl (is_absent p l (k + 1) n e)
+  where
+    by : (b : Bool) → p k ≡ b → AllByRecursion (λ m. m ≡ l → ⊥) (filter p (range_with_len (k + 1) n)) → AllByRecursion (λ m. m ≡ l → ⊥) (if b then k ∷ filter p (range_with_len (k + 1) n) else filter p (range_with_len (k + 1) n))
+    by true q r = (λ same. apart_by same q, r)
+      where
+        apart_by : k ≡ l → p k ≡ true → ⊥
+        apart_by same q = let f = ap p same in cc
+    by false q r = r
 
 -- two sets with the same members
 pub same_set : (f g : ℕ) (ls ms : List ℕ) → f ≡ g → ls ≡ ms → (let x : Literals = record { facts = f; members = ls } in x) ≡ (let y : Literals = record { facts = g; members = ms } in y)

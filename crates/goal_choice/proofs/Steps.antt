@@ -26,6 +26,14 @@ put_more ks ms before after b a = a ∙ ap (λ (ls : List ℕ). fold put ls ms) 
 pub no_more : (wish : ℕ → Wish) (whole : Wish) (ks wanted : List ℕ) → whole ≡ both (Wants ks) (wishes wish wanted) → wanted ≡ [] → whole ≡ Wants ks
 no_more wish whole ks wanted e w = e ∙ ap (λ (ls : List ℕ). both (Wants ks) (wishes wish ls)) w ∙ ap Wants (append-nil ks)
 
+-- before the first of them nothing is wanted
+pub wants_none : (wish : ℕ → Wish) (wanted rest : List ℕ) → rest ≡ wanted → wishes wish wanted ≡ both (Wants []) (wishes wish rest)
+wants_none wish wanted rest e = sym (nothing (wishes wish rest) ∙ ap (wishes wish) e)
+  where
+    nothing : (w : Wish) → both (Wants []) w ≡ w
+    nothing (Chooses c) = refl
+    nothing (Wants ms) = refl
+
 -- the walk after the wishes of a step
 abbrev onward : (ℕ → ℕ → Wish) → ℕ → Wish → Option ℕ
 onward wish t w = elim w [ Chooses c ↦ Some c | Wants ls ↦ walk wish t (fold put [] ls) ]

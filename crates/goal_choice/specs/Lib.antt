@@ -4,3 +4,4 @@ pub mod Choice
 pub mod Members
 pub mod Wishes
 pub mod ChoiceLaw
+pub mod Kept

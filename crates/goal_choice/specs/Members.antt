@@ -1,7 +1,7 @@
 -- Sets of fact literals, and what the parts of a chooser keep.
-use Rattle.std.specs.Prelude.{◌≡◌, ℕ, ◌*◌, ◌/◌, ◌<◌, ◌≤◌, List, [], true, length, slice_index_or}
+use Rattle.std.specs.Prelude.{◌≡◌, ℕ, ◌+◌, ◌*◌, ◌/◌, ◌<◌, ◌≤◌, List, [], true, length, nat_le, slice_index_or}
 use Rattle.std.specs.List.{filter, range_with_len, AllByRecursion}
-use Rattle.gt_core.specs.Layout.{Layout, width}
+use Rattle.gt_core.specs.Layout.{Layout}
 use Rattle.bit_rows.specs.Bits.{row_has, room}
 use Rattle.clause_base.specs.Clause.{IsRising}
 use Rattle.goal_choice.specs.Means.{Supporter, Means}
@@ -15,15 +15,23 @@ pub record Literals : Type 0 where
 abbrev pub members_of : List ℕ → ℕ → List ℕ
 members_of row end = filter (row_has row) (range_with_len 0 end)
 
+-- no literals, of so many facts
+abbrev pub no_literals : ℕ → Literals
+no_literals facts = record { facts = facts; members = [] }
+
+-- the members from a number on
+abbrev pub members_from : ℕ → List ℕ → List ℕ
+members_from low ls = filter (λ l. nat_le low l) ls
+
 -- a row of bits has room for the numbers below one
 pub record IsOver (end : ℕ) (row : List ℕ) : Type 0 where
   pub few : end ≤ 4096
   pub room : end ≤ room row
   pub below : (k : ℕ) → row_has row k ≡ true → k < end
 
--- a supporter's variable is one of a step's, and it needs literals of the facts
+-- a supporter's variable is that of an action or of a conditional effect, and it needs literals of the facts
 pub record IsWithin (z : Layout) (s : Supporter) : Type 0 where
-  pub variable : s.variable < width z
+  pub variable : s.variable < z.actions + z.conditional
   pub needs : AllByRecursion (λ l. l / 2 < z.facts) s.needs
 
 -- the goal is sorted and of the facts, and so are the needs of each literal's supporters

@@ -8,9 +8,8 @@ ghost use Rattle.goal_choice.specs.Choice.{choice_by};
 ghost use Rattle.clause_base.specs.Choice.{plain_choice};
 ghost use Rattle.goal_choice.specs.ChoiceLaw.{choice-open};
 
-use crate::literals::Literals;
+use crate::last_walk::LastWalk;
 use crate::means::Means;
-use crate::walk::walk;
 use clause_base::chooser::{Chooser, PlainChooser};
 use clause_base::literal::Lit;
 use clause_base::memory::Memory;
@@ -20,24 +19,19 @@ use gt_core::task::Task;
 use std::alloc::Global;
 use std::marker::Model;
 
-/// The chooser of actions backwards from the goals. It fits the number of variables of the layout that it was made with. The
-/// sets that its walk writes over are made with it, and no answer depends on what they held.
+/// The chooser of actions backwards from the goals. It fits the number of variables of the layout that it was made with. What
+/// it keeps of its last walk is made with it, and no answer depends on that.
 #[derive(Debug, Drop)]
 pub struct GoalChooser {
-    means: Means,
-    wanted: Literals,
-    before: Literals,
+    walk: LastWalk,
 }
 
 impl Model for GoalChooser {
-    ghost use Rattle.std.specs.Prelude.{◌≡◌};
     ghost use Rattle.goal_choice.specs.Means.{Means};
 
     ghost Value = { Means };
 
-    ghost view = { λ c. c.means };
-
-    ghost invariant = { λ c. (c.wanted.facts ≡ c.means.layout.facts) × (c.before.facts ≡ c.means.layout.facts) };
+    ghost view = { λ c. c.walk.means };
 }
 
 impl GoalChooser {
@@ -49,11 +43,8 @@ impl GoalChooser {
         ensures { IfOk result (λ c. c ≡ means_of task.now layout) }
     {
         let means = Means::new(alloc, task, layout)?;
-        let facts = means.layout().facts;
         Ok(GoalChooser {
-            means,
-            wanted: Literals::new(alloc, facts)?,
-            before: Literals::new(alloc, facts)?,
+            walk: LastWalk::new(alloc, means)?,
         })
     }
 }
@@ -66,7 +57,7 @@ impl Chooser for GoalChooser {
     ghost opens = { λ c values _. choice-open c values };
 
     fn choose(&mut self, values: &Values) -> Option<Lit> {
-        match walk(&self.means, values, &mut self.wanted, &mut self.before) {
+        match self.walk.choice(values) {
             Some(lit) => Some(lit),
             None => least_variable_false(values),
         }

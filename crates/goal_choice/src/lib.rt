@@ -8,6 +8,7 @@
 #![tactic(auto)]
 
 mod chooser;
+mod last_walk;
 mod literals;
 mod means;
 mod supporter;

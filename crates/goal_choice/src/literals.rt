@@ -1,6 +1,7 @@
 //! Sets of fact literals.
 
-ghost use Rattle.std.specs.Prelude.{◌≡◌};
+ghost use Rattle.std.specs.Prelude.{◌≡◌, ◌≤◌, replicate, IfOk};
+ghost use Rattle.goal_choice.specs.Members.{no_literals};
 
 use bit_rows::row::BitRow;
 use clause_base::memory::Memory;
@@ -26,9 +27,11 @@ impl Model for Literals {
 }
 
 impl Literals {
-    ghost use Rattle.std.specs.Prelude.{◌≡◌, ◌≤◌, ◌<◌, ◌/◌, [], ◌∷◌, fold, IfOk, IfSome, IfNone};
+    ghost use Rattle.std.specs.Prelude.{◌≡◌, ◌+◌, ◌≤◌, ◌<◌, ◌/◌, [], ◌∷◌, fold, IfOk, IfSome, IfNone};
+    ghost use Rattle.std.specs.Bool.{OnFalse};
     ghost use Rattle.std.specs.List.{AllByRecursion};
     ghost use Rattle.clause_base.specs.Clause.{put};
+    ghost use Rattle.goal_choice.specs.Members.{members_from};
 
     /// The set without literals, with room for those of so many facts.
     pub(crate) fn new(alloc: Global, facts: u32) -> Result<Literals, Memory>
@@ -60,6 +63,33 @@ impl Literals {
         }
     }
 
+    /// The least literal from a number on.
+    pub(crate) fn least(&self, from: u32) -> Option<u32>
+        ensures some { IfSome result (λ l. members_from from self.now.members ≡ l ∷ members_from (l + 1) self.now.members) }
+        ensures none { IfNone result (members_from from self.now.members ≡ []) }
+        ensures within { IfSome result (λ l. l / 2 < self.now.facts) }
+        ensures small { IfSome result (λ l. l < 4096) }
+    {
+        match self.row.least(from) {
+            None => None,
+            Some(lit) => Some(lit),
+        }
+    }
+
+    /// Whether a literal is in.
+    pub(crate) fn contains(&self, lit: u32) -> bool
+        ensures { OnFalse result (AllByRecursion (λ l. l ≡ lit → ⊥) self.now.members) }
+    {
+        self.row.contains(lit)
+    }
+
+    /// Its literals are of its facts.
+    pub(crate) fn keeps_within(&self)
+        ensures { AllByRecursion (λ l. l / 2 < self.now.facts) self.now.members }
+    {
+        let _ = &self.row;
+    }
+
     /// Takes the least literal out.
     pub(crate) fn take_least(&mut self) -> Option<u32>
         ensures some { IfSome result (λ l. self.old.members ≡ l ∷ self.new.members) }
@@ -83,4 +113,16 @@ impl Literals {
     {
         'clearing: while let Some(_lit) = self.take_least() {}
     }
+}
+
+/// So many sets without literals, each with room for those of so many facts.
+pub(crate) fn empty_sets(alloc: Global, count: usize, facts: u32) -> Result<Vec<Literals>, Memory>
+    requires { facts ≤ 2048 }
+    ensures { IfOk result (λ sets. sets.items ≡ replicate count (no_literals facts)) }
+{
+    let mut sets = Vec::with_capacity(alloc, count)?;
+    'filling: while sets.len() < count {
+        sets.push(Literals::new(alloc, facts)?)?;
+    }
+    Ok(sets)
 }

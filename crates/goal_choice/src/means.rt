@@ -4,7 +4,6 @@ ghost use Rattle.std.specs.Prelude.{◌≡◌, ℕ, ◌+◌, ◌*◌, ◌/◌, �
 ghost use Rattle.std.specs.List.{AllByRecursion};
 ghost use Rattle.gt_core.specs.Active.{EffectWithin};
 ghost use Rattle.gt_core.specs.Lawful.{is_conditional, conditional_in, is_task};
-ghost use Rattle.gt_core.specs.Layout.{width};
 ghost use Rattle.gt_core.specs.Literal.{range};
 ghost use Rattle.gt_core.specs.Task.{action};
 ghost use Rattle.step_clauses.specs.Variables.{rows, variable_at};
@@ -40,6 +39,7 @@ impl Model for Means {
 }
 
 impl Means {
+    ghost use Rattle.goal_choice.specs.Members.{AreMeans};
     ghost use Rattle.clause_base.specs.Clause.{IsRising};
     ghost use Rattle.goal_choice.specs.Means.{means_of, start_of, variable_from};
 
@@ -65,6 +65,7 @@ impl Means {
     pub(crate) fn layout(&self) -> &Layout
         ensures layout { result.now ≡ self.now.layout }
         ensures few { self.now.layout.facts ≤ 2048 }
+        ensures kept { AreMeans self.now }
     {
         &self.layout
     }
@@ -117,7 +118,7 @@ fn variable_of(layout: &Layout, action: u32, number: u32, effect: &Eff) -> u32
     requires number { is_conditional effect.now ≡ true → number < layout.now.conditional }
     requires few { layout.now.actions + layout.now.conditional ≤ 81920 }
     ensures value { result ≡ variable_at layout.now 0 (row_of action number effect.now) }
-    ensures within { result < width layout.now }
+    ensures within { result < layout.now.actions + layout.now.conditional }
 {
     if effect.is_conditional() {
         layout.actions + number

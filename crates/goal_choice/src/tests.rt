@@ -2,6 +2,9 @@
 //! actions 2 and 3 make true; in `mixed` action 0 needs fact 1 and makes fact 0 true where fact 2 holds, and the actions 1 and 2
 //! make these true. All facts are false at first, and the goal is fact 0.
 
+ghost use Rattle.std.specs.Prelude.{◌≡◌, ◌<◌, length};
+ghost use Rattle.gt_core.specs.Layout.{variables};
+
 use crate::GoalChooser;
 use clause_base::chooser::Chooser;
 use clause_base::values::Values;
@@ -105,5 +108,46 @@ fn conditions_are_wanted(rt: HostRuntime) -> Result<(), Fail> {
     let more = [(7, true), (9, false), (10, false), (1, true)];
     let second = chosen(&rt, rt.alloc(), &task, &more)?;
     assert_eq!(rt; (first, second), (2, 4));
+    Ok(())
+}
+
+/// The code of what a chooser chooses once a variable has another value, 99 for nothing.
+fn next(chooser: &mut GoalChooser, values: &mut Values, v: u32, value: Option<bool>) -> u32
+    requires v { v < length values.old }
+    requires fits { length values.old ≡ variables chooser.old.layout }
+    ensures long { length values.new ≡ length values.old }
+    ensures kept { chooser.new ≡ chooser.old }
+{
+    values.set(v, value);
+    match chooser.choose(values) {
+        None => 99,
+        Some(lit) => lit.0,
+    }
+}
+
+/// The lamp over two steps: flip in the steps 0 and 1 are the variables 0 and 1, and the lamp at the times 0, 1 and 2 the
+/// variables 2, 3 and 4.
+#[test]
+fn one_chooser_as_values_change(rt: HostRuntime) -> Result<(), Fail> {
+    let task = lamp(rt.alloc())?;
+    assert!(rt; task.facts() <= 8 && task.acts().len() <= 8 && task.conditional() <= 8);
+    let actions = task.acts().len() as u32;
+    let layout = Layout::new(2, actions, task.conditional(), 0, task.facts());
+    let count = layout.variables();
+    assert!(rt; count == 5);
+    let mut values = Values::new(rt.alloc(), count)?;
+    let mut chooser = GoalChooser::new(rt.alloc(), &task, layout)?;
+    let none = next(&mut chooser, &mut values, 4, None);
+    let wanted_false = next(&mut chooser, &mut values, 2, Some(false));
+    let supporter_false = next(&mut chooser, &mut values, 0, Some(false));
+    let supporter_true = next(&mut chooser, &mut values, 1, Some(true));
+    let before_true = next(&mut chooser, &mut values, 3, Some(true));
+    let before_false = next(&mut chooser, &mut values, 3, Some(false));
+    let supporter_open = next(&mut chooser, &mut values, 1, None);
+    let before_open = next(&mut chooser, &mut values, 3, None);
+    let first_open = next(&mut chooser, &mut values, 0, None);
+    assert_eq!(rt; (none, wanted_false, supporter_false), (1, 0, 3));
+    assert_eq!(rt; (supporter_true, before_true, before_false), (7, 9, 9));
+    assert_eq!(rt; (supporter_open, before_open, first_open), (2, 3, 0));
     Ok(())
 }

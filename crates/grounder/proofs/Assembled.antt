@@ -22,6 +22,14 @@ grounded_is law p reached kept least atoms_sorted calls_sorted constant facts ca
     let same : grounded_from p reached kept ≡ grounded_by p facts calls = (λ i. grounded_by p (sym all i) (actions_of p (sym all i) kept)) ∙ ap (grounded_by p facts) (sym calls_are) in
     subst (IsGrounded p) same (law p reached kept least atoms_sorted calls_sorted)
 
+-- the same, where what was found is of a task that is the same
+pub found_is : LeastIsGrounded → (p q : Parts) (reached : List Atom) (kept : List Call) (constant facts : List Atom) (calls : List Call) → q ≡ p
+    → IsLeastPair q reached kept → IsSorted atom_less reached → IsSorted call_less kept → HasExactly (is_constant q reached kept) constant
+    → facts ≡ filter (λ a. not (is_in a constant)) reached → calls ≡ actions_of p facts kept → IsGrounded p (grounded_by p facts calls)
+found_is law p q reached kept constant facts calls same least atoms_sorted calls_sorted exact =
+    grounded_is law p reached kept (subst (λ (r : Parts). IsLeastPair r reached kept) same least) atoms_sorted calls_sorted constant facts calls
+    (subst (λ (r : Parts). HasExactly (is_constant r reached kept) constant) same exact)
+
 -- the task is the one that was made
 pub with_task : (p : Parts) (facts : List Atom) (calls : List Call) (task : Task) → IsGrounded p (grounded_by p facts calls) → task ≡ task_of p facts calls
     → IsGrounded p (record { facts = facts; calls = calls; task = task })

@@ -11,7 +11,7 @@ use Rattle.std.proofs.lemmas.Bool.Decides.{nat_tests}
 use Rattle.gt_core.specs.Task.{Effect}
 use Rattle.gt_core.specs.Lawful.{list_less, effect_less}
 use Rattle.pd_model.specs.declared.atoms.Atom.{Atom}
-use Rattle.pd_model.proofs.Equality.{atom_cmp}
+use Rattle.pd_model.specs.Order.{atom_cmp}
 use Rattle.grounding.specs.Sorted.{atom_less, insert_in}
 use Rattle.grounder.specs.declared.effects.Keyed.{Keyed}
 use Rattle.grounder.specs.Putting.{effect_at, effects_at}

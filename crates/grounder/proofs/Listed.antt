@@ -1,15 +1,14 @@
 -- What lists of the objects that fit types stand for.
-use Rattle.std.proofs.Common.{◌≡◌, List, [], ◌++◌, ℕ, map, ap, sym, subst}
+use Rattle.std.proofs.Common.{◌≡◌, List, [], ◌++◌, ℕ, map, ap, sym}
 use Rattle.std.specs.List.{list_any}
 use Rattle.gt_core.specs.Task.{Effect}
 use Rattle.pd_model.specs.Fits.{tuples}
 use Rattle.pd_model.specs.declared.atoms.Atom.{Atom}
-use Rattle.pd_model.specs.declared.calls.Call.{Call}
 use Rattle.pd_model.specs.declared.effects.Effect.{Effect as Lifted}
 use Rattle.pd_model.specs.declared.parts.Parts.{Parts}
 use Rattle.grounding.specs.Instance.{change_of, changes_of}
-use Rattle.grounding.specs.Found.{deletes, is_constant}
-use Rattle.grounder.specs.Putting.{put_changes, LeavesOut, HasExactly}
+use Rattle.grounding.specs.Found.{deletes}
+use Rattle.grounder.specs.Putting.{put_changes, LeavesOut}
 use Rattle.grounder.proofs.Leaving.{left_none}
 
 -- an effect whose `forall` no tuple fits has no instance
@@ -21,7 +20,3 @@ none_left_out p reached objects e s none = left_none (λ a. list_any (deletes re
 
 pub nothing_put : (p : Parts) (facts : List Atom) (objects : List ℕ) (e : Lifted) (effects : List Effect) → tuples p e.over ≡ [] → effects ≡ put_changes p facts (changes_of p objects e) effects
 nothing_put p facts objects e effects none = sym (ap (λ cs. put_changes p facts cs effects) (no_changes p objects e none))
-
--- the constant atoms of the task that the lists are of
-pub exact_in : (q p : Parts) (reached : List Atom) (kept : List Call) (constant : List Atom) → q ≡ p → HasExactly (is_constant q reached kept) constant → HasExactly (is_constant p reached kept) constant
-exact_in q p reached kept constant same exact = subst (λ (r : Parts). HasExactly (is_constant r reached kept) constant) same exact

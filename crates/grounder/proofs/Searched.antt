@@ -12,7 +12,8 @@ use Rattle.std.proofs.lemmas.Bool.{cases_lt, both_ways, false_from_ne_true}
 use Rattle.std.proofs.lemmas.List.Sorted.{searchable_from_sorted}
 use Rattle.pd_model.specs.declared.atoms.Atom.{Atom}
 use Rattle.pd_model.specs.State.{is_in}
-use Rattle.pd_model.proofs.Equality.{atom_cmp, tied, same_is, same_refl}
+use Rattle.pd_model.specs.Order.{atom_cmp}
+use Rattle.pd_model.proofs.Equality.{tied, same_is, same_refl}
 use Rattle.grounding.specs.Sorted.{atom_less, IsSorted}
 use Rattle.grounding.specs.Simplify.{place}
 use Rattle.grounding.proofs.Orders.{atoms}

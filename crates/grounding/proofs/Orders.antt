@@ -3,6 +3,9 @@ use Rattle.std.proofs.Common.{arith, ◌≡◌, ℕ, ◌==◌, List, [], ◌∷�
 use Rattle.std.specs.Prelude.{nat_lt}
 use Rattle.std.proofs.lemmas.Bool.Decides.{nat_tests}
 use Rattle.gt_core.specs.Lawful.{list_less, effect_less}
+use Rattle.gt_core.specs.Task.{Effect}
+use Rattle.pd_model.specs.declared.atoms.Atom.{Atom}
+use Rattle.pd_model.specs.declared.calls.Call.{Call}
 use Rattle.grounding.specs.Sorted.{atom_less, call_less}
 
 pub record IsOrder {X : Type 0} (less : X → X → Bool) : Type 0 where
@@ -58,32 +61,21 @@ numbers = record {
   total = λ x y t u. grind (arith, nat_tests);
 }
 
-pub atoms : IsOrder atom_less
-atoms = record {
-  apart = λ a b t u. first_apart a.predicate b.predicate _ _ (lists_apart a.objects b.objects) t u;
-  along = λ a b c t u. first_along a.predicate b.predicate c.predicate _ _ _ (lists_along a.objects b.objects c.objects) t u;
-  total = λ a b t u.
-      let tied = first_total a.predicate b.predicate (list_less a.objects b.objects) (list_less b.objects a.objects) t u in
-      let rest = lists_total a.objects b.objects tied.not_less tied.not_greater in
-      λ i. record { predicate = tied.same i; objects = rest i };
+-- by a number, and then by a list of numbers, where these two tell apart
+by_pair : {X : Type 0} (first : X → ℕ) (rest : X → List ℕ) → ((x y : X) → first x ≡ first y → rest x ≡ rest y → x ≡ y) → IsOrder (λ x y. first_by (first x) (first y) (list_less (rest x) (rest y)))
+by_pair first rest same = record {
+  apart = λ x y t u. first_apart (first x) (first y) _ _ (lists_apart (rest x) (rest y)) t u;
+  along = λ x y z t u. first_along (first x) (first y) (first z) _ _ _ (lists_along (rest x) (rest y) (rest z)) t u;
+  total = λ x y t u.
+      let tied = first_total (first x) (first y) (list_less (rest x) (rest y)) (list_less (rest y) (rest x)) t u in
+      same x y tied.same (lists_total (rest x) (rest y) tied.not_less tied.not_greater);
 }
+
+pub atoms : IsOrder atom_less
+atoms = by_pair {X = Atom} (λ (a : Atom). a.predicate) (λ (a : Atom). a.objects) (λ a b p o i. record { predicate = p i; objects = o i })
 
 pub calls : IsOrder call_less
-calls = record {
-  apart = λ c d t u. first_apart c.schema d.schema _ _ (lists_apart c.objects d.objects) t u;
-  along = λ c d e t u. first_along c.schema d.schema e.schema _ _ _ (lists_along c.objects d.objects e.objects) t u;
-  total = λ c d t u.
-      let tied = first_total c.schema d.schema (list_less c.objects d.objects) (list_less d.objects c.objects) t u in
-      let rest = lists_total c.objects d.objects tied.not_less tied.not_greater in
-      λ i. record { schema = tied.same i; objects = rest i };
-}
+calls = by_pair {X = Call} (λ (c : Call). c.schema) (λ (c : Call). c.objects) (λ c d s o i. record { schema = s i; objects = o i })
 
 pub effects : IsOrder effect_less
-effects = record {
-  apart = λ d e t u. first_apart d.literal e.literal _ _ (lists_apart d.condition e.condition) t u;
-  along = λ d e f t u. first_along d.literal e.literal f.literal _ _ _ (lists_along d.condition e.condition f.condition) t u;
-  total = λ d e t u.
-      let tied = first_total d.literal e.literal (list_less d.condition e.condition) (list_less e.condition d.condition) t u in
-      let rest = lists_total d.condition e.condition tied.not_less tied.not_greater in
-      λ i. record { condition = rest i; literal = tied.same i };
-}
+effects = by_pair {X = Effect} (λ (e : Effect). e.literal) (λ (e : Effect). e.condition) (λ d e l o i. record { condition = o i; literal = l i })

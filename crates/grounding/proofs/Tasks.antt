@@ -1,51 +1,16 @@
 -- Small tasks, and short words for their parts.
-use Rattle.std.proofs.Common.{ℕ, List, [], ◌∷◌, true, false}
-use Rattle.pd_model.specs.declared.atoms.Term.{Term}
+use Rattle.std.proofs.Common.{ℕ, List, [], ◌∷◌}
 use Rattle.pd_model.specs.declared.atoms.Term.TheVariants.{Variable}
-use Rattle.pd_model.specs.declared.atoms.Pattern.{Pattern}
 use Rattle.pd_model.specs.declared.atoms.Atom.{Atom}
 use Rattle.pd_model.specs.declared.conds.Cond.{Cond}
-use Rattle.pd_model.specs.declared.conds.Cond.TheVariants.{Has}
-use Rattle.pd_model.specs.declared.effects.Effect.{Effect}
 use Rattle.pd_model.specs.declared.schemas.Schema.{Schema}
-use Rattle.pd_model.specs.declared.calls.Call.{Call}
-use Rattle.pd_model.specs.declared.types.TypeDecl.{TypeDecl}
-use Rattle.pd_model.specs.declared.predicates.Predicate.{Predicate}
 use Rattle.pd_model.specs.declared.objects.ObjectDecl.{ObjectDecl}
 use Rattle.pd_model.specs.declared.parts.Parts.{Parts}
+pub use Rattle.pd_model.proofs.Tasks.{has, call}
+use Rattle.pd_model.proofs.Tasks.{lacks, add, delete, schema, arity, type_under, object_of_type}
 
 abbrev pub atom : ℕ → List ℕ → Atom
 atom predicate objects = record { predicate = predicate; objects = objects }
-
-abbrev pub call : ℕ → List ℕ → Call
-call number objects = record { schema = number; objects = objects }
-
-abbrev pub pattern_of : ℕ → List Term → Pattern
-pattern_of predicate terms = record { predicate = predicate; terms = terms }
-
-abbrev pub has : ℕ → List Term → Cond
-has predicate terms = Has (pattern_of predicate terms) true
-
-abbrev pub lacks : ℕ → List Term → Cond
-lacks predicate terms = Has (pattern_of predicate terms) false
-
-abbrev pub add : List ℕ → List Cond → ℕ → List Term → Effect
-add over cond predicate terms = record { over = over; cond = cond; atom = pattern_of predicate terms; adds = true }
-
-abbrev pub delete : List ℕ → List Cond → ℕ → List Term → Effect
-delete over cond predicate terms = record { over = over; cond = cond; atom = pattern_of predicate terms; adds = false }
-
-abbrev pub schema : List ℕ → List Cond → List Effect → Schema
-schema parameters pre effects = record { name = []; parameters = parameters; pre = pre; effects = effects }
-
-abbrev arity : ℕ → Predicate
-arity n = record { name = []; arity = n }
-
-abbrev type_under : ℕ → TypeDecl
-type_under parent = record { name = []; parent = parent }
-
-abbrev object_of_type : ℕ → ObjectDecl
-object_of_type kind = record { name = []; kind = kind }
 
 -- two predicates without terms
 abbrev pub plain : List Schema → List Atom → List Cond → Parts

@@ -1,7 +1,7 @@
 -- Lists in order, and the orders of atoms, calls and effects.
 use Rattle.std.specs.Prelude.{◌==◌, List, [], ◌∷◌, Bool, ◌&&◌, ◌||◌, nat_lt, IsTrue, if◌then◌else◌}
-use Rattle.std.specs.List.{AllByRecursion}
 use Rattle.gt_core.specs.Lawful.{list_less}
+use Rattle.gt_core.specs.Published.{Pairwise}
 use Rattle.pd_model.specs.declared.atoms.Atom.{Atom}
 use Rattle.pd_model.specs.declared.calls.Call.{Call}
 
@@ -15,8 +15,7 @@ call_less c d = nat_lt c.schema d.schema || ((c.schema == d.schema) && list_less
 
 -- each element is before every later one, so none stands twice
 abbrev pub IsSorted : {X : Type 0} → (X → X → Bool) → List X → Type 0
-IsSorted less [] = Unit {0}
-IsSorted less (x ∷ xs) = AllByRecursion (λ y. IsTrue (less x y)) xs × IsSorted less xs
+IsSorted less xs = Pairwise (λ x y. IsTrue (less x y)) xs
 
 -- an element comes before the first that is greater, and in place of the like of it
 abbrev pub insert_in : {X : Type 0} → (X → X → Bool) → X → List X → List X

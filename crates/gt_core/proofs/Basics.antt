@@ -1,58 +1,25 @@
 use Rattle.std.proofs.Common.{arith, ◌≡◌, ◌==◌, ℕ, List, [], ◌∷◌, Bool, true, false, not, ◌||◌, ◌&&◌, refl, sym, ap, ◌∙◌, subst, ◌⊎◌, inl, inr}
 use Rattle.std.specs.List.{list_any, list_all, AllByRecursion}
-use Rattle.std.proofs.lemmas.Bool.Decides.{nat_tests}
+use Rattle.std.proofs.lemmas.Bool.{both_ways}
+pub use Rattle.std.proofs.lemmas.Bool.{
+  or_cases as or_split,
+  or_left,
+  or_right,
+  or_parts as or_none,
+  and_parts as and_split,
+  and_from as and_both,
+  not-true as not_split,
+  not_from_false as not_false,
+  false_from_ne_true as not_true,
+  cases_Bool as cases,
+  eq-eqb as same_test,
+  eqb-true as test_same,
+}
 
--- Tests as facts, and membership in lists.
-
-pub or_split : (a b : Bool) → (a || b) ≡ true → (a ≡ true) ⊎ (b ≡ true)
-or_split true b e = inl refl
-or_split false b e = inr e
-
-pub or_left : (a b : Bool) → a ≡ true → (a || b) ≡ true
-or_left true b e = refl
-or_left false b e = cc
-
-pub or_right : (a b : Bool) → b ≡ true → (a || b) ≡ true
-or_right true b e = refl
-or_right false b e = e
-
-pub or_none : (a b : Bool) → (a || b) ≡ false → (a ≡ false) × (b ≡ false)
-or_none true b e = cc
-or_none false b e = (refl, e)
-
-pub and_split : (a b : Bool) → (a && b) ≡ true → (a ≡ true) × (b ≡ true)
-and_split true b e = (refl, e)
-and_split false b e = cc
-
-pub and_both : (a b : Bool) → a ≡ true → b ≡ true → (a && b) ≡ true
-and_both true b e f = f
-and_both false b e f = cc
-
-pub not_split : (b : Bool) → not b ≡ true → b ≡ false
-not_split true e = cc
-not_split false e = refl
-
-pub not_false : (b : Bool) → b ≡ false → not b ≡ true
-not_false true e = cc
-not_false false e = refl
-
-pub not_true : (b : Bool) → (b ≡ true → ⊥) → b ≡ false
-not_true true h = absurd (h refl)
-not_true false h = refl
+-- Tests as facts, by the library's lemmas, and membership in lists.
 
 pub apart : (b : Bool) → b ≡ true → b ≡ false → ⊥
-apart true e f = cc
-apart false e f = cc
-
-pub cases : (b : Bool) → (b ≡ true) ⊎ (b ≡ false)
-cases true = inl refl
-cases false = inr refl
-
-pub same_test : (m n : ℕ) → m ≡ n → (m == n) ≡ true
-same_test m n e = grind (arith, nat_tests)
-
-pub test_same : (m n : ℕ) → (m == n) ≡ true → m ≡ n
-test_same m n e = grind (arith, nat_tests)
+apart b t f = both_ways b f t
 
 -- an element is one of a list
 abbrev pub Among : {A : Type 0} → A → List A → Type 0

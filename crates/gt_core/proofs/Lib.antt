@@ -1,4 +1,5 @@
 pub mod Basics
+pub mod Lists
 pub mod Pairwise
 pub mod Literals
 pub mod Makers

@@ -61,34 +61,33 @@ has_effect_below (x ∷ xs) (suc a) p h = let r = has_effect_below xs a p h in o
 makes_among : (task : Task) (s : ℕ → Bool) (a l : ℕ) → makes task s a l ≡ true → Among a (action_numbers task)
 makes_among task s a l h = let lt = has_effect_below task.actions a (is_active s l) h in among_range (length task.actions) 0 a (omega arith) (omega arith)
 
--- a member gains a fact
-pub record Gainer (task : Task) (members s : ℕ → Bool) (f : ℕ) : Type 0 where
+-- a member of a set that passes a test
+pub record Doer (members does : ℕ → Bool) : Type 0 where
   pub one : ℕ
   pub member : members one ≡ true
-  pub gain : gains task s one f ≡ true
+  pub done : does one ≡ true
 
-pub gainer : (task : Task) (members s : ℕ → Bool) (f : ℕ) → gained task s members f ≡ true → Gainer task members s f
-gainer task members s f h =
-    let p = passing (λ a. members a && gains task s a f) (action_numbers task) h in
-    let x = and_split (members p.one) (gains task s p.one f) p.passes in
-    record { one = p.one; member = x.0; gain = x.1 }
+doer : (task : Task) (members does : ℕ → Bool) → list_any (λ a. members a && does a) (action_numbers task) ≡ true → Doer members does
+doer task members does h =
+    let p = passing (λ a. members a && does a) (action_numbers task) h in
+    let x = and_split (members p.one) (does p.one) p.passes in
+    record { one = p.one; member = x.0; done = x.1 }
+
+done_by : (task : Task) (members does : ℕ → Bool) (a l : ℕ) (s : ℕ → Bool) → members a ≡ true → does a ≡ true → makes task s a l ≡ true → list_any (λ a. members a && does a) (action_numbers task) ≡ true
+done_by task members does a l s e d m = any_at (λ a. members a && does a) (action_numbers task) a (makes_among task s a l m) (and_both (members a) (does a) e d)
+
+-- a member gains a fact
+pub gainer : (task : Task) (members s : ℕ → Bool) (f : ℕ) → gained task s members f ≡ true → Doer members (λ a. gains task s a f)
+gainer task members s f h = doer task members (λ a. gains task s a f) h
 
 pub gained_by : (task : Task) (members s : ℕ → Bool) (a f : ℕ) → members a ≡ true → gains task s a f ≡ true → gained task s members f ≡ true
-gained_by task members s a f e g =
-    any_at (λ a. members a && gains task s a f) (action_numbers task) a (makes_among task s a (2 * f) g) (and_both (members a) (gains task s a f) e g)
+gained_by task members s a f e g = done_by task members (λ a. gains task s a f) a (2 * f) s e g g
 
-pub record Loser (task : Task) (members s : ℕ → Bool) (f : ℕ) : Type 0 where
-  pub one : ℕ
-  pub member : members one ≡ true
-  pub loss : loses task s one f ≡ true
-
-pub loser : (task : Task) (members s : ℕ → Bool) (f : ℕ) → lost task s members f ≡ true → Loser task members s f
-loser task members s f h =
-    let p = passing (λ a. members a && loses task s a f) (action_numbers task) h in
-    let x = and_split (members p.one) (loses task s p.one f) p.passes in
-    record { one = p.one; member = x.0; loss = x.1 }
+-- a member loses a fact
+pub loser : (task : Task) (members s : ℕ → Bool) (f : ℕ) → lost task s members f ≡ true → Doer members (λ a. loses task s a f)
+loser task members s f h = doer task members (λ a. loses task s a f) h
 
 pub lost_by : (task : Task) (members s : ℕ → Bool) (a f : ℕ) → members a ≡ true → loses task s a f ≡ true → lost task s members f ≡ true
 lost_by task members s a f e l =
     let m = and_split (makes task s a (2 * f + 1)) _ l in
-    any_at (λ a. members a && loses task s a f) (action_numbers task) a (makes_among task s a (2 * f + 1) m.0) (and_both (members a) (loses task s a f) e l)
+    done_by task members (λ a. loses task s a f) a (2 * f + 1) s e l m.0

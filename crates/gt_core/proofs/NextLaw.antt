@@ -1,6 +1,8 @@
 use Rattle.std.proofs.Common.{arith, ◌≡◌, ◌==◌, ℕ, zero, suc, ◌+◌, ◌*◌, ◌<◌, List, [], ◌∷◌, ◌++◌, map, length, Bool, true, false, not, ◌&&◌, ◌||◌, refl, ap, ◌∙◌}
 use Rattle.std.specs.Prelude.{slice_index_or}
 use Rattle.std.specs.List.{list_any}
+use Rattle.std.proofs.Math.Bool.{or-false}
+use Rattle.std.proofs.lemmas.List.Folds.{list_any-append}
 use Rattle.gt_core.specs.Literal.{state_of, range, range_from}
 use Rattle.gt_core.specs.Task.{Effect, Action, Task, EffectOf, owned, effects_from, effects, action}
 use Rattle.gt_core.specs.Active.{is_active}
@@ -9,13 +11,10 @@ use Rattle.gt_core.proofs.Basics.{same_test, not_true, test_same}
 
 -- The effects of an action among all effects of its task, and the state after it.
 
-any_append : {A : Type 0} (p : A → Bool) (xs ys : List A) → list_any p (xs ++ ys) ≡ (list_any p xs || list_any p ys)
-any_append p [] ys = refl
-any_append p (x ∷ xs) ys = rw (any_append p xs ys) (or_nested (p x) (list_any p xs) (list_any p ys))
-  where
-    or_nested : (a b c : Bool) → (a || (b || c)) ≡ ((a || b) || c)
-    or_nested true b c = refl
-    or_nested false b c = refl
+-- an action's effects in two parts
+pub owned_append : (a : ℕ) (es ds : List Effect) → owned a (es ++ ds) ≡ owned a es ++ owned a ds
+owned_append a [] ds = refl
+owned_append a (e ∷ es) ds = ap (λ (r : List EffectOf). record { action = a; condition = e.condition; literal = e.literal } ∷ r) (owned_append a es ds)
 
 -- a test of effects that looks at their action first
 abbrev pub of_action : ℕ → (Effect → Bool) → EffectOf → Bool
@@ -31,21 +30,17 @@ none_before : (p : Effect → Bool) (first a : ℕ) (xs : List Action) → a < f
 none_before p first a [] lt = refl
 none_before p first a (x ∷ xs) lt =
     let ne : (first == a) ≡ false = not_true (first == a) (λ e. let s : first ≡ a = test_same _ _ e in omega arith) in
-    any_append (of_action a p) (owned first x.effects) _ ∙ rw (any_owned_by p first a false x.effects ne, none_before p (first + 1) a xs (omega arith)) refl
+    list_any-append (of_action a p) (owned first x.effects) _ ∙ rw (any_owned_by p first a false x.effects ne, none_before p (first + 1) a xs (omega arith)) refl
 
 any_at_number : (p : Effect → Bool) (first k : ℕ) (xs : List Action) → list_any (of_action (first + k) p) (effects_from first xs) ≡ list_any p (slice_index_or xs k (record { precondition = []; effects = [] })).effects
 any_at_number p first k [] = refl
 any_at_number p first zero (x ∷ xs) =
     let same : (first == first + 0) ≡ true = same_test _ _ (omega arith) in
-    any_append (of_action (first + 0) p) (owned first x.effects) _ ∙ rw (any_owned_by p first (first + 0) true x.effects same, none_before p (first + 1) (first + 0) xs (omega arith)) (or_false (list_any p x.effects))
-  where
-    or_false : (b : Bool) → (b || false) ≡ b
-    or_false true = refl
-    or_false false = refl
+    list_any-append (of_action (first + 0) p) (owned first x.effects) _ ∙ rw (any_owned_by p first (first + 0) true x.effects same, none_before p (first + 1) (first + 0) xs (omega arith)) (or-false (list_any p x.effects))
 any_at_number p first (suc k) (x ∷ xs) =
     let ne : (first == first + suc k) ≡ false = not_true (first == first + suc k) (λ e. let s : first ≡ first + suc k = test_same _ _ e in omega arith) in
     let next : first + suc k ≡ (first + 1) + k = omega arith in
-    any_append (of_action (first + suc k) p) (owned first x.effects) _
+    list_any-append (of_action (first + suc k) p) (owned first x.effects) _
     ∙ rw (any_owned_by p first (first + suc k) false x.effects ne) (rw next (any_at_number p (first + 1) k xs))
 
 -- a test over the effects of an action, among all effects and among its own

@@ -13,17 +13,17 @@ pub pairwise_all : {A I : Type 0} (R : I → A → A → Type 0) (xs : List A) �
 pairwise_all R [] p = tt
 pairwise_all R (x ∷ xs) p = (each_from _ xs (λ y a i. each_at (R i x) xs y (p i).0 a), pairwise_all R xs (λ i. (p i).1))
 
+pub among_split : {A : Type 0} (xs ys : List A) (y : A) → Among y (xs ++ ys) → Among y xs ⊎ Among y ys
+among_split [] ys y a = inr a
+among_split (x ∷ xs) ys y (inl e) = inl (inl e)
+among_split (x ∷ xs) ys y (inr a) = elim (among_split xs ys y a) [ inl b ↦ inl (inr b) | inr b ↦ inr b ]
+
 pub pairwise_joined : {A : Type 0} (R : A → A → Type 0) (xs ys : List A) → Pairwise R xs → Pairwise R ys → ((x y : A) → Among x xs → Among y ys → R x y) → Pairwise R (xs ++ ys)
 pairwise_joined R [] ys p q h = q
 pairwise_joined R (x ∷ xs) ys p q h = (
   each_from (R x) (xs ++ ys) (λ y a. elim (among_split xs ys y a) [ inl b ↦ each_at (R x) xs y p.0 b | inr b ↦ h x y (inl refl) b ]),
   pairwise_joined R xs ys p.1 q (λ z y a b. h z y (inr a) b),
 )
-  where
-    among_split : {A : Type 0} (xs ys : List A) (y : A) → Among y (xs ++ ys) → Among y xs ⊎ Among y ys
-    among_split [] ys y a = inr a
-    among_split (x ∷ xs) ys y (inl e) = inl (inl e)
-    among_split (x ∷ xs) ys y (inr a) = elim (among_split xs ys y a) [ inl b ↦ inl (inr b) | inr b ↦ inr b ]
 
 pub among_left : {A : Type 0} (xs ys : List A) (y : A) → Among y xs → Among y (xs ++ ys)
 among_left [] ys y a = absurd a
@@ -46,15 +46,10 @@ among_flat f (z ∷ zs) x y (inr a) b = among_right (f z) (flat_map f zs) y (amo
 
 pub flat_among : {A B : Type 0} (f : A → List B) (xs : List A) (y : B) → Among y (flat_map f xs) → (x : A) × Among x xs × Among y (f x)
 flat_among f [] y a = absurd a
-flat_among f (z ∷ zs) y a = elim (split (f z) (flat_map f zs) y a) [
+flat_among f (z ∷ zs) y a = elim (among_split (f z) (flat_map f zs) y a) [
   | inl b ↦ (z, inl refl, b)
   | inr b ↦ let r = flat_among f zs y b in (r.0, inr r.1, r.2)
 ]
-  where
-    split : {A : Type 0} (xs ys : List A) (y : A) → Among y (xs ++ ys) → Among y xs ⊎ Among y ys
-    split [] ys y a = inr a
-    split (x ∷ xs) ys y (inl e) = inl (inl e)
-    split (x ∷ xs) ys y (inr a) = elim (split xs ys y a) [ inl b ↦ inl (inr b) | inr b ↦ inr b ]
 
 -- within each list, and across each two
 pub pairwise_flat : {A : Type 0} (R : A → A → Type 0) (xss : List (List A)) → ((xs : List A) → Among xs xss → Pairwise R xs) → Pairwise (λ xs ys. AllByRecursion (λ x. AllByRecursion (R x) ys) xs) xss → Pairwise R (flat_map (λ xs. xs) xss)

@@ -161,10 +161,10 @@ runs_in_order task clauses components s members t published step =
       leads = λ f lt.
           let g : gained_in task s ms f ≡ gained task s members f = same_if _ _
           (λ h. let p = passing (λ a. gains task s a f) ms h in gained_by task members s p.one f (filtered members order p.one p.among).1 p.passes)
-          (λ h. let p = gainer task members s f h in any_at (λ a. gains task s a f) ms p.one (into_filter members order p.one (placed p.one p.member) p.member) p.gain) in
+          (λ h. let p = gainer task members s f h in any_at (λ a. gains task s a f) ms p.one (into_filter members order p.one (placed p.one p.member) p.member) p.done) in
           let l : lost_in task s ms f ≡ lost task s members f = same_if _ _
           (λ h. let p = passing (λ a. loses task s a f) ms h in lost_by task members s p.one f (filtered members order p.one p.among).1 p.passes)
-          (λ h. let p = loser task members s f h in any_at (λ a. loses task s a f) ms p.one (into_filter members order p.one (placed p.one p.member) p.member) p.loss) in
+          (λ h. let p = loser task members s f h in any_at (λ a. loses task s a f) ms p.one (into_filter members order p.one (placed p.one p.member) p.member) p.done) in
           r.1 f ∙ rw (g, l) (sym (step.after f lt));
     }
   where

@@ -28,10 +28,10 @@ step_of_one task order s k p = record {
   after = λ f lt.
       let g : gains task s k f ≡ gained task s (is_in (k ∷ [])) f = same_if _ _
       (λ h. gained_by task (is_in (k ∷ [])) s k f (itself k) h)
-      (λ h. let w = gainer task (is_in (k ∷ [])) s f h in ap (λ (c : ℕ). gains task s c f) (sym (only k w.one w.member)) ∙ w.gain) in
+      (λ h. let w = gainer task (is_in (k ∷ [])) s f h in ap (λ (c : ℕ). gains task s c f) (sym (only k w.one w.member)) ∙ w.done) in
       let l : loses task s k f ≡ lost task s (is_in (k ∷ [])) f = same_if _ _
       (λ h. lost_by task (is_in (k ∷ [])) s k f (itself k) h)
-      (λ h. let w = loser task (is_in (k ∷ [])) s f h in ap (λ (c : ℕ). loses task s c f) (sym (only k w.one w.member)) ∙ w.loss) in
+      (λ h. let w = loser task (is_in (k ∷ [])) s f h in ap (λ (c : ℕ). loses task s c f) (sym (only k w.one w.member)) ∙ w.done) in
       ap (λ (b : Bool). b || (s f && not (loses task s k f))) g ∙ ap (λ (b : Bool). gained task s (is_in (k ∷ [])) f || (s f && not b)) l;
 }
 

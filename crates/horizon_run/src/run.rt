@@ -1,6 +1,6 @@
 ghost use Rattle.std.specs.Prelude.{◌≡◌, ℕ, ◌+◌, ◌≤◌, ◌<◌, true, false, IfOk, OnOk, OnErr};
 ghost use Rattle.clause_base.specs.Formula.{IsModel};
-ghost use Rattle.clause_base.specs.Derivation.{IsRefutation};
+ghost use Rattle.clause_base.specs.Derivation.{IsRefutation, IsDerivation};
 ghost use Rattle.cdcl_rules.specs.State.{value_of};
 ghost use Rattle.cdcl_rules.specs.Run.{after};
 ghost use Rattle.cdcl_laws.specs.Sound.{made_true};
@@ -118,11 +118,13 @@ impl HorizonRun {
         self.solver.standing()
     }
 
-    /// How many conflicts it has handled.
+    /// How many conflicts it has handled. Its log is a derivation, of a spoilt run too.
     pub fn conflicts(&self) -> u64
         ensures value { result ≡ self.now.state.conflicts }
         ensures few { result ≤ 1073741824 }
+        ensures derivation { IsDerivation self.now.formula.variables self.now.formula.clauses self.now.state.log }
     {
+        let _log = self.solver.log();
         self.solver.conflicts()
     }
 

@@ -4,6 +4,8 @@ pub mod States
 pub mod Alike
 mod Rows
 pub mod LampTask
+pub mod ByTest
+pub mod Tasks
 pub mod TypeWalk
 pub mod Rooted
 pub mod LineLaw

@@ -1,50 +1,13 @@
 -- Small tasks, computed from the definitions alone.
-use Rattle.std.proofs.Common.{◌≡◌, ℕ, List, [], ◌∷◌, true, false, refl}
-use Rattle.pd_model.specs.declared.types.TypeDecl.{TypeDecl}
-use Rattle.pd_model.specs.declared.predicates.Predicate.{Predicate}
-use Rattle.pd_model.specs.declared.objects.ObjectDecl.{ObjectDecl}
-use Rattle.pd_model.specs.declared.atoms.Term.{Term}
+use Rattle.std.proofs.Common.{◌≡◌, List, [], ◌∷◌, true, false, refl}
 use Rattle.pd_model.specs.declared.atoms.Term.TheVariants.{Object, Variable}
-use Rattle.pd_model.specs.declared.atoms.Pattern.{Pattern}
 use Rattle.pd_model.specs.declared.conds.Cond.{Cond}
-use Rattle.pd_model.specs.declared.conds.Cond.TheVariants.{Has, Same}
-use Rattle.pd_model.specs.declared.effects.Effect.{Effect}
-use Rattle.pd_model.specs.declared.schemas.Schema.{Schema}
-use Rattle.pd_model.specs.declared.calls.Call.{Call}
+use Rattle.pd_model.specs.declared.conds.Cond.TheVariants.{Same}
 use Rattle.pd_model.specs.declared.calls.Verdict.TheVariants.{Reaches, Blocked, Short}
 use Rattle.pd_model.specs.declared.parts.Parts.{Parts}
 use Rattle.pd_model.specs.Fits.{is_call}
 use Rattle.pd_model.specs.Plan.{verdict}
-
-abbrev atom : ℕ → List Term → Pattern
-atom predicate terms = record { predicate = predicate; terms = terms }
-
-abbrev has : ℕ → List Term → Cond
-has predicate terms = Has (atom predicate terms) true
-
-abbrev lacks : ℕ → List Term → Cond
-lacks predicate terms = Has (atom predicate terms) false
-
-abbrev add : List ℕ → List Cond → ℕ → List Term → Effect
-add over cond predicate terms = record { over = over; cond = cond; atom = atom predicate terms; adds = true }
-
-abbrev delete : List ℕ → List Cond → ℕ → List Term → Effect
-delete over cond predicate terms = record { over = over; cond = cond; atom = atom predicate terms; adds = false }
-
-abbrev schema : List ℕ → List Cond → List Effect → Schema
-schema parameters pre effects = record { name = []; parameters = parameters; pre = pre; effects = effects }
-
-abbrev call : ℕ → List ℕ → Call
-call number objects = record { schema = number; objects = objects }
-
-abbrev arity : ℕ → Predicate
-arity n = record { name = []; arity = n }
-
-abbrev type_under : ℕ → TypeDecl
-type_under parent = record { name = []; parent = parent }
-
-abbrev object_of_type : ℕ → ObjectDecl
-object_of_type kind = record { name = []; kind = kind }
+use Rattle.pd_model.proofs.Tasks.{has, lacks, add, delete, schema, call, arity, type_under, object_of_type}
 
 -- a lamp that is flipped on where it is off
 abbrev lamp : Parts

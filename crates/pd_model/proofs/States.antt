@@ -8,7 +8,8 @@ use Rattle.std.proofs.lemmas.List.Folds.{list_any-append}
 use Rattle.std.proofs.lemmas.Map.Views.{any-filter_same}
 use Rattle.pd_model.specs.declared.atoms.Atom.{Atom}
 use Rattle.pd_model.specs.State.{same_atom, is_in, SameState}
-use Rattle.pd_model.proofs.Equality.{atom_cmp, tied, any_tied, same_is, same_symm}
+use Rattle.pd_model.specs.Order.{atom_cmp}
+use Rattle.pd_model.proofs.Equality.{tied, any_tied, same_is, same_symm}
 
 or_by_cond : (b x : Bool) → cond b true x ≡ (b || x)
 or_by_cond true x = refl

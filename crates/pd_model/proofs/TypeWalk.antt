@@ -4,7 +4,7 @@ use Rattle.std.specs.Prelude.{◌||◌, nat_le, nat_lt, slice_index}
 use Rattle.std.proofs.Math.ListN.{set}
 use Rattle.std.proofs.lemmas.List.{get_or-set_same, get_or-set_other, length-set, length-replicate}
 use Rattle.std.proofs.lemmas.List.Sums.{sum_by-set, sum_by-cons}
-use Rattle.std.proofs.lemmas.Bool.{cases_eq, eqb-true, leb-true, le-leb, lt-ltb, and_parts}
+use Rattle.std.proofs.lemmas.Bool.{cases_eq, eqb-true, eq-eqb, leb-true, le-leb, lt-ltb, and_parts}
 use borrow.Author.Tests.{ltb-true}
 use Rattle.pd_model.specs.Types.{leads_to, is_under}
 use Rattle.pd_model.specs.TypeTree.{is_between, IsTypeTree}
@@ -46,22 +46,19 @@ leads_above parents (suc n) kind above is = by_test (kind == above) refl is (lea
     by_test true e is later = subst (λ a. Above parents kind a) (eqb-true kind above e) (here kind)
     by_test false e is later = up kind above (later is)
 
-same_true : (a b : ℕ) → a ≡ b → (a == b) ≡ true
-same_true a b e = grind (arith, e)
-
 or_true : (b : Bool) → b || true ≡ true
 or_true true = refl
 or_true false = refl
 
 pub at_once : (parents : List ℕ) (n a b : ℕ) → a ≡ b → leads_to parents n a b ≡ true
-at_once parents zero a b e = same_true a b e
-at_once parents (suc n) a b e = rw (same_true a b e) refl
+at_once parents zero a b e = eq-eqb a b e
+at_once parents (suc n) a b e = rw (eq-eqb a b e) refl
 
 above_leads : (parents : List ℕ) → slice_index parents 0 ≡ 0 → (n kind above : ℕ) → leads_to parents n kind 0 ≡ true → Above parents kind above → leads_to parents n kind above ≡ true
 above_leads parents first n _ _ rooted (here kind) = at_once parents n kind kind refl
 above_leads parents first zero _ _ rooted (up kind above h) =
     let is : kind ≡ 0 = eqb-true kind 0 rooted in
-    same_true kind above (is ∙ sym (above_zero parents first (slice_index parents kind) above h (ap (slice_index parents) is ∙ first)))
+    eq-eqb kind above (is ∙ sym (above_zero parents first (slice_index parents kind) above h (ap (slice_index parents) is ∙ first)))
 above_leads parents first (suc n) _ _ rooted (up kind above h) = by_test (kind == 0) refl rooted (λ more. above_leads parents first n (slice_index parents kind) above more h)
   where
     by_test : (b : Bool) → (kind == 0) ≡ b → b || leads_to parents n (slice_index parents kind) 0 ≡ true
@@ -69,7 +66,7 @@ above_leads parents first (suc n) _ _ rooted (up kind above h) = by_test (kind =
         → (kind == above) || leads_to parents n (slice_index parents kind) above ≡ true
     by_test true e rooted later =
         let is : kind ≡ 0 = eqb-true kind 0 e in
-        rw (same_true kind above (is ∙ sym (above_zero parents first (slice_index parents kind) above h (ap (slice_index parents) is ∙ first)))) refl
+        rw (eq-eqb kind above (is ∙ sym (above_zero parents first (slice_index parents kind) above h (ap (slice_index parents) is ∙ first)))) refl
     by_test false e rooted later = rw (later rooted) (or_true (kind == above))
 
 -- ---- the last child is entered

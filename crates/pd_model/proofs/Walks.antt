@@ -1,10 +1,13 @@
 -- Loops over objects, types and effects.
 use Rattle.std.proofs.Common.{◌≡◌, ℕ, zero, suc, ◌+◌, ◌-◌, ◌<◌, Bool, true, false, cond, List, [], ◌∷◌, ◌++◌, length, take, drop, get_or, map, refl, ap, ◌∙◌, append_assoc, arith}
+use Rattle.std.specs.Prelude.{slice_get}
 use Rattle.std.specs.List.{flat_map, filter}
+use Rattle.std.proofs.lemmas.Bool.{and_parts}
 use Rattle.std.proofs.lemmas.List.{append-nil, take_more, nil_from_length, take_at, length-append}
 use Rattle.std.proofs.lemmas.List.Concat.{flat_map-append, flat_map-cons}
 use Rattle.std.proofs.lemmas.List.Elements.{filter-append}
-use Rattle.pd_model.specs.Fits.{tuples, all_fit}
+use Rattle.pd_model.specs.Fits.{tuples, is_of, fits, all_fit}
+use Rattle.pd_model.specs.declared.objects.ObjectDecl.{ObjectDecl}
 use Rattle.pd_model.specs.declared.parts.Parts.{Parts}
 
 prefixed : {A : Type 0} (f : List ℕ → List A) (o : ℕ) (ts : List (List ℕ)) → flat_map f (map (λ os. o ∷ os) ts) ≡ flat_map (λ os. f (o ∷ os)) ts
@@ -50,3 +53,20 @@ pub none_left : (p : Parts) (kinds : List ℕ) (i : ℕ) (rest : List ℕ) → i
 none_left p [] i rest lt none = absurd (omega (arith, lt))
 none_left p (kind ∷ kinds) zero rest lt none = rw (nil_from_length rest none) refl
 none_left p (kind ∷ kinds) (suc i) rest lt none = none_left p kinds i rest (omega (arith, lt)) none
+
+-- ---- objects that fit
+
+pub fit_length : (p : Parts) (kinds ts : List ℕ) → all_fit p kinds ts ≡ true → length ts ≡ length kinds
+fit_length p [] [] h = refl
+fit_length p [] (t ∷ ts) h = absurd (cc)
+fit_length p (kind ∷ kinds) [] h = absurd (cc)
+fit_length p (kind ∷ kinds) (t ∷ ts) h = ap suc (fit_length p kinds ts (and_parts (fits p kind t) (all_fit p kinds ts) h).1)
+
+is_there : (p : Parts) (kind : ℕ) (objects : List ObjectDecl) (o : ℕ) → is_of p kind (slice_get objects o) ≡ true → o < length objects
+is_there p kind [] o h = absurd (cc)
+is_there p kind (x ∷ objects) zero h = omega arith
+is_there p kind (x ∷ objects) (suc o) h = let lt = is_there p kind objects o h in omega (arith, lt)
+
+-- an object that fits is declared
+pub fits_below : (p : Parts) (kind o : ℕ) → fits p kind o ≡ true → o < length p.objects
+fits_below p kind o h = is_there p kind p.objects o h

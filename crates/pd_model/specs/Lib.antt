@@ -6,6 +6,7 @@ pub mod Names
 pub mod Text
 pub mod WellFormed
 pub mod State
+pub mod Order
 pub mod Instance
 pub mod Fits
 pub mod Exec

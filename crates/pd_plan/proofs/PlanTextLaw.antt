@@ -14,10 +14,9 @@ use Rattle.pd_sexp.specs.Tree.{list, word, trees_of}
 use Rattle.pd_sexp.specs.File.{IsGap, IsComment, StopsWord, IsTree, AreItems}
 use Rattle.pd_sexp.specs.Word.{is_small, is_word}
 use Rattle.pd_model.specs.Names.{object_names, schema_names, is_among, are_distinct}
-use Rattle.pd_model.specs.Fits.{fits, is_of, all_fit, is_call, is_call_of}
+use Rattle.pd_model.specs.Fits.{fits, all_fit, is_call, is_call_of}
 use Rattle.pd_model.specs.Text.{object_name, schema_name, spelled, call_text}
 use Rattle.pd_model.specs.WellFormed.{IsWellFormed}
-use Rattle.pd_model.specs.declared.objects.ObjectDecl.{ObjectDecl}
 use Rattle.pd_model.specs.declared.schemas.Schema.{Schema}
 use Rattle.pd_model.specs.declared.calls.Call.{Call}
 use Rattle.pd_model.specs.declared.parts.Parts.{Parts}
@@ -27,7 +26,8 @@ use Rattle.pd_words.specs.declared.named.Named.{Named}
 use Rattle.pd_plan.specs.PlanFile.{argument, arguments, call_from}
 use Rattle.pd_plan.specs.Spells.{tree_of_word, SpellsFrom}
 use Rattle.pd_plan.specs.PlanText.{is_line, SpellsAnywhere}
-use Rattle.pd_plan.proofs.Spelled.{choice}
+use Rattle.pd_model.proofs.Walks.{fits_below}
+use Rattle.pd_sexp.proofs.Whole.{choice}
 
 -- ---- gaps in a row
 
@@ -165,16 +165,12 @@ among_at name (x ∷ xs) (suc n) none lt = among_at name xs n (second (bytes_eq 
     second true c e = absurd cc
     second false c e = e
 
-not_false : (t : Bool) → not t ≡ true → t ≡ false
-not_false true e = absurd cc
-not_false false e = refl
-
 number_at : (names : List (List ℕ)) (n : ℕ) → are_distinct names ≡ true → n < length names → number_of (get_or names n []) names ≡ Some n
 number_at [] n once lt = absurd (omega (arith, lt))
 number_at (x ∷ xs) zero once lt = rw (same_text x) refl
 number_at (x ∷ xs) (suc n) once lt =
     let parts = and_parts (not (is_among x xs)) (are_distinct xs) once in
-    let apart = differ x (get_or xs n []) (among_at x xs n (not_false (is_among x xs) parts.0) (omega (arith, lt))) in
+    let apart = differ x (get_or xs n []) (among_at x xs n (not-true (is_among x xs) parts.0) (omega (arith, lt))) in
     rw (apart, number_at xs n parts.1 (omega (arith, lt))) refl
 
 word_at : (names : List (List ℕ)) (n : ℕ) → list_all is_word names ≡ true → n < length names → is_word (get_or names n []) ≡ true
@@ -184,14 +180,9 @@ word_at (x ∷ xs) (suc n) are lt = word_at xs n ((and_parts (is_word x) (list_a
 
 -- ---- the words of a call are read as the call
 
-inside : (p : Parts) (kind : ℕ) (objects : List ObjectDecl) (o : ℕ) → is_of p kind (slice_get objects o) ≡ true → o < length objects
-inside p kind [] o is = absurd cc
-inside p kind (x ∷ xs) zero is = omega arith
-inside p kind (x ∷ xs) (suc o) is = omega (arith, inside p kind xs o is)
-
 module _ (p : Parts) (w : IsWellFormed p) where
   object_in : (kind o : ℕ) → fits p kind o ≡ true → o < length (object_names p.objects)
-  object_in kind o is = omega (arith, inside p kind p.objects o is, length-map p.objects (λ d. d.name))
+  object_in kind o is = omega (arith, fits_below p kind o is, length-map p.objects (λ d. d.name))
 
   object_parts : (list_all is_word (object_names p.objects) ≡ true) × (are_distinct (object_names p.objects) ≡ true)
   object_parts = and_parts (list_all is_word (object_names p.objects)) (are_distinct (object_names p.objects)) w.object_names

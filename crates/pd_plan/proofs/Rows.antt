@@ -1,5 +1,5 @@
 -- Small plan files, computed from the definitions alone.
-use Rattle.std.proofs.Common.{◌≡◌, ℕ, List, [], ◌∷◌, Ok, Err, refl}
+use Rattle.std.proofs.Common.{◌≡◌, ℕ, List, [], ◌∷◌, map, Ok, Err, refl}
 use Rattle.std.specs.Prelude.{codes}
 use Rattle.pd_model.specs.declared.calls.Call.{Call}
 use Rattle.pd_plan.specs.Fault.{syntax, unknown, arity, mistyped}
@@ -9,38 +9,18 @@ use Rattle.pd_plan.specs.Depot.{depot}
 abbrev call : ℕ → List ℕ → Call
 call schema objects = record { schema = schema; objects = objects }
 
-capitals_and_a_comment : plan_file depot (codes "(HOP d D) ; same object") ≡ Ok (call 1 (2 ∷ 2 ∷ []) ∷ [])
-capitals_and_a_comment = refl
+-- plans, with capitals, a comment, and lists that touch
+plans : map (λ text. plan_file depot text) (codes "(HOP d D) ; same object" ∷ codes "; nothing is done" ∷ codes "(flip)(flip)" ∷ [])
+    ≡ Ok (call 1 (2 ∷ 2 ∷ []) ∷ []) ∷ Ok [] ∷ Ok (call 2 [] ∷ call 2 [] ∷ []) ∷ []
+plans = refl
 
-a_comment_alone : plan_file depot (codes "; nothing is done") ≡ Ok []
-a_comment_alone = refl
+-- no such action, no such object, an object of the wrong type, and a wrong count before an object
+bad_calls : map (λ text. plan_file depot text) (codes "(flap)" ∷ codes "(move home zz)" ∷ codes "(move d home)" ∷ codes " (move zz)" ∷ [])
+    ≡ Err (unknown 1) ∷ Err (unknown 11) ∷ Err (mistyped 6) ∷ Err (arity 1) ∷ []
+bad_calls = refl
 
-two_lists : plan_file depot (codes "(flip)(flip)") ≡ Ok (call 2 [] ∷ call 2 [] ∷ [])
-two_lists = refl
-
-no_action : plan_file depot (codes "(flap)") ≡ Err (unknown 1)
-no_action = refl
-
-no_object : plan_file depot (codes "(move home zz)") ≡ Err (unknown 11)
-no_object = refl
-
-not_a_place : plan_file depot (codes "(move d home)") ≡ Err (mistyped 6)
-not_a_place = refl
-
-arity_first : plan_file depot (codes " (move zz)") ≡ Err (arity 1)
-arity_first = refl
-
-syntax_first : plan_file depot (codes "(flap) x") ≡ Err (syntax 7)
-syntax_first = refl
-
-empty_list : plan_file depot (codes "(flip) ( )") ≡ Err (syntax 7)
-empty_list = refl
-
-list_in_a_list : plan_file depot (codes "(hop (d) home)") ≡ Err (syntax 5)
-list_in_a_list = refl
-
-not_closed : plan_file depot (codes "(flip ; )") ≡ Err (syntax 9)
-not_closed = refl
-
-closed_twice : plan_file depot (codes "(flip))") ≡ Err (syntax 6)
-closed_twice = refl
+-- a fault of the syntax comes first: a word outside a list, an empty list, a list in a list, one that is not closed, one
+-- that is closed twice
+bad_texts : map (λ text. plan_file depot text) (codes "(flap) x" ∷ codes "(flip) ( )" ∷ codes "(hop (d) home)" ∷ codes "(flip ; )" ∷ codes "(flip))" ∷ [])
+    ≡ Err (syntax 7) ∷ Err (syntax 7) ∷ Err (syntax 5) ∷ Err (syntax 9) ∷ Err (syntax 6) ∷ []
+bad_texts = refl

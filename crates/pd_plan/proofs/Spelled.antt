@@ -1,6 +1,6 @@
 -- A file that is written as gaps and lists is read as the calls that these spell.
-use Rattle.std.proofs.Common.{◌≡◌, ℕ, ◌+◌, ◌==◌, Bool, true, false, cond, List, [], ◌∷◌, ◌++◌, length, map, Result, Ok, Err, refl, ap, ◌∙◌, append_assoc, arith, MatchBool, length-append, ◌⊎◌, inl, inr, append-nil}
-use Rattle.std.proofs.lemmas.Bool.{and_parts}
+use Rattle.std.proofs.Common.{◌≡◌, ℕ, ◌+◌, ◌==◌, true, false, cond, List, [], ◌∷◌, ◌++◌, length, map, Result, Ok, Err, refl, ap, ◌∙◌, append_assoc, arith, length-append, inl, inr, append-nil}
+use Rattle.std.proofs.lemmas.Bool.{and_parts, eqb-true}
 use Rattle.std.specs.Prelude.{IsTrue}
 use Rattle.std.specs.List.{list_all}
 use Rattle.pd_sexp.specs.Bytes.{open_paren, close_paren, semicolon, line_feed, is_blank, is_letter, lowered}
@@ -17,7 +17,8 @@ use Rattle.pd_plan.specs.Tokens.{Token, word, sign, joined, tokens}
 use Rattle.pd_plan.specs.WordLists.{word_list, lists, list_on}
 use Rattle.pd_plan.specs.PlanFile.{call_from, calls_of, plan_file}
 use Rattle.pd_plan.specs.Spells.{tree_of_word, SpellsFrom, Spells}
-use Rattle.pd_plan.proofs.Steps.{letter_tokens, goes_on, ends, equal}
+use Rattle.pd_sexp.proofs.Whole.{choice, stops-letter, listed_parts, listed_length}
+use Rattle.pd_plan.proofs.Steps.{letter_tokens, goes_on, ends}
 
 -- the tokens of bytes that begin outside a comment
 abbrev marks : ℕ → List ℕ → List Token
@@ -28,10 +29,6 @@ abbrev comment_marks : ℕ → List ℕ → List Token
 comment_marks o bytes = tokens o (comment_blanked bytes)
 
 -- ---- gaps
-
-pub choice : {P Q : Type 0} (t : Bool) → MatchBool t P Q → ((t ≡ true) × P) ⊎ ((t ≡ false) × Q)
-choice true h = inl (refl, h)
-choice false h = inr (refl, h)
 
 -- a blank, a semicolon, a byte of a comment, its last one
 blank_mark : (o b : ℕ) (bs : List ℕ) → (b == semicolon) ≡ false → is_blank b ≡ true → marks o (b ∷ bs) ≡ marks (o + 1) bs
@@ -46,7 +43,7 @@ comment_mark : (o b : ℕ) (bs : List ℕ) → (b == line_feed) ≡ false → co
 comment_mark o b bs is = ap (λ t. tokens o (cond t (b ∷ uncommented bs) (32 ∷ comment_blanked bs))) is
 
 feed_mark : (o b : ℕ) (bs : List ℕ) → (b == line_feed) ≡ true → comment_marks o (b ∷ bs) ≡ marks (o + 1) bs
-feed_mark o b bs is = rw (equal b line_feed is) refl
+feed_mark o b bs is = rw (eqb-true b line_feed is) refl
 
 mutual
   gap_marks : (o : ℕ) (g rest : List ℕ) → IsGap false g → marks o (g ++ rest) ≡ marks (o + length g) rest
@@ -85,20 +82,13 @@ mutual
 
 -- ---- words
 
-stops_letter : (b : ℕ) (bs : List ℕ) → StopsWord (b ∷ bs) → is_letter b ≡ false
-stops_letter b bs h = not_true (is_letter b) h
-  where
-    not_true : (t : Bool) → (IsTrue t → ⊥) → t ≡ false
-    not_true true h = absurd (h refl)
-    not_true false h = refl
-
 -- the letters of a word after others, up to a byte that is no letter
 word_marks : (start o : ℕ) (before w rest : List ℕ) → IsTrue (list_all is_letter w) → StopsWord rest
     → joined start before o (marks o (w ++ rest)) ≡ word start (before ++ map lowered w) ∷ marks (o + length w) rest
 word_marks start o before [] [] are stops = rw (append-nil before) refl
 word_marks start o before [] (b ∷ rest) are stops =
     let still : o + length (let none : List ℕ = [] in none) ≡ o = omega arith in
-    rw (append-nil before, still) (ends start before o b rest (stops_letter b rest stops))
+    rw (append-nil before, still) (ends start before o b rest (stops-letter b rest stops))
 word_marks start o before (b ∷ w) rest are stops =
     let letters = and_parts (is_letter b) (list_all is_letter w) are in
     let longer : o + 1 + length w ≡ o + length (b ∷ w) = omega arith in
@@ -130,9 +120,8 @@ words_marks end start o before (w ∷ ws) inner rest are =
     let gap = are.0 in
     let item = are.1 in
     let tail = are.2 in
-    let parts : inner ++ close_paren ∷ rest ≡ gap ++ (item ++ (tail ++ close_paren ∷ rest)) =
-    ap (λ xs. xs ++ close_paren ∷ rest) are.3 ∙ append_assoc gap (item ++ tail) (close_paren ∷ rest) ∙ ap (λ xs. gap ++ xs) (append_assoc item tail (close_paren ∷ rest)) in
-    let long : o + length gap + length item + length tail ≡ o + length inner = omega (arith, ap length are.3, length-append gap (item ++ tail), length-append item tail) in
+    let parts = listed_parts gap item tail inner rest are.3 in
+    let long = listed_length o gap item tail inner are.3 in
     let one = gap_marks o gap (item ++ (tail ++ close_paren ∷ rest)) are.4 in
     let two = first_word (o + length gap) w item (tail ++ close_paren ∷ rest) are.5 (stops_before tail rest are.6) in
     let three = words_marks end start (o + length gap + length item) (before ++ w ∷ []) ws tail rest are.7 in

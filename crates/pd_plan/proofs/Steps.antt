@@ -1,6 +1,7 @@
 -- The bytes one after another lead to what the tokens of all of them say.
 use Rattle.std.proofs.Common.{◌≡◌, ℕ, ◌+◌, ◌<◌, Bool, true, false, cond, List, [], ◌∷◌, ◌++◌, length, Result, Ok, Err, refl, sym, ap, ◌∙◌, append_assoc, append-nil, arith}
 use Rattle.std.specs.Prelude.{◌==◌, drop, slice_index}
+use Rattle.std.proofs.lemmas.Bool.{eqb-true, eq-eqb}
 use Rattle.std.proofs.lemmas.List.{drop_more}
 use Rattle.pd_sexp.specs.Bytes.{open_paren, close_paren, semicolon, line_feed, is_blank, is_letter, lowered}
 use Rattle.pd_sexp.specs.Fault.{uncommented, comment_blanked}
@@ -20,11 +21,8 @@ use Rattle.pd_plan.specs.Progress.{State, Place, between, inside, closed, step, 
 
 -- ---- tests
 
-pub equal : (m n : ℕ) → (m == n) ≡ true → m ≡ n
-equal m n h = grind (arith, h)
-
 same : (n : ℕ) → (n == n) ≡ true
-same n = grind arith
+same n = eq-eqb n n refl
 
 pub after-one : {A : Type 0} (front : List A) (x : A) (read : Result (List A) Fault) → after front (read >>= λ more. Ok (x ∷ more)) ≡ after (front ++ x ∷ []) read
 after-one front x (Ok more) = ap (λ ys. let whole : Result (List _) Fault = Ok ys in whole) (sym (append_assoc front (x ∷ []) more))
@@ -146,8 +144,8 @@ module _ (end : ℕ) (done : List WordList) (o b : ℕ) (bs : List ℕ) where
 
   token_is : (place : Place) → after done (from_place end place (cond (is_letter b) (joined o (lowered b ∷ []) (o + 1) (tokens (o + 1) (uncommented bs))) (sign o b ∷ tokens (o + 1) (uncommented bs))))
       ≡ (at.token done place o b >>= λ t. answer end t (o + 1) bs)
-  token_is between = between_is (is_letter b) (b == open_paren) (b == close_paren) (λ e. rw (equal b open_paren e) refl)
-  token_is (inside start words) = inside_is start words (is_letter b) (b == open_paren) (b == close_paren) (λ e. rw (equal b open_paren e) refl) (λ e. rw (equal b close_paren e) refl) (λ e. rw (equal b open_paren e) refl)
+  token_is between = between_is (is_letter b) (b == open_paren) (b == close_paren) (λ e. rw (eqb-true b open_paren e) refl)
+  token_is (inside start words) = inside_is start words (is_letter b) (b == open_paren) (b == close_paren) (λ e. rw (eqb-true b open_paren e) refl) (λ e. rw (eqb-true b close_paren e) refl) (λ e. rw (eqb-true b open_paren e) refl)
 
   plain_is : (place : Place) (p : Bool) → after done (from_place end place (cond p (tokens (o + 1) (uncommented bs)) (cond (is_letter b) (joined o (lowered b ∷ []) (o + 1) (tokens (o + 1) (uncommented bs))) (sign o b ∷ tokens (o + 1) (uncommented bs)))))
       ≡ (cond p (Ok (at.gap done place)) (at.token done place o b) >>= λ t. answer end t (o + 1) bs)
@@ -155,14 +153,14 @@ module _ (end : ℕ) (done : List WordList) (o b : ℕ) (bs : List ℕ) where
   plain_is place false = token_is place
 
   by_semicolon : (place : Place) (t : Bool) → (b == semicolon) ≡ t → after done (from_place end place (tokens o (uncommented (b ∷ bs)))) ≡ (at.outside done place o b >>= λ t. answer end t (o + 1) bs)
-  by_semicolon place true is = rw (equal b semicolon is) refl
+  by_semicolon place true is = rw (eqb-true b semicolon is) refl
   by_semicolon place false is = rw is (plain_is place (is_blank b))
 
   pub outside_is : (place : Place) → after done (from_place end place (tokens o (uncommented (b ∷ bs)))) ≡ (at.outside done place o b >>= λ t. answer end t (o + 1) bs)
   outside_is place = by_semicolon place (b == semicolon) refl
 
   in_comment : (place : Place) (t : Bool) → (b == line_feed) ≡ t → answer end (at.comment done place) o (b ∷ bs) ≡ (step (at.comment done place) o b >>= λ t. answer end t (o + 1) bs)
-  in_comment place true is = rw (equal b line_feed is) refl
+  in_comment place true is = rw (eqb-true b line_feed is) refl
   in_comment place false is = rw is refl
 
   in_word : (start : ℕ) (words : List Named) (first : ℕ) (letters : List ℕ) (t : Bool) → is_letter b ≡ t

@@ -26,7 +26,7 @@ run-append s o (x ∷ xs) ys =
 
 -- ---- gaps
 
-choice : {P Q : Type 0} (t : Bool) → MatchBool t P Q → ((t ≡ true) × P) ⊎ ((t ≡ false) × Q)
+pub choice : {P Q : Type 0} (t : Bool) → MatchBool t P Q → ((t ≡ true) × P) ⊎ ((t ≡ false) × Q)
 choice true h = inl (refl, h)
 choice false h = inr (refl, h)
 
@@ -72,9 +72,18 @@ mutual
     | inr e ↦ rw e.0 (comment-ends f (o + 1) g e.1)
   ]
 
+-- ---- the items of a list, one by one
+
+pub listed_parts : (gap item tail bytes rest : List ℕ) → bytes ≡ gap ++ (item ++ tail) → bytes ++ close_paren ∷ rest ≡ gap ++ (item ++ (tail ++ close_paren ∷ rest))
+listed_parts gap item tail bytes rest are =
+    ap (λ xs. xs ++ close_paren ∷ rest) are ∙ append_assoc gap (item ++ tail) (close_paren ∷ rest) ∙ ap (λ xs. gap ++ xs) (append_assoc item tail (close_paren ∷ rest))
+
+pub listed_length : (o : ℕ) (gap item tail bytes : List ℕ) → bytes ≡ gap ++ (item ++ tail) → o + length gap + length item + length tail ≡ o + length bytes
+listed_length o gap item tail bytes are = omega (arith, ap length are, length-append gap (item ++ tail), length-append item tail)
+
 -- ---- words
 
-stops-letter : (b : ℕ) (bs : List ℕ) → StopsWord (b ∷ bs) → is_letter b ≡ false
+pub stops-letter : (b : ℕ) (bs : List ℕ) → StopsWord (b ∷ bs) → is_letter b ≡ false
 stops-letter b bs h = not_true (is_letter b) h
   where
     not_true : (t : Bool) → (IsTrue t → ⊥) → t ≡ false
@@ -170,9 +179,8 @@ mutual
       let gap = are.0 in
       let item = are.1 in
       let tail = are.2 in
-      let parts : bytes ++ close_paren ∷ rest ≡ gap ++ (item ++ (tail ++ close_paren ∷ rest)) =
-      ap (λ xs. xs ++ close_paren ∷ rest) are.3 ∙ append_assoc gap (item ++ tail) (close_paren ∷ rest) ∙ ap (λ xs. gap ++ xs) (append_assoc item tail (close_paren ∷ rest)) in
-      let long : o + length gap + length item + length tail ≡ o + length bytes = omega (arith, ap length are.3, length-append gap (item ++ tail), length-append item tail) in
+      let parts = listed_parts gap item tail bytes rest are.3 in
+      let long = listed_length o gap item tail bytes are.3 in
       let one = gap-run (at.inside f outer) o gap (item ++ (tail ++ close_paren ∷ rest)) are.4 in
       let two = tree-run t f outer (o + length gap) item (tail ++ close_paren ∷ rest) are.5 (StopsTree-before t tail rest are.6) (not_empty tail close_paren rest) in
       let three = items-run ts (with_item f t) outer (o + length gap + length item) tail rest are.7 in

@@ -19,9 +19,7 @@ use solver_pool::{Gate, Job, Jobs, OpenGate, Resume, round};
 use std::alloc::Global;
 use std::process::Abort;
 use std::sync::Wait;
-use std::sync::atomic::{AtomicU64, Ordering};
 use std::test::Fail;
-use std::thread;
 use std::thread::Threads;
 use step_encoding::exists::ExistsForm;
 use step_encoding::form::StepForm;
@@ -332,64 +330,6 @@ fn a_formula_that_is_too_large_is_told_with_its_literals(rt: HostRuntime) -> Res
     let settings = settings(Algorithm::C, 4, 255, 255, 100000);
     let text = told(&rt, alloc, &task, &settings, &OpenGate)?;
     assert_eq!(rt; text.as_str(), "255 has 5224449 literals");
-    Ok(())
-}
-
-/// Lets horizons 0 and 1 wait at their entry until the other has entered.
-#[derive(Drop)]
-struct PairGate {
-    entered: [AtomicU64; 2],
-    failed: AtomicU64,
-}
-
-impl PairGate {
-    fn new() -> PairGate {
-        PairGate {
-            entered: [AtomicU64::new(0), AtomicU64::new(0)],
-            failed: AtomicU64::new(0),
-        }
-    }
-
-    fn wait_for(&self, entered: &AtomicU64) {
-        for _ in 0..1_000_000u32 {
-            if entered.load(Ordering::SeqCst) != 0 {
-                return;
-            }
-            thread::yield_now();
-        }
-        self.failed.store(1, Ordering::SeqCst);
-    }
-
-    fn met(&self) -> bool {
-        self.failed.load(Ordering::SeqCst) == 0
-            && self.entered[0].load(Ordering::SeqCst) == 1
-            && self.entered[1].load(Ordering::SeqCst) == 1
-    }
-}
-
-impl Gate for PairGate {
-    fn enter(&self, horizon: u32) {
-        if horizon < 2 {
-            self.entered[horizon as usize].store(1, Ordering::SeqCst);
-            self.wait_for(&self.entered[1 - horizon as usize]);
-        }
-    }
-
-    fn leave(&self, _horizon: u32) {}
-}
-
-#[test]
-fn two_horizons_of_a_race_are_at_work_at_once(rt: HostRuntime) -> Result<(), Fail> {
-    let alloc = rt.alloc();
-    let task = lamp(alloc, false)?;
-    let gate = PairGate::new();
-    let settings = with_workers(&settings(Algorithm::A, 4, 0, 64, 100000), 4, 10);
-    let text = told(&rt, alloc, &task, &settings, &gate)?;
-    assert_eq!(rt;
-        text.as_str(),
-        "0 refuted 1; 1 plan 0; 2 plan 0; 3 plan 0; plan at 1: ( 0 )"
-    );
-    assert!(rt; gate.met());
     Ok(())
 }
 

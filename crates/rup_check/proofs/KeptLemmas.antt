@@ -15,7 +15,7 @@ use Rattle.clause_base.specs.declared.log.Entry.TheVariants.{Learn, Drop}
 use Rattle.clause_base.proofs.ClauseLemmas.{below_from_test}
 use Rattle.rup_check.specs.Kept.{is_dropped, kept_named, is_derived_by, IsKnownAfter, IsDropBelow}
 
-goes_on-same : (next other : ℕ → Bool) (ends : Bool) (e : Effect) → ((l : ℕ) → next l ≡ other l) → goes_on next ends e ≡ goes_on other ends e
+pub goes_on-same : (next other : ℕ → Bool) (ends : Bool) (e : Effect) → ((l : ℕ) → next l ≡ other l) → goes_on next ends e ≡ goes_on other ends e
 goes_on-same next other ends Conflicts h = refl
 goes_on-same next other ends (Forces l) h = h l
 goes_on-same next other ends Loose h = refl

@@ -4,8 +4,8 @@ ghost use Rattle.clause_base.specs.Derivation.{IsDerivation, EndsEmpty, IsFirstU
 ghost use Rattle.rup_check.specs.Certificate.{Certifies};
 
 use crate::entry::is_derived;
+use crate::falsified::Falsified;
 use crate::kept::Kept;
-use crate::marks::Marks;
 use clause_base::formula::Formula;
 use clause_base::log::{Entry, Log};
 use clause_base::memory::Memory;
@@ -99,7 +99,7 @@ fn first_underived(
     ensures found { IfOk result (λ first. IfSome first (IsFirstUnderived formula.now.variables formula.now.clauses entries.now)) }
     ensures none { IfOk result (λ first. IfNone first (IsDerivation formula.now.variables formula.now.clauses entries.now)) }
 {
-    let mut marks = Marks::new(alloc, formula.variables() as usize)?;
+    let mut marks = Falsified::new(alloc, formula.variables())?;
     let mut kept = Kept::new(alloc, formula.count())?;
     for number in 0..entries.len() {
         let entry = &entries[number];

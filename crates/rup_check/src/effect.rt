@@ -3,7 +3,7 @@ ghost use Rattle.clause_base.specs.Clause.{HasVariablesBelow};
 ghost use Rattle.clause_base.specs.Derivation.{open_literals, effect_of_open};
 ghost use Rattle.rup_check.specs.Effects.{meaning, ForcesBelow};
 
-use crate::marks::Marks;
+use crate::falsified::Falsified;
 use clause_base::literal::Lit;
 
 /// What a clause says where some literals are taken as false.
@@ -18,7 +18,7 @@ pub enum Effect {
 }
 
 /// The effect of a clause. It looks at each literal of the clause at most once.
-pub fn effect_of(marks: &Marks, clause: &[Lit]) -> Effect
+pub fn effect_of(marks: &Falsified, clause: &[Lit]) -> Effect
     requires { HasVariablesBelow marks.now.variables clause.now }
     ensures effect { meaning result ≡ effect_of_open marks.now.falsified (open_literals marks.now.falsified clause.now) }
     ensures below { ForcesBelow marks.now.variables result }

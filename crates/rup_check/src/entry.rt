@@ -4,8 +4,8 @@ ghost use Rattle.clause_base.specs.Derivation.{leads_to_conflict};
 ghost use Rattle.rup_check.specs.Kept.{kept_named, is_derived_by};
 
 use crate::effect::{Effect, effect_of};
+use crate::falsified::Falsified;
 use crate::kept::Kept;
-use crate::marks::Marks;
 use clause_base::formula::Formula;
 use clause_base::literal::Lit;
 use clause_base::log::Entry;
@@ -14,7 +14,7 @@ use clause_base::memory::Memory;
 /// Whether the hints lead from what is taken as false to a conflict, where they name kept clauses. Each forced literal's
 /// negation is then taken as false too.
 fn leads_to_conflict(
-    marks: &mut Marks,
+    marks: &mut Falsified,
     formula: &Formula,
     kept: &Kept,
     hints: &[u32],
@@ -38,7 +38,7 @@ fn leads_to_conflict(
 
 /// Whether a clause follows by its hints. The marks are left as they were, with no literal taken as false.
 fn follows(
-    marks: &mut Marks,
+    marks: &mut Falsified,
     formula: &Formula,
     kept: &Kept,
     clause: &[Lit],
@@ -59,7 +59,7 @@ fn follows(
 /// Whether an entry follows from the formula and what is known after the entries before it. The marks are left as they
 /// were, with no literal taken as false.
 pub fn is_derived(
-    marks: &mut Marks,
+    marks: &mut Falsified,
     formula: &Formula,
     kept: &Kept,
     entry: &Entry,

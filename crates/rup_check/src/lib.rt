@@ -10,7 +10,7 @@
 pub mod check;
 mod effect;
 mod entry;
+mod falsified;
 mod kept;
-mod marks;
 #[cfg(test)]
 mod tests;

@@ -134,15 +134,21 @@ fn a_dropped_clause_is_no_hint(rt: HostRuntime) -> Result<(), Fail> {
     Ok(())
 }
 
+// The log of two entries that refutes these clauses: also with the hints in another order, and with each hint left out in turn.
 #[test]
-fn a_learned_clause_serves_the_next_entry(rt: HostRuntime) -> Result<(), Fail> {
+fn each_hint_is_needed(rt: HostRuntime) -> Result<(), Fail> {
     let formula = formula_of(&rt, rt.alloc(), 3, &[&[0, 2], &[0, 3], &[1, 4], &[1, 5]])?;
-    let cases: [(&[u32], Result<(u32, u32), CheckError>); 2] = [
-        (&[4, 2, 3], Ok((7, 2))),
-        (&[2, 4, 3], Err(CheckError::Rejected { entry: 1 })),
+    let cases: [(&[u32], &[u32], Result<(u32, u32), CheckError>); 7] = [
+        (&[0, 1], &[4, 2, 3], Ok((7, 2))),
+        (&[0, 1], &[2, 4, 3], Err(CheckError::Rejected { entry: 1 })),
+        (&[1], &[4, 2, 3], Err(CheckError::Rejected { entry: 0 })),
+        (&[0], &[4, 2, 3], Err(CheckError::Rejected { entry: 0 })),
+        (&[0, 1], &[2, 3], Err(CheckError::Rejected { entry: 1 })),
+        (&[0, 1], &[4, 3], Err(CheckError::Rejected { entry: 1 })),
+        (&[0, 1], &[4, 2], Err(CheckError::Rejected { entry: 1 })),
     ];
-    for (hints, expected) in cases {
-        let lines = [Line::Learn(&[0], &[0, 1]), Line::Learn(&[], hints)];
+    for (first, second, expected) in cases {
+        let lines = [Line::Learn(&[0], first), Line::Learn(&[], second)];
         assert_eq!(rt; answer(&rt, rt.alloc(), &formula, &lines)?, expected);
     }
     Ok(())

@@ -12,6 +12,7 @@ use clause_base::clause::Clause;
 use clause_base::formula::Formula;
 use clause_base::log::{Entry, Hints, Log};
 use clause_base::memory::Memory;
+use itoa::Buffer;
 use std::alloc::Global;
 use std::io::{BufWriter, Write};
 use std::{env, fs, io};
@@ -22,16 +23,22 @@ const SMALL: &str = "p cnf 1 2\n1 0\n-1 0\n";
 /// How many conflicts are handled at most where no word says.
 const FEW: u32 = 1000;
 
+/// Writes a space and a number.
+fn write_number(out: &mut (impl Write + Drop), number: u32) -> io::Result<()> {
+    let mut digits = Buffer::new();
+    out.write_all(b" ")?;
+    out.write_all(digits.format(number).as_bytes())
+}
+
 /// Writes the line of a learned clause.
 fn write_learned(out: &mut (impl Write + Drop), clause: &Clause, hints: &Hints) -> io::Result<()> {
     write!(out, "learn")?;
     for lit in clause.as_slice() {
-        let code = lit.0;
-        write!(out, " {code}")?;
+        write_number(out, lit.0)?;
     }
     write!(out, " by")?;
     for hint in hints.as_slice() {
-        write!(out, " {hint}")?;
+        write_number(out, *hint)?;
     }
     writeln!(out)
 }

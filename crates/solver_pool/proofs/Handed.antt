@@ -18,13 +18,9 @@ use Rattle.solver_pool.proofs.Keeps.{all_one}
 
 module _ {R : Type 0} (g : Ghosts R) where
   ended : (by_state : (r : R) → g.unsettled_at (g.state_of r) ≡ g.unsettled_at r) (target : ℕ) (j o : R) → ((k n : ℕ) → g.unsettled_at (g.moved o k) ≡ false → g.state_of (g.moved o (k + n)) ≡ g.state_of (g.moved o k))
-      → g.granted_of j ≤ target → g.spoilt_at j ≡ false → IsMoved g o (g.granted_of j) j
-      → ((g.unsettled_at j ≡ true) × (g.spoilt_at j ≡ false) × (g.granted_of j < target) → ⊥) → (b : Bool) → g.unsettled_at j ≡ b → IsMoved g o target j
-  ended by_state target j o stays within sound moved stop true e =
-      let past : ¬ (g.granted_of j < target) = λ lt. stop (e, sound, lt) in
-      let same : g.granted_of j ≡ target = omega (arith, within, past) in
-      subst (λ (k : ℕ). IsMoved g o k j) same moved
-  ended by_state target j o stays within sound moved stop false e =
+      → g.granted_of j ≤ target → IsMoved g o (g.granted_of j) j → (g.unsettled_at j ≡ true → g.granted_of j ≡ target) → (b : Bool) → g.unsettled_at j ≡ b → IsMoved g o target j
+  ended by_state target j o stays within moved all true e = subst (λ (k : ℕ). IsMoved g o k j) (all e) moved
+  ended by_state target j o stays within moved all false e =
       let same : g.granted_of j + (target - g.granted_of j) ≡ target = omega (arith, within) in
       let settled : g.unsettled_at (g.moved o (g.granted_of j)) ≡ false = sym (by_state (g.moved o (g.granted_of j))) ∙ ap g.unsettled_at (sym moved) ∙ by_state j ∙ e in
       subst (λ (k : ℕ). IsMoved g o k j) same (moved ∙ sym (stays (g.granted_of j) (target - g.granted_of j) settled))
@@ -38,7 +34,10 @@ module _ {R : Type 0} (g : Ghosts R) where
   comes by_state slice x j same target within stays stop (inl a) =
       let e = a.1 in
       let now : g.granted_of j.run ≤ j.target = omega (arith, within, target, e) in
-      inr (a.0, ended by_state j.target j.run (g.origin_of j.run) stays now a.0 (subst (λ (o : R). IsMoved g o (g.granted_of j.run) j.run) (sym same) a.2) stop (g.unsettled_at j.run) refl)
+      let all : g.unsettled_at j.run ≡ true → g.granted_of j.run ≡ j.target = λ more.
+      let past : ¬ (g.granted_of j.run < j.target) = λ lt. stop (more, a.0, lt) in
+      omega (arith, now, past) in
+      inr (a.0, ended by_state j.target j.run (g.origin_of j.run) stays now (subst (λ (o : R). IsMoved g o (g.granted_of j.run) j.run) (sym same) a.2) all (g.unsettled_at j.run) refl, all)
   comes by_state slice x j same target within stays stop (inr b) = inl b.0
 
   -- a worker that handed out one job more, or had no memory for it

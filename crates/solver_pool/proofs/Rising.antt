@@ -8,8 +8,7 @@ use Rattle.std.proofs.lemmas.List.Sorted.{IsPermutation-refl, IsPermutation-cons
 use mathlib.Core.Option.{some, some-injective, some-ne-none}
 use lib.ListN.{get_elem?}
 use Rattle.solver_pool.specs.declared.resume.Resume.{Ghosts}
-use Rattle.solver_pool.specs.Resume.{IsMoved}
-use Rattle.solver_pool.specs.Job.{JobView, Differ, AreRising, horizon_at, horizon_in, entry_of, IsListed}
+use Rattle.solver_pool.specs.Job.{JobView, Differ, IsAtTarget, AreRising, horizon_at, horizon_in, entry_of, IsListed}
 use Rattle.solver_pool.specs.Rounds.{IsRound, AreServed}
 use Rattle.solver_pool.specs.declared.Memory.{Memory}
 use Rattle.solver_pool.specs.declared.pass_view.BookEntry.{BookEntry}
@@ -167,18 +166,18 @@ module _ {R : Type 0} (g : Ghosts R) where
       omega (arith, two, one, s, t) in
       omega (arith, le, other)
 
-  come : (jobs done : List (JobView R)) → AreServed g jobs done → All (λ (j : JobView R). g.spoilt_at j.run ≡ false) done → All (λ (j : JobView R). (g.spoilt_at j.run ≡ false) × IsMoved g (g.origin_of j.run) j.target j.run) done
+  come : (jobs done : List (JobView R)) → AreServed g jobs done → All (λ (j : JobView R). g.spoilt_at j.run ≡ false) done → All (IsAtTarget g) done
   come jobs done served sound k d lt =
       let j = slice_index_or done k d in
       let ok = sound k d lt in
-      ⊎_elim (λ (e : g.spoilt_at j.run ≡ true). absurd (true≢false (sym e ∙ ok))) (λ (e : (g.spoilt_at j.run ≡ false) × IsMoved g (g.origin_of j.run) j.target j.run). e) (served.each k d lt).1
+      ⊎_elim (λ (e : g.spoilt_at j.run ≡ true). absurd (true≢false (sym e ∙ ok))) (λ (e : IsAtTarget g j). e) (served.each k d lt).1
 
   pub given_back : (jobs done : List (JobView R)) (result : Result (List (JobView R)) Memory) → Differ (horizon_in g) jobs → AreServed g jobs done
       → IfOk result (λ out. IsPermutation done out) → IfOk result (λ out. IsNonDecreasingBy (horizon_in g) out) → IfOk result (λ out. All (λ (j : JobView R). g.spoilt_at j.run ≡ false) done) → IfOk result (λ out. IsRound g jobs out)
   given_back jobs done (Ok out) differ served same rising sound = record {
     once = IsPermutation-trans (map (entry_of g) jobs) (map (entry_of g) done) (map (entry_of g) out) (entries jobs done differ served) (IsPermutation-map (entry_of g) done out same);
     rising = rises jobs done out differ served same rising;
-    moved = All-permutation (λ (j : JobView R). (g.spoilt_at j.run ≡ false) × IsMoved g (g.origin_of j.run) j.target j.run) done out same (come jobs done served sound);
+    moved = All-permutation (IsAtTarget g) done out same (come jobs done served sound);
   }
   given_back jobs done (Err e) differ served same rising sound = same
 

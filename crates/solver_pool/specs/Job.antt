@@ -1,5 +1,5 @@
 -- Jobs, and the book of those with which a ring was opened.
-use Rattle.std.specs.Prelude.{◌≡◌, ℕ, false, ◌<◌, ◌≤◌, List, length}
+use Rattle.std.specs.Prelude.{◌≡◌, ℕ, true, false, ◌<◌, ◌≤◌, List, length}
 use Rattle.std.specs.List.{All, AllAdjacentBelow}
 use mathlib.Core.Option.{some}
 use lib.ListN.{get_elem?}
@@ -31,6 +31,10 @@ module _ {R : Type 0} (g : Ghosts R) where
   -- no run is spoilt
   abbrev pub AreSound : List (JobView R) → Type 0
   AreSound jobs = All (λ j. g.spoilt_at j.run ≡ false) jobs
+
+  -- the run is sound and where its target has it; where it has more to do, it was granted exactly its target
+  abbrev pub IsAtTarget : JobView R → Type 0
+  IsAtTarget j = (g.spoilt_at j.run ≡ false) × IsMoved g (g.origin_of j.run) j.target j.run × (g.unsettled_at j.run ≡ true → g.granted_of j.run ≡ j.target)
 
   -- each horizon is below the next one's
   abbrev pub AreRising : List (JobView R) → Type 0

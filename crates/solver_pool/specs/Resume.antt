@@ -3,7 +3,7 @@ use Rattle.std.specs.Prelude.{◌≡◌, ℕ, false, ◌+◌}
 use Rattle.solver_pool.specs.declared.resume.Resume.{Ghosts}
 
 module _ {R : Type 0} (g : Ghosts R) where
-  -- the run is where so many units from the origin have it, apart from the number that a settled one was granted
+  -- the run is where so many units from the origin have it, apart from how many it was granted
   abbrev pub IsMoved : R → ℕ → R → Type 0
   IsMoved origin k run = g.state_of run ≡ g.state_of (g.moved origin k)
 

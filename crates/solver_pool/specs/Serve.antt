@@ -9,7 +9,7 @@ use Rattle.solver_pool.specs.declared.pass_view.BookEntry.{BookEntry}
 use Rattle.solver_pool.specs.declared.serve.Served.{Served}
 use Rattle.solver_pool.specs.declared.serve.Served.TheVariants.{Back, Done, Idle}
 use Rattle.solver_pool.specs.Resume.{IsMoved}
-use Rattle.solver_pool.specs.Job.{JobView, Differ, horizon_at}
+use Rattle.solver_pool.specs.Job.{JobView, Differ, IsAtTarget, horizon_at}
 use Rattle.solver_pool.specs.PassView.{note, with_put, with_take}
 use Rattle.solver_pool.specs.Steps.{TookAll}
 
@@ -54,9 +54,9 @@ module _ {R : Type 0} (g : Ghosts R) where
     pub origin : g.origin_of j.run ≡ t.entry.origin
     pub run : HasServed slice before t j.run
 
-  -- a job that is spoilt, or where its target has it
+  -- a job that is spoilt or at its target
   abbrev pub IsEnded : JobView R → Type 0
-  IsEnded j = (g.spoilt_at j.run ≡ true) ⊎ ((g.spoilt_at j.run ≡ false) × IsMoved g (g.origin_of j.run) j.target j.run)
+  IsEnded j = (g.spoilt_at j.run ≡ true) ⊎ IsAtTarget g j
 
   -- Idle: the pass stays as it was. Back: one take and one put are noted. Done: one take is noted
   abbrev pub ServedSays : ℕ → PassView R → PassView R → Served R → Type 0

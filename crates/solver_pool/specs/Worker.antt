@@ -18,7 +18,7 @@ module _ {R : Type 0} (g : Ghosts R) where
       → sum_by (λ n. f n.horizon) v.took + sum_by f begun
       ≡ sum_by (λ n. f n.horizon) v.put + sum_by (λ j. f (g.horizon_of j.run)) done
 
-  -- a job of the book that is spoilt, or where its target has it
+  -- a job of the book that is spoilt or at its target
   abbrev pub IsHanded : List (BookEntry R) → JobView R → Type 0
   IsHanded book j = IsListed g book j × IsEnded g j
 

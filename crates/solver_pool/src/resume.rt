@@ -7,7 +7,7 @@ use crate::Memory;
 ///
 /// What `k` units make of it is told by `moved` alone, from the run's origin, and not by the parts in which they were
 /// granted. So advancing by a and then by b is advancing by a + b: the clause `moved` of `advance` holds for every k.
-/// A run that found no memory is spoilt from then on, and what state it is in is not said.
+/// A run that found no memory is spoilt from then on: it stays as it is, and what state that is in is not said.
 pub trait Resume: Drop {
     /// Of which horizon it is a run.
     ghost horizon_of: { Self → ℕ };
@@ -21,7 +21,7 @@ pub trait Resume: Drop {
     /// What so many units make of a run.
     ghost moved: { Self → ℕ → Self };
 
-    /// The run apart from the number of units that a settled one was granted.
+    /// The run apart from how many units it was granted.
     ghost state_of: { Self → Self };
 
     /// Whether it has more to do.
@@ -30,7 +30,8 @@ pub trait Resume: Drop {
     /// Whether it found no memory once.
     ghost spoilt_at: { Self → Bool };
 
-    /// Advances the run by `conflicts` units. At `Ok` it is where so many units more have it; at `Memory` it is spoilt.
+    /// Advances the run by `conflicts` units. At `Ok` it is where so many units more have it; at `Memory` it is spoilt. A
+    /// run that was spoilt before answers `Memory` and stays as it was.
     fn advance(&mut self, conflicts: u32) -> Result<(), Memory>
         requires { granted_of self.old + conflicts ≤ 1073741824 }
 
@@ -39,12 +40,16 @@ pub trait Resume: Drop {
         ensures origin { origin_of self.new ≡ origin_of self.old }
 
         ensures granted { OnOk result (granted_of self.new ≡ granted_of self.old + conflicts) }
-        ensures sound { OnOk result (spoilt_at self.old ≡ false → spoilt_at self.new ≡ false) }
+        ensures sound { OnOk result (spoilt_at self.new ≡ false) }
         ensures moved { OnOk result ((k : ℕ) → state_of self.old ≡ state_of (moved (origin_of self.old) k)
             → state_of self.new ≡ state_of (moved (origin_of self.old) (k + conflicts))) }
 
         ensures spoilt { OnErr result (spoilt_at self.new ≡ true) }
-        ensures kept { OnErr result (granted_of self.new ≡ granted_of self.old) };
+        ensures kept { OnErr result (granted_of self.new ≡ granted_of self.old) }
+
+        // A run that was spoilt before does not answer `Ok`, and nothing of it changes.
+        ensures sane { OnOk result (spoilt_at self.old ≡ false) }
+        ensures stays { spoilt_at self.old ≡ true → self.new ≡ self.old };
 
     fn horizon(&self) -> u32
         ensures { result ≡ horizon_of self.now };

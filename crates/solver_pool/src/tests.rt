@@ -354,7 +354,10 @@ impl Resume for ShortRun {
     ghost spoilt_at = { λ r. r.spoilt };
 
     fn advance(&mut self, conflicts: u32) -> Result<(), Memory> {
-        if self.spoilt || self.granted + conflicts as u64 > self.most {
+        if self.spoilt {
+            return Err(Memory);
+        }
+        if self.granted + conflicts as u64 > self.most {
             self.spoilt = true;
             return Err(Memory);
         }

@@ -12,6 +12,7 @@ use Rattle.gt_core.proofs.Basics.{apart, same_test, test_same, same_if, or_none}
 use Rattle.step_chains.specs.declared.link.Link.{Link}
 use Rattle.step_chains.specs.Links.{link_of, links_of, touches}
 use Rattle.step_chains.specs.Index.{entry, IsAway, IsNew, HasEntries, Marks, IsIndexOf, AreTouched}
+use Rattle.std.proofs.Math.Bool.{or-false}
 
 -- An index of links as it grows: by one mark, by the marks of one action, by one action after the other.
 
@@ -102,13 +103,9 @@ pub marks_same : (a : ℕ) (t t' r r' : ℕ → Bool) (old new : List (List Link
 marks_same a t t' r r' old new e f h base u v n old_is =
     entries_same a base new (λ l. u l || t l) (λ l. u l || t' l) (λ l. v l || r l) (λ l. v l || r' l) (λ l. ap (λ (b : Bool). u l || b) (e l)) (λ l. ap (λ (b : Bool). v l || b) (f l)) (h base u v n old_is)
 
-or_false : (b : Bool) → b ≡ (b || false)
-or_false true = refl
-or_false false = refl
-
 pub marks_none : (a : ℕ) (t r : ℕ → Bool) (old : List (List Link)) → ((l : ℕ) → t l ≡ false) → ((l : ℕ) → r l ≡ false) → Marks a t r old old
 marks_none a t r old e f base u v n old_is =
-    entries_same a base old u (λ l. u l || t l) v (λ l. v l || r l) (λ l. or_false (u l) ∙ ap (λ (b : Bool). u l || b) (sym (e l))) (λ l. or_false (v l) ∙ ap (λ (b : Bool). v l || b) (sym (f l))) old_is
+    entries_same a base old u (λ l. u l || t l) v (λ l. v l || r l) (λ l. sym (or-false (u l)) ∙ ap (λ (b : Bool). u l || b) (sym (e l))) (λ l. sym (or-false (v l)) ∙ ap (λ (b : Bool). v l || b) (sym (f l))) old_is
 
 or_twice : (a b c : Bool) → ((a || b) || c) ≡ (a || (b || c))
 or_twice true b c = refl
@@ -165,7 +162,7 @@ marks_one a lit takes reads old new row h lt n long base u v is old_is = record 
         ap (λ (xs : List (List Link)). get_or xs l []) n
         ∙ get_or-set_other old lit l row [] other
         ∙ old_is.each l below
-        ∙ ap (λ (x : List Link). get_or base l [] ++ x) (entry_same a (u l) (u l || false) (v l) (v l || false) (or_false (u l)) (or_false (v l)))
+        ∙ ap (λ (x : List Link). get_or base l [] ++ x) (entry_same a (u l) (u l || false) (v l) (v l || false) (sym (or-false (u l))) (sym (or-false (v l))))
 
 pub if_it : (b : Bool) → (if b then true else false) ≡ b
 if_it true = refl

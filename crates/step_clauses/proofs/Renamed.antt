@@ -7,6 +7,7 @@ use Rattle.clause_base.specs.Clause.{IsRising, IsClause, has_opposite_pair, put,
 use Rattle.step_clauses.specs.Clause.{Literal, Is, Not, code}
 use Rattle.step_clauses.specs.Coded.{coded, literals_in}
 use Rattle.step_clauses.proofs.Alike.{ClauseAlike, Alike}
+use Rattle.std.proofs.lemmas.Bool.{lt-ltb, le-ltb, cases_lt}
 
 -- A renaming of codes that keeps their order and their opposites keeps sorted clauses as they are.
 
@@ -17,19 +18,6 @@ literals_in-renamed g (c ∷ cs) = let h = literals_in-renamed g cs in let l = l
     long : (xs : List ℕ) → length (map g xs) ≡ length xs
     long [] = refl
     long (x ∷ xs) = let h = long xs in omega arith
-
-is_less : (a b : ℕ) → a < b → nat_lt a b ≡ true
-is_less a b h = grind (arith, nat_tests)
-
-is_not_less : (a b : ℕ) → b ≤ a → nat_lt a b ≡ false
-is_not_less a b h = grind (arith, nat_tests)
-
-less_or_not : (a b : ℕ) → (a < b) ⊎ (b ≤ a)
-less_or_not a b = by (nat_lt a b) refl
-  where
-    by : (c : Bool) → nat_lt a b ≡ c → (a < b) ⊎ (b ≤ a)
-    by true e = inl (grind (arith, nat_tests))
-    by false e = inr (grind (arith, nat_tests))
 
 less_if_not : (a b : ℕ) → (a == b) ≡ false → b ≤ a → b < a
 less_if_not a b e h = grind (arith, nat_tests)
@@ -43,18 +31,18 @@ module _ (g : ℕ → ℕ) (rises : (l m : ℕ) → l < m → g l < g m) (turns 
       by false e = let k = rises m l (less_if_not l m e h) in omega arith
 
   below_by : (l m : ℕ) → (l < m) ⊎ (m ≤ l) → nat_lt (g l) (g m) ≡ nat_lt l m
-  below_by l m (inl h) = is_less (g l) (g m) (rises l m h) ∙ sym (is_less l m h)
-  below_by l m (inr h) = is_not_less (g l) (g m) (not_above l m h) ∙ sym (is_not_less l m h)
+  below_by l m (inl h) = lt-ltb (g l) (g m) (rises l m h) ∙ sym (lt-ltb l m h)
+  below_by l m (inr h) = le-ltb (g l) (g m) (not_above l m h) ∙ sym (le-ltb l m h)
 
   below : (l m : ℕ) → nat_lt (g l) (g m) ≡ nat_lt l m
-  below l m = below_by l m (less_or_not l m)
+  below l m = below_by l m (cases_lt l m)
 
   injective : (l m : ℕ) → g l ≡ g m → l ≡ m
   injective l m e = by (l == m) refl
     where
       by : (b : Bool) → (l == m) ≡ b → l ≡ m
       by true t = test_same l m t
-      by false t = elim (less_or_not l m) [
+      by false t = elim (cases_lt l m) [
         | inl lt ↦ let k = rises l m lt in absurd (omega arith)
         | inr le ↦ let k = rises m l (less_if_not l m t le) in absurd (omega arith)
       ]

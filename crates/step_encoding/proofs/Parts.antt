@@ -17,6 +17,7 @@ use Rattle.step_clauses.specs.Coded.{coded}
 use Rattle.step_clauses.proofs.CodedLaw.{coded-append}
 use Rattle.step_clauses.proofs.SizeLaw.{singles, not_opposite}
 use Rattle.step_encoding.specs.Parts.{added}
+use Rattle.std.proofs.lemmas.List.{append-nil}
 
 -- Formulas to which clauses are added, and the clauses of the first and the last time.
 
@@ -24,12 +25,8 @@ pub joined_twice : (xs ys zs : List (List ℕ)) → (xs ++ ys) ++ zs ≡ xs ++ (
 joined_twice [] ys zs = refl
 joined_twice (x ∷ xs) ys zs = ap (λ (r : List (List ℕ)). x ∷ r) (joined_twice xs ys zs)
 
-joined_none : (xs : List (List ℕ)) → xs ++ [] ≡ xs
-joined_none [] = refl
-joined_none (x ∷ xs) = ap (λ (r : List (List ℕ)). x ∷ r) (joined_none xs)
-
 pub added_none : (f : Cnf) → f ≡ added f []
-added_none f = ap (λ (cs : List (List ℕ)). record { name = f.name; variables = f.variables; clauses = cs }) (sym (joined_none f.clauses))
+added_none f = ap (λ (cs : List (List ℕ)). record { name = f.name; variables = f.variables; clauses = cs }) (sym (append-nil f.clauses))
 
 pub added_twice : (f : Cnf) (xs ys : List (List ℕ)) → added (added f xs) ys ≡ added f (xs ++ ys)
 added_twice f xs ys = ap (λ (cs : List (List ℕ)). record { name = f.name; variables = f.variables; clauses = cs }) (joined_twice f.clauses xs ys)
@@ -37,7 +34,7 @@ added_twice f xs ys = ap (λ (cs : List (List ℕ)). record { name = f.name; var
 range_more : (g : ℕ → List (List ℕ)) (first n : ℕ) → flat_map g (range_from first (n + 1)) ≡ flat_map g (range_from first n) ++ g (first + n)
 range_more g first zero =
     let z : first + 0 ≡ first = omega arith in
-    joined_none (g first) ∙ ap g (sym z)
+    append-nil (g first) ∙ ap g (sym z)
 range_more g first (suc n) =
     let z : (first + 1) + n ≡ first + suc n = omega arith in
     let m : suc n + 1 ≡ suc (n + 1) = omega arith in

@@ -1,4 +1,4 @@
-use Rattle.std.proofs.Common.{arith, ◌≡◌, ◌==◌, ℕ, zero, suc, ◌+◌, ◌*◌, ◌/◌, ◌<◌, ◌≤◌, List, [], ◌∷◌, ◌++◌, map, length, drop, get_or, Bool, true, false, refl, sym, ap, ◌∙◌, subst, if◌then◌else◌, All}
+use Rattle.std.proofs.Common.{arith, ◌≡◌, ◌==◌, ℕ, zero, suc, ◌+◌, ◌*◌, ◌/◌, ◌<◌, ◌≤◌, List, [], ◌∷◌, ◌++◌, map, length, drop, get_or, Bool, true, false, refl, sym, ap, ◌∙◌, subst, All}
 use Rattle.std.specs.List.{filter, flat_map, AllByRecursion}
 use Rattle.std.proofs.lemmas.List.{drop_more}
 use Rattle.std.proofs.Math.Nat.{mul-le-mul_left, mul_comm}
@@ -24,16 +24,9 @@ use Rattle.step_clauses.proofs.Sorted.{set_few}
 use Rattle.step_clauses.proofs.Within.{step_within, known_within}
 use Rattle.step_laws.specs.Form.{OrderedTask, IsOrderedTask}
 use Rattle.step_laws.proofs.Ranges.{member_below}
+use Rattle.std.proofs.lemmas.List.Elements.{filter-append}
 
 -- The whole formula from its parts.
-
-filter_parts : (p : ℕ → Bool) (xs ys : List ℕ) → filter p (xs ++ ys) ≡ filter p xs ++ filter p ys
-filter_parts p [] ys = refl
-filter_parts p (x ∷ xs) ys = by (p x) (filter_parts p xs ys)
-  where
-    by : (b : Bool) → filter p (xs ++ ys) ≡ filter p xs ++ filter p ys → (if b then x ∷ filter p (xs ++ ys) else filter p (xs ++ ys)) ≡ (if b then x ∷ filter p xs else filter p xs) ++ filter p ys
-    by true h = ap (λ (r : List ℕ). x ∷ r) h
-    by false h = h
 
 numbers_twice : (xs ys zs : List ℕ) → (xs ++ ys) ++ zs ≡ xs ++ (ys ++ zs)
 numbers_twice [] ys zs = refl
@@ -46,7 +39,7 @@ group_added p order before after i d group members items e lt is m a h =
     let is2 : group ≡ get_or order i d = is ∙ ap (λ (x : List (List ℕ)). get_or x i d) e in
     let more : drop i order ≡ get_or order i d ∷ drop (i + 1) order = drop_more order i d lt2 in
     h ∙ ap (λ (x : List (List ℕ)). before ++ filter p (order_of x)) more
-    ∙ ap (λ (x : List ℕ). before ++ x) (filter_parts p (get_or order i d) (order_of (drop (i + 1) order)))
+    ∙ ap (λ (x : List ℕ). before ++ x) (filter-append p (get_or order i d) (order_of (drop (i + 1) order)))
     ∙ sym (numbers_twice before (filter p (get_or order i d)) (filter p (order_of (drop (i + 1) order))))
     ∙ ap (λ (x : List ℕ). x ++ filter p (order_of (drop (i + 1) order))) (ap (λ (x : List ℕ). before ++ filter p x) (sym (m ∙ is2)) ∙ sym a)
 

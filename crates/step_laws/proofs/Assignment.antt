@@ -9,6 +9,7 @@ use Rattle.gt_core.proofs.Basics.{Among}
 use Rattle.step_clauses.specs.Chain.{chain_length}
 use Rattle.step_clauses.specs.Variables.{Row, rows_from, has_condition, Chain, chains_from, chain_variables_in}
 use Rattle.step_laws.proofs.ChainLaw.{HasChainValues}
+use Rattle.std.proofs.lemmas.Bool.{lt-ltb, le-ltb}
 
 -- a function's values from a place on
 abbrev pub Agrees : (ℕ → Bool) → ℕ → List Bool → Type 0
@@ -138,40 +139,34 @@ module _ (z : Layout) (steps : ℕ → ℕ → Bool) (conditionals chain : ℕ �
       let f : t * w + (t * w + r) % w ≡ t * w + r = rw d at e in
       omega arith
 
-  below : (k n : ℕ) → k < n → nat_lt k n ≡ true
-  below k n l = grind (arith, nat_tests)
-
-  not_below : (k n : ℕ) → n ≤ k → nat_lt k n ≡ false
-  not_below k n l = grind (arith, nat_tests)
-
   pub at_place : (t r : ℕ) → t < z.horizon → r < width z → values (t * width z + r) ≡ in_step t r
   at_place t r lt lr =
       let fits = row_fits t (width z) z.horizon (width z) lt (omega arith) in
-      let b = below (t * width z + r) (z.horizon * width z) (omega arith) in
+      let b = lt-ltb (t * width z + r) (z.horizon * width z) (omega arith) in
       rw (b, div-mul-add t (width z) r lr, mod_place t (width z) r lr)
 
   pub at_action : (t a : ℕ) → t < z.horizon → a < z.actions → values (action_at z t a) ≡ steps t a
   at_action t a lt la =
-      let b = below a z.actions la in at_place t a lt (omega arith) ∙ rw b
+      let b = lt-ltb a z.actions la in at_place t a lt (omega arith) ∙ rw b
 
   pub at_conditional : (t j : ℕ) → t < z.horizon → j < z.conditional → values (conditional_at z t j) ≡ at (conditionals t) j
   at_conditional t j lt lj =
       let e : conditional_at z t j ≡ t * width z + (z.actions + j) = omega arith in
-      let n = not_below (z.actions + j) z.actions (omega arith) in
-      let b = below (z.actions + j) (z.actions + z.conditional) (omega arith) in
+      let n = le-ltb (z.actions + j) z.actions (omega arith) in
+      let b = lt-ltb (z.actions + j) (z.actions + z.conditional) (omega arith) in
       let d : (z.actions + j) - z.actions ≡ j = omega arith in
       ap values e ∙ at_place t (z.actions + j) lt (omega arith) ∙ rw (n, b, d)
 
   pub at_chain : (t c : ℕ) → t < z.horizon → c < z.chains → values (chain_at z t c) ≡ at (chain t) c
   at_chain t c lt lc =
       let e : chain_at z t c ≡ t * width z + (z.actions + z.conditional + c) = omega arith in
-      let n = not_below (z.actions + z.conditional + c) z.actions (omega arith) in
-      let b = not_below (z.actions + z.conditional + c) (z.actions + z.conditional) (omega arith) in
+      let n = le-ltb (z.actions + z.conditional + c) z.actions (omega arith) in
+      let b = le-ltb (z.actions + z.conditional + c) (z.actions + z.conditional) (omega arith) in
       let d : (z.actions + z.conditional + c) - (z.actions + z.conditional) ≡ c = omega arith in
       ap values e ∙ at_place t (z.actions + z.conditional + c) lt (omega arith) ∙ rw (n, b, d)
 
   pub at_fact : (t f : ℕ) → f < z.facts → values (fact_at z t f) ≡ states t f
   at_fact t f lf =
-      let n = not_below (z.horizon * width z + t * z.facts + f) (z.horizon * width z) (omega arith) in
+      let n = le-ltb (z.horizon * width z + t * z.facts + f) (z.horizon * width z) (omega arith) in
       let d : (z.horizon * width z + t * z.facts + f) - z.horizon * width z ≡ t * z.facts + f = omega arith in
       rw (n, d, div-mul-add t z.facts f lf, mod_place t z.facts f lf)

@@ -75,9 +75,9 @@ module _ (task : Task) (members s t : ℕ → Bool) where
       ]
 
   after_by : StepHolds task members s t → (f : ℕ) → f < task.facts → (g l now later : Bool) → gained task s members f ≡ g → lost task s members f ≡ l → s f ≡ now → t f ≡ later → later ≡ (g || (now && not l))
-  after_by h f lt true l now later eg el es et = let x = gainer task members s f eg in sym et ∙ gain_true h x.one f x.member x.gain
-  after_by h f lt false true true later eg el es et = let x = loser task members s f el in sym et ∙ loss_false h x.one f x.member x.loss
-  after_by h f lt false true false later eg el es et = let x = loser task members s f el in sym et ∙ loss_false h x.one f x.member x.loss
+  after_by h f lt true l now later eg el es et = let x = gainer task members s f eg in sym et ∙ gain_true h x.one f x.member x.done
+  after_by h f lt false true true later eg el es et = let x = loser task members s f el in sym et ∙ loss_false h x.one f x.member x.done
+  after_by h f lt false true false later eg el es et = let x = loser task members s f el in sym et ∙ loss_false h x.one f x.member x.done
   after_by h f lt false false true true eg el es et = refl
   after_by h f lt false false true false eg el es et =
       let d = active_one task members s (2 * f + 1) (h.stays_true f lt es et) in
@@ -115,7 +115,7 @@ module _ (task : Task) (members s t : ℕ → Bool) where
             inr (ev, any_at _ (effects task) k.effect k.among (and_both _ _ (and_both _ _ (same_test _ _ k.action) (same_test _ _ (k.literal ∙ sym (delete_opposite e.literal f is)))) (maker_active task members s e.action (2 * f) k member)))
         | inr g ↦
             let l : loses task s e.action f ≡ true = and_both _ _ (ap (makes task s e.action) (sym is) ∙ made task s e.action e.literal (active_maker task members s e a x)) (not_false _ g) in
-            let no : gained task s members f ≡ false = not_true _ (λ h. let y = gainer task members s f h in m.no_clash y.one e.action f y.member member y.gain l) in
+            let no : gained task s members f ≡ false = not_true _ (λ h. let y = gainer task members s f h in m.no_clash y.one e.action f y.member member y.done l) in
             let yes : lost task s members f ≡ true = lost_by task members s e.action f member l in
             let n : next task s members f ≡ false = none_left _ _ _ no yes in
             inl (ap (holds t) is ∙ holds_delete t f ∙ not_false (t f) (m.after f (has e a) ∙ n))
@@ -131,12 +131,12 @@ module _ (task : Task) (members s t : ℕ → Bool) where
   stays_true_by f true now l el es n = cc
   stays_true_by f false false l el es n = cc
   stays_true_by f false true false el es n = cc
-  stays_true_by f false true true el es n = let x = loser task members s f el in active_of task members s x.one (2 * f + 1) x.member (and_split _ _ x.loss).0
+  stays_true_by f false true true el es n = let x = loser task members s f el in active_of task members s x.one (2 * f + 1) x.member (and_split _ _ x.done).0
 
   stays_false_by : (f : ℕ) → (g now l : Bool) → gained task s members f ≡ g → now ≡ false → (g || (now && not l)) ≡ true → list_any (λ e. (e.literal == 2 * f) && is_effective members s e) (effects task) ≡ true
   stays_false_by f false false l eg es n = cc
   stays_false_by f false true l eg es n = cc
-  stays_false_by f true now l eg es n = let x = gainer task members s f eg in active_of task members s x.one (2 * f) x.member x.gain
+  stays_false_by f true now l eg es n = let x = gainer task members s f eg in active_of task members s x.one (2 * f) x.member x.done
 
   pub step_holds : HasFacts task → StepMeans task members s t → StepHolds task members s t
   step_holds has m = record {

@@ -4,10 +4,13 @@ use Rattle.std.proofs.lemmas.List.Sums.{sum_by-append, sum_by-cons}
 use Rattle.std.proofs.lemmas.List.Folds.{list_any-append}
 use Rattle.gt_core.specs.Task.{Effect}
 use Rattle.gt_core.specs.Lawful.{is_conditional}
-use Rattle.gt_core.proofs.Basics.{apart, same_test, test_same, not_true}
+use Rattle.gt_core.proofs.Basics.{apart, same_test, test_same}
 use Rattle.step_sizes.specs.declared.adds.Adds.{Adds}
 use Rattle.step_sizes.specs.Sizes.{adds_of, adds_surely}
 use Rattle.step_sizes.specs.Adds.{IsCount}
+use Rattle.std.proofs.lemmas.Bool.{ne_eqb}
+use Rattle.std.proofs.Math.Bool.{or-false}
+use Rattle.step_template.proofs.AddersLaw.{parted}
 
 -- What is counted of the effects before one, after one more.
 
@@ -25,10 +28,6 @@ none_counted adds c s = record {
     and_none true e = sym e
     and_none false e = refl
 
-parted : (P : Effect → Type 0) (xs : List Effect) (e : Effect) → AllByRecursion P (xs ++ e ∷ []) → AllByRecursion P xs × P e
-parted P [] e w = (tt, w.0)
-parted P (x ∷ xs) e w = let r = parted P xs e w.1 in ((w.0, r.0), r.1)
-
 counted : (l : ℕ) (xs : List Effect) (e : Effect) → adds_of (xs ++ e ∷ []) l ≡ adds_of xs l + cond (e.literal == l) 1 0
 counted l xs e =
     let a = sum_by-append (λ (f : Effect). cond (f.literal == l) 1 0) xs (e ∷ []) in
@@ -36,27 +35,23 @@ counted l xs e =
     omega (arith, a, b)
 
 surely : (l : ℕ) (xs : List Effect) (e : Effect) → adds_surely (xs ++ e ∷ []) l ≡ (adds_surely xs l || ((e.literal == l) && not (is_conditional e)))
-surely l xs e = list_any-append (λ (d : Effect). (d.literal == l) && not (is_conditional d)) xs (e ∷ []) ∙ ap (λ (b : Bool). adds_surely xs l || b) (or_false ((e.literal == l) && not (is_conditional e)))
-  where
-    or_false : (b : Bool) → (b || false) ≡ b
-    or_false true = refl
-    or_false false = refl
+surely l xs e = list_any-append (λ (d : Effect). (d.literal == l) && not (is_conditional d)) xs (e ∷ []) ∙ ap (λ (b : Bool). adds_surely xs l || b) (or-false ((e.literal == l) && not (is_conditional e)))
 
--- of a literal above all that stand there, there is none
-none_there : (l : ℕ) (xs : List Effect) → AllByRecursion (λ d. d.literal < l) xs → (adds_of xs l ≡ 0) × (adds_surely xs l ≡ false)
-none_there l [] w = (refl, refl)
-none_there l (x ∷ xs) w = by (x.literal == l) refl (none_there l xs w.1)
+-- of a literal that none of them has, there is none
+pub none_there : (P : Effect → Type 0) (l : ℕ) → ((d : Effect) → P d → d.literal ≡ l → ⊥) → (xs : List Effect) → AllByRecursion P xs → (adds_of xs l ≡ 0) × (adds_surely xs l ≡ false)
+none_there P l apart [] w = (refl, refl)
+none_there P l apart (x ∷ xs) w = by (x.literal == l) refl (none_there P l apart xs w.1)
   where
     by : (b : Bool) → (x.literal == l) ≡ b → (adds_of xs l ≡ 0) × (adds_surely xs l ≡ false) → (adds_of (x ∷ xs) l ≡ 0) × (((b && not (is_conditional x)) || adds_surely xs l) ≡ false)
-    by true t r = let q = test_same x.literal l t in let k = w.0 in absurd (omega (arith, q, k))
+    by true t r = absurd (apart x w.0 (test_same x.literal l t))
     by false t r = (let s = sum_by-cons (λ (f : Effect). cond (f.literal == l) 1 0) x xs in let v = ap {B = ℕ} (λ (b : Bool). cond b 1 0) t in let k = r.0 in omega (arith, s, v, k), r.1)
+
+none_above : (l : ℕ) (xs : List Effect) → AllByRecursion (λ d. d.literal < l) xs → (adds_of xs l ≡ 0) × (adds_surely xs l ≡ false)
+none_above l xs w = none_there (λ d. d.literal < l) l (λ d h q. omega (arith, h, q)) xs w
 
 below : (m l : ℕ) (xs : List Effect) → m < l → AllByRecursion (λ d. d.literal ≤ m) xs → AllByRecursion (λ d. d.literal < l) xs
 below m l [] lt w = tt
 below m l (x ∷ xs) lt w = (let k = w.0 in omega (arith, k, lt), below m l xs lt w.1)
-
-not_same : (a b : ℕ) → (a ≡ b → ⊥) → (a == b) ≡ false
-not_same a b h = not_true (a == b) (λ t. h (test_same a b t))
 
 module _ (old new : Adds) (e : Effect) (one : ℕ) (adds sure : Bool) (floor : new.lit ≡ e.literal - e.literal % 2) (is_add : adds ≡ (e.literal == new.lit)) (is_sure : sure ≡ (adds && not (is_conditional e))) (is_one : one ≡ cond adds 1 0) (before : List Effect) (sorted : AllByRecursion (λ d. d.literal ≤ e.literal) before) (is : IsCount old before) where
   -- of the literal that is counted now
@@ -67,7 +62,7 @@ module _ (old new : Adds) (e : Effect) (one : ℕ) (adds sure : Bool) (floor : n
 
   -- of another even literal
   elsewhere : (l : ℕ) → l % 2 ≡ 0 → (new.lit ≡ l → ⊥) → (e.literal == l) ≡ false
-  elsewhere l even ne = not_same e.literal l (λ q. ne (omega (arith, floor, q, even)))
+  elsewhere l even ne = ne_eqb e.literal l (λ q. ne (omega (arith, floor, q, even)))
 
   abbrev Up : ℕ → Type 0
   Up l = AllByRecursion (λ d. d.literal ≤ l + 1) (before ++ e ∷ [])
@@ -87,7 +82,7 @@ module _ (old new : Adds) (e : Effect) (one : ℕ) (adds sure : Bool) (floor : n
       omega (arith, h, c, o)
   count_by_lit l even up false t count on =
       let ne : new.lit ≡ l → ⊥ = λ q. apart (new.lit == l) (same_test new.lit l q) t in
-      let n = (none_there l before (passed l even ne up)).0 in
+      let n = (none_above l before (passed l even ne up)).0 in
       let c = counted l before e in
       let v = ap {B = ℕ} (λ (b : Bool). cond b 1 0) (elsewhere l even ne) in
       omega (arith, n, c, v)
@@ -98,7 +93,7 @@ module _ (old new : Adds) (e : Effect) (one : ℕ) (adds sure : Bool) (floor : n
       surely l before e ∙ ap (λ (b : Bool). adds_surely before l || b) (here l q).1 ∙ on q
   sure_by_lit l even up false t some on =
       let ne : new.lit ≡ l → ⊥ = λ q. apart (new.lit == l) (same_test new.lit l q) t in
-      surely l before e ∙ ap (λ (b : Bool). b || ((e.literal == l) && not (is_conditional e))) (none_there l before (passed l even ne up)).1 ∙ ap (λ (b : Bool). b && not (is_conditional e)) (elsewhere l even ne)
+      surely l before e ∙ ap (λ (b : Bool). b || ((e.literal == l) && not (is_conditional e))) (none_above l before (passed l even ne up)).1 ∙ ap (λ (b : Bool). b && not (is_conditional e)) (elsewhere l even ne)
 
   old_up : (l : ℕ) → Up l → AllByRecursion (λ d. d.literal ≤ l + 1) before
   old_up l up = (parted (λ d. d.literal ≤ l + 1) before e up).0
@@ -119,8 +114,8 @@ module _ (old new : Adds) (e : Effect) (one : ℕ) (adds sure : Bool) (floor : n
   counted_first s c u = record {
     count = λ l even up. count_by_lit l even up (new.lit == l) refl new.count (λ q.
         let k = is.count l even (old_up l up) in
-        let t = ap {B = ℕ} (λ (b : Bool). if b then old.count else 0) (not_same old.lit l (λ r. s (r ∙ sym q))) in
+        let t = ap {B = ℕ} (λ (b : Bool). if b then old.count else 0) (ne_eqb old.lit l (λ r. s (r ∙ sym q))) in
         omega (arith, k, t, c));
     sure = λ l even up. sure_by_lit l even up (new.lit == l) refl new.sure (λ q.
-        ap (λ (b : Bool). b || sure) (is.sure l even (old_up l up) ∙ ap (λ (b : Bool). b && old.sure) (not_same old.lit l (λ r. s (r ∙ sym q)))) ∙ sym u);
+        ap (λ (b : Bool). b || sure) (is.sure l even (old_up l up) ∙ ap (λ (b : Bool). b && old.sure) (ne_eqb old.lit l (λ r. s (r ∙ sym q)))) ∙ sym u);
   }

@@ -10,7 +10,7 @@ use Rattle.gt_core.specs.Literal.{opposite}
 use Rattle.gt_core.specs.Task.{Effect, EffectOf, owned}
 use Rattle.gt_core.specs.Lawful.{is_conditional, are_effects}
 use Rattle.gt_core.specs.Layout.{Layout, width, action_at, conditional_at, fact_at}
-use Rattle.gt_core.proofs.Basics.{Among, same_test, test_same}
+use Rattle.gt_core.proofs.Basics.{Among, same_test}
 use Rattle.gt_core.proofs.Literals.{odd_is_delete, delete_opposite}
 use Rattle.step_clauses.specs.Clause.{Literal, Is, Not, code}
 use Rattle.step_clauses.specs.Variables.{Row, rows_from, variable_at}
@@ -22,6 +22,9 @@ use Rattle.step_template.proofs.RowLaw.{made_parts, rows_parts}
 use Rattle.step_sizes.specs.Sizes.{adds_of, adds_surely, result_size}
 use Rattle.step_sizes.proofs.Names.{act_is, conditional_is, later_is, over_half}
 use Rattle.step_sizes.proofs.Variables.{IsOf, IsAbove, made_of, made_long, made_apart, made_none, above_unless_sure, own_if_sure}
+use Rattle.gt_core.proofs.NextLaw.{owned_append}
+use Rattle.step_sizes.proofs.CountLaw.{none_there}
+use Rattle.std.proofs.Math.Bool.{or-false}
 
 -- How many literals the clause of what an effect makes true has.
 
@@ -131,23 +134,11 @@ rest_above facts e after h t =
 
 -- effects in two parts
 
-owned_parts : (a : ℕ) (xs ys : List Effect) → owned a (xs ++ ys) ≡ owned a xs ++ owned a ys
-owned_parts a [] ys = refl
-owned_parts a (x ∷ xs) ys = ap (λ (es : List EffectOf). record { action = a; condition = x.condition; literal = x.literal } ∷ es) (owned_parts a xs ys)
-
 made_two : (z : Layout) (l a j : ℕ) (xs ys : List Effect) → made z l (rows_of a j (xs ++ ys)) ≡ made z l (rows_of a j xs) ++ made z l (rows_of a (j + count_by is_conditional xs) ys)
 made_two z l a j xs ys =
-    ap (λ (es : List EffectOf). made z l (rows_from j es)) (owned_parts a xs ys)
+    ap (λ (es : List EffectOf). made z l (rows_from j es)) (owned_append a xs ys)
     ∙ ap (made z l) (rows_parts a j xs (owned a ys))
     ∙ made_parts z l (rows_of a j xs) (rows_of a (j + count_by is_conditional xs) ys)
-
-none_of : (l : ℕ) (ys : List Effect) → AllByRecursion (λ e. l < e.literal) ys → (adds_of ys l ≡ 0) × (adds_surely ys l ≡ false)
-none_of l [] w = (refl, refl)
-none_of l (y ∷ ys) w = by (y.literal == l) refl (none_of l ys w.1)
-  where
-    by : (b : Bool) → (y.literal == l) ≡ b → (adds_of ys l ≡ 0) × (adds_surely ys l ≡ false) → (adds_of (y ∷ ys) l ≡ 0) × (((b && not (is_conditional y)) || adds_surely ys l) ≡ false)
-    by true t r = let q = test_same y.literal l t in let x = w.0 in absurd (omega (arith, q, x))
-    by false t r = (let s = sum_by-cons (λ (f : Effect). cond (f.literal == l) 1 0) y ys in let v = ap {B = ℕ} (λ (b : Bool). cond b 1 0) t in let x = r.0 in omega (arith, s, v, x), r.1)
 
 -- a sorted list of effects in two parts at one of them: those before it, and it with those after it
 pub record IsSplit (facts : ℕ) (es before : List Effect) (e : Effect) (after : List Effect) : Type 0 where
@@ -160,17 +151,13 @@ pub record IsSplit (facts : ℕ) (es before : List Effect) (e : Effect) (after :
 pub counts_before : (facts : ℕ) (es before : List Effect) (e : Effect) (after : List Effect) → IsSplit facts es before e after → (e.literal % 2 == 0) ≡ false → (adds_of es (opposite e.literal) ≡ adds_of before (opposite e.literal)) × (adds_surely es (opposite e.literal) ≡ adds_surely before (opposite e.literal))
 counts_before facts es before e after p t =
     let l = opposite e.literal in
-    let none = none_of l (e ∷ after) (rest_above facts e after p.after_sorted t) in
+    let none = none_there (λ d. l < d.literal) l (λ d h q. omega (arith, h, q)) (e ∷ after) (rest_above facts e after p.after_sorted t) in
     let x = sum_by-append (λ (f : Effect). cond (f.literal == l) 1 0) before (e ∷ after) in
     let w = ap (λ (xs : List Effect). adds_of xs l) p.whole in
     let n = none.0 in (
       omega (arith, x, w, n),
-      ap (λ (xs : List Effect). adds_surely xs l) p.whole ∙ list_any-append (λ (d : Effect). (d.literal == l) && not (is_conditional d)) before (e ∷ after) ∙ ap (λ (b : Bool). adds_surely before l || b) none.1 ∙ or_false (adds_surely before l),
+      ap (λ (xs : List Effect). adds_surely xs l) p.whole ∙ list_any-append (λ (d : Effect). (d.literal == l) && not (is_conditional d)) before (e ∷ after) ∙ ap (λ (b : Bool). adds_surely before l || b) none.1 ∙ or-false (adds_surely before l),
     )
-  where
-    or_false : (b : Bool) → (b || false) ≡ b
-    or_false true = refl
-    or_false false = refl
 
 -- what an effect makes true
 pub result_literals : (z : Layout) (a number first facts : ℕ) (es before : List Effect) (e : Effect) (after : List Effect) → z.horizon ≡ 1 → a < z.actions → IsSplit facts es before e after

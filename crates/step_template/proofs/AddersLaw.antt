@@ -3,22 +3,20 @@ use Rattle.std.specs.List.{AllByRecursion}
 use Rattle.std.proofs.lemmas.Bool.Decides.{nat_tests}
 use Rattle.std.proofs.lemmas.List.{append-nil, drop_more, take-append-drop}
 use Rattle.gt_core.specs.Literal.{opposite}
-use Rattle.gt_core.specs.Task.{Effect, Task, EffectOf, owned, action}
+use Rattle.gt_core.specs.Task.{Effect, Task, owned, action}
 use Rattle.gt_core.specs.Lawful.{is_conditional, are_effects, is_action, is_task}
 use Rattle.gt_core.specs.Layout.{Layout}
-use Rattle.gt_core.proofs.Basics.{apart, same_test, test_same, not_true, all_at}
+use Rattle.gt_core.proofs.Basics.{apart, same_test, test_same, all_at}
 use Rattle.gt_core.proofs.Within.{lawful, among_at}
 use Rattle.step_clauses.specs.Variables.{Row, rows_from}
 use Rattle.step_clauses.proofs.Sorted.{at_least, rest_sorted, sorted_before, effects_of_action}
 use Rattle.step_template.specs.Rows.{row_of, rows_of, number_after, made_by}
 use Rattle.step_template.specs.Adders.{IsAdders, AreOverruling}
 use Rattle.step_template.proofs.RowLaw.{rows_parts, made_by_parts, made_none}
+use Rattle.std.proofs.lemmas.Bool.{ne_eqb}
+use Rattle.gt_core.proofs.NextLaw.{owned_append}
 
 -- The adds that are noted of the effects before a delete are those of its fact.
-
-owned_append : (a : ℕ) (es ds : List Effect) → owned a (es ++ ds) ≡ owned a es ++ owned a ds
-owned_append a [] ds = refl
-owned_append a (e ∷ es) ds = ap (λ (r : List EffectOf). record { action = a; condition = e.condition; literal = e.literal } ∷ r) (owned_append a es ds)
 
 made_two : (z : Layout) (a l j : ℕ) (es ds : List Effect) → made_by z a l (rows_of a j (es ++ ds)) ≡ made_by z a l (rows_of a j es) ++ made_by z a l (rows_of a (j + count_by is_conditional es) ds)
 made_two z a l j es ds =
@@ -44,10 +42,7 @@ higher : (m l : ℕ) (xs : List Effect) → l < m → AllByRecursion (λ d. m �
 higher m l [] lt w = tt
 higher m l (x ∷ xs) lt w = (λ q. let k = w.0 in omega (arith, k, lt, q), higher m l xs lt w.1)
 
-not_same : (a b : ℕ) → (a ≡ b → ⊥) → (a == b) ≡ false
-not_same a b h = not_true (a == b) (λ t. h (test_same a b t))
-
-parted : (P : Effect → Type 0) (xs : List Effect) (e : Effect) → AllByRecursion P (xs ++ e ∷ []) → AllByRecursion P xs × P e
+pub parted : (P : Effect → Type 0) (xs : List Effect) (e : Effect) → AllByRecursion P (xs ++ e ∷ []) → AllByRecursion P xs × P e
 parted P [] e w = (tt, w.0)
 parted P (x ∷ xs) e w = let r = parted P xs e w.1 in ((w.0, r.0), r.1)
 
@@ -102,7 +97,7 @@ module _ (z : Layout) (a first number lit lit2 : ℕ) (vars vars2 : List ℕ) (b
   noted_first : (lit ≡ lit2 → ⊥) → vars2 ≡ one → IsAdders z a first (before ++ e ∷ []) lit2 vars2
   noted_first s v = record {
     made = λ l even up. made_after l even up (lit2 == l) refl [] (λ q.
-        is.made l even (parted (λ d. d.literal ≤ l + 1) before e up).0 ∙ ap (λ (b : Bool). if b then vars else []) (not_same lit l (λ r. s (r ∙ sym q)))) v;
+        is.made l even (parted (λ d. d.literal ≤ l + 1) before e up).0 ∙ ap (λ (b : Bool). if b then vars else []) (ne_eqb lit l (λ r. s (r ∙ sym q)))) v;
   }
 
   -- noted after going on to the effect's fact

@@ -1,7 +1,6 @@
-use Rattle.std.proofs.Common.{arith, ◌≡◌, ℕ, zero, suc, ◌<◌, ◌≤◌, List, [], ◌∷◌, length}
-use Rattle.std.specs.Prelude.{slice_index_or}
-use Rattle.std.specs.List.{AllByRecursion}
+use Rattle.std.proofs.Common.{arith, ◌≡◌, ℕ, ◌<◌, ◌≤◌}
 use Rattle.gt_core.specs.Layout.{Layout, IsLayout, action_at, conditional_at, fact_at}
+pub use Rattle.gt_core.proofs.Lists.{each_number as each_place}
 use Rattle.gt_core.proofs.LayoutLaw.{step_within, time_within}
 
 -- Variables of the first step, and of facts, have codes in 32 bits.
@@ -14,9 +13,3 @@ conditional_small z j x is h lt e = let w = step_within z 0 is h in omega (arith
 
 pub fact_small : (z : Layout) (t f x : ℕ) → IsLayout z → t ≤ z.horizon → f < z.facts → x ≡ fact_at z t f → x ≤ 2147483647
 fact_small z t f x is le lt e = let w = time_within z t is le in omega (arith, w, lt, e)
-
--- what holds of each element holds of the one at a place
-pub each_place : {A : Type 0} (P : A → Type 0) (xs : List A) (i : ℕ) (d : A) → AllByRecursion P xs → i < length xs → P (slice_index_or xs i d)
-each_place P [] i d h lt = absurd (omega arith)
-each_place P (x ∷ xs) zero d h lt = h.0
-each_place P (x ∷ xs) (suc i) d h lt = each_place P xs i d h.1 (omega arith)

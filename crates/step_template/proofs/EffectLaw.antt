@@ -3,8 +3,9 @@ use Rattle.std.specs.List.{filter, cons_option, AllByRecursion}
 use Rattle.std.proofs.lemmas.List.{drop_more}
 use Rattle.gt_core.specs.Literal.{opposite}
 use Rattle.gt_core.specs.Task.{Effect, Action, Task, owned, effects_from, action}
-use Rattle.gt_core.specs.Lawful.{is_conditional, conditional_in}
+use Rattle.gt_core.specs.Lawful.{is_conditional, conditional_in, is_task}
 use Rattle.gt_core.specs.Active.{EffectWithin}
+use Rattle.gt_core.proofs.Within.{action_effects_within}
 use Rattle.gt_core.specs.Layout.{Layout, action_at, fact_at}
 use Rattle.clause_base.specs.Clause.{clause_of}
 use Rattle.step_clauses.specs.Clause.{Literal, Is, Not, code}
@@ -15,6 +16,7 @@ use Rattle.step_clauses.proofs.CodedLaw.{coded-append}
 use Rattle.step_template.specs.Rows.{row_of, rows_of, number_after, made_by}
 use Rattle.step_template.proofs.Groups.{joined_twice, rest}
 use Rattle.step_template.proofs.RowLaw.{rows_step, rows_parts, only_of}
+use Rattle.std.proofs.lemmas.List.{append-nil}
 
 -- The clauses of effects, part by part.
 
@@ -51,16 +53,12 @@ meaning_parts z a j e v condition before first second after t n k h g f =
 -- an effect without condition has no clause of that kind
 pub no_meaning : (z : Layout) (a j : ℕ) (e : Effect) (before : List (List ℕ)) → is_conditional e ≡ false → before ≡ before ++ coded (meaning_clauses (action_at z 0) (fact_at z 0) (variable_at z 0) (row_of a j e))
 no_meaning z a j e before t =
-    sym (none_more before)
+    sym (append-nil before)
     ∙ ap (λ (cs : List (List Literal)). before ++ coded cs) (by (is_conditional e) t ((Not (variable_at z 0 (row_of a j e)) ∷ Is (action_at z 0 a) ∷ []) ∷ (map (λ c. Not (variable_at z 0 (row_of a j e)) ∷ literal_over (fact_at z 0) c ∷ []) e.condition ++ (Is (variable_at z 0 (row_of a j e)) ∷ Not (action_at z 0 a) ∷ map (λ c. literal_over (fact_at z 0) (opposite c)) e.condition) ∷ [])))
   where
     by : (b : Bool) → b ≡ false → (cs : List (List Literal)) → [] ≡ (if b then cs else [])
     by true e cs = cc
     by false e cs = refl
-
-    none_more : (xs : List (List ℕ)) → xs ++ [] ≡ xs
-    none_more [] = refl
-    none_more (x ∷ xs) = ap (λ (r : List (List ℕ)). x ∷ r) (none_more xs)
 
 -- what an effect makes true, in codes
 pub result_codes : (z : Layout) (a j v m : ℕ) (all : List Row) (e : Effect) (lits : List ℕ) → v ≡ variable_at z 0 (row_of a j e) → m ≡ code (literal_over (fact_at z 1) e.literal) → lits ≡ (2 * v + 1) ∷ m ∷ (if e.literal % 2 == 0 then [] else made_by z a (opposite e.literal) all) → lits ≡ map code (result_clause (fact_at z 1) (variable_at z 0) all (row_of a j e))
@@ -134,8 +132,13 @@ actions_step z task a first next es whole before after lt is f n h g =
         ∙ ap (λ (j : ℕ). filter (λ r. (r.effect.action == a) && (r.effect.literal == l)) (rows_from j (owned a (get_or task.actions a none).effects))) k
         ∙ ap (λ (ds : List Effect). filter (λ r. (r.effect.action == a) && (r.effect.literal == l)) (rows_from first (owned a ds))) (sym is)
 
-pub effects_by : (m n : ℕ) (xs ys : List Effect) → m ≡ n → xs ≡ ys → AllByRecursion (EffectWithin n) ys → AllByRecursion (EffectWithin m) xs
+effects_by : (m n : ℕ) (xs ys : List Effect) → m ≡ n → xs ≡ ys → AllByRecursion (EffectWithin n) ys → AllByRecursion (EffectWithin m) xs
 effects_by m n xs ys e h a = subst (λ (k : ℕ). AllByRecursion (EffectWithin k) xs) (sym e) (subst (λ (zs : List Effect). AllByRecursion (EffectWithin n) zs) (sym h) a)
+
+-- the effects of an action of a task are within its facts
+pub effects_within : (task : Task) (facts a : ℕ) (es : List Effect) (x : Action) → facts ≡ task.facts → x ≡ action task a → es ≡ x.effects → is_task task ≡ true → a < length task.actions
+    → AllByRecursion (EffectWithin facts) es
+effects_within task facts a es x same is e t lt = effects_by facts task.facts es (action task a).effects same (e ∙ ap (λ (y : Action). y.effects) is) (action_effects_within task a t lt)
 
 -- an effect is conditional where its condition is not empty
 pub conditional_if : (e : Effect) (condition : List ℕ) (b : Bool) → condition ≡ e.condition → b ≡ (length condition == 0) → b ≡ false → is_conditional e ≡ true

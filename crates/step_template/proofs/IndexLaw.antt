@@ -10,12 +10,9 @@ use Rattle.step_clauses.specs.Variables.{Row, rows_from, variable_at}
 use Rattle.step_template.specs.Rows.{row_of, rows_of, number_after, made}
 use Rattle.step_template.proofs.Groups.{rest}
 use Rattle.step_template.proofs.RowLaw.{made_parts, rows_parts, rows_step}
+use Rattle.std.proofs.lemmas.List.{append-nil}
 
 -- The index of effects by literal, as it grows.
-
-pub none_more : (xs : List ℕ) → xs ++ [] ≡ xs
-none_more [] = refl
-none_more (x ∷ xs) = ap (λ (r : List ℕ). x ∷ r) (none_more xs)
 
 made_at_one : (z : Layout) (a j l : ℕ) (e : Effect) → e.literal ≡ l → made z l (row_of a j e ∷ []) ≡ (2 * variable_at z 0 (row_of a j e)) ∷ []
 made_at_one z a j l e h = by (e.literal == l) (same_test e.literal l h)
@@ -50,7 +47,7 @@ index_put z a j e old new k v row lt is n h g l = by (e.literal == l) refl
         let other : l ≢ k = λ q. grind (arith, nat_tests) in
         ap (λ (xs : List (List ℕ)). get_or xs l []) g
         ∙ get_or-set_other old k l row [] other
-        ∙ sym (none_more (get_or old l []))
+        ∙ sym (append-nil (get_or old l []))
         ∙ ap (λ (r : List ℕ). get_or old l [] ++ r) (sym (made_at_none z a j l e t))
 
 -- one more effect
@@ -74,4 +71,4 @@ made_more z l a first next acts d es whole before after lt is n h g =
 -- past the last action
 pub made_whole : (z : Layout) (l a first : ℕ) (acts : List Action) (whole before : List ℕ) → length acts ≤ a → whole ≡ before ++ made z l (rows_from first (effects_from a (drop a acts))) → before ≡ whole
 made_whole z l a first acts whole before le h =
-    sym (h ∙ ap (λ (xs : List Action). before ++ made z l (rows_from first (effects_from a xs))) (drop_all a acts le) ∙ none_more before)
+    sym (h ∙ ap (λ (xs : List Action). before ++ made z l (rows_from first (effects_from a xs))) (drop_all a acts le) ∙ append-nil before)

@@ -11,6 +11,7 @@ use Rattle.step_clauses.specs.Formula.{literal_over, is_single, pair_clause}
 use Rattle.step_clauses.specs.Coded.{coded}
 use Rattle.step_clauses.proofs.CodedLaw.{coded-append}
 use Rattle.step_template.proofs.Groups.{rest}
+use Rattle.std.proofs.lemmas.List.{append-nil}
 
 -- The known pairs, one by one.
 
@@ -31,10 +32,6 @@ pub single_is : (pairs : List (ℕ × ℕ)) (l : ℕ) → has_clause pairs l l �
 single_is [] l = refl
 single_is (c ∷ cs) l = rw (or_self ((c.0 == l) && (c.1 == l)), single_is cs l) refl
 
-no_more : (xs : List (List ℕ)) → xs ++ [] ≡ xs
-no_more [] = refl
-no_more (x ∷ xs) = ap (λ (r : List (List ℕ)). x ∷ r) (no_more xs)
-
 module _ (pairs : List (ℕ × ℕ)) (l m : ℕ) (before after : List (List ℕ)) where
   abbrev Known : Type 0
   Known = after ≡ before ++ coded (pair_clause (λ f. f) pairs (l, m))
@@ -53,7 +50,7 @@ module _ (pairs : List (ℕ × ℕ)) (l m : ℕ) (before after : List (List ℕ)
       by false e cs = cc
 
   pub known_left_out : (l ≡ m → ⊥) → (is_single pairs l || is_single pairs m) ≡ true → after ≡ before → Known
-  known_left_out n t h = h ∙ sym (no_more before) ∙ ap (λ (cs : List (List Literal)). before ++ coded cs) (by (l == m) (is_single pairs l || is_single pairs m) refl t)
+  known_left_out n t h = h ∙ sym (append-nil before) ∙ ap (λ (cs : List (List Literal)). before ++ coded cs) (by (l == m) (is_single pairs l || is_single pairs m) refl t)
     where
       by : (b c : Bool) → (l == m) ≡ b → c ≡ true → [] ≡ (if b then single else if c then [] else double)
       by true c e f = let s : l ≡ m = grind (arith, nat_tests) in absurd (n s)

@@ -15,7 +15,7 @@ ghost use Rattle.step_template.specs.Adders.{AreOverruling};
 
 use crate::adders::Adders;
 use crate::literals::{action_variable, add_clause, literal_at};
-use crate::numbers::{Place, conditional_among, effect_variable, number_after};
+use crate::numbers::{Place, effect_variable, number_after};
 use clause_base::clause_list::ClauseList;
 use clause_base::literal::Lit;
 use clause_base::memory::Memory;
@@ -200,9 +200,9 @@ pub(crate) fn add_effects(
 {
     let mut first = 0;
     for a in 0..layout.actions {
-        let effects = task.act(a).effects();
-        add_effects_of(alloc, layout, a, first, effects, clauses)?;
-        first += conditional_among(effects) as u32;
+        let act = task.act(a);
+        add_effects_of(alloc, layout, a, first, act.effects(), clauses)?;
+        first += act.conditional() as u32;
     }
     Ok(())
 }

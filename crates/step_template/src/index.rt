@@ -6,7 +6,7 @@ ghost use Rattle.gt_core.specs.Active.{EffectWithin};
 ghost use Rattle.gt_core.specs.Lawful.{is_conditional, conditional_in};
 ghost use Rattle.step_template.specs.Rows.{row_of, rows_of, made, IsIndex};
 
-use crate::numbers::{Place, conditional_among, effect_variable, number_after};
+use crate::numbers::{Place, effect_variable, number_after};
 use clause_base::literal::Lit;
 use clause_base::memory::Memory;
 use gt_core::eff::Eff;
@@ -120,9 +120,9 @@ pub(crate) fn index_of(alloc: Global, layout: &Layout, task: &Task) -> Result<Ve
     let mut index = empty_makers(alloc, 2 * task.facts() as usize)?;
     let mut first = 0;
     for a in 0..layout.actions {
-        let effects = task.act(a).effects();
-        index_effects_of(layout, a, first, effects, &mut index)?;
-        first += conditional_among(effects) as u32;
+        let act = task.act(a);
+        index_effects_of(layout, a, first, act.effects(), &mut index)?;
+        first += act.conditional() as u32;
     }
     Ok(index)
 }

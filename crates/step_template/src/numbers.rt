@@ -16,13 +16,6 @@ pub(crate) struct Place {
     pub(crate) number: u32,
 }
 
-/// How many of these effects have a condition.
-pub(crate) fn conditional_among(effects: &[Eff]) -> usize
-    ensures { result ≡ count_by is_conditional effects.now }
-{
-    effects.iter().filter(|e| !e.cond().is_empty()).count()
-}
-
 /// The number of the next conditional effect after an effect.
 pub(crate) fn number_after(number: u32, effect: &Eff) -> u32
     requires { number ≤ 65536 }

@@ -1,19 +1,9 @@
-use Rattle.std.proofs.Common.{arith, ◌≡◌, ◌+◌, ◌≤◌, ℕ, zero, suc, List, [], ◌∷◌, ◌++◌, map, length, codes, decimal, drop, slice_get, Some, sym, ap, ◌∙◌}
+use Rattle.std.proofs.Common.{◌≡◌, ◌+◌, ◌≤◌, ℕ, List, ◌++◌, map, length, codes, decimal, drop, slice_get, Some, sym, ap, ◌∙◌}
 use Rattle.std.proofs.lemmas.List.{append_assoc, drop_all, append-nil}
 use Rattle.task_text.specs.Text.{numbered}
+use Rattle.atom_join.proofs.Parts.{got_rest}
 
 -- Numbered lines, one after the other.
-
-rest_at : {X : Type 0} (xs : List X) (i : ℕ) (x : X) → slice_get xs i ≡ Some x → drop i xs ≡ x ∷ drop (i + 1) xs
-rest_at [] i x e = cc
-rest_at (y ∷ xs) zero x e = ap (λ z. z ∷ xs) (same y x e)
-  where
-    same : {X : Type 0} (y x : X) → Some y ≡ Some x → y ≡ x
-    same y x e = cc
-rest_at (y ∷ xs) (suc i) x e = rest_at xs i x e ∙ ap (λ (k : ℕ). x ∷ drop k (y ∷ xs)) (next i)
-  where
-    next : (n : ℕ) → suc (n + 1) ≡ suc n + 1
-    next n = omega arith
 
 abbrev pub front : ℕ → List ℕ
 front n = codes "; " ++ (decimal n ++ codes " ")
@@ -31,7 +21,7 @@ pub line_next :
     → slice_get xs n ≡ Some x → one ≡ before ++ front n → two ≡ one ++ line x → after ≡ two ++ codes "\n"
     → before ++ numbered n (map line (drop n xs)) ≡ after ++ numbered (n + 1) (map line (drop (n + 1) xs))
 line_next line xs n x before one two after e o t a =
-    ap (λ ys. before ++ numbered n (map line ys)) (rest_at xs n x e)
+    ap (λ ys. before ++ numbered n (map line ys)) (got_rest xs n x e)
     ∙ one_line n before (line x) (numbered (n + 1) (map line (drop (n + 1) xs)))
     ∙ ap (λ (ys : List ℕ). ((ys ++ line x) ++ codes "\n") ++ numbered (n + 1) (map line (drop (n + 1) xs))) (sym o)
     ∙ ap (λ (ys : List ℕ). (ys ++ codes "\n") ++ numbered (n + 1) (map line (drop (n + 1) xs))) (sym t)

@@ -1,9 +1,9 @@
 use Rattle.std.proofs.Common.{arith, ◌≡◌, ◌==◌, ℕ, zero, suc, ◌+◌, ◌<◌, ◌≤◌, Bool, true, false, not, ◌&&◌, ◌||◌, refl, sym, ◌∙◌, ◌⊎◌, inl, inr, subst}
 use Rattle.std.specs.Prelude.{nat_lt}
-use Rattle.std.proofs.lemmas.Bool.Decides.{nat_tests}
 use Rattle.gt_core.specs.Literal.{opposite}
 use Rattle.gt_core.proofs.Basics.{or_split, or_left, or_right, and_split, cases, same_test, test_same, apart}
 use Rattle.two_invariants.specs.Rows.{IsPart, IsChained, HasNoPair, IsClosure, IsGrowing, IsGrownFrom, weight, total, work}
+use Rattle.std.proofs.lemmas.Bool.{lt-ltb, ltb-true}
 
 -- A set of literals grows by what one of them tells.
 
@@ -26,12 +26,6 @@ pub total_less : (w v : ℕ → ℕ) (n x : ℕ) → ((m : ℕ) → v m ≤ w m)
 total_less w v zero x le l lt = absurd (omega arith)
 total_less w v (suc n) x le l lt = total_at w v n x le lt (total_below w v n le) (λ h. total_less w v n x le h lt) l
 
-nat_lt_from : (m n : ℕ) → m < n → nat_lt m n ≡ true
-nat_lt_from m n l = grind (arith, nat_tests)
-
-nat_lt_to : (m n : ℕ) → nat_lt m n ≡ true → m < n
-nat_lt_to m n t = grind (arith, nat_tests)
-
 -- what one step gives
 pub record Follows (V : ℕ → ℕ → Bool) (size : ℕ) (R T R' T' : ℕ → Bool) : Type 0 where
   pub grown : IsGrownFrom V R R'
@@ -42,7 +36,7 @@ module _ (V : ℕ → ℕ → Bool) (size : ℕ) (bound : (l m : ℕ) → V l m 
   -- a closure of literals below a bound is below it
   pub closure_within : (start set : ℕ → Bool) → IsClosure V start set → ((m : ℕ) → start m ≡ true → m < size) → (m : ℕ) → set m ≡ true → m < size
   closure_within start set c within m t =
-      nat_lt_to m size (c.sound (λ k. nat_lt k size) (λ x y i v. nat_lt_from y size (bound (opposite x) y v)) (λ k s. nat_lt_from k size (within k s)) m t)
+      ltb-true m size (c.sound (λ k. nat_lt k size) (λ x y i v. lt-ltb y size (bound (opposite x) y v)) (λ k s. lt-ltb k size (within k s)) m t)
 
   module _ (R T : ℕ → Bool) (x : ℕ) (g : IsGrowing V size R T) (t : T x ≡ true) where
     -- ---- by what it tells that is done
@@ -78,7 +72,7 @@ module _ (V : ℕ → ℕ → Bool) (size : ℕ) (bound : (l m : ℕ) → V l m 
       growing_done : IsGrowing V size R' T'
       growing_done = record {
         within = λ m h. of_either (m < size) m h (g.within m) (closure_within (λ k. (x == k) || none k) d c
-            (λ k s. nat_lt_to k size (starts (λ n. nat_lt n size) (λ n r. nat_lt_from n size (g.within n r)) k s)) m);
+            (λ k s. ltb-true k size (starts (λ n. nat_lt n size) (λ n r. lt-ltb n size (g.within n r)) k s)) m);
         listed = λ m h. from_old m (g.listed m (and_split _ _ (and_split _ _ (sym (et m) ∙ h)).0).1);
         chained = λ free a y r off v. (let no_r : HasNoPair R = λ f p q. free f (from_old _ p) (from_old _ q) in
             let no_d : HasNoPair d = λ f p q. free f (from_told _ p) (from_told _ q) in

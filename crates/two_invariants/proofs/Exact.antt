@@ -13,18 +13,11 @@ use Rattle.two_invariants.specs.Tested.{AreKnown, IsSetOf, EffectFits, ActionFit
 use Rattle.two_invariants.specs.declared.known.Known.{Known}
 use Rattle.two_invariants.proofs.Lists.{any_map, any_map_in, any_here, all_map, all_joined, any_test, test_any}
 use Rattle.two_invariants.proofs.Closing.{closure_within}
+use Rattle.std.proofs.lemmas.List.Folds.{list_any-append}
 
 -- The tests on rows are what the definitions say, where nothing contradictory is known.
 
 -- ---- more literals, one after the other
-
-any_parts : {A : Type 0} (p : A → Bool) (xs ys : List A) → list_any p (xs ++ ys) ≡ (list_any p xs || list_any p ys)
-any_parts p [] ys = refl
-any_parts p (x ∷ xs) ys = rw (any_parts p xs ys) (nested (p x) (list_any p xs) (list_any p ys))
-  where
-    nested : (a b c : Bool) → (a || (b || c)) ≡ ((a || b) || c)
-    nested true b c = refl
-    nested false b c = refl
 
 more_twice : (rows : List (List ℕ)) (set : ℕ → Bool) (ls ms : List ℕ) → with_more rows (with_more rows set ls) ms ≡ with_more rows set (ls ++ ms)
 more_twice rows set ls ms = λ i m. at m i
@@ -35,7 +28,7 @@ more_twice rows set ls ms = λ i m. at m i
 
     at : (m : ℕ) → with_more rows (with_more rows set ls) ms m ≡ with_more rows set (ls ++ ms) m
     at m = nested (set m) (list_any (λ l. row_has (row_at rows l) m) ls) (list_any (λ l. row_has (row_at rows l) m) ms)
-        ∙ ap (λ (b : Bool). set m || b) (sym (any_parts (λ l. row_has (row_at rows l) m) ls ms))
+        ∙ ap (λ (b : Bool). set m || b) (sym (list_any-append (λ l. row_has (row_at rows l) m) ls ms))
 
 -- ---- no pair
 

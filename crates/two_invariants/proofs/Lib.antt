@@ -5,5 +5,6 @@ pub mod OneList
 pub mod Closing
 pub mod Exact
 pub mod Steps
+pub mod Grouping
 pub mod RoundLaw
 pub mod Oks

@@ -13,15 +13,18 @@ use Rattle.gt_core.proofs.Within.{lawful, literals_within, effects_within, among
 use Rattle.two_invariants.specs.Breaks.{BreaksBy, Breaks}
 use Rattle.two_invariants.specs.Closed.{IsClosed, AreInvariants}
 use Rattle.two_invariants.specs.Rows.{clause_in, AreRows, total}
-use Rattle.two_invariants.specs.Tested.{AreKnown, ActionFits, AreRowsOf, breaks_by, are_lost, act_at, IsLossOf, AreLossesOf, LossFits}
+use Rattle.bit_rows.specs.Bits.{row_has}
+use Rattle.two_invariants.specs.Tested.{AreKnown, ActionFits, AreRowsOf, IsSetOf, breaks_by, are_lost, act_at, IsLossOf, AreLossesOf, LossFits}
 use Rattle.two_invariants.specs.Rounds.{breaks_any, clause_count, IsRound, Surrounds}
 use Rattle.two_invariants.specs.declared.known.Known.{Known}
 use Rattle.two_invariants.specs.declared.broken.Loss.{Loss}
 use Rattle.two_invariants.proofs.Lists.{all_map}
 use Rattle.two_invariants.proofs.Fewer.{breaks_less}
 use Rattle.two_invariants.proofs.Closing.{total_below, total_less}
-use Rattle.two_invariants.proofs.Exact.{breaks_to, breaks_from, either_breaks, breaks_either, row_within}
+use Rattle.two_invariants.proofs.Exact.{breaks_to, breaks_from, either_breaks, breaks_either, row_within, none_within}
 use Rattle.two_invariants.proofs.Steps.{opposite_below, past_rows}
+use Rattle.std.proofs.Math.Bool.{or_comm}
+use Rattle.std.proofs.lemmas.Bool.{or_parts}
 
 -- A round drops what some action breaks, and nothing else; where it drops nothing, what is left are the invariants.
 
@@ -111,15 +114,11 @@ module _ {B : Type 0} (it : B → List Loss) (facts : ℕ) (known : Known) (clau
   none_at [] a b f = refl
   none_at (s ∷ losses) a b f = absurd (let some : (length (s ∷ losses) == 0) ≡ false = grind (arith, nat_tests) in cc)
 
-  split_none : (p q : Bool) → (p || q) ≡ false → (p ≡ false) × (q ≡ false)
-  split_none true q e = cc
-  split_none false q e = (refl, e)
-
   -- without a loss nothing is dropped
   pub none_lost : (ls : List B) (a b : ℕ) → list_any (λ l. not (length (it l) == 0)) ls ≡ false → lost_in_some ls a b ≡ false
   none_lost [] a b f = refl
   none_lost (l ∷ ls) a b f =
-      let p = split_none _ _ f in
+      let p = or_parts _ _ f in
       λ i. none_at (it l) a b p.0 i || none_lost ls a b p.1 i
 
   fits_of : AreRows facts clauses → (losses : List Loss) → AllByRecursion (IsLossOf (2 * facts) clauses) losses → AllByRecursion (LossFits (2 * facts)) losses
@@ -145,6 +144,14 @@ known_rows V facts known bound are = record {
 pub both_within : (facts : ℕ) (rows : List (List ℕ)) → AreRows facts rows → ((l m : ℕ) → clause_in rows l m ≡ clause_in rows m l) → (l m : ℕ) → clause_in rows l m ≡ true → (l < 2 * facts) × (m < 2 * facts)
 both_within facts rows are either l m t = (are.within m l (sym (either l m) ∙ t), are.within l m t)
 
+-- what is known for rows that were lent, of so many facts by another name
+pub known_fit : (n facts : ℕ) (given rows : List (List ℕ)) (known : Known) → n ≡ facts → given ≡ rows → AreRows facts rows → ((l m : ℕ) → clause_in rows l m ≡ clause_in rows m l) → AreKnown (clause_in given) (2 * n) known
+    → AreRowsOf (2 * n) known.rows.items × IsSetOf (2 * n) (row_has known.none)
+known_fit n facts given rows known same lent of either are =
+    let bound = both_within n rows (subst (λ (k : ℕ). AreRows k rows) (sym same) of) either in
+    let here = subst (λ (r : List (List ℕ)). AreKnown (clause_in r) (2 * n) known) lent are in
+    (known_rows (clause_in rows) n known bound here, none_within (clause_in rows) n known bound here)
+
 -- ---- counts
 
 bit_less : (p q : Bool) → (p ≡ true → q ≡ true) → (if p then 1 else 0) ≤ (if q then 1 else 0)
@@ -168,18 +175,9 @@ count_less size before after part l m ll lm t f =
 
 -- ---- what is left after a round
 
-and_first : (p q : Bool) → (p && q) ≡ true → p ≡ true
-and_first p q t = (and_split p q t).0
-
 either_any : (facts : ℕ) (known : Known) (xs : List Action) (l m : ℕ) → breaks_any facts known xs l m ≡ breaks_any facts known xs m l
 either_any facts known [] l m = refl
-either_any facts known (x ∷ xs) l m = λ i. swap (breaks_by facts known x l m) (breaks_by facts known x m l) i || either_any facts known xs l m i
-  where
-    swap : (p q : Bool) → (p || q) ≡ (q || p)
-    swap true true = refl
-    swap true false = refl
-    swap false true = refl
-    swap false false = refl
+either_any facts known (x ∷ xs) l m = λ i. or_comm (breaks_by facts known x l m) (breaks_by facts known x m l) i || either_any facts known xs l m i
 
 at_number : (xs : List Action) (x : Action) → Among x xs → (a : ℕ) × (a < length xs) × (x ≡ act_at xs a)
 at_number [] x i = absurd i
@@ -209,7 +207,7 @@ round_is it task before after known lists dropped rows either are zip has is =
       are = are;
       kept = kept;
       fewer = λ t. (let d = some_loss it task.facts known before task.actions lists zip (sym is ∙ t) in
-          count_less (2 * task.facts) before after (λ l m h. and_first _ _ (sym (kept l m) ∙ h)) d.l d.m d.below (rows.within d.l d.m d.clause) d.clause
+          count_less (2 * task.facts) before after (λ l m h. (and_split _ _ (sym (kept l m) ∙ h)).0) d.l d.m d.below (rows.within d.l d.m d.clause) d.clause
           (kept d.l d.m ∙ and_not_true (clause_in before d.l d.m) (breaks_any task.facts known task.actions d.l d.m) d.broken));
       same = λ f l m. has l m ∙ and_not_false (clause_in before l m) _ (none_lost it task.facts known before lists l m (sym is ∙ f));
     }
@@ -220,7 +218,7 @@ module _ (task : Task) (lawful_task : is_task task ≡ true) (before : List (Lis
 
   module _ (after : List (List ℕ)) (dropped : Bool) (round : IsRound task before after dropped) where
     fewer : (l m : ℕ) → clause_in after l m ≡ true → clause_in before l m ≡ true
-    fewer l m t = and_first _ _ (sym (round.kept l m) ∙ t)
+    fewer l m t = (and_split _ _ (sym (round.kept l m) ∙ t)).0
 
     -- an action that breaks a clause by the tests breaks it
     truly : (x : Action) → Among x task.actions → (l m : ℕ) → (breaks_by task.facts round.known x l m || breaks_by task.facts round.known x m l) ≡ true → Breaks (clause_in before) x l m

@@ -1,7 +1,7 @@
-use Rattle.std.proofs.Common.{arith, ◌≡◌, ◌==◌, ℕ, ◌+◌, ◌-◌, ◌*◌, ◌/◌, ◌%◌, ◌<◌, ◌≤◌, List, [], ◌∷◌, ◌++◌, length, get_or, drop, Bool, true, false, not, ◌&&◌, ◌||◌, refl, ap, sym, ◌∙◌, ◌⊎◌, inl, inr, subst, Some, None, Option}
+use Rattle.std.proofs.Common.{arith, ◌≡◌, ◌==◌, ℕ, ◌+◌, ◌-◌, ◌*◌, ◌/◌, ◌%◌, ◌<◌, ◌≤◌, List, [], ◌∷◌, ◌++◌, length, get_or, drop, Bool, true, false, not, ◌&&◌, ◌||◌, refl, ap, sym, ◌∙◌, ◌⊎◌, inl, inr, Some, None, Option}
 use Rattle.std.specs.Prelude.{nat_lt, nat_le, if◌then◌else◌, IfSome}
 use Rattle.std.specs.List.{list_any, AllByRecursion}
-use Rattle.std.proofs.lemmas.List.{drop_more, get_or_past, get_or_append_left, get_or_push}
+use Rattle.std.proofs.lemmas.List.{drop_more, get_or_past}
 use Rattle.std.proofs.lemmas.Bool.{cases_lt}
 use Rattle.std.proofs.lemmas.Bool.Decides.{nat_tests}
 use Rattle.bit_rows.specs.Bits.{row_has, IsLeastFrom}
@@ -14,19 +14,13 @@ use Rattle.two_invariants.specs.Tested.{IsSetOf, AreRowsOf, with_more, may_take,
 use Rattle.two_invariants.specs.declared.broken.Loss.{Loss}
 use Rattle.two_invariants.specs.First.{is_first, is_from}
 use Rattle.two_invariants.specs.Rounds.{Surrounds}
+use Rattle.std.proofs.Math.Bool.{or-false}
+use Rattle.std.proofs.lemmas.List.Folds.{list_any-append}
+use Rattle.std.proofs.lemmas.Bool.{lt-ltb, ltb-true, le-ltb}
 
 -- What the loops and branches of the code need.
 
 -- ---- numbers and literals
-
-pub lt_test : (m n : ℕ) → m < n → nat_lt m n ≡ true
-lt_test m n l = grind (arith, nat_tests)
-
-pub lt_fact : (m n : ℕ) → nat_lt m n ≡ true → m < n
-lt_fact m n t = grind (arith, nat_tests)
-
-pub ge_test : (m n : ℕ) → n ≤ m → nat_lt m n ≡ false
-ge_test m n l = grind (arith, nat_tests)
 
 pub opposite_below : (l n : ℕ) → l < 2 * n → opposite l < 2 * n
 opposite_below l n h = grind (arith, nat_tests)
@@ -50,7 +44,7 @@ pub more_below : (s : ℕ → Bool) (l m : ℕ) → s l ≡ true → ((l == m) |
 more_below s l m t = by (l == m) refl
   where
     by : (b : Bool) → (l == m) ≡ b → (b || (nat_lt m l && s m)) ≡ (nat_lt m (l + 1) && s m)
-    by true e = let same : l ≡ m = test_same l m e in sym (and_both _ _ (lt_test m (l + 1) (omega arith)) (ap s (sym same) ∙ t))
+    by true e = let same : l ≡ m = test_same l m e in sym (and_both _ _ (lt-ltb m (l + 1) (omega arith)) (ap s (sym same) ∙ t))
     by false e = ap (λ (b : Bool). b && s m) (grind (arith, nat_tests))
 
 pub same_below : (s : ℕ → Bool) (l m : ℕ) → s l ≡ false → (nat_lt m l && s m) ≡ (nat_lt m (l + 1) && s m)
@@ -74,7 +68,7 @@ past_rows rows l m le = ap (λ (r : List ℕ). row_has r m) (get_or_past rows l 
     none : (m : ℕ) → row_has [] m ≡ false
     none m = grind (arith, nat_tests)
 
-and_true : (a b : Bool) → a ≡ true → b ≡ (a && b)
+pub and_true : (a b : Bool) → a ≡ true → b ≡ (a && b)
 and_true true b e = refl
 and_true false b e = cc
 
@@ -82,7 +76,7 @@ and_true false b e = cc
 pub first_true : (facts : ℕ) (s : ℕ → Bool) (l m : ℕ) → l < 2 * facts → holds s l ≡ true → (not (opposite l == m) && nat_lt m (2 * facts)) ≡ is_first facts s l m
 first_true facts s l m lt t =
     swap (not (opposite l == m)) (nat_lt m (2 * facts)) (holds s l) (holds s m) t
-    ∙ and_true (nat_lt l (2 * facts)) _ (lt_test l (2 * facts) lt)
+    ∙ and_true (nat_lt l (2 * facts)) _ (lt-ltb l (2 * facts) lt)
   where
     swap : (o n h k : Bool) → h ≡ true → (o && n) ≡ (n && (o && (h || k)))
     swap true true true k e = refl
@@ -94,7 +88,7 @@ first_true facts s l m lt t =
 pub first_false : (facts : ℕ) (s : ℕ → Bool) (l m : ℕ) → l < 2 * facts → holds s l ≡ false → (not (opposite l == m) && (nat_lt m (2 * facts) && holds s m)) ≡ is_first facts s l m
 first_false facts s l m lt f =
     swap (not (opposite l == m)) (nat_lt m (2 * facts)) (holds s l) (holds s m) f
-    ∙ and_true (nat_lt l (2 * facts)) _ (lt_test l (2 * facts) lt)
+    ∙ and_true (nat_lt l (2 * facts)) _ (lt-ltb l (2 * facts) lt)
   where
     swap : (o n h k : Bool) → h ≡ false → (o && (n && k)) ≡ (n && (o && (h || k)))
     swap true true false k e = refl
@@ -114,7 +108,7 @@ more_within size rows set ls are within m t = by (or_split (set m) _ t)
 
 -- ---- effects that may take a literal
 
-any_rest : {A : Type 0} (p : A → Bool) (xs : List A) (i : ℕ) (x : A) → i < length xs → x ≡ get_or xs i x → list_any p (drop i xs) ≡ (p x || list_any p (drop (i + 1) xs))
+pub any_rest : {A : Type 0} (p : A → Bool) (xs : List A) (i : ℕ) (x : A) → i < length xs → x ≡ get_or xs i x → list_any p (drop i xs) ≡ (p x || list_any p (drop (i + 1) xs))
 any_rest p xs i x l at = ap (list_any p) (drop_more xs i x l) ∙ ap (λ (y : _). p y || list_any p (drop (i + 1) xs)) (sym at)
 
 flat_tests : (b o t r : Bool) → ((b && not (t && o)) && not r) ≡ (b && not ((o && t) || r))
@@ -169,17 +163,8 @@ breaks_at facts rows clauses set effects e l m =
 
 -- ---- rows that are made one by one
 
-pub pushed_each : (P : ℕ → List ℕ → Type 0) (rows : List (List ℕ)) (row : List ℕ) (i : ℕ) → length rows ≡ i → ((k : ℕ) → k < i → P k (row_at rows k)) → P i row → (k : ℕ) → k < i + 1 → P k (row_at (rows ++ row ∷ []) k)
-pushed_each P rows row i long each one k lt = elim (cases_lt k i) [
-  | inl below ↦ subst (P k) (sym (get_or_append_left rows (row ∷ []) [] k (omega arith))) (each k below)
-  | inr le ↦
-      let end : length rows ≡ k = omega arith in
-      let same : i ≡ k = omega arith in
-      subst (P k) (sym (get_or_push rows row [] k end)) (subst (λ (j : ℕ). P j row) same one)
-]
-
 first_past : (facts : ℕ) (s : ℕ → Bool) (l m : ℕ) → 2 * facts ≤ l → is_first facts s l m ≡ false
-first_past facts s l m le = ap (λ (b : Bool). b && (nat_lt m (2 * facts) && (not (opposite l == m) && (holds s l || holds s m)))) (ge_test l (2 * facts) le)
+first_past facts s l m le = ap (λ (b : Bool). b && (nat_lt m (2 * facts) && (not (opposite l == m) && (holds s l || holds s m)))) (le-ltb l (2 * facts) le)
 
 pub first_everywhere : (facts : ℕ) (s : ℕ → Bool) (rows : List (List ℕ)) → length rows ≡ 2 * facts → ((k m : ℕ) → k < 2 * facts → clause_in rows k m ≡ is_first facts s k m) → (l m : ℕ) → clause_in rows l m ≡ is_first facts s l m
 first_everywhere facts s rows long each l m = elim (cases_lt l (2 * facts)) [
@@ -191,7 +176,7 @@ pub first_are_rows : (facts : ℕ) (s : ℕ → Bool) (rows : List (List ℕ)) �
 first_are_rows facts s rows few long each = record {
   few = few;
   long = long;
-  within = λ l m t. lt_fact m (2 * facts) (and_split _ _ (and_split _ _ (sym (first_everywhere facts s rows long each l m) ∙ t)).1).0;
+  within = λ l m t. ltb-true m (2 * facts) (and_split _ _ (and_split _ _ (sym (first_everywhere facts s rows long each l m) ∙ t)).1).0;
 }
 
 -- ---- the first clauses surround the invariants
@@ -252,7 +237,7 @@ surrounds_first task rows long same = record {
   either = λ l m. same l m ∙ either_first (length task.initial) (initial_state task) l m ∙ sym (same m l);
   proper = λ l m t. proper_first l m (not_split _ (and_split _ _ (inner l m t)).0);
   initial = λ l m t. (and_split _ _ (inner l m t)).1;
-  greatest = λ V closed l m v. same l m ∙ and_both _ _ (lt_test l _ (let h = closed.within l m v in omega (arith, h, long))) (and_both _ _ (lt_test m _ (let h = closed.within m l (sym (closed.either l m) ∙ v) in omega (arith, h, long)))
+  greatest = λ V closed l m v. same l m ∙ and_both _ _ (lt-ltb l _ (let h = closed.within l m v in omega (arith, h, long))) (and_both _ _ (lt-ltb m _ (let h = closed.within m l (sym (closed.either l m) ∙ v) in omega (arith, h, long)))
       (and_both _ _ (not_false _ (not_true _ (λ t. not_opposite l m (closed.proper l m v) (test_same _ _ t)))) (closed.initial l m v)));
 }
   where
@@ -299,8 +284,8 @@ module _ (facts : ℕ) (rows clauses : List (List ℕ)) (set : ℕ → Bool) (ef
 -- ---- the list
 
 later_test : (a b l : ℕ) → (nat_lt a l ≡ true) ⊎ (nat_lt b l ≡ true) → (nat_lt a (l + 1) || nat_lt b (l + 1)) ≡ true
-later_test a b l (inl h) = let k = lt_fact a l h in or_left _ _ (lt_test a (l + 1) (omega arith))
-later_test a b l (inr h) = let k = lt_fact b l h in or_right (nat_lt a (l + 1)) _ (lt_test b (l + 1) (omega arith))
+later_test a b l (inl h) = let k = ltb-true a l h in or_left _ _ (lt-ltb a (l + 1) (omega arith))
+later_test a b l (inr h) = let k = ltb-true b l h in or_right (nat_lt a (l + 1)) _ (lt-ltb b (l + 1) (omega arith))
 
 le_test : (m n : ℕ) → m ≤ n → nat_le m n ≡ true
 le_test m n h = grind (arith, nat_tests)
@@ -314,10 +299,10 @@ module _ (V : ℕ → ℕ → Bool) (size : ℕ) (row : List ℕ) (l : ℕ) (eit
       let p = and_split (l == x) ((nat_le l y && nat_lt y size) && row_has row y) t in
       let q = and_split (nat_le l y && nat_lt y size) (row_has row y) p.1 in
       let e : l ≡ x = test_same l x p.0 in
-      (ap (λ (k : ℕ). V k y) (sym e) ∙ sym (is y) ∙ q.1, lt_test x (l + 1) (omega arith))
+      (ap (λ (k : ℕ). V k y) (sym e) ∙ sym (is y) ∙ q.1, lt-ltb x (l + 1) (omega arith))
 
   from_first : (x y : ℕ) → V x y ≡ true → l ≡ x → l ≤ y → from_one x y ≡ true
-  from_first x y v e le = and_both (l == x) _ (same_test l x e) (and_both _ _ (and_both (nat_le l y) _ (le_test l y le) (lt_test y size (within x y v))) (is y ∙ ap (λ (k : ℕ). V k y) e ∙ v))
+  from_first x y v e le = and_both (l == x) _ (same_test l x e) (and_both _ _ (and_both (nat_le l y) _ (le_test l y le) (lt-ltb y size (within x y v))) (is y ∙ ap (λ (k : ℕ). V k y) e ∙ v))
 
   module _ (a b : ℕ) where
     abbrev wanted : Bool
@@ -337,12 +322,12 @@ module _ (V : ℕ → ℕ → Bool) (size : ℕ) (row : List ℕ) (l : ℕ) (eit
       near v la lb (inr h) = or_right (from_one a b) (from_one b a) (from_first b a (either b a ∙ v) (omega arith) la)
 
       tests : (nat_lt a (l + 1) ≡ true) ⊎ (nat_lt b (l + 1) ≡ true) → (a < l + 1) ⊎ (b < l + 1)
-      tests (inl h) = inl (lt_fact a (l + 1) h)
-      tests (inr h) = inr (lt_fact b (l + 1) h)
+      tests (inl h) = inl (ltb-true a (l + 1) h)
+      tests (inr h) = inr (ltb-true b (l + 1) h)
 
       place : V a b ≡ true → (a < l + 1) ⊎ (b < l + 1) → (a < l) ⊎ (l ≤ a) → (b < l) ⊎ (l ≤ b) → (old || is_from row l size a b) ≡ true
-      place v n (inl h) k = or_left old _ (was ∙ and_both (V a b) _ v (or_left _ _ (lt_test a l h)))
-      place v n (inr h) (inl k) = or_left old _ (was ∙ and_both (V a b) _ v (or_right (nat_lt a l) _ (lt_test b l k)))
+      place v n (inl h) k = or_left old _ (was ∙ and_both (V a b) _ v (or_left _ _ (lt-ltb a l h)))
+      place v n (inr h) (inl k) = or_left old _ (was ∙ and_both (V a b) _ v (or_right (nat_lt a l) _ (lt-ltb b l k)))
       place v n (inr h) (inr k) = or_right old _ (near v h k n)
 
       found : wanted ≡ true → (old || is_from row l size a b) ≡ true
@@ -354,20 +339,11 @@ module _ (V : ℕ → ℕ → Bool) (size : ℕ) (row : List ℕ) (l : ℕ) (eit
 
 -- ---- the losses of one more effect
 
-or_none_right : (b : Bool) → b ≡ (b || false)
-or_none_right true = refl
-or_none_right false = refl
-
-any_push : {A : Type 0} (p : A → Bool) (xs : List A) (x : A) → list_any p (xs ++ x ∷ []) ≡ (list_any p xs || p x)
-any_push p [] x = sym (or_none_right (p x))
-any_push p (y ∷ ys) x = ap (λ (b : Bool). p y || b) (any_push p ys x) ∙ nested (p y) (list_any p ys) (p x)
-  where
-    nested : (a b c : Bool) → (a || (b || c)) ≡ ((a || b) || c)
-    nested true b c = refl
-    nested false b c = refl
+pub any_push : {A : Type 0} (p : A → Bool) (xs : List A) (x : A) → list_any p (xs ++ x ∷ []) ≡ (list_any p xs || p x)
+any_push p xs x = list_any-append p xs (x ∷ []) ∙ ap (λ (b : Bool). list_any p xs || b) (or-false (p x))
 
 with_lost : (losses : List Loss) (loss : Option Loss) (a m : ℕ) → are_lost (with_loss losses loss) a m ≡ (are_lost losses a m || may_be_lost loss a m)
-with_lost losses None a m = or_none_right (are_lost losses a m)
+with_lost losses None a m = sym (or-false (are_lost losses a m))
 with_lost losses (Some s) a m = any_push (λ x. is_lost x a m) losses s
 
 pub losses_more : (losses new : List Loss) (loss : Option Loss) (p : Effect → Bool) (es : List Effect) (i : ℕ) (e : Effect) (a m : ℕ) (clause : Bool)
@@ -393,7 +369,3 @@ each_with P (x ∷ losses) (Some s) all one = (all.0, each_with P losses (Some s
 pub none_in : (p : ℕ → Bool) (o : Option ℕ) → IsLeastFrom p 0 o → o ≡ None → (k : ℕ) → p k ≡ false
 none_in p None h e k = h k (omega arith)
 none_in p (Some j) h e k = cc
-
-pub none_and : (a b : Bool) → b ≡ false → (a && b) ≡ false
-none_and true b e = e
-none_and false b e = refl

@@ -4,5 +4,6 @@ pub mod Closed
 pub mod Laws
 pub mod Rows
 pub mod Tested
+pub mod Groups
 pub mod First
 pub mod Rounds

@@ -1,18 +1,20 @@
 //! Which clauses one action breaks: for each of its effects that may take a literal, the clauses of this literal with
-//! those that are not sure afterwards.
+//! those that are not sure afterwards. What is known and what is sure is worked out once for all effects of one
+//! condition.
 
-ghost use Rattle.std.specs.Prelude.{◌≡◌, ℕ, ◌*◌, ◌<◌, ◌==◌, ◌&&◌, not, length, IfOk, IfSome, OnOk, ◌||◌};
+ghost use Rattle.std.specs.Prelude.{◌≡◌, ℕ, ◌*◌, ◌<◌, ◌≤◌, ◌==◌, ◌&&◌, not, length, IfOk, IfSome, OnOk, ◌||◌};
 ghost use Rattle.std.specs.List.{AllByRecursion, list_all, list_any};
 ghost use Rattle.bit_rows.specs.Bits.{row_has};
 ghost use Rattle.gt_core.specs.Literal.{opposite};
 ghost use Rattle.two_invariants.specs.Rows.{clause_in, AreRows};
-ghost use Rattle.two_invariants.specs.Tested.{with_more, gives, may_take, loses_by, is_sure, breaks_with, are_lost, with_loss, may_be_lost, IsLossOf, AreLossesOf, EffectFits, ActionFits, IsSetOf, AreRowsOf};
+ghost use Rattle.two_invariants.specs.Breaks.{is_add};
+ghost use Rattle.two_invariants.specs.Tested.{with_more, is_lost, are_lost, IsLossOf, AreLossesOf, ActionFits, IsSetOf, AreRowsOf};
+ghost use Rattle.two_invariants.specs.Groups.{group_with, may_take_by, may_lose, breaks_under, GroupFits};
 
-use crate::known::{Known, copy, with_more};
+use crate::groups::{Group, group_effects};
+use crate::known::{Known, copy, fill_with, with_more};
 use bit_rows::row::BitRow;
 use gt_core::act::Act;
-use gt_core::eff::Eff;
-use gt_core::lits::opposite;
 use std::alloc::{AllocError, Global};
 
 /// The clauses of a literal with each of some literals are broken: an action may take it where these are not sure.
@@ -34,163 +36,208 @@ fn all_known(set: &BitRow, lits: &[u32]) -> bool
     true
 }
 
-/// Whether an effect with a literal has its whole condition known.
-fn gives(set: &BitRow, effects: &[Eff], l: u32) -> bool
-    ensures { result ≡ gives (row_has set.now) effects.now l }
+/// Whether an effect may take a literal where some are given: an add overrules a delete.
+fn is_taken(given: &BitRow, l: u32) -> bool
+    ensures { result ≡ not (is_add l && row_has given.now l) }
 {
-    for effect in effects {
-        if effect.lit() == l && all_known(set, effect.cond()) {
-            return true;
+    !(l % 2 == 0 && given.contains(l))
+}
+
+/// Makes a row of the literals that effects surely make true where a set is known.
+fn fill_given(groups: &[Group], set: &BitRow, given: &mut BitRow) -> Result<(), AllocError>
+    ensures { OnOk result ((m : ℕ) → row_has given.new m ≡ group_with groups.now m (list_all (row_has set.now))) }
+{
+    given.clear();
+    for group in groups {
+        if all_known(set, group.condition.as_slice()) {
+            given.unite(&group.literals)?;
         }
     }
-    false
+    Ok(())
 }
 
-/// Whether a literal may be taken where a set is known.
-fn may_take(facts: u32, set: &BitRow, effects: &[Eff], l: u32) -> bool
-    requires { IsSetOf (2 * facts) (row_has set.now) }
-    ensures { result ≡ may_take facts (row_has set.now) effects.now l }
+/// Takes a literal out of a set, where an effect may take it.
+fn take_one(given: &BitRow, l: u32, sure: &mut BitRow)
+    ensures { (m : ℕ) → row_has sure.new m ≡ (row_has sure.old m && not ((l == m) && not (is_add m && row_has given.now m))) }
 {
-    !set.has_pair() && !(l % 2 == 0 && gives(set, effects, l))
-}
-
-/// Whether an effect may take its opposite where a set is known.
-fn may_take_by(
-    alloc: Global,
-    facts: u32,
-    rows: &[BitRow],
-    set: &BitRow,
-    effects: &[Eff],
-    effect: &Eff,
-) -> Result<bool, AllocError>
-    requires rows { AreRowsOf (2 * facts) rows.now }
-    requires set { IsSetOf (2 * facts) (row_has set.now) }
-    requires effect { EffectFits (2 * facts) effect.now }
-    ensures { IfOk result (λ taken. taken ≡ may_take facts (with_more rows.now (row_has set.now) effect.now.condition) effects.now (opposite effect.now.literal)) }
-{
-    let l = opposite(effect.lit());
-    if !effect.is_conditional() {
-        return Ok(may_take(facts, set, effects, l));
+    if is_taken(given, l) {
+        sure.remove(l);
     }
-    let here = with_more(alloc, rows, set, effect.cond())?;
-    Ok(may_take(facts, &here, effects, l))
 }
 
-/// Takes the literals that may be lost out of a set.
+/// Takes those of some literals out of a set that an effect may take.
+fn take_out(lits: &BitRow, given: &BitRow, sure: &mut BitRow)
+    requires { IsSetOf 4096 (row_has lits.now) }
+    ensures { (m : ℕ) → row_has sure.new m ≡ (row_has sure.old m && not (row_has lits.now m && not (is_add m && row_has given.now m))) }
+{
+    let mut from = 0;
+    while let Some(l) = lits.least_common(sure, from) {
+        take_one(given, l, sure);
+        from = l + 1;
+    }
+}
+
+/// Takes out of a set what the effects of a group may take where a set is known. `there` and `given` are room for rows.
 fn take_lost(
-    alloc: Global,
     facts: u32,
     rows: &[BitRow],
-    set: &BitRow,
-    effects: &[Eff],
+    groups: &[Group],
+    here: &BitRow,
+    group: &Group,
+    there: &mut BitRow,
+    given: &mut BitRow,
     sure: &mut BitRow,
 ) -> Result<(), AllocError>
+    requires few { facts ≤ 2048 }
     requires rows { AreRowsOf (2 * facts) rows.now }
-    requires set { IsSetOf (2 * facts) (row_has set.now) }
-    requires effects { AllByRecursion (EffectFits (2 * facts)) effects.now }
-    ensures { OnOk result ((m : ℕ) → row_has sure.new m ≡ (row_has sure.old m && not (loses_by facts rows.now (row_has set.now) effects.now effects.now m))) }
+    requires here { IsSetOf (2 * facts) (row_has here.now) }
+    requires group { GroupFits (2 * facts) group.now }
+    ensures { OnOk result ((m : ℕ) → row_has sure.new m ≡ (row_has sure.old m && not (row_has group.now.literals (opposite m) && may_take_by facts (group_with groups.now) (with_more rows.now (row_has here.now) group.now.condition.items) m))) }
 {
-    for effect in effects {
-        if may_take_by(alloc, facts, rows, set, effects, effect)? {
-            sure.remove(opposite(effect.lit()));
-        }
+    if group.opposites.least_common(sure, 0).is_none() {
+        return Ok(());
     }
+    fill_with(rows, here, group.condition.as_slice(), there)?;
+    if there.has_pair() {
+        return Ok(());
+    }
+    fill_given(groups, there, given)?;
+    take_out(&group.opposites, given, sure);
     Ok(())
 }
 
-/// Puts in the literals that effects surely make true.
-fn add_given(set: &BitRow, effects: &[Eff], sure: &mut BitRow) -> Result<(), AllocError>
-    ensures { OnOk result ((m : ℕ) → row_has sure.new m ≡ (row_has sure.old m || gives (row_has set.now) effects.now m)) }
-{
-    for effect in effects {
-        if all_known(set, effect.cond()) {
-            sure.insert(effect.lit())?;
-        }
-    }
-    Ok(())
-}
-
-/// The literals that surely hold after an action where a set is known.
-fn sure_literals(
+/// Takes out of a set what effects may take where a set is known.
+fn take_all_lost(
     alloc: Global,
     facts: u32,
     rows: &[BitRow],
-    set: &BitRow,
-    effects: &[Eff],
-) -> Result<BitRow, AllocError>
+    groups: &[Group],
+    here: &BitRow,
+    sure: &mut BitRow,
+) -> Result<(), AllocError>
+    requires few { facts ≤ 2048 }
     requires rows { AreRowsOf (2 * facts) rows.now }
-    requires set { IsSetOf (2 * facts) (row_has set.now) }
-    requires effects { AllByRecursion (EffectFits (2 * facts)) effects.now }
-    ensures { IfOk result (λ sure. (m : ℕ) → row_has sure m ≡ is_sure facts rows.now (row_has set.now) effects.now m) }
+    requires here { IsSetOf (2 * facts) (row_has here.now) }
+    requires groups { AllByRecursion (GroupFits (2 * facts)) groups.now }
+    ensures { OnOk result ((m : ℕ) → row_has sure.new m ≡ (row_has sure.old m && not (may_lose facts rows.now (group_with groups.now) (row_has here.now) m))) }
 {
-    let mut sure = copy(alloc, set)?;
-    add_given(set, effects, &mut sure)?;
-    take_lost(alloc, facts, rows, set, effects, &mut sure)?;
-    Ok(sure)
+    let mut there = BitRow::new(alloc);
+    let mut given = BitRow::new(alloc);
+    for group in groups {
+        take_lost(
+            facts, rows, groups, here, group, &mut there, &mut given, sure,
+        )?;
+    }
+    Ok(())
 }
 
-/// The clauses that an effect breaks where a set is known before the action; none where there is none.
-fn loss_of(
+/// Appends the clauses of a literal with those that are not sure, where an effect may take it and there is one.
+fn push_loss(
+    alloc: Global,
+    clauses: &[BitRow],
+    given: &BitRow,
+    sure: &BitRow,
+    l: u32,
+    losses: &mut Vec<Loss>,
+) -> Result<(), AllocError>
+    requires { l < length clauses.now }
+    ensures lost { OnOk result ((a m : ℕ) → are_lost losses.new.items a m ≡ (are_lost losses.old.items a m || ((l == a) && (clause_in clauses.now a m && (not (is_add a && row_has given.now a) && not (row_has sure.now m)))))) }
+    ensures each { OnOk result ((size : ℕ) → l < size → AllByRecursion (IsLossOf size clauses.now) losses.old.items → AllByRecursion (IsLossOf size clauses.now) losses.new.items) }
+{
+    if !is_taken(given, l) {
+        return Ok(());
+    }
+    let mut from = BitRow::new(alloc);
+    from.unite_without(&clauses[l as usize], sure)?;
+    if from.least(0).is_none() {
+        return Ok(());
+    }
+    losses.push(Loss { literal: l, from })?;
+    Ok(())
+}
+
+/// Appends the clauses of those of some literals that an effect may take, with those that are not sure.
+fn push_losses(
+    alloc: Global,
+    facts: u32,
+    clauses: &[BitRow],
+    lits: &BitRow,
+    given: &BitRow,
+    sure: &BitRow,
+    losses: &mut Vec<Loss>,
+) -> Result<(), AllocError>
+    requires clauses { AreRows facts clauses.now }
+    requires lits { IsSetOf (2 * facts) (row_has lits.now) }
+    ensures lost { OnOk result ((l m : ℕ) → are_lost losses.new.items l m ≡ (are_lost losses.old.items l m || (clause_in clauses.now l m && (row_has lits.now l && (not (is_add l && row_has given.now l) && not (row_has sure.now m)))))) }
+    ensures each { OnOk result (AllByRecursion (IsLossOf (2 * facts) clauses.now) losses.old.items → AllByRecursion (IsLossOf (2 * facts) clauses.now) losses.new.items) }
+{
+    let mut from = 0;
+    while let Some(l) = lits.least(from) {
+        push_loss(alloc, clauses, given, sure, l, losses)?;
+        from = l + 1;
+    }
+    Ok(())
+}
+
+/// Appends the clauses that the effects of a group break where a set is known before the action.
+fn push_group_losses(
     alloc: Global,
     facts: u32,
     rows: &[BitRow],
     clauses: &[BitRow],
     set: &BitRow,
-    effects: &[Eff],
-    effect: &Eff,
-) -> Result<Option<Loss>, AllocError>
+    groups: &[Group],
+    group: &Group,
+    losses: &mut Vec<Loss>,
+) -> Result<(), AllocError>
     requires rows { AreRowsOf (2 * facts) rows.now }
     requires clauses { AreRows facts clauses.now }
     requires set { IsSetOf (2 * facts) (row_has set.now) }
-    requires effects { AllByRecursion (EffectFits (2 * facts)) effects.now }
-    requires effect { EffectFits (2 * facts) effect.now }
-    ensures lost { IfOk result (λ loss. (l m : ℕ) → may_be_lost loss l m ≡ (clause_in clauses.now l m && breaks_with facts rows.now (row_has set.now) effects.now l m effect.now)) }
-    ensures loss { IfOk result (λ loss. IfSome loss (IsLossOf (2 * facts) clauses.now)) }
+    requires groups { AllByRecursion (GroupFits (2 * facts)) groups.now }
+    requires group { GroupFits (2 * facts) group.now }
+    ensures lost { OnOk result ((l m : ℕ) → are_lost losses.new.items l m ≡ (are_lost losses.old.items l m || (clause_in clauses.now l m && (row_has group.now.literals (opposite l) && breaks_under facts rows.now (group_with groups.now) (row_has set.now) l m group.now.condition.items)))) }
+    ensures each { OnOk result (AllByRecursion (IsLossOf (2 * facts) clauses.now) losses.old.items → AllByRecursion (IsLossOf (2 * facts) clauses.now) losses.new.items) }
 {
-    let l = opposite(effect.lit());
-    let here = with_more(alloc, rows, set, effect.cond())?;
-    if !may_take(facts, &here, effects, l) {
-        return Ok(None);
+    let here = with_more(alloc, rows, set, group.condition.as_slice())?;
+    if here.has_pair() {
+        return Ok(());
     }
-    let sure = sure_literals(alloc, facts, rows, &here, effects)?;
-    let mut from = BitRow::new(alloc);
-    from.unite_without(&clauses[l as usize], &sure)?;
-    if from.least(0).is_none() {
-        return Ok(None);
-    }
-    Ok(Some(Loss { literal: l, from }))
-}
-
-/// Appends what an effect breaks, where it breaks something.
-fn push_loss(losses: &mut Vec<Loss>, loss: Option<Loss>) -> Result<(), AllocError>
-    ensures { OnOk result (losses.new.items ≡ with_loss losses.old.items loss) }
-{
-    if let Some(loss) = loss {
-        losses.push(loss)?;
-    }
+    let mut given = BitRow::new(alloc);
+    fill_given(groups, &here, &mut given)?;
+    let mut sure = copy(alloc, &here)?;
+    sure.unite(&given)?;
+    take_all_lost(alloc, facts, rows, groups, &here, &mut sure)?;
+    push_losses(
+        alloc,
+        facts,
+        clauses,
+        &group.opposites,
+        &given,
+        &sure,
+        losses,
+    )?;
     Ok(())
 }
 
-/// The clauses that effects of an action break where a set is known before it.
-fn effect_losses(
+/// The clauses that groups of effects break where a set is known before the action.
+fn group_losses(
     alloc: Global,
     facts: u32,
     rows: &[BitRow],
     clauses: &[BitRow],
     set: &BitRow,
-    effects: &[Eff],
+    groups: &[Group],
 ) -> Result<Vec<Loss>, AllocError>
     requires rows { AreRowsOf (2 * facts) rows.now }
     requires clauses { AreRows facts clauses.now }
     requires set { IsSetOf (2 * facts) (row_has set.now) }
-    requires effects { AllByRecursion (EffectFits (2 * facts)) effects.now }
-    ensures lost { IfOk result (λ losses. (l m : ℕ) → are_lost losses.items l m ≡ (clause_in clauses.now l m && list_any (breaks_with facts rows.now (row_has set.now) effects.now l m) effects.now)) }
+    requires groups { AllByRecursion (GroupFits (2 * facts)) groups.now }
+    ensures lost { IfOk result (λ losses. (l m : ℕ) → are_lost losses.items l m ≡ (clause_in clauses.now l m && group_with groups.now (opposite l) (breaks_under facts rows.now (group_with groups.now) (row_has set.now) l m))) }
     ensures each { IfOk result (λ losses. AllByRecursion (IsLossOf (2 * facts) clauses.now) losses.items) }
 {
     let mut losses = Vec::new(alloc);
-    for effect in effects {
-        let loss = loss_of(alloc, facts, rows, clauses, set, effects, effect)?;
-        push_loss(&mut losses, loss)?;
+    for group in groups {
+        push_group_losses(alloc, facts, rows, clauses, set, groups, group, &mut losses)?;
     }
     Ok(losses)
 }
@@ -211,6 +258,7 @@ pub fn losses_of(
 {
     let rows = known.rows.as_slice();
     let set = with_more(alloc, rows, &known.none, act.pre())?;
-    let losses = effect_losses(alloc, facts, rows, clauses, &set, act.effects())?;
+    let groups = group_effects(alloc, act.effects())?;
+    let losses = group_losses(alloc, facts, rows, clauses, &set, groups.as_slice())?;
     Ok(losses)
 }

@@ -154,6 +154,24 @@ pub fn find_known(alloc: Global, facts: u32, clauses: &[BitRow]) -> Result<Known
     Ok(Known { none, rows })
 }
 
+/// Makes a row of a set with what some literals tell.
+pub fn fill_with(
+    rows: &[BitRow],
+    set: &BitRow,
+    lits: &[u32],
+    row: &mut BitRow,
+) -> Result<(), AllocError>
+    requires { AllByRecursion (λ l. l < length rows.now) lits.now }
+    ensures { OnOk result ((m : ℕ) → row_has row.new m ≡ with_more rows.now (row_has set.now) lits.now m) }
+{
+    row.clear();
+    row.unite(set)?;
+    for lit in lits {
+        row.unite(&rows[*lit as usize])?;
+    }
+    Ok(())
+}
+
 /// A set with what some literals tell.
 pub fn with_more(
     alloc: Global,
@@ -164,9 +182,7 @@ pub fn with_more(
     requires { AllByRecursion (λ l. l < length rows.now) lits.now }
     ensures { IfOk result (λ row. (m : ℕ) → row_has row m ≡ with_more rows.now (row_has set.now) lits.now m) }
 {
-    let mut row = copy(alloc, set)?;
-    for lit in lits {
-        row.unite(&rows[*lit as usize])?;
-    }
+    let mut row = BitRow::new(alloc);
+    fill_with(rows, set, lits, &mut row)?;
     Ok(row)
 }

@@ -6,6 +6,7 @@ mod broken;
 mod drop;
 mod first;
 mod greatest;
+mod groups;
 mod known;
 pub mod laws;
 mod list;

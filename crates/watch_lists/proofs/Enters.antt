@@ -18,10 +18,10 @@ use Rattle.watch_lists.proofs.Filters.{count_two, pending_at, pending_off}
 use Rattle.watch_lists.proofs.Assigns.{apart_of, at_most_of, past_of, tests_at_most}
 use Rattle.watch_lists.proofs.Adds.{listed_add, listed_short, literal_other, literal_same, literal_own, own_free, free_add, fit_add, rising_short, pending_other, quiets_add}
 
--- what was done to the tables for a clause of two literals or more
+-- what was done to the tables for a clause of three literals or more
 pub record IsEntered (k : List ℕ) (number : ℕ) (trail : List ℕ) (wa : List Watched) (w : Watched) (heads : List ℕ) (nodes : List Node) (heads' : List ℕ) (nodes' : List Node) (a b : ℕ) : Type 0 where
   pub below : number < length wa
-  pub two : 2 ≤ length k
+  pub long : 3 ≤ length k
   pub first_in : w.first < length k
   pub second_in : w.second < length k
   pub apart : w.second ≡ w.first → ⊥
@@ -54,7 +54,7 @@ pair_loose cl wa heads nodes spare kept number r e = record {
 
 rests_at : (k trail : List ℕ) (wa : List Watched) (w : Watched) (heads : List ℕ) (nodes : List Node) (heads' : List ℕ) (nodes' : List Node) (a b codes : ℕ) (cl : List (List ℕ)) (kept : List Bool) → IsEntered k (length cl) trail wa w heads nodes heads' nodes' a b → length kept ≡ length cl → IsAtRest cl wa heads nodes codes kept → IsAtRest (cl ++ k ∷ []) (set wa (length cl) w) heads' nodes' codes (kept ++ true ∷ [])
 rests_at k trail wa w heads nodes heads' nodes' a b codes cl kept e lk r =
-    listed_add cl k wa w heads heads' nodes nodes' codes kept a b r lk e.below e.first_in e.second_in (λ q. e.apart (sym q)) e.two e.first_is e.second_is
+    listed_add cl k wa w heads heads' nodes nodes' codes kept a b r lk e.below e.first_in e.second_in (λ q. e.apart (sym q)) e.long e.first_is e.second_is
     (e.linked r.on r.linked (off_past cl wa heads nodes codes kept (2 * length cl) r (omega arith)) (off_past cl wa heads nodes codes kept (2 * length cl + 1) r (omega arith)))
     e.codes e.room e.first_note e.second_note e.others
 
@@ -67,7 +67,7 @@ free_at : (k trail : List ℕ) (wa : List Watched) (w : Watched) (heads : List �
 free_at k trail wa w heads nodes heads' nodes' a b cl kept n e lk h f =
     free_add cl k wa (set wa (length cl) w) kept (take n trail) lk (literal_other cl k wa w) f own
   where
-    own : (node : ℕ) → node / 2 ≡ length cl → 2 ≤ length k → has_two_free (has_literal (take n trail)) k ≡ true → is_free (has_literal (take n trail)) (literal_at (cl ++ k ∷ []) (set wa (length cl) w) node) ≡ true
+    own : (node : ℕ) → node / 2 ≡ length cl → 3 ≤ length k → has_two_free (has_literal (take n trail)) k ≡ true → is_free (has_literal (take n trail)) (literal_at (cl ++ k ∷ []) (set wa (length cl) w) node) ≡ true
     own node q two t = by (node % 2 == 1) refl (own_free trail k n w.first w.second e.second_in e.apart e.most e.next h t)
       where
         by : (s : Bool) → (node % 2 == 1) ≡ s → (is_free (has_literal (take n trail)) (get_or k w.first 0) ≡ true) × (is_free (has_literal (take n trail)) (get_or k w.second 0) ≡ true) → is_free (has_literal (take n trail)) (literal_at (cl ++ k ∷ []) (set wa (length cl) w) node) ≡ true
@@ -88,11 +88,19 @@ quiet_long k number trail wa w heads nodes heads' nodes' a b until e lasts n h l
     let first = e.most w.second e.second_in n h second in
     pending_off on k (count_two (is_free on) k w.second w.first e.second_in e.first_in e.apart second first)
 
-pub rests_short : (k : List ℕ) (number : ℕ) (wa : List Watched) (heads : List ℕ) (nodes : List Node) (codes : ℕ) → length k < 2 → number < length wa → 2 * number + 1 < length nodes → RestsWith k number codes wa heads nodes wa heads nodes
+-- a clause of two literals is not pending as long as both are not false
+pub quiet_pair : (k trail : List ℕ) (u v low : ℕ) → length k ≡ 2 → ((n : ℕ) → n ≤ length trail → is_free (has_literal (take n trail)) (get_or k 0 0) ≡ leb n u) → ((n : ℕ) → n ≤ length trail → is_free (has_literal (take n trail)) (get_or k 1 0) ≡ leb n v) → low ≤ u + 1 → low ≤ v + 1 → IsQuietBelow k trail low
+quiet_pair k trail u v low two first second hu hv n h l =
+    let on = has_literal (take n trail) in
+    pending_off on k
+    (count_two (is_free on) k 0 1 (omega (arith, two)) (omega (arith, two)) (λ (e : 0 ≡ 1). absurd (omega (arith, e)))
+    (first n h ∙ tests_at_most n u (omega (arith, l, hu))) (second n h ∙ tests_at_most n v (omega (arith, l, hv))))
+
+pub rests_short : (k : List ℕ) (number : ℕ) (wa : List Watched) (heads : List ℕ) (nodes : List Node) (codes : ℕ) → length k < 3 → number < length wa → 2 * number + 1 < length nodes → RestsWith k number codes wa heads nodes wa heads nodes
 rests_short k number wa heads nodes codes short w m cl kept lc lk r =
     listed_short cl k wa heads nodes codes kept r (lk ∙ sym lc) (omega (arith, w, lc)) short (omega (arith, m, lc))
 
-pub free_short : (k : List ℕ) (number : ℕ) (trail : List ℕ) (wa : List Watched) → length k < 2 → FreeWith k number trail wa wa
+pub free_short : (k : List ℕ) (number : ℕ) (trail : List ℕ) (wa : List Watched) → length k < 3 → FreeWith k number trail wa wa
 free_short k number trail wa short cl kept n lc lk h f =
     free_add cl k wa wa kept (take n trail) (lk ∙ sym lc) (literal_same cl k wa) f (λ node e two t. absurd (omega (arith, short, two)))
 

@@ -1,4 +1,5 @@
 pub mod Filters
+pub mod Empties
 pub mod Visits
 pub mod Assigns
 pub mod Undoes
@@ -7,3 +8,4 @@ pub mod Falls
 pub mod Adds
 pub mod Wider
 pub mod Enters
+pub mod Paired

@@ -1,4 +1,5 @@
 pub mod Pending
 pub mod Visit
+pub mod Pairs
 pub mod Sound
 pub mod Added

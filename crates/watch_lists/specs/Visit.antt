@@ -30,17 +30,17 @@ pub record IsFit (clauses : List (List ℕ)) (codes : ℕ) : Type 0 where
   pub below : (c p : ℕ) → p < length (clause_at clauses c) → slice_index (clause_at clauses c) p < codes
   pub short : (c : ℕ) → length (clause_at clauses c) ≤ 4294967295
 
--- the watched places of a clause of two literals or more are two of its places
+-- the watched places of a clause of three literals or more are two of its places
 pub record IsPlaced (clauses : List (List ℕ)) (watched : List Watched) : Type 0 where
   pub many : length clauses ≤ length watched
-  pub first_in : (c : ℕ) → c < length clauses → 2 ≤ length (clause_at clauses c) → (slice_index_or watched c no_watches).first < length (clause_at clauses c)
-  pub second_in : (c : ℕ) → c < length clauses → 2 ≤ length (clause_at clauses c) → (slice_index_or watched c no_watches).second < length (clause_at clauses c)
-  pub apart : (c : ℕ) → c < length clauses → 2 ≤ length (clause_at clauses c) → (slice_index_or watched c no_watches).first ≡ (slice_index_or watched c no_watches).second → ⊥
+  pub first_in : (c : ℕ) → c < length clauses → 3 ≤ length (clause_at clauses c) → (slice_index_or watched c no_watches).first < length (clause_at clauses c)
+  pub second_in : (c : ℕ) → c < length clauses → 3 ≤ length (clause_at clauses c) → (slice_index_or watched c no_watches).second < length (clause_at clauses c)
+  pub apart : (c : ℕ) → c < length clauses → 3 ≤ length (clause_at clauses c) → (slice_index_or watched c no_watches).first ≡ (slice_index_or watched c no_watches).second → ⊥
 
--- a node is of a clause with two literals or more
+-- a node is of a clause with three literals or more
 pub record IsReal (clauses : List (List ℕ)) (node : ℕ) : Type 0 where
   pub below : node / 2 < length clauses
-  pub two : 2 ≤ length (clause_at clauses (node / 2))
+  pub long : 3 ≤ length (clause_at clauses (node / 2))
 
 -- each node that has to be on a chain is on that of its watched literal, or on the spare chain for a reason
 pub record IsListed (clauses : List (List ℕ)) (watched : List Watched) (heads : List ℕ) (nodes : List Node) (spare : ℕ) (Must Why : ℕ → Type 0) : Type 0 where

@@ -12,13 +12,28 @@ use watch_store::truth::Truth;
 /// No place of a clause.
 const NOWHERE: u32 = 4_294_967_295;
 
+/// In the prefixes of the trail below the result a clause of two literals is not pending.
+fn enter_pair(truth: &Truth, clause: &[Lit]) -> u32
+    requires small { truth.now.variables ≤ 2147483647 }
+    requires below { (p : ℕ) → p < length clause.now → slice_index clause.now p < 2 * truth.now.variables }
+    requires two { length clause.now ≡ 2 }
+    ensures quiet { IsQuietBelow clause.now truth.now.trail result }
+{
+    let a = clause[0];
+    let b = clause[1];
+    let first = free_until(truth, a.0);
+    let second = free_until(truth, b.0);
+    first.min(second) + 1
+}
+
 impl Lists {
-    /// Watches two literals of a new clause that has as many. In the prefixes of the trail below the result it is not pending.
+    /// Watches two literals of a new clause that has three at least. In the prefixes of the trail below the result it is not
+    /// pending.
     fn enter_long(&mut self, truth: &Truth, clause: &[Lit], number: u32) -> u32
         requires small { truth.now.variables ≤ 2147483647 }
         requires below { (p : ℕ) → p < length clause.now → slice_index clause.now p < 2 * truth.now.variables }
         requires short { length clause.now ≤ 4294967295 }
-        requires two { 2 ≤ length clause.now }
+        requires long { 3 ≤ length clause.now }
         requires codes { length self.old.chains.heads.items ≡ 2 * truth.now.variables + 1 }
         requires room { HasRoom number self.old.watched.items self.old.chains.nodes.items self.old.pending.words }
         requires loose { ArePairLoose self.old.chains.heads.items self.old.chains.nodes.items (2 * number) }
@@ -40,7 +55,7 @@ impl Lists {
         free_until(truth, b.0) + 1
     }
 
-    /// Watches two literals of a new clause, if it has as many. In the prefixes of the trail below the result it is not
+    /// Watches two literals of a new clause, if it has three at least. In the prefixes of the trail below the result it is not
     /// pending.
     pub fn enter(&mut self, truth: &Truth, clause: &[Lit], number: u32) -> u32
         requires small { truth.now.variables ≤ 2147483647 }
@@ -56,6 +71,9 @@ impl Lists {
     {
         if clause.len() < 2 {
             return 0;
+        }
+        if clause.len() == 2 {
+            return enter_pair(truth, clause);
         }
         self.enter_long(truth, clause, number)
     }

@@ -4,6 +4,7 @@
 mod enter;
 mod fall;
 mod front;
+mod pairs;
 mod room;
 mod scan;
 mod visit;

@@ -7,6 +7,7 @@ ghost use Rattle.number_bits.specs.Bits.{words_have};
 ghost use Rattle.watch_lists.specs.Pending.{WatchesView};
 
 use crate::front::{clean, clear, rescan};
+use crate::pairs::{Pairs, mark_all};
 use crate::visit::{Lists, Pending};
 use clause_base::clause::Clause;
 use clause_base::formula::Formula;
@@ -32,6 +33,7 @@ pub struct Watches {
     store: Store,
     kept: Vec<bool>,
     truth: Truth,
+    pairs: Pairs,
     lists: Lists,
     quiet: Vec<bool>,
 }
@@ -39,13 +41,14 @@ pub struct Watches {
 impl Model for Watches {
     ghost use Rattle.std.specs.Prelude.{List, ℕ};
     ghost use Rattle.watch_lists.specs.Pending.{WatchesView};
+    ghost use Rattle.watch_lists.specs.Pairs.{IsPaired};
     ghost use Rattle.watch_lists.specs.Sound.{IsSound};
 
     ghost Value = { WatchesView };
 
     ghost view = { λ w. record { variables = w.variables; clauses = w.store; kept = w.kept.items; trail = w.truth.trail } };
 
-    ghost invariant = { λ w. IsSound w.variables w.truth.variables w.store w.kept.items w.truth.trail w.lists.watched.items w.lists.chains.heads.items w.lists.chains.nodes.items w.lists.pending.words w.quiet.items };
+    ghost invariant = { λ w. IsSound w.variables w.truth.variables w.store w.kept.items w.truth.trail w.lists.watched.items w.lists.chains.heads.items w.lists.chains.nodes.items w.lists.pending.words w.quiet.items × IsPaired w.variables w.store w.pairs w.lists.pending.words };
 }
 
 /// Takes the flags of the lengths from one up to another away.
@@ -94,6 +97,7 @@ impl Watches {
             store: Store::new(alloc),
             kept: Vec::new(alloc),
             truth: Truth::new(alloc, variables)?,
+            pairs: Pairs::new(alloc, 2 * variables)?,
             lists,
             quiet: no_quiet(alloc, variables)?,
         })
@@ -135,6 +139,7 @@ impl Watches {
         let number = count as u32;
         self.kept.reserve(1)?;
         self.lists.widen(number)?;
+        self.pairs.enter(clause, number)?;
         self.store.push(clause)?;
         self.kept.push(true)?;
         let low = self.lists.enter(&self.truth, clause, number);
@@ -159,13 +164,19 @@ impl Watches {
         let length = self.truth.length();
         self.quiet[length as usize] = self.lists.pending.least().is_none();
         self.truth.push(lit.0);
+        let fallen = lit.opposite();
+        mark_all(
+            self.pairs.of(fallen.0),
+            &self.truth,
+            &mut self.lists.pending,
+        );
         let spare = 2 * self.variables;
         self.lists.visit_all(
             &self.store,
             self.kept.as_slice(),
             &self.truth,
             spare,
-            lit.opposite().0,
+            fallen.0,
         );
         clean(
             &self.store,
@@ -207,6 +218,14 @@ impl Watches {
             &self.truth,
             &mut self.lists.pending,
         );
+    }
+
+    /// The literals of the clause with a number; it may have been removed.
+    pub fn clause(&self, number: u32) -> &[Lit]
+        requires { number < length self.now.clauses }
+        ensures { result.now ≡ slice_index_or self.now.clauses number [] }
+    {
+        self.store.clause(number)
     }
 
     /// The least number of a kept clause that has no true literal and at most one that is not false. It takes no memory.
@@ -258,6 +277,25 @@ mod tests {
         assert_eq!(rt; watches.least_pending(), Some(0));
         watches.undo_to(0);
         assert_eq!(rt; watches.least_pending(), None);
+        Ok(())
+    }
+
+    #[test]
+    fn three_literals_ask_once_two_are_false(rt: HostRuntime) -> Result<(), Fail> {
+        let alloc = rt.alloc();
+        let mut watches = Watches::new(alloc, &Formula::new(alloc, 0, 3))?;
+        add(&rt, alloc, &mut watches, &[Lit(0), Lit(2), Lit(4)])?;
+        assign(&rt, &mut watches, Lit(1));
+        assert_eq!(rt; watches.least_pending(), None);
+        assign(&rt, &mut watches, Lit(3));
+        assert_eq!(rt; watches.least_pending(), Some(0));
+        watches.undo_to(1);
+        assign(&rt, &mut watches, Lit(5));
+        assert_eq!(rt; watches.least_pending(), Some(0));
+        assign(&rt, &mut watches, Lit(2));
+        assert_eq!(rt; watches.least_pending(), None);
+        assert!(rt; watches.store.count() > 0);
+        assert_eq!(rt; watches.clause(0), [Lit(0), Lit(2), Lit(4)].as_slice());
         Ok(())
     }
 

@@ -2,7 +2,7 @@ use Rattle.std.proofs.Common.{◌≡◌, ◌+◌, ℕ, List, sym, ap, ◌∙◌,
 use Rattle.std.proofs.lemmas.List.{length_push}
 use Rattle.bit_rows.specs.Bits.{row_has}
 use Rattle.action_order.specs.Edges.{edge_in, AreEdges}
-use Rattle.action_order.proofs.GrowLaw.{pushed_each}
+use Rattle.gt_core.proofs.Lists.{pushed_each}
 use Rattle.action_order.proofs.edges.edges.Goals as goal
 
 pub loop-a-preserved : goal.loop-a-preserved

@@ -5,7 +5,7 @@ use Rattle.action_order.specs.Graph.{row_at}
 use Rattle.action_order.specs.Readers.{act_at}
 use Rattle.action_order.specs.Sure.{IsSure, AreMade}
 use Rattle.action_order.proofs.ReadersLaw.{effects_below, act_is, within_at}
-use Rattle.action_order.proofs.GrowLaw.{pushed_each}
+use Rattle.gt_core.proofs.Lists.{pushed_each}
 use Rattle.action_order.proofs.sure.all_sure.Goals as goal
 
 pub sure_literals-requires : goal.sure_literals-requires

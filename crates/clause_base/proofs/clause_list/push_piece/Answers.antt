@@ -1,4 +1,4 @@
-use Rattle.std.proofs.Common.{arith, rules, ◌≡◌, ◌∙◌, ◌++◌, ◌∷◌, [], ◌+◌, sym, ap, subst, List, ℕ, Bool, All, length, length-append, if◌then◌else◌}
+use Rattle.std.proofs.Common.{arith, rules, true, ◌≡◌, ◌∙◌, ◌++◌, ◌∷◌, [], ◌+◌, sym, ap, subst, List, ℕ, Bool, All, length, length-append, if◌then◌else◌}
 use Rattle.clause_base.specs.Clause.{IsClause}
 use Rattle.clause_base.specs.Pieces.{pieces, AreEnds}
 use Rattle.clause_base.proofs.PieceLemmas.{AreEnds-push, pieces-push, clauses-push}
@@ -17,27 +17,22 @@ pieces_by lits more ends pushed clause end a p m e =
     ∙ ap (λ (xs : List ℕ). pieces 0 (lits ++ clause) xs) p
     ∙ pieces-push 0 lits ends clause end a (e ∙ long)
 
+-- the ends, with one more where there was room for it
+pushed_by : (pushed ends : List ℕ) (end : ℕ) (b : Bool) → pushed ≡ (if b then ends ++ end ∷ [] else ends) → b ≡ true → pushed ≡ ends ++ end ∷ []
+pushed_by pushed ends end b e t = e ∙ ap (λ (a : Bool). if a then ends ++ end ∷ [] else ends) t
+
 pub returns-clause-cut : goal.returns-clause-cut
 returns-clause-cut c =
-    let ends = c.args.ends.now.items in
-    let end = c.in-Ok.end in
-    let pushed = c.push.ensures.items ∙ ap (λ (b : Bool). if b then ends ++ end ∷ [] else ends) c.if-is_err.ensures.negation in
-    let long : end ≡ length c.extend_from_slice.new.self.items = search rules in
-    cut_by c.args.lits.now.items _ ends _ c.args.clause.now end c.requires.cut pushed c.in_ok-extend_from_slice.ensures.items long
+    let long : c.in-Ok.end ≡ length c.extend_from_slice.new.self.items = search rules in
+    cut_by _ _ _ _ _ _ c.requires.cut (pushed_by _ _ _ _ c.push.ensures.items c.if-is_err.ensures.negation) c.in_ok-extend_from_slice.ensures.items long
 
 pub returns-clause-ok : goal.returns-clause-ok
 returns-clause-ok c =
-    let ends = c.args.ends.now.items in
-    let end = c.in-Ok.end in
-    let pushed = c.push.ensures.items ∙ ap (λ (b : Bool). if b then ends ++ end ∷ [] else ends) c.if-is_err.ensures.negation in
-    let long : end ≡ length c.extend_from_slice.new.self.items = search rules in
-    pieces_by c.args.lits.now.items _ ends _ c.args.clause.now end c.requires.cut pushed c.in_ok-extend_from_slice.ensures.items long
+    let long : c.in-Ok.end ≡ length c.extend_from_slice.new.self.items = search rules in
+    pieces_by _ _ _ _ _ _ c.requires.cut (pushed_by _ _ _ _ c.push.ensures.items c.if-is_err.ensures.negation) c.in_ok-extend_from_slice.ensures.items long
 
 pub returns-clause-lawful : goal.returns-clause-lawful
 returns-clause-lawful c =
-    let ends = c.args.ends.now.items in
-    let end = c.in-Ok.end in
-    let pushed = c.push.ensures.items ∙ ap (λ (b : Bool). if b then ends ++ end ∷ [] else ends) c.if-is_err.ensures.negation in
-    let long : end ≡ length c.extend_from_slice.new.self.items = search rules in
-    let more = pieces_by c.args.lits.now.items _ ends _ c.args.clause.now end c.requires.cut pushed c.in_ok-extend_from_slice.ensures.items long in
-    subst (λ (xss : List (List ℕ)). All IsClause xss) (sym more) (clauses-push (pieces 0 c.args.lits.now.items ends) c.args.clause.now c.requires.lawful c.requires.clause)
+    let long : c.in-Ok.end ≡ length c.extend_from_slice.new.self.items = search rules in
+    let more = pieces_by _ _ _ _ _ _ c.requires.cut (pushed_by _ _ _ _ c.push.ensures.items c.if-is_err.ensures.negation) c.in_ok-extend_from_slice.ensures.items long in
+    subst (λ (xss : List (List ℕ)). All IsClause xss) (sym more) (clauses-push (pieces 0 c.args.lits.now.items c.args.ends.now.items) c.args.clause.now c.requires.lawful c.requires.clause)

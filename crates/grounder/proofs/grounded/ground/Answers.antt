@@ -1,6 +1,5 @@
 use Rattle.std.proofs.Common.{arith, ◌≡◌, ◌∙◌, ap, sym, subst, length, List}
 use Rattle.std.specs.List.{list_all}
-use Rattle.pd_model.specs.declared.calls.Call.{Call}
 use Rattle.pd_model.specs.declared.parts.Parts.{Parts}
 use Rattle.grounding.specs.Instance.{instance_of}
 use Rattle.grounding.specs.Found.{IsLeastPair, may_be_true}
@@ -12,23 +11,18 @@ use Rattle.grounding.specs.Found.{grounded_by}
 use Rattle.gt_core.specs.Task.{Action}
 use Rattle.grounding.specs.Tuples.{saturated}
 use Rattle.grounder.proofs.Saturated.{few_saturated, many_saturated}
-use Rattle.grounder.proofs.Assembled.{grounded_is, with_task}
-use Rattle.grounder.proofs.Listed.{exact_in}
+use Rattle.grounder.proofs.Assembled.{found_is, with_task}
 use Rattle.grounder.proofs.grounded.ground.Goals as goal
 
 pub returns-then-count-gt65536-clause-effects : goal.returns-then-count-gt65536-clause-effects
 returns-then-count-gt65536-clause-effects c =
-    let p = c.args.p.now in
-    let facts = c.in_ok-known.known.facts in
-    let calls = c.in_ok-calls.calls in
     let found = c.in_ok-reached.ensures in
-    let least = subst (λ (q : Parts). IsLeastPair q c.in_ok-reached.reached.atoms c.in_ok-reached.reached.calls) c.in_ok-domains.ensures found.least in
-    let is = grounded_is c.laws.ensures.least_is_grounded p c.in_ok-reached.reached.atoms c.in_ok-reached.reached.calls least found.atoms_sorted found.calls_sorted
-    c.in_ok-constant.constant facts calls (exact_in c.in_ok-domains.domains p c.in_ok-reached.reached.atoms c.in_ok-reached.reached.calls c.in_ok-constant.constant c.in_ok-domains.ensures c.in_ok-constant.ensures) (c.in_ok-known.ensures.facts ∙ c.in_ok-facts.ensures) c.in_ok-calls.ensures in
+    let is = found_is c.laws.ensures.least_is_grounded c.args.p.now c.in_ok-domains.domains c.in_ok-reached.reached.atoms c.in_ok-reached.reached.calls c.in_ok-constant.constant c.in_ok-known.known.facts c.in_ok-calls.calls c.in_ok-domains.ensures
+    found.least found.atoms_sorted found.calls_sorted c.in_ok-constant.ensures (c.in_ok-known.ensures.facts ∙ c.in_ok-facts.ensures) c.in_ok-calls.ensures in
     let acts = c.as_slice-4.ensures ∙ (rw c.as_slice-3.ensures at c.in_ok-acts.ensures) in
-    let count : c.conditional_in-count.result ≡ saturated (conditional_in (task_of p facts calls).actions) = c.conditional_in-count.ensures ∙ ap (λ (xs : List Action). saturated (conditional_in xs)) acts in
+    let count : c.conditional_in-count.result ≡ saturated (conditional_in (task_of c.args.p.now c.in_ok-known.known.facts c.in_ok-calls.calls).actions) = c.conditional_in-count.ensures ∙ ap (λ (xs : List Action). saturated (conditional_in xs)) acts in
     λ n e. record {
-      grounded = grounded_by p facts calls;
+      grounded = grounded_by c.args.p.now c.in_ok-known.known.facts c.in_ok-calls.calls;
       is = is;
       tuples = few_saturated 4000000 _ c.count_tuples-count.result (omega arith) c.count_tuples-count.ensures c.if-count-gt4000000.false;
       facts = omega (arith, ap length c.as_slice.ensures, ap length c.in_ok-known.ensures.facts);
@@ -39,16 +33,12 @@ returns-then-count-gt65536-clause-effects c =
 
 pub task_of-requires-clause-task : goal.task_of-requires-clause-task
 task_of-requires-clause-task c =
-    let p = c.args.p.now in
-    let facts = c.in_ok-known.known.facts in
-    let calls = c.in_ok-calls.calls in
-    let found = c.in_ok-reached.ensures in
-    let least = subst (λ (q : Parts). IsLeastPair q c.in_ok-reached.reached.atoms c.in_ok-reached.reached.calls) c.in_ok-domains.ensures found.least in
-    let is = grounded_is c.laws.ensures.least_is_grounded p c.in_ok-reached.reached.atoms c.in_ok-reached.reached.calls least found.atoms_sorted found.calls_sorted
-    c.in_ok-constant.constant facts calls (exact_in c.in_ok-domains.domains p c.in_ok-reached.reached.atoms c.in_ok-reached.reached.calls c.in_ok-constant.constant c.in_ok-domains.ensures c.in_ok-constant.ensures) (c.in_ok-known.ensures.facts ∙ c.in_ok-facts.ensures) c.in_ok-calls.ensures in
     let acts = c.as_slice-4.ensures ∙ (rw c.as_slice-3.ensures at c.in_ok-acts.ensures) in
-    let count : c.conditional_in-count.result ≡ saturated (conditional_in (task_of p facts calls).actions) = c.conditional_in-count.ensures ∙ ap (λ (xs : List Action). saturated (conditional_in xs)) acts in
-    rw c.as_slice-5.ensures (c.laws.ensures.grounded_is_task p (grounded_by p facts calls) is (record {
+    let count : c.conditional_in-count.result ≡ saturated (conditional_in (task_of c.args.p.now c.in_ok-known.known.facts c.in_ok-calls.calls).actions) = c.conditional_in-count.ensures ∙ ap (λ (xs : List Action). saturated (conditional_in xs)) acts in
+    let found = c.in_ok-reached.ensures in
+    let is = found_is c.laws.ensures.least_is_grounded c.args.p.now c.in_ok-domains.domains c.in_ok-reached.reached.atoms c.in_ok-reached.reached.calls c.in_ok-constant.constant c.in_ok-known.known.facts c.in_ok-calls.calls c.in_ok-domains.ensures
+    found.least found.atoms_sorted found.calls_sorted c.in_ok-constant.ensures (c.in_ok-known.ensures.facts ∙ c.in_ok-facts.ensures) c.in_ok-calls.ensures in
+    rw c.as_slice-5.ensures (c.laws.ensures.grounded_is_task c.args.p.now (grounded_by c.args.p.now c.in_ok-known.known.facts c.in_ok-calls.calls) is (record {
       tuples = few_saturated 4000000 _ c.count_tuples-count.result (omega arith) c.count_tuples-count.ensures c.if-count-gt4000000.false;
       facts = omega (arith, ap length c.as_slice.ensures, ap length c.in_ok-known.ensures.facts);
       actions = omega (arith, ap length c.as_slice-2.ensures);
@@ -57,14 +47,10 @@ task_of-requires-clause-task c =
 
 pub returns-clause-grounded : goal.returns-clause-grounded
 returns-clause-grounded c =
-    let p = c.args.p.now in
-    let facts = c.in_ok-known.known.facts in
-    let calls = c.in_ok-calls.calls in
     let found = c.in_ok-reached.ensures in
-    let least = subst (λ (q : Parts). IsLeastPair q c.in_ok-reached.reached.atoms c.in_ok-reached.reached.calls) c.in_ok-domains.ensures found.least in
-    let is = grounded_is c.laws.ensures.least_is_grounded p c.in_ok-reached.reached.atoms c.in_ok-reached.reached.calls least found.atoms_sorted found.calls_sorted
-    c.in_ok-constant.constant facts calls (exact_in c.in_ok-domains.domains p c.in_ok-reached.reached.atoms c.in_ok-reached.reached.calls c.in_ok-constant.constant c.in_ok-domains.ensures c.in_ok-constant.ensures) (c.in_ok-known.ensures.facts ∙ c.in_ok-facts.ensures) c.in_ok-calls.ensures in
-    with_task p facts calls c.in_ok-task.task is (rw c.as_slice-5.ensures at c.in_ok-task.ensures)
+    let is = found_is c.laws.ensures.least_is_grounded c.args.p.now c.in_ok-domains.domains c.in_ok-reached.reached.atoms c.in_ok-reached.reached.calls c.in_ok-constant.constant c.in_ok-known.known.facts c.in_ok-calls.calls c.in_ok-domains.ensures
+    found.least found.atoms_sorted found.calls_sorted c.in_ok-constant.ensures (c.in_ok-known.ensures.facts ∙ c.in_ok-facts.ensures) c.in_ok-calls.ensures in
+    with_task c.args.p.now c.in_ok-known.known.facts c.in_ok-calls.calls c.in_ok-task.task is (rw c.as_slice-5.ensures at c.in_ok-task.ensures)
 
 pub constant_atoms-requires-clause-few : goal.constant_atoms-requires-clause-few
 constant_atoms-requires-clause-few c =

@@ -12,23 +12,12 @@ meaning_size-requires c =
 pub overflow_add-size-in-loop-effect : goal.overflow_add-size-in-loop-effect
 overflow_add-size-in-loop-effect c =
     let f = effects_few c.args.facts c.args.effects.now c.requires.sorted in
-    let a = c.requires.facts in
-    let b = c.requires.few in
-    let lt = c.loop-effect-test.true in
-    let s = c.loop-effect.invariant.1 in
-    let n = c.loop-effect.invariant.2 in
-    let m = c.meaning_size.ensures.few in
-    let r = c.result_size.ensures.few in
-    omega (arith, f, a, b, lt, s, n, m, r)
+    omega (arith, f, c.requires.facts, c.requires.few, c.loop-effect-test.true, c.loop-effect.invariant.1, c.loop-effect.invariant.2, c.meaning_size.ensures.few, c.result_size.ensures.few)
 
 pub with-adds-requires : goal.with-adds-requires
 with-adds-requires c =
     let f = effects_few c.args.facts c.args.effects.now c.requires.sorted in
-    let a = c.requires.facts in
-    let b = c.requires.few in
-    let lt = c.loop-effect-test.true in
-    let n = c.loop-effect.invariant.2 in
-    omega (arith, f, a, b, lt, n)
+    omega (arith, f, c.requires.facts, c.requires.few, c.loop-effect-test.true, c.loop-effect.invariant.2)
 
 pub loop-effect-preserved : goal.loop-effect-preserved
 loop-effect-preserved c =

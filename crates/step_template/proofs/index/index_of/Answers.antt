@@ -1,34 +1,27 @@
-use Rattle.std.proofs.Common.{arith, ◌≡◌, ◌<◌, ◌+◌, ℕ, List, length, count_by, ap, ◌∙◌, []}
+use Rattle.std.proofs.Common.{arith, ◌<◌, ◌+◌, ℕ, length, count_by, ap, sym, ◌∙◌, []}
 use Rattle.gt_core.specs.Layout.{Layout}
-use Rattle.gt_core.specs.Task.{Action, Effect, action}
+use Rattle.gt_core.specs.Task.{Action}
 use Rattle.gt_core.specs.Lawful.{is_conditional}
-use Rattle.gt_core.proofs.Within.{action_effects_within}
-use Rattle.step_template.proofs.RowLaw.{conditional_taken}
-use Rattle.step_template.proofs.EffectLaw.{effects_by}
+use Rattle.step_template.proofs.RowLaw.{first_more}
+use Rattle.step_template.proofs.EffectLaw.{effects_within}
 use Rattle.step_template.proofs.IndexLaw.{made_more}
 use Rattle.step_template.proofs.index.index_of.Goals as goal
-
-pub index_effects_of-requires-clause-within : goal.index_effects_of-requires-clause-within
-index_effects_of-requires-clause-within c =
-    let e = ap (λ (z : Layout). z.actions) c.layout.view_is in
-    let task = c.args.task.now in
-    let a = c.loop-a.a in
-    let lt : a < length task.actions = let r = c.requires.actions in let t = c.loop-a-test.true in omega (arith, e, r, t) in
-    effects_by c.args.layout.now.facts task.facts c.effects-effects.result.now (action task a).effects c.requires.facts (c.effects-effects.ensures ∙ ap (λ (x : Action). x.effects) c.act.ensures.act) (action_effects_within task a c.act.ensures.lawful lt)
 
 pub loop-a-preserved : goal.loop-a-preserved
 loop-a-preserved c =
     let e = ap (λ (z : Layout). z.actions) c.layout.view_is in
-    let task = c.args.task.now in
-    let a = c.loop-a.a in
-    let lt : a < length task.actions = let r = c.requires.actions in let t = c.loop-a-test.true in omega (arith, e, r, t) in
-    let is = c.effects-effects.ensures ∙ ap (λ (x : Action). x.effects) c.act.ensures.act in
-    let next : c.loop-a.first + c.conditional_among.result ≡ c.loop-a.first + count_by is_conditional c.effects-effects.result.now = ap (λ (k : ℕ). c.loop-a.first + k) c.conditional_among.ensures in
-    let count = ap (λ (es : List Effect). count_by is_conditional es) is in
-    let taken = conditional_taken task.actions a (record { precondition = []; effects = [] }) lt in
-    let first = c.loop-a.invariant.first in
+    let lt : c.loop-a.a < length c.args.task.now.actions = let r = c.requires.actions in let t = c.loop-a-test.true in omega (arith, e, r, t) in
     record {
-      first = omega (arith, next, count, taken, first);
+      first = first_more c.args.task.now c.loop-a.a c.loop-a.first c.conditional.result c.act-act.result.now c.act-act.ensures.act c.conditional.ensures lt c.loop-a.invariant.first;
       long = c.index_effects_of.ensures.long ∙ c.loop-a.invariant.long;
-      each = λ m. made_more c.args.layout.now m a c.loop-a.first (c.loop-a.first + c.conditional_among.result) task.actions (record { precondition = []; effects = [] }) c.effects-effects.result.now _ _ _ lt is next (c.loop-a.invariant.each m) (c.in_ok-index_effects_of.ensures.each m);
+      each = λ m.
+          made_more c.args.layout.now m c.loop-a.a c.loop-a.first (c.loop-a.first + c.conditional.result) c.args.task.now.actions (record { precondition = []; effects = [] }) c.effects.result.now _ _ _ lt
+          (c.effects.ensures ∙ ap (λ (x : Action). x.effects) c.act-act.ensures.act)
+          (ap (λ (k : ℕ). c.loop-a.first + k) (c.conditional.ensures ∙ ap (count_by is_conditional) (sym c.effects.ensures))) (c.loop-a.invariant.each m) (c.in_ok-index_effects_of.ensures.each m);
     }
+
+pub index_effects_of-requires-clause-within : goal.index_effects_of-requires-clause-within
+index_effects_of-requires-clause-within c =
+    let e = ap (λ (z : Layout). z.actions) c.layout.view_is in
+    let lt : c.loop-a.a < length c.args.task.now.actions = let r = c.requires.actions in let t = c.loop-a-test.true in omega (arith, e, r, t) in
+    effects_within c.args.task.now c.args.layout.now.facts c.loop-a.a c.effects.result.now c.act-act.result.now c.requires.facts c.act-act.ensures.act c.effects.ensures c.act-act.ensures.lawful lt

@@ -1,22 +1,32 @@
-use Rattle.std.proofs.Common.{◌≡◌, ◌∙◌, ◌*◌, ◌&&◌, ap, sym, ℕ, List}
-use Rattle.std.specs.List.{list_any}
+use Rattle.std.proofs.Common.{◌≡◌, ◌∙◌, ◌*◌, ◌&&◌, ap, sym, subst, ℕ, List}
+use Rattle.std.specs.List.{AllByRecursion}
 use Rattle.bit_rows.specs.Bits.{row_has}
+use Rattle.gt_core.specs.Literal.{opposite}
+use Rattle.gt_core.specs.Task.{Effect}
 use Rattle.two_invariants.specs.Rows.{clause_in}
-use Rattle.two_invariants.specs.Tested.{with_more, breaks_with}
+use Rattle.two_invariants.specs.Tested.{EffectFits, with_more}
+use Rattle.two_invariants.specs.Groups.{effect_with, group_with, breaks_under, GroupFits}
+use Rattle.two_invariants.specs.declared.groups.Group.{Group}
 use Rattle.two_invariants.proofs.Steps.{more_within}
 use Rattle.two_invariants.proofs.broken.losses_of.Goals as goal
 
-pub effect_losses-requires-clause-set : goal.effect_losses-requires-clause-set
-effect_losses-requires-clause-set c m t =
+pub group_losses-requires-clause-set : goal.group_losses-requires-clause-set
+group_losses-requires-clause-set c m t =
     more_within (2 * c.args.facts) c.args.known.now.rows.items (row_has c.args.known.now.none) c.pre.result.now c.requires.rows c.requires.none m
     (ap (λ (rs : List (List ℕ)). with_more rs (row_has c.args.known.now.none) c.pre.result.now m) (sym c.as_slice-rows.ensures.value) ∙ sym (c.in_ok-set.ensures m) ∙ t)
+
+pub group_losses-requires-clause-groups : goal.group_losses-requires-clause-groups
+group_losses-requires-clause-groups c =
+    subst (λ (gs : List Group). AllByRecursion (GroupFits (2 * c.args.facts)) gs) (sym c.as_slice.ensures.value)
+    (c.in_ok-groups.ensures.fit (2 * c.args.facts) (subst (λ (es : List Effect). AllByRecursion (EffectFits (2 * c.args.facts)) es) (sym c.effects.ensures) c.requires.act.effects))
 
 pub returns : goal.returns
 returns c =
     let none = row_has c.args.known.now.none in
     let value = c.as_slice-rows.ensures.value in
     let set : row_has c.in_ok-set.set ≡ with_more c.args.known.now.rows.items none c.args.act.now.precondition = (λ i m. c.in_ok-set.ensures m i) ∙ (λ i. with_more (value i) none (c.pre.ensures i)) in
+    let has : group_with c.as_slice.result.now ≡ effect_with c.args.act.now.effects = (λ i. group_with (c.as_slice.ensures.value i)) ∙ (λ i l test. c.in_ok-groups.ensures.same l test i) ∙ (λ i. effect_with (c.effects.ensures i)) in
     record {
-      lost = λ l m. c.in_ok-losses.ensures.lost l m ∙ (λ i. clause_in c.args.clauses.now l m && list_any (breaks_with c.args.facts (value i) (set i) (c.effects.ensures i) l m) (c.effects.ensures i));
+      lost = λ l m. c.in_ok-losses.ensures.lost l m ∙ (λ i. clause_in c.args.clauses.now l m && has i (opposite l) (breaks_under c.args.facts (value i) (has i) (set i) l m));
       each = c.in_ok-losses.ensures.each;
     }

@@ -3,7 +3,8 @@ use Rattle.bit_rows.specs.Bits.{row_has}
 use Rattle.gt_core.specs.Literal.{state_of}
 use Rattle.two_invariants.specs.Rows.{clause_in}
 use Rattle.two_invariants.specs.First.{is_first}
-use Rattle.two_invariants.proofs.Steps.{pushed_each, first_everywhere, first_are_rows}
+use Rattle.gt_core.proofs.Lists.{pushed_each}
+use Rattle.two_invariants.proofs.Steps.{first_everywhere, first_are_rows}
 use Rattle.two_invariants.proofs.first.first_clauses.Goals as goal
 
 pub loop-l-preserved : goal.loop-l-preserved

@@ -1,28 +1,19 @@
 use Rattle.std.proofs.Common.{arith, ◌*◌, ap, sym, subst, ℕ, List, length, Vec, Global}
 use Rattle.std.specs.List.{AllByRecursion, AllZip, range_with_len}
 use Rattle.gt_core.specs.Task.{Action}
-use Rattle.two_invariants.specs.Rows.{clause_in, AreRows}
+use Rattle.two_invariants.specs.Rows.{clause_in}
 use Rattle.two_invariants.specs.Tested.{AreKnown, ActionFits, AreLossesOf, LossFits, act_at}
 use Rattle.two_invariants.specs.declared.broken.Loss.{Loss}
-use Rattle.two_invariants.proofs.RoundLaw.{known_rows, both_within, actions_fit, zip_acts, all_fit, round_is}
-use Rattle.two_invariants.proofs.Exact.{none_within}
+use Rattle.two_invariants.proofs.RoundLaw.{known_fit, actions_fit, zip_acts, all_fit, round_is}
 use Rattle.two_invariants.proofs.greatest.drop_broken.Goals as goal
 
 pub all_losses-requires-clause-rows : goal.all_losses-requires-clause-rows
 all_losses-requires-clause-rows g c κs within =
-    let rows = c.args.rows.now.items in
-    let facts = c.facts-facts.result in
-    let are = subst (λ (r : List (List ℕ)). AreKnown (clause_in r) (2 * facts) c.in_ok-known.known) c.as_slice.ensures.value c.in_ok-known.ensures in
-    let of = subst (λ (n : ℕ). AreRows n rows) (sym c.facts-facts.ensures.facts) c.requires.rows in
-    known_rows (clause_in rows) facts c.in_ok-known.known (both_within facts rows of c.requires.either) are
+    (known_fit c.facts-facts.result c.args.task.now.facts c.as_slice.result.now c.args.rows.now.items c.in_ok-known.known c.facts-facts.ensures.facts c.as_slice.ensures.value c.requires.rows c.requires.either c.in_ok-known.ensures).0
 
 pub all_losses-requires-clause-none : goal.all_losses-requires-clause-none
 all_losses-requires-clause-none g c κs within =
-    let rows = c.args.rows.now.items in
-    let facts = c.facts-facts.result in
-    let are = subst (λ (r : List (List ℕ)). AreKnown (clause_in r) (2 * facts) c.in_ok-known.known) c.as_slice.ensures.value c.in_ok-known.ensures in
-    let of = subst (λ (n : ℕ). AreRows n rows) (sym c.facts-facts.ensures.facts) c.requires.rows in
-    none_within (clause_in rows) facts c.in_ok-known.known (both_within facts rows of c.requires.either) are
+    (known_fit c.facts-facts.result c.args.task.now.facts c.as_slice.result.now c.args.rows.now.items c.in_ok-known.known c.facts-facts.ensures.facts c.as_slice.ensures.value c.requires.rows c.requires.either c.in_ok-known.ensures).1
 
 pub all_losses-requires-clause-acts : goal.all_losses-requires-clause-acts
 all_losses-requires-clause-acts g c κs within =

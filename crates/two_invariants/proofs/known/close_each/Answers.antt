@@ -1,7 +1,7 @@
 use Rattle.std.proofs.Common.{arith, rules, ◌==◌, ◌||◌, ℕ, List, subst, sym}
 use Rattle.bit_rows.specs.Bits.{row_has}
 use Rattle.two_invariants.specs.Rows.{row_at, clause_in, IsClosure}
-use Rattle.two_invariants.proofs.Steps.{pushed_each}
+use Rattle.gt_core.proofs.Lists.{pushed_each}
 use Rattle.two_invariants.proofs.known.close_each.Goals as goal
 
 pub close_one-requires-clause-done : goal.close_one-requires-clause-done

@@ -25,40 +25,29 @@ unstack-requires c =
     let lt = c.requires.walk.walk.work_within c.args.place (last_in _ c.args.place c.requires.last) in
     rw c.as_slice-2.ensures.value (omega arith)
 
-pub returns-clause-walk : goal.returns-clause-walk
-returns-clause-walk c =
+pub returns : goal.returns
+returns c =
     let w = c.requires.walk.walk in
     let starts_long : vec_len c.args.self.now.starts ≡ length c.args.self.now.starts.items = search rules in
     let work_long : vec_len c.args.self.now.work ≡ length c.args.self.now.work.items = search rules in
+    let after_long : vec_len c.pop-2.new.self ≡ length c.pop-2.new.self.items = search rules in
     let number : c.len-number.result ≡ length c.args.self.now.roots.items = search rules in
     let lt = w.work_within c.args.place (last_in _ c.args.place c.requires.last) in
     let root = get_or_read c.args.self.now.stack.items c.args.place c.index.result.now lt c.index.ensures 0 in
     let finish : MarksFrom c.args.self.now.marks.items c.finish.new.marks.items c.args.self.now.stack.items c.args.place (length c.args.self.now.stack.items) (Done (length c.args.self.now.roots.items)) = rw (← number, ← c.as_slice.ensures.value) c.finish.ensures in
     let takes : TakesFrom c.args.self.now.stack.items c.args.place (length c.args.self.now.stack.items) c.args.self.now.stacked c.unstack.new.stacked = rw (← c.as_slice-2.ensures.value) c.unstack.ensures in
-    record {
-      walk = rw (c.truncate.ensures.items, c.pop.ensures.rest, c.pop-2.ensures.rest, c.in_ok-push.ensures.items, starts_long, work_long, root)
-          (closed c.args.targets.now _ _ _ _ _ _ _ _ c.args.place w lt (front_last _ c.args.place c.requires.start) (front_last _ c.args.place c.requires.last) c.requires.spent finish);
-      sets = closed_sets c.args.targets.now _ _ _ _ _ _ _ _ c.args.place w lt (front_last _ c.args.place c.requires.start) (front_last _ c.args.place c.requires.last) c.requires.spent finish _ _ _ c.requires.walk.sets takes;
-    }
-
-pub returns-clause-keeps : goal.returns-clause-keeps
-returns-clause-keeps c =
-    let w = c.requires.walk.walk in
-    let number : c.len-number.result ≡ length c.args.self.now.roots.items = search rules in
-    let lt = w.work_within c.args.place (last_in _ c.args.place c.requires.last) in
-    let finish : MarksFrom c.args.self.now.marks.items c.finish.new.marks.items c.args.self.now.stack.items c.args.place (length c.args.self.now.stack.items) (Done (length c.args.self.now.roots.items)) = rw (← number, ← c.as_slice.ensures.value) c.finish.ensures in
-    closed_keeps c.args.targets.now _ _ _ _ _ _ _ _ c.args.place w lt (front_last _ c.args.place c.requires.start) (front_last _ c.args.place c.requires.last) c.requires.spent finish
-
-pub returns-clause-less : goal.returns-clause-less
-returns-clause-less c =
-    let w = c.requires.walk.walk in
-    let number : c.len-number.result ≡ length c.args.self.now.roots.items = search rules in
-    let lt = w.work_within c.args.place (last_in _ c.args.place c.requires.last) in
-    let finish : MarksFrom c.args.self.now.marks.items c.finish.new.marks.items c.args.self.now.stack.items c.args.place (length c.args.self.now.stack.items) (Done (length c.args.self.now.roots.items)) = rw (← number, ← c.as_slice.ensures.value) c.finish.ensures in
-    let same = same_unseen c.args.self.now.marks.items c.finish.new.marks.items finish.long (closed_unseen c.args.targets.now _ _ _ _ _ _ _ _ c.args.place w lt (front_last _ c.args.place c.requires.start) (front_last _ c.args.place c.requires.last) c.requires.spent finish) in
-    let work_long : vec_len c.args.self.now.work ≡ length c.args.self.now.work.items = search rules in
-    let after_long : vec_len c.pop-2.new.self ≡ length c.pop-2.new.self.items = search rules in
+    let start = front_last _ c.args.place c.requires.start in
+    let last = front_last _ c.args.place c.requires.last in
+    let same = same_unseen c.args.self.now.marks.items c.finish.new.marks.items finish.long (closed_unseen c.args.targets.now _ _ _ _ _ _ _ _ c.args.place w lt start last c.requires.spent finish) in
     let some = c.requires.last.some in
     let popped = c.pop-2.ensures.rest in
     let shorter : length c.pop-2.new.self.items + 1 ≡ length c.args.self.now.work.items = rw (popped, work_long) (taken_one c.args.self.now.work.items some) in
-    omega (arith, same)
+    record {
+      walk = record {
+        walk = rw (c.truncate.ensures.items, c.pop.ensures.rest, c.pop-2.ensures.rest, c.in_ok-push.ensures.items, starts_long, work_long, root)
+            (closed c.args.targets.now _ _ _ _ _ _ _ _ c.args.place w lt start last c.requires.spent finish);
+        sets = closed_sets c.args.targets.now _ _ _ _ _ _ _ _ c.args.place w lt start last c.requires.spent finish _ _ _ c.requires.walk.sets takes;
+      };
+      keeps = closed_keeps c.args.targets.now _ _ _ _ _ _ _ _ c.args.place w lt start last c.requires.spent finish;
+      less = omega (arith, same);
+    }

@@ -11,7 +11,7 @@ returns-clause-rest c =
     let e : IsEntered c.args.clause.now c.args.number c.args.truth.now.trail c.args.self.now.watched.items (record { first = c.latest-first.result; second = c.latest-second.result; from = 0 }) c.args.self.now.chains.heads.items c.args.self.now.chains.nodes.items c.link_two.new.self.heads.items c.link_two.new.self.nodes.items c.a.inside.0 c.b.inside.0 =
     record {
       below = c.requires.room.in_watches;
-      two = c.requires.two;
+      long = c.requires.long;
       first_in = c.latest-first.ensures.inside;
       second_in = c.latest-second.ensures.inside;
       apart = c.latest-second.ensures.other;
@@ -33,7 +33,7 @@ returns-clause-free c =
     let e : IsEntered c.args.clause.now c.args.number c.args.truth.now.trail c.args.self.now.watched.items (record { first = c.latest-first.result; second = c.latest-second.result; from = 0 }) c.args.self.now.chains.heads.items c.args.self.now.chains.nodes.items c.link_two.new.self.heads.items c.link_two.new.self.nodes.items c.a.inside.0 c.b.inside.0 =
     record {
       below = c.requires.room.in_watches;
-      two = c.requires.two;
+      long = c.requires.long;
       first_in = c.latest-first.ensures.inside;
       second_in = c.latest-second.ensures.inside;
       apart = c.latest-second.ensures.other;
@@ -55,7 +55,7 @@ returns-clause-quiet c =
     let e : IsEntered c.args.clause.now c.args.number c.args.truth.now.trail c.args.self.now.watched.items (record { first = c.latest-first.result; second = c.latest-second.result; from = 0 }) c.args.self.now.chains.heads.items c.args.self.now.chains.nodes.items c.link_two.new.self.heads.items c.link_two.new.self.nodes.items c.a.inside.0 c.b.inside.0 =
     record {
       below = c.requires.room.in_watches;
-      two = c.requires.two;
+      long = c.requires.long;
       first_in = c.latest-first.ensures.inside;
       second_in = c.latest-second.ensures.inside;
       apart = c.latest-second.ensures.other;

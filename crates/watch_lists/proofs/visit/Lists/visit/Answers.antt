@@ -86,7 +86,7 @@ returns-in-Some-clause-listed c =
     let same = others_stay cl wa w' c.args.node below other in
     let found : c.found.inside.0 ≡ get_or (clause_at cl (c.args.node / 2)) place 0 = c.found.view_is ∙ get_or_read c.clause-clause.result.now place c.index-clause-place.result c.in-Some.ensures.inside c.index-clause-place.is 0 ∙ ap (λ (xs : List ℕ). get_or xs place 0) c.clause-clause.ensures in
     listed_link cl wa wa' c.args.self.now.chains.heads.items c.link-in-Some.new.self.heads.items c.args.self.now.chains.nodes.items c.link-in-Some.new.self.nodes.items c.args.spare c.args.kept.now c.args.node c.found.inside.0 c.lit.inside.0 W W' r c.requires.listed.1
-    (c.link-in-Some.ensures.linked r.on r.linked c.requires.listed.1) (placed_moved cl wa w' (c.args.node / 2) place second r.placed c.requires.real.below c.requires.real.two c.moved.ensures.own other inside ne)
+    (c.link-in-Some.ensures.linked r.on r.linked c.requires.listed.1) (placed_moved cl wa w' (c.args.node / 2) place second r.placed c.requires.real.below c.requires.real.long c.moved.ensures.own other inside ne)
     c.link-in-Some.ensures.codes c.link-in-Some.ensures.nodes c.link-in-Some.ensures.own c.link-in-Some.ensures.others c.requires.real b.has (λ k q ne'. same k ne')
     (λ k q ne' w. (same k ne' ∙ w.0, w.1))
     (inl (found ∙ sym (own_moved cl wa w' c.args.node place below c.moved.ensures.own)))

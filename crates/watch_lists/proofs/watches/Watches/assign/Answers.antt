@@ -5,47 +5,68 @@ use Rattle.number_bits.specs.Bits.{words_have}
 use Rattle.watch_store.specs.Mirror.{TruthView}
 use Rattle.watch_lists.specs.Pending.{is_pending_on}
 use Rattle.watch_lists.specs.Visit.{AllSettled, MovesToFree, IsAtRest}
+use Rattle.watch_lists.specs.declared.pairs.Pair.{Pair}
+use Rattle.watch_lists.specs.Pairs.{pairs_of, pair_in}
 use Rattle.watch_lists.specs.Sound.{IsFront, AreFree}
 use Rattle.watch_lists.proofs.Assigns.{assign_complete, assign_free, assign_quiets, whole_free}
+use Rattle.watch_lists.proofs.Paired.{pair_pending, paired_wider}
 use Rattle.watch_lists.proofs.watches.Watches.assign.Goals as goal
+
+pub mark_all-requires-clause-literal : goal.mark_all-requires-clause-literal
+mark_all-requires-clause-literal c k h =
+    let w = c.self.inside in
+    let l = c.self.invariant.1.within.literal c.fallen.inside.0 k (subst (λ (xs : List Pair). k < length xs) c.of.ensures h) in
+    let v = ap (λ (xs : List Pair). (pair_in xs k).other) c.of.ensures in
+    let tv : c.push.new.self.variables ≡ w.truth.variables = ap (λ (t : TruthView). t.variables) c.push.ensures in
+    omega (arith, l, v, tv, c.self.invariant.0.same)
+
+pub mark_all-requires-clause-clause : goal.mark_all-requires-clause-clause
+mark_all-requires-clause-clause c k h =
+    let l = c.self.invariant.1.within.clause c.fallen.inside.0 k (subst (λ (xs : List Pair). k < length xs) c.of.ensures h) in
+    let v = ap (λ (xs : List Pair). (pair_in xs k).number) c.of.ensures in
+    omega (arith, l, v)
 
 pub clean-requires-clause-complete : goal.clean-requires-clause-complete
 clean-requires-clause-complete c =
     let w = c.self.inside in
-    let i = c.self.invariant in
+    let i = c.self.invariant.0 in
     let tr : c.push.new.self.trail ≡ w.truth.trail ++ c.lit.inside.0 ∷ [] = ap (λ (v : TruthView). v.trail) c.push.ensures in
-    let op : c.visit_all.inside.0 ≡ opposite c.lit.inside.0 = c.visit_all.view_is ∙ c.opposite.ensures ∙ ap opposite (sym c.lit.view_is) in
-    let e = c.visit_all-2.ensures in
-    let moves = subst (λ (ys : List ℕ). MovesToFree w.store w.lists.watched.items c.visit_all-2.new.self.watched.items (has_literal ys)) tr e.moves in
-    let s1 = subst (λ (ks : List Bool). AllSettled w.store c.visit_all-2.new.self.watched.items (has_literal c.push.new.self.trail) (words_have c.visit_all-2.new.self.pending.words) c.visit_all.inside.0 ks) c.as_slice.ensures.value e.settled in
-    let s2 = subst (λ (l : ℕ). AllSettled w.store c.visit_all-2.new.self.watched.items (has_literal c.push.new.self.trail) (words_have c.visit_all-2.new.self.pending.words) l w.kept.items) op s1 in
-    let settled = subst (λ (ys : List ℕ). AllSettled w.store c.visit_all-2.new.self.watched.items (has_literal ys) (words_have c.visit_all-2.new.self.pending.words) (opposite c.lit.inside.0) w.kept.items) tr s2 in
-    let done = assign_complete w.store w.lists.watched.items c.visit_all-2.new.self.watched.items w.kept.items w.truth.trail c.lit.inside.0 (words_have w.lists.pending.words) (words_have c.visit_all-2.new.self.pending.words) i.many e.rest.placed (whole_free w.store w.lists.watched.items w.kept.items w.truth.trail i.free) moves settled e.grows i.front.complete in
+    let op : c.fallen.inside.0 ≡ opposite c.lit.inside.0 = c.fallen.view_is ∙ c.opposite-fallen.ensures ∙ ap opposite (sym c.lit.view_is) in
+    let e = c.visit_all.ensures in
+    let moves = subst (λ (ys : List ℕ). MovesToFree w.store w.lists.watched.items c.visit_all.new.self.watched.items (has_literal ys)) tr e.moves in
+    let s1 = subst (λ (ks : List Bool). AllSettled w.store c.visit_all.new.self.watched.items (has_literal c.push.new.self.trail) (words_have c.visit_all.new.self.pending.words) c.fallen.inside.0 ks) c.as_slice.ensures.value e.settled in
+    let s2 = subst (λ (l : ℕ). AllSettled w.store c.visit_all.new.self.watched.items (has_literal c.push.new.self.trail) (words_have c.visit_all.new.self.pending.words) l w.kept.items) op s1 in
+    let settled = subst (λ (ys : List ℕ). AllSettled w.store c.visit_all.new.self.watched.items (has_literal ys) (words_have c.visit_all.new.self.pending.words) (opposite c.lit.inside.0) w.kept.items) tr s2 in
+    let done = assign_complete w.store w.lists.watched.items c.visit_all.new.self.watched.items w.kept.items w.truth.trail c.lit.inside.0 (words_have w.lists.pending.words) (words_have c.visit_all.new.self.pending.words) i.many e.rest.placed (whole_free w.store w.lists.watched.items w.kept.items w.truth.trail i.free) moves settled
+    (pair_pending w.store w.pairs c.of.result.now w.truth.trail c.lit.inside.0 (words_have c.visit_all.new.self.pending.words) c.self.invariant.1.paired (c.of.ensures ∙ ap (λ (l : ℕ). pairs_of w.pairs l) op) (λ k h none. e.grows _ (c.mark_all.ensures.in_set k h (ap (λ (ys : List ℕ). has_literal ys (pair_in c.of.result.now k).other) tr ∙ none))))
+    (λ k h. e.grows k (c.mark_all.ensures.grows k h)) i.front.complete in
     λ k p. done k (ap (λ (ys : List ℕ). is_pending_on w.store w.kept.items ys k) (sym tr) ∙ ap (λ (ks : List Bool). is_pending_on w.store ks c.push.new.self.trail k) (sym c.as_slice-2.ensures.value) ∙ p)
 
 pub invariant_of-self : goal.invariant_of-self
 invariant_of-self c =
     let w = c.self.inside in
-    let i = c.self.invariant in
+    let i = c.self.invariant.0 in
     let tr : c.push.new.self.trail ≡ w.truth.trail ++ c.lit.inside.0 ∷ [] = ap (λ (v : TruthView). v.trail) c.push.ensures in
     let tv : c.push.new.self.variables ≡ w.truth.variables = ap (λ (v : TruthView). v.variables) c.push.ensures in
-    let op : c.visit_all.inside.0 ≡ opposite c.lit.inside.0 = c.visit_all.view_is ∙ c.opposite.ensures ∙ ap opposite (sym c.lit.view_is) in
-    let e = c.visit_all-2.ensures in
-    let moves = subst (λ (ys : List ℕ). MovesToFree w.store w.lists.watched.items c.visit_all-2.new.self.watched.items (has_literal ys)) tr e.moves in
-    let s1 = subst (λ (ks : List Bool). AllSettled w.store c.visit_all-2.new.self.watched.items (has_literal c.push.new.self.trail) (words_have c.visit_all-2.new.self.pending.words) c.visit_all.inside.0 ks) c.as_slice.ensures.value e.settled in
-    let s2 = subst (λ (l : ℕ). AllSettled w.store c.visit_all-2.new.self.watched.items (has_literal c.push.new.self.trail) (words_have c.visit_all-2.new.self.pending.words) l w.kept.items) op s1 in
-    let settled = subst (λ (ys : List ℕ). AllSettled w.store c.visit_all-2.new.self.watched.items (has_literal ys) (words_have c.visit_all-2.new.self.pending.words) (opposite c.lit.inside.0) w.kept.items) tr s2 in
-    let free = assign_free w.store w.lists.watched.items c.visit_all-2.new.self.watched.items w.kept.items w.truth.trail c.lit.inside.0 (words_have c.visit_all-2.new.self.pending.words) i.free moves settled in
-    record {
-      small = i.small;
-      same = tv ∙ i.same;
-      many = i.many;
-      few = i.few;
-      fit = i.fit;
-      room = omega (arith, i.room, e.room, c.clean.ensures.room);
-      rest = subst (λ (ks : List Bool). IsAtRest w.store c.visit_all-2.new.self.watched.items c.visit_all-2.new.self.chains.heads.items c.visit_all-2.new.self.chains.nodes.items (2 * w.variables) ks) c.as_slice.ensures.value e.rest;
-      free = subst (λ (ys : List ℕ). (n : ℕ) → n ≤ length ys → AreFree w.store c.visit_all-2.new.self.watched.items w.kept.items (take n ys)) (sym tr) free;
-      front = subst (λ (ks : List Bool). IsFront (is_pending_on w.store ks c.push.new.self.trail) (words_have c.clean.new.pending.words)) c.as_slice-2.ensures.value c.clean.ensures.front;
-      quiet_size = length-set w.quiet.items c.length-length.result c.is_none.result ∙ i.quiet_size;
-      quiets = subst (λ (ys : List ℕ). (n : ℕ) → n < length ys → get_or (set w.quiet.items c.length-length.result c.is_none.result) n false ≡ true → (k : ℕ) → is_pending_on w.store w.kept.items (take n ys) k ≡ false) (sym tr) (assign_quiets w.store w.kept.items w.truth.trail c.lit.inside.0 w.quiet.items c.length-length.result c.least.result c.is_none.result (words_have w.lists.pending.words) c.length-length.ensures.is (omega (arith, c.length-length.ensures.short, i.same, i.quiet_size)) c.least.ensures c.is_none.ensures i.front i.quiets);
-    }
+    let op : c.fallen.inside.0 ≡ opposite c.lit.inside.0 = c.fallen.view_is ∙ c.opposite-fallen.ensures ∙ ap opposite (sym c.lit.view_is) in
+    let e = c.visit_all.ensures in
+    let moves = subst (λ (ys : List ℕ). MovesToFree w.store w.lists.watched.items c.visit_all.new.self.watched.items (has_literal ys)) tr e.moves in
+    let s1 = subst (λ (ks : List Bool). AllSettled w.store c.visit_all.new.self.watched.items (has_literal c.push.new.self.trail) (words_have c.visit_all.new.self.pending.words) c.fallen.inside.0 ks) c.as_slice.ensures.value e.settled in
+    let s2 = subst (λ (l : ℕ). AllSettled w.store c.visit_all.new.self.watched.items (has_literal c.push.new.self.trail) (words_have c.visit_all.new.self.pending.words) l w.kept.items) op s1 in
+    let settled = subst (λ (ys : List ℕ). AllSettled w.store c.visit_all.new.self.watched.items (has_literal ys) (words_have c.visit_all.new.self.pending.words) (opposite c.lit.inside.0) w.kept.items) tr s2 in
+    let free = assign_free w.store w.lists.watched.items c.visit_all.new.self.watched.items w.kept.items w.truth.trail c.lit.inside.0 (words_have c.visit_all.new.self.pending.words) i.free moves settled in (
+      record {
+        small = i.small;
+        same = tv ∙ i.same;
+        many = i.many;
+        few = i.few;
+        fit = i.fit;
+        room = omega (arith, i.room, c.mark_all.ensures.room, e.room, c.clean.ensures.room);
+        rest = subst (λ (ks : List Bool). IsAtRest w.store c.visit_all.new.self.watched.items c.visit_all.new.self.chains.heads.items c.visit_all.new.self.chains.nodes.items (2 * w.variables) ks) c.as_slice.ensures.value e.rest;
+        free = subst (λ (ys : List ℕ). (n : ℕ) → n ≤ length ys → AreFree w.store c.visit_all.new.self.watched.items w.kept.items (take n ys)) (sym tr) free;
+        front = subst (λ (ks : List Bool). IsFront (is_pending_on w.store ks c.push.new.self.trail) (words_have c.clean.new.pending.words)) c.as_slice-2.ensures.value c.clean.ensures.front;
+        quiet_size = length-set w.quiet.items c.length-length.result c.is_none.result ∙ i.quiet_size;
+        quiets = subst (λ (ys : List ℕ). (n : ℕ) → n < length ys → get_or (set w.quiet.items c.length-length.result c.is_none.result) n false ≡ true → (k : ℕ) → is_pending_on w.store w.kept.items (take n ys) k ≡ false) (sym tr) (assign_quiets w.store w.kept.items w.truth.trail c.lit.inside.0 w.quiet.items c.length-length.result c.least.result c.is_none.result (words_have w.lists.pending.words) c.length-length.ensures.is (omega (arith, c.length-length.ensures.short, i.same, i.quiet_size)) c.least.ensures c.is_none.ensures i.front i.quiets);
+      },
+      paired_wider w.variables w.store w.pairs w.lists.pending.words c.clean.new.pending.words c.self.invariant.1 (omega (arith, c.mark_all.ensures.room, e.room, c.clean.ensures.room)),
+    )

@@ -1,0 +1,231 @@
+//! The last walk, from which the next one goes on.
+
+ghost use Rattle.std.specs.Prelude.{◌≡◌, ◌≤◌, ◌<◌, false, Some, None, drop, length, slice_get, slice_set, IfOk, IfSome, IfNone};
+ghost use Rattle.std.specs.Bool.{OnTrue, OnFalse};
+ghost use Rattle.gt_core.specs.Layout.{variables, fact_at};
+ghost use Rattle.clause_base.specs.Choice.{first_difference};
+ghost use Rattle.goal_choice.specs.Kept.{walked, IsSameFrom};
+
+use crate::literals::{Literals, empty_sets};
+use crate::means::Means;
+use crate::walk::{walk_from_goal, wanted_before};
+use clause_base::literal::Lit;
+use clause_base::memory::Memory;
+use clause_base::values::Values;
+use std::alloc::Global;
+use std::marker::Model;
+
+/// What is kept of a walk: the values that it saw, and the literals that it wanted at each time, from the last time down to
+/// `low`. Beside that, two sets to write over, and whether the last choice was one of the walk.
+#[derive(Debug, Drop)]
+pub(crate) struct LastWalk {
+    means: Means,
+    seen: Values,
+    wanted: Vec<Literals>,
+    low: u32,
+    after: Literals,
+    before: Literals,
+    chose: bool,
+}
+
+impl Model for LastWalk {
+    ghost use Rattle.std.specs.Prelude.{◌≡◌};
+    ghost use Rattle.goal_choice.specs.Kept.{WalkView, IsWalk};
+
+    ghost Value = { WalkView };
+
+    ghost view = { λ w. record { means = w.means; seen = w.seen; wanted = w.wanted.items; low = w.low } };
+
+    ghost invariant = { λ w. IsWalk (record { means = w.means; seen = w.seen; wanted = w.wanted.items; low = w.low }) × (w.after.facts ≡ w.means.layout.facts) × (w.before.facts ≡ w.means.layout.facts) };
+}
+
+impl LastWalk {
+    /// The walk over no values, before its first step.
+    pub(crate) fn new(alloc: Global, means: Means) -> Result<LastWalk, Memory>
+        ensures { IfOk result (λ w. w.means ≡ means) }
+    {
+        let layout = *means.layout();
+        let seen = Values::new(alloc, layout.variables())?;
+        let mut wanted = empty_sets(alloc, layout.horizon as usize + 1, layout.facts)?;
+        wanted[layout.horizon as usize].put_all(means.goal());
+        let after = Literals::new(alloc, layout.facts)?;
+        let before = Literals::new(alloc, layout.facts)?;
+        Ok(LastWalk {
+            after,
+            before,
+            chose: true,
+            low: layout.horizon,
+            means,
+            seen,
+            wanted,
+        })
+    }
+
+    /// Whether a variable that had no value gets the value false.
+    fn becomes_false(&self, v: u32, value: Option<bool>) -> bool
+        requires { v < length self.now.seen }
+        ensures { OnTrue result ((value ≡ Some false) × (slice_get self.now.seen v ≡ Some None)) }
+    {
+        value == Some(false) && self.seen.get(v).is_none()
+    }
+
+    /// Where a fact gets a value at a time, a time from which on the steps that the walk went over ask for the same.
+    fn fact_same_from(&self, time: u32, fact: u32, value: Option<bool>) -> u32
+        requires { fact < self.now.means.layout.facts }
+        ensures within { result ≤ self.now.means.layout.horizon }
+        ensures same { IsSameFrom self.now (fact_at self.now.means.layout time fact) value result }
+    {
+        if time >= self.means.layout().horizon {
+            return 0;
+        }
+        match value {
+            None => 0,
+            Some(given) => {
+                if self.wanted[time as usize + 1].contains(2 * fact + u32::from(given)) {
+                    time + 1
+                } else {
+                    0
+                }
+            }
+        }
+    }
+
+    /// Where a variable gets a value, a time from which on the steps that the walk went over ask for the same. No such step
+    /// asks for something else where an action that was open becomes false, or where no wanted literal becomes false.
+    fn same_from(&self, v: u32, value: Option<bool>) -> u32
+        requires { v < length self.now.seen }
+        ensures within { result ≤ self.now.means.layout.horizon }
+        ensures same { IsSameFrom self.now v value result }
+    {
+        let layout = self.means.layout();
+        let steps = layout.step_start(layout.horizon);
+        if v >= steps {
+            let place = v - steps;
+            return self.fact_same_from(place / layout.facts, place % layout.facts, value);
+        }
+        let looked_at = layout.actions + layout.conditional;
+        let width = looked_at + layout.chains;
+        if v % width >= looked_at {
+            return 0;
+        }
+        if self.becomes_false(v, value) {
+            return 0;
+        }
+        v / width + 1
+    }
+
+    /// Sees another value of a variable. Of the walk what stands above the steps that then ask for something else stays.
+    fn see(&mut self, v: u32, value: Option<bool>)
+        requires { v < length self.old.seen }
+        ensures seen { self.new.seen ≡ slice_set self.old.seen v value }
+        ensures means { self.new.means ≡ self.old.means }
+    {
+        let end = self.same_from(v, value);
+        self.seen.set(v, value);
+        if self.low < end {
+            self.low = end;
+        }
+    }
+
+    /// The least variable, from a given one on, whose value is another one than the walk saw.
+    fn next_change(&self, values: &Values, from: u32) -> Option<u32>
+        requires { length values.now ≡ length self.now.seen }
+        ensures { result ≡ first_difference from (drop from values.now) (drop from self.now.seen) }
+    {
+        values.first_difference(&self.seen, from)
+    }
+
+    /// Sees the values that have changed.
+    fn see_all(&mut self, values: &Values)
+        requires { length values.now ≡ length self.old.seen }
+        ensures seen { self.new.seen ≡ values.now }
+        ensures means { self.new.means ≡ self.old.means }
+    {
+        let _small = values.variables();
+        let mut from = 0;
+        'seeing: while let Some(v) = self.next_change(values, from) {
+            self.see(v, values.get(v));
+            from = v + 1;
+        }
+    }
+
+    /// It sees as many variables as its layout has.
+    fn sees_all_variables(&self)
+        ensures { length self.now.seen ≡ variables self.now.means.layout }
+    {
+        let _ = &self.seen;
+    }
+
+    /// Whether it has come to the initial state without a choice.
+    fn has_ended(&self) -> bool
+        ensures ended { OnTrue result (walked self.now.means self.now.seen ≡ None) }
+        ensures going { OnFalse result (0 < self.now.low) }
+    {
+        self.low == 0
+    }
+
+    /// Goes on by a step: to a choice, or else down to the time before it.
+    fn step_back(&mut self) -> Option<Lit>
+        requires { 0 < self.old.low }
+        ensures chosen { IfSome result (λ c. walked self.old.means self.old.seen ≡ Some c) }
+        ensures lower { IfNone result (self.new.low < self.old.low) }
+        ensures seen { self.new.seen ≡ self.old.seen }
+        ensures means { self.new.means ≡ self.old.means }
+    {
+        let step = self.low - 1;
+        self.before.clear();
+        let after = &self.wanted[self.low as usize];
+        match wanted_before(&self.means, &self.seen, step, after, &mut self.before) {
+            Some(choice) => Some(choice),
+            None => {
+                self.before.keeps_within();
+                std::mem::swap(&mut self.wanted[step as usize], &mut self.before);
+                self.low = step;
+                None
+            }
+        }
+    }
+
+    /// The choice of the walk over some values, which goes on from what is kept.
+    fn choice_from_kept(&mut self, values: &Values) -> Option<Lit>
+        requires fits { length values.now ≡ variables self.old.means.layout }
+        ensures choice { result ≡ walked self.old.means values.now }
+        ensures means { self.new.means ≡ self.old.means }
+    {
+        self.sees_all_variables();
+        self.see_all(values);
+        'walking: while !self.has_ended() {
+            if let Some(choice) = self.step_back() {
+                return Some(choice);
+            }
+        }
+        None
+    }
+
+    /// The choice of the walk over some values, which begins with the goal. What is kept stays.
+    fn choice_from_goal(&mut self, values: &Values) -> Option<Lit>
+        requires fits { length values.now ≡ variables self.old.means.layout }
+        ensures choice { result ≡ walked self.old.means values.now }
+        ensures kept { self.new ≡ self.old }
+    {
+        walk_from_goal(&self.means, values, &mut self.after, &mut self.before)
+    }
+
+    /// The choice of the walk over some values, where there is one. A walk that comes to a choice mostly comes to it soon; one
+    /// that comes to none looks at every time, and the next one mostly comes to none either: so what is kept is used after such
+    /// a walk alone. In the program this is a function of its own too, so that `bench/choose` can tell its time.
+    #[inline(never)]
+    pub(crate) fn choice(&mut self, values: &Values) -> Option<Lit>
+        requires fits { length values.now ≡ variables self.old.means.layout }
+        ensures choice { result ≡ walked self.old.means values.now }
+        ensures means { self.new.means ≡ self.old.means }
+    {
+        let choice = if self.chose {
+            self.choice_from_goal(values)
+        } else {
+            self.choice_from_kept(values)
+        };
+        self.chose = choice.is_some();
+        choice
+    }
+}

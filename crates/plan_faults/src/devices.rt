@@ -1,0 +1,88 @@
+// Shelves and sinks that fail.
+use crate::tasks::{DARK, LAMP};
+use mem_runs::{Named, run_into, run_once};
+use pl_io::{MemSink, Numbers};
+use solver_pool::OpenGate;
+use std::alloc::Global;
+use std::process::Abort;
+use std::sync::Wait;
+use std::test::Fail;
+use std::thread::Threads;
+
+const FILES: [Named<'static>; 3] = [("d", LAMP), ("p", DARK), ("l", b"(flip)")];
+
+// A shelf that fails at a call for a file, and at no other.
+#[test]
+fn shelves_that_fail_at_a_call(rt: HostRuntime) -> Result<(), Fail> {
+    let rows = [
+        ("plan d p", 1, "; read fault domain\n"),
+        ("plan d p", 2, "; read fault problem\n"),
+        ("check d p l", 1, "; read fault domain\n"),
+        ("check d p l", 2, "; read fault problem\n"),
+        ("check d p l", 3, "; read fault plan\n"),
+        ("ground d p", 1, "; read fault domain\n"),
+        ("ground d p", 2, "; read fault problem\n"),
+        ("order d p", 1, "; read fault domain\n"),
+        ("order d p", 2, "; read fault problem\n"),
+    ];
+    for (words, call, wanted) in rows {
+        let (status, text) = run_once(&rt, rt.alloc(), words, &FILES, &[call])?;
+        assert_eq!(rt; status.0, 5, "{words}, call {call}");
+        assert_eq!(rt; text.as_slice(), wanted.as_bytes(), "{words}, call {call}");
+    }
+    Ok(())
+}
+
+// What `plan` prints of the task.
+const PLANNED: &str = "; horizon 0 refuted conflicts 1
+; horizon 1 plan conflicts 0
+; horizon 2 plan conflicts 0
+; horizon 3 plan conflicts 0
+; conflicts 1 of 100000
+; plan of 1 steps with 1 actions
+; step 1
+(flip)
+";
+
+// A sink that takes at most so many bytes a call and fails at a call has taken the bytes of the calls before it.
+fn fails_at<H: Threads + Wait + Sync + Abort>(
+    rt: &H,
+    alloc: Global,
+    words: &str,
+    most: u32,
+    call: u32,
+    front: &[u8],
+) -> Result<(), Fail> {
+    assert!(rt; 0 < most);
+    let mut sink = MemSink::new(alloc, most, Numbers::of(vec![in alloc; call]?), 1000)?;
+    let status = run_into(rt, alloc, words, &FILES, &[], &mut sink, &OpenGate)?;
+    assert_eq!(rt; status.0, 6, "{words}, call {call}");
+    assert_eq!(rt; sink.taken(), front, "{words}, call {call}");
+    assert_eq!(rt; sink.faults(), 1, "{words}, call {call}");
+    Ok(())
+}
+
+// Each byte of each report in turn is the one at which the sink fails.
+#[test]
+fn sinks_that_fail_at_a_byte(rt: HostRuntime) -> Result<(), Fail> {
+    let rows = [
+        ("plan d p", PLANNED),
+        ("check d p l", "; reaches the goal\n"),
+        (
+            "ground d p",
+            "; facts 1\n; 0 (on)\n; actions 1\n; 0 (flip)\n; effects 0\n",
+        ),
+        (
+            "order d p",
+            "; actions 1 components 1 pairs 0\n; 0 0 (flip)\n",
+        ),
+    ];
+    fails_at(&rt, rt.alloc(), "plan d p", 10, 2, b"; horizon ")?;
+    for (words, text) in rows {
+        for count in 0..text.len() {
+            let front = &text.as_bytes()[..count];
+            fails_at(&rt, rt.alloc(), words, 1, count as u32 + 1, front)?;
+        }
+    }
+    Ok(())
+}

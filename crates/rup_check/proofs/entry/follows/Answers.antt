@@ -1,0 +1,8 @@
+use Rattle.rup_check.specs.Kept.{kept_named}
+use Rattle.rup_check.proofs.SameMembers.{falsified_leads}
+use Rattle.rup_check.proofs.entry.follows.Goals as goal
+
+pub returns-clause-answer : goal.returns-clause-answer
+returns-clause-answer c =
+    let named = kept_named c.args.formula.now.clauses c.args.kept.now.learned c.args.kept.now.dropped.items in
+    falsified_leads named _ _ c.args.clause.now c.args.hints.now _ c.requires.empty c.in_ok-falsify_all.ensures.falsified c.in_ok-conflict.ensures.answer

@@ -1,0 +1,19 @@
+use Rattle.std.proofs.Common.{◌∙◌, ◌&&◌}
+use Rattle.bit_rows.specs.Bits.{row_has}
+use Rattle.gt_core.specs.Literal.{opposite}
+use Rattle.two_invariants.specs.Rows.{clause_in}
+use Rattle.two_invariants.specs.Tested.{are_lost}
+use Rattle.two_invariants.specs.Groups.{group_with, breaks_under}
+use Rattle.two_invariants.specs.declared.groups.Group.{Group}
+use Rattle.two_invariants.proofs.Grouping.{groups_more}
+use Rattle.two_invariants.proofs.broken.group_losses.Goals as goal
+
+pub loop-group-preserved : goal.loop-group-preserved
+loop-group-preserved c = record {
+  lost = λ a m.
+      groups_more (λ (g : Group). row_has g.literals (opposite a) && breaks_under c.args.facts c.args.rows.now (group_with c.args.groups.now) (row_has c.args.set.now) a m g.condition.items)
+      c.args.groups.now c.loop-group.group-index c.group-item.result (clause_in c.args.clauses.now a m) (are_lost c.loop-group.losses.items a m) (are_lost c.push_group_losses.new.losses.items a m)
+      c.loop-group-test.true c.group-item.is (c.in_ok-push_group_losses.ensures.lost a m)
+      ∙ c.loop-group.invariant.lost a m;
+  each = c.in_ok-push_group_losses.ensures.each c.loop-group.invariant.each;
+}

@@ -1,0 +1,15 @@
+use Rattle.std.proofs.Common.{◌≡◌, ◌||◌, ◌&&◌, ◌*◌, ℕ, drop}
+use Rattle.std.specs.List.{AllByRecursion}
+use Rattle.bit_rows.specs.Bits.{row_has}
+use Rattle.gt_core.specs.Literal.{opposite}
+use Rattle.two_invariants.specs.Rows.{clause_in}
+use Rattle.two_invariants.specs.Tested.{are_lost, IsLossOf}
+use Rattle.two_invariants.specs.Groups.{group_with, breaks_under}
+use Rattle.two_invariants.proofs.broken.group_losses.Given as goal
+
+abbrev pub invariant-loop-group : goal.invariant-loop-group
+invariant-loop-group l = record {
+  lost : (a m : ℕ) → (are_lost l.losses.items a m || (clause_in l.clauses a m && group_with (drop l.group-index l.groups) (opposite a) (breaks_under l.facts l.rows (group_with l.groups) (row_has l.set) a m)))
+      ≡ (clause_in l.clauses a m && group_with l.groups (opposite a) (breaks_under l.facts l.rows (group_with l.groups) (row_has l.set) a m));
+  each : AllByRecursion (IsLossOf (2 * l.facts) l.clauses) l.losses.items;
+}
