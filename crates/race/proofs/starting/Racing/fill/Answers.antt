@@ -3,7 +3,7 @@ use Rattle.race.specs.Starts.{filled}
 use Rattle.race.specs.Tied.{race_state}
 use Rattle.race.proofs.Starts.{fill-on, fill-off}
 use Rattle.race.proofs.Advances.{length-runners}
-use Rattle.race.proofs.racing.Racing.fill.Goals as goal
+use Rattle.race.proofs.starting.Racing.fill.Goals as goal
 
 pub loop-horizon-preserved : goal.loop-horizon-preserved
 loop-horizon-preserved g c =

@@ -2,7 +2,7 @@ use Rattle.std.proofs.Common.{◌≡◌, ◌-◌, length}
 use Rattle.race.specs.Runs.{AreLow}
 use Rattle.race.specs.Starts.{filled}
 use Rattle.race.specs.Tied.{race_state, IsTied}
-use Rattle.race.proofs.racing.Racing.fill.Given as goal
+use Rattle.race.proofs.starting.Racing.fill.Given as goal
 
 abbrev pub ghost-startable : goal.ghost-startable
 ghost-startable g a = g.input
