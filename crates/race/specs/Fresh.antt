@@ -2,7 +2,7 @@
 use Rattle.std.specs.Prelude.{◌≡◌, ℕ, ◌≤◌}
 use Rattle.step_encoding.specs.declared.form.StepForm.{Ghosts}
 use Rattle.step_encoding.specs.Numbers.{literals_of}
-use Rattle.horizon_run.specs.Run.{RunView, choice_in, choice_of, IsNew, IsReached}
+use Rattle.horizon_run.specs.Run.{RunView, choice_in, choice_of, IsNew}
 
 module _ {F : Type 0} (g : Ghosts F) (form : F) where
   -- a horizon whose formula is not too large

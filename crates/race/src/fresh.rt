@@ -1,15 +1,15 @@
 //! Runs before their first conflict, several made at once, each in a thread of its own: to make one takes as long as it takes
 //! its solver to come to its first conflict.
 
-ghost use Rattle.std.specs.Prelude.{◌≡◌, ◌≤◌, All, IfOk, OnOk};
+ghost use Rattle.std.specs.Prelude.{◌≡◌, ◌∷◌, All, IfOk, IfSome, IfNone, OnOk};
 ghost use Rattle.std.specs.List.{AllByRecursion};
-ghost use Rattle.step_encoding.specs.Numbers.{literals_of};
 ghost use Rattle.race.specs.Fresh.{IsFresh, IsFreshOf, IsSmall};
 
 use clause_base::memory::Memory;
 use gt_core::task::Task;
 use horizon_rates::{Rates, Settings};
 use horizon_run::HorizonRun;
+use solver_pool::Resume;
 use std::alloc::Global;
 use std::thread;
 use std::thread::Threads;
@@ -24,9 +24,28 @@ fn fresh_run<F: StepForm>(
 ) -> Result<HorizonRun, Memory>
     requires form_of { F.task form.now ≡ task.now }
     requires small { IsSmall F.StepForm form.now horizon }
-    ensures { IfOk result (IsFreshOf F.StepForm form.now horizon) }
+    ensures of { IfOk result (IsFreshOf F.StepForm form.now horizon) }
+    ensures fresh { IfOk result (IsFresh F.StepForm form.now) }
 {
-    HorizonRun::new(alloc, task, form, horizon)
+    let run = HorizonRun::new(alloc, task, form, horizon)?;
+    Ok(run)
+}
+
+/// The runs of a form's horizons, where there are all of them.
+fn all_made<F: StepForm>(
+    alloc: Global,
+    form: &F,
+    made: Vec<Result<HorizonRun, Memory>>,
+) -> Result<Vec<HorizonRun>, Memory>
+    requires { AllByRecursion (λ run. IfOk run (IsFresh F.StepForm form.now)) made.items }
+    ensures { IfOk result (λ runs. AllByRecursion (IsFresh F.StepForm form.now) runs.items) }
+{
+    let _form = form;
+    let mut runs = Vec::new(alloc);
+    for run in made {
+        runs.push(run?)?;
+    }
+    Ok(runs)
 }
 
 /// The runs of horizons before their first conflicts.
@@ -50,15 +69,22 @@ fn fresh_runs<F: StepForm, H: Threads + Sync>(
             ensures { IfOk result (IsFresh F.StepForm form.entry.now) }
         { fresh_run(alloc, task, form, horizon) },
     )?;
-    let mut runs = Vec::new(alloc);
-    for run in made {
-        runs.push(run?)?;
+    all_made(alloc, form, made)
+}
+
+/// The horizon at a place of the list, where it is not below another one and its formula is not too large.
+fn small_at<F: StepForm>(form: &F, rates: &Rates, first: u32, place: u32) -> Option<u32>
+    ensures { IfSome result (IsSmall F.StepForm form.now) }
+{
+    let horizon = rates.nth(place)?;
+    if horizon < first || form.size(horizon) > 4_000_000 {
+        return None;
     }
-    Ok(runs)
+    Some(horizon)
 }
 
 /// The listed horizons from one on whose formulas are not too large, at most so many.
-fn horizons_from<F: StepForm>(
+fn small_from<F: StepForm>(
     alloc: Global,
     form: &F,
     rates: &Rates,
@@ -69,10 +95,8 @@ fn horizons_from<F: StepForm>(
 {
     let mut horizons = Vec::new(alloc);
     for place in 0..256 {
-        if let Some(horizon) = rates.nth(place)
-            && horizon >= first
+        if let Some(horizon) = small_at(form, rates, first, place)
             && horizons.len() < most as usize
-            && form.size(horizon) <= 4_000_000
         {
             horizons.push(horizon)?;
         }
@@ -81,7 +105,10 @@ fn horizons_from<F: StepForm>(
 }
 
 /// Takes the first of some runs, where it is that of a horizon.
-fn take_first(made: &mut Vec<HorizonRun>, horizon: u32) -> Option<HorizonRun> {
+fn take_first(made: &mut Vec<HorizonRun>, horizon: u32) -> Option<HorizonRun>
+    ensures some { IfSome result (λ run. (run.formula.name ≡ horizon) × (made.old.items ≡ run ∷ made.new.items)) }
+    ensures none { IfNone result (made.new.items ≡ made.old.items) }
+{
     if made.first()?.horizon() != horizon {
         return None;
     }
@@ -108,7 +135,7 @@ pub(crate) fn next_fresh<F: StepForm, H: Threads + Sync>(
 {
     if made.is_empty() {
         let most = free.min(settings.workers);
-        let horizons = horizons_from(alloc, form, &settings.rates, horizon, most)?;
+        let horizons = small_from(alloc, form, &settings.rates, horizon, most)?;
         *made = fresh_runs(rt, alloc, task, form, horizons)?;
     }
     match take_first(made, horizon) {
