@@ -1,5 +1,5 @@
 use Rattle.std.proofs.Common.{◌≡◌}
-use Rattle.goal_choice.proofs.last_walk.LastWalk.choice_from_kept.Given as goal
+use Rattle.goal_choice.proofs.last_walk.LastWalk.choice.Given as goal
 
 abbrev pub invariant-walking : goal.invariant-walking
 invariant-walking l = record {
