@@ -172,8 +172,9 @@ fn greatest_rows(
     ensures apart { IfOk result (λ rows. (l : ℕ) → clause_in rows.items l (opposite l) ≡ true → ⊥) }
     ensures greatest { IfOk result (λ rows. AreGreatest task.now rows.items) }
 {
+    let facts = task.facts();
     let mut rows = first_clauses(alloc, task.init())?;
-    let mut known = first_known(alloc, task.facts(), rows.as_slice(), asked)?;
+    let mut known = first_known(alloc, facts, rows.as_slice(), asked)?;
     let mut todo = all_numbers(alloc, task.acts().len())?;
     'round: loop {
         let mut stale = BitRow::new(alloc);

@@ -1,5 +1,6 @@
 use Rattle.std.proofs.Common.{arith, ◌≡◌, ◌∙◌, ◌==◌, ◌&&◌, ◌||◌, ap, sym, subst, not, Bool, ℕ, ◌+◌, List, [], length, drop, Vec, Global}
 use Rattle.std.specs.List.{list_any}
+use Rattle.std.specs.Vec.{vec_len}
 use Rattle.std.proofs.lemmas.List.{drop_all}
 use Rattle.gt_core.proofs.Basics.{or_left}
 use Rattle.two_invariants.specs.Rows.{clause_in}
@@ -24,9 +25,10 @@ loop-list-preserved c =
     let new = c.drop_losses.new.rows.items in
     let has : (a b : ℕ) → clause_in new a b ≡ (clause_in cur a b && not (lost_in a b c.list-item.result)) = λ a b.
     subst (λ (ls : List Loss). clause_in new a b ≡ (clause_in cur a b && not (are_lost ls a b || are_lost ls b a))) c.as_slice.ensures.value (c.drop_losses.ensures.has a b) in
+    let size : vec_len c.list-item.result ≡ length c.list-item.result.items = let ok = c.list-item.result.ok in omega arith in
     let now : c.if-dropped.dropped ≡ (c.loop-list.dropped || has_some c.list-item.result) = elim c.if-dropped.branch [
-      | then-dropped w ↦ w.dropped-is ∙ sym (or_left c.loop-list.dropped _ w.if-dropped.true)
-      | else-dropped w ↦ w.dropped-is ∙ ap not w.is_empty.ensures ∙ ap (λ (b : Bool). b || has_some c.list-item.result) (sym w.if-dropped.false)
+      | then-dropped w ↦ w.dropped-is ∙ w.if-dropped.true ∙ sym (or_left c.loop-list.dropped _ w.if-dropped.true)
+      | else-dropped w ↦ w.dropped-is ∙ ap not w.is_empty.ensures ∙ ap (λ (n : ℕ). not (n == 0)) size ∙ ap (λ (b : Bool). b || has_some c.list-item.result) (sym w.if-dropped.false)
     ] in
     record {
       long = c.drop_losses.ensures.long ∙ i.long;
