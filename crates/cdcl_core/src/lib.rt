@@ -11,13 +11,9 @@
 //! ```
 #![tactic(auto)]
 
-#[cfg(test)]
-mod cases;
 mod pending;
 mod reduce;
 mod search;
 pub mod solver;
-#[cfg(test)]
-mod tests;
 
 pub use cdcl_rules::standing::Standing;

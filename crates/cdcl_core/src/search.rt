@@ -126,7 +126,6 @@ impl Search {
     }
 
     /// The literals that are true, oldest first.
-    #[cfg(test)]
     pub fn entries(&self) -> &[Assigned]
         ensures { result.now ≡ self.now.state.trail }
     {

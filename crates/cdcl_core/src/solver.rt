@@ -14,6 +14,7 @@ use crate::search::Search;
 use cdcl_laws::law::runs_are_sound;
 use cdcl_rules::event::Event;
 use cdcl_rules::standing::Standing;
+use cdcl_rules::trail::Assigned;
 use clause_base::chooser::Chooser;
 use clause_base::formula::Formula;
 use clause_base::log::Log;
@@ -97,6 +98,13 @@ impl<C: Chooser> Solver<C> {
         ensures { result ≡ value_of self.now.state.trail v }
     {
         self.search.value(v)
+    }
+
+    /// The literals that are true, oldest first, each with the clause that forced it where one did.
+    pub fn trail(&self) -> &[Assigned]
+        ensures { result.now ≡ self.now.state.trail }
+    {
+        self.search.entries()
     }
 
     /// Whether memory was wanting once. A spoilt solver stays as it is.
@@ -201,84 +209,5 @@ impl<C: Chooser> Solver<C> {
             return Err(Memory);
         }
         self.run(conflicts)
-    }
-}
-
-#[cfg(test)]
-mod tests {
-    use super::*;
-    use crate::cases::VECTOR;
-    use crate::tests::{formula_of, report_of};
-    use clause_base::chooser::PlainChooser;
-    use std::process::Abort;
-    use std::test::Fail;
-
-    /// The events of the run on the four clauses, and after each the literals on the trail, oldest first.
-    const EVENTS: &str =
-        "decide 1; trail 1\nforce 2 by 0; trail 1 2\nconflict in 1; trail\nforce 0 by 4; trail 0\nforce 4 by 2; trail 0 4\nconflict in 3; refuted\n";
-
-    /// How the run ends, with its log.
-    const END: &str = "standing refuted\nconflicts 2\nlearn 0 by 0 1\nlearn by 4 2 3\n";
-
-    /// An event in words.
-    fn event_text(alloc: Global, event: &Event) -> Result<String, Fail> {
-        Ok(match event {
-            Event::Conflict(number) => format!(in alloc; "conflict in {number}")?,
-            Event::Force(lit, number) => format!(in alloc; "force {} by {number}", lit.0)?,
-            Event::Decide(lit) => format!(in alloc; "decide {}", lit.0)?,
-            Event::Finish => format!(in alloc; "finish")?,
-        })
-    }
-
-    /// Writes the literals on a solver's trail, unless it is refuted.
-    fn write_trail(
-        alloc: Global,
-        text: &mut String,
-        solver: &Solver<PlainChooser>,
-    ) -> Result<(), Fail> {
-        if !solver.is_going() {
-            text.push_str("; refuted\n")?;
-            return Ok(());
-        }
-        text.push_str("; trail")?;
-        for entry in solver.search.entries() {
-            text.push_str(format!(in alloc; " {}", entry.literal.0)?.as_str())?;
-        }
-        text.push_str("\n")?;
-        Ok(())
-    }
-
-    /// Applies the next event, and gives it.
-    fn step(rt: &impl Abort, solver: &mut Solver<PlainChooser>) -> Result<Event, Fail> {
-        assert!(rt; !solver.is_spoilt() && solver.is_going() && solver.conflicts() < 1000);
-        let event = solver.event();
-        solver.apply(event)?;
-        Ok(event)
-    }
-
-    /// Applies the next events, and writes each with the trail after it.
-    fn events_text(
-        rt: &impl Abort,
-        alloc: Global,
-        solver: &mut Solver<PlainChooser>,
-        count: u32,
-    ) -> Result<String, Fail> {
-        let mut text = String::new(alloc);
-        for _ in 0..count {
-            let event = step(rt, solver)?;
-            text.push_str(event_text(alloc, &event)?.as_str())?;
-            write_trail(alloc, &mut text, solver)?;
-        }
-        Ok(text)
-    }
-
-    #[test]
-    fn four_clauses_are_refuted_event_by_event(rt: HostRuntime) -> Result<(), Fail> {
-        let formula = formula_of(&rt, rt.alloc(), 3, VECTOR)?;
-        let mut solver = Solver::new(rt.alloc(), formula, PlainChooser::new())?;
-        let events = events_text(&rt, rt.alloc(), &mut solver, 6)?;
-        assert_eq!(rt; events.as_str(), EVENTS);
-        assert_eq!(rt; report_of(rt.alloc(), &solver)?.as_str(), END);
-        Ok(())
     }
 }

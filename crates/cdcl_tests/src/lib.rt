@@ -2,4 +2,8 @@
 #![tactic(auto)]
 
 #[cfg(test)]
+mod formulas;
+#[cfg(test)]
+mod four_clauses;
+#[cfg(test)]
 mod pigeons;

@@ -1,8 +1,8 @@
 //! Eight pigeons in seven holes, a formula on which the solver restarts and drops clauses: variable `7p + h` says that pigeon p
 //! sits in hole h.
+use crate::formulas::add;
 use cdcl_core::solver::Solver;
 use clause_base::chooser::PlainChooser;
-use clause_base::clause::Clause;
 use clause_base::formula::Formula;
 use clause_base::literal::Lit;
 use clause_base::log::{Entry, Log};
@@ -21,14 +21,6 @@ const CONFLICTS: u32 = 300;
 /// The literal that a pigeon sits in a hole, or that it does not.
 fn sits(pigeon: u32, hole: u32, value: bool) -> Lit {
     Lit::of((HOLES * (pigeon % PIGEONS) + hole % HOLES) % 1000, value)
-}
-
-/// Adds the clause of these literals.
-fn add(rt: &impl Abort, alloc: Global, formula: &mut Formula, lits: &[Lit]) -> Result<(), Fail> {
-    let clause = Clause::of(alloc, lits)?.ok_or("a pair")?;
-    assert!(rt; formula.has_room() && clause.fits(formula.variables()));
-    formula.add(clause)?;
-    Ok(())
 }
 
 /// No two pigeons sit in a hole.

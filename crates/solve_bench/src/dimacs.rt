@@ -35,13 +35,16 @@ fn literal_of(word: &[u8]) -> Option<Lit> {
     Some(Lit::of(number - 1, value))
 }
 
-/// How many variables a line says that there are, if it is the line that does.
-fn variables_of(line: &[u8]) -> Option<u32> {
-    let mut words = line.split(|byte| *byte == b' ');
-    if words.next() != Some(b"p".as_slice()) || words.next() != Some(b"cnf".as_slice()) {
-        return None;
-    }
-    number_of(words.next()?)
+/// The number after the first words of a line, if it begins with these.
+fn number_after(words: &[u8], line: &[u8]) -> Option<u32> {
+    let rest = line.strip_prefix(words)?;
+    number_of(rest.split(|byte| *byte == b' ').next()?)
+}
+
+/// How many conflicts a text allows: the first number after `c conflicts` at the head of a line.
+pub fn conflicts_of(text: &[u8]) -> Option<u32> {
+    text.split(|byte| *byte == b'\n')
+        .find_map(|line| number_after(b"c conflicts ", line))
 }
 
 /// Adds the clause of a line, if it is one that fits.
@@ -76,7 +79,7 @@ pub fn formula_of(alloc: Global, text: &[u8]) -> Result<Option<Formula>, Memory>
             if !line.is_empty() && line[0] != b'c' {
                 add_line(alloc, formula, &mut lits, line)?;
             }
-        } else if let Some(variables) = variables_of(line) {
+        } else if let Some(variables) = number_after(b"p cnf ", line) {
             if variables <= MOST_VARIABLES {
                 formula = Some(Formula::new(alloc, 0, variables));
             }

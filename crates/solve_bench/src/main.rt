@@ -1,10 +1,13 @@
 //! Runs the solver with the plain chooser on a formula in the DIMACS form, for at most so many conflicts, and prints how it
-//! stands, its conflicts and its log. Without words it runs on a small formula. `bench/solve` times it beside another solver.
+//! stands, its conflicts and its log. `bench/solve` times it beside another solver.
+//!
+//! Without words it reads formulas from its input, each ended by a `%` and with a line `c conflicts NUMBER`. It runs each in one
+//! go, and in pieces of 1 and of 7 conflicts, and says whether these come to the same.
 #![tactic(auto)]
 
 mod dimacs;
 
-use crate::dimacs::formula_of;
+use crate::dimacs::{conflicts_of, formula_of};
 use cdcl_core::Standing;
 use cdcl_core::solver::Solver;
 use clause_base::chooser::PlainChooser;
@@ -17,11 +20,11 @@ use std::alloc::Global;
 use std::io::{BufWriter, Write};
 use std::{env, fs, io};
 
-/// Two clauses over one variable that no assignment makes true.
-const SMALL: &str = "p cnf 1 2\n1 0\n-1 0\n";
-
 /// How many conflicts are handled at most where no word says.
 const FEW: u32 = 1000;
+
+/// The most conflicts of a run.
+const MOST: u32 = 1_000_000;
 
 /// Writes a space and a number.
 fn write_number(out: &mut (impl Write + Drop), number: u32) -> io::Result<()> {
@@ -67,36 +70,105 @@ fn write_run(out: &mut (impl Write + Drop), solver: &Solver<PlainChooser>) -> io
     write_log(out, solver.log())
 }
 
-/// The solver of a formula after at most so many conflicts.
-fn solved(alloc: Global, formula: Formula, conflicts: u32) -> Result<Solver<PlainChooser>, Memory> {
-    let mut solver = Solver::new(alloc, formula, PlainChooser::new())?;
-    solver.advance(conflicts.min(1_000_000))?;
-    Ok(solver)
+/// Goes on for so many conflicts, unless there were too many.
+fn go_on(solver: &mut Solver<PlainChooser>, conflicts: u32) -> Result<(), Memory> {
+    if solver.conflicts() <= u64::from(MOST) {
+        solver.advance(conflicts.min(MOST))?;
+    }
+    Ok(())
 }
 
-/// Solves the formula of a text, and prints the run.
-fn run(rt: &(impl Print + AllocGlobal), text: &[u8], conflicts: u32) -> io::Result<()> {
-    let alloc = rt.alloc();
-    let Ok(Some(formula)) = formula_of(alloc, text) else {
-        return println!(rt; "no formula");
+/// Goes on for so many conflicts in pieces: first for none, then for a piece each time, of which the last may be shorter.
+fn go_on_in_pieces(
+    solver: &mut Solver<PlainChooser>,
+    conflicts: u32,
+    piece: u32,
+) -> Result<(), Memory> {
+    let mut left = conflicts;
+    go_on(solver, 0)?;
+    for _ in 0..conflicts {
+        let next = left.min(piece);
+        go_on(solver, next)?;
+        left -= next;
+    }
+    Ok(())
+}
+
+/// The solver of a text's formula after at most so many conflicts, in one go or in pieces of so many; none where the text has no
+/// formula.
+fn solved(
+    alloc: Global,
+    text: &[u8],
+    conflicts: u32,
+    piece: Option<u32>,
+) -> Result<Option<Solver<PlainChooser>>, Memory> {
+    let Some(formula) = formula_of(alloc, text)? else {
+        return Ok(None);
     };
-    let Ok(solver) = solved(alloc, formula, conflicts) else {
-        return println!(rt; "want of memory");
-    };
-    let mut out = BufWriter::new(alloc, io::writer(rt))?;
-    write_run(&mut out, &solver)?;
-    out.flush()
+    let mut solver = Solver::new(alloc, formula, PlainChooser::new())?;
+    match piece {
+        None => go_on(&mut solver, conflicts)?,
+        Some(piece) => go_on_in_pieces(&mut solver, conflicts, piece)?,
+    }
+    Ok(Some(solver))
+}
+
+/// How the run of a text's formula ends, in words.
+fn report(alloc: Global, text: &[u8], conflicts: u32, piece: Option<u32>) -> io::Result<Vec<u8>> {
+    let mut out = Vec::new(alloc);
+    match solved(alloc, text, conflicts, piece) {
+        Ok(Some(solver)) => write_run(&mut out, &solver)?,
+        Ok(None) => writeln!(&mut out, "no formula")?,
+        Err(Memory) => writeln!(&mut out, "want of memory")?,
+    }
+    Ok(out)
+}
+
+/// Runs a text's formula in one go and in pieces, and writes how the first ends, and the others where they end otherwise.
+fn run_in_pieces(
+    alloc: Global,
+    text: &[u8],
+    conflicts: u32,
+    out: &mut (impl Write + Drop),
+) -> io::Result<()> {
+    let whole = report(alloc, text, conflicts, None)?;
+    out.write_all(whole.as_slice())?;
+    for piece in [1, 7] {
+        let cut = report(alloc, text, conflicts, Some(piece))?;
+        if cut.as_slice() == whole.as_slice() {
+            writeln!(out, "in pieces of {piece}: the same")?;
+        } else {
+            writeln!(out, "in pieces of {piece}:")?;
+            out.write_all(cut.as_slice())?;
+        }
+    }
+    Ok(())
+}
+
+/// Runs each of the formulas of a text, each ended by a `%`.
+fn run_all(alloc: Global, text: &[u8], out: &mut (impl Write + Drop)) -> io::Result<()> {
+    for part in text.split(|byte| *byte == b'%') {
+        if let Some(conflicts) = conflicts_of(part) {
+            run_in_pieces(alloc, part, conflicts, out)?;
+        }
+    }
+    Ok(())
 }
 
 fn main(rt: HostRuntime) -> io::Result<()> {
+    let alloc = rt.alloc();
+    let mut out = BufWriter::new(alloc, io::writer(&rt))?;
     let mut words = env::args(&rt)?.skip(1);
     let Some(path) = words.next() else {
-        return run(&rt, SMALL.as_bytes(), FEW);
+        let text = io::read_to_string(alloc, rt.reader())?;
+        run_all(alloc, text.as_bytes(), &mut out)?;
+        return out.flush();
     };
     let conflicts = match words.next() {
         None => FEW,
         Some(word) => word.as_str().parse::<u32>().unwrap_or(FEW),
     };
     let text = fs::read(&rt, path.as_str())?;
-    run(&rt, text.as_slice(), conflicts)
+    out.write_all(report(alloc, text.as_slice(), conflicts, None)?.as_slice())?;
+    out.flush()
 }
