@@ -142,6 +142,14 @@ passed_word xs ys from place r bits z below j f h = by (below_or j (64 * place))
         let same : 64 * place + (j - 64 * place) ≡ j = omega (arith, l) in
         ap (differs xs ys) (sym same) ∙ sym (bits (j - 64 * place) (omega (arith, h, l))) ∙ ap (λ (w : ℕ). word_has w (j - 64 * place)) z ∙ zero_has (j - 64 * place)
 
+-- nor of more words
+pub passed_more : (xs ys : Known) (from upto end : ℕ) → ((j : ℕ) → from ≤ j → j < upto → differs xs ys j ≡ false) → ((j : ℕ) → upto ≤ j → j < end → differs xs ys j ≡ false) → (j : ℕ) → from ≤ j → j < end → differs xs ys j ≡ false
+passed_more xs ys from upto end a b j f h = by (below_or j upto)
+  where
+    by : (j < upto) ⊎ (upto ≤ j) → differs xs ys j ≡ false
+    by (inl l) = a j f l
+    by (inr l) = b j l h
+
 reach : (from v : ℕ) → from ≤ v → nat_le from v ≡ true
 reach from v h = grind (arith, nat_tests)
 

@@ -30,6 +30,9 @@ impl Model for Values {
     ghost invariant = { λ v. AreRows v.variables v.low v.given.items v.trues.items };
 }
 
+/// How many words are compared at a time.
+const WORDS: usize = 8;
+
 /// Whether a bit is set.
 fn has_bit(words: &[u64], number: u32) -> bool
     requires { number < 64 * length words.now }
@@ -68,6 +71,8 @@ fn differing(given: u64, trues: u64, others_given: u64, others_trues: u64) -> u6
 }
 
 impl Values {
+    ghost use Rattle.std.specs.Bool.{OnFalse};
+
     /// Values of so many variables, none of them given.
     pub fn new(alloc: Global, variables: u32) -> Result<Values, Memory>
         requires { variables ≤ 2147483647 }
@@ -159,12 +164,43 @@ impl Values {
         )
     }
 
+    /// Whether these values and others differ at a variable of some words.
+    fn differ_in(&self, others: &Values, place: usize) -> bool
+        requires same { length others.now ≡ length self.now }
+        requires within { 64 * (place + 7) < length self.now }
+        ensures { OnFalse result ((v : ℕ) → 64 * place ≤ v → v < 64 * (place + 8) → differs self.now others.now v ≡ false) }
+    {
+        let _small = self.variables();
+        let mut all = 0;
+        for i in 0..WORDS {
+            all |= self.differing_at(others, place + i);
+        }
+        all != 0
+    }
+
+    /// A place, from a given one on, up to which these values and others are the same.
+    fn pass_same(&self, others: &Values, place: usize) -> usize
+        requires same { length others.now ≡ length self.now }
+        ensures behind { place ≤ result }
+        ensures passed { (v : ℕ) → 64 * place ≤ v → v < 64 * result → differs self.now others.now v ≡ false }
+    {
+        let mut near = place;
+        'passing: while near < self.given.len()
+            && WORDS <= self.given.len() - near
+            && !self.differ_in(others, near)
+        {
+            near += WORDS;
+        }
+        near
+    }
+
     /// The least variable, from the first one of a word on, at which these values and others differ.
     fn difference_from(&self, others: &Values, place: usize) -> Option<u32>
         requires same { length others.now ≡ length self.now }
         ensures { IsLeast (λ v. nat_le (64 * place) v && differs self.now others.now v) result }
     {
-        for i in place..self.given.len() {
+        let near = self.pass_same(others, place);
+        for i in near..self.given.len() {
             let word = self.differing_at(others, i);
             if word != 0 {
                 return Some(64 * (i as u32) + least_bit(word));
@@ -173,7 +209,7 @@ impl Values {
         None
     }
 
-    /// The least variable, from a given one on, at which these values and others differ. It compares 64 at a time.
+    /// The least variable, from a given one on, at which these values and others differ. It compares 512 at a time.
     pub fn first_difference(&self, others: &Values, from: u32) -> Option<u32>
         requires { length others.now ≡ length self.now }
         ensures { result ≡ first_difference from (drop from self.now) (drop from others.now) }

@@ -16,7 +16,7 @@ loop-i-preserved c =
 
 pub returns-then-word-ne0 : goal.returns-then-word-ne0
 returns-then-word-ne0 c =
-    found_in_word c.args.self.now c.args.others.now (64 * c.args.place) c.loop-i.i c.differing_at-word.result c.least_bit.result c.differing_at-word.ensures c.least_bit.ensures.small c.least_bit.ensures.least (omega (arith, c.loop-i.auto)) c.loop-i.invariant
+    found_in_word c.args.self.now c.args.others.now (64 * c.args.place) c.loop-i.i c.differing_at-word.result c.least_bit.result c.differing_at-word.ensures c.least_bit.ensures.small c.least_bit.ensures.least (omega (arith, c.loop-i.auto, c.pass_same-near.ensures.behind)) c.loop-i.invariant
 
 pub returns : goal.returns
 returns c =
