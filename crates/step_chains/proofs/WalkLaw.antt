@@ -57,6 +57,19 @@ count_next links i k seen next most is le = by (seen && k.reads) (link_count (se
     by true n h = omega (arith, h)
     by false n h = omega (arith, h)
 
+-- what a walk knows once it has taken a link
+pub record Walked (links : List Link) (i : ℕ) (k : Link) (seen : Bool) (next most after : ℕ) : Type 0 where
+  pub is : IsAt links i k
+  pub left : after ≡ readers (drop (i + 1) links)
+  pub count : (if seen && k.reads then next + 1 else next) + link_count (seen || k.takes) (drop (i + 1) links) ≤ most
+
+pub walked :
+    (links items : List Link) (i : ℕ) (d k : Link) (seen : Bool) (next most left after : ℕ) → items ≡ links → i < length items → k ≡ get_or items i d
+    → left ≡ readers (drop i links) → next + link_count seen (drop i links) ≤ most → (if k.reads then 1 else 0) + after ≡ left → Walked links i k seen next most after
+walked links items i d k seen next most left after e lt got are le f =
+    let is = at links items i d k e lt got in
+    record { is = is; left = left_next links i k left after is are f; count = count_next links i k seen next most is le }
+
 -- where a taker was seen and a reader is left, a variable is left
 pub variable_left : (ks : List Link) (seen : Bool) (next most left : ℕ) → seen ≡ true → next + link_count seen ks ≤ most → left ≡ readers ks → nat_lt 0 left ≡ true → next < most
 variable_left ks seen next most left s le e t =
