@@ -1,5 +1,5 @@
-//! A new clause that has a slot watches the two literals that are not false for longest along the trail. Wherever two of its literals are not
-//! false, these two are not, now and in each prefix of the trail.
+//! A new clause that has a slot watches the two literals that are not false for longest along the trail. Wherever two of its
+//! literals are not false, these two are not, now and in each prefix of the trail.
 ghost use Rattle.std.specs.Prelude.{◌≡◌, ℕ, ◌+◌, ◌*◌, ◌<◌, ◌≤◌, length, slice_index};
 ghost use Rattle.watch_chains.specs.Linked.{ArePairLoose};
 ghost use Rattle.watch_lists.specs.Added.{HasRoom, RestsWith, FreeWith, IsQuietBelow};

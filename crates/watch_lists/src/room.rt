@@ -1,4 +1,5 @@
-//! Room in each table for one more clause and one more slot. After want of memory a table may have it already, and nothing else has changed.
+//! Room in each table for one more clause and one more slot. After want of memory a table may have it already, and nothing else
+//! has changed.
 ghost use Rattle.std.specs.Prelude.{◌≡◌, ℕ, ◌+◌, ◌*◌, ◌<◌, ◌≤◌, Option, length, slice_index_or, OnOk};
 ghost use Rattle.number_bits.specs.Bits.{words_have};
 ghost use Rattle.watch_chains.specs.Linked.{IsLinked, note_of};
