@@ -5,3 +5,4 @@ pub mod Ranges
 pub mod Unread
 pub mod Kept
 pub mod Differences
+pub mod Supporting

@@ -1,5 +1,5 @@
 -- Sets of fact literals, and what the parts of a chooser keep.
-use Rattle.std.specs.Prelude.{◌≡◌, ℕ, ◌+◌, ◌*◌, ◌/◌, ◌<◌, ◌≤◌, List, [], true, length, nat_le, slice_index_or}
+use Rattle.std.specs.Prelude.{◌≡◌, ℕ, ◌+◌, ◌*◌, ◌/◌, ◌<◌, ◌≤◌, List, [], ◌∷◌, true, length, nat_le, slice_index_or}
 use Rattle.std.specs.List.{filter, range_with_len, AllByRecursion}
 use Rattle.gt_core.specs.Layout.{Layout}
 use Rattle.bit_rows.specs.Bits.{row_has, room}
@@ -41,3 +41,8 @@ pub record AreMeans (m : Means) : Type 0 where
   pub goal : AllByRecursion (λ l. l / 2 < m.layout.facts) m.goal
   pub long : length m.supporters ≡ 2 * m.layout.facts
   pub each : (l : ℕ) → AllByRecursion (IsWithin m.layout) (slice_index_or m.supporters l [])
+
+-- the variable of each supporter is at most that of each later one
+abbrev pub IsByVariable : List Supporter → Type 0
+IsByVariable [] = Unit {0}
+IsByVariable (s ∷ rest) = AllByRecursion (λ r. s.variable ≤ r.variable) rest × IsByVariable rest

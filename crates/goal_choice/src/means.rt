@@ -80,12 +80,12 @@ impl Means {
     }
 
     /// The supporters of a literal.
-    pub(crate) fn supporters(&self, lit: u32) -> &[Supporter]
+    pub(crate) fn supporters(&self, lit: u32) -> &Supporters
         requires { lit / 2 < self.now.layout.facts }
         ensures supporters { result.now ≡ slice_index_or self.now.supporters lit [] }
         ensures within { AllByRecursion (IsWithin self.now.layout) result.now }
     {
-        self.supporters[lit as usize].as_slice()
+        &self.supporters[lit as usize]
     }
 }
 

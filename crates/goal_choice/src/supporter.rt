@@ -1,10 +1,11 @@
 //! Effects by the fact literal that they make true.
 
-ghost use Rattle.std.specs.Prelude.{◌≡◌, ◌+◌, ◌<◌, ◌++◌, None, length, IfOk};
+ghost use Rattle.std.specs.Prelude.{◌≡◌, ◌+◌, ◌<◌, ◌++◌, ◌&&◌, None, nat_le, length, IfOk};
 ghost use Rattle.std.specs.Option.{option_copied};
 ghost use Rattle.std.specs.List.{AllByRecursion};
 ghost use Rattle.goal_choice.specs.Means.{variable_from};
 ghost use Rattle.goal_choice.specs.Walk.{has_value, least_with, lesser};
+ghost use Rattle.goal_choice.specs.Members.{IsByVariable};
 
 use clause_base::memory::Memory;
 use clause_base::values::Values;
@@ -57,19 +58,34 @@ impl Supporter {
     }
 }
 
-/// The supporters of one literal.
+/// Whether supporters that rise go on rising with a variable.
+fn is_next(rising: bool, greatest: u32, variable: u32) -> bool
+    ensures { result ≡ (rising && nat_le greatest variable) }
+{
+    rising && greatest <= variable
+}
+
+/// The supporters of one literal. Where it is known that each variable is at most the next one, as it mostly is, the first one
+/// that is looked for is the least.
 #[derive(Debug, Drop)]
 pub(crate) struct Supporters {
     items: Vec<Supporter>,
+    rising: bool,
+    greatest: u32,
 }
 
 impl Model for Supporters {
-    ghost use Rattle.std.specs.Prelude.{List};
+    ghost use Rattle.std.specs.Prelude.{List, ◌≤◌};
+    ghost use Rattle.std.specs.Bool.{OnTrue};
+    ghost use Rattle.std.specs.List.{AllByRecursion};
     ghost use Rattle.goal_choice.specs.Means.{Supporter};
+    ghost use Rattle.goal_choice.specs.Members.{IsByVariable};
 
     ghost Value = { List Supporter };
 
     ghost view = { λ s. s.items.items };
+
+    ghost invariant = { λ s. OnTrue s.rising (IsByVariable s.items.items × AllByRecursion (λ r. r.variable ≤ s.greatest) s.items.items) };
 }
 
 impl Supporters {
@@ -81,6 +97,8 @@ impl Supporters {
     {
         Supporters {
             items: Vec::new(alloc),
+            rising: true,
+            greatest: 0,
         }
     }
 
@@ -88,15 +106,28 @@ impl Supporters {
     pub(crate) fn push(&mut self, supporter: Supporter) -> Result<(), Memory>
         ensures { OnOk result (self.new ≡ self.old ++ supporter ∷ []) }
     {
+        let variable = supporter.variable();
         self.items.push(supporter)?;
+        self.rising = is_next(self.rising, self.greatest, variable);
+        self.greatest = variable;
         Ok(())
     }
 
-    /// All, lent.
-    pub(crate) fn as_slice(&self) -> &[Supporter]
-        ensures { result.now ≡ self.now }
+    /// Of those whose variable has a value in the step that begins at a variable, that with the least variable.
+    pub(crate) fn least_with<'a>(
+        &'a self,
+        values: &Values,
+        start: u32,
+        value: Option<bool>,
+    ) -> Option<&'a Supporter>
+        requires { AllByRecursion (λ s. variable_from start s < length values.now) self.now }
+        ensures { option_copied result ≡ least_with values.now value start self.now }
     {
-        self.items.as_slice()
+        if self.rising {
+            first_with(&self.items, values, start, value)
+        } else {
+            least_of_all(&self.items, values, start, value)
+        }
     }
 }
 
@@ -113,8 +144,28 @@ pub(crate) fn has_value(values: &Values, v: u32, value: Option<bool>) -> bool
     }
 }
 
+/// Of supporters by variable the first whose variable has a value in the step that begins at a variable.
+fn first_with<'a>(
+    supporters: &'a [Supporter],
+    values: &Values,
+    start: u32,
+    value: Option<bool>,
+) -> Option<&'a Supporter>
+    requires within { AllByRecursion (λ s. variable_from start s < length values.now) supporters.now }
+    requires rising { IsByVariable supporters.now }
+    ensures { option_copied result ≡ least_with values.now value start supporters.now }
+{
+    let _small = values.variables();
+    for supporter in supporters {
+        if has_value(values, start + supporter.variable(), value) {
+            return Some(supporter);
+        }
+    }
+    None
+}
+
 /// Of the supporters whose variable has a value in the step that begins at a variable, that with the least variable.
-pub(crate) fn least_with<'a>(
+fn least_of_all<'a>(
     supporters: &'a [Supporter],
     values: &Values,
     start: u32,

@@ -6,7 +6,7 @@ ghost use Rattle.goal_choice.specs.Walk.{is_false_at, wish_of};
 ghost use Rattle.goal_choice.specs.Wishes.{meaning, WantsWithin};
 
 use crate::means::Means;
-use crate::supporter::{has_value, least_with};
+use crate::supporter::has_value;
 use clause_base::literal::Lit;
 use clause_base::values::Values;
 
@@ -44,13 +44,13 @@ pub(crate) fn wish_for<'a>(means: &'a Means, values: &Values, step: u32, lit: u3
 {
     let start = means.layout().step_start(step);
     let supporters = means.supporters(lit);
-    if let Some(supporter) = least_with(supporters, values, start, Some(true)) {
+    if let Some(supporter) = supporters.least_with(values, start, Some(true)) {
         return Wish::Want(supporter.needs());
     }
     if !is_false_at(means, values, step, lit) {
         return Wish::Keep;
     }
-    match least_with(supporters, values, start, None) {
+    match supporters.least_with(values, start, None) {
         None => Wish::Keep,
         Some(supporter) => Wish::Choose(Lit::of(start + supporter.variable(), true)),
     }
