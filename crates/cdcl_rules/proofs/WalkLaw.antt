@@ -2,6 +2,7 @@ use Rattle.std.proofs.Common.{arith, ◌≡◌, ◌==◌, ℕ, List, [], ◌∷�
 use Rattle.std.specs.List.{slice_get, AllByRecursion}
 use Rattle.std.proofs.lemmas.Bool.Decides.{nat_tests}
 use Rattle.clause_base.specs.Literal.{opposite}
+pub use Rattle.literal_codes.proofs.CodeLaw.{opposite_twice}
 use Rattle.clause_base.specs.Clause.{IsRising}
 use Rattle.clause_base.specs.Derivation.{leads_to_conflict}
 use Rattle.cdcl_rules.specs.declared.trail.Assigned.{Assigned}
@@ -11,9 +12,6 @@ use Rattle.cdcl_rules.specs.Learn.{resolvent, walk, current, Learned, learned}
 use Rattle.cdcl_rules.proofs.Tests.{or_split, or_none, and_split, not_split, not_true, apart, same_test, test_same}
 use Rattle.cdcl_rules.proofs.Members.{is_in}
 use Rattle.cdcl_rules.proofs.Chain.{IsFresh, Chain, chain_resolved, chain_leads, is_in-resolvent, is_in-push}
-
-pub opposite_twice : (l : ℕ) → opposite (opposite l) ≡ l
-opposite_twice l = grind (arith, nat_tests)
 
 -- what the walk keeps, over the entries that are left
 pub record IsWalk (named : ℕ → Option (List ℕ)) (entries : List Assigned) (i : ℕ) (c : Learned) : Type 0 where

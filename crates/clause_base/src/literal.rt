@@ -1,6 +1,7 @@
 ghost use Rattle.std.specs.Prelude.{◌≡◌, ℕ, ◌+◌, ◌*◌, ◌/◌, ◌%◌, ◌≤◌, ◌==◌};
 ghost use Rattle.clause_base.specs.Literal.{literal_of, opposite};
 
+use literal_codes::opposite;
 use std::marker::Model;
 
 /// A literal by its code: `2v` is variable v, and `2v + 1` its negation. Variables are numbered from 0.
@@ -47,11 +48,7 @@ impl Lit {
     pub fn opposite(self) -> Lit
         ensures { result ≡ opposite self }
     {
-        if self.is_positive() {
-            Lit(self.0 + 1)
-        } else {
-            Lit(self.0 - 1)
-        }
+        Lit(opposite(self.0))
     }
 }
 

@@ -1,16 +1,11 @@
 use Rattle.std.proofs.Common.{arith, zero, suc, ◌≡◌, ◌==◌, ℕ, ◌+◌, ◌-◌, ◌*◌, ◌/◌, ◌%◌, ◌<◌, ◌≤◌, List, [], ◌∷◌, ◌++◌, Bool, true, false, not, refl, sym, subst, if◌then◌else◌, ◌⊎◌, inl, inr}
 use Rattle.std.proofs.lemmas.Bool.Decides.{nat_tests}
 use Rattle.gt_core.specs.Literal.{opposite, holds, is_in, range, range_from}
+pub use Rattle.literal_codes.proofs.CodeLaw.{opposite_twice, opposite_holds}
 use Rattle.gt_core.proofs.Pairwise.{among_left, among_right}
 use Rattle.gt_core.proofs.Basics.{Among, passing, any_at, or_split, or_left, or_right, same_test, test_same, apart}
 
 -- Literals, and numbers in lists.
-
-pub opposite_holds : (s : ℕ → Bool) (l : ℕ) → holds s (opposite l) ≡ not (holds s l)
-opposite_holds s l = grind (arith, nat_tests)
-
-pub opposite_twice : (l : ℕ) → opposite (opposite l) ≡ l
-opposite_twice l = grind (arith, nat_tests)
 
 pub holds_add : (s : ℕ → Bool) (f : ℕ) → holds s (2 * f) ≡ s f
 holds_add s f = let d : (2 * f) / 2 ≡ f = omega arith in let m : ((2 * f) % 2 == 0) ≡ true = grind (arith, nat_tests) in rw (m, d)

@@ -1,21 +1,12 @@
-use Rattle.std.specs.Prelude.{ℕ, zero, suc, ◌+◌, ◌-◌, ◌/◌, ◌%◌, ◌==◌, List, [], ◌∷◌, Bool, false, not, if◌then◌else◌, unwrap_or, slice_get}
+use Rattle.std.specs.Prelude.{ℕ, zero, suc, ◌+◌, ◌==◌, List, [], ◌∷◌, Bool, false, unwrap_or, slice_get}
 use Rattle.std.specs.List.{list_any, list_all}
-
--- Fact literal 2f says that fact f is true, 2f + 1 that it is false.
-
--- the literal that says the contrary
-abbrev pub opposite : ℕ → ℕ
-opposite l = if l % 2 == 0 then l + 1 else l - 1
+pub use Rattle.literal_codes.specs.Codes.{opposite, holds}
 
 -- a number stands in a list
 abbrev pub is_in : List ℕ → ℕ → Bool
 is_in xs x = list_any (λ y. y == x) xs
 
 -- A state says of each fact whether it is true.
-
--- a literal holds in a state
-abbrev pub holds : (ℕ → Bool) → ℕ → Bool
-holds s l = if l % 2 == 0 then s (l / 2) else not (s (l / 2))
 
 -- each of these literals holds in a state
 abbrev pub all_hold : (ℕ → Bool) → List ℕ → Bool

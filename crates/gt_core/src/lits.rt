@@ -1,5 +1,6 @@
 //! Fact literals, and truth values of facts.
 
+pub use literal_codes::opposite;
 use std::marker::Model;
 
 /// Fact literals: `2f` says that fact f is true, `2f + 1` that it is false.
@@ -78,14 +79,4 @@ impl Bits {
     {
         self.items.as_slice()
     }
-}
-
-ghost use Rattle.std.specs.Prelude.{◌≡◌};
-ghost use Rattle.gt_core.specs.Literal.{opposite};
-
-/// The literal that says the contrary.
-pub fn opposite(lit: u32) -> u32
-    ensures { result ≡ opposite lit }
-{
-    if lit % 2 == 0 { lit + 1 } else { lit - 1 }
 }

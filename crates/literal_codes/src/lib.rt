@@ -1,0 +1,12 @@
+//! Literals by their codes: of number k, `2k` says that it is true and `2k + 1` that it is false. Numbers are those of the
+//! variables of a formula, or of the facts of a task.
+#![tactic(auto)]
+ghost use Rattle.std.specs.Prelude.{◌≡◌};
+ghost use Rattle.literal_codes.specs.Codes.{opposite};
+
+/// The literal that says the contrary.
+pub fn opposite(code: u32) -> u32
+    ensures { result ≡ opposite code }
+{
+    if code % 2 == 0 { code + 1 } else { code - 1 }
+}
