@@ -11,18 +11,10 @@ use Rattle.action_order.specs.Graph.{leads, class_at, item}
 use Rattle.action_order.specs.Sorting.{list_at, is_taken, IsTakenNext, AreTaken, IsTopologicalOrder, IsReadyName, Waits, IsSorting, AreNamedComponents}
 use Rattle.action_order.specs.KeySet.{IsFirst, IsWith}
 use Rattle.action_order.proofs.Lists.{in_push, in_push_new, in_push_old}
+use Rattle.std.proofs.lemmas.List.{length-replicate}
+use Rattle.equal_items.proofs.Made.{get_or-replicate_default}
 
 -- What each move of the sorting keeps.
-
-length-replicate : {A : Type 0} (n : ℕ) (x : A) → length (replicate n x) ≡ n
-length-replicate zero x = refl
-length-replicate (suc n) x = let h = length-replicate n x in omega arith
-
--- what stands in a list of one value, read with this value past its end
-get_or-replicate_default : {A : Type 0} (n : ℕ) (x : A) (k : ℕ) → slice_index_or (replicate n x) k x ≡ x
-get_or-replicate_default zero x k = refl
-get_or-replicate_default (suc n) x zero = refl
-get_or-replicate_default (suc n) x (suc k) = get_or-replicate_default n x k
 
 module _ (rows : List (List ℕ)) (names classes : List ℕ) where
   -- a component that is taken need not be looked at

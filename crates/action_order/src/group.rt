@@ -6,17 +6,20 @@ ghost use Rattle.action_order.specs.Graph.{class_at};
 ghost use Rattle.action_order.specs.Group.{members, listed};
 
 use crate::numbers::ActNumbers;
+use equal_items::items_of;
 use std::alloc::{AllocError, Global};
 
 /// So many empty lists.
 pub fn empty_groups(alloc: Global, count: usize) -> Result<Vec<ActNumbers>, AllocError>
     ensures { IfOk result (λ groups. groups.items ≡ replicate count []) }
 {
-    let mut groups = Vec::new(alloc);
-    while groups.len() < count {
-        groups.push(ActNumbers::of(Vec::new(alloc)))?;
-    }
-    Ok(groups)
+    items_of(
+        alloc,
+        count,
+        move ||
+            ensures { result ≡ [] }
+        { ActNumbers::of(Vec::new(alloc)) },
+    )
 }
 
 /// The members of each component, by its number.

@@ -3,6 +3,7 @@
 use crate::word::{
     common, from_bit, has_bit, has_pair_across, least_bit, united, with_bit, without, without_bit,
 };
+use equal_items::items_of;
 use std::alloc::{AllocError, Global};
 use std::marker::Model;
 
@@ -188,11 +189,13 @@ pub fn empty_rows(alloc: Global, count: usize) -> Result<Vec<BitRow>, AllocError
     ensures long { IfOk result (λ rows. length rows.items ≡ count) }
     ensures none { IfOk result (λ rows. (j k : ℕ) → row_has (slice_index_or rows.items j []) k ≡ false) }
 {
-    let mut rows = Vec::new(alloc);
-    for _i in 0..count {
-        rows.push(BitRow::new(alloc))?;
-    }
-    Ok(rows)
+    items_of(
+        alloc,
+        count,
+        move ||
+            ensures { result ≡ [] }
+        { BitRow::new(alloc) },
+    )
 }
 
 /// Appends words without bits until there are so many.

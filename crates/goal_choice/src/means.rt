@@ -13,6 +13,7 @@ ghost use Rattle.goal_choice.specs.Members.{IsWithin};
 
 use crate::supporter::{Supporter, Supporters};
 use clause_base::memory::Memory;
+use equal_items::items_of;
 use gt_core::eff::Eff;
 use gt_core::layout::Layout;
 use gt_core::task::Task;
@@ -93,11 +94,11 @@ impl Means {
 fn empty_lists(alloc: Global, count: usize) -> Result<Vec<Supporters>, Memory>
     ensures { IfOk result (λ lists. lists.items ≡ replicate count []) }
 {
-    let mut lists = Vec::with_capacity(alloc, count)?;
-    'filling: while lists.len() < count {
-        lists.push(Supporters::new(alloc))?;
-    }
-    Ok(lists)
+    Ok(items_of(alloc, count, move ||
+        ensures { result ≡ [] }
+    {
+        Supporters::new(alloc)
+    })?)
 }
 
 /// The number of the next conditional effect after an effect.

@@ -12,6 +12,7 @@ ghost use Rattle.step_chains.specs.Index.{Marks, AreTouched};
 use crate::link::{Link, Links};
 use bit_rows::row::BitRow;
 use clause_base::memory::Memory;
+use equal_items::items_of;
 use gt_core::eff::Eff;
 use gt_core::lits::opposite;
 use gt_core::task::Task;
@@ -50,11 +51,11 @@ pub(crate) fn literals(task: &Task) -> u32
 fn empty_lists(alloc: Global, count: usize) -> Result<Vec<Links>, Memory>
     ensures { IfOk result (λ lists. lists.items ≡ replicate count []) }
 {
-    let mut lists = Vec::with_capacity(alloc, count)?;
-    while lists.len() < count {
-        lists.push(Links::new(alloc))?;
-    }
-    Ok(lists)
+    Ok(items_of(alloc, count, move ||
+        ensures { result ≡ [] }
+    {
+        Links::new(alloc)
+    })?)
 }
 
 /// The least number of a row that is at least `from`, or `end` if there is none below it.

@@ -58,11 +58,11 @@ impl Makers {
 fn empty_makers(alloc: Global, count: usize) -> Result<Vec<Makers>, Memory>
     ensures { IfOk result (λ makers. makers.items ≡ replicate count []) }
 {
-    let mut makers = Vec::with_capacity(alloc, count)?;
-    while makers.len() < count {
-        makers.push(Makers::new(alloc))?;
-    }
-    Ok(makers)
+    Ok(items_of(alloc, count, move ||
+        ensures { result ≡ [] }
+    {
+        Makers::new(alloc)
+    })?)
 }
 
 /// Puts the variable of an effect under its literal.

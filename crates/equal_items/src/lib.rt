@@ -1,0 +1,19 @@
+//! Vectors of so many items, each made alike.
+#![tactic(auto)]
+ghost use Rattle.std.specs.Prelude.{◌≡◌, replicate, IfOk};
+
+use std::alloc::{AllocError, Global};
+
+/// So many items, each made by one call.
+pub fn items_of<T: Drop, F: FnMut() -> T>(
+    alloc: Global,
+    count: usize,
+    make: F,
+) -> Result<Vec<T>, AllocError>
+    requires { F.IsAlwaysCallable make }
+    ensures { (item : _) → ((before : F) (made : _) (after : F) → F.step before made after → made ≡ item) → IfOk result (λ items. items.items ≡ replicate count item) }
+{
+    let mut items = Vec::new(alloc);
+    items.resize_with(count, make)?;
+    Ok(items)
+}
