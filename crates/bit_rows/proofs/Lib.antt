@@ -1,2 +1,2 @@
-pub mod WordLaw
+pub mod PairLaw
 pub mod RowLaw

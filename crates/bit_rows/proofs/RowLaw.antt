@@ -1,6 +1,6 @@
 use Rattle.std.proofs.Common.{arith, ◌≡◌, ◌≢◌, ℕ, ◌+◌, ◌/◌, ◌%◌, ◌<◌, ◌≤◌, List, length, get_or, Bool, false, ◌&&◌, sym, ap, ◌∙◌, ◌⊎◌, inl, inr}
 use Rattle.bit_rows.specs.Bits.{word_has, row_has}
-use Rattle.bit_rows.proofs.WordLaw.{zero_has}
+use Rattle.word_bits.proofs.WordLaw.{zero_has}
 
 -- Rows, word by word.
 

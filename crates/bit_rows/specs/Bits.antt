@@ -1,9 +1,5 @@
 use Rattle.std.specs.Prelude.{◌≡◌, ℕ, ◌+◌, ◌*◌, ◌/◌, ◌%◌, ◌<◌, ◌≤◌, ◌==◌, List, Bool, true, false, Option, Some, None, length, slice_index}
-use Rattle.std.specs.Int.{bit_at}
-
--- a word has a bit
-abbrev pub word_has : ℕ → ℕ → Bool
-word_has w k = bit_at w k == 1
+pub use Rattle.word_bits.specs.Words.{word_has, IsPairAcross}
 
 -- A set of numbers is a row of words, 64 numbers to a word.
 
@@ -19,11 +15,6 @@ room row = 64 * length row
 abbrev pub IsLeastFrom : (ℕ → Bool) → ℕ → Option ℕ → Type 0
 IsLeastFrom p low None = (k : ℕ) → low ≤ k → p k ≡ false
 IsLeastFrom p low (Some k) = (low ≤ k) × (p k ≡ true) × ((j : ℕ) → low ≤ j → j < k → p j ≡ false)
-
--- whether an even number passes one test and the next one another
-abbrev pub IsPairAcross : (ℕ → Bool) → (ℕ → Bool) → Bool → Type 0
-IsPairAcross p q true = (f : ℕ) × (p (2 * f) ≡ true) × (q (2 * f + 1) ≡ true)
-IsPairAcross p q false = (f : ℕ) → p (2 * f) ≡ true → q (2 * f + 1) ≡ true → ⊥
 
 -- whether an even number and the next one both pass a test
 abbrev pub IsPairTest : (ℕ → Bool) → Bool → Type 0

@@ -1,11 +1,11 @@
 //! Rows of bits.
 
-use crate::word::{
-    common, from_bit, has_bit, has_pair_across, least_bit, united, with_bit, without, without_bit,
-};
 use equal_items::items_of;
 use std::alloc::{AllocError, Global};
 use std::marker::Model;
+use word_bits::{
+    common, from_bit, has_bit, has_pair_across, least_bit, united, with_bit, without, without_bit,
+};
 
 /// A set of numbers below 2^32, a bit for each number up to the greatest for which there is room. A new row has no
 /// room; room comes with the numbers that are put in.

@@ -9,6 +9,7 @@ use Rattle.std.proofs.lemmas.Option.{slice_get-get_or}
 use Rattle.std.proofs.lemmas.Bool.{and_parts, not-true}
 use Rattle.std.proofs.lemmas.Bool.Decides.{nat_tests}
 use Rattle.std.proofs.lemmas.Nat.Bits.{bit_at-zero}
+use Rattle.word_bits.proofs.WordLaw.{zero_has}
 use Rattle.number_bits.specs.Bits.{word_has, words_have, IsLeast}
 use Rattle.clause_base.specs.Choice.{Known, least_open_from, least_open, same_value, first_difference, plain_choice_from}
 use Rattle.clause_base.specs.Literal.{literal_of}
@@ -87,9 +88,6 @@ values-set n v given trues new_given new_trues x h e d = set_in (value_at given 
 none_in : (f : ℕ → Option Bool) (s n : ℕ) → ((k : ℕ) → f k ≡ None) → map f (range_with_len s n) ≡ replicate n None
 none_in f s zero h = refl
 none_in f s (suc n) h = ap (λ (y : Option Bool). y ∷ map f (range_with_len (s + 1) n)) (h s) ∙ ap (λ (ys : Known). None ∷ ys) (none_in f (s + 1) n h)
-
-pub zero_has : (k : ℕ) → word_has 0 k ≡ false
-zero_has k = ap (λ (b : ℕ). b == 1) (bit_at-zero k)
 
 length_zeros : (m : ℕ) → length {A = ℕ} (replicate m 0) ≡ m
 length_zeros zero = refl

@@ -8,10 +8,11 @@ use Rattle.std.proofs.lemmas.Bool.Decides.{nat_tests}
 use Rattle.std.proofs.lemmas.List.{get_or_default}
 use Rattle.std.proofs.lemmas.Nat.{shr-shr}
 use Rattle.std.proofs.lemmas.Nat.Bits.{shr_and_one, bit_at_above, bit_at-lt, bit_at_and, bit_at_or, bit_at_xor, bit_at_not}
+use Rattle.word_bits.proofs.WordLaw.{zero_has, or_has, and_has, not_has}
 use Rattle.number_bits.specs.Bits.{word_has, words_have, IsLeast}
 use Rattle.clause_base.specs.Choice.{Known, same_value}
 use Rattle.clause_base.specs.ValueBits.{value_in, values_of, AreGivenBelow, AreRows, differs}
-use Rattle.clause_base.proofs.ValueLemmas.{zero_has, values-at, not_false, below_or}
+use Rattle.clause_base.proofs.ValueLemmas.{values-at, not_false, below_or}
 
 -- a bit by the word that is shifted down to it
 pub bit_by_shift : (w k : ℕ) → (bit_and (w / 2 ^ k) 1 == 1) ≡ word_has w k
@@ -32,26 +33,8 @@ unlike_bits (suc zero) (suc zero) h k = refl
 unlike_bits x (suc (suc y)) h k = absurd (omega arith)
 unlike_bits (suc (suc x)) y h k = absurd (omega arith)
 
-either_bit : (x y : ℕ) → x < 2 → y < 2 → (max x y == 1) ≡ ((x == 1) || (y == 1))
-either_bit x y a b = grind (arith, nat_tests)
-
-both_bits : (x y : ℕ) → x < 2 → y < 2 → (min x y == 1) ≡ ((x == 1) && (y == 1))
-both_bits x y a b = grind (arith, nat_tests)
-
-other_bit : (x : ℕ) → x < 2 → (1 - x == 1) ≡ not (x == 1)
-other_bit x a = grind (arith, nat_tests)
-
 xor_has : (a b k : ℕ) → word_has (bit_xor a b) k ≡ unlike (word_has a k) (word_has b k)
 xor_has a b k = ap (λ (n : ℕ). n == 1) (bit_at_xor a b k) ∙ unlike_bits (bit_at a k) (bit_at b k) (bit_at-lt a k) (bit_at-lt b k)
-
-and_has : (a b k : ℕ) → word_has (bit_and a b) k ≡ (word_has a k && word_has b k)
-and_has a b k = ap (λ (n : ℕ). n == 1) (bit_at_and a b k) ∙ both_bits (bit_at a k) (bit_at b k) (bit_at-lt a k) (bit_at-lt b k)
-
-or_has : (a b k : ℕ) → word_has (bit_or a b) k ≡ (word_has a k || word_has b k)
-or_has a b k = ap (λ (n : ℕ). n == 1) (bit_at_or a b k) ∙ either_bit (bit_at a k) (bit_at b k) (bit_at-lt a k) (bit_at-lt b k)
-
-clear_has : (w k : ℕ) → w < 2 ^ 64 → k < 64 → word_has (2 ^ 64 - 1 - w) k ≡ not (word_has w k)
-clear_has w k f l = ap (λ (n : ℕ). n == 1) (bit_at_not w64 w k f l) ∙ other_bit (bit_at w k) (bit_at-lt w k)
 
 differ_by : (a b c d : Bool) → (unlike a c || (unlike b d && a)) ≡ not (same_value (if a then Some b else None) (if c then Some d else None))
 differ_by true true true true = refl
@@ -114,7 +97,7 @@ given_word words place f z below v h = by (below_or v (64 * place))
     by (inr l) =
         let here : v / 64 ≡ place = omega (arith, h, l) in
         ap (λ (p : ℕ). word_has (get_or words p 0) (v % 64)) here
-        ∙ not_false _ (sym (clear_has (get_or words place 0) (v % 64) f (omega arith)) ∙ ap (λ (w : ℕ). word_has w (v % 64)) z ∙ zero_has (v % 64))
+        ∙ not_false _ (sym (not_has (get_or words place 0) (v % 64) f (omega arith)) ∙ ap (λ (w : ℕ). word_has w (v % 64)) z ∙ zero_has (v % 64))
 
 -- the variables below the least bit of the opposite have values, and that one has none
 pub given_to_bit : (words : List ℕ) (place bit : ℕ) → get_or words place 0 < 2 ^ 64 → bit < 64 → IsLeast (word_has (2 ^ 64 - 1 - get_or words place 0)) (Some bit) → AreGivenBelow (64 * place) words → AreGivenBelow (64 * place + bit) words
@@ -125,12 +108,12 @@ given_to_bit words place bit f b least below v h = by (below_or v (64 * place))
     by (inr l) =
         let here : v / 64 ≡ place = omega (arith, h, l, b) in
         ap (λ (p : ℕ). word_has (get_or words p 0) (v % 64)) here
-        ∙ not_false _ (sym (clear_has (get_or words place 0) (v % 64) f (omega arith)) ∙ least.1 (v % 64) (omega (arith, h, l, b)))
+        ∙ not_false _ (sym (not_has (get_or words place 0) (v % 64) f (omega arith)) ∙ least.1 (v % 64) (omega (arith, h, l, b)))
 
 pub clear_at_bit : (words : List ℕ) (place bit : ℕ) → get_or words place 0 < 2 ^ 64 → bit < 64 → word_has (2 ^ 64 - 1 - get_or words place 0) bit ≡ true → words_have words (64 * place + bit) ≡ false
 clear_at_bit words place bit f b e =
     let same : words_have words (64 * place + bit) ≡ word_has (get_or words place 0) bit = ap (λ (p : ℕ). word_has (get_or words p 0) ((64 * place + bit) % 64)) (place_of place bit b) ∙ ap (word_has (get_or words place 0)) (bit_of place bit b) in
-    same ∙ not-true _ (sym (clear_has (get_or words place 0) bit f b) ∙ e)
+    same ∙ not-true _ (sym (not_has (get_or words place 0) bit f b) ∙ e)
 
 -- of a word without bits no variable differs
 pub passed_word : (xs ys : Known) (from place r : ℕ) → ((k : ℕ) → k < 64 → word_has r k ≡ differs xs ys (64 * place + k)) → r ≡ 0 → ((j : ℕ) → from ≤ j → j < 64 * place → differs xs ys j ≡ false) → (j : ℕ) → from ≤ j → j < 64 * (place + 1) → differs xs ys j ≡ false

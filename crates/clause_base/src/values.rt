@@ -5,9 +5,9 @@ ghost use Rattle.clause_base.specs.ValueBits.{value_in, AreGivenBelow, differs};
 
 use crate::memory::Memory;
 use number_bits::flat::{clear_bit, set_bit};
-use number_bits::word::least_bit;
 use std::alloc::Global;
 use std::marker::Model;
+use word_bits::least_bit;
 
 /// For each of at most 2,147,483,647 variables true, false or not given. They are kept as bits, 64 variables to a word: which
 /// have a value, and which are true. What the second row has of a variable without a value says nothing.

@@ -94,11 +94,13 @@ impl Means {
 fn empty_lists(alloc: Global, count: usize) -> Result<Vec<Supporters>, Memory>
     ensures { IfOk result (λ lists. lists.items ≡ replicate count []) }
 {
-    Ok(items_of(alloc, count, move ||
-        ensures { result ≡ [] }
-    {
-        Supporters::new(alloc)
-    })?)
+    Ok(items_of(
+        alloc,
+        count,
+        move ||
+            ensures { result ≡ [] }
+        { Supporters::new(alloc) },
+    )?)
 }
 
 /// The number of the next conditional effect after an effect.

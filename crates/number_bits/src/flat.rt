@@ -2,9 +2,9 @@ ghost use Rattle.std.specs.Prelude.{◌≡◌, ℕ, ◌<◌, ◌≤◌, ◌*◌,
 ghost use Rattle.number_bits.specs.Bits.{IsLeast, words_have};
 
 use crate::set::NumberSet;
-use crate::word::{least_bit, with_bit, without_bit};
 use std::alloc::{AllocError, Global};
 use std::marker::Model;
+use word_bits::{least_bit, with_bit, without_bit};
 
 /// Sets a bit, and tells whether its word was 0.
 pub fn set_bit(words: &mut Vec<u64>, number: u32) -> bool

@@ -3,9 +3,9 @@ ghost use Rattle.number_bits.specs.Bits.{IsLeast, words_have, LayerView, IsAbove
 
 use crate::flat::{clear_bit, set_bit};
 use crate::set::NumberSet;
-use crate::word::least_bit;
 use std::alloc::{AllocError, Global};
 use std::marker::Model;
+use word_bits::least_bit;
 
 /// A set with 64 times the room of the one above, which has the places of the words that are not 0.
 #[derive(Drop)]

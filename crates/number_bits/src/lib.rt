@@ -7,4 +7,3 @@
 pub mod flat;
 pub mod layer;
 pub mod set;
-pub mod word;

@@ -51,11 +51,13 @@ pub(crate) fn literals(task: &Task) -> u32
 fn empty_lists(alloc: Global, count: usize) -> Result<Vec<Links>, Memory>
     ensures { IfOk result (λ lists. lists.items ≡ replicate count []) }
 {
-    Ok(items_of(alloc, count, move ||
-        ensures { result ≡ [] }
-    {
-        Links::new(alloc)
-    })?)
+    Ok(items_of(
+        alloc,
+        count,
+        move ||
+            ensures { result ≡ [] }
+        { Links::new(alloc) },
+    )?)
 }
 
 /// The least number of a row that is at least `from`, or `end` if there is none below it.

@@ -9,6 +9,7 @@ ghost use Rattle.step_template.specs.Rows.{row_of, rows_of, made, IsIndex};
 use crate::numbers::{Place, effect_variable, number_after};
 use clause_base::literal::Lit;
 use clause_base::memory::Memory;
+use equal_items::items_of;
 use gt_core::eff::Eff;
 use gt_core::layout::Layout;
 use gt_core::task::Task;
@@ -58,11 +59,13 @@ impl Makers {
 fn empty_makers(alloc: Global, count: usize) -> Result<Vec<Makers>, Memory>
     ensures { IfOk result (λ makers. makers.items ≡ replicate count []) }
 {
-    Ok(items_of(alloc, count, move ||
-        ensures { result ≡ [] }
-    {
-        Makers::new(alloc)
-    })?)
+    Ok(items_of(
+        alloc,
+        count,
+        move ||
+            ensures { result ≡ [] }
+        { Makers::new(alloc) },
+    )?)
 }
 
 /// Puts the variable of an effect under its literal.

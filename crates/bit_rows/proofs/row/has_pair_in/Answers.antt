@@ -1,5 +1,5 @@
 use Rattle.std.proofs.Common.{refl}
-use Rattle.bit_rows.proofs.WordLaw.{pair_in_rows, no_pair_more}
+use Rattle.bit_rows.proofs.PairLaw.{pair_in_rows, no_pair_more}
 use Rattle.bit_rows.proofs.row.has_pair_in.Goals as goal
 
 pub loop-i-preserved : goal.loop-i-preserved

@@ -1,4 +1,4 @@
-use Rattle.bit_rows.proofs.WordLaw.{NoPairBelow}
+use Rattle.bit_rows.proofs.PairLaw.{NoPairBelow}
 use Rattle.bit_rows.proofs.row.has_pair_in.Given as goal
 
 abbrev pub invariant-loop-i : goal.invariant-loop-i

@@ -1,5 +1,0 @@
-use Rattle.bit_rows.proofs.WordLaw.{and_has}
-use Rattle.bit_rows.proofs.word.common.Goals as goal
-
-pub returns : goal.returns
-returns c k = and_has c.args.word c.args.other k

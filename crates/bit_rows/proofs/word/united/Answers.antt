@@ -1,5 +1,0 @@
-use Rattle.bit_rows.proofs.WordLaw.{or_has}
-use Rattle.bit_rows.proofs.word.united.Goals as goal
-
-pub returns : goal.returns
-returns c k = or_has c.args.word c.args.other k

@@ -1,8 +1,0 @@
-use Rattle.bit_rows.proofs.WordLaw.{clear_same, clear_other}
-use Rattle.bit_rows.proofs.word.without_bit.Goals as goal
-
-pub returns-clause-same : goal.returns-clause-same
-returns-clause-same c = clear_same c.args.word c.args.bit c.requires
-
-pub returns-clause-others : goal.returns-clause-others
-returns-clause-others c = clear_other c.args.word c.args.bit c.requires c.ranges.word.fits
