@@ -2,4 +2,4 @@ use Rattle.std.proofs.Common.{of_calls, []}
 use Rattle.step_template.proofs.index.empty_makers.Goals as goal
 
 pub returns : goal.returns
-returns c = c.items_of.ensures [] (λ before made after called. search of_calls)
+returns c = c.in_ok-items_of.ensures [] (λ before made after called. search of_calls)
