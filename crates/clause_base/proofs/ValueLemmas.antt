@@ -8,7 +8,6 @@ use Rattle.std.proofs.lemmas.List.FromFn.{length-map-range_with_len, get_or-map-
 use Rattle.std.proofs.lemmas.Option.{slice_get-get_or}
 use Rattle.std.proofs.lemmas.Bool.{and_parts, not-true}
 use Rattle.std.proofs.lemmas.Bool.Decides.{nat_tests}
-use Rattle.std.proofs.lemmas.Nat.Bits.{bit_at-zero}
 use Rattle.word_bits.proofs.WordLaw.{zero_has}
 use Rattle.number_bits.specs.Bits.{word_has, words_have, IsLeast}
 use Rattle.clause_base.specs.Choice.{Known, least_open_from, least_open, same_value, first_difference, plain_choice_from}
@@ -29,6 +28,24 @@ length-values n given trues = length-map-range_with_len (value_at given trues) 0
 -- of a model as many
 pub length-view : (n : ℕ) (given trues : List ℕ) (now : Known) → values_of n given trues ≡ now → length now ≡ n
 length-view n given trues now v = ap (λ (values : Known). length values) (sym v) ∙ length-values n given trues
+
+-- a variable has its place in both rows
+pub variable_below : (n v : ℕ) (given trues : List ℕ) (now : Known) → values_of n given trues ≡ now → v < length now → v < n
+variable_below n v given trues now is within = let long = length-view n given trues now is in omega (arith, long, within)
+
+pub variable_room : (n low v : ℕ) (given trues : List ℕ) (now : Known) → AreRows n low given trues → values_of n given trues ≡ now → v < length now → v < 64 * length given
+variable_room n low v given trues now rows is within =
+    let long = length-view n given trues now is in
+    let room = rows.room in
+    omega (arith, long, room, within)
+
+-- and so have 64 at once
+pub word_room : (n low place : ℕ) (given trues : List ℕ) (now : Known) → AreRows n low given trues → values_of n given trues ≡ now → 64 * place < length now → (place < length given) × (place < length trues)
+word_room n low place given trues now rows is within =
+    let long = length-view n given trues now is in
+    let room = rows.room in
+    let same = rows.same in
+    (omega (arith, long, room, within), omega (arith, long, room, same, within))
 
 zero_plus : (v : ℕ) → 0 + v ≡ v
 zero_plus v = omega arith

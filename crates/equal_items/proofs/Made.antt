@@ -4,7 +4,7 @@ use Rattle.std.specs.Prelude.{replicate, slice_index_or}
 use Rattle.std.specs.List.{FoldsTo}
 
 pub made_alike : {F X : Type 0} (step : F → X → F → Type 0) (item : X) → ((before : F) (made : X) (after : F) → step before made after → made ≡ item)
-  → (first last : F) (xs : List X) → FoldsTo step first xs last → xs ≡ replicate (length xs) item
+    → (first last : F) (xs : List X) → FoldsTo step first xs last → xs ≡ replicate (length xs) item
 made_alike step item alike first last [] folds = refl
 made_alike step item alike first last (x ∷ xs) folds =
     let head : x ≡ item = alike first x folds.0 folds.1 in

@@ -8,5 +8,5 @@ ghost use Rattle.literal_codes.specs.Codes.{opposite};
 pub fn opposite(code: u32) -> u32
     ensures { result ≡ opposite code }
 {
-    if code % 2 == 0 { code + 1 } else { code - 1 }
+    code ^ 1
 }

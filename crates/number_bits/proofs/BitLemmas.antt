@@ -1,7 +1,5 @@
-use Rattle.std.proofs.Common.{arith, ◌≡◌, ◌==◌, ℕ, zero, suc, ◌+◌, ◌-◌, ◌*◌, ◌/◌, ◌%◌, ◌^◌, ◌<◌, ◌≤◌, List, [], ◌∷◌, get_or, ◌++◌, Bool, true, false, not, refl, sym, ap, ◌∙◌, w64, bit_and, bit_or, ◌⊎◌, inl, inr, Some}
-use Rattle.std.specs.Int.{bit_at}
+use Rattle.std.proofs.Common.{arith, ◌≡◌, ◌==◌, ℕ, zero, suc, ◌+◌, ◌*◌, ◌/◌, ◌%◌, ◌<◌, ◌≤◌, List, [], ◌∷◌, get_or, ◌++◌, Bool, true, false, not, refl, sym, ap, ◌∙◌, ◌⊎◌, inl, inr, Some}
 use Rattle.std.proofs.lemmas.Bool.Decides.{nat_tests}
-use Rattle.std.proofs.lemmas.Nat.Bits.{bit_at_set_same, bit_at_set_other, bit_at_clear_same, bit_at_clear_other, bit_at-zero, bit_at_above, bit_at_and}
 use Rattle.word_bits.proofs.WordLaw.{zero_has}
 use Rattle.number_bits.specs.Bits.{word_has, words_have, IsLeast, IsAbove}
 

@@ -1,5 +1,6 @@
 //! The bits of one word, counted from the least.
 #![tactic(auto)]
+
 ghost use Rattle.std.specs.Prelude.{◌≡◌, ℕ, ◌<◌, ◌==◌, ◌&&◌, ◌||◌, not, true, false, nat_le, Some};
 ghost use Rattle.word_bits.specs.Words.{word_has, IsLeast, IsPairAcross};
 

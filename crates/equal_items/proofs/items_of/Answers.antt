@@ -1,4 +1,4 @@
-use Rattle.std.proofs.Common.{rules, ◌≡◌, ◌++◌, [], replicate, length, sym, ap, ◌∙◌}
+use Rattle.std.proofs.Common.{rules, ◌≡◌, replicate, length, sym, ap, ◌∙◌}
 use Rattle.equal_items.proofs.Made.{made_alike}
 use Rattle.equal_items.proofs.items_of.Goals as goal
 

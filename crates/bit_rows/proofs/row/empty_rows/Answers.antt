@@ -1,5 +1,5 @@
 use Rattle.std.specs.Prelude.{slice_index_or}
-use Rattle.std.proofs.Common.{rules, of_calls, List, ◌≡◌, ℕ, [], false, length, replicate, IfOk, ap, ◌∙◌}
+use Rattle.std.proofs.Common.{rules, of_calls, List, ◌≡◌, ℕ, [], false, length, ap, ◌∙◌}
 use Rattle.std.proofs.lemmas.List.{length-replicate}
 use Rattle.std.proofs.lemmas.Result.{IfOk-weaker}
 use Rattle.equal_items.proofs.Made.{get_or-replicate_default}

@@ -1,4 +1,4 @@
-use Rattle.std.proofs.Common.{arith, ◌<◌, ◌+◌, ◌*◌, length}
+use Rattle.std.proofs.Common.{arith, ◌<◌, length}
 use Rattle.clause_base.proofs.ValueLemmas.{length-view}
 use Rattle.clause_base.proofs.values.Values.pass_same.Goals as goal
 
