@@ -1,6 +1,7 @@
 //! Literals by their codes: of number k, `2k` says that it is true and `2k + 1` that it is false. Numbers are those of the
 //! variables of a formula, or of the facts of a task.
 #![tactic(auto)]
+
 ghost use Rattle.std.specs.Prelude.{◌≡◌};
 ghost use Rattle.literal_codes.specs.Codes.{opposite};
 
