@@ -140,6 +140,7 @@ own_insert set set' n h = let t : (n == n) ≡ true = grind (arith, nat_tests) i
 pub record Beside (cl : List (List ℕ)) (wa : List Watched) (node other beside : ℕ) : Type 0 where
   pub place : other ≡ place_in (get_or wa (node / 2) no_watches) (not (node % 2 == 1))
   pub has : has_literal (clause_at cl (node / 2)) beside ≡ true
+  pub inside : other < length (clause_at cl (node / 2))
 
 pub beside_of : (cl : List (List ℕ)) (wa : List Watched) (node other : ℕ) (w : Watched) (xs : List ℕ) (l beside : ℕ) → IsPlaced cl wa → IsReal cl node → w ≡ get_or wa (node / 2) w → other ≡ place_in w (not (node % 2 == 1)) → xs ≡ clause_at cl (node / 2) → l ≡ get_or xs other l → beside ≡ l → Beside cl wa node other beside
 beside_of cl wa node other w xs l beside m real rw0 ro rx rl rb =
@@ -150,7 +151,7 @@ beside_of cl wa node other w xs l beside m real rw0 ro rx rl rb =
     let lx = ap (λ (ys : List ℕ). length ys) rx in
     let g : l ≡ get_or xs other 0 = get_or_read xs other l (omega (arith, j, lx)) rl 0 in
     let e : beside ≡ get_or (clause_at cl (node / 2)) other 0 = rb ∙ g ∙ ap (λ (ys : List ℕ). get_or ys other 0) rx in
-    record { place = p; has = ap (λ (x : ℕ). has_literal (clause_at cl (node / 2)) x) e ∙ has_get (clause_at cl (node / 2)) other j }
+    record { place = p; has = ap (λ (x : ℕ). has_literal (clause_at cl (node / 2)) x) e ∙ has_get (clause_at cl (node / 2)) other j; inside = j }
 
 some_same : (a b : ℕ) → Some a ≡ Some b → a ≡ b
 some_same a b e = cc

@@ -1,5 +1,8 @@
-use Rattle.std.proofs.Common.{arith, ◌≡◌, ◌*◌, ◌∙◌}
+use Rattle.std.proofs.Common.{arith, ◌≡◌, ◌*◌, ◌∙◌, get_or, false, sym, ap, inl}
 use Rattle.std.proofs.lemmas.List.{get_or_read}
+use Rattle.clause_base.specs.Clause.{has_literal}
+use Rattle.watch_lists.specs.Pending.{is_free}
+use Rattle.watch_lists.proofs.Asks.{false_past, false_after}
 use Rattle.watch_lists.proofs.Enters.{IsEntered, rests_long, free_long, quiet_long}
 use Rattle.watch_lists.proofs.visit.Lists.enter_long.Goals as goal
 
@@ -71,3 +74,16 @@ returns-clause-quiet c =
       others = c.link_two.ensures.others;
     } in
     quiet_long c.args.clause.now c.args.slot c.args.truth.now.trail c.args.self.now.watched.items (record { first = c.latest-first.result; second = c.latest-second.result; from = 0 }) c.args.self.now.chains.heads.items c.args.self.now.chains.nodes.items c.link_two.new.self.heads.items c.link_two.new.self.nodes.items c.a.inside.0 c.b.inside.0 c.free_until.result e c.free_until.ensures.lasts
+
+pub returns-clause-asked : goal.returns-clause-asked
+returns-clause-asked c h =
+    let k = c.args.clause.now in
+    let trail = c.args.truth.now.trail in
+    let first_is : c.a.inside.0 ≡ get_or k c.latest-first.result 0 = c.a.view_is ∙ get_or_read k c.latest-first.result c.index-clause-first.result c.latest-first.ensures.inside c.index-clause-first.is 0 in
+    let second_is : c.b.inside.0 ≡ get_or k c.latest-second.result 0 = c.b.view_is ∙ get_or_read k c.latest-second.result c.index-clause-second.result c.latest-second.ensures.inside c.index-clause-second.is 0 in
+    let off : is_free (has_literal trail) (get_or k c.latest-second.result 0) ≡ false = ap (is_free (has_literal trail)) (sym second_is) ∙ false_past trail c.b.inside.0 c.free_until.result c.free_until.ensures.lasts h in
+    record {
+      place = c.latest-first.result;
+      others = λ p g ne. false_after trail (get_or k c.latest-second.result 0) (get_or k p 0) (c.latest-second.ensures.most p g ne) off;
+      own = inl (c.latest-first.ensures.inside, sym first_is);
+    }

@@ -4,10 +4,12 @@ use Rattle.clause_base.specs.Clause.{has_literal}
 use Rattle.number_bits.specs.Bits.{words_have}
 use Rattle.watch_lists.specs.declared.visit.Watched.{Watched}
 use Rattle.watch_lists.specs.Pending.{is_free}
+use Rattle.watch_lists.specs.Asking.{IsAsked}
 use Rattle.watch_lists.specs.Visit.{no_watches, clause_at, place_in, slot_clauses, slot_flags, slot_set, Grows, Stays}
 use Rattle.watch_lists.proofs.Filters.{settled_true, settled_one}
 use Rattle.watch_lists.proofs.Visits.{has_below, listed_link, moves_own, others_stay, own_moved, placed_moved, beside_of, settled_grows, grows_insert, own_insert}
-use Rattle.watch_lists.proofs.Slotted.{fit_slots, slots_long}
+use Rattle.watch_lists.proofs.Slotted.{fit_slots, slot_at, slots_long}
+use Rattle.watch_lists.proofs.Asks.{asked_insert}
 use Rattle.watch_lists.proofs.visit.Lists.visit.Goals as goal
 
 pub is_true-requires : goal.is_true-requires
@@ -51,7 +53,7 @@ returns-then-is_true-clause-listed c =
     let cl = slot_clauses c.args.store.now c.args.slots.now in
     let wa = c.args.self.now.watched.items in
     let on = has_literal c.args.truth.now.trail in
-    let s = slot_set (words_have c.args.self.now.pending.words) c.args.slots.now in
+    let s = slot_set (words_have c.args.self.now.asking.set.words) c.args.slots.now in
     let r = c.requires.listed.0 in
     let W = Stays cl wa on s c.args.code in
     let h = ap (λ (x : ℕ). has_literal (clause_at cl (c.args.node / 2)) x) c.note-note.ensures ∙ r.notes c.args.node c.requires.real in
@@ -65,7 +67,7 @@ returns-then-is_true-2-clause-listed c =
     let cl = slot_clauses c.args.store.now c.args.slots.now in
     let wa = c.args.self.now.watched.items in
     let on = has_literal c.args.truth.now.trail in
-    let s = slot_set (words_have c.args.self.now.pending.words) c.args.slots.now in
+    let s = slot_set (words_have c.args.self.now.asking.set.words) c.args.slots.now in
     let r = c.requires.listed.0 in
     let W = Stays cl wa on s c.args.code in
     let b = beside_of cl wa c.args.node c.at-other.result c.index.result.now c.slot_clause-clause.result.now c.index-clause-other.result c.lit.inside.0 r.placed c.requires.real c.index.ensures c.at-other.ensures c.slot_clause-clause.ensures c.index-clause-other.is c.lit.view_is in
@@ -76,13 +78,13 @@ returns-then-is_true-2-clause-listed c =
 
 pub returns-in-None-clause-listed : goal.returns-in-None-clause-listed
 returns-in-None-clause-listed c =
-    let grown : Grows (slot_set (words_have c.args.self.now.pending.words) c.args.slots.now) (slot_set (words_have c.insert.new.self.words) c.args.slots.now) = (λ k h. grows_insert (words_have c.args.self.now.pending.words) (words_have c.insert.new.self.words) (get_or c.args.slots.now (c.args.node / 2) 0) c.insert.ensures.has (get_or c.args.slots.now k 0) h) in
-    let own = own_insert (words_have c.args.self.now.pending.words) (words_have c.insert.new.self.words) (get_or c.args.slots.now (c.args.node / 2) 0) c.insert.ensures.has in
+    let grown : Grows (slot_set (words_have c.args.self.now.asking.set.words) c.args.slots.now) (slot_set (words_have c.insert.new.self.set.words) c.args.slots.now) = (λ k h. grows_insert (words_have c.args.self.now.asking.set.words) (words_have c.insert.new.self.set.words) (get_or c.args.slots.now (c.args.node / 2) 0) c.insert.ensures.has (get_or c.args.slots.now k 0) h) in
+    let own = own_insert (words_have c.args.self.now.asking.set.words) (words_have c.insert.new.self.set.words) (get_or c.args.slots.now (c.args.node / 2) 0) c.insert.ensures.has in
     let cl = slot_clauses c.args.store.now c.args.slots.now in
     let wa = c.args.self.now.watched.items in
     let on = has_literal c.args.truth.now.trail in
-    let s = slot_set (words_have c.args.self.now.pending.words) c.args.slots.now in
-    let s' = slot_set (words_have c.insert.new.self.words) c.args.slots.now in
+    let s = slot_set (words_have c.args.self.now.asking.set.words) c.args.slots.now in
+    let s' = slot_set (words_have c.insert.new.self.set.words) c.args.slots.now in
     let r = c.requires.listed.0 in
     let W = Stays cl wa on s c.args.code in
     let W' = Stays cl wa on s' c.args.code in
@@ -100,7 +102,7 @@ returns-in-Some-clause-listed c =
     let w' = c.moved.result in
     let wa' = set wa (c.args.node / 2) w' in
     let on = has_literal c.args.truth.now.trail in
-    let s = slot_set (words_have c.args.self.now.pending.words) c.args.slots.now in
+    let s = slot_set (words_have c.args.self.now.asking.set.words) c.args.slots.now in
     let r = c.requires.listed.0 in
     let W = Stays cl wa on s c.args.code in
     let W' = Stays cl wa' on s c.args.code in
@@ -120,6 +122,28 @@ returns-in-Some-clause-listed c =
     c.link-in-Some.ensures.codes c.link-in-Some.ensures.nodes c.link-in-Some.ensures.own c.link-in-Some.ensures.others c.requires.real b.has (λ k q ne'. same k ne')
     (λ k q ne' w. (same k ne' ∙ w.0, w.1))
     (inl (found ∙ sym (own_moved cl wa w' c.args.node place below c.moved.ensures.own)))
+
+pub insert-requires-clause-room : goal.insert-requires-clause-room
+insert-requires-clause-room c =
+    omega (arith, c.requires.slotted (c.args.node / 2) (omega (arith, c.requires.real.below, slots_long c.args.store.now c.args.slots.now)), c.requires.long)
+
+pub returns-in-None-clause-asked : goal.returns-in-None-clause-asked
+returns-in-None-clause-asked c =
+    let store = c.args.store.now in
+    let slots = c.args.slots.now in
+    let cl = slot_clauses store slots in
+    let on = has_literal c.args.truth.now.trail in
+    let slot = c.args.node / 2 in
+    let inside : slot < length slots = omega (arith, c.requires.real.below, slots_long store slots) in
+    let at : c.slot_clause-clause.result.now ≡ clause_at store (get_or c.args.slots.now (c.args.node / 2) 0) = c.slot_clause-clause.ensures ∙ slot_at store slots slot inside in
+    let b = beside_of cl c.args.self.now.watched.items c.args.node c.at-other.result c.index.result.now c.slot_clause-clause.result.now c.index-clause-other.result c.lit.inside.0 c.requires.listed.0.placed c.requires.real c.index.ensures c.at-other.ensures c.slot_clause-clause.ensures c.index-clause-other.is c.lit.view_is in
+    let own : IsAsked on (clause_at store (get_or c.args.slots.now (c.args.node / 2) 0)) c.lit.inside.0 = subst (λ (xs : List ℕ). IsAsked on xs c.lit.inside.0) at (record {
+      place = c.at-other.result;
+      others = c.in-None.ensures.none;
+      own = inl (omega (arith, b.inside, ap (λ (xs : List ℕ). length xs) c.slot_clause-clause.ensures), sym (ap (λ (x : ℕ). x) c.lit.view_is ∙ get_or_read c.slot_clause-clause.result.now c.at-other.result c.index-clause-other.result (omega (arith, b.inside, ap (λ (xs : List ℕ). length xs) c.slot_clause-clause.ensures)) c.index-clause-other.is 0));
+    }) in
+    asked_insert store on c.args.self.now.asking.set.words c.insert.new.self.set.words c.args.self.now.asking.asks.items c.insert.new.self.asks.items (get_or c.args.slots.now (c.args.node / 2) 0) c.lit.inside.0 c.requires.asked
+    (omega (arith, c.requires.slotted slot inside)) (omega (arith, c.requires.slotted slot inside, c.requires.long)) own c.insert.ensures.has c.insert.ensures.asks
 
 pub returns-in-Some-clause-moves : goal.returns-in-Some-clause-moves
 returns-in-Some-clause-moves c =
