@@ -94,25 +94,19 @@ asked_fewer cl on words words' asks number a has k h = a k (by (k == number) (sy
     by false e = e
 
 -- a clause of two literals asks for the one beside the false one
-of_two : (on : ℕ → Bool) (a b : ℕ) → is_free on a ≡ false → IsAsked on (a ∷ b ∷ []) b
-of_two on a b f = record { place = 1; others = others; own = inl (omega arith, refl) }
+pub asked_beside : (on : ℕ → Bool) (k : List ℕ) (ask place other : ℕ) → length k ≡ 2 → place + other ≡ 1 → is_free on (get_or k other 0) ≡ false → get_or k place 0 ≡ ask → IsAsked on k ask
+asked_beside on k ask place other two one f e = record {
+  place = place;
+  others = λ p h ne. ap (λ (i : ℕ). is_free on (get_or k i 0)) (left p h ne) ∙ f;
+  own = inl (omega (arith, two, one), e);
+}
   where
-    others : (p : ℕ) → p < 2 → (p ≡ 1 → ⊥) → is_free on (get_or (a ∷ b ∷ []) p 0) ≡ false
-    others zero h ne = f
-    others (suc zero) h ne = absurd (ne refl)
-    others (suc (suc p)) h ne = absurd (omega (arith, h))
-
-back_of_two : (on : ℕ → Bool) (a b : ℕ) → is_free on b ≡ false → IsAsked on (a ∷ b ∷ []) a
-back_of_two on a b f = record { place = 0; others = others; own = inl (omega arith, refl) }
-  where
-    others : (p : ℕ) → p < 2 → (p ≡ 0 → ⊥) → is_free on (get_or (a ∷ b ∷ []) p 0) ≡ false
-    others zero h ne = absurd (ne refl)
-    others (suc zero) h ne = f
-    others (suc (suc p)) h ne = absurd (omega (arith, h))
+    left : (p : ℕ) → p < length k → (p ≡ place → ⊥) → p ≡ other
+    left p h ne = let n : p ≢ place = ne in omega (arith, h, two, one, n)
 
 pub pair_asked : (cl : List (List ℕ)) (on : ℕ → Bool) (fallen : ℕ) (p : Pair) → on (opposite fallen) ≡ true → IsPairOf cl fallen p → IsAsked on (clause_at cl p.number) p.other
-pair_asked cl on fallen p f (inl e) = subst (λ (xs : List ℕ). IsAsked on xs p.other) (sym e) (of_two on fallen p.other (ap (λ (b : Bool). not b) f))
-pair_asked cl on fallen p f (inr e) = subst (λ (xs : List ℕ). IsAsked on xs p.other) (sym e) (back_of_two on p.other fallen (ap (λ (b : Bool). not b) f))
+pair_asked cl on fallen p f (inl e) = subst (λ (xs : List ℕ). IsAsked on xs p.other) (sym e) (asked_beside on (fallen ∷ p.other ∷ []) p.other 1 0 refl refl (ap (λ (b : Bool). not b) f) refl)
+pair_asked cl on fallen p f (inr e) = subst (λ (xs : List ℕ). IsAsked on xs p.other) (sym e) (asked_beside on (p.other ∷ fallen ∷ []) p.other 0 1 refl refl (ap (λ (b : Bool). not b) f) refl)
 
 -- trails on which no literal is true and false
 pub consistent_none : (trail : List ℕ) → trail ≡ [] → IsConsistent trail
@@ -155,23 +149,6 @@ consistent_push trail x c free l h = has-snoc trail x (opposite l) ∙ by (x == 
         clash : opposite x ≡ l → ⊥
         clash z = let w : true ≡ false = sym g ∙ ap (λ (y : ℕ). has_literal trail y) (sym z) ∙ free in let v : ⊥ = cc in v
     by false f false g e = absurd (let w : ⊥ = cc in w)
-
--- a clause of two literals of which one is false asks for the other
-pub asked_second : (on : ℕ → Bool) (k : List ℕ) (ask : ℕ) → length k ≡ 2 → is_free on (get_or k 0 0) ≡ false → get_or k 1 0 ≡ ask → IsAsked on k ask
-asked_second on k ask two f e = record { place = 1; others = λ p h ne. others p h ne; own = inl (omega (arith, two), e) }
-  where
-    others : (p : ℕ) → p < length k → (p ≡ 1 → ⊥) → is_free on (get_or k p 0) ≡ false
-    others zero h ne = f
-    others (suc zero) h ne = absurd (ne refl)
-    others (suc (suc p)) h ne = absurd (omega (arith, h, two))
-
-pub asked_first : (on : ℕ → Bool) (k : List ℕ) (ask : ℕ) → length k ≡ 2 → is_free on (get_or k 1 0) ≡ false → get_or k 0 0 ≡ ask → IsAsked on k ask
-asked_first on k ask two f e = record { place = 0; others = λ p h ne. others p h ne; own = inl (omega (arith, two), e) }
-  where
-    others : (p : ℕ) → p < length k → (p ≡ 0 → ⊥) → is_free on (get_or k p 0) ≡ false
-    others zero h ne = absurd (ne refl)
-    others (suc zero) h ne = f
-    others (suc (suc p)) h ne = absurd (omega (arith, h, two))
 
 -- a literal that is not false for less than the whole trail is false
 pub false_past : (trail : List ℕ) (l until : ℕ) → ((n : ℕ) → n ≤ length trail → is_free (has_literal (take n trail)) l ≡ leb n until) → until + 1 ≤ length trail → is_free (has_literal trail) l ≡ false

@@ -7,10 +7,14 @@ use Rattle.watch_lists.specs.Pending.{is_free}
 use Rattle.watch_lists.specs.Asking.{IsAsked}
 use Rattle.watch_lists.specs.Visit.{no_watches, clause_at, place_in, slot_clauses, slot_flags, slot_set, Grows, Stays}
 use Rattle.watch_lists.proofs.Filters.{settled_true, settled_one}
-use Rattle.watch_lists.proofs.Visits.{has_below, listed_link, moves_own, others_stay, own_moved, placed_moved, beside_of, settled_grows, grows_insert, own_insert}
+use Rattle.watch_lists.proofs.Visits.{has_below, listed_link, moves_own, others_stay, own_moved, placed_moved, Beside, beside_of, settled_grows, grows_insert, own_insert}
 use Rattle.watch_lists.proofs.Slotted.{fit_slots, slot_at, slots_long}
 use Rattle.watch_lists.proofs.Asks.{asked_insert}
 use Rattle.watch_lists.proofs.visit.Lists.visit.Goals as goal
+use Rattle.watch_lists.proofs.visit.Lists.visit.Goals.{After-lit}
+
+beside : (c : After-lit) → Beside (slot_clauses c.args.store.now c.args.slots.now) c.args.self.now.watched.items c.args.node c.at-other.result c.lit.inside.0
+beside c = beside_of (slot_clauses c.args.store.now c.args.slots.now) c.args.self.now.watched.items c.args.node c.at-other.result c.index.result.now c.slot_clause-clause.result.now c.index-clause-other.result c.lit.inside.0 c.requires.listed.0.placed c.requires.real c.index.ensures c.at-other.ensures c.slot_clause-clause.ensures c.index-clause-other.is c.lit.view_is
 
 pub is_true-requires : goal.is_true-requires
 is_true-requires c =
@@ -24,7 +28,7 @@ is_true-requires c =
 pub is_true-requires-2 : goal.is_true-requires-2
 is_true-requires-2 c =
     let cl = slot_clauses c.args.store.now c.args.slots.now in
-    let b = beside_of cl c.args.self.now.watched.items c.args.node c.at-other.result c.index.result.now c.slot_clause-clause.result.now c.index-clause-other.result c.lit.inside.0 c.requires.listed.0.placed c.requires.real c.index.ensures c.at-other.ensures c.slot_clause-clause.ensures c.index-clause-other.is c.lit.view_is in
+    let b = beside (goal.at.is_true-requires-2 c).After-lit in
     let l = has_below (clause_at cl (c.args.node / 2)) c.args.spare c.lit.inside.0 (λ p g. (fit_slots c.args.store.now c.args.slots.now c.args.spare c.requires.fit).below (c.args.node / 2) p g) b.has in
     omega (arith, l, c.requires.spare)
 
@@ -70,7 +74,7 @@ returns-then-is_true-2-clause-listed c =
     let s = slot_set (words_have c.args.self.now.asking.set.words) c.args.slots.now in
     let r = c.requires.listed.0 in
     let W = Stays cl wa on s c.args.code in
-    let b = beside_of cl wa c.args.node c.at-other.result c.index.result.now c.slot_clause-clause.result.now c.index-clause-other.result c.lit.inside.0 r.placed c.requires.real c.index.ensures c.at-other.ensures c.slot_clause-clause.ensures c.index-clause-other.is c.lit.view_is in
+    let b = beside (goal.at.returns-then-is_true-2-clause-listed c).After-lit in
     let t : on c.lit.inside.0 ≡ true = sym c.is_true-2.ensures ∙ c.if-is_true-2.true in
     listed_link cl wa wa c.args.self.now.chains.heads.items c.link-then-is_true-2.new.self.heads.items c.args.self.now.chains.nodes.items c.link-then-is_true-2.new.self.nodes.items c.args.spare (slot_flags c.args.kept.now c.args.slots.now) c.args.node c.args.spare c.lit.inside.0 W W r c.requires.listed.1
     (c.link-then-is_true-2.ensures.linked r.on r.linked c.requires.listed.1) r.placed c.link-then-is_true-2.ensures.codes c.link-then-is_true-2.ensures.nodes c.link-then-is_true-2.ensures.own c.link-then-is_true-2.ensures.others c.requires.real b.has (λ k q ne. refl) (λ k q ne w. w)
@@ -88,7 +92,7 @@ returns-in-None-clause-listed c =
     let r = c.requires.listed.0 in
     let W = Stays cl wa on s c.args.code in
     let W' = Stays cl wa on s' c.args.code in
-    let b = beside_of cl wa c.args.node c.at-other.result c.index.result.now c.slot_clause-clause.result.now c.index-clause-other.result c.lit.inside.0 r.placed c.requires.real c.index.ensures c.at-other.ensures c.slot_clause-clause.ensures c.index-clause-other.is c.lit.view_is in
+    let b = beside (goal.at.returns-in-None-clause-listed c).After-lit in
     let none = subst (λ (xs : List ℕ). (p : ℕ) → p < length xs → (p ≡ c.at-other.result → ⊥) → is_free on (get_or xs p 0) ≡ false) c.slot_clause-clause.ensures c.in-None.ensures.none in
     listed_link cl wa wa c.args.self.now.chains.heads.items c.link-in-None.new.self.heads.items c.args.self.now.chains.nodes.items c.link-in-None.new.self.nodes.items c.args.spare (slot_flags c.args.kept.now c.args.slots.now) c.args.node c.args.spare c.lit.inside.0 W W' r c.requires.listed.1
     (c.link-in-None.ensures.linked r.on r.linked c.requires.listed.1) r.placed c.link-in-None.ensures.codes c.link-in-None.ensures.nodes c.link-in-None.ensures.own c.link-in-None.ensures.others c.requires.real b.has (λ k q ne. refl)
@@ -106,7 +110,7 @@ returns-in-Some-clause-listed c =
     let r = c.requires.listed.0 in
     let W = Stays cl wa on s c.args.code in
     let W' = Stays cl wa' on s c.args.code in
-    let b = beside_of cl wa c.args.node c.at-other.result c.index.result.now c.slot_clause-clause.result.now c.index-clause-other.result c.lit.inside.0 r.placed c.requires.real c.index.ensures c.at-other.ensures c.slot_clause-clause.ensures c.index-clause-other.is c.lit.view_is in
+    let b = beside (goal.at.returns-in-Some-clause-listed c).After-lit in
     let below : c.args.node / 2 < length wa = omega (arith, c.requires.real.below, r.placed.many) in
     let v : c.index.result.now ≡ get_or wa (c.args.node / 2) no_watches = get_or_read wa (c.args.node / 2) c.index.result.now below c.index.ensures no_watches in
     let second = (c.args.node % 2 == 1) in
@@ -136,7 +140,7 @@ returns-in-None-clause-asked c =
     let slot = c.args.node / 2 in
     let inside : slot < length slots = omega (arith, c.requires.real.below, slots_long store slots) in
     let at : c.slot_clause-clause.result.now ≡ clause_at store (get_or c.args.slots.now (c.args.node / 2) 0) = c.slot_clause-clause.ensures ∙ slot_at store slots slot inside in
-    let b = beside_of cl c.args.self.now.watched.items c.args.node c.at-other.result c.index.result.now c.slot_clause-clause.result.now c.index-clause-other.result c.lit.inside.0 c.requires.listed.0.placed c.requires.real c.index.ensures c.at-other.ensures c.slot_clause-clause.ensures c.index-clause-other.is c.lit.view_is in
+    let b = beside (goal.at.returns-in-None-clause-asked c).After-lit in
     let own : IsAsked on (clause_at store (get_or c.args.slots.now (c.args.node / 2) 0)) c.lit.inside.0 = subst (λ (xs : List ℕ). IsAsked on xs c.lit.inside.0) at (record {
       place = c.at-other.result;
       others = c.in-None.ensures.none;
