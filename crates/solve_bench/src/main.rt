@@ -30,14 +30,15 @@ const FEW: u32 = 1000;
 const MOST: u32 = 1_000_000;
 
 /// Writes a space and a number.
-fn write_number(out: &mut (impl Write + Drop), number: u32) -> io::Result<()> {
+fn write_number(out: &mut Vec<u8>, number: u32) -> io::Result<()> {
     let mut digits = Buffer::new();
-    out.write_all(b" ")?;
-    out.write_all(digits.format(number).as_bytes())
+    out.push(b' ')?;
+    out.extend_from_slice(digits.format(number).as_bytes())?;
+    Ok(())
 }
 
 /// Writes the line of a learned clause.
-fn write_learned(out: &mut (impl Write + Drop), clause: &Clause, hints: &Hints) -> io::Result<()> {
+fn write_learned(out: &mut Vec<u8>, clause: &Clause, hints: &Hints) -> io::Result<()> {
     write!(out, "learn")?;
     for lit in clause.as_slice() {
         write_number(out, lit.0)?;
@@ -50,7 +51,7 @@ fn write_learned(out: &mut (impl Write + Drop), clause: &Clause, hints: &Hints) 
 }
 
 /// Writes a log, an entry a line.
-fn write_log(out: &mut (impl Write + Drop), log: &Log) -> io::Result<()> {
+fn write_log(out: &mut Vec<u8>, log: &Log) -> io::Result<()> {
     for entry in log.as_slice() {
         match entry {
             Entry::Learn { clause, hints } => write_learned(out, clause, hints)?,
@@ -61,7 +62,7 @@ fn write_log(out: &mut (impl Write + Drop), log: &Log) -> io::Result<()> {
 }
 
 /// Writes how a solver stands, its conflicts and its log.
-fn write_run(out: &mut (impl Write + Drop), solver: &Solver<PlainChooser>) -> io::Result<()> {
+fn write_run(out: &mut Vec<u8>, solver: &Solver<PlainChooser>) -> io::Result<()> {
     let standing = match solver.standing() {
         Standing::Going => "going",
         Standing::Found => "found",
