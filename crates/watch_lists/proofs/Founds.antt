@@ -1,16 +1,15 @@
 -- Each clause that is pending on a longer trail is in the set: that of two literals which are in the lists of both, and that of a
 -- slot.
-use Rattle.std.proofs.Common.{arith, ◌≡◌, ℕ, ◌<◌, ◌≤◌, List, [], ◌∷◌, ◌++◌, length, get_or, leb, Bool, true, false, not, ◌&&◌, refl, sym, ap, ◌∙◌, ◌⊎◌, inl, inr}
-use Rattle.std.specs.List.{list_any, filter}
+use Rattle.std.proofs.Common.{arith, ◌≡◌, ℕ, ◌<◌, List, [], ◌∷◌, ◌++◌, length, Bool, true, false, refl, sym, ap, ◌∙◌, ◌⊎◌, inl, inr}
 use Rattle.clause_base.specs.Literal.{opposite}
 use Rattle.clause_base.specs.Clause.{has_literal}
 use Rattle.cdcl_rules.specs.Pending.{is_pending}
 use Rattle.watch_lists.specs.declared.pairs.Pair.{Pair}
-use Rattle.watch_lists.specs.Pending.{is_free, has_two_free, is_pending_on}
+use Rattle.watch_lists.specs.Pending.{has_two_free, is_pending_on}
 use Rattle.watch_lists.specs.Visit.{clause_at, slot_clauses, slot_flags, slot_set, Grows}
 use Rattle.watch_lists.specs.Pairs.{pairs_of, pair_in, IsInPairs, HasSlot, IsPaired}
 use Rattle.watch_lists.proofs.Filters.{pending_at}
-use Rattle.watch_lists.proofs.Assigns.{and_true, pending_parts, pending_earlier}
+use Rattle.watch_lists.proofs.Assigns.{pending_parts, pending_earlier}
 use Rattle.watch_lists.proofs.Adds.{kept_in}
 use Rattle.watch_lists.proofs.Paired.{pair_pending}
 use Rattle.watch_lists.proofs.Slotted.{slot_pending}

@@ -1,4 +1,4 @@
-use Rattle.std.proofs.Common.{arith, ◌≡◌, ◌*◌, not, Bool, get_or, sym, ap, ◌∙◌}
+use Rattle.std.proofs.Common.{arith, ◌*◌, not, Bool, get_or, ap, ◌∙◌}
 use Rattle.clause_base.specs.Clause.{has_literal}
 use Rattle.watch_lists.proofs.Asks.{stands_off, stands_on, nothing_is, something_is, ask_below}
 use Rattle.watch_lists.proofs.front.stands.Goals as goal

@@ -1,7 +1,5 @@
-use Rattle.std.proofs.Common.{arith, ◌≡◌, ◌*◌, not, Bool, false, get_or, sym, ap, ◌∙◌}
-use Rattle.clause_base.specs.Literal.{opposite}
+use Rattle.std.proofs.Common.{arith, ◌*◌, not, Bool, get_or, sym, ap, ◌∙◌}
 use Rattle.clause_base.specs.Clause.{has_literal}
-use Rattle.watch_lists.specs.Pending.{is_free}
 use Rattle.watch_lists.specs.Visit.{clause_at}
 use Rattle.watch_lists.proofs.Asks.{ask_below}
 use Rattle.watch_lists.proofs.Lefts.{left_one, left_none, left_nothing}

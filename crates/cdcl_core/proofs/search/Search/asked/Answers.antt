@@ -1,16 +1,10 @@
-use Rattle.std.proofs.Common.{arith, ◌≡◌, ◌<◌, ◌/◌, ◌∙◌, ℕ, List, length, subst, sym, ap, Some, None}
-use Rattle.std.proofs.lemmas.List.Elements.{All-nil, recursion_from_All}
+use Rattle.std.proofs.Common.{◌≡◌, ◌∙◌, ℕ, List, length, subst, sym, ap, Some, None}
 use Rattle.clause_base.specs.Clause.{has_literal}
 use Rattle.cdcl_rules.specs.declared.event.Event.{Event}
-use Rattle.cdcl_rules.specs.State.{clause_at, is_on}
-use Rattle.cdcl_rules.specs.Pending.{open_ones, is_pending_in}
+use Rattle.cdcl_rules.specs.Pending.{is_pending_in}
 use Rattle.cdcl_rules.specs.Event.{asked}
 use Rattle.cdcl_rules.specs.Run.{is_going}
-use Rattle.cdcl_rules.proofs.Members.{at_clause}
 use Rattle.cdcl_rules.proofs.Pending.{least_some}
-use Rattle.cdcl_laws.proofs.Fuel.{all_below}
-use Rattle.conflict_walk.specs.Clauses.{all_clauses}
-use Rattle.watch_lists.specs.Pending.{WatchesView}
 use Rattle.cdcl_core.specs.Search.{SearchView, state_of, asked_first}
 use Rattle.cdcl_core.proofs.Watching.{first_watched, open_watched, none_asked, some_asked}
 use Rattle.cdcl_core.proofs.search.Search.asked.Goals as goal

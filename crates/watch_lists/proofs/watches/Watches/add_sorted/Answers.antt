@@ -1,4 +1,4 @@
-use Rattle.std.proofs.Common.{arith, get_or, ◌≡◌, ◌<◌, ◌≤◌, ◌*◌, ◌++◌, ◌∷◌, [], ℕ, List, ◌∙◌, ap, Bool, true, length, sym, subst}
+use Rattle.std.proofs.Common.{arith, get_or, ◌≡◌, ◌*◌, ◌++◌, ◌∷◌, [], ℕ, List, ◌∙◌, ap, Bool, true, length, sym, subst}
 use Rattle.clause_base.specs.Clause.{HasVariablesBelow, has_literal}
 use Rattle.number_bits.specs.Bits.{words_have}
 use Rattle.watch_lists.specs.Pending.{WatchesView, is_pending_on}
