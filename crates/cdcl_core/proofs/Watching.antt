@@ -56,11 +56,11 @@ first_watched clauses trail w o m e =
     ∙ least_same (is_pending_in (all_clauses clauses) clauses.kept (has_literal (map (λ a. a.literal) trail))) (is_pending_in (all_clauses clauses) clauses.kept (is_on trail)) 0 (length (all_clauses clauses))
     (pending_same (has_literal (map (λ a. a.literal) trail)) (is_on trail) (has_is trail) (all_clauses clauses) clauses.kept)
 
--- and its literals
-pub read_watched : (clauses : ClausesView) (trail : List Assigned) (w : WatchesView) (n : ℕ) → w ≡ watched clauses trail → get_or w.clauses n [] ≡ clause_at (all_clauses clauses) n
-read_watched clauses trail w n m =
-    ap (λ (v : WatchesView). get_or v.clauses n []) m
-    ∙ sym (unwrap_or-slice_get (all_clauses clauses) n [])
+-- and its literals that are not false
+pub open_watched : (clauses : ClausesView) (trail : List Assigned) (w : WatchesView) (n : ℕ) → w ≡ watched clauses trail → open_ones (has_literal w.trail) (clause_at w.clauses n) ≡ open_ones (is_on trail) (clause_at (all_clauses clauses) n)
+open_watched clauses trail w n m =
+    ap (λ (v : WatchesView). open_ones (has_literal v.trail) (clause_at v.clauses n)) m
+    ∙ open_same (has_literal (map (λ a. a.literal) trail)) (is_on trail) (has_is trail) (clause_at (all_clauses clauses) n)
 
 -- and what it asks for
 asked_by : State → Option ℕ → Option Event

@@ -2,31 +2,28 @@
 //! of those that are kept, the first one in order of number asks for the next event. Which one that is the watched literals
 //! know: they are told where a literal becomes true (`Search::assign`), where a clause is learned and literals are taken back
 //! (`Search::enter`), and where clauses are dropped (`reduce`).
-ghost use Rattle.std.specs.Prelude.{◌≡◌, OnOk};
-ghost use Rattle.clause_base.specs.Clause.{HasVariablesBelow};
-ghost use Rattle.cdcl_rules.specs.State.{is_on};
-ghost use Rattle.cdcl_rules.specs.Pending.{open_ones};
+ghost use Rattle.std.specs.Prelude.{◌≡◌, true, OnOk};
+ghost use Rattle.clause_base.specs.Clause.{has_literal};
+ghost use Rattle.cdcl_rules.specs.State.{clause_at};
+ghost use Rattle.cdcl_rules.specs.Pending.{is_pending_in, open_ones};
 ghost use Rattle.cdcl_rules.specs.Event.{asked};
 ghost use Rattle.cdcl_core.specs.Search.{IsBehind, watched};
 
 use cdcl_rules::event::Event;
 use cdcl_trail::trail::Trail;
-use clause_base::literal::Lit;
 use clause_base::memory::Memory;
 use conflict_walk::clauses::Clauses;
 use watch_lists::watches::Watches;
 
-/// What a pending clause asks for: a conflict, or the one literal that is not false.
-pub fn asked(trail: &Trail, number: u32, clause: &[Lit]) -> Event
-    requires { HasVariablesBelow trail.now.variables clause.now }
-    ensures { result ≡ asked number (open_ones (is_on trail.now.entries) clause.now) }
+/// What a clause asks for that is kept and pending: a conflict, or the one literal that is not false.
+pub fn asked(watches: &Watches, number: u32) -> Event
+    requires { is_pending_in watches.now.clauses watches.now.kept (has_literal watches.now.trail) number ≡ true }
+    ensures { result ≡ asked number (open_ones (has_literal watches.now.trail) (clause_at watches.now.clauses number)) }
 {
-    for lit in clause {
-        if !trail.is_false(*lit) {
-            return Event::Force(*lit, number);
-        }
+    match watches.left(number) {
+        Some(lit) => Event::Force(lit, number),
+        None => Event::Conflict(number),
     }
-    Event::Conflict(number)
 }
 
 /// Lets the watched literals follow, where the last clause is new and the trail went back.

@@ -148,7 +148,7 @@ impl Search {
     {
         match self.watches.least_pending() {
             None => None,
-            Some(number) => Some(asked(&self.trail, number, self.watches.clause(number))),
+            Some(number) => Some(asked(&self.watches, number)),
         }
     }
 

@@ -5,6 +5,7 @@ use Rattle.std.proofs.Math.Bool.{beq}
 use Rattle.std.proofs.Math.Nat.{eq-or-lt_of_le}
 use Rattle.std.proofs.lemmas.List.{reverse-append, length-reverse, get_or_default}
 use Rattle.std.proofs.lemmas.List.Elements.{All-push, All-from_recursion, recursion_from_All}
+use Rattle.std.proofs.lemmas.Bool.{or_left}
 use Rattle.std.proofs.lemmas.Bool.Decides.{nat_tests}
 use Rattle.cdcl_rules.specs.declared.trail.Assigned.{Assigned}
 use Rattle.clause_base.specs.Choice.{Known}
@@ -204,10 +205,6 @@ mirrored_push n es vs ls level a m b e = record {
 front_of : (P : Assigned → Type 0) (xs : List Assigned) (a : Assigned) → AllByRecursion P (xs ++ a ∷ []) → AllByRecursion P xs
 front_of P [] a h = tt
 front_of P (x ∷ xs) a h = (h.0, front_of P xs a h.1)
-
-or_left : (a b : Bool) → a ≡ true → (a || b) ≡ true
-or_left true b e = refl
-or_left false b e = cc
 
 -- one entry less
 pub mirrored_pop : (n : ℕ) (xs : List Assigned) (vs : Known) (ls : List ℕ) (level less : ℕ) (a : Assigned) → IsMirrored n (xs ++ a ∷ []) vs ls level → level ≡ less + step_of a.reason → IsMirrored n xs (set vs (a.literal / 2) None) ls less

@@ -1,13 +1,16 @@
 //! Runs the solver with the plain chooser on a formula in the DIMACS form, for at most so many conflicts, and prints how it
-//! stands, its conflicts and its log. `bench/solve` times it beside another solver.
+//! stands, its conflicts and its log. `bench/solve` times it beside another solver. With the word `propagations` after the
+//! number of conflicts it prints in place of these how many propagations the run makes.
 //!
 //! Without words it reads formulas from its input, each ended by a `%` and with a line `c conflicts NUMBER`. It runs each in one
 //! go, and in pieces of 1 and of 7 conflicts, and says whether these come to the same.
 #![tactic(auto)]
 
 mod dimacs;
+mod propagations;
 
 use crate::dimacs::{conflicts_of, formula_of};
+use crate::propagations::count_propagations;
 use cdcl_core::Standing;
 use cdcl_core::solver::Solver;
 use clause_base::chooser::PlainChooser;
@@ -27,14 +30,15 @@ const FEW: u32 = 1000;
 const MOST: u32 = 1_000_000;
 
 /// Writes a space and a number.
-fn write_number(out: &mut (impl Write + Drop), number: u32) -> io::Result<()> {
+fn write_number(out: &mut Vec<u8>, number: u32) -> io::Result<()> {
     let mut digits = Buffer::new();
-    out.write_all(b" ")?;
-    out.write_all(digits.format(number).as_bytes())
+    out.push(b' ')?;
+    out.extend_from_slice(digits.format(number).as_bytes())?;
+    Ok(())
 }
 
 /// Writes the line of a learned clause.
-fn write_learned(out: &mut (impl Write + Drop), clause: &Clause, hints: &Hints) -> io::Result<()> {
+fn write_learned(out: &mut Vec<u8>, clause: &Clause, hints: &Hints) -> io::Result<()> {
     write!(out, "learn")?;
     for lit in clause.as_slice() {
         write_number(out, lit.0)?;
@@ -47,7 +51,7 @@ fn write_learned(out: &mut (impl Write + Drop), clause: &Clause, hints: &Hints) 
 }
 
 /// Writes a log, an entry a line.
-fn write_log(out: &mut (impl Write + Drop), log: &Log) -> io::Result<()> {
+fn write_log(out: &mut Vec<u8>, log: &Log) -> io::Result<()> {
     for entry in log.as_slice() {
         match entry {
             Entry::Learn { clause, hints } => write_learned(out, clause, hints)?,
@@ -58,7 +62,7 @@ fn write_log(out: &mut (impl Write + Drop), log: &Log) -> io::Result<()> {
 }
 
 /// Writes how a solver stands, its conflicts and its log.
-fn write_run(out: &mut (impl Write + Drop), solver: &Solver<PlainChooser>) -> io::Result<()> {
+fn write_run(out: &mut Vec<u8>, solver: &Solver<PlainChooser>) -> io::Result<()> {
     let standing = match solver.standing() {
         Standing::Going => "going",
         Standing::Found => "found",
@@ -124,6 +128,27 @@ fn report(alloc: Global, text: &[u8], conflicts: u32, piece: Option<u32>) -> io:
     Ok(out)
 }
 
+/// The propagations of a text's formula within so many conflicts; none where the text has no formula.
+fn counted(alloc: Global, text: &[u8], conflicts: u32) -> Result<Option<u64>, Memory> {
+    let Some(formula) = formula_of(alloc, text)? else {
+        return Ok(None);
+    };
+    let mut solver = Solver::new(alloc, formula, PlainChooser::new())?;
+    let count = count_propagations(alloc, &mut solver, conflicts)?;
+    Ok(Some(count))
+}
+
+/// How many propagations the run of a text's formula makes, in words.
+fn report_propagations(alloc: Global, text: &[u8], conflicts: u32) -> io::Result<Vec<u8>> {
+    let mut out = Vec::new(alloc);
+    match counted(alloc, text, conflicts) {
+        Ok(Some(count)) => writeln!(&mut out, "propagations {count}")?,
+        Ok(None) => writeln!(&mut out, "no formula")?,
+        Err(Memory) => writeln!(&mut out, "want of memory")?,
+    }
+    Ok(out)
+}
+
 /// Runs a text's formula in one go and in pieces, and writes how the first ends, and the others where they end otherwise.
 fn run_in_pieces(
     alloc: Global,
@@ -169,6 +194,10 @@ fn main(rt: HostRuntime) -> io::Result<()> {
         Some(word) => word.as_str().parse::<u32>().unwrap_or(FEW),
     };
     let text = fs::read(&rt, path.as_str())?;
-    out.write_all(report(alloc, text.as_slice(), conflicts, None)?.as_slice())?;
+    let said = match words.next() {
+        None => report(alloc, text.as_slice(), conflicts, None)?,
+        Some(_) => report_propagations(alloc, text.as_slice(), conflicts)?,
+    };
+    out.write_all(said.as_slice())?;
     out.flush()
 }

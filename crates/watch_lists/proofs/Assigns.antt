@@ -156,12 +156,28 @@ count_le p (x ∷ xs) = by (p x) (count_le p xs)
     by true h = omega arith
     by false h = omega arith
 
+-- what makes a clause pending by its number
+pub pending_parts : (cl : List (List ℕ)) (kept : List Bool) (trail : List ℕ) (k : ℕ) → is_pending_on cl kept trail k ≡ true → (get_or kept k false ≡ true) × (list_any (has_literal trail) (clause_at cl k) ≡ false) × (has_two_free (has_literal trail) (clause_at cl k) ≡ false)
+pending_parts cl kept trail k p =
+    let xs = clause_at cl k in
+    let a = and_true (get_or kept k false) (is_pending (has_literal trail) xs) (sym (pending_at cl kept trail k) ∙ p) in
+    let b = and_true (not (list_any (has_literal trail) xs)) (leb (length (filter (is_free (has_literal trail)) xs)) 1) a.1 in
+    (a.0, not_true (list_any (has_literal trail) xs) b.0, ap (λ (q : Bool). not q) b.1)
+
+-- a clause that is pending on a longer trail was so before, unless two of its literals were not false
+pub pending_earlier : (cl : List (List ℕ)) (kept : List Bool) (trail : List ℕ) (x k : ℕ) → is_pending_on cl kept (trail ++ x ∷ []) k ≡ true → has_two_free (has_literal trail) (clause_at cl k) ≡ false → is_pending_on cl kept trail k ≡ true
+pending_earlier cl kept trail x k p f =
+    let xs = clause_at cl k in
+    let r = pending_parts cl kept (trail ++ x ∷ []) k p in
+    let n = none_weaker (has_literal trail) (has_literal (trail ++ x ∷ [])) (true_longer trail x) xs r.1 in
+    let g = not_false (leb (length (filter (is_free (has_literal trail)) xs)) 1) f in
+    pending_at cl kept trail k ∙ (let e : (get_or kept k false && (not (list_any (has_literal trail) xs) && leb (length (filter (is_free (has_literal trail)) xs)) 1)) ≡ true = rw (r.0, n, g) in e)
+
 -- every slot's clause that is pending on the longer trail is in the set
 pub assign_complete : (cl : List (List ℕ)) (wa wa' : List Watched) (kept : List Bool) (trail : List ℕ) (x : ℕ) (s s' : ℕ → Bool) → length kept ≡ length cl → IsPlaced cl wa' → AreFree cl wa kept trail → MovesToFree cl wa wa' (has_literal (trail ++ x ∷ [])) → AllSettled cl wa' (has_literal (trail ++ x ∷ [])) s' (opposite x) kept → Grows s s' → ((k : ℕ) → is_pending_on cl kept trail k ≡ true → s k ≡ true) → (k : ℕ) → is_pending_on cl kept (trail ++ x ∷ []) k ≡ true → s' k ≡ true
 assign_complete cl wa wa' kept trail x s s' many place free moves settled grows old k p =
-    let a = and_true (get_or kept k false) (is_pending on' xs) (sym (pending_at cl kept (trail ++ x ∷ []) k) ∙ p) in
-    let b = and_true (not (list_any on' xs)) (leb (length (filter (is_free on') xs)) 1) a.1 in
-    by (has_two_free on xs) refl a.0 a.1 (not_true (list_any on' xs) b.0) (ap (λ (q : Bool). not q) b.1)
+    let r = pending_parts cl kept (trail ++ x ∷ []) k p in
+    by (has_two_free on xs) refl r.0 (and_true (get_or kept k false) (is_pending on' xs) (sym (pending_at cl kept (trail ++ x ∷ []) k) ∙ p)).1 r.1 r.2
   where
     xs : List ℕ
     xs = clause_at cl k
@@ -177,9 +193,7 @@ assign_complete cl wa wa' kept trail x s s' many place free moves settled grows 
     in_range false f g = let h : k < length kept = grind (arith, nat_tests) in omega (arith, h, many)
 
     by : (b : Bool) → has_two_free on xs ≡ b → get_or kept k false ≡ true → is_pending on' xs ≡ true → list_any on' xs ≡ false → has_two_free on' xs ≡ false → s' k ≡ true
-    by false f kk p none two =
-        let n = none_weaker on on' (true_longer trail x) xs none in
-        grows k (old k (pending_at cl kept trail k ∙ (let g = not_false (leb (length (filter (is_free on) xs)) 1) f in let e : (get_or kept k false && (not (list_any on xs) && leb (length (filter (is_free on) xs)) 1)) ≡ true = rw (kk, n, g) in e)))
+    by false f kk q none two = grows k (old k (pending_earlier cl kept trail x k p f))
     by true f kk p none two =
         let t = two_of (length (filter (is_free on) xs)) f in
         let c = count_le (is_free on) xs in

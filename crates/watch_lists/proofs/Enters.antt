@@ -1,23 +1,22 @@
 -- What a new clause brings: its nodes on their chains, its watched literals right in each prefix of the trail, and the prefixes
 -- in which it is not pending.
-use Rattle.std.proofs.Common.{arith, ◌≡◌, ◌==◌, ℕ, ◌+◌, ◌*◌, ◌/◌, ◌%◌, ◌<◌, ◌≤◌, List, [], ◌∷◌, ◌++◌, length, take, set, get_or, leb, Bool, true, false, ◌||◌, ◌&&◌, refl, sym, ap, ◌∙◌, subst, Option, Some, None}
-use Rattle.std.proofs.lemmas.List.{length_push, get_or_past, take_all}
+use Rattle.std.proofs.Common.{arith, ◌≡◌, ◌==◌, ℕ, ◌+◌, ◌*◌, ◌/◌, ◌%◌, ◌<◌, ◌≤◌, List, [], ◌∷◌, ◌++◌, length, take, set, get_or, leb, Bool, true, false, refl, sym, ap, ◌∙◌, subst, Option, Some, None}
+use Rattle.std.proofs.lemmas.List.{take_all}
 use Rattle.std.proofs.lemmas.List.Elements.{All-get_or}
 use Rattle.clause_base.specs.Clause.{has_literal, IsClause, HasVariablesBelow}
 use Rattle.cdcl_rules.specs.Pending.{is_pending, is_pending_in, least_from}
 use Rattle.cdcl_rules.proofs.Pending.{first_is, none_is}
-use Rattle.number_bits.specs.Bits.{IsLeast, words_have}
+use Rattle.number_bits.specs.Bits.{IsLeast}
 use Rattle.watch_chains.specs.declared.chains.Node.{Node}
 use Rattle.watch_chains.specs.Linked.{IsLinked, ArePairLoose, note_of, placed}
 use Rattle.watch_lists.specs.declared.visit.Watched.{Watched}
 use Rattle.watch_lists.specs.Pending.{is_free, has_two_free, is_pending_on}
-use Rattle.watch_lists.specs.declared.pairs.Pair.{Pair}
-use Rattle.watch_lists.specs.Visit.{clause_at, literal_at, slot_clauses, slot_flags, AreSlotsBelow, Grows, IsAtRest}
-use Rattle.watch_lists.specs.Sound.{AreFree, IsFront, IsSound}
-use Rattle.watch_lists.specs.Added.{Outlasts, RestsWith, FreeWith, IsTaken, IsQuietBelow}
+use Rattle.watch_lists.specs.Visit.{clause_at, literal_at, Grows, IsAtRest}
+use Rattle.watch_lists.specs.Sound.{AreFree}
+use Rattle.watch_lists.specs.Added.{Outlasts, RestsWith, FreeWith, IsQuietBelow}
 use Rattle.watch_lists.proofs.Filters.{count_two, pending_at, pending_off}
 use Rattle.watch_lists.proofs.Assigns.{equal_of, apart_of, at_most_of, past_of, tests_at_most}
-use Rattle.watch_lists.proofs.Adds.{listed_add, listed_short, literal_other, literal_same, literal_own, own_free, free_add, fit_add, rising_short, pending_other, pending_own, quiets_add, kept_in}
+use Rattle.watch_lists.proofs.Adds.{listed_add, listed_short, literal_other, literal_same, literal_own, own_free, free_add, rising_short, pending_other, pending_own, kept_in}
 
 -- what was done to the tables for a clause of two literals or more
 pub record IsEntered (k : List ℕ) (number : ℕ) (trail : List ℕ) (wa : List Watched) (w : Watched) (heads : List ℕ) (nodes : List Node) (heads' : List ℕ) (nodes' : List Node) (a b : ℕ) : Type 0 where

@@ -9,7 +9,7 @@ use Rattle.cdcl_rules.specs.Pending.{is_pending}
 use Rattle.watch_lists.specs.Visit.{IsSettled}
 
 -- what the test for at most one tells, and what makes it
-tests_one : (n : ℕ) → n ≤ 1 → leb n 1 ≡ true
+pub tests_one : (n : ℕ) → n ≤ 1 → leb n 1 ≡ true
 tests_one n h = grind (arith, nat_tests)
 
 tests_past_one : (n : ℕ) → 2 ≤ n → leb n 1 ≡ false

@@ -13,3 +13,5 @@ pub mod Slotted
 pub mod Spans
 pub mod Sounds
 pub mod Founds
+pub mod Asks
+pub mod Lefts

@@ -1,15 +1,16 @@
 -- A clause that is no longer kept: what was asked of kept clauses is asked of fewer.
-use Rattle.std.proofs.Common.{arith, ◌≡◌, ℕ, zero, suc, List, [], ◌∷◌, length, take, set, get_or, Bool, true, false, ◌&&◌, Option, Some, None, refl, sym, ap, ◌∙◌, length-set}
+use Rattle.std.proofs.Common.{arith, ◌≡◌, ℕ, zero, suc, List, [], ◌∷◌, ◌*◌, length, take, set, get_or, Bool, true, false, ◌&&◌, Option, Some, None, refl, sym, ap, ◌∙◌, length-set}
 use Rattle.number_bits.specs.Bits.{IsLeast, words_have}
 use Rattle.watch_chains.specs.declared.chains.Node.{Node}
 use Rattle.watch_lists.specs.declared.visit.Watched.{Watched}
 use Rattle.clause_base.specs.Clause.{has_literal}
 use Rattle.watch_lists.specs.Pending.{is_pending_on}
 use Rattle.cdcl_rules.specs.Pending.{is_pending}
-use Rattle.watch_lists.specs.Visit.{clause_at, slot_flags}
+use Rattle.watch_lists.specs.Visit.{clause_at, slot_clauses, slot_flags, IsKept, NoWhy}
 use Rattle.watch_lists.specs.Sound.{IsFront, IsSound}
 use Rattle.watch_lists.proofs.Filters.{pending_at}
 use Rattle.watch_lists.proofs.Assigns.{none_pending}
+use Rattle.watch_lists.proofs.Visits.{relisted}
 
 pub kept_before : (kept : List Bool) (n k : ℕ) → get_or (set kept n false) k false ≡ true → get_or kept k false ≡ true
 kept_before [] n k e = e
@@ -45,16 +46,7 @@ removed_sound v tv cl kept trail slots wa heads nodes words quiet n words' i w f
   room = omega (arith, i.room, w);
   slotted = i.slotted;
   slots_few = i.slots_few;
-  rest = record {
-    on = i.rest.on;
-    linked = i.rest.linked;
-    placed = i.rest.placed;
-    codes = i.rest.codes;
-    many = i.rest.many;
-    real = i.rest.real;
-    there = λ node real must. i.rest.there node real (flags_before kept slots n _ must);
-    notes = i.rest.notes;
-  };
+  rest = relisted (slot_clauses cl slots) wa heads nodes (2 * v) (IsKept (slot_flags kept slots)) NoWhy (IsKept (slot_flags (set kept n false) slots)) NoWhy i.rest (λ node real must. i.rest.there node real (flags_before kept slots n _ must));
   free = λ m h node real must. i.free m h node real (flags_before kept slots n _ must);
   front = f;
   quiet_size = i.quiet_size;

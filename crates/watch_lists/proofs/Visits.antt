@@ -7,7 +7,7 @@ use Rattle.watch_lists.specs.declared.visit.Watched.{Watched}
 use Rattle.std.proofs.lemmas.List.{get_or_read}
 use Rattle.watch_lists.proofs.Filters.{has_get}
 use Rattle.watch_lists.specs.Pending.{is_free}
-use Rattle.watch_lists.specs.Visit.{no_watches, clause_at, place_in, place_of, literal_at, IsFit, IsPlaced, IsReal, IsListed, IsKept, IsOther, IsAtRest, IsSettled, Stays, MovesToFree, Grows, AllSettled}
+use Rattle.watch_lists.specs.Visit.{no_watches, clause_at, place_in, place_of, literal_at, IsFit, IsPlaced, IsReal, IsListed, IsKept, IsOther, NoWhy, IsAtRest, IsSettled, Stays, MovesToFree, Grows, AllSettled}
 
 -- a literal of a clause is below the codes
 pub has_below : (xs : List ℕ) (codes l : ℕ) → ((p : ℕ) → p < length xs → get_or xs p 0 < codes) → has_literal xs l ≡ true → l < codes
@@ -140,6 +140,7 @@ own_insert set set' n h = let t : (n == n) ≡ true = grind (arith, nat_tests) i
 pub record Beside (cl : List (List ℕ)) (wa : List Watched) (node other beside : ℕ) : Type 0 where
   pub place : other ≡ place_in (get_or wa (node / 2) no_watches) (not (node % 2 == 1))
   pub has : has_literal (clause_at cl (node / 2)) beside ≡ true
+  pub inside : other < length (clause_at cl (node / 2))
 
 pub beside_of : (cl : List (List ℕ)) (wa : List Watched) (node other : ℕ) (w : Watched) (xs : List ℕ) (l beside : ℕ) → IsPlaced cl wa → IsReal cl node → w ≡ get_or wa (node / 2) w → other ≡ place_in w (not (node % 2 == 1)) → xs ≡ clause_at cl (node / 2) → l ≡ get_or xs other l → beside ≡ l → Beside cl wa node other beside
 beside_of cl wa node other w xs l beside m real rw0 ro rx rl rb =
@@ -150,7 +151,7 @@ beside_of cl wa node other w xs l beside m real rw0 ro rx rl rb =
     let lx = ap (λ (ys : List ℕ). length ys) rx in
     let g : l ≡ get_or xs other 0 = get_or_read xs other l (omega (arith, j, lx)) rl 0 in
     let e : beside ≡ get_or (clause_at cl (node / 2)) other 0 = rb ∙ g ∙ ap (λ (ys : List ℕ). get_or ys other 0) rx in
-    record { place = p; has = ap (λ (x : ℕ). has_literal (clause_at cl (node / 2)) x) e ∙ has_get (clause_at cl (node / 2)) other j }
+    record { place = p; has = ap (λ (x : ℕ). has_literal (clause_at cl (node / 2)) x) e ∙ has_get (clause_at cl (node / 2)) other j; inside = j }
 
 some_same : (a b : ℕ) → Some a ≡ Some b → a ≡ b
 some_same a b e = cc
@@ -179,18 +180,22 @@ listed_pop cl wa heads heads' nodes nodes' spare kept node Why r link e lh = (
     there_by k rk m ne true f = let t : k ≡ node = grind (arith, nat_tests) in absurd (ne t)
     there_by k rk m ne false f = r.there k rk m
 
--- a node of a clause that is not kept may be on no chain
-pub listed_drop : (cl : List (List ℕ)) (wa : List Watched) (heads : List ℕ) (nodes : List Node) (spare : ℕ) (kept : List Bool) (node : ℕ) (Why : ℕ → Type 0) → IsListed cl wa heads nodes spare (IsOther kept node) Why → get_or kept (node / 2) false ≡ false → IsListed cl wa heads nodes spare (IsKept kept) Why
-listed_drop cl wa heads nodes spare kept node Why r e = record {
+-- which nodes have to be on a chain, and why one may be on the spare chain
+pub relisted : (cl : List (List ℕ)) (wa : List Watched) (heads : List ℕ) (nodes : List Node) (spare : ℕ) (Must Why Must' Why' : ℕ → Type 0) (r : IsListed cl wa heads nodes spare Must Why) → ((k : ℕ) → IsReal cl k → Must' k → (r.on k ≡ Some (literal_at cl wa k)) ⊎ ((r.on k ≡ Some spare) × Why' k)) → IsListed cl wa heads nodes spare Must' Why'
+relisted cl wa heads nodes spare Must Why Must' Why' r there = record {
   on = r.on;
   linked = r.linked;
   placed = r.placed;
   codes = r.codes;
   many = r.many;
   real = r.real;
-  there = λ k rk m. r.there k rk (m, λ (t : k ≡ node). not_kept k m t);
+  there = there;
   notes = r.notes;
 }
+
+-- a node of a clause that is not kept may be on no chain
+pub listed_drop : (cl : List (List ℕ)) (wa : List Watched) (heads : List ℕ) (nodes : List Node) (spare : ℕ) (kept : List Bool) (node : ℕ) (Why : ℕ → Type 0) → IsListed cl wa heads nodes spare (IsOther kept node) Why → get_or kept (node / 2) false ≡ false → IsListed cl wa heads nodes spare (IsKept kept) Why
+listed_drop cl wa heads nodes spare kept node Why r e = relisted cl wa heads nodes spare (IsOther kept node) Why (IsKept kept) Why r (λ k rk m. r.there k rk (m, λ (t : k ≡ node). not_kept k m t))
   where
     not_kept : (k : ℕ) → IsKept kept k → k ≡ node → ⊥
     not_kept k m t = let z : true ≡ false = sym m ∙ ap (λ (x : ℕ). get_or kept (x / 2) false) t ∙ e in let w : ⊥ = cc in w
@@ -213,16 +218,7 @@ moves_on cl a b c on f g k rk = by (f k rk) (g k rk)
 
 -- before the visits
 pub listed_start : (cl : List (List ℕ)) (wa : List Watched) (heads : List ℕ) (nodes : List Node) (spare : ℕ) (kept : List Bool) (Why : ℕ → Type 0) → IsAtRest cl wa heads nodes spare kept → IsListed cl wa heads nodes spare (IsKept kept) Why
-listed_start cl wa heads nodes spare kept Why r = record {
-  on = r.on;
-  linked = r.linked;
-  placed = r.placed;
-  codes = r.codes;
-  many = r.many;
-  real = r.real;
-  there = λ k rk m. by k (r.there k rk m);
-  notes = r.notes;
-}
+listed_start cl wa heads nodes spare kept Why r = relisted cl wa heads nodes spare (IsKept kept) NoWhy (IsKept kept) Why r (λ k rk m. by k (r.there k rk m))
   where
     by : (k : ℕ) → (r.on k ≡ Some (literal_at cl wa k)) ⊎ ((r.on k ≡ Some spare) × ⊥) → (r.on k ≡ Some (literal_at cl wa k)) ⊎ ((r.on k ≡ Some spare) × Why k)
     by k (inl e) = inl e

@@ -1,35 +1,73 @@
 //! A new clause that has a slot watches the two literals that are not false for longest along the trail. Wherever two of its
 //! literals are not false, these two are not, now and in each prefix of the trail.
-ghost use Rattle.std.specs.Prelude.{◌≡◌, ℕ, ◌+◌, ◌*◌, ◌<◌, ◌≤◌, length, slice_index};
+ghost use Rattle.std.specs.Prelude.{◌≡◌, ℕ, ◌+◌, ◌*◌, ◌<◌, ◌≤◌, Bool, length, slice_index};
+ghost use Rattle.clause_base.specs.Clause.{has_literal};
 ghost use Rattle.watch_chains.specs.Linked.{ArePairLoose};
+ghost use Rattle.watch_lists.specs.Asking.{IsAsked};
 ghost use Rattle.watch_lists.specs.Added.{HasRoom, RestsWith, FreeWith, IsQuietBelow};
 
+use crate::asking::NOTHING;
 use crate::fall::{free_until, latest};
 use crate::visit::{Lists, Watched};
 use clause_base::literal::Lit;
 use watch_store::truth::Truth;
 
+/// What a new clause brings: in the prefixes of the trail below a length it is not pending, and if it may be so on the whole
+/// trail, it asks for a literal.
+#[derive(Clone, Copy, Debug)]
+pub struct Entered {
+    pub low: u32,
+    pub ask: u32,
+}
+
 /// No place of a clause.
 const NOWHERE: u32 = 4_294_967_295;
 
 /// Says in which prefixes of the trail a clause of two literals is not pending: those below the result.
-pub fn enter_pair(truth: &Truth, clause: &[Lit]) -> u32
+pub fn enter_pair(truth: &Truth, clause: &[Lit]) -> Entered
     requires small { truth.now.variables ≤ 2147483647 }
     requires below { (p : ℕ) → p < length clause.now → slice_index clause.now p < 2 * truth.now.variables }
     requires two { length clause.now ≡ 2 }
-    ensures quiet { IsQuietBelow clause.now truth.now.trail result }
+    ensures quiet { IsQuietBelow clause.now truth.now.trail result.low }
+    ensures asked { result.low ≤ length truth.now.trail → IsAsked (has_literal truth.now.trail) clause.now result.ask }
 {
     let a = clause[0];
     let b = clause[1];
     let first = free_until(truth, a.0);
     let second = free_until(truth, b.0);
-    first.min(second) + 1
+    if first < second {
+        Entered {
+            low: first + 1,
+            ask: b.0,
+        }
+    } else {
+        Entered {
+            low: second + 1,
+            ask: a.0,
+        }
+    }
+}
+
+/// A new clause without literals, or with one.
+fn enter_short(clause: &[Lit]) -> Entered
+    requires { length clause.now < 2 }
+    ensures low { result.low ≡ 0 }
+    ensures asked { (on : ℕ → Bool) → IsAsked on clause.now result.ask }
+{
+    if clause.is_empty() {
+        return Entered {
+            low: 0,
+            ask: NOTHING,
+        };
+    }
+    let lit = clause[0];
+    Entered { low: 0, ask: lit.0 }
 }
 
 impl Lists {
     /// Watches two literals of a new clause, which has that many at least. In the prefixes of the trail below the result it is not
     /// pending.
-    fn enter_long(&mut self, truth: &Truth, clause: &[Lit], slot: u32) -> u32
+    fn enter_long(&mut self, truth: &Truth, clause: &[Lit], slot: u32) -> Entered
         requires small { truth.now.variables ≤ 2147483647 }
         requires below { (p : ℕ) → p < length clause.now → slice_index clause.now p < 2 * truth.now.variables }
         requires short { length clause.now ≤ 4294967295 }
@@ -39,8 +77,10 @@ impl Lists {
         requires loose { ArePairLoose self.old.chains.heads.items self.old.chains.nodes.items (2 * slot) }
         ensures rest { RestsWith clause.now slot (2 * truth.now.variables) self.old.watched.items self.old.chains.heads.items self.old.chains.nodes.items self.new.watched.items self.new.chains.heads.items self.new.chains.nodes.items }
         ensures free { FreeWith clause.now slot truth.now.trail self.old.watched.items self.new.watched.items }
-        ensures quiet { IsQuietBelow clause.now truth.now.trail result }
-        ensures set { self.new.pending.words ≡ self.old.pending.words }
+        ensures quiet { IsQuietBelow clause.now truth.now.trail result.low }
+        ensures asked { result.low ≤ length truth.now.trail → IsAsked (has_literal truth.now.trail) clause.now result.ask }
+        ensures set { self.new.asking.set.words ≡ self.old.asking.set.words }
+        ensures asks { self.new.asking.asks.items ≡ self.old.asking.asks.items }
     {
         let first = latest(truth, clause, NOWHERE);
         let second = latest(truth, clause, first);
@@ -52,11 +92,14 @@ impl Lists {
         let a = clause[first as usize];
         let b = clause[second as usize];
         self.chains.link_two(2 * slot, a.0, b.0);
-        free_until(truth, b.0) + 1
+        Entered {
+            low: free_until(truth, b.0) + 1,
+            ask: a.0,
+        }
     }
 
     /// Watches two literals of a new clause, if it has that many. In the prefixes of the trail below the result it is not pending.
-    pub fn enter(&mut self, truth: &Truth, clause: &[Lit], slot: u32) -> u32
+    pub fn enter(&mut self, truth: &Truth, clause: &[Lit], slot: u32) -> Entered
         requires small { truth.now.variables ≤ 2147483647 }
         requires below { (p : ℕ) → p < length clause.now → slice_index clause.now p < 2 * truth.now.variables }
         requires short { length clause.now ≤ 4294967295 }
@@ -65,11 +108,13 @@ impl Lists {
         requires loose { ArePairLoose self.old.chains.heads.items self.old.chains.nodes.items (2 * slot) }
         ensures rest { RestsWith clause.now slot (2 * truth.now.variables) self.old.watched.items self.old.chains.heads.items self.old.chains.nodes.items self.new.watched.items self.new.chains.heads.items self.new.chains.nodes.items }
         ensures free { FreeWith clause.now slot truth.now.trail self.old.watched.items self.new.watched.items }
-        ensures quiet { IsQuietBelow clause.now truth.now.trail result }
-        ensures set { self.new.pending.words ≡ self.old.pending.words }
+        ensures quiet { IsQuietBelow clause.now truth.now.trail result.low }
+        ensures asked { result.low ≤ length truth.now.trail → IsAsked (has_literal truth.now.trail) clause.now result.ask }
+        ensures set { self.new.asking.set.words ≡ self.old.asking.set.words }
+        ensures asks { self.new.asking.asks.items ≡ self.old.asking.asks.items }
     {
         if clause.len() < 2 {
-            return 0;
+            return enter_short(clause);
         }
         self.enter_long(truth, clause, slot)
     }

@@ -1,10 +1,12 @@
 //! Where a new clause is found again: in the lists of its two literals, or by a slot.
 ghost use Rattle.std.specs.Prelude.{◌≡◌, ℕ, ◌+◌, ◌*◌, ◌<◌, ◌≤◌, length, slice_index, vec_capacity, IfOk, IsOk};
+ghost use Rattle.clause_base.specs.Clause.{has_literal};
 ghost use Rattle.watch_chains.specs.Linked.{ArePairLoose};
+ghost use Rattle.watch_lists.specs.Asking.{IsAsked};
 ghost use Rattle.watch_lists.specs.Added.{HasRoom, IsTaken, IsQuietBelow};
 ghost use Rattle.watch_lists.specs.Pairs.{IsFuller};
 
-use crate::enter::enter_pair;
+use crate::enter::{Entered, enter_pair};
 use crate::pairs::Pairs;
 use crate::visit::Lists;
 use clause_base::literal::Lit;
@@ -20,7 +22,7 @@ pub fn place(
     truth: &Truth,
     clause: &[Lit],
     number: u32,
-) -> Result<u32, AllocError>
+) -> Result<Entered, AllocError>
     requires small { truth.now.variables ≤ 2147483647 }
     requires below { (p : ℕ) → p < length clause.now → slice_index clause.now p < 2 * truth.now.variables }
     requires short { length clause.now ≤ 4294967295 }
@@ -33,8 +35,10 @@ pub fn place(
     ensures ok { IsOk result }
     ensures fuller { IsFuller clause.now number pairs.old pairs.new }
     ensures taken { IsTaken clause.now number (2 * truth.now.variables) truth.now.trail pairs.new slots.old.items lists.old.watched.items lists.old.chains.heads.items lists.old.chains.nodes.items slots.new.items lists.new.watched.items lists.new.chains.heads.items lists.new.chains.nodes.items }
-    ensures quiet { IfOk result (λ low. IsQuietBelow clause.now truth.now.trail low) }
-    ensures set { lists.new.pending.words ≡ lists.old.pending.words }
+    ensures quiet { IfOk result (λ new. IsQuietBelow clause.now truth.now.trail new.low) }
+    ensures asked { IfOk result (λ new. new.low ≤ length truth.now.trail → IsAsked (has_literal truth.now.trail) clause.now new.ask) }
+    ensures set { lists.new.asking.set.words ≡ lists.old.asking.set.words }
+    ensures asks { lists.new.asking.asks.items ≡ lists.old.asking.asks.items }
 {
     if pairs.enter(clause, number) {
         return Ok(enter_pair(truth, clause));

@@ -1,16 +1,20 @@
 //! Which clause is the first that is kept and pending, as literals become true and are taken back and clauses come and go.
-ghost use Rattle.std.specs.Prelude.{◌≡◌, ℕ, ◌+◌, ◌*◌, ◌<◌, ◌≤◌, ◌++◌, ◌∷◌, [], take, length, replicate, true, false, slice_set, slice_index_or, IfOk, OnOk, OnErr};
+ghost use Rattle.std.specs.Prelude.{◌≡◌, ℕ, ◌+◌, ◌*◌, ◌<◌, ◌≤◌, ◌++◌, ◌∷◌, [], take, length, replicate, true, false, slice_set, slice_index, slice_index_or, IfOk, OnOk, OnErr, MatchOption};
 ghost use Rattle.clause_base.specs.Literal.{opposite};
 ghost use Rattle.clause_base.specs.Clause.{IsClause, has_literal, HasVariablesBelow};
-ghost use Rattle.cdcl_rules.specs.Pending.{is_pending_in, least_from};
+ghost use Rattle.cdcl_rules.specs.State.{clause_at};
+ghost use Rattle.cdcl_rules.specs.Pending.{is_pending_in, least_from, open_ones};
 ghost use Rattle.number_bits.specs.Bits.{words_have};
 ghost use Rattle.watch_lists.specs.Pending.{WatchesView};
 ghost use Rattle.watch_lists.specs.Visit.{Grows};
 
+use crate::asking::{Asking, Pending};
+use crate::enter::Entered;
 use crate::front::{clean, clear, rescan};
+use crate::left::left_of;
 use crate::pairs::{Pairs, mark_all};
 use crate::place::place;
-use crate::visit::{Lists, Pending};
+use crate::visit::Lists;
 use clause_base::clause::Clause;
 use clause_base::formula::Formula;
 use clause_base::literal::Lit;
@@ -38,6 +42,7 @@ pub struct Watches {
     pairs: Pairs,
     slots: Vec<u32>,
     lists: Lists,
+    least: Option<u32>,
     quiet: Vec<bool>,
 }
 
@@ -45,13 +50,15 @@ impl Model for Watches {
     ghost use Rattle.std.specs.Prelude.{List, ℕ};
     ghost use Rattle.watch_lists.specs.Pending.{WatchesView};
     ghost use Rattle.watch_lists.specs.Pairs.{IsPaired};
+    ghost use Rattle.watch_lists.specs.Asking.{IsAsking};
+    ghost use Rattle.number_bits.specs.Bits.{IsLeast, words_have};
     ghost use Rattle.watch_lists.specs.Sound.{IsSound};
 
     ghost Value = { WatchesView };
 
     ghost view = { λ w. record { variables = w.variables; clauses = w.store; kept = w.kept.items; trail = w.truth.trail } };
 
-    ghost invariant = { λ w. IsSound w.variables w.truth.variables w.store w.kept.items w.truth.trail w.slots.items w.lists.watched.items w.lists.chains.heads.items w.lists.chains.nodes.items w.lists.pending.words w.quiet.items × IsPaired w.variables w.store w.slots.items w.pairs };
+    ghost invariant = { λ w. IsSound w.variables w.truth.variables w.store w.kept.items w.truth.trail w.slots.items w.lists.watched.items w.lists.chains.heads.items w.lists.chains.nodes.items w.lists.asking.set.words w.quiet.items × IsPaired w.variables w.store w.slots.items w.pairs × IsAsking w.store w.truth.trail w.lists.asking.set.words w.lists.asking.asks.items × IsLeast (words_have w.lists.asking.set.words) w.least };
 }
 
 /// Takes the flags of the lengths from one up to another away.
@@ -66,24 +73,30 @@ fn unquiet(quiet: &mut Vec<bool>, low: u32, high: u32)
     }
 }
 
-/// Puts a new clause into the set, unless it is not pending on the trail and in each prefix of it, which is so in the prefixes
-/// below a length. It is pending in none of the others that are flagged after.
-fn raise(truth: &Truth, pending: &mut Pending, quiet: &mut Vec<bool>, number: u32, low: u32)
-    requires number { number < 64 * length pending.old.words }
+/// Puts a new clause into the set, unless it is pending on the trail in none of its prefixes, nor on the whole. Of the lengths
+/// below the whole one it keeps the flags of those in whose prefixes the clause is not pending.
+fn raise(truth: &Truth, asking: &mut Asking, quiet: &mut Vec<bool>, number: u32, new: Entered)
+    requires number { number < 64 * length asking.old.set.words }
+    requires room { number < length asking.old.asks.items }
     requires long { truth.now.variables < length quiet.old.items }
-    ensures grows { Grows (words_have pending.old.words) (words_have pending.new.words) }
-    ensures own { low ≤ length truth.now.trail → words_have pending.new.words number ≡ true }
-    ensures room { length pending.new.words ≡ length pending.old.words }
+    ensures grows { Grows (words_have asking.old.set.words) (words_have asking.new.set.words) }
+    ensures own { new.low ≤ length truth.now.trail → words_have asking.new.set.words number ≡ true }
+    ensures others { (k : ℕ) → (k ≡ number → ⊥) → words_have asking.new.set.words k ≡ words_have asking.old.set.words k }
+    ensures none { length truth.now.trail < new.low → asking.new.set.words ≡ asking.old.set.words }
+    ensures ask { new.low ≤ length truth.now.trail → slice_index asking.new.asks.items number ≡ new.ask }
+    ensures asks { (k : ℕ) → (k ≡ number → ⊥) → slice_index asking.new.asks.items k ≡ slice_index asking.old.asks.items k }
+    ensures room { length asking.new.set.words ≡ length asking.old.set.words }
+    ensures long { length asking.new.asks.items ≡ length asking.old.asks.items }
     ensures size { length quiet.new.items ≡ length quiet.old.items }
-    ensures below { (n : ℕ) → n < low → slice_index_or quiet.new.items n false ≡ slice_index_or quiet.old.items n false }
-    ensures off { (n : ℕ) → low ≤ n → n < length truth.now.trail → slice_index_or quiet.new.items n false ≡ false }
+    ensures below { (n : ℕ) → n < new.low → slice_index_or quiet.new.items n false ≡ slice_index_or quiet.old.items n false }
+    ensures off { (n : ℕ) → new.low ≤ n → n < length truth.now.trail → slice_index_or quiet.new.items n false ≡ false }
 {
     let length = truth.length();
-    if low > length {
+    if new.low > length {
         return;
     }
-    unquiet(quiet, low, length);
-    pending.insert(number);
+    unquiet(quiet, new.low, length);
+    asking.insert(number, new.ask);
 }
 
 /// For each length of the trail up to the whole one, that something may be pending there.
@@ -92,6 +105,15 @@ fn no_quiet(alloc: Global, variables: u32) -> Result<Vec<bool>, Memory>
     ensures { IfOk result (λ quiet. length quiet.items ≡ variables + 1) }
 {
     Ok(vec![in alloc; false; variables as usize + 1]?)
+}
+
+/// How many literals the clauses of a formula have.
+fn literal_count(formula: &Formula) -> usize {
+    let mut count: usize = 0;
+    for number in 0..formula.count() {
+        count = count.saturating_add(formula.clause(number).len());
+    }
+    count
 }
 
 /// An empty set of clauses.
@@ -110,16 +132,21 @@ impl Watches {
         ensures { IfOk result (λ w. w ≡ record { variables = formula.now.variables; clauses = []; kept = []; trail = [] }) }
     {
         let variables = formula.variables();
+        let mut store = Store::new(alloc);
+        store.reserve(literal_count(formula), formula.count() as usize)?;
         let kept = Vec::with_capacity(alloc, formula.count() as usize)?;
         let truth = Truth::new(alloc, variables)?;
         let pairs = Pairs::new(alloc, formula)?;
         let quiet = no_quiet(alloc, variables)?;
         let chains = Chains::new(alloc, 2 * variables + 1)?;
         let watched = Vec::new(alloc);
-        let pending = no_pending(alloc);
+        let asking = Asking {
+            set: no_pending(alloc),
+            asks: Vec::with_capacity(alloc, formula.count() as usize)?,
+        };
         Ok(Watches {
             variables,
-            store: Store::new(alloc),
+            store,
             kept,
             truth,
             pairs,
@@ -127,8 +154,9 @@ impl Watches {
             lists: Lists {
                 chains,
                 watched,
-                pending,
+                asking,
             },
+            least: None,
             quiet,
         })
     }
@@ -173,7 +201,7 @@ impl Watches {
         self.lists.widen(number, slot)?;
         self.store.push(clause)?;
         self.kept.push(true)?;
-        let low = place(
+        let entered = place(
             &mut self.pairs,
             &mut self.slots,
             &mut self.lists,
@@ -183,17 +211,18 @@ impl Watches {
         )?;
         raise(
             &self.truth,
-            &mut self.lists.pending,
+            &mut self.lists.asking,
             &mut self.quiet,
             number,
-            low,
+            entered,
         );
-        clean(
+        let least = clean(
             &self.store,
             self.kept.as_slice(),
             &self.truth,
-            &mut self.lists.pending,
+            &mut self.lists.asking,
         );
+        self.least = least;
         Ok(())
     }
 
@@ -205,13 +234,15 @@ impl Watches {
         ensures { self.new ≡ record self.old { trail = self.old.trail ++ lit ∷ [] } }
     {
         let length = self.truth.length();
-        self.quiet[length as usize] = self.lists.pending.least().is_none();
+        self.quiet[length as usize] = self.least.is_none();
         self.truth.push(lit.0);
         let fallen = lit.opposite();
         mark_all(
+            &self.store,
             self.pairs.of(fallen.0),
             &self.truth,
-            &mut self.lists.pending,
+            fallen.0,
+            &mut self.lists.asking,
         );
         let spare = 2 * self.variables;
         self.lists.visit_all(
@@ -222,12 +253,13 @@ impl Watches {
             spare,
             fallen.0,
         );
-        clean(
+        let least = clean(
             &self.store,
             self.kept.as_slice(),
             &self.truth,
-            &mut self.lists.pending,
+            &mut self.lists.asking,
         );
+        self.least = least;
     }
 
     /// Takes back what stands above a length of the trail. It takes no memory.
@@ -239,14 +271,17 @@ impl Watches {
         }
         self.truth.cut(length);
         if self.quiet[length as usize] {
-            clear(&mut self.lists.pending);
+            clear(&mut self.lists.asking);
+            self.least = None;
         } else {
             rescan(
                 &self.store,
                 self.kept.as_slice(),
                 &self.truth,
-                &mut self.lists.pending,
+                &mut self.lists.asking,
             );
+            let least = self.lists.asking.set.least();
+            self.least = least;
         }
     }
 
@@ -256,12 +291,13 @@ impl Watches {
         ensures { self.new ≡ record self.old { kept = slice_set self.old.kept number false } }
     {
         self.kept[number as usize] = false;
-        clean(
+        let least = clean(
             &self.store,
             self.kept.as_slice(),
             &self.truth,
-            &mut self.lists.pending,
+            &mut self.lists.asking,
         );
+        self.least = least;
     }
 
     /// The literals of the clause with a number; it may have been removed.
@@ -272,11 +308,24 @@ impl Watches {
         self.store.clause(number)
     }
 
+    /// What a clause that is kept and pending leaves: its only literal that is not false, if there is one. It takes no memory.
+    pub fn left(&self, number: u32) -> Option<Lit>
+        requires { is_pending_in self.now.clauses self.now.kept (has_literal self.now.trail) number ≡ true }
+        ensures { MatchOption result (open_ones (has_literal self.now.trail) (clause_at self.now.clauses number) ≡ []) (λ lit. open_ones (has_literal self.now.trail) (clause_at self.now.clauses number) ≡ lit ∷ []) }
+    {
+        left_of(
+            &self.store,
+            &self.truth,
+            self.lists.asking.asks.as_slice(),
+            number,
+        )
+    }
+
     /// The least number of a kept clause that has no true literal and at most one that is not false. It takes no memory.
     pub fn least_pending(&self) -> Option<u32>
         ensures { result ≡ least_from (is_pending_in self.now.clauses self.now.kept (has_literal self.now.trail)) 0 (length self.now.clauses) }
     {
-        self.lists.pending.least()
+        self.least
     }
 }
 

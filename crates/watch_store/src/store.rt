@@ -55,4 +55,11 @@ impl Store {
     {
         self.clauses.add_sorted(clause)
     }
+
+    /// Makes room for so many more literals and clauses, so that they are added without a further allocation.
+    pub fn reserve(&mut self, literals: usize, clauses: usize) -> Result<(), Memory>
+        ensures { self.new ≡ self.old }
+    {
+        self.clauses.reserve(literals, clauses)
+    }
 }

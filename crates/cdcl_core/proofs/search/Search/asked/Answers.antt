@@ -1,38 +1,18 @@
-use Rattle.std.proofs.Common.{arith, ◌≡◌, ◌<◌, ◌/◌, ◌∙◌, ℕ, List, length, subst, sym, ap, Some, None}
-use Rattle.std.proofs.lemmas.List.Elements.{All-nil, recursion_from_All}
-use Rattle.clause_base.specs.Clause.{HasVariablesBelow}
+use Rattle.std.proofs.Common.{◌≡◌, ◌∙◌, ℕ, List, length, subst, sym, ap, Some, None}
+use Rattle.clause_base.specs.Clause.{has_literal}
 use Rattle.cdcl_rules.specs.declared.event.Event.{Event}
-use Rattle.cdcl_rules.specs.State.{clause_at, is_on}
-use Rattle.cdcl_rules.specs.Pending.{open_ones, is_pending_in}
+use Rattle.cdcl_rules.specs.Pending.{is_pending_in}
 use Rattle.cdcl_rules.specs.Event.{asked}
 use Rattle.cdcl_rules.specs.Run.{is_going}
-use Rattle.cdcl_rules.proofs.Members.{at_clause}
 use Rattle.cdcl_rules.proofs.Pending.{least_some}
-use Rattle.cdcl_laws.proofs.Fuel.{all_below}
-use Rattle.conflict_walk.specs.Clauses.{all_clauses}
-use Rattle.watch_lists.specs.Pending.{WatchesView}
 use Rattle.cdcl_core.specs.Search.{SearchView, state_of, asked_first}
-use Rattle.cdcl_core.proofs.Watching.{first_watched, read_watched, none_asked, some_asked}
+use Rattle.cdcl_core.proofs.Watching.{first_watched, open_watched, none_asked, some_asked}
 use Rattle.cdcl_core.proofs.search.Search.asked.Goals as goal
-
-pub clause-requires : goal.clause-requires
-clause-requires c =
-    let t = c.self.inside in
-    let m = c.self.invariant.mirrored (ap (λ (v : SearchView). v.spoilt) c.self.view_is ∙ c.requires.sane) (ap (λ (v : SearchView). is_going v.state.standing) c.self.view_is ∙ c.requires.going) in
-    let o = first_watched t.clauses t.trail.entries t.watches c.least_pending.result m c.least_pending.ensures in
-    let n = length (all_clauses t.clauses) in
-    let f = least_some (is_pending_in (all_clauses t.clauses) t.clauses.kept (is_on t.trail.entries)) 0 n c.in-Some.number (sym o ∙ c.in-Some.is) in
-    omega (arith, f.high, ap (λ (v : WatchesView). length v.clauses) m)
 
 pub asked-requires : goal.asked-requires
 asked-requires c =
-    let t = c.self.inside in
-    let m = c.self.invariant.mirrored (ap (λ (v : SearchView). v.spoilt) c.self.view_is ∙ c.requires.sane) (ap (λ (v : SearchView). is_going v.state.standing) c.self.view_is ∙ c.requires.going) in
-    let s = state_of t.clauses t.trail.entries t.standing in
-    let b = all_below t.clauses.formula s c.self.invariant.sound in
-    let here = at_clause (HasVariablesBelow t.clauses.formula.variables) (all_clauses t.clauses) c.in-Some.number (All-nil (λ l. l / 2 < t.clauses.formula.variables)) (recursion_from_All (HasVariablesBelow t.clauses.formula.variables) (all_clauses t.clauses) b) in
-    let there = subst (λ (n : ℕ). HasVariablesBelow n (clause_at (all_clauses t.clauses) c.in-Some.number)) (sym c.self.invariant.over) here in
-    subst (HasVariablesBelow t.trail.variables) (sym (c.clause.ensures ∙ read_watched t.clauses t.trail.entries t.watches c.in-Some.number m)) there
+    let w = c.self.inside.watches in
+    (least_some (is_pending_in w.clauses w.kept (has_literal w.trail)) 0 (length w.clauses) c.in-Some.number (sym c.least_pending.ensures ∙ c.in-Some.is)).passes
 
 pub returns-in-None-clause-event : goal.returns-in-None-clause-event
 returns-in-None-clause-event c =
@@ -47,6 +27,6 @@ returns-in-Some-clause-event c =
     let m = c.self.invariant.mirrored (ap (λ (v : SearchView). v.spoilt) c.self.view_is ∙ c.requires.sane) (ap (λ (v : SearchView). is_going v.state.standing) c.self.view_is ∙ c.requires.going) in
     let o = first_watched t.clauses t.trail.entries t.watches c.least_pending.result m c.least_pending.ensures in
     let n = c.in-Some.number in
-    let e = c.asked.ensures ∙ ap (λ (xs : List ℕ). asked n (open_ones (is_on t.trail.entries) xs)) (c.clause.ensures ∙ read_watched t.clauses t.trail.entries t.watches n m) in
+    let e = c.asked.ensures ∙ ap (λ (xs : List ℕ). asked n xs) (open_watched t.clauses t.trail.entries t.watches n m) in
     let is = ap (λ (x : Event). Some x) e ∙ some_asked (state_of t.clauses t.trail.entries t.standing) n (sym o ∙ c.in-Some.is) in
     subst (λ (v : SearchView). Some c.asked.result ≡ asked_first v.state) c.self.view_is is

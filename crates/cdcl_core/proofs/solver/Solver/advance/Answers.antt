@@ -7,35 +7,40 @@ use Rattle.cdcl_laws.proofs.Cuts.{adds_up, after_within, settled_stays}
 use Rattle.cdcl_laws.proofs.Stops.{grants, rests_always}
 use Rattle.cdcl_core.specs.Search.{SolverView}
 use Rattle.cdcl_core.proofs.Shorts.{short_between}
+use Rattle.cdcl_core.proofs.solver.Solver.advance.Given as given
 use Rattle.cdcl_core.proofs.solver.Solver.advance.Goals as goal
+use Rattle.cdcl_core.proofs.solver.Solver.advance.Goals.{After-conflicts-sound}
 
 on_ok : {T E P Q : Type 0} → (r : Result T E) → (P → Q) → OnOk r P → OnOk r Q
 on_ok (Ok x) f p = f p
 on_ok (Err e) f p = tt
 
+opens : (g : given.Over) (c : After-conflicts-sound g) → Opens c.args.self.now.formula.variables (g.C.Chooser.choice c.args.self.now.chooser)
+opens g c values e =
+    let v = c.args.self.now in
+    let fits = subst (λ (w : SolverView g.row.C.Denot). g.C.Chooser.fits w.chooser w.formula.variables) c.self.view_is c.self.invariant in
+    g.met.C.Chooser.opens v.chooser values (subst (g.C.Chooser.fits v.chooser) (sym e) fits)
+
+sound : (g : given.Over) (c : After-conflicts-sound g) → IsSound c.args.self.now.formula c.args.self.now.state
+sound g c = subst (λ (w : SolverView g.row.C.Denot). IsSound w.formula w.state) c.self.view_is c.conflicts-sound.ensures.sound
+
 pub returns-then-is_spoilt-clause-adds_up : goal.returns-then-is_spoilt-clause-adds_up
 returns-then-is_spoilt-clause-adds_up g c =
     let v = c.args.self.now in
-    let fits = subst (λ (w : SolverView g.row.C.Denot). g.C.Chooser.fits w.chooser w.formula.variables) c.self.view_is c.self.invariant in
-    let opens : Opens v.formula.variables (g.C.Chooser.choice v.chooser) = λ values e. g.met.C.Chooser.opens v.chooser values (subst (g.C.Chooser.fits v.chooser) (sym e) fits) in
-    let sound = subst (λ (w : SolverView g.row.C.Denot). IsSound w.formula w.state) c.self.view_is c.conflicts-sound.ensures.sound in
-    adds_up v.formula (g.C.Chooser.choice v.chooser) v.state opens sound
+    let here = (goal.at.returns-then-is_spoilt-clause-adds_up g c).After-conflicts-sound in
+    adds_up v.formula (g.C.Chooser.choice v.chooser) v.state (opens g here) (sound g here)
 
 pub returns-clause-after : goal.returns-clause-after
 returns-clause-after g c =
     let v = c.args.self.now in
-    let fits = subst (λ (w : SolverView g.row.C.Denot). g.C.Chooser.fits w.chooser w.formula.variables) c.self.view_is c.self.invariant in
-    let opens : Opens v.formula.variables (g.C.Chooser.choice v.chooser) = λ values e. g.met.C.Chooser.opens v.chooser values (subst (g.C.Chooser.fits v.chooser) (sym e) fits) in
-    let sound = subst (λ (w : SolverView g.row.C.Denot). IsSound w.formula w.state) c.self.view_is c.conflicts-sound.ensures.sound in
-    on_ok c.run.result (after_is v.formula (g.C.Chooser.choice v.chooser) v.state c.run.new.self.state c.args.conflicts opens sound) c.run.ensures.after
+    let here = (goal.at.returns-clause-after g c).After-conflicts-sound in
+    on_ok c.run.result (after_is v.formula (g.C.Chooser.choice v.chooser) v.state c.run.new.self.state c.args.conflicts (opens g here) (sound g here)) c.run.ensures.after
 
 pub returns-clause-adds_up : goal.returns-clause-adds_up
 returns-clause-adds_up g c =
     let v = c.args.self.now in
-    let fits = subst (λ (w : SolverView g.row.C.Denot). g.C.Chooser.fits w.chooser w.formula.variables) c.self.view_is c.self.invariant in
-    let opens : Opens v.formula.variables (g.C.Chooser.choice v.chooser) = λ values e. g.met.C.Chooser.opens v.chooser values (subst (g.C.Chooser.fits v.chooser) (sym e) fits) in
-    let sound = subst (λ (w : SolverView g.row.C.Denot). IsSound w.formula w.state) c.self.view_is c.conflicts-sound.ensures.sound in
-    adds_up v.formula (g.C.Chooser.choice v.chooser) v.state opens sound
+    let here = (goal.at.returns-clause-adds_up g c).After-conflicts-sound in
+    adds_up v.formula (g.C.Chooser.choice v.chooser) v.state (opens g here) (sound g here)
 
 pub returns-clause-within : goal.returns-clause-within
 returns-clause-within g c =
@@ -51,47 +56,35 @@ returns-clause-settled g c = settled_stays (g.C.Chooser.choice c.args.self.now.c
 pub returns-then-is_spoilt-clause-short : goal.returns-then-is_spoilt-clause-short
 returns-then-is_spoilt-clause-short g c =
     let v = c.args.self.now in
-    let fits = subst (λ (w : SolverView g.row.C.Denot). g.C.Chooser.fits w.chooser w.formula.variables) c.self.view_is c.self.invariant in
-    let opens : Opens v.formula.variables (g.C.Chooser.choice v.chooser) = λ values e. g.met.C.Chooser.opens v.chooser values (subst (g.C.Chooser.fits v.chooser) (sym e) fits) in
-    let sound = subst (λ (w : SolverView g.row.C.Denot). IsSound w.formula w.state) c.self.view_is c.conflicts-sound.ensures.sound in
-    short_between v.formula (g.C.Chooser.choice v.chooser) v.state opens sound
+    let here = (goal.at.returns-then-is_spoilt-clause-short g c).After-conflicts-sound in
+    short_between v.formula (g.C.Chooser.choice v.chooser) v.state (opens g here) (sound g here)
 
 pub returns-clause-short : goal.returns-clause-short
 returns-clause-short g c =
     let v = c.args.self.now in
-    let fits = subst (λ (w : SolverView g.row.C.Denot). g.C.Chooser.fits w.chooser w.formula.variables) c.self.view_is c.self.invariant in
-    let opens : Opens v.formula.variables (g.C.Chooser.choice v.chooser) = λ values e. g.met.C.Chooser.opens v.chooser values (subst (g.C.Chooser.fits v.chooser) (sym e) fits) in
-    let sound = subst (λ (w : SolverView g.row.C.Denot). IsSound w.formula w.state) c.self.view_is c.conflicts-sound.ensures.sound in
-    short_between v.formula (g.C.Chooser.choice v.chooser) v.state opens sound
+    let here = (goal.at.returns-clause-short g c).After-conflicts-sound in
+    short_between v.formula (g.C.Chooser.choice v.chooser) v.state (opens g here) (sound g here)
 
 pub returns-then-is_spoilt-clause-comes_to_rest : goal.returns-then-is_spoilt-clause-comes_to_rest
 returns-then-is_spoilt-clause-comes_to_rest g c =
     let v = c.args.self.now in
-    let fits = subst (λ (w : SolverView g.row.C.Denot). g.C.Chooser.fits w.chooser w.formula.variables) c.self.view_is c.self.invariant in
-    let opens : Opens v.formula.variables (g.C.Chooser.choice v.chooser) = λ values e. g.met.C.Chooser.opens v.chooser values (subst (g.C.Chooser.fits v.chooser) (sym e) fits) in
-    let sound = subst (λ (w : SolverView g.row.C.Denot). IsSound w.formula w.state) c.self.view_is c.conflicts-sound.ensures.sound in
-    rests_always v.formula (g.C.Chooser.choice v.chooser) v.state opens sound
+    let here = (goal.at.returns-then-is_spoilt-clause-comes_to_rest g c).After-conflicts-sound in
+    rests_always v.formula (g.C.Chooser.choice v.chooser) v.state (opens g here) (sound g here)
 
 pub returns-then-is_spoilt-clause-grants : goal.returns-then-is_spoilt-clause-grants
 returns-then-is_spoilt-clause-grants g c =
     let v = c.args.self.now in
-    let fits = subst (λ (w : SolverView g.row.C.Denot). g.C.Chooser.fits w.chooser w.formula.variables) c.self.view_is c.self.invariant in
-    let opens : Opens v.formula.variables (g.C.Chooser.choice v.chooser) = λ values e. g.met.C.Chooser.opens v.chooser values (subst (g.C.Chooser.fits v.chooser) (sym e) fits) in
-    let sound = subst (λ (w : SolverView g.row.C.Denot). IsSound w.formula w.state) c.self.view_is c.conflicts-sound.ensures.sound in
-    grants v.formula (g.C.Chooser.choice v.chooser) v.state opens sound
+    let here = (goal.at.returns-then-is_spoilt-clause-grants g c).After-conflicts-sound in
+    grants v.formula (g.C.Chooser.choice v.chooser) v.state (opens g here) (sound g here)
 
 pub returns-clause-comes_to_rest : goal.returns-clause-comes_to_rest
 returns-clause-comes_to_rest g c =
     let v = c.args.self.now in
-    let fits = subst (λ (w : SolverView g.row.C.Denot). g.C.Chooser.fits w.chooser w.formula.variables) c.self.view_is c.self.invariant in
-    let opens : Opens v.formula.variables (g.C.Chooser.choice v.chooser) = λ values e. g.met.C.Chooser.opens v.chooser values (subst (g.C.Chooser.fits v.chooser) (sym e) fits) in
-    let sound = subst (λ (w : SolverView g.row.C.Denot). IsSound w.formula w.state) c.self.view_is c.conflicts-sound.ensures.sound in
-    rests_always v.formula (g.C.Chooser.choice v.chooser) v.state opens sound
+    let here = (goal.at.returns-clause-comes_to_rest g c).After-conflicts-sound in
+    rests_always v.formula (g.C.Chooser.choice v.chooser) v.state (opens g here) (sound g here)
 
 pub returns-clause-grants : goal.returns-clause-grants
 returns-clause-grants g c =
     let v = c.args.self.now in
-    let fits = subst (λ (w : SolverView g.row.C.Denot). g.C.Chooser.fits w.chooser w.formula.variables) c.self.view_is c.self.invariant in
-    let opens : Opens v.formula.variables (g.C.Chooser.choice v.chooser) = λ values e. g.met.C.Chooser.opens v.chooser values (subst (g.C.Chooser.fits v.chooser) (sym e) fits) in
-    let sound = subst (λ (w : SolverView g.row.C.Denot). IsSound w.formula w.state) c.self.view_is c.conflicts-sound.ensures.sound in
-    grants v.formula (g.C.Chooser.choice v.chooser) v.state opens sound
+    let here = (goal.at.returns-clause-grants g c).After-conflicts-sound in
+    grants v.formula (g.C.Chooser.choice v.chooser) v.state (opens g here) (sound g here)

@@ -4,11 +4,17 @@ use Rattle.clause_base.specs.Clause.{has_literal}
 use Rattle.number_bits.specs.Bits.{words_have}
 use Rattle.watch_lists.specs.declared.visit.Watched.{Watched}
 use Rattle.watch_lists.specs.Pending.{is_free}
+use Rattle.watch_lists.specs.Asking.{IsAsked}
 use Rattle.watch_lists.specs.Visit.{no_watches, clause_at, place_in, slot_clauses, slot_flags, slot_set, Grows, Stays}
 use Rattle.watch_lists.proofs.Filters.{settled_true, settled_one}
-use Rattle.watch_lists.proofs.Visits.{has_below, listed_link, moves_own, others_stay, own_moved, placed_moved, beside_of, settled_grows, grows_insert, own_insert}
-use Rattle.watch_lists.proofs.Slotted.{fit_slots, slots_long}
+use Rattle.watch_lists.proofs.Visits.{has_below, listed_link, moves_own, others_stay, own_moved, placed_moved, Beside, beside_of, settled_grows, grows_insert, own_insert}
+use Rattle.watch_lists.proofs.Slotted.{fit_slots, slot_at, slots_long}
+use Rattle.watch_lists.proofs.Asks.{asked_insert}
 use Rattle.watch_lists.proofs.visit.Lists.visit.Goals as goal
+use Rattle.watch_lists.proofs.visit.Lists.visit.Goals.{After-lit}
+
+beside : (c : After-lit) → Beside (slot_clauses c.args.store.now c.args.slots.now) c.args.self.now.watched.items c.args.node c.at-other.result c.lit.inside.0
+beside c = beside_of (slot_clauses c.args.store.now c.args.slots.now) c.args.self.now.watched.items c.args.node c.at-other.result c.index.result.now c.slot_clause-clause.result.now c.index-clause-other.result c.lit.inside.0 c.requires.listed.0.placed c.requires.real c.index.ensures c.at-other.ensures c.slot_clause-clause.ensures c.index-clause-other.is c.lit.view_is
 
 pub is_true-requires : goal.is_true-requires
 is_true-requires c =
@@ -22,7 +28,7 @@ is_true-requires c =
 pub is_true-requires-2 : goal.is_true-requires-2
 is_true-requires-2 c =
     let cl = slot_clauses c.args.store.now c.args.slots.now in
-    let b = beside_of cl c.args.self.now.watched.items c.args.node c.at-other.result c.index.result.now c.slot_clause-clause.result.now c.index-clause-other.result c.lit.inside.0 c.requires.listed.0.placed c.requires.real c.index.ensures c.at-other.ensures c.slot_clause-clause.ensures c.index-clause-other.is c.lit.view_is in
+    let b = beside (goal.at.is_true-requires-2 c).After-lit in
     let l = has_below (clause_at cl (c.args.node / 2)) c.args.spare c.lit.inside.0 (λ p g. (fit_slots c.args.store.now c.args.slots.now c.args.spare c.requires.fit).below (c.args.node / 2) p g) b.has in
     omega (arith, l, c.requires.spare)
 
@@ -51,7 +57,7 @@ returns-then-is_true-clause-listed c =
     let cl = slot_clauses c.args.store.now c.args.slots.now in
     let wa = c.args.self.now.watched.items in
     let on = has_literal c.args.truth.now.trail in
-    let s = slot_set (words_have c.args.self.now.pending.words) c.args.slots.now in
+    let s = slot_set (words_have c.args.self.now.asking.set.words) c.args.slots.now in
     let r = c.requires.listed.0 in
     let W = Stays cl wa on s c.args.code in
     let h = ap (λ (x : ℕ). has_literal (clause_at cl (c.args.node / 2)) x) c.note-note.ensures ∙ r.notes c.args.node c.requires.real in
@@ -65,10 +71,10 @@ returns-then-is_true-2-clause-listed c =
     let cl = slot_clauses c.args.store.now c.args.slots.now in
     let wa = c.args.self.now.watched.items in
     let on = has_literal c.args.truth.now.trail in
-    let s = slot_set (words_have c.args.self.now.pending.words) c.args.slots.now in
+    let s = slot_set (words_have c.args.self.now.asking.set.words) c.args.slots.now in
     let r = c.requires.listed.0 in
     let W = Stays cl wa on s c.args.code in
-    let b = beside_of cl wa c.args.node c.at-other.result c.index.result.now c.slot_clause-clause.result.now c.index-clause-other.result c.lit.inside.0 r.placed c.requires.real c.index.ensures c.at-other.ensures c.slot_clause-clause.ensures c.index-clause-other.is c.lit.view_is in
+    let b = beside (goal.at.returns-then-is_true-2-clause-listed c).After-lit in
     let t : on c.lit.inside.0 ≡ true = sym c.is_true-2.ensures ∙ c.if-is_true-2.true in
     listed_link cl wa wa c.args.self.now.chains.heads.items c.link-then-is_true-2.new.self.heads.items c.args.self.now.chains.nodes.items c.link-then-is_true-2.new.self.nodes.items c.args.spare (slot_flags c.args.kept.now c.args.slots.now) c.args.node c.args.spare c.lit.inside.0 W W r c.requires.listed.1
     (c.link-then-is_true-2.ensures.linked r.on r.linked c.requires.listed.1) r.placed c.link-then-is_true-2.ensures.codes c.link-then-is_true-2.ensures.nodes c.link-then-is_true-2.ensures.own c.link-then-is_true-2.ensures.others c.requires.real b.has (λ k q ne. refl) (λ k q ne w. w)
@@ -76,17 +82,17 @@ returns-then-is_true-2-clause-listed c =
 
 pub returns-in-None-clause-listed : goal.returns-in-None-clause-listed
 returns-in-None-clause-listed c =
-    let grown : Grows (slot_set (words_have c.args.self.now.pending.words) c.args.slots.now) (slot_set (words_have c.insert.new.self.words) c.args.slots.now) = (λ k h. grows_insert (words_have c.args.self.now.pending.words) (words_have c.insert.new.self.words) (get_or c.args.slots.now (c.args.node / 2) 0) c.insert.ensures.has (get_or c.args.slots.now k 0) h) in
-    let own = own_insert (words_have c.args.self.now.pending.words) (words_have c.insert.new.self.words) (get_or c.args.slots.now (c.args.node / 2) 0) c.insert.ensures.has in
+    let grown : Grows (slot_set (words_have c.args.self.now.asking.set.words) c.args.slots.now) (slot_set (words_have c.insert.new.self.set.words) c.args.slots.now) = (λ k h. grows_insert (words_have c.args.self.now.asking.set.words) (words_have c.insert.new.self.set.words) (get_or c.args.slots.now (c.args.node / 2) 0) c.insert.ensures.has (get_or c.args.slots.now k 0) h) in
+    let own = own_insert (words_have c.args.self.now.asking.set.words) (words_have c.insert.new.self.set.words) (get_or c.args.slots.now (c.args.node / 2) 0) c.insert.ensures.has in
     let cl = slot_clauses c.args.store.now c.args.slots.now in
     let wa = c.args.self.now.watched.items in
     let on = has_literal c.args.truth.now.trail in
-    let s = slot_set (words_have c.args.self.now.pending.words) c.args.slots.now in
-    let s' = slot_set (words_have c.insert.new.self.words) c.args.slots.now in
+    let s = slot_set (words_have c.args.self.now.asking.set.words) c.args.slots.now in
+    let s' = slot_set (words_have c.insert.new.self.set.words) c.args.slots.now in
     let r = c.requires.listed.0 in
     let W = Stays cl wa on s c.args.code in
     let W' = Stays cl wa on s' c.args.code in
-    let b = beside_of cl wa c.args.node c.at-other.result c.index.result.now c.slot_clause-clause.result.now c.index-clause-other.result c.lit.inside.0 r.placed c.requires.real c.index.ensures c.at-other.ensures c.slot_clause-clause.ensures c.index-clause-other.is c.lit.view_is in
+    let b = beside (goal.at.returns-in-None-clause-listed c).After-lit in
     let none = subst (λ (xs : List ℕ). (p : ℕ) → p < length xs → (p ≡ c.at-other.result → ⊥) → is_free on (get_or xs p 0) ≡ false) c.slot_clause-clause.ensures c.in-None.ensures.none in
     listed_link cl wa wa c.args.self.now.chains.heads.items c.link-in-None.new.self.heads.items c.args.self.now.chains.nodes.items c.link-in-None.new.self.nodes.items c.args.spare (slot_flags c.args.kept.now c.args.slots.now) c.args.node c.args.spare c.lit.inside.0 W W' r c.requires.listed.1
     (c.link-in-None.ensures.linked r.on r.linked c.requires.listed.1) r.placed c.link-in-None.ensures.codes c.link-in-None.ensures.nodes c.link-in-None.ensures.own c.link-in-None.ensures.others c.requires.real b.has (λ k q ne. refl)
@@ -100,11 +106,11 @@ returns-in-Some-clause-listed c =
     let w' = c.moved.result in
     let wa' = set wa (c.args.node / 2) w' in
     let on = has_literal c.args.truth.now.trail in
-    let s = slot_set (words_have c.args.self.now.pending.words) c.args.slots.now in
+    let s = slot_set (words_have c.args.self.now.asking.set.words) c.args.slots.now in
     let r = c.requires.listed.0 in
     let W = Stays cl wa on s c.args.code in
     let W' = Stays cl wa' on s c.args.code in
-    let b = beside_of cl wa c.args.node c.at-other.result c.index.result.now c.slot_clause-clause.result.now c.index-clause-other.result c.lit.inside.0 r.placed c.requires.real c.index.ensures c.at-other.ensures c.slot_clause-clause.ensures c.index-clause-other.is c.lit.view_is in
+    let b = beside (goal.at.returns-in-Some-clause-listed c).After-lit in
     let below : c.args.node / 2 < length wa = omega (arith, c.requires.real.below, r.placed.many) in
     let v : c.index.result.now ≡ get_or wa (c.args.node / 2) no_watches = get_or_read wa (c.args.node / 2) c.index.result.now below c.index.ensures no_watches in
     let second = (c.args.node % 2 == 1) in
@@ -120,6 +126,28 @@ returns-in-Some-clause-listed c =
     c.link-in-Some.ensures.codes c.link-in-Some.ensures.nodes c.link-in-Some.ensures.own c.link-in-Some.ensures.others c.requires.real b.has (λ k q ne'. same k ne')
     (λ k q ne' w. (same k ne' ∙ w.0, w.1))
     (inl (found ∙ sym (own_moved cl wa w' c.args.node place below c.moved.ensures.own)))
+
+pub insert-requires-clause-room : goal.insert-requires-clause-room
+insert-requires-clause-room c =
+    omega (arith, c.requires.slotted (c.args.node / 2) (omega (arith, c.requires.real.below, slots_long c.args.store.now c.args.slots.now)), c.requires.long)
+
+pub returns-in-None-clause-asked : goal.returns-in-None-clause-asked
+returns-in-None-clause-asked c =
+    let store = c.args.store.now in
+    let slots = c.args.slots.now in
+    let cl = slot_clauses store slots in
+    let on = has_literal c.args.truth.now.trail in
+    let slot = c.args.node / 2 in
+    let inside : slot < length slots = omega (arith, c.requires.real.below, slots_long store slots) in
+    let at : c.slot_clause-clause.result.now ≡ clause_at store (get_or c.args.slots.now (c.args.node / 2) 0) = c.slot_clause-clause.ensures ∙ slot_at store slots slot inside in
+    let b = beside (goal.at.returns-in-None-clause-asked c).After-lit in
+    let own : IsAsked on (clause_at store (get_or c.args.slots.now (c.args.node / 2) 0)) c.lit.inside.0 = subst (λ (xs : List ℕ). IsAsked on xs c.lit.inside.0) at (record {
+      place = c.at-other.result;
+      others = c.in-None.ensures.none;
+      own = inl (omega (arith, b.inside, ap (λ (xs : List ℕ). length xs) c.slot_clause-clause.ensures), sym (ap (λ (x : ℕ). x) c.lit.view_is ∙ get_or_read c.slot_clause-clause.result.now c.at-other.result c.index-clause-other.result (omega (arith, b.inside, ap (λ (xs : List ℕ). length xs) c.slot_clause-clause.ensures)) c.index-clause-other.is 0));
+    }) in
+    asked_insert store on c.args.self.now.asking.set.words c.insert.new.self.set.words c.args.self.now.asking.asks.items c.insert.new.self.asks.items (get_or c.args.slots.now (c.args.node / 2) 0) c.lit.inside.0 c.requires.asked
+    (omega (arith, c.requires.slotted slot inside)) (omega (arith, c.requires.slotted slot inside, c.requires.long)) own c.insert.ensures.has c.insert.ensures.asks
 
 pub returns-in-Some-clause-moves : goal.returns-in-Some-clause-moves
 returns-in-Some-clause-moves c =

@@ -3,54 +3,90 @@ use Rattle.clause_base.specs.Literal.{opposite}
 use Rattle.clause_base.specs.Clause.{has_literal}
 use Rattle.number_bits.specs.Bits.{words_have}
 use Rattle.watch_store.specs.Mirror.{TruthView}
-use Rattle.watch_lists.specs.Pending.{is_pending_on}
+use Rattle.watch_lists.specs.Pending.{WatchesView, is_pending_on}
 use Rattle.watch_lists.specs.Visit.{slot_clauses, slot_flags, slot_set, AllSettled, MovesToFree, IsAtRest}
 use Rattle.watch_lists.specs.declared.pairs.Pair.{Pair}
-use Rattle.watch_lists.specs.Pairs.{pairs_of, pair_in}
+use Rattle.watch_lists.specs.Pairs.{pairs_of, pair_in, IsPairOf}
+use Rattle.watch_lists.specs.Asking.{AreAsked, IsConsistent}
 use Rattle.watch_lists.specs.Sound.{IsFront, AreFree}
-use Rattle.watch_lists.proofs.Assigns.{assign_complete, assign_free, assign_quiets, whole_free}
-use Rattle.watch_lists.proofs.Paired.{pair_within}
+use Rattle.watch_lists.proofs.Assigns.{opposite_twice, assign_complete, assign_free, assign_quiets, whole_free}
+use Rattle.watch_lists.proofs.Asks.{all_longer, consistent_push, last_true}
 use Rattle.watch_lists.proofs.Slotted.{slots_long, flags_long, slots_complete}
 use Rattle.watch_lists.proofs.Founds.{found_complete}
 use Rattle.watch_lists.proofs.watches.Watches.assign.Goals as goal
+use Rattle.watch_lists.proofs.watches.Watches.assign.Goals.{After-push, After-fallen, After-visit_all}
 
-pub mark_all-requires-clause-literal : goal.mark_all-requires-clause-literal
-mark_all-requires-clause-literal c k h =
+trail_is : (c : After-push) → c.push.new.self.trail ≡ c.self.inside.truth.trail ++ c.lit.inside.0 ∷ []
+trail_is c = ap (λ (v : TruthView). v.trail) c.push.ensures
+
+consistent : (c : After-push) → IsConsistent c.push.new.self.trail
+consistent c =
     let w = c.self.inside in
-    let e = c.self.invariant.1.exact c.fallen.inside.0 k (subst (λ (xs : List Pair). k < length xs) c.of.ensures h) in
-    let l = pair_within w.store (2 * w.variables) c.fallen.inside.0 (pair_in (pairs_of w.pairs c.fallen.inside.0) k) c.self.invariant.0.fit e in
-    let v = ap (λ (xs : List Pair). (pair_in xs k).other) c.of.ensures in
-    let tv : c.push.new.self.variables ≡ w.truth.variables = ap (λ (t : TruthView). t.variables) c.push.ensures in
-    omega (arith, l.0, v, tv, c.self.invariant.0.same)
+    subst IsConsistent (sym (trail_is c)) (consistent_push w.truth.trail c.lit.inside.0 c.self.invariant.2.consistent (ap (λ (v : WatchesView). has_literal v.trail (opposite c.lit.inside.0)) c.self.view_is ∙ ap (λ (l : ℕ). has_literal c.args.self.now.trail (opposite l)) c.lit.view_is ∙ c.requires.free))
 
-pub mark_all-requires-clause-clause : goal.mark_all-requires-clause-clause
-mark_all-requires-clause-clause c k h =
+fallen_is : (c : After-fallen) → c.fallen.inside.0 ≡ opposite c.lit.inside.0
+fallen_is c = c.fallen.view_is ∙ c.opposite-fallen.ensures ∙ ap opposite (sym c.lit.view_is)
+
+moves : (c : After-visit_all) → MovesToFree (slot_clauses c.self.inside.store c.self.inside.slots.items) c.self.inside.lists.watched.items c.visit_all.new.self.watched.items (has_literal (c.self.inside.truth.trail ++ c.lit.inside.0 ∷ []))
+moves c =
     let w = c.self.inside in
-    let e = c.self.invariant.1.exact c.fallen.inside.0 k (subst (λ (xs : List Pair). k < length xs) c.of.ensures h) in
-    let l = pair_within w.store (2 * w.variables) c.fallen.inside.0 (pair_in (pairs_of w.pairs c.fallen.inside.0) k) c.self.invariant.0.fit e in
-    let v = ap (λ (xs : List Pair). (pair_in xs k).number) c.of.ensures in
-    omega (arith, l.1, v, c.self.invariant.0.room)
+    subst (λ (ss : List ℕ). MovesToFree (slot_clauses w.store ss) w.lists.watched.items c.visit_all.new.self.watched.items (has_literal (w.truth.trail ++ c.lit.inside.0 ∷ []))) c.as_slice-2.ensures.value
+    (subst (λ (ys : List ℕ). MovesToFree (slot_clauses w.store c.as_slice-2.result.now) w.lists.watched.items c.visit_all.new.self.watched.items (has_literal ys)) (ap (λ (v : TruthView). v.trail) c.push.ensures) c.visit_all.ensures.moves)
 
-pub clean-requires-clause-complete : goal.clean-requires-clause-complete
-clean-requires-clause-complete c =
+settled : (c : After-visit_all) → AllSettled (slot_clauses c.self.inside.store c.self.inside.slots.items) c.visit_all.new.self.watched.items (has_literal (c.self.inside.truth.trail ++ c.lit.inside.0 ∷ [])) (slot_set (words_have c.visit_all.new.self.asking.set.words) c.self.inside.slots.items) (opposite c.lit.inside.0) (slot_flags c.self.inside.kept.items c.self.inside.slots.items)
+settled c =
+    let w = c.self.inside in
+    let wa = c.visit_all.new.self.watched.items in
+    let set = words_have c.visit_all.new.self.asking.set.words in
+    let op : c.fallen.inside.0 ≡ opposite c.lit.inside.0 = c.fallen.view_is ∙ c.opposite-fallen.ensures ∙ ap opposite (sym c.lit.view_is) in
+    subst (λ (ys : List ℕ). AllSettled (slot_clauses w.store w.slots.items) wa (has_literal ys) (slot_set set w.slots.items) (opposite c.lit.inside.0) (slot_flags w.kept.items w.slots.items)) (ap (λ (v : TruthView). v.trail) c.push.ensures)
+    (subst (λ (l : ℕ). AllSettled (slot_clauses w.store w.slots.items) wa (has_literal c.push.new.self.trail) (slot_set set w.slots.items) l (slot_flags w.kept.items w.slots.items)) op
+    (subst (λ (ks : List Bool). AllSettled (slot_clauses w.store w.slots.items) wa (has_literal c.push.new.self.trail) (slot_set set w.slots.items) c.fallen.inside.0 (slot_flags ks w.slots.items)) c.as_slice.ensures.value
+    (subst (λ (ss : List ℕ). AllSettled (slot_clauses w.store ss) wa (has_literal c.push.new.self.trail) (slot_set set ss) c.fallen.inside.0 (slot_flags c.as_slice.result.now ss)) c.as_slice-2.ensures.value c.visit_all.ensures.settled)))
+
+rest : (c : After-visit_all) → IsAtRest (slot_clauses c.self.inside.store c.self.inside.slots.items) c.visit_all.new.self.watched.items c.visit_all.new.self.chains.heads.items c.visit_all.new.self.chains.nodes.items (2 * c.self.inside.variables) (slot_flags c.self.inside.kept.items c.self.inside.slots.items)
+rest c =
+    let w = c.self.inside in
+    subst (λ (ks : List Bool). IsAtRest (slot_clauses w.store w.slots.items) c.visit_all.new.self.watched.items c.visit_all.new.self.chains.heads.items c.visit_all.new.self.chains.nodes.items (2 * w.variables) (slot_flags ks w.slots.items)) c.as_slice.ensures.value
+    (subst (λ (ss : List ℕ). IsAtRest (slot_clauses w.store ss) c.visit_all.new.self.watched.items c.visit_all.new.self.chains.heads.items c.visit_all.new.self.chains.nodes.items (2 * w.variables) (slot_flags c.as_slice.result.now ss)) c.as_slice-2.ensures.value c.visit_all.ensures.rest)
+
+pub mark_all-requires-clause-fallen : goal.mark_all-requires-clause-fallen
+mark_all-requires-clause-fallen c =
+    let w = c.self.inside in
+    let tr = trail_is (goal.at.mark_all-requires-clause-fallen c).After-push in
+    let op = fallen_is (goal.at.mark_all-requires-clause-fallen c).After-fallen in
+    ap (λ (ys : List ℕ). has_literal ys (opposite c.fallen.inside.0)) tr ∙ ap (λ (l : ℕ). has_literal (w.truth.trail ++ c.lit.inside.0 ∷ []) l) (ap opposite op ∙ opposite_twice c.lit.inside.0) ∙ last_true w.truth.trail c.lit.inside.0
+
+pub mark_all-requires-clause-exact : goal.mark_all-requires-clause-exact
+mark_all-requires-clause-exact c k h =
+    let w = c.self.inside in
+    subst (λ (xs : List Pair). IsPairOf w.store c.fallen.inside.0 (pair_in xs k)) (sym c.of.ensures) (c.self.invariant.1.exact c.fallen.inside.0 k (subst (λ (xs : List Pair). k < length xs) c.of.ensures h))
+
+pub mark_all-requires-clause-asked : goal.mark_all-requires-clause-asked
+mark_all-requires-clause-asked c =
+    let w = c.self.inside in
+    let tr = trail_is (goal.at.mark_all-requires-clause-asked c).After-push in
+    subst (λ (ys : List ℕ). AreAsked w.store (has_literal ys) w.lists.asking.set.words w.lists.asking.asks.items) (sym tr) (all_longer w.store w.truth.trail c.lit.inside.0 w.lists.asking.set.words w.lists.asking.asks.items c.self.invariant.2.asked)
+
+pub clean-least-requires-clause-consistent : goal.clean-least-requires-clause-consistent
+clean-least-requires-clause-consistent c =
+    let w = c.self.inside in
+    let tr = trail_is (goal.at.clean-least-requires-clause-consistent c).After-push in
+    consistent (goal.at.clean-least-requires-clause-consistent c).After-push
+
+pub clean-least-requires-clause-complete : goal.clean-least-requires-clause-complete
+clean-least-requires-clause-complete c =
     let w = c.self.inside in
     let i = c.self.invariant.0 in
-    let tr : c.push.new.self.trail ≡ w.truth.trail ++ c.lit.inside.0 ∷ [] = ap (λ (v : TruthView). v.trail) c.push.ensures in
-    let op : c.fallen.inside.0 ≡ opposite c.lit.inside.0 = c.fallen.view_is ∙ c.opposite-fallen.ensures ∙ ap opposite (sym c.lit.view_is) in
+    let tr = trail_is (goal.at.clean-least-requires-clause-complete c).After-push in
+    let op = fallen_is (goal.at.clean-least-requires-clause-complete c).After-fallen in
     let e = c.visit_all.ensures in
-    let moves = subst (λ (ss : List ℕ). MovesToFree (slot_clauses w.store ss) w.lists.watched.items c.visit_all.new.self.watched.items (has_literal (w.truth.trail ++ c.lit.inside.0 ∷ []))) c.as_slice-2.ensures.value (subst (λ (ys : List ℕ). MovesToFree (slot_clauses w.store c.as_slice-2.result.now) w.lists.watched.items c.visit_all.new.self.watched.items (has_literal ys)) tr e.moves) in
-    let sl = c.as_slice-2.ensures.value in
-    let settled = subst (λ (ys : List ℕ). AllSettled (slot_clauses w.store w.slots.items) c.visit_all.new.self.watched.items (has_literal ys) (slot_set (words_have c.visit_all.new.self.pending.words) w.slots.items) (opposite c.lit.inside.0) (slot_flags w.kept.items w.slots.items)) tr
-    (subst (λ (l : ℕ). AllSettled (slot_clauses w.store w.slots.items) c.visit_all.new.self.watched.items (has_literal c.push.new.self.trail) (slot_set (words_have c.visit_all.new.self.pending.words) w.slots.items) l (slot_flags w.kept.items w.slots.items)) op
-    (subst (λ (ks : List Bool). AllSettled (slot_clauses w.store w.slots.items) c.visit_all.new.self.watched.items (has_literal c.push.new.self.trail) (slot_set (words_have c.visit_all.new.self.pending.words) w.slots.items) c.fallen.inside.0 (slot_flags ks w.slots.items)) c.as_slice.ensures.value
-    (subst (λ (ss : List ℕ). AllSettled (slot_clauses w.store ss) c.visit_all.new.self.watched.items (has_literal c.push.new.self.trail) (slot_set (words_have c.visit_all.new.self.pending.words) ss) c.fallen.inside.0 (slot_flags c.as_slice.result.now ss)) sl e.settled))) in
-    let rest = subst (λ (ks : List Bool). IsAtRest (slot_clauses w.store w.slots.items) c.visit_all.new.self.watched.items c.visit_all.new.self.chains.heads.items c.visit_all.new.self.chains.nodes.items (2 * w.variables) (slot_flags ks w.slots.items)) c.as_slice.ensures.value
-    (subst (λ (ss : List ℕ). IsAtRest (slot_clauses w.store ss) c.visit_all.new.self.watched.items c.visit_all.new.self.chains.heads.items c.visit_all.new.self.chains.nodes.items (2 * w.variables) (slot_flags c.as_slice.result.now ss)) c.as_slice-2.ensures.value e.rest) in
-    let slotted = assign_complete (slot_clauses w.store w.slots.items) w.lists.watched.items c.visit_all.new.self.watched.items (slot_flags w.kept.items w.slots.items) w.truth.trail c.lit.inside.0 (slot_set (words_have w.lists.pending.words) w.slots.items) (slot_set (words_have c.visit_all.new.self.pending.words) w.slots.items) (flags_long w.kept.items w.slots.items ∙ sym (slots_long w.store w.slots.items)) rest.placed
-    (whole_free (slot_clauses w.store w.slots.items) w.lists.watched.items (slot_flags w.kept.items w.slots.items) w.truth.trail i.free) moves settled
+    let visited = (goal.at.clean-least-requires-clause-complete c).After-visit_all in
+    let slotted = assign_complete (slot_clauses w.store w.slots.items) w.lists.watched.items c.visit_all.new.self.watched.items (slot_flags w.kept.items w.slots.items) w.truth.trail c.lit.inside.0 (slot_set (words_have w.lists.asking.set.words) w.slots.items) (slot_set (words_have c.visit_all.new.self.asking.set.words) w.slots.items) (flags_long w.kept.items w.slots.items ∙ sym (slots_long w.store w.slots.items)) (rest visited).placed
+    (whole_free (slot_clauses w.store w.slots.items) w.lists.watched.items (slot_flags w.kept.items w.slots.items) w.truth.trail i.free) (moves visited) (settled visited)
     (λ k h. e.grows (get_or w.slots.items k 0) (c.mark_all.ensures.grows (get_or w.slots.items k 0) h))
-    (slots_complete w.store w.kept.items w.slots.items w.truth.trail (words_have w.lists.pending.words) i.front.complete) in
-    let done = found_complete w.variables w.store w.kept.items w.truth.trail w.slots.items c.lit.inside.0 w.pairs c.of.result.now (words_have w.lists.pending.words) (words_have c.visit_all.new.self.pending.words) i.many c.self.invariant.1
+    (slots_complete w.store w.kept.items w.slots.items w.truth.trail (words_have w.lists.asking.set.words) i.front.complete) in
+    let done = found_complete w.variables w.store w.kept.items w.truth.trail w.slots.items c.lit.inside.0 w.pairs c.of.result.now (words_have w.lists.asking.set.words) (words_have c.visit_all.new.self.asking.set.words) i.many c.self.invariant.1
     (c.of.ensures ∙ ap (λ (l : ℕ). pairs_of w.pairs l) op)
     (λ k h none. e.grows _ (c.mark_all.ensures.in_set k h (ap (λ (ys : List ℕ). has_literal ys (pair_in c.of.result.now k).other) tr ∙ none)))
     (λ k h. e.grows k (c.mark_all.ensures.grows k h)) i.front.complete slotted in
@@ -60,33 +96,32 @@ pub invariant_of-self : goal.invariant_of-self
 invariant_of-self c =
     let w = c.self.inside in
     let i = c.self.invariant.0 in
-    let tr : c.push.new.self.trail ≡ w.truth.trail ++ c.lit.inside.0 ∷ [] = ap (λ (v : TruthView). v.trail) c.push.ensures in
+    let tr = trail_is (goal.at.invariant_of-self c).After-push in
     let tv : c.push.new.self.variables ≡ w.truth.variables = ap (λ (v : TruthView). v.variables) c.push.ensures in
-    let op : c.fallen.inside.0 ≡ opposite c.lit.inside.0 = c.fallen.view_is ∙ c.opposite-fallen.ensures ∙ ap opposite (sym c.lit.view_is) in
+    let op = fallen_is (goal.at.invariant_of-self c).After-fallen in
     let e = c.visit_all.ensures in
-    let moves = subst (λ (ss : List ℕ). MovesToFree (slot_clauses w.store ss) w.lists.watched.items c.visit_all.new.self.watched.items (has_literal (w.truth.trail ++ c.lit.inside.0 ∷ []))) c.as_slice-2.ensures.value (subst (λ (ys : List ℕ). MovesToFree (slot_clauses w.store c.as_slice-2.result.now) w.lists.watched.items c.visit_all.new.self.watched.items (has_literal ys)) tr e.moves) in
-    let sl = c.as_slice-2.ensures.value in
-    let settled = subst (λ (ys : List ℕ). AllSettled (slot_clauses w.store w.slots.items) c.visit_all.new.self.watched.items (has_literal ys) (slot_set (words_have c.visit_all.new.self.pending.words) w.slots.items) (opposite c.lit.inside.0) (slot_flags w.kept.items w.slots.items)) tr
-    (subst (λ (l : ℕ). AllSettled (slot_clauses w.store w.slots.items) c.visit_all.new.self.watched.items (has_literal c.push.new.self.trail) (slot_set (words_have c.visit_all.new.self.pending.words) w.slots.items) l (slot_flags w.kept.items w.slots.items)) op
-    (subst (λ (ks : List Bool). AllSettled (slot_clauses w.store w.slots.items) c.visit_all.new.self.watched.items (has_literal c.push.new.self.trail) (slot_set (words_have c.visit_all.new.self.pending.words) w.slots.items) c.fallen.inside.0 (slot_flags ks w.slots.items)) c.as_slice.ensures.value
-    (subst (λ (ss : List ℕ). AllSettled (slot_clauses w.store ss) c.visit_all.new.self.watched.items (has_literal c.push.new.self.trail) (slot_set (words_have c.visit_all.new.self.pending.words) ss) c.fallen.inside.0 (slot_flags c.as_slice.result.now ss)) sl e.settled))) in
-    let rest = subst (λ (ks : List Bool). IsAtRest (slot_clauses w.store w.slots.items) c.visit_all.new.self.watched.items c.visit_all.new.self.chains.heads.items c.visit_all.new.self.chains.nodes.items (2 * w.variables) (slot_flags ks w.slots.items)) c.as_slice.ensures.value
-    (subst (λ (ss : List ℕ). IsAtRest (slot_clauses w.store ss) c.visit_all.new.self.watched.items c.visit_all.new.self.chains.heads.items c.visit_all.new.self.chains.nodes.items (2 * w.variables) (slot_flags c.as_slice.result.now ss)) c.as_slice-2.ensures.value e.rest) in
-    let free = assign_free (slot_clauses w.store w.slots.items) w.lists.watched.items c.visit_all.new.self.watched.items (slot_flags w.kept.items w.slots.items) w.truth.trail c.lit.inside.0 (slot_set (words_have c.visit_all.new.self.pending.words) w.slots.items) i.free moves settled in (
+    let visited = (goal.at.invariant_of-self c).After-visit_all in
+    let free = assign_free (slot_clauses w.store w.slots.items) w.lists.watched.items c.visit_all.new.self.watched.items (slot_flags w.kept.items w.slots.items) w.truth.trail c.lit.inside.0 (slot_set (words_have c.visit_all.new.self.asking.set.words) w.slots.items) i.free (moves visited) (settled visited) in (
       record {
         small = i.small;
         same = tv ∙ i.same;
         many = i.many;
         few = i.few;
         fit = i.fit;
-        room = omega (arith, i.room, c.mark_all.ensures.room, e.room, c.clean.ensures.room);
+        room = omega (arith, i.room, c.mark_all.ensures.room, e.room, c.clean-least.ensures.room);
         slotted = i.slotted;
         slots_few = i.slots_few;
-        rest = rest;
+        rest = rest visited;
         free = subst (λ (ys : List ℕ). (n : ℕ) → n ≤ length ys → AreFree (slot_clauses w.store w.slots.items) c.visit_all.new.self.watched.items (slot_flags w.kept.items w.slots.items) (take n ys)) (sym tr) free;
-        front = subst (λ (ks : List Bool). IsFront (is_pending_on w.store ks c.push.new.self.trail) (words_have c.clean.new.pending.words)) c.as_slice-3.ensures.value c.clean.ensures.front;
+        front = subst (λ (ks : List Bool). IsFront (is_pending_on w.store ks c.push.new.self.trail) (words_have c.clean-least.new.asking.set.words)) c.as_slice-3.ensures.value c.clean-least.ensures.front;
         quiet_size = length-set w.quiet.items c.length-length.result c.is_none.result ∙ i.quiet_size;
-        quiets = subst (λ (ys : List ℕ). (n : ℕ) → n < length ys → get_or (set w.quiet.items c.length-length.result c.is_none.result) n false ≡ true → (k : ℕ) → is_pending_on w.store w.kept.items (take n ys) k ≡ false) (sym tr) (assign_quiets w.store w.kept.items w.truth.trail c.lit.inside.0 w.quiet.items c.length-length.result c.least.result c.is_none.result (words_have w.lists.pending.words) c.length-length.ensures.is (omega (arith, c.length-length.ensures.short, i.same, i.quiet_size)) c.least.ensures c.is_none.ensures i.front i.quiets);
+        quiets = subst (λ (ys : List ℕ). (n : ℕ) → n < length ys → get_or (set w.quiet.items c.length-length.result c.is_none.result) n false ≡ true → (k : ℕ) → is_pending_on w.store w.kept.items (take n ys) k ≡ false) (sym tr) (assign_quiets w.store w.kept.items w.truth.trail c.lit.inside.0 w.quiet.items c.length-length.result w.least c.is_none.result (words_have w.lists.asking.set.words) c.length-length.ensures.is (omega (arith, c.length-length.ensures.short, i.same, i.quiet_size)) c.self.invariant.3 c.is_none.ensures i.front i.quiets);
       },
       c.self.invariant.1,
+      record {
+        asked = c.clean-least.ensures.asked;
+        long = omega (arith, c.self.invariant.2.long, c.mark_all.ensures.long, e.long, ap (λ (xs : List ℕ). length xs) c.clean-least.ensures.asks);
+        consistent = consistent (goal.at.invariant_of-self c).After-push;
+      },
+      c.clean-least.ensures.least,
     )

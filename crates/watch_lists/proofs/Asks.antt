@@ -1,0 +1,296 @@
+-- What the clauses of the set ask for tells whether they are pending.
+use Rattle.std.proofs.Common.{arith, ◌≡◌, ◌≢◌, ◌==◌, ℕ, suc, ◌+◌, ◌-◌, ◌%◌, ◌<◌, ◌≤◌, List, [], ◌∷◌, ◌++◌, length, take, set, get_or, leb, Bool, true, false, not, ◌||◌, ◌&&◌, if◌then◌else◌, refl, sym, ap, ◌∙◌, subst, ◌⊎◌, inl, inr, Option, Some, None, get_or-set_same, get_or-set_other}
+use Rattle.std.specs.List.{list_any, filter}
+use Rattle.std.proofs.lemmas.Bool.Decides.{nat_tests}
+use Rattle.std.proofs.lemmas.List.{take_all, length_push}
+use Rattle.clause_base.specs.Literal.{opposite}
+use Rattle.clause_base.specs.Clause.{has_literal}
+use Rattle.cdcl_rules.specs.Pending.{is_pending}
+use Rattle.number_bits.specs.Bits.{IsLeast, words_have}
+use Rattle.watch_store.proofs.Mirrors.{has-snoc}
+use Rattle.watch_lists.specs.declared.pairs.Pair.{Pair}
+use Rattle.watch_lists.specs.Pending.{is_free, is_pending_on}
+use Rattle.watch_lists.specs.Asking.{IsAsked, AreAsked, IsConsistent, IsAsking}
+use Rattle.watch_lists.specs.Visit.{clause_at, Grows, IsFit}
+use Rattle.watch_lists.specs.Pairs.{IsPairOf, pair_in}
+use Rattle.watch_lists.specs.Added.{Outlasts}
+use Rattle.watch_lists.proofs.Filters.{tests_one, count_one, count_two, pending_off, any_from_has, has_get, pending_at}
+use Rattle.watch_lists.proofs.Assigns.{equal_of, apart_of, at_most_of, past_of, opposite_twice, not_false, true_longer, true_in_take}
+use Rattle.watch_lists.proofs.Adds.{at_other, at_own}
+
+-- a test that fails at each place fails for the whole list
+none_at : (p : ℕ → Bool) (xs : List ℕ) → ((i : ℕ) → i < length xs → p (get_or xs i 0) ≡ false) → list_any p xs ≡ false
+none_at p [] h = refl
+none_at p (x ∷ xs) h = ap (λ (b : Bool). b || list_any p xs) (h 0 (omega arith)) ∙ none_at p xs (λ i g. h (suc i) (omega (arith, g)))
+
+-- a literal that is false is not true
+off_of : (trail : List ℕ) (l : ℕ) → IsConsistent trail → is_free (has_literal trail) l ≡ false → has_literal trail l ≡ false
+off_of trail l c f = ap (has_literal trail) (sym (opposite_twice l)) ∙ c (opposite l) (not_false (has_literal trail (opposite l)) f)
+
+-- a clause that asks for a literal is pending where this is not true
+pub pending_by_ask : (trail clause : List ℕ) (ask codes : ℕ) → IsConsistent trail → ((p : ℕ) → p < length clause → get_or clause p 0 < codes) → codes ≤ 4294967294 → IsAsked (has_literal trail) clause ask → is_pending (has_literal trail) clause ≡ (ask == 4294967295 || not (has_literal trail ask))
+pending_by_ask trail clause ask codes cons below small a = by a.own
+  where
+    on : ℕ → Bool
+    on = has_literal trail
+
+    own : (q : ℕ) → q ≡ a.place → q < length clause → get_or clause a.place 0 ≡ ask → on ask ≡ false → on (get_or clause q 0) ≡ false
+    own q e h v f = ap on (ap (λ (i : ℕ). get_or clause i 0) e ∙ v) ∙ f
+
+    met : (b : Bool) → on ask ≡ b → a.place < length clause → get_or clause a.place 0 ≡ ask → is_pending on clause ≡ not (on ask)
+    met true f h v =
+        let any = any_from_has on clause ask (ap (λ (l : ℕ). has_literal clause l) (sym v) ∙ has_get clause a.place h) f in
+        ap (λ (b : Bool). not b && leb (length (filter (is_free on) clause)) 1) any ∙ ap (λ (b : Bool). not b) (sym f)
+    met false f h v =
+        let none = none_at on clause (λ i g. at i g (i == a.place) refl) in
+        let one = tests_one (length (filter (is_free on) clause)) (count_one (is_free on) clause a.place a.others) in
+        ap (λ (b : Bool). not b && leb (length (filter (is_free on) clause)) 1) none ∙ one ∙ ap (λ (b : Bool). not b) (sym f)
+      where
+        at : (i : ℕ) → i < length clause → (b : Bool) → (i == a.place) ≡ b → on (get_or clause i 0) ≡ false
+        at i g true e = own i (equal_of i a.place e) g v f
+        at i g false e = off_of trail (get_or clause i 0) cons (a.others i g (apart_of i a.place e))
+
+    by : ((a.place < length clause) × (get_or clause a.place 0 ≡ ask)) ⊎ ((clause ≡ []) × (ask ≡ 4294967295)) → is_pending on clause ≡ (ask == 4294967295 || not (on ask))
+    by (inl w) =
+        let b = below a.place w.0 in
+        let ne : ask ≢ 4294967295 = omega (arith, b, w.1, small) in
+        let t : (ask == 4294967295) ≡ false = grind (arith, nat_tests) in
+        met (on ask) refl w.0 w.1 ∙ ap (λ (c : Bool). c || not (on ask)) (sym t)
+    by (inr w) =
+        let t : (ask == 4294967295) ≡ true = (let e : ask ≡ 4294967295 = w.1 in grind (arith, nat_tests)) in
+        ap (λ (xs : List ℕ). is_pending on xs) w.0 ∙ ap (λ (c : Bool). c || not (on ask)) (sym t)
+
+-- it asks for it on longer trails
+pub asked_longer : (on on' : ℕ → Bool) (clause : List ℕ) (ask : ℕ) → ((l : ℕ) → on l ≡ true → on' l ≡ true) → IsAsked on clause ask → IsAsked on' clause ask
+asked_longer on on' clause ask h a = record {
+  place = a.place;
+  others = λ p g ne. ap (λ (b : Bool). not b) (h (opposite (get_or clause p 0)) (not_false (on (opposite (get_or clause p 0))) (a.others p g ne)));
+  own = a.own;
+}
+
+pub all_longer : (cl : List (List ℕ)) (trail : List ℕ) (x : ℕ) (words asks : List ℕ) → AreAsked cl (has_literal trail) words asks → AreAsked cl (has_literal (trail ++ x ∷ [])) words asks
+all_longer cl trail x words asks a k h = let r = a k h in (r.0, asked_longer (has_literal trail) (has_literal (trail ++ x ∷ [])) (clause_at cl k) (get_or asks k 0) (true_longer trail x) r.1)
+
+-- one more clause in the set
+pub asked_insert : (cl : List (List ℕ)) (on : ℕ → Bool) (words words' asks asks' : List ℕ) (number ask : ℕ) → AreAsked cl on words asks → number < length cl → number < length asks → IsAsked on (clause_at cl number) ask → ((k : ℕ) → words_have words' k ≡ (k == number || words_have words k)) → asks' ≡ set asks number ask → AreAsked cl on words' asks'
+asked_insert cl on words words' asks asks' number ask a inside room own has e k h = by (k == number) refl
+  where
+    by : (b : Bool) → (k == number) ≡ b → (k < length cl) × IsAsked on (clause_at cl k) (get_or asks' k 0)
+    by true f =
+        let q : k ≡ number = equal_of k number f in
+        let v : get_or asks' k 0 ≡ ask = ap (λ (xs : List ℕ). get_or xs k 0) e ∙ ap (λ (i : ℕ). get_or (set asks number ask) i 0) q ∙ get_or-set_same asks number ask 0 room in
+        (omega (arith, q, inside), subst (λ (x : ℕ). IsAsked on (clause_at cl k) x) (sym v) (subst (λ (n : ℕ). IsAsked on (clause_at cl n) ask) (sym q) own))
+    by false f =
+        let v : get_or asks' k 0 ≡ get_or asks k 0 = ap (λ (xs : List ℕ). get_or xs k 0) e ∙ get_or-set_other asks number k ask 0 (apart_of k number f) in
+        let r = a k (ap (λ (b : Bool). b || words_have words k) (sym f) ∙ sym (has k) ∙ h) in
+        (r.0, subst (λ (x : ℕ). IsAsked on (clause_at cl k) x) (sym v) r.1)
+
+-- fewer clauses in the set
+pub asked_fewer : (cl : List (List ℕ)) (on : ℕ → Bool) (words words' asks : List ℕ) (number : ℕ) → AreAsked cl on words asks → ((k : ℕ) → words_have words' k ≡ (not (k == number) && words_have words k)) → AreAsked cl on words' asks
+asked_fewer cl on words words' asks number a has k h = a k (by (k == number) (sym (has k) ∙ h))
+  where
+    by : (b : Bool) → (not b && words_have words k) ≡ true → words_have words k ≡ true
+    by true e = absurd (let w : ⊥ = cc in w)
+    by false e = e
+
+-- a clause of two literals asks for the one beside the false one
+pub asked_beside : (on : ℕ → Bool) (k : List ℕ) (ask place other : ℕ) → length k ≡ 2 → place + other ≡ 1 → is_free on (get_or k other 0) ≡ false → get_or k place 0 ≡ ask → IsAsked on k ask
+asked_beside on k ask place other two one f e = record {
+  place = place;
+  others = λ p h ne. ap (λ (i : ℕ). is_free on (get_or k i 0)) (left p h ne) ∙ f;
+  own = inl (omega (arith, two, one), e);
+}
+  where
+    left : (p : ℕ) → p < length k → (p ≡ place → ⊥) → p ≡ other
+    left p h ne = let n : p ≢ place = ne in omega (arith, h, two, one, n)
+
+pub pair_asked : (cl : List (List ℕ)) (on : ℕ → Bool) (fallen : ℕ) (p : Pair) → on (opposite fallen) ≡ true → IsPairOf cl fallen p → IsAsked on (clause_at cl p.number) p.other
+pair_asked cl on fallen p f (inl e) = subst (λ (xs : List ℕ). IsAsked on xs p.other) (sym e) (asked_beside on (fallen ∷ p.other ∷ []) p.other 1 0 refl refl (ap (λ (b : Bool). not b) f) refl)
+pair_asked cl on fallen p f (inr e) = subst (λ (xs : List ℕ). IsAsked on xs p.other) (sym e) (asked_beside on (p.other ∷ fallen ∷ []) p.other 0 1 refl refl (ap (λ (b : Bool). not b) f) refl)
+
+-- trails on which no literal is true and false
+pub consistent_none : (trail : List ℕ) → trail ≡ [] → IsConsistent trail
+consistent_none trail e l h = absurd (let z : false ≡ true = sym (ap (λ (xs : List ℕ). has_literal xs l) e) ∙ h in let w : ⊥ = cc in w)
+
+off_in_take : (n : ℕ) (trail : List ℕ) (l : ℕ) → has_literal trail l ≡ false → has_literal (take n trail) l ≡ false
+off_in_take n trail l f = by (has_literal (take n trail) l) refl
+  where
+    by : (b : Bool) → has_literal (take n trail) l ≡ b → b ≡ false
+    by true e = let z : true ≡ false = sym (true_in_take n trail l e) ∙ f in cc
+    by false e = refl
+
+pub consistent_take : (n : ℕ) (trail : List ℕ) → IsConsistent trail → IsConsistent (take n trail)
+consistent_take n trail c l h = off_in_take n trail (opposite l) (c l (true_in_take n trail l h))
+
+opposite_apart : (l : ℕ) → l ≡ opposite l → ⊥
+opposite_apart l e = by (l % 2 == 0) refl
+  where
+    at : (b : Bool) → (l % 2 == 0) ≡ b → opposite l ≡ (if b then l + 1 else l - 1)
+    at b f = ap (λ (c : Bool). if c then l + 1 else l - 1) f
+
+    by : (b : Bool) → (l % 2 == 0) ≡ b → ⊥
+    by true f = absurd (omega (arith, e, at true f))
+    by false f = let t : l % 2 ≢ 0 = grind (arith, nat_tests) in absurd (omega (arith, e, at false f, t))
+
+pub consistent_push : (trail : List ℕ) (x : ℕ) → IsConsistent trail → has_literal trail (opposite x) ≡ false → IsConsistent (trail ++ x ∷ [])
+consistent_push trail x c free l h = has-snoc trail x (opposite l) ∙ by (x == l) refl (has_literal trail l) refl (sym (has-snoc trail x l) ∙ h)
+  where
+    by : (b : Bool) → (x == l) ≡ b → (t : Bool) → has_literal trail l ≡ t → (t || b) ≡ true → (has_literal trail (opposite l) || (x == opposite l)) ≡ false
+    by true f t g e =
+        let q : x ≡ l = equal_of x l f in
+        let ne : x ≢ opposite l = (λ (z : x ≡ opposite l). opposite_apart l (sym q ∙ z)) in
+        let n : (x == opposite l) ≡ false = grind (arith, nat_tests) in
+        ap (λ (b : Bool). b || (x == opposite l)) (ap (λ (y : ℕ). has_literal trail (opposite y)) (sym q) ∙ free) ∙ n
+    by false f true g e =
+        let ne : x ≢ opposite l = (λ (z : x ≡ opposite l). clash (ap opposite z ∙ opposite_twice l)) in
+        let n : (x == opposite l) ≡ false = grind (arith, nat_tests) in
+        ap (λ (b : Bool). b || (x == opposite l)) (c l g) ∙ n
+      where
+        clash : opposite x ≡ l → ⊥
+        clash z = let w : true ≡ false = sym g ∙ ap (λ (y : ℕ). has_literal trail y) (sym z) ∙ free in let v : ⊥ = cc in v
+    by false f false g e = absurd (let w : ⊥ = cc in w)
+
+-- a literal that is not false for less than the whole trail is false
+pub false_past : (trail : List ℕ) (l until : ℕ) → ((n : ℕ) → n ≤ length trail → is_free (has_literal (take n trail)) l ≡ leb n until) → until + 1 ≤ length trail → is_free (has_literal trail) l ≡ false
+false_past trail l until lasts h =
+    let t : leb (length trail) until ≡ false = grind (arith, nat_tests) in
+    ap (λ (xs : List ℕ). is_free (has_literal xs) l) (sym (take_all (length trail) trail (omega arith))) ∙ lasts (length trail) (omega arith) ∙ t
+
+-- where the second of the literals that are not false for longest is false, all but the first are
+pub false_after : (trail : List ℕ) (l other : ℕ) → Outlasts trail l other → is_free (has_literal trail) l ≡ false → is_free (has_literal trail) other ≡ false
+false_after trail l other o f = by (is_free (has_literal trail) other) refl
+  where
+    whole : take (length trail) trail ≡ trail
+    whole = take_all (length trail) trail (omega arith)
+
+    by : (b : Bool) → is_free (has_literal trail) other ≡ b → b ≡ false
+    by true e =
+        let g = o (length trail) (omega arith) (ap (λ (xs : List ℕ). is_free (has_literal xs) other) whole ∙ e) in
+        let z : true ≡ false = sym g ∙ ap (λ (xs : List ℕ). is_free (has_literal xs) l) whole ∙ f in cc
+    by false e = refl
+
+-- a set of which no clause is
+pub asked_none : (cl : List (List ℕ)) (on : ℕ → Bool) (words asks : List ℕ) → ((k : ℕ) → words_have words k ≡ false) → AreAsked cl on words asks
+asked_none cl on words asks none k h = absurd (let z : true ≡ false = sym h ∙ none k in let w : ⊥ = cc in w)
+
+-- with a clause more, and more room
+pub asked_add : (cl : List (List ℕ)) (k : List ℕ) (on : ℕ → Bool) (number low long ask : ℕ) (words words' asks asks' asks'' : List ℕ) → AreAsked cl on words asks → number ≡ length cl → length cl ≤ length asks → ((n : ℕ) → n < length asks → get_or asks' n 0 ≡ get_or asks n 0) → ((n : ℕ) → (n ≡ number → ⊥) → get_or asks'' n 0 ≡ get_or asks' n 0) → ((n : ℕ) → (n ≡ number → ⊥) → words_have words' n ≡ words_have words n) → (low ≤ long → IsAsked on k ask) → (low ≤ long → get_or asks'' number 0 ≡ ask) → (long < low → words_have words' number ≡ words_have words number) → AreAsked (cl ++ k ∷ []) on words' asks''
+asked_add cl k on number low long ask words words' asks asks' asks'' a e room wide same others own is none n h = by (n == number) refl (leb low long) refl
+  where
+    old : (n : ℕ) → (n ≡ number → ⊥) → words_have words n ≡ true → (n < length (cl ++ k ∷ [])) × IsAsked on (clause_at (cl ++ k ∷ []) n) (get_or asks'' n 0)
+    old n ne g =
+        let r = a n g in
+        let v : get_or asks'' n 0 ≡ get_or asks n 0 = same n ne ∙ wide n (omega (arith, r.0, room)) in
+        let at : clause_at (cl ++ k ∷ []) n ≡ clause_at cl n = at_other cl k n (λ (q : n ≡ length cl). ne (q ∙ sym e)) in
+        (omega (arith, r.0, length_push cl k), subst (λ (x : ℕ). IsAsked on (clause_at (cl ++ k ∷ []) n) x) (sym v) (subst (λ (xs : List ℕ). IsAsked on xs (get_or asks n 0)) (sym at) r.1))
+
+    by : (b : Bool) → (n == number) ≡ b → (r : Bool) → leb low long ≡ r → (n < length (cl ++ k ∷ [])) × IsAsked on (clause_at (cl ++ k ∷ []) n) (get_or asks'' n 0)
+    by true f true g =
+        let q : n ≡ number = equal_of n number f in
+        let l : low ≤ long = at_most_of low long g in
+        let v : get_or asks'' n 0 ≡ ask = ap (λ (i : ℕ). get_or asks'' i 0) q ∙ is l in
+        (omega (arith, q, e, length_push cl k), subst (λ (x : ℕ). IsAsked on (clause_at (cl ++ k ∷ []) n) x) (sym v) (subst (λ (xs : List ℕ). IsAsked on xs ask) (sym (at_own cl k n (q ∙ e))) (own l)))
+    by true f false g =
+        let q : n ≡ number = equal_of n number f in
+        let was : words_have words n ≡ true = ap (words_have words) q ∙ sym (none (past_of low long g)) ∙ ap (words_have words') (sym q) ∙ h in
+        absurd (omega (arith, (a n was).0, q, e))
+    by false f r g = let ne = apart_of n number f in old n ne (sym (others n ne) ∙ h)
+
+-- tables with more room
+pub asking_wider : (cl : List (List ℕ)) (trail words asks words' asks' : List ℕ) → IsAsking cl trail words asks → ((k : ℕ) → words_have words' k ≡ words_have words k) → ((k : ℕ) → k < length asks → get_or asks' k 0 ≡ get_or asks k 0) → length asks ≤ length asks' → IsAsking cl trail words' asks'
+asking_wider cl trail words asks words' asks' i same wide more = record {
+  asked = λ k h. asked k (i.asked k (sym (same k) ∙ h));
+  long = omega (arith, i.long, more);
+  consistent = i.consistent;
+}
+  where
+    asked : (k : ℕ) → (k < length cl) × IsAsked (has_literal trail) (clause_at cl k) (get_or asks k 0) → (k < length cl) × IsAsked (has_literal trail) (clause_at cl k) (get_or asks' k 0)
+    asked k r = (r.0, subst (λ (x : ℕ). IsAsked (has_literal trail) (clause_at cl k) x) (sym (wide k (omega (arith, r.0, i.long)))) r.1)
+
+pub least_wider : (s s' : ℕ → Bool) (o : Option ℕ) → ((k : ℕ) → s' k ≡ s k) → IsLeast s o → IsLeast s' o
+least_wider s s' None h l = λ k. h k ∙ l k
+least_wider s s' (Some n) h l = (h n ∙ l.0, λ j g. h j ∙ l.1 j g)
+
+-- the literal that was made true last
+pub last_true : (trail : List ℕ) (x : ℕ) → has_literal (trail ++ x ∷ []) x ≡ true
+last_true trail x = has-snoc trail x x ∙ by (has_literal trail x)
+  where
+    same : (x == x) ≡ true
+    same = grind (arith, nat_tests)
+
+    by : (b : Bool) → (b || (x == x)) ≡ true
+    by true = refl
+    by false = same
+
+-- a clause stands where it is kept and what it asks for is not true
+pub stands_off : (cl : List (List ℕ)) (kept : List Bool) (trail : List ℕ) (k : ℕ) → get_or kept k false ≡ false → false ≡ is_pending_on cl kept trail k
+stands_off cl kept trail k e = sym (pending_at cl kept trail k ∙ ap (λ (b : Bool). b && is_pending (has_literal trail) (clause_at cl k)) e)
+
+pub stands_on : (cl : List (List ℕ)) (kept : List Bool) (trail : List ℕ) (k ask codes : ℕ) (b : Bool) → get_or kept k false ≡ true → IsConsistent trail → IsFit cl codes → codes ≤ 4294967294 → IsAsked (has_literal trail) (clause_at cl k) ask → b ≡ (ask == 4294967295 || not (has_literal trail ask)) → b ≡ is_pending_on cl kept trail k
+stands_on cl kept trail k ask codes b e cons fit small a v =
+    v ∙ sym (pending_by_ask trail (clause_at cl k) ask codes cons (fit.below k) small a) ∙ sym (pending_at cl kept trail k ∙ ap (λ (f : Bool). f && is_pending (has_literal trail) (clause_at cl k)) e)
+
+pub nothing_is : (ask : ℕ) (b : Bool) → ask ≡ 4294967295 → true ≡ (ask == 4294967295 || b)
+nothing_is ask b e = let t : (ask == 4294967295) ≡ true = grind (arith, nat_tests) in sym (ap (λ (c : Bool). c || b) t)
+
+pub something_is : (ask : ℕ) (b : Bool) → (ask ≡ 4294967295 → ⊥) → b ≡ (ask == 4294967295 || b)
+something_is ask b ne = let n : ask ≢ 4294967295 = ne in let t : (ask == 4294967295) ≡ false = grind (arith, nat_tests) in sym (ap (λ (c : Bool). c || b) t)
+
+pub ask_below : (cl : List (List ℕ)) (on : ℕ → Bool) (k ask codes : ℕ) → IsFit cl codes → IsAsked on (clause_at cl k) ask → (ask ≡ 4294967295 → ⊥) → ask < codes
+ask_below cl on k ask codes fit a ne = by a.own
+  where
+    by : ((a.place < length (clause_at cl k)) × (get_or (clause_at cl k) a.place 0 ≡ ask)) ⊎ ((clause_at cl k ≡ []) × (ask ≡ 4294967295)) → ask < codes
+    by (inl w) = omega (arith, fit.below k a.place w.0, w.1)
+    by (inr w) = absurd (ne w.1)
+
+-- a pending clause asks for its literal that is not false, or for its first one where all are false
+pub ask_found : (on : ℕ → Bool) (xs : List ℕ) (i : ℕ) → i < length xs → is_free on (get_or xs i 0) ≡ true → is_pending on xs ≡ true → IsAsked on xs (get_or xs i 0)
+ask_found on xs i h f p = record { place = i; others = λ j g ne. by j g ne (is_free on (get_or xs j 0)) refl; own = inl (h, refl) }
+  where
+    by : (j : ℕ) → j < length xs → (j ≡ i → ⊥) → (b : Bool) → is_free on (get_or xs j 0) ≡ b → b ≡ false
+    by j g ne false e = refl
+    by j g ne true e = let z : true ≡ false = sym p ∙ pending_off on xs (count_two (is_free on) xs j i g h ne e f) in cc
+
+pub ask_none : (on : ℕ → Bool) (xs : List ℕ) → ((j : ℕ) → j < length xs → is_free on (get_or xs j 0) ≡ false) → 0 < length xs → IsAsked on xs (get_or xs 0 0)
+ask_none on xs h g = record { place = 0; others = λ j l ne. h j l; own = inl (g, refl) }
+
+pub ask_empty : (on : ℕ → Bool) (xs : List ℕ) → length xs ≡ 0 → IsAsked on xs 4294967295
+ask_empty on [] e = record { place = 0; others = λ p h ne. absurd (omega (arith, h)); own = inr (refl, refl) }
+ask_empty on (x ∷ xs) e = absurd (omega (arith, e))
+
+-- a test cannot be true and false
+pub clash : {X : Type 0} → true ≡ false → X
+clash e = absurd (let w : ⊥ = cc in w)
+
+pub other_insert : (set set' : ℕ → Bool) (n k : ℕ) → ((j : ℕ) → set' j ≡ (j == n || set j)) → (k ≡ n → ⊥) → set' k ≡ set k
+other_insert set set' n k h ne = h k ∙ ap (λ (b : Bool). b || set k) (off k n ne)
+  where
+    off : (a b : ℕ) → (a ≡ b → ⊥) → (a == b) ≡ false
+    off a b f = let n : a ≢ b = f in grind (arith, nat_tests)
+
+-- a clause that is kept and pending is pending
+pub pending_kept : (cl : List (List ℕ)) (kept : List Bool) (trail : List ℕ) (k : ℕ) → is_pending_on cl kept trail k ≡ true → is_pending (has_literal trail) (clause_at cl k) ≡ true
+pending_kept cl kept trail k p = by (get_or kept k false) (sym (pending_at cl kept trail k) ∙ p)
+  where
+    by : (b : Bool) → (b && is_pending (has_literal trail) (clause_at cl k)) ≡ true → is_pending (has_literal trail) (clause_at cl k) ≡ true
+    by true e = e
+    by false e = absurd (let w : ⊥ = cc in w)
+
+-- one number more is looked at
+pub scanned : (p s s' : ℕ → Bool) (n : ℕ) → ((k : ℕ) → k < n → s k ≡ p k) → s n ≡ false → ((k : ℕ) → (k ≡ n → ⊥) → s' k ≡ s k) → (p n ≡ true → s' n ≡ true) → (p n ≡ false → s' n ≡ s n) → (k : ℕ) → k < n + 1 → s' k ≡ p k
+scanned p s s' n before off others own none k h = by (k == n) refl (p n) refl
+  where
+    by : (b : Bool) → (k == n) ≡ b → (q : Bool) → p n ≡ q → s' k ≡ p k
+    by true f true g = let e = equal_of k n f in ap s' e ∙ own g ∙ sym g ∙ ap p (sym e)
+    by true f false g = let e = equal_of k n f in ap s' e ∙ none g ∙ off ∙ sym g ∙ ap p (sym e)
+    by false f q g = let ne : k ≢ n = apart_of k n f in others k ne ∙ before k (omega (arith, h, ne))
+
+-- and one pair more is marked
+pub marked_more : (pairs : List Pair) (n : ℕ) (on s s' : ℕ → Bool) → ((i : ℕ) → i < n → on (pair_in pairs i).other ≡ false → s (pair_in pairs i).number ≡ true) → Grows s s' → (on (pair_in pairs n).other ≡ false → s' (pair_in pairs n).number ≡ true) → (i : ℕ) → i < n + 1 → on (pair_in pairs i).other ≡ false → s' (pair_in pairs i).number ≡ true
+marked_more pairs n on s s' old grows own i h f = by (i == n) refl
+  where
+    by : (b : Bool) → (i == n) ≡ b → s' (pair_in pairs i).number ≡ true
+    by true e =
+        let q = equal_of i n e in
+        ap (λ (j : ℕ). s' (pair_in pairs j).number) q ∙ own (ap (λ (j : ℕ). on (pair_in pairs j).other) (sym q) ∙ f)
+    by false e = let ne : i ≢ n = apart_of i n e in grows _ (old i (omega (arith, h, ne)) f)
