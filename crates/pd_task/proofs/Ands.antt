@@ -5,7 +5,6 @@ use Rattle.std.proofs.lemmas.List.{drop_more, drop_all}
 use Rattle.pd_sexp.specs.Tree as defs
 use Rattle.pd_sexp.specs.declared.tree.Tree.{Tree}
 use Rattle.pd_sexp.specs.View.{view, views}
-use Rattle.pd_model.specs.declared.effects.Effect.{Effect}
 use Rattle.pd_words.specs.declared.fault.Fault.{Fault}
 use Rattle.pd_words.specs.declared.fault.ReadError.{ReadError}
 use Rattle.pd_words.specs.declared.fault.ReadError.TheVariants as errors

@@ -1,11 +1,11 @@
 // Effects.
 ghost use Rattle.std.specs.Prelude.{◌≡◌, ◌++◌, ◌∷◌, [], IfOk, OnOk, IfErr};
 ghost use Rattle.pd_sexp.specs.View.{view, views};
-ghost use Rattle.pd_words.specs.First.{Gives, GivesAs, Leaves};
+ghost use Rattle.pd_words.specs.First.{GivesAs, Leaves};
 ghost use Rattle.pd_words.specs.declared.fault.ReadError.TheVariants as errors;
 ghost use Rattle.pd_task.specs.Atoms.{condition};
 ghost use Rattle.pd_task.specs.Effects as effects;
-ghost use Rattle.pd_task.specs.Scope.{names_with, site_of, opened};
+ghost use Rattle.pd_task.specs.Scope.{site_of, opened};
 
 use crate::cond::{one, read_cond};
 use crate::headed::read_headed;

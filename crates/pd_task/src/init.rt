@@ -1,7 +1,7 @@
 // The initial state.
-ghost use Rattle.std.specs.Prelude.{◌≡◌, ◌++◌, ◌∷◌, [], option_map};
+ghost use Rattle.std.specs.Prelude.{◌≡◌, ◌++◌, ◌∷◌, []};
 ghost use Rattle.pd_sexp.specs.View.{view, views};
-ghost use Rattle.pd_words.specs.First.{Gives, GivesAs, Leaves, each, every};
+ghost use Rattle.pd_words.specs.First.{Gives, Leaves, each, every};
 ghost use Rattle.pd_task.specs.Declarations as declarations;
 ghost use Rattle.pd_task.specs.Scope.{names_with};
 
