@@ -1,75 +1,73 @@
 -- Lists after `and`, item by item, as a loop reads them.
-use Rattle.std.proofs.Common.{◌≡◌, ℕ, List, ◌∷◌, Result, Ok, Err, refl, ◌∙◌, sym, arith}
+use Rattle.std.proofs.Common.{arith, ◌≡◌, ℕ, ◌+◌, ◌<◌, ◌≤◌, List, length, get_or, drop, Result, Ok, Err, refl, ◌∙◌, sym}
+use Rattle.std.specs.Prelude.{IsErrAnd}
+use Rattle.std.proofs.lemmas.List.{drop_more, drop_all}
 use Rattle.pd_sexp.specs.Tree as defs
 use Rattle.pd_sexp.specs.declared.tree.Tree.{Tree}
-use Rattle.pd_sexp.specs.declared.tree.Trees.{Trees}
-use Rattle.pd_sexp.specs.declared.tree.Tree.TheVariants as trees
 use Rattle.pd_sexp.specs.View.{view, views}
-use Rattle.pd_sexp.proofs.Views.{view-List}
-use Rattle.pd_model.specs.declared.conds.Cond.{Cond}
-use Rattle.pd_model.specs.declared.effects.Effect.{Effect}
 use Rattle.pd_words.specs.declared.fault.Fault.{Fault}
 use Rattle.pd_words.specs.declared.fault.ReadError.{ReadError}
 use Rattle.pd_words.specs.declared.fault.ReadError.TheVariants as errors
 use Rattle.pd_words.specs.declared.keyword.Keyword.TheVariants as heads
 use Rattle.pd_words.specs.Words.{head_of}
-use Rattle.pd_words.specs.First.{Fails}
+use Rattle.pd_words.specs.First.{◌>>=◌, Fails, Leaves}
 use Rattle.pd_task.specs.Atoms.{Names, condition, conditions}
 use Rattle.pd_task.specs.Effects.{Site, literals, all_literals, effect, all_effects}
 
--- ---- conditions
+-- `all` reads items as `one` does, each with what those before it gave, and a list after `and` is its items
+pub record IsListed {S : Type 0} (one : S → defs.Tree → Result S Fault) (all : S → defs.Trees → Result S Fault) : Type 0 where
+  pub none : (s : S) → all s defs.no_trees ≡ Ok s
+  pub some : (s : S) (t : defs.Tree) (ts : defs.Trees) → all s (defs.and_tree t ts) ≡ (one s t >>= λ next. all next ts)
+  pub list : (s : S) (at : ℕ) (head : defs.Tree) (rest : defs.Trees) → head_of head ≡ heads.And → one s (defs.list at (defs.and_tree head rest)) ≡ all s rest
 
-conditions_at : (names : Names) (before : List Cond) (at : ℕ) (head : defs.Tree) (rest : defs.Trees) → head_of head ≡ heads.And
-    → condition names before (defs.list at (defs.and_tree head rest)) ≡ conditions names before rest
-conditions_at names before at head rest is-and = grind (arith, is-and)
+pub conditions_listed : (names : Names) → IsListed (condition names) (conditions names)
+conditions_listed names = record { none = λ s. refl; some = λ s t ts. refl; list = λ s at head rest is. grind (arith, is) }
 
-pub conditions_is : (names : Names) (before : List Cond) (at : ℕ) (items : Trees) (head : Tree) (rest : List Tree) (tree : Tree)
-    → tree ≡ trees.List at items → items.items.items ≡ head ∷ rest → head_of (view head) ≡ heads.And → condition names before (view tree) ≡ conditions names before (views rest)
-conditions_is names before at items head rest tree is parts is-and = rw (is, view-List, parts) (conditions_at names before at (view head) (views rest) is-and)
+pub literals_listed : (site : Site) → IsListed (literals site) (all_literals site)
+literals_listed site = record { none = λ s. refl; some = λ s t ts. refl; list = λ s at head rest is. grind (arith, is) }
 
-pub conditions_fail : (names : Names) (front : List Cond) (t : Tree) (rest : List Tree) (e : ReadError) (total : Result (List Cond) Fault)
-    → Fails e (condition names front (view t)) → conditions names front (views (t ∷ rest)) ≡ total → Fails e total
-conditions_fail names front t rest errors.Memory total is so_far = tt
-conditions_fail names front t rest (errors.Fault f) total is so_far =
-    let one : conditions names front (views (t ∷ rest)) ≡ Err f = rw is refl in
-    sym so_far ∙ one
+pub effects_listed : (types : List (List ℕ)) (site : Site) → IsListed (effect types site) (all_effects types site)
+effects_listed types site = record { none = λ s. refl; some = λ s t ts. refl; list = λ s at head rest is. grind (arith, is) }
 
--- ---- literals
+-- an error that is handed on as it is
+pub handed_on : {S : Type 0} (read : Result S Fault) (new : S) (e : ReadError) (r : Result (Unit {0}) ReadError) → Fails e read → IsErrAnd r (λ y. y ≡ e) → Leaves read new r
+handed_on read new e (Ok u) fails h = absurd h
+handed_on read new e (Err y) fails h = rw h fails
 
-literals_at : (site : Site) (before : List Effect) (at : ℕ) (head : defs.Tree) (rest : defs.Trees) → head_of head ≡ heads.And
-    → literals site before (defs.list at (defs.and_tree head rest)) ≡ all_literals site before rest
-literals_at site before at head rest is-and = grind (arith, is-and)
+module _ {S : Type 0} {one : S → defs.Tree → Result S Fault} {all : S → defs.Trees → Result S Fault} (listed : IsListed one all) where
+  at_item : (rest : List Tree) (i : ℕ) (item : Tree) (front : S) → i < length rest → item ≡ get_or rest i item
+      → all front (views (drop i rest)) ≡ (one front (view item) >>= λ next. all next (views (drop (i + 1) rest)))
+  at_item rest i item front lt at =
+      let more = drop_more rest i item lt in
+      rw (more, ← at) (listed.some front (view item) (views (drop (i + 1) rest)))
 
-pub literals_is : (site : Site) (before : List Effect) (at : ℕ) (items : Trees) (head : Tree) (rest : List Tree) (tree : Tree)
-    → tree ≡ trees.List at items → items.items.items ≡ head ∷ rest → head_of (view head) ≡ heads.And → literals site before (view tree) ≡ all_literals site before (views rest)
-literals_is site before at items head rest tree is parts is-and = rw (is, view-List, parts) (literals_at site before at (view head) (views rest) is-and)
+  -- the items after one that was read
+  pub item_read : (rest : List Tree) (i : ℕ) (item : Tree) (front new : S) (whole : Result S Fault) → i < length rest → item ≡ get_or rest i item
+      → all front (views (drop i rest)) ≡ whole → one front (view item) ≡ Ok new → all new (views (drop (i + 1) rest)) ≡ whole
+  item_read rest i item front new whole lt at so_far is =
+      let here : all front (views (drop i rest)) ≡ all new (views (drop (i + 1) rest)) = at_item rest i item front lt at ∙ rw is refl in
+      sym here ∙ so_far
 
-pub literals_fail : (site : Site) (front : List Effect) (t : Tree) (rest : List Tree) (e : ReadError) (total : Result (List Effect) Fault)
-    → Fails e (literals site front (view t)) → all_literals site front (views (t ∷ rest)) ≡ total → Fails e total
-literals_fail site front t rest errors.Memory total is so_far = tt
-literals_fail site front t rest (errors.Fault f) total is so_far =
-    let one : all_literals site front (views (t ∷ rest)) ≡ Err f = rw is refl in
-    sym so_far ∙ one
+  item_fails : (rest : List Tree) (i : ℕ) (item : Tree) (front : S) (whole : Result S Fault) (e : ReadError) → i < length rest → item ≡ get_or rest i item
+      → all front (views (drop i rest)) ≡ whole → Fails e (one front (view item)) → Fails e whole
+  item_fails rest i item front whole errors.Memory lt at so_far is = tt
+  item_fails rest i item front whole (errors.Fault f) lt at so_far is = sym so_far ∙ at_item rest i item front lt at ∙ rw is refl
 
--- ---- effects
+  -- a fault of an item is that of the list
+  pub and_fails : (before front new : S) (at : ℕ) (head : defs.Tree) (rest : List Tree) (tree : defs.Tree) (i : ℕ) (item : Tree) (e : ReadError) (r : Result (Unit {0}) ReadError)
+      → tree ≡ defs.list at (defs.and_tree head (views rest)) → head_of head ≡ heads.And → i < length rest → item ≡ get_or rest i item
+      → all front (views (drop i rest)) ≡ all before (views rest) → Fails e (one front (view item)) → IsErrAnd r (λ y. y ≡ e) → Leaves (one before tree) new r
+  and_fails before front new at head rest tree i item e r is is-and lt got so_far fails err =
+      let whole : one before tree ≡ all before (views rest) = rw is (listed.list before at head (views rest) is-and) in
+      let failed = item_fails rest i item front (all before (views rest)) e lt got so_far fails in
+      handed_on (one before tree) new e r (rw whole failed) err
 
-effects_at : (types : List (List ℕ)) (site : Site) (before : List Effect) (at : ℕ) (head : defs.Tree) (rest : defs.Trees) → head_of head ≡ heads.And
-    → effect types site before (defs.list at (defs.and_tree head rest)) ≡ all_effects types site before rest
-effects_at types site before at head rest is-and = grind (arith, is-and)
-
-pub effects_is : (types : List (List ℕ)) (site : Site) (before : List Effect) (at : ℕ) (items : Trees) (head : Tree) (rest : List Tree) (tree : Tree)
-    → tree ≡ trees.List at items → items.items.items ≡ head ∷ rest → head_of (view head) ≡ heads.And → effect types site before (view tree) ≡ all_effects types site before (views rest)
-effects_is types site before at items head rest tree is parts is-and = rw (is, view-List, parts) (effects_at types site before at (view head) (views rest) is-and)
-
-pub effects_fail : (types : List (List ℕ)) (site : Site) (front : List Effect) (t : Tree) (rest : List Tree) (e : ReadError) (total : Result (List Effect) Fault)
-    → Fails e (effect types site front (view t)) → all_effects types site front (views (t ∷ rest)) ≡ total → Fails e total
-effects_fail types site front t rest errors.Memory total is so_far = tt
-effects_fail types site front t rest (errors.Fault f) total is so_far =
-    let one : all_effects types site front (views (t ∷ rest)) ≡ Err f = rw is refl in
-    sym so_far ∙ one
-
-pub effects_go_on : (types : List (List ℕ)) (site : Site) (front new : List Effect) (t : Tree) (rest : List Tree) (total : Result (List Effect) Fault)
-    → effect types site front (view t) ≡ Ok new → all_effects types site front (views (t ∷ rest)) ≡ total → all_effects types site new (views rest) ≡ total
-effects_go_on types site front new t rest total is so_far =
-    let one : all_effects types site front (views (t ∷ rest)) ≡ all_effects types site new (views rest) = rw is refl in
-    sym one ∙ so_far
+  -- no item is left
+  pub and_ends : (before front : S) (at : ℕ) (head : defs.Tree) (rest : List Tree) (tree : defs.Tree) (i : ℕ)
+      → tree ≡ defs.list at (defs.and_tree head (views rest)) → head_of head ≡ heads.And → length rest ≤ i
+      → all front (views (drop i rest)) ≡ all before (views rest) → one before tree ≡ Ok front
+  and_ends before front at head rest tree i is is-and past so_far =
+      let whole : one before tree ≡ all before (views rest) = rw is (listed.list before at head (views rest) is-and) in
+      let left = drop_all i rest past in
+      let end : all front defs.no_trees ≡ all before (views rest) = rw left at so_far in
+      whole ∙ sym end ∙ listed.none front

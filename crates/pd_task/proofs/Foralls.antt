@@ -1,14 +1,9 @@
 -- Effects under `forall`, part by part.
-use Rattle.std.proofs.Common.{◌≡◌, ℕ, ◌-◌, List, [], ◌∷◌, ◌++◌, length, take, Result, Ok, Err, refl, ap, ◌∙◌, arith, length-append}
-use Rattle.std.specs.Prelude.{OnOk}
+use Rattle.std.proofs.Common.{◌≡◌, ℕ, ◌-◌, List, [], ◌∷◌, ◌++◌, length, take, Result, Ok, Err, refl, sym, ap, ◌∙◌, arith, length-append}
+use Rattle.std.specs.Prelude.{OnOk, IsErrAnd}
 use Rattle.std.proofs.lemmas.List.{take-append-le}
 use Rattle.pd_words.specs.declared.keyword.Keyword.{Keyword}
 use Rattle.pd_sexp.specs.Tree as defs
-use Rattle.pd_sexp.specs.declared.tree.Tree.{Tree}
-use Rattle.pd_sexp.specs.declared.tree.Trees.{Trees}
-use Rattle.pd_sexp.specs.declared.tree.Tree.TheVariants as trees
-use Rattle.pd_sexp.specs.View.{view, views}
-use Rattle.pd_sexp.proofs.Views.{view-List}
 use Rattle.pd_model.specs.declared.effects.Effect.{Effect}
 use Rattle.pd_words.specs.declared.fault.Fault.{Fault}
 use Rattle.pd_words.specs.declared.fault.Fault.TheVariants as faults
@@ -17,46 +12,47 @@ use Rattle.pd_words.specs.declared.fault.ReadError.TheVariants as errors
 use Rattle.pd_words.specs.declared.keyword.Keyword.TheVariants as heads
 use Rattle.pd_words.specs.Words.{head_of}
 use Rattle.pd_words.specs.Typed.{Variables, variable_list}
-use Rattle.pd_words.specs.First.{Fails, Gives, Leaves}
+use Rattle.pd_words.specs.First.{◌>>=◌, Fails, Gives, Leaves}
 use Rattle.pd_words.specs.Items.{no_more}
 use Rattle.pd_words.specs.Standing.{Standing}
-use Rattle.pd_task.specs.Scope.{site_of, entered}
+use Rattle.pd_task.specs.Scope.{site_of, opened}
 use Rattle.pd_task.specs.Effects.{Site, effect, simple, quantified, quantified_body}
 use Rattle.pd_task.specs.declared.vocabulary.Vocabulary.{Vocabulary}
+use Rattle.pd_task.proofs.Ands.{handed_on}
 
 forall_at : (types : List (List ℕ)) (site : Site) (before : List Effect) (at : ℕ) (head : defs.Tree) (rest : defs.Trees) → head_of head ≡ heads.Forall
     → effect types site before (defs.list at (defs.and_tree head rest)) ≡ quantified types site before at rest
-forall_at types site before at head rest is-forall = grind (arith, is-forall)
+forall_at types site before at head rest is = grind (arith, is)
 
-pub forall_is : (types : List (List ℕ)) (site : Site) (before : List Effect) (at : ℕ) (items : Trees) (head : Tree) (rest : List Tree) (tree : Tree)
-    → tree ≡ trees.List at items → items.items.items ≡ head ∷ rest → head_of (view head) ≡ heads.Forall → effect types site before (view tree) ≡ quantified types site before at (views rest)
-forall_is types site before at items head rest tree is parts is-forall = rw (is, view-List, parts) (forall_at types site before at (view head) (views rest) is-forall)
+pub forall_is : (types : List (List ℕ)) (site : Site) (before : List Effect) (at : ℕ) (head : defs.Tree) (rest : defs.Trees) (tree : defs.Tree)
+    → tree ≡ defs.list at (defs.and_tree head rest) → head_of head ≡ heads.Forall → effect types site before tree ≡ quantified types site before at rest
+forall_is types site before at head rest tree is is-forall = rw is (forall_at types site before at head rest is-forall)
 
--- the variables come into scope
-pub enters : (types : List (List ℕ)) (vocabulary : Vocabulary) (scope next : Standing) (vars : defs.Tree) (before : List Effect) (at : ℕ) (rest : defs.Trees)
-    → entered types scope vars ≡ Ok next → quantified types (site_of vocabulary scope []) before at (defs.and_tree vars rest) ≡ quantified_body types (site_of vocabulary next []) before at rest
-enters types vocabulary scope next vars before at rest is = by_list (variable_list types vars) refl
-  where
-    by_list : (r : Result Variables Fault) → variable_list types vars ≡ r → quantified types (site_of vocabulary scope []) before at (defs.and_tree vars rest) ≡ quantified_body types (site_of vocabulary next []) before at rest
-    by_list (Ok new) here =
-        let both : entered types scope vars ≡ Ok (record { levels = scope.levels ++ new.names ∷ []; over = scope.over ++ new.kinds }) = rw here refl in
-        let same : record { levels = scope.levels ++ new.names ∷ []; over = scope.over ++ new.kinds } ≡ next = cc in
-        rw here (ap (λ (s : Standing). quantified_body types (site_of vocabulary s []) before at rest) same)
-    by_list (Err e) here =
-        let both : entered types scope vars ≡ Err e = rw here refl in absurd cc
+-- ---- the variables come into scope
 
-pub enter_fails : (types : List (List ℕ)) (vocabulary : Vocabulary) (scope : Standing) (vars : defs.Tree) (before : List Effect) (at : ℕ) (rest : defs.Trees) (e : ReadError)
-    → Fails e (entered types scope vars) → Fails e (quantified types (site_of vocabulary scope []) before at (defs.and_tree vars rest))
-enter_fails types vocabulary scope vars before at rest errors.Memory h = tt
-enter_fails types vocabulary scope vars before at rest (errors.Fault f) h = by_list (variable_list types vars) refl
-  where
-    by_list : (r : Result Variables Fault) → variable_list types vars ≡ r → quantified types (site_of vocabulary scope []) before at (defs.and_tree vars rest) ≡ Err f
-    by_list (Ok new) here =
-        let both : entered types scope vars ≡ Ok (record { levels = scope.levels ++ new.names ∷ []; over = scope.over ++ new.kinds }) = rw here refl in absurd cc
-    by_list (Err g) here =
-        let both : entered types scope vars ≡ Err g = rw here refl in
-        let same : g ≡ f = cc in
-        rw here (ap (λ (x : Fault). Err x) same)
+module _ (types : List (List ℕ)) (vocabulary : Vocabulary) (scope : Standing) (before : List Effect) (at : ℕ) where
+  opens : (items : defs.Trees) → quantified types (site_of vocabulary scope []) before at items ≡ (opened types scope at items >>= λ o. quantified_body types (site_of vocabulary o.0 []) before at (defs.and_tree o.1 o.2))
+  opens defs.no_trees = refl
+  opens (defs.and_tree vars defs.no_trees) = by_list (variable_list types vars) refl
+    where
+      by_list : (r : Result Variables Fault) → variable_list types vars ≡ r → quantified types (site_of vocabulary scope []) before at (defs.and_tree vars defs.no_trees) ≡ (opened types scope at (defs.and_tree vars defs.no_trees) >>= λ o. quantified_body types (site_of vocabulary o.0 []) before at (defs.and_tree o.1 o.2))
+      by_list (Ok new) here = rw here refl
+      by_list (Err e) here = rw here refl
+  opens (defs.and_tree vars (defs.and_tree body more)) = by_list (variable_list types vars) refl
+    where
+      by_list : (r : Result Variables Fault) → variable_list types vars ≡ r → quantified types (site_of vocabulary scope []) before at (defs.and_tree vars (defs.and_tree body more)) ≡ (opened types scope at (defs.and_tree vars (defs.and_tree body more)) >>= λ o. quantified_body types (site_of vocabulary o.0 []) before at (defs.and_tree o.1 o.2))
+      by_list (Ok new) here = rw here refl
+      by_list (Err e) here = rw here refl
+
+  pub enters : (items : defs.Trees) (next : Standing) (body : defs.Tree) (more : defs.Trees) → opened types scope at items ≡ Ok (next, body, more)
+      → quantified types (site_of vocabulary scope []) before at items ≡ quantified_body types (site_of vocabulary next []) before at (defs.and_tree body more)
+  enters items next body more is = opens items ∙ rw is refl
+
+  pub enter_fails : (items : defs.Trees) (e : ReadError) → Fails e (opened types scope at items) → Fails e (quantified types (site_of vocabulary scope []) before at items)
+  enter_fails items errors.Memory is = tt
+  enter_fails items (errors.Fault f) is = opens items ∙ rw is refl
+
+-- ---- the effect is read
 
 pub body_fails : (types : List (List ℕ)) (site : Site) (before : List Effect) (at : ℕ) (body : defs.Tree) (more : defs.Trees) (e : ReadError)
     → Fails e (effect types site before body) → Fails e (quantified_body types site before at (defs.and_tree body more))
@@ -69,13 +65,18 @@ body_ends types site before es at body more (Ok u) is h = rw (is, h) refl
 body_ends types site before es at body more (Err errors.Memory) is h = tt
 body_ends types site before es at body more (Err (errors.Fault f)) is h = rw (is, h) refl
 
-pub no_list : (types : List (List ℕ)) (site : Site) (before : List Effect) (at : ℕ) (rest : List Tree) → length rest ≡ 0 → quantified types site before at (views rest) ≡ Err (faults.Shape at)
-no_list types site before at [] h = refl
-no_list types site before at (t ∷ ts) h = absurd (omega arith)
+module _ (types : List (List ℕ)) (vocabulary : Vocabulary) (scope next : Standing) (before : List Effect) (at : ℕ) (head : defs.Tree) (items : defs.Trees) (tree body : defs.Tree) (more : defs.Trees)
+    (is : tree ≡ defs.list at (defs.and_tree head items)) (is-forall : head_of head ≡ heads.Forall) (opens : opened types scope at items ≡ Ok (next, body, more)) where
+  body_is : effect types (site_of vocabulary scope []) before tree ≡ quantified_body types (site_of vocabulary next []) before at (defs.and_tree body more)
+  body_is = forall_is types (site_of vocabulary scope []) before at head items tree is is-forall ∙ enters types vocabulary scope before at items next body more opens
 
-pub no_body : (types : List (List ℕ)) (site : Site) (before : List Effect) (at : ℕ) (rest : List Tree) → length rest ≡ 0 → quantified_body types site before at (views rest) ≡ Err (faults.Shape at)
-no_body types site before at [] h = refl
-no_body types site before at (t ∷ ts) h = absurd (omega arith)
+  pub forall_fails : (new : List Effect) (e : ReadError) (r : Result (Unit {0}) ReadError) → Fails e (effect types (site_of vocabulary next []) before body) → IsErrAnd r (λ y. y ≡ e)
+      → Leaves (effect types (site_of vocabulary scope []) before tree) new r
+  forall_fails new e r fails err = handed_on _ new e r (rw body_is (body_fails types (site_of vocabulary next []) before at body more e fails)) err
+
+  pub forall_ends : (es : List Effect) (r : Result (Unit {0}) ReadError) → effect types (site_of vocabulary next []) before body ≡ Ok es → Gives (no_more more) r
+      → Leaves (effect types (site_of vocabulary scope []) before tree) es r
+  forall_ends es r read ends = rw body_is (body_ends types (site_of vocabulary next []) before es at body more r read ends)
 
 -- ---- the variables go out of scope
 
@@ -91,21 +92,45 @@ all_of_first (x ∷ xs) = ap (λ (ys : List _). x ∷ ys) (all_of_first xs)
 first_part : {A : Type 0} (xs ys : List A) (n : ℕ) → n ≡ length xs → take n (xs ++ ys) ≡ xs
 first_part xs ys n is = rw is (take-append-le (length xs) xs ys (omega arith) ∙ all_of_first xs)
 
-pub leaves : (types : List (List ℕ)) (scope next after : Standing) (vars : defs.Tree) → entered types scope vars ≡ Ok next
-    → after.levels ≡ take (length next.levels - 1) next.levels → after.over ≡ take (length scope.over) next.over → after ≡ scope
-leaves types scope next after vars is levels over = by_list (variable_list types vars) refl
+abbrev parts_of : Standing × defs.Tree × defs.Trees → Result (Standing × defs.Tree × defs.Trees) Fault → Standing × defs.Tree × defs.Trees
+parts_of none (Ok parts) = parts
+parts_of none (Err e) = none
+
+-- what stands in a `forall` whose variables came into scope
+pub record IsOpened (types : List (List ℕ)) (scope next : Standing) (items : defs.Trees) (body : defs.Tree) (more : defs.Trees) : Type 0 where
+  pub variables : defs.Tree
+  pub new : Variables
+  pub standing : next ≡ record { levels = scope.levels ++ new.names ∷ []; over = scope.over ++ new.kinds }
+  pub parts : items ≡ defs.and_tree variables (defs.and_tree body more)
+
+pub is_opened : (types : List (List ℕ)) (scope next : Standing) (at : ℕ) (items : defs.Trees) (body : defs.Tree) (more : defs.Trees) → opened types scope at items ≡ Ok (next, body, more)
+    → IsOpened types scope next items body more
+is_opened types scope next at defs.no_trees body more is = absurd cc
+is_opened types scope next at (defs.and_tree vars rest) body more is = by_list (variable_list types vars) refl rest is
   where
-    by_list : (r : Result Variables Fault) → variable_list types vars ≡ r → after ≡ scope
-    by_list (Ok new) here =
-        let both : entered types scope vars ≡ Ok (record { levels = scope.levels ++ new.names ∷ []; over = scope.over ++ new.kinds }) = rw here refl in
-        let same : next ≡ record { levels = scope.levels ++ new.names ∷ []; over = scope.over ++ new.kinds } = cc in
-        let next_levels : next.levels ≡ scope.levels ++ new.names ∷ [] = ap (λ (s : Standing). s.levels) same in
-        let next_over : next.over ≡ scope.over ++ new.kinds = ap (λ (s : Standing). s.over) same in
-        same_standing after scope
-        (levels ∙ rw next_levels (first_part scope.levels (new.names ∷ []) (length (scope.levels ++ new.names ∷ []) - 1) (omega (arith, length-append scope.levels (new.names ∷ [])))))
-        (over ∙ rw next_over (first_part scope.over new.kinds (length scope.over) refl))
-    by_list (Err e) here =
-        let both : entered types scope vars ≡ Err e = rw here refl in absurd cc
+    by_list : (r : Result Variables Fault) → variable_list types vars ≡ r → (ts : defs.Trees) → opened types scope at (defs.and_tree vars ts) ≡ Ok (next, body, more) → IsOpened types scope next (defs.and_tree vars ts) body more
+    by_list (Err e) here defs.no_trees is = let both : opened types scope at (defs.and_tree vars defs.no_trees) ≡ Err e = rw here refl in absurd cc
+    by_list (Err e) here (defs.and_tree t ts) is = let both : opened types scope at (defs.and_tree vars (defs.and_tree t ts)) ≡ Err e = rw here refl in absurd cc
+    by_list (Ok new) here defs.no_trees is = let both : opened types scope at (defs.and_tree vars defs.no_trees) ≡ Err (faults.Shape at) = rw here refl in absurd cc
+    by_list (Ok new) here (defs.and_tree t ts) is =
+        let both : opened types scope at (defs.and_tree vars (defs.and_tree t ts)) ≡ Ok (record { levels = scope.levels ++ new.names ∷ []; over = scope.over ++ new.kinds }, t, ts) = rw here refl in
+        let same = ap (parts_of (next, body, more)) (sym is ∙ both) in
+        record {
+          variables = vars;
+          new = new;
+          standing = ap (λ (p : Standing × defs.Tree × defs.Trees). p.0) same;
+          parts = ap (λ (p : Standing × defs.Tree × defs.Trees). defs.and_tree vars (defs.and_tree p.1 p.2)) (sym same);
+        }
+
+pub leaves : (types : List (List ℕ)) (scope next after : Standing) (at : ℕ) (items : defs.Trees) (body : defs.Tree) (more : defs.Trees) → opened types scope at items ≡ Ok (next, body, more)
+    → after.levels ≡ take (length next.levels - 1) next.levels → after.over ≡ take (length scope.over) next.over → after ≡ scope
+leaves types scope next after at items body more is levels over =
+    let o = is_opened types scope next at items body more is in
+    let next_levels : next.levels ≡ scope.levels ++ o.new.names ∷ [] = ap (λ (s : Standing). s.levels) o.standing in
+    let next_over : next.over ≡ scope.over ++ o.new.kinds = ap (λ (s : Standing). s.over) o.standing in
+    same_standing after scope
+    (levels ∙ rw next_levels (first_part scope.levels (o.new.names ∷ []) (length (scope.levels ++ o.new.names ∷ []) - 1) (omega (arith, length-append scope.levels (o.new.names ∷ [])))))
+    (over ∙ rw next_over (first_part scope.over o.new.kinds (length scope.over) refl))
 
 pub on_ok : (r : Result (Unit {0}) ReadError) (P : Type 0) → P → OnOk r P
 on_ok (Ok u) P h = h
@@ -124,7 +149,7 @@ simple_at types site before at head rest heads.Other is not_and not_forall = gri
 simple_at types site before at head rest heads.Assignment is not_and not_forall = grind (arith, is)
 simple_at types site before at head rest heads.Free is not_and not_forall = grind (arith, is)
 
-pub simple_is : (types : List (List ℕ)) (site : Site) (before : List Effect) (at : ℕ) (items : Trees) (head : Tree) (rest : List Tree) (tree : Tree) (k : Keyword)
-    → tree ≡ trees.List at items → items.items.items ≡ head ∷ rest → head_of (view head) ≡ k → (k ≡ heads.And → ⊥) → (k ≡ heads.Forall → ⊥)
-    → effect types site before (view tree) ≡ simple site before k at (views (head ∷ rest))
-simple_is types site before at items head rest tree k is parts head_is not_and not_forall = rw (is, view-List, parts) (simple_at types site before at (view head) (views rest) k head_is not_and not_forall)
+pub simple_is : (types : List (List ℕ)) (site : Site) (before : List Effect) (at : ℕ) (head : defs.Tree) (rest : defs.Trees) (tree : defs.Tree) (k : Keyword)
+    → tree ≡ defs.list at (defs.and_tree head rest) → head_of head ≡ k → (k ≡ heads.And → ⊥) → (k ≡ heads.Forall → ⊥)
+    → effect types site before tree ≡ simple site before k at (defs.and_tree head rest)
+simple_is types site before at head rest tree k is head_is not_and not_forall = rw is (simple_at types site before at head rest k head_is not_and not_forall)

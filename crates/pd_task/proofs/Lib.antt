@@ -2,6 +2,7 @@ pub mod Loops
 pub mod ObjectLemmas
 pub mod Ands
 pub mod Foralls
+pub mod Sizes
 pub mod Lawful
 pub mod NamesLaw
 pub mod LawfulTask

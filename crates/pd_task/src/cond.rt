@@ -5,6 +5,7 @@ ghost use Rattle.pd_words.specs.First.{Gives, Leaves};
 ghost use Rattle.pd_task.specs.Atoms as atoms;
 ghost use Rattle.pd_task.specs.Scope.{names_with};
 
+use crate::headed::read_headed;
 use crate::terms::{read_atom, read_term};
 use crate::vocabulary::Vocabulary;
 use pd_model::Cond;
@@ -74,19 +75,13 @@ fn read_denied(
 ) -> Result<Cond, ReadError>
     ensures { Gives (atoms.denied (names_with vocabulary.now scope.now.levels) at (view tree.now)) result }
 {
-    match tree {
-        Tree::Word { at: place, .. } => Err(ReadError::Fault(Fault::Shape(*place))),
-        Tree::List { at: place, items } => {
-            let items = items.items.as_slice();
-            let Some((head, rest)) = items.split_first() else {
-                return Err(ReadError::Fault(Fault::Shape(at)));
-            };
-            match head_keyword(head) {
-                Keyword::Free => read_literal(alloc, vocabulary, scope, false, *place, items),
-                Keyword::Equals => read_equality(vocabulary, scope, false, *place, rest),
-                _ => Err(ReadError::Fault(Fault::Unsupported(at))),
-            }
-        }
+    let Some(list) = read_headed(tree)? else {
+        return Err(ReadError::Fault(Fault::Shape(at)));
+    };
+    match head_keyword(list.head) {
+        Keyword::Free => read_literal(alloc, vocabulary, scope, false, list.at, list.items),
+        Keyword::Equals => read_equality(vocabulary, scope, false, list.at, list.rest),
+        _ => Err(ReadError::Fault(Fault::Unsupported(at))),
     }
 }
 
@@ -115,29 +110,23 @@ pub fn read_cond(
 ) -> Result<(), ReadError>
     ensures { Leaves (atoms.condition (names_with vocabulary.now scope.now.levels) into.old.items (view tree.now)) into.new.items result }
 {
-    match tree {
-        Tree::Word { at, .. } => Err(ReadError::Fault(Fault::Shape(*at))),
-        Tree::List { at, items } => {
-            let items = items.items.as_slice();
-            let Some((head, rest)) = items.split_first() else {
-                return Ok(());
-            };
-            let literal = match head_keyword(head) {
-                Keyword::And => {
-                    for item in rest {
-                        read_cond(alloc, vocabulary, scope, item, into)?;
-                    }
-                    return Ok(());
-                }
-                Keyword::Not => read_negation(alloc, vocabulary, scope, *at, rest)?,
-                Keyword::Equals => read_equality(vocabulary, scope, true, *at, rest)?,
-                Keyword::Free | Keyword::Assignment => {
-                    read_literal(alloc, vocabulary, scope, true, *at, items)?
-                }
-                _ => return Err(ReadError::Fault(Fault::Unsupported(*at))),
-            };
-            into.push(literal)?;
-            Ok(())
+    let Some(list) = read_headed(tree)? else {
+        return Ok(());
+    };
+    let literal = match head_keyword(list.head) {
+        Keyword::And => {
+            for item in list.rest {
+                read_cond(alloc, vocabulary, scope, item, into)?;
+            }
+            return Ok(());
         }
-    }
+        Keyword::Not => read_negation(alloc, vocabulary, scope, list.at, list.rest)?,
+        Keyword::Equals => read_equality(vocabulary, scope, true, list.at, list.rest)?,
+        Keyword::Free | Keyword::Assignment => {
+            read_literal(alloc, vocabulary, scope, true, list.at, list.items)?
+        }
+        _ => return Err(ReadError::Fault(Fault::Unsupported(list.at))),
+    };
+    into.push(literal)?;
+    Ok(())
 }

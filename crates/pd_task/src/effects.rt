@@ -1,13 +1,14 @@
 // Effects.
 ghost use Rattle.std.specs.Prelude.{◌≡◌, ◌++◌, ◌∷◌, [], IfOk, OnOk, IfErr};
 ghost use Rattle.pd_sexp.specs.View.{view, views};
-ghost use Rattle.pd_words.specs.First.{Gives, GivesAs, Leaves};
+ghost use Rattle.pd_words.specs.First.{GivesAs, Leaves};
 ghost use Rattle.pd_words.specs.declared.fault.ReadError.TheVariants as errors;
 ghost use Rattle.pd_task.specs.Atoms.{condition};
 ghost use Rattle.pd_task.specs.Effects as effects;
-ghost use Rattle.pd_task.specs.Scope.{names_with, site_of, entered};
+ghost use Rattle.pd_task.specs.Scope.{site_of, opened};
 
 use crate::cond::{one, read_cond};
+use crate::headed::read_headed;
 use crate::terms::read_atom;
 use crate::vocabulary::Vocabulary;
 use pd_model::{Cond, Conds, Effect, Pattern, Terms, TypeNumbers};
@@ -86,22 +87,16 @@ fn read_removed(
 ) -> Result<(), ReadError>
     ensures { Leaves (effects.removed (site_of vocabulary.now scope.now cond.now) into.old.items at (view tree.now)) into.new.items result }
 {
-    match tree {
-        Tree::Word { at: place, .. } => Err(ReadError::Fault(Fault::Shape(*place))),
-        Tree::List { at: place, items } => {
-            let items = items.items.as_slice();
-            let Some((head, _)) = items.split_first() else {
-                return Err(ReadError::Fault(Fault::Shape(at)));
-            };
-            match head_keyword(head) {
-                Keyword::Free => {
-                    let atom = read_atom(alloc, vocabulary, scope, *place, items)?;
-                    push_effect(alloc, scope, cond, atom, false, into)
-                }
-                Keyword::Equals => Err(ReadError::Fault(Fault::Shape(*place))),
-                _ => Err(ReadError::Fault(Fault::Unsupported(at))),
-            }
+    let Some(list) = read_headed(tree)? else {
+        return Err(ReadError::Fault(Fault::Shape(at)));
+    };
+    match head_keyword(list.head) {
+        Keyword::Free => {
+            let atom = read_atom(alloc, vocabulary, scope, list.at, list.items)?;
+            push_effect(alloc, scope, cond, atom, false, into)
         }
+        Keyword::Equals => Err(ReadError::Fault(Fault::Shape(list.at))),
+        _ => Err(ReadError::Fault(Fault::Unsupported(at))),
     }
 }
 
@@ -133,29 +128,23 @@ fn read_literals(
 ) -> Result<(), ReadError>
     ensures { Leaves (effects.literals (site_of vocabulary.now scope.now cond.now) into.old.items (view tree.now)) into.new.items result }
 {
-    match tree {
-        Tree::Word { at, .. } => Err(ReadError::Fault(Fault::Shape(*at))),
-        Tree::List { at, items } => {
-            let items = items.items.as_slice();
-            let Some((head, rest)) = items.split_first() else {
-                return Ok(());
-            };
-            match head_keyword(head) {
-                Keyword::And => {
-                    for item in rest {
-                        read_literals(alloc, vocabulary, scope, cond, item, into)?;
-                    }
-                    Ok(())
-                }
-                Keyword::Not => read_removal(alloc, vocabulary, scope, cond, *at, rest, into),
-                Keyword::Free => {
-                    let atom = read_atom(alloc, vocabulary, scope, *at, items)?;
-                    push_effect(alloc, scope, cond, atom, true, into)
-                }
-                Keyword::Equals => Err(ReadError::Fault(Fault::Shape(*at))),
-                _ => Err(ReadError::Fault(Fault::Unsupported(*at))),
+    let Some(list) = read_headed(tree)? else {
+        return Ok(());
+    };
+    match head_keyword(list.head) {
+        Keyword::And => {
+            for item in list.rest {
+                read_literals(alloc, vocabulary, scope, cond, item, into)?;
             }
+            Ok(())
         }
+        Keyword::Not => read_removal(alloc, vocabulary, scope, cond, list.at, list.rest, into),
+        Keyword::Free => {
+            let atom = read_atom(alloc, vocabulary, scope, list.at, list.items)?;
+            push_effect(alloc, scope, cond, atom, true, into)
+        }
+        Keyword::Equals => Err(ReadError::Fault(Fault::Shape(list.at))),
+        _ => Err(ReadError::Fault(Fault::Unsupported(list.at))),
     }
 }
 
@@ -210,17 +199,25 @@ fn read_simple(
     }
 }
 
-// Puts the variables of a `forall` into scope.
-fn enter_forall(
+// Puts the variables of the `forall` at this place into scope, and gives its effect and what follows that.
+fn enter_forall<'a>(
     alloc: Global,
     vocabulary: &Vocabulary,
     scope: &mut Scope,
-    list: &Tree,
-) -> Result<(), ReadError>
-    ensures entered { Leaves (entered vocabulary.now.types.now scope.old (view list.now)) scope.new result }
+    at: u32,
+    items: &'a [Tree],
+) -> Result<(&'a Tree, &'a [Tree]), ReadError>
+    ensures { GivesAs (λ r. (scope.new, view r.0.now, views r.1.now)) (opened vocabulary.now.types.now scope.old at (views items.now)) result }
 {
+    let Some((list, rest)) = items.split_first() else {
+        return Err(ReadError::Fault(Fault::Shape(at)));
+    };
     let variables = read_variable_list(alloc, vocabulary.types, list)?;
-    scope.enter(variables)
+    scope.enter(variables)?;
+    match rest.split_first() {
+        None => Err(ReadError::Fault(Fault::Shape(at))),
+        Some((body, more)) => Ok((body, more)),
+    }
 }
 
 /// Adds the effects of a tree.
@@ -235,35 +232,23 @@ pub fn read_effect(
     ensures effects { Leaves (effects.effect vocabulary.now.types.now (site_of vocabulary.now scope.old []) into.old.items (view tree.now)) into.new.items result }
     ensures scope { OnOk result (scope.new ≡ scope.old) }
 {
-    match tree {
-        Tree::Word { at, .. } => Err(ReadError::Fault(Fault::Shape(*at))),
-        Tree::List { at, items } => {
-            let items = items.items.as_slice();
-            let Some((head, rest)) = items.split_first() else {
-                return Ok(());
-            };
-            match head_keyword(head) {
-                Keyword::And => {
-                    for item in rest {
-                        read_effect(alloc, vocabulary, scope, item, into)?;
-                    }
-                    Ok(())
-                }
-                Keyword::Forall => {
-                    let Some((list, rest)) = rest.split_first() else {
-                        return Err(ReadError::Fault(Fault::Shape(*at)));
-                    };
-                    let count = scope.over().len();
-                    enter_forall(alloc, vocabulary, scope, list)?;
-                    let Some((body, more)) = rest.split_first() else {
-                        return Err(ReadError::Fault(Fault::Shape(*at)));
-                    };
-                    read_effect(alloc, vocabulary, scope, body, into)?;
-                    scope.leave(count);
-                    no_more(more)
-                }
-                other => read_simple(alloc, vocabulary, scope, other, *at, items, into),
+    let Some(list) = read_headed(tree)? else {
+        return Ok(());
+    };
+    match head_keyword(list.head) {
+        Keyword::And => {
+            for item in list.rest {
+                read_effect(alloc, vocabulary, scope, item, into)?;
             }
+            Ok(())
         }
+        Keyword::Forall => {
+            let count = scope.over().len();
+            let (body, more) = enter_forall(alloc, vocabulary, scope, list.at, list.rest)?;
+            read_effect(alloc, vocabulary, scope, body, into)?;
+            scope.leave(count);
+            no_more(more)
+        }
+        other => read_simple(alloc, vocabulary, scope, other, list.at, list.items, into),
     }
 }

@@ -1,16 +1,17 @@
 // The initial state.
-ghost use Rattle.std.specs.Prelude.{◌≡◌, ◌++◌, ◌∷◌, [], option_map};
+ghost use Rattle.std.specs.Prelude.{◌≡◌, ◌++◌, ◌∷◌, []};
 ghost use Rattle.pd_sexp.specs.View.{view, views};
-ghost use Rattle.pd_words.specs.First.{Gives, GivesAs, Leaves, each, every};
+ghost use Rattle.pd_words.specs.First.{Gives, Leaves, each, every};
 ghost use Rattle.pd_task.specs.Declarations as declarations;
 ghost use Rattle.pd_task.specs.Scope.{names_with};
 
 use crate::cond::one;
+use crate::headed::read_headed;
 use crate::terms::read_predicate;
 use crate::vocabulary::Vocabulary;
 use pd_model::{Atom, Atoms, Objects};
 use pd_sexp::Tree;
-use pd_words::{Fault, Keyword, ReadError, head_keyword};
+use pd_words::{Fault, Keyword, ReadError, head_keyword, place_of};
 use std::alloc::Global;
 
 fn read_object(vocabulary: &Vocabulary, tree: &Tree) -> Result<u32, ReadError>
@@ -68,22 +69,16 @@ fn check_denied(
 ) -> Result<(), ReadError>
     ensures { Gives (declarations.init_denied (names_with vocabulary.now []) at (view tree.now)) result }
 {
-    match tree {
-        Tree::Word { at: place, .. } => Err(ReadError::Fault(Fault::Shape(*place))),
-        Tree::List { at: place, items } => {
-            let items = items.items.as_slice();
-            let Some((head, _)) = items.split_first() else {
-                return Err(ReadError::Fault(Fault::Shape(at)));
-            };
-            match head_keyword(head) {
-                Keyword::Free => {
-                    read_ground_atom(alloc, vocabulary, *place, items)?;
-                    Ok(())
-                }
-                Keyword::Equals => Err(ReadError::Fault(Fault::Unsupported(*place))),
-                _ => Err(ReadError::Fault(Fault::Unsupported(at))),
-            }
+    let Some(list) = read_headed(tree)? else {
+        return Err(ReadError::Fault(Fault::Shape(at)));
+    };
+    match head_keyword(list.head) {
+        Keyword::Free => {
+            read_ground_atom(alloc, vocabulary, list.at, list.items)?;
+            Ok(())
         }
+        Keyword::Equals => Err(ReadError::Fault(Fault::Unsupported(list.at))),
+        _ => Err(ReadError::Fault(Fault::Unsupported(at))),
     }
 }
 
@@ -96,27 +91,19 @@ fn read_item(
 ) -> Result<(), ReadError>
     ensures { Leaves (declarations.and_init (names_with vocabulary.now []) into.old.items (view tree.now)) into.new.items result }
 {
-    match tree {
-        Tree::Word { at, .. } => Err(ReadError::Fault(Fault::Shape(*at))),
-        Tree::List { at, items } => {
-            let items = items.items.as_slice();
-            let Some((head, rest)) = items.split_first() else {
-                return Err(ReadError::Fault(Fault::Shape(*at)));
-            };
-            match head_keyword(head) {
-                Keyword::Equals => Err(ReadError::Fault(Fault::Unsupported(*at))),
-                Keyword::Not => {
-                    let Some(item) = one(rest) else {
-                        return Err(ReadError::Fault(Fault::Shape(*at)));
-                    };
-                    check_denied(alloc, vocabulary, *at, item)
-                }
-                _ => {
-                    let atom = read_ground_atom(alloc, vocabulary, *at, items)?;
-                    into.push(atom)?;
-                    Ok(())
-                }
-            }
+    let Some(list) = read_headed(tree)? else {
+        return Err(ReadError::Fault(Fault::Shape(place_of(tree))));
+    };
+    match head_keyword(list.head) {
+        Keyword::Equals => Err(ReadError::Fault(Fault::Unsupported(list.at))),
+        Keyword::Not => match one(list.rest) {
+            None => Err(ReadError::Fault(Fault::Shape(list.at))),
+            Some(item) => check_denied(alloc, vocabulary, list.at, item),
+        },
+        _ => {
+            let atom = read_ground_atom(alloc, vocabulary, list.at, list.items)?;
+            into.push(atom)?;
+            Ok(())
         }
     }
 }

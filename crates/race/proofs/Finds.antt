@@ -4,11 +4,10 @@ use Rattle.std.proofs.lemmas.List.{map-append}
 use Rattle.cdcl_rules.specs.declared.standing.Standing.{Standing}
 use Rattle.cdcl_rules.specs.declared.standing.Standing.TheVariants.{Going, Found, Refuted}
 use Rattle.horizon_run.specs.Run.{RunView}
-use Rattle.race.specs.Clears.{any_refuted, is_refuted}
 use Rattle.race.specs.Found.{first_found, is_found, open_line, lines}
 use Rattle.race.specs.Input.{RaceInput}
 use Rattle.race.specs.Lines.{IsLine}
-use Rattle.race.specs.Runs.{live_run_of, AreUnfound}
+use Rattle.race.specs.Runs.{live_run_of}
 use Rattle.race.specs.State.{RaceState, LiveRun, conflicts_used, spent}
 use Rattle.race_end.specs.Ends.{LineView, conflicts_in, line_view}
 use Rattle.race_end.specs.declared.line.Line.{Line}
@@ -19,9 +18,6 @@ found-is Going e = cc
 found-is Found e = refl
 found-is Refuted e = cc
 
-pub found-not : (s : Standing) → is_found s ≡ false → s ≡ Found → ⊥
-found-not s e f = let g = ap is_found f in cc
-
 -- the first found run is at the place come to
 pub found-here : (rs : List RunView) (i : ℕ) (r : RunView) → slice_get rs i ≡ Some r → is_found r.state.standing ≡ true
     → first_found (map live_run_of (drop i rs)) ≡ slice_get (map live_run_of rs) i
@@ -29,38 +25,11 @@ found-here [] i r at f = cc
 found-here (x ∷ rs) zero r at f = let same : x ≡ r = cc in let g : is_found x.state.standing ≡ true = rw same f in rw g refl
 found-here (x ∷ rs) (suc i) r at f = found-here rs i r at f
 
-pub found-later : (rs : List RunView) (i : ℕ) (r : RunView) → slice_get rs i ≡ Some r → is_found r.state.standing ≡ false
-    → first_found (map live_run_of (drop i rs)) ≡ first_found (map live_run_of (drop (suc i) rs))
-found-later [] i r at f = cc
-found-later (x ∷ rs) zero r at f = let same : x ≡ r = cc in let g : is_found x.state.standing ≡ false = rw same f in rw g refl
-found-later (x ∷ rs) (suc i) r at f = found-later rs i r at f
-
-pub unfound-later : (rs : List RunView) (i : ℕ) (r : RunView) → slice_get rs i ≡ Some r → is_found r.state.standing ≡ false
-    → AreUnfound (drop (suc i) rs) → AreUnfound (drop i rs)
-unfound-later [] i r at f u = cc
-unfound-later (x ∷ rs) zero r at f u = let same : x ≡ r = cc in let g : is_found x.state.standing ≡ false = rw same f in (found-not x.state.standing g, u)
-unfound-later (x ∷ rs) (suc i) r at f u = unfound-later rs i r at f u
-
 past : {X : Type 0} (xs : List X) (i : ℕ) → length xs ≤ i → drop i xs ≡ []
 past [] zero l = refl
 past [] (suc i) l = refl
 past (x ∷ xs) zero l = absurd (omega arith)
 past (x ∷ xs) (suc i) l = past xs i (omega arith)
-
-pub none-found : (rs : List RunView) (i : ℕ) → length rs ≤ i → AreUnfound (drop i rs)
-none-found rs i l = rw (past rs i l) tt
-
-pub refuted-here : (rs : List RunView) (i : ℕ) (r : RunView) → slice_get rs i ≡ Some r → is_refuted r.state.standing ≡ true
-    → true ≡ any_refuted (map live_run_of (drop i rs))
-refuted-here [] i r at f = cc
-refuted-here (x ∷ rs) zero r at f = let same : x ≡ r = cc in let g : is_refuted x.state.standing ≡ true = rw same f in rw g refl
-refuted-here (x ∷ rs) (suc i) r at f = refuted-here rs i r at f
-
-pub refuted-later : (rs : List RunView) (i : ℕ) (r : RunView) → slice_get rs i ≡ Some r → is_refuted r.state.standing ≡ false
-    → any_refuted (map live_run_of (drop i rs)) ≡ any_refuted (map live_run_of (drop (suc i) rs))
-refuted-later [] i r at f = cc
-refuted-later (x ∷ rs) zero r at f = let same : x ≡ r = cc in let g : is_refuted x.state.standing ≡ false = rw same f in rw g refl
-refuted-later (x ∷ rs) (suc i) r at f = refuted-later rs i r at f
 
 next-line : (line : Line) (rs : List RunView) (i : ℕ) (r : RunView) → slice_get rs i ≡ Some r → line_view line ≡ open_line (live_run_of r)
     → line_view line ∷ map open_line (map live_run_of (drop (suc i) rs)) ≡ map open_line (map live_run_of (drop i rs))

@@ -31,6 +31,10 @@ has_grant [] r rest (g ∷ gs) f = record { there = omega arith; few = f.0 }
 has_grant (x ∷ seen) r rest [] f = absurd f
 has_grant (x ∷ seen) r rest (g ∷ gs) f = let h = has_grant seen r rest gs f.1 in let t = h.there in record { there = omega (arith, t); few = h.few }
 
+-- the same of a place, and of runs in two parts
+pub grant_at : (runs seen : List RunView) (r : RunView) (rest : List RunView) (gs : List ℕ) (place : ℕ) → seen ++ r ∷ rest ≡ runs → Fits runs gs → place ≡ length seen → HasGrant r gs place
+grant_at runs seen r rest gs place whole fits at = rw at (has_grant seen r rest gs (rw whole fits))
+
 pub length-jobs : (rs : List RunView) (gs : List ℕ) → Fits rs gs → length (jobs_at rs gs) ≡ length rs
 length-jobs [] gs f = refl
 length-jobs (r ∷ rs) [] f = absurd f

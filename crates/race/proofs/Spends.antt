@@ -54,27 +54,19 @@ one-more run g Refuted m r low l e f =
           low.unrefuted (ap (λ (x : State). x.standing) (same ∙ state) ∙ e))
     ]
 
--- the conflicts of runs do not fall
-pub mono-all : (input : RaceInput) (rs : List RunView) (gs : List ℕ) → AllByRecursion (IsRunOf input) rs
-    → conflicts_of rs ≤ conflicts_of (moved_all rs gs)
-mono-all input [] gs a = omega arith
-mono-all input (r ∷ rs) [] a = omega arith
-mono-all input (r ∷ rs) (g ∷ gs) a =
-    let h = mono-all input rs gs a.1 in
+-- the conflicts of runs do not fall, and no more are handled than were granted
+pub by_grants : (input : RaceInput) (rs : List RunView) (gs : List ℕ) → AllByRecursion (IsRunOf input) rs
+    → (conflicts_of rs ≤ conflicts_of (moved_all rs gs)) × (conflicts_of (moved_all rs gs) ≤ conflicts_of rs + total gs)
+by_grants input [] gs a = (omega arith, omega arith)
+by_grants input (r ∷ rs) [] a = (omega arith, omega arith)
+by_grants input (r ∷ rs) (g ∷ gs) a =
+    let h = by_grants input rs gs a.1 in
+    let low = h.0 in
+    let high = h.1 in
     let same = ap (λ (x : RunView). x.state.conflicts) a.0.moved in
     let rises = (a.0.reached r.granted).rises g in
-    omega (arith, h, same, rises)
-
--- no more conflicts are handled than were granted
-pub no-more : (input : RaceInput) (rs : List RunView) (gs : List ℕ) → AllByRecursion (IsRunOf input) rs
-    → conflicts_of (moved_all rs gs) ≤ conflicts_of rs + total gs
-no-more input [] gs a = omega arith
-no-more input (r ∷ rs) [] a = omega arith
-no-more input (r ∷ rs) (g ∷ gs) a =
-    let h = no-more input rs gs a.1 in
-    let same = ap (λ (x : RunView). x.state.conflicts) a.0.moved in
     let adds = (a.0.reached r.granted).adds g in
-    omega (arith, h, same, adds)
+    (omega (arith, low, same, rises), omega (arith, high, same, adds))
 
 quota-first : (algorithm : Algorithm) (quota percent : ℕ) → quota_by algorithm quota percent 0 ≡ quota
 quota-first A quota percent = refl
@@ -98,7 +90,7 @@ first-more input rates (r ∷ rs) left (suc n) a low l some same none =
     let more = moved_to r (r.granted + g) in
     let unfound = not-found (is_found more.state.standing) (live_run_of more) (first_found (map live_run_of (moved_all rs (grants rates 1 (left - g) n)))) none in
     let here = one-more r g more.state.standing a.0.moved a.0.reached low.0 one refl unfound in
-    let rest = mono-all input rs (grants rates 1 (left - g) n) a.1 in
+    let rest = (by_grants input rs (grants rates 1 (left - g) n) a.1).0 in
     omega (arith, here, rest)
 
 judged-cases : (input : RaceInput) (race r : RaceState) (o : Option LiveRun) → first_found race.live ≡ o → judged input race ≡ On r
@@ -169,7 +161,7 @@ spends-on input racing racing' race t low t' none advanced moved on =
     let used = used-runs rs in
     let used' = used-runs racing'.runs.items in
     let runs' = ap conflicts_of moved in
-    let mono = mono-all input rs gs t.runs in
+    let mono = (by_grants input rs gs t.runs).0 in
     let unfull : racing'.ledger.spent ≡ input.budget → ⊥ = λ full. s.rest (kept ∙ (sym t'.spent ∙ full)) in
     let some : 0 < length rs = elim (cases_lt 0 (length rs)) [
       | inl more ↦ more

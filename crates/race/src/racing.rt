@@ -1,7 +1,6 @@
 //! The rounds of a race.
 
-ghost use Rattle.std.specs.Prelude.{◌≡◌, ℕ, ◌+◌, ◌≤◌, ◌<◌, true, length, map, nat_lt, if◌then◌else◌, None, Some, slice_get, IfOk, OnOk, IfSome, IfNone};
-ghost use Rattle.std.specs.List.{AllByRecursion};
+ghost use Rattle.std.specs.Prelude.{◌≡◌, ℕ, ◌+◌, ◌≤◌, ◌<◌, true, length, map, if◌then◌else◌, None, Some, slice_get, IfOk, OnOk, IfSome, IfNone};
 ghost use Rattle.horizon_rates.specs.Horizons.{listed};
 ghost use Rattle.step_encoding.specs.Numbers.{literals_of};
 ghost use Rattle.horizon_run.specs.Run.{choice_of};
@@ -12,11 +11,11 @@ ghost use Rattle.race.specs.Grants.{grants, advanced};
 ghost use Rattle.race.specs.Input.{RaceInput};
 ghost use Rattle.race.specs.Lines.{AreLines};
 ghost use Rattle.race.specs.Race.{TooLarge, settled, judged, round};
-ghost use Rattle.race.specs.Runs.{live_run_of, IsRunOf, AreLow, AreUnfound, moved_all};
-ghost use Rattle.race.specs.Starts.{started, fitting, filled, too_large};
+ghost use Rattle.race.specs.Runs.{live_run_of, AreLow, AreUnfound, moved_all};
+ghost use Rattle.race.specs.Starts.{started, too_large};
 ghost use Rattle.race.specs.State.{start};
 ghost use Rattle.race.specs.Tied.{race_state, IsTied, Stands, SpendsMore, Ends};
-ghost use Rattle.race_end.specs.Ends.{conflicts_in, line_view, end_view};
+ghost use Rattle.race_end.specs.Ends.{conflicts_in, line_view};
 
 use crate::grant::{book, grant_all};
 use crate::line::{open, passed};

@@ -40,6 +40,10 @@ module _ {R : Type 0} (g : Ghosts R) where
       inr (a.0, ended by_state j.target j.run (g.origin_of j.run) stays now (subst (λ (o : R). IsMoved g o (g.granted_of j.run) j.run) (sym same) a.2) all (g.unsettled_at j.run) refl, all)
   comes by_state slice x j same target within stays stop (inr b) = inl b.0
 
+  -- accounts that stay in order twice
+  pub stays_on : (k m n : Worker R g) → StaysAtWork g k m → StaysAtWork g m n → StaysAtWork g k n
+  stays_on k m n first next owner out book begun was = next owner out book begun (first owner out book begun was)
+
   -- a worker that handed out one job more, or had no memory for it
   pub hands_out : (slice : ℕ) (k m : Worker R g) (j : JobView R) (t : Turn g slice (view k.pass.pass))
       → view m.pass.pass ≡ with_take (view k.pass.pass) (taken_note g slice (view k.pass.pass) t) → IsDone g slice (view k.pass.pass) j t → IsEnded g j

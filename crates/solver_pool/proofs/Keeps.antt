@@ -86,29 +86,34 @@ module _ {R : Type 0} (g : Ghosts R) where
     fits = All-append (Fits g o.book) items (x ∷ []) r.fits (all_one (Fits g o.book) x fit);
   }
 
-  worker_puts : (x : JobView R) (items : List (JobView R)) (o : PassView R) (ws : List (PassView R)) (j : ℕ) (v : PassView R) → IsLawful g items o ws → get_elem? ws j ≡ some v → v.ended ≡ false
-      → count_of (g.horizon_of x.run) v.put < count_of (g.horizon_of x.run) v.took → length v.put < length v.took → Fits g v.book x
-      → IsLawful g (items ++ x ∷ []) o (set ws j (with_put v (note_of g x)))
-  worker_puts x items o ws j v r at live held fewer fit =
-      let w = with_put v (note_of g x) in
+  -- a worker's pass gets other notes, and the ring holds other jobs
+  worker_moves : (items jobs : List (JobView R)) (o : PassView R) (ws : List (PassView R)) (j : ℕ) (v : PassView R) (put took : List Note) → IsLawful g items o ws → get_elem? ws j ≡ some v → v.ended ≡ false
+      → ((h : ℕ) → count_of h put ≤ count_of h took) → length put ≤ length took
+      → ((f : Note → ℕ) → sum_by f put + sum_by f v.took + sum_by (λ j. f (note_of g j)) items ≡ sum_by f v.put + sum_by f took + sum_by (λ j. f (note_of g j)) jobs)
+      → All (Fits g o.book) jobs → IsLawful g jobs o (set ws j (record v { put = put; took = took }))
+  worker_moves items jobs o ws j v put took r at live back fewer notes fits =
+      let w : PassView R = record v { put = put; took = took } in
       let was = r.workers j v at in
-      let now : IsWorkerView o.book w = record {
-        worker = was.worker;
-        same = was.same;
-        none = λ e. absurd (true≢false (sym e ∙ live));
-        back = λ h. times_put h (g.horizon_of x.run) v.put v.took (note_of g x) refl held (was.back h);
-        fewer = omega (arith, length-append v.put (note_of g x ∷ []));
-      } in
+      let now : IsWorkerView o.book w = record { worker = was.worker; same = was.same; none = λ e. absurd (true≢false (sym e ∙ live)); back = back; fewer = fewer } in
       record {
         owner = r.owner;
-        all_notes = λ f. let before = r.all_notes f in
-            omega (arith, before, sum_by_push f v.put (note_of g x), sum_by_push (λ j. f (note_of g j)) items x, sum_there (λ (u : PassView R). sum_by f u.put) ws j v w at, sum_there (λ (u : PassView R). sum_by f u.took) ws j v w at);
+        all_notes = λ f. omega (arith, r.all_notes f, notes f, sum_there (λ (u : PassView R). sum_by f u.put) ws j v w at, sum_there (λ (u : PassView R). sum_by f u.took) ws j v w at);
         workers = λ k u e. ⊎_elim (λ (t : (k ≡ j) × (w ≡ u)). subst (λ (y : PassView R). IsWorkerView o.book y) t.1 now) (λ (t : (k ≢ j) × (get_elem? ws k ≡ some u)). r.workers k u t.1) (at_set ws j k w u e);
         count = let t = sum_there (λ (u : PassView R). one_if (not u.ended)) ws j v w at in omega (arith, t, r.count);
         few = r.few;
         differ = r.differ;
-        fits = All-append (Fits g o.book) items (x ∷ []) r.fits (all_one (Fits g o.book) x (subst (λ (b : List (BookEntry R)). Fits g b x) (was.same live) fit));
+        fits = fits;
       }
+
+  worker_puts : (x : JobView R) (items : List (JobView R)) (o : PassView R) (ws : List (PassView R)) (j : ℕ) (v : PassView R) → IsLawful g items o ws → get_elem? ws j ≡ some v → v.ended ≡ false
+      → count_of (g.horizon_of x.run) v.put < count_of (g.horizon_of x.run) v.took → length v.put < length v.took → Fits g v.book x
+      → IsLawful g (items ++ x ∷ []) o (set ws j (with_put v (note_of g x)))
+  worker_puts x items o ws j v r at live held fewer fit =
+      let n = note_of g x in
+      let was = r.workers j v at in
+      worker_moves items (items ++ x ∷ []) o ws j v (v.put ++ n ∷ []) v.took r at live (λ h. times_put h n.horizon v.put v.took n refl held (was.back h)) (omega (arith, length-append v.put (n ∷ [])))
+      (λ f. omega (arith, sum_by_push f v.put n, sum_by_push (λ j. f (note_of g j)) items x))
+      (All-append (Fits g o.book) items (x ∷ []) r.fits (all_one (Fits g o.book) x (subst (λ (b : List (BookEntry R)). Fits g b x) (was.same live) fit)))
 
   pub puts : (n port : ℕ) (v : PassView R) (x : JobView R) → v.ended ≡ false → MayPut v (g.horizon_of x.run) → Fits g v.book x → Pushes (RuleHolds g) n port v x (λ w. w ≡ with_put v (note_of g x))
   puts n port v x live may fit items [] space b at = absurd b
@@ -134,25 +139,11 @@ module _ {R : Type 0} (g : Ghosts R) where
   worker_takes : (x : JobView R) (items : List (JobView R)) (o : PassView R) (ws : List (PassView R)) (j : ℕ) (v : PassView R) → IsLawful g (x ∷ items) o ws → get_elem? ws j ≡ some v → v.ended ≡ false
       → IsLawful g items o (set ws j (with_take v (note_of g x)))
   worker_takes x items o ws j v r at live =
-      let w = with_take v (note_of g x) in
+      let n = note_of g x in
       let was = r.workers j v at in
-      let now : IsWorkerView o.book w = record {
-        worker = was.worker;
-        same = was.same;
-        none = λ e. absurd (true≢false (sym e ∙ live));
-        back = λ h. omega (arith, was.back h, times_grow h v.took (note_of g x));
-        fewer = omega (arith, was.fewer, length-append v.took (note_of g x ∷ []));
-      } in
-      record {
-        owner = r.owner;
-        all_notes = λ f. let before = r.all_notes f in
-            omega (arith, before, sum_by_push f v.took (note_of g x), sum_by-cons (λ j. f (note_of g j)) x items, sum_there (λ (u : PassView R). sum_by f u.put) ws j v w at, sum_there (λ (u : PassView R). sum_by f u.took) ws j v w at);
-        workers = λ k u e. ⊎_elim (λ (t : (k ≡ j) × (w ≡ u)). subst (λ (y : PassView R). IsWorkerView o.book y) t.1 now) (λ (t : (k ≢ j) × (get_elem? ws k ≡ some u)). r.workers k u t.1) (at_set ws j k w u e);
-        count = let t = sum_there (λ (u : PassView R). one_if (not u.ended)) ws j v w at in omega (arith, t, r.count);
-        few = r.few;
-        differ = r.differ;
-        fits = All-tail (Fits g o.book) x items r.fits;
-      }
+      worker_moves (x ∷ items) items o ws j v v.put (v.took ++ n ∷ []) r at live (λ h. omega (arith, was.back h, times_grow h v.took n)) (omega (arith, was.fewer, length-append v.took (n ∷ [])))
+      (λ f. omega (arith, sum_by_push f v.took n, sum_by-cons (λ j. f (note_of g j)) x items))
+      (All-tail (Fits g o.book) x items r.fits)
 
   pub takes : (port : ℕ) (v : PassView R) → v.ended ≡ false → Pops (RuleHolds g) port v (Takes g v)
   takes port v live x items [] b at = absurd b

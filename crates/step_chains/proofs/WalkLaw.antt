@@ -7,7 +7,9 @@ use Rattle.step_clauses.specs.Clause.{Literal, Is, Not}
 use Rattle.step_clauses.specs.Coded.{coded}
 use Rattle.step_clauses.proofs.CodedLaw.{coded-append}
 use Rattle.step_chains.specs.declared.link.Link.{Link}
+use Rattle.step_chains.specs.declared.walk.Walk.{Walk}
 use Rattle.step_chains.specs.Links.{link_count, enter_links, pass_links, is_read, link_size}
+use Rattle.step_chains.specs.Walk.{StandsBefore, IsAfter}
 use Rattle.step_chains.proofs.LinkLaw.{left_counts}
 
 -- A walk along the links of a chain: what is seen, the next variable, and how many readers are left.
@@ -57,24 +59,23 @@ count_next links i k seen next most is le = by (seen && k.reads) (link_count (se
     by true n h = omega (arith, h)
     by false n h = omega (arith, h)
 
--- what a walk knows once it has taken a link
-pub record Walked (links : List Link) (i : ℕ) (k : Link) (seen : Bool) (next most after : ℕ) : Type 0 where
+-- what a walk knows once it has passed a link
+pub record Walked (links : List Link) (i : ℕ) (k : Link) (v : Walk) (most : ℕ) : Type 0 where
   pub is : IsAt links i k
-  pub left : after ≡ readers (drop (i + 1) links)
-  pub count : (if seen && k.reads then next + 1 else next) + link_count (seen || k.takes) (drop (i + 1) links) ≤ most
+  pub stands : StandsBefore most (drop (i + 1) links) v
 
 pub walked :
-    (links items : List Link) (i : ℕ) (d k : Link) (seen : Bool) (next most left after : ℕ) → items ≡ links → i < length items → k ≡ get_or items i d
-    → left ≡ readers (drop i links) → next + link_count seen (drop i links) ≤ most → (if k.reads then 1 else 0) + after ≡ left → Walked links i k seen next most after
-walked links items i d k seen next most left after e lt got are le f =
+    (links items : List Link) (i : ℕ) (d k : Link) (w v : Walk) (most : ℕ) → items ≡ links → i < length items → k ≡ get_or items i d
+    → StandsBefore most (drop i links) w → IsAfter k w v → Walked links i k v most
+walked links items i d k w v most e lt got s f =
     let is = at links items i d k e lt got in
-    record { is = is; left = left_next links i k left after is are f; count = count_next links i k seen next most is le }
+    record { is = is; stands = (left_next links i k w.left v.left is s.0 f.2, rw (f.1, f.0) (count_next links i k w.seen w.next most is s.1)) }
 
 -- where a taker was seen and a reader is left, a variable is left
-pub variable_left : (ks : List Link) (seen : Bool) (next most left : ℕ) → seen ≡ true → next + link_count seen ks ≤ most → left ≡ readers ks → nat_lt 0 left ≡ true → next < most
-variable_left ks seen next most left s le e t =
-    let c = left_counts ks (sym (some_left ks) ∙ ap (nat_lt 0) (sym e) ∙ t) in
-    let h : next + link_count true ks ≤ most = rw s at le in
+pub variable_left : (ks : List Link) (v : Walk) (most : ℕ) → v.seen ≡ true → StandsBefore most ks v → nat_lt 0 v.left ≡ true → v.next < most
+variable_left ks v most seen s t =
+    let c = left_counts ks (sym (some_left ks) ∙ ap (nat_lt 0) (sym s.0) ∙ t) in
+    let h : v.next + link_count true ks ≤ most = rw seen at s.1 in
     omega (arith, c, h)
 
 pub append_coded : (before : List (List ℕ)) (xs ys : List (List Literal)) → before ++ coded (xs ++ ys) ≡ (before ++ coded xs) ++ coded ys
@@ -93,25 +94,24 @@ one_next links i left before after whole one rest e w a =
 
 module _ (act var : ℕ → ℕ) where
   pub enter_next :
-      (links : List Link) (i : ℕ) (k : Link) (seen : Bool) (next left : ℕ) (before after : List (List ℕ)) → IsAt links i k
-      → left ≡ readers (drop (i + 1) links)
-      → after ≡ before ++ coded (if k.takes then (if nat_lt 0 left then (Not (act k.action) ∷ Is (var (if seen && k.reads then next + 1 else next)) ∷ []) ∷ [] else []) else [])
-      → before ++ coded (enter_links act var seen next (drop i links)) ≡ after ++ coded (enter_links act var (seen || k.takes) (if seen && k.reads then next + 1 else next) (drop (i + 1) links))
-  enter_next links i k seen next left before after is e a =
-      let j = if seen && k.reads then next + 1 else next in
-      one_next links i left before after (enter_links act var seen next (drop i links))
+      (links : List Link) (i : ℕ) (k : Link) (w v : Walk) (most : ℕ) (before after : List (List ℕ)) → IsAfter k w v → Walked links i k v most
+      → after ≡ before ++ coded (if k.takes then (if nat_lt 0 v.left then (Not (act k.action) ∷ Is (var v.next) ∷ []) ∷ [] else []) else [])
+      → before ++ coded (enter_links act var w.seen w.next (drop i links)) ≡ after ++ coded (enter_links act var v.seen v.next (drop (i + 1) links))
+  enter_next links i k w v most before after f is a =
+      let j = if w.seen && k.reads then w.next + 1 else w.next in
+      let a' = rw f.1 at a in
+      rw (f.1, f.0) (one_next links i v.left before after (enter_links act var w.seen w.next (drop i links))
       (λ b. if k.takes then (if b then (Not (act k.action) ∷ Is (var j) ∷ []) ∷ [] else []) else [])
-      (enter_links act var (seen || k.takes) j (drop (i + 1) links)) e (ap (enter_links act var seen next) is.here) a
+      (enter_links act var (w.seen || k.takes) j (drop (i + 1) links)) is.stands.0 (ap (enter_links act var w.seen w.next) is.is.here) a')
 
   pub pass_next :
-      (links : List Link) (i : ℕ) (k : Link) (seen : Bool) (next left : ℕ) (before after : List (List ℕ)) → IsAt links i k
-      → left ≡ readers (drop (i + 1) links)
-      → after ≡ before ++ coded (if seen && k.reads then (Not (var next) ∷ Not (act k.action) ∷ []) ∷ (if nat_lt 0 left then (Not (var next) ∷ Is (var (next + 1)) ∷ []) ∷ [] else []) else [])
-      → before ++ coded (pass_links act var seen next (drop i links)) ≡ after ++ coded (pass_links act var (seen || k.takes) (if seen && k.reads then next + 1 else next) (drop (i + 1) links))
-  pass_next links i k seen next left before after is e a =
-      one_next links i left before after (pass_links act var seen next (drop i links))
-      (λ b. if seen && k.reads then (Not (var next) ∷ Not (act k.action) ∷ []) ∷ (if b then (Not (var next) ∷ Is (var (next + 1)) ∷ []) ∷ [] else []) else [])
-      (pass_links act var (seen || k.takes) (if seen && k.reads then next + 1 else next) (drop (i + 1) links)) e (ap (pass_links act var seen next) is.here) a
+      (links : List Link) (i : ℕ) (k : Link) (w v : Walk) (most : ℕ) (before after : List (List ℕ)) → IsAfter k w v → Walked links i k v most
+      → after ≡ before ++ coded (if w.seen && k.reads then (Not (var w.next) ∷ Not (act k.action) ∷ []) ∷ (if nat_lt 0 v.left then (Not (var w.next) ∷ Is (var (w.next + 1)) ∷ []) ∷ [] else []) else [])
+      → before ++ coded (pass_links act var w.seen w.next (drop i links)) ≡ after ++ coded (pass_links act var v.seen v.next (drop (i + 1) links))
+  pass_next links i k w v most before after f is a =
+      rw (f.1, f.0) (one_next links i v.left before after (pass_links act var w.seen w.next (drop i links))
+      (λ b. if w.seen && k.reads then (Not (var w.next) ∷ Not (act k.action) ∷ []) ∷ (if b then (Not (var w.next) ∷ Is (var (w.next + 1)) ∷ []) ∷ [] else []) else [])
+      (pass_links act var (w.seen || k.takes) (if w.seen && k.reads then w.next + 1 else w.next) (drop (i + 1) links)) is.stands.0 (ap (pass_links act var w.seen w.next) is.is.here) a)
 
 -- the literals of one link's clauses come first
 pub size_next :

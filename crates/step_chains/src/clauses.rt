@@ -1,6 +1,6 @@
 //! The clauses of chains.
-ghost use Rattle.std.specs.Prelude.{◌≡◌, ◌+◌, ◌≤◌, ◌<◌, ◌++◌, ℕ, List, Bool, [], ◌∷◌, true, false, ◌&&◌, ◌||◌, length, count_by, if◌then◌else◌, OnOk};
-ghost use Rattle.std.specs.List.{cons_option, AllByRecursion};
+ghost use Rattle.std.specs.Prelude.{◌≡◌, ◌+◌, ◌≤◌, ◌<◌, ◌++◌, ℕ, List, [], ◌∷◌, true, false, if◌then◌else◌, OnOk};
+ghost use Rattle.std.specs.List.{cons_option};
 ghost use Rattle.gt_core.specs.Layout.{action_at, chain_at};
 ghost use Rattle.gt_core.specs.Task.{Task};
 ghost use Rattle.clause_base.specs.Clause.{clause_of};
@@ -8,12 +8,14 @@ ghost use Rattle.step_clauses.specs.Clause.{Is, Not, code};
 ghost use Rattle.step_clauses.specs.Coded.{Appends};
 ghost use Rattle.step_clauses.specs.Formula.{chain_clauses};
 ghost use Rattle.step_clauses.specs.Variables.{chains};
-ghost use Rattle.step_chains.specs.Links.{link_count, enter_links, pass_links, enter_of, pass_of};
-ghost use Rattle.step_chains.specs.Chains.{AreChains, IsChainWithin, all_clauses};
+ghost use Rattle.step_chains.specs.Links.{enter_links, pass_links, enter_of, pass_of};
+ghost use Rattle.step_chains.specs.Walk.{HasChain};
+ghost use Rattle.step_chains.specs.Chains.{AreChains, all_clauses};
 
-use crate::chain::{Chain, left_after, readers};
+use crate::chain::Chain;
 use crate::chains::Chains;
 use crate::link::Link;
+use crate::walk::Walk;
 use clause_base::clause_list::ClauseList;
 use clause_base::literal::Lit;
 use clause_base::memory::Memory;
@@ -45,21 +47,6 @@ fn chain_lit(layout: &Layout, chain: u32, value: bool) -> Lit
 {
     let _all = layout.variables();
     Lit::of(layout.chain(0, chain), value)
-}
-
-/// The number of the next variable after a link.
-fn next_after(link: Link, seen: bool, next: u32) -> u32
-    requires { next ≤ 1073741824 }
-    ensures { result ≡ (if seen && link.reads then next + 1 else next) }
-{
-    if seen && link.reads { next + 1 } else { next }
-}
-
-/// Whether a taker was seen, after a link.
-fn seen_after(link: Link, seen: bool) -> bool
-    ensures { result ≡ (seen || link.takes) }
-{
-    seen || link.takes
 }
 
 /// Appends the clause by which a taker makes a variable true, where a reader is left.
@@ -114,39 +101,35 @@ fn add_pass(
 
 /// Appends the clauses of a chain's takers.
 fn add_enters(layout: &Layout, chain: &Chain, clauses: &mut ClauseList) -> Result<(), Memory>
-    requires horizon { 0 < layout.now.horizon }
-    requires within { IsChainWithin layout.now.actions layout.now.chains chain.now }
-    requires few { layout.now.chains ≤ 1073741824 }
+    requires { HasChain layout.now chain.now }
     ensures { OnOk result (Appends clauses.old clauses.new (enter_links (action_at layout.now 0) (chain_at layout.now 0) false chain.now.first chain.now.links)) }
 {
-    let mut seen = false;
-    let mut next = chain.first;
-    let mut left = readers(&chain.links);
+    let mut walk = Walk::of(chain);
     for link in chain.links.as_slice() {
-        left = left_after(*link, left);
-        next = next_after(*link, seen, next);
-        add_enter(layout, *link, next, left > 0, clauses)?;
-        seen = seen_after(*link, seen);
+        walk = walk.past(*link);
+        add_enter(layout, *link, walk.next, walk.left > 0, clauses)?;
     }
     Ok(())
 }
 
 /// Appends the clauses of a chain's variables.
 fn add_passes(layout: &Layout, chain: &Chain, clauses: &mut ClauseList) -> Result<(), Memory>
-    requires horizon { 0 < layout.now.horizon }
-    requires within { IsChainWithin layout.now.actions layout.now.chains chain.now }
-    requires few { layout.now.chains ≤ 1073741824 }
+    requires { HasChain layout.now chain.now }
     ensures { OnOk result (Appends clauses.old clauses.new (pass_links (action_at layout.now 0) (chain_at layout.now 0) false chain.now.first chain.now.links)) }
 {
-    let mut seen = false;
-    let mut next = chain.first;
-    let mut left = readers(&chain.links);
+    let mut walk = Walk::of(chain);
     for link in chain.links.as_slice() {
-        left = left_after(*link, left);
-        let reads = seen & link.reads;
-        add_pass(layout, link.action, reads, next, left > 0, clauses)?;
-        next = next_after(*link, seen, next);
-        seen = seen_after(*link, seen);
+        let after = walk.past(*link);
+        let reads = walk.seen & link.reads;
+        add_pass(
+            layout,
+            link.action,
+            reads,
+            walk.next,
+            after.left > 0,
+            clauses,
+        )?;
+        walk = after;
     }
     Ok(())
 }

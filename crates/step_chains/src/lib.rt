@@ -12,5 +12,6 @@ pub mod chains;
 mod clauses;
 pub mod index;
 pub mod link;
+mod walk;
 
 pub use chains::Chains;

@@ -1,10 +1,14 @@
 use Rattle.std.proofs.Common.{◌≡◌, drop}
-use Rattle.pd_sexp.specs.View.{views}
+use Rattle.pd_sexp.specs.View.{view, views}
 use Rattle.pd_task.specs.Effects.{all_literals}
 use Rattle.pd_task.specs.Scope.{site_of}
+use Rattle.pd_task.proofs.Sizes.{tree_size}
 use Rattle.pd_task.proofs.effects.+read_literals.Given as goal
 
 abbrev pub invariant-loop-item : goal.invariant-loop-item
 invariant-loop-item l =
-    all_literals (site_of l.vocabulary l.scope l.cond) l.into.items (views (drop l.item-index l.rest))
-    ≡ all_literals (site_of l.vocabulary l.scope l.cond) l.fn.into.items (views l.rest)
+    all_literals (site_of l.vocabulary l.scope l.cond) l.into.items (views (drop l.item-index l.item-items))
+    ≡ all_literals (site_of l.vocabulary l.scope l.cond) l.fn.into.items (views l.item-items)
+
+abbrev pub decreases-read_literals : goal.decreases-read_literals
+decreases-read_literals l = tree_size (view l.tree.now)

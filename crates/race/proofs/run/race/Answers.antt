@@ -10,6 +10,8 @@ use Rattle.race.specs.Ends.{AreStepsOf, AreActions}
 use Rattle.race.specs.Tied.{race_state, Stands, GoesOn, Ends, SpendsMore}
 use Rattle.race.proofs.Rounds.{after-next, ends-by, at-first}
 use Rattle.race.proofs.Told.{each-refuted, planned}
+use Rattle.race.proofs.run.race.Given.{Over}
+use Rattle.race.proofs.run.race.Goals.{In-End}
 use Rattle.race.proofs.run.race.Goals as goal
 
 pub loop-next-init : goal.loop-next-init
@@ -35,13 +37,18 @@ loop-next-preserved g c =
       rounds = (k.0 + 1, after-next input k.0 (race_state r) k.1 ∙ stands.on, let few = k.2 in omega (arith, few, spends));
     }
 
+-- the round ends the race
+ends : (g : Over) (c : In-End g) → Ends (input_of g.F.StepForm c.args.form.now c.args.settings.now) c.in-End.end (round (input_of g.F.StepForm c.args.form.now c.args.settings.now) (race_state c.loop-next.racing))
+ends g c =
+    let input = input_of g.F.StepForm c.args.form.now c.args.settings.now in
+    subst (λ (step : Step). Stands input step (round input (race_state c.loop-next.racing))) c.in-End.is c.in_ok-next.ensures.stands
+
 pub returns-in-End-clause-gives : goal.returns-in-End-clause-gives
 returns-in-End-clause-gives g c =
     let input = input_of g.F.StepForm c.args.form.now c.args.settings.now in
     let r = c.loop-next.racing in
     let k = c.loop-next.invariant.rounds in
-    let stage = round input (race_state r) in
-    let stands : Ends input c.in-End.end stage = subst (λ (step : Step). Stands input step stage) c.in-End.is c.in_ok-next.ensures.stands in
+    let stands = ends g (goal.at.returns-in-End-clause-gives g c).In-End in
     let few = k.2 in
     let within = c.loop-next.invariant.tied.within in
     ends-by input (k.0 + 1) (input.budget + 1) (Ended (end_view c.in-End.end)) (after-next input k.0 (race_state r) k.1 ∙ stands.told) refl (omega (arith, few, within))
@@ -50,20 +57,16 @@ pub returns-in-End-clause-refuted : goal.returns-in-End-clause-refuted
 returns-in-End-clause-refuted g c =
     let form = c.args.form.now in
     let input = input_of g.F.StepForm form c.args.settings.now in
-    let stage = round input (race_state c.loop-next.racing) in
-    let stands : Ends input c.in-End.end stage = subst (λ (step : Step). Stands input step stage) c.in-End.is c.in_ok-next.ensures.stands in
     each-refuted input (λ h. (steps : List (List ℕ)) → g.F.StepForm.is_plan form h steps → ⊥)
-    (λ h none. g.F.StepForm.refutes form h c.size-lawful.ensures.lawful none) (lines_of c.in-End.end) stands.lines
+    (λ h none. g.F.StepForm.refutes form h c.size-lawful.ensures.lawful none) (lines_of c.in-End.end) (ends g (goal.at.returns-in-End-clause-refuted g c).In-End).lines
 
 pub returns-in-End-clause-plan : goal.returns-in-End-clause-plan
 returns-in-End-clause-plan g c =
     let form = c.args.form.now in
     let input = input_of g.F.StepForm form c.args.settings.now in
-    let stage = round input (race_state c.loop-next.racing) in
-    let stands : Ends input c.in-End.end stage = subst (λ (step : Step). Stands input step stage) c.in-End.is c.in_ok-next.ensures.stands in
     planned (AreStepsOf input) (g.F.StepForm.is_plan form)
     (λ h steps is. subst (g.F.StepForm.is_plan form h) (sym is.2) (g.F.StepForm.plans form h is.0 c.size-lawful.ensures.lawful is.1))
-    c.in-End.end stands.modelled
+    c.in-End.end (ends g (goal.at.returns-in-End-clause-plan g c).In-End).modelled
 
 pub returns-in-End-clause-long : goal.returns-in-End-clause-long
 returns-in-End-clause-long g c =

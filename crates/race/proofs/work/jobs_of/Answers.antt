@@ -2,35 +2,24 @@ use Rattle.std.proofs.Common.{arith, ◌≡◌, ◌+◌, ◌≤◌, ℕ, [], ◌
 use Rattle.solver_pool.specs.Job.{JobView}
 use Rattle.horizon_run.specs.Run.{RunView}
 use Rattle.race.specs.Runs.{Fits}
-use Rattle.race.proofs.Packed.{jobs_at-push, has_grant}
+use Rattle.race.proofs.Packed.{jobs_at-push, grant_at}
 use Rattle.race.proofs.work.jobs_of.Goals as goal
 
 pub bounds-grants-len : goal.bounds-grants-len
 bounds-grants-len c =
-    let r = c.in-Some.run' in
-    let rest = c.next.new.self.rest.items in
-    let whole : c.loop-run.yielded ++ r ∷ rest ≡ c.args.runs.items = search rules in
-    let h = has_grant c.loop-run.yielded r rest c.args.grants.now (subst (λ (rs : List RunView). Fits rs c.args.grants.now) (sym whole) c.requires) in
-    omega (arith, h.there, c.loop-run.invariant.many, c.len.ensures)
+    let whole : c.loop-run.yielded ++ c.in-Some.run' ∷ c.next.new.self.rest.items ≡ c.args.runs.items = search rules in
+    (grant_at _ _ _ _ _ _ whole c.requires (c.len.ensures ∙ c.loop-run.invariant.many)).there
 
 pub overflow_add-target : goal.overflow_add-target
 overflow_add-target c =
-    let r = c.in-Some.run' in
-    let rest = c.next.new.self.rest.items in
-    let whole : c.loop-run.yielded ++ r ∷ rest ≡ c.args.runs.items = search rules in
-    let h = has_grant c.loop-run.yielded r rest c.args.grants.now (subst (λ (rs : List RunView). Fits rs c.args.grants.now) (sym whole) c.requires) in
-    let at : c.len.result ≡ length c.loop-run.yielded = c.len.ensures ∙ c.loop-run.invariant.many in
-    let few : r.granted + slice_index c.args.grants.now c.len.result ≤ 1073741824 = subst (λ (n : ℕ). r.granted + slice_index c.args.grants.now n ≤ 1073741824) (sym at) h.few in
+    let whole : c.loop-run.yielded ++ c.in-Some.run' ∷ c.next.new.self.rest.items ≡ c.args.runs.items = search rules in
+    let few = (grant_at _ _ _ _ _ _ whole c.requires (c.len.ensures ∙ c.loop-run.invariant.many)).few in
     omega (arith, few, c.granted.ensures.value)
 
 pub invariant_of-push : goal.invariant_of-push
 invariant_of-push c =
-    let r = c.in-Some.run' in
-    let rest = c.next.new.self.rest.items in
-    let whole : c.loop-run.yielded ++ r ∷ rest ≡ c.args.runs.items = search rules in
-    let h = has_grant c.loop-run.yielded r rest c.args.grants.now (subst (λ (rs : List RunView). Fits rs c.args.grants.now) (sym whole) c.requires) in
-    let at : c.len.result ≡ length c.loop-run.yielded = c.len.ensures ∙ c.loop-run.invariant.many in
-    let few : r.granted + slice_index c.args.grants.now c.len.result ≤ 1073741824 = subst (λ (n : ℕ). r.granted + slice_index c.args.grants.now n ≤ 1073741824) (sym at) h.few in
+    let whole : c.loop-run.yielded ++ c.in-Some.run' ∷ c.next.new.self.rest.items ≡ c.args.runs.items = search rules in
+    let few = (grant_at _ _ _ _ _ _ whole c.requires (c.len.ensures ∙ c.loop-run.invariant.many)).few in
     (omega (arith, c.granted.ensures.value), omega (arith, few, c.granted.ensures.value))
 
 pub loop-run-preserved : goal.loop-run-preserved

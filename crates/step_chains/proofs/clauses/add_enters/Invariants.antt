@@ -1,12 +1,12 @@
-use Rattle.std.proofs.Common.{◌≡◌, ◌+◌, ◌≤◌, ◌++◌, false, count_by, drop}
+use Rattle.std.proofs.Common.{◌≡◌, ◌++◌, false, drop}
 use Rattle.gt_core.specs.Layout.{action_at, chain_at}
 use Rattle.step_clauses.specs.Coded.{coded}
-use Rattle.step_chains.specs.Links.{link_count, enter_links}
+use Rattle.step_chains.specs.Links.{enter_links}
+use Rattle.step_chains.specs.Walk.{StandsBefore}
 use Rattle.step_chains.proofs.clauses.add_enters.Given as goal
 
 abbrev pub invariant-loop-link : goal.invariant-loop-link
 invariant-loop-link l =
-    (l.left ≡ count_by (λ k. k.reads) (drop l.link-index l.chain.links))
-    × (l.next + link_count l.seen (drop l.link-index l.chain.links) ≤ l.layout.chains)
+    StandsBefore l.layout.chains (drop l.link-index l.chain.links) l.walk
     × (l.initial.clauses ++ coded (enter_links (action_at l.layout 0) (chain_at l.layout 0) false l.chain.first l.chain.links)
-    ≡ l.clauses ++ coded (enter_links (action_at l.layout 0) (chain_at l.layout 0) l.seen l.next (drop l.link-index l.chain.links)))
+    ≡ l.clauses ++ coded (enter_links (action_at l.layout 0) (chain_at l.layout 0) l.walk.seen l.walk.next (drop l.link-index l.chain.links)))

@@ -60,11 +60,8 @@ returns-clause-tied g c =
 pub returns-clause-advanced : goal.returns-clause-advanced
 returns-clause-advanced g c =
     let r = c.args.self in
-    let t = c.requires.1.1.1.1.0 in
-    let gs = c.in_ok-grants.grants.items in
-    let rates : c.args.settings.now.rates ≡ g.input.rates = sym c.requires.1.1.1.1.1.1 in
-    race-advanced g.input r (record r { ledger = c.book.new.ledger; runs = c.in_ok-runs.runs }) gs (left_of r.ledger) c.count-count.result t refl refl (c.in_ok-runs.ensures ∙ ap (moved_all r.runs.items) c.as_slice-2.ensures.value)
-    (c.in_ok-grants.ensures.grants ∙ ap (λ (x : Rates). grants x 0 (left_of r.ledger) c.count-count.result) rates) refl c.count-count.ensures.value
+    race-advanced g.input r (record r { ledger = c.book.new.ledger; runs = c.in_ok-runs.runs }) c.in_ok-grants.grants.items (left_of r.ledger) c.count-count.result c.requires.1.1.1.1.0 refl refl (c.in_ok-runs.ensures ∙ ap (moved_all r.runs.items) c.as_slice-2.ensures.value)
+    (c.in_ok-grants.ensures.grants ∙ ap (λ (x : Rates). grants x 0 (left_of r.ledger) c.count-count.result) (sym c.requires.1.1.1.1.1.1)) refl c.count-count.ensures.value
 
 pub returns-clause-moved : goal.returns-clause-moved
 returns-clause-moved g c =

@@ -4,25 +4,42 @@ use Rattle.clause_base.specs.Formula.{Cnf}
 use Rattle.step_encoding.specs.Numbers.{literals_of}
 use Rattle.horizon_run.specs.Run.{RunView, choice_in}
 use Rattle.race.specs.Runs.{IsRunOf}
-use Rattle.race.proofs.Starts.{taken, is_run, new_low, tied-start, low-start, race-start}
+use Rattle.race.proofs.Starts.{IsStart, taken, is_run, new_low, tied-start, low-start, race-start}
+use Rattle.race.proofs.racing.Racing.start.Given.{Over}
+use Rattle.race.proofs.racing.Racing.start.Goals.{In_ok-push}
 use Rattle.race.proofs.racing.Racing.start.Goals as goal
+
+-- the run is of the input's formula, and chooses as the input does
+formula-same : (g : Over) (c : In_ok-push g) → g.input.formula c.args.horizon ≡ g.F.StepForm.formula_of c.args.form.now c.args.horizon
+formula-same g c = ap (λ (f : ℕ → Cnf). f c.args.horizon) c.requires.1.1.1.1.1.0
+
+chosen : (g : Over) (c : In_ok-push g) → g.input.choose c.args.horizon ≡ choice_in c.args.run
+chosen g c = ap (λ (f : ℕ → Known → Option ℕ). f c.args.horizon) c.requires.1.1.1.1.0 ∙ sym c.requires.1.1.1.1.1.1.0.choice
+
+named : (g : Over) (c : In_ok-push g) → c.args.run.formula.name ≡ c.args.horizon
+named g c = ap (λ (f : Cnf). f.name) c.requires.1.1.1.1.1.1.0.formula ∙ (g.F.StepForm.numbers c.args.form.now c.args.horizon).name
+
+-- the horizon is started
+starts : (g : Over) (c : In_ok-push g) → IsStart c.args.self.now (record c.args.self.now { window = c.take_next.new.self; last = c.args.horizon; runs = c.push.new.self }) c.args.run c.args.horizon
+starts g c =
+    let took = c.take_next.ensures in
+    record {
+      window = taken c.args.self.now.window c.take_next.new.self c.take_next.result c.args.horizon took.none took.next took.taken c.requires.1.1.1.1.1.1.1.1.1.0 c.requires.1.1.1.1.1.1.1.1.1.1;
+      runs = c.in_ok-push.ensures.items;
+      last = refl;
+      ledger = refl;
+      lines = refl;
+    }
 
 pub returns-clause-tied : goal.returns-clause-tied
 returns-clause-tied g c =
-    let h = c.args.horizon in
-    let run = c.args.run in
+    let after = (goal.at.returns-clause-tied g c).In_ok-push in
     let told = c.requires.1.1.1.1.1.1.0 in
-    let same : g.input.formula h ≡ g.F.StepForm.formula_of c.args.form.now h = ap (λ (f : ℕ → Cnf). f h) c.requires.1.1.1.1.1.0 in
-    let chosen : g.input.choose h ≡ choice_in run = ap (λ (f : ℕ → Known → Option ℕ). f h) c.requires.1.1.1.1.0 ∙ sym told.choice in
-    let name : (g.input.formula h).name ≡ h = ap (λ (f : Cnf). f.name) same ∙ (g.F.StepForm.numbers c.args.form.now h).name in
-    let formula : run.formula ≡ g.input.formula h = told.formula ∙ sym same in
+    let same = formula-same g after in
+    let name : (g.input.formula c.args.horizon).name ≡ c.args.horizon = ap (λ (f : Cnf). f.name) same ∙ (g.F.StepForm.numbers c.args.form.now c.args.horizon).name in
     let small = subst (λ (f : Cnf). literals_of f ≤ 4000000) (sym same) c.requires.1.1.1.1.1.1.1.1.0 in
-    let r : IsRunOf g.input run = is_run g.input h run chosen formula name c.requires.1.1.1.1.1.1.1.0 small told.new c.standing-reached.ensures.reached in
-    let took = c.take_next.ensures in
-    let window = taken c.args.self.now.window c.take_next.new.self c.take_next.result h took.none took.next took.taken c.requires.1.1.1.1.1.1.1.1.1.0 c.requires.1.1.1.1.1.1.1.1.1.1 in
-    tied-start g.input c.args.self.now (record c.args.self.now { window = c.take_next.new.self; last = h; runs = c.push.new.self }) run h c.requires.1.1.0
-    (record { window = window; runs = c.in_ok-push.ensures.items; last = refl; ledger = refl; lines = refl })
-    (ap (λ (f : Cnf). f.name) formula ∙ name) r (ap (λ (x : RunView). x.granted) told.new) c.requires.1.1.1.1.1.1.1.1.1.0
+    let r : IsRunOf g.input c.args.run = is_run g.input c.args.horizon c.args.run (chosen g after) (told.formula ∙ sym same) name c.requires.1.1.1.1.1.1.1.0 small told.new c.standing-reached.ensures.reached in
+    tied-start g.input _ _ _ _ c.requires.1.1.0 (starts g after) (named g after) r (ap (λ (x : RunView). x.granted) told.new) c.requires.1.1.1.1.1.1.1.1.1.0
 
 pub returns-clause-low : goal.returns-clause-low
 returns-clause-low g c =
@@ -32,14 +49,6 @@ returns-clause-low g c =
 
 pub returns-clause-started : goal.returns-clause-started
 returns-clause-started g c =
-    let h = c.args.horizon in
-    let run = c.args.run in
+    let after = (goal.at.returns-clause-started g c).In_ok-push in
     let told = c.requires.1.1.1.1.1.1.0 in
-    let same : g.input.formula h ≡ g.F.StepForm.formula_of c.args.form.now h = ap (λ (f : ℕ → Cnf). f h) c.requires.1.1.1.1.1.0 in
-    let chosen : g.input.choose h ≡ choice_in run = ap (λ (f : ℕ → Known → Option ℕ). f h) c.requires.1.1.1.1.0 ∙ sym told.choice in
-    let formula : run.formula ≡ g.input.formula h = told.formula ∙ sym same in
-    let named : run.formula.name ≡ h = ap (λ (f : Cnf). f.name) told.formula ∙ (g.F.StepForm.numbers c.args.form.now h).name in
-    let took = c.take_next.ensures in
-    let window = taken c.args.self.now.window c.take_next.new.self c.take_next.result h took.none took.next took.taken c.requires.1.1.1.1.1.1.1.1.1.0 c.requires.1.1.1.1.1.1.1.1.1.1 in
-    race-start g.input c.args.self.now (record c.args.self.now { window = c.take_next.new.self; last = h; runs = c.push.new.self }) run h
-    (record { window = window; runs = c.in_ok-push.ensures.items; last = refl; ledger = refl; lines = refl }) chosen formula named told.new
+    race-start g.input _ _ _ _ (starts g after) (chosen g after) (told.formula ∙ sym (formula-same g after)) (named g after) told.new
