@@ -17,8 +17,6 @@ mod grant;
 mod line;
 mod racing;
 mod run;
-#[cfg(test)]
-mod tests;
 mod work;
 
 pub use run::{RaceError, race};
