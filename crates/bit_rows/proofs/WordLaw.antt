@@ -4,7 +4,7 @@ use Rattle.std.specs.Int.{bit_at}
 use Rattle.std.proofs.lemmas.Bool.{and_parts, and_from, both_ways, not-true}
 use Rattle.std.proofs.lemmas.Bool.Decides.{nat_tests}
 use Rattle.std.proofs.lemmas.Nat.Bits.{bit_at_set_same, bit_at_set_other, bit_at_clear_same, bit_at_clear_other, bit_at-zero, bit_at_above, bit_at_and, bit_at_or, bit_at_not, bit_at-lt, bit_at-suc, bit_at_mask_inside, bit_at_mask_below, ones_shl, bit_at-trailing_zeros}
-use Rattle.bit_rows.specs.Bits.{word_has, row_has, IsPairTest}
+use Rattle.bit_rows.specs.Bits.{word_has, row_has, IsPairAcross}
 
 -- What the operations on words do to their bits.
 
@@ -124,16 +124,16 @@ even_or_odd k = (k / 2, by (same_or_apart (k % 2) 0))
     by (inl e) = inl (omega arith)
     by (inr n) = inr (omega arith)
 
--- a bit of the word, its shift and the mask
-pair_by : (w k f : ℕ) → k < 64 → word_has w k ≡ true → word_has (w / 2) k ≡ true → word_has 6148914691236517205 k ≡ true → (k ≡ 2 * f) ⊎ (k ≡ 2 * f + 1) → (g : ℕ) × (word_has w (2 * g) ≡ true) × (word_has w (2 * g + 1) ≡ true)
-pair_by w k f l a b m (inl e) = (f, ap (word_has w) (sym e) ∙ a, ap (λ (n : ℕ). word_has w (n + 1)) (sym e) ∙ sym (shifted w k) ∙ b)
-pair_by w k f l a b m (inr e) = absurd (both_ways _ (ap (word_has 6148914691236517205) e ∙ odd_mask f (omega arith)) m)
+-- a bit of the word, of the shift of the other, and of the mask
+pair_by : (w v k f : ℕ) → k < 64 → word_has w k ≡ true → word_has (v / 2) k ≡ true → word_has 6148914691236517205 k ≡ true → (k ≡ 2 * f) ⊎ (k ≡ 2 * f + 1) → (g : ℕ) × (word_has w (2 * g) ≡ true) × (word_has v (2 * g + 1) ≡ true)
+pair_by w v k f l a b m (inl e) = (f, ap (word_has w) (sym e) ∙ a, ap (λ (n : ℕ). word_has v (n + 1)) (sym e) ∙ sym (shifted v k) ∙ b)
+pair_by w v k f l a b m (inr e) = absurd (both_ways _ (ap (word_has 6148914691236517205) e ∙ odd_mask f (omega arith)) m)
 
-pair_at : (w k : ℕ) → k < 64 → word_has (bit_and (bit_and w (w / 2)) 6148914691236517205) k ≡ true → (f : ℕ) × (word_has w (2 * f) ≡ true) × (word_has w (2 * f + 1) ≡ true)
-pair_at w k l t =
-    let two = and_parts _ _ (sym (and_has (bit_and w (w / 2)) 6148914691236517205 k) ∙ t) in
-    let one = and_parts _ _ (sym (and_has w (w / 2) k) ∙ two.0) in
-    pair_by w k (even_or_odd k).0 l one.0 one.1 two.1 (even_or_odd k).1
+pair_at : (w v k : ℕ) → k < 64 → word_has (bit_and (bit_and w (v / 2)) 6148914691236517205) k ≡ true → (f : ℕ) × (word_has w (2 * f) ≡ true) × (word_has v (2 * f + 1) ≡ true)
+pair_at w v k l t =
+    let two = and_parts _ _ (sym (and_has (bit_and w (v / 2)) 6148914691236517205 k) ∙ t) in
+    let one = and_parts _ _ (sym (and_has w (v / 2) k) ∙ two.0) in
+    pair_by w v k (even_or_odd k).0 l one.0 one.1 two.1 (even_or_odd k).1
 
 below_half : (w f : ℕ) → w < 2 ^ 64 → word_has w (2 * f + 1) ≡ true → f < 32
 below_half w f fits a = by (past_or_within (2 * f + 1))
@@ -142,40 +142,40 @@ below_half w f fits a = by (past_or_within (2 * f + 1))
     by (inl l) = omega arith
     by (inr m) = absurd (both_ways _ (none_past w (2 * f + 1) fits m) a)
 
-pair_found : (w f : ℕ) → w < 2 ^ 64 → word_has w (2 * f) ≡ true → word_has w (2 * f + 1) ≡ true → word_has (bit_and (bit_and w (w / 2)) 6148914691236517205) (2 * f) ≡ true
-pair_found w f fits a b =
-    and_has (bit_and w (w / 2)) 6148914691236517205 (2 * f) ∙ and_from _ _
-    (and_has w (w / 2) (2 * f) ∙ and_from _ _ a (shifted w (2 * f) ∙ b))
-    (even_mask f (below_half w f fits b))
+pair_found : (w v f : ℕ) → v < 2 ^ 64 → word_has w (2 * f) ≡ true → word_has v (2 * f + 1) ≡ true → word_has (bit_and (bit_and w (v / 2)) 6148914691236517205) (2 * f) ≡ true
+pair_found w v f fits a b =
+    and_has (bit_and w (v / 2)) 6148914691236517205 (2 * f) ∙ and_from _ _
+    (and_has w (v / 2) (2 * f) ∙ and_from _ _ a (shifted v (2 * f) ∙ b))
+    (even_mask f (below_half v f fits b))
 
-pub pair_test : (w : ℕ) → w < 2 ^ 64 → bit_and (bit_and w (w / 2)) 6148914691236517205 < 2 ^ 64 → (t : Bool) → t ≡ (bit_and (bit_and w (w / 2)) 6148914691236517205 == 0) → IsPairTest (word_has w) (not t)
-pair_test w fits small true e =
-    let zero : bit_and (bit_and w (w / 2)) 6148914691236517205 ≡ 0 = grind (arith, nat_tests) in
-    λ f a b. both_ways _ (ap (λ (n : ℕ). word_has n (2 * f)) zero ∙ zero_has (2 * f)) (pair_found w f fits a b)
-pair_test w fits small false e =
-    let positive : 0 < bit_and (bit_and w (w / 2)) 6148914691236517205 = grind (arith, nat_tests) in
-    let low = bit_at-trailing_zeros w64 (bit_and (bit_and w (w / 2)) 6148914691236517205) positive small in
-    pair_at w _ low.0 (ap (λ (n : ℕ). n == 1) low.1)
+pub pair_test : (w v : ℕ) → v < 2 ^ 64 → bit_and (bit_and w (v / 2)) 6148914691236517205 < 2 ^ 64 → (t : Bool) → t ≡ (bit_and (bit_and w (v / 2)) 6148914691236517205 == 0) → IsPairAcross (word_has w) (word_has v) (not t)
+pair_test w v fits small true e =
+    let zero : bit_and (bit_and w (v / 2)) 6148914691236517205 ≡ 0 = grind (arith, nat_tests) in
+    λ f a b. both_ways _ (ap (λ (n : ℕ). word_has n (2 * f)) zero ∙ zero_has (2 * f)) (pair_found w v f fits a b)
+pair_test w v fits small false e =
+    let positive : 0 < bit_and (bit_and w (v / 2)) 6148914691236517205 = grind (arith, nat_tests) in
+    let low = bit_at-trailing_zeros w64 (bit_and (bit_and w (v / 2)) 6148914691236517205) positive small in
+    pair_at w v _ low.0 (ap (λ (n : ℕ). n == 1) low.1)
 
--- in a row, word by word
+-- in two rows, word by word
 pair_places : (i f : ℕ) → f < 32 → (2 * (32 * i + f) / 64 ≡ i) × (2 * (32 * i + f) % 64 ≡ 2 * f) × ((2 * (32 * i + f) + 1) / 64 ≡ i) × ((2 * (32 * i + f) + 1) % 64 ≡ 2 * f + 1)
 pair_places i f l = (omega arith, omega arith, omega arith, omega arith)
 
-pub pair_in_row : (words : List ℕ) (i w : ℕ) → w ≡ slice_index words i → w < 2 ^ 64 → IsPairTest (word_has w) true → IsPairTest (row_has words) true
-pair_in_row words i w e fits t =
-    let p = pair_places i t.0 (below_half w t.0 fits t.2) in
-    (32 * i + t.0, rw (p.0, p.1, sym e) t.1, rw (p.2, p.3, sym e) t.2)
+pub pair_in_rows : (words others : List ℕ) (i w v : ℕ) → w ≡ slice_index words i → v ≡ slice_index others i → v < 2 ^ 64 → IsPairAcross (word_has w) (word_has v) true → IsPairAcross (row_has words) (row_has others) true
+pair_in_rows words others i w v e d fits t =
+    let p = pair_places i t.0 (below_half v t.0 fits t.2) in
+    (32 * i + t.0, rw (p.0, p.1, sym e) t.1, rw (p.2, p.3, sym d) t.2)
 
--- none up to a place, and none in the word there
-abbrev pub NoPairBelow : List ℕ → ℕ → Type 0
-NoPairBelow words i = (f : ℕ) → 2 * f / 64 < i → row_has words (2 * f) ≡ true → row_has words (2 * f + 1) ≡ true → ⊥
+-- none up to a place, and none in the words there
+abbrev pub NoPairBelow : List ℕ → List ℕ → ℕ → Type 0
+NoPairBelow words others i = (f : ℕ) → 2 * f / 64 < i → row_has words (2 * f) ≡ true → row_has others (2 * f + 1) ≡ true → ⊥
 
 split_places : (f : ℕ) → (2 * f % 64 ≡ 2 * (f % 32)) × ((2 * f + 1) / 64 ≡ 2 * f / 64) × ((2 * f + 1) % 64 ≡ 2 * (f % 32) + 1)
 split_places f = (omega arith, omega arith, omega arith)
 
-pub no_pair_more : (words : List ℕ) (i w : ℕ) → w ≡ slice_index words i → IsPairTest (word_has w) false → NoPairBelow words i → NoPairBelow words (i + 1)
-no_pair_more words i w e none below f l a b = by (same_or_apart (2 * f / 64) i) (split_places f)
+pub no_pair_more : (words others : List ℕ) (i w v : ℕ) → w ≡ slice_index words i → v ≡ slice_index others i → IsPairAcross (word_has w) (word_has v) false → NoPairBelow words others i → NoPairBelow words others (i + 1)
+no_pair_more words others i w v e d none below f l a b = by (same_or_apart (2 * f / 64) i) (split_places f)
   where
     by : (2 * f / 64 ≡ i) ⊎ (2 * f / 64 ≡ i → ⊥) → (2 * f % 64 ≡ 2 * (f % 32)) × ((2 * f + 1) / 64 ≡ 2 * f / 64) × ((2 * f + 1) % 64 ≡ 2 * (f % 32) + 1) → ⊥
-    by (inl s) p = none (f % 32) (rw (e, sym s, sym p.0) a) (rw (e, sym s, sym p.1, sym p.2) b)
+    by (inl s) p = none (f % 32) (rw (e, sym s, sym p.0) a) (rw (d, sym s, sym p.1, sym p.2) b)
     by (inr d) p = below f (omega arith) a b

@@ -20,7 +20,11 @@ abbrev pub IsLeastFrom : (ℕ → Bool) → ℕ → Option ℕ → Type 0
 IsLeastFrom p low None = (k : ℕ) → low ≤ k → p k ≡ false
 IsLeastFrom p low (Some k) = (low ≤ k) × (p k ≡ true) × ((j : ℕ) → low ≤ j → j < k → p j ≡ false)
 
+-- whether an even number passes one test and the next one another
+abbrev pub IsPairAcross : (ℕ → Bool) → (ℕ → Bool) → Bool → Type 0
+IsPairAcross p q true = (f : ℕ) × (p (2 * f) ≡ true) × (q (2 * f + 1) ≡ true)
+IsPairAcross p q false = (f : ℕ) → p (2 * f) ≡ true → q (2 * f + 1) ≡ true → ⊥
+
 -- whether an even number and the next one both pass a test
 abbrev pub IsPairTest : (ℕ → Bool) → Bool → Type 0
-IsPairTest p true = (f : ℕ) × (p (2 * f) ≡ true) × (p (2 * f + 1) ≡ true)
-IsPairTest p false = (f : ℕ) → p (2 * f) ≡ true → p (2 * f + 1) ≡ true → ⊥
+IsPairTest p = IsPairAcross p p

@@ -1,7 +1,7 @@
 //! Rows of bits.
 
 use crate::word::{
-    common, from_bit, has_bit, has_pair, least_bit, united, with_bit, without, without_bit,
+    common, from_bit, has_bit, has_pair_across, least_bit, united, with_bit, without, without_bit,
 };
 use std::alloc::{AllocError, Global};
 use std::marker::Model;
@@ -24,9 +24,9 @@ impl Model for BitRow {
 }
 
 impl BitRow {
-    ghost use Rattle.std.specs.Prelude.{◌≡◌, ℕ, ◌<◌, ◌≤◌, ◌==◌, ◌||◌, ◌&&◌, not, false, OnOk, OnErr};
+    ghost use Rattle.std.specs.Prelude.{◌≡◌, ℕ, ◌<◌, ◌≤◌, ◌==◌, ◌||◌, ◌&&◌, not, true, false, OnOk, OnErr};
     ghost use Rattle.std.specs.Bool.{OnTrue};
-    ghost use Rattle.bit_rows.specs.Bits.{room, row_has, IsLeastFrom, IsPairTest};
+    ghost use Rattle.bit_rows.specs.Bits.{room, row_has, IsLeastFrom, IsPairAcross, IsPairTest};
 
     /// The empty set, without room.
     pub fn new(alloc: Global) -> BitRow
@@ -90,6 +90,28 @@ impl BitRow {
         clear_bit(&mut self.words, number);
     }
 
+    /// Makes it the same as another, with the same room. Where it had that room before, no memory is asked for.
+    pub fn make_same(&mut self, other: &BitRow) -> Result<(), AllocError>
+        ensures { OnOk result (self.new ≡ other.now) }
+    {
+        self.words.clear();
+        self.words.extend_from_slice(other.words.as_slice())
+    }
+
+    /// Whether it is the same as another, with the same room.
+    pub fn is_same(&self, other: &BitRow) -> bool
+        ensures { OnTrue result (self.now ≡ other.now) }
+    {
+        self.words.as_slice() == other.words.as_slice()
+    }
+
+    /// Whether each number of the set is in another.
+    pub fn is_part_of(&self, other: &BitRow) -> bool
+        ensures { OnTrue result ((k : ℕ) → row_has self.now k ≡ true → row_has other.now k ≡ true) }
+    {
+        is_part(self.words.as_slice(), other.words.as_slice())
+    }
+
     /// Puts in all numbers of another set. After want of memory the set is as it was.
     pub fn unite(&mut self, other: &BitRow) -> Result<(), AllocError>
         ensures has { OnOk result ((k : ℕ) → row_has self.new k ≡ (row_has self.old k || row_has other.now k)) }
@@ -127,11 +149,18 @@ impl BitRow {
         self.words.clear();
     }
 
+    /// Whether an even number is in the set and the next one in another.
+    pub fn has_pair_across(&self, other: &BitRow) -> bool
+        ensures { IsPairAcross (row_has self.now) (row_has other.now) result }
+    {
+        has_pair_in(self.words.as_slice(), other.words.as_slice())
+    }
+
     /// Whether an even number and the next one are both in the set.
     pub fn has_pair(&self) -> bool
         ensures { IsPairTest (row_has self.now) result }
     {
-        has_pair_in(self.words.as_slice())
+        self.has_pair_across(self)
     }
 
     /// The least number of the set that is at least `from`.
@@ -150,8 +179,9 @@ impl BitRow {
     }
 }
 
-ghost use Rattle.std.specs.Prelude.{◌≡◌, ℕ, ◌+◌, ◌*◌, ◌/◌, ◌<◌, ◌≤◌, ◌==◌, ◌||◌, ◌&&◌, not, false, [], length, slice_index, slice_index_or, OnOk, IfOk};
-ghost use Rattle.bit_rows.specs.Bits.{IsLeastFrom, IsPairTest, row_has};
+ghost use Rattle.std.specs.Prelude.{◌≡◌, ℕ, ◌+◌, ◌*◌, ◌/◌, ◌<◌, ◌≤◌, ◌==◌, ◌||◌, ◌&&◌, not, true, false, [], length, slice_index, slice_index_or, OnOk, IfOk};
+ghost use Rattle.std.specs.Bool.{OnTrue};
+ghost use Rattle.bit_rows.specs.Bits.{IsLeastFrom, IsPairAcross, row_has};
 
 /// So many empty sets.
 pub fn empty_rows(alloc: Global, count: usize) -> Result<Vec<BitRow>, AllocError>
@@ -174,8 +204,8 @@ fn grow(words: &mut Vec<u64>, count: usize) -> Result<(), AllocError>
     ensures small { length words.new.items ≤ 67108864 }
     ensures has { (k : ℕ) → row_has words.new.items k ≡ row_has words.old.items k }
 {
-    while words.len() < count {
-        words.push(0)?;
+    if words.len() < count {
+        words.resize(count, 0)?;
     }
     Ok(())
 }
@@ -238,11 +268,23 @@ fn subtract_words(words: &mut Vec<u64>, others: &[u64])
     }
 }
 
-fn has_pair_in(words: &[u64]) -> bool
-    ensures { IsPairTest (row_has words.now) result }
+fn is_part(words: &[u64], others: &[u64]) -> bool
+    ensures { OnTrue result ((k : ℕ) → row_has words.now k ≡ true → row_has others.now k ≡ true) }
 {
-    for word in words {
-        if has_pair(*word) {
+    for i in 0..words.len() {
+        if without(words[i], word_at(others, i)) != 0 {
+            return false;
+        }
+    }
+    true
+}
+
+fn has_pair_in(words: &[u64], others: &[u64]) -> bool
+    ensures { IsPairAcross (row_has words.now) (row_has others.now) result }
+{
+    let end = words.len().min(others.len());
+    for i in 0..end {
+        if has_pair_across(words[i], others[i]) {
             return true;
         }
     }

@@ -1,7 +1,7 @@
 //! The bits of one word.
 
 ghost use Rattle.std.specs.Prelude.{◌≡◌, ℕ, ◌<◌, ◌≤◌, ◌&&◌, ◌||◌, not, true, nat_le};
-ghost use Rattle.bit_rows.specs.Bits.{word_has, IsPairTest};
+ghost use Rattle.bit_rows.specs.Bits.{word_has, IsPairAcross};
 
 /// Whether a word has a bit.
 pub fn has_bit(word: u64, bit: u32) -> bool
@@ -71,9 +71,9 @@ pub fn least_bit(word: u64) -> u32
 /// The even bits of a word.
 const EVEN: u64 = 0x5555_5555_5555_5555;
 
-/// Whether a word has an even bit and the next one.
-pub fn has_pair(word: u64) -> bool
-    ensures { IsPairTest (word_has word) result }
+/// Whether a word has an even bit and another the next one.
+pub fn has_pair_across(word: u64, other: u64) -> bool
+    ensures { IsPairAcross (word_has word) (word_has other) result }
 {
-    word & (word >> 1) & EVEN != 0
+    word & (other >> 1) & EVEN != 0
 }

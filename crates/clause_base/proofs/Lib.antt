@@ -4,4 +4,5 @@ pub mod Neighbours
 pub mod Refutation
 pub mod PieceLemmas
 pub mod ValueLemmas
+pub mod ValueWords
 pub mod WorkedRows

@@ -1,77 +1,18 @@
--- Values of variables kept as bytes.
-use Rattle.std.proofs.Common.{arith, ◌≡◌, ◌==◌, ℕ, zero, suc, ◌+◌, ◌<◌, ◌≤◌, List, [], ◌∷◌, length, take, drop, map, get_or, Bool, true, false, Option, Some, None, refl, sym, ap, ◌∙◌, if◌then◌else◌, replicate, eqb, ◌&&◌, ◌-◌, length-drop, slice_set}
+-- Values of variables kept as bits.
+use Rattle.std.proofs.Common.{arith, ◌≡◌, ◌≢◌, ◌==◌, ℕ, zero, suc, ◌+◌, ◌-◌, ◌*◌, ◌/◌, ◌%◌, ◌<◌, ◌≤◌, List, [], ◌∷◌, length, drop, map, get_or, Bool, true, false, not, ◌&&◌, ◌||◌, Option, Some, None, refl, sym, ap, ◌∙◌, subst, ◌⊎◌, inl, inr, if◌then◌else◌, replicate, slice_set, length-drop}
+use Rattle.std.specs.Prelude.{nat_le, IfSome, IfNone}
 use Rattle.std.specs.Option.{option_map}
-use Rattle.std.specs.List.{slice_range}
-use Rattle.std.specs.Cmp.Lexicographic.{pointwise}
-use Rattle.std.proofs.lemmas.List.{drop_more, drop_all, map-set, get_or_default, drop-map}
-use Rattle.std.proofs.lemmas.Bool.{eqb-true}
+use Rattle.std.specs.List.{range_with_len, slice_get}
+use Rattle.std.proofs.lemmas.List.{get_or-drop, get_or_past, get_or-replicate}
+use Rattle.std.proofs.lemmas.List.FromFn.{length-map-range_with_len, get_or-map-range_with_len}
+use Rattle.std.proofs.lemmas.Option.{slice_get-get_or}
+use Rattle.std.proofs.lemmas.Bool.{and_parts, not-true}
 use Rattle.std.proofs.lemmas.Bool.Decides.{nat_tests}
+use Rattle.std.proofs.lemmas.Nat.Bits.{bit_at-zero}
+use Rattle.number_bits.specs.Bits.{word_has, words_have, IsLeast}
 use Rattle.clause_base.specs.Choice.{Known, least_open_from, least_open, same_value, first_difference, plain_choice_from}
 use Rattle.clause_base.specs.Literal.{literal_of}
-use Rattle.clause_base.specs.Coded.{value_of_code, code_of_value, AreCodes, AreGivenBelow, code_difference}
-
--- equal lists of codes are passed
-pub code_difference-pass : (v n : ℕ) (codes others : List ℕ) → n ≤ length codes → n ≤ length others → take n codes ≡ take n others → code_difference (v + n) (drop n codes) (drop n others) ≡ code_difference v codes others
-code_difference-pass v zero codes others h k e =
-    let same : v + zero ≡ v = omega arith in
-    ap (λ (w : ℕ). code_difference w codes others) same
-code_difference-pass v (suc n) [] others h k e = absurd (omega arith)
-code_difference-pass v (suc n) (code ∷ codes) [] h k e = absurd (omega arith)
-code_difference-pass v (suc n) (code ∷ codes) (other ∷ others) h k e =
-    let head : code ≡ other = cc in
-    let tails : take n codes ≡ take n others = cc in
-    let same : (code == other) ≡ true = grind (arith, nat_tests) in
-    let next : v + suc n ≡ (v + 1) + n = omega arith in
-    ap (λ (w : ℕ). code_difference w (drop n codes) (drop n others)) next
-    ∙ code_difference-pass (v + 1) n codes others (omega arith) (omega arith) tails
-    ∙ ap (λ (b : Bool). if b then code_difference (v + 1) codes others else Some v) (sym same)
-
-same_code : (code other : ℕ) → code ≤ 2 → other ≤ 2 → same_value (value_of_code code) (value_of_code other) ≡ (code == other)
-same_code zero zero h k = refl
-same_code zero (suc zero) h k = refl
-same_code zero (suc (suc zero)) h k = refl
-same_code (suc zero) zero h k = refl
-same_code (suc zero) (suc zero) h k = refl
-same_code (suc zero) (suc (suc zero)) h k = refl
-same_code (suc (suc zero)) zero h k = refl
-same_code (suc (suc zero)) (suc zero) h k = refl
-same_code (suc (suc zero)) (suc (suc zero)) h k = refl
-same_code code (suc (suc (suc other))) h k = absurd (omega arith)
-same_code (suc (suc (suc code))) other h k = absurd (omega arith)
-
--- lists of values differ where their codes do
-pub first_difference-codes : (v : ℕ) (codes others : List ℕ) → AreCodes codes → AreCodes others → first_difference v (map value_of_code codes) (map value_of_code others) ≡ code_difference v codes others
-first_difference-codes v [] others a b = refl
-first_difference-codes v (code ∷ codes) [] a b = refl
-first_difference-codes v (code ∷ codes) (other ∷ others) a b =
-    ap (λ (same : Bool). if same then first_difference (v + 1) (map value_of_code codes) (map value_of_code others) else Some v) (same_code code other (a 0) (b 0))
-    ∙ ap (λ (o : Option ℕ). if code == other then o else Some v) (first_difference-codes (v + 1) codes others (λ k. a (suc k)) (λ k. b (suc k)))
-
-AreCodes-drop : (n : ℕ) (codes : List ℕ) → AreCodes codes → AreCodes (drop n codes)
-AreCodes-drop zero codes a = a
-AreCodes-drop (suc n) [] a = a
-AreCodes-drop (suc n) (code ∷ codes) a = AreCodes-drop n codes (λ v. a (suc v))
-
--- the same from a place on
-pub first_difference-drop : (from : ℕ) (codes others : List ℕ) → AreCodes codes → AreCodes others → first_difference from (drop from (map value_of_code codes)) (drop from (map value_of_code others)) ≡ code_difference from (drop from codes) (drop from others)
-first_difference-drop from codes others a b =
-    ap (λ (values : Known). first_difference from values (drop from (map value_of_code others))) (drop-map value_of_code from codes)
-    ∙ ap (λ (values : Known). first_difference from (map value_of_code (drop from codes)) values) (drop-map value_of_code from others)
-    ∙ first_difference-codes from (drop from codes) (drop from others) (AreCodes-drop from codes a) (AreCodes-drop from others b)
-
--- variables with values are passed
-pub least_open-pass : (v n : ℕ) (codes : List ℕ) → AreGivenBelow n codes → least_open_from v (map value_of_code codes) ≡ least_open_from (v + n) (map value_of_code (drop n codes))
-least_open-pass v zero codes a = let same : v ≡ v + zero = omega arith in ap (λ (w : ℕ). least_open_from w (map value_of_code codes)) same
-least_open-pass v (suc n) [] a = refl
-least_open-pass v (suc n) (zero ∷ codes) a =
-    let next : (v + 1) + n ≡ v + suc n = omega arith in
-    least_open-pass (v + 1) n codes (λ k h. a (suc k) (omega arith))
-    ∙ ap (λ (w : ℕ). least_open_from w (map value_of_code (drop n codes))) next
-least_open-pass v (suc n) (suc zero ∷ codes) a =
-    let next : (v + 1) + n ≡ v + suc n = omega arith in
-    least_open-pass (v + 1) n codes (λ k h. a (suc k) (omega arith))
-    ∙ ap (λ (w : ℕ). least_open_from w (map value_of_code (drop n codes))) next
-least_open-pass v (suc n) (suc (suc code) ∷ codes) a = let h : suc (suc code) ≤ 1 = a 0 (omega arith) in absurd (omega arith)
+use Rattle.clause_base.specs.ValueBits.{value_at, values_of, AreGivenBelow, AreRows, differs}
 
 -- the plain choice is the least open variable's
 pub plain_choice-least : (v : ℕ) (values : Known) → plain_choice_from v values ≡ option_map (λ w. literal_of w false) (least_open_from v values)
@@ -79,70 +20,315 @@ plain_choice-least v [] = refl
 plain_choice-least v (None ∷ values) = refl
 plain_choice-least v (Some b ∷ values) = plain_choice-least (v + 1) values
 
-same_where_pointwise : (xs ys : List ℕ) → pointwise eqb xs ys ≡ true → xs ≡ ys
-same_where_pointwise [] [] e = refl
-same_where_pointwise [] (y ∷ ys) e = cc
-same_where_pointwise (x ∷ xs) [] e = cc
-same_where_pointwise (x ∷ xs) (y ∷ ys) e = by (eqb x y) refl (same_where_pointwise xs ys)
+-- Values by number.
+
+length-values : (n : ℕ) (given trues : List ℕ) → length (values_of n given trues) ≡ n
+length-values n given trues = length-map-range_with_len (value_at given trues) 0 n
+
+-- of a model as many
+pub length-view : (n : ℕ) (given trues : List ℕ) (now : Known) → values_of n given trues ≡ now → length now ≡ n
+length-view n given trues now v = ap (λ (values : Known). length values) (sym v) ∙ length-values n given trues
+
+zero_plus : (v : ℕ) → 0 + v ≡ v
+zero_plus v = omega arith
+
+pub values-get : (n v : ℕ) (given trues : List ℕ) → v < n → slice_get (values_of n given trues) v ≡ Some (value_at given trues v)
+values-get n v given trues h =
+    let within : v < length (values_of n given trues) = omega (arith, length-values n given trues, h) in
+    slice_get-get_or (values_of n given trues) v None within
+    ∙ ap (λ (x : Option Bool). Some x) (get_or-map-range_with_len (value_at given trues) 0 n v v None h (zero_plus v))
+
+pub none_at : (given trues : List ℕ) (v : ℕ) → words_have given v ≡ false → value_at given trues v ≡ None
+none_at given trues v e = ap (λ (b : Bool). if b then Some (words_have trues v) else None) e
+
+pub some_at : (given trues : List ℕ) (v : ℕ) → words_have given v ≡ true → value_at given trues v ≡ Some (words_have trues v)
+some_at given trues v e = ap (λ (b : Bool). if b then Some (words_have trues v) else None) e
+
+pub below_or : (m n : ℕ) → (m < n) ⊎ (n ≤ m)
+below_or m n = grind arith
+
+same_or_apart : (m n : ℕ) → (m ≡ n) ⊎ (m ≢ n)
+same_or_apart m n = grind arith
+
+unset : (b : Bool) → (b ≡ true → ⊥) → b ≡ false
+unset true h = absurd (h refl)
+unset false h = refl
+
+-- past the last variable too
+pub values-at : (n low v : ℕ) (given trues : List ℕ) → AreRows n low given trues → get_or (values_of n given trues) v None ≡ value_at given trues v
+values-at n low v given trues r = by (below_or v n)
   where
-    by : (b : Bool) → eqb x y ≡ b → (pointwise eqb xs ys ≡ true → xs ≡ ys) → x ∷ xs ≡ y ∷ ys
-    by true h rest =
-        let head : x ≡ y = eqb-true x y h in
-        let tails : pointwise eqb xs ys ≡ true = ap (λ (b : Bool). b && pointwise eqb xs ys) (sym h) ∙ e in
-        ap (λ (z : ℕ). z ∷ xs) head ∙ ap (λ (zs : List ℕ). y ∷ zs) (rest tails)
-    by false h rest = let off : false ≡ true = ap (λ (b : Bool). b && pointwise eqb xs ys) (sym h) ∙ e in cc
+    by : (v < n) ⊎ (n ≤ v) → get_or (values_of n given trues) v None ≡ value_at given trues v
+    by (inl h) = get_or-map-range_with_len (value_at given trues) 0 n v v None h (zero_plus v)
+    by (inr h) =
+        get_or_past (values_of n given trues) v None (omega (arith, length-values n given trues, h))
+        ∙ sym (none_at given trues v (unset (words_have given v) (λ e. omega (arith, r.below v e, h))))
 
-drop-drop : (v n : ℕ) (xs : List ℕ) → drop n (drop v xs) ≡ drop (v + n) xs
-drop-drop zero n xs = let same : n ≡ zero + n = omega arith in ap (λ (k : ℕ). drop k xs) same
-drop-drop (suc v) zero [] = let same : suc v ≡ suc v + 0 = omega arith in ap (λ (k : ℕ). drop {A = ℕ} k []) same
-drop-drop (suc v) (suc n) [] = let same : suc (v + suc n) ≡ suc v + suc n = omega arith in ap (λ (k : ℕ). drop {A = ℕ} k []) same
-drop-drop (suc v) n (x ∷ xs) = let same : suc v + n ≡ suc (v + n) = omega arith in drop-drop v n xs ∙ ap (λ (k : ℕ). drop k (x ∷ xs)) (sym same)
-
--- so a group of codes that is the same is passed
-pub code_difference-group : (v n : ℕ) (codes others : List ℕ) → v + n ≤ length codes → length others ≡ length codes → pointwise eqb (slice_range codes v (v + n)) (slice_range others v (v + n)) ≡ true → code_difference (v + n) (drop (v + n) codes) (drop (v + n) others) ≡ code_difference v (drop v codes) (drop v others)
-code_difference-group v n codes others h l e =
-    let long : v + n - v ≡ n = omega arith in
-    let same : take n (drop v codes) ≡ take n (drop v others) = ap (λ (k : ℕ). take k (drop v codes)) (sym long) ∙ same_where_pointwise (slice_range codes v (v + n)) (slice_range others v (v + n)) e ∙ ap (λ (k : ℕ). take k (drop v others)) long in
-    ap (λ (xs : List ℕ). code_difference (v + n) xs (drop (v + n) others)) (sym (drop-drop v n codes))
-    ∙ ap (λ (xs : List ℕ). code_difference (v + n) (drop n (drop v codes)) xs) (sym (drop-drop v n others))
-    ∙ code_difference-pass v n (drop v codes) (drop v others) (omega (arith, length-drop v codes)) (omega (arith, length-drop v others, l)) same
-
--- the least variable without a value, where those below it have values
-pub least_open-at : (v : ℕ) (codes : List ℕ) → AreGivenBelow v codes → v < length codes → get_or codes v 0 ≡ 2 → least_open (map value_of_code codes) ≡ Some v
-least_open-at v codes a h e =
-    let rest : drop v codes ≡ 2 ∷ drop (v + 1) codes = drop_more codes v 0 h ∙ ap (λ (x : ℕ). x ∷ drop (v + 1) codes) e in
-    let none : zero + v ≡ v = omega arith in
-    least_open-pass 0 v codes a
-    ∙ ap (λ (xs : List ℕ). least_open_from (0 + v) (map value_of_code xs)) rest
-    ∙ ap (λ (w : ℕ). Some w) none
-
-pub least_open-none : (codes : List ℕ) → AreGivenBelow (length codes) codes → least_open (map value_of_code codes) ≡ None
-least_open-none codes a =
-    least_open-pass 0 (length codes) codes a
-    ∙ ap (λ (xs : List ℕ). least_open_from (0 + length codes) (map value_of_code xs)) (drop_all (length codes) codes (omega arith))
-
--- one more variable has a value
-pub given-more : (v : ℕ) (codes : List ℕ) → AreCodes codes → AreGivenBelow v codes → v < length codes → (get_or codes v 0 ≡ 2 → ⊥) → AreGivenBelow (v + 1) codes
-given-more v codes all a h n w k = by (w == v) refl
+-- one value is another one
+set_in : (f g : ℕ → Option Bool) (x : Option Bool) (s n v : ℕ) → v < n → g (s + v) ≡ x → ((k : ℕ) → k ≢ s + v → g k ≡ f k) → map g (range_with_len s n) ≡ slice_set (map f (range_with_len s n)) v x
+set_in f g x s zero v h e d = absurd (omega arith)
+set_in f g x s (suc n) zero h e d =
+    let here : s + 0 ≡ s = omega arith in
+    ap (λ (y : Option Bool). y ∷ map g (range_with_len (s + 1) n)) (ap g (sym here) ∙ e)
+    ∙ ap (λ (ys : Known). x ∷ ys) (same_above f g (s + 1) n (λ k l. d k (λ z. omega (arith, z, l))))
   where
-    by : (b : Bool) → (w == v) ≡ b → get_or codes w 2 ≤ 1
-    by true e =
-        let same : w ≡ v = grind (arith, nat_tests) in
-        let at : get_or codes v 2 ≡ get_or codes v 0 = get_or_default codes v 2 0 h in
-        let c : get_or codes w 2 ≡ get_or codes v 2 = ap (λ (x : ℕ). get_or codes x 2) same in
-        omega (arith, all v, n, at, c)
-    by false e = let less : w < v = grind (arith, nat_tests) in a w less
+    same_above : (f g : ℕ → Option Bool) (s n : ℕ) → ((k : ℕ) → s ≤ k → g k ≡ f k) → map g (range_with_len s n) ≡ map f (range_with_len s n)
+    same_above f g s zero h = refl
+    same_above f g s (suc n) h = ap (λ (y : Option Bool). y ∷ map g (range_with_len (s + 1) n)) (h s (omega arith)) ∙ ap (λ (ys : Known). f s ∷ ys) (same_above f g (s + 1) n (λ k l. h k (omega arith)))
+set_in f g x s (suc n) (suc v) h e d =
+    let next : s + 1 + v ≡ s + suc v = omega arith in
+    ap (λ (y : Option Bool). y ∷ map g (range_with_len (s + 1) n)) (d s (λ z. omega (arith, z)))
+    ∙ ap (λ (ys : Known). f s ∷ ys) (set_in f g x (s + 1) n v (omega arith) (ap g next ∙ e) (λ k z. d k (λ y. z (y ∙ sym next))))
+
+pub values-set : (n v : ℕ) (given trues new_given new_trues : List ℕ) (x : Option Bool) → v < n → value_at new_given new_trues v ≡ x → ((k : ℕ) → k ≢ v → value_at new_given new_trues k ≡ value_at given trues k) → values_of n new_given new_trues ≡ slice_set (values_of n given trues) v x
+values-set n v given trues new_given new_trues x h e d = set_in (value_at given trues) (value_at new_given new_trues) x 0 n v h (ap (value_at new_given new_trues) (zero_plus v) ∙ e) (λ k z. d k (λ y. z (y ∙ sym (zero_plus v))))
 
 -- no value is given
-pub none_given : (n : ℕ) → map value_of_code (replicate n 2) ≡ replicate n None
-none_given zero = refl
-none_given (suc n) = ap (λ (values : Known). None ∷ values) (none_given n)
+none_in : (f : ℕ → Option Bool) (s n : ℕ) → ((k : ℕ) → f k ≡ None) → map f (range_with_len s n) ≡ replicate n None
+none_in f s zero h = refl
+none_in f s (suc n) h = ap (λ (y : Option Bool). y ∷ map f (range_with_len (s + 1) n)) (h s) ∙ ap (λ (ys : Known). None ∷ ys) (none_in f (s + 1) n h)
 
-value_of-code : (value : Option Bool) → value_of_code (code_of_value value) ≡ value
-value_of-code None = refl
-value_of-code (Some true) = refl
-value_of-code (Some false) = refl
+pub zero_has : (k : ℕ) → word_has 0 k ≡ false
+zero_has k = ap (λ (b : ℕ). b == 1) (bit_at-zero k)
 
--- a value is given or taken back
-pub set-codes : (codes : List ℕ) (v : ℕ) (value : Option Bool) → map value_of_code (slice_set codes v (code_of_value value)) ≡ slice_set (map value_of_code codes) v value
-set-codes codes v value = map-set value_of_code codes v (code_of_value value) ∙ ap (λ (x : Option Bool). slice_set (map value_of_code codes) v x) (value_of-code value)
+length_zeros : (m : ℕ) → length {A = ℕ} (replicate m 0) ≡ m
+length_zeros zero = refl
+length_zeros (suc m) = ap suc (length_zeros m)
+
+zeros_have : (m k : ℕ) → words_have (replicate m 0) k ≡ false
+zeros_have m k = ap (λ (w : ℕ). word_has w (k % 64)) (by (below_or (k / 64) m)) ∙ zero_has (k % 64)
+  where
+    by : (k / 64 < m) ⊎ (m ≤ k / 64) → get_or {A = ℕ} (replicate m 0) (k / 64) 0 ≡ 0
+    by (inl h) = get_or-replicate m (k / 64) 0 0 h
+    by (inr h) = get_or_past (replicate m 0) (k / 64) 0 (omega (arith, length_zeros m, h))
+
+none_given : (n : ℕ) (given trues : List ℕ) → ((k : ℕ) → words_have given k ≡ false) → values_of n given trues ≡ replicate n None
+none_given n given trues h = none_in (value_at given trues) 0 n (λ k. none_at given trues k (h k))
+
+-- A value is given or taken back.
+
+itself : (v : ℕ) → (v == v) ≡ true
+itself v = grind (arith, nat_tests)
+
+another : (k v : ℕ) → k ≢ v → (k == v) ≡ false
+another k v d = grind (arith, nat_tests)
+
+named : (k v : ℕ) → (k == v) ≡ true → k ≡ v
+named k v e = grind (arith, nat_tests)
+
+-- one more bit is set
+abbrev pub HasMore : ℕ → List ℕ → List ℕ → Type 0
+HasMore v before after = (k : ℕ) → words_have after k ≡ (k == v || words_have before k)
+
+-- one bit is cleared
+abbrev pub HasLess : ℕ → List ℕ → List ℕ → Type 0
+HasLess v before after = (k : ℕ) → words_have after k ≡ (not (k == v) && words_have before k)
+
+more_at : (v : ℕ) (before after : List ℕ) → HasMore v before after → words_have after v ≡ true
+more_at v before after h = h v ∙ ap (λ (b : Bool). b || words_have before v) (itself v)
+
+more_elsewhere : (v k : ℕ) (before after : List ℕ) → HasMore v before after → k ≢ v → words_have after k ≡ words_have before k
+more_elsewhere v k before after h d = h k ∙ ap (λ (b : Bool). b || words_have before k) (another k v d)
+
+less_at : (v : ℕ) (before after : List ℕ) → HasLess v before after → words_have after v ≡ false
+less_at v before after h = h v ∙ ap (λ (b : Bool). not b && words_have before v) (itself v)
+
+less_elsewhere : (v k : ℕ) (before after : List ℕ) → HasLess v before after → k ≢ v → words_have after k ≡ words_have before k
+less_elsewhere v k before after h d = h k ∙ ap (λ (b : Bool). not b && words_have before k) (another k v d)
+
+at_two : (given trues new_given new_trues : List ℕ) (k : ℕ) → words_have new_given k ≡ words_have given k → words_have new_trues k ≡ words_have trues k → value_at new_given new_trues k ≡ value_at given trues k
+at_two given trues new_given new_trues k e f = ap (λ (b : Bool). if b then Some (words_have new_trues k) else None) e ∙ ap (λ (t : Bool). if words_have given k then Some t else None) f
+
+pub set_true : (n v : ℕ) (given trues new_given new_trues : List ℕ) → v < n → HasMore v given new_given → HasMore v trues new_trues → values_of n new_given new_trues ≡ slice_set (values_of n given trues) v (Some true)
+set_true n v given trues new_given new_trues h g t =
+    values-set n v given trues new_given new_trues (Some true) h
+    (some_at new_given new_trues v (more_at v given new_given g) ∙ ap (λ (b : Bool). Some b) (more_at v trues new_trues t))
+    (λ k d. at_two given trues new_given new_trues k (more_elsewhere v k given new_given g d) (more_elsewhere v k trues new_trues t d))
+
+pub set_false : (n v : ℕ) (given trues new_given new_trues : List ℕ) → v < n → HasMore v given new_given → HasLess v trues new_trues → values_of n new_given new_trues ≡ slice_set (values_of n given trues) v (Some false)
+set_false n v given trues new_given new_trues h g t =
+    values-set n v given trues new_given new_trues (Some false) h
+    (some_at new_given new_trues v (more_at v given new_given g) ∙ ap (λ (b : Bool). Some b) (less_at v trues new_trues t))
+    (λ k d. at_two given trues new_given new_trues k (more_elsewhere v k given new_given g d) (less_elsewhere v k trues new_trues t d))
+
+pub set_none : (n v : ℕ) (given trues new_given : List ℕ) → v < n → HasLess v given new_given → values_of n new_given trues ≡ slice_set (values_of n given trues) v None
+set_none n v given trues new_given h g =
+    values-set n v given trues new_given trues None h
+    (none_at new_given trues v (less_at v given new_given g))
+    (λ k d. at_two given trues new_given trues k (less_elsewhere v k given new_given g d) refl)
+
+-- What is kept of the rows.
+
+clash : false ≡ true → ⊥
+clash e = cc
+
+pub rows_new : (n m : ℕ) (given trues : List ℕ) → n ≤ 2147483647 → n ≤ 64 * m → 64 * m < n + 64 → given ≡ replicate m 0 → trues ≡ replicate m 0 → AreRows n 0 given trues
+rows_new n m given trues few room tight g t =
+    let long : length given ≡ m = ap (λ (ws : List ℕ). length ws) g ∙ length_zeros m in
+    let same : length trues ≡ m = ap (λ (ws : List ℕ). length ws) t ∙ length_zeros m in
+    record {
+      few = few;
+      room = omega (arith, long, room);
+      tight = omega (arith, long, tight);
+      same = same ∙ sym long;
+      below = λ v e. absurd (clash (sym (zeros_have m v) ∙ ap (λ (ws : List ℕ). words_have ws v) (sym g) ∙ e));
+      begins = omega arith;
+      passed = λ v h. absurd (omega (arith, h));
+    }
+
+pub rows_given : (n low v : ℕ) (given trues new_given new_trues : List ℕ) → AreRows n low given trues → v < n → HasMore v given new_given → length new_given ≡ length given → length new_trues ≡ length trues → AreRows n low new_given new_trues
+rows_given n low v given trues new_given new_trues r h g l m =
+    let room = r.room in
+    let tight = r.tight in
+    let same = r.same in
+    record {
+      few = r.few;
+      room = omega (arith, room, l);
+      tight = omega (arith, tight, l);
+      same = omega (arith, same, l, m);
+      below = λ k e. by_below k e (same_or_apart k v);
+      begins = r.begins;
+      passed = λ k b. by_passed k b (same_or_apart k v);
+    }
+  where
+    by_below : (k : ℕ) → words_have new_given k ≡ true → (k ≡ v) ⊎ (k ≢ v) → k < n
+    by_below k e (inl q) = omega (arith, q, h)
+    by_below k e (inr d) = r.below k (sym (more_elsewhere v k given new_given g d) ∙ e)
+
+    by_passed : (k : ℕ) → k < low → (k ≡ v) ⊎ (k ≢ v) → words_have new_given k ≡ true
+    by_passed k b (inl q) = ap (words_have new_given) q ∙ more_at v given new_given g
+    by_passed k b (inr d) = more_elsewhere v k given new_given g d ∙ r.passed k b
+
+pub rows_taken : (n low less v : ℕ) (given trues new_given : List ℕ) → AreRows n low given trues → less ≤ low → less ≤ v → HasLess v given new_given → length new_given ≡ length given → AreRows n less new_given trues
+rows_taken n low less v given trues new_given r a b g l =
+    let room = r.room in
+    let tight = r.tight in
+    let same = r.same in
+    let begins = r.begins in
+    record {
+      few = r.few;
+      room = omega (arith, room, l);
+      tight = omega (arith, tight, l);
+      same = omega (arith, same, l);
+      below = λ k e. by_below k e (same_or_apart k v);
+      begins = omega (arith, begins, a);
+      passed = λ k c. less_elsewhere v k given new_given g (λ q. omega (arith, q, b, c)) ∙ r.passed k (omega (arith, a, c));
+    }
+  where
+    by_below : (k : ℕ) → words_have new_given k ≡ true → (k ≡ v) ⊎ (k ≢ v) → k < n
+    by_below k e (inl q) = absurd (clash (sym (less_at v given new_given g) ∙ ap (words_have new_given) (sym q) ∙ e))
+    by_below k e (inr d) = r.below k (sym (less_elsewhere v k given new_given g d) ∙ e)
+
+pub rows_passed : (n low more : ℕ) (given trues : List ℕ) → AreRows n low given trues → more ≤ n → AreGivenBelow more given → AreRows n more given trues
+rows_passed n low more given trues r h p = record {
+  few = r.few;
+  room = r.room;
+  tight = r.tight;
+  same = r.same;
+  below = r.below;
+  begins = h;
+  passed = p;
+}
+
+-- The least variable without a value.
+
+open_after : (v k : ℕ) (values : Known) → k < length values → get_or values k None ≡ None → ((j : ℕ) → j < k → (get_or values j None ≡ None → ⊥)) → least_open_from v values ≡ Some (v + k)
+open_after v k [] h e d = absurd (omega arith)
+open_after v zero (None ∷ values) h e d = let same : v ≡ v + 0 = omega arith in ap (λ (w : ℕ). Some w) same
+open_after v zero (Some b ∷ values) h e d = cc
+open_after v (suc k) (None ∷ values) h e d = absurd (d 0 (omega arith) refl)
+open_after v (suc k) (Some b ∷ values) h e d =
+    let same : v + 1 + k ≡ v + suc k = omega arith in
+    open_after (v + 1) k values (omega arith) e (λ j l. d (suc j) (omega arith)) ∙ ap (λ (w : ℕ). Some w) same
+
+none_open : (v : ℕ) (values : Known) → ((j : ℕ) → j < length values → (get_or values j None ≡ None → ⊥)) → least_open_from v values ≡ None
+none_open v [] d = refl
+none_open v (None ∷ values) d = absurd (d 0 (omega arith) refl)
+none_open v (Some b ∷ values) d = none_open (v + 1) values (λ j l. d (suc j) (omega arith))
+
+not_none : (given trues : List ℕ) (v : ℕ) → words_have given v ≡ true → value_at given trues v ≡ None → ⊥
+not_none given trues v e z = let s = some_at given trues v e in cc
+
+pub least_open-some : (n low v : ℕ) (given trues : List ℕ) → AreRows n low given trues → v < n → AreGivenBelow v given → words_have given v ≡ false → least_open (values_of n given trues) ≡ Some v
+least_open-some n low v given trues r h below e =
+    let within : v < length (values_of n given trues) = omega (arith, length-values n given trues, h) in
+    open_after 0 v (values_of n given trues) within (values-at n low v given trues r ∙ none_at given trues v e) (λ j l z. not_none given trues j (below j l) (sym (values-at n low j given trues r) ∙ z))
+    ∙ ap (λ (w : ℕ). Some w) (zero_plus v)
+
+pub least_open-none : (n low : ℕ) (given trues : List ℕ) → AreRows n low given trues → AreGivenBelow n given → least_open (values_of n given trues) ≡ None
+least_open-none n low given trues r all =
+    none_open 0 (values_of n given trues) (λ j l z. not_none given trues j (all j (omega (arith, l, length-values n given trues))) (sym (values-at n low j given trues r) ∙ z))
+
+-- The first difference.
+
+pub not_false : (b : Bool) → not b ≡ false → b ≡ true
+not_false true e = refl
+not_false false e = cc
+
+reached : (from j : ℕ) → nat_le from (from + j) ≡ true
+reached from j = grind (arith, nat_tests)
+
+differs_at : (v k : ℕ) (xs ys : Known) → length ys ≡ length xs → differs xs ys k ≡ true → ((j : ℕ) → j < k → differs xs ys j ≡ false) → first_difference v xs ys ≡ Some (v + k)
+differs_at v k [] [] l e d = cc
+differs_at v k [] (y ∷ ys) l e d = absurd (omega (arith, l))
+differs_at v k (x ∷ xs) [] l e d = absurd (omega (arith, l))
+differs_at v zero (x ∷ xs) (y ∷ ys) l e d =
+    let same : v ≡ v + 0 = omega arith in
+    ap (λ (b : Bool). if b then first_difference (v + 1) xs ys else Some v) (not-true _ e) ∙ ap (λ (w : ℕ). Some w) same
+differs_at v (suc k) (x ∷ xs) (y ∷ ys) l e d =
+    let same : v + 1 + k ≡ v + suc k = omega arith in
+    ap (λ (b : Bool). if b then first_difference (v + 1) xs ys else Some v) (not_false _ (d 0 (omega arith)))
+    ∙ differs_at (v + 1) k xs ys (omega (arith, l)) e (λ j m. d (suc j) (omega arith))
+    ∙ ap (λ (w : ℕ). Some w) same
+
+none_differs : (v : ℕ) (xs ys : Known) → ((j : ℕ) → differs xs ys j ≡ false) → first_difference v xs ys ≡ None
+none_differs v [] ys d = refl
+none_differs v (x ∷ xs) [] d = refl
+none_differs v (x ∷ xs) (y ∷ ys) d = ap (λ (b : Bool). if b then first_difference (v + 1) xs ys else Some v) (not_false _ (d 0)) ∙ none_differs (v + 1) xs ys (λ j. d (suc j))
+
+differs-drop : (from k : ℕ) (xs ys : Known) → differs (drop from xs) (drop from ys) k ≡ differs xs ys (from + k)
+differs-drop from k xs ys =
+    ap (λ (x : Option Bool). not (same_value x (get_or (drop from ys) k None))) (get_or-drop from xs k None)
+    ∙ ap (λ (y : Option Bool). not (same_value (get_or xs (from + k) None) y)) (get_or-drop from ys k None)
+
+-- from a place on they differ first where they do at all
+pub first_difference-least : (from : ℕ) (xs ys : Known) (o : Option ℕ) → length ys ≡ length xs → IsLeast (λ v. nat_le from v && differs xs ys v) o → o ≡ first_difference from (drop from xs) (drop from ys)
+first_difference-least from xs ys None l h = sym (none_differs from (drop from xs) (drop from ys) (λ j. differs-drop from j xs ys ∙ ap (λ (b : Bool). b && differs xs ys (from + j)) (sym (reached from j)) ∙ h (from + j)))
+first_difference-least from xs ys (Some v) l h =
+    let p = and_parts (nat_le from v) (differs xs ys v) h.0 in
+    let reach : from ≤ v = grind (arith, nat_tests, p.0) in
+    let same : from + (v - from) ≡ v = omega arith in
+    sym (
+    differs_at from (v - from) (drop from xs) (drop from ys) (dropped l)
+    (differs-drop from (v - from) xs ys ∙ ap (differs xs ys) same ∙ p.1)
+    (λ j m. differs-drop from j xs ys ∙ ap (λ (b : Bool). b && differs xs ys (from + j)) (sym (reached from j)) ∙ h.1 (from + j) (omega arith))
+    ∙ ap (λ (w : ℕ). Some w) same
+    )
+  where
+    dropped : length ys ≡ length xs → length (drop from ys) ≡ length (drop from xs)
+    dropped l = omega (arith, length-drop from xs, length-drop from ys, l)
+
+-- past the last variable they do not differ
+pub same_past : (xs ys : Known) (from upto : ℕ) → length ys ≡ length xs → length xs ≤ upto → ((j : ℕ) → from ≤ j → j < upto → differs xs ys j ≡ false) → (j : ℕ) → from ≤ j → differs xs ys j ≡ false
+same_past xs ys from upto l h d j f = by (below_or j upto)
+  where
+    by : (j < upto) ⊎ (upto ≤ j) → differs xs ys j ≡ false
+    by (inl a) = d j f a
+    by (inr a) =
+        ap (λ (x : Option Bool). not (same_value x (get_or ys j None))) (get_or_past xs j None (omega (arith, h, a)))
+        ∙ ap (λ (y : Option Bool). not (same_value None y)) (get_or_past ys j None (omega (arith, h, a, l)))
+
+-- the least variable without a value, as it is found
+pub least_open-by : (n low : ℕ) (given trues words : List ℕ) (now : Known) (o : Option ℕ) → AreRows n low given trues → values_of n given trues ≡ now → words ≡ given → IfSome o (λ v. v < n) → IfSome o (λ v. AreGivenBelow v words) → IfSome o (λ v. words_have words v ≡ false) → IfNone o (AreGivenBelow n words) → o ≡ least_open now
+least_open-by n low given trues words now None r v e a b c d =
+    sym (least_open-none n low given trues r (subst (AreGivenBelow n) e d)) ∙ ap least_open v
+least_open-by n low given trues words now (Some w) r v e a b c d =
+    sym (least_open-some n low w given trues r a (subst (AreGivenBelow w) e b) (ap (λ (ws : List ℕ). words_have ws w) (sym e) ∙ c)) ∙ ap least_open v
+
+pub some_less : (m n : ℕ) (o : Option ℕ) → m ≡ n → IfSome o (λ v. v < n) → IfSome o (λ v. v < m)
+some_less m n None e h = tt
+some_less m n (Some v) e h = omega (arith, e, h)
+
+-- no value of new rows is given
+pub none_of : (n m : ℕ) (given trues : List ℕ) → given ≡ replicate m 0 → values_of n given trues ≡ replicate n None
+none_of n m given trues e = none_given n given trues (λ k. ap (λ (ws : List ℕ). words_have ws k) e ∙ zeros_have m k)

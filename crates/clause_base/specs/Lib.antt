@@ -4,5 +4,5 @@ pub mod Formula
 pub mod Pieces
 pub mod Derivation
 pub mod Choice
-pub mod Coded
+pub mod ValueBits
 pub mod ChoiceLaw

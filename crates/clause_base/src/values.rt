@@ -1,89 +1,70 @@
-ghost use Rattle.std.specs.Prelude.{◌≡◌, ◌<◌, ◌≤◌, ℕ, Option, Bool, List, None, length, slice_get, slice_set, replicate, drop, map, IfOk, IfSome, IfNone};
-ghost use Rattle.clause_base.specs.Choice.{least_open, first_difference};
-ghost use Rattle.clause_base.specs.Coded.{value_of_code, code_of_value, code_difference, AreCodes, AreGivenBelow};
+ghost use Rattle.std.specs.Prelude.{◌≡◌, ◌<◌, ◌≤◌, ◌+◌, ◌*◌, ◌&&◌, ℕ, Option, Bool, List, None, false, not, nat_le, length, slice_get, slice_set, replicate, drop, IfOk, IfSome, IfNone};
+ghost use Rattle.number_bits.specs.Bits.{word_has, words_have, IsLeast};
+ghost use Rattle.clause_base.specs.Choice.{least_open, first_difference, same_value};
+ghost use Rattle.clause_base.specs.ValueBits.{value_in, AreGivenBelow, differs};
 
 use crate::memory::Memory;
+use number_bits::flat::{clear_bit, set_bit};
+use number_bits::word::least_bit;
 use std::alloc::Global;
 use std::marker::Model;
 
-/// For each of at most 2,147,483,647 variables true, false or not given. They are kept as bytes, which two lists of values
-/// are compared by: 0 is false, 1 is true, and 2 is not given.
+/// For each of at most 2,147,483,647 variables true, false or not given. They are kept as bits, 64 variables to a word: which
+/// have a value, and which are true. What the second row has of a variable without a value says nothing.
 #[derive(Debug, Drop)]
 pub struct Values {
-    codes: Vec<u8>,
-    low: usize,
+    variables: u32,
+    given: Vec<u64>,
+    trues: Vec<u64>,
+    low: u32,
 }
 
 impl Model for Values {
-    ghost use Rattle.std.specs.Prelude.{List, Option, Bool, ◌≤◌, length, map};
-    ghost use Rattle.clause_base.specs.Coded.{value_of_code, AreCodes, AreGivenBelow};
+    ghost use Rattle.std.specs.Prelude.{List, Option, Bool};
+    ghost use Rattle.clause_base.specs.ValueBits.{values_of, AreRows};
 
     ghost Value = { List (Option Bool) };
 
-    ghost view = { λ v. map value_of_code v.codes.items };
+    ghost view = { λ v. values_of v.variables v.given.items v.trues.items };
 
-    ghost invariant = { λ v. (length v.codes.items ≤ 2147483647) × (v.low ≤ length v.codes.items) × AreCodes v.codes.items × AreGivenBelow v.low v.codes.items };
+    ghost invariant = { λ v. AreRows v.variables v.low v.given.items v.trues.items };
 }
 
-/// How many values are compared at a time.
-const GROUP: usize = 64;
-
-/// The byte of a value.
-fn code_of(value: Option<bool>) -> u8
-    ensures { result ≡ code_of_value value }
+/// Whether a bit is set.
+fn has_bit(words: &[u64], number: u32) -> bool
+    requires { number < 64 * length words.now }
+    ensures { result ≡ words_have words.now number }
 {
-    match value {
-        Some(false) => 0,
-        Some(true) => 1,
-        None => 2,
-    }
+    (words[(number / 64) as usize] >> (number % 64)) & 1 == 1
 }
 
-/// The least place with the code of no value, where those below a place have other codes.
-fn first_open(codes: &[u8], low: usize) -> Option<u32>
-    requires codes { AreCodes codes.now }
-    requires given { AreGivenBelow low codes.now }
-    requires small { length codes.now ≤ 2147483647 }
-    ensures value { result ≡ least_open (map value_of_code codes.now) }
-    ensures below { IfSome result (λ v. v < length codes.now) }
-    ensures given { IfSome result (λ v. AreGivenBelow v codes.now) }
-    ensures all { IfNone result (AreGivenBelow (length codes.now) codes.now) }
+/// The least number below a bound whose bit is not set, where those below a place are set.
+fn first_clear(words: &[u64], low: u32, bound: u32) -> Option<u32>
+    requires given { AreGivenBelow low words.now }
+    requires low { low ≤ bound }
+    requires room { bound ≤ 64 * length words.now }
+    requires small { length words.now ≤ 33554432 }
+    ensures within { IfSome result (λ v. v < bound) }
+    ensures given { IfSome result (λ v. AreGivenBelow v words.now) }
+    ensures clear { IfSome result (λ v. words_have words.now v ≡ false) }
+    ensures all { IfNone result (AreGivenBelow bound words.now) }
 {
-    for v in low..codes.len() {
-        if codes[v] == 2 {
-            return Some(v as u32);
+    for place in (low / 64) as usize..words.len() {
+        let clear = !words[place];
+        if clear != 0 {
+            let v = 64 * (place as u32) + least_bit(clear);
+            return if v < bound { Some(v) } else { None };
         }
     }
     None
 }
 
-/// A place, from a given one on, up to which two lists of codes are the same.
-fn pass_equal(codes: &[u8], others: &[u8], from: usize) -> usize
-    requires { length others.now ≡ length codes.now }
-    ensures { code_difference result (drop result codes.now) (drop result others.now) ≡ code_difference from (drop from codes.now) (drop from others.now) }
+/// Of 64 variables those at which two lists of values differ: by the words of those that have a value, and of those that are
+/// true.
+fn differing(given: u64, trues: u64, others_given: u64, others_trues: u64) -> u64
+    ensures { (k : ℕ) → word_has result k ≡ not (same_value (value_in given trues k) (value_in others_given others_trues k)) }
 {
-    let mut v = from;
-    while v < codes.len()
-        && GROUP <= codes.len() - v
-        && codes[v..v + GROUP] == others[v..v + GROUP]
-    {
-        v += GROUP;
-    }
-    v
-}
-
-/// The first place, from a given one on, at which two lists of codes differ.
-fn first_unequal(codes: &[u8], others: &[u8], from: usize) -> Option<u32>
-    requires same { length others.now ≡ length codes.now }
-    requires small { length codes.now ≤ 2147483647 }
-    ensures { result ≡ code_difference from (drop from codes.now) (drop from others.now) }
-{
-    for v in from..codes.len() {
-        if codes[v] != others[v] {
-            return Some(v as u32);
-        }
-    }
-    None
+    (given ^ others_given) | ((trues ^ others_trues) & given)
 }
 
 impl Values {
@@ -92,8 +73,13 @@ impl Values {
         requires { variables ≤ 2147483647 }
         ensures { IfOk result (λ values. values ≡ replicate variables None) }
     {
+        let words = variables.div_ceil(64) as usize;
+        let given = vec![in alloc; 0; words]?;
+        let trues = vec![in alloc; 0; words]?;
         Ok(Values {
-            codes: vec![in alloc; 2; variables as usize]?,
+            variables,
+            given,
+            trues,
             low: 0,
         })
     }
@@ -103,7 +89,7 @@ impl Values {
         ensures value { result ≡ length self.now }
         ensures small { length self.now ≤ 2147483647 }
     {
-        self.codes.len() as u32
+        self.variables
     }
 
     /// The value of a variable, if it is given.
@@ -111,10 +97,10 @@ impl Values {
         requires { v < length self.now }
         ensures { slice_get self.now v ≡ Some result }
     {
-        match self.codes[v as usize] {
-            0 => Some(false),
-            1 => Some(true),
-            _ => None,
+        if has_bit(&self.given, v) {
+            Some(has_bit(&self.trues, v))
+        } else {
+            None
         }
     }
 
@@ -123,10 +109,19 @@ impl Values {
         requires { v < length self.old }
         ensures { self.new ≡ slice_set self.old v value }
     {
-        let place = v as usize;
-        self.codes[place] = code_of(value);
-        if value.is_none() && place < self.low {
-            self.low = place;
+        match value {
+            Some(true) => {
+                set_bit(&mut self.given, v);
+                set_bit(&mut self.trues, v);
+            }
+            Some(false) => {
+                set_bit(&mut self.given, v);
+                clear_bit(&mut self.trues, v);
+            }
+            None => {
+                clear_bit(&mut self.given, v);
+                self.low = self.low.min(v);
+            }
         }
     }
 
@@ -137,17 +132,45 @@ impl Values {
         ensures below { IfSome result (λ v. v < length self.now) }
         ensures small { length self.now ≤ 2147483647 }
     {
-        first_open(&self.codes, self.low)
+        first_clear(&self.given, self.low, self.variables)
     }
 
     /// Lets later calls of `least_open` begin at the least variable without a value. The values stay as they are.
     pub fn pass_given(&mut self)
         ensures { self.new ≡ self.old }
     {
-        self.low = match first_open(&self.codes, self.low) {
-            Some(v) => v as usize,
-            None => self.codes.len(),
+        self.low = match first_clear(&self.given, self.low, self.variables) {
+            Some(v) => v,
+            None => self.variables,
         };
+    }
+
+    /// Of the 64 variables of a word those at which these values and others differ.
+    fn differing_at(&self, others: &Values, place: usize) -> u64
+        requires same { length others.now ≡ length self.now }
+        requires within { 64 * place < length self.now }
+        ensures { (k : ℕ) → k < 64 → word_has result k ≡ differs self.now others.now (64 * place + k) }
+    {
+        differing(
+            self.given[place],
+            self.trues[place],
+            others.given[place],
+            others.trues[place],
+        )
+    }
+
+    /// The least variable, from the first one of a word on, at which these values and others differ.
+    fn difference_from(&self, others: &Values, place: usize) -> Option<u32>
+        requires same { length others.now ≡ length self.now }
+        ensures { IsLeast (λ v. nat_le (64 * place) v && differs self.now others.now v) result }
+    {
+        for i in place..self.given.len() {
+            let word = self.differing_at(others, i);
+            if word != 0 {
+                return Some(64 * (i as u32) + least_bit(word));
+            }
+        }
+        None
     }
 
     /// The least variable, from a given one on, at which these values and others differ. It compares 64 at a time.
@@ -155,7 +178,14 @@ impl Values {
         requires { length others.now ≡ length self.now }
         ensures { result ≡ first_difference from (drop from self.now) (drop from others.now) }
     {
-        let near = pass_equal(&self.codes, &others.codes, from as usize);
-        first_unequal(&self.codes, &others.codes, near)
+        if from >= self.variables {
+            return None;
+        }
+        let place = (from / 64) as usize;
+        let near = self.differing_at(others, place) >> (from % 64);
+        if near != 0 {
+            return Some(from + least_bit(near));
+        }
+        self.difference_from(others, place + 1)
     }
 }

@@ -1,4 +1,4 @@
-use Rattle.std.proofs.Common.{arith, ◌≡◌, ℕ, zero, suc, ◌+◌, ◌-◌, ◌≤◌, refl, sym, ap, ◌∙◌}
+use Rattle.std.proofs.Common.{arith, ◌≡◌, ℕ, zero, suc, ◌+◌, ◌-◌, ◌≤◌, sym, ap, ◌∙◌}
 use Rattle.race.specs.Input.{RaceInput}
 use Rattle.race.specs.Race.{Stage, On, round, next_stage, after_rounds}
 use Rattle.race.specs.State.{RaceState, start}

@@ -1,7 +1,6 @@
 -- What the lines and the plan of an end say of plans, by the laws of a form.
-use Rattle.std.proofs.Common.{◌≡◌, ℕ, List, [], ◌∷◌, Bool, sym, subst, length}
-use Rattle.std.specs.List.{AllByRecursion}
-use Rattle.clause_base.specs.Formula.{IsModel, IsUnsatisfiable}
+use Rattle.std.proofs.Common.{ℕ, List, [], ◌∷◌}
+use Rattle.clause_base.specs.Formula.{IsUnsatisfiable}
 use Rattle.cdcl_rules.specs.State.{State}
 use Rattle.race_end.specs.declared.line.Line.{Line}
 use Rattle.race_end.specs.declared.line.LineEnd.{LineEnd}

@@ -9,3 +9,4 @@ pub mod Lines
 pub mod Ends
 pub mod Runs
 pub mod Tied
+pub mod Fresh

@@ -1,5 +1,5 @@
 -- The race of horizons, as a function: its stage after so many rounds, and its end (after Rintanen, Heljanko and Niemelä 2006).
-use Rattle.std.specs.Prelude.{ℕ, zero, suc, ◌+◌, ◌-◌, ◌==◌, [], ◌∷◌, Bool, false, not, Option, Some, None, is_some, if◌then◌else◌}
+use Rattle.std.specs.Prelude.{ℕ, zero, suc, ◌+◌, ◌-◌, ◌==◌, [], ◌∷◌, Bool, false, not, Some, None, is_some, if◌then◌else◌}
 use Rattle.horizon_rates.specs.Horizons.{listed, horizon_at}
 use Rattle.horizon_run.specs.Run.{truths_of}
 use Rattle.race_end.specs.Ends.{EndView, Planned, Exhausted, Unfinished}

@@ -13,10 +13,12 @@
 //! ```
 #![tactic(auto)]
 
+mod fresh;
 mod grant;
 mod line;
 mod racing;
 mod run;
+mod starting;
 mod work;
 
 pub use run::{RaceError, race};

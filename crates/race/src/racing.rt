@@ -37,14 +37,14 @@ use step_encoding::form::StepForm;
 /// A race between two rounds.
 #[derive(Drop)]
 pub(crate) struct Racing {
-    window: Window,
-    ledger: Ledger,
+    pub(crate) window: Window,
+    pub(crate) ledger: Ledger,
     // The horizon that was started last.
-    last: u32,
+    pub(crate) last: u32,
     // The runs of the live horizons, rising.
-    runs: Vec<HorizonRun>,
+    pub(crate) runs: Vec<HorizonRun>,
     // The lines of the horizons that are live no more, rising.
-    lines: Vec<Line>,
+    pub(crate) lines: Vec<Line>,
 }
 
 /// What a round leads to.
@@ -110,98 +110,6 @@ impl Racing {
             runs: Vec::new(alloc),
             lines: Vec::new(alloc),
         }
-    }
-
-    /// The horizon that may start next: the next listed one, where there is a free place and its formula is not too large.
-    fn startable<F: StepForm>(&self, form: &F, rates: &Rates) -> Option<u32>
-        ghost input: { RaceInput }
-        requires tied { IsTied input self.now }
-        requires rates { input.rates ≡ rates.now }
-        requires formula { input.formula ≡ F.formula_of form.now }
-        ensures value { result ≡ (if nat_lt (length self.now.runs.items) input.rates.width then fitting input (listed input.rates self.now.window.next) else None) }
-        ensures low { IfSome result (λ h. h ≤ 255) }
-        ensures small { IfSome result (λ h. literals_of (F.formula_of form.now h) ≤ 4000000) }
-        ensures listed { IfSome result (λ h. listed self.now.window.rates self.now.window.next ≡ Some h) }
-        ensures narrow { IfSome result (λ h. length self.now.window.live < self.now.window.rates.width) }
-    {
-        if self.window.count() >= rates.width {
-            return None;
-        }
-        let horizon = self.window.next_listed()?;
-        if form.size(horizon) > 4_000_000 {
-            return None;
-        }
-        Some(horizon)
-    }
-
-    /// Starts the next listed horizon.
-    fn start<F: StepForm>(
-        &mut self,
-        alloc: Global,
-        task: &Task,
-        form: &F,
-        horizon: u32,
-    ) -> Result<(), Memory>
-        ghost input: { RaceInput }
-        requires tied { IsTied input self.old }
-        requires low { AreLow self.old.runs.items }
-        requires choose { input.choose ≡ (λ h. choice_of (F.task form.now) (F.layout_of form.now h)) }
-        requires formula { input.formula ≡ F.formula_of form.now }
-        requires form_of { F.task form.now ≡ task.now }
-        requires horizon { horizon ≤ 255 }
-        requires small { literals_of (F.formula_of form.now horizon) ≤ 4000000 }
-        requires listed { listed self.old.window.rates self.old.window.next ≡ Some horizon }
-        requires narrow { length self.old.window.live < self.old.window.rates.width }
-        ensures tied { OnOk result (IsTied input self.new) }
-        ensures low { OnOk result (AreLow self.new.runs.items) }
-        ensures started { OnOk result (race_state self.new ≡ started input horizon (race_state self.old)) }
-        ensures ledger { OnOk result (self.new.ledger ≡ self.old.ledger) }
-    {
-        let run = HorizonRun::new(alloc, task, form, horizon)?;
-        let _reached = run.standing();
-        self.window.take_next();
-        self.runs.push(run)?;
-        self.last = horizon;
-        Ok(())
-    }
-
-    /// Starts horizons while there are free places.
-    fn fill<F: StepForm>(
-        &mut self,
-        alloc: Global,
-        task: &Task,
-        form: &F,
-        rates: &Rates,
-    ) -> Result<(), Memory>
-        ghost input: { RaceInput }
-        requires tied { IsTied input self.old }
-        requires low { AreLow self.old.runs.items }
-        requires rates { input.rates ≡ rates.now }
-        requires choose { input.choose ≡ (λ h. choice_of (F.task form.now) (F.layout_of form.now h)) }
-        requires formula { input.formula ≡ F.formula_of form.now }
-        requires form_of { F.task form.now ≡ task.now }
-        ensures tied { OnOk result (IsTied input self.new) }
-        ensures low { OnOk result (AreLow self.new.runs.items) }
-        ensures filled { OnOk result (race_state self.new ≡ filled input (race_state self.old)) }
-        ensures ledger { OnOk result (self.new.ledger ≡ self.old.ledger) }
-    {
-        while let Some(horizon) = self.startable(form, rates) {
-            self.start(alloc, task, form, horizon)?;
-        }
-        Ok(())
-    }
-
-    /// The next listed horizon, where none is live.
-    fn too_large(&self) -> Option<u32>
-        ghost input: { RaceInput }
-        requires { IsTied input self.now }
-        ensures value { result ≡ too_large input (race_state self.now) }
-        ensures low { IfSome result (λ h. h ≤ 255) }
-    {
-        if !self.runs.is_empty() {
-            return None;
-        }
-        self.window.next_listed()
     }
 
     /// Grants each run what it may use, and has workers advance it. What the round used is booked at once.
@@ -382,7 +290,7 @@ impl Racing {
         ensures literals { (horizon count : ℕ) → result ≡ Err (RaceError.Literals horizon count)
             → (round input (race_state self) ≡ TooLarge horizon) × (count ≡ literals_of (input.formula horizon)) × (4000000 < count) }
     {
-        self.fill(alloc, task, form, &settings.rates)?;
+        self.fill(rt, alloc, task, form, settings)?;
         if let Some(horizon) = self.too_large() {
             let count = form.size(horizon);
             return Err(RaceError::Literals { horizon, count });

@@ -105,7 +105,8 @@ impl<'a> ExistsForm<'a> {
     {
         let step = self.step(alloc, layout.horizon)?;
         let known = one_time(alloc, self.pairs)?;
-        let formula = joining::formula(alloc, self.task, layout, &step, &known)?;
+        let literals = self.size(layout.horizon);
+        let formula = joining::formula(alloc, self.task, layout, &step, &known, literals)?;
         Ok(formula)
     }
 }

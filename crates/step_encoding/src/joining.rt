@@ -58,13 +58,35 @@ fn add_times(
     Ok(())
 }
 
-/// The formula of a layout's horizon, from the clauses of one step and of one time, whatever chains the step has.
+/// The formula without clauses, with room for so many literals and for all clauses.
+fn empty_formula(
+    alloc: Global,
+    task: &Task,
+    layout: &Layout,
+    step: &ClauseList,
+    known: &ClauseList,
+    literals: u64,
+) -> Result<Formula, Memory>
+    requires few { task.now.facts + 1 + length task.now.goal + layout.now.horizon * length step.now + (layout.now.horizon + 1) * length known.now ≤ 1073741824 }
+    ensures { IfOk result (λ formula. formula ≡ record { name = layout.now.horizon; variables = variables layout.now; clauses = [] }) }
+{
+    let mut formula = Formula::new(alloc, layout.horizon, layout.variables());
+    let ends = task.facts() as usize + 1 + task.goal().len();
+    let horizon = layout.horizon as usize;
+    let clauses = ends + horizon * step.count() + (horizon + 1) * known.count();
+    formula.reserve(literals as usize, clauses)?;
+    Ok(formula)
+}
+
+/// The formula of a layout's horizon, from the clauses of one step and of one time, whatever chains the step has. It has so
+/// many literals, for which room is made at once.
 pub fn formula(
     alloc: Global,
     task: &Task,
     layout: &Layout,
     step: &ClauseList,
     known: &ClauseList,
+    literals: u64,
 ) -> Result<Formula, Memory>
     requires horizon { layout.now.horizon ≤ 255 }
     requires facts { layout.now.facts ≡ task.now.facts }
@@ -79,7 +101,7 @@ pub fn formula(
           ++ (flat_map (step_part layout.now step.now) (range layout.now.horizon) ++ flat_map (time_part layout.now known.now) (range (layout.now.horizon + 1))));
     }) }
 {
-    let mut formula = Formula::new(alloc, layout.horizon, layout.variables());
+    let mut formula = empty_formula(alloc, task, layout, step, known, literals)?;
     add_initial(task, layout, &mut formula)?;
     add_hopeless(task, &mut formula)?;
     add_goal(task, layout, &mut formula)?;

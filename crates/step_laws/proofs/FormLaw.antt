@@ -128,9 +128,15 @@ module _ (form : OrderedTask) (is : IsOrderedTask form) where
       let c : (holds s p.0 || holds s p.1) ≡ true = each_at _ form.known.clauses p k i in
       rw (x, y) at c)
 
-  -- the second law: where no assignment satisfies the formula there is no plan
+  -- the second law: where there is a plan, an assignment satisfies the formula
+  pub satisfied : (n : ℕ) (steps : List (List ℕ)) → IsPlanOf form n steps
+      → (v : ℕ → Bool) × Satisfies v (formula_of form.task form.known.clauses (places_of form) n).clauses
+  satisfied n steps plan =
+      let p = plan.plan in (
+        of_plan form.task form.known.clauses form.components n in_range distinct (member_at steps) p.states,
+        encoded _ _ (plan_satisfies form.task form.known.clauses form.components n in_range distinct (member_at steps) p.states p.begins p.leads p.reaches
+            (λ t le. let r = reached (member_at steps) n p t le in knows_agree _ (p.states t) r.to (is.hold r.by r.can))),
+      )
+
   pub refutes : (n : ℕ) → IsUnsatisfiable (formula_of form.task form.known.clauses (places_of form) n).clauses → (steps : List (List ℕ)) → IsPlanOf form n steps → ⊥
-  refutes n none steps plan =
-      let p = plan.plan in
-      none (of_plan form.task form.known.clauses form.components n in_range distinct (member_at steps) p.states) (encoded _ _ (plan_satisfies form.task form.known.clauses form.components n in_range distinct (member_at steps) p.states p.begins p.leads p.reaches
-      (λ t le. let r = reached (member_at steps) n p t le in knows_agree _ (p.states t) r.to (is.hold r.by r.can))))
+  refutes n none steps plan = let s = satisfied n steps plan in none s.0 s.1

@@ -11,7 +11,13 @@ SatisfyingIsPlan =
     (form : OrderedTask) → IsOrderedTask form → (n : ℕ) (v : ℕ → Bool)
     → Satisfies v (formula_of form.task form.known.clauses (places_of form) n).clauses → IsPlanOf form n (steps_for form n v)
 
--- where no assignment satisfies the formula of a horizon there is no step plan of so many steps
+-- where there is a step plan of so many steps an assignment satisfies the formula of the horizon
+abbrev pub PlanIsSatisfying : Type 0
+PlanIsSatisfying =
+    (form : OrderedTask) → IsOrderedTask form → (n : ℕ) (steps : List (List ℕ)) → IsPlanOf form n steps
+    → (v : ℕ → Bool) × Satisfies v (formula_of form.task form.known.clauses (places_of form) n).clauses
+
+-- so where no assignment satisfies the formula of a horizon there is no step plan of so many steps
 abbrev pub UnsatisfiableIsNoPlan : Type 0
 UnsatisfiableIsNoPlan =
     (form : OrderedTask) → IsOrderedTask form → (n : ℕ) → IsUnsatisfiable (formula_of form.task form.known.clauses (places_of form) n).clauses

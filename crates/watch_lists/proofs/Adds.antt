@@ -1,5 +1,5 @@
 -- A new clause at the end: what holds of the tables once its watched literals are on their chains.
-use Rattle.std.proofs.Common.{arith, ◌≡◌, ◌≢◌, ◌==◌, ℕ, suc, ◌+◌, ◌*◌, ◌/◌, ◌%◌, ◌<◌, ◌≤◌, List, [], ◌∷◌, ◌++◌, length, take, set, get_or, ltb, Bool, true, false, ◌&&◌, refl, sym, ap, ◌∙◌, subst, if◌then◌else◌, Some, ◌⊎◌, inl, inr, length-set, get_or-set_same, get_or-set_other}
+use Rattle.std.proofs.Common.{arith, ◌≡◌, ◌≢◌, ◌==◌, ℕ, suc, ◌+◌, ◌*◌, ◌/◌, ◌%◌, ◌<◌, ◌≤◌, List, [], ◌∷◌, ◌++◌, length, take, set, get_or, ltb, leb, Bool, true, false, ◌&&◌, refl, sym, ap, ◌∙◌, subst, if◌then◌else◌, Some, ◌⊎◌, inl, inr, length-set, get_or-set_same, get_or-set_other}
 use Rattle.std.specs.List.{list_any, filter}
 use Rattle.std.proofs.lemmas.Bool.Decides.{nat_tests}
 use Rattle.std.proofs.lemmas.List.{get_or_push, get_or_append_left, get_or_past, length_push}
@@ -13,7 +13,7 @@ use Rattle.watch_lists.specs.Visit.{no_watches, clause_at, place_in, place_of, l
 use Rattle.watch_lists.specs.Sound.{AreFree}
 use Rattle.watch_lists.specs.Added.{Outlasts}
 use Rattle.watch_lists.proofs.Filters.{count_one, has_get, two_of, pending_at}
-use Rattle.watch_lists.proofs.Assigns.{equal_of, apart_of}
+use Rattle.watch_lists.proofs.Assigns.{equal_of, apart_of, at_most_of, past_of}
 
 -- a list with one more member, read elsewhere
 pub get_other : {X : Type 0} (xs : List X) (y d : X) (i : ℕ) → (i ≡ length xs → ⊥) → get_or (xs ++ y ∷ []) i d ≡ get_or xs i d
@@ -38,7 +38,7 @@ real_other cl k node r ne =
     let n : node / 2 ≢ length cl = ne in
     record {
       below = omega (arith, r.below, length_push cl k, n);
-      long = subst (λ (xs : List ℕ). 3 ≤ length xs) (at_other cl k (node / 2) ne) r.long;
+      long = subst (λ (xs : List ℕ). 2 ≤ length xs) (at_other cl k (node / 2) ne) r.long;
     }
 
 pub real_more : (cl : List (List ℕ)) (k : List ℕ) (node : ℕ) → IsReal cl node → IsReal (cl ++ k ∷ []) node
@@ -46,17 +46,17 @@ real_more cl k node r =
     let ne : node / 2 ≡ length cl → ⊥ = (λ (e : node / 2 ≡ length cl). absurd (omega (arith, e, r.below))) in
     record {
       below = omega (arith, r.below, length_push cl k);
-      long = subst (λ (xs : List ℕ). 3 ≤ length xs) (sym (at_other cl k (node / 2) ne)) r.long;
+      long = subst (λ (xs : List ℕ). 2 ≤ length xs) (sym (at_other cl k (node / 2) ne)) r.long;
     }
 
-pub real_own : (cl : List (List ℕ)) (k : List ℕ) (node : ℕ) → node / 2 ≡ length cl → 3 ≤ length k → IsReal (cl ++ k ∷ []) node
+pub real_own : (cl : List (List ℕ)) (k : List ℕ) (node : ℕ) → node / 2 ≡ length cl → 2 ≤ length k → IsReal (cl ++ k ∷ []) node
 real_own cl k node e two = record {
   below = omega (arith, e, length_push cl k);
-  long = subst (λ (xs : List ℕ). 3 ≤ length xs) (sym (at_own cl k (node / 2) e)) two;
+  long = subst (λ (xs : List ℕ). 2 ≤ length xs) (sym (at_own cl k (node / 2) e)) two;
 }
 
-own_long : (cl : List (List ℕ)) (k : List ℕ) (node : ℕ) → IsReal (cl ++ k ∷ []) node → node / 2 ≡ length cl → 3 ≤ length k
-own_long cl k node r e = subst (λ (xs : List ℕ). 3 ≤ length xs) (at_own cl k (node / 2) e) r.long
+own_long : (cl : List (List ℕ)) (k : List ℕ) (node : ℕ) → IsReal (cl ++ k ∷ []) node → node / 2 ≡ length cl → 2 ≤ length k
+own_long cl k node r e = subst (λ (xs : List ℕ). 2 ≤ length xs) (at_own cl k (node / 2) e) r.long
 
 -- the old nodes watch what they did
 pub literal_other : (cl : List (List ℕ)) (k : List ℕ) (wa : List Watched) (w : Watched) (node : ℕ) → (node / 2 ≡ length cl → ⊥) → literal_at (cl ++ k ∷ []) (set wa (length cl) w) node ≡ literal_at cl wa node
@@ -88,7 +88,7 @@ placed_add cl k wa w m lw fin sin ne = record {
   apart = λ c h t. (chosen c h t (c == length cl) refl).2;
 }
   where
-    chosen : (c : ℕ) → c < length (cl ++ k ∷ []) → 3 ≤ length (clause_at (cl ++ k ∷ []) c) → (b : Bool) → (c == length cl) ≡ b → ((get_or (set wa (length cl) w) c no_watches).first < length (clause_at (cl ++ k ∷ []) c)) × ((get_or (set wa (length cl) w) c no_watches).second < length (clause_at (cl ++ k ∷ []) c)) × ((get_or (set wa (length cl) w) c no_watches).first ≡ (get_or (set wa (length cl) w) c no_watches).second → ⊥)
+    chosen : (c : ℕ) → c < length (cl ++ k ∷ []) → 2 ≤ length (clause_at (cl ++ k ∷ []) c) → (b : Bool) → (c == length cl) ≡ b → ((get_or (set wa (length cl) w) c no_watches).first < length (clause_at (cl ++ k ∷ []) c)) × ((get_or (set wa (length cl) w) c no_watches).second < length (clause_at (cl ++ k ∷ []) c)) × ((get_or (set wa (length cl) w) c no_watches).first ≡ (get_or (set wa (length cl) w) c no_watches).second → ⊥)
     chosen c h t true f =
         let e : c ≡ length cl = equal_of c (length cl) f in
         let v : get_or (set wa (length cl) w) c no_watches ≡ w = ap (λ (x : ℕ). get_or (set wa (length cl) w) x no_watches) e ∙ get_or-set_same wa (length cl) w no_watches lw in
@@ -103,11 +103,11 @@ placed_add cl k wa w m lw fin sin ne = record {
         let a = ap (λ (x : Watched). x.first) v in
         let b = ap (λ (x : Watched). x.second) v in
         let below : c < length cl = omega (arith, h, length_push cl k, n) in
-        let two : 3 ≤ length (clause_at cl c) = omega (arith, t, l) in
+        let two : 2 ≤ length (clause_at cl c) = omega (arith, t, l) in
         (omega (arith, l, a, m.first_in c below two), omega (arith, l, b, m.second_in c below two), λ q. m.apart c below two (sym a ∙ q ∙ b))
 
 -- with the two nodes of the new clause on the chains of its watched literals
-pub listed_add : (cl : List (List ℕ)) (k : List ℕ) (wa : List Watched) (w : Watched) (heads heads' : List ℕ) (nodes nodes' : List Node) (spare : ℕ) (kept : List Bool) (a b : ℕ) (r : IsListed cl wa heads nodes spare (IsKept kept) NoWhy) → length kept ≡ length cl → length cl < length wa → w.first < length k → w.second < length k → (w.first ≡ w.second → ⊥) → 3 ≤ length k → a ≡ get_or k w.first 0 → b ≡ get_or k w.second 0 → IsLinked heads' nodes' (placed (2 * length cl + 1) (Some b) (placed (2 * length cl) (Some a) r.on)) → length heads' ≡ length heads → 2 * (length cl + 1) ≤ length nodes' → note_of nodes' (2 * length cl) ≡ b → note_of nodes' (2 * length cl + 1) ≡ a → ((x : ℕ) → (x ≡ 2 * length cl → ⊥) → (x ≡ 2 * length cl + 1 → ⊥) → note_of nodes' x ≡ note_of nodes x) → IsListed (cl ++ k ∷ []) (set wa (length cl) w) heads' nodes' spare (IsKept (kept ++ true ∷ [])) NoWhy
+pub listed_add : (cl : List (List ℕ)) (k : List ℕ) (wa : List Watched) (w : Watched) (heads heads' : List ℕ) (nodes nodes' : List Node) (spare : ℕ) (kept : List Bool) (a b : ℕ) (r : IsListed cl wa heads nodes spare (IsKept kept) NoWhy) → length kept ≡ length cl → length cl < length wa → w.first < length k → w.second < length k → (w.first ≡ w.second → ⊥) → 2 ≤ length k → a ≡ get_or k w.first 0 → b ≡ get_or k w.second 0 → IsLinked heads' nodes' (placed (2 * length cl + 1) (Some b) (placed (2 * length cl) (Some a) r.on)) → length heads' ≡ length heads → 2 * (length cl + 1) ≤ length nodes' → note_of nodes' (2 * length cl) ≡ b → note_of nodes' (2 * length cl + 1) ≡ a → ((x : ℕ) → (x ≡ 2 * length cl → ⊥) → (x ≡ 2 * length cl + 1 → ⊥) → note_of nodes' x ≡ note_of nodes x) → IsListed (cl ++ k ∷ []) (set wa (length cl) w) heads' nodes' spare (IsKept (kept ++ true ∷ [])) NoWhy
 listed_add cl k wa w heads heads' nodes nodes' spare kept a b r lk lw fin sin ne two ae be link lh ln first second others = record {
   on = placed (2 * length cl + 1) (Some b) (placed (2 * length cl) (Some a) r.on);
   linked = link;
@@ -165,8 +165,8 @@ listed_add cl k wa w heads heads' nodes nodes' spare kept a b r lk lw fin sin ne
         ∙ ap (λ (y : ℕ). has_literal (clause_at cl (x / 2)) y) (others x (apart_of x (2 * length cl) g) (apart_of x (2 * length cl + 1) f))
         ∙ r.notes x (real_other cl k x rx (apart_from x f g))
 
--- a clause of fewer than three literals has no nodes
-pub listed_short : (cl : List (List ℕ)) (k : List ℕ) (wa : List Watched) (heads : List ℕ) (nodes : List Node) (spare : ℕ) (kept : List Bool) → IsListed cl wa heads nodes spare (IsKept kept) NoWhy → length kept ≡ length cl → length cl < length wa → length k < 3 → 2 * (length cl + 1) ≤ length nodes → IsListed (cl ++ k ∷ []) wa heads nodes spare (IsKept (kept ++ true ∷ [])) NoWhy
+-- a clause of fewer than two literals has no nodes
+pub listed_short : (cl : List (List ℕ)) (k : List ℕ) (wa : List Watched) (heads : List ℕ) (nodes : List Node) (spare : ℕ) (kept : List Bool) → IsListed cl wa heads nodes spare (IsKept kept) NoWhy → length kept ≡ length cl → length cl < length wa → length k < 2 → 2 * (length cl + 1) ≤ length nodes → IsListed (cl ++ k ∷ []) wa heads nodes spare (IsKept (kept ++ true ∷ [])) NoWhy
 listed_short cl k wa heads nodes spare kept r lk lw short ln = record {
   on = r.on;
   linked = r.linked;
@@ -185,14 +185,14 @@ listed_short cl k wa heads nodes spare kept r lk lw short ln = record {
       ∙ r.notes x (real_other cl k x rx (not_own (x / 2) rx.long));
 }
   where
-    not_own : (c : ℕ) → 3 ≤ length (clause_at (cl ++ k ∷ []) c) → c ≡ length cl → ⊥
+    not_own : (c : ℕ) → 2 ≤ length (clause_at (cl ++ k ∷ []) c) → c ≡ length cl → ⊥
     not_own c t e = let l : length (clause_at (cl ++ k ∷ []) c) ≡ length k = ap (λ (xs : List ℕ). length xs) (at_own cl k c e) in absurd (omega (arith, t, l, short))
 
     below : (c : ℕ) → c < length (cl ++ k ∷ []) → (c ≡ length cl → ⊥) → c < length cl
     below c h ne = let n : c ≢ length cl = ne in omega (arith, h, length_push cl k, n)
 
-    long : (c : ℕ) → 3 ≤ length (clause_at (cl ++ k ∷ []) c) → (c ≡ length cl → ⊥) → 3 ≤ length (clause_at cl c)
-    long c t ne = subst (λ (xs : List ℕ). 3 ≤ length xs) (at_other cl k c ne) t
+    long : (c : ℕ) → 2 ≤ length (clause_at (cl ++ k ∷ []) c) → (c ≡ length cl → ⊥) → 2 ≤ length (clause_at cl c)
+    long c t ne = subst (λ (xs : List ℕ). 2 ≤ length xs) (at_other cl k c ne) t
 
     old : (x : ℕ) → (x / 2 ≡ length cl → ⊥) → (r.on x ≡ Some (literal_at cl wa x)) ⊎ ((r.on x ≡ Some spare) × NoWhy x) → (r.on x ≡ Some (literal_at (cl ++ k ∷ []) wa x)) ⊎ ((r.on x ≡ Some spare) × NoWhy x)
     old x ne (inl e) = inl (e ∙ ap (λ (y : ℕ). Some y) (sym (literal_same cl k wa x ne)))
@@ -230,7 +230,7 @@ own_free trail k m first second sin ne most next h two = by (is_free (has_litera
         absurd (omega (arith, one, t))
 
 -- so the watches are right in a prefix of the trail with the new clause too
-pub free_add : (cl : List (List ℕ)) (k : List ℕ) (wa wa' : List Watched) (kept : List Bool) (trail : List ℕ) → length kept ≡ length cl → ((node : ℕ) → (node / 2 ≡ length cl → ⊥) → literal_at (cl ++ k ∷ []) wa' node ≡ literal_at cl wa node) → AreFree cl wa kept trail → ((node : ℕ) → node / 2 ≡ length cl → 3 ≤ length k → has_two_free (has_literal trail) k ≡ true → is_free (has_literal trail) (literal_at (cl ++ k ∷ []) wa' node) ≡ true) → AreFree (cl ++ k ∷ []) wa' (kept ++ true ∷ []) trail
+pub free_add : (cl : List (List ℕ)) (k : List ℕ) (wa wa' : List Watched) (kept : List Bool) (trail : List ℕ) → length kept ≡ length cl → ((node : ℕ) → (node / 2 ≡ length cl → ⊥) → literal_at (cl ++ k ∷ []) wa' node ≡ literal_at cl wa node) → AreFree cl wa kept trail → ((node : ℕ) → node / 2 ≡ length cl → 2 ≤ length k → has_two_free (has_literal trail) k ≡ true → is_free (has_literal trail) (literal_at (cl ++ k ∷ []) wa' node) ≡ true) → AreFree (cl ++ k ∷ []) wa' (kept ++ true ∷ []) trail
 free_add cl k wa wa' kept trail lk same free own node rx m none two = by (node / 2 == length cl) refl
   where
     by : (b : Bool) → (node / 2 == length cl) ≡ b → is_free (has_literal trail) (literal_at (cl ++ k ∷ []) wa' node) ≡ true
@@ -279,3 +279,13 @@ fit_add cl k codes f below short = record {
     short_by : (c : ℕ) (b : Bool) → (c == length cl) ≡ b → length (clause_at (cl ++ k ∷ []) c) ≤ 4294967295
     short_by c true g = let l = ap (λ (xs : List ℕ). length xs) (at_own cl k c (equal_of c (length cl) g)) in omega (arith, l, short)
     short_by c false g = let l = ap (λ (xs : List ℕ). length xs) (at_other cl k c (apart_of c (length cl) g)) in omega (arith, l, f.short c)
+
+-- a kept clause has a flag
+pub kept_in : (kept : List Bool) (k : ℕ) (b : Bool) → (get_or kept k false && b) ≡ true → k < length kept
+kept_in kept k b p = by (leb (length kept) k) refl
+  where
+    by : (q : Bool) → leb (length kept) k ≡ q → k < length kept
+    by true e =
+        let z : (false && b) ≡ true = subst (λ (f : Bool). (f && b) ≡ true) (get_or_past kept k false (at_most_of (length kept) k e)) p in
+        absurd (let w : ⊥ = cc in w)
+    by false e = past_of (length kept) k e

@@ -136,15 +136,15 @@ assign_free cl wa wa' kept trail x s free moves settled n h node real m = by (le
             (two_weaker (has_literal trail) (has_literal (trail ++ x ∷ [])) (true_longer trail x) (clause_at cl (node / 2)) two)
             (λ e. let t = settled node real m e in let z : true ≡ false = sym two ∙ t.not_loose none in let w : ⊥ = cc in w)
 
-and_true : (a b : Bool) → (a && b) ≡ true → (a ≡ true) × (b ≡ true)
+pub and_true : (a b : Bool) → (a && b) ≡ true → (a ≡ true) × (b ≡ true)
 and_true true b h = (refl, h)
 and_true false b h = absurd (let w : ⊥ = cc in w)
 
-not_true : (a : Bool) → not a ≡ true → a ≡ false
+pub not_true : (a : Bool) → not a ≡ true → a ≡ false
 not_true true h = absurd (let w : ⊥ = cc in w)
 not_true false h = refl
 
-not_false : (a : Bool) → not a ≡ false → a ≡ true
+pub not_false : (a : Bool) → not a ≡ false → a ≡ true
 not_false true h = refl
 not_false false h = absurd (let w : ⊥ = cc in w)
 
@@ -156,9 +156,9 @@ count_le p (x ∷ xs) = by (p x) (count_le p xs)
     by true h = omega arith
     by false h = omega arith
 
--- every clause that is pending on the longer trail is in the set
-pub assign_complete : (cl : List (List ℕ)) (wa wa' : List Watched) (kept : List Bool) (trail : List ℕ) (x : ℕ) (s s' : ℕ → Bool) → length kept ≡ length cl → IsPlaced cl wa' → AreFree cl wa kept trail → MovesToFree cl wa wa' (has_literal (trail ++ x ∷ [])) → AllSettled cl wa' (has_literal (trail ++ x ∷ [])) s' (opposite x) kept → ((k : ℕ) → length (clause_at cl k) ≡ 2 → has_two_free (has_literal trail) (clause_at cl k) ≡ true → list_any (has_literal (trail ++ x ∷ [])) (clause_at cl k) ≡ false → has_two_free (has_literal (trail ++ x ∷ [])) (clause_at cl k) ≡ false → s' k ≡ true) → Grows s s' → ((k : ℕ) → is_pending_on cl kept trail k ≡ true → s k ≡ true) → (k : ℕ) → is_pending_on cl kept (trail ++ x ∷ []) k ≡ true → s' k ≡ true
-assign_complete cl wa wa' kept trail x s s' many place free moves settled paired grows old k p =
+-- every slot's clause that is pending on the longer trail is in the set
+pub assign_complete : (cl : List (List ℕ)) (wa wa' : List Watched) (kept : List Bool) (trail : List ℕ) (x : ℕ) (s s' : ℕ → Bool) → length kept ≡ length cl → IsPlaced cl wa' → AreFree cl wa kept trail → MovesToFree cl wa wa' (has_literal (trail ++ x ∷ [])) → AllSettled cl wa' (has_literal (trail ++ x ∷ [])) s' (opposite x) kept → Grows s s' → ((k : ℕ) → is_pending_on cl kept trail k ≡ true → s k ≡ true) → (k : ℕ) → is_pending_on cl kept (trail ++ x ∷ []) k ≡ true → s' k ≡ true
+assign_complete cl wa wa' kept trail x s s' many place free moves settled grows old k p =
     let a = and_true (get_or kept k false) (is_pending on' xs) (sym (pending_at cl kept (trail ++ x ∷ []) k) ∙ p) in
     let b = and_true (not (list_any on' xs)) (leb (length (filter (is_free on') xs)) 1) a.1 in
     by (has_two_free on xs) refl a.0 a.1 (not_true (list_any on' xs) b.0) (ap (λ (q : Bool). not q) b.1)
@@ -183,7 +183,7 @@ assign_complete cl wa wa' kept trail x s s' many place free moves settled paired
     by true f kk p none two =
         let t = two_of (length (filter (is_free on) xs)) f in
         let c = count_le (is_free on) xs in
-        by_size (length xs == 2) refl (omega (arith, t, c))
+        loose kk p none two (none_weaker on on' (true_longer trail x) xs none) f (omega (arith, t, c)) (in_range (leb (length kept) k) kk refl) (literal_at cl wa' (2 * k) == opposite x) refl (literal_at cl wa' (2 * k + 1) == opposite x) refl
       where
         half0 : 2 * k / 2 ≡ k
         half0 = omega arith
@@ -191,18 +191,18 @@ assign_complete cl wa wa' kept trail x s s' many place free moves settled paired
         half1 : (2 * k + 1) / 2 ≡ k
         half1 = omega arith
 
-        real : (node : ℕ) → node / 2 ≡ k → 3 ≤ length (clause_at cl k) → k < length cl → IsReal cl node
-        real node h t b = record { below = omega (arith, h, b); long = subst (λ (c : ℕ). 3 ≤ length (clause_at cl c)) (sym h) t }
+        real : (node : ℕ) → node / 2 ≡ k → 2 ≤ length (clause_at cl k) → k < length cl → IsReal cl node
+        real node h t b = record { below = omega (arith, h, b); long = subst (λ (c : ℕ). 2 ≤ length (clause_at cl c)) (sym h) t }
 
         keep : (node : ℕ) → node / 2 ≡ k → get_or kept k false ≡ true → IsKept kept node
         keep node h e = ap (λ (c : ℕ). get_or kept c false) h ∙ e
 
-        here : (node : ℕ) → node / 2 ≡ k → 3 ≤ length (clause_at cl k) → k < length cl → get_or kept k false ≡ true → is_pending (has_literal (trail ++ x ∷ [])) (clause_at cl k) ≡ true → literal_at cl wa' node ≡ opposite x → s' k ≡ true
+        here : (node : ℕ) → node / 2 ≡ k → 2 ≤ length (clause_at cl k) → k < length cl → get_or kept k false ≡ true → is_pending (has_literal (trail ++ x ∷ [])) (clause_at cl k) ≡ true → literal_at cl wa' node ≡ opposite x → s' k ≡ true
         here node h t b kk p e =
             let r = settled node (real node h t b) (keep node h kk) e in
             ap s' (sym h) ∙ r.in_set (ap (λ (c : ℕ). is_pending (has_literal (trail ++ x ∷ [])) (clause_at cl c)) h ∙ p)
 
-        opened : (node place : ℕ) → node / 2 ≡ k → 3 ≤ length (clause_at cl k) → k < length cl → get_or kept k false ≡ true → list_any (has_literal trail) (clause_at cl k) ≡ false → has_two_free (has_literal trail) (clause_at cl k) ≡ true → (literal_at cl wa' node ≡ opposite x → ⊥) → place_of wa' node ≡ place → is_free (has_literal (trail ++ x ∷ [])) (get_or (clause_at cl k) place 0) ≡ true
+        opened : (node place : ℕ) → node / 2 ≡ k → 2 ≤ length (clause_at cl k) → k < length cl → get_or kept k false ≡ true → list_any (has_literal trail) (clause_at cl k) ≡ false → has_two_free (has_literal trail) (clause_at cl k) ≡ true → (literal_at cl wa' node ≡ opposite x → ⊥) → place_of wa' node ≡ place → is_free (has_literal (trail ++ x ∷ [])) (get_or (clause_at cl k) place 0) ≡ true
         opened node place h t b kk n f ne q =
             let w = watch_after cl wa wa' kept trail x node free moves (real node h t b) (keep node h kk) (ap (λ (c : ℕ). list_any (has_literal trail) (clause_at cl c)) h ∙ n) (ap (λ (c : ℕ). has_two_free (has_literal trail) (clause_at cl c)) h ∙ f) ne in
             ap (λ (c : ℕ). is_free (has_literal (trail ++ x ∷ [])) (get_or (clause_at cl c) place 0)) (sym h) ∙ ap (λ (c : ℕ). is_free (has_literal (trail ++ x ∷ [])) (get_or (clause_at cl (node / 2)) c 0)) (sym q) ∙ w
@@ -219,7 +219,7 @@ assign_complete cl wa wa' kept trail x s s' many place free moves settled paired
             let g : ((2 * k + 1) % 2 == 1) ≡ true = grind (arith, nat_tests) in
             ap (λ (b : Bool). place_in (get_or wa' ((2 * k + 1) / 2) no_watches) b) g ∙ ap (λ (c : ℕ). (get_or wa' c no_watches).second) half1
 
-        loose : get_or kept k false ≡ true → is_pending (has_literal (trail ++ x ∷ [])) (clause_at cl k) ≡ true → list_any (has_literal (trail ++ x ∷ [])) (clause_at cl k) ≡ false → has_two_free (has_literal (trail ++ x ∷ [])) (clause_at cl k) ≡ false → list_any (has_literal trail) (clause_at cl k) ≡ false → has_two_free (has_literal trail) (clause_at cl k) ≡ true → 3 ≤ length (clause_at cl k) → k < length cl → (p0 : Bool) → (literal_at cl wa' (2 * k) == opposite x) ≡ p0 → (p1 : Bool) → (literal_at cl wa' (2 * k + 1) == opposite x) ≡ p1 → s' k ≡ true
+        loose : get_or kept k false ≡ true → is_pending (has_literal (trail ++ x ∷ [])) (clause_at cl k) ≡ true → list_any (has_literal (trail ++ x ∷ [])) (clause_at cl k) ≡ false → has_two_free (has_literal (trail ++ x ∷ [])) (clause_at cl k) ≡ false → list_any (has_literal trail) (clause_at cl k) ≡ false → has_two_free (has_literal trail) (clause_at cl k) ≡ true → 2 ≤ length (clause_at cl k) → k < length cl → (p0 : Bool) → (literal_at cl wa' (2 * k) == opposite x) ≡ p0 → (p1 : Bool) → (literal_at cl wa' (2 * k + 1) == opposite x) ≡ p1 → s' k ≡ true
         loose kk p none two n f t b true e0 p1 e1 = here (2 * k) half0 t b kk p (equal_of (literal_at cl wa' (2 * k)) (opposite x) e0)
         loose kk p none two n f t b false e0 true e1 = here (2 * k + 1) half1 t b kk p (equal_of (literal_at cl wa' (2 * k + 1)) (opposite x) e1)
         loose kk p none two n f t b false e0 false e1 =
@@ -230,13 +230,6 @@ assign_complete cl wa wa' kept trail x s s' many place free moves settled paired
             let c = count_two (is_free (has_literal (trail ++ x ∷ []))) (clause_at cl k) (get_or wa' k no_watches).first (get_or wa' k no_watches).second (place.first_in k b t) (place.second_in k b t) (place.apart k b t) o0 o1 in
             let d : has_two_free (has_literal (trail ++ x ∷ [])) (clause_at cl k) ≡ true = tests_two (length (filter (is_free (has_literal (trail ++ x ∷ []))) (clause_at cl k))) c in
             let z : true ≡ false = sym d ∙ two in absurd (let w : ⊥ = cc in w)
-
-        by_size : (b : Bool) → (length xs == 2) ≡ b → 1 < length xs → s' k ≡ true
-        by_size true g h = paired k (equal_of (length xs) 2 g) f none two
-        by_size false g h =
-            let ne : length xs ≢ 2 = apart_of (length xs) 2 g in
-            let long : 3 ≤ length xs = omega (arith, h, ne) in
-            loose kk p none two (none_weaker on on' (true_longer trail x) xs none) f long (in_range (leb (length kept) k) kk refl) (literal_at cl wa' (2 * k) == opposite x) refl (literal_at cl wa' (2 * k + 1) == opposite x) refl
 
 pub whole_free : (cl : List (List ℕ)) (wa : List Watched) (kept : List Bool) (trail : List ℕ) → ((n : ℕ) → n ≤ length trail → AreFree cl wa kept (take n trail)) → AreFree cl wa kept trail
 whole_free cl wa kept trail free = subst (λ (ys : List ℕ). AreFree cl wa kept ys) (take_all (length trail) trail (omega arith)) (free (length trail) (omega arith))

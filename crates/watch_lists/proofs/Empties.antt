@@ -8,12 +8,12 @@ use Rattle.watch_chains.specs.declared.chains.Node.{Node}
 use Rattle.watch_chains.specs.Linked.{IsLinked}
 use Rattle.watch_lists.specs.declared.visit.Watched.{Watched}
 use Rattle.watch_lists.specs.Pending.{is_pending_on}
-use Rattle.watch_lists.specs.Visit.{clause_at, IsReal}
+use Rattle.watch_lists.specs.Visit.{clause_at, slot_clauses, IsReal}
 use Rattle.watch_lists.specs.Sound.{IsSound}
 use Rattle.watch_lists.proofs.Filters.{pending_at}
 
-pub sound_none : (v tv : ℕ) (cl : List (List ℕ)) (kept : List Bool) (trail : List ℕ) (wa : List Watched) (heads : List ℕ) (nodes : List Node) (words : List ℕ) (quiet : List Bool) → v ≤ 2147483647 → tv ≡ v → cl ≡ [] → kept ≡ [] → trail ≡ [] → IsLinked heads nodes (λ k. None) → length heads ≡ 2 * v + 1 → ((k : ℕ) → words_have words k ≡ false) → length quiet ≡ v + 1 → IsSound v tv cl kept trail wa heads nodes words quiet
-sound_none v tv cl kept trail wa heads nodes words quiet small same ec ek et linked codes none size = record {
+pub sound_none : (v tv : ℕ) (cl : List (List ℕ)) (kept : List Bool) (trail slots : List ℕ) (wa : List Watched) (heads : List ℕ) (nodes : List Node) (words : List ℕ) (quiet : List Bool) → v ≤ 2147483647 → tv ≡ v → slots ≡ [] → cl ≡ [] → kept ≡ [] → trail ≡ [] → IsLinked heads nodes (λ k. None) → length heads ≡ 2 * v + 1 → ((k : ℕ) → words_have words k ≡ false) → length quiet ≡ v + 1 → IsSound v tv cl kept trail slots wa heads nodes words quiet
+sound_none v tv cl kept trail slots wa heads nodes words quiet small same es ec ek et linked codes none size = record {
   small = small;
   same = same;
   many = omega (arith, no_clauses, no_flags);
@@ -23,17 +23,19 @@ sound_none v tv cl kept trail wa heads nodes words quiet small same ec ek et lin
     short = λ c. omega (arith, no_literals c);
   };
   room = omega (arith, no_clauses);
+  slotted = λ s h. absurd (omega (arith, h, no_slots));
+  slots_few = omega (arith, no_slots);
   rest = record {
     on = λ k. None;
     linked = linked;
     placed = record {
-      many = omega (arith, no_clauses);
-      first_in = λ c h t. absurd (omega (arith, h, no_clauses));
-      second_in = λ c h t. absurd (omega (arith, h, no_clauses));
-      apart = λ c h t e. absurd (omega (arith, h, no_clauses));
+      many = omega (arith, none_slotted);
+      first_in = λ c h t. absurd (omega (arith, h, none_slotted));
+      second_in = λ c h t. absurd (omega (arith, h, none_slotted));
+      apart = λ c h t e. absurd (omega (arith, h, none_slotted));
     };
     codes = codes;
-    many = omega (arith, no_clauses);
+    many = omega (arith, none_slotted);
     real = λ node l e. absurd (let w : ⊥ = cc in w);
     there = λ node real must. absurd (no_node node real);
     notes = λ node real. absurd (no_node node real);
@@ -50,6 +52,12 @@ sound_none v tv cl kept trail wa heads nodes words quiet small same ec ek et lin
     no_clauses : length cl ≡ 0
     no_clauses = ap (λ (cs : List (List ℕ)). length cs) ec
 
+    no_slots : length slots ≡ 0
+    no_slots = ap (λ (ss : List ℕ). length ss) es
+
+    none_slotted : length (slot_clauses cl slots) ≡ 0
+    none_slotted = ap (λ (ss : List ℕ). length (slot_clauses cl ss)) es
+
     no_flags : length kept ≡ 0
     no_flags = ap (λ (ks : List Bool). length ks) ek
 
@@ -59,8 +67,8 @@ sound_none v tv cl kept trail wa heads nodes words quiet small same ec ek et lin
     no_literals : (c : ℕ) → length (clause_at cl c) ≡ 0
     no_literals c = ap (λ (xs : List ℕ). length xs) (get_or_past cl c [] (omega (arith, no_clauses)))
 
-    no_node : (node : ℕ) → IsReal cl node → ⊥
-    no_node node real = absurd (omega (arith, real.below, no_clauses))
+    no_node : (node : ℕ) → IsReal (slot_clauses cl slots) node → ⊥
+    no_node node real = absurd (omega (arith, real.below, none_slotted))
 
     not_pending : (k : ℕ) → is_pending_on cl kept trail k ≡ true → ⊥
     not_pending k e =

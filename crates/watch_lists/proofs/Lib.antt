@@ -9,3 +9,7 @@ pub mod Adds
 pub mod Wider
 pub mod Enters
 pub mod Paired
+pub mod Slotted
+pub mod Spans
+pub mod Sounds
+pub mod Founds

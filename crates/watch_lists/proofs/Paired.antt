@@ -1,47 +1,28 @@
 -- Clauses of two literals by the lists of their literals.
-use Rattle.std.proofs.Common.{arith, ◌≡◌, ◌≢◌, ◌==◌, ℕ, ◌*◌, ◌<◌, ◌≤◌, List, [], ◌∷◌, ◌++◌, length, set, get_or, replicate, leb, ltb, Bool, true, false, not, ◌||◌, if◌then◌else◌, refl, sym, ap, ◌∙◌, subst, length-set, get_or-set_same, get_or-set_other}
+use Rattle.std.proofs.Common.{arith, ◌≡◌, ◌≢◌, ◌==◌, ℕ, ◌+◌, ◌*◌, ◌<◌, ◌≤◌, List, [], ◌∷◌, ◌++◌, length, set, get_or, leb, ltb, Bool, true, false, not, ◌||◌, if◌then◌else◌, refl, sym, ap, ◌∙◌, subst, ◌⊎◌, inl, inr, length-set, get_or-set_same, get_or-set_other}
 use Rattle.std.specs.List.{list_any, filter}
 use Rattle.std.proofs.lemmas.Bool.Decides.{nat_tests}
-use Rattle.std.proofs.lemmas.List.{get_or_push, get_or_append_left, get_or_past, get_or-replicate, length_push, length-replicate}
+use Rattle.std.proofs.lemmas.List.{get_or_push, get_or_append_left, get_or_past, get_or_read, length_push}
 use Rattle.clause_base.specs.Literal.{opposite}
 use Rattle.clause_base.specs.Clause.{has_literal}
+use Rattle.watch_chains.specs.declared.chains.Node.{Node}
+use Rattle.watch_lists.specs.declared.visit.Watched.{Watched}
 use Rattle.watch_lists.specs.declared.pairs.Pair.{Pair}
 use Rattle.watch_lists.specs.Pending.{is_free, has_two_free}
-use Rattle.watch_lists.specs.Visit.{clause_at}
-use Rattle.watch_lists.specs.Pairs.{no_pair, pairs_of, pair_in, HasPair, ArePaired, AreWithin, IsPaired, IsFuller}
+use Rattle.watch_lists.specs.Visit.{clause_at, IsFit}
+use Rattle.watch_lists.specs.Pairs.{no_pair, pairs_of, pair_in, HasPair, IsInPairs, IsPairOf, AreExact, HasSlot, IsPaired, IsFuller}
+use Rattle.watch_lists.specs.Added.{IsTaken}
 use Rattle.watch_lists.proofs.Filters.{count_two, tests_two}
 use Rattle.watch_lists.proofs.Assigns.{equal_of, apart_of, free_after}
 use Rattle.watch_lists.proofs.Adds.{get_other, at_other, at_own}
 
-abbrev no_pairs : ℕ → List (List Pair)
-no_pairs n = replicate n []
-
-none_of : (n code : ℕ) → pairs_of (no_pairs n) code ≡ []
-none_of n code = by (ltb code n) refl
-  where
-    by : (b : Bool) → ltb code n ≡ b → pairs_of (no_pairs n) code ≡ []
-    by true e = let h : code < n = grind (arith, nat_tests) in get_or-replicate n code [] [] h
-    by false e =
-        let h : n ≤ code = grind (arith, nat_tests) in
-        let l : length (no_pairs n) ≡ n = length-replicate n [] in
-        get_or_past (no_pairs n) code [] (omega (arith, h, l))
-
 -- lists without pairs, where there are no clauses
-pub paired_none : (v : ℕ) (words : List ℕ) → IsPaired v [] (replicate (2 * v) []) words
-paired_none v words = record {
-  long = length-replicate (2 * v) [];
-  paired = λ c a b e. absurd (past c a b e);
-  within = record { literal = λ code place h. absurd (nowhere code place h); clause = λ code place h. absurd (nowhere code place h) };
+pub paired_none : (v : ℕ) (cl : List (List ℕ)) (slots : List ℕ) (ps : List (List Pair)) → cl ≡ [] → length ps ≡ 2 * v + 1 → ((code : ℕ) → pairs_of ps code ≡ []) → IsPaired v cl slots ps
+paired_none v cl slots ps e long none = record {
+  long = long;
+  found = λ c h. absurd (omega (arith, h, ap (λ (cs : List (List ℕ)). length cs) e));
+  exact = λ code place h. absurd (omega (arith, h, ap (λ (xs : List Pair). length xs) (none code)));
 }
-  where
-    past : (c a b : ℕ) → clause_at [] c ≡ a ∷ b ∷ [] → ⊥
-    past c a b e =
-        let p : clause_at [] c ≡ [] = get_or_past [] c [] (omega arith) in
-        let l : length (a ∷ b ∷ []) ≡ 0 = ap (λ (xs : List ℕ). length xs) (sym e ∙ p) in
-        absurd (omega (arith, l))
-
-    nowhere : (code place : ℕ) → place < length (pairs_of (no_pairs (2 * v)) code) → ⊥
-    nowhere code place h = absurd (omega (arith, h, ap (λ (xs : List Pair). length xs) (none_of (2 * v) code)))
 
 -- lists with one more pair, at the end of one of them
 abbrev pub with_pair : List (List Pair) → ℕ → ℕ → ℕ → List (List Pair)
@@ -90,105 +71,180 @@ own_push ps code other number below =
       is = ap (λ (ys : List Pair). pair_in ys (length xs)) l ∙ get_or_push xs p no_pair (length xs) refl;
     }
 
-abbrev IsBelow : ℕ → ℕ → Pair → Type 0
-IsBelow codes numbers p = (p.other < codes) × (p.number < numbers)
-
-within_push : (ps : List (List Pair)) (code other number codes numbers : ℕ) → code < length ps → other < codes → number < numbers → AreWithin ps codes numbers → AreWithin (with_pair ps code other number) codes numbers
-within_push ps code other number codes numbers below ho hn w = record {
-  literal = λ c i h. (both c i h (c == code) refl).0;
-  clause = λ c i h. (both c i h (c == code) refl).1;
-}
+exact_push : (cl : List (List ℕ)) (ps : List (List Pair)) (code other number : ℕ) → code < length ps → IsPairOf cl code (record { other = other; number = number }) → AreExact cl ps → AreExact cl (with_pair ps code other number)
+exact_push cl ps code other number below own old c i h = by (c == code) refl
   where
-    last : (i : ℕ) → i < length (pairs_of ps code ++ (record { other = other; number = number }) ∷ []) → (b : Bool) → (i == length (pairs_of ps code)) ≡ b → IsBelow codes numbers (pair_in (pairs_of ps code ++ (record { other = other; number = number }) ∷ []) i)
-    last i h true f = subst (IsBelow codes numbers) (sym (get_or_push (pairs_of ps code) (record { other = other; number = number }) no_pair i (sym (equal_of i (length (pairs_of ps code)) f)))) (ho, hn)
-    last i h false f =
+    last : (b : Bool) → (i == length (pairs_of ps code)) ≡ b → i < length (pairs_of ps code ++ (record { other = other; number = number }) ∷ []) → IsPairOf cl code (pair_in (pairs_of ps code ++ (record { other = other; number = number }) ∷ []) i)
+    last true f g = subst (IsPairOf cl code) (sym (get_or_push (pairs_of ps code) (record { other = other; number = number }) no_pair i (sym (equal_of i (length (pairs_of ps code)) f)))) own
+    last false f g =
         let ne : i ≢ length (pairs_of ps code) = apart_of i (length (pairs_of ps code)) f in
-        let inside : i < length (pairs_of ps code) = omega (arith, h, length_push (pairs_of ps code) (record { other = other; number = number }), ne) in
-        subst (IsBelow codes numbers) (sym (get_other (pairs_of ps code) (record { other = other; number = number }) no_pair i ne)) (w.literal code i inside, w.clause code i inside)
+        let inside : i < length (pairs_of ps code) = omega (arith, g, length_push (pairs_of ps code) (record { other = other; number = number }), ne) in
+        subst (IsPairOf cl code) (sym (get_other (pairs_of ps code) (record { other = other; number = number }) no_pair i ne)) (old code i inside)
 
-    both : (c i : ℕ) → i < length (pairs_of (with_pair ps code other number) c) → (b : Bool) → (c == code) ≡ b → IsBelow codes numbers (pair_in (pairs_of (with_pair ps code other number) c) i)
-    both c i h true f =
-        let l = pairs_own ps code other number c below (equal_of c code f) in
-        subst (λ (xs : List Pair). IsBelow codes numbers (pair_in xs i)) (sym l)
-        (last i (subst (λ (xs : List Pair). i < length xs) l h) (i == length (pairs_of ps code)) refl)
-    both c i h false f =
+    by : (b : Bool) → (c == code) ≡ b → IsPairOf cl c (pair_in (pairs_of (with_pair ps code other number) c) i)
+    by true f =
+        let e : c ≡ code = equal_of c code f in
+        let l = pairs_own ps code other number c below e in
+        let here = subst (λ (xs : List Pair). IsPairOf cl code (pair_in xs i)) (sym l) (last (i == length (pairs_of ps code)) refl (subst (λ (xs : List Pair). i < length xs) l h)) in
+        subst (λ (x : ℕ). IsPairOf cl x (pair_in (pairs_of (with_pair ps code other number) c) i)) (sym e) here
+    by false f =
         let l = pairs_other ps code other number c (apart_of c code f) in
-        let inside : i < length (pairs_of ps c) = subst (λ (xs : List Pair). i < length xs) l h in
-        subst (λ (xs : List Pair). IsBelow codes numbers (pair_in xs i)) (sym l) (w.literal c i inside, w.clause c i inside)
+        subst (λ (xs : List Pair). IsPairOf cl c (pair_in xs i)) (sym l) (old c i (subst (λ (xs : List Pair). i < length xs) l h))
 
-pub fuller_same : (number : ℕ) (ps : List (List Pair)) → IsFuller number ps ps
-fuller_same number ps = record { long = refl; more = λ c o n h. h; within = λ numbers l h. h }
+pub fuller_same : (clause : List ℕ) (number : ℕ) (ps : List (List Pair)) → IsFuller clause number ps ps
+fuller_same clause number ps = record { long = refl; more = λ c o n h. h; exact = λ cl e h. h }
 
-pub fuller_push : (ps : List (List Pair)) (code other number : ℕ) → code < length ps → other < length ps → IsFuller number ps (with_pair ps code other number)
-fuller_push ps code other number below ho = record {
+-- a clause of two literals, in either order
+abbrev IsOfTwo : List ℕ → ℕ → ℕ → Type 0
+IsOfTwo clause a b = (clause ≡ a ∷ b ∷ []) ⊎ (clause ≡ b ∷ a ∷ [])
+
+fuller_push : (clause : List ℕ) (ps : List (List Pair)) (code other number : ℕ) → code < length ps → IsOfTwo clause code other → IsFuller clause number ps (with_pair ps code other number)
+fuller_push clause ps code other number below two = record {
   long = length-set ps code (pairs_of ps code ++ (record { other = other; number = number }) ∷ []);
   more = more_push ps code other number below;
-  within = λ numbers l h. within_push ps code other number (length ps) numbers below ho l h;
+  exact = λ cl e h. exact_push cl ps code other number below (by cl e two) h;
 }
+  where
+    by : (cl : List (List ℕ)) → clause_at cl number ≡ clause → IsOfTwo clause code other → IsPairOf cl code (record { other = other; number = number })
+    by cl e (inl q) = inl (e ∙ q)
+    by cl e (inr q) = inr (e ∙ q)
 
-pub fuller_then : (number : ℕ) (ps qs rs : List (List Pair)) → IsFuller number ps qs → IsFuller number qs rs → IsFuller number ps rs
-fuller_then number ps qs rs p q = record {
+pub fuller_then : (clause : List ℕ) (number : ℕ) (ps qs rs : List (List Pair)) → IsFuller clause number ps qs → IsFuller clause number qs rs → IsFuller clause number ps rs
+fuller_then clause number ps qs rs p q = record {
   long = q.long ∙ p.long;
   more = λ c o n h. q.more c o n (p.more c o n h);
-  within = λ numbers l h. subst (λ (k : ℕ). AreWithin rs k numbers) p.long (q.within numbers l (subst (λ (k : ℕ). AreWithin qs k numbers) (sym p.long) (p.within numbers l h)));
+  exact = λ cl e h. q.exact cl e (p.exact cl e h);
 }
 
--- once one literal has the pair, and once both have
-pub half_entered : (number a b : ℕ) (ps qs : List (List Pair)) → a < length ps → b < length ps → qs ≡ with_pair ps a b number → IsFuller number ps qs
-half_entered number a b ps qs ha hb q = subst (IsFuller number ps) (sym q) (fuller_push ps a b number ha hb)
+-- what an entry of a pair answers
+abbrev pub IsPush : List (List Pair) → ℕ → ℕ → ℕ → Bool → List (List Pair) → Type 0
+IsPush ps code other number r qs = (r ≡ true → qs ≡ with_pair ps code other number) × (r ≡ false → qs ≡ ps)
 
-pub all_entered : (number a b : ℕ) (ps qs rs : List (List Pair)) → a < length ps → b < length ps → qs ≡ with_pair ps a b number → rs ≡ with_pair qs b a number → IsFuller number ps rs
-all_entered number a b ps qs rs ha hb q r =
-    let f = half_entered number a b ps qs ha hb q in
-    fuller_then number ps qs rs f (half_entered number b a qs rs (omega (arith, hb, f.long)) (omega (arith, ha, f.long)) r)
+push_fuller : (clause : List ℕ) (ps : List (List Pair)) (code other number : ℕ) (r : Bool) (qs : List (List Pair)) → code < length ps → IsOfTwo clause code other → IsPush ps code other number r qs → IsFuller clause number ps qs
+push_fuller clause ps code other number true qs below two p = subst (IsFuller clause number ps) (sym (p.0 refl)) (fuller_push clause ps code other number below two)
+push_fuller clause ps code other number false qs below two p = subst (IsFuller clause number ps) (sym (p.1 refl)) (fuller_same clause number ps)
 
-pub own_entered : (number a b : ℕ) (k : List ℕ) (ps qs rs : List (List Pair)) → a < length ps → b < length ps → qs ≡ with_pair ps a b number → rs ≡ with_pair qs b a number → a ≡ get_or k 0 0 → b ≡ get_or k 1 0 → (x y : ℕ) → k ≡ x ∷ y ∷ [] → HasPair rs x y number × HasPair rs y x number
-own_entered number a b k ps qs rs ha hb q r ea eb x y e =
-    let f = half_entered number a b ps qs ha hb q in
-    let hb' : b < length qs = omega (arith, hb, f.long) in
-    let ha' : a < length qs = omega (arith, ha, f.long) in
-    let g = half_entered number b a qs rs hb' ha' r in
-    let one : HasPair rs a b number = g.more a b number (subst (λ (ts : List (List Pair)). HasPair ts a b number) (sym q) (own_push ps a b number ha)) in
-    let two : HasPair rs b a number = subst (λ (ts : List (List Pair)). HasPair ts b a number) (sym r) (own_push qs b a number hb') in
-    let u : a ≡ x = ea ∙ ap (λ (xs : List ℕ). get_or xs 0 0) e in
-    let v : b ≡ y = eb ∙ ap (λ (xs : List ℕ). get_or xs 1 0) e in (
-      subst (λ (l : ℕ). HasPair rs x l number) v (subst (λ (l : ℕ). HasPair rs l b number) u one),
-      subst (λ (l : ℕ). HasPair rs y l number) u (subst (λ (l : ℕ). HasPair rs l a number) v two),
-    )
+-- what is read of a clause of two literals that is entered
+pub record IsRead (clause : List ℕ) (a b : ℕ) (ps : List (List Pair)) : Type 0 where
+  pub is : clause ≡ a ∷ b ∷ []
+  pub first_in : a < length ps
+  pub second_in : b < length ps
 
-wider : (ps : List (List Pair)) (codes n m : ℕ) → n ≤ m → AreWithin ps codes n → AreWithin ps codes m
-wider ps codes n m h w = record {
-  literal = w.literal;
-  clause = λ code place i. let l = w.clause code place i in omega (arith, l, h);
-}
+list_two : (k : List ℕ) → length k ≡ 2 → k ≡ get_or k 0 0 ∷ get_or k 1 0 ∷ []
+list_two [] e = absurd (omega (arith, e))
+list_two (a ∷ []) e = absurd (omega (arith, e))
+list_two (a ∷ b ∷ []) e = refl
+list_two (a ∷ b ∷ c ∷ k) e = absurd (omega (arith, e))
 
--- the pairs are right with a larger set
-pub paired_wider : (v : ℕ) (cl : List (List ℕ)) (ps : List (List Pair)) (words words' : List ℕ) → IsPaired v cl ps words → length words ≤ length words' → IsPaired v cl ps words'
-paired_wider v cl ps words words' i h = record {
-  long = i.long;
-  paired = i.paired;
-  within = wider ps (2 * v) (64 * length words) (64 * length words') (omega (arith, h)) i.within;
-}
+pub read_two : (clause : List ℕ) (a b la lb : ℕ) (ps : List (List Pair)) → length clause ≡ 2 → a ≡ la → la ≡ get_or clause 0 la → b ≡ lb → lb ≡ get_or clause 1 lb → ((p : ℕ) → p < length clause → get_or clause p 0 + 1 < length ps) → IsRead clause a b ps
+read_two clause a b la lb ps two ea ra eb rb below =
+    let u : a ≡ get_or clause 0 0 = ea ∙ get_or_read clause 0 la (omega (arith, two)) ra 0 in
+    let v : b ≡ get_or clause 1 0 = eb ∙ get_or_read clause 1 lb (omega (arith, two)) rb 0 in
+    record {
+      is = list_two clause two ∙ ap (λ (x : ℕ). x ∷ get_or clause 1 0 ∷ []) (sym u) ∙ ap (λ (y : ℕ). a ∷ y ∷ []) (sym v);
+      first_in = omega (arith, u, below 0 (omega (arith, two)));
+      second_in = omega (arith, v, below 1 (omega (arith, two)));
+    }
 
--- and with more pairs
-pub paired_fuller : (v number : ℕ) (cl : List (List ℕ)) (ps ps' : List (List Pair)) (words : List ℕ) → IsPaired v cl ps words → number < 64 * length words → IsFuller number ps ps' → IsPaired v cl ps' words
-paired_fuller v number cl ps ps' words i h f = record {
-  long = f.long ∙ i.long;
-  paired = λ c a b e. let r = i.paired c a b e in (f.more a b c r.0, f.more b a c r.1);
-  within = subst (λ (k : ℕ). AreWithin ps' k (64 * length words)) i.long (f.within (64 * length words) h (subst (λ (k : ℕ). AreWithin ps k (64 * length words)) (sym i.long) i.within));
-}
+-- once one literal has the pair, and once both may have
+pub half_entered : (clause : List ℕ) (number a b : ℕ) (ps qs : List (List Pair)) (r : Bool) → IsRead clause a b ps → IsPush ps a b number r qs → IsFuller clause number ps qs
+half_entered clause number a b ps qs r i p = push_fuller clause ps a b number r qs i.first_in (inl i.is) p
 
--- and with a new clause that is entered
-pub paired_add : (v number : ℕ) (cl : List (List ℕ)) (k : List ℕ) (ps ps' : List (List Pair)) (words : List ℕ) → IsPaired v cl ps words → number ≡ length cl → number < 64 * length words → IsFuller number ps ps' → ((a b : ℕ) → k ≡ a ∷ b ∷ [] → HasPair ps' a b number × HasPair ps' b a number) → IsPaired v (cl ++ k ∷ []) ps' words
-paired_add v number cl k ps ps' words i e h f own =
-    let more = paired_fuller v number cl ps ps' words i h f in
-    record { long = more.long; paired = λ c a b q. by more.paired c a b q (c == length cl) refl; within = more.within }
+pub all_entered : (clause : List ℕ) (number a b : ℕ) (ps qs rs : List (List Pair)) (r t : Bool) → IsRead clause a b ps → IsPush ps a b number r qs → IsPush qs b a number t rs → IsFuller clause number ps rs
+all_entered clause number a b ps qs rs r t i p q =
+    let f = half_entered clause number a b ps qs r i p in
+    fuller_then clause number ps qs rs f (push_fuller clause qs b a number t rs (omega (arith, i.second_in, f.long)) (inr i.is) q)
+
+pub own_entered : (clause : List ℕ) (number a b : ℕ) (ps qs rs : List (List Pair)) → IsRead clause a b ps → qs ≡ with_pair ps a b number → rs ≡ with_pair qs b a number → IsInPairs rs clause number
+own_entered clause number a b ps qs rs i q r =
+    let f : IsFuller clause number ps qs = subst (IsFuller clause number ps) (sym q) (fuller_push clause ps a b number i.first_in (inl i.is)) in
+    let hb : b < length qs = omega (arith, i.second_in, f.long) in
+    let g : IsFuller clause number qs rs = subst (IsFuller clause number qs) (sym r) (fuller_push clause qs b a number hb (inr i.is)) in
+    record {
+      first = a;
+      second = b;
+      is = i.is;
+      has = g.more a b number (subst (λ (ts : List (List Pair)). HasPair ts a b number) (sym q) (own_push ps a b number i.first_in));
+      back = subst (λ (ts : List (List Pair)). HasPair ts b a number) (sym r) (own_push qs b a number hb);
+    }
+
+-- a pair is of a clause that there is, and of a literal
+pub pair_within : (cl : List (List ℕ)) (codes code : ℕ) (p : Pair) → IsFit cl codes → IsPairOf cl code p → (p.other < codes) × (p.number < length cl)
+pair_within cl codes code p f o = (other o, inside (ltb p.number (length cl)) refl (two o))
   where
-    by : ArePaired cl ps' → (c a b : ℕ) → clause_at (cl ++ k ∷ []) c ≡ a ∷ b ∷ [] → (p : Bool) → (c == length cl) ≡ p → HasPair ps' a b c × HasPair ps' b a c
-    by old c a b q true g =
-        let s : c ≡ length cl = equal_of c (length cl) g in
-        subst (λ (n : ℕ). HasPair ps' a b n × HasPair ps' b a n) (e ∙ sym s) (own a b (sym (at_own cl k c s) ∙ q))
-    by old c a b q false g = old c a b (sym (at_other cl k c (apart_of c (length cl) g)) ∙ q)
+    two : IsPairOf cl code p → length (clause_at cl p.number) ≡ 2
+    two (inl e) = ap (λ (xs : List ℕ). length xs) e
+    two (inr e) = ap (λ (xs : List ℕ). length xs) e
+
+    other : IsPairOf cl code p → p.other < codes
+    other (inl e) =
+        let l = ap (λ (xs : List ℕ). length xs) e in
+        let v = ap (λ (xs : List ℕ). get_or xs 1 0) e in
+        omega (arith, v, f.below p.number 1 (omega (arith, l)))
+    other (inr e) =
+        let l = ap (λ (xs : List ℕ). length xs) e in
+        let v = ap (λ (xs : List ℕ). get_or xs 0 0) e in
+        omega (arith, v, f.below p.number 0 (omega (arith, l)))
+
+    inside : (b : Bool) → ltb p.number (length cl) ≡ b → length (clause_at cl p.number) ≡ 2 → p.number < length cl
+    inside true e l = grind (arith, nat_tests)
+    inside false e l =
+        let h : length cl ≤ p.number = grind (arith, nat_tests) in
+        absurd (omega (arith, l, ap (λ (xs : List ℕ). length xs) (get_or_past cl p.number [] h)))
+
+-- a clause more leaves the pairs right
+exact_more : (cl : List (List ℕ)) (k : List ℕ) (ps : List (List Pair)) → AreExact cl ps → AreExact (cl ++ k ∷ []) ps
+exact_more cl k ps old code place h = by (old code place h)
+  where
+    not_last : (xs : List ℕ) → clause_at cl (pair_in (pairs_of ps code) place).number ≡ xs → length xs ≡ 2 → (pair_in (pairs_of ps code) place).number ≡ length cl → ⊥
+    not_last xs e l q = absurd (omega (arith, l, ap (λ (ys : List ℕ). length ys) e, ap (λ (ys : List ℕ). length ys) (get_or_past cl (pair_in (pairs_of ps code) place).number [] (omega (arith, q)))))
+
+    by : IsPairOf cl code (pair_in (pairs_of ps code) place) → IsPairOf (cl ++ k ∷ []) code (pair_in (pairs_of ps code) place)
+    by (inl e) = inl (at_other cl k (pair_in (pairs_of ps code) place).number (not_last (code ∷ (pair_in (pairs_of ps code) place).other ∷ []) e refl) ∙ e)
+    by (inr e) = inr (at_other cl k (pair_in (pairs_of ps code) place).number (not_last ((pair_in (pairs_of ps code) place).other ∷ code ∷ []) e refl) ∙ e)
+
+-- with a new clause that is entered or has a slot
+pub paired_add : (v number codes : ℕ) (cl : List (List ℕ)) (k trail : List ℕ) (ps ps' : List (List Pair)) (slots : List ℕ) (wa : List Watched) (heads : List ℕ) (nodes : List Node) (slots' : List ℕ) (wa' : List Watched) (heads' : List ℕ) (nodes' : List Node) → IsPaired v cl slots ps → number ≡ length cl → IsFuller k number ps ps' → IsTaken k number codes trail ps' slots wa heads nodes slots' wa' heads' nodes' → IsPaired v (cl ++ k ∷ []) slots' ps'
+paired_add v number codes cl k trail ps ps' slots wa heads nodes slots' wa' heads' nodes' i e f taken = record {
+  long = f.long ∙ i.long;
+  found = λ c h. by c h (c == length cl) refl;
+  exact = f.exact (cl ++ k ∷ []) (at_own cl k number e) (exact_more cl k ps i.exact);
+}
+  where
+    own : IsTaken k number codes trail ps' slots wa heads nodes slots' wa' heads' nodes' → IsInPairs ps' k number ⊎ HasSlot slots' number
+    own (inl t) = inl t.in_pairs
+    own (inr t) = inr (record {
+      slot = length slots;
+      inside = omega (arith, ap (λ (ss : List ℕ). length ss) t.slotted, length_push slots number);
+      is = ap (λ (ss : List ℕ). get_or ss (length slots) 0) t.slotted ∙ get_or_push slots number 0 (length slots) refl;
+    })
+
+    slot_stays : (c : ℕ) → HasSlot slots c → IsTaken k number codes trail ps' slots wa heads nodes slots' wa' heads' nodes' → HasSlot slots' c
+    slot_stays c s (inl t) = subst (λ (ss : List ℕ). HasSlot ss c) (sym t.slots_stay) s
+    slot_stays c s (inr t) = record {
+      slot = s.slot;
+      inside = omega (arith, s.inside, ap (λ (ss : List ℕ). length ss) t.slotted, length_push slots number);
+      is = ap (λ (ss : List ℕ). get_or ss s.slot 0) t.slotted ∙ get_or_append_left slots (number ∷ []) 0 s.slot s.inside ∙ s.is;
+    }
+
+    old : (c : ℕ) → (c ≡ length cl → ⊥) → IsInPairs ps (clause_at cl c) c ⊎ HasSlot slots c → IsInPairs ps' (clause_at (cl ++ k ∷ []) c) c ⊎ HasSlot slots' c
+    old c ne (inl p) = inl (record {
+      first = p.first;
+      second = p.second;
+      is = at_other cl k c ne ∙ p.is;
+      has = f.more p.first p.second c p.has;
+      back = f.more p.second p.first c p.back;
+    })
+    old c ne (inr s) = inr (slot_stays c s taken)
+
+    by : (c : ℕ) → c < length (cl ++ k ∷ []) → (b : Bool) → (c == length cl) ≡ b → IsInPairs ps' (clause_at (cl ++ k ∷ []) c) c ⊎ HasSlot slots' c
+    by c h true g =
+        let q : c ≡ length cl = equal_of c (length cl) g in
+        subst (λ (n : ℕ). IsInPairs ps' (clause_at (cl ++ k ∷ []) c) n ⊎ HasSlot slots' n) (e ∙ sym q)
+        (subst (λ (xs : List ℕ). IsInPairs ps' xs number ⊎ HasSlot slots' number) (sym (at_own cl k c q)) (own taken))
+    by c h false g =
+        let ne : c ≢ length cl = apart_of c (length cl) g in
+        old c ne (i.found c (omega (arith, h, length_push cl k, ne)))
 
 -- a clause in a marked list is in the set, unless its other literal is true
 marked : (ps : List (List Pair)) (list : List Pair) (code a b k : ℕ) (on s : ℕ → Bool) → HasPair ps a b k → list ≡ pairs_of ps code → ((i : ℕ) → i < length list → on (pair_in list i).other ≡ false → s (pair_in list i).number ≡ true) → a ≡ code → on b ≡ false → s k ≡ true
@@ -213,20 +269,13 @@ both_off true q h = absurd (let w : ⊥ = cc in w)
 both_off false true h = absurd (let w : ⊥ = cc in w)
 both_off false false h = (refl, refl)
 
-record IsTwo (xs : List ℕ) : Type 0 where
-  first : ℕ
-  second : ℕ
-  is : xs ≡ first ∷ second ∷ []
-
-two_are : (xs : List ℕ) → length xs ≡ 2 → IsTwo xs
-two_are [] e = absurd (omega (arith, e))
-two_are (a ∷ []) e = absurd (omega (arith, e))
-two_are (a ∷ b ∷ []) e = record { first = a; second = b; is = refl }
-two_are (a ∷ b ∷ c ∷ xs) e = absurd (omega (arith, e))
-
 -- a clause of two literals that is pending once a literal is true, and was not, is in the set where its lists are marked
-pub pair_pending : (cl : List (List ℕ)) (ps : List (List Pair)) (list : List Pair) (trail : List ℕ) (x : ℕ) (s : ℕ → Bool) → ArePaired cl ps → list ≡ pairs_of ps (opposite x) → ((i : ℕ) → i < length list → has_literal (trail ++ x ∷ []) (pair_in list i).other ≡ false → s (pair_in list i).number ≡ true) → (k : ℕ) → length (clause_at cl k) ≡ 2 → has_two_free (has_literal trail) (clause_at cl k) ≡ true → list_any (has_literal (trail ++ x ∷ [])) (clause_at cl k) ≡ false → has_two_free (has_literal (trail ++ x ∷ [])) (clause_at cl k) ≡ false → s k ≡ true
-pair_pending cl ps list trail x s paired l set k two free none less = go (two_are (clause_at cl k) two)
+pub pair_pending : (clause : List ℕ) (ps : List (List Pair)) (list : List Pair) (trail : List ℕ) (x k : ℕ) (s : ℕ → Bool) → IsInPairs ps clause k → list ≡ pairs_of ps (opposite x) → ((i : ℕ) → i < length list → has_literal (trail ++ x ∷ []) (pair_in list i).other ≡ false → s (pair_in list i).number ≡ true) → has_two_free (has_literal trail) clause ≡ true → list_any (has_literal (trail ++ x ∷ [])) clause ≡ false → has_two_free (has_literal (trail ++ x ∷ [])) clause ≡ false → s k ≡ true
+pair_pending clause ps list trail x k s i l set free none less =
+    by
+    (both_free (is_free on) i.first i.second (ap (λ (xs : List ℕ). has_two_free on xs) (sym i.is) ∙ free))
+    (both_off (on' i.first) (on' i.second) (ap (λ (xs : List ℕ). list_any on' xs) (sym i.is) ∙ none))
+    (i.first == opposite x) refl (i.second == opposite x) refl
   where
     on : ℕ → Bool
     on = has_literal trail
@@ -234,20 +283,13 @@ pair_pending cl ps list trail x s paired l set k two free none less = go (two_ar
     on' : ℕ → Bool
     on' = has_literal (trail ++ x ∷ [])
 
-    by : (a b : ℕ) → clause_at cl k ≡ a ∷ b ∷ [] → (is_free on a ≡ true) × (is_free on b ≡ true) → (on' a ≡ false) × (on' b ≡ false) → (p : Bool) → (a == opposite x) ≡ p → (q : Bool) → (b == opposite x) ≡ q → s k ≡ true
-    by a b e f n true g q h = marked ps list (opposite x) a b k on' s (paired k a b e).0 l set (equal_of a (opposite x) g) n.1
-    by a b e f n false g true h = marked ps list (opposite x) b a k on' s (paired k a b e).1 l set (equal_of b (opposite x) h) n.0
-    by a b e f n false g false h =
-        let fa = free_after trail x a f.0 (apart_of a (opposite x) g) in
-        let fb = free_after trail x b f.1 (apart_of b (opposite x) h) in
-        let c = count_two (is_free on') (a ∷ b ∷ []) 0 1 (omega arith) (omega arith) (λ (z : 0 ≡ 1). absurd (omega (arith, z))) fa fb in
-        let t : has_two_free on' (a ∷ b ∷ []) ≡ true = tests_two (length (filter (is_free on') (a ∷ b ∷ []))) c in
-        let z : true ≡ false = sym t ∙ ap (λ (xs : List ℕ). has_two_free on' xs) (sym e) ∙ less in
+    by : (is_free on i.first ≡ true) × (is_free on i.second ≡ true) → (on' i.first ≡ false) × (on' i.second ≡ false) → (p : Bool) → (i.first == opposite x) ≡ p → (q : Bool) → (i.second == opposite x) ≡ q → s k ≡ true
+    by f n true g q h = marked ps list (opposite x) i.first i.second k on' s i.has l set (equal_of i.first (opposite x) g) n.1
+    by f n false g true h = marked ps list (opposite x) i.second i.first k on' s i.back l set (equal_of i.second (opposite x) h) n.0
+    by f n false g false h =
+        let fa = free_after trail x i.first f.0 (apart_of i.first (opposite x) g) in
+        let fb = free_after trail x i.second f.1 (apart_of i.second (opposite x) h) in
+        let c = count_two (is_free on') (i.first ∷ i.second ∷ []) 0 1 (omega arith) (omega arith) (λ (z : 0 ≡ 1). absurd (omega (arith, z))) fa fb in
+        let t : has_two_free on' (i.first ∷ i.second ∷ []) ≡ true = tests_two (length (filter (is_free on') (i.first ∷ i.second ∷ []))) c in
+        let z : true ≡ false = sym t ∙ ap (λ (xs : List ℕ). has_two_free on' xs) (sym i.is) ∙ less in
         absurd (let w : ⊥ = cc in w)
-
-    go : IsTwo (clause_at cl k) → s k ≡ true
-    go t =
-        by t.first t.second t.is
-        (both_free (is_free on) t.first t.second (ap (λ (xs : List ℕ). has_two_free on xs) (sym t.is) ∙ free))
-        (both_off (on' t.first) (on' t.second) (ap (λ (xs : List ℕ). list_any on' xs) (sym t.is) ∙ none))
-        (t.first == opposite x) refl (t.second == opposite x) refl

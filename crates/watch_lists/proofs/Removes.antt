@@ -6,7 +6,7 @@ use Rattle.watch_lists.specs.declared.visit.Watched.{Watched}
 use Rattle.clause_base.specs.Clause.{has_literal}
 use Rattle.watch_lists.specs.Pending.{is_pending_on}
 use Rattle.cdcl_rules.specs.Pending.{is_pending}
-use Rattle.watch_lists.specs.Visit.{clause_at}
+use Rattle.watch_lists.specs.Visit.{clause_at, slot_flags}
 use Rattle.watch_lists.specs.Sound.{IsFront, IsSound}
 use Rattle.watch_lists.proofs.Filters.{pending_at}
 use Rattle.watch_lists.proofs.Assigns.{none_pending}
@@ -17,6 +17,12 @@ kept_before (b ∷ kept) zero zero e = cc
 kept_before (b ∷ kept) zero (suc k) e = e
 kept_before (b ∷ kept) (suc n) zero e = e
 kept_before (b ∷ kept) (suc n) (suc k) e = kept_before kept n k e
+
+-- so of the slots
+flags_before : (kept : List Bool) (slots : List ℕ) (n s : ℕ) → get_or (slot_flags (set kept n false) slots) s false ≡ true → get_or (slot_flags kept slots) s false ≡ true
+flags_before kept [] n s e = e
+flags_before kept (m ∷ slots) n zero e = kept_before kept n m e
+flags_before kept (m ∷ slots) n (suc s) e = flags_before kept slots n s e
 
 and_by : (a b c : Bool) → (a ≡ true → c ≡ true) → (a && b) ≡ true → (c && b) ≡ true
 and_by true b c h e = let t : c ≡ true = h refl in ap (λ (x : Bool). x && b) t ∙ e
@@ -29,14 +35,16 @@ none_by : (a b : Bool) → (b ≡ true → a ≡ true) → a ≡ false → b ≡
 none_by a true h e = let t : a ≡ true = h refl in sym t ∙ e
 none_by a false h e = refl
 
-pub removed_sound : (v tv : ℕ) (cl : List (List ℕ)) (kept : List Bool) (trail : List ℕ) (wa : List Watched) (heads : List ℕ) (nodes : List Node) (words : List ℕ) (quiet : List Bool) (n : ℕ) (words' : List ℕ) → IsSound v tv cl kept trail wa heads nodes words quiet → length words' ≡ length words → IsFront (is_pending_on cl (set kept n false) trail) (words_have words') → IsSound v tv cl (set kept n false) trail wa heads nodes words' quiet
-removed_sound v tv cl kept trail wa heads nodes words quiet n words' i w f = record {
+pub removed_sound : (v tv : ℕ) (cl : List (List ℕ)) (kept : List Bool) (trail slots : List ℕ) (wa : List Watched) (heads : List ℕ) (nodes : List Node) (words : List ℕ) (quiet : List Bool) (n : ℕ) (words' : List ℕ) → IsSound v tv cl kept trail slots wa heads nodes words quiet → length words' ≡ length words → IsFront (is_pending_on cl (set kept n false) trail) (words_have words') → IsSound v tv cl (set kept n false) trail slots wa heads nodes words' quiet
+removed_sound v tv cl kept trail slots wa heads nodes words quiet n words' i w f = record {
   small = i.small;
   same = i.same;
   many = length-set kept n false ∙ i.many;
   few = i.few;
   fit = i.fit;
   room = omega (arith, i.room, w);
+  slotted = i.slotted;
+  slots_few = i.slots_few;
   rest = record {
     on = i.rest.on;
     linked = i.rest.linked;
@@ -44,10 +52,10 @@ removed_sound v tv cl kept trail wa heads nodes words quiet n words' i w f = rec
     codes = i.rest.codes;
     many = i.rest.many;
     real = i.rest.real;
-    there = λ node real must. i.rest.there node real (kept_before kept n _ must);
+    there = λ node real must. i.rest.there node real (flags_before kept slots n _ must);
     notes = i.rest.notes;
   };
-  free = λ m h node real must. i.free m h node real (kept_before kept n _ must);
+  free = λ m h node real must. i.free m h node real (flags_before kept slots n _ must);
   front = f;
   quiet_size = i.quiet_size;
   quiets = λ m h q c. none_by (is_pending_on cl kept (take m trail) c) (is_pending_on cl (set kept n false) (take m trail) c) (pending_before cl kept (take m trail) n c) (i.quiets m h q c);

@@ -4,11 +4,12 @@ use Rattle.number_bits.specs.Bits.{words_have}
 use Rattle.watch_chains.specs.declared.chains.Node.{Node}
 use Rattle.watch_lists.specs.declared.visit.Watched.{Watched}
 use Rattle.watch_lists.specs.Pending.{is_pending_on}
+use Rattle.watch_lists.specs.Visit.{slot_clauses, slot_flags}
 use Rattle.watch_lists.specs.Sound.{AreFree, IsFront, IsSound}
 
 -- on a shorter trail the watches are right with no work
-pub undo_sound : (v tv : ℕ) (cl : List (List ℕ)) (kept : List Bool) (trail : List ℕ) (wa : List Watched) (heads : List ℕ) (nodes : List Node) (words : List ℕ) (quiet : List Bool) (tv' m : ℕ) (trail' words' : List ℕ) → IsSound v tv cl kept trail wa heads nodes words quiet → tv' ≡ tv → trail' ≡ take m trail → m ≤ length trail → length words' ≡ length words → IsFront (is_pending_on cl kept trail') (words_have words') → IsSound v tv' cl kept trail' wa heads nodes words' quiet
-undo_sound v tv cl kept trail wa heads nodes words quiet tv' m trail' words' i e t h w f =
+pub undo_sound : (v tv : ℕ) (cl : List (List ℕ)) (kept : List Bool) (trail slots : List ℕ) (wa : List Watched) (heads : List ℕ) (nodes : List Node) (words : List ℕ) (quiet : List Bool) (tv' m : ℕ) (trail' words' : List ℕ) → IsSound v tv cl kept trail slots wa heads nodes words quiet → tv' ≡ tv → trail' ≡ take m trail → m ≤ length trail → length words' ≡ length words → IsFront (is_pending_on cl kept trail') (words_have words') → IsSound v tv' cl kept trail' slots wa heads nodes words' quiet
+undo_sound v tv cl kept trail slots wa heads nodes words quiet tv' m trail' words' i e t h w f =
     let l : length trail' ≡ m = ap (λ (xs : List ℕ). length xs) t ∙ length-take-le m trail h in
     record {
       small = i.small;
@@ -17,8 +18,10 @@ undo_sound v tv cl kept trail wa heads nodes words quiet tv' m trail' words' i e
       few = i.few;
       fit = i.fit;
       room = omega (arith, i.room, w);
+      slotted = i.slotted;
+      slots_few = i.slots_few;
       rest = i.rest;
-      free = λ n b. subst (λ (xs : List ℕ). AreFree cl wa kept xs) (sym (shorter n (omega (arith, b, l)))) (i.free n (omega (arith, b, l, h)));
+      free = λ n b. subst (λ (xs : List ℕ). AreFree (slot_clauses cl slots) wa (slot_flags kept slots) xs) (sym (shorter n (omega (arith, b, l)))) (i.free n (omega (arith, b, l, h)));
       front = f;
       quiet_size = i.quiet_size;
       quiets = λ n b q k. ap (λ (xs : List ℕ). is_pending_on cl kept xs k) (shorter n (omega (arith, b, l))) ∙ i.quiets n (omega (arith, b, l, h)) q k;

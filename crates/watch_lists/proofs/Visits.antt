@@ -84,7 +84,17 @@ pub own_moved : (cl : List (List ℕ)) (wa : List Watched) (w' : Watched) (node 
 own_moved cl wa w' node place b e =
     ap (λ (p : ℕ). get_or (clause_at cl (node / 2)) p 0) (ap (λ (w : Watched). place_in w (node % 2 == 1)) (get_or-set_same wa (node / 2) w' no_watches b) ∙ e)
 
-pub placed_moved : (cl : List (List ℕ)) (wa : List Watched) (w' : Watched) (c place : ℕ) (second : Bool) → IsPlaced cl wa → c < length cl → 3 ≤ length (clause_at cl c) → place_in w' second ≡ place → place_in w' (not second) ≡ place_in (get_or wa c no_watches) (not second) → place < length (clause_at cl c) → (place ≡ place_in (get_or wa c no_watches) (not second) → ⊥) → IsPlaced cl (set wa c w')
+-- so each node watches what it did, or a literal that is not false
+pub moves_own : (cl : List (List ℕ)) (wa : List Watched) (w' : Watched) (node place : ℕ) (on : ℕ → Bool) → node / 2 < length wa → place_in w' (not (node % 2 == 1)) ≡ place_in (get_or wa (node / 2) no_watches) (not (node % 2 == 1)) → place_in w' (node % 2 == 1) ≡ place → is_free on (get_or (clause_at cl (node / 2)) place 0) ≡ true → MovesToFree cl wa (set wa (node / 2) w') on
+moves_own cl wa w' node place on b other own free k rk = by (k == node) refl
+  where
+    by : (p : Bool) → (k == node) ≡ p → (literal_at cl (set wa (node / 2) w') k ≡ literal_at cl wa k) ⊎ (is_free on (literal_at cl (set wa (node / 2) w') k) ≡ true)
+    by true f =
+        let e : k ≡ node = grind (arith, nat_tests) in
+        inr (ap (λ (x : ℕ). is_free on (literal_at cl (set wa (node / 2) w') x)) e ∙ ap (is_free on) (own_moved cl wa w' node place b own) ∙ free)
+    by false f = let ne : k ≢ node = grind (arith, nat_tests) in inl (others_stay cl wa w' node b other k ne)
+
+pub placed_moved : (cl : List (List ℕ)) (wa : List Watched) (w' : Watched) (c place : ℕ) (second : Bool) → IsPlaced cl wa → c < length cl → 2 ≤ length (clause_at cl c) → place_in w' second ≡ place → place_in w' (not second) ≡ place_in (get_or wa c no_watches) (not second) → place < length (clause_at cl c) → (place ≡ place_in (get_or wa c no_watches) (not second) → ⊥) → IsPlaced cl (set wa c w')
 placed_moved cl wa w' c place second m b two own other inside ne = record {
   many = omega (arith, m.many, length-set wa c w');
   first_in = λ k h t. subst (λ (w : Watched). w.first < length (clause_at cl k)) (sym (value k)) (chosen k h t (k == c) refl).0;
@@ -103,13 +113,13 @@ placed_moved cl wa w' c place second m b two own other inside ne = record {
     here true o p n = (omega (arith, p, m.first_in c b two), omega (arith, o, inside), λ e. n (sym o ∙ sym e ∙ p))
     here false o p n = (omega (arith, o, inside), omega (arith, p, m.second_in c b two), λ e. n (sym o ∙ e ∙ p))
 
-    chosen : (k : ℕ) → k < length cl → 3 ≤ length (clause_at cl k) → (q : Bool) → (k == c) ≡ q → ((if q then w' else get_or wa k no_watches).first < length (clause_at cl k)) × ((if q then w' else get_or wa k no_watches).second < length (clause_at cl k)) × ((if q then w' else get_or wa k no_watches).first ≡ (if q then w' else get_or wa k no_watches).second → ⊥)
+    chosen : (k : ℕ) → k < length cl → 2 ≤ length (clause_at cl k) → (q : Bool) → (k == c) ≡ q → ((if q then w' else get_or wa k no_watches).first < length (clause_at cl k)) × ((if q then w' else get_or wa k no_watches).second < length (clause_at cl k)) × ((if q then w' else get_or wa k no_watches).first ≡ (if q then w' else get_or wa k no_watches).second → ⊥)
     chosen k h t true f =
         let e : c ≡ k = grind (arith, nat_tests) in
         subst (λ (x : ℕ). (w'.first < length (clause_at cl x)) × (w'.second < length (clause_at cl x)) × (w'.first ≡ w'.second → ⊥)) e (here second own other ne)
     chosen k h t false f = (m.first_in k h t, m.second_in k h t, m.apart k h t)
 
-pub other_in : (cl : List (List ℕ)) (wa : List Watched) (c : ℕ) (second : Bool) → IsPlaced cl wa → c < length cl → 3 ≤ length (clause_at cl c) → place_in (get_or wa c no_watches) second < length (clause_at cl c)
+pub other_in : (cl : List (List ℕ)) (wa : List Watched) (c : ℕ) (second : Bool) → IsPlaced cl wa → c < length cl → 2 ≤ length (clause_at cl c) → place_in (get_or wa c no_watches) second < length (clause_at cl c)
 other_in cl wa c true m b two = m.second_in c b two
 other_in cl wa c false m b two = m.first_in c b two
 
@@ -238,7 +248,7 @@ listed_end cl wa heads heads' nodes nodes' spare code kept on set r fit link e l
     at : (k x : ℕ) → r.on k ≡ Some x → (b : Bool) → (x == spare) ≡ b → renamed spare code r.on k ≡ (if b then Some code else Some x)
     at k x f b g = ap (λ (o : Option ℕ). elim o as (λ _. Option ℕ) [ None ↦ None | Some y ↦ if y == spare then Some code else Some y ]) f ∙ ap (λ (c : Bool). if c then Some code else Some x) g
 
-    place : (s : Bool) (c : ℕ) → c < length cl → 3 ≤ length (clause_at cl c) → place_in (get_or wa c no_watches) s < length (clause_at cl c)
+    place : (s : Bool) (c : ℕ) → c < length cl → 2 ≤ length (clause_at cl c) → place_in (get_or wa c no_watches) s < length (clause_at cl c)
     place s c b two = other_in cl wa c s r.placed b two
 
     there_by : (k : ℕ) → IsReal cl k → (r.on k ≡ Some (literal_at cl wa k)) ⊎ ((r.on k ≡ Some spare) × Stays cl wa on set code k) → renamed spare code r.on k ≡ Some (literal_at cl wa k)

@@ -5,7 +5,7 @@ use Rattle.number_bits.specs.Bits.{words_have}
 use Rattle.watch_chains.specs.declared.chains.Node.{Node}
 use Rattle.watch_lists.specs.declared.visit.Watched.{Watched}
 use Rattle.watch_lists.specs.Pending.{is_free}
-use Rattle.watch_lists.specs.Visit.{no_watches, clause_at, place_in, literal_at, IsReal, NoWhy, IsAtRest}
+use Rattle.watch_lists.specs.Visit.{no_watches, clause_at, place_in, literal_at, slot_clauses, slot_flags, IsReal, NoWhy, IsAtRest}
 use Rattle.watch_lists.specs.Sound.{IsFront, IsSound}
 use Rattle.watch_lists.specs.Added.{IsWider}
 
@@ -43,16 +43,18 @@ front_wider p s s' same f = record {
   first = λ k l. f.first k (sym (same k) ∙ l.0, λ j h. sym (same j) ∙ l.1 j h);
 }
 
-pub sound_wider : (v tv : ℕ) (cl : List (List ℕ)) (kept : List Bool) (trail : List ℕ) (wa : List Watched) (heads : List ℕ) (nodes : List Node) (words : List ℕ) (quiet : List Bool) (wa' : List Watched) (heads' : List ℕ) (nodes' : List Node) (words' : List ℕ) → IsSound v tv cl kept trail wa heads nodes words quiet → IsWider wa heads nodes words wa' heads' nodes' words' → IsSound v tv cl kept trail wa' heads' nodes' words' quiet
-sound_wider v tv cl kept trail wa heads nodes words quiet wa' heads' nodes' words' i w = record {
+pub sound_wider : (v tv : ℕ) (cl : List (List ℕ)) (kept : List Bool) (trail slots : List ℕ) (wa : List Watched) (heads : List ℕ) (nodes : List Node) (words : List ℕ) (quiet : List Bool) (wa' : List Watched) (heads' : List ℕ) (nodes' : List Node) (words' : List ℕ) → IsSound v tv cl kept trail slots wa heads nodes words quiet → IsWider wa heads nodes words wa' heads' nodes' words' → IsSound v tv cl kept trail slots wa' heads' nodes' words' quiet
+sound_wider v tv cl kept trail slots wa heads nodes words quiet wa' heads' nodes' words' i w = record {
   small = i.small;
   same = i.same;
   many = i.many;
   few = i.few;
   fit = i.fit;
   room = omega (arith, i.room, w.more_words);
-  rest = rest_wider cl wa heads nodes words wa' heads' nodes' words' (2 * v) kept i.rest w;
-  free = λ n h node real must none two. ap (λ (l : ℕ). is_free (has_literal (take n trail)) l) (literal_wider cl wa heads nodes words wa' heads' nodes' words' node w i.rest.placed.many real) ∙ i.free n h node real must none two;
+  slotted = i.slotted;
+  slots_few = i.slots_few;
+  rest = rest_wider (slot_clauses cl slots) wa heads nodes words wa' heads' nodes' words' (2 * v) (slot_flags kept slots) i.rest w;
+  free = λ n h node real must none two. ap (λ (l : ℕ). is_free (has_literal (take n trail)) l) (literal_wider (slot_clauses cl slots) wa heads nodes words wa' heads' nodes' words' node w i.rest.placed.many real) ∙ i.free n h node real must none two;
   front = front_wider _ (words_have words) (words_have words') w.set i.front;
   quiet_size = i.quiet_size;
   quiets = i.quiets;

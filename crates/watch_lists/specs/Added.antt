@@ -1,5 +1,5 @@
 -- A new clause: room for it in the tables, and what its watched literals are chosen by.
-use Rattle.std.specs.Prelude.{◌≡◌, ℕ, ◌+◌, ◌*◌, ◌<◌, ◌≤◌, List, [], ◌∷◌, ◌++◌, length, take, Bool, true, false, Option, slice_index_or}
+use Rattle.std.specs.Prelude.{◌≡◌, ℕ, ◌+◌, ◌*◌, ◌<◌, ◌≤◌, ◌⊎◌, List, [], ◌∷◌, ◌++◌, length, take, Bool, true, false, Option, slice_index_or}
 use Rattle.clause_base.specs.Clause.{has_literal}
 use Rattle.cdcl_rules.specs.Pending.{is_pending}
 use Rattle.number_bits.specs.Bits.{words_have}
@@ -9,14 +9,15 @@ use Rattle.watch_lists.specs.declared.visit.Watched.{Watched}
 use Rattle.watch_lists.specs.Pending.{is_free}
 use Rattle.watch_lists.specs.Visit.{no_watches, IsAtRest}
 use Rattle.watch_lists.specs.Sound.{AreFree}
+use Rattle.watch_lists.specs.declared.pairs.Pair.{Pair}
+use Rattle.watch_lists.specs.Pairs.{IsInPairs}
 
 -- in each prefix of the trail in which the other literal is not false, this one is not false either
 abbrev pub Outlasts : List ℕ → ℕ → ℕ → Type 0
 Outlasts trail l other = (n : ℕ) → n ≤ length trail → is_free (has_literal (take n trail)) other ≡ true → is_free (has_literal (take n trail)) l ≡ true
 
--- the tables have room for the clause with a number
-pub record HasRoom (number : ℕ) (watched : List Watched) (nodes : List Node) (words : List ℕ) : Type 0 where
-  pub in_set : number < 64 * length words
+-- the tables have room for a slot
+pub record HasRoom (number : ℕ) (watched : List Watched) (nodes : List Node) : Type 0 where
   pub in_nodes : 2 * number + 1 < length nodes
   pub in_watches : number < length watched
 
@@ -31,12 +32,12 @@ pub record IsWider (watched : List Watched) (heads : List ℕ) (nodes : List Nod
   pub set : (k : ℕ) → words_have words' k ≡ words_have words k
   pub more_words : length words ≤ length words'
 
--- with a clause more, whose nodes are on their chains, the tables are at rest
+-- with a slot more, whose nodes are on their chains, the tables are at rest
 abbrev pub RestsWith : List ℕ → ℕ → ℕ → List Watched → List ℕ → List Node → List Watched → List ℕ → List Node → Type 0
 RestsWith clause number codes watched heads nodes watched' heads' nodes' =
     (clauses : List (List ℕ)) (kept : List Bool) → length clauses ≡ number → length kept ≡ number → IsAtRest clauses watched heads nodes codes kept → IsAtRest (clauses ++ clause ∷ []) watched' heads' nodes' codes (kept ++ true ∷ [])
 
--- with a clause more the watched literals are right in each prefix of the trail in which they were
+-- with a slot more the watched literals are right in each prefix of the trail in which they were
 abbrev pub FreeWith : List ℕ → ℕ → List ℕ → List Watched → List Watched → Type 0
 FreeWith clause number trail watched watched' =
     (clauses : List (List ℕ)) (kept : List Bool) (n : ℕ) → length clauses ≡ number → length kept ≡ number → n ≤ length trail → AreFree clauses watched kept (take n trail) → AreFree (clauses ++ clause ∷ []) watched' (kept ++ true ∷ []) (take n trail)
@@ -44,3 +45,22 @@ FreeWith clause number trail watched watched' =
 -- in the prefixes of the trail below a length a clause is not pending
 abbrev pub IsQuietBelow : List ℕ → List ℕ → ℕ → Type 0
 IsQuietBelow clause trail low = (n : ℕ) → n ≤ length trail → n < low → is_pending (has_literal (take n trail)) clause ≡ false
+
+-- a clause is in the lists of its two literals, and nothing else has changed
+pub record IsInLists (clause : List ℕ) (number : ℕ) (pairs : List (List Pair)) (slots : List ℕ) (watched : List Watched) (heads : List ℕ) (nodes : List Node) (slots' : List ℕ) (watched' : List Watched) (heads' : List ℕ) (nodes' : List Node) : Type 0 where
+  pub in_pairs : IsInPairs pairs clause number
+  pub slots_stay : slots' ≡ slots
+  pub watches_stay : watched' ≡ watched
+  pub heads_stay : heads' ≡ heads
+  pub nodes_stay : nodes' ≡ nodes
+
+-- a clause has the next slot
+pub record IsInSlot (clause : List ℕ) (number codes : ℕ) (trail slots : List ℕ) (watched : List Watched) (heads : List ℕ) (nodes : List Node) (slots' : List ℕ) (watched' : List Watched) (heads' : List ℕ) (nodes' : List Node) : Type 0 where
+  pub slotted : slots' ≡ slots ++ number ∷ []
+  pub rests : RestsWith clause (length slots) codes watched heads nodes watched' heads' nodes'
+  pub free : FreeWith clause (length slots) trail watched watched'
+
+-- a clause is in the lists of its two literals or has the next slot
+abbrev pub IsTaken : List ℕ → ℕ → ℕ → List ℕ → List (List Pair) → List ℕ → List Watched → List ℕ → List Node → List ℕ → List Watched → List ℕ → List Node → Type 0
+IsTaken clause number codes trail pairs slots watched heads nodes slots' watched' heads' nodes' =
+    IsInLists clause number pairs slots watched heads nodes slots' watched' heads' nodes' ⊎ IsInSlot clause number codes trail slots watched heads nodes slots' watched' heads' nodes'

@@ -1,4 +1,4 @@
-use Rattle.std.specs.Prelude.{◌≡◌, ℕ, ◌+◌, ◌*◌, ◌/◌, ◌%◌, ◌<◌, ◌≤◌, ◌==◌, ◌⊎◌, List, [], length, Bool, true, false, Option, Some, slice_index, slice_index_or, if◌then◌else◌}
+use Rattle.std.specs.Prelude.{◌≡◌, ℕ, ◌+◌, ◌*◌, ◌/◌, ◌%◌, ◌<◌, ◌≤◌, ◌==◌, ◌⊎◌, List, [], length, Bool, true, false, Option, Some, slice_index, slice_index_or, map, if◌then◌else◌}
 use Rattle.std.specs.List.{list_any}
 use Rattle.clause_base.specs.Clause.{has_literal}
 use Rattle.watch_chains.specs.declared.chains.Node.{Node}
@@ -13,6 +13,21 @@ no_watches = record { first = 0; second = 0; from = 0 }
 -- the clause with a number
 abbrev pub clause_at : List (List ℕ) → ℕ → List ℕ
 clause_at clauses c = slice_index_or clauses c []
+
+-- clauses that are watched have a slot each, with the number of the clause; the clauses of the slots, which of them are kept,
+-- and which are in a set of numbers of clauses
+abbrev pub slot_clauses : List (List ℕ) → List ℕ → List (List ℕ)
+slot_clauses clauses slots = map (λ n. clause_at clauses n) slots
+
+abbrev pub slot_flags : List Bool → List ℕ → List Bool
+slot_flags kept slots = map (λ n. slice_index_or kept n false) slots
+
+abbrev pub slot_set : (ℕ → Bool) → List ℕ → ℕ → Bool
+slot_set set slots s = set (slice_index slots s)
+
+-- the slots are of clauses whose numbers are below this one
+abbrev pub AreSlotsBelow : ℕ → List ℕ → Type 0
+AreSlotsBelow n slots = (s : ℕ) → s < length slots → slice_index slots s < n
 
 -- the two places that a clause watches, of which a node has one: an odd node the second
 abbrev pub place_in : Watched → Bool → ℕ
@@ -30,17 +45,17 @@ pub record IsFit (clauses : List (List ℕ)) (codes : ℕ) : Type 0 where
   pub below : (c p : ℕ) → p < length (clause_at clauses c) → slice_index (clause_at clauses c) p < codes
   pub short : (c : ℕ) → length (clause_at clauses c) ≤ 4294967295
 
--- the watched places of a clause of three literals or more are two of its places
+-- the watched places of a clause of two literals or more are two of its places
 pub record IsPlaced (clauses : List (List ℕ)) (watched : List Watched) : Type 0 where
   pub many : length clauses ≤ length watched
-  pub first_in : (c : ℕ) → c < length clauses → 3 ≤ length (clause_at clauses c) → (slice_index_or watched c no_watches).first < length (clause_at clauses c)
-  pub second_in : (c : ℕ) → c < length clauses → 3 ≤ length (clause_at clauses c) → (slice_index_or watched c no_watches).second < length (clause_at clauses c)
-  pub apart : (c : ℕ) → c < length clauses → 3 ≤ length (clause_at clauses c) → (slice_index_or watched c no_watches).first ≡ (slice_index_or watched c no_watches).second → ⊥
+  pub first_in : (c : ℕ) → c < length clauses → 2 ≤ length (clause_at clauses c) → (slice_index_or watched c no_watches).first < length (clause_at clauses c)
+  pub second_in : (c : ℕ) → c < length clauses → 2 ≤ length (clause_at clauses c) → (slice_index_or watched c no_watches).second < length (clause_at clauses c)
+  pub apart : (c : ℕ) → c < length clauses → 2 ≤ length (clause_at clauses c) → (slice_index_or watched c no_watches).first ≡ (slice_index_or watched c no_watches).second → ⊥
 
--- a node is of a clause with three literals or more
+-- a node is of a clause with two literals or more
 pub record IsReal (clauses : List (List ℕ)) (node : ℕ) : Type 0 where
   pub below : node / 2 < length clauses
-  pub long : 3 ≤ length (clause_at clauses (node / 2))
+  pub long : 2 ≤ length (clause_at clauses (node / 2))
 
 -- each node that has to be on a chain is on that of its watched literal, or on the spare chain for a reason
 pub record IsListed (clauses : List (List ℕ)) (watched : List Watched) (heads : List ℕ) (nodes : List Node) (spare : ℕ) (Must Why : ℕ → Type 0) : Type 0 where

@@ -1,4 +1,4 @@
-//! A new clause watches the two literals that are not false for longest along the trail. Wherever two of its literals are not
+//! A new clause that has a slot watches the two literals that are not false for longest along the trail. Wherever two of its literals are not
 //! false, these two are not, now and in each prefix of the trail.
 ghost use Rattle.std.specs.Prelude.{◌≡◌, ℕ, ◌+◌, ◌*◌, ◌<◌, ◌≤◌, length, slice_index};
 ghost use Rattle.watch_chains.specs.Linked.{ArePairLoose};
@@ -12,8 +12,8 @@ use watch_store::truth::Truth;
 /// No place of a clause.
 const NOWHERE: u32 = 4_294_967_295;
 
-/// In the prefixes of the trail below the result a clause of two literals is not pending.
-fn enter_pair(truth: &Truth, clause: &[Lit]) -> u32
+/// Says in which prefixes of the trail a clause of two literals is not pending: those below the result.
+pub fn enter_pair(truth: &Truth, clause: &[Lit]) -> u32
     requires small { truth.now.variables ≤ 2147483647 }
     requires below { (p : ℕ) → p < length clause.now → slice_index clause.now p < 2 * truth.now.variables }
     requires two { length clause.now ≡ 2 }
@@ -27,54 +27,50 @@ fn enter_pair(truth: &Truth, clause: &[Lit]) -> u32
 }
 
 impl Lists {
-    /// Watches two literals of a new clause that has three at least. In the prefixes of the trail below the result it is not
+    /// Watches two literals of a new clause, which has that many at least. In the prefixes of the trail below the result it is not
     /// pending.
-    fn enter_long(&mut self, truth: &Truth, clause: &[Lit], number: u32) -> u32
+    fn enter_long(&mut self, truth: &Truth, clause: &[Lit], slot: u32) -> u32
         requires small { truth.now.variables ≤ 2147483647 }
         requires below { (p : ℕ) → p < length clause.now → slice_index clause.now p < 2 * truth.now.variables }
         requires short { length clause.now ≤ 4294967295 }
-        requires long { 3 ≤ length clause.now }
+        requires long { 2 ≤ length clause.now }
         requires codes { length self.old.chains.heads.items ≡ 2 * truth.now.variables + 1 }
-        requires room { HasRoom number self.old.watched.items self.old.chains.nodes.items self.old.pending.words }
-        requires loose { ArePairLoose self.old.chains.heads.items self.old.chains.nodes.items (2 * number) }
-        ensures rest { RestsWith clause.now number (2 * truth.now.variables) self.old.watched.items self.old.chains.heads.items self.old.chains.nodes.items self.new.watched.items self.new.chains.heads.items self.new.chains.nodes.items }
-        ensures free { FreeWith clause.now number truth.now.trail self.old.watched.items self.new.watched.items }
+        requires room { HasRoom slot self.old.watched.items self.old.chains.nodes.items }
+        requires loose { ArePairLoose self.old.chains.heads.items self.old.chains.nodes.items (2 * slot) }
+        ensures rest { RestsWith clause.now slot (2 * truth.now.variables) self.old.watched.items self.old.chains.heads.items self.old.chains.nodes.items self.new.watched.items self.new.chains.heads.items self.new.chains.nodes.items }
+        ensures free { FreeWith clause.now slot truth.now.trail self.old.watched.items self.new.watched.items }
         ensures quiet { IsQuietBelow clause.now truth.now.trail result }
         ensures set { self.new.pending.words ≡ self.old.pending.words }
     {
         let first = latest(truth, clause, NOWHERE);
         let second = latest(truth, clause, first);
-        self.watched[number as usize] = Watched {
+        self.watched[slot as usize] = Watched {
             first,
             second,
             from: 0,
         };
         let a = clause[first as usize];
         let b = clause[second as usize];
-        self.chains.link_two(2 * number, a.0, b.0);
+        self.chains.link_two(2 * slot, a.0, b.0);
         free_until(truth, b.0) + 1
     }
 
-    /// Watches two literals of a new clause, if it has three at least. In the prefixes of the trail below the result it is not
-    /// pending.
-    pub fn enter(&mut self, truth: &Truth, clause: &[Lit], number: u32) -> u32
+    /// Watches two literals of a new clause, if it has that many. In the prefixes of the trail below the result it is not pending.
+    pub fn enter(&mut self, truth: &Truth, clause: &[Lit], slot: u32) -> u32
         requires small { truth.now.variables ≤ 2147483647 }
         requires below { (p : ℕ) → p < length clause.now → slice_index clause.now p < 2 * truth.now.variables }
         requires short { length clause.now ≤ 4294967295 }
         requires codes { length self.old.chains.heads.items ≡ 2 * truth.now.variables + 1 }
-        requires room { HasRoom number self.old.watched.items self.old.chains.nodes.items self.old.pending.words }
-        requires loose { ArePairLoose self.old.chains.heads.items self.old.chains.nodes.items (2 * number) }
-        ensures rest { RestsWith clause.now number (2 * truth.now.variables) self.old.watched.items self.old.chains.heads.items self.old.chains.nodes.items self.new.watched.items self.new.chains.heads.items self.new.chains.nodes.items }
-        ensures free { FreeWith clause.now number truth.now.trail self.old.watched.items self.new.watched.items }
+        requires room { HasRoom slot self.old.watched.items self.old.chains.nodes.items }
+        requires loose { ArePairLoose self.old.chains.heads.items self.old.chains.nodes.items (2 * slot) }
+        ensures rest { RestsWith clause.now slot (2 * truth.now.variables) self.old.watched.items self.old.chains.heads.items self.old.chains.nodes.items self.new.watched.items self.new.chains.heads.items self.new.chains.nodes.items }
+        ensures free { FreeWith clause.now slot truth.now.trail self.old.watched.items self.new.watched.items }
         ensures quiet { IsQuietBelow clause.now truth.now.trail result }
         ensures set { self.new.pending.words ≡ self.old.pending.words }
     {
         if clause.len() < 2 {
             return 0;
         }
-        if clause.len() == 2 {
-            return enter_pair(truth, clause);
-        }
-        self.enter_long(truth, clause, number)
+        self.enter_long(truth, clause, slot)
     }
 }

@@ -1,4 +1,4 @@
-//! Room in each table for one more clause. After want of memory a table may have it already, and nothing else has changed.
+//! Room in each table for one more clause and one more slot. After want of memory a table may have it already, and nothing else has changed.
 ghost use Rattle.std.specs.Prelude.{◌≡◌, ℕ, ◌+◌, ◌*◌, ◌<◌, ◌≤◌, Option, length, slice_index_or, OnOk};
 ghost use Rattle.number_bits.specs.Bits.{words_have};
 ghost use Rattle.watch_chains.specs.Linked.{IsLinked, note_of};
@@ -26,30 +26,30 @@ fn widen_set(pending: &mut Pending, number: u32) -> Result<(), AllocError>
     Ok(())
 }
 
-/// Makes the two nodes of a clause, where those of all clauses before it are there.
-fn widen_nodes(chains: &mut Chains, number: u32) -> Result<(), AllocError>
-    requires few { number < 2147483647 }
-    requires many { 2 * number ≤ length chains.old.nodes.items }
-    ensures room { OnOk result (2 * number + 1 < length chains.new.nodes.items) }
+/// Makes the two nodes of a slot, where those of all slots before it are there.
+fn widen_nodes(chains: &mut Chains, slot: u32) -> Result<(), AllocError>
+    requires few { slot < 2147483647 }
+    requires many { 2 * slot ≤ length chains.old.nodes.items }
+    ensures room { OnOk result (2 * slot + 1 < length chains.new.nodes.items) }
     ensures more { length chains.old.nodes.items ≤ length chains.new.nodes.items }
     ensures linked { (on : ℕ → Option ℕ) → IsLinked chains.old.heads.items chains.old.nodes.items on → IsLinked chains.new.heads.items chains.new.nodes.items on }
     ensures notes { (k : ℕ) → k < length chains.old.nodes.items → note_of chains.new.nodes.items k ≡ note_of chains.old.nodes.items k }
     ensures heads { length chains.new.heads.items ≡ length chains.old.heads.items }
 {
-    if chains.nodes.len() <= 2 * number as usize + 1 {
+    if chains.nodes.len() <= 2 * slot as usize + 1 {
         chains.add_two()?;
     }
     Ok(())
 }
 
-/// Makes room for the watched places of a clause, where there is room for those of all clauses before it.
-fn widen_watches(watched: &mut Vec<Watched>, number: u32) -> Result<(), AllocError>
-    requires many { number ≤ length watched.old.items }
-    ensures room { OnOk result (number < length watched.new.items) }
+/// Makes room for the watched places of a slot, where there is room for those of all slots before it.
+fn widen_watches(watched: &mut Vec<Watched>, slot: u32) -> Result<(), AllocError>
+    requires many { slot ≤ length watched.old.items }
+    ensures room { OnOk result (slot < length watched.new.items) }
     ensures more { length watched.old.items ≤ length watched.new.items }
     ensures same { (c : ℕ) → c < length watched.old.items → slice_index_or watched.new.items c no_watches ≡ slice_index_or watched.old.items c no_watches }
 {
-    if watched.len() <= number as usize {
+    if watched.len() <= slot as usize {
         watched.push(Watched {
             first: 0,
             second: 0,
@@ -60,17 +60,19 @@ fn widen_watches(watched: &mut Vec<Watched>, number: u32) -> Result<(), AllocErr
 }
 
 impl Lists {
-    /// Makes room for a clause, where there is room for all clauses before it.
-    pub fn widen(&mut self, number: u32) -> Result<(), AllocError>
+    /// Makes room for a clause and for a slot, where there is room for all before them.
+    pub fn widen(&mut self, number: u32, slot: u32) -> Result<(), AllocError>
         requires few { number < 2147483647 }
+        requires few_slots { slot < 2147483647 }
         requires set { number ≤ 64 * length self.old.pending.words }
-        requires nodes { 2 * number ≤ length self.old.chains.nodes.items }
-        requires watches { number ≤ length self.old.watched.items }
-        ensures room { OnOk result (HasRoom number self.new.watched.items self.new.chains.nodes.items self.new.pending.words) }
+        requires nodes { 2 * slot ≤ length self.old.chains.nodes.items }
+        requires watches { slot ≤ length self.old.watched.items }
+        ensures room { OnOk result (HasRoom slot self.new.watched.items self.new.chains.nodes.items) }
+        ensures in_set { OnOk result (number < 64 * length self.new.pending.words) }
         ensures wider { IsWider self.old.watched.items self.old.chains.heads.items self.old.chains.nodes.items self.old.pending.words self.new.watched.items self.new.chains.heads.items self.new.chains.nodes.items self.new.pending.words }
     {
         widen_set(&mut self.pending, number)?;
-        widen_nodes(&mut self.chains, number)?;
-        widen_watches(&mut self.watched, number)
+        widen_nodes(&mut self.chains, slot)?;
+        widen_watches(&mut self.watched, slot)
     }
 }

@@ -3,9 +3,10 @@ ghost use Rattle.clause_base.specs.Literal.{opposite};
 ghost use Rattle.clause_base.specs.Clause.{has_literal};
 ghost use Rattle.number_bits.specs.Bits.{words_have};
 ghost use Rattle.watch_chains.specs.Linked.{chain_length};
-ghost use Rattle.watch_lists.specs.Visit.{IsFit, IsListed, IsAtRest, IsReal, IsKept, IsOther, Stays, MovesToFree, Grows, AllSettled, literal_at, place_in};
+ghost use Rattle.watch_lists.specs.Visit.{IsFit, IsListed, IsAtRest, IsReal, IsKept, IsOther, Stays, MovesToFree, Grows, AllSettled, AreSlotsBelow, literal_at, place_in, slot_clauses, slot_flags, slot_set};
 
 use crate::scan::find_other;
+use crate::slots::{is_slot_kept, slot_clause};
 use number_bits::flat::Flat;
 use number_bits::layer::Layer;
 use number_bits::set::NumberSet;
@@ -65,6 +66,7 @@ impl Lists {
         &mut self,
         store: &Store,
         kept: &[bool],
+        slots: &[u32],
         truth: &Truth,
         spare: u32,
         code: u32,
@@ -74,12 +76,13 @@ impl Lists {
         requires code { code < spare }
         requires fallen { has_literal truth.now.trail (opposite code) ≡ true }
         requires fit { IsFit store.now spare }
+        requires slotted { AreSlotsBelow (length store.now) slots.now }
         requires room { length store.now ≤ 64 * length self.old.pending.words }
-        requires real { IsReal store.now node }
-        requires own { literal_at store.now self.old.watched.items node ≡ code }
-        requires listed { (r : IsListed store.now self.old.watched.items self.old.chains.heads.items self.old.chains.nodes.items spare (IsOther kept.now node) (Stays store.now self.old.watched.items (has_literal truth.now.trail) (words_have self.old.pending.words) code)) × (r.on node ≡ None) }
-        ensures listed { IsListed store.now self.new.watched.items self.new.chains.heads.items self.new.chains.nodes.items spare (IsKept kept.now) (Stays store.now self.new.watched.items (has_literal truth.now.trail) (words_have self.new.pending.words) code) }
-        ensures moves { MovesToFree store.now self.old.watched.items self.new.watched.items (has_literal truth.now.trail) }
+        requires real { IsReal (slot_clauses store.now slots.now) node }
+        requires own { literal_at (slot_clauses store.now slots.now) self.old.watched.items node ≡ code }
+        requires listed { (r : IsListed (slot_clauses store.now slots.now) self.old.watched.items self.old.chains.heads.items self.old.chains.nodes.items spare (IsOther (slot_flags kept.now slots.now) node) (Stays (slot_clauses store.now slots.now) self.old.watched.items (has_literal truth.now.trail) (slot_set (words_have self.old.pending.words) slots.now) code)) × (r.on node ≡ None) }
+        ensures listed { IsListed (slot_clauses store.now slots.now) self.new.watched.items self.new.chains.heads.items self.new.chains.nodes.items spare (IsKept (slot_flags kept.now slots.now)) (Stays (slot_clauses store.now slots.now) self.new.watched.items (has_literal truth.now.trail) (slot_set (words_have self.new.pending.words) slots.now) code) }
+        ensures moves { MovesToFree (slot_clauses store.now slots.now) self.old.watched.items self.new.watched.items (has_literal truth.now.trail) }
         ensures grows { Grows (words_have self.old.pending.words) (words_have self.new.pending.words) }
         ensures room { length self.new.pending.words ≡ length self.old.pending.words }
         ensures lengths { chain_length self.new.chains.heads.items self.new.chains.nodes.items code ≡ chain_length self.old.chains.heads.items self.old.chains.nodes.items code }
@@ -89,9 +92,9 @@ impl Lists {
             self.chains.link(node, spare, note);
             return;
         }
-        let number = node / 2;
-        let watched = self.watched[number as usize];
-        let clause = store.clause(number);
+        let slot = node / 2;
+        let watched = self.watched[slot as usize];
+        let clause = slot_clause(store, slots, slot);
         let second = node % 2 == 1;
         let other = watched.at(!second);
         let lit = clause[other as usize];
@@ -102,29 +105,39 @@ impl Lists {
         }
         match find_other(truth, clause, other, watched.from) {
             Some(place) => {
-                self.watched[number as usize] = watched.moved(second, place);
+                self.watched[slot as usize] = watched.moved(second, place);
                 let found = clause[place as usize];
                 self.chains.link(node, found.0, beside);
             }
             None => {
                 self.chains.link(node, spare, beside);
+                let number = slots[slot as usize];
                 self.pending.insert(number);
             }
         }
     }
 
     /// Visits the clauses that watch a literal that is false.
-    pub fn visit_all(&mut self, store: &Store, kept: &[bool], truth: &Truth, spare: u32, code: u32)
+    pub fn visit_all(
+        &mut self,
+        store: &Store,
+        kept: &[bool],
+        slots: &[u32],
+        truth: &Truth,
+        spare: u32,
+        code: u32,
+    )
         requires spare { spare ≡ 2 * truth.now.variables }
         requires code { code < spare }
         requires fallen { has_literal truth.now.trail (opposite code) ≡ true }
         requires fit { IsFit store.now spare }
         requires kept { length kept.now ≡ length store.now }
+        requires slotted { AreSlotsBelow (length store.now) slots.now }
         requires room { length store.now ≤ 64 * length self.old.pending.words }
-        requires rest { IsAtRest store.now self.old.watched.items self.old.chains.heads.items self.old.chains.nodes.items spare kept.now }
-        ensures rest { IsAtRest store.now self.new.watched.items self.new.chains.heads.items self.new.chains.nodes.items spare kept.now }
-        ensures settled { AllSettled store.now self.new.watched.items (has_literal truth.now.trail) (words_have self.new.pending.words) code kept.now }
-        ensures moves { MovesToFree store.now self.old.watched.items self.new.watched.items (has_literal truth.now.trail) }
+        requires rest { IsAtRest (slot_clauses store.now slots.now) self.old.watched.items self.old.chains.heads.items self.old.chains.nodes.items spare (slot_flags kept.now slots.now) }
+        ensures rest { IsAtRest (slot_clauses store.now slots.now) self.new.watched.items self.new.chains.heads.items self.new.chains.nodes.items spare (slot_flags kept.now slots.now) }
+        ensures settled { AllSettled (slot_clauses store.now slots.now) self.new.watched.items (has_literal truth.now.trail) (slot_set (words_have self.new.pending.words) slots.now) code (slot_flags kept.now slots.now) }
+        ensures moves { MovesToFree (slot_clauses store.now slots.now) self.old.watched.items self.new.watched.items (has_literal truth.now.trail) }
         ensures grows { Grows (words_have self.old.pending.words) (words_have self.new.pending.words) }
         ensures room { length self.new.pending.words ≡ length self.old.pending.words }
     {
@@ -135,8 +148,8 @@ impl Lists {
                     return;
                 }
                 Some(node) => {
-                    if kept[(node / 2) as usize] {
-                        self.visit(store, kept, truth, spare, code, node);
+                    if is_slot_kept(kept, slots, node / 2) {
+                        self.visit(store, kept, slots, truth, spare, code, node);
                     }
                 }
             }

@@ -5,9 +5,11 @@ ghost use Rattle.clause_base.specs.Clause.{IsClause, has_literal, HasVariablesBe
 ghost use Rattle.cdcl_rules.specs.Pending.{is_pending_in, least_from};
 ghost use Rattle.number_bits.specs.Bits.{words_have};
 ghost use Rattle.watch_lists.specs.Pending.{WatchesView};
+ghost use Rattle.watch_lists.specs.Visit.{Grows};
 
 use crate::front::{clean, clear, rescan};
 use crate::pairs::{Pairs, mark_all};
+use crate::place::place;
 use crate::visit::{Lists, Pending};
 use clause_base::clause::Clause;
 use clause_base::formula::Formula;
@@ -25,8 +27,8 @@ use watch_store::truth::Truth;
 /// How many clauses there may be.
 const MOST_CLAUSES: usize = 2_147_483_647;
 
-/// Clauses by number, which of them are kept, and the literals that are true, oldest first. Two literals of each clause are
-/// watched.
+/// Clauses by number, which of them are kept, and the literals that are true, oldest first. A clause of two
+/// literals is in the lists of both, and of each other clause two literals are watched.
 #[derive(Drop)]
 pub struct Watches {
     variables: u32,
@@ -34,6 +36,7 @@ pub struct Watches {
     kept: Vec<bool>,
     truth: Truth,
     pairs: Pairs,
+    slots: Vec<u32>,
     lists: Lists,
     quiet: Vec<bool>,
 }
@@ -48,7 +51,7 @@ impl Model for Watches {
 
     ghost view = { λ w. record { variables = w.variables; clauses = w.store; kept = w.kept.items; trail = w.truth.trail } };
 
-    ghost invariant = { λ w. IsSound w.variables w.truth.variables w.store w.kept.items w.truth.trail w.lists.watched.items w.lists.chains.heads.items w.lists.chains.nodes.items w.lists.pending.words w.quiet.items × IsPaired w.variables w.store w.pairs w.lists.pending.words };
+    ghost invariant = { λ w. IsSound w.variables w.truth.variables w.store w.kept.items w.truth.trail w.slots.items w.lists.watched.items w.lists.chains.heads.items w.lists.chains.nodes.items w.lists.pending.words w.quiet.items × IsPaired w.variables w.store w.slots.items w.pairs };
 }
 
 /// Takes the flags of the lengths from one up to another away.
@@ -61,6 +64,26 @@ fn unquiet(quiet: &mut Vec<bool>, low: u32, high: u32)
     for length in low..high {
         quiet[length as usize] = false;
     }
+}
+
+/// Puts a new clause into the set, unless it is not pending on the trail and in each prefix of it, which is so in the prefixes
+/// below a length. It is pending in none of the others that are flagged after.
+fn raise(truth: &Truth, pending: &mut Pending, quiet: &mut Vec<bool>, number: u32, low: u32)
+    requires number { number < 64 * length pending.old.words }
+    requires long { truth.now.variables < length quiet.old.items }
+    ensures grows { Grows (words_have pending.old.words) (words_have pending.new.words) }
+    ensures own { low ≤ length truth.now.trail → words_have pending.new.words number ≡ true }
+    ensures room { length pending.new.words ≡ length pending.old.words }
+    ensures size { length quiet.new.items ≡ length quiet.old.items }
+    ensures below { (n : ℕ) → n < low → slice_index_or quiet.new.items n false ≡ slice_index_or quiet.old.items n false }
+    ensures off { (n : ℕ) → low ≤ n → n < length truth.now.trail → slice_index_or quiet.new.items n false ≡ false }
+{
+    let length = truth.length();
+    if low > length {
+        return;
+    }
+    unquiet(quiet, low, length);
+    pending.insert(number);
 }
 
 /// For each length of the trail up to the whole one, that something may be pending there.
@@ -82,24 +105,31 @@ fn no_pending(alloc: Global) -> Pending
 }
 
 impl Watches {
-    /// No clauses over so many variables, none of which has a value.
-    fn empty(alloc: Global, variables: u32) -> Result<Watches, Memory>
-        requires { variables ≤ 2147483647 }
-        ensures { IfOk result (λ w. w ≡ record { variables = variables; clauses = []; kept = []; trail = [] }) }
+    /// No clauses over a formula's variables, none of which has a value, with room for the formula's clauses of two literals.
+    fn empty(alloc: Global, formula: &Formula) -> Result<Watches, Memory>
+        ensures { IfOk result (λ w. w ≡ record { variables = formula.now.variables; clauses = []; kept = []; trail = [] }) }
     {
-        let lists = Lists {
-            chains: Chains::new(alloc, 2 * variables + 1)?,
-            watched: Vec::new(alloc),
-            pending: no_pending(alloc),
-        };
+        let variables = formula.variables();
+        let kept = Vec::with_capacity(alloc, formula.count() as usize)?;
+        let truth = Truth::new(alloc, variables)?;
+        let pairs = Pairs::new(alloc, formula)?;
+        let quiet = no_quiet(alloc, variables)?;
+        let chains = Chains::new(alloc, 2 * variables + 1)?;
+        let watched = Vec::new(alloc);
+        let pending = no_pending(alloc);
         Ok(Watches {
             variables,
             store: Store::new(alloc),
-            kept: Vec::new(alloc),
-            truth: Truth::new(alloc, variables)?,
-            pairs: Pairs::new(alloc, 2 * variables)?,
-            lists,
-            quiet: no_quiet(alloc, variables)?,
+            kept,
+            truth,
+            pairs,
+            slots: Vec::new(alloc),
+            lists: Lists {
+                chains,
+                watched,
+                pending,
+            },
+            quiet,
         })
     }
 
@@ -107,7 +137,7 @@ impl Watches {
     pub fn new(alloc: Global, formula: &Formula) -> Result<Watches, Memory>
         ensures { IfOk result (λ w. w ≡ record { variables = formula.now.variables; clauses = formula.now.clauses; kept = replicate (length formula.now.clauses) true; trail = [] }) }
     {
-        let mut watches = Watches::empty(alloc, formula.variables())?;
+        let mut watches = Watches::empty(alloc, formula)?;
         for number in 0..formula.count() {
             watches.add_sorted(formula.clause(number))?;
         }
@@ -137,14 +167,27 @@ impl Watches {
             return Err(Memory);
         }
         let number = count as u32;
+        let slot = self.slots.len() as u32;
         self.kept.reserve(1)?;
-        self.lists.widen(number)?;
-        self.pairs.enter(clause, number)?;
+        self.slots.reserve(1)?;
+        self.lists.widen(number, slot)?;
         self.store.push(clause)?;
         self.kept.push(true)?;
-        let low = self.lists.enter(&self.truth, clause, number);
-        unquiet(&mut self.quiet, low, self.truth.length());
-        self.lists.pending.insert(number);
+        let low = place(
+            &mut self.pairs,
+            &mut self.slots,
+            &mut self.lists,
+            &self.truth,
+            clause,
+            number,
+        )?;
+        raise(
+            &self.truth,
+            &mut self.lists.pending,
+            &mut self.quiet,
+            number,
+            low,
+        );
         clean(
             &self.store,
             self.kept.as_slice(),
@@ -174,6 +217,7 @@ impl Watches {
         self.lists.visit_all(
             &self.store,
             self.kept.as_slice(),
+            self.slots.as_slice(),
             &self.truth,
             spare,
             fallen.0,

@@ -1,9 +1,9 @@
 use Rattle.std.proofs.Common.{refl}
-use Rattle.bit_rows.proofs.WordLaw.{pair_in_row, no_pair_more}
+use Rattle.bit_rows.proofs.WordLaw.{pair_in_rows, no_pair_more}
 use Rattle.bit_rows.proofs.row.has_pair_in.Goals as goal
 
-pub returns-then-has_pair : goal.returns-then-has_pair
-returns-then-has_pair c = pair_in_row c.args.words.now c.loop-word.word-index _ refl (c.type_inv.words c.loop-word.word-index).fits c.if-has_pair.ensures
+pub loop-i-preserved : goal.loop-i-preserved
+loop-i-preserved c = no_pair_more c.args.words.now c.args.others.now c.loop-i.i _ _ refl refl c.if-has_pair_across.ensures c.loop-i.invariant
 
-pub loop-word-preserved : goal.loop-word-preserved
-loop-word-preserved c = no_pair_more c.args.words.now c.loop-word.word-index _ refl c.if-has_pair.ensures c.loop-word.invariant
+pub returns-then-has_pair_across : goal.returns-then-has_pair_across
+returns-then-has_pair_across c = pair_in_rows c.args.words.now c.args.others.now c.loop-i.i _ _ refl refl (c.type_inv.others c.loop-i.i).fits c.if-has_pair_across.ensures

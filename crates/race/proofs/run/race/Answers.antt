@@ -1,4 +1,4 @@
-use Rattle.std.proofs.Common.{arith, ◌≡◌, ◌+◌, ◌<◌, ◌∙◌, ℕ, List, Bool, length, subst, refl, sym, Err}
+use Rattle.std.proofs.Common.{arith, ◌≡◌, ◌+◌, ◌<◌, ◌∙◌, ℕ, List, length, subst, refl, sym, Err}
 use Rattle.std.proofs.lemmas.Result.{err_from_is_err_and}
 use Rattle.gt_core.specs.Task.{Task}
 use Rattle.race_end.specs.Ends.{end_view, lines_of}
@@ -6,7 +6,7 @@ use Rattle.race.specs.declared.run.RaceError.TheVariants.{Literals}
 use Rattle.race.specs.declared.racing.Step.{Step}
 use Rattle.race.specs.Input.{input_of}
 use Rattle.race.specs.Race.{Ended, TooLarge, round}
-use Rattle.race.specs.Ends.{WherePlanned, AreStepsOf, AreActions}
+use Rattle.race.specs.Ends.{AreStepsOf, AreActions}
 use Rattle.race.specs.Tied.{race_state, Stands, GoesOn, Ends, SpendsMore}
 use Rattle.race.proofs.Rounds.{after-next, ends-by, at-first}
 use Rattle.race.proofs.Told.{each-refuted, planned}

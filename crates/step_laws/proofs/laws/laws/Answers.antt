@@ -1,9 +1,12 @@
-use Rattle.step_laws.proofs.FormLaw.{plans, refutes}
+use Rattle.step_laws.proofs.FormLaw.{plans, satisfied, refutes}
 use Rattle.step_laws.proofs.SequenceLaw.{one_by_one, sequence_is_plan}
 use Rattle.step_laws.proofs.laws.laws.Goals as goal
 
 pub returns-clause-satisfying_is_plan : goal.returns-clause-satisfying_is_plan
 returns-clause-satisfying_is_plan c = plans
+
+pub returns-clause-plan_is_satisfying : goal.returns-clause-plan_is_satisfying
+returns-clause-plan_is_satisfying c = satisfied
 
 pub returns-clause-unsatisfiable_is_no_plan : goal.returns-clause-unsatisfiable_is_no_plan
 returns-clause-unsatisfiable_is_no_plan c = refutes

@@ -1,27 +1,28 @@
-use Rattle.std.proofs.Common.{◌≡◌, ◌∙◌, ℕ, List, Option, drop, map, sym, ap}
-use Rattle.clause_base.specs.Choice.{Known, first_difference}
-use Rattle.clause_base.specs.Coded.{value_of_code, AreCodes, code_difference}
-use Rattle.clause_base.proofs.ValueLemmas.{first_difference-drop}
+use Rattle.std.proofs.Common.{arith, ◌≤◌, ◌+◌, Some, None, length}
+use Rattle.clause_base.proofs.ValueLemmas.{length-view, same_past, first_difference-least}
+use Rattle.clause_base.proofs.ValueWords.{no_difference, near_found, near_passed}
 use Rattle.clause_base.proofs.values.Values.first_difference.Goals as goal
 
-abbrev unequal : ℕ → List ℕ → List ℕ → Option ℕ
-unequal v codes others = code_difference v (drop v codes) (drop v others)
+pub returns-then-from-self : goal.returns-then-from-self
+returns-then-from-self c =
+    let long = length-view _ _ _ c.args.self.now c.self.view_is in
+    let past = c.if-from-self.true in
+    let all : length c.args.self.now ≤ c.args.from = omega (arith, long, past) in
+    first_difference-least c.args.from c.args.self.now c.args.others.now None c.requires
+    (no_difference c.args.self.now c.args.others.now c.args.from (same_past c.args.self.now c.args.others.now c.args.from c.args.from c.requires all (λ j a b. absurd (omega (arith, a, b)))))
 
-through : (result : Option ℕ) (near from : ℕ) (codes others xs ys zs ws : List ℕ) (now other : Known) → AreCodes codes → AreCodes others → map value_of_code codes ≡ now → map value_of_code others ≡ other → xs ≡ codes → ys ≡ others → zs ≡ codes → ws ≡ others → unequal near xs ys ≡ unequal from xs ys → result ≡ unequal near zs ws → result ≡ first_difference from (drop from now) (drop from other)
-through result near from codes others xs ys zs ws now other a b v w x y z u p r =
-    r
-    ∙ ap (λ (cs : List ℕ). unequal near cs ws) (z ∙ sym x)
-    ∙ ap (λ (cs : List ℕ). unequal near xs cs) (u ∙ sym y)
-    ∙ p
-    ∙ ap (λ (cs : List ℕ). unequal from cs ys) x
-    ∙ ap (λ (cs : List ℕ). unequal from codes cs) y
-    ∙ sym (first_difference-drop from codes others a b)
-    ∙ ap (λ (values : Known). first_difference from (drop from values) (drop from (map value_of_code others))) v
-    ∙ ap (λ (values : Known). first_difference from (drop from now) (drop from values)) w
+pub differing_at-requires-clause-within : goal.differing_at-requires-clause-within
+differing_at-requires-clause-within c =
+    let long = length-view _ _ _ c.args.self.now c.self.view_is in
+    let within = c.if-from-self.false in
+    omega (arith, long, within)
+
+pub returns-then-near-ne0 : goal.returns-then-near-ne0
+returns-then-near-ne0 c =
+    first_difference-least c.args.from c.args.self.now c.args.others.now (Some (c.args.from + c.least_bit.result)) c.requires
+    (near_found c.args.self.now c.args.others.now c.args.from c.differing_at.result c.least_bit.result c.differing_at.type_inv c.differing_at.ensures c.least_bit.ensures.least)
 
 pub returns : goal.returns
 returns c =
-    through c.first_unequal.result c.pass_equal-near.result c.args.from c.self.inside.codes.items c.others.inside.codes.items _ _ _ _ _ _
-    c.self.invariant.2 c.others.invariant.2 c.self.view_is c.others.view_is
-    c.deref.ensures.value c.deref-2.ensures.value c.deref-3.ensures.value c.deref-4.ensures.value
-    c.pass_equal-near.ensures c.first_unequal.ensures
+    first_difference-least c.args.from c.args.self.now c.args.others.now c.difference_from.result c.requires
+    (near_passed c.args.self.now c.args.others.now c.args.from c.differing_at.result c.difference_from.result c.differing_at.ensures c.if-near-ne0.false c.difference_from.ensures)

@@ -1,4 +1,6 @@
 use Rattle.std.proofs.Common.{◌≡◌, ◌-◌, length}
+use Rattle.std.specs.List.{AllByRecursion}
+use Rattle.race.specs.Fresh.{IsFresh}
 use Rattle.race.specs.Runs.{AreLow}
 use Rattle.race.specs.Starts.{filled}
 use Rattle.race.specs.Tied.{race_state, IsTied}
@@ -16,6 +18,7 @@ invariant-loop-horizon g l = record {
   low : AreLow l.self.runs.items;
   filled : filled g.input (race_state l.self) ≡ filled g.input (race_state l.initial.self);
   ledger : l.self.ledger ≡ l.initial.self.ledger;
+  made : AllByRecursion (IsFresh g.F.StepForm l.form) l.made.items;
 }
 
 abbrev pub decreases-loop-horizon : goal.decreases-loop-horizon

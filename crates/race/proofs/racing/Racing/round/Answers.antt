@@ -15,7 +15,7 @@ returns-in-Some-clause-literals g c =
     λ h n e.
     let same : c.in-Some.horizon ≡ h = cc in
     let count : c.size-count.result ≡ n = cc in
-    let formulas : g.input.formula ≡ g.F.StepForm.formula_of c.args.form.now = c.requires.1.1.1.1.1.1.1.1.1.1.0 in
+    let formulas : g.input.formula ≡ g.F.StepForm.formula_of c.args.form.now = c.requires.1.1.1.1.1.1.1.1.1.1.1.0 in
     let some = ap (too_large g.input) (sym c.in_ok-fill.ensures.filled) ∙ (sym c.too_large.ensures.value ∙ (c.in-Some.is ∙ ap (λ (x : ℕ). Some x) same)) in
     let literals : n ≡ literals_of (g.input.formula h) =
     sym count ∙ (c.size-count.ensures.size ∙ (ap (λ (f : ℕ → Cnf). literals_of (f c.in-Some.horizon)) (sym formulas) ∙ ap (λ (x : ℕ). literals_of (g.input.formula x)) same)) in
@@ -37,4 +37,10 @@ returns g c =
 
 pub advance-requires : goal.advance-requires
 advance-requires g c κs within =
-    (within.0, (within.1, (search rules, (search rules, (c.in_ok-fill.ensures.tied, (c.in_ok-fill.ensures.low, c.requires.1.1.1.1.1.1.1.0))))))
+    (within.0, (within.1, (search rules, (search rules, (c.in_ok-fill.ensures.tied, (c.in_ok-fill.ensures.low, c.requires.1.1.1.1.1.1.1.1.0))))))
+
+pub judge-requires-sync-F : goal.judge-requires-sync-F
+judge-requires-sync-F g c κs within = (within, (search rules, search rules))
+
+pub fill-requires : goal.fill-requires
+fill-requires g c κs within = (within.0, (within.1, (search rules, (search rules, search rules))))

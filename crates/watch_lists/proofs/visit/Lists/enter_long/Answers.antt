@@ -8,7 +8,7 @@ overflow_add-result c = let s = c.free_until.ensures.short in omega (arith, s, c
 
 pub returns-clause-rest : goal.returns-clause-rest
 returns-clause-rest c =
-    let e : IsEntered c.args.clause.now c.args.number c.args.truth.now.trail c.args.self.now.watched.items (record { first = c.latest-first.result; second = c.latest-second.result; from = 0 }) c.args.self.now.chains.heads.items c.args.self.now.chains.nodes.items c.link_two.new.self.heads.items c.link_two.new.self.nodes.items c.a.inside.0 c.b.inside.0 =
+    let e : IsEntered c.args.clause.now c.args.slot c.args.truth.now.trail c.args.self.now.watched.items (record { first = c.latest-first.result; second = c.latest-second.result; from = 0 }) c.args.self.now.chains.heads.items c.args.self.now.chains.nodes.items c.link_two.new.self.heads.items c.link_two.new.self.nodes.items c.a.inside.0 c.b.inside.0 =
     record {
       below = c.requires.room.in_watches;
       long = c.requires.long;
@@ -26,11 +26,11 @@ returns-clause-rest c =
       second_note = c.link_two.ensures.second;
       others = c.link_two.ensures.others;
     } in
-    rests_long c.args.clause.now c.args.number c.args.truth.now.trail c.args.self.now.watched.items (record { first = c.latest-first.result; second = c.latest-second.result; from = 0 }) c.args.self.now.chains.heads.items c.args.self.now.chains.nodes.items c.link_two.new.self.heads.items c.link_two.new.self.nodes.items c.a.inside.0 c.b.inside.0 (2 * c.args.truth.now.variables) e
+    rests_long c.args.clause.now c.args.slot c.args.truth.now.trail c.args.self.now.watched.items (record { first = c.latest-first.result; second = c.latest-second.result; from = 0 }) c.args.self.now.chains.heads.items c.args.self.now.chains.nodes.items c.link_two.new.self.heads.items c.link_two.new.self.nodes.items c.a.inside.0 c.b.inside.0 (2 * c.args.truth.now.variables) e
 
 pub returns-clause-free : goal.returns-clause-free
 returns-clause-free c =
-    let e : IsEntered c.args.clause.now c.args.number c.args.truth.now.trail c.args.self.now.watched.items (record { first = c.latest-first.result; second = c.latest-second.result; from = 0 }) c.args.self.now.chains.heads.items c.args.self.now.chains.nodes.items c.link_two.new.self.heads.items c.link_two.new.self.nodes.items c.a.inside.0 c.b.inside.0 =
+    let e : IsEntered c.args.clause.now c.args.slot c.args.truth.now.trail c.args.self.now.watched.items (record { first = c.latest-first.result; second = c.latest-second.result; from = 0 }) c.args.self.now.chains.heads.items c.args.self.now.chains.nodes.items c.link_two.new.self.heads.items c.link_two.new.self.nodes.items c.a.inside.0 c.b.inside.0 =
     record {
       below = c.requires.room.in_watches;
       long = c.requires.long;
@@ -48,11 +48,11 @@ returns-clause-free c =
       second_note = c.link_two.ensures.second;
       others = c.link_two.ensures.others;
     } in
-    free_long c.args.clause.now c.args.number c.args.truth.now.trail c.args.self.now.watched.items (record { first = c.latest-first.result; second = c.latest-second.result; from = 0 }) c.args.self.now.chains.heads.items c.args.self.now.chains.nodes.items c.link_two.new.self.heads.items c.link_two.new.self.nodes.items c.a.inside.0 c.b.inside.0 e
+    free_long c.args.clause.now c.args.slot c.args.truth.now.trail c.args.self.now.watched.items (record { first = c.latest-first.result; second = c.latest-second.result; from = 0 }) c.args.self.now.chains.heads.items c.args.self.now.chains.nodes.items c.link_two.new.self.heads.items c.link_two.new.self.nodes.items c.a.inside.0 c.b.inside.0 e
 
 pub returns-clause-quiet : goal.returns-clause-quiet
 returns-clause-quiet c =
-    let e : IsEntered c.args.clause.now c.args.number c.args.truth.now.trail c.args.self.now.watched.items (record { first = c.latest-first.result; second = c.latest-second.result; from = 0 }) c.args.self.now.chains.heads.items c.args.self.now.chains.nodes.items c.link_two.new.self.heads.items c.link_two.new.self.nodes.items c.a.inside.0 c.b.inside.0 =
+    let e : IsEntered c.args.clause.now c.args.slot c.args.truth.now.trail c.args.self.now.watched.items (record { first = c.latest-first.result; second = c.latest-second.result; from = 0 }) c.args.self.now.chains.heads.items c.args.self.now.chains.nodes.items c.link_two.new.self.heads.items c.link_two.new.self.nodes.items c.a.inside.0 c.b.inside.0 =
     record {
       below = c.requires.room.in_watches;
       long = c.requires.long;
@@ -70,4 +70,4 @@ returns-clause-quiet c =
       second_note = c.link_two.ensures.second;
       others = c.link_two.ensures.others;
     } in
-    quiet_long c.args.clause.now c.args.number c.args.truth.now.trail c.args.self.now.watched.items (record { first = c.latest-first.result; second = c.latest-second.result; from = 0 }) c.args.self.now.chains.heads.items c.args.self.now.chains.nodes.items c.link_two.new.self.heads.items c.link_two.new.self.nodes.items c.a.inside.0 c.b.inside.0 c.free_until.result e c.free_until.ensures.lasts
+    quiet_long c.args.clause.now c.args.slot c.args.truth.now.trail c.args.self.now.watched.items (record { first = c.latest-first.result; second = c.latest-second.result; from = 0 }) c.args.self.now.chains.heads.items c.args.self.now.chains.nodes.items c.link_two.new.self.heads.items c.link_two.new.self.nodes.items c.a.inside.0 c.b.inside.0 c.free_until.result e c.free_until.ensures.lasts

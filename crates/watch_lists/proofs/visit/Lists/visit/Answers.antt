@@ -4,89 +4,133 @@ use Rattle.clause_base.specs.Clause.{has_literal}
 use Rattle.number_bits.specs.Bits.{words_have}
 use Rattle.watch_lists.specs.declared.visit.Watched.{Watched}
 use Rattle.watch_lists.specs.Pending.{is_free}
-use Rattle.watch_lists.specs.Visit.{no_watches, clause_at, place_in, Stays}
+use Rattle.watch_lists.specs.Visit.{no_watches, clause_at, place_in, slot_clauses, slot_flags, slot_set, Grows, Stays}
 use Rattle.watch_lists.proofs.Filters.{settled_true, settled_one}
-use Rattle.watch_lists.proofs.Visits.{has_below, listed_link, others_stay, own_moved, placed_moved, beside_of, settled_grows, grows_insert, own_insert}
+use Rattle.watch_lists.proofs.Visits.{has_below, listed_link, moves_own, others_stay, own_moved, placed_moved, beside_of, settled_grows, grows_insert, own_insert}
+use Rattle.watch_lists.proofs.Slotted.{fit_slots, slots_long}
 use Rattle.watch_lists.proofs.visit.Lists.visit.Goals as goal
 
 pub is_true-requires : goal.is_true-requires
 is_true-requires c =
-    let cl = c.args.store.now in
+    let cl = slot_clauses c.args.store.now c.args.slots.now in
     let r = c.requires.listed.0 in
     let n = c.note-note.ensures in
     let h = ap (λ (x : ℕ). has_literal (clause_at cl (c.args.node / 2)) x) n ∙ r.notes c.args.node c.requires.real in
-    let b = has_below (clause_at cl (c.args.node / 2)) c.args.spare c.note-note.result (λ p g. c.requires.fit.below (c.args.node / 2) p g) h in
+    let b = has_below (clause_at cl (c.args.node / 2)) c.args.spare c.note-note.result (λ p g. (fit_slots c.args.store.now c.args.slots.now c.args.spare c.requires.fit).below (c.args.node / 2) p g) h in
     omega (arith, b, c.requires.spare)
+
+pub is_true-requires-2 : goal.is_true-requires-2
+is_true-requires-2 c =
+    let cl = slot_clauses c.args.store.now c.args.slots.now in
+    let b = beside_of cl c.args.self.now.watched.items c.args.node c.at-other.result c.index.result.now c.slot_clause-clause.result.now c.index-clause-other.result c.lit.inside.0 c.requires.listed.0.placed c.requires.real c.index.ensures c.at-other.ensures c.slot_clause-clause.ensures c.index-clause-other.is c.lit.view_is in
+    let l = has_below (clause_at cl (c.args.node / 2)) c.args.spare c.lit.inside.0 (λ p g. (fit_slots c.args.store.now c.args.slots.now c.args.spare c.requires.fit).below (c.args.node / 2) p g) b.has in
+    omega (arith, l, c.requires.spare)
+
+pub find_other-requires-clause-below : goal.find_other-requires-clause-below
+find_other-requires-clause-below c p g =
+    let e = c.slot_clause-clause.ensures in
+    let l = (fit_slots c.args.store.now c.args.slots.now c.args.spare c.requires.fit).below (c.args.node / 2) p (subst (λ (xs : List ℕ). p < length xs) e g) in
+    omega (arith, l, c.requires.spare, ap (λ (xs : List ℕ). get_or xs p 0) e)
+
+pub find_other-requires-clause-short : goal.find_other-requires-clause-short
+find_other-requires-clause-short c =
+    omega (arith, (fit_slots c.args.store.now c.args.slots.now c.args.spare c.requires.fit).short (c.args.node / 2), ap (λ (xs : List ℕ). length xs) c.slot_clause-clause.ensures)
+
+pub link-requires-in-Some-clause-code : goal.link-requires-in-Some-clause-code
+link-requires-in-Some-clause-code c =
+    let cl = slot_clauses c.args.store.now c.args.slots.now in
+    let place = c.in-Some.place in
+    let e = c.slot_clause-clause.ensures in
+    let inside : place < length (clause_at cl (c.args.node / 2)) = subst (λ (xs : List ℕ). place < length xs) e c.in-Some.ensures.inside in
+    let found : c.found.inside.0 ≡ get_or (clause_at cl (c.args.node / 2)) place 0 = c.found.view_is ∙ get_or_read c.slot_clause-clause.result.now place c.index-clause-place.result c.in-Some.ensures.inside c.index-clause-place.is 0 ∙ ap (λ (xs : List ℕ). get_or xs place 0) e in
+    let l = (fit_slots c.args.store.now c.args.slots.now c.args.spare c.requires.fit).below (c.args.node / 2) place inside in
+    omega (arith, l, found, c.requires.listed.0.codes)
 
 pub returns-then-is_true-clause-listed : goal.returns-then-is_true-clause-listed
 returns-then-is_true-clause-listed c =
-    let cl = c.args.store.now in
+    let cl = slot_clauses c.args.store.now c.args.slots.now in
     let wa = c.args.self.now.watched.items in
     let on = has_literal c.args.truth.now.trail in
-    let s = words_have c.args.self.now.pending.words in
+    let s = slot_set (words_have c.args.self.now.pending.words) c.args.slots.now in
     let r = c.requires.listed.0 in
     let W = Stays cl wa on s c.args.code in
     let h = ap (λ (x : ℕ). has_literal (clause_at cl (c.args.node / 2)) x) c.note-note.ensures ∙ r.notes c.args.node c.requires.real in
     let t : on c.note-note.result ≡ true = sym c.is_true.ensures ∙ c.if-is_true.true in
-    listed_link cl wa wa c.args.self.now.chains.heads.items c.link.new.self.heads.items c.args.self.now.chains.nodes.items c.link.new.self.nodes.items c.args.spare c.args.kept.now c.args.node c.args.spare c.note-note.result W W r c.requires.listed.1
+    listed_link cl wa wa c.args.self.now.chains.heads.items c.link.new.self.heads.items c.args.self.now.chains.nodes.items c.link.new.self.nodes.items c.args.spare (slot_flags c.args.kept.now c.args.slots.now) c.args.node c.args.spare c.note-note.result W W r c.requires.listed.1
     (c.link.ensures.linked r.on r.linked c.requires.listed.1) r.placed c.link.ensures.codes c.link.ensures.nodes c.link.ensures.own c.link.ensures.others c.requires.real h (λ k q ne. refl) (λ k q ne w. w)
     (inr (refl, (c.requires.own, settled_true on s (clause_at cl (c.args.node / 2)) c.note-note.result (c.args.node / 2) h t)))
 
 pub returns-then-is_true-2-clause-listed : goal.returns-then-is_true-2-clause-listed
 returns-then-is_true-2-clause-listed c =
-    let cl = c.args.store.now in
+    let cl = slot_clauses c.args.store.now c.args.slots.now in
     let wa = c.args.self.now.watched.items in
     let on = has_literal c.args.truth.now.trail in
-    let s = words_have c.args.self.now.pending.words in
+    let s = slot_set (words_have c.args.self.now.pending.words) c.args.slots.now in
     let r = c.requires.listed.0 in
     let W = Stays cl wa on s c.args.code in
-    let b = beside_of cl wa c.args.node c.at-other.result c.index.result.now c.clause-clause.result.now c.index-clause-other.result c.lit.inside.0 r.placed c.requires.real c.index.ensures c.at-other.ensures c.clause-clause.ensures c.index-clause-other.is c.lit.view_is in
+    let b = beside_of cl wa c.args.node c.at-other.result c.index.result.now c.slot_clause-clause.result.now c.index-clause-other.result c.lit.inside.0 r.placed c.requires.real c.index.ensures c.at-other.ensures c.slot_clause-clause.ensures c.index-clause-other.is c.lit.view_is in
     let t : on c.lit.inside.0 ≡ true = sym c.is_true-2.ensures ∙ c.if-is_true-2.true in
-    listed_link cl wa wa c.args.self.now.chains.heads.items c.link-then-is_true-2.new.self.heads.items c.args.self.now.chains.nodes.items c.link-then-is_true-2.new.self.nodes.items c.args.spare c.args.kept.now c.args.node c.args.spare c.lit.inside.0 W W r c.requires.listed.1
+    listed_link cl wa wa c.args.self.now.chains.heads.items c.link-then-is_true-2.new.self.heads.items c.args.self.now.chains.nodes.items c.link-then-is_true-2.new.self.nodes.items c.args.spare (slot_flags c.args.kept.now c.args.slots.now) c.args.node c.args.spare c.lit.inside.0 W W r c.requires.listed.1
     (c.link-then-is_true-2.ensures.linked r.on r.linked c.requires.listed.1) r.placed c.link-then-is_true-2.ensures.codes c.link-then-is_true-2.ensures.nodes c.link-then-is_true-2.ensures.own c.link-then-is_true-2.ensures.others c.requires.real b.has (λ k q ne. refl) (λ k q ne w. w)
     (inr (refl, (c.requires.own, settled_true on s (clause_at cl (c.args.node / 2)) c.lit.inside.0 (c.args.node / 2) b.has t)))
 
 pub returns-in-None-clause-listed : goal.returns-in-None-clause-listed
 returns-in-None-clause-listed c =
-    let cl = c.args.store.now in
+    let grown : Grows (slot_set (words_have c.args.self.now.pending.words) c.args.slots.now) (slot_set (words_have c.insert.new.self.words) c.args.slots.now) = (λ k h. grows_insert (words_have c.args.self.now.pending.words) (words_have c.insert.new.self.words) (get_or c.args.slots.now (c.args.node / 2) 0) c.insert.ensures.has (get_or c.args.slots.now k 0) h) in
+    let own = own_insert (words_have c.args.self.now.pending.words) (words_have c.insert.new.self.words) (get_or c.args.slots.now (c.args.node / 2) 0) c.insert.ensures.has in
+    let cl = slot_clauses c.args.store.now c.args.slots.now in
     let wa = c.args.self.now.watched.items in
     let on = has_literal c.args.truth.now.trail in
-    let s = words_have c.args.self.now.pending.words in
-    let s' = words_have c.insert.new.self.words in
+    let s = slot_set (words_have c.args.self.now.pending.words) c.args.slots.now in
+    let s' = slot_set (words_have c.insert.new.self.words) c.args.slots.now in
     let r = c.requires.listed.0 in
     let W = Stays cl wa on s c.args.code in
     let W' = Stays cl wa on s' c.args.code in
-    let b = beside_of cl wa c.args.node c.at-other.result c.index.result.now c.clause-clause.result.now c.index-clause-other.result c.lit.inside.0 r.placed c.requires.real c.index.ensures c.at-other.ensures c.clause-clause.ensures c.index-clause-other.is c.lit.view_is in
-    let none = subst (λ (xs : List ℕ). (p : ℕ) → p < length xs → (p ≡ c.at-other.result → ⊥) → is_free on (get_or xs p 0) ≡ false) c.clause-clause.ensures c.in-None.ensures.none in
-    listed_link cl wa wa c.args.self.now.chains.heads.items c.link-in-None.new.self.heads.items c.args.self.now.chains.nodes.items c.link-in-None.new.self.nodes.items c.args.spare c.args.kept.now c.args.node c.args.spare c.lit.inside.0 W W' r c.requires.listed.1
+    let b = beside_of cl wa c.args.node c.at-other.result c.index.result.now c.slot_clause-clause.result.now c.index-clause-other.result c.lit.inside.0 r.placed c.requires.real c.index.ensures c.at-other.ensures c.slot_clause-clause.ensures c.index-clause-other.is c.lit.view_is in
+    let none = subst (λ (xs : List ℕ). (p : ℕ) → p < length xs → (p ≡ c.at-other.result → ⊥) → is_free on (get_or xs p 0) ≡ false) c.slot_clause-clause.ensures c.in-None.ensures.none in
+    listed_link cl wa wa c.args.self.now.chains.heads.items c.link-in-None.new.self.heads.items c.args.self.now.chains.nodes.items c.link-in-None.new.self.nodes.items c.args.spare (slot_flags c.args.kept.now c.args.slots.now) c.args.node c.args.spare c.lit.inside.0 W W' r c.requires.listed.1
     (c.link-in-None.ensures.linked r.on r.linked c.requires.listed.1) r.placed c.link-in-None.ensures.codes c.link-in-None.ensures.nodes c.link-in-None.ensures.own c.link-in-None.ensures.others c.requires.real b.has (λ k q ne. refl)
-    (λ k q ne w. (w.0, settled_grows on s s' (clause_at cl (k / 2)) (k / 2) (grows_insert s s' (c.args.node / 2) c.insert.ensures.has) w.1))
-    (inr (refl, (c.requires.own, settled_one on s' (clause_at cl (c.args.node / 2)) c.at-other.result (c.args.node / 2) none (own_insert s s' (c.args.node / 2) c.insert.ensures.has))))
+    (λ k q ne w. (w.0, settled_grows on s s' (clause_at cl (k / 2)) (k / 2) grown w.1))
+    (inr (refl, (c.requires.own, settled_one on s' (clause_at cl (c.args.node / 2)) c.at-other.result (c.args.node / 2) none own)))
 
 pub returns-in-Some-clause-listed : goal.returns-in-Some-clause-listed
 returns-in-Some-clause-listed c =
-    let cl = c.args.store.now in
+    let cl = slot_clauses c.args.store.now c.args.slots.now in
     let wa = c.args.self.now.watched.items in
     let w' = c.moved.result in
     let wa' = set wa (c.args.node / 2) w' in
     let on = has_literal c.args.truth.now.trail in
-    let s = words_have c.args.self.now.pending.words in
+    let s = slot_set (words_have c.args.self.now.pending.words) c.args.slots.now in
     let r = c.requires.listed.0 in
     let W = Stays cl wa on s c.args.code in
     let W' = Stays cl wa' on s c.args.code in
-    let b = beside_of cl wa c.args.node c.at-other.result c.index.result.now c.clause-clause.result.now c.index-clause-other.result c.lit.inside.0 r.placed c.requires.real c.index.ensures c.at-other.ensures c.clause-clause.ensures c.index-clause-other.is c.lit.view_is in
+    let b = beside_of cl wa c.args.node c.at-other.result c.index.result.now c.slot_clause-clause.result.now c.index-clause-other.result c.lit.inside.0 r.placed c.requires.real c.index.ensures c.at-other.ensures c.slot_clause-clause.ensures c.index-clause-other.is c.lit.view_is in
     let below : c.args.node / 2 < length wa = omega (arith, c.requires.real.below, r.placed.many) in
     let v : c.index.result.now ≡ get_or wa (c.args.node / 2) no_watches = get_or_read wa (c.args.node / 2) c.index.result.now below c.index.ensures no_watches in
     let second = (c.args.node % 2 == 1) in
     let other : place_in w' (not second) ≡ place_in (get_or wa (c.args.node / 2) no_watches) (not second) = c.moved.ensures.other ∙ ap (λ (x : Watched). place_in x (not second)) v in
     let place = c.in-Some.place in
-    let lx = ap (λ (xs : List ℕ). length xs) c.clause-clause.ensures in
+    let lx = ap (λ (xs : List ℕ). length xs) c.slot_clause-clause.ensures in
     let inside : place < length (clause_at cl (c.args.node / 2)) = omega (arith, lx, c.in-Some.ensures.inside) in
     let ne : place ≡ place_in (get_or wa (c.args.node / 2) no_watches) (not second) → ⊥ = (λ (e : place ≡ place_in (get_or wa (c.args.node / 2) no_watches) (not second)). c.in-Some.ensures.other (e ∙ sym b.place)) in
     let same = others_stay cl wa w' c.args.node below other in
-    let found : c.found.inside.0 ≡ get_or (clause_at cl (c.args.node / 2)) place 0 = c.found.view_is ∙ get_or_read c.clause-clause.result.now place c.index-clause-place.result c.in-Some.ensures.inside c.index-clause-place.is 0 ∙ ap (λ (xs : List ℕ). get_or xs place 0) c.clause-clause.ensures in
-    listed_link cl wa wa' c.args.self.now.chains.heads.items c.link-in-Some.new.self.heads.items c.args.self.now.chains.nodes.items c.link-in-Some.new.self.nodes.items c.args.spare c.args.kept.now c.args.node c.found.inside.0 c.lit.inside.0 W W' r c.requires.listed.1
+    let found : c.found.inside.0 ≡ get_or (clause_at cl (c.args.node / 2)) place 0 = c.found.view_is ∙ get_or_read c.slot_clause-clause.result.now place c.index-clause-place.result c.in-Some.ensures.inside c.index-clause-place.is 0 ∙ ap (λ (xs : List ℕ). get_or xs place 0) c.slot_clause-clause.ensures in
+    listed_link cl wa wa' c.args.self.now.chains.heads.items c.link-in-Some.new.self.heads.items c.args.self.now.chains.nodes.items c.link-in-Some.new.self.nodes.items c.args.spare (slot_flags c.args.kept.now c.args.slots.now) c.args.node c.found.inside.0 c.lit.inside.0 W W' r c.requires.listed.1
     (c.link-in-Some.ensures.linked r.on r.linked c.requires.listed.1) (placed_moved cl wa w' (c.args.node / 2) place second r.placed c.requires.real.below c.requires.real.long c.moved.ensures.own other inside ne)
     c.link-in-Some.ensures.codes c.link-in-Some.ensures.nodes c.link-in-Some.ensures.own c.link-in-Some.ensures.others c.requires.real b.has (λ k q ne'. same k ne')
     (λ k q ne' w. (same k ne' ∙ w.0, w.1))
     (inl (found ∙ sym (own_moved cl wa w' c.args.node place below c.moved.ensures.own)))
+
+pub returns-in-Some-clause-moves : goal.returns-in-Some-clause-moves
+returns-in-Some-clause-moves c =
+    let cl = slot_clauses c.args.store.now c.args.slots.now in
+    let wa = c.args.self.now.watched.items in
+    let w' = c.moved.result in
+    let on = has_literal c.args.truth.now.trail in
+    let r = c.requires.listed.0 in
+    let below : c.args.node / 2 < length wa = omega (arith, c.requires.real.below, r.placed.many) in
+    let v : c.index.result.now ≡ get_or wa (c.args.node / 2) no_watches = get_or_read wa (c.args.node / 2) c.index.result.now below c.index.ensures no_watches in
+    let second = (c.args.node % 2 == 1) in
+    let other : place_in w' (not second) ≡ place_in (get_or wa (c.args.node / 2) no_watches) (not second) = c.moved.ensures.other ∙ ap (λ (x : Watched). place_in x (not second)) v in
+    let free : is_free on (get_or (clause_at cl (c.args.node / 2)) c.in-Some.place 0) ≡ true = subst (λ (xs : List ℕ). is_free on (get_or xs c.in-Some.place 0) ≡ true) c.slot_clause-clause.ensures c.in-Some.ensures.none in
+    moves_own cl wa w' c.args.node c.in-Some.place on below other c.moved.ensures.own free

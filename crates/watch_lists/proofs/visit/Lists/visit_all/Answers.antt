@@ -1,8 +1,9 @@
-use Rattle.std.proofs.Common.{arith, ℕ, ◌∙◌, ap, length, List}
+use Rattle.std.proofs.Common.{arith, ℕ, ◌∙◌, sym, ap, length, List}
 use Rattle.clause_base.specs.Clause.{has_literal}
 use Rattle.number_bits.specs.Bits.{words_have}
-use Rattle.watch_lists.specs.Visit.{Stays}
+use Rattle.watch_lists.specs.Visit.{slot_clauses, slot_flags, slot_set, Stays}
 use Rattle.watch_lists.proofs.Visits.{listed_pop, listed_drop, own_literal, moves_on, listed_end, all_settled, linked_after}
+use Rattle.watch_lists.proofs.Slotted.{fit_slots, slots_long}
 use Rattle.watch_lists.proofs.visit.Lists.visit_all.Goals as goal
 
 pub returns-in-None-clause-rest : goal.returns-in-None-clause-rest
@@ -10,8 +11,8 @@ returns-in-None-clause-rest c =
     let r = c.visits.invariant.listed in
     let e = c.in-None.ensures in
     let on = has_literal c.args.truth.now.trail in
-    let s = words_have c.visits.self.pending.words in
-    listed_end c.args.store.now c.visits.self.watched.items c.visits.self.chains.heads.items c.rename.new.self.heads.items c.visits.self.chains.nodes.items c.rename.new.self.nodes.items c.args.spare c.args.code c.args.kept.now on s r c.requires.fit
+    let s = slot_set (words_have c.visits.self.pending.words) c.args.slots.now in
+    listed_end (slot_clauses c.args.store.now c.args.slots.now) c.visits.self.watched.items c.visits.self.chains.heads.items c.rename.new.self.heads.items c.visits.self.chains.nodes.items c.rename.new.self.nodes.items c.args.spare c.args.code (slot_flags c.args.kept.now c.args.slots.now) on s r (fit_slots c.args.store.now c.args.slots.now c.args.spare c.requires.fit)
     (linked_after c.visits.self.chains.heads.items c.pop.new.self.heads.items c.rename.new.self.heads.items c.visits.self.chains.nodes.items c.pop.new.self.nodes.items c.rename.new.self.nodes.items c.args.spare c.args.code r.on e r.linked c.rename.ensures.linked)
     (c.rename.ensures.nodes ∙ e.nodes_stay) (c.rename.ensures.codes ∙ ap (λ (xs : List ℕ). length xs) e.heads_stay)
 
@@ -19,14 +20,14 @@ pub returns-in-None-clause-settled : goal.returns-in-None-clause-settled
 returns-in-None-clause-settled c =
     let r = c.visits.invariant.listed in
     let e = c.in-None.ensures in
-    all_settled c.args.store.now c.visits.self.watched.items c.visits.self.chains.heads.items c.visits.self.chains.nodes.items c.args.spare c.args.code c.args.kept.now (has_literal c.args.truth.now.trail) (words_have c.visits.self.pending.words) r (e.none r.on r.linked)
+    all_settled (slot_clauses c.args.store.now c.args.slots.now) c.visits.self.watched.items c.visits.self.chains.heads.items c.visits.self.chains.nodes.items c.args.spare c.args.code (slot_flags c.args.kept.now c.args.slots.now) (has_literal c.args.truth.now.trail) (slot_set (words_have c.visits.self.pending.words) c.args.slots.now) r (e.none r.on r.linked)
 
-pub bounds-kept-node : goal.bounds-kept-node
-bounds-kept-node c =
+pub is_slot_kept-requires-clause-inside : goal.is_slot_kept-requires-clause-inside
+is_slot_kept-requires-clause-inside c =
     let r = c.visits.invariant.listed in
     let p = c.in-Some.ensures.from r.on r.linked in
     let q = r.real c.in-Some.node c.args.code p.0 in
-    omega (arith, q.below, c.requires.kept)
+    omega (arith, q.below, slots_long c.args.store.now c.args.slots.now)
 
 pub visit-requires-clause-real : goal.visit-requires-clause-real
 visit-requires-clause-real c =
@@ -38,20 +39,20 @@ pub visit-requires-clause-own : goal.visit-requires-clause-own
 visit-requires-clause-own c =
     let r = c.visits.invariant.listed in
     let p = c.in-Some.ensures.from r.on r.linked in
-    own_literal c.args.store.now c.visits.self.watched.items c.visits.self.chains.heads.items c.visits.self.chains.nodes.items c.args.spare c.args.code c.args.kept.now c.in-Some.node (Stays c.args.store.now c.visits.self.watched.items (has_literal c.args.truth.now.trail) (words_have c.visits.self.pending.words) c.args.code) r c.requires.code p.0 c.if-kept-node.true
+    own_literal (slot_clauses c.args.store.now c.args.slots.now) c.visits.self.watched.items c.visits.self.chains.heads.items c.visits.self.chains.nodes.items c.args.spare c.args.code (slot_flags c.args.kept.now c.args.slots.now) c.in-Some.node (Stays (slot_clauses c.args.store.now c.args.slots.now) c.visits.self.watched.items (has_literal c.args.truth.now.trail) (slot_set (words_have c.visits.self.pending.words) c.args.slots.now) c.args.code) r c.requires.code p.0 (sym c.is_slot_kept.ensures ∙ c.if-is_slot_kept.true)
 
 pub visit-requires-clause-listed : goal.visit-requires-clause-listed
 visit-requires-clause-listed c =
     let r = c.visits.invariant.listed in
     let p = c.in-Some.ensures.from r.on r.linked in
-    listed_pop c.args.store.now c.visits.self.watched.items c.visits.self.chains.heads.items c.pop.new.self.heads.items c.visits.self.chains.nodes.items c.pop.new.self.nodes.items c.args.spare c.args.kept.now c.in-Some.node (Stays c.args.store.now c.visits.self.watched.items (has_literal c.args.truth.now.trail) (words_have c.visits.self.pending.words) c.args.code) r p.1 c.in-Some.ensures.nodes_stay c.in-Some.ensures.codes
+    listed_pop (slot_clauses c.args.store.now c.args.slots.now) c.visits.self.watched.items c.visits.self.chains.heads.items c.pop.new.self.heads.items c.visits.self.chains.nodes.items c.pop.new.self.nodes.items c.args.spare (slot_flags c.args.kept.now c.args.slots.now) c.in-Some.node (Stays (slot_clauses c.args.store.now c.args.slots.now) c.visits.self.watched.items (has_literal c.args.truth.now.trail) (slot_set (words_have c.visits.self.pending.words) c.args.slots.now) c.args.code) r p.1 c.in-Some.ensures.nodes_stay c.in-Some.ensures.codes
 
-pub visits-preserved-then-kept-node : goal.visits-preserved-then-kept-node
-visits-preserved-then-kept-node c =
+pub visits-preserved-then-is_slot_kept : goal.visits-preserved-then-is_slot_kept
+visits-preserved-then-is_slot_kept c =
     let i = c.visits.invariant in
     record {
       listed = c.visit.ensures.listed;
-      moves = moves_on c.args.store.now c.args.self.now.watched.items c.visits.self.watched.items c.visit.new.self.watched.items (has_literal c.args.truth.now.trail) i.moves c.visit.ensures.moves;
+      moves = moves_on (slot_clauses c.args.store.now c.args.slots.now) c.args.self.now.watched.items c.visits.self.watched.items c.visit.new.self.watched.items (has_literal c.args.truth.now.trail) i.moves c.visit.ensures.moves;
       grows = λ k h. c.visit.ensures.grows k (i.grows k h);
       room = c.visit.ensures.room ∙ i.room;
     }
@@ -61,10 +62,10 @@ visits-preserved c =
     let i = c.visits.invariant in
     let r = i.listed in
     let p = c.in-Some.ensures.from r.on r.linked in
-    let W = Stays c.args.store.now c.visits.self.watched.items (has_literal c.args.truth.now.trail) (words_have c.visits.self.pending.words) c.args.code in
-    let x = listed_pop c.args.store.now c.visits.self.watched.items c.visits.self.chains.heads.items c.pop.new.self.heads.items c.visits.self.chains.nodes.items c.pop.new.self.nodes.items c.args.spare c.args.kept.now c.in-Some.node W r p.1 c.in-Some.ensures.nodes_stay c.in-Some.ensures.codes in
+    let W = Stays (slot_clauses c.args.store.now c.args.slots.now) c.visits.self.watched.items (has_literal c.args.truth.now.trail) (slot_set (words_have c.visits.self.pending.words) c.args.slots.now) c.args.code in
+    let x = listed_pop (slot_clauses c.args.store.now c.args.slots.now) c.visits.self.watched.items c.visits.self.chains.heads.items c.pop.new.self.heads.items c.visits.self.chains.nodes.items c.pop.new.self.nodes.items c.args.spare (slot_flags c.args.kept.now c.args.slots.now) c.in-Some.node W r p.1 c.in-Some.ensures.nodes_stay c.in-Some.ensures.codes in
     record {
-      listed = listed_drop c.args.store.now c.visits.self.watched.items c.pop.new.self.heads.items c.pop.new.self.nodes.items c.args.spare c.args.kept.now c.in-Some.node W x.0 c.if-kept-node.false;
+      listed = listed_drop (slot_clauses c.args.store.now c.args.slots.now) c.visits.self.watched.items c.pop.new.self.heads.items c.pop.new.self.nodes.items c.args.spare (slot_flags c.args.kept.now c.args.slots.now) c.in-Some.node W x.0 (sym c.is_slot_kept.ensures ∙ c.if-is_slot_kept.false);
       moves = i.moves;
       grows = i.grows;
       room = i.room;

@@ -1,16 +1,13 @@
-use Rattle.std.proofs.Common.{[], ℕ, List, ap, sym, subst}
+use Rattle.std.proofs.Common.{arith, ap}
 use Rattle.watch_store.specs.Mirror.{TruthView}
-use Rattle.watch_lists.specs.declared.pairs.Pair.{Pair}
-use Rattle.watch_lists.specs.Pairs.{IsPaired}
 use Rattle.watch_lists.proofs.Empties.{sound_none}
 use Rattle.watch_lists.proofs.Paired.{paired_none}
 use Rattle.watch_lists.proofs.watches.Watches.empty.Goals as goal
 
 pub invariant_of-result : goal.invariant_of-result
-invariant_of-result c =
-    let words = c.no_pending.result.words in (
-      sound_none c.args.variables c.in_ok-new-2.field-0.variables c.new-3.result c.new-4.result.items c.in_ok-new-2.field-0.trail c.new-2.result.items c.in_ok-new.field-0.heads.items c.in_ok-new.field-0.nodes.items words c.in_ok-no_quiet.field-0.items
-          c.requires (ap (λ (t : TruthView). t.variables) c.in_ok-new-2.ensures) c.new-3.ensures c.new-4.ensures.items (ap (λ (t : TruthView). t.trail) c.in_ok-new-2.ensures)
-          c.in_ok-new.ensures.linked c.in_ok-new.ensures.codes c.no_pending.ensures c.in_ok-no_quiet.ensures,
-      subst (λ (cs : List (List ℕ)). IsPaired c.args.variables cs c.in_ok-new-3.field-0 words) (sym c.new-3.ensures) (subst (λ (ps : List (List Pair)). IsPaired c.args.variables [] ps words) (sym c.in_ok-new-3.ensures) (paired_none c.args.variables words)),
-    )
+invariant_of-result c = (
+  sound_none c.variables-variables.result c.in_ok-truth.truth.variables c.new-4.result c.in_ok-kept.kept.items c.in_ok-truth.truth.trail c.new-5.result.items c.new-watched.result.items c.in_ok-chains.chains.heads.items c.in_ok-chains.chains.nodes.items c.no_pending-pending.result.words c.in_ok-quiet.quiet.items
+      (omega (arith, c.variables-variables.ensures.small, c.variables-variables.ensures.value)) (ap (λ (t : TruthView). t.variables) c.in_ok-truth.ensures) c.new-5.ensures.items c.new-4.ensures c.in_ok-kept.ensures.items (ap (λ (t : TruthView). t.trail) c.in_ok-truth.ensures)
+      c.in_ok-chains.ensures.linked c.in_ok-chains.ensures.codes c.no_pending-pending.ensures c.in_ok-quiet.ensures,
+  paired_none c.variables-variables.result c.new-4.result c.new-5.result.items c.in_ok-pairs.pairs c.new-4.ensures (omega (arith, c.in_ok-pairs.ensures.long, c.variables-variables.ensures.value)) c.in_ok-pairs.ensures.empty,
+)

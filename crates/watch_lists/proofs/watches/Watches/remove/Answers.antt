@@ -1,9 +1,8 @@
-use Rattle.std.proofs.Common.{arith, ◌∙◌, sym, ap, subst, Bool, List}
+use Rattle.std.proofs.Common.{◌∙◌, sym, ap, subst, Bool, List}
 use Rattle.number_bits.specs.Bits.{words_have}
 use Rattle.watch_lists.specs.Pending.{is_pending_on}
 use Rattle.watch_lists.specs.Sound.{IsFront}
 use Rattle.watch_lists.proofs.Removes.{pending_before, removed_sound}
-use Rattle.watch_lists.proofs.Paired.{paired_wider}
 use Rattle.watch_lists.proofs.watches.Watches.remove.Goals as goal
 
 pub clean-requires-clause-complete : goal.clean-requires-clause-complete
@@ -16,4 +15,4 @@ pub invariant_of-self : goal.invariant_of-self
 invariant_of-self c =
     let w = c.self.inside in
     let front = subst (λ (ks : List Bool). IsFront (is_pending_on w.store ks w.truth.trail) (words_have c.clean.new.pending.words)) c.as_slice.ensures.value c.clean.ensures.front in
-    (removed_sound w.variables w.truth.variables w.store w.kept.items w.truth.trail w.lists.watched.items w.lists.chains.heads.items w.lists.chains.nodes.items w.lists.pending.words w.quiet.items c.args.number c.clean.new.pending.words c.self.invariant.0 c.clean.ensures.room front, paired_wider w.variables w.store w.pairs w.lists.pending.words c.clean.new.pending.words c.self.invariant.1 (omega (arith, c.clean.ensures.room)))
+    (removed_sound w.variables w.truth.variables w.store w.kept.items w.truth.trail w.slots.items w.lists.watched.items w.lists.chains.heads.items w.lists.chains.nodes.items w.lists.pending.words w.quiet.items c.args.number c.clean.new.pending.words c.self.invariant.0 c.clean.ensures.room front, c.self.invariant.1)

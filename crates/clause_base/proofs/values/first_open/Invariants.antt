@@ -1,5 +1,0 @@
-use Rattle.clause_base.specs.Coded.{AreGivenBelow}
-use Rattle.clause_base.proofs.values.first_open.Given as goal
-
-abbrev pub invariant-loop-v : goal.invariant-loop-v
-invariant-loop-v l = AreGivenBelow l.v l.codes

@@ -1,0 +1,45 @@
+//! Where a new clause is found again: in the lists of its two literals, or by a slot.
+ghost use Rattle.std.specs.Prelude.{◌≡◌, ℕ, ◌+◌, ◌*◌, ◌<◌, ◌≤◌, length, slice_index, vec_capacity, IfOk, IsOk};
+ghost use Rattle.watch_chains.specs.Linked.{ArePairLoose};
+ghost use Rattle.watch_lists.specs.Added.{HasRoom, IsTaken, IsQuietBelow};
+ghost use Rattle.watch_lists.specs.Pairs.{IsFuller};
+
+use crate::enter::enter_pair;
+use crate::pairs::Pairs;
+use crate::visit::Lists;
+use clause_base::literal::Lit;
+use std::alloc::AllocError;
+use watch_store::truth::Truth;
+
+/// Enters a new clause into the lists of its two literals, or gives it a slot, for which there is room. In the prefixes of the
+/// trail below the result it is not pending.
+pub fn place(
+    pairs: &mut Pairs,
+    slots: &mut Vec<u32>,
+    lists: &mut Lists,
+    truth: &Truth,
+    clause: &[Lit],
+    number: u32,
+) -> Result<u32, AllocError>
+    requires small { truth.now.variables ≤ 2147483647 }
+    requires below { (p : ℕ) → p < length clause.now → slice_index clause.now p < 2 * truth.now.variables }
+    requires short { length clause.now ≤ 4294967295 }
+    requires pairs { length pairs.old ≡ 2 * truth.now.variables + 1 }
+    requires few { length slots.old.items ≤ 2147483647 }
+    requires capacity { length slots.old.items < vec_capacity slots.old }
+    requires codes { length lists.old.chains.heads.items ≡ 2 * truth.now.variables + 1 }
+    requires room { HasRoom (length slots.old.items) lists.old.watched.items lists.old.chains.nodes.items }
+    requires loose { ArePairLoose lists.old.chains.heads.items lists.old.chains.nodes.items (2 * length slots.old.items) }
+    ensures ok { IsOk result }
+    ensures fuller { IsFuller clause.now number pairs.old pairs.new }
+    ensures taken { IsTaken clause.now number (2 * truth.now.variables) truth.now.trail pairs.new slots.old.items lists.old.watched.items lists.old.chains.heads.items lists.old.chains.nodes.items slots.new.items lists.new.watched.items lists.new.chains.heads.items lists.new.chains.nodes.items }
+    ensures quiet { IfOk result (λ low. IsQuietBelow clause.now truth.now.trail low) }
+    ensures set { lists.new.pending.words ≡ lists.old.pending.words }
+{
+    if pairs.enter(clause, number) {
+        return Ok(enter_pair(truth, clause));
+    }
+    let slot = slots.len() as u32;
+    slots.push(number)?;
+    Ok(lists.enter(truth, clause, slot))
+}
