@@ -347,6 +347,10 @@ mod tests {
         assert!(rt; rest.has_pair());
         some.subtract(&more);
         assert_eq!(rt; (some.least(0), some.contains(3)), (Some(200), false));
+        rest.make_same(&some)?;
+        assert!(rt; rest.is_same(&some) && rest.is_part_of(&some) && !some.is_part_of(&more));
+        more.insert(201)?;
+        assert!(rt; rest.has_pair_across(&more) && !more.has_pair_across(&rest));
         some.clear();
         assert!(rt; some.least(0).is_none());
         Ok(())

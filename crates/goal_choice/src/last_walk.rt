@@ -8,7 +8,7 @@ ghost use Rattle.goal_choice.specs.Kept.{walked, IsSameFrom};
 
 use crate::literals::{Literals, empty_sets};
 use crate::means::Means;
-use crate::walk::{walk_from_goal, wanted_before};
+use crate::walk::wanted_before;
 use clause_base::literal::Lit;
 use clause_base::memory::Memory;
 use clause_base::values::Values;
@@ -16,16 +16,14 @@ use std::alloc::Global;
 use std::marker::Model;
 
 /// What is kept of a walk: the values that it saw, and the literals that it wanted at each time, from the last time down to
-/// `low`. Beside that, two sets to write over, and whether the last choice was one of the walk.
+/// `low`. Beside that, a set to write over.
 #[derive(Debug, Drop)]
 pub(crate) struct LastWalk {
     means: Means,
     seen: Values,
     wanted: Vec<Literals>,
     low: u32,
-    after: Literals,
     before: Literals,
-    chose: bool,
 }
 
 impl Model for LastWalk {
@@ -36,7 +34,7 @@ impl Model for LastWalk {
 
     ghost view = { λ w. record { means = w.means; seen = w.seen; wanted = w.wanted.items; low = w.low } };
 
-    ghost invariant = { λ w. IsWalk (record { means = w.means; seen = w.seen; wanted = w.wanted.items; low = w.low }) × (w.after.facts ≡ w.means.layout.facts) × (w.before.facts ≡ w.means.layout.facts) };
+    ghost invariant = { λ w. IsWalk (record { means = w.means; seen = w.seen; wanted = w.wanted.items; low = w.low }) × (w.before.facts ≡ w.means.layout.facts) };
 }
 
 impl LastWalk {
@@ -48,12 +46,9 @@ impl LastWalk {
         let seen = Values::new(alloc, layout.variables())?;
         let mut wanted = empty_sets(alloc, layout.horizon as usize + 1, layout.facts)?;
         wanted[layout.horizon as usize].put_all(means.goal());
-        let after = Literals::new(alloc, layout.facts)?;
         let before = Literals::new(alloc, layout.facts)?;
         Ok(LastWalk {
-            after,
             before,
-            chose: true,
             low: layout.horizon,
             means,
             seen,
@@ -186,8 +181,10 @@ impl LastWalk {
         }
     }
 
-    /// The choice of the walk over some values, which goes on from what is kept.
-    fn choice_from_kept(&mut self, values: &Values) -> Option<Lit>
+    /// The choice of the walk over some values, where there is one; the walk goes on from what is kept. In the program this is a
+    /// function of its own too, so that `bench/choose` can tell its time.
+    #[inline(never)]
+    pub(crate) fn choice(&mut self, values: &Values) -> Option<Lit>
         requires fits { length values.now ≡ variables self.old.means.layout }
         ensures choice { result ≡ walked self.old.means values.now }
         ensures means { self.new.means ≡ self.old.means }
@@ -200,32 +197,5 @@ impl LastWalk {
             }
         }
         None
-    }
-
-    /// The choice of the walk over some values, which begins with the goal. What is kept stays.
-    fn choice_from_goal(&mut self, values: &Values) -> Option<Lit>
-        requires fits { length values.now ≡ variables self.old.means.layout }
-        ensures choice { result ≡ walked self.old.means values.now }
-        ensures kept { self.new ≡ self.old }
-    {
-        walk_from_goal(&self.means, values, &mut self.after, &mut self.before)
-    }
-
-    /// The choice of the walk over some values, where there is one. A walk that comes to a choice mostly comes to it soon; one
-    /// that comes to none looks at every time, and the next one mostly comes to none either: so what is kept is used after such
-    /// a walk alone. In the program this is a function of its own too, so that `bench/choose` can tell its time.
-    #[inline(never)]
-    pub(crate) fn choice(&mut self, values: &Values) -> Option<Lit>
-        requires fits { length values.now ≡ variables self.old.means.layout }
-        ensures choice { result ≡ walked self.old.means values.now }
-        ensures means { self.new.means ≡ self.old.means }
-    {
-        let choice = if self.chose {
-            self.choice_from_goal(values)
-        } else {
-            self.choice_from_kept(values)
-        };
-        self.chose = choice.is_some();
-        choice
     }
 }

@@ -1,8 +1,7 @@
-//! The walk from the goals at the last time to the initial state.
+//! A step of the walk from the goals at the last time to the initial state.
 
 ghost use Rattle.std.specs.Prelude.{◌≡◌, ◌<◌, [], length};
 ghost use Rattle.gt_core.specs.Layout.{variables};
-ghost use Rattle.goal_choice.specs.Kept.{walked};
 ghost use Rattle.goal_choice.specs.Walk.{wish_of, wishes};
 ghost use Rattle.goal_choice.specs.Wishes.{IsStep};
 
@@ -11,34 +10,6 @@ use crate::means::Means;
 use crate::wish::{Wish, wish_for};
 use clause_base::literal::Lit;
 use clause_base::values::Values;
-
-/// The choice of the walk over some values, with two sets that it writes over.
-pub(crate) fn walk_from_goal(
-    means: &Means,
-    values: &Values,
-    wanted: &mut Literals,
-    before: &mut Literals,
-) -> Option<Lit>
-    requires fits { length values.now ≡ variables means.now.layout }
-    requires wanted { wanted.old.facts ≡ means.now.layout.facts }
-    requires before { before.old.facts ≡ means.now.layout.facts }
-    ensures choice { result ≡ walked means.now values.now }
-    ensures wanted { wanted.new.facts ≡ wanted.old.facts }
-    ensures before { before.new.facts ≡ before.old.facts }
-{
-    wanted.clear();
-    wanted.put_all(means.goal());
-    let mut step = means.layout().horizon;
-    'walking: while step > 0 {
-        step -= 1;
-        before.clear();
-        match wanted_before(means, values, step, wanted, before) {
-            Some(choice) => return Some(choice),
-            None => std::mem::swap(wanted, before),
-        }
-    }
-    None
-}
 
 /// What the wanted literals ask for in a step: a decision, or else what is wanted before it.
 pub(crate) fn wanted_before(

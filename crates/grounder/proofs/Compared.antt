@@ -13,16 +13,9 @@ use Rattle.gt_core.specs.Lawful.{list_less, effect_less}
 use Rattle.pd_model.specs.declared.atoms.Atom.{Atom}
 use Rattle.pd_model.specs.Order.{atom_cmp}
 use Rattle.grounding.specs.Sorted.{atom_less, insert_in}
+use Rattle.atom_join.proofs.Order.{by_first, less_list, less_atom}
 use Rattle.grounder.specs.declared.effects.Keyed.{Keyed}
 use Rattle.grounder.specs.Putting.{effect_at, effects_at}
-
-lt_step : (b c r : Bool) (o : Ordering) → r ≡ is_lt o → (b || (c && r)) ≡ is_lt (ordering_then (cond b Less (cond c Equal Greater)) o)
-lt_step true c r o h = refl
-lt_step false true r o h = h
-lt_step false false r o h = refl
-
-first_lt : (m n : ℕ) (r : Bool) (o : Ordering) → r ≡ is_lt o → (nat_lt m n || ((m == n) && r)) ≡ is_lt (ordering_then (nat_cmp m n) o)
-first_lt m n r o h = lt_step (nat_lt m n) (m == n) r o h
 
 gt_step : (m n : ℕ) (r : Bool) (o : Ordering) → r ≡ is_gt o → (b c d e : Bool) → nat_lt m n ≡ b → (m == n) ≡ c → nat_lt n m ≡ d → (n == m) ≡ e
     → (d || (e && r)) ≡ is_gt (ordering_then (cond b Less (cond c Equal Greater)) o)
@@ -38,12 +31,6 @@ gt_step m n r o h false false false e s t u v = absurd (grind (arith, nat_tests)
 first_gt : (m n : ℕ) (r : Bool) (o : Ordering) → r ≡ is_gt o → (nat_lt n m || ((n == m) && r)) ≡ is_gt (ordering_then (nat_cmp m n) o)
 first_gt m n r o h = gt_step m n r o h (nat_lt m n) (m == n) (nat_lt n m) (n == m) refl refl refl refl
 
-lists_lt : (xs ys : List ℕ) → list_less xs ys ≡ is_lt (slice_cmp nat_cmp xs ys)
-lists_lt [] [] = refl
-lists_lt [] (y ∷ ys) = refl
-lists_lt (x ∷ xs) [] = refl
-lists_lt (x ∷ xs) (y ∷ ys) = first_lt x y (list_less xs ys) (slice_cmp nat_cmp xs ys) (lists_lt xs ys)
-
 lists_gt : (xs ys : List ℕ) → list_less ys xs ≡ is_gt (slice_cmp nat_cmp xs ys)
 lists_gt [] [] = refl
 lists_gt [] (y ∷ ys) = refl
@@ -51,7 +38,7 @@ lists_gt (x ∷ xs) [] = refl
 lists_gt (x ∷ xs) (y ∷ ys) = first_gt x y (list_less ys xs) (slice_cmp nat_cmp xs ys) (lists_gt xs ys)
 
 pub atoms_lt : (a b : Atom) → atom_less a b ≡ is_lt (atom_cmp a b)
-atoms_lt a b = first_lt a.predicate b.predicate (list_less a.objects b.objects) (slice_cmp nat_cmp a.objects b.objects) (lists_lt a.objects b.objects)
+atoms_lt a b = sym (less_atom a b)
 
 numbers_lt : (b c : Bool) → b ≡ is_lt (cond b Less (cond c Equal Greater))
 numbers_lt true c = refl
@@ -89,7 +76,7 @@ effect_put (l ∷ keys) k =
     mapped (key_cmp k l)
     ∙ place_step (effect_at k ∷ effect_at l ∷ effects_at keys) (effect_at l ∷ effects_at keys) (effect_at l ∷ effects_at (insert_key key_cmp keys k)) (effect_at l ∷ insert_in effect_less (effect_at k) (effects_at keys))
     (key_cmp k l) (effect_less (effect_at k) (effect_at l)) (effect_less (effect_at l) (effect_at k))
-    (first_lt k.literal l.literal _ _ (lists_lt k.condition.items l.condition.items))
+    (sym (by_first (nat_lt k.literal l.literal) (k.literal == l.literal) (slice_cmp nat_cmp k.condition.items l.condition.items) (list_less k.condition.items l.condition.items) (less_list k.condition.items l.condition.items)))
     (first_gt k.literal l.literal _ _ (lists_gt k.condition.items l.condition.items))
     (ap (λ (es : List Effect). effect_at l ∷ es) (effect_put keys k))
   where

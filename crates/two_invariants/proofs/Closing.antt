@@ -41,14 +41,10 @@ module _ (V : ℕ → ℕ → Bool) (size : ℕ) (bound : (l m : ℕ) → V l m 
   module _ (R T : ℕ → Bool) (x : ℕ) (g : IsGrowing V size R T) (t : T x ≡ true) where
     -- ---- by what it tells that is done
 
-    module _ (none d R' T' : ℕ → Bool) (low : IsPart none R) (c : IsClosure V (λ m. (x == m) || none m) d)
+    module _ (d R' T' : ℕ → Bool) (c : IsClosure V (λ m. x == m) d)
         (er : (m : ℕ) → R' m ≡ (R m || d m)) (et : (m : ℕ) → T' m ≡ ((not (x == m) && T m) && not (d m))) where
-      starts : (other : ℕ → Bool) → IsPart R other → IsPart (λ m. (x == m) || none m) other
-      starts other part m h = by (or_split (x == m) (none m) h)
-        where
-          by : ((x == m) ≡ true) ⊎ (none m ≡ true) → other m ≡ true
-          by (inl e) = subst (λ (k : ℕ). other k ≡ true) (test_same x m e) (part x (g.listed x t))
-          by (inr n) = part m (low m n)
+      starts : (other : ℕ → Bool) → IsPart R other → IsPart (λ m. x == m) other
+      starts other part m e = subst (λ (k : ℕ). other k ≡ true) (test_same x m e) (part x (g.listed x t))
 
       of_either : (P : Type 0) (m : ℕ) → R' m ≡ true → (R m ≡ true → P) → (d m ≡ true → P) → P
       of_either P m h one two = by (or_split (R m) (d m) (sym (er m) ∙ h))
@@ -71,7 +67,7 @@ module _ (V : ℕ → ℕ → Bool) (size : ℕ) (bound : (l m : ℕ) → V l m 
 
       growing_done : IsGrowing V size R' T'
       growing_done = record {
-        within = λ m h. of_either (m < size) m h (g.within m) (closure_within (λ k. (x == k) || none k) d c
+        within = λ m h. of_either (m < size) m h (g.within m) (closure_within (λ k. x == k) d c
             (λ k s. ltb-true k size (starts (λ n. nat_lt n size) (λ n r. lt-ltb n size (g.within n r)) k s)) m);
         listed = λ m h. from_old m (g.listed m (and_split _ _ (and_split _ _ (sym (et m) ∙ h)).0).1);
         chained = λ free a y r off v. (let no_r : HasNoPair R = λ f p q. free f (from_old _ p) (from_old _ q) in
@@ -89,7 +85,7 @@ module _ (V : ℕ → ℕ → Bool) (size : ℕ) (bound : (l m : ℕ) → V l m 
           told a y v no_d h = from_told y (c.chained no_d a y h v)
 
           left : (a y : ℕ) → V (opposite a) y ≡ true → HasNoPair R → R a ≡ true → d a ≡ false → ((x == a) ≡ true) ⊎ (T a ≡ false) → R' y ≡ true
-          left a y v no_r r nd (inl e) = absurd (apart (d a) (c.given a (or_left _ _ e)) nd)
+          left a y v no_r r nd (inl e) = absurd (apart (d a) (c.given a e) nd)
           left a y v no_r r nd (inr off) = from_old y (g.chained no_r a y r off v)
 
           old_or_told : (a y : ℕ) → V (opposite a) y ≡ true → HasNoPair R → HasNoPair d → R' a ≡ true → T' a ≡ false → (d a ≡ true) ⊎ (d a ≡ false) → R' y ≡ true

@@ -9,7 +9,7 @@ use Rattle.gt_core.proofs.Literals.{add_opposite, delete_opposite}
 use Rattle.two_invariants.specs.Known.{IsFull, IsKnown, AllKnown, IsConsistent}
 use Rattle.two_invariants.specs.Breaks.{is_add, Takes, Loses, Gives, Sure, BreaksBy, Breaks}
 use Rattle.two_invariants.specs.Rows.{row_at, HasNoPair}
-use Rattle.two_invariants.specs.Tested.{AreKnown, IsSetOf, EffectFits, ActionFits, with_more, has_no_pair, gives, may_take, loses_by, is_sure, breaks_with, breaks_by}
+use Rattle.two_invariants.specs.Tested.{AreKnown, AsksAmong, IsSetOf, with_more, has_no_pair, gives, may_take, loses_by, is_sure, breaks_with, breaks_by}
 use Rattle.two_invariants.specs.declared.known.Known.{Known}
 use Rattle.two_invariants.proofs.Lists.{any_map, any_map_in, any_here, all_map, all_joined, any_test, test_any}
 use Rattle.two_invariants.proofs.Closing.{closure_within}
@@ -77,72 +77,68 @@ told known l = row_has (row_at known.rows.items l)
 abbrev known_set : Known → List ℕ → ℕ → Bool
 known_set known base = with_more known.rows.items (row_has known.none) base
 
-module _ (V : ℕ → ℕ → Bool) (facts : ℕ) (known : Known) (bound : (l m : ℕ) → V l m ≡ true → (l < 2 * facts) × (m < 2 * facts)) (are : AreKnown V (2 * facts) known) where
+module _ (V : ℕ → ℕ → Bool) (facts : ℕ) (known : Known) (bound : (l m : ℕ) → V l m ≡ true → (l < 2 * facts) × (m < 2 * facts)) (asked : ℕ → Bool) (are : AreKnown V (2 * facts) asked known) where
   pub none_within : IsSetOf (2 * facts) (row_has known.none)
   none_within = closure_within V (2 * facts) (λ l m v. (bound l m v).1) (λ l. V l l) (row_has known.none) are.none (λ m v. (bound m m v).0)
 
-  pub row_within : (k : ℕ) → k < 2 * facts → IsSetOf (2 * facts) (told known k)
-  row_within k lt = closure_within V (2 * facts) (λ l m v. (bound l m v).1) (λ m. (k == m) || row_has known.none m) (told known k) (are.each k lt)
-      (λ m h. elim (or_split (k == m) (row_has known.none m) h) [ inl e ↦ subst (λ (n : ℕ). n < 2 * facts) (test_same k m e) lt | inr n ↦ none_within m n ])
+  pub row_within : (k : ℕ) → asked k ≡ true → IsSetOf (2 * facts) (told known k)
+  row_within k ask = closure_within V (2 * facts) (λ l m v. (bound l m v).1) (λ m. k == m) (told known k) (are.each k ask)
+      (λ m e. subst (λ (n : ℕ). n < 2 * facts) (test_same k m e) (are.inside k ask))
 
   -- an element of a set of known literals
-  known_by : (base : List ℕ) → AllByRecursion (λ l. l < 2 * facts) base → (m : ℕ) (P : Type 0) → known_set known base m ≡ true → (row_has known.none m ≡ true → P) → ((l : ℕ) → Among l base → l < 2 * facts → told known l m ≡ true → P) → P
+  known_by : (base : List ℕ) → AllByRecursion (λ l. asked l ≡ true) base → (m : ℕ) (P : Type 0) → known_set known base m ≡ true → (row_has known.none m ≡ true → P) → ((l : ℕ) → Among l base → asked l ≡ true → told known l m ≡ true → P) → P
   known_by base fit m P t one two = by (or_split (row_has known.none m) _ t)
     where
       by : (row_has known.none m ≡ true) ⊎ (list_any (λ l. told known l m) base ≡ true) → P
       by (inl h) = one h
-      by (inr h) = let p = passing (λ l. told known l m) base h in two p.one p.among (each_at (λ l. l < 2 * facts) base p.one fit p.among) p.passes
+      by (inr h) = let p = passing (λ l. told known l m) base h in two p.one p.among (each_at (λ l. asked l ≡ true) base p.one fit p.among) p.passes
 
   from_one : (base : List ℕ) (l m : ℕ) → Among l base → told known l m ≡ true → known_set known base m ≡ true
   from_one base l m i t = or_right (row_has known.none m) _ (any_at (λ k. told known k m) base l i t)
 
-  pub known_within : (base : List ℕ) → AllByRecursion (λ l. l < 2 * facts) base → IsSetOf (2 * facts) (known_set known base)
+  pub known_within : (base : List ℕ) → AllByRecursion (λ l. asked l ≡ true) base → IsSetOf (2 * facts) (known_set known base)
   known_within base fit m t = known_by base fit m (m < 2 * facts) t (none_within m) (λ l i lt. row_within l lt m)
 
-  known_full : (base : List ℕ) → AllByRecursion (λ l. l < 2 * facts) base → HasNoPair (known_set known base) → IsFull V base (known_set known base)
+  known_full : (base : List ℕ) → AllByRecursion (λ l. asked l ≡ true) base → HasNoPair (known_set known base) → IsFull V base (known_set known base)
   known_full base fit free = record {
-    given = each_from _ base (λ l i. from_one base l l i ((are.each l (each_at (λ k. k < 2 * facts) base l fit i)).given l (or_left _ _ (same_test l l refl))));
+    given = each_from _ base (λ l i. from_one base l l i ((are.each l (each_at (λ k. asked k ≡ true) base l fit i)).given l (same_test l l refl)));
     single = λ l v. or_left _ _ (are.none.given l v);
     chain = λ x y t v. known_by base fit x (known_set known base y ≡ true) t
         (λ h. or_left _ _ (are.none.chained (λ f a b. free f (or_left _ _ a) (or_left _ _ b)) x y h v))
         (λ l i lt h. from_one base l y i ((are.each l lt).chained (λ f a b. free f (from_one base l (2 * f) i a) (from_one base l (2 * f + 1) i b)) x y h v));
   }
 
-  pub known_sound : (base : List ℕ) → AllByRecursion (λ l. l < 2 * facts) base → (m : ℕ) → known_set known base m ≡ true → IsKnown V base m
+  pub known_sound : (base : List ℕ) → AllByRecursion (λ l. asked l ≡ true) base → (m : ℕ) → known_set known base m ≡ true → IsKnown V base m
   known_sound base fit m t set full = known_by base fit m (set m ≡ true) t (low m)
-      (λ l i lt h. (are.each l lt).sound set full.chain (λ k s. start l i k (or_split (l == k) (row_has known.none k) s)) m h)
+      (λ l i lt h. (are.each l lt).sound set full.chain (λ k e. subst (λ (n : ℕ). set n ≡ true) (test_same l k e) (each_at (λ n. set n ≡ true) base l full.given i)) m h)
     where
       low : (m : ℕ) → row_has known.none m ≡ true → set m ≡ true
       low m h = are.none.sound set full.chain full.single m h
 
-      start : (l : ℕ) → Among l base → (k : ℕ) → ((l == k) ≡ true) ⊎ (row_has known.none k ≡ true) → set k ≡ true
-      start l i k (inl e) = subst (λ (n : ℕ). set n ≡ true) (test_same l k e) (each_at (λ n. set n ≡ true) base l full.given i)
-      start l i k (inr n) = low k n
-
   -- what is known is told, where no contradiction is
-  pub known_told : (base : List ℕ) → AllByRecursion (λ l. l < 2 * facts) base → HasNoPair (known_set known base) → (m : ℕ) → IsKnown V base m → known_set known base m ≡ true
+  pub known_told : (base : List ℕ) → AllByRecursion (λ l. asked l ≡ true) base → HasNoPair (known_set known base) → (m : ℕ) → IsKnown V base m → known_set known base m ≡ true
   known_told base fit free m k = k (known_set known base) (known_full base fit free)
 
-  pub consistent_from : (base : List ℕ) → AllByRecursion (λ l. l < 2 * facts) base → HasNoPair (known_set known base) → IsConsistent V base
+  pub consistent_from : (base : List ℕ) → AllByRecursion (λ l. asked l ≡ true) base → HasNoPair (known_set known base) → IsConsistent V base
   consistent_from base fit free l a b = pair_of (known_set known base) l free (known_told base fit free l a) (known_told base fit free (opposite l) b)
 
-  pub consistent_to : (base : List ℕ) → AllByRecursion (λ l. l < 2 * facts) base → IsConsistent V base → HasNoPair (known_set known base)
+  pub consistent_to : (base : List ℕ) → AllByRecursion (λ l. asked l ≡ true) base → IsConsistent V base → HasNoPair (known_set known base)
   consistent_to base fit c f a b = c (2 * f) (known_sound base fit (2 * f) a)
       (subst (IsKnown V base) (sym (add_opposite (2 * f) f refl)) (known_sound base fit (2 * f + 1) b))
 
-  all_told : (base lits : List ℕ) → AllByRecursion (λ l. l < 2 * facts) base → HasNoPair (known_set known base) → AllKnown V base lits → list_all (known_set known base) lits ≡ true
+  all_told : (base lits : List ℕ) → AllByRecursion (λ l. asked l ≡ true) base → HasNoPair (known_set known base) → AllKnown V base lits → list_all (known_set known base) lits ≡ true
   all_told base lits fit free all = all_from _ lits (λ l i. known_told base fit free l (each_at (IsKnown V base) lits l all i))
 
-  all_sound : (base lits : List ℕ) → AllByRecursion (λ l. l < 2 * facts) base → list_all (known_set known base) lits ≡ true → AllKnown V base lits
+  all_sound : (base lits : List ℕ) → AllByRecursion (λ l. asked l ≡ true) base → list_all (known_set known base) lits ≡ true → AllKnown V base lits
   all_sound base lits fit t = each_from _ lits (λ l i. known_sound base fit l (all_at _ lits l t i))
 
   -- ---- an action
 
-  module _ (x : Action) (fits : ActionFits (2 * facts) x) where
+  module _ (x : Action) (fits : AsksAmong asked x) where
     abbrev MayTake : List ℕ → ℕ → Type 0
     MayTake base l = IsConsistent V base × (is_add l ≡ true → AllByRecursion (λ f. f.literal ≡ l → AllKnown V base f.condition → ⊥) x.effects)
 
-    may_to : (base : List ℕ) (l : ℕ) → AllByRecursion (λ k. k < 2 * facts) base → may_take facts (known_set known base) x.effects l ≡ true → MayTake base l
+    may_to : (base : List ℕ) (l : ℕ) → AllByRecursion (λ k. asked k ≡ true) base → may_take facts (known_set known base) x.effects l ≡ true → MayTake base l
     may_to base l fit t =
         let p = and_split _ _ t in
         let free = no_pair_to facts (known_set known base) (known_within base fit) p.0 in (
@@ -153,7 +149,7 @@ module _ (V : ℕ → ℕ → Bool) (facts : ℕ) (known : Known) (bound : (l m 
               (not_split _ p.1)),
         )
 
-    may_from : (base : List ℕ) (l : ℕ) → AllByRecursion (λ k. k < 2 * facts) base → MayTake base l → may_take facts (known_set known base) x.effects l ≡ true
+    may_from : (base : List ℕ) (l : ℕ) → AllByRecursion (λ k. asked k ≡ true) base → MayTake base l → may_take facts (known_set known base) x.effects l ≡ true
     may_from base l fit m =
         and_both _ _ (no_pair_from facts (known_set known base) (consistent_to base fit m.0))
         (not_false _ (not_true _ (λ h.
@@ -162,17 +158,17 @@ module _ (V : ℕ → ℕ → Bool) (facts : ℕ) (known : Known) (bound : (l m 
         let r = and_split (q.one.literal == l) _ q.passes in
         each_at (λ f. f.literal ≡ l → AllKnown V base f.condition → ⊥) x.effects q.one (m.1 p.0) q.among (test_same _ _ r.0) (all_sound base q.one.condition fit r.1))))
 
-    condition_fits : (e : Effect) → Among e x.effects → AllByRecursion (λ k. k < 2 * facts) e.condition
-    condition_fits e i = (each_at (EffectFits (2 * facts)) x.effects e fits.effects i).condition
+    condition_fits : (e : Effect) → Among e x.effects → AllByRecursion (λ k. asked k ≡ true) e.condition
+    condition_fits e i = each_at (λ f. AllByRecursion (λ l. asked l ≡ true) f.condition) x.effects e fits.conditions i
 
-    takes_to : (more : List ℕ) (e : Effect) (l : ℕ) → AllByRecursion (λ k. k < 2 * facts) more → Among e x.effects
+    takes_to : (more : List ℕ) (e : Effect) (l : ℕ) → AllByRecursion (λ k. asked k ≡ true) more → Among e x.effects
         → ((e.literal == opposite l) && may_take facts (known_set known (x.precondition ++ (more ++ e.condition))) x.effects l) ≡ true → Takes V x more e l
     takes_to more e l fit i t =
         let p = and_split _ _ t in
         let m = may_to (x.precondition ++ (more ++ e.condition)) l (all_joined _ _ _ fits.precondition (all_joined _ more _ fit (condition_fits e i))) p.1 in
         record { against = test_same _ _ p.0; consistent = m.0; stands = m.1 }
 
-    takes_from : (more : List ℕ) (e : Effect) (l : ℕ) → AllByRecursion (λ k. k < 2 * facts) more → Among e x.effects
+    takes_from : (more : List ℕ) (e : Effect) (l : ℕ) → AllByRecursion (λ k. asked k ≡ true) more → Among e x.effects
         → Takes V x more e l → ((e.literal == opposite l) && may_take facts (known_set known (x.precondition ++ (more ++ e.condition))) x.effects l) ≡ true
     takes_from more e l fit i t =
         and_both _ _ (same_test _ _ t.against)
@@ -185,15 +181,15 @@ module _ (V : ℕ → ℕ → Bool) (facts : ℕ) (known : Known) (bound : (l m 
         ∙ more_twice known.rows.items (known_set known x.precondition) more c
         ∙ more_twice known.rows.items (row_has known.none) x.precondition (more ++ c)
 
-    loses_to : (more : List ℕ) (l : ℕ) → AllByRecursion (λ k. k < 2 * facts) more → loses_by facts known.rows.items (known_set known (x.precondition ++ more)) x.effects x.effects l ≡ true → Loses V x more l
+    loses_to : (more : List ℕ) (l : ℕ) → AllByRecursion (λ k. asked k ≡ true) more → loses_by facts known.rows.items (known_set known (x.precondition ++ more)) x.effects x.effects l ≡ true → Loses V x more l
     loses_to more l fit = test_any (λ e. Takes V x more e l) _ x.effects (λ e i t. takes_to more e l fit i
         (subst (λ (s : ℕ → Bool). ((e.literal == opposite l) && may_take facts s x.effects l) ≡ true) (here_is more e.condition) t))
 
-    loses_from : (more : List ℕ) (l : ℕ) → AllByRecursion (λ k. k < 2 * facts) more → Loses V x more l → loses_by facts known.rows.items (known_set known (x.precondition ++ more)) x.effects x.effects l ≡ true
+    loses_from : (more : List ℕ) (l : ℕ) → AllByRecursion (λ k. asked k ≡ true) more → Loses V x more l → loses_by facts known.rows.items (known_set known (x.precondition ++ more)) x.effects x.effects l ≡ true
     loses_from more l fit = any_test (λ e. Takes V x more e l) _ x.effects (λ e i t.
         subst (λ (s : ℕ → Bool). ((e.literal == opposite l) && may_take facts s x.effects l) ≡ true) (sym (here_is more e.condition)) (takes_from more e l fit i t))
 
-    sure_to : (more : List ℕ) (m : ℕ) → AllByRecursion (λ k. k < 2 * facts) more → is_sure facts known.rows.items (known_set known (x.precondition ++ more)) x.effects m ≡ true → Sure V x more m
+    sure_to : (more : List ℕ) (m : ℕ) → AllByRecursion (λ k. asked k ≡ true) more → is_sure facts known.rows.items (known_set known (x.precondition ++ more)) x.effects m ≡ true → Sure V x more m
     sure_to more m fit t = record {
       stays = λ loses. apart _ (loses_from more m fit loses) (not_split _ (and_split _ _ t).1);
       holds = by (or_split _ _ (and_split _ _ t).0);
@@ -203,7 +199,7 @@ module _ (V : ℕ → ℕ → Bool) (facts : ℕ) (known : Known) (bound : (l m 
         by (inl h) = inl (known_sound (x.precondition ++ more) (all_joined _ _ _ fits.precondition fit) m h)
         by (inr h) = inr (test_any _ _ x.effects (λ e i g. let p = and_split _ _ g in (test_same _ _ p.0, all_sound (x.precondition ++ more) e.condition (all_joined _ _ _ fits.precondition fit) p.1)) h)
 
-    sure_from : (more : List ℕ) (m : ℕ) → AllByRecursion (λ k. k < 2 * facts) more → IsConsistent V (x.precondition ++ more) → Sure V x more m → is_sure facts known.rows.items (known_set known (x.precondition ++ more)) x.effects m ≡ true
+    sure_from : (more : List ℕ) (m : ℕ) → AllByRecursion (λ k. asked k ≡ true) more → IsConsistent V (x.precondition ++ more) → Sure V x more m → is_sure facts known.rows.items (known_set known (x.precondition ++ more)) x.effects m ≡ true
     sure_from more m fit c sure =
         and_both _ _ (by sure.holds) (not_false _ (not_true _ (λ h. sure.stays (loses_to more m fit h))))
       where

@@ -99,14 +99,14 @@ effects_more old new effects i e l test lt at more =
     ∙ sym (nested (group_with old l test) ((e.literal == l) && test e.condition) (effect_with (drop (i + 1) effects) l test))
     ∙ ap (λ (b : Bool). group_with old l test || b) (sym (any_rest (λ f. (f.literal == l) && test f.condition) effects i e lt at))
 
-and_one : (b : Bool) → (b && true) ≡ b
+pub and_one : (b : Bool) → (b && true) ≡ b
 and_one true = refl
 and_one false = refl
 
 -- ---- what may be lost
 
--- one more group is looked at
-pub lost_more : (p : Group → Bool) (groups : List Group) (i : ℕ) (g : Group) (before after : Bool) → i < length groups → g ≡ get_or groups i g → after ≡ (before && not (p g))
+-- one more group, or list of losses, is looked at
+pub lost_more : {A : Type 0} (p : A → Bool) (groups : List A) (i : ℕ) (g : A) (before after : Bool) → i < length groups → g ≡ get_or groups i g → after ≡ (before && not (p g))
     → (after && not (list_any p (drop (i + 1) groups))) ≡ (before && not (list_any p (drop i groups)))
 lost_more p groups i g before after lt at is =
     ap (λ (b : Bool). b && not (list_any p (drop (i + 1) groups))) is

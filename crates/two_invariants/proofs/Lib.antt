@@ -6,5 +6,9 @@ pub mod Closing
 pub mod Exact
 pub mod Steps
 pub mod Grouping
+pub mod Dropping
+pub mod Renewing
+pub mod Unmoved
+pub mod Contradicted
 pub mod RoundLaw
 pub mod Oks

@@ -1,5 +1,5 @@
 use Rattle.std.proofs.Common.{arith, ◌≡◌, ◌==◌, ℕ, suc, ◌+◌, ◌*◌, ◌/◌, ◌<◌, ◌≤◌, List, [], ◌∷◌, length, Bool, true, false, not, ◌&&◌, ◌||◌, refl, ap, sym, ◌∙◌, ◌⊎◌, inl, inr, subst}
-use Rattle.std.specs.Prelude.{if◌then◌else◌}
+use Rattle.std.specs.Prelude.{if◌then◌else◌, slice_index}
 use Rattle.std.specs.List.{list_any, AllByRecursion, AllZip, range_with_len}
 use Rattle.std.proofs.lemmas.Bool.{cases_lt}
 use Rattle.std.proofs.lemmas.Bool.Decides.{nat_tests}
@@ -8,14 +8,18 @@ use Rattle.gt_core.specs.Lawful.{is_task, is_action}
 use Rattle.gt_core.specs.Active.{EffectWithin}
 use Rattle.gt_core.specs.Interference.{has_clause}
 use Rattle.gt_core.specs.Clauses.{KnownClauses, IsKnownClauses}
-use Rattle.gt_core.proofs.Basics.{Among, passing, any_at, or_split, or_left, or_right, and_split, and_both, not_false, cases, same_test, apart, each_at, each_from, all_at}
+use Rattle.gt_core.proofs.Basics.{Among, passing, any_at, or_split, or_left, or_right, and_split, and_both, not_false, cases, same_test, test_same, same_if, and_same, apart, each_at, each_from, all_at}
 use Rattle.gt_core.proofs.Within.{lawful, literals_within, effects_within, among_at}
 use Rattle.two_invariants.specs.Breaks.{BreaksBy, Breaks}
 use Rattle.two_invariants.specs.Closed.{IsClosed, AreInvariants}
 use Rattle.two_invariants.specs.Rows.{clause_in, AreRows, total}
 use Rattle.bit_rows.specs.Bits.{row_has}
-use Rattle.two_invariants.specs.Tested.{AreKnown, ActionFits, AreRowsOf, IsSetOf, breaks_by, are_lost, act_at, IsLossOf, AreLossesOf, LossFits}
-use Rattle.two_invariants.specs.Rounds.{breaks_any, clause_count, IsRound, Surrounds}
+use Rattle.two_invariants.specs.Tested.{AreKnown, AsksAmong, ActionFits, AreRowsOf, IsSetOf, breaks_by, are_lost, act_at, IsLossOf, AreLossesOf, LossFits}
+use Rattle.two_invariants.specs.Rounds.{breaks_any, clause_count, IsRound, IsTested, Surrounds}
+use Rattle.two_invariants.specs.Renewed.{IsSettled, WereKnown, AreMoves, is_unmoved}
+use Rattle.two_invariants.specs.declared.again.Moved.{Moved}
+use Rattle.two_invariants.proofs.Unmoved.{breaks_same}
+use Rattle.gt_core.specs.Literal.{opposite}
 use Rattle.two_invariants.specs.declared.known.Known.{Known}
 use Rattle.two_invariants.specs.declared.broken.Loss.{Loss}
 use Rattle.two_invariants.proofs.Lists.{all_map}
@@ -51,14 +55,41 @@ fits_at size xs a all lt = each_at (ActionFits size) xs (act_at xs a) all (among
 
 -- ---- lists of losses, one an action
 
-pub zip_acts : {B : Type 0} (P : Action → B → Type 0) (f : ℕ → Action) (xs : List Action) (k : ℕ) (ls : List B) → ((i : ℕ) → f (k + i) ≡ act_at xs i) → AllZip (λ a l. P (f a) l) (range_with_len k (length xs)) ls → AllZip P xs ls
-zip_acts P f [] k [] same z = tt
-zip_acts P f [] k (l ∷ ls) same z = z
-zip_acts P f (x ∷ xs) k [] same z = z
-zip_acts P f (x ∷ xs) k (l ∷ ls) same z = (
-  subst (λ (y : Action). P y l) (ap f (omega arith) ∙ same 0) z.0,
-  zip_acts P f xs (k + 1) ls (λ i. ap f (omega arith) ∙ same (suc i)) z.1,
+-- the actions with some numbers
+abbrev pub picked : List Action → List ℕ → List Action
+picked acts [] = []
+picked acts (a ∷ todo) = act_at acts a ∷ picked acts todo
+
+pub zip_picked : {B : Type 0} (P : Action → B → Type 0) (acts : List Action) (f : ℕ → ℕ) (todo : List ℕ) (k : ℕ) (ls : List B) → ((i : ℕ) → f (k + i) ≡ slice_index todo i) → AllZip (λ i l. P (act_at acts (f i)) l) (range_with_len k (length todo)) ls → AllZip P (picked acts todo) ls
+zip_picked P acts f [] k [] same z = tt
+zip_picked P acts f [] k (l ∷ ls) same z = z
+zip_picked P acts f (a ∷ todo) k [] same z = z
+zip_picked P acts f (a ∷ todo) k (l ∷ ls) same z = (
+  subst (λ (b : ℕ). P (act_at acts b) l) (ap f (omega arith) ∙ same 0) z.0,
+  zip_picked P acts f todo (k + 1) ls (λ i. ap f (omega arith) ∙ same (suc i)) z.1,
 )
+
+pub zip_of : {B : Type 0} (it : B → List Loss) (n facts : ℕ) (given rows : List (List ℕ)) (xs acts : List Action) (known : Known) (todo : List ℕ) (lists : List B) → n ≡ facts → given ≡ rows → xs ≡ acts
+    → AllZip (λ i l. AreLossesOf n known given (act_at xs (slice_index todo i)) (it l)) (range_with_len 0 (length todo)) lists
+    → AllZip (λ x l. AreLossesOf facts known rows x (it l)) (picked acts todo) lists
+zip_of {B} it n facts given rows xs acts known todo lists e f h z =
+    let Zip : ℕ → List (List ℕ) → List Action → Type 0 = λ k r ys. AllZip (λ i (l : B). AreLossesOf k known r (act_at ys (slice_index todo i)) (it l)) (range_with_len 0 (length todo)) lists in
+    zip_picked (λ x (l : B). AreLossesOf facts known rows x (it l)) acts (slice_index todo) todo 0 lists (λ i. ap (slice_index todo) (omega arith))
+    (subst (λ (k : ℕ). Zip k rows acts) e (subst (λ (r : List (List ℕ)). Zip n r acts) f (subst (λ (ys : List Action). Zip n given ys) h z)))
+
+-- a number that is listed picks its action, and each that is picked has one
+picked_at : (acts : List Action) (todo : List ℕ) (a : ℕ) → list_any (λ b. b == a) todo ≡ true → Among (act_at acts a) (picked acts todo)
+picked_at acts [] a t = absurd (let e : false ≡ true = t in cc)
+picked_at acts (b ∷ todo) a t = by (or_split (b == a) _ t) (picked_at acts todo a)
+  where
+    by : ((b == a) ≡ true) ⊎ (list_any (λ c. c == a) todo ≡ true) → (list_any (λ c. c == a) todo ≡ true → Among (act_at acts a) (picked acts todo)) → Among (act_at acts a) (picked acts (b ∷ todo))
+    by (inl e) more = inl (ap (act_at acts) (sym (test_same b a e)))
+    by (inr h) more = inr (more h)
+
+among_picked : (acts : List Action) (todo : List ℕ) (x : Action) → AllByRecursion (λ a. a < length acts) todo → Among x (picked acts todo) → Among x acts
+among_picked acts [] x all i = absurd i
+among_picked acts (a ∷ todo) x all (inl e) = subst (λ (y : Action). Among y acts) (sym e) (among_at acts a _ all.0)
+among_picked acts (a ∷ todo) x all (inr i) = among_picked acts todo x all.1 i
 
 module _ {B : Type 0} (it : B → List Loss) (facts : ℕ) (known : Known) (clauses : List (List ℕ)) where
   abbrev lost_in_some : List B → ℕ → ℕ → Bool
@@ -132,25 +163,26 @@ module _ {B : Type 0} (it : B → List Loss) (facts : ℕ) (known : Known) (clau
   all_fit rows (x ∷ xs) (l ∷ ls) z = (fits_of rows (it l) z.0.each, all_fit rows xs ls z.1)
 
 -- the rows of what is known
-pub known_rows : (V : ℕ → ℕ → Bool) (facts : ℕ) (known : Known) → ((l m : ℕ) → V l m ≡ true → (l < 2 * facts) × (m < 2 * facts)) → AreKnown V (2 * facts) known → AreRowsOf (2 * facts) known.rows.items
-known_rows V facts known bound are = record {
+pub known_rows : (V : ℕ → ℕ → Bool) (facts : ℕ) (known : Known) (asked : ℕ → Bool) → ((l m : ℕ) → V l m ≡ true → (l < 2 * facts) × (m < 2 * facts)) → AreKnown V (2 * facts) asked known → AreRowsOf (2 * facts) known.rows.items
+known_rows V facts known asked bound are = record {
   long = are.long;
-  each = λ k m t. elim (cases_lt k (2 * facts)) [
-    | inl lt ↦ row_within V facts known bound are k lt m t
-    | inr le ↦ absurd (apart (clause_in known.rows.items k m) t (past_rows known.rows.items k m (let n = are.long in omega arith)))
-  ];
+  each = λ k m t. by k m t (cases (asked k));
 }
+  where
+    by : (k m : ℕ) → clause_in known.rows.items k m ≡ true → (asked k ≡ true) ⊎ (asked k ≡ false) → m < 2 * facts
+    by k m t (inl h) = row_within V facts known bound asked are k h m t
+    by k m t (inr n) = absurd (apart (clause_in known.rows.items k m) t (are.other k m n))
 
 pub both_within : (facts : ℕ) (rows : List (List ℕ)) → AreRows facts rows → ((l m : ℕ) → clause_in rows l m ≡ clause_in rows m l) → (l m : ℕ) → clause_in rows l m ≡ true → (l < 2 * facts) × (m < 2 * facts)
 both_within facts rows are either l m t = (are.within m l (sym (either l m) ∙ t), are.within l m t)
 
--- what is known for rows that were lent, of so many facts by another name
-pub known_fit : (n facts : ℕ) (given rows : List (List ℕ)) (known : Known) → n ≡ facts → given ≡ rows → AreRows facts rows → ((l m : ℕ) → clause_in rows l m ≡ clause_in rows m l) → AreKnown (clause_in given) (2 * n) known
+-- what is known for so many facts by another name
+pub known_fit : (n facts : ℕ) (rows : List (List ℕ)) (known : Known) (asked : ℕ → Bool) → n ≡ facts → AreRows facts rows → ((l m : ℕ) → clause_in rows l m ≡ clause_in rows m l) → AreKnown (clause_in rows) (2 * facts) asked known
     → AreRowsOf (2 * n) known.rows.items × IsSetOf (2 * n) (row_has known.none)
-known_fit n facts given rows known same lent of either are =
-    let bound = both_within n rows (subst (λ (k : ℕ). AreRows k rows) (sym same) of) either in
-    let here = subst (λ (r : List (List ℕ)). AreKnown (clause_in r) (2 * n) known) lent are in
-    (known_rows (clause_in rows) n known bound here, none_within (clause_in rows) n known bound here)
+known_fit n facts rows known asked same of either are =
+    let bound = both_within facts rows of either in
+    subst (λ (k : ℕ). AreRowsOf (2 * k) known.rows.items × IsSetOf (2 * k) (row_has known.none)) (sym same)
+    (known_rows (clause_in rows) facts known asked bound are, none_within (clause_in rows) facts known bound asked are)
 
 -- ---- counts
 
@@ -194,58 +226,101 @@ and_not_false true false e = refl
 and_not_false false false e = refl
 and_not_false p true e = cc
 
+-- the actions that are not tested break nothing
+module _ (task : Task) (known : Known) (clauses : List (List ℕ)) (todo : List ℕ) (tested : IsTested task known clauses todo) (either : (l m : ℕ) → clause_in clauses l m ≡ clause_in clauses m l) where
+  abbrev breaks_clause : ℕ → ℕ → Action → Bool
+  breaks_clause l m x = breaks_by task.facts known x l m || breaks_by task.facts known x m l
+
+  pub picked_all : (l m : ℕ) → breaks_any task.facts known (picked task.actions todo) l m ≡ true → breaks_any task.facts known task.actions l m ≡ true
+  picked_all l m t = let p = passing (breaks_clause l m) (picked task.actions todo) t in any_at (breaks_clause l m) task.actions p.one (among_picked task.actions todo p.one tested.numbers p.among) p.passes
+
+  unbroken : (x : Action) (l m : ℕ) → IsSettled task.facts known clauses x → clause_in clauses l m ≡ true → breaks_clause l m x ≡ true → ⊥
+  unbroken x l m settled v t = by (or_split (breaks_by task.facts known x l m) (breaks_by task.facts known x m l) t)
+    where
+      by : (breaks_by task.facts known x l m ≡ true) ⊎ (breaks_by task.facts known x m l ≡ true) → ⊥
+      by (inl b) = apart (clause_in clauses l m && breaks_by task.facts known x l m) (and_both _ _ v b) (settled l m)
+      by (inr b) = apart (clause_in clauses m l && breaks_by task.facts known x m l) (and_both _ _ (either m l ∙ v) b) (settled m l)
+
+  pub all_picked : (l m : ℕ) → clause_in clauses l m ≡ true → breaks_any task.facts known task.actions l m ≡ true → breaks_any task.facts known (picked task.actions todo) l m ≡ true
+  all_picked l m v t =
+      let p = passing (breaks_clause l m) task.actions t in
+      let n = at_number task.actions p.one p.among in
+      by p.one p.passes n.0 n.2 (tested.settled n.0 n.1)
+    where
+      by : (x : Action) → breaks_clause l m x ≡ true → (a : ℕ) → x ≡ act_at task.actions a → (list_any (λ b. b == a) todo ≡ true) ⊎ IsSettled task.facts known clauses (act_at task.actions a) → breaks_any task.facts known (picked task.actions todo) l m ≡ true
+      by x h a e (inl listed) = any_at (breaks_clause l m) (picked task.actions todo) (act_at task.actions a) (picked_at task.actions todo a listed) (ap (breaks_clause l m) (sym e) ∙ h)
+      by x h a e (inr settled) = absurd (unbroken (act_at task.actions a) l m settled v (ap (breaks_clause l m) (sym e) ∙ h))
+
+  pub same_kept : (l m : ℕ) → (clause_in clauses l m && not (breaks_any task.facts known (picked task.actions todo) l m)) ≡ (clause_in clauses l m && not (breaks_any task.facts known task.actions l m))
+  same_kept l m = and_same (clause_in clauses l m) _ _ (λ v. ap not (same_if _ _ (picked_all l m) (all_picked l m v)))
+
 -- a round by lists of losses
-pub round_is : {B : Type 0} (it : B → List Loss) (task : Task) (before after : List (List ℕ)) (known : Known) (lists : List B) (dropped : Bool)
-    → AreRows task.facts before → ((l m : ℕ) → clause_in before l m ≡ clause_in before m l) → AreKnown (clause_in before) (2 * task.facts) known
-    → AllZip (λ x l. AreLossesOf task.facts known before x (it l)) task.actions lists
+pub round_is : {B : Type 0} (it : B → List Loss) (task : Task) (before after : List (List ℕ)) (known : Known) (todo : List ℕ) (lists : List B) (dropped : Bool)
+    → AreRows task.facts before → ((l m : ℕ) → clause_in before l m ≡ clause_in before m l) → IsTested task known before todo
+    → AllZip (λ x l. AreLossesOf task.facts known before x (it l)) (picked task.actions todo) lists
     → ((a b : ℕ) → clause_in after a b ≡ (clause_in before a b && not (list_any (λ l. are_lost (it l) a b || are_lost (it l) b a) lists)))
-    → dropped ≡ list_any (λ l. not (length (it l) == 0)) lists → IsRound task before after dropped
-round_is it task before after known lists dropped rows either are zip has is =
-    let kept = λ (l m : ℕ). has l m ∙ kept_is it task.facts known before task.actions lists zip l m (either l m) in
+    → dropped ≡ list_any (λ l. not (length (it l) == 0)) lists → IsRound task known before after dropped
+round_is it task before after known todo lists dropped rows either tested zip has is =
+    let kept = λ (l m : ℕ). has l m ∙ kept_is it task.facts known before (picked task.actions todo) lists zip l m (either l m) ∙ same_kept task known before todo tested either l m in
     record {
-      known = known;
-      are = are;
       kept = kept;
-      fewer = λ t. (let d = some_loss it task.facts known before task.actions lists zip (sym is ∙ t) in
+      fewer = λ t. (let d = some_loss it task.facts known before (picked task.actions todo) lists zip (sym is ∙ t) in
           count_less (2 * task.facts) before after (λ l m h. (and_split _ _ (sym (kept l m) ∙ h)).0) d.l d.m d.below (rows.within d.l d.m d.clause) d.clause
-          (kept d.l d.m ∙ and_not_true (clause_in before d.l d.m) (breaks_any task.facts known task.actions d.l d.m) d.broken));
+          (kept d.l d.m ∙ and_not_true (clause_in before d.l d.m) (breaks_any task.facts known task.actions d.l d.m) (picked_all task known before todo tested either d.l d.m d.broken)));
       same = λ f l m. has l m ∙ and_not_false (clause_in before l m) _ (none_lost it task.facts known before lists l m (sym is ∙ f));
     }
 
-module _ (task : Task) (lawful_task : is_task task ≡ true) (before : List (List ℕ)) (rows : AreRows task.facts before) (around : Surrounds task before) where
+-- after a round no action breaks what is left, by what was known
+pub all_settled : (task : Task) (known : Known) (before after : List (List ℕ)) (dropped : Bool) → ((l m : ℕ) → clause_in before l m ≡ clause_in before m l) → IsRound task known before after dropped → (x : Action) → Among x task.actions → IsSettled task.facts known after x
+all_settled task known before after dropped either round x i l m = by (cases (breaks_by task.facts known x l m))
+  where
+    none : (b c : Bool) → c ≡ false → (b && c) ≡ false
+    none true c e = e
+    none false c e = refl
+
+    off : (a b : Bool) → a ≡ false → (a && b) ≡ false
+    off true b e = cc
+    off false b e = refl
+
+    by : (breaks_by task.facts known x l m ≡ true) ⊎ (breaks_by task.facts known x l m ≡ false) → (clause_in after l m && breaks_by task.facts known x l m) ≡ false
+    by (inl t) = off _ _ (round.kept l m ∙ and_not_true (clause_in before l m) _ (any_at (λ y. breaks_by task.facts known y l m || breaks_by task.facts known y m l) task.actions x i (or_left _ _ t)))
+    by (inr n) = none _ _ n
+
+module _ (task : Task) (asked : ℕ → Bool) (among : AllByRecursion (AsksAmong asked) task.actions) (before : List (List ℕ)) (rows : AreRows task.facts before) (around : Surrounds task before)
+    (known : Known) (are : AreKnown (clause_in before) (2 * task.facts) asked known) where
   bound : (l m : ℕ) → clause_in before l m ≡ true → (l < 2 * task.facts) × (m < 2 * task.facts)
   bound = both_within task.facts before rows around.either
 
-  module _ (after : List (List ℕ)) (dropped : Bool) (round : IsRound task before after dropped) where
+  module _ (after : List (List ℕ)) (dropped : Bool) (round : IsRound task known before after dropped) where
     fewer : (l m : ℕ) → clause_in after l m ≡ true → clause_in before l m ≡ true
     fewer l m t = (and_split _ _ (sym (round.kept l m) ∙ t)).0
 
     -- an action that breaks a clause by the tests breaks it
-    truly : (x : Action) → Among x task.actions → (l m : ℕ) → (breaks_by task.facts round.known x l m || breaks_by task.facts round.known x m l) ≡ true → Breaks (clause_in before) x l m
+    truly : (x : Action) → Among x task.actions → (l m : ℕ) → (breaks_by task.facts known x l m || breaks_by task.facts known x m l) ≡ true → Breaks (clause_in before) x l m
     truly x i l m t = breaks_either (clause_in before) x l m (by (or_split _ _ t))
       where
-        by : (breaks_by task.facts round.known x l m ≡ true) ⊎ (breaks_by task.facts round.known x m l ≡ true) → BreaksBy (clause_in before) x l m ⊎ BreaksBy (clause_in before) x m l
-        by (inl h) = inl (breaks_to (clause_in before) task.facts round.known bound round.are x (each_at _ task.actions x (actions_fit task lawful_task) i) l m h)
-        by (inr h) = inr (breaks_to (clause_in before) task.facts round.known bound round.are x (each_at _ task.actions x (actions_fit task lawful_task) i) m l h)
+        by : (breaks_by task.facts known x l m ≡ true) ⊎ (breaks_by task.facts known x m l ≡ true) → BreaksBy (clause_in before) x l m ⊎ BreaksBy (clause_in before) x m l
+        by (inl h) = inl (breaks_to (clause_in before) task.facts known bound asked are x (each_at (AsksAmong asked) task.actions x among i) l m h)
+        by (inr h) = inr (breaks_to (clause_in before) task.facts known bound asked are x (each_at (AsksAmong asked) task.actions x among i) m l h)
 
     -- no clause of a closed set is dropped
     closed_stay : (V : ℕ → ℕ → Bool) → IsClosed task V → (l m : ℕ) → V l m ≡ true → clause_in after l m ≡ true
-    closed_stay V closed l m v = round.kept l m ∙ and_both _ _ (around.greatest V closed l m v) (not_false _ (off (cases (breaks_any task.facts round.known task.actions l m))))
+    closed_stay V closed l m v = round.kept l m ∙ and_both _ _ (around.greatest V closed l m v) (not_false _ (off (cases (breaks_any task.facts known task.actions l m))))
       where
-        broken : breaks_any task.facts round.known task.actions l m ≡ true → ⊥
+        broken : breaks_any task.facts known task.actions l m ≡ true → ⊥
         broken t =
-            let p = passing (λ x. breaks_by task.facts round.known x l m || breaks_by task.facts round.known x m l) task.actions t in
+            let p = passing (λ x. breaks_by task.facts known x l m || breaks_by task.facts known x m l) task.actions t in
             let n = at_number task.actions p.one p.among in
             let b = truly p.one p.among l m p.passes in
             closed.unbroken n.0 n.1 l m v (subst (λ (x : Action). Breaks V x l m) n.2 (breaks_less V (clause_in before) (around.greatest V closed) p.one l m b))
 
-        off : (breaks_any task.facts round.known task.actions l m ≡ true) ⊎ (breaks_any task.facts round.known task.actions l m ≡ false) → breaks_any task.facts round.known task.actions l m ≡ false
+        off : (breaks_any task.facts known task.actions l m ≡ true) ⊎ (breaks_any task.facts known task.actions l m ≡ false) → breaks_any task.facts known task.actions l m ≡ false
         off (inl t) = absurd (broken t)
         off (inr f) = f
 
     pub still_around : Surrounds task after
     still_around = record {
-      either = λ l m. round.kept l m ∙ (λ i. around.either l m i && not (either_any task.facts round.known task.actions l m i)) ∙ sym (round.kept m l);
+      either = λ l m. round.kept l m ∙ (λ i. around.either l m i && not (either_any task.facts known task.actions l m i)) ∙ sym (round.kept m l);
       proper = λ l m t. around.proper l m (fewer l m t);
       initial = λ l m t. around.initial l m (fewer l m t);
       greatest = closed_stay;
@@ -254,12 +329,12 @@ module _ (task : Task) (lawful_task : is_task task ≡ true) (before : List (Lis
     -- where nothing was dropped, no action breaks what is left
     none_broken : dropped ≡ false → (x : Action) → Among x task.actions → (l m : ℕ) → clause_in before l m ≡ true → Breaks (clause_in before) x l m → ⊥
     none_broken none x i l m t b = apart (clause_in after l m) (round.same none l m ∙ t)
-        (round.kept l m ∙ and_not_true (clause_in before l m) (breaks_any task.facts round.known task.actions l m)
-        (any_at (λ y. breaks_by task.facts round.known y l m || breaks_by task.facts round.known y m l) task.actions x i (by (either_breaks (clause_in before) x l m b))))
+        (round.kept l m ∙ and_not_true (clause_in before l m) (breaks_any task.facts known task.actions l m)
+        (any_at (λ y. breaks_by task.facts known y l m || breaks_by task.facts known y m l) task.actions x i (by (either_breaks (clause_in before) x l m b))))
       where
-        by : BreaksBy (clause_in before) x l m ⊎ BreaksBy (clause_in before) x m l → (breaks_by task.facts round.known x l m || breaks_by task.facts round.known x m l) ≡ true
-        by (inl h) = or_left _ _ (breaks_from (clause_in before) task.facts round.known bound round.are x (each_at _ task.actions x (actions_fit task lawful_task) i) l m h)
-        by (inr h) = or_right _ _ (breaks_from (clause_in before) task.facts round.known bound round.are x (each_at _ task.actions x (actions_fit task lawful_task) i) m l h)
+        by : BreaksBy (clause_in before) x l m ⊎ BreaksBy (clause_in before) x m l → (breaks_by task.facts known x l m || breaks_by task.facts known x m l) ≡ true
+        by (inl h) = or_left _ _ (breaks_from (clause_in before) task.facts known bound asked are x (each_at (AsksAmong asked) task.actions x among i) l m h)
+        by (inr h) = or_right _ _ (breaks_from (clause_in before) task.facts known bound asked are x (each_at (AsksAmong asked) task.actions x among i) m l h)
 
     closed_before : dropped ≡ false → IsClosed task (clause_in before)
     closed_before none = record {
@@ -274,9 +349,36 @@ module _ (task : Task) (lawful_task : is_task task ≡ true) (before : List (Lis
     closed_after none = subst (IsClosed task) (λ i l m. sym (round.same none l m) i) (closed_before none)
 
     -- the list of what is left has the invariants
-    pub are_invariants : dropped ≡ false → (known : KnownClauses) → IsKnownClauses known → known.facts ≡ task.facts → ((l m : ℕ) → has_clause known.clauses l m ≡ clause_in after l m) → AreInvariants task known.clauses
-    are_invariants none known listed facts same = record {
-      listed = subst (λ (n : ℕ). IsKnownClauses (record { facts = n; clauses = known.clauses })) facts listed;
+    pub are_invariants : dropped ≡ false → (list : KnownClauses) → IsKnownClauses list → list.facts ≡ task.facts → ((l m : ℕ) → has_clause list.clauses l m ≡ clause_in after l m) → AreInvariants task list.clauses
+    are_invariants none list listed facts same = record {
+      listed = subst (λ (n : ℕ). IsKnownClauses (record { facts = n; clauses = list.clauses })) facts listed;
       closed = subst (IsClosed task) (λ i l m. sym (same l m) i) (closed_after none);
       greatest = λ V closed l m v. same l m ∙ closed_stay V closed l m v;
     }
+
+-- what was known before a round
+pub were_known : (task : Task) (asked : ℕ → Bool) (known : Known) (before after : List (List ℕ)) (dropped : Bool) (stale : ℕ → Bool) → AreRows task.facts before → AreKnown (clause_in before) (2 * task.facts) asked known → IsRound task known before after dropped
+    → ((l m : ℕ) → clause_in before l m ≡ true → clause_in after l m ≡ false → stale (opposite l) ≡ true) → WereKnown (clause_in after) stale (2 * task.facts) asked known
+were_known task asked known before after dropped stale rows are round gone = record {
+  before = clause_in before;
+  lessened = record { less = λ l m t. (and_split _ _ (sym (round.kept l m) ∙ t)).0; gone = gone; bound = rows.within };
+  none = λ _. are.none;
+  long = are.long;
+  each = λ k a _. are.each k a;
+  other = are.other;
+}
+
+-- the actions that are not listed know what they knew
+pub tested_again : (task : Task) (asked : ℕ → Bool) (old new : Known) (moved : Moved) (clauses : List (List ℕ)) (todo : List ℕ) → AllByRecursion (AsksAmong asked) task.actions → AreMoves asked old new moved
+    → ((a : ℕ) → a < length task.actions → IsSettled task.facts old clauses (act_at task.actions a)) → AllByRecursion (λ a. a < length task.actions) todo
+    → ((a : ℕ) → a < length task.actions → (list_any (λ b. b == a) todo || is_unmoved moved (act_at task.actions a)) ≡ true) → IsTested task new clauses todo
+tested_again task asked old new moved clauses todo among moves settled numbers left = record {
+  numbers = numbers;
+  settled = λ a lt. by a lt (or_split _ _ (left a lt));
+}
+  where
+    by : (a : ℕ) → a < length task.actions → (list_any (λ b. b == a) todo ≡ true) ⊎ (is_unmoved moved (act_at task.actions a) ≡ true) → (list_any (λ b. b == a) todo ≡ true) ⊎ IsSettled task.facts new clauses (act_at task.actions a)
+    by a lt (inl h) = inl h
+    by a lt (inr u) = inr (λ l m.
+        ap (λ (b : Bool). clause_in clauses l m && b) (breaks_same task.facts asked old new moved moves (act_at task.actions a) (each_at (AsksAmong asked) task.actions _ among (among_at task.actions a _ lt)) u l m)
+        ∙ settled a lt l m)

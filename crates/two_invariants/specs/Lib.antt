@@ -6,4 +6,5 @@ pub mod Rows
 pub mod Tested
 pub mod Groups
 pub mod First
+pub mod Renewed
 pub mod Rounds

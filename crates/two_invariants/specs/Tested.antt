@@ -1,4 +1,4 @@
-use Rattle.std.specs.Prelude.{◌≡◌, ℕ, zero, suc, ◌+◌, ◌*◌, ◌<◌, ◌==◌, List, [], ◌∷◌, ◌++◌, Option, Some, None, Bool, true, false, not, ◌&&◌, ◌||◌, length, slice_index_or}
+use Rattle.std.specs.Prelude.{◌≡◌, ℕ, zero, suc, ◌+◌, ◌*◌, ◌<◌, ◌==◌, List, [], ◌∷◌, ◌++◌, Option, Some, None, Bool, true, false, not, ◌&&◌, ◌||◌, length, slice_index, slice_index_or}
 use Rattle.std.specs.List.{list_any, list_all, AllByRecursion}
 use Rattle.bit_rows.specs.Bits.{row_has}
 use Rattle.gt_core.specs.Literal.{opposite}
@@ -26,11 +26,18 @@ pub record ActionFits (size : ℕ) (x : Action) : Type 0 where
   pub precondition : AllByRecursion (λ l. l < size) x.precondition
   pub effects : AllByRecursion (EffectFits size) x.effects
 
--- what is known: from no literal, and from each literal
-pub record AreKnown (V : ℕ → ℕ → Bool) (size : ℕ) (known : Known) : Type 0 where
+-- what is known: from no literal, and from each that is asked for by itself
+pub record AreKnown (V : ℕ → ℕ → Bool) (size : ℕ) (asked : ℕ → Bool) (known : Known) : Type 0 where
   pub none : IsClosure V (λ l. V l l) (row_has known.none)
   pub long : length known.rows.items ≡ size
-  pub each : (k : ℕ) → k < size → IsClosure V (λ m. (k == m) || row_has known.none m) (row_has (row_at known.rows.items k))
+  pub inside : IsSetOf size asked
+  pub each : (k : ℕ) → asked k ≡ true → IsClosure V (λ m. k == m) (row_has (row_at known.rows.items k))
+  pub other : (k m : ℕ) → asked k ≡ false → clause_in known.rows.items k m ≡ false
+
+-- an action asks for literals of a set alone
+pub record AsksAmong (asked : ℕ → Bool) (x : Action) : Type 0 where
+  pub precondition : AllByRecursion (λ l. asked l ≡ true) x.precondition
+  pub conditions : AllByRecursion (λ e. AllByRecursion (λ l. asked l ≡ true) e.condition) x.effects
 
 -- a set with what some literals tell by themselves
 abbrev pub with_more : List (List ℕ) → (ℕ → Bool) → List ℕ → ℕ → Bool
@@ -99,15 +106,21 @@ pub record AreLossesOf (facts : ℕ) (known : Known) (clauses : List (List ℕ))
   pub lost : (l m : ℕ) → are_lost losses l m ≡ (clause_in clauses l m && breaks_by facts known x l m)
   pub each : AllByRecursion (IsLossOf (2 * facts) clauses) losses
 
--- an action of a list can be tested
-pub record CanTest (facts : ℕ) (known : Known) (clauses : List (List ℕ)) (acts : List Action) (a : ℕ) : Type 0 where
-  pub action : a < length acts
+-- an action of a list, by its place in a list of numbers, can be tested
+pub record CanTest (facts : ℕ) (known : Known) (clauses : List (List ℕ)) (acts : List Action) (todo : List ℕ) (i : ℕ) : Type 0 where
+  pub place : i < length todo
+  pub action : slice_index todo i < length acts
   pub rows : AreRowsOf (2 * facts) known.rows.items
   pub none : IsSetOf (2 * facts) (row_has known.none)
   pub lawful : AreRows facts clauses
-  pub fits : ActionFits (2 * facts) (act_at acts a)
+  pub fits : ActionFits (2 * facts) (act_at acts (slice_index todo i))
 
 -- a loss is of literals below a bound
 pub record LossFits (size : ℕ) (loss : Loss) : Type 0 where
   pub literal : loss.literal < size
   pub from : IsSetOf size (row_has loss.from)
+
+-- clauses were dropped: the opposites of literals whose clauses became fewer came into a set
+pub record IsDropped (before after : List (List ℕ)) (old new : ℕ → Bool) : Type 0 where
+  pub more : (k : ℕ) → old k ≡ true → new k ≡ true
+  pub gone : (a b : ℕ) → clause_in before a b ≡ true → clause_in after a b ≡ false → new (opposite a) ≡ true

@@ -25,7 +25,7 @@ pub struct Loss {
 }
 
 /// Whether each of some literals is known.
-fn all_known(set: &BitRow, lits: &[u32]) -> bool
+pub fn all_known(set: &BitRow, lits: &[u32]) -> bool
     ensures { result ≡ list_all (row_has set.now) lits.now }
 {
     for lit in lits {
@@ -258,6 +258,9 @@ pub fn losses_of(
 {
     let rows = known.rows.as_slice();
     let set = with_more(alloc, rows, &known.none, act.pre())?;
+    if set.has_pair() {
+        return Ok(Vec::new(alloc));
+    }
     let groups = group_effects(alloc, act.effects())?;
     let losses = group_losses(alloc, facts, rows, clauses, &set, groups.as_slice())?;
     Ok(losses)

@@ -1,18 +1,18 @@
 //! What literals tell of a state in which each clause of a set holds: with a literal each other one of a clause with
 //! its opposite. Each clause has at most two literals, so what several literals tell is what each tells by itself.
 
-ghost use Rattle.std.specs.Prelude.{◌≡◌, ℕ, ◌*◌, ◌<◌, ◌==◌, ◌||◌, [], true, length, IfOk, OnOk};
+ghost use Rattle.std.specs.Prelude.{◌≡◌, ℕ, ◌*◌, ◌<◌, ◌==◌, [], true, false, None, length, IfOk, IfSome, OnOk};
 ghost use Rattle.std.specs.List.{AllByRecursion};
 ghost use Rattle.bit_rows.specs.Bits.{row_has};
-ghost use Rattle.two_invariants.specs.Rows.{row_at, clause_in, AreRows, IsPart, IsClosure, IsGrowing, IsGrownFrom, work};
-ghost use Rattle.two_invariants.specs.Tested.{AreKnown, with_more};
+ghost use Rattle.two_invariants.specs.Rows.{row_at, clause_in, AreRows, IsClosure, IsGrowing, IsGrownFrom, work};
+ghost use Rattle.two_invariants.specs.Tested.{IsSetOf, with_more};
 
 use bit_rows::row::BitRow;
 use gt_core::lits::opposite;
 use std::alloc::{AllocError, Global};
 
-/// What is known from no literal, and from each literal by itself. Where a literal is known with its opposite, a row
-/// may lack others.
+/// What is known from no literal, and from each that is asked for by itself. Where a literal is known with its opposite,
+/// a row may lack others.
 #[derive(Drop)]
 pub struct Known {
     pub none: BitRow,
@@ -24,37 +24,31 @@ pub fn copy(alloc: Global, set: &BitRow) -> Result<BitRow, AllocError>
     ensures { IfOk result (λ row. (m : ℕ) → row_has row m ≡ row_has set.now m) }
 {
     let mut row = BitRow::new(alloc);
-    row.unite(set)?;
+    row.make_same(set)?;
     Ok(row)
 }
 
-/// The literals that are clauses by themselves.
-fn single_clauses(alloc: Global, facts: u32, clauses: &[BitRow]) -> Result<BitRow, AllocError>
-    requires { AreRows facts clauses.now }
-    ensures { IfOk result (λ row. (l : ℕ) → row_has row l ≡ clause_in clauses.now l l) }
+/// Whether what a literal tells is done: each literal that is asked for, below one.
+fn is_done(asked: &BitRow, below: u32, x: u32) -> bool
+    ensures { result ≡ true → (row_has asked.now x ≡ true) × (x < below) }
 {
-    let mut row = BitRow::new(alloc);
-    for l in 0..2 * facts {
-        if clauses[l as usize].contains(l) {
-            row.insert(l)?;
-        }
-    }
-    Ok(row)
+    x < below && asked.contains(x)
 }
 
 /// Follows a literal of `todo`: what it tells, with all that follows where that is done already.
 fn follow(
     facts: u32,
     clauses: &[BitRow],
-    none: &BitRow,
+    asked: &BitRow,
     done: &[BitRow],
+    below: u32,
     x: u32,
     row: &mut BitRow,
     todo: &mut BitRow,
 ) -> Result<(), AllocError>
     requires clauses { AreRows facts clauses.now }
-    requires none { IsPart (row_has none.now) (row_has row.old) }
-    requires done { (k : ℕ) → k < length done.now → IsClosure (clause_in clauses.now) (λ m. (k == m) || row_has none.now m) (row_has (row_at done.now k)) }
+    requires long { length done.now ≡ 2 * facts }
+    requires done { (k : ℕ) → row_has asked.now k ≡ true → k < below → IsClosure (clause_in clauses.now) (λ m. k == m) (row_has (row_at done.now k)) }
     requires growing { IsGrowing (clause_in clauses.now) (2 * facts) (row_has row.old) (row_has todo.old) }
     requires todo { row_has todo.old x ≡ true }
     ensures grown { OnOk result (IsGrownFrom (clause_in clauses.now) (row_has row.old) (row_has row.new)) }
@@ -62,7 +56,7 @@ fn follow(
     ensures less { OnOk result (work (2 * facts) (row_has row.new) (row_has todo.new) < work (2 * facts) (row_has row.old) (row_has todo.old)) }
 {
     todo.remove(x);
-    if (x as usize) < done.len() {
+    if is_done(asked, below, x) {
         let told = &done[x as usize];
         row.unite(told)?;
         todo.subtract(told);
@@ -74,84 +68,44 @@ fn follow(
     Ok(())
 }
 
-/// The least set with some literals that has, with a literal, each other one of a clause with its opposite.
-fn close(
-    alloc: Global,
+/// A literal to follow: one that is done, where the first that is asked for is, else the first.
+fn to_follow(asked: &BitRow, below: u32, todo: &BitRow) -> Option<u32>
+    ensures some { IfSome result (λ x. row_has todo.now x ≡ true) }
+    ensures none { result ≡ None → (x : ℕ) → row_has todo.now x ≡ false }
+{
+    match todo.least_common(asked, 0) {
+        Some(x) if x < below => Some(x),
+        _ => todo.least(0),
+    }
+}
+
+/// Makes a row the least set with its literals that has, with a literal, each other one of a clause with its opposite.
+/// What the literals tell that are asked for and below one is done. `todo` is room for a row.
+pub fn close(
     facts: u32,
     clauses: &[BitRow],
-    none: &BitRow,
+    asked: &BitRow,
     done: &[BitRow],
-    start: BitRow,
-) -> Result<BitRow, AllocError>
+    below: u32,
+    row: &mut BitRow,
+    todo: &mut BitRow,
+) -> Result<(), AllocError>
     requires clauses { AreRows facts clauses.now }
-    requires none { IsPart (row_has none.now) (row_has start) }
-    requires done { (k : ℕ) → k < length done.now → IsClosure (clause_in clauses.now) (λ m. (k == m) || row_has none.now m) (row_has (row_at done.now k)) }
-    requires within { (m : ℕ) → row_has start m ≡ true → m < 2 * facts }
-    ensures closure { IfOk result (λ row. IsClosure (clause_in clauses.now) (row_has start) (row_has row)) }
-    ensures within { IfOk result (λ row. (m : ℕ) → row_has row m ≡ true → m < 2 * facts) }
+    requires long { length done.now ≡ 2 * facts }
+    requires done { (k : ℕ) → row_has asked.now k ≡ true → k < below → IsClosure (clause_in clauses.now) (λ m. k == m) (row_has (row_at done.now k)) }
+    requires within { IsSetOf (2 * facts) (row_has row.old) }
+    ensures { OnOk result (IsClosure (clause_in clauses.now) (row_has row.old) (row_has row.new)) }
 {
-    let mut todo = copy(alloc, &start)?;
-    let mut row = start;
+    todo.make_same(row)?;
     'follow: loop {
         if row.has_pair() {
-            return Ok(row);
+            return Ok(());
         }
-        match todo.least(0) {
-            None => return Ok(row),
-            Some(x) => follow(facts, clauses, none, done, x, &mut row, &mut todo)?,
+        match to_follow(asked, below, todo) {
+            None => return Ok(()),
+            Some(x) => follow(facts, clauses, asked, done, below, x, row, todo)?,
         }
     }
-}
-
-/// What one literal tells.
-fn close_one(
-    alloc: Global,
-    facts: u32,
-    clauses: &[BitRow],
-    none: &BitRow,
-    done: &[BitRow],
-    x: u32,
-) -> Result<BitRow, AllocError>
-    requires clauses { AreRows facts clauses.now }
-    requires none { (m : ℕ) → row_has none.now m ≡ true → m < 2 * facts }
-    requires done { (k : ℕ) → k < length done.now → IsClosure (clause_in clauses.now) (λ m. (k == m) || row_has none.now m) (row_has (row_at done.now k)) }
-    requires x { x < 2 * facts }
-    ensures { IfOk result (λ row. IsClosure (clause_in clauses.now) (λ m. (x == m) || row_has none.now m) (row_has row)) }
-{
-    let mut start = copy(alloc, none)?;
-    start.insert(x)?;
-    close(alloc, facts, clauses, none, done, start)
-}
-
-/// What each literal of so many facts tells.
-fn close_each(
-    alloc: Global,
-    facts: u32,
-    clauses: &[BitRow],
-    none: &BitRow,
-) -> Result<Vec<BitRow>, AllocError>
-    requires clauses { AreRows facts clauses.now }
-    requires none { (m : ℕ) → row_has none.now m ≡ true → m < 2 * facts }
-    ensures long { IfOk result (λ rows. length rows.items ≡ 2 * facts) }
-    ensures each { IfOk result (λ rows. (k : ℕ) → k < 2 * facts → IsClosure (clause_in clauses.now) (λ m. (k == m) || row_has none.now m) (row_has (row_at rows.items k))) }
-{
-    let mut rows = Vec::new(alloc);
-    for x in 0..2 * facts {
-        let row = close_one(alloc, facts, clauses, none, rows.as_slice(), x)?;
-        rows.push(row)?;
-    }
-    Ok(rows)
-}
-
-/// What is known from each literal of so many facts.
-pub fn find_known(alloc: Global, facts: u32, clauses: &[BitRow]) -> Result<Known, AllocError>
-    requires { AreRows facts clauses.now }
-    ensures { IfOk result (λ known. AreKnown (clause_in clauses.now) (2 * facts) known) }
-{
-    let start = single_clauses(alloc, facts, clauses)?;
-    let none = close(alloc, facts, clauses, &BitRow::new(alloc), &[], start)?;
-    let rows = close_each(alloc, facts, clauses, &none)?;
-    Ok(Known { none, rows })
 }
 
 /// Makes a row of a set with what some literals tell.
@@ -164,8 +118,7 @@ pub fn fill_with(
     requires { AllByRecursion (λ l. l < length rows.now) lits.now }
     ensures { OnOk result ((m : ℕ) → row_has row.new m ≡ with_more rows.now (row_has set.now) lits.now m) }
 {
-    row.clear();
-    row.unite(set)?;
+    row.make_same(set)?;
     for lit in lits {
         row.unite(&rows[*lit as usize])?;
     }

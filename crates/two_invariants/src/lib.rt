@@ -2,6 +2,8 @@
 //! a task and that no action breaks, as far as the set itself tells.
 #![tactic(auto)]
 
+mod again;
+mod asked;
 mod broken;
 mod drop;
 mod first;
@@ -10,6 +12,7 @@ mod groups;
 mod known;
 pub mod laws;
 mod list;
+mod renew;
 #[cfg(test)]
 mod tests;
 

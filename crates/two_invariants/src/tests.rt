@@ -72,3 +72,28 @@ fn overruled_delete_takes_nothing(rt: HostRuntime) -> Result<(), Fail> {
     assert_eq!(rt; list.as_slice(), [(0, 0)].as_slice());
     Ok(())
 }
+
+/// A token moves from p0 over p1 and p2 to p3; s is added at any time, and u where p2 holds. That the token comes to p2 and
+/// p3 is found in later rounds, so that then less is known than in the first: where nothing is asked for, and where p2 is.
+#[test]
+fn less_is_known_later(rt: HostRuntime) -> Result<(), Fail> {
+    let mut acts = Vec::new(rt.alloc());
+    acts.push(act(&rt, &[0], &[], &[1, 2])?)?;
+    acts.push(act(&rt, &[2], &[], &[3, 4])?)?;
+    acts.push(act(&rt, &[4], &[], &[5, 6])?)?;
+    acts.push(act(&rt, &[], &[], &[8])?)?;
+    acts.push(act(&rt, &[], &[4], &[10])?)?;
+    let list = invariants(&rt, &[true, false, false, false, false, false], acts)?;
+    let wanted = [
+        (1, 3),
+        (1, 5),
+        (1, 7),
+        (1, 11),
+        (3, 5),
+        (3, 7),
+        (3, 11),
+        (5, 7),
+    ];
+    assert_eq!(rt; list.as_slice(), wanted.as_slice());
+    Ok(())
+}

@@ -1,12 +1,14 @@
-use Rattle.std.proofs.Common.{◌≡◌, ◌∙◌, ◌*◌, ◌&&◌, ap, sym, subst, ℕ, List}
+use Rattle.std.proofs.Common.{◌≡◌, ◌∙◌, ◌*◌, ◌&&◌, ap, sym, subst, refl, true, false, Bool, ℕ, List}
 use Rattle.std.specs.List.{AllByRecursion}
-use Rattle.bit_rows.specs.Bits.{row_has}
+use Rattle.bit_rows.specs.Bits.{row_has, IsPairAcross}
 use Rattle.gt_core.specs.Literal.{opposite}
 use Rattle.gt_core.specs.Task.{Effect}
 use Rattle.two_invariants.specs.Rows.{clause_in}
-use Rattle.two_invariants.specs.Tested.{EffectFits, with_more}
+use Rattle.two_invariants.specs.Tested.{EffectFits, AreLossesOf, with_more, breaks_by}
+use Rattle.two_invariants.specs.declared.broken.Loss.{Loss}
 use Rattle.two_invariants.specs.Groups.{effect_with, group_with, breaks_under, GroupFits}
 use Rattle.two_invariants.specs.declared.groups.Group.{Group}
+use Rattle.two_invariants.proofs.Contradicted.{breaks_nothing}
 use Rattle.two_invariants.proofs.Steps.{more_within}
 use Rattle.two_invariants.proofs.broken.losses_of.Goals as goal
 
@@ -19,6 +21,24 @@ pub group_losses-requires-clause-groups : goal.group_losses-requires-clause-grou
 group_losses-requires-clause-groups c =
     subst (λ (gs : List Group). AllByRecursion (GroupFits (2 * c.args.facts)) gs) (sym c.as_slice.ensures.value)
     (c.in_ok-groups.ensures.fit (2 * c.args.facts) (subst (λ (es : List Effect). AllByRecursion (EffectFits (2 * c.args.facts)) es) (sym c.effects.ensures) c.requires.act.effects))
+
+pub returns-then-has_pair : goal.returns-then-has_pair
+returns-then-has_pair c =
+    let known = c.args.known.now in
+    let x = c.args.act.now in
+    let none = row_has known.none in
+    let value = c.as_slice-rows.ensures.value in
+    let set : row_has c.in_ok-set.set ≡ with_more known.rows.items none x.precondition = (λ i m. c.in_ok-set.ensures m i) ∙ (λ i. with_more (value i) none (c.pre.ensures i)) in
+    let pair = subst (λ (s : ℕ → Bool). IsPairAcross s s true) set c.if-has_pair.ensures in
+    let nothing = breaks_nothing c.args.facts known x c.requires.rows c.requires.none pair in
+    subst (λ (losses : List Loss). AreLossesOf c.args.facts known c.args.clauses.now x losses) (sym c.new.ensures.items) (record {
+      lost = λ l m. and_off (clause_in c.args.clauses.now l m) (breaks_by c.args.facts known x l m) (nothing l m);
+      each = tt;
+    })
+  where
+    and_off : (a b : Bool) → b ≡ false → false ≡ (a && b)
+    and_off true b e = sym e
+    and_off false b e = refl
 
 pub returns : goal.returns
 returns c =

@@ -10,7 +10,6 @@ invariant_of-self c =
     let less = c.if-self-end.true in (
       seen_after c.self.inside.means c.self.inside.seen c.set.new.self c.self.inside.wanted.items c.self.inside.low end end c.args.v c.args.value c.args.self.now c.self.view_is c.self.invariant.0 c.same_from-end.ensures.same c.set.ensures (omega (arith, less)) (omega arith) top,
       c.self.invariant.1,
-      c.self.invariant.2,
     )
 
 pub invariant_of-self-else-self-end : goal.invariant_of-self-else-self-end
@@ -19,5 +18,4 @@ invariant_of-self-else-self-end c =
     let less = c.if-self-end.false in (
       seen_after c.self.inside.means c.self.inside.seen c.set.new.self c.self.inside.wanted.items c.self.inside.low c.self.inside.low end c.args.v c.args.value c.args.self.now c.self.view_is c.self.invariant.0 c.same_from-end.ensures.same c.set.ensures (omega arith) (omega (arith, less)) c.self.invariant.0.low,
       c.self.invariant.1,
-      c.self.invariant.2,
     )

@@ -1,0 +1,17 @@
+use Rattle.std.proofs.Common.{◌*◌}
+use Rattle.bit_rows.specs.Bits.{row_has}
+use Rattle.two_invariants.specs.Rows.{clause_in, AreRows}
+use Rattle.two_invariants.specs.Tested.{AreKnown}
+use Rattle.two_invariants.specs.Rounds.{Surrounds, IsTested, clause_count}
+use Rattle.two_invariants.proofs.greatest.greatest_rows.Given as goal
+
+abbrev pub invariant-round : goal.invariant-round
+invariant-round g l = record {
+  rows : AreRows l.task.facts l.rows.items;
+  around : Surrounds l.task l.rows.items;
+  known : AreKnown (clause_in l.rows.items) (2 * l.task.facts) (row_has l.asked) l.known;
+  tested : IsTested l.task l.known l.rows.items l.todo.items;
+}
+
+abbrev pub decreases-round : goal.decreases-round
+decreases-round g l = clause_count (2 * l.task.facts) l.rows.items

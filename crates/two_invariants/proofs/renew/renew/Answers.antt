@@ -1,0 +1,11 @@
+use Rattle.std.proofs.Common.{◌≡◌, ◌*◌, ap, ℕ, subst, sym}
+use Rattle.bit_rows.specs.Bits.{row_has}
+use Rattle.two_invariants.specs.Rows.{clause_in, IsClosure}
+use Rattle.two_invariants.proofs.Renewing.{same_closed, pair_closed, rest_closed}
+use Rattle.two_invariants.proofs.renew.renew.Goals as goal
+
+pub returns-then-is_same : goal.returns-then-is_same
+returns-then-is_same c = same_closed (clause_in c.args.clauses.now) (2 * c.args.facts) (row_has c.args.next.now) (row_has c.args.old.now) c.requires.was (ap row_has c.if-is_same.ensures)
+
+pub returns-then-has_pair : goal.returns-then-has_pair
+returns-then-has_pair c = pair_closed (clause_in c.args.clauses.now) (row_has c.args.next.now) c.if-has_pair.ensures

@@ -1,0 +1,121 @@
+//! Which actions have to be tested again: those that may know less than when they were tested last.
+
+ghost use Rattle.std.specs.Prelude.{◌≡◌, ℕ, ◌*◌, ◌<◌, ◌≤◌, ◌==◌, ◌&&◌, ◌||◌, not, true, false, length, IfOk};
+ghost use Rattle.std.specs.List.{list_all, list_any, AllByRecursion};
+ghost use Rattle.bit_rows.specs.Bits.{row_has};
+ghost use Rattle.two_invariants.specs.Rows.{clause_in, AreRows};
+ghost use Rattle.two_invariants.specs.Tested.{IsSetOf, AreKnown, act_at};
+ghost use Rattle.two_invariants.specs.Renewed.{WereKnown, AreMoves, is_unmoved};
+
+use crate::broken::all_known;
+use crate::known::Known;
+use crate::renew::{renew_none, renew_rows};
+use bit_rows::row::BitRow;
+use gt_core::act::Act;
+use gt_core::eff::Eff;
+use std::alloc::{AllocError, Global};
+
+/// What is known otherwise than before: the literals that tell another set by themselves, whether another set is known
+/// from no literal, and the literals that do not tell all that is known from none either before or now alone.
+#[derive(Drop)]
+pub struct Moved {
+    pub rows: BitRow,
+    pub lacking: BitRow,
+    pub none: bool,
+}
+
+/// The literals that are asked for and do not tell each of some literals.
+fn find_lacking(
+    alloc: Global,
+    asked: &BitRow,
+    rows: &[BitRow],
+    lits: &BitRow,
+) -> Result<BitRow, AllocError>
+    requires few { length rows.now ≤ 4096 }
+    requires asked { IsSetOf (length rows.now) (row_has asked.now) }
+    ensures { IfOk result (λ lacking. (k m : ℕ) → row_has asked.now k ≡ true → row_has lacking k ≡ false → row_has lits.now m ≡ true → clause_in rows.now k m ≡ true) }
+{
+    let mut lacking = BitRow::new(alloc);
+    let mut from = 0;
+    while let Some(k) = asked.least(from) {
+        if !lits.is_part_of(&rows[k as usize]) {
+            lacking.insert(k)?;
+        }
+        from = k + 1;
+    }
+    Ok(lacking)
+}
+
+/// Works out what is known after clauses were dropped, and what of it is another than before.
+pub fn renew_known(
+    alloc: Global,
+    facts: u32,
+    clauses: &[BitRow],
+    stale: &BitRow,
+    asked: &BitRow,
+    known: &mut Known,
+) -> Result<Moved, AllocError>
+    requires clauses { AreRows facts clauses.now }
+    requires either { (l m : ℕ) → clause_in clauses.now l m ≡ clause_in clauses.now m l }
+    requires asked { IsSetOf (2 * facts) (row_has asked.now) }
+    requires were { WereKnown (clause_in clauses.now) (row_has stale.now) (2 * facts) (row_has asked.now) known.old }
+    ensures known { IfOk result (λ moved. AreKnown (clause_in clauses.now) (2 * facts) (row_has asked.now) known.new) }
+    ensures moved { IfOk result (λ moved. AreMoves (row_has asked.now) known.old known.new moved) }
+{
+    let rows = renew_rows(alloc, facts, clauses, stale, asked, &mut known.rows)?;
+    let done = known.rows.as_slice();
+    let lits = renew_none(alloc, facts, clauses, asked, done, &mut known.none)?;
+    let lacking = find_lacking(alloc, asked, known.rows.as_slice(), &lits)?;
+    Ok(Moved {
+        rows,
+        lacking,
+        none: !lits.least(0).is_none(),
+    })
+}
+
+/// Whether none of some literals is in a set.
+fn none_in(set: &BitRow, lits: &[u32]) -> bool
+    ensures { result ≡ list_all (λ l. not (row_has set.now l)) lits.now }
+{
+    for lit in lits {
+        if set.contains(*lit) {
+            return false;
+        }
+    }
+    true
+}
+
+/// Whether no literal of the conditions of effects is in a set.
+fn none_in_conditions(set: &BitRow, effects: &[Eff]) -> bool
+    ensures { result ≡ list_all (λ e. list_all (λ l. not (row_has set.now l)) e.condition) effects.now }
+{
+    for effect in effects {
+        if !none_in(set, effect.cond()) {
+            return false;
+        }
+    }
+    true
+}
+
+/// Whether an action knows what it knew before, in each case.
+fn is_unmoved(moved: &Moved, act: &Act) -> bool
+    ensures { result ≡ is_unmoved moved.now act.now }
+{
+    none_in(&moved.rows, act.pre())
+        && none_in_conditions(&moved.rows, act.effects())
+        && (!moved.none || !all_known(&moved.lacking, act.pre()))
+}
+
+/// The actions that may know something else than before.
+pub fn to_test(alloc: Global, moved: &Moved, acts: &[Act]) -> Result<Vec<usize>, AllocError>
+    ensures numbers { IfOk result (λ todo. AllByRecursion (λ a. a < length acts.now) todo.items) }
+    ensures left { IfOk result (λ todo. (a : ℕ) → a < length acts.now → (list_any (λ b. b == a) todo.items || is_unmoved moved.now (act_at acts.now a)) ≡ true) }
+{
+    let mut todo = Vec::new(alloc);
+    for a in 0..acts.len() {
+        if !is_unmoved(moved, &acts[a]) {
+            todo.push(a)?;
+        }
+    }
+    Ok(todo)
+}

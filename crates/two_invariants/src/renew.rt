@@ -1,0 +1,265 @@
+//! What literals tell, worked out anew after clauses were dropped: only where it may have become less.
+
+ghost use Rattle.std.specs.Prelude.{◌≡◌, ℕ, ◌+◌, ◌*◌, ◌<◌, ◌≤◌, ◌==◌, ◌&&◌, ◌||◌, not, true, false, if◌then◌else◌, length, IfOk, OnOk};
+ghost use Rattle.std.specs.Bool.{OnTrue};
+ghost use Rattle.bit_rows.specs.Bits.{row_has};
+ghost use Rattle.gt_core.specs.Literal.{opposite};
+ghost use Rattle.two_invariants.specs.Rows.{row_at, clause_in, AreRows, IsPart, IsClosure};
+ghost use Rattle.two_invariants.specs.Tested.{IsSetOf};
+ghost use Rattle.two_invariants.specs.Renewed.{WasClosed, WasTold};
+
+use crate::known::close;
+use bit_rows::row::BitRow;
+use gt_core::lits::opposite;
+use std::alloc::{AllocError, Global};
+
+/// Whether none of a set stands in a row with its opposite.
+fn is_apart(row: &BitRow, set: &BitRow) -> bool
+    ensures { OnTrue result ((x : ℕ) → row_has set.now x ≡ true → row_has row.now (opposite x) ≡ true → ⊥) }
+{
+    if row.has_pair_across(set) {
+        return false;
+    }
+    if set.has_pair_across(row) {
+        return false;
+    }
+    true
+}
+
+/// Whether none of some literals stands in a clause with the opposite of one of a set.
+fn none_follows(clauses: &[BitRow], set: &BitRow, lits: &BitRow) -> bool
+    requires few { length clauses.now ≤ 4096 }
+    requires lits { IsSetOf (length clauses.now) (row_has lits.now) }
+    ensures { OnTrue result ((x y : ℕ) → row_has set.now x ≡ true → row_has lits.now y ≡ true → clause_in clauses.now y (opposite x) ≡ true → ⊥) }
+{
+    let mut from = 0;
+    while let Some(y) = lits.least(from) {
+        if !is_apart(&clauses[y as usize], set) {
+            return false;
+        }
+        from = y + 1;
+    }
+    true
+}
+
+/// Makes `next`, which has what is known at once, the set of all that follows. Whether it is another than the old set,
+/// which is the same else. `rest` is room for a row.
+fn renew(
+    facts: u32,
+    clauses: &[BitRow],
+    asked: &BitRow,
+    done: &[BitRow],
+    below: u32,
+    old: &BitRow,
+    next: &mut BitRow,
+    rest: &mut BitRow,
+) -> Result<bool, AllocError>
+    requires clauses { AreRows facts clauses.now }
+    requires either { (l m : ℕ) → clause_in clauses.now l m ≡ clause_in clauses.now m l }
+    requires long { length done.now ≡ 2 * facts }
+    requires done { (k : ℕ) → row_has asked.now k ≡ true → k < below → IsClosure (clause_in clauses.now) (λ m. k == m) (row_has (row_at done.now k)) }
+    requires within { IsSetOf (2 * facts) (row_has next.old) }
+    requires was { WasClosed (clause_in clauses.now) (2 * facts) (row_has next.old) (row_has old.now) }
+    ensures { IfOk result (λ anew. IsClosure (clause_in clauses.now) (row_has next.old) (row_has (if anew then next.new else old.now))) }
+{
+    if next.is_same(old) {
+        return Ok(false);
+    }
+    if next.has_pair() {
+        return Ok(true);
+    }
+    if !old.has_pair() {
+        rest.make_same(old)?;
+        rest.subtract(next);
+        if none_follows(clauses, next, rest) {
+            return Ok(true);
+        }
+    }
+    close(facts, clauses, asked, done, below, next, rest)?;
+    if next.is_same(old) {
+        return Ok(false);
+    }
+    Ok(true)
+}
+
+/// Fills a row with a literal and what its clauses tell.
+fn fill_first(clauses: &[BitRow], x: u32, row: &mut BitRow) -> Result<(), AllocError>
+    requires { opposite x < length clauses.now }
+    ensures { OnOk result ((m : ℕ) → row_has row.new m ≡ ((x == m) || clause_in clauses.now (opposite x) m)) }
+{
+    row.make_same(&clauses[opposite(x) as usize])?;
+    row.insert(x)?;
+    Ok(())
+}
+
+/// Whether no clause that a set could have used is gone: `stale` has the opposites of the literals whose clauses are
+/// fewer.
+fn is_untouched(set: &BitRow, stale: &BitRow) -> bool
+    ensures free { OnTrue result ((f : ℕ) → row_has set.now (2 * f) ≡ true → row_has set.now (2 * f + 1) ≡ true → ⊥) }
+    ensures apart { OnTrue result ((m : ℕ) → (row_has set.now m && row_has stale.now m) ≡ false) }
+{
+    !set.has_pair() && set.least_common(stale, 0).is_none()
+}
+
+/// Works out what a literal tells. Whether it is another set than the old one, and in `next`.
+fn renew_row(
+    facts: u32,
+    clauses: &[BitRow],
+    stale: &BitRow,
+    asked: &BitRow,
+    rows: &[BitRow],
+    x: u32,
+    next: &mut BitRow,
+    rest: &mut BitRow,
+) -> Result<bool, AllocError>
+    requires clauses { AreRows facts clauses.now }
+    requires either { (l m : ℕ) → clause_in clauses.now l m ≡ clause_in clauses.now m l }
+    requires x { x < 2 * facts }
+    requires long { length rows.now ≡ 2 * facts }
+    requires done { (k : ℕ) → row_has asked.now k ≡ true → k < x → IsClosure (clause_in clauses.now) (λ m. k == m) (row_has (row_at rows.now k)) }
+    requires was { WasTold (clause_in clauses.now) (row_has stale.now) (2 * facts) x (row_has (row_at rows.now x)) }
+    ensures { IfOk result (λ anew. IsClosure (clause_in clauses.now) (λ m. x == m) (row_has (if anew then next.new else row_at rows.now x))) }
+{
+    let old = &rows[x as usize];
+    if is_untouched(old, stale) {
+        return Ok(false);
+    }
+    fill_first(clauses, x, next)?;
+    let anew = renew(facts, clauses, asked, rows, x, old, next, rest)?;
+    Ok(anew)
+}
+
+/// Makes one row the same as another.
+fn set_row(rows: &mut Vec<BitRow>, x: u32, row: &BitRow) -> Result<(), AllocError>
+    requires { x < length rows.old.items }
+    ensures long { OnOk result (length rows.new.items ≡ length rows.old.items) }
+    ensures others { OnOk result ((k : ℕ) → (k ≡ x → ⊥) → row_at rows.new.items k ≡ row_at rows.old.items k) }
+    ensures same { OnOk result (row_at rows.new.items x ≡ row.now) }
+{
+    let place = &mut rows[x as usize];
+    place.make_same(row)
+}
+
+/// Renews the row of a literal, and puts the literal into `moved` where the row is another than before.
+fn renew_at(
+    facts: u32,
+    clauses: &[BitRow],
+    stale: &BitRow,
+    asked: &BitRow,
+    rows: &mut Vec<BitRow>,
+    x: u32,
+    next: &mut BitRow,
+    rest: &mut BitRow,
+    moved: &mut BitRow,
+) -> Result<(), AllocError>
+    requires clauses { AreRows facts clauses.now }
+    requires either { (l m : ℕ) → clause_in clauses.now l m ≡ clause_in clauses.now m l }
+    requires x { x < 2 * facts }
+    requires long { length rows.old.items ≡ 2 * facts }
+    requires done { (k : ℕ) → row_has asked.now k ≡ true → k < x → IsClosure (clause_in clauses.now) (λ m. k == m) (row_has (row_at rows.old.items k)) }
+    requires was { WasTold (clause_in clauses.now) (row_has stale.now) (2 * facts) x (row_has (row_at rows.old.items x)) }
+    ensures long { OnOk result (length rows.new.items ≡ length rows.old.items) }
+    ensures others { OnOk result ((k : ℕ) → (k ≡ x → ⊥) → row_at rows.new.items k ≡ row_at rows.old.items k) }
+    ensures closure { OnOk result (IsClosure (clause_in clauses.now) (λ m. x == m) (row_has (row_at rows.new.items x))) }
+    ensures more { OnOk result ((k : ℕ) → row_has moved.new k ≡ false → row_has moved.old k ≡ false) }
+    ensures same { OnOk result (row_has moved.new x ≡ false → row_at rows.new.items x ≡ row_at rows.old.items x) }
+{
+    if renew_row(facts, clauses, stale, asked, rows.as_slice(), x, next, rest)? {
+        set_row(rows, x, next)?;
+        moved.insert(x)?;
+    }
+    Ok(())
+}
+
+/// Renews the row of each literal that is asked for. The literals whose rows are others than before.
+pub fn renew_rows(
+    alloc: Global,
+    facts: u32,
+    clauses: &[BitRow],
+    stale: &BitRow,
+    asked: &BitRow,
+    rows: &mut Vec<BitRow>,
+) -> Result<BitRow, AllocError>
+    requires clauses { AreRows facts clauses.now }
+    requires either { (l m : ℕ) → clause_in clauses.now l m ≡ clause_in clauses.now m l }
+    requires asked { IsSetOf (2 * facts) (row_has asked.now) }
+    requires long { length rows.old.items ≡ 2 * facts }
+    requires were { (k : ℕ) → row_has asked.now k ≡ true → WasTold (clause_in clauses.now) (row_has stale.now) (2 * facts) k (row_has (row_at rows.old.items k)) }
+    ensures long { IfOk result (λ moved. length rows.new.items ≡ 2 * facts) }
+    ensures each { IfOk result (λ moved. (k : ℕ) → row_has asked.now k ≡ true → IsClosure (clause_in clauses.now) (λ m. k == m) (row_has (row_at rows.new.items k))) }
+    ensures others { IfOk result (λ moved. (k : ℕ) → row_has asked.now k ≡ false → row_at rows.new.items k ≡ row_at rows.old.items k) }
+    ensures same { IfOk result (λ moved. (k : ℕ) → row_has moved k ≡ false → row_at rows.new.items k ≡ row_at rows.old.items k) }
+{
+    let mut next = BitRow::new(alloc);
+    let mut rest = BitRow::new(alloc);
+    let mut moved = BitRow::new(alloc);
+    let mut from = 0;
+    while let Some(x) = asked.least(from) {
+        renew_at(
+            facts, clauses, stale, asked, rows, x, &mut next, &mut rest, &mut moved,
+        )?;
+        from = x + 1;
+    }
+    Ok(moved)
+}
+
+/// The literals that are clauses by themselves.
+fn single_clauses(alloc: Global, facts: u32, clauses: &[BitRow]) -> Result<BitRow, AllocError>
+    requires { AreRows facts clauses.now }
+    ensures { IfOk result (λ row. (l : ℕ) → row_has row l ≡ clause_in clauses.now l l) }
+{
+    let mut row = BitRow::new(alloc);
+    for l in 0..2 * facts {
+        if clauses[l as usize].contains(l) {
+            row.insert(l)?;
+        }
+    }
+    Ok(row)
+}
+
+/// The numbers that are in one of two sets only.
+fn difference(alloc: Global, one: &BitRow, other: &BitRow) -> Result<BitRow, AllocError>
+    ensures { IfOk result (λ row. (m : ℕ) → row_has row m ≡ false → row_has one.now m ≡ row_has other.now m) }
+{
+    let mut row = BitRow::new(alloc);
+    row.unite_without(one, other)?;
+    row.unite_without(other, one)?;
+    Ok(row)
+}
+
+/// Works out anew what is known from no literal, where what each literal that is asked for tells is done. The literals
+/// that were known before and are not now, or the other way round.
+pub fn renew_none(
+    alloc: Global,
+    facts: u32,
+    clauses: &[BitRow],
+    asked: &BitRow,
+    rows: &[BitRow],
+    none: &mut BitRow,
+) -> Result<BitRow, AllocError>
+    requires clauses { AreRows facts clauses.now }
+    requires either { (l m : ℕ) → clause_in clauses.now l m ≡ clause_in clauses.now m l }
+    requires long { length rows.now ≡ 2 * facts }
+    requires done { (k : ℕ) → row_has asked.now k ≡ true → k < 2 * facts → IsClosure (clause_in clauses.now) (λ m. k == m) (row_has (row_at rows.now k)) }
+    requires was { WasClosed (clause_in clauses.now) (2 * facts) (λ l. clause_in clauses.now l l) (row_has none.old) }
+    ensures closure { IfOk result (λ moved. IsClosure (clause_in clauses.now) (λ l. clause_in clauses.now l l) (row_has none.new)) }
+    ensures same { IfOk result (λ moved. (m : ℕ) → row_has moved m ≡ false → row_has none.new m ≡ row_has none.old m) }
+{
+    let mut next = single_clauses(alloc, facts, clauses)?;
+    let mut rest = BitRow::new(alloc);
+    if !renew(
+        facts,
+        clauses,
+        asked,
+        rows,
+        2 * facts,
+        none,
+        &mut next,
+        &mut rest,
+    )? {
+        return Ok(BitRow::new(alloc));
+    }
+    let moved = difference(alloc, &next, none)?;
+    none.make_same(&next)?;
+    Ok(moved)
+}
