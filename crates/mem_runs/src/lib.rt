@@ -49,9 +49,12 @@ pub fn run_once<H: Threads + Wait + Sync>(
     Ok((status, Vec::from_slice(alloc, sink.taken())?))
 }
 
-/// The words of a text.
-fn split(alloc: Global, text: &str) -> Result<Vec<String>, AllocError> {
+/// The words of a text, with a blank between each two. An empty text has none.
+pub fn split(alloc: Global, text: &str) -> Result<Vec<String>, AllocError> {
     let mut words = Vec::new(alloc);
+    if text.is_empty() {
+        return Ok(words);
+    }
     for word in text.split(' ') {
         words.push(word.to_owned(alloc)?)?;
     }

@@ -21,8 +21,6 @@ mod predicates;
 mod read;
 mod tables;
 mod terms;
-#[cfg(test)]
-mod tests;
 mod vocabulary;
 
 pub use error::PddlError;
