@@ -141,12 +141,13 @@ fn a_round_brings_runs_to_their_targets(rt: HostRuntime) -> Result<(), Fail> {
     let back = rounded(&rt, alloc, Jobs::new(jobs))?;
     let mut text = String::new(alloc);
     for job in back.as_slice() {
-        text.push_str(standing_text(alloc, &job.run)?.as_str())?;
-        text.push_str(", ")?;
+        let conflicts = job.run.conflicts();
+        let standing = standing_text(alloc, &job.run)?;
+        text.push_str(format!(in alloc; "{conflicts}: {}, ", standing.as_str())?.as_str())?;
     }
     assert_eq!(rt;
         text.as_str(),
-        "refuted by 1 of 0, found [true, false, true], "
+        "1: refuted by 1 of 0, 0: found [true, false, true], "
     );
     Ok(())
 }

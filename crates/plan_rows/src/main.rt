@@ -81,7 +81,7 @@ fn main(rt: HostRuntime) -> io::Result<()> {
     let input = io::read_to_string(alloc, rt.reader())?;
     let mut out = BufWriter::new(alloc, io::writer(&rt))?;
     let mut files = Vec::new(alloc);
-    for part in input.split('%') {
+    for part in input.split('%').skip(1) {
         if part.starts_with("run|") {
             write_row(&rt, alloc, part, files.as_slice(), &mut out)?;
         } else if part.starts_with("words|") {

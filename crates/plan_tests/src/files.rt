@@ -20,23 +20,31 @@ fn domains_cut_off(rt: HostRuntime) -> Result<(), Fail> {
 // A comment may have any bytes, and a line may end in two. Outside a comment, a byte that begins no word is refused.
 #[test]
 fn bytes_of_no_text(rt: HostRuntime) -> Result<(), Fail> {
-    let rows: [(&[u8], &[u8], u8); 2] = [
+    let rows: [(&str, &[u8], &[u8], u8); 3] = [
         (
+            "plan d p --max-horizon 0",
             b"(DEFINE (Domain LAMP) ; \x00\xff\r\n (:Predicates (On)))\r\n;",
             b"; horizon 0 plan conflicts 0\n; conflicts 0 of 100000\n; plan of 0 steps with 0 actions\n",
             0,
         ),
         (
+            "plan d p --max-horizon 0",
+            b"(define (domain m) \x00)",
+            b"; refused syntax domain 19\n",
+            3,
+        ),
+        (
+            "check d p l",
             b"(define (domain m) \x00)",
             b"; refused syntax domain 19\n",
             3,
         ),
     ];
-    for (domain, wanted, status) in rows {
-        let files = [("d", domain), ("p", LIT)];
-        let (got, text) = run_once(&rt, rt.alloc(), "plan d p --max-horizon 0", &files, &[])?;
-        assert_eq!(rt; got.0, status);
-        assert_eq!(rt; text.as_slice(), wanted);
+    for (words, domain, wanted, status) in rows {
+        let files = [("d", domain), ("p", LIT), ("l", b"")];
+        let (got, text) = run_once(&rt, rt.alloc(), words, &files, &[])?;
+        assert_eq!(rt; got.0, status, "{words}");
+        assert_eq!(rt; text.as_slice(), wanted, "{words}");
     }
     Ok(())
 }

@@ -1,8 +1,7 @@
 // Runs with several workers.
 use crate::gate::PairGate;
 use crate::tasks::{BLOCKS, DARK, LAMP, TOWER};
-use mem_runs::{run_into, run_once};
-use pl_io::{MemSink, Numbers};
+use mem_runs::{ample_sink, run_into, run_once, shelf_of};
 use std::test::Fail;
 
 // The bytes are the same for every number of workers and every slice, and the calls are a plan.
@@ -48,8 +47,9 @@ fn two_horizons_are_at_work_at_once(rt: HostRuntime) -> Result<(), Fail> {
     let (status, text) = run_once(&rt, alloc, "plan d p", &files, &[])?;
     assert_eq!(rt; status.0, 0);
     let gate = PairGate::new();
-    let mut sink = MemSink::new(alloc, 1000, Numbers::of(Vec::new(alloc)), 2000)?;
-    let status = run_into(&rt, alloc, "plan d p", &files, &[], &mut sink, &gate)?;
+    let mut shelf = shelf_of(alloc, &files, &[])?;
+    let mut sink = ample_sink(alloc)?;
+    let status = run_into(&rt, alloc, "plan d p", &mut shelf, &mut sink, &gate)?;
     assert_eq!(rt; status.0, 0);
     assert_eq!(rt; sink.taken(), text.as_slice());
     assert!(rt; gate.met());
