@@ -128,9 +128,8 @@ fn rounded<H: Threads + Wait + Sync>(
     Ok(round(rt, alloc, jobs, 2, 1, &OpenGate)?)
 }
 
-#[test]
-fn a_round_brings_runs_to_their_targets(rt: HostRuntime) -> Result<(), Fail> {
-    let alloc = rt.alloc();
+/// The runs of horizons 0 and 1, each with a target of 50 conflicts.
+fn lamp_jobs(alloc: Global) -> Result<Jobs<HorizonRun>, Fail> {
     let mut jobs = Vec::new(alloc);
     for n in 0..2u8 {
         let run = lamp_run(alloc, n)?;
@@ -138,15 +137,25 @@ fn a_round_brings_runs_to_their_targets(rt: HostRuntime) -> Result<(), Fail> {
             return Err("no memory")?;
         }
     }
-    let back = rounded(&rt, alloc, Jobs::new(jobs))?;
+    Ok(Jobs::new(jobs))
+}
+
+/// How each run stands, after its conflicts.
+fn standings_text(alloc: Global, jobs: &Jobs<HorizonRun>) -> Result<String, Fail> {
     let mut text = String::new(alloc);
-    for job in back.as_slice() {
+    for job in jobs.as_slice() {
         let conflicts = job.run.conflicts();
         let standing = standing_text(alloc, &job.run)?;
         text.push_str(format!(in alloc; "{conflicts}: {}, ", standing.as_str())?.as_str())?;
     }
+    Ok(text)
+}
+
+#[test]
+fn a_round_brings_runs_to_their_targets(rt: HostRuntime) -> Result<(), Fail> {
+    let back = rounded(&rt, rt.alloc(), lamp_jobs(rt.alloc())?)?;
     assert_eq!(rt;
-        text.as_str(),
+        standings_text(rt.alloc(), &back)?.as_str(),
         "1: refuted by 1 of 0, 0: found [true, false, true], "
     );
     Ok(())
