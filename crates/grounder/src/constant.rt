@@ -33,32 +33,6 @@ fn leave_out_deleted(
     Ok(())
 }
 
-/// Takes out the atoms of the possible instances of a delete.
-fn leave_out_instances(
-    alloc: Global,
-    domains: &Domains,
-    reached: &[Atom],
-    objects: &[u32],
-    effect: &Effect,
-    constant: &mut State,
-) -> Result<(), Memory>
-    requires sorted { IsSorted atom_less reached.now }
-    requires delete { effect.now.adds ≡ false }
-    requires few { HasFewTuples domains.now effect.now }
-    ensures { OnOk result (LeavesOut (λ a. list_any (deletes reached.now a) (changes_of domains.now objects.now effect.now)) constant.old constant.new) }
-{
-    let over = effect.over.as_slice();
-    if !domains.have_objects(over) {
-        return Ok(());
-    }
-    let bindings = bindings_of(alloc, domains, over)?;
-    for number in 0..bindings.count {
-        let objects = bindings.extended(alloc, objects, number)?;
-        leave_out_deleted(alloc, reached, &objects, effect, constant)?;
-    }
-    Ok(())
-}
-
 /// Takes out the atoms of the possible instances of an effect, where it is a delete.
 fn leave_out_effect(
     alloc: Global,
@@ -75,7 +49,16 @@ fn leave_out_effect(
     if effect.adds {
         return Ok(());
     }
-    leave_out_instances(alloc, domains, reached, objects, effect, constant)
+    let over = effect.over.as_slice();
+    if !domains.have_objects(over) {
+        return Ok(());
+    }
+    let bindings = bindings_of(alloc, domains, over)?;
+    for number in 0..bindings.count {
+        let objects = bindings.extended(alloc, objects, number)?;
+        leave_out_deleted(alloc, reached, &objects, effect, constant)?;
+    }
+    Ok(())
 }
 
 /// Takes out the atoms that a call's possible deletes name.

@@ -9,6 +9,7 @@ ghost use Rattle.grounder.specs.Known.{IsKnown};
 
 use crate::known::Known;
 use crate::places::has;
+use atom_join::may_hold;
 use pd_model::{Atom, Cond, Memory, Pddl, Term, instance_of, object_of};
 use std::alloc::Global;
 
@@ -20,20 +21,16 @@ fn agrees(objects: &[u32], left: Term, right: Term, want: bool) -> bool
 }
 
 /// Whether the literal may hold, as far as the reachable atoms say.
-fn may_hold(alloc: Global, reached: &[Atom], objects: &[u32], cond: &Cond) -> Result<bool, Memory>
+fn may_be_reached(
+    alloc: Global,
+    reached: &[Atom],
+    objects: &[u32],
+    cond: &Cond,
+) -> Result<bool, Memory>
     requires { IsSorted atom_less reached.now }
     ensures { IfOk result (λ answer. answer ≡ may_hold reached.now (literal_of objects.now cond.now)) }
 {
-    match cond {
-        Cond::Has { atom, want } => {
-            if !*want {
-                return Ok(true);
-            }
-            let atom = instance_of(alloc, objects, atom)?;
-            Ok(has(reached, &atom))
-        }
-        Cond::Same { left, right, want } => Ok(agrees(objects, *left, *right, *want)),
-    }
+    may_hold(alloc, objects, cond, |atom| has(reached, atom))
 }
 
 /// Whether each literal may hold, as far as the reachable atoms say.
@@ -47,7 +44,7 @@ pub(crate) fn all_may_hold(
     ensures { IfOk result (λ answer. answer ≡ all_may_hold reached.now (literals_of objects.now conds.now)) }
 {
     for cond in conds {
-        if !may_hold(alloc, reached, objects, cond)? {
+        if !may_be_reached(alloc, reached, objects, cond)? {
             return Ok(false);
         }
     }

@@ -1,5 +1,24 @@
-use Rattle.grounder.proofs.Leaving.{left_by_add}
+use Rattle.std.proofs.Common.{◌∙◌}
+use Rattle.grounder.proofs.Leaving.{left_by_add, left_change, left_changes}
+use Rattle.grounder.proofs.Listed.{none_left_out}
 use Rattle.grounder.proofs.constant.leave_out_effect.Goals as goal
 
 pub returns-then-effect : goal.returns-then-effect
 returns-then-effect c = left_by_add c.args.domains.now c.args.reached.now c.args.objects.now c.args.effect.now c.args.constant.now c.if-effect.true
+
+pub loop-number-preserved : goal.loop-number-preserved
+loop-number-preserved c =
+    let are = rw c.as_slice-over.ensures at c.in_ok-bindings.ensures in
+    left_change c.args.domains.now c.args.reached.now c.args.objects.now c.args.effect.now c.in_ok-bindings.bindings are c.loop-number.number c.loop-number-test.true c.deref.result.now
+    (c.deref.ensures.value ∙ c.in_ok-objects.ensures) c.args.constant.now c.loop-number.constant c.leave_out_deleted.new.constant c.loop-number.invariant c.in_ok-leave_out_deleted.ensures
+
+pub returns : goal.returns
+returns c =
+    let are = rw c.as_slice-over.ensures at c.in_ok-bindings.ensures in
+    left_changes c.args.domains.now c.args.reached.now c.args.objects.now c.args.effect.now c.in_ok-bindings.bindings are c.loop-number.number c.loop-number-test.false
+    c.args.constant.now c.loop-number.constant c.loop-number.invariant
+
+pub returns-then-not-have_objects : goal.returns-then-not-have_objects
+returns-then-not-have_objects c =
+    none_left_out c.args.domains.now c.args.reached.now c.args.objects.now c.args.effect.now c.args.constant.now
+    (rw c.as_slice-over.ensures at c.have_objects.ensures.none c.if-not-have_objects.true)

@@ -3,7 +3,7 @@ use Rattle.std.specs.List.{list_any}
 use Rattle.grounding.specs.Instance.{changes_of}
 use Rattle.grounding.specs.Found.{deletes}
 use Rattle.grounder.specs.Putting.{LeavesOut}
-use Rattle.grounder.proofs.constant.leave_out_instances.Given as goal
+use Rattle.grounder.proofs.constant.leave_out_effect.Given as goal
 
 abbrev pub invariant-loop-number : goal.invariant-loop-number
 invariant-loop-number l =
