@@ -9,10 +9,11 @@ use Rattle.watch_chains.specs.Linked.{IsLinked, note_of, placed}
 use Rattle.watch_lists.specs.declared.visit.Watched.{Watched}
 use Rattle.watch_lists.specs.Pending.{is_free, has_two_free, is_pending_on}
 use Rattle.cdcl_rules.specs.Pending.{is_pending}
-use Rattle.watch_lists.specs.Visit.{no_watches, clause_at, place_in, place_of, literal_at, IsFit, IsPlaced, IsReal, IsListed, IsKept, NoWhy}
+use Rattle.cdcl_rules.specs.State.{clause_at}
+use Rattle.watch_lists.specs.Visit.{no_watches, place_in, place_of, literal_at, IsFit, IsPlaced, IsReal, IsListed, IsKept, NoWhy}
 use Rattle.watch_lists.specs.Sound.{AreFree}
 use Rattle.watch_lists.specs.Added.{Outlasts}
-use Rattle.watch_lists.proofs.Filters.{count_one, has_get, two_of, pending_at}
+use Rattle.watch_lists.proofs.Filters.{clause_is, count_one, has_get, two_of, pending_at}
 use Rattle.watch_lists.proofs.Assigns.{equal_of, apart_of, at_most_of, past_of}
 
 -- a list with one more member, read elsewhere
@@ -28,10 +29,10 @@ get_other xs y d i ne = by (ltb i (length xs)) refl
         get_or_past (xs ++ y ∷ []) i d past ∙ sym (get_or_past xs i d h)
 
 pub at_other : (cl : List (List ℕ)) (k : List ℕ) (c : ℕ) → (c ≡ length cl → ⊥) → clause_at (cl ++ k ∷ []) c ≡ clause_at cl c
-at_other cl k c ne = get_other cl k [] c ne
+at_other cl k c ne = clause_is (cl ++ k ∷ []) c ∙ get_other cl k [] c ne ∙ sym (clause_is cl c)
 
 pub at_own : (cl : List (List ℕ)) (k : List ℕ) (c : ℕ) → c ≡ length cl → clause_at (cl ++ k ∷ []) c ≡ k
-at_own cl k c e = get_or_push cl k [] c (sym e)
+at_own cl k c e = clause_is (cl ++ k ∷ []) c ∙ get_or_push cl k [] c (sym e)
 
 pub real_other : (cl : List (List ℕ)) (k : List ℕ) (node : ℕ) → IsReal (cl ++ k ∷ []) node → (node / 2 ≡ length cl → ⊥) → IsReal cl node
 real_other cl k node r ne =

@@ -11,12 +11,17 @@ use Rattle.watch_store.proofs.Mirrors.{has-snoc}
 use Rattle.watch_lists.specs.declared.pairs.Pair.{Pair}
 use Rattle.watch_lists.specs.Pending.{is_free, is_pending_on}
 use Rattle.watch_lists.specs.Asking.{IsAsked, AreAsked, IsConsistent, IsAsking}
-use Rattle.watch_lists.specs.Visit.{clause_at, Grows, IsFit}
+use Rattle.cdcl_rules.specs.State.{clause_at}
+use Rattle.watch_lists.specs.Visit.{Grows, IsFit}
 use Rattle.watch_lists.specs.Pairs.{IsPairOf, pair_in}
 use Rattle.watch_lists.specs.Added.{Outlasts}
-use Rattle.watch_lists.proofs.Filters.{tests_one, count_one, count_two, pending_off, any_from_has, has_get, pending_at}
+use Rattle.watch_lists.proofs.Filters.{clause_is, tests_one, count_one, count_two, pending_off, any_from_has, has_get, pending_at}
 use Rattle.watch_lists.proofs.Assigns.{equal_of, apart_of, at_most_of, past_of, opposite_twice, not_false, true_longer, true_in_take}
 use Rattle.watch_lists.proofs.Adds.{at_other, at_own}
+
+-- the literals of a clause that is read
+pub fit_read : (cl : List (List ℕ)) (codes k : ℕ) (xs : List ℕ) → IsFit cl codes → xs ≡ get_or cl k [] → (p : ℕ) → p < length xs → get_or xs p 0 < codes
+fit_read cl codes k xs fit e = subst (λ (ys : List ℕ). (p : ℕ) → p < length ys → get_or ys p 0 < codes) (clause_is cl k ∙ sym e) (fit.below k)
 
 -- a test that fails at each place fails for the whole list
 none_at : (p : ℕ → Bool) (xs : List ℕ) → ((i : ℕ) → i < length xs → p (get_or xs i 0) ≡ false) → list_any p xs ≡ false

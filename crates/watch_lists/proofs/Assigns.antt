@@ -10,7 +10,8 @@ use Rattle.watch_store.proofs.Mirrors.{has-snoc}
 use Rattle.watch_lists.specs.declared.visit.Watched.{Watched}
 use Rattle.watch_lists.specs.Pending.{is_free, has_two_free, is_pending_on}
 use Rattle.cdcl_rules.specs.Pending.{is_pending}
-use Rattle.watch_lists.specs.Visit.{no_watches, clause_at, place_in, place_of, literal_at, IsPlaced, IsReal, IsKept, MovesToFree, Grows, AllSettled}
+use Rattle.cdcl_rules.specs.State.{clause_at}
+use Rattle.watch_lists.specs.Visit.{no_watches, place_in, place_of, literal_at, IsPlaced, IsReal, IsKept, MovesToFree, Grows, AllSettled}
 use Rattle.watch_lists.specs.Sound.{AreFree, IsFront}
 use Rattle.watch_lists.proofs.Filters.{count_two, count_weaker, any_weaker, two_of, tests_two, pending_at}
 

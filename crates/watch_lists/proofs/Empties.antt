@@ -8,9 +8,10 @@ use Rattle.watch_chains.specs.declared.chains.Node.{Node}
 use Rattle.watch_chains.specs.Linked.{IsLinked}
 use Rattle.watch_lists.specs.declared.visit.Watched.{Watched}
 use Rattle.watch_lists.specs.Pending.{is_pending_on}
-use Rattle.watch_lists.specs.Visit.{clause_at, slot_clauses, IsReal}
+use Rattle.cdcl_rules.specs.State.{clause_at}
+use Rattle.watch_lists.specs.Visit.{slot_clauses, IsReal}
 use Rattle.watch_lists.specs.Sound.{IsSound}
-use Rattle.watch_lists.proofs.Filters.{pending_at}
+use Rattle.watch_lists.proofs.Filters.{clause_past, pending_at}
 
 pub sound_none : (v tv : ℕ) (cl : List (List ℕ)) (kept : List Bool) (trail slots : List ℕ) (wa : List Watched) (heads : List ℕ) (nodes : List Node) (words : List ℕ) (quiet : List Bool) → v ≤ 2147483647 → tv ≡ v → slots ≡ [] → cl ≡ [] → kept ≡ [] → trail ≡ [] → IsLinked heads nodes (λ k. None) → length heads ≡ 2 * v + 1 → ((k : ℕ) → words_have words k ≡ false) → length quiet ≡ v + 1 → IsSound v tv cl kept trail slots wa heads nodes words quiet
 sound_none v tv cl kept trail slots wa heads nodes words quiet small same es ec ek et linked codes none size = record {
@@ -65,7 +66,7 @@ sound_none v tv cl kept trail slots wa heads nodes words quiet small same es ec 
     no_trail = ap (λ (xs : List ℕ). length xs) et
 
     no_literals : (c : ℕ) → length (clause_at cl c) ≡ 0
-    no_literals c = ap (λ (xs : List ℕ). length xs) (get_or_past cl c [] (omega (arith, no_clauses)))
+    no_literals c = ap (λ (xs : List ℕ). length xs) (clause_past cl c (omega (arith, no_clauses)))
 
     no_node : (node : ℕ) → IsReal (slot_clauses cl slots) node → ⊥
     no_node node real = absurd (omega (arith, real.below, none_slotted))

@@ -11,7 +11,8 @@ use Rattle.watch_chains.specs.declared.chains.Node.{Node}
 use Rattle.watch_chains.specs.Linked.{IsLinked, ArePairLoose, note_of, placed}
 use Rattle.watch_lists.specs.declared.visit.Watched.{Watched}
 use Rattle.watch_lists.specs.Pending.{is_free, has_two_free, is_pending_on}
-use Rattle.watch_lists.specs.Visit.{clause_at, literal_at, Grows, IsAtRest}
+use Rattle.cdcl_rules.specs.State.{clause_at}
+use Rattle.watch_lists.specs.Visit.{literal_at, Grows, IsAtRest}
 use Rattle.watch_lists.specs.Sound.{AreFree}
 use Rattle.watch_lists.specs.Added.{Outlasts, RestsWith, FreeWith, IsQuietBelow}
 use Rattle.watch_lists.proofs.Filters.{count_two, pending_at, pending_off}

@@ -1,11 +1,13 @@
 use Rattle.std.proofs.Common.{arith, ◌≡◌, ◌==◌, ℕ, zero, suc, ◌+◌, ◌<◌, ◌≤◌, List, [], ◌∷◌, length, take, get_or, Bool, true, false, not, ◌||◌, ◌&&◌, cond, refl, sym, ap, ◌∙◌, leb}
 use Rattle.std.specs.List.{list_any, filter}
 use Rattle.std.proofs.lemmas.Bool.Decides.{nat_tests}
+use Rattle.std.proofs.lemmas.List.{get_or_past}
 use Rattle.std.proofs.lemmas.List.Filters.{length-filter_more}
 use Rattle.clause_base.specs.Clause.{has_literal}
 use Rattle.std.proofs.lemmas.Option.{unwrap_or-slice_get}
 use Rattle.watch_lists.specs.Pending.{is_free, is_pending_on}
 use Rattle.cdcl_rules.specs.Pending.{is_pending}
+use Rattle.cdcl_rules.specs.State.{clause_at}
 use Rattle.watch_lists.specs.Visit.{IsSettled}
 
 -- what the test for at most one tells, and what makes it
@@ -36,9 +38,17 @@ pending_off on xs t = ap (λ (b : Bool). not (list_any on xs) && b) (tests_past_
     by true = refl
     by false = refl
 
--- a clause is pending by its number, read from the list
-pub pending_at : (cl : List (List ℕ)) (kept : List Bool) (trail : List ℕ) (k : ℕ) → is_pending_on cl kept trail k ≡ (get_or kept k false && is_pending (has_literal trail) (get_or cl k []))
-pending_at cl kept trail k = ap (λ (xs : List ℕ). get_or kept k false && is_pending (has_literal trail) xs) (unwrap_or-slice_get cl k [])
+-- the clause with a number, read from the list
+pub clause_is : (cl : List (List ℕ)) (k : ℕ) → clause_at cl k ≡ get_or cl k []
+clause_is cl k = unwrap_or-slice_get cl k []
+
+-- past the last clause there is the empty one
+pub clause_past : (cl : List (List ℕ)) (k : ℕ) → length cl ≤ k → clause_at cl k ≡ []
+clause_past cl k h = clause_is cl k ∙ get_or_past cl k [] h
+
+-- a clause is pending by its number
+pub pending_at : (cl : List (List ℕ)) (kept : List Bool) (trail : List ℕ) (k : ℕ) → is_pending_on cl kept trail k ≡ (get_or kept k false && is_pending (has_literal trail) (clause_at cl k))
+pending_at cl kept trail k = refl
 
 abbrev pub bit : Bool → ℕ
 bit b = cond b 1 0

@@ -6,7 +6,8 @@ use Rattle.clause_base.specs.Clause.{has_literal}
 use Rattle.cdcl_rules.specs.Pending.{is_pending}
 use Rattle.watch_lists.specs.declared.pairs.Pair.{Pair}
 use Rattle.watch_lists.specs.Pending.{has_two_free, is_pending_on}
-use Rattle.watch_lists.specs.Visit.{clause_at, slot_clauses, slot_flags, slot_set, Grows}
+use Rattle.cdcl_rules.specs.State.{clause_at}
+use Rattle.watch_lists.specs.Visit.{slot_clauses, slot_flags, slot_set, Grows}
 use Rattle.watch_lists.specs.Pairs.{pairs_of, pair_in, IsInPairs, HasSlot, IsPaired}
 use Rattle.watch_lists.proofs.Filters.{pending_at}
 use Rattle.watch_lists.proofs.Assigns.{pending_parts, pending_earlier}

@@ -2,17 +2,18 @@
 use Rattle.std.proofs.Common.{arith, ◌≡◌, ◌≢◌, ◌==◌, ℕ, ◌+◌, ◌*◌, ◌<◌, ◌≤◌, List, [], ◌∷◌, ◌++◌, length, set, get_or, leb, ltb, Bool, true, false, not, ◌||◌, if◌then◌else◌, refl, sym, ap, ◌∙◌, subst, ◌⊎◌, inl, inr, length-set, get_or-set_same, get_or-set_other}
 use Rattle.std.specs.List.{list_any, filter}
 use Rattle.std.proofs.lemmas.Bool.Decides.{nat_tests}
-use Rattle.std.proofs.lemmas.List.{get_or_push, get_or_append_left, get_or_past, get_or_read, length_push}
+use Rattle.std.proofs.lemmas.List.{get_or_push, get_or_append_left, get_or_read, length_push}
 use Rattle.clause_base.specs.Literal.{opposite}
 use Rattle.clause_base.specs.Clause.{has_literal}
 use Rattle.watch_chains.specs.declared.chains.Node.{Node}
 use Rattle.watch_lists.specs.declared.visit.Watched.{Watched}
 use Rattle.watch_lists.specs.declared.pairs.Pair.{Pair}
 use Rattle.watch_lists.specs.Pending.{is_free, has_two_free}
-use Rattle.watch_lists.specs.Visit.{clause_at, IsFit}
+use Rattle.cdcl_rules.specs.State.{clause_at}
+use Rattle.watch_lists.specs.Visit.{IsFit}
 use Rattle.watch_lists.specs.Pairs.{no_pair, pairs_of, pair_in, HasPair, IsInPairs, IsPairOf, AreExact, HasSlot, IsPaired, IsFuller}
 use Rattle.watch_lists.specs.Added.{IsTaken}
-use Rattle.watch_lists.proofs.Filters.{count_two, tests_two}
+use Rattle.watch_lists.proofs.Filters.{clause_past, count_two, tests_two}
 use Rattle.watch_lists.proofs.Assigns.{equal_of, apart_of, free_after}
 use Rattle.watch_lists.proofs.Adds.{get_other, at_other, at_own}
 
@@ -190,14 +191,14 @@ pair_within cl codes code p f o = (other o, inside (ltb p.number (length cl)) re
     inside true e l = grind (arith, nat_tests)
     inside false e l =
         let h : length cl ≤ p.number = grind (arith, nat_tests) in
-        absurd (omega (arith, l, ap (λ (xs : List ℕ). length xs) (get_or_past cl p.number [] h)))
+        absurd (omega (arith, l, ap (λ (xs : List ℕ). length xs) (clause_past cl p.number h)))
 
 -- a clause more leaves the pairs right
 exact_more : (cl : List (List ℕ)) (k : List ℕ) (ps : List (List Pair)) → AreExact cl ps → AreExact (cl ++ k ∷ []) ps
 exact_more cl k ps old code place h = by (old code place h)
   where
     not_last : (xs : List ℕ) → clause_at cl (pair_in (pairs_of ps code) place).number ≡ xs → length xs ≡ 2 → (pair_in (pairs_of ps code) place).number ≡ length cl → ⊥
-    not_last xs e l q = absurd (omega (arith, l, ap (λ (ys : List ℕ). length ys) e, ap (λ (ys : List ℕ). length ys) (get_or_past cl (pair_in (pairs_of ps code) place).number [] (omega (arith, q)))))
+    not_last xs e l q = absurd (omega (arith, l, ap (λ (ys : List ℕ). length ys) e, ap (λ (ys : List ℕ). length ys) (clause_past cl (pair_in (pairs_of ps code) place).number (omega (arith, q)))))
 
     by : IsPairOf cl code (pair_in (pairs_of ps code) place) → IsPairOf (cl ++ k ∷ []) code (pair_in (pairs_of ps code) place)
     by (inl e) = inl (at_other cl k (pair_in (pairs_of ps code) place).number (not_last (code ∷ (pair_in (pairs_of ps code) place).other ∷ []) e refl) ∙ e)

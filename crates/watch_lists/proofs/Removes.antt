@@ -6,7 +6,8 @@ use Rattle.watch_lists.specs.declared.visit.Watched.{Watched}
 use Rattle.clause_base.specs.Clause.{has_literal}
 use Rattle.watch_lists.specs.Pending.{is_pending_on}
 use Rattle.cdcl_rules.specs.Pending.{is_pending}
-use Rattle.watch_lists.specs.Visit.{clause_at, slot_clauses, slot_flags, IsKept, NoWhy}
+use Rattle.cdcl_rules.specs.State.{clause_at}
+use Rattle.watch_lists.specs.Visit.{slot_clauses, slot_flags, IsKept, NoWhy}
 use Rattle.watch_lists.specs.Sound.{IsFront, IsSound}
 use Rattle.watch_lists.proofs.Filters.{pending_at}
 use Rattle.watch_lists.proofs.Assigns.{none_pending}

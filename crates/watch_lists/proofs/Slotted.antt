@@ -1,22 +1,23 @@
 -- The clauses of the slots, and which of them are kept.
 use Rattle.std.proofs.Common.{arith, ◌≡◌, ◌==◌, ℕ, suc, ◌+◌, ◌<◌, ◌≤◌, List, [], ◌∷◌, ◌++◌, length, take, set, get_or, ltb, Bool, true, false, ◌&&◌, refl, sym, ap, ◌∙◌, subst, inl, inr}
 use Rattle.std.proofs.lemmas.Bool.Decides.{nat_tests}
-use Rattle.std.proofs.lemmas.List.{get_or-map, get_or_past, length-map, map-append, length_push, get_or_push}
+use Rattle.std.proofs.lemmas.List.{get_or-map, length-map, map-append, length_push, get_or_push}
 use Rattle.clause_base.specs.Clause.{has_literal}
 use Rattle.cdcl_rules.specs.Pending.{is_pending}
 use Rattle.watch_chains.specs.declared.chains.Node.{Node}
 use Rattle.watch_lists.specs.declared.visit.Watched.{Watched}
 use Rattle.watch_lists.specs.declared.pairs.Pair.{Pair}
 use Rattle.watch_lists.specs.Pending.{is_pending_on}
-use Rattle.watch_lists.specs.Visit.{clause_at, slot_clauses, slot_flags, slot_set, AreSlotsBelow, IsFit, IsAtRest}
+use Rattle.cdcl_rules.specs.State.{clause_at}
+use Rattle.watch_lists.specs.Visit.{slot_clauses, slot_flags, slot_set, AreSlotsBelow, IsFit, IsAtRest}
 use Rattle.watch_lists.specs.Sound.{AreFree}
 use Rattle.watch_lists.specs.Added.{IsTaken}
-use Rattle.watch_lists.proofs.Filters.{pending_at}
+use Rattle.watch_lists.proofs.Filters.{clause_is, clause_past, pending_at}
 use Rattle.watch_lists.proofs.Adds.{get_other, at_other, at_own, kept_in}
 
 -- a slot's clause and flag are those of its number
 pub slot_at : (cl : List (List ℕ)) (slots : List ℕ) (s : ℕ) → s < length slots → clause_at (slot_clauses cl slots) s ≡ clause_at cl (get_or slots s 0)
-slot_at cl slots s h = get_or-map (λ (n : ℕ). clause_at cl n) slots s 0 [] h
+slot_at cl slots s h = clause_is (slot_clauses cl slots) s ∙ get_or-map (λ (n : ℕ). clause_at cl n) slots s 0 [] h
 
 pub flag_at : (kept : List Bool) (slots : List ℕ) (s : ℕ) → s < length slots → get_or (slot_flags kept slots) s false ≡ get_or kept (get_or slots s 0) false
 flag_at kept slots s h = get_or-map (λ (n : ℕ). get_or kept n false) slots s 0 false h
@@ -31,7 +32,7 @@ pub fit_slots : (cl : List (List ℕ)) (slots : List ℕ) (codes : ℕ) → IsFi
 fit_slots cl slots codes f = record { below = λ s p h. below s p h (ltb s (length slots)) refl; short = λ s. short s (ltb s (length slots)) refl }
   where
     past : (s : ℕ) → ltb s (length slots) ≡ false → clause_at (slot_clauses cl slots) s ≡ []
-    past s e = let h : length slots ≤ s = grind (arith, nat_tests) in get_or_past (slot_clauses cl slots) s [] (omega (arith, h, slots_long cl slots))
+    past s e = let h : length slots ≤ s = grind (arith, nat_tests) in clause_past (slot_clauses cl slots) s (omega (arith, h, slots_long cl slots))
 
     below : (s p : ℕ) → p < length (clause_at (slot_clauses cl slots) s) → (b : Bool) → ltb s (length slots) ≡ b → get_or (clause_at (slot_clauses cl slots) s) p 0 < codes
     below s p h true e =

@@ -7,7 +7,8 @@ use Rattle.watch_lists.specs.declared.visit.Watched.{Watched}
 use Rattle.std.proofs.lemmas.List.{get_or_read}
 use Rattle.watch_lists.proofs.Filters.{has_get}
 use Rattle.watch_lists.specs.Pending.{is_free}
-use Rattle.watch_lists.specs.Visit.{no_watches, clause_at, place_in, place_of, literal_at, IsFit, IsPlaced, IsReal, IsListed, IsKept, IsOther, NoWhy, IsAtRest, IsSettled, Stays, MovesToFree, Grows, AllSettled}
+use Rattle.cdcl_rules.specs.State.{clause_at}
+use Rattle.watch_lists.specs.Visit.{no_watches, place_in, place_of, literal_at, IsFit, IsPlaced, IsReal, IsListed, IsKept, IsOther, NoWhy, IsAtRest, IsSettled, Stays, MovesToFree, Grows, AllSettled}
 
 -- a literal of a clause is below the codes
 pub has_below : (xs : List ℕ) (codes l : ℕ) → ((p : ℕ) → p < length xs → get_or xs p 0 < codes) → has_literal xs l ≡ true → l < codes

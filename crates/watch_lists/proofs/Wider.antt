@@ -5,7 +5,8 @@ use Rattle.number_bits.specs.Bits.{words_have}
 use Rattle.watch_chains.specs.declared.chains.Node.{Node}
 use Rattle.watch_lists.specs.declared.visit.Watched.{Watched}
 use Rattle.watch_lists.specs.Pending.{is_free}
-use Rattle.watch_lists.specs.Visit.{no_watches, clause_at, place_in, literal_at, slot_clauses, slot_flags, IsReal, NoWhy, IsAtRest}
+use Rattle.cdcl_rules.specs.State.{clause_at}
+use Rattle.watch_lists.specs.Visit.{no_watches, place_in, literal_at, slot_clauses, slot_flags, IsReal, NoWhy, IsAtRest}
 use Rattle.watch_lists.specs.Sound.{IsFront, IsSound}
 use Rattle.watch_lists.specs.Added.{IsWider}
 

@@ -4,7 +4,7 @@ use Rattle.clause_base.specs.Literal.{opposite}
 use Rattle.clause_base.specs.Clause.{has_literal}
 use Rattle.number_bits.specs.Bits.{words_have}
 use Rattle.watch_lists.specs.Pending.{is_free}
-use Rattle.watch_lists.specs.Visit.{clause_at}
+use Rattle.cdcl_rules.specs.State.{clause_at}
 
 -- a clause asks for a literal: one of its own, where all others are false; an empty clause asks for none
 pub record IsAsked (on : ℕ → Bool) (clause : List ℕ) (ask : ℕ) : Type 0 where

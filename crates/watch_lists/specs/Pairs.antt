@@ -2,7 +2,7 @@
 use Rattle.std.specs.Prelude.{◌≡◌, ℕ, ◌+◌, ◌*◌, ◌<◌, ◌≤◌, ◌⊎◌, List, [], ◌∷◌, length, map, slice_index, slice_index_or, slice_range}
 use Rattle.watch_lists.specs.declared.pairs.Pair.{Pair}
 use Rattle.watch_lists.specs.declared.pairs.Span.{Span}
-use Rattle.watch_lists.specs.Visit.{clause_at}
+use Rattle.cdcl_rules.specs.State.{clause_at}
 
 -- a pair past the end of a list
 abbrev pub no_pair : Pair

@@ -5,7 +5,8 @@ use Rattle.number_bits.specs.Bits.{IsLeast, words_have}
 use Rattle.watch_chains.specs.declared.chains.Node.{Node}
 use Rattle.watch_lists.specs.declared.visit.Watched.{Watched}
 use Rattle.watch_lists.specs.Pending.{is_free, has_two_free, is_pending_on}
-use Rattle.watch_lists.specs.Visit.{clause_at, literal_at, slot_clauses, slot_flags, AreSlotsBelow, IsFit, IsReal, IsKept, IsAtRest}
+use Rattle.cdcl_rules.specs.State.{clause_at}
+use Rattle.watch_lists.specs.Visit.{literal_at, slot_clauses, slot_flags, AreSlotsBelow, IsFit, IsReal, IsKept, IsAtRest}
 
 -- a set has all numbers that pass, and the least that it has passes
 pub record IsFront (p set : ℕ → Bool) : Type 0 where

@@ -1,6 +1,7 @@
 use Rattle.std.specs.Prelude.{◌≡◌, ℕ, ◌+◌, ◌*◌, ◌/◌, ◌%◌, ◌<◌, ◌≤◌, ◌==◌, ◌⊎◌, List, [], length, Bool, true, false, Option, Some, slice_index, slice_index_or, map, if◌then◌else◌}
 use Rattle.std.specs.List.{list_any}
 use Rattle.clause_base.specs.Clause.{has_literal}
+use Rattle.cdcl_rules.specs.State.{clause_at}
 use Rattle.watch_chains.specs.declared.chains.Node.{Node}
 use Rattle.watch_chains.specs.Linked.{IsLinked, note_of}
 use Rattle.watch_lists.specs.declared.visit.Watched.{Watched}
@@ -9,10 +10,6 @@ use Rattle.cdcl_rules.specs.Pending.{is_pending}
 
 abbrev pub no_watches : Watched
 no_watches = record { first = 0; second = 0; from = 0 }
-
--- the clause with a number
-abbrev pub clause_at : List (List ℕ) → ℕ → List ℕ
-clause_at clauses c = slice_index_or clauses c []
 
 -- clauses that are watched have a slot each, with the number of the clause; the clauses of the slots, which of them are kept,
 -- and which are in a set of numbers of clauses

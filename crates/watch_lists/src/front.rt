@@ -3,7 +3,8 @@ ghost use Rattle.clause_base.specs.Clause.{has_literal};
 ghost use Rattle.number_bits.specs.Bits.{IsLeast, words_have};
 ghost use Rattle.watch_lists.specs.Asking.{AreAsked, IsAsked, IsConsistent};
 ghost use Rattle.watch_lists.specs.Pending.{is_pending_on};
-ghost use Rattle.watch_lists.specs.Visit.{clause_at, IsFit};
+ghost use Rattle.cdcl_rules.specs.State.{clause_at};
+ghost use Rattle.watch_lists.specs.Visit.{IsFit};
 ghost use Rattle.watch_lists.specs.Sound.{IsFront};
 
 use crate::asking::{Asking, NOTHING};

@@ -3,7 +3,8 @@ ghost use Rattle.std.specs.Prelude.{◌≡◌, ◌*◌, ◌<◌, ◌≤◌, ◌�
 ghost use Rattle.clause_base.specs.Clause.{has_literal};
 ghost use Rattle.cdcl_rules.specs.Pending.{open_ones};
 ghost use Rattle.watch_lists.specs.Asking.{IsAsked};
-ghost use Rattle.watch_lists.specs.Visit.{clause_at, IsFit};
+ghost use Rattle.cdcl_rules.specs.State.{clause_at};
+ghost use Rattle.watch_lists.specs.Visit.{IsFit};
 
 use crate::asking::NOTHING;
 use clause_base::literal::Lit;

@@ -1,6 +1,7 @@
 //! The slots of clauses that are watched: each has the number of one.
 ghost use Rattle.std.specs.Prelude.{◌≡◌, ◌<◌, length, false, slice_index_or};
-ghost use Rattle.watch_lists.specs.Visit.{clause_at, slot_clauses, slot_flags, AreSlotsBelow};
+ghost use Rattle.cdcl_rules.specs.State.{clause_at};
+ghost use Rattle.watch_lists.specs.Visit.{slot_clauses, slot_flags, AreSlotsBelow};
 
 use clause_base::literal::Lit;
 use watch_store::store::Store;

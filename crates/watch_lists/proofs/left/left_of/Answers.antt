@@ -1,6 +1,6 @@
 use Rattle.std.proofs.Common.{arith, ◌*◌, not, Bool, get_or, sym, ap, ◌∙◌}
 use Rattle.clause_base.specs.Clause.{has_literal}
-use Rattle.watch_lists.specs.Visit.{clause_at}
+use Rattle.cdcl_rules.specs.State.{clause_at}
 use Rattle.watch_lists.proofs.Asks.{ask_below}
 use Rattle.watch_lists.proofs.Lefts.{left_one, left_none, left_nothing}
 use Rattle.watch_lists.proofs.left.left_of.Goals as goal

@@ -5,7 +5,8 @@ use Rattle.number_bits.specs.Bits.{words_have}
 use Rattle.watch_lists.specs.declared.visit.Watched.{Watched}
 use Rattle.watch_lists.specs.Pending.{is_free}
 use Rattle.watch_lists.specs.Asking.{IsAsked}
-use Rattle.watch_lists.specs.Visit.{no_watches, clause_at, place_in, slot_clauses, slot_flags, slot_set, Grows, Stays}
+use Rattle.cdcl_rules.specs.State.{clause_at}
+use Rattle.watch_lists.specs.Visit.{no_watches, place_in, slot_clauses, slot_flags, slot_set, Grows, Stays}
 use Rattle.watch_lists.proofs.Filters.{settled_true, settled_one}
 use Rattle.watch_lists.proofs.Visits.{has_below, listed_link, moves_own, others_stay, own_moved, placed_moved, Beside, beside_of, settled_grows, grows_insert, own_insert}
 use Rattle.watch_lists.proofs.Slotted.{fit_slots, slot_at, slots_long}
