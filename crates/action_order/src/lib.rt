@@ -11,4 +11,6 @@ mod readers;
 mod ready;
 mod sort;
 mod sure;
+#[cfg(test)]
+mod tests;
 mod walk;

@@ -22,6 +22,8 @@ mod predicates;
 mod read;
 mod tables;
 mod terms;
+#[cfg(test)]
+mod tests;
 mod vocabulary;
 
 pub use error::PddlError;

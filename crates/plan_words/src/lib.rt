@@ -16,6 +16,8 @@ mod command;
 pub mod laws;
 mod read;
 mod request;
+#[cfg(test)]
+mod tests;
 mod values;
 
 pub use clap_words::Memory;
