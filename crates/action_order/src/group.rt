@@ -6,21 +6,8 @@ ghost use Rattle.action_order.specs.Graph.{class_at};
 ghost use Rattle.action_order.specs.Group.{members, listed};
 
 use crate::numbers::ActNumbers;
-use equal_items::items_of;
+use equal_items::empty_lists;
 use std::alloc::{AllocError, Global};
-
-/// So many empty lists.
-pub fn empty_groups(alloc: Global, count: usize) -> Result<Vec<ActNumbers>, AllocError>
-    ensures { IfOk result (λ groups. groups.items ≡ replicate count []) }
-{
-    items_of(
-        alloc,
-        count,
-        move ||
-            ensures { result ≡ [] }
-        { ActNumbers::of(Vec::new(alloc)) },
-    )
-}
 
 /// The members of each component, by its number.
 fn group(alloc: Global, numbers: &[usize], count: usize) -> Result<Vec<ActNumbers>, AllocError>
@@ -29,7 +16,7 @@ fn group(alloc: Global, numbers: &[usize], count: usize) -> Result<Vec<ActNumber
     ensures long { IfOk result (λ groups. length groups.items ≡ count) }
     ensures members { IfOk result (λ groups. (c : ℕ) → c < count → slice_index_or groups.items c [] ≡ members numbers.now c) }
 {
-    let mut groups = empty_groups(alloc, count)?;
+    let mut groups = empty_lists(alloc, count)?;
     for (a, number) in numbers.iter().enumerate() {
         let list = &mut groups[*number];
         list.push(a as u32)?;
@@ -52,7 +39,7 @@ pub fn list(
     let groups = group(alloc, numbers, count)?;
     let mut components = Vec::new(alloc);
     for c in order {
-        components.push(groups[*c].copy(alloc)?)?;
+        components.push(ActNumbers::copied_from(alloc, groups[*c].as_slice())?)?;
     }
     Ok(components)
 }

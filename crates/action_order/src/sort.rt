@@ -8,10 +8,10 @@ ghost use Rattle.gt_core.specs.Literal.{range};
 ghost use Rattle.action_order.specs.Graph.{class_at};
 ghost use Rattle.action_order.specs.Sorting.{IsPending, IsTopologicalOrder, AreNamedComponents};
 
-use crate::group::empty_groups;
 use crate::numbers::ActNumbers;
 use crate::ready::{put, take_first};
 use bit_rows::row::BitRow;
+use equal_items::empty_lists;
 use std::alloc::{AllocError, Global};
 use std::collections::BTreeSet;
 use std::mem;
@@ -121,7 +121,7 @@ impl TopologicalSort {
     {
         self.taken[t] = true;
         self.order.push(t)?;
-        let free = mem::replace(&mut self.waiting[t], ActNumbers::of(Vec::new(alloc)));
+        let free = mem::replace(&mut self.waiting[t], ActNumbers::new(alloc));
         self.release(rows, names, numbers, free.as_slice())
     }
 
@@ -136,7 +136,7 @@ impl TopologicalSort {
         Ok(TopologicalSort {
             taken: vec![in alloc; false; count]?,
             passed: vec![in alloc; 0; count]?,
-            waiting: empty_groups(alloc, count)?,
+            waiting: empty_lists(alloc, count)?,
             ready: BTreeSet::new(alloc),
             order: Vec::new(alloc),
         })

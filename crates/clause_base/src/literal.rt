@@ -1,6 +1,7 @@
 ghost use Rattle.std.specs.Prelude.{◌≡◌, ℕ, ◌+◌, ◌*◌, ◌/◌, ◌%◌, ◌≤◌, ◌==◌};
 ghost use Rattle.clause_base.specs.Literal.{literal_of, opposite};
 
+use list_of::ListOf;
 use literal_codes::opposite;
 use std::marker::Model;
 
@@ -53,38 +54,4 @@ impl Lit {
 }
 
 /// A list of literals.
-#[derive(Debug, Drop)]
-pub struct Lits {
-    items: Vec<Lit>,
-}
-
-impl Model for Lits {
-    ghost use Rattle.std.specs.Prelude.{List, ℕ};
-
-    ghost Value = { List ℕ };
-
-    ghost view = { λ l. l.items.items };
-}
-
-impl Lits {
-    /// The list of these literals. It takes no memory.
-    pub fn of(items: Vec<Lit>) -> Lits
-        ensures { result ≡ items.items }
-    {
-        Lits { items }
-    }
-
-    /// The literals as a vector. It takes no memory.
-    pub fn into_vec(self) -> Vec<Lit>
-        ensures { result.items ≡ self }
-    {
-        self.items
-    }
-
-    /// The literals.
-    pub fn as_slice(&self) -> &[Lit]
-        ensures { result.now ≡ self.now }
-    {
-        self.items.as_slice()
-    }
-}
+pub type Lits = ListOf<Lit>;

@@ -2,43 +2,12 @@ ghost use Rattle.std.specs.Prelude.{◌≡◌, ◌∷◌, [], ◌++◌, List, �
 
 use crate::clause::Clause;
 use crate::memory::Memory;
+use list_of::ListOf;
 use std::alloc::Global;
 use std::marker::Model;
 
 /// A list of numbers of clauses. The clauses of a formula are numbered from 0, and those that a log learns go on from there.
-#[derive(Debug, Drop)]
-pub struct Hints {
-    items: Vec<u32>,
-}
-
-impl Model for Hints {
-    ghost Value = { List ℕ };
-
-    ghost view = { λ h. h.items.items };
-}
-
-impl Hints {
-    /// The list of these numbers. It takes no memory.
-    pub fn of(items: Vec<u32>) -> Hints
-        ensures { result ≡ items.items }
-    {
-        Hints { items }
-    }
-
-    /// The numbers as a vector. It takes no memory.
-    pub fn into_vec(self) -> Vec<u32>
-        ensures { result.items ≡ self }
-    {
-        self.items
-    }
-
-    /// The numbers.
-    pub fn as_slice(&self) -> &[u32]
-        ensures { result.now ≡ self.now }
-    {
-        self.items.as_slice()
-    }
-}
+pub type Hints = ListOf<u32>;
 
 /// What a solver did with a clause.
 #[derive(Debug, Drop)]

@@ -1,8 +1,9 @@
 //! Vectors of so many items, each made alike.
 #![tactic(auto)]
 
-ghost use Rattle.std.specs.Prelude.{◌≡◌, replicate, IfOk};
+ghost use Rattle.std.specs.Prelude.{◌≡◌, [], replicate, IfOk};
 
+use list_of::ListOf;
 use std::alloc::{AllocError, Global};
 
 /// So many items, each made by one call.
@@ -17,4 +18,17 @@ pub fn items_of<T: Drop, F: FnMut() -> T>(
     let mut items = Vec::new(alloc);
     items.resize_with(count, make)?;
     Ok(items)
+}
+
+/// So many empty lists.
+pub fn empty_lists<T: Drop>(alloc: Global, count: usize) -> Result<Vec<ListOf<T>>, AllocError>
+    ensures { IfOk result (λ lists. lists.items ≡ replicate count []) }
+{
+    items_of(
+        alloc,
+        count,
+        move ||
+            ensures { result ≡ [] }
+        { ListOf::new(alloc) },
+    )
 }

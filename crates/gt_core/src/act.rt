@@ -2,6 +2,7 @@
 
 use crate::eff::{Eff, Effs};
 use crate::lits::Lits;
+use list_of::ListOf;
 use std::marker::Model;
 
 /// An action: what has to hold before it, and what it does.
@@ -53,41 +54,4 @@ impl Act {
 }
 
 /// Actions.
-#[derive(Debug, Drop)]
-pub struct Acts {
-    items: Vec<Act>,
-}
-
-impl Model for Acts {
-    ghost use Rattle.std.specs.Prelude.{List};
-    ghost use Rattle.gt_core.specs.Task.{Action};
-
-    ghost Value = { List Action };
-
-    ghost view = { λ a. a.items.items };
-}
-
-impl Acts {
-    ghost use Rattle.std.specs.Prelude.{◌≡◌};
-
-    /// The list of these actions.
-    pub fn of(items: Vec<Act>) -> Acts
-        ensures { result ≡ items.items }
-    {
-        Acts { items }
-    }
-
-    /// The actions again.
-    pub fn into_vec(self) -> Vec<Act>
-        ensures { result.items ≡ self }
-    {
-        self.items
-    }
-
-    /// The actions, lent.
-    pub fn as_slice(&self) -> &[Act]
-        ensures { result.now ≡ self.now }
-    {
-        self.items.as_slice()
-    }
-}
+pub type Acts = ListOf<Act>;

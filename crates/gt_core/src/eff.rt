@@ -1,6 +1,7 @@
 //! The effects of an action.
 
 use crate::lits::Lits;
+use list_of::ListOf;
 use std::marker::Model;
 
 /// An effect: its literal comes true where the literals of its condition hold. An even literal adds its fact, an
@@ -53,41 +54,4 @@ impl Eff {
 }
 
 /// Effects.
-#[derive(Debug, Drop)]
-pub struct Effs {
-    items: Vec<Eff>,
-}
-
-impl Model for Effs {
-    ghost use Rattle.std.specs.Prelude.{List};
-    ghost use Rattle.gt_core.specs.Task.{Effect};
-
-    ghost Value = { List Effect };
-
-    ghost view = { λ e. e.items.items };
-}
-
-impl Effs {
-    ghost use Rattle.std.specs.Prelude.{◌≡◌};
-
-    /// The list of these effects.
-    pub fn of(items: Vec<Eff>) -> Effs
-        ensures { result ≡ items.items }
-    {
-        Effs { items }
-    }
-
-    /// The effects again.
-    pub fn into_vec(self) -> Vec<Eff>
-        ensures { result.items ≡ self }
-    {
-        self.items
-    }
-
-    /// The effects, lent.
-    pub fn as_slice(&self) -> &[Eff]
-        ensures { result.now ≡ self.now }
-    {
-        self.items.as_slice()
-    }
-}
+pub type Effs = ListOf<Eff>;

@@ -1,7 +1,7 @@
 // Atoms: with variables in a schema, ground in a state.
 use crate::{Memory, Objects};
+use list_of::ListOf;
 use std::alloc::Global;
-use std::marker::Model;
 
 /// An object by its number, or a variable by its place: the parameters of the action come first, from
 /// 0, and then the variables of the `forall` that it stands under.
@@ -12,44 +12,7 @@ pub enum Term {
 }
 
 /// Terms, from the left.
-#[derive(Debug, Drop)]
-pub struct Terms {
-    items: Vec<Term>,
-}
-
-impl Model for Terms {
-    ghost use Rattle.std.specs.Prelude.{List};
-    ghost use Rattle.pd_model.specs.declared.atoms.Term.{Term};
-
-    ghost Value = { List Term };
-
-    ghost view = { λ l. l.items.items };
-}
-
-impl Terms {
-    ghost use Rattle.std.specs.Prelude.{◌≡◌};
-
-    /// The list of these items; takes no memory.
-    pub fn of(items: Vec<Term>) -> Self
-        ensures { result ≡ items.items }
-    {
-        Terms { items }
-    }
-
-    /// The items.
-    pub fn as_slice(&self) -> &[Term]
-        ensures { result.now ≡ self.now }
-    {
-        &self.items
-    }
-
-    /// The items themselves; takes no memory.
-    pub fn into_vec(self) -> Vec<Term>
-        ensures { result.items ≡ self }
-    {
-        self.items
-    }
-}
+pub type Terms = ListOf<Term>;
 
 /// An atom whose terms may be variables.
 #[derive(Debug, Drop)]
@@ -83,41 +46,4 @@ impl Atom {
 }
 
 /// Ground atoms, in the order of the file.
-#[derive(Debug, Drop)]
-pub struct Atoms {
-    items: Vec<Atom>,
-}
-
-impl Model for Atoms {
-    ghost use Rattle.std.specs.Prelude.{List};
-    ghost use Rattle.pd_model.specs.declared.atoms.Atom.{Atom};
-
-    ghost Value = { List Atom };
-
-    ghost view = { λ l. l.items.items };
-}
-
-impl Atoms {
-    ghost use Rattle.std.specs.Prelude.{◌≡◌};
-
-    /// The list of these items; takes no memory.
-    pub fn of(items: Vec<Atom>) -> Self
-        ensures { result ≡ items.items }
-    {
-        Atoms { items }
-    }
-
-    /// The items.
-    pub fn as_slice(&self) -> &[Atom]
-        ensures { result.now ≡ self.now }
-    {
-        &self.items
-    }
-
-    /// The items themselves; takes no memory.
-    pub fn into_vec(self) -> Vec<Atom>
-        ensures { result.items ≡ self }
-    {
-        self.items
-    }
-}
+pub type Atoms = ListOf<Atom>;

@@ -1,6 +1,6 @@
 // Calls of actions, and what a list of them comes to.
 use crate::Objects;
-use std::marker::Model;
+use list_of::ListOf;
 
 /// A schema with one object for each parameter.
 #[derive(Debug, Drop)]
@@ -11,44 +11,7 @@ pub struct Call {
 }
 
 /// Calls, in the order in which they run.
-#[derive(Debug, Drop)]
-pub struct Calls {
-    items: Vec<Call>,
-}
-
-impl Model for Calls {
-    ghost use Rattle.std.specs.Prelude.{List};
-    ghost use Rattle.pd_model.specs.declared.calls.Call.{Call};
-
-    ghost Value = { List Call };
-
-    ghost view = { λ l. l.items.items };
-}
-
-impl Calls {
-    ghost use Rattle.std.specs.Prelude.{◌≡◌};
-
-    /// The list of these items; takes no memory.
-    pub fn of(items: Vec<Call>) -> Self
-        ensures { result ≡ items.items }
-    {
-        Calls { items }
-    }
-
-    /// The items.
-    pub fn as_slice(&self) -> &[Call]
-        ensures { result.now ≡ self.now }
-    {
-        &self.items
-    }
-
-    /// The items themselves; takes no memory.
-    pub fn into_vec(self) -> Vec<Call>
-        ensures { result.items ≡ self }
-    {
-        self.items
-    }
-}
+pub type Calls = ListOf<Call>;
 
 /// What a list of calls comes to.
 #[derive(Clone, Copy, Debug, PartialEq, Eq)]

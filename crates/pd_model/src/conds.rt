@@ -1,6 +1,6 @@
 // Conditions.
 use crate::{Pattern, Term};
-use std::marker::Model;
+use list_of::ListOf;
 
 /// One literal of a condition.
 #[derive(Debug, Drop)]
@@ -12,41 +12,4 @@ pub enum Cond {
 }
 
 /// A condition: the conjunction of its literals.
-#[derive(Debug, Drop)]
-pub struct Conds {
-    items: Vec<Cond>,
-}
-
-impl Model for Conds {
-    ghost use Rattle.std.specs.Prelude.{List};
-    ghost use Rattle.pd_model.specs.declared.conds.Cond.{Cond};
-
-    ghost Value = { List Cond };
-
-    ghost view = { λ l. l.items.items };
-}
-
-impl Conds {
-    ghost use Rattle.std.specs.Prelude.{◌≡◌};
-
-    /// The list of these items; takes no memory.
-    pub fn of(items: Vec<Cond>) -> Self
-        ensures { result ≡ items.items }
-    {
-        Conds { items }
-    }
-
-    /// The items.
-    pub fn as_slice(&self) -> &[Cond]
-        ensures { result.now ≡ self.now }
-    {
-        &self.items
-    }
-
-    /// The items themselves; takes no memory.
-    pub fn into_vec(self) -> Vec<Cond>
-        ensures { result.items ≡ self }
-    {
-        self.items
-    }
-}
+pub type Conds = ListOf<Cond>;

@@ -1,4 +1,5 @@
 // The objects.
+use list_of::ListOf;
 use pd_sexp::Name;
 use std::cmp::Ordering;
 use std::marker::Model;
@@ -12,44 +13,7 @@ pub struct ObjectDecl {
 }
 
 /// The declared objects, by number.
-#[derive(Debug, Drop)]
-pub struct ObjectDecls {
-    items: Vec<ObjectDecl>,
-}
-
-impl Model for ObjectDecls {
-    ghost use Rattle.std.specs.Prelude.{List};
-    ghost use Rattle.pd_model.specs.declared.objects.ObjectDecl.{ObjectDecl};
-
-    ghost Value = { List ObjectDecl };
-
-    ghost view = { λ l. l.items.items };
-}
-
-impl ObjectDecls {
-    ghost use Rattle.std.specs.Prelude.{◌≡◌};
-
-    /// The list of these items; takes no memory.
-    pub fn of(items: Vec<ObjectDecl>) -> Self
-        ensures { result ≡ items.items }
-    {
-        ObjectDecls { items }
-    }
-
-    /// The items.
-    pub fn as_slice(&self) -> &[ObjectDecl]
-        ensures { result.now ≡ self.now }
-    {
-        &self.items
-    }
-
-    /// The items themselves; takes no memory.
-    pub fn into_vec(self) -> Vec<ObjectDecl>
-        ensures { result.items ≡ self }
-    {
-        self.items
-    }
-}
+pub type ObjectDecls = ListOf<ObjectDecl>;
 
 /// Numbers of objects: those of a ground atom or of a call.
 #[derive(Debug, Drop)]

@@ -5,42 +5,12 @@ ghost use Rattle.pd_plan.specs.WordLists.{word_lists};
 
 use crate::PlanFault;
 use crate::reader::Reader;
+use list_of::ListOf;
 use pd_words::Named;
 use std::alloc::Global;
-use std::marker::Model;
 
 /// Words with their places, from the left.
-#[derive(Debug, Drop)]
-pub struct Words {
-    items: Vec<Named>,
-}
-
-impl Model for Words {
-    ghost use Rattle.std.specs.Prelude.{List};
-    ghost use Rattle.pd_words.specs.declared.named.Named.{Named};
-
-    ghost Value = { List Named };
-
-    ghost view = { λ l. l.items.items };
-}
-
-impl Words {
-    ghost use Rattle.std.specs.Prelude.{◌≡◌};
-
-    /// The list of these words; takes no memory.
-    pub fn of(items: Vec<Named>) -> Self
-        ensures { result ≡ items.items }
-    {
-        Words { items }
-    }
-
-    /// The words.
-    pub fn as_slice(&self) -> &[Named]
-        ensures { result.now ≡ self.now }
-    {
-        &self.items
-    }
-}
+pub type Words = ListOf<Named>;
 
 /// A list of words, and the offset of its parenthesis.
 #[derive(Debug, Drop)]

@@ -1,43 +1,11 @@
 // The trees that a file is read as.
 ghost use Rattle.std.specs.Prelude.{◌≡◌, ℕ, List};
 
+use list_of::ListOf;
 use std::alloc::{AllocError, AllocFailed};
-use std::marker::Model;
 
 /// The bytes of a word, in small letters.
-#[derive(Debug, Drop)]
-pub struct Name {
-    letters: Vec<u8>,
-}
-
-impl Model for Name {
-    ghost Value = { List ℕ };
-
-    ghost view = { λ n. n.letters.items };
-}
-
-impl Name {
-    /// The word of these bytes; takes no memory.
-    pub fn of(letters: Vec<u8>) -> Self
-        ensures { result ≡ letters.items }
-    {
-        Name { letters }
-    }
-
-    /// The word's bytes.
-    pub fn as_slice(&self) -> &[u8]
-        ensures { result.now ≡ self.now }
-    {
-        &self.letters
-    }
-
-    /// The bytes themselves; takes no memory.
-    pub fn into_vec(self) -> Vec<u8>
-        ensures { result.items ≡ self }
-    {
-        self.letters
-    }
-}
+pub type Name = ListOf<u8>;
 
 /// A word, or a list of trees. Each has the offset of its first byte in the file, from 0.
 #[derive(Debug, Drop)]

@@ -111,8 +111,8 @@ impl<'a, H: Files> Shelf for FileShelf<'a, H> {
     #[tactic(auto, using(crate::proofs::Counted::counting))]
     fn take(&mut self, name: &str, most: usize, into: &mut Vec<u8>) -> Result<Taken, TakeError> {
         // The room for a fault is taken before the file is read.
-        let entry = Bytes::copy_of(self.alloc, name.as_bytes())?;
-        self.failed.make_room()?;
+        let entry = Bytes::copied_from(self.alloc, name.as_bytes())?;
+        self.failed.reserve(1)?;
         match open_and_read(self.rt, name, most, into) {
             Err(TakeError::Failed) => {
                 self.failed.push(entry)?;

@@ -62,7 +62,7 @@ impl MemShelf {
         ensures ok { OnOk result (self.new ≡ record self.old { failed = self.old.failed ++ name.now ∷ [] }) }
         ensures err { OnErr result (self.new ≡ self.old) }
     {
-        let entry = Bytes::copy_of(self.alloc, name.as_bytes())?;
+        let entry = Bytes::copied_from(self.alloc, name.as_bytes())?;
         self.failed.push(entry)
     }
 }
@@ -142,7 +142,7 @@ mod tests {
     use std::test::Fail;
 
     fn bytes(alloc: Global, text: &str) -> Result<Bytes, AllocError> {
-        Bytes::copy_of(alloc, text.as_bytes())
+        Bytes::copied_from(alloc, text.as_bytes())
     }
 
     #[test]

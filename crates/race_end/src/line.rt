@@ -1,7 +1,7 @@
 //! What became of a started horizon.
 
+use list_of::ListOf;
 use rup_check::check::Checked;
-use std::marker::Model;
 
 /// How a horizon ended.
 #[derive(Debug, Drop)]
@@ -26,41 +26,4 @@ pub struct Line {
 }
 
 /// A list of lines.
-#[derive(Debug, Drop)]
-pub struct Lines {
-    items: Vec<Line>,
-}
-
-impl Model for Lines {
-    ghost use Rattle.std.specs.Prelude.{List};
-    ghost use Rattle.race_end.specs.declared.line.Line.{Line};
-
-    ghost Value = { List Line };
-
-    ghost view = { λ l. l.items.items };
-}
-
-impl Lines {
-    ghost use Rattle.std.specs.Prelude.{◌≡◌};
-
-    /// The list of these lines.
-    pub fn of(items: Vec<Line>) -> Lines
-        ensures { result ≡ items.items }
-    {
-        Lines { items }
-    }
-
-    /// The lines again.
-    pub fn into_vec(self) -> Vec<Line>
-        ensures { result.items ≡ self }
-    {
-        self.items
-    }
-
-    /// The lines, lent.
-    pub fn as_slice(&self) -> &[Line]
-        ensures { result.now ≡ self.now }
-    {
-        self.items.as_slice()
-    }
-}
+pub type Lines = ListOf<Line>;

@@ -9,64 +9,15 @@ ghost use Rattle.step_template.specs.Rows.{row_of, rows_of, made, IsIndex};
 use crate::numbers::{Place, effect_variable, number_after};
 use clause_base::literal::Lit;
 use clause_base::memory::Memory;
-use equal_items::items_of;
+use equal_items::empty_lists;
 use gt_core::eff::Eff;
 use gt_core::layout::Layout;
 use gt_core::task::Task;
+use list_of::ListOf;
 use std::alloc::Global;
-use std::marker::Model;
 
 /// The variables of effects, as literals.
-#[derive(Debug, Drop)]
-pub(crate) struct Makers {
-    items: Vec<Lit>,
-}
-
-impl Model for Makers {
-    ghost use Rattle.std.specs.Prelude.{ℕ, List};
-
-    ghost Value = { List ℕ };
-
-    ghost view = { λ m. m.items.items };
-}
-
-impl Makers {
-    ghost use Rattle.std.specs.Prelude.{◌≡◌, [], ◌∷◌, ◌++◌, OnOk};
-
-    fn new(alloc: Global) -> Makers
-        ensures { result ≡ [] }
-    {
-        Makers {
-            items: Vec::new(alloc),
-        }
-    }
-
-    fn push(&mut self, lit: Lit) -> Result<(), Memory>
-        ensures { OnOk result (self.new ≡ self.old ++ lit ∷ []) }
-    {
-        self.items.push(lit)?;
-        Ok(())
-    }
-
-    pub(crate) fn as_slice(&self) -> &[Lit]
-        ensures { result.now ≡ self.now }
-    {
-        self.items.as_slice()
-    }
-}
-
-/// So many empty lists.
-fn empty_makers(alloc: Global, count: usize) -> Result<Vec<Makers>, Memory>
-    ensures { IfOk result (λ makers. makers.items ≡ replicate count []) }
-{
-    Ok(items_of(
-        alloc,
-        count,
-        move ||
-            ensures { result ≡ [] }
-        { Makers::new(alloc) },
-    )?)
-}
+pub(crate) type Makers = ListOf<Lit>;
 
 /// Puts the variable of an effect under its literal.
 fn index_effect(
@@ -120,7 +71,7 @@ pub(crate) fn index_of(alloc: Global, layout: &Layout, task: &Task) -> Result<Ve
     requires facts { layout.now.facts ≡ task.now.facts }
     ensures { IfOk result (λ index. IsIndex layout.now task.now index.items) }
 {
-    let mut index = empty_makers(alloc, 2 * task.facts() as usize)?;
+    let mut index = empty_lists(alloc, 2 * task.facts() as usize)?;
     let mut first = 0;
     for a in 0..layout.actions {
         let act = task.act(a);

@@ -1,0 +1,108 @@
+//! Lists of items: a type that other crates give names of their own, as `pub type Files = ListOf<NamedFile>`.
+#![tactic(auto)]
+
+use std::alloc::{AllocError, Global};
+use std::marker::Model;
+
+/// Items in a row. Contracts see the list of them.
+#[derive(Debug, Drop)]
+pub struct ListOf<T> {
+    items: Vec<T>,
+}
+
+impl<T> Model for ListOf<T> {
+    ghost use Rattle.std.specs.Prelude.{List};
+
+    ghost Value = { List T };
+
+    ghost view = { λ l. l.items.items };
+}
+
+impl<T> ListOf<T> {
+    ghost use Rattle.std.specs.Prelude.{◌≡◌, []};
+
+    /// The list without items. It takes no memory, and keeps the allocator for the items to come.
+    pub fn new(alloc: Global) -> ListOf<T>
+        ensures { result ≡ [] }
+    {
+        ListOf {
+            items: Vec::new(alloc),
+        }
+    }
+
+    /// The list of these items. It takes no memory.
+    pub fn of(items: Vec<T>) -> ListOf<T>
+        ensures { result ≡ items.items }
+    {
+        ListOf { items }
+    }
+
+    /// The items as a vector. It takes no memory.
+    pub fn into_vec(self) -> Vec<T>
+        ensures { result.items ≡ self }
+    {
+        self.items
+    }
+
+    /// The items, lent.
+    pub fn as_slice(&self) -> &[T]
+        ensures { result.now ≡ self.now }
+    {
+        &self.items
+    }
+}
+
+impl<T: Drop> ListOf<T> {
+    ghost use Rattle.std.specs.Prelude.{◌≡◌, ◌++◌, ◌∷◌, [], OnOk, OnErr};
+
+    /// Makes room for so many more items, or answers `AllocError`. The items stay.
+    pub fn reserve(&mut self, more: usize) -> Result<(), AllocError>
+        ensures { self.new ≡ self.old }
+    {
+        self.items.reserve(more)
+    }
+
+    /// Adds an item at the end. After `AllocError`, which does not come where there was room, the items are as they were.
+    pub fn push(&mut self, item: T) -> Result<(), AllocError>
+        ensures ok { OnOk result (self.new ≡ self.old ++ item ∷ []) }
+        ensures err { OnErr result (self.new ≡ self.old) }
+    {
+        self.items.push(item)?;
+        Ok(())
+    }
+}
+
+impl<T: Copy> ListOf<T> {
+    ghost use Rattle.std.specs.Prelude.{◌≡◌, IfOk};
+
+    /// Another list of these items, in memory of its own.
+    pub fn copied_from(alloc: Global, items: &[T]) -> Result<ListOf<T>, AllocError>
+        ensures { IfOk result (λ copy. copy ≡ items.now) }
+    {
+        Ok(ListOf {
+            items: Vec::from_slice(alloc, items)?,
+        })
+    }
+}
+
+#[cfg(test)]
+mod tests {
+    use super::*;
+    use std::test::Fail;
+
+    #[test]
+    fn items_go_in_and_come_back(rt: HostRuntime) -> Result<(), Fail> {
+        let alloc = rt.alloc();
+        let mut list = ListOf::<u32>::new(alloc);
+        list.reserve(1)?;
+        list.push(7)?;
+        list.push(9)?;
+        assert_eq!(rt; list.as_slice(), [7, 9].as_slice());
+        let other = ListOf::of(list.into_vec());
+        assert_eq!(rt;
+            ListOf::copied_from(alloc, other.as_slice())?.as_slice(),
+            [7, 9].as_slice()
+        );
+        Ok(())
+    }
+}
