@@ -13,7 +13,7 @@ loop-a-preserved c =
     let lt : own < length c.loop-a.groups.items = let l = i.long in omega arith in
     let old = get_or_read c.loop-a.groups.items own c.index_mut-list.result.now lt c.index_mut-list.ensures.value [] in
     let more = group_more c.args.numbers.now c.loop-a.groups.items c.loop-a.a own refl lt (λ x lx. i.members x (let l = i.long in omega arith)) in
-    rw (c.in_ok-push.ensures, old) (record {
+    rw (c.in_ok-push.ensures.ok, old) (record {
       long = length-set c.loop-a.groups.items own _ ∙ i.long;
       members = λ x lx. more x (let l = i.long in omega arith);
     })

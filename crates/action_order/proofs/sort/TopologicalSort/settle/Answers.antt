@@ -38,7 +38,7 @@ returns-in_ok-push-in-Some-clause-sorting c =
     let on : class_at c.args.numbers.now b < length waiting = let l = d.waiting_long in let x = c.requires.below in omega arith in
     let list = get_or_read waiting (class_at c.args.numbers.now b) c.index_mut-list.result.now on c.index_mut-list.ensures.value [] in
     let more = passed_more c.args.rows.now c.args.names.now c.args.numbers.now _ _ _ _ _ _ own b c.requires.rows c.requires.below d f2.2 in
-    rw (c.in_ok-push-in-Some.ensures, list) (waits_for c.args.rows.now c.args.names.now c.args.numbers.now _ _ _ _ _ _ own b c.requires.below (let l = d.waiting_long in omega arith) more f2.0 f2.1)
+    rw (c.in_ok-push-in-Some.ensures.ok, list) (waits_for c.args.rows.now c.args.names.now c.args.numbers.now _ _ _ _ _ _ own b c.requires.below (let l = d.waiting_long in omega arith) more f2.0 f2.1)
 
 pub returns-in_ok-put-in-None-clause-sorting : goal.returns-in_ok-put-in-None-clause-sorting
 returns-in_ok-put-in-None-clause-sorting c =

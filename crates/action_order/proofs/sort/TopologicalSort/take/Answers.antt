@@ -12,7 +12,7 @@ release-requires c =
     let lt : c.args.t < length c.args.self.now.waiting.items = let l = n.sorting.waiting_long in let b = n.below in omega arith in
     let free : c.as_slice.result.now ≡ list_at c.args.self.now.waiting.items c.args.t =
     c.as_slice.ensures ∙ c.replace-free.ensures.value ∙ get_or_read c.args.self.now.waiting.items c.args.t c.index_mut-2.result.now lt c.index_mut-2.ensures.value [] in
-    let dest : c.replace-free.new.dest ≡ [] = c.replace-free.ensures.after ∙ c.of.ensures ∙ c.new.ensures.items in
+    let dest : c.replace-free.new.dest ≡ [] = c.replace-free.ensures.after ∙ c.new.ensures in
     record {
       rows = c.requires.rows;
       few = c.requires.few;
