@@ -23,7 +23,9 @@ use std::alloc::{AllocError, Global};
 /// The components of a graph in the published order, and the name of each vertex's.
 #[derive(Drop)]
 pub struct Listing {
+    /// The members of each component.
     pub components: Vec<ActNumbers>,
+    /// By vertex, the name of its component.
     pub names: Vec<u32>,
 }
 

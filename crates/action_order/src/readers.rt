@@ -21,7 +21,9 @@ use std::alloc::{AllocError, Global};
 /// effect condition.
 #[derive(Drop)]
 pub struct Readers {
+    /// By literal, the actions with it in their precondition.
     pub needing: Vec<BitRow>,
+    /// By fact, the actions with it in an effect condition.
     pub asking: Vec<BitRow>,
 }
 

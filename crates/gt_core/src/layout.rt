@@ -10,10 +10,15 @@ use std::marker::Model;
 /// after the last step the facts, time after time, from time 0 to the horizon. There are at most 2,147,483,647.
 #[derive(Clone, Copy, Debug)]
 pub struct Layout {
+    /// How many steps.
     pub horizon: u32,
+    /// How many actions.
     pub actions: u32,
+    /// How many effects with a condition, of all actions.
     pub conditional: u32,
+    /// How many chain variables a step has.
     pub chains: u32,
+    /// How many facts.
     pub facts: u32,
 }
 

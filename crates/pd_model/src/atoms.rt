@@ -19,6 +19,7 @@ pub type Terms = ListOf<Term>;
 pub struct Pattern {
     /// The number of its predicate.
     pub predicate: u32,
+    /// Its terms, from the left.
     pub terms: Terms,
 }
 
@@ -27,6 +28,7 @@ pub struct Pattern {
 pub struct Atom {
     /// The number of its predicate.
     pub predicate: u32,
+    /// The numbers of its objects, from the left.
     pub objects: Objects,
 }
 

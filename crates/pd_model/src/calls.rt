@@ -7,6 +7,7 @@ use list_of::ListOf;
 pub struct Call {
     /// The number of the schema.
     pub schema: u32,
+    /// The numbers of the objects, one for each parameter.
     pub objects: Objects,
 }
 

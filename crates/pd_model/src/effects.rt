@@ -10,6 +10,7 @@ pub struct Effect {
     pub over: TypeNumbers,
     /// What stands under `when`.
     pub cond: Conds,
+    /// The atom that is added or deleted.
     pub atom: Pattern,
     /// Whether the atom is added; else it is deleted.
     pub adds: bool,

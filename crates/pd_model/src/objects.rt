@@ -7,6 +7,7 @@ use std::marker::Model;
 /// A declared object. Objects are numbered from 0, the constants of the domain first.
 #[derive(Debug, Drop)]
 pub struct ObjectDecl {
+    /// Its name.
     pub name: Name,
     /// The number of its type.
     pub kind: u32,

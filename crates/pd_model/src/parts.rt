@@ -4,11 +4,16 @@ use crate::{Atoms, Conds, ObjectDecls, Predicates, Schemas, Types};
 /// What a domain and a problem declare, before it is known to be a task.
 #[derive(Debug, Drop)]
 pub struct Parts {
+    /// The types, `object` first.
     pub types: Types,
+    /// The predicates.
     pub predicates: Predicates,
+    /// The objects, the constants of the domain first.
     pub objects: ObjectDecls,
+    /// The action schemas.
     pub schemas: Schemas,
     /// The atoms of the initial state.
     pub init: Atoms,
+    /// The goal.
     pub goal: Conds,
 }

@@ -5,6 +5,7 @@ use pd_sexp::Name;
 /// A declared predicate. Predicates are numbered from 0 in order of declaration.
 #[derive(Debug, Drop)]
 pub struct Predicate {
+    /// Its name.
     pub name: Name,
     /// How many terms its atoms have.
     pub arity: u32,

@@ -5,6 +5,7 @@ use pd_sexp::Name;
 /// A declared type. Types are numbered from 0; type 0 is `object`, its own parent.
 #[derive(Debug, Drop)]
 pub struct TypeDecl {
+    /// Its name.
     pub name: Name,
     /// The number of the type that it lies under.
     pub parent: u32,

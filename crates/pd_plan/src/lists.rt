@@ -15,7 +15,9 @@ pub type Words = ListOf<Named>;
 /// A list of words, and the offset of its parenthesis.
 #[derive(Debug, Drop)]
 pub struct WordList {
+    /// The offset of its parenthesis in the file, from 0.
     pub at: u32,
+    /// Its words, from the left.
     pub words: Words,
 }
 

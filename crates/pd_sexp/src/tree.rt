@@ -19,6 +19,7 @@ pub enum Tree {
 #[derive(Debug, Drop)]
 #[cycle(tree)]
 pub struct Trees {
+    /// The items.
     pub items: Vec<Tree>,
 }
 

@@ -7,7 +7,9 @@ use std::alloc::{AllocError, Global};
 /// A word, and the offset of its first byte.
 #[derive(Debug, Drop)]
 pub struct Named {
+    /// The offset of its first byte in the file, from 0.
     pub at: u32,
+    /// The word.
     pub name: Name,
 }
 

@@ -13,7 +13,9 @@ pub type Numbers = ListOf<u32>;
 /// A file's name and the bytes that it holds.
 #[derive(Debug, Drop)]
 pub struct NamedFile {
+    /// The file's name.
     pub name: Bytes,
+    /// What the file holds.
     pub bytes: Bytes,
 }
 

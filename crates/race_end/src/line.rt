@@ -19,9 +19,11 @@ pub enum LineEnd {
 /// What became of a started horizon.
 #[derive(Debug, Drop)]
 pub struct Line {
+    /// Its horizon: a number of steps.
     pub horizon: u32,
     /// How many conflicts its solver has handled.
     pub conflicts: u64,
+    /// How it ended, or that it may go on.
     pub end: LineEnd,
 }
 

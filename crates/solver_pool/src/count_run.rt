@@ -7,8 +7,11 @@ use crate::{Memory, Resume};
 /// and finds memory always. Tests use it in place of a solver.
 #[derive(Drop)]
 pub struct CountRun {
+    /// The horizon that it stands for.
     pub horizon: u32,
+    /// How many units settle it.
     pub need: u64,
+    /// How many units it was granted.
     pub granted: u64,
 }
 

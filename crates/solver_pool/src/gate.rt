@@ -3,8 +3,10 @@
 /// Is told of each turn: of its horizon before the run is advanced, and again after. It promises nothing, so no answer
 /// of the pool depends on it. Tests see by it that two runs are at work at once.
 pub trait Gate: Sync {
+    /// The run of this horizon is about to be advanced.
     fn enter(&self, horizon: u32);
 
+    /// The run of this horizon was advanced.
     fn leave(&self, horizon: u32);
 }
 

@@ -5,7 +5,9 @@ use std::marker::Model;
 /// A run, and how many units it is to be granted in all: at least what it was granted, and at most 1,073,741,824.
 #[derive(Drop)]
 pub struct Job<R: Resume> {
+    /// The run, as far as it is.
     pub run: R,
+    /// How many units it is to be granted in all.
     pub target: u64,
 }
 

@@ -22,30 +22,35 @@ impl<R: Resume> Model for Jobs<R> {
 }
 
 impl<R: Resume> Jobs<R> {
+    /// The list of these jobs.
     pub fn new(items: Vec<Job<R>>) -> Jobs<R>
         ensures { result ≡ items.items }
     {
         Jobs { items }
     }
 
+    /// The jobs as a vector.
     pub fn into_vec(self) -> Vec<Job<R>>
         ensures { result.items ≡ self }
     {
         self.items
     }
 
+    /// The jobs, lent.
     pub fn as_slice(&self) -> &[Job<R>]
         ensures { result.now ≡ self.now }
     {
         self.items.as_slice()
     }
 
+    /// How many jobs there are.
     pub fn len(&self) -> usize
         ensures { result ≡ length self.now }
     {
         self.items.len()
     }
 
+    /// Whether there is no job.
     pub fn is_empty(&self) -> bool
         ensures { IsTrue result ↔ (length self.now ≡ 0) }
     {

@@ -13,7 +13,9 @@ use std::sync::Wait;
 /// A ring, and its owner's pass.
 #[derive(Drop)]
 pub struct Opened<R: Resume> {
+    /// The ring, with its jobs.
     pub ring: Ring<R>,
+    /// The right of the thread that opened it.
     pub owner: Pass<R>,
 }
 

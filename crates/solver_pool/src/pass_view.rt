@@ -3,7 +3,9 @@ use std::collections::LinkedList;
 
 /// A job with which a ring was opened.
 pub struct BookEntry<R> {
+    /// The horizon of its run.
     pub horizon: u32,
+    /// How many units its run is to be granted in all.
     pub target: u64,
     /// Its run before any unit.
     pub origin: R,
@@ -11,7 +13,9 @@ pub struct BookEntry<R> {
 
 /// One put or one take: of the job of which horizon, and how many units its run had been granted by then.
 pub struct Note {
+    /// The horizon of the job's run.
     pub horizon: u32,
+    /// How many units the run had been granted by then.
     pub granted: u64,
 }
 

@@ -8,8 +8,11 @@ use std::marker::Model;
 /// An action beside a fact literal: whether it may take the literal away, and whether it reads it.
 #[derive(Clone, Copy, Debug)]
 pub struct Link {
+    /// The number of the action.
     pub action: u32,
+    /// Whether it may take the literal away.
     pub takes: bool,
+    /// Whether it reads the literal.
     pub reads: bool,
 }
 
