@@ -1,6 +1,6 @@
 -- Runs on the same files by words that ask for one race have one ending.
 use Rattle.std.proofs.Common.{◌≡◌, ◌≤◌, ◌<◌, inl, inr, ℕ, List, [], ◌∷◌, length, Bool, Option, Some, refl, sym, ap, ap₂, subst, ◌∙◌, arith}
-use Rattle.std.specs.Prelude.{IfSome}
+use Rattle.std.specs.Prelude.{IfSome, ◌⊎◌}
 use Rattle.gt_core.specs.Task.{Task}
 use Rattle.gt_core.specs.Laws.{PublishedIsUnique}
 use Rattle.two_invariants.specs.Laws.{OneListOfInvariants}
@@ -10,13 +10,14 @@ use Rattle.step_encoding.specs.Numbers.{literals_of}
 use Rattle.horizon_rates.specs.declared.rates.Rates.{Rates}
 use Rattle.horizon_rates.specs.declared.settings.Settings.{Settings}
 use Rattle.pd_model.specs.declared.memory.Which.{Which}
+use Rattle.pd_model.specs.declared.memory.Which.TheVariants.{Domain, Problem}
 use Rattle.pd_model.specs.declared.parts.Parts.{Parts}
 use Rattle.grounding.specs.Grounded.{Grounded}
 use Rattle.race_end.specs.Ends.{EndView, end_view}
 use Rattle.race_end.specs.declared.end.RaceEnd.{RaceEnd}
 use Rattle.race.specs.Race as stage
 use Rattle.plan_report.specs.Report.{report_of}
-use Rattle.plan_words.specs.Seen.{Numbers, NumbersAreSettings, numbers, plans}
+use Rattle.plan_words.specs.Seen.{Seen, Numbers, NumbersAreSettings, numbers, plans}
 use Rattle.plan_top.specs.declared.ending.Ending.{Ending}
 use Rattle.plan_top.specs.declared.ending.Ending.TheVariants.{Report, TooLong, TooLarge, ReadFault}
 use Rattle.plan_top.specs.Files.{Fits, OfTold, IsTooLong, Stops, StopsFrom, most_bytes}
@@ -96,65 +97,74 @@ once_raced invariants unique s t rates budget p g x y (ended race comes tells) (
 
 -- ---- the files
 
-module _ (laws : Laws) (told : List ℕ → Option (List ℕ)) (lacks : List ℕ → Bool) (domain problem first second : List ℕ) (n m : Numbers)
-    (same : AreSameRace n m) (domain_told : told domain ≡ Some first) (problem_told : told problem ≡ Some second) where
+-- the first of two files is too long, or the second one and not the first
+IsStop : List ℕ → List ℕ → Ending → Type 0
+IsStop first second end =
+    ((end ≡ TooLong Domain) × (most_bytes < length first)) ⊎ ((end ≡ TooLong Problem) × (length first ≤ most_bytes) × (most_bytes < length second))
+
+-- the files' bytes stop a run, or decide its ending
+IsCause : Seen → List ℕ → List ℕ → Ending → Type 0
+IsCause request first second end = IsStop first second end ⊎ ((length first ≤ most_bytes) × (length second ≤ most_bytes) × Decides request (first ∷ second ∷ []) end)
+
+module _ (told : List ℕ → Option (List ℕ)) (lacks : List ℕ → Bool) (old new : List (List ℕ)) where
+  too_long : (file : Which) (name bytes : List ℕ) → told name ≡ Some bytes → (end : Ending) → HasRead end → Stops told lacks old new file name end
+      → (end ≡ TooLong file) × (most_bytes < length bytes)
+  too_long file name bytes is end has (inl fault) = absurd (subst HasRead fault.0 has)
+  too_long file name bytes is end has (inr long) = (long.0, subst (λ (o : Option (List ℕ)). IfSome o (λ bs. most_bytes < length bs)) is long.1.1)
+
+  short : (name bytes : List ℕ) → told name ≡ Some bytes → Fits told lacks old new name → length bytes ≤ most_bytes
+  short name bytes is fits = subst (λ (o : Option (List ℕ)). IfSome o (λ bs. length bs ≤ most_bytes)) is fits.1
+
+  module _ (domain problem first second : List ℕ) (domain_told : told domain ≡ Some first) (problem_told : told problem ≡ Some second) where
+    stop_of : (end : Ending) → HasRead end → StopsFrom told lacks old new 0 (domain ∷ problem ∷ []) end → IsStop first second end
+    stop_of end has (inl p) = inl (too_long Domain domain first domain_told end has p)
+    stop_of end has (inr (fits, inl p)) =
+        let long = too_long Problem problem second problem_told end has p in
+        inr (long.0, short domain first domain_told fits, long.1)
+    stop_of end has (inr (fits, inr (f, none))) = absurd none
+
+    of_told : (request : Seen) (end : Ending) → OfTold told (domain ∷ problem ∷ []) (λ files. Decides request files end) → Decides request (first ∷ second ∷ []) end
+    of_told request end h =
+        let one = subst (λ (o : Option (List ℕ)). IfSome o (λ bytes. OfTold told (problem ∷ []) (λ others. Decides request (bytes ∷ others) end))) domain_told h in
+        subst (λ (o : Option (List ℕ)). IfSome o (λ bytes. Decides request (first ∷ bytes ∷ []) end)) problem_told one
+
+    cause_of : (numbers : Numbers) (end : Ending) → HasRead end → ComesOf told lacks old new (plans domain problem numbers) end → IsCause (plans domain problem numbers) first second end
+    cause_of numbers end has (stopped p) = inl (stop_of end has p)
+    cause_of numbers end has (decided (one, (two, none)) answer h) =
+        inr (short domain first domain_told one, short problem second problem_told two, of_told (plans domain problem numbers) end h)
+
+module _ (laws : Laws) (first second domain problem other_domain other_problem : List ℕ) (n m : Numbers) (same : AreSameRace n m) where
   -- what the two files decide
-  one_decision : (x y : Ending) → Decides (plans domain problem n) (first ∷ second ∷ []) x → Decides (plans domain problem m) (first ∷ second ∷ []) y → x ≡ y
+  one_decision : (x y : Ending) → Decides (plans domain problem n) (first ∷ second ∷ []) x → Decides (plans other_domain other_problem m) (first ∷ second ∷ []) y → x ≡ y
   one_decision x y (s, is, p) (t, too, q) =
       let race = same_race laws.settings s t (subst (λ (z : Numbers). AreSameRace z (numbers t)) (sym is) (subst (λ (z : Numbers). AreSameRace n z) (sym too) same)) in
       once_read first second (λ task. OnceGrounded task (AnswersPlan s task)) (λ task. OnceGrounded task (AnswersPlan t task)) x y
       (λ task. once_grounded laws.one_result task (AnswersPlan s task) (AnswersPlan t task) x y (λ g. once_raced laws.invariants laws.unique s t race.0 race.1 task g x y)) p q
 
-  too_long : (old new : List (List ℕ)) (file : Which) (name : List ℕ) (x : Ending) → HasRead x → Stops told lacks old new file name x → (x ≡ TooLong file) × IsTooLong told lacks old new name
-  too_long old new file name x has (inl fault) = absurd (subst HasRead fault.0 has)
-  too_long old new file name x has (inr long) = long
-
-  not_long : (old new before after : List (List ℕ)) (name bytes : List ℕ) → told name ≡ Some bytes → IsTooLong told lacks old new name → Fits told lacks before after name → ⊥
-  not_long old new before after name bytes is long fits =
-      let more = subst (λ (o : Option (List ℕ)). IfSome o (λ bs. most_bytes < length bs)) is long.1 in
-      let less = subst (λ (o : Option (List ℕ)). IfSome o (λ bs. length bs ≤ most_bytes)) is fits.1 in
-      omega (arith, more, less)
-
-  -- a file that is too long
-  one_stop : (old new before after : List (List ℕ)) (x y : Ending) → HasRead x → HasRead y
-      → StopsFrom told lacks old new 0 (domain ∷ problem ∷ []) x → StopsFrom told lacks before after 0 (domain ∷ problem ∷ []) y → x ≡ y
-  one_stop old new before after x y hx hy (inl p) (inl q) = (too_long old new _ domain x hx p).0 ∙ sym (too_long before after _ domain y hy q).0
-  one_stop old new before after x y hx hy (inl p) (inr (fits, rest)) =
-      absurd (not_long old new before after domain first domain_told (too_long old new _ domain x hx p).1 fits)
-  one_stop old new before after x y hx hy (inr (fits, rest)) (inl q) =
-      absurd (not_long before after old new domain first domain_told (too_long before after _ domain y hy q).1 fits)
-  one_stop old new before after x y hx hy (inr (fits, inl p)) (inr (also, inl q)) = (too_long old new _ problem x hx p).0 ∙ sym (too_long before after _ problem y hy q).0
-  one_stop old new before after x y hx hy (inr (fits, inr (f, none))) q = absurd none
-  one_stop old new before after x y hx hy p (inr (also, inr (f, none))) = absurd none
-
-  no_stop : (old new before after : List (List ℕ)) (x : Ending) → HasRead x → StopsFrom told lacks old new 0 (domain ∷ problem ∷ []) x
-      → Fits told lacks before after domain → Fits told lacks before after problem → ⊥
-  no_stop old new before after x has (inl p) one two = not_long old new before after domain first domain_told (too_long old new _ domain x has p).1 one
-  no_stop old new before after x has (inr (fits, inl p)) one two = not_long old new before after problem second problem_told (too_long old new _ problem x has p).1 two
-  no_stop old new before after x has (inr (fits, inr (f, none))) one two = absurd none
-
-  of_told : (k : Numbers) (z : Ending) → OfTold told (domain ∷ problem ∷ []) (λ files. Decides (plans domain problem k) files z) → Decides (plans domain problem k) (first ∷ second ∷ []) z
-  of_told k z h =
-      let one = subst (λ (o : Option (List ℕ)). IfSome o (λ bytes. OfTold told (problem ∷ []) (λ others. Decides (plans domain problem k) (bytes ∷ others) z))) domain_told h in
-      subst (λ (o : Option (List ℕ)). IfSome o (λ bytes. Decides (plans domain problem k) (first ∷ bytes ∷ []) z)) problem_told one
-
-  one_cause : (old new before after : List (List ℕ)) (x y : Ending) → HasRead x → HasRead y
-      → ComesOf told lacks old new (plans domain problem n) x → ComesOf told lacks before after (plans domain problem m) y → x ≡ y
-  one_cause old new before after x y hx hy (stopped p) (stopped q) = one_stop old new before after x y hx hy p q
-  one_cause old new before after x y hx hy (stopped p) (decided (one, (two, none)) answer h) = absurd (no_stop old new before after x hx p one two)
-  one_cause old new before after x y hx hy (decided (one, (two, none)) answer h) (stopped q) = absurd (no_stop before after old new y hy q one two)
-  one_cause old new before after x y hx hy (decided fits answer h) (decided also other k) = one_decision x y (of_told n x h) (of_told m y k)
+  one_cause : (x y : Ending) → IsCause (plans domain problem n) first second x → IsCause (plans other_domain other_problem m) first second y → x ≡ y
+  one_cause x y (inl (inl p)) (inl (inl q)) = p.0 ∙ sym q.0
+  one_cause x y (inl (inl p)) (inl (inr q)) = absurd (omega (arith, p.1, q.1))
+  one_cause x y (inl (inr p)) (inl (inl q)) = absurd (omega (arith, p.1, q.1))
+  one_cause x y (inl (inr p)) (inl (inr q)) = p.0 ∙ sym q.0
+  one_cause x y (inl (inl p)) (inr q) = absurd (omega (arith, p.1, q.0))
+  one_cause x y (inl (inr p)) (inr q) = absurd (omega (arith, p.2, q.1))
+  one_cause x y (inr p) (inl (inl q)) = absurd (omega (arith, p.0, q.1))
+  one_cause x y (inr p) (inl (inr q)) = absurd (omega (arith, p.1, q.2))
+  one_cause x y (inr p) (inr q) = one_decision x y p.2 q.2
 
 pub one_ending : Laws → OneEnding
-one_ending laws told lacks old new before after words others x y ask p q hx hy =
-    one_cause laws told lacks ask.domain ask.problem ask.first ask.second ask.numbers ask.other_numbers ask.same ask.domain_told ask.problem_told old new before after x y hx hy
-    (asked_comes told lacks old new words (plans ask.domain ask.problem ask.numbers) ask.asked x p)
-    (asked_comes told lacks before after others (plans ask.domain ask.problem ask.other_numbers) ask.others_asked y q)
+one_ending laws told elsewhere lacks lacking old new before after words others x y ask p q hx hy =
+    one_cause laws ask.first ask.second ask.domain ask.problem ask.other_domain ask.other_problem ask.numbers ask.other_numbers ask.same x y
+    (cause_of told lacks old new ask.domain ask.problem ask.first ask.second ask.domain_told ask.problem_told ask.numbers x hx
+    (asked_comes told lacks old new words (plans ask.domain ask.problem ask.numbers) ask.asked x p))
+    (cause_of elsewhere lacking before after ask.other_domain ask.other_problem ask.first ask.second ask.other_domain_told ask.other_problem_told ask.other_numbers y hy
+    (asked_comes elsewhere lacking before after others (plans ask.other_domain ask.other_problem ask.other_numbers) ask.others_asked y q))
 
 has_read : (end : Ending) → (status_of end ≡ 5 → ⊥) → HasRead end
 has_read (ReadFault file) off = off refl
 has_read end off = tt
 
-pub one_report : Laws → (told : List ℕ → Option (List ℕ)) (lacks : List ℕ → Bool) (old new before after : List (List ℕ)) (words others : List (List ℕ)) (mine end : Ending)
-    → AskForOneRace told words others → Comes told lacks old new words mine → Comes told lacks before after others end → HasRead end → (status_of mine ≡ 5 → ⊥) → mine ≡ end
-one_report laws told lacks old new before after words others mine end ask p q read off = one_ending laws told lacks old new before after words others mine end ask p q (has_read mine off) read
+pub one_report : Laws → (told elsewhere : List ℕ → Option (List ℕ)) (lacks lacking : List ℕ → Bool) (old new before after : List (List ℕ)) (words others : List (List ℕ)) (mine end : Ending)
+    → AskForOneRace told elsewhere words others → Comes told lacks old new words mine → Comes elsewhere lacking before after others end → HasRead end → (status_of mine ≡ 5 → ⊥) → mine ≡ end
+one_report laws told elsewhere lacks lacking old new before after words others mine end ask p q read off =
+    one_ending laws told elsewhere lacks lacking old new before after words others mine end ask p q (has_read mine off) read

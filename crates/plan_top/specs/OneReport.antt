@@ -15,24 +15,28 @@ abbrev pub HasRead : Ending → Type 0
 HasRead (ReadFault file) = ⊥
 HasRead end = Unit {0}
 
--- these words and those ask for a plan of the same two files, by numbers that are the same but for the slice and the workers, and
--- the bytes of both files are told
-pub record AskForOneRace (told : List ℕ → Option (List ℕ)) (words others : List (List ℕ)) : Type 0 where
+-- words on one shelf, and others on another, ask for a plan of two files with the same bytes, which both shelves tell, by numbers
+-- that are the same but for the slice and the workers
+pub record AskForOneRace (told elsewhere : List ℕ → Option (List ℕ)) (words others : List (List ℕ)) : Type 0 where
   pub domain : List ℕ
   pub problem : List ℕ
   pub numbers : Numbers
+  pub other_domain : List ℕ
+  pub other_problem : List ℕ
   pub other_numbers : Numbers
   pub first : List ℕ
   pub second : List ℕ
   pub asked : requested words ≡ Some (plans domain problem numbers)
-  pub others_asked : requested others ≡ Some (plans domain problem other_numbers)
+  pub others_asked : requested others ≡ Some (plans other_domain other_problem other_numbers)
   pub same : AreSameRace numbers other_numbers
   pub domain_told : told domain ≡ Some first
   pub problem_told : told problem ≡ Some second
+  pub other_domain_told : elsewhere other_domain ≡ Some first
+  pub other_problem_told : elsewhere other_problem ≡ Some second
 
--- Runs on the same files by such words have one ending, but for a file that could not be read.
+-- Runs on files with the same bytes by such words have one ending, but for a file that could not be read.
 abbrev pub OneEnding : Type 0
 OneEnding =
-    (told : List ℕ → Option (List ℕ)) (lacks : List ℕ → Bool) (old new before after : List (List ℕ)) (words others : List (List ℕ)) (end other : Ending)
-    → AskForOneRace told words others → Comes told lacks old new words end → Comes told lacks before after others other
+    (told elsewhere : List ℕ → Option (List ℕ)) (lacks lacking : List ℕ → Bool) (old new before after : List (List ℕ)) (words others : List (List ℕ)) (end other : Ending)
+    → AskForOneRace told elsewhere words others → Comes told lacks old new words end → Comes elsewhere lacking before after others other
     → HasRead end → HasRead other → end ≡ other

@@ -1,5 +1,5 @@
 //! The top call.
-ghost use Rattle.std.specs.Prelude.{◌≡◌, ◌≢◌, ◌≤◌, ◌⊎◌, ℕ, List, [], ◌∷◌, map, string_bytes, codes, Some, None, IsTrue, Contains};
+ghost use Rattle.std.specs.Prelude.{◌≡◌, ◌≢◌, ◌≤◌, ◌⊎◌, ℕ, List, [], ◌∷◌, map, string_bytes, codes, Some, None, IsTrue, Contains, Bool, Option};
 ghost use Rattle.pl_io.specs.Outside.{appended, TakesFront, Rose, fault_count};
 ghost use Rattle.report_lines.specs.Horizons.{Says, is_word};
 ghost use Rattle.plan_words.specs.Seen.{Numbers, plans, checks, grounds, orders};
@@ -112,10 +112,11 @@ pub fn run<H: Threads + Wait + Sync, S: Shelf, K: Sink, G: Gate>(
     ensures never_falls { (name : List ℕ) → fault_count name (S.failed shelf.old) ≤ fault_count name (S.failed shelf.new) }
     ensures faults { K.faults sink.old ≤ K.faults sink.new }
 
-    // What is printed is what each run prints on the same files, by words that ask for the same plan but for the slice and
-    // the workers.
-    ensures same_report { (others before after : List (List ℕ)) (end : Ending) → AskForOneRace (S.told shelf.old) (map string_bytes words.now) others
-        → Comes (S.told shelf.old) (S.lacks shelf.old) before after others end → HasRead end → result.0 ≢ 5 → result.0 ≢ 6 → result.0 ≢ 8
+    // What is printed is what each run prints, on whatever shelf, on files with the same bytes, by words that ask for the same
+    // plan but for the slice and the workers.
+    ensures same_report { (elsewhere : List ℕ → Option (List ℕ)) (lacking : List ℕ → Bool) (others before after : List (List ℕ)) (end : Ending)
+        → AskForOneRace (S.told shelf.old) elsewhere (map string_bytes words.now) others → Comes elsewhere lacking before after others end
+        → HasRead end → result.0 ≢ 5 → result.0 ≢ 6 → result.0 ≢ 8
         → (result.0 ≡ status_of end) × (K.taken sink.new ≡ appended (K.taken sink.old) (text_of end)) }
 
     // Words that are taken and files in order give an answer, where no fault comes from outside.

@@ -139,8 +139,8 @@ returns-clause-no_command g c none =
     (1, omega arith, sym (c.status-status.ensures ∙ ap status_of ending))
 
 pub returns-clause-same_report : goal.returns-clause-same_report
-returns-clause-same_report g c others before after end ask comes read five six eight =
+returns-clause-same_report g c elsewhere lacking others before after end ask comes read five six eight =
     let mine = ending_answers _ c.decide.result c.in-Some.ending c.decide.ensures.cause c.in-Some.ensures in
-    let one = one_report c.laws.ensures _ _ _ _ before after _ others c.in-Some.ending end ask mine comes read (λ e. five (c.status-status.ensures ∙ e)) in
+    let one = one_report c.laws.ensures _ elsewhere _ lacking _ _ before after _ others c.in-Some.ending end ask mine comes read (λ e. five (c.status-status.ensures ∙ e)) in
     let all = rw (c.as_slice.ensures, c.in-Ok.ensures.text) at c.in-Ok-put_all.ensures.ok in
     (c.status-status.ensures ∙ ap status_of one, all ∙ ap (λ (e : Ending). appended (g.K.Sink.taken c.args.sink.now) (text_of e)) one)
