@@ -1,40 +1,37 @@
 -- What a race that ended on a task means for the task and for its report.
-use Rattle.std.proofs.Common.{◌≡◌, ◌≤◌, ◌<◌, ℕ, zero, suc, ◌+◌, Bool, true, false, List, [], ◌∷◌, ◌++◌, map, length, get_or, codes, refl, sym, ap, subst, ◌∙◌, arith, Option, Some, None, Ok, if◌then◌else◌}
-use Rattle.std.specs.Prelude.{IsTrue, All, Contains, slice_get, slice_index_or}
+use Rattle.std.proofs.Common.{◌≡◌, ℕ, ◌+◌, Bool, true, false, List, [], ◌∷◌, ◌++◌, map, length, get_or, codes, refl, sym, ap, subst, ◌∙◌, arith, Option, Some, None, if◌then◌else◌}
+use Rattle.std.specs.Prelude.{IsTrue, Contains, slice_get, slice_index_or}
 use Rattle.std.specs.List.{AllByRecursion, list_all}
 use Rattle.std.proofs.lemmas.List.Elements.{All-contains, All-map, All-from_recursion, All-contains_itself, Contains-append_right}
 use Rattle.report_lines.specs.Lines.{lines_of}
-use Rattle.report_lines.specs.Horizons.{Says, is_word, Entry, entry_line}
+use Rattle.report_lines.specs.Horizons.{entry_line}
 use Rattle.clause_base.specs.Derivation.{IsRefutation}
 use Rattle.clause_base.specs.Formula.{assignment_of}
 use Rattle.cdcl_rules.specs.State.{State}
-use Rattle.rup_check.specs.Certificate.{Certifies}
 use Rattle.gt_core.specs.Published.{IsPublished, order_of}
 use Rattle.gt_core.specs.Step.{IsStepPlan}
 use Rattle.horizon_rates.specs.declared.settings.Settings.{Settings}
 use Rattle.pd_model.specs.Fits.{is_call}
-use Rattle.pd_model.specs.Exec.{exec, exec_schema}
+use Rattle.pd_model.specs.Exec.{exec_schema}
 use Rattle.pd_model.specs.Plan.{IsPlan, exec_all, meets_goal}
 use Rattle.pd_model.specs.WellFormed.{IsWellFormed}
 use Rattle.pd_model.specs.declared.atoms.Atom.{Atom}
 use Rattle.pd_model.specs.declared.calls.Call.{Call}
 use Rattle.pd_model.specs.declared.parts.Parts.{Parts}
-use Rattle.pd_plan.specs.PlanFile.{plan_file}
 use Rattle.grounding.specs.Grounded.{Grounded, IsGrounded}
 use Rattle.grounding.specs.Limits.{IsWithin}
 use Rattle.grounding.specs.Laws.{AreNumbers}
-use Rattle.step_laws.specs.Form.{OrderedTask, IsPlanOf, steps_for}
+use Rattle.step_laws.specs.Form.{OrderedTask, IsPlanOf}
 use Rattle.race_end.specs.declared.line.LineEnd.{LineEnd}
 use Rattle.race_end.specs.declared.line.LineEnd.TheVariants as ends
 use Rattle.race_end.specs.declared.line.Line.{Line}
 use Rattle.race_end.specs.declared.end.RaceEnd.{RaceEnd}
 use Rattle.race_end.specs.declared.end.RaceEnd.TheVariants as races
-use Rattle.race_end.specs.Ends.{Word, WordRefuted, LineView, EndView, Planned, Unfinished, word_of, line_view, end_view, lines_in, lines_of as lines_of_end, conflicts_in}
+use Rattle.race_end.specs.Ends.{WordRefuted, LineView, EndView, Unfinished, word_of, line_view, end_view, lines_in, lines_of as lines_of_end, conflicts_in}
 use Rattle.race.specs.Input.{RaceInput}
-use Rattle.race.specs.Lines.{IsLine, AreLines, IsMarked, WhereRefuted, EachRefuted, state_of_line, standing_of as standing_at}
-use Rattle.race.specs.Ends.{WherePlanned, AreStepsOf}
-use Rattle.step_plans.specs.Plans.{AreStepPlan, AreListed, in_order, actions_in}
-use Rattle.plan_report.specs.Report.{word_text, entry_of, plan_line, conflicts_line, end_line, plan_lines, calls_by_step, last_lines, report_of}
+use Rattle.race.specs.Lines.{IsLine, IsMarked, WhereRefuted, state_of_line, standing_of as standing_at}
+use Rattle.step_plans.specs.Plans.{AreStepPlan, AreListed, actions_in}
+use Rattle.plan_report.specs.Report.{word_text, entry_of, plan_line, conflicts_line, last_lines, report_of}
 use Rattle.plan_report.specs.Laws.{IsSmall, HasCalls, Tells}
 use Rattle.plan_top.specs.Known.{IsOrdered}
 use Rattle.plan_top.specs.Laws.{Laws}

@@ -1,5 +1,5 @@
 -- The promises of the top call follow from the cause of its ending.
-use Rattle.std.proofs.Common.{◌≡◌, ◌≤◌, ◌+◌, ◌⊎◌, ℕ, Bool, true, false, List, [], ◌∷◌, ◌++◌, Option, Some, None, Ok, refl, sym, ap, subst, ◌∙◌, arith, inl, inr, codes}
+use Rattle.std.proofs.Common.{◌≡◌, ◌≤◌, ◌+◌, ℕ, Bool, true, false, List, [], ◌∷◌, Option, Some, None, Ok, refl, sym, ap, subst, ◌∙◌, arith, inl, inr, codes}
 use Rattle.std.specs.Prelude.{IsTrue}
 use Rattle.pl_io.specs.Outside.{appended, TakesFront}
 use Rattle.report_lines.specs.Horizons.{Says, is_word}
@@ -16,7 +16,7 @@ use Rattle.grounding.specs.Grounded.{Grounded, IsGrounded}
 use Rattle.grounding.specs.Limits.{IsWithin}
 use Rattle.race_end.specs.declared.end.RaceEnd.{RaceEnd}
 use Rattle.race_end.specs.declared.end.RaceEnd.TheVariants as races
-use Rattle.race_end.specs.Ends.{EndView, end_view, lines_in}
+use Rattle.race_end.specs.Ends.{end_view, lines_in}
 use Rattle.plan_report.specs.Report.{report_of}
 use Rattle.plan_report.specs.Laws.{IsSmall as IsSmallReport, HasCalls, Tells}
 use Rattle.plan_words.specs.Seen.{Seen, Numbers, numbers, plans, checks, grounds, orders, generates, files_of}

@@ -20,7 +20,7 @@ use Rattle.plan_report.specs.Report.{report_of}
 use Rattle.plan_words.specs.Seen.{Seen, Numbers, NumbersAreSettings, numbers, plans}
 use Rattle.plan_top.specs.declared.ending.Ending.{Ending}
 use Rattle.plan_top.specs.declared.ending.Ending.TheVariants.{Report, TooLong, TooLarge, ReadFault}
-use Rattle.plan_top.specs.Files.{Fits, OfTold, IsTooLong, Stops, StopsFrom, most_bytes}
+use Rattle.plan_top.specs.Files.{Fits, OfTold, Stops, StopsFrom, most_bytes}
 use Rattle.gt_core.specs.Published.{IsPublished}
 use Rattle.plan_top.specs.Known.{IsOrdered}
 use Rattle.plan_top.specs.Laws.{Laws}
@@ -98,12 +98,12 @@ once_raced invariants unique s t rates budget p g x y (ended race comes tells) (
 -- ---- the files
 
 -- the first of two files is too long, or the second one and not the first
-IsStop : List ℕ → List ℕ → Ending → Type 0
+abbrev IsStop : List ℕ → List ℕ → Ending → Type 0
 IsStop first second end =
     ((end ≡ TooLong Domain) × (most_bytes < length first)) ⊎ ((end ≡ TooLong Problem) × (length first ≤ most_bytes) × (most_bytes < length second))
 
 -- the files' bytes stop a run, or decide its ending
-IsCause : Seen → List ℕ → List ℕ → Ending → Type 0
+abbrev IsCause : Seen → List ℕ → List ℕ → Ending → Type 0
 IsCause request first second end = IsStop first second end ⊎ ((length first ≤ most_bytes) × (length second ≤ most_bytes) × Decides request (first ∷ second ∷ []) end)
 
 module _ (told : List ℕ → Option (List ℕ)) (lacks : List ℕ → Bool) (old new : List (List ℕ)) where
@@ -128,10 +128,10 @@ module _ (told : List ℕ → Option (List ℕ)) (lacks : List ℕ → Bool) (ol
         let one = subst (λ (o : Option (List ℕ)). IfSome o (λ bytes. OfTold told (problem ∷ []) (λ others. Decides request (bytes ∷ others) end))) domain_told h in
         subst (λ (o : Option (List ℕ)). IfSome o (λ bytes. Decides request (first ∷ bytes ∷ []) end)) problem_told one
 
-    cause_of : (numbers : Numbers) (end : Ending) → HasRead end → ComesOf told lacks old new (plans domain problem numbers) end → IsCause (plans domain problem numbers) first second end
-    cause_of numbers end has (stopped p) = inl (stop_of end has p)
-    cause_of numbers end has (decided (one, (two, none)) answer h) =
-        inr (short domain first domain_told one, short problem second problem_told two, of_told (plans domain problem numbers) end h)
+    cause_of : (n : Numbers) (end : Ending) → HasRead end → ComesOf told lacks old new (plans domain problem n) end → IsCause (plans domain problem n) first second end
+    cause_of n end has (stopped p) = inl (stop_of end has p)
+    cause_of n end has (decided (one, (two, none)) answer h) =
+        inr (short domain first domain_told one, short problem second problem_told two, of_told (plans domain problem n) end h)
 
 module _ (laws : Laws) (first second domain problem other_domain other_problem : List ℕ) (n m : Numbers) (same : AreSameRace n m) where
   -- what the two files decide

@@ -1,12 +1,12 @@
 -- An ending that stops a run says nothing of a horizon; and what a sink took.
-use Rattle.std.proofs.Common.{◌≡◌, ◌<◌, ◌≤◌, ◌^◌, ◌+◌, ℕ, Bool, true, false, List, [], ◌∷◌, ◌++◌, Option, Some, None, codes, refl, sym, ap, subst, ◌∙◌, arith, take, drop, append-nil}
-use Rattle.std.specs.Prelude.{All, IsTrue, decimal}
+use Rattle.std.proofs.Common.{◌≡◌, ◌<◌, ◌≤◌, ◌^◌, ℕ, Bool, true, false, List, [], ◌∷◌, ◌++◌, Option, Some, None, codes, refl, sym, ap, subst, ◌∙◌, arith, take, drop, append-nil}
+use Rattle.std.specs.Prelude.{IsTrue, decimal}
 use Rattle.std.specs.List.{list_all}
 use Rattle.std.proofs.lemmas.List.{take-append-drop}
 use Rattle.std.proofs.lemmas.List.Elements.{All-nil}
 use Rattle.pl_io.specs.Outside.{appended, TakesFront}
 use Rattle.report_lines.specs.Lines.{is_line, joined}
-use Rattle.report_lines.specs.Horizons.{Says, Entry, IsEntry, is_word, is_remark}
+use Rattle.report_lines.specs.Horizons.{Says, IsEntry, is_word, is_remark}
 use Rattle.report_lines.specs.Laws.{ReportsSayEntries}
 use Rattle.report_lines.proofs.Entries.{line-append, word_line, decimal_word}
 use Rattle.pd_model.specs.declared.memory.Which.{Which}

@@ -1,5 +1,5 @@
 -- What the bytes of files decide, the files of a shelf decide; and which answers they give.
-use Rattle.std.proofs.Common.{◌≡◌, ℕ, Bool, true, false, List, [], ◌∷◌, Option, Some, None, subst, refl, ◌∙◌, sym, inl, inr}
+use Rattle.std.proofs.Common.{◌≡◌, ℕ, Bool, true, List, [], ◌∷◌, Option, Some, None, subst, refl, ◌∙◌, sym, inl, inr}
 use Rattle.std.specs.Prelude.{IfSome}
 use Rattle.std.specs.List.{AllZip}
 use Rattle.horizon_rates.specs.declared.settings.Settings.{Settings}

@@ -6,7 +6,6 @@ use Rattle.pd_model.specs.Exec.{exec}
 use Rattle.pd_model.specs.Plan.{verdict_from, exec_all, meets_goal}
 use Rattle.pd_model.specs.declared.atoms.Atom.{Atom}
 use Rattle.pd_model.specs.declared.calls.Call.{Call}
-use Rattle.pd_model.specs.declared.calls.Verdict.{Verdict}
 use Rattle.pd_model.specs.declared.calls.Verdict.TheVariants.{Reaches, Blocked, Short}
 use Rattle.pd_model.specs.declared.parts.Parts.{Parts}
 

@@ -12,7 +12,7 @@ use Rattle.pd_plan.specs.Fault as plan
 use Rattle.pd_plan.specs.PlanFile.{plan_file}
 use Rattle.grounding.specs.Grounded.{Grounded}
 use Rattle.task_text.specs.Text.{ground_text, order_text}
-use Rattle.race_end.specs.Ends.{EndView, end_view}
+use Rattle.race_end.specs.Ends.{end_view}
 use Rattle.race_end.specs.declared.end.RaceEnd.{RaceEnd}
 use Rattle.plan_report.specs.Report.{report_of}
 use Rattle.plan_report.specs.Laws.{IsSmall}

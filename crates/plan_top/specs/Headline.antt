@@ -1,11 +1,10 @@
 -- What a report and a checked plan promise of the files.
-use Rattle.std.specs.Prelude.{◌≡◌, ◌⊎◌, ◌≤◌, ◌<◌, ℕ, ◌+◌, List, [], ◌∷◌, ◌++◌, map, length, codes, Bool, Option, Some, IfSome, Ok, Contains}
+use Rattle.std.specs.Prelude.{◌≡◌, ◌≤◌, ℕ, ◌+◌, List, [], ◌∷◌, ◌++◌, map, length, codes, Bool, Option, Some, IfSome, Ok, Contains}
 use Rattle.report_lines.specs.Lines.{lines_of}
 use Rattle.report_lines.specs.Horizons.{Entry, entry_line}
 use Rattle.clause_base.specs.Choice.{Known}
 use Rattle.clause_base.specs.Formula.{Cnf}
 use Rattle.clause_base.specs.Derivation.{IsRefutation}
-use Rattle.clause_base.specs.declared.log.Entry as log
 use Rattle.cdcl_rules.specs.declared.standing.Standing.{Standing}
 use Rattle.cdcl_rules.specs.declared.standing.Standing.TheVariants.{Going, Found, Refuted}
 use Rattle.horizon_run.specs.Run.{reached}
@@ -13,7 +12,6 @@ use Rattle.pd_model.specs.Plan.{IsPlan}
 use Rattle.pd_model.specs.declared.calls.Call.{Call}
 use Rattle.pd_model.specs.declared.parts.Parts.{Parts}
 use Rattle.pd_plan.specs.PlanFile.{plan_file}
-use Rattle.gt_core.specs.Task.{Task}
 use Rattle.gt_core.specs.Published.{order_of}
 use Rattle.gt_core.specs.Step.{IsStepPlan}
 use Rattle.grounding.specs.Grounded.{Grounded, IsGrounded}

@@ -1,9 +1,8 @@
 -- The race on a ground task.
-use Rattle.std.specs.Prelude.{◌≡◌, ℕ, List, Bool, Option}
+use Rattle.std.specs.Prelude.{◌≡◌, ℕ, List, Option}
 use Rattle.clause_base.specs.Choice.{Known}
 use Rattle.clause_base.specs.Formula.{Cnf, assignment_of}
 use Rattle.gt_core.specs.Task.{Task}
-use Rattle.grounding.specs.Grounded.{Grounded}
 use Rattle.step_clauses.specs.Variables.{layout_of}
 use Rattle.step_clauses.specs.Coded.{formula_of}
 use Rattle.step_laws.specs.Form.{OrderedTask, IsPlanOf, places_of, steps_for}

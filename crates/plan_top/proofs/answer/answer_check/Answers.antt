@@ -1,4 +1,3 @@
-use Rattle.plan_top.specs.Tasks.{OnceGrounded}
 use Rattle.plan_top.specs.Causes.{AnswersCheck}
 use Rattle.plan_top.proofs.Answered.{refused_handed, read_handed}
 use Rattle.plan_top.proofs.answer.answer_check.Goals as goal

@@ -1,11 +1,11 @@
-use Rattle.std.proofs.Common.{◌≡◌, ◌∙◌, ℕ, List, ap, subst}
+use Rattle.std.proofs.Common.{◌≡◌, ◌∙◌, ap, subst}
 use Rattle.gt_core.specs.Task.{Task}
 use Rattle.race_end.specs.Ends.{end_view}
 use Rattle.plan_report.specs.Report.{report_of}
 use Rattle.plan_top.specs.declared.ending.Outcome.{Outcome}
 use Rattle.plan_top.specs.declared.ending.Ending.TheVariants.{Report}
 use Rattle.plan_top.specs.Tasks.{within}
-use Rattle.plan_top.specs.Raced.{ComesTo, TellsTooLarge, ended, outcome_of}
+use Rattle.plan_top.specs.Raced.{ComesTo, ended, outcome_of}
 use Rattle.plan_top.specs.Causes.{TellsRace}
 use Rattle.plan_top.proofs.Answered.{raced_handed, actions_below}
 use Rattle.plan_top.proofs.answer.plan_task.Goals as goal

@@ -1,4 +1,3 @@
-use Rattle.std.proofs.Common.{ℕ, List}
 use Rattle.plan_gen.specs.Task.{domain_of, problem_of}
 use Rattle.plan_top.specs.Tasks.{OnceGrounded}
 use Rattle.plan_top.specs.Raced.{OnceRaced}

@@ -1,4 +1,4 @@
-use Rattle.std.proofs.Common.{◌≡◌, ◌∙◌, ℕ, List, ap, subst}
+use Rattle.std.proofs.Common.{◌∙◌, ap, subst}
 use Rattle.gt_core.specs.Task.{Task}
 use Rattle.race_end.specs.Ends.{end_view}
 use Rattle.plan_top.specs.declared.ending.Outcome.{Outcome}
