@@ -18,18 +18,8 @@ use Rattle.equal_items.proofs.Made.{get_or-replicate_default}
 module _ (rows : List (List ℕ)) (names classes : List ℕ) where
   -- the same sorting, with other ready names and other components to look at
   reordered : (taken : List Bool) (passed : List ℕ) (waiting : List (List ℕ)) (ready more order free left : List ℕ) → IsSorting rows names classes taken passed waiting ready order free → ((k : ℕ) → is_in more k ≡ true → IsReadyName rows names classes order k) → ((x : ℕ) → x < length rows → is_in order x ≡ false → (is_in more (item names x) ≡ true) ⊎ ((Waits rows waiting classes order x) ⊎ (is_in left x ≡ true))) → IsSorting rows names classes taken passed waiting more order left
-  reordered taken passed waiting ready more order free left d ready_is covered = record {
-    taken_long = d.taken_long;
-    passed_long = d.passed_long;
-    waiting_long = d.waiting_long;
-    waiting_below = d.waiting_below;
-    marks = d.marks;
-    order_below = d.order_below;
-    passed_taken = d.passed_taken;
-    ready_is = ready_is;
-    covered = covered;
-    sorting = d.sorting;
-  }
+  reordered taken passed waiting ready more order free left d ready_is covered =
+      record { taken_long = d.taken_long; passed_long = d.passed_long; waiting_long = d.waiting_long; waiting_below = d.waiting_below; marks = d.marks; order_below = d.order_below; passed_taken = d.passed_taken; ready_is = ready_is; covered = covered; sorting = d.sorting }
 
   -- a component that is taken need not be looked at
   pub taken_before : (taken : List Bool) (passed : List ℕ) (waiting : List (List ℕ)) (ready order free : List ℕ) (c : ℕ) → c < length rows → IsSorting rows names classes taken passed waiting ready order (c ∷ free) → is_taken taken c ≡ true → IsSorting rows names classes taken passed waiting ready order free
