@@ -106,13 +106,7 @@ edge_below clauses acts a b e =
     disabled_below acts (act_at acts a) b (and_split (not (a == b)) _ x.0).1
 
 turned : (n d x p q : Bool) → (n && ((d && not x) && not (p || q))) ≡ ((n && d) && (not x && (not q && not p)))
-turned true true true p q = refl
-turned true true false true true = refl
-turned true true false true false = refl
-turned true true false false true = refl
-turned true true false false false = refl
-turned true false x p q = refl
-turned false d x p q = refl
+turned n d x p q = grind arith
 
 no_edge : (n d x t y : Bool) → d ≡ false → (n && ((d && x) && t)) ≡ ((n && d) && y)
 no_edge true true x t y e = cc

@@ -1,15 +1,18 @@
-use Rattle.std.proofs.Common.{arith, ◌≡◌, ◌==◌, ℕ, suc, ◌+◌, ◌-◌, ◌<◌, ◌≤◌, List, [], ◌∷◌, length, Bool, true, false, refl, sym, ◌∙◌, ap, cond, inl, inr, set, count_by}
+use Rattle.std.proofs.Common.{arith, ◌≡◌, ◌==◌, ℕ, suc, ◌+◌, ◌-◌, ◌<◌, ◌≤◌, ◌&&◌, List, [], ◌∷◌, length, get_or, Bool, true, false, Option, Some, refl, sym, ◌∙◌, ap, subst, cond, inl, inr, set, count_by}
 use Rattle.std.specs.Prelude.{nat_lt}
 use Rattle.std.proofs.lemmas.Bool.{cases_lt}
 use Rattle.std.proofs.lemmas.Bool.Decides.{nat_tests}
+use Rattle.std.proofs.lemmas.List.{get_or_read}
 use Rattle.std.proofs.lemmas.List.Sums.{sum_by-set, sum_by-cons}
+use Rattle.bit_rows.specs.Bits.{row_has, IsLeastFrom}
 use Rattle.gt_core.specs.Literal.{is_in}
 use Rattle.gt_core.proofs.Basics.{and_split, and_both, not_true, test_same, same_test}
-use Rattle.action_order.specs.Graph.{leads, item}
+use Rattle.action_order.specs.Graph.{leads, row_at, item}
 use Rattle.action_order.specs.Walk.{mark_of, is_unseen, IsWalk, AllReach, IsLast, ends_with}
 use Rattle.action_order.specs.declared.walk.Mark.{Mark}
 use Rattle.action_order.specs.declared.walk.Mark.TheVariants.{Unseen, At}
 use Rattle.action_order.proofs.Lists.{reaches_more, reaches_edge, last_in, last_greatest}
+use Rattle.action_order.proofs.WalkLaw.{common_in}
 
 -- What one move of the walk may rely on, and that the work that is left falls.
 
@@ -19,6 +22,18 @@ module _ (targets : List (List ℕ)) (marks : List Mark) (stack starts work root
 
   pub last_place : place < length stack
   last_place = w.work_within place (last_in work place last)
+
+  -- the least vertex to which the place leads and that was not seen, as it was read
+  pub next_found : (unseen : List ℕ) (vertex : ℕ) (row : List ℕ) (found : Option ℕ) → vertex ≡ get_or stack place vertex → row ≡ get_or targets vertex row → IsLeastFrom (λ k. row_has row k && row_has unseen k) 0 found → IsLeastFrom (λ k. edge (item stack place) k && row_has unseen k) 0 found
+  next_found unseen vertex row found at is least =
+      let v = get_or_read stack place vertex last_place at 0 in
+      let below : vertex < length targets = let h = w.vertex place last_place in omega arith in
+      subst (λ (xs : List ℕ). IsLeastFrom (λ k. row_has xs k && row_has unseen k) 0 found) (get_or_read targets vertex row below is [] ∙ ap (row_at targets) v) least
+
+  pub next_leads : (unseen : List ℕ) (vertex : ℕ) (row : List ℕ) (found : Option ℕ) (u : ℕ) → vertex ≡ get_or stack place vertex → row ≡ get_or targets vertex row → IsLeastFrom (λ k. row_has row k && row_has unseen k) 0 found → found ≡ Some u → (edge (item stack place) u ≡ true) × (row_has unseen u ≡ true)
+  next_leads unseen vertex row found u at is least some =
+      let f = common_in _ 0 found u (next_found unseen vertex row found at is least) some in
+      and_split (edge (item stack place) u) (row_has unseen u) f.1
 
   pub greatest_work : (y : ℕ) → is_in work y ≡ true → y ≤ place
   greatest_work = last_greatest work place w.work_rising last

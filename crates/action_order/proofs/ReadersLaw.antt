@@ -15,10 +15,7 @@ use Rattle.gt_core.proofs.Lists.{each_number}
 -- The rows of readers.
 
 turned : (p q y z : Bool) → ((q && y) || ((p && y) || z)) ≡ (((q || p) && y) || z)
-turned p true true z = refl
-turned true true false z = refl
-turned false true false z = refl
-turned p false y z = refl
+turned p q y z = grind arith
 
 -- entered for some keys, and then for others
 pub entered_then : (first second both : ℕ → Bool) (b : ℕ) (before between after : List (List ℕ)) → IsEntered first b before between → IsEntered second b between after → ((k : ℕ) → both k ≡ (second k || first k)) → IsEntered both b before after

@@ -16,30 +16,25 @@ use Rattle.equal_items.proofs.Made.{get_or-replicate_default}
 -- What each move of the sorting keeps.
 
 module _ (rows : List (List ℕ)) (names classes : List ℕ) where
+  -- the same sorting, with other ready names and other components to look at
+  reordered : (taken : List Bool) (passed : List ℕ) (waiting : List (List ℕ)) (ready more order free left : List ℕ) → IsSorting rows names classes taken passed waiting ready order free → ((k : ℕ) → is_in more k ≡ true → IsReadyName rows names classes order k) → ((x : ℕ) → x < length rows → is_in order x ≡ false → (is_in more (item names x) ≡ true) ⊎ ((Waits rows waiting classes order x) ⊎ (is_in left x ≡ true))) → IsSorting rows names classes taken passed waiting more order left
+  reordered taken passed waiting ready more order free left d ready_is covered =
+      record { taken_long = d.taken_long; passed_long = d.passed_long; waiting_long = d.waiting_long; waiting_below = d.waiting_below; marks = d.marks; order_below = d.order_below; passed_taken = d.passed_taken; ready_is = ready_is; covered = covered; sorting = d.sorting }
+
   -- a component that is taken need not be looked at
   pub taken_before : (taken : List Bool) (passed : List ℕ) (waiting : List (List ℕ)) (ready order free : List ℕ) (c : ℕ) → c < length rows → IsSorting rows names classes taken passed waiting ready order (c ∷ free) → is_taken taken c ≡ true → IsSorting rows names classes taken passed waiting ready order free
-  taken_before taken passed waiting ready order free c lc d is = record {
-    taken_long = d.taken_long;
-    passed_long = d.passed_long;
-    waiting_long = d.waiting_long;
-    waiting_below = d.waiting_below;
-    marks = d.marks;
-    order_below = d.order_below;
-    passed_taken = d.passed_taken;
-    ready_is = d.ready_is;
-    covered = λ x lx e. elim (d.covered x lx e) [
-      | inl r ↦ inl r
-      | inr w ↦ elim w [
-        | inl h ↦ inr (inl h)
-        | inr i ↦ elim (or_split (c == x) (is_in free x) i) [
-          | inl s ↦ let same = test_same c x s in
-              absurd (apart (is_in order c) (sym (d.marks c lc) ∙ is) (subst (λ (y : ℕ). is_in order y ≡ false) (sym same) e))
-          | inr k ↦ inr (inr k)
+  taken_before taken passed waiting ready order free c lc d is =
+      reordered taken passed waiting ready ready order (c ∷ free) free d d.ready_is (λ x lx e. elim (d.covered x lx e) [
+        | inl r ↦ inl r
+        | inr w ↦ elim w [
+          | inl h ↦ inr (inl h)
+          | inr i ↦ elim (or_split (c == x) (is_in free x) i) [
+            | inl s ↦ let same = test_same c x s in
+                absurd (apart (is_in order c) (sym (d.marks c lc) ∙ is) (subst (λ (y : ℕ). is_in order y ≡ false) (sym same) e))
+            | inr k ↦ inr (inr k)
+          ]
         ]
-      ]
-    ];
-    sorting = d.sorting;
-  }
+      ])
 
   -- further targets of a component were found taken
   pub passed_more : (taken : List Bool) (passed : List ℕ) (waiting : List (List ℕ)) (ready order free : List ℕ) (c end : ℕ) → AreNamedComponents rows names classes → c < length rows → IsSorting rows names classes taken passed waiting ready order free → ((b : ℕ) → item passed c ≤ b → b < end → leads rows c b ≡ true → is_taken taken (class_at classes b) ≡ true) → IsSorting rows names classes taken (set passed c end) waiting ready order free
@@ -130,30 +125,22 @@ module _ (rows : List (List ℕ)) (names classes : List ℕ) where
 
   -- a component is ready
   pub gets_ready : (taken : List Bool) (passed : List ℕ) (waiting : List (List ℕ)) (ready more order free : List ℕ) (c : ℕ) → c < length rows → IsSorting rows names classes taken passed waiting ready order (c ∷ free) → is_taken taken c ≡ false → ((b : ℕ) → leads rows c b ≡ true → is_in order (class_at classes b) ≡ true) → IsWith ready (item names c) more → IsSorting rows names classes taken passed waiting more order free
-  gets_ready taken passed waiting ready more order free c lc d un all w = record {
-    taken_long = d.taken_long;
-    passed_long = d.passed_long;
-    waiting_long = d.waiting_long;
-    waiting_below = d.waiting_below;
-    marks = d.marks;
-    order_below = d.order_below;
-    passed_taken = d.passed_taken;
-    ready_is = λ k i. elim (w.only k i) [
-      | inl s ↦ record { component = c; below = lc; name = sym s; untaken = sym (d.marks c lc) ∙ un; all = all }
-      | inr j ↦ d.ready_is k j
-    ];
-    covered = λ x lx e. elim (d.covered x lx e) [
-      | inl r ↦ inl (w.kept (item names x) r)
-      | inr h ↦ elim h [
-        | inl g ↦ inr (inl g)
-        | inr i ↦ elim (or_split (c == x) (is_in free x) i) [
-          | inl s ↦ let same = test_same c x s in inl (subst (λ (y : ℕ). is_in more (item names y) ≡ true) same w.added)
-          | inr k ↦ inr (inr k)
+  gets_ready taken passed waiting ready more order free c lc d un all w =
+      reordered taken passed waiting ready more order (c ∷ free) free d
+      (λ k i. elim (w.only k i) [
+        | inl s ↦ record { component = c; below = lc; name = sym s; untaken = sym (d.marks c lc) ∙ un; all = all }
+        | inr j ↦ d.ready_is k j
+      ])
+      (λ x lx e. elim (d.covered x lx e) [
+        | inl r ↦ inl (w.kept (item names x) r)
+        | inr h ↦ elim h [
+          | inl g ↦ inr (inl g)
+          | inr i ↦ elim (or_split (c == x) (is_in free x) i) [
+            | inl s ↦ let same = test_same c x s in inl (subst (λ (y : ℕ). is_in more (item names y) ≡ true) same w.added)
+            | inr k ↦ inr (inr k)
+          ]
         ]
-      ]
-    ];
-    sorting = d.sorting;
-  }
+      ])
 
   -- one more component is taken
   pub taken_push : (before xs : List ℕ) (c : ℕ) → AreTaken rows names classes before xs → IsTakenNext rows names classes (before ++ xs) c → AreTaken rows names classes before (xs ++ c ∷ [])

@@ -336,7 +336,6 @@ module _ (targets : List (List ℕ)) where
     placed = w.placed;
     on_stack = w.on_stack;
     path = w.path;
-    back = w.back;
     seen = λ p x lt li. elim (w.seen p x lt li) [
       | inl o ↦ elim (split p o.1) [
         | inl j ↦ inl (o.0, j)
@@ -344,6 +343,7 @@ module _ (targets : List (List ℕ)) where
       ]
       | inr a ↦ inr a
     ];
+    back = w.back;
     work_within = λ p i. w.work_within p (rw is (in_push_old front place p i));
     work_rising = rising_front front place (subst (λ (xs : List ℕ). Pairwise (λ a b. a < b) xs) is w.work_rising);
     starts_in_work = λ s i. elim (split s (w.starts_in_work s i)) [

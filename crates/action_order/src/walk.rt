@@ -236,25 +236,6 @@ impl Walk {
         }
     }
 
-    /// Walks over all vertices that are reached from one and were not seen, from an empty stack to an empty stack.
-    fn visit(&mut self, targets: &[BitRow], root: u32) -> Result<(), AllocError>
-        requires walk { IsWalkOf targets.now self.old }
-        requires graph { IsGraph targets.now }
-        requires few { length targets.now ≤ 16384 }
-        requires root { root < length targets.now }
-        requires start { length self.old.stack.items ≡ 0 }
-        ensures walk { OnOk result (IsWalkOf targets.now self.new) }
-        ensures keeps { OnOk result (KeepsSeen self.old.marks.items self.new.marks.items) }
-        ensures seen { OnOk result (mark_of self.new.marks.items root ≡ Mark.Unseen → ⊥) }
-        ensures end { OnOk result (length self.new.stack.items ≡ 0) }
-    {
-        self.enter(targets, root)?;
-        while !self.work.is_empty() {
-            self.step(targets)?;
-        }
-        Ok(())
-    }
-
     /// Puts a vertex onto the empty stack, unless it was seen.
     fn enter(&mut self, targets: &[BitRow], root: u32) -> Result<(), AllocError>
         requires walk { IsWalkOf targets.now self.old }
@@ -268,6 +249,21 @@ impl Walk {
     {
         if let Mark::Unseen = self.marks[root as usize] {
             self.open(targets, root)?;
+        }
+        Ok(())
+    }
+
+    /// Walks on from the vertices of the stack, until it is empty.
+    fn walk_on(&mut self, targets: &[BitRow]) -> Result<(), AllocError>
+        requires walk { IsWalkOf targets.now self.old }
+        requires graph { IsGraph targets.now }
+        requires few { length targets.now ≤ 16384 }
+        ensures walk { OnOk result (IsWalkOf targets.now self.new) }
+        ensures keeps { OnOk result (KeepsSeen self.old.marks.items self.new.marks.items) }
+        ensures end { OnOk result (length self.new.stack.items ≡ 0) }
+    {
+        while !self.work.is_empty() {
+            self.step(targets)?;
         }
         Ok(())
     }
@@ -316,7 +312,8 @@ pub fn find_components(alloc: Global, targets: &[BitRow]) -> Result<Components, 
 {
     let mut walk = Walk::new(alloc, targets)?;
     for root in 0..targets.len() as u32 {
-        walk.visit(targets, root)?;
+        walk.enter(targets, root)?;
+        walk.walk_on(targets)?;
     }
     let numbers = numbers_of(alloc, walk.marks.as_slice())?;
     Ok(Components {

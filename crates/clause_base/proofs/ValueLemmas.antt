@@ -191,8 +191,9 @@ rows_new n m given trues few room tight g t =
       passed = λ v h. absurd (omega (arith, h));
     }
 
-pub rows_given : (n low v : ℕ) (given trues new_given new_trues : List ℕ) → AreRows n low given trues → v < n → HasMore v given new_given → length new_given ≡ length given → length new_trues ≡ length trues → AreRows n low new_given new_trues
-rows_given n low v given trues new_given new_trues r h g l m =
+-- rows of as many words, with other bits
+rows_changed : (n low new_low : ℕ) (given trues new_given new_trues : List ℕ) → AreRows n low given trues → length new_given ≡ length given → length new_trues ≡ length trues → ((k : ℕ) → words_have new_given k ≡ true → k < n) → new_low ≤ n → AreGivenBelow new_low new_given → AreRows n new_low new_given new_trues
+rows_changed n low new_low given trues new_given new_trues r l m below begins passed =
     let room = r.room in
     let tight = r.tight in
     let same = r.same in
@@ -201,10 +202,14 @@ rows_given n low v given trues new_given new_trues r h g l m =
       room = omega (arith, room, l);
       tight = omega (arith, tight, l);
       same = omega (arith, same, l, m);
-      below = λ k e. by_below k e (same_or_apart k v);
-      begins = r.begins;
-      passed = λ k b. by_passed k b (same_or_apart k v);
+      below = below;
+      begins = begins;
+      passed = passed;
     }
+
+pub rows_given : (n low v : ℕ) (given trues new_given new_trues : List ℕ) → AreRows n low given trues → v < n → HasMore v given new_given → length new_given ≡ length given → length new_trues ≡ length trues → AreRows n low new_given new_trues
+rows_given n low v given trues new_given new_trues r h g l m =
+    rows_changed n low low given trues new_given new_trues r l m (λ k e. by_below k e (same_or_apart k v)) r.begins (λ k b. by_passed k b (same_or_apart k v))
   where
     by_below : (k : ℕ) → words_have new_given k ≡ true → (k ≡ v) ⊎ (k ≢ v) → k < n
     by_below k e (inl q) = omega (arith, q, h)
@@ -216,34 +221,16 @@ rows_given n low v given trues new_given new_trues r h g l m =
 
 pub rows_taken : (n low less v : ℕ) (given trues new_given : List ℕ) → AreRows n low given trues → less ≤ low → less ≤ v → HasLess v given new_given → length new_given ≡ length given → AreRows n less new_given trues
 rows_taken n low less v given trues new_given r a b g l =
-    let room = r.room in
-    let tight = r.tight in
-    let same = r.same in
     let begins = r.begins in
-    record {
-      few = r.few;
-      room = omega (arith, room, l);
-      tight = omega (arith, tight, l);
-      same = omega (arith, same, l);
-      below = λ k e. by_below k e (same_or_apart k v);
-      begins = omega (arith, begins, a);
-      passed = λ k c. less_elsewhere v k given new_given g (λ q. omega (arith, q, b, c)) ∙ r.passed k (omega (arith, a, c));
-    }
+    rows_changed n low less given trues new_given trues r l refl (λ k e. by_below k e (same_or_apart k v)) (omega (arith, begins, a))
+    (λ k c. less_elsewhere v k given new_given g (λ q. omega (arith, q, b, c)) ∙ r.passed k (omega (arith, a, c)))
   where
     by_below : (k : ℕ) → words_have new_given k ≡ true → (k ≡ v) ⊎ (k ≢ v) → k < n
     by_below k e (inl q) = absurd (clash (sym (less_at v given new_given g) ∙ ap (words_have new_given) (sym q) ∙ e))
     by_below k e (inr d) = r.below k (sym (less_elsewhere v k given new_given g d) ∙ e)
 
 pub rows_passed : (n low more : ℕ) (given trues : List ℕ) → AreRows n low given trues → more ≤ n → AreGivenBelow more given → AreRows n more given trues
-rows_passed n low more given trues r h p = record {
-  few = r.few;
-  room = r.room;
-  tight = r.tight;
-  same = r.same;
-  below = r.below;
-  begins = h;
-  passed = p;
-}
+rows_passed n low more given trues r h p = rows_changed n low more given trues given trues r refl refl r.below h p
 
 -- The least variable without a value.
 

@@ -37,21 +37,7 @@ xor_has : (a b k : ℕ) → word_has (bit_xor a b) k ≡ unlike (word_has a k) (
 xor_has a b k = ap (λ (n : ℕ). n == 1) (bit_at_xor a b k) ∙ unlike_bits (bit_at a k) (bit_at b k) (bit_at-lt a k) (bit_at-lt b k)
 
 differ_by : (a b c d : Bool) → (unlike a c || (unlike b d && a)) ≡ not (same_value (if a then Some b else None) (if c then Some d else None))
-differ_by true true true true = refl
-differ_by true true true false = refl
-differ_by true false true true = refl
-differ_by true false true false = refl
-differ_by true true false d = refl
-differ_by true false false d = refl
-differ_by false true true d = refl
-differ_by false false true d = refl
-differ_by false b false d = by b d
-  where
-    by : (b d : Bool) → (unlike b d && false) ≡ false
-    by true true = refl
-    by true false = refl
-    by false true = refl
-    by false false = refl
+differ_by a b c d = grind arith
 
 pub differing_has : (a b c d k : ℕ) → word_has (bit_or (bit_xor a c) (bit_and (bit_xor b d) a)) k ≡ not (same_value (value_in a b k) (value_in c d k))
 differing_has a b c d k =

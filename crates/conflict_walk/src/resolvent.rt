@@ -1,13 +1,9 @@
 //! The clause that the walk is at. Each clause that is put in is resolved with it on one literal.
 ghost use Rattle.std.specs.Prelude.{◌≡◌, ◌*◌, ◌≤◌, ◌==◌, [], true, not, length, filter, fold, IfOk, OnOk};
-ghost use Rattle.clause_base.specs.Literal.{opposite};
-ghost use Rattle.clause_base.specs.Clause.{put};
-ghost use Rattle.cdcl_rules.specs.State.{is_on};
-ghost use Rattle.cdcl_rules.specs.Trail.{AllFalse};
-ghost use Rattle.cdcl_rules.specs.Learn.{resolvent};
+ghost use Rattle.clause_base.specs.{Literal.opposite, Clause.put};
+ghost use Rattle.cdcl_rules.specs.{State.is_on, Trail.AllFalse, Learn.resolvent};
 ghost use Rattle.lit_marks.specs.Marks.{at};
-ghost use Rattle.conflict_walk.specs.Resolvent.{literals, IsEmptied, IsOver};
-ghost use Rattle.conflict_walk.specs.Walk.{OthersFalse};
+ghost use Rattle.conflict_walk.specs.{Resolvent.literals, Resolvent.IsEmptied, Resolvent.IsOver, Walk.OthersFalse};
 
 use cdcl_trail::trail::Trail;
 use clause_base::literal::Lit;

@@ -13,8 +13,7 @@ use Rattle.gt_core.proofs.Within.{precondition_within, action_effects_within}
 use Rattle.step_clauses.specs.Variables.{Row, rows_from, variable_at}
 use Rattle.step_template.specs.Rows.{row_of, rows_of, number_after}
 use Rattle.step_template.proofs.Bounds.{each_place}
-use Rattle.step_template.proofs.Groups.{rest}
-use Rattle.step_template.proofs.RowLaw.{rows_parts, rows_step}
+use Rattle.step_template.proofs.IndexLaw.{put_under, gather_effect, gather_action, gather_all}
 use Rattle.goal_choice.specs.Means.{Supporter, supporter_of, supporters_of}
 use Rattle.goal_choice.specs.Members.{IsWithin}
 
@@ -30,25 +29,9 @@ none_at task z a j l e h = rw h refl
 
 -- an effect is put among the supporters of its literal
 pub put_one : (task : Task) (z : Layout) (a j : ℕ) (e : Effect) (old new : List (List Supporter)) (k : ℕ) (s : Supporter) (row : List Supporter) → e.literal < length old → k ≡ e.literal → s ≡ supporter_of task z (row_of a j e) → row ≡ get_or old k [] ++ s ∷ [] → new ≡ set old k row → (l : ℕ) → get_or new l [] ≡ get_or old l [] ++ supporters_of task z (row_of a j e ∷ []) l
-put_one task z a j e old new k s row lt is n h g l = by (e.literal == l) refl
-  where
-    by : (c : Bool) → (e.literal == l) ≡ c → get_or new l [] ≡ get_or old l [] ++ supporters_of task z (row_of a j e ∷ []) l
-    by true t =
-        let same : e.literal ≡ l = grind (arith, nat_tests) in
-        let at : k < length old = omega (arith, is, lt) in
-        ap (λ (xs : List (List Supporter)). get_or xs l []) g
-        ∙ ap (λ (i : ℕ). get_or (set old k row) i []) (sym (is ∙ same))
-        ∙ get_or-set_same old k row [] at
-        ∙ h
-        ∙ ap (λ (i : ℕ). get_or old i [] ++ s ∷ []) (is ∙ same)
-        ∙ ap (λ (u : Supporter). get_or old l [] ++ u ∷ []) n
-        ∙ ap (λ (r : List Supporter). get_or old l [] ++ r) (sym (one_at task z a j l e t))
-    by false t =
-        let other : l ≢ k = λ q. grind (arith, nat_tests) in
-        ap (λ (xs : List (List Supporter)). get_or xs l []) g
-        ∙ get_or-set_other old k l row [] other
-        ∙ sym (append-nil (get_or old l []))
-        ∙ ap (λ (r : List Supporter). get_or old l [] ++ r) (sym (none_at task z a j l e t))
+put_one task z a j e old new k s row lt is n h g =
+    put_under old new e.literal k s row (supporters_of task z (row_of a j e ∷ [])) lt is h g
+    (λ l t. one_at task z a j l e t ∙ ap (λ (u : Supporter). u ∷ []) (sym n)) (λ l t. none_at task z a j l e t)
 
 pub all_append : {A : Type 0} (P : A → Type 0) (xs ys : List A) → AllByRecursion P xs → AllByRecursion P ys → AllByRecursion P (xs ++ ys)
 all_append P [] ys h k = k
@@ -64,26 +47,15 @@ put_within task z a j e old new h w o l = subst (AllByRecursion (IsWithin z)) (s
 
 -- one more effect
 pub one_effect : (task : Task) (z : Layout) (l a number next : ℕ) (es : List Effect) (i : ℕ) (d e : Effect) (whole before after : List Supporter) → i < length es → e ≡ get_or es i d → next ≡ number_after number e → whole ≡ before ++ supporters_of task z (rows_of a number (drop i es)) l → after ≡ before ++ supporters_of task z (row_of a number e ∷ []) l → whole ≡ after ++ supporters_of task z (rows_of a next (drop (i + 1) es)) l
-one_effect task z l a number next es i d e whole before after lt is n h g =
-    rest whole before after (supporters_of task z (row_of a number e ∷ []) l) (supporters_of task z (rows_of a (number_after number e) (drop (i + 1) es)) l)
-    (h ∙ ap (λ (r : List Row). before ++ supporters_of task z r l) (rows_step a number es i d e lt is)
-    ∙ ap (λ (r : List Supporter). before ++ r) (parts task z (row_of a number e ∷ []) (rows_of a (number_after number e) (drop (i + 1) es)) l)) g
-    ∙ ap (λ (k : ℕ). after ++ supporters_of task z (rows_of a k (drop (i + 1) es)) l) (sym n)
+one_effect task z l = gather_effect (λ r. supporters_of task z r l) (λ xs ys. parts task z xs ys l)
 
 -- one more action
 pub one_action : (task : Task) (z : Layout) (l a first next : ℕ) (acts : List Action) (d : Action) (es : List Effect) (whole before after : List Supporter) → a < length acts → es ≡ (get_or acts a d).effects → next ≡ first + count_by is_conditional es → whole ≡ before ++ supporters_of task z (rows_from first (effects_from a (drop a acts))) l → after ≡ before ++ supporters_of task z (rows_of a first es) l → whole ≡ after ++ supporters_of task z (rows_from next (effects_from (a + 1) (drop (a + 1) acts))) l
-one_action task z l a first next acts d es whole before after lt is n h g =
-    rest whole before after (supporters_of task z (rows_of a first es) l) (supporters_of task z (rows_from (first + count_by is_conditional es) (effects_from (a + 1) (drop (a + 1) acts))) l)
-    (h ∙ ap (λ (xs : List Action). before ++ supporters_of task z (rows_from first (effects_from a xs)) l) (drop_more acts a d lt)
-    ∙ ap (λ (ds : List Effect). before ++ supporters_of task z (rows_from first (owned a ds ++ effects_from (a + 1) (drop (a + 1) acts))) l) (sym is)
-    ∙ ap (λ (r : List Row). before ++ supporters_of task z r l) (rows_parts a first es (effects_from (a + 1) (drop (a + 1) acts)))
-    ∙ ap (λ (r : List Supporter). before ++ r) (parts task z (rows_of a first es) (rows_from (first + count_by is_conditional es) (effects_from (a + 1) (drop (a + 1) acts))) l)) g
-    ∙ ap (λ (k : ℕ). after ++ supporters_of task z (rows_from k (effects_from (a + 1) (drop (a + 1) acts))) l) (sym n)
+one_action task z l = gather_action (λ r. supporters_of task z r l) (λ xs ys. parts task z xs ys l)
 
 -- past the last action
 pub all_gathered : (task : Task) (z : Layout) (l a first : ℕ) (acts : List Action) (whole before : List Supporter) → length acts ≤ a → whole ≡ before ++ supporters_of task z (rows_from first (effects_from a (drop a acts))) l → before ≡ whole
-all_gathered task z l a first acts whole before le h =
-    sym (h ∙ ap (λ (xs : List Action). before ++ supporters_of task z (rows_from first (effects_from a xs)) l) (drop_all a acts le) ∙ append-nil before)
+all_gathered task z l = gather_all (λ r. supporters_of task z r l) (λ xs ys. parts task z xs ys l) refl
 
 by_place : {A : Type 0} (d : A) (f : ℕ → A) (k : ℕ) (xs : List A) → ((i : ℕ) → i < length xs → get_or xs i d ≡ f (k + i)) → xs ≡ map f (range_from k (length xs))
 by_place d f k [] h = refl

@@ -1,10 +1,11 @@
 -- What wanted literals ask for, one after another, and one step of the walk.
-use Rattle.std.proofs.Common.{arith, ◌≡◌, ◌==◌, ℕ, suc, ◌-◌, ◌<◌, List, [], ◌∷◌, ◌++◌, Option, Some, None, fold, refl, sym, ap, ◌∙◌, append_assoc}
+use Rattle.std.proofs.Common.{arith, ◌≡◌, ◌==◌, ℕ, suc, ◌+◌, ◌-◌, ◌<◌, ◌≤◌, List, [], ◌∷◌, ◌++◌, Option, Some, None, fold, refl, sym, ap, ◌∙◌, append_assoc}
 use Rattle.std.proofs.lemmas.List.{append-nil}
 use Rattle.std.proofs.lemmas.List.Sums.{fold-append}
 use Rattle.clause_base.specs.Clause.{IsRising, put}
 use Rattle.clause_base.proofs.ClauseLemmas.{rising-fold, list_any-fold}
 use Rattle.clause_base.proofs.Rising.{rising_unique}
+use Rattle.goal_choice.specs.Members.{Literals}
 use Rattle.goal_choice.specs.Walk.{Wish, Chooses, Wants, both, wishes, walk}
 use Rattle.goal_choice.specs.Wishes.{IsStep}
 
@@ -22,6 +23,24 @@ one_wants wish whole ks ms wanted rest l e w h =
 
 pub put_more : (ks ms before after : List ℕ) → before ≡ fold put [] ks → after ≡ fold put before ms → after ≡ fold put [] (ks ++ ms)
 put_more ks ms before after b a = a ∙ ap (λ (ls : List ℕ). fold put ls ms) b ∙ sym (fold-append put [] ks ms)
+
+-- what the literals that were passed ask for, with what is left to ask
+abbrev pub IsGathered : ℕ → (ℕ → Wish) → Wish → ℕ → List ℕ → Literals → Type 0
+IsGathered facts wish whole from rest before =
+    (from ≤ 4096)
+    × (before.facts ≡ facts)
+    × (ks : List ℕ)
+    × (before.members ≡ fold put [] ks)
+    × (whole ≡ both (Wants ks) (wishes wish rest))
+
+pub gathered_more : (facts : ℕ) (wish : ℕ → Wish) (whole : Wish) (from l : ℕ) (wanted rest ms : List ℕ) (before after : Literals) → IsGathered facts wish whole from wanted before → after ≡ record before { members = fold put before.members ms } → l < 4096 → wanted ≡ l ∷ rest → Wants ms ≡ wish l → IsGathered facts wish whole (l + 1) rest after
+gathered_more facts wish whole from l wanted rest ms before after g e small is w = (
+  omega (arith, small),
+  ap (λ (s : Literals). s.facts) e ∙ g.1,
+  g.2 ++ ms,
+  put_more g.2 ms before.members after.members g.3 (ap (λ (s : Literals). s.members) e),
+  one_wants wish whole g.2 ms wanted rest l g.4 is w,
+)
 
 pub no_more : (wish : ℕ → Wish) (whole : Wish) (ks wanted : List ℕ) → whole ≡ both (Wants ks) (wishes wish wanted) → wanted ≡ [] → whole ≡ Wants ks
 no_more wish whole ks wanted e w = e ∙ ap (λ (ls : List ℕ). both (Wants ks) (wishes wish ls)) w ∙ ap Wants (append-nil ks)

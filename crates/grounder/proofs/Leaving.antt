@@ -27,10 +27,7 @@ pub left_none : (test : Atom → Bool) (s : List Atom) → ((a : Atom) → test 
 left_none test s none a = nothing (is_in a s) ∙ ap (λ (b : Bool). is_in a s && not b) (sym (none a))
 
 both : (s a b : Bool) → ((s && not a) && not b) ≡ (s && not (a || (b || false)))
-both true true b = refl
-both true false true = refl
-both true false false = refl
-both false a b = refl
+both s a b = grind arith
 
 -- what each element of a list leaves out: one element more
 pub left_more : {X : Type 0} (f : Atom → X → Bool) (xs : List X) (i : ℕ) (x : X) (old mid new : List Atom) → i < length xs → x ≡ get_or xs i x
@@ -46,10 +43,7 @@ pub left_same : (test more : Atom → Bool) (old new : List Atom) → ((a : Atom
 left_same test more old new same out a = out a ∙ ap (λ (b : Bool). is_in a old && not b) (same a)
 
 swap : (t s : Bool) → (not t && s) ≡ (s && not t)
-swap true true = refl
-swap true false = refl
-swap false true = refl
-swap false false = refl
+swap t s = grind arith
 
 -- one atom is removed
 pub left_one : (old new : List Atom) (x : Atom) → SameState new (filter (λ a. not (same_atom x a)) old) → LeavesOut (λ a. same_atom a x) old new

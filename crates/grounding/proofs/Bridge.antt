@@ -1,5 +1,5 @@
 -- What a call does to a state, said of its instance.
-use Rattle.std.proofs.Common.{◌≡◌, ℕ, List, [], ◌∷◌, ◌++◌, Bool, true, false, not, ◌&&◌, ◌||◌, refl, ap, sym, ◌∙◌, cond, Option, Some, None}
+use Rattle.std.proofs.Common.{arith, ◌≡◌, ℕ, List, [], ◌∷◌, ◌++◌, Bool, true, false, not, ◌&&◌, ◌||◌, refl, ap, sym, ◌∙◌, cond, Option, Some, None}
 use Rattle.std.specs.Prelude.{slice_get}
 use Rattle.std.specs.List.{list_any, list_all, filter, flat_map}
 use Rattle.std.proofs.lemmas.List.Folds.{list_any-append}
@@ -102,14 +102,7 @@ next_is p s objects effects a =
     lost = sym (of_schema p s objects effects a false)
 
     other_order : (g d now : Bool) → ((not (not g && d) && now) || g) ≡ (g || (now && not (d && not g)))
-    other_order true true true = refl
-    other_order true true false = refl
-    other_order true false true = refl
-    other_order true false false = refl
-    other_order false true true = refl
-    other_order false true false = refl
-    other_order false false true = refl
-    other_order false false false = refl
+    other_order g d now = grind arith
 
 pub some_is : {X : Type 0} (x y : X) → Some x ≡ Some y → x ≡ y
 some_is x y e = cc

@@ -1,5 +1,5 @@
 -- What is left of literals and effects means the same, in a state of numbered facts that tells of a state of atoms.
-use Rattle.std.proofs.Common.{◌≡◌, ℕ, List, [], ◌∷◌, Bool, true, false, not, ◌&&◌, refl, ap, sym, ◌∙◌, cond, map, Option, Some, None, inl, inr}
+use Rattle.std.proofs.Common.{arith, ◌≡◌, ℕ, List, [], ◌∷◌, Bool, true, false, not, ◌&&◌, refl, ap, sym, ◌∙◌, cond, map, Option, Some, None, inl, inr}
 use Rattle.std.specs.Prelude.{nat_lt, slice_get, filter_map}
 use Rattle.std.specs.List.{list_any, list_all, filter, cons_option}
 use Rattle.std.proofs.lemmas.Bool.{and_left, and_right, or_parts, or_cases, false_from_ne_true, not-false, both_ways}
@@ -95,11 +95,7 @@ module _ (p : Parts) (facts : List Atom) (n : ℕ → Bool) (s : List Atom) (tel
   one_change a sign ha e = step (is_in e.atom facts) (any_never p facts e.condition) refl refl
     where
       turned : (signs same now : Bool) → ((signs && same) && now) ≡ (signs && (now && same))
-      turned true true true = refl
-      turned true true false = refl
-      turned true false true = refl
-      turned true false false = refl
-      turned false same now = refl
+      turned signs same now = grind arith
 
       other : is_in e.atom facts ≡ false → same_atom a e.atom ≡ false
       other h = false_from_ne_true (same_atom a e.atom) (λ t. both_ways (is_in a facts) (ap (λ (b : Atom). is_in b facts) (same_is a e.atom t) ∙ h) ha)

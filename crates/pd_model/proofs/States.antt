@@ -1,5 +1,5 @@
 -- Members of states: after an atom was added or removed, and after a whole step.
-use Rattle.std.proofs.Common.{◌≡◌, ℕ, ◌+◌, ◌<◌, Bool, true, false, cond, List, [], ◌∷◌, ◌++◌, length, take, get_or, refl, ap, subst, ◌∙◌, sym}
+use Rattle.std.proofs.Common.{arith, ◌≡◌, ℕ, ◌+◌, ◌<◌, Bool, true, false, cond, List, [], ◌∷◌, ◌++◌, length, take, get_or, refl, ap, subst, ◌∙◌, sym}
 use Rattle.std.specs.Prelude.{◌&&◌, ◌||◌, not}
 use Rattle.std.specs.List.{list_any, filter}
 use Rattle.std.specs.Ordering.{is_eq}
@@ -38,10 +38,7 @@ removed s n x h a =
     ∙ and_by_cond (same_atom x a) (is_in a s) ∙ sym (is_in-filter a (λ b. not (same_atom x b)) s)
 
 move_not : (x d s : Bool) → (not x && (not d && s)) ≡ (not (d || (x || false)) && s)
-move_not true true s = refl
-move_not true false s = refl
-move_not false true s = refl
-move_not false false s = refl
+move_not x d s = grind arith
 
 -- one more atom removed
 pub one_removed : (s t n : List Atom) (ds : List Atom) (x : Atom) → SameState n (filter (λ b. not (same_atom x b)) t)
@@ -54,13 +51,7 @@ one_removed s t n ds x one so_far a =
     ∙ sym (is_in-filter a (λ b. not (is_in b (ds ++ x ∷ []))) s)
 
 add_wins : (g d s : Bool) → (g || (not d && s)) ≡ ((not (not g && d) && s) || g)
-add_wins true true true = refl
-add_wins true true false = refl
-add_wins true false true = refl
-add_wins true false false = refl
-add_wins false true s = refl
-add_wins false false true = refl
-add_wins false false false = refl
+add_wins g d s = grind arith
 
 -- to take away the deletes and then put in the gains is to take away the losses and put in the gains
 pub stepped : (s t n gains deletes : List Atom) → SameState t (filter (λ a. not (is_in a deletes)) s) → SameState n (gains ++ t)

@@ -325,12 +325,12 @@ module _ (parents entries exits last before : List ℕ) (next at : ℕ) (w : IsW
         started = w.started;
         entered = w.entered;
         parent_first = w.parent_first;
+        last_child = w.last_child;
         left = leave_left;
         nested = leave_nested;
         inside = leave_inside;
         after = λ k above seen unleft low. w.after k above seen ((no_longer above unleft).1) low;
         path = λ above seen unleft. outwards at above (w.path above seen ((no_longer above unleft).1)) ((no_longer above unleft).0);
-        last_child = w.last_child;
         waiting = w.waiting;
         not_yet = w.not_yet;
         before_below = w.before_below;

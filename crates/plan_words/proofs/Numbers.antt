@@ -18,26 +18,12 @@ ranges_once n = hlevel props
 -- the settings with these numbers
 settings_with : (n : Numbers) → Ranges n → Settings
 settings_with n r = record {
-  rates = record {
-    algorithm = n.algorithm;
-    width = n.width;
-    quota = n.quota;
-    percent = n.percent;
-    growth = n.growth;
-    start = n.start;
-    max = n.max;
-    width_in_range = r.0.0;
-    quota_in_range = r.0.1;
-    percent_in_range = r.0.2;
-    growth_in_range = r.0.3;
-    start_in_range = r.0.4;
-    max_in_range = r.0.5;
-  };
+  rates = record { algorithm = n.algorithm; width = n.width; width_in_range = r.0.0; quota = n.quota; quota_in_range = r.0.1; percent = n.percent; percent_in_range = r.0.2; growth = n.growth; growth_in_range = r.0.3; start = n.start; start_in_range = r.0.4; max = n.max; max_in_range = r.0.5 };
   budget = n.budget;
-  slice = n.slice;
-  workers = n.workers;
   budget_in_range = r.1;
+  slice = n.slice;
   slice_in_range = r.2;
+  workers = n.workers;
   workers_in_range = r.3;
 }
 

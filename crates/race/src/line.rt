@@ -1,10 +1,6 @@
 // The line of a horizon, by its run.
 ghost use Rattle.std.specs.Prelude.{◌≡◌, IfOk};
-ghost use Rattle.race.specs.Clears.{passed_line};
-ghost use Rattle.race.specs.Found.{open_line};
-ghost use Rattle.race.specs.Input.{RaceInput};
-ghost use Rattle.race.specs.Lines.{IsLine};
-ghost use Rattle.race.specs.Runs.{live_run_of, IsRunOf};
+ghost use Rattle.race.specs.{Clears.passed_line, Found.open_line, Input.RaceInput, Lines.IsLine, Runs.live_run_of, Runs.IsRunOf};
 ghost use Rattle.race_end.specs.Ends.{line_view};
 
 use cdcl_rules::standing::Standing;

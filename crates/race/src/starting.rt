@@ -4,11 +4,7 @@ ghost use Rattle.std.specs.Prelude.{◌≡◌, ◌≤◌, ◌<◌, length, nat_l
 ghost use Rattle.horizon_rates.specs.Horizons.{listed};
 ghost use Rattle.step_encoding.specs.Numbers.{literals_of};
 ghost use Rattle.horizon_run.specs.Run.{choice_of};
-ghost use Rattle.race.specs.Fresh.{IsFreshOf};
-ghost use Rattle.race.specs.Input.{RaceInput};
-ghost use Rattle.race.specs.Runs.{AreLow};
-ghost use Rattle.race.specs.Starts.{started, fitting, filled, too_large};
-ghost use Rattle.race.specs.Tied.{race_state, IsTied};
+ghost use Rattle.race.specs.{Fresh.IsFreshOf, Input.RaceInput, Runs.AreLow, Starts.started, Starts.fitting, Starts.filled, Starts.too_large, Tied.race_state, Tied.IsTied};
 
 use crate::fresh::next_fresh;
 use crate::racing::Racing;

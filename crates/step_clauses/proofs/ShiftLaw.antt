@@ -45,41 +45,29 @@ opposite_even l k e = let m : (l % 2 == 0) ≡ true = grind (arith, nat_tests) i
 opposite_odd : (l k : ℕ) → l ≡ 2 * k + 1 → opposite l ≡ 2 * k
 opposite_odd l k e = let m : (l % 2 == 0) ≡ false = grind (arith, nat_tests) in rw m (omega arith)
 
+-- the literals of one variable go to those of another
+turned_even : (f : ℕ → ℕ) (l k s : ℕ) → l ≡ 2 * k → f l ≡ 2 * s → f (2 * k + 1) ≡ 2 * s + 1 → opposite (f l) ≡ f (opposite l)
+turned_even f l k s e x y = opposite_even (f l) s x ∙ sym (ap f (opposite_even l k e) ∙ y)
+
+turned_odd : (f : ℕ → ℕ) (l k s : ℕ) → l ≡ 2 * k + 1 → f l ≡ 2 * s + 1 → f (2 * k) ≡ 2 * s → opposite (f l) ≡ f (opposite l)
+turned_odd f l k s e x y = opposite_odd (f l) s x ∙ sym (ap f (opposite_odd l k e) ∙ y)
+
 pub moved_turns : (width step facts l : ℕ) → opposite (moved_code width step facts l) ≡ moved_code width step facts (opposite l)
 moved_turns width step facts l = by (l % 2 == 0) refl (where_is l (2 * width))
   where
-    k : ℕ
-    k = l / 2
-
     by : (b : Bool) → (l % 2 == 0) ≡ b → (l < 2 * width) ⊎ (2 * width ≤ l) → opposite (moved_code width step facts l) ≡ moved_code width step facts (opposite l)
     by true e (inl a) =
         let h : l % 2 ≡ 0 = grind (arith, nat_tests) in
-        let is : l ≡ 2 * (l / 2) = omega arith in
-        let o = opposite_even l (l / 2) is in
-        let x = moved_below width step facts l a in
-        let y = moved_below width step facts (2 * (l / 2) + 1) (omega arith) in
-        opposite_even (moved_code width step facts l) (step + l / 2) (omega arith) ∙ sym (ap (moved_code width step facts) o ∙ y ∙ omega arith)
+        turned_even (moved_code width step facts) l (l / 2) (step + l / 2) (omega arith) (moved_below width step facts l a ∙ omega arith) (moved_below width step facts (2 * (l / 2) + 1) (omega arith) ∙ omega arith)
     by true e (inr a) =
         let h : l % 2 ≡ 0 = grind (arith, nat_tests) in
-        let is : l ≡ 2 * (l / 2) = omega arith in
-        let o = opposite_even l (l / 2) is in
-        let x = moved_above width step facts l a in
-        let y = moved_above width step facts (2 * (l / 2) + 1) (omega arith) in
-        opposite_even (moved_code width step facts l) (facts + (l / 2 - width)) (omega arith) ∙ sym (ap (moved_code width step facts) o ∙ y ∙ omega arith)
+        turned_even (moved_code width step facts) l (l / 2) (facts + (l / 2 - width)) (omega arith) (moved_above width step facts l a ∙ omega arith) (moved_above width step facts (2 * (l / 2) + 1) (omega arith) ∙ omega arith)
     by false e (inl a) =
         let h : l % 2 ≡ 1 = grind (arith, nat_tests) in
-        let is : l ≡ 2 * (l / 2) + 1 = omega arith in
-        let o = opposite_odd l (l / 2) is in
-        let x = moved_below width step facts l a in
-        let y = moved_below width step facts (2 * (l / 2)) (omega arith) in
-        opposite_odd (moved_code width step facts l) (step + l / 2) (omega arith) ∙ sym (ap (moved_code width step facts) o ∙ y ∙ omega arith)
+        turned_odd (moved_code width step facts) l (l / 2) (step + l / 2) (omega arith) (moved_below width step facts l a ∙ omega arith) (moved_below width step facts (2 * (l / 2)) (omega arith) ∙ omega arith)
     by false e (inr a) =
         let h : l % 2 ≡ 1 = grind (arith, nat_tests) in
-        let is : l ≡ 2 * (l / 2) + 1 = omega arith in
-        let o = opposite_odd l (l / 2) is in
-        let x = moved_above width step facts l a in
-        let y = moved_above width step facts (2 * (l / 2)) (omega arith) in
-        opposite_odd (moved_code width step facts l) (facts + (l / 2 - width)) (omega arith) ∙ sym (ap (moved_code width step facts) o ∙ y ∙ omega arith)
+        turned_odd (moved_code width step facts) l (l / 2) (facts + (l / 2 - width)) (omega arith) (moved_above width step facts l a ∙ omega arith) (moved_above width step facts (2 * (l / 2)) (omega arith) ∙ omega arith)
 
 pub number_below : (es : List EffectOf) (j : ℕ) (r : Row) → Among r (rows_from j es) → has_condition r.effect ≡ true → r.number < j + length (filter has_condition es)
 number_below [] j r i c = absurd i

@@ -2,8 +2,7 @@
 
 ghost use Rattle.std.specs.Prelude.{◌≡◌, ℕ, ◌+◌, ◌-◌, ◌%◌, ◌≤◌, ◌<◌, ◌==◌, [], ◌∷◌, ◌++◌, List, true, count_by, if◌then◌else◌, OnOk};
 ghost use Rattle.std.specs.List.{AllByRecursion};
-ghost use Rattle.gt_core.specs.Task.{Effect};
-ghost use Rattle.gt_core.specs.Lawful.{is_conditional};
+ghost use Rattle.gt_core.specs.{Task.Effect, Lawful.is_conditional};
 
 use crate::numbers::{Place, effect_variable};
 use clause_base::literal::Lit;

@@ -3,9 +3,7 @@
 ghost use Rattle.std.specs.Prelude.{◌≡◌, ◌/◌, ◌<◌, [], ◌∷◌, ◌++◌, map, length, OnOk};
 ghost use Rattle.std.specs.List.{AllByRecursion};
 ghost use Rattle.gt_core.specs.Layout.{action_at, fact_at};
-ghost use Rattle.step_clauses.specs.Clause.{Not};
-ghost use Rattle.step_clauses.specs.Coded.{coded};
-ghost use Rattle.step_clauses.specs.Formula.{literal_over, precondition_clauses};
+ghost use Rattle.step_clauses.specs.{Clause.Not, Coded.coded, Formula.literal_over, Formula.precondition_clauses};
 
 use crate::literals::{action_variable, add_clause, literal_at};
 use clause_base::clause_list::ClauseList;

@@ -94,22 +94,10 @@ module _ (V : ℕ → ℕ → Bool) (size : ℕ) (bound : (l m : ℕ) → V l m 
               of_either (R' y ≡ true) a r (λ old. left a y v no_r old n (off_is _ _ _ (sym (et a) ∙ off) n)) (told a y v no_d)
 
       weigh_done : (b r s e : Bool) → (s ≡ true → r ≡ true) → weight (r || e) ((not b && s) && not e) ≤ weight r s
-      weigh_done true true true e h = omega arith
-      weigh_done false true true true h = omega arith
-      weigh_done false true true false h = omega arith
-      weigh_done b false true e h = absurd (let f : false ≡ true = h refl in cc)
-      weigh_done true true false e h = omega arith
-      weigh_done false true false e h = omega arith
-      weigh_done true false false true h = omega arith
-      weigh_done true false false false h = omega arith
-      weigh_done false false false true h = omega arith
-      weigh_done false false false false h = omega arith
+      weigh_done b r s e h = grind arith
 
       light_done : (b r s e : Bool) → b ≡ true → s ≡ true → r ≡ true → weight (r || e) ((not b && s) && not e) < weight r s
-      light_done true true true e p q z = omega arith
-      light_done true true false e p q z = cc
-      light_done true false s e p q z = cc
-      light_done false r s e p q z = cc
+      light_done b r s e p q z = grind arith
 
       less_done : work size R' T' < work size R T
       less_done = total_less (λ m. weight (R m) (T m)) (λ m. weight (R' m) (T' m)) size x
@@ -159,11 +147,7 @@ module _ (V : ℕ → ℕ → Bool) (size : ℕ) (bound : (l m : ℕ) → V l m 
           off_is false false e f = inr refl
 
           new_listed : (b t v r : Bool) → v ≡ true → r ≡ false → ((not b && t) || (v && not r)) ≡ false → ⊥
-          new_listed b t true true p q f = cc
-          new_listed true t true false p q f = cc
-          new_listed false true true false p q f = cc
-          new_listed false false true false p q f = cc
-          new_listed b t false r p q f = cc
+          new_listed b t v r p q z = grind arith
 
           was_by : (a : ℕ) → R a ≡ false → T' a ≡ false → (R a ≡ true) ⊎ (V (opposite x) a ≡ true) → R a ≡ true
           was_by a n off (inl r) = r
@@ -178,25 +162,10 @@ module _ (V : ℕ → ℕ → Bool) (size : ℕ) (bound : (l m : ℕ) → V l m 
           follow a y v no_r r (inr off) = from_old_2 y (g.chained no_r a y r off v)
 
       weigh_new : (b r s e : Bool) → (s ≡ true → r ≡ true) → weight (r || e) ((not b && s) || (e && not r)) ≤ weight r s
-      weigh_new true true true true h = omega arith
-      weigh_new true true true false h = omega arith
-      weigh_new false true true e h = omega arith
-      weigh_new b false true e h = absurd (let f : false ≡ true = h refl in cc)
-      weigh_new true true false true h = omega arith
-      weigh_new true true false false h = omega arith
-      weigh_new false true false true h = omega arith
-      weigh_new false true false false h = omega arith
-      weigh_new true false false true h = omega arith
-      weigh_new true false false false h = omega arith
-      weigh_new false false false true h = omega arith
-      weigh_new false false false false h = omega arith
+      weigh_new b r s e h = grind arith
 
       light_new : (b r s e : Bool) → b ≡ true → s ≡ true → r ≡ true → weight (r || e) ((not b && s) || (e && not r)) < weight r s
-      light_new true true true true p q z = omega arith
-      light_new true true true false p q z = omega arith
-      light_new true true false e p q z = cc
-      light_new true false s e p q z = cc
-      light_new false r s e p q z = cc
+      light_new b r s e p q z = grind arith
 
       less_new : work size R' T' < work size R T
       less_new = total_less (λ m. weight (R m) (T m)) (λ m. weight (R' m) (T' m)) size x

@@ -1,6 +1,8 @@
-use Rattle.std.proofs.Common.{arith, ◌≡◌, ◌==◌, ℕ, ◌<◌, ◌≤◌, List, Bool, true, false, not, ◌&&◌, ◌||◌, refl, ap, sym, ◌∙◌, ◌⊎◌, inl, inr}
+use Rattle.std.proofs.Common.{arith, ◌≡◌, ◌==◌, ℕ, ◌<◌, ◌≤◌, List, [], length, get_or, Bool, true, false, not, ◌&&◌, ◌||◌, refl, ap, sym, ◌∙◌, ◌⊎◌, inl, inr}
 use Rattle.std.specs.Prelude.{nat_lt}
 use Rattle.std.proofs.lemmas.Bool.{le-ltb as ge_test}
+use Rattle.std.proofs.lemmas.List.{get_or_read}
+use Rattle.bit_rows.specs.Bits.{row_has}
 use Rattle.gt_core.specs.Literal.{opposite}
 use Rattle.gt_core.proofs.Basics.{cases, or_left, same_test, test_same}
 use Rattle.two_invariants.specs.Rows.{clause_in}
@@ -14,10 +16,7 @@ pub still_either : (rows new : List (List ℕ)) (lost : ℕ → ℕ → Bool) �
 still_either rows new lost either has a b = has a b ∙ ap (λ (x : Bool). x && not (lost a b || lost b a)) (either a b) ∙ swap (clause_in rows b a) (lost a b) (lost b a) ∙ sym (has b a)
   where
     swap : (r x y : Bool) → (r && not (x || y)) ≡ (r && not (y || x))
-    swap r true true = refl
-    swap r true false = refl
-    swap r false true = refl
-    swap r false false = refl
+    swap r x y = grind arith
 
 -- a literal is taken out of the rows of others, below some number already
 module _ (rows cur : List (List ℕ)) (others : ℕ → Bool) (lit low : ℕ) (either : (a b : ℕ) → clause_in rows a b ≡ clause_in rows b a)
@@ -36,13 +35,15 @@ module _ (rows cur : List (List ℕ)) (others : ℕ → Bool) (lit low : ℕ) (e
       off true e = let same : lit ≡ a = test_same lit a e in ap (λ (z : Bool). z && (others lit && true)) (ge_test lit low (omega arith))
       off false e = ap (λ (z : Bool). nat_lt lit low && z) (none (others lit)) ∙ none (nat_lt lit low)
 
-  -- what is not in the row of the literal need not be taken out
-  pub not_in_row : (a b : ℕ) → low ≤ a → (others a && clause_in cur lit a) ≡ false → ((others a && (lit == b)) && clause_in cur a b) ≡ false
-  not_in_row a b h n = by (lit == b) refl
+  -- what is not in the row of the literal, as it was read, need not be taken out
+  pub not_in_row : (row : List ℕ) → lit < length rows → length cur ≡ length rows → row ≡ get_or cur lit row → (a b : ℕ) → low ≤ a → (others a && row_has row a) ≡ false → ((others a && (lit == b)) && clause_in cur a b) ≡ false
+  not_in_row row lt long at a b h n = by (lit == b) refl
     where
-      same : (o x : Bool) → (o && x) ≡ false → ((o && true) && x) ≡ false
-      same true x e = e
-      same false x e = refl
+      read : clause_in cur lit a ≡ row_has row a
+      read = ap (λ (r : List ℕ). row_has r a) (sym (get_or_read cur lit row (omega (arith, lt, long)) at []))
+
+      same : (o x y : Bool) → x ≡ y → (o && y) ≡ false → ((o && true) && x) ≡ false
+      same o x y e f = grind arith
 
       gone : (o x : Bool) → ((o && false) && x) ≡ false
       gone true x = refl
@@ -52,7 +53,7 @@ module _ (rows cur : List (List ℕ)) (others : ℕ → Bool) (lit low : ℕ) (e
       turned e = untouched_row a b h ∙ either a b ∙ ap (λ (k : ℕ). clause_in rows k a) (sym (test_same lit b e)) ∙ sym (own_row a h)
 
       by : (t : Bool) → (lit == b) ≡ t → ((others a && t) && clause_in cur a b) ≡ false
-      by true e = same (others a) (clause_in cur a b) (ap (λ (z : Bool). others a && z) (turned e) ∙ n)
+      by true e = same (others a) (clause_in cur a b) (row_has row a) (turned e ∙ read) n
       by false e = gone (others a) (clause_in cur a b)
 
 -- ---- whose clauses became fewer

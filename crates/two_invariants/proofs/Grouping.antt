@@ -16,11 +16,7 @@ use Rattle.two_invariants.proofs.Steps.{any_rest, any_push, opposite_test}
 -- ---- a list with one element changed, or one more
 
 regroup : (a b c : Bool) → ((a || b) || c) ≡ ((a || c) || b)
-regroup true b c = refl
-regroup false true true = refl
-regroup false true false = refl
-regroup false false true = refl
-regroup false false false = refl
+regroup a b c = grind arith
 
 nested : (a b c : Bool) → (a || (b || c)) ≡ ((a || b) || c)
 nested true b c = refl
@@ -48,12 +44,7 @@ all_push P (z ∷ xs) x all one = (all.0, all_push P xs x all.1 one)
 -- ---- groups
 
 either_and : (a b t : Bool) → ((a || b) && t) ≡ ((b && t) || (a && t))
-either_and true true true = refl
-either_and true true false = refl
-either_and true false t = refl
-either_and false true true = refl
-either_and false true false = refl
-either_and false false t = refl
+either_and a b t = grind arith
 
 -- a group with one more literal finds what it found, and that literal
 pub group_more : (g h : Group) (lit : ℕ) (c : List ℕ) → g.condition.items ≡ c → h.condition.items ≡ g.condition.items → ((m : ℕ) → row_has h.literals m ≡ ((lit == m) || row_has g.literals m))
@@ -244,8 +235,4 @@ nothing_in p None h e k = h k (omega arith)
 nothing_in p (Some j) h e k = cc
 
 pub none_lost : (b c o p q r : Bool) → p ≡ false → b ≡ (b || (c && (o && ((p && q) && r))))
-none_lost b c o true q r e = cc
-none_lost true c o false q r e = refl
-none_lost false true true false q r e = refl
-none_lost false true false false q r e = refl
-none_lost false false o false q r e = refl
+none_lost b c o p q r h = grind arith

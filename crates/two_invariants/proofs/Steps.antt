@@ -79,11 +79,7 @@ first_true facts s l m lt t =
     ∙ and_true (nat_lt l (2 * facts)) _ (lt-ltb l (2 * facts) lt)
   where
     swap : (o n h k : Bool) → h ≡ true → (o && n) ≡ (n && (o && (h || k)))
-    swap true true true k e = refl
-    swap true false true k e = refl
-    swap false true true k e = refl
-    swap false false true k e = refl
-    swap o n false k e = cc
+    swap o n h k e = grind arith
 
 pub first_false : (facts : ℕ) (s : ℕ → Bool) (l m : ℕ) → l < 2 * facts → holds s l ≡ false → (not (opposite l == m) && (nat_lt m (2 * facts) && holds s m)) ≡ is_first facts s l m
 first_false facts s l m lt f =
@@ -91,11 +87,7 @@ first_false facts s l m lt f =
     ∙ and_true (nat_lt l (2 * facts)) _ (lt-ltb l (2 * facts) lt)
   where
     swap : (o n h k : Bool) → h ≡ false → (o && (n && k)) ≡ (n && (o && (h || k)))
-    swap true true false k e = refl
-    swap true false false k e = refl
-    swap false true false k e = refl
-    swap false false false k e = refl
-    swap o n true k e = cc
+    swap o n h k e = grind arith
 
 -- ---- sets with more literals
 
@@ -112,11 +104,7 @@ pub any_rest : {A : Type 0} (p : A → Bool) (xs : List A) (i : ℕ) (x : A) →
 any_rest p xs i x l at = ap (list_any p) (drop_more xs i x l) ∙ ap (λ (y : _). p y || list_any p (drop (i + 1) xs)) (sym at)
 
 flat_tests : (b o t r : Bool) → ((b && not (t && o)) && not r) ≡ (b && not ((o && t) || r))
-flat_tests false o t r = refl
-flat_tests true true true r = refl
-flat_tests true true false r = refl
-flat_tests true false true r = refl
-flat_tests true false false r = refl
+flat_tests b o t r = grind arith
 
 -- one more effect
 pub take_more : (facts : ℕ) (rows : List (List ℕ)) (set : ℕ → Bool) (effects : List Effect) (i : ℕ) (e : Effect) (m : ℕ) (taken before after : Bool)
@@ -134,16 +122,10 @@ take_more facts rows set effects i e m taken before after l at is a =
 
 -- a literal is taken out of a set, or not
 pub taken_out : (b o t : Bool) → t ≡ true → (not o && b) ≡ (b && not (t && o))
-taken_out true true true e = refl
-taken_out true false true e = refl
-taken_out false true true e = refl
-taken_out false false true e = refl
-taken_out b o false e = cc
+taken_out b o t e = grind arith
 
 pub left_in : (b o t : Bool) → t ≡ false → b ≡ (b && not (t && o))
-left_in true o false e = refl
-left_in false o false e = refl
-left_in b o true e = cc
+left_in b o t e = grind arith
 
 -- what an effect breaks, at the opposite of its literal
 pub breaks_at : (facts : ℕ) (rows clauses : List (List ℕ)) (set : ℕ → Bool) (effects : List Effect) (e : Effect) (l m : ℕ)
@@ -154,12 +136,7 @@ breaks_at facts rows clauses set effects e l m =
     ∙ at_opposite e.literal l (λ k. may_take facts (with_more rows set e.condition) effects k && (clause_in clauses k m && not (is_sure facts rows (with_more rows set e.condition) effects m)))
   where
     swap : (c o t s : Bool) → (c && (o && (t && s))) ≡ (o && (t && (c && s)))
-    swap true true true s = refl
-    swap true true false s = refl
-    swap true false t s = refl
-    swap false true true s = refl
-    swap false true false s = refl
-    swap false false t s = refl
+    swap c o t s = grind arith
 
 -- ---- rows that are made one by one
 
@@ -221,13 +198,7 @@ either_first facts s l m =
     (sym (opposite_test l m) ∙ same_if (l == opposite m) (opposite m == l) (λ t. same_test _ _ (sym (test_same _ _ t))) (λ t. same_test _ _ (sym (test_same _ _ t))))
   where
     swap : (a b o p x y : Bool) → o ≡ p → (a && (b && (not o && (x || y)))) ≡ (b && (a && (not p && (y || x))))
-    swap true true o p true true e = ap (λ (z : Bool). not z && true) e
-    swap true true o p true false e = ap (λ (z : Bool). not z && true) e
-    swap true true o p false true e = ap (λ (z : Bool). not z && true) e
-    swap true true o p false false e = ap (λ (z : Bool). not z && false) e
-    swap true false o p x y e = refl
-    swap false true o p x y e = refl
-    swap false false o p x y e = refl
+    swap a b o p x y e = grind arith
 
 first_inner : (facts : ℕ) (s : ℕ → Bool) (l m : ℕ) → is_first facts s l m ≡ true → (not (opposite l == m) && (holds s l || holds s m)) ≡ true
 first_inner facts s l m t = (and_split _ _ (and_split (nat_lt l (2 * facts)) _ t).1).1
@@ -255,12 +226,7 @@ drops_more losses i loss a b r after l at e =
     ∙ (λ j. r && not (sym (any_rest (λ s. is_lost s a b) losses i loss l at) j || sym (any_rest (λ s. is_lost s b a) losses i loss l at) j))
   where
     regroup : (r p q s t : Bool) → ((r && not (p || q)) && not (s || t)) ≡ (r && not ((p || s) || (q || t)))
-    regroup false p q s t = refl
-    regroup true true q s t = refl
-    regroup true false true true t = refl
-    regroup true false true false t = refl
-    regroup true false false true t = refl
-    regroup true false false false t = refl
+    regroup r p q s t = grind arith
 
 module _ (facts : ℕ) (rows clauses : List (List ℕ)) (set : ℕ → Bool) (effects : List Effect) (e : Effect) where
   pub no_loss : (may : Bool) → may ≡ may_take facts (with_more rows set e.condition) effects (opposite e.literal) → may ≡ false → (l m : ℕ) → false ≡ (clause_in clauses l m && breaks_with facts rows set effects l m e)

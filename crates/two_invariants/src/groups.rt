@@ -4,8 +4,7 @@ ghost use Rattle.std.specs.Prelude.{◌≡◌, ℕ, ◌<◌, ◌==◌, ◌&&◌,
 ghost use Rattle.std.specs.List.{AllByRecursion};
 ghost use Rattle.bit_rows.specs.Bits.{row_has};
 ghost use Rattle.gt_core.specs.Literal.{opposite};
-ghost use Rattle.two_invariants.specs.Tested.{EffectFits};
-ghost use Rattle.two_invariants.specs.Groups.{effect_with, group_with, GroupFits};
+ghost use Rattle.two_invariants.specs.{Tested.EffectFits, Groups.effect_with, Groups.group_with, Groups.GroupFits};
 
 use bit_rows::row::BitRow;
 use gt_core::eff::Eff;

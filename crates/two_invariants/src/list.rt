@@ -2,11 +2,8 @@
 
 ghost use Rattle.std.specs.Prelude.{◌≡◌, ℕ, ◌*◌, ◌<◌, ◌≤◌, ◌==◌, ◌&&◌, ◌||◌, true, nat_lt, not, length, IfOk, OnOk};
 ghost use Rattle.bit_rows.specs.Bits.{row_has};
-ghost use Rattle.gt_core.specs.Literal.{opposite};
-ghost use Rattle.gt_core.specs.Interference.{has_clause};
-ghost use Rattle.gt_core.specs.Clauses.{IsKnownClauses};
-ghost use Rattle.two_invariants.specs.Rows.{clause_in, AreRows};
-ghost use Rattle.two_invariants.specs.First.{is_from};
+ghost use Rattle.gt_core.specs.{Literal.opposite, Interference.has_clause, Clauses.IsKnownClauses};
+ghost use Rattle.two_invariants.specs.{Rows.clause_in, Rows.AreRows, First.is_from};
 
 use bit_rows::row::BitRow;
 use gt_core::memory::Memory;

@@ -1,31 +1,37 @@
-use Rattle.std.proofs.Common.{arith, ◌≡◌, ℕ, ◌≤◌, List, length, take, Bool, true, false, sym, ap, ◌∙◌, subst}
+use Rattle.std.proofs.Common.{arith, ◌≡◌, ℕ, ◌<◌, ◌≤◌, ◌*◌, List, length, take, get_or, Bool, true, false, refl, sym, ap, ◌∙◌, subst}
 use Rattle.std.proofs.lemmas.List.{take-take, length-take-le}
 use Rattle.number_bits.specs.Bits.{words_have}
 use Rattle.watch_chains.specs.declared.chains.Node.{Node}
 use Rattle.watch_lists.specs.declared.visit.Watched.{Watched}
 use Rattle.watch_lists.specs.Pending.{is_pending_on}
-use Rattle.watch_lists.specs.Visit.{slot_clauses, slot_flags}
+use Rattle.watch_lists.specs.Visit.{slot_clauses, slot_flags, IsAtRest}
 use Rattle.watch_lists.specs.Sound.{AreFree, IsFront, IsSound}
+
+-- the same clauses are watched on another trail
+pub sound_moved : (v tv : ℕ) (cl : List (List ℕ)) (kept : List Bool) (trail slots : List ℕ) (wa : List Watched) (heads : List ℕ) (nodes : List Node) (words : List ℕ) (quiet : List Bool) (tv' : ℕ) (trail' : List ℕ) (wa' : List Watched) (heads' : List ℕ) (nodes' : List Node) (words' : List ℕ) (quiet' : List Bool) → IsSound v tv cl kept trail slots wa heads nodes words quiet → tv' ≡ tv → length words' ≡ length words → IsAtRest (slot_clauses cl slots) wa' heads' nodes' (2 * v) (slot_flags kept slots) → ((n : ℕ) → n ≤ length trail' → AreFree (slot_clauses cl slots) wa' (slot_flags kept slots) (take n trail')) → IsFront (is_pending_on cl kept trail') (words_have words') → length quiet' ≡ length quiet → ((n : ℕ) → n < length trail' → get_or quiet' n false ≡ true → (k : ℕ) → is_pending_on cl kept (take n trail') k ≡ false) → IsSound v tv' cl kept trail' slots wa' heads' nodes' words' quiet'
+sound_moved v tv cl kept trail slots wa heads nodes words quiet tv' trail' wa' heads' nodes' words' quiet' i e w rest free front lq quiets = record {
+  small = i.small;
+  same = e ∙ i.same;
+  many = i.many;
+  few = i.few;
+  fit = i.fit;
+  room = omega (arith, i.room, w);
+  slotted = i.slotted;
+  slots_few = i.slots_few;
+  rest = rest;
+  free = free;
+  front = front;
+  quiet_size = lq ∙ i.quiet_size;
+  quiets = quiets;
+}
 
 -- on a shorter trail the watches are right with no work
 pub undo_sound : (v tv : ℕ) (cl : List (List ℕ)) (kept : List Bool) (trail slots : List ℕ) (wa : List Watched) (heads : List ℕ) (nodes : List Node) (words : List ℕ) (quiet : List Bool) (tv' m : ℕ) (trail' words' : List ℕ) → IsSound v tv cl kept trail slots wa heads nodes words quiet → tv' ≡ tv → trail' ≡ take m trail → m ≤ length trail → length words' ≡ length words → IsFront (is_pending_on cl kept trail') (words_have words') → IsSound v tv' cl kept trail' slots wa heads nodes words' quiet
 undo_sound v tv cl kept trail slots wa heads nodes words quiet tv' m trail' words' i e t h w f =
     let l : length trail' ≡ m = ap (λ (xs : List ℕ). length xs) t ∙ length-take-le m trail h in
-    record {
-      small = i.small;
-      same = e ∙ i.same;
-      many = i.many;
-      few = i.few;
-      fit = i.fit;
-      room = omega (arith, i.room, w);
-      slotted = i.slotted;
-      slots_few = i.slots_few;
-      rest = i.rest;
-      free = λ n b. subst (λ (xs : List ℕ). AreFree (slot_clauses cl slots) wa (slot_flags kept slots) xs) (sym (shorter n (omega (arith, b, l)))) (i.free n (omega (arith, b, l, h)));
-      front = f;
-      quiet_size = i.quiet_size;
-      quiets = λ n b q k. ap (λ (xs : List ℕ). is_pending_on cl kept xs k) (shorter n (omega (arith, b, l))) ∙ i.quiets n (omega (arith, b, l, h)) q k;
-    }
+    sound_moved v tv cl kept trail slots wa heads nodes words quiet tv' trail' wa heads nodes words' quiet i e w i.rest
+    (λ n b. subst (λ (xs : List ℕ). AreFree (slot_clauses cl slots) wa (slot_flags kept slots) xs) (sym (shorter n (omega (arith, b, l)))) (i.free n (omega (arith, b, l, h)))) f refl
+    (λ n b q k. ap (λ (xs : List ℕ). is_pending_on cl kept xs k) (shorter n (omega (arith, b, l))) ∙ i.quiets n (omega (arith, b, l, h)) q k)
   where
     shorter : (n : ℕ) → n ≤ m → take n trail' ≡ take n trail
     shorter n b = ap (λ (xs : List ℕ). take n xs) t ∙ take-take n m trail b

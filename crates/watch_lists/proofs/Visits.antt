@@ -5,7 +5,7 @@ use Rattle.watch_chains.specs.declared.chains.Node.{Node}
 use Rattle.watch_chains.specs.Linked.{IsLinked, IsAtEnd, note_of, placed, renamed}
 use Rattle.watch_lists.specs.declared.visit.Watched.{Watched}
 use Rattle.std.proofs.lemmas.List.{get_or_read}
-use Rattle.watch_lists.proofs.Filters.{has_get}
+use Rattle.watch_lists.proofs.Filters.{has_get, settled_true}
 use Rattle.watch_lists.specs.Pending.{is_free}
 use Rattle.cdcl_rules.specs.State.{clause_at}
 use Rattle.watch_lists.specs.Visit.{no_watches, place_in, place_of, literal_at, IsFit, IsPlaced, IsReal, IsListed, IsKept, IsOther, NoWhy, IsAtRest, IsSettled, Stays, MovesToFree, Grows, AllSettled}
@@ -58,6 +58,12 @@ listed_link cl wa wa' heads heads' nodes nodes' spare kept node code note Why Wh
     notes_by k rk false f =
         let ne : k ≢ node = grind (arith, nat_tests) in
         ap (λ (x : ℕ). has_literal (clause_at cl (k / 2)) x) (others k ne) ∙ r.notes k rk
+
+-- a node goes back to the spare chain, where a literal of its clause is true
+pub listed_true : (cl : List (List ℕ)) (wa : List Watched) (heads heads' : List ℕ) (nodes nodes' : List Node) (spare : ℕ) (kept : List Bool) (node note code : ℕ) (on set : ℕ → Bool) (r : IsListed cl wa heads nodes spare (IsOther kept node) (Stays cl wa on set code)) → r.on node ≡ None → IsLinked heads' nodes' (placed node (Some spare) r.on) → length heads' ≡ length heads → length nodes' ≡ length nodes → note_of nodes' node ≡ note → ((k : ℕ) → (k ≡ node → ⊥) → note_of nodes' k ≡ note_of nodes k) → IsReal cl node → literal_at cl wa node ≡ code → has_literal (clause_at cl (node / 2)) note ≡ true → on note ≡ true → IsListed cl wa heads' nodes' spare (IsKept kept) (Stays cl wa on set code)
+listed_true cl wa heads heads' nodes nodes' spare kept node note code on set r off link lh ln own others real watches h t =
+    listed_link cl wa wa heads heads' nodes nodes' spare kept node spare note (Stays cl wa on set code) (Stays cl wa on set code) r off link r.placed lh ln own others real h (λ k q ne. refl) (λ k q ne w. w)
+    (inr (refl, (watches, settled_true on set (clause_at cl (node / 2)) note (node / 2) h t)))
 
 -- a moved watch leaves the other nodes' literals
 pub others_stay : (cl : List (List ℕ)) (wa : List Watched) (w' : Watched) (node : ℕ) → node / 2 < length wa → place_in w' (not (node % 2 == 1)) ≡ place_in (get_or wa (node / 2) no_watches) (not (node % 2 == 1)) → (k : ℕ) → (k ≡ node → ⊥) → literal_at cl (set wa (node / 2) w') k ≡ literal_at cl wa k
@@ -183,16 +189,7 @@ listed_pop cl wa heads heads' nodes nodes' spare kept node Why r link e lh = (
 
 -- which nodes have to be on a chain, and why one may be on the spare chain
 pub relisted : (cl : List (List ℕ)) (wa : List Watched) (heads : List ℕ) (nodes : List Node) (spare : ℕ) (Must Why Must' Why' : ℕ → Type 0) (r : IsListed cl wa heads nodes spare Must Why) → ((k : ℕ) → IsReal cl k → Must' k → (r.on k ≡ Some (literal_at cl wa k)) ⊎ ((r.on k ≡ Some spare) × Why' k)) → IsListed cl wa heads nodes spare Must' Why'
-relisted cl wa heads nodes spare Must Why Must' Why' r there = record {
-  on = r.on;
-  linked = r.linked;
-  placed = r.placed;
-  codes = r.codes;
-  many = r.many;
-  real = r.real;
-  there = there;
-  notes = r.notes;
-}
+relisted cl wa heads nodes spare Must Why Must' Why' r there = record { on = r.on; linked = r.linked; placed = r.placed; codes = r.codes; many = r.many; real = r.real; there = there; notes = r.notes }
 
 -- a node of a clause that is not kept may be on no chain
 pub listed_drop : (cl : List (List ℕ)) (wa : List Watched) (heads : List ℕ) (nodes : List Node) (spare : ℕ) (kept : List Bool) (node : ℕ) (Why : ℕ → Type 0) → IsListed cl wa heads nodes spare (IsOther kept node) Why → get_or kept (node / 2) false ≡ false → IsListed cl wa heads nodes spare (IsKept kept) Why

@@ -65,39 +65,6 @@ fn enter_short(clause: &[Lit]) -> Entered
 }
 
 impl Lists {
-    /// Watches two literals of a new clause, which has that many at least. In the prefixes of the trail below the result it is not
-    /// pending.
-    fn enter_long(&mut self, truth: &Truth, clause: &[Lit], slot: u32) -> Entered
-        requires small { truth.now.variables ≤ 2147483647 }
-        requires below { (p : ℕ) → p < length clause.now → slice_index clause.now p < 2 * truth.now.variables }
-        requires short { length clause.now ≤ 4294967295 }
-        requires long { 2 ≤ length clause.now }
-        requires codes { length self.old.chains.heads.items ≡ 2 * truth.now.variables + 1 }
-        requires room { HasRoom slot self.old.watched.items self.old.chains.nodes.items }
-        requires loose { ArePairLoose self.old.chains.heads.items self.old.chains.nodes.items (2 * slot) }
-        ensures rest { RestsWith clause.now slot (2 * truth.now.variables) self.old.watched.items self.old.chains.heads.items self.old.chains.nodes.items self.new.watched.items self.new.chains.heads.items self.new.chains.nodes.items }
-        ensures free { FreeWith clause.now slot truth.now.trail self.old.watched.items self.new.watched.items }
-        ensures quiet { IsQuietBelow clause.now truth.now.trail result.low }
-        ensures asked { result.low ≤ length truth.now.trail → IsAsked (has_literal truth.now.trail) clause.now result.ask }
-        ensures set { self.new.asking.set.words ≡ self.old.asking.set.words }
-        ensures asks { self.new.asking.asks.items ≡ self.old.asking.asks.items }
-    {
-        let first = latest(truth, clause, NOWHERE);
-        let second = latest(truth, clause, first);
-        self.watched[slot as usize] = Watched {
-            first,
-            second,
-            from: 0,
-        };
-        let a = clause[first as usize];
-        let b = clause[second as usize];
-        self.chains.link_two(2 * slot, a.0, b.0);
-        Entered {
-            low: free_until(truth, b.0) + 1,
-            ask: a.0,
-        }
-    }
-
     /// Watches two literals of a new clause, if it has that many. In the prefixes of the trail below the result it is not pending.
     pub fn enter(&mut self, truth: &Truth, clause: &[Lit], slot: u32) -> Entered
         requires small { truth.now.variables ≤ 2147483647 }
@@ -116,6 +83,19 @@ impl Lists {
         if clause.len() < 2 {
             return enter_short(clause);
         }
-        self.enter_long(truth, clause, slot)
+        let first = latest(truth, clause, NOWHERE);
+        let second = latest(truth, clause, first);
+        self.watched[slot as usize] = Watched {
+            first,
+            second,
+            from: 0,
+        };
+        let a = clause[first as usize];
+        let b = clause[second as usize];
+        self.chains.link_two(2 * slot, a.0, b.0);
+        Entered {
+            low: free_until(truth, b.0) + 1,
+            ask: a.0,
+        }
     }
 }

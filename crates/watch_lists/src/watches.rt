@@ -348,11 +348,18 @@ mod tests {
         Ok(())
     }
 
-    /// Makes a literal true, which has no value.
-    fn assign(rt: &impl Abort, watches: &mut Watches, lit: Lit) {
+    /// Makes a literal true, which has no value. Then this clause asks.
+    fn assign(rt: &impl Abort, watches: &mut Watches, lit: Lit, asks: Option<u32>) {
         assert!(rt; lit.0 < 2 * watches.variables);
         assert!(rt; !watches.truth.is_true(lit.0) && !watches.truth.is_false(lit.0));
         watches.assign(lit);
+        assert_eq!(rt; watches.least_pending(), asks);
+    }
+
+    /// Goes back to so many true literals. Then this clause asks.
+    fn undo(rt: &impl Abort, watches: &mut Watches, length: u32, asks: Option<u32>) {
+        watches.undo_to(length);
+        assert_eq!(rt; watches.least_pending(), asks);
     }
 
     #[test]
@@ -362,14 +369,10 @@ mod tests {
         let mut watches = Watches::new(alloc, &formula)?;
         add(&rt, alloc, &mut watches, &[Lit(0), Lit(2)])?;
         add(&rt, alloc, &mut watches, &[Lit(1), Lit(2)])?;
-        assign(&rt, &mut watches, Lit(3));
-        assert_eq!(rt; watches.least_pending(), Some(0));
-        assign(&rt, &mut watches, Lit(0));
-        assert_eq!(rt; watches.least_pending(), Some(1));
-        watches.undo_to(1);
-        assert_eq!(rt; watches.least_pending(), Some(0));
-        watches.undo_to(0);
-        assert_eq!(rt; watches.least_pending(), None);
+        assign(&rt, &mut watches, Lit(3), Some(0));
+        assign(&rt, &mut watches, Lit(0), Some(1));
+        undo(&rt, &mut watches, 1, Some(0));
+        undo(&rt, &mut watches, 0, None);
         Ok(())
     }
 
@@ -378,15 +381,11 @@ mod tests {
         let alloc = rt.alloc();
         let mut watches = Watches::new(alloc, &Formula::new(alloc, 0, 3))?;
         add(&rt, alloc, &mut watches, &[Lit(0), Lit(2), Lit(4)])?;
-        assign(&rt, &mut watches, Lit(1));
-        assert_eq!(rt; watches.least_pending(), None);
-        assign(&rt, &mut watches, Lit(3));
-        assert_eq!(rt; watches.least_pending(), Some(0));
-        watches.undo_to(1);
-        assign(&rt, &mut watches, Lit(5));
-        assert_eq!(rt; watches.least_pending(), Some(0));
-        assign(&rt, &mut watches, Lit(2));
-        assert_eq!(rt; watches.least_pending(), None);
+        assign(&rt, &mut watches, Lit(1), None);
+        assign(&rt, &mut watches, Lit(3), Some(0));
+        undo(&rt, &mut watches, 1, None);
+        assign(&rt, &mut watches, Lit(5), Some(0));
+        assign(&rt, &mut watches, Lit(2), None);
         assert!(rt; watches.store.count() > 0);
         assert_eq!(rt; watches.clause(0), [Lit(0), Lit(2), Lit(4)].as_slice());
         Ok(())
@@ -412,13 +411,12 @@ mod tests {
         let formula = long_chain(&rt, rt.alloc())?;
         let mut watches = Watches::new(rt.alloc(), &formula)?;
         for j in 0..LONG {
-            assign(&rt, &mut watches, Lit(2 * j));
-            let wanted = if j < LONG - 1 {
+            let asks = if j < LONG - 1 {
                 Some(LONG - 2 - j)
             } else {
                 None
             };
-            assert_eq!(rt; watches.least_pending(), wanted);
+            assign(&rt, &mut watches, Lit(2 * j), asks);
         }
         Ok(())
     }

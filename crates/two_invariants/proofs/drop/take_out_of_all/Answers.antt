@@ -1,5 +1,4 @@
-use Rattle.std.proofs.Common.{◌≡◌, ◌∙◌, ◌==◌, ◌<◌, ◌&&◌, ap, sym, subst, true, ℕ, List, [], length}
-use Rattle.std.proofs.lemmas.List.{get_or_read}
+use Rattle.std.proofs.Common.{◌≡◌, ◌∙◌, ◌==◌, ◌&&◌, subst, true, ℕ}
 use Rattle.bit_rows.specs.Bits.{row_has}
 use Rattle.gt_core.proofs.Basics.{and_split}
 use Rattle.two_invariants.specs.Rows.{clause_in}
@@ -15,24 +14,19 @@ loop-m-preserved c =
     let cur = c.loop-m.rows.items in
     let lit = c.args.lit in
     let others = row_has c.args.others.now in
-    let read = get_or_read cur lit c.index.result.now (subst (λ (n : ℕ). lit < n) (sym i.long) c.requires.lit) c.index.ensures [] in
     record {
       long = c.take_out.ensures.long ∙ i.long;
       room = c.take_out.ensures.room ∙ i.room;
       has = λ a b.
           taken_next c.loop-m.from c.in-Some.m a (others a && (lit == b)) (lit == b) (clause_in first a b) (clause_in cur a b) (clause_in c.take_out.new.rows.items a b) h.0 (i.has a b) (c.take_out.ensures.has a b)
           (λ e. own_part (others a) (lit == b) (subst (λ (k : ℕ). others k ≡ true) e (and_split _ _ h.1).0))
-          (λ low lt. not_in_row first cur others lit c.loop-m.from c.requires.either i.has a b low (ap (λ (r : List ℕ). others a && row_has r a) (sym read) ∙ h.2 a low lt));
+          (λ low lt. not_in_row first cur others lit c.loop-m.from c.requires.either i.has c.index.result.now c.requires.lit i.long c.index.ensures a b low (h.2 a low lt));
       dropped = dropped_twice first cur c.take_out.new.rows.items _ _ _ i.dropped (row_dropped cur c.take_out.new.rows.items _ _ c.in-Some.m (λ b. lit == b) c.take_out.ensures.has c.take_out.ensures.stale);
     }
 
 pub returns-clause-has : goal.returns-clause-has
 returns-clause-has c = λ a b.
     let i = c.loop-m.invariant in
-    let first = c.args.rows.now.items in
-    let cur = c.loop-m.rows.items in
-    let lit = c.args.lit in
     let others = row_has c.args.others.now in
-    let read = get_or_read cur lit c.index.result.now (subst (λ (n : ℕ). lit < n) (sym i.long) c.requires.lit) c.index.ensures [] in
-    taken_all c.loop-m.from a (others a && (lit == b)) (clause_in first a b) (clause_in cur a b) (i.has a b)
-    (λ low. not_in_row first cur others lit c.loop-m.from c.requires.either i.has a b low (ap (λ (r : List ℕ). others a && row_has r a) (sym read) ∙ c.in_default.ensures a low))
+    taken_all c.loop-m.from a (others a && (c.args.lit == b)) (clause_in c.args.rows.now.items a b) (clause_in c.loop-m.rows.items a b) (i.has a b)
+    (λ low. not_in_row c.args.rows.now.items c.loop-m.rows.items others c.args.lit c.loop-m.from c.requires.either i.has c.index.result.now c.requires.lit i.long c.index.ensures a b low (c.in_default.ensures a low))

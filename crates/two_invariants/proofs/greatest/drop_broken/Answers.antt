@@ -33,27 +33,19 @@ drop_all-requires-clause-even g c l lt =
     let same = c.facts-facts.ensures.facts in
     omega arith
 
+abbrev it : Vec Loss Global → List Loss
+it v = v.items
+
 pub drop_all-requires-clause-fit : goal.drop_all-requires-clause-fit
 drop_all-requires-clause-fit g c =
-    let rows = c.args.rows.now.items in
     let facts = c.args.task.now.facts in
-    let known = c.args.known.now in
-    let acts = c.args.task.now.actions in
-    let lists = c.in_ok-lists.lists.items in
-    let it = λ (v : Vec Loss Global). v.items in
-    let each = zip_of it c.facts-facts.result facts c.as_slice.result.now rows c.acts.result.now acts known c.args.todo.now lists c.facts-facts.ensures.facts c.as_slice.ensures.value c.acts.ensures.acts c.in_ok-lists.ensures in
-    let fit = all_fit it facts known rows c.requires.rows (picked acts c.args.todo.now) lists each in
+    let each = zip_of it c.facts-facts.result c.args.task.now.facts c.as_slice.result.now c.args.rows.now.items c.acts.result.now c.args.task.now.actions c.args.known.now c.args.todo.now c.in_ok-lists.lists.items c.facts-facts.ensures.facts c.as_slice.ensures.value c.acts.ensures.acts c.in_ok-lists.ensures in
+    let fit = all_fit it facts c.args.known.now c.args.rows.now.items c.requires.rows (picked c.args.task.now.actions c.args.todo.now) c.in_ok-lists.lists.items each in
     subst (λ (n : ℕ). AllByRecursion (λ (v : Vec Loss Global). AllByRecursion (LossFits n) v.items) c.as_slice-2.result.now) (sym c.requires.rows.long)
     (subst (λ (ls : List (Vec Loss Global)). AllByRecursion (λ (v : Vec Loss Global). AllByRecursion (LossFits (2 * facts)) v.items) ls) (sym c.as_slice-2.ensures.value) fit)
 
 pub returns-clause-round : goal.returns-clause-round
 returns-clause-round g c =
-    let rows = c.args.rows.now.items in
-    let facts = c.args.task.now.facts in
-    let known = c.args.known.now in
-    let acts = c.args.task.now.actions in
-    let lists = c.in_ok-lists.lists.items in
-    let it = λ (v : Vec Loss Global). v.items in
-    let each = zip_of it c.facts-facts.result facts c.as_slice.result.now rows c.acts.result.now acts known c.args.todo.now lists c.facts-facts.ensures.facts c.as_slice.ensures.value c.acts.ensures.acts c.in_ok-lists.ensures in
-    round_is it c.args.task.now rows _ known c.args.todo.now lists c.drop_all.result c.requires.rows c.requires.either c.requires.tested each
+    let each = zip_of it c.facts-facts.result c.args.task.now.facts c.as_slice.result.now c.args.rows.now.items c.acts.result.now c.args.task.now.actions c.args.known.now c.args.todo.now c.in_ok-lists.lists.items c.facts-facts.ensures.facts c.as_slice.ensures.value c.acts.ensures.acts c.in_ok-lists.ensures in
+    round_is it c.args.task.now c.args.rows.now.items _ c.args.known.now c.args.todo.now c.in_ok-lists.lists.items c.drop_all.result c.requires.rows c.requires.either c.requires.tested each
     (rw c.as_slice-2.ensures.value at c.drop_all.ensures.has) (rw c.as_slice-2.ensures.value at c.drop_all.ensures.dropped)

@@ -2,13 +2,13 @@ use Rattle.std.proofs.Common.{arith, ◌≡◌, ◌&&◌, ◌<◌, ℕ, true, Li
 use Rattle.std.specs.Prelude.{nat_lt}
 use Rattle.std.proofs.lemmas.List.{get_or_read, length_push}
 use Rattle.std.proofs.lemmas.Bool.Decides.{nat_tests}
-use Rattle.bit_rows.specs.Bits.{row_has, IsLeastFrom}
+use Rattle.bit_rows.specs.Bits.{row_has}
 use Rattle.gt_core.proofs.Basics.{and_split, and_both, apart}
-use Rattle.action_order.specs.Graph.{row_at, item, leads}
+use Rattle.action_order.specs.Graph.{item, leads}
 use Rattle.action_order.specs.Walk.{is_unseen, KeepsSeen}
 use Rattle.action_order.specs.declared.walk.Mark.TheVariants.{At}
-use Rattle.action_order.proofs.WalkLaw.{common_in, common_none, unseen_is, keeps_marked}
-use Rattle.action_order.proofs.MoveLaw.{last_place, all_reach, fewer_unseen}
+use Rattle.action_order.proofs.WalkLaw.{common_none, unseen_is, keeps_marked}
+use Rattle.action_order.proofs.MoveLaw.{last_place, next_found, next_leads, all_reach, fewer_unseen}
 use Rattle.action_order.proofs.walk.Walk.step.Goals as goal
 
 pub index-requires : goal.index-requires
@@ -28,50 +28,20 @@ bounds-targets-index c =
     let h = w.vertex place lt in
     omega arith
 
-pub open-requires-clause-vertex : goal.open-requires-clause-vertex
-open-requires-clause-vertex c =
+pub open-requires : goal.open-requires
+open-requires c =
     let w = c.requires.walk.walk in
     let place = c.last-place.result in
-    let stack = c.args.self.now.stack.items in
     let last = rw c.as_slice.ensures.value at c.last-place.ensures in
-    let lt = last_place c.args.targets.now _ _ _ _ _ w place last in
-    let v = get_or_read stack place c.index.result.now lt c.index.ensures 0 in
-    let vertex : c.index.result.now < length c.args.targets.now = let h = w.vertex place lt in omega arith in
-    let row = get_or_read c.args.targets.now c.index.result.now c.index-targets-index.result vertex c.index-targets-index.is [] ∙ ap (row_at c.args.targets.now) v in
-    let found = subst (λ (xs : List ℕ). IsLeastFrom (λ k. row_has xs k && row_has c.args.self.now.unseen k) 0 c.least_common.result) row c.least_common.ensures in
-    let f = common_in _ _ _ c.in-Some.w found c.in-Some.is in
-    let p = and_split (leads c.args.targets.now (item stack place) c.in-Some.w) (row_has c.args.self.now.unseen c.in-Some.w) f.1 in
-    c.requires.graph (item stack place) c.in-Some.w p.0
-
-pub open-requires-clause-unseen : goal.open-requires-clause-unseen
-open-requires-clause-unseen c =
-    let w = c.requires.walk.walk in
-    let place = c.last-place.result in
-    let stack = c.args.self.now.stack.items in
-    let last = rw c.as_slice.ensures.value at c.last-place.ensures in
-    let lt = last_place c.args.targets.now _ _ _ _ _ w place last in
-    let v = get_or_read stack place c.index.result.now lt c.index.ensures 0 in
-    let vertex : c.index.result.now < length c.args.targets.now = let h = w.vertex place lt in omega arith in
-    let row = get_or_read c.args.targets.now c.index.result.now c.index-targets-index.result vertex c.index-targets-index.is [] ∙ ap (row_at c.args.targets.now) v in
-    let found = subst (λ (xs : List ℕ). IsLeastFrom (λ k. row_has xs k && row_has c.args.self.now.unseen k) 0 c.least_common.result) row c.least_common.ensures in
-    let f = common_in _ _ _ c.in-Some.w found c.in-Some.is in
-    let p = and_split (leads c.args.targets.now (item stack place) c.in-Some.w) (row_has c.args.self.now.unseen c.in-Some.w) f.1 in
-    unseen_is _ (and_split (nat_lt c.in-Some.w (length c.args.self.now.marks.items)) _ (sym (c.requires.walk.sets.unseen c.in-Some.w) ∙ p.1)).1
-
-pub open-requires-clause-reached : goal.open-requires-clause-reached
-open-requires-clause-reached c =
-    let w = c.requires.walk.walk in
-    let place = c.last-place.result in
-    let stack = c.args.self.now.stack.items in
-    let last = rw c.as_slice.ensures.value at c.last-place.ensures in
-    let lt = last_place c.args.targets.now _ _ _ _ _ w place last in
-    let v = get_or_read stack place c.index.result.now lt c.index.ensures 0 in
-    let vertex : c.index.result.now < length c.args.targets.now = let h = w.vertex place lt in omega arith in
-    let row = get_or_read c.args.targets.now c.index.result.now c.index-targets-index.result vertex c.index-targets-index.is [] ∙ ap (row_at c.args.targets.now) v in
-    let found = subst (λ (xs : List ℕ). IsLeastFrom (λ k. row_has xs k && row_has c.args.self.now.unseen k) 0 c.least_common.result) row c.least_common.ensures in
-    let f = common_in _ _ _ c.in-Some.w found c.in-Some.is in
-    let p = and_split (leads c.args.targets.now (item stack place) c.in-Some.w) (row_has c.args.self.now.unseen c.in-Some.w) f.1 in
-    all_reach c.args.targets.now _ _ _ _ _ w place last c.in-Some.w p.0
+    let next = next_leads c.args.targets.now _ _ _ _ _ w place last c.args.self.now.unseen c.index.result.now c.index-targets-index.result c.least_common.result c.in-Some.w c.index.ensures c.index-targets-index.is c.least_common.ensures c.in-Some.is in
+    record {
+      walk = c.requires.walk;
+      graph = c.requires.graph;
+      few = c.requires.few;
+      vertex = c.requires.graph (item c.args.self.now.stack.items place) c.in-Some.w next.0;
+      unseen = unseen_is _ (and_split (nat_lt c.in-Some.w (length c.args.self.now.marks.items)) _ (sym (c.requires.walk.sets.unseen c.in-Some.w) ∙ next.1)).1;
+      reached = all_reach c.args.targets.now _ _ _ _ _ w place last c.in-Some.w next.0;
+    }
 
 pub retreat-requires-clause-last : goal.retreat-requires-clause-last
 retreat-requires-clause-last c = rw c.as_slice.ensures.value at c.last-place.ensures
@@ -82,11 +52,7 @@ retreat-requires-clause-spent c =
     let place = c.last-place.result in
     let stack = c.args.self.now.stack.items in
     let last = rw c.as_slice.ensures.value at c.last-place.ensures in
-    let lt = last_place c.args.targets.now _ _ _ _ _ w place last in
-    let v = get_or_read stack place c.index.result.now lt c.index.ensures 0 in
-    let vertex : c.index.result.now < length c.args.targets.now = let h = w.vertex place lt in omega arith in
-    let row = get_or_read c.args.targets.now c.index.result.now c.index-targets-index.result vertex c.index-targets-index.is [] ∙ ap (row_at c.args.targets.now) v in
-    let found = subst (λ (xs : List ℕ). IsLeastFrom (λ k. row_has xs k && row_has c.args.self.now.unseen k) 0 c.least_common.result) row c.least_common.ensures in
+    let found = next_found c.args.targets.now _ _ _ _ _ w place last c.args.self.now.unseen c.index.result.now c.index-targets-index.result c.least_common.result c.index.ensures c.index-targets-index.is c.least_common.ensures in
     λ u e un.
     let below = c.requires.graph (item stack place) u e in
     let yes : nat_lt u (length c.args.self.now.marks.items) ≡ true = let l = w.marks_long in grind (arith, nat_tests) in
@@ -101,20 +67,13 @@ returns-in_ok-open-in-Some-clause-keeps c =
 pub returns-in_ok-open-in-Some-clause-less : goal.returns-in_ok-open-in-Some-clause-less
 returns-in_ok-open-in-Some-clause-less c =
     let w = c.requires.walk.walk in
-    let place = c.last-place.result in
-    let stack = c.args.self.now.stack.items in
     let last = rw c.as_slice.ensures.value at c.last-place.ensures in
-    let lt = last_place c.args.targets.now _ _ _ _ _ w place last in
-    let v = get_or_read stack place c.index.result.now lt c.index.ensures 0 in
-    let vertex : c.index.result.now < length c.args.targets.now = let h = w.vertex place lt in omega arith in
-    let row = get_or_read c.args.targets.now c.index.result.now c.index-targets-index.result vertex c.index-targets-index.is [] ∙ ap (row_at c.args.targets.now) v in
-    let found = subst (λ (xs : List ℕ). IsLeastFrom (λ k. row_has xs k && row_has c.args.self.now.unseen k) 0 c.least_common.result) row c.least_common.ensures in
-    let f = common_in _ _ _ c.in-Some.w found c.in-Some.is in
-    let p = and_split (leads c.args.targets.now (item stack place) c.in-Some.w) (row_has c.args.self.now.unseen c.in-Some.w) f.1 in
+    let next = next_leads c.args.targets.now _ _ _ _ _ w c.last-place.result last c.args.self.now.unseen c.index.result.now c.index-targets-index.result c.least_common.result c.in-Some.w c.index.ensures c.index-targets-index.is c.least_common.ensures c.in-Some.is in
     let marks = c.args.self.now.marks.items in
-    let un = unseen_is _ (and_split (nat_lt c.in-Some.w (length marks)) _ (sym (c.requires.walk.sets.unseen c.in-Some.w) ∙ p.1)).1 in
-    let below = c.requires.graph (item stack place) c.in-Some.w p.0 in
-    let fewer = fewer_unseen marks c.in-Some.w (length stack) (let l = w.marks_long in omega arith) un in
-    let pushed = length_push c.args.self.now.work.items (length stack) in
+    let height = length c.args.self.now.stack.items in
+    let un = unseen_is _ (and_split (nat_lt c.in-Some.w (length marks)) _ (sym (c.requires.walk.sets.unseen c.in-Some.w) ∙ next.1)).1 in
+    let below = c.requires.graph (item c.args.self.now.stack.items c.last-place.result) c.in-Some.w next.0 in
+    let fewer = fewer_unseen marks c.in-Some.w height (let l = w.marks_long in omega arith) un in
+    let pushed = length_push c.args.self.now.work.items height in
     let e = c.in_ok-open-in-Some.ensures in
     rw (e.marks, e.work) (omega (arith, fewer, pushed))

@@ -9,27 +9,18 @@ use Rattle.cdcl_core.specs.Search.{SearchView, state_of, watched}
 use Rattle.cdcl_core.proofs.Watching.{off_watched, free_watched, watched_assign}
 use Rattle.cdcl_core.proofs.search.Search.assign.Goals as goal
 
-pub assign-requires-clause-below : goal.assign-requires-clause-below
-assign-requires-clause-below c =
+pub assign-requires : goal.assign-requires
+assign-requires c =
     let t = c.self.inside in
     let m = c.self.invariant.mirrored (ap (λ (v : SearchView). v.spoilt) c.self.view_is ∙ c.requires.sane) (ap (λ (v : SearchView). is_going v.state.standing) c.self.view_is ∙ c.requires.going) in
-    let b = subst (λ (v : SearchView). c.args.entry.literal / 2 < v.formula.variables) (sym c.self.view_is) c.requires.below in
-    let n = ap (λ (v : WatchesView). v.variables) m in
-    omega (arith, b, n)
-
-pub assign-requires-clause-off : goal.assign-requires-clause-off
-assign-requires-clause-off c =
-    let t = c.self.inside in
-    let m = c.self.invariant.mirrored (ap (λ (v : SearchView). v.spoilt) c.self.view_is ∙ c.requires.sane) (ap (λ (v : SearchView). is_going v.state.standing) c.self.view_is ∙ c.requires.going) in
-    let o = subst (λ (v : SearchView). value_of v.state.trail (c.args.entry.literal / 2) ≡ None) (sym c.self.view_is) c.requires.opened in
-    off_watched t.clauses t.trail.entries t.watches c.args.entry.literal m o
-
-pub assign-requires-clause-free : goal.assign-requires-clause-free
-assign-requires-clause-free c =
-    let t = c.self.inside in
-    let m = c.self.invariant.mirrored (ap (λ (v : SearchView). v.spoilt) c.self.view_is ∙ c.requires.sane) (ap (λ (v : SearchView). is_going v.state.standing) c.self.view_is ∙ c.requires.going) in
-    let o = subst (λ (v : SearchView). value_of v.state.trail (c.args.entry.literal / 2) ≡ None) (sym c.self.view_is) c.requires.opened in
-    free_watched t.clauses t.trail.entries t.watches c.args.entry.literal m o
+    let below = subst (λ (v : SearchView). c.args.entry.literal / 2 < v.formula.variables) (sym c.self.view_is) c.requires.below in
+    let variables = ap (λ (v : WatchesView). v.variables) m in
+    let opened = subst (λ (v : SearchView). value_of v.state.trail (c.args.entry.literal / 2) ≡ None) (sym c.self.view_is) c.requires.opened in
+    record {
+      below = omega (arith, below, variables);
+      off = off_watched t.clauses t.trail.entries t.watches c.args.entry.literal m opened;
+      free = free_watched t.clauses t.trail.entries t.watches c.args.entry.literal m opened;
+    }
 
 pub invariant_of-self-2 : goal.invariant_of-self-2
 invariant_of-self-2 c =

@@ -7,8 +7,8 @@ use Rattle.watch_lists.specs.Pending.{is_free}
 use Rattle.watch_lists.specs.Asking.{IsAsked}
 use Rattle.cdcl_rules.specs.State.{clause_at}
 use Rattle.watch_lists.specs.Visit.{no_watches, place_in, slot_clauses, slot_flags, slot_set, Grows, Stays}
-use Rattle.watch_lists.proofs.Filters.{settled_true, settled_one}
-use Rattle.watch_lists.proofs.Visits.{has_below, listed_link, moves_own, others_stay, own_moved, placed_moved, Beside, beside_of, settled_grows, grows_insert, own_insert}
+use Rattle.watch_lists.proofs.Filters.{settled_one}
+use Rattle.watch_lists.proofs.Visits.{has_below, listed_link, listed_true, moves_own, others_stay, own_moved, placed_moved, Beside, beside_of, settled_grows, grows_insert, own_insert}
 use Rattle.watch_lists.proofs.Slotted.{fit_slots, slot_at, slots_long}
 use Rattle.watch_lists.proofs.Asks.{asked_insert}
 use Rattle.watch_lists.proofs.visit.Lists.visit.Goals as goal
@@ -55,31 +55,16 @@ link-requires-in-Some-clause-code c =
 
 pub returns-then-is_true-clause-listed : goal.returns-then-is_true-clause-listed
 returns-then-is_true-clause-listed c =
-    let cl = slot_clauses c.args.store.now c.args.slots.now in
-    let wa = c.args.self.now.watched.items in
-    let on = has_literal c.args.truth.now.trail in
-    let s = slot_set (words_have c.args.self.now.asking.set.words) c.args.slots.now in
     let r = c.requires.listed.0 in
-    let W = Stays cl wa on s c.args.code in
-    let h = ap (λ (x : ℕ). has_literal (clause_at cl (c.args.node / 2)) x) c.note-note.ensures ∙ r.notes c.args.node c.requires.real in
-    let t : on c.note-note.result ≡ true = sym c.is_true.ensures ∙ c.if-is_true.true in
-    listed_link cl wa wa c.args.self.now.chains.heads.items c.link.new.self.heads.items c.args.self.now.chains.nodes.items c.link.new.self.nodes.items c.args.spare (slot_flags c.args.kept.now c.args.slots.now) c.args.node c.args.spare c.note-note.result W W r c.requires.listed.1
-    (c.link.ensures.linked r.on r.linked c.requires.listed.1) r.placed c.link.ensures.codes c.link.ensures.nodes c.link.ensures.own c.link.ensures.others c.requires.real h (λ k q ne. refl) (λ k q ne w. w)
-    (inr (refl, (c.requires.own, settled_true on s (clause_at cl (c.args.node / 2)) c.note-note.result (c.args.node / 2) h t)))
+    listed_true (slot_clauses c.args.store.now c.args.slots.now) c.args.self.now.watched.items c.args.self.now.chains.heads.items c.link.new.self.heads.items c.args.self.now.chains.nodes.items c.link.new.self.nodes.items c.args.spare (slot_flags c.args.kept.now c.args.slots.now) c.args.node c.note-note.result c.args.code (has_literal c.args.truth.now.trail) (slot_set (words_have c.args.self.now.asking.set.words) c.args.slots.now) r c.requires.listed.1
+    (c.link.ensures.linked r.on r.linked c.requires.listed.1) c.link.ensures.codes c.link.ensures.nodes c.link.ensures.own c.link.ensures.others c.requires.real c.requires.own (ap (λ (x : ℕ). has_literal (clause_at (slot_clauses c.args.store.now c.args.slots.now) (c.args.node / 2)) x) c.note-note.ensures ∙ r.notes c.args.node c.requires.real) (sym c.is_true.ensures ∙ c.if-is_true.true)
 
 pub returns-then-is_true-2-clause-listed : goal.returns-then-is_true-2-clause-listed
 returns-then-is_true-2-clause-listed c =
-    let cl = slot_clauses c.args.store.now c.args.slots.now in
-    let wa = c.args.self.now.watched.items in
-    let on = has_literal c.args.truth.now.trail in
-    let s = slot_set (words_have c.args.self.now.asking.set.words) c.args.slots.now in
     let r = c.requires.listed.0 in
-    let W = Stays cl wa on s c.args.code in
     let b = beside (goal.at.returns-then-is_true-2-clause-listed c).After-lit in
-    let t : on c.lit.inside.0 ≡ true = sym c.is_true-2.ensures ∙ c.if-is_true-2.true in
-    listed_link cl wa wa c.args.self.now.chains.heads.items c.link-then-is_true-2.new.self.heads.items c.args.self.now.chains.nodes.items c.link-then-is_true-2.new.self.nodes.items c.args.spare (slot_flags c.args.kept.now c.args.slots.now) c.args.node c.args.spare c.lit.inside.0 W W r c.requires.listed.1
-    (c.link-then-is_true-2.ensures.linked r.on r.linked c.requires.listed.1) r.placed c.link-then-is_true-2.ensures.codes c.link-then-is_true-2.ensures.nodes c.link-then-is_true-2.ensures.own c.link-then-is_true-2.ensures.others c.requires.real b.has (λ k q ne. refl) (λ k q ne w. w)
-    (inr (refl, (c.requires.own, settled_true on s (clause_at cl (c.args.node / 2)) c.lit.inside.0 (c.args.node / 2) b.has t)))
+    listed_true (slot_clauses c.args.store.now c.args.slots.now) c.args.self.now.watched.items c.args.self.now.chains.heads.items c.link-then-is_true-2.new.self.heads.items c.args.self.now.chains.nodes.items c.link-then-is_true-2.new.self.nodes.items c.args.spare (slot_flags c.args.kept.now c.args.slots.now) c.args.node c.lit.inside.0 c.args.code (has_literal c.args.truth.now.trail) (slot_set (words_have c.args.self.now.asking.set.words) c.args.slots.now) r c.requires.listed.1
+    (c.link-then-is_true-2.ensures.linked r.on r.linked c.requires.listed.1) c.link-then-is_true-2.ensures.codes c.link-then-is_true-2.ensures.nodes c.link-then-is_true-2.ensures.own c.link-then-is_true-2.ensures.others c.requires.real c.requires.own b.has (sym c.is_true-2.ensures ∙ c.if-is_true-2.true)
 
 pub returns-in-None-clause-listed : goal.returns-in-None-clause-listed
 returns-in-None-clause-listed c =

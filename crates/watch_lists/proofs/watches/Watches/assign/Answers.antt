@@ -13,6 +13,7 @@ use Rattle.watch_lists.proofs.Assigns.{opposite_twice, assign_complete, assign_f
 use Rattle.watch_lists.proofs.Asks.{all_longer, consistent_push, last_true}
 use Rattle.watch_lists.proofs.Slotted.{slots_long, flags_long, slots_complete}
 use Rattle.watch_lists.proofs.Founds.{found_complete}
+use Rattle.watch_lists.proofs.Undoes.{sound_moved}
 use Rattle.watch_lists.proofs.watches.Watches.assign.Goals as goal
 use Rattle.watch_lists.proofs.watches.Watches.assign.Goals.{After-push, After-fallen, After-visit_all}
 
@@ -97,26 +98,16 @@ invariant_of-self c =
     let w = c.self.inside in
     let i = c.self.invariant.0 in
     let tr = trail_is (goal.at.invariant_of-self c).After-push in
-    let tv : c.push.new.self.variables ≡ w.truth.variables = ap (λ (v : TruthView). v.variables) c.push.ensures in
     let op = fallen_is (goal.at.invariant_of-self c).After-fallen in
     let e = c.visit_all.ensures in
     let visited = (goal.at.invariant_of-self c).After-visit_all in
     let free = assign_free (slot_clauses w.store w.slots.items) w.lists.watched.items c.visit_all.new.self.watched.items (slot_flags w.kept.items w.slots.items) w.truth.trail c.lit.inside.0 (slot_set (words_have c.visit_all.new.self.asking.set.words) w.slots.items) i.free (moves visited) (settled visited) in (
-      record {
-        small = i.small;
-        same = tv ∙ i.same;
-        many = i.many;
-        few = i.few;
-        fit = i.fit;
-        room = omega (arith, i.room, c.mark_all.ensures.room, e.room, c.clean-least.ensures.room);
-        slotted = i.slotted;
-        slots_few = i.slots_few;
-        rest = rest visited;
-        free = subst (λ (ys : List ℕ). (n : ℕ) → n ≤ length ys → AreFree (slot_clauses w.store w.slots.items) c.visit_all.new.self.watched.items (slot_flags w.kept.items w.slots.items) (take n ys)) (sym tr) free;
-        front = subst (λ (ks : List Bool). IsFront (is_pending_on w.store ks c.push.new.self.trail) (words_have c.clean-least.new.asking.set.words)) c.as_slice-3.ensures.value c.clean-least.ensures.front;
-        quiet_size = length-set w.quiet.items c.length-length.result c.is_none.result ∙ i.quiet_size;
-        quiets = subst (λ (ys : List ℕ). (n : ℕ) → n < length ys → get_or (set w.quiet.items c.length-length.result c.is_none.result) n false ≡ true → (k : ℕ) → is_pending_on w.store w.kept.items (take n ys) k ≡ false) (sym tr) (assign_quiets w.store w.kept.items w.truth.trail c.lit.inside.0 w.quiet.items c.length-length.result w.least c.is_none.result (words_have w.lists.asking.set.words) c.length-length.ensures.is (omega (arith, c.length-length.ensures.short, i.same, i.quiet_size)) c.self.invariant.3 c.is_none.ensures i.front i.quiets);
-      },
+      sound_moved w.variables w.truth.variables w.store w.kept.items w.truth.trail w.slots.items w.lists.watched.items w.lists.chains.heads.items w.lists.chains.nodes.items w.lists.asking.set.words w.quiet.items c.push.new.self.variables c.push.new.self.trail c.visit_all.new.self.watched.items c.visit_all.new.self.chains.heads.items c.visit_all.new.self.chains.nodes.items c.clean-least.new.asking.set.words (set w.quiet.items c.length-length.result c.is_none.result) i
+          (ap (λ (v : TruthView). v.variables) c.push.ensures) (omega (arith, c.mark_all.ensures.room, e.room, c.clean-least.ensures.room)) (rest visited)
+          (subst (λ (ys : List ℕ). (n : ℕ) → n ≤ length ys → AreFree (slot_clauses w.store w.slots.items) c.visit_all.new.self.watched.items (slot_flags w.kept.items w.slots.items) (take n ys)) (sym tr) free)
+          (subst (λ (ks : List Bool). IsFront (is_pending_on w.store ks c.push.new.self.trail) (words_have c.clean-least.new.asking.set.words)) c.as_slice-3.ensures.value c.clean-least.ensures.front)
+          (length-set w.quiet.items c.length-length.result c.is_none.result)
+          (subst (λ (ys : List ℕ). (n : ℕ) → n < length ys → get_or (set w.quiet.items c.length-length.result c.is_none.result) n false ≡ true → (k : ℕ) → is_pending_on w.store w.kept.items (take n ys) k ≡ false) (sym tr) (assign_quiets w.store w.kept.items w.truth.trail c.lit.inside.0 w.quiet.items c.length-length.result w.least c.is_none.result (words_have w.lists.asking.set.words) c.length-length.ensures.is (omega (arith, c.length-length.ensures.short, i.same, i.quiet_size)) c.self.invariant.3 c.is_none.ensures i.front i.quiets)),
       c.self.invariant.1,
       record {
         asked = c.clean-least.ensures.asked;

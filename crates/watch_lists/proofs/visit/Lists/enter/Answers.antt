@@ -4,8 +4,8 @@ use Rattle.clause_base.specs.Clause.{has_literal}
 use Rattle.watch_lists.specs.Pending.{is_free}
 use Rattle.watch_lists.proofs.Asks.{false_past, false_after}
 use Rattle.watch_lists.proofs.Enters.{IsEntered, rests_long, free_long, quiet_long}
-use Rattle.watch_lists.proofs.visit.Lists.enter_long.Goals as goal
-use Rattle.watch_lists.proofs.visit.Lists.enter_long.Goals.{After-free_until}
+use Rattle.watch_lists.proofs.visit.Lists.enter.Goals as goal
+use Rattle.watch_lists.proofs.visit.Lists.enter.Goals.{After-free_until}
 
 pub overflow_add-result : goal.overflow_add-result
 overflow_add-result c = let s = c.free_until.ensures.short in omega (arith, s, c.requires.small)
@@ -13,7 +13,7 @@ overflow_add-result c = let s = c.free_until.ensures.short in omega (arith, s, c
 entered : (c : After-free_until) → IsEntered c.args.clause.now c.args.slot c.args.truth.now.trail c.args.self.now.watched.items (record { first = c.latest-first.result; second = c.latest-second.result; from = 0 }) c.args.self.now.chains.heads.items c.args.self.now.chains.nodes.items c.link_two.new.self.heads.items c.link_two.new.self.nodes.items c.a.inside.0 c.b.inside.0
 entered c = record {
   below = c.requires.room.in_watches;
-  long = c.requires.long;
+  long = omega arith;
   first_in = c.latest-first.ensures.inside;
   second_in = c.latest-second.ensures.inside;
   apart = c.latest-second.ensures.other;
