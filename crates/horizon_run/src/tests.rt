@@ -12,10 +12,12 @@ use gt_core::eff::{Eff, Effs};
 use gt_core::lits::{Bits, Lits};
 use gt_core::pairs::Pairs;
 use gt_core::task::Task;
-use solver_pool::Resume;
+use solver_pool::{Job, Jobs, OpenGate, Resume, round};
 use std::alloc::Global;
 use std::process::Abort;
+use std::sync::Wait;
 use std::test::Fail;
+use std::thread::Threads;
 use step_encoding::exists::ExistsForm;
 use step_encoding::form::StepForm;
 
@@ -111,5 +113,50 @@ const ONE_STEP: &str =
 fn no_step_is_refuted_and_one_step_is_found(rt: HostRuntime) -> Result<(), Fail> {
     assert_eq!(rt; story(&rt, rt.alloc(), 0, &[0, 1, 5])?.as_str(), NO_STEP);
     assert_eq!(rt; story(&rt, rt.alloc(), 1, &[5])?.as_str(), ONE_STEP);
+    Ok(())
+}
+
+/// A round of two workers, in turns of one conflict.
+fn rounded<H: Threads + Wait + Sync>(
+    rt: &H,
+    alloc: Global,
+    jobs: Jobs<HorizonRun>,
+) -> Result<Jobs<HorizonRun>, Fail> {
+    if jobs.len() > 16 || !jobs.are_rising() || !jobs.are_sound() {
+        return Err("no jobs of a round")?;
+    }
+    Ok(round(rt, alloc, jobs, 2, 1, &OpenGate)?)
+}
+
+/// The runs of horizons 0 and 1, each with a target of 50 conflicts.
+fn lamp_jobs(alloc: Global) -> Result<Jobs<HorizonRun>, Fail> {
+    let mut jobs = Vec::new(alloc);
+    for n in 0..2u8 {
+        let run = lamp_run(alloc, n)?;
+        if jobs.push(Job { run, target: 50 }).is_err() {
+            return Err("no memory")?;
+        }
+    }
+    Ok(Jobs::new(jobs))
+}
+
+/// How each run stands, after its conflicts.
+fn standings_text(alloc: Global, jobs: &Jobs<HorizonRun>) -> Result<String, Fail> {
+    let mut text = String::new(alloc);
+    for job in jobs.as_slice() {
+        let conflicts = job.run.conflicts();
+        let standing = standing_text(alloc, &job.run)?;
+        text.push_str(format!(in alloc; "{conflicts}: {}, ", standing.as_str())?.as_str())?;
+    }
+    Ok(text)
+}
+
+#[test]
+fn a_round_brings_runs_to_their_targets(rt: HostRuntime) -> Result<(), Fail> {
+    let back = rounded(&rt, rt.alloc(), lamp_jobs(rt.alloc())?)?;
+    assert_eq!(rt;
+        standings_text(rt.alloc(), &back)?.as_str(),
+        "1: refuted by 1 of 0, 0: found [true, false, true], "
+    );
     Ok(())
 }
