@@ -116,28 +116,26 @@ fn no_step_is_refuted_and_one_step_is_found(rt: HostRuntime) -> Result<(), Fail>
     Ok(())
 }
 
-/// A round of two workers, in turns of one conflict.
-fn rounded<H: Threads + Wait + Sync>(
+/// A run with a target of 50 units.
+fn job_of<R: Resume>(run: R) -> Result<Job<R>, Fail> {
+    if run.granted() > 50 {
+        return Err("granted more than its target")?;
+    }
+    Ok(Job { run, target: 50 })
+}
+
+/// A round of two workers, in turns of one unit, on two runs.
+fn rounded<R: Resume + Send, H: Threads + Wait + Sync>(
     rt: &H,
     alloc: Global,
-    jobs: Jobs<HorizonRun>,
-) -> Result<Jobs<HorizonRun>, Fail> {
+    first: R,
+    second: R,
+) -> Result<Jobs<R>, Fail> {
+    let jobs = Jobs::new(vec![in alloc; job_of(first)?, job_of(second)?]?);
     if jobs.len() > 16 || !jobs.are_rising() || !jobs.are_sound() {
         return Err("no jobs of a round")?;
     }
     Ok(round(rt, alloc, jobs, 2, 1, &OpenGate)?)
-}
-
-/// The runs of horizons 0 and 1, each with a target of 50 conflicts.
-fn lamp_jobs(alloc: Global) -> Result<Jobs<HorizonRun>, Fail> {
-    let mut jobs = Vec::new(alloc);
-    for n in 0..2u8 {
-        let run = lamp_run(alloc, n)?;
-        if jobs.push(Job { run, target: 50 }).is_err() {
-            return Err("no memory")?;
-        }
-    }
-    Ok(Jobs::new(jobs))
 }
 
 /// How each run stands, after its conflicts.
@@ -153,9 +151,10 @@ fn standings_text(alloc: Global, jobs: &Jobs<HorizonRun>) -> Result<String, Fail
 
 #[test]
 fn a_round_brings_runs_to_their_targets(rt: HostRuntime) -> Result<(), Fail> {
-    let back = rounded(&rt, rt.alloc(), lamp_jobs(rt.alloc())?)?;
+    let alloc = rt.alloc();
+    let back = rounded(&rt, alloc, lamp_run(alloc, 0)?, lamp_run(alloc, 1)?)?;
     assert_eq!(rt;
-        standings_text(rt.alloc(), &back)?.as_str(),
+        standings_text(alloc, &back)?.as_str(),
         "1: refuted by 1 of 0, 0: found [true, false, true], "
     );
     Ok(())
