@@ -11,6 +11,4 @@ mod readers;
 mod ready;
 mod sort;
 mod sure;
-#[cfg(test)]
-mod tests;
 mod walk;

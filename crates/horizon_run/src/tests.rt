@@ -12,10 +12,12 @@ use gt_core::eff::{Eff, Effs};
 use gt_core::lits::{Bits, Lits};
 use gt_core::pairs::Pairs;
 use gt_core::task::Task;
-use solver_pool::Resume;
+use solver_pool::{Job, Jobs, OpenGate, Resume, round};
 use std::alloc::Global;
 use std::process::Abort;
+use std::sync::Wait;
 use std::test::Fail;
+use std::thread::Threads;
 use step_encoding::exists::ExistsForm;
 use step_encoding::form::StepForm;
 
@@ -111,5 +113,49 @@ const ONE_STEP: &str =
 fn no_step_is_refuted_and_one_step_is_found(rt: HostRuntime) -> Result<(), Fail> {
     assert_eq!(rt; story(&rt, rt.alloc(), 0, &[0, 1, 5])?.as_str(), NO_STEP);
     assert_eq!(rt; story(&rt, rt.alloc(), 1, &[5])?.as_str(), ONE_STEP);
+    Ok(())
+}
+
+/// A run with a target of 50 units.
+fn job_of<R: Resume>(run: R) -> Result<Job<R>, Fail> {
+    if run.granted() > 50 {
+        return Err("granted more than its target")?;
+    }
+    Ok(Job { run, target: 50 })
+}
+
+/// A round of two workers, in turns of one unit, on two runs.
+fn rounded<R: Resume + Send, H: Threads + Wait + Sync>(
+    rt: &H,
+    alloc: Global,
+    first: R,
+    second: R,
+) -> Result<Jobs<R>, Fail> {
+    let jobs = Jobs::new(vec![in alloc; job_of(first)?, job_of(second)?]?);
+    if jobs.len() > 16 || !jobs.are_rising() || !jobs.are_sound() {
+        return Err("no jobs of a round")?;
+    }
+    Ok(round(rt, alloc, jobs, 2, 1, &OpenGate)?)
+}
+
+/// How each run stands, after its conflicts.
+fn standings_text(alloc: Global, jobs: &Jobs<HorizonRun>) -> Result<String, Fail> {
+    let mut text = String::new(alloc);
+    for job in jobs.as_slice() {
+        let conflicts = job.run.conflicts();
+        let standing = standing_text(alloc, &job.run)?;
+        text.push_str(format!(in alloc; "{conflicts}: {}, ", standing.as_str())?.as_str())?;
+    }
+    Ok(text)
+}
+
+#[test]
+fn a_round_brings_runs_to_their_targets(rt: HostRuntime) -> Result<(), Fail> {
+    let alloc = rt.alloc();
+    let back = rounded(&rt, alloc, lamp_run(alloc, 0)?, lamp_run(alloc, 1)?)?;
+    assert_eq!(rt;
+        standings_text(alloc, &back)?.as_str(),
+        "1: refuted by 1 of 0, 0: found [true, false, true], "
+    );
     Ok(())
 }

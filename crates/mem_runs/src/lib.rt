@@ -14,15 +14,25 @@ use std::thread::Threads;
 /// A file's name and its bytes.
 pub type Named<'a> = (&'a str, &'a [u8]);
 
-/// Runs these words, which stand in one text with a blank between each two, on a shelf of these files, and writes into the
-/// sink; the workers of a race tell the gate of each turn. The shelf's calls with the numbers of `failing`, counted from 1, fail. `Memory` where there is no room for the
-/// words or the files; what the run itself answers for want of memory is status 8.
+/// A shelf of these files, whose calls with the numbers of `failing`, counted from 1, fail.
+pub fn shelf_of(alloc: Global, files: &[Named], failing: &[u32]) -> Result<MemShelf, AllocError> {
+    let failing = Numbers::of(Vec::from_slice(alloc, failing)?);
+    Ok(MemShelf::new(alloc, shelved(alloc, files)?, failing))
+}
+
+/// An empty sink that fails at no call and has room for 2,000 bytes, of which it takes at most 1,000 a call.
+pub fn ample_sink(alloc: Global) -> Result<MemSink, Memory> {
+    MemSink::new(alloc, 1000, Numbers::of(Vec::new(alloc)), 2000)
+}
+
+/// Runs these words, which stand in one text with a blank between each two, on a shelf, and writes into the sink; the
+/// workers of a race tell the gate of each turn. `Memory` where there is no room for the words; what the run itself
+/// answers for want of memory is status 8.
 pub fn run_into<H: Threads + Wait + Sync, G: Gate>(
     rt: &H,
     alloc: Global,
     words: &str,
-    files: &[Named],
-    failing: &[u32],
+    shelf: &mut MemShelf,
     sink: &mut MemSink,
     gate: &G,
 ) -> Result<Status, Memory>
@@ -31,12 +41,11 @@ pub fn run_into<H: Threads + Wait + Sync, G: Gate>(
     ensures err { OnErr result (sink.new ≡ sink.old) }
 {
     let words = split(alloc, words)?;
-    let failing = Numbers::of(Vec::from_slice(alloc, failing)?);
-    let mut shelf = MemShelf::new(alloc, shelved(alloc, files)?, failing);
-    Ok(run(rt, alloc, &words, &mut shelf, sink, gate))
+    Ok(run(rt, alloc, &words, shelf, sink, gate))
 }
 
-/// Runs as `run_into` does, into a sink that fails at no call and has room for 2,000 bytes, and answers what it took.
+/// Runs these words on a shelf of these files, whose calls with the numbers of `failing` fail, and answers the status
+/// and the text.
 pub fn run_once<H: Threads + Wait + Sync>(
     rt: &H,
     alloc: Global,
@@ -44,14 +53,18 @@ pub fn run_once<H: Threads + Wait + Sync>(
     files: &[Named],
     failing: &[u32],
 ) -> Result<(Status, Vec<u8>), Memory> {
-    let mut sink = MemSink::new(alloc, 1000, Numbers::of(Vec::new(alloc)), 2000)?;
-    let status = run_into(rt, alloc, words, files, failing, &mut sink, &OpenGate)?;
+    let mut shelf = shelf_of(alloc, files, failing)?;
+    let mut sink = ample_sink(alloc)?;
+    let status = run_into(rt, alloc, words, &mut shelf, &mut sink, &OpenGate)?;
     Ok((status, Vec::from_slice(alloc, sink.taken())?))
 }
 
-/// The words of a text.
-fn split(alloc: Global, text: &str) -> Result<Vec<String>, AllocError> {
+/// The words of a text, with a blank between each two. An empty text has none.
+pub fn split(alloc: Global, text: &str) -> Result<Vec<String>, AllocError> {
     let mut words = Vec::new(alloc);
+    if text.is_empty() {
+        return Ok(words);
+    }
     for word in text.split(' ') {
         words.push(word.to_owned(alloc)?)?;
     }

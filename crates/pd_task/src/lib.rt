@@ -22,8 +22,6 @@ mod predicates;
 mod read;
 mod tables;
 mod terms;
-#[cfg(test)]
-mod tests;
 mod vocabulary;
 
 pub use error::PddlError;

@@ -12,8 +12,6 @@ ghost use Rattle.plan_gen.specs.Task.{domain_of, problem_of};
 
 mod corridor;
 mod gripper;
-#[cfg(test)]
-mod tests;
 mod text;
 
 use std::alloc::Global;

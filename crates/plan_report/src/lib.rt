@@ -9,8 +9,6 @@ mod horizons;
 pub mod laws;
 mod linear;
 mod report;
-#[cfg(test)]
-mod tests;
 mod text;
 
 pub use linear::linearise;

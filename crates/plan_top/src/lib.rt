@@ -12,8 +12,6 @@ mod raced;
 mod stop;
 mod take;
 mod task;
-#[cfg(test)]
-mod tests;
 mod top;
 
 pub use ending::{Ending, Kind, Limit, Outcome};

@@ -16,8 +16,6 @@ mod command;
 pub mod laws;
 mod read;
 mod request;
-#[cfg(test)]
-mod tests;
 mod values;
 
 pub use clap_words::Memory;

@@ -19,8 +19,6 @@ mod line;
 mod racing;
 mod run;
 mod starting;
-#[cfg(test)]
-mod tests;
 mod work;
 
 pub use run::{RaceError, race};

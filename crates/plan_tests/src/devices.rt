@@ -1,6 +1,6 @@
 // Shelves and sinks that fail.
 use crate::tasks::{DARK, LAMP};
-use mem_runs::{Named, run_into, run_once};
+use mem_runs::{Named, ample_sink, run_into, run_once, shelf_of};
 use pl_io::{MemSink, Numbers};
 use solver_pool::OpenGate;
 use std::alloc::Global;
@@ -33,6 +33,26 @@ fn shelves_that_fail_at_a_call(rt: HostRuntime) -> Result<(), Fail> {
     Ok(())
 }
 
+// Each file that the words name is taken once, and no other: a call more would fail, and the shelf note it.
+#[test]
+fn files_are_taken_once(rt: HostRuntime) -> Result<(), Fail> {
+    let rows = [
+        ("plan d p", 3),
+        ("check d p l", 4),
+        ("ground d p", 3),
+        ("order d p", 3),
+        ("gen corridor 1", 1),
+    ];
+    for (words, call) in rows {
+        let mut shelf = shelf_of(rt.alloc(), &FILES, &[call])?;
+        let mut sink = ample_sink(rt.alloc())?;
+        let status = run_into(&rt, rt.alloc(), words, &mut shelf, &mut sink, &OpenGate)?;
+        assert_eq!(rt; status.0, 0, "{words}");
+        assert!(rt; shelf.failed().is_empty(), "{words}");
+    }
+    Ok(())
+}
+
 // What `plan` prints of the task.
 const PLANNED: &str = "; horizon 0 refuted conflicts 1
 ; horizon 1 plan conflicts 0
@@ -55,7 +75,8 @@ fn fails_at<H: Threads + Wait + Sync + Abort>(
 ) -> Result<(), Fail> {
     assert!(rt; 0 < most);
     let mut sink = MemSink::new(alloc, most, Numbers::of(vec![in alloc; call]?), 1000)?;
-    let status = run_into(rt, alloc, words, &FILES, &[], &mut sink, &OpenGate)?;
+    let mut shelf = shelf_of(alloc, &FILES, &[])?;
+    let status = run_into(rt, alloc, words, &mut shelf, &mut sink, &OpenGate)?;
     assert_eq!(rt; status.0, 6, "{words}, call {call}");
     assert_eq!(rt; sink.taken(), front, "{words}, call {call}");
     assert_eq!(rt; sink.faults(), 1, "{words}, call {call}");

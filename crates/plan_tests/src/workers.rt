@@ -1,26 +1,14 @@
+// Runs with several workers.
 use crate::gate::PairGate;
-use crate::rows::ROWS;
 use crate::tasks::{BLOCKS, DARK, LAMP, TOWER};
-use mem_runs::{run_into, run_once};
-use pl_io::{MemSink, Numbers};
+use mem_runs::{ample_sink, run_into, run_once, shelf_of};
 use std::test::Fail;
-
-#[test]
-fn whole_reports(rt: HostRuntime) -> Result<(), Fail> {
-    for row in ROWS.iter() {
-        let files = [("d", row.domain.as_bytes()), ("p", row.problem.as_bytes())];
-        let (status, text) = run_once(&rt, rt.alloc(), row.words, &files, &[])?;
-        assert_eq!(rt; status.0, row.status, "{}", row.shows);
-        assert_eq!(rt; text.as_slice(), row.text.as_bytes(), "{}", row.shows);
-    }
-    Ok(())
-}
 
 // The bytes are the same for every number of workers and every slice, and the calls are a plan.
 #[test]
 fn one_report_for_all_workers(rt: HostRuntime) -> Result<(), Fail> {
     let alloc = rt.alloc();
-    let files = [("d", BLOCKS.as_bytes()), ("p", TOWER.as_bytes())];
+    let files = [("d", BLOCKS), ("p", TOWER)];
     let (status, plan) = run_once(&rt, alloc, "plan d p", &files, &[])?;
     assert_eq!(rt; status.0, 0);
     let calls = str::from_utf8(&plan)?
@@ -44,11 +32,7 @@ fn one_report_for_all_workers(rt: HostRuntime) -> Result<(), Fail> {
         assert_eq!(rt; status.0, 0, "{words}");
         assert_eq!(rt; text.as_slice(), plan.as_slice(), "{words}");
     }
-    let files = [
-        ("d", BLOCKS.as_bytes()),
-        ("p", TOWER.as_bytes()),
-        ("l", plan.as_slice()),
-    ];
+    let files = [("d", BLOCKS), ("p", TOWER), ("l", plan.as_slice())];
     let (status, text) = run_once(&rt, alloc, "check d p l", &files, &[])?;
     assert_eq!(rt; status.0, 0);
     assert_eq!(rt; text.as_slice(), b"; reaches the goal\n".as_slice());
@@ -59,12 +43,13 @@ fn one_report_for_all_workers(rt: HostRuntime) -> Result<(), Fail> {
 #[test]
 fn two_horizons_are_at_work_at_once(rt: HostRuntime) -> Result<(), Fail> {
     let alloc = rt.alloc();
-    let files = [("d", LAMP.as_bytes()), ("p", DARK.as_bytes())];
+    let files = [("d", LAMP), ("p", DARK)];
     let (status, text) = run_once(&rt, alloc, "plan d p", &files, &[])?;
     assert_eq!(rt; status.0, 0);
     let gate = PairGate::new();
-    let mut sink = MemSink::new(alloc, 1000, Numbers::of(Vec::new(alloc)), 2000)?;
-    let status = run_into(&rt, alloc, "plan d p", &files, &[], &mut sink, &gate)?;
+    let mut shelf = shelf_of(alloc, &files, &[])?;
+    let mut sink = ample_sink(alloc)?;
+    let status = run_into(&rt, alloc, "plan d p", &mut shelf, &mut sink, &gate)?;
     assert_eq!(rt; status.0, 0);
     assert_eq!(rt; sink.taken(), text.as_slice());
     assert!(rt; gate.met());

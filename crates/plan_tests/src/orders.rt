@@ -1,13 +1,15 @@
-//! Tests on tasks written by hand.
-
-use crate::publish::publish;
+// The published order of tasks written by hand.
+use action_order::numbers::ActNumbers;
+use action_order::publish::publish;
 use gt_core::act::{Act, Acts};
 use gt_core::eff::{Eff, Effs};
 use gt_core::lits::{Bits, Lits};
 use gt_core::pairs::Pairs;
 use gt_core::task::Task;
+use plan_report::linearise;
 use std::process::Abort;
 use std::test::Fail;
+use step_encoding::steps::Steps;
 
 /// An action without effect conditions.
 fn act(rt: &impl AllocGlobal, pre: &[u32], lits: &[u32]) -> Result<Act, Fail> {
@@ -61,16 +63,37 @@ fn told_under(
     Ok(told)
 }
 
+// Facts p 0, q 1, r 2. Action 0 burns p, action 1 needs it.
+fn burn_and_use(rt: &impl AllocGlobal) -> Result<Task, Fail> {
+    let burn = act(rt, &[], &[1, 4])?;
+    let using = act(rt, &[0], &[2])?;
+    task(rt, 3, vec![in rt.alloc(); burn, using]?)
+}
+
 #[test]
 fn user_before_burner(rt: HostRuntime) -> Result<(), Fail> {
-    // Facts p 0, q 1, r 2. Action 0 burns p, action 1 needs it.
-    let burn = act(&rt, &[], &[1, 4])?;
-    let using = act(&rt, &[0], &[2])?;
-    let task = task(&rt, 3, vec![in rt.alloc(); burn, using]?)?;
+    let task = burn_and_use(&rt)?;
     assert_eq!(rt; told(&rt, &task)?.as_slice(), [2, 1, 1, 0, 0].as_slice());
     // The invariants: p or r, not p or not r.
     let under = told_under(&rt, &task, &[(0, 4), (1, 5)])?;
     assert_eq!(rt; under.as_slice(), [2, 1, 1, 0, 0].as_slice());
+    Ok(())
+}
+
+// The members of each step are listed in published order.
+#[test]
+fn members_in_published_order(rt: HostRuntime) -> Result<(), Fail> {
+    let alloc = rt.alloc();
+    let task = burn_and_use(&rt)?;
+    let pairs = Pairs::empty(alloc, task.facts())?;
+    let order = publish(alloc, &task, &pairs)?;
+    let steps = Steps::of(vec![in alloc;
+        ActNumbers::of(vec![in alloc; 0, 1]?),
+        ActNumbers::of(Vec::new(alloc)),
+        ActNumbers::of(vec![in alloc; 0]?),
+    ]?);
+    let actions = linearise(alloc, &order, &steps)?;
+    assert_eq!(rt; actions.as_slice(), [1, 0, 0].as_slice());
     Ok(())
 }
 
