@@ -12,12 +12,12 @@ use Rattle.clause_base.specs.Choice.{Known, same_value}
 use Rattle.gt_core.specs.Layout.{width, variables, fact_at}
 use Rattle.gt_core.proofs.LayoutLaw.{product_le}
 use Rattle.goal_choice.specs.Means.{Means, start_of}
-use Rattle.goal_choice.specs.Walk.{wish_of, wishes, walk}
-use Rattle.goal_choice.specs.Wishes.{IsStep}
+use Rattle.goal_choice.specs.Walk.{support_of, supports, walk}
+use Rattle.goal_choice.specs.Supports.{IsStep}
 use Rattle.goal_choice.specs.Members.{Literals, AreMeans, no_literals}
 use Rattle.goal_choice.specs.Kept.{WalkView, IsWalk, IsPassed, IsSameFrom, set_at, walked}
 use Rattle.goal_choice.proofs.Steps.{step_goes_on, step_chooses, put_rising}
-use Rattle.goal_choice.proofs.Unread.{wishes_same, each_literal, passed_elsewhere, passed_false, passed_fact, later_step, no_chain, before_facts, behind_steps, one_fact, made_false}
+use Rattle.goal_choice.proofs.Unread.{supports_same, each_literal, passed_elsewhere, passed_false, passed_fact, later_step, no_chain, before_facts, behind_steps, one_fact, made_false}
 
 -- a variable gets a value, and the walk stands down to a time from which on its steps ask for the same
 pub seen_on : (w : WalkView) (v low end : ℕ) (value : Option Bool) → IsWalk w → IsSameFrom w v value end → w.low ≤ low → end ≤ low → low ≤ w.means.layout.horizon → IsWalk (record w { seen = set w.seen v value; low = low })
@@ -32,8 +32,8 @@ seen_on w v low end value k u h e top = record {
   each = λ t a b. after t b (k.each t (omega (arith, a, h)) b) (u t (omega (arith, a, e)) (omega (arith, a, h)) b);
 }
   where
-    after : (t : ℕ) → t < w.means.layout.horizon → IsStep (wishes (wish_of w.means w.seen t) (set_at w.wanted (t + 1)).members) None (set_at w.wanted t).members → AllByRecursion (IsPassed w.means w.seen (set w.seen v value) t) (set_at w.wanted (t + 1)).members → IsStep (wishes (wish_of w.means (set w.seen v value) t) (set_at w.wanted (t + 1)).members) None (set_at w.wanted t).members
-    after t b s p = (s.0, wishes_same w.means w.seen (set w.seen v value) t (set_at w.wanted (t + 1)).members s.0 s.1 p ∙ s.1, s.2)
+    after : (t : ℕ) → t < w.means.layout.horizon → IsStep (supports (support_of w.means w.seen t) (set_at w.wanted (t + 1)).members) None (set_at w.wanted t).members → AllByRecursion (IsPassed w.means w.seen (set w.seen v value) t) (set_at w.wanted (t + 1)).members → IsStep (supports (support_of w.means (set w.seen v value) t) (set_at w.wanted (t + 1)).members) None (set_at w.wanted t).members
+    after t b s p = (s.0, supports_same w.means w.seen (set w.seen v value) t (set_at w.wanted (t + 1)).members s.0 s.1 p ∙ s.1, s.2)
 
 -- the steps ask for the same where each literal of the facts does
 same_by : (w : WalkView) (v low : ℕ) (value : Option Bool) → IsWalk w → ((t l : ℕ) → low ≤ t → t < w.means.layout.horizon → l / 2 < w.means.layout.facts → IsPassed w.means w.seen (set w.seen v value) t l) → IsSameFrom w v value low
@@ -104,28 +104,28 @@ same_unwanted w time fact n value given i h k e m out = subst (λ (x : Option Bo
         by (inr q) = each_literal (IsPassed w.means w.seen (set w.seen (fact_at w.means.layout time fact) (Some given)) t) w.means.layout.facts (set_at w.wanted (t + 1)).members row (λ l f. passed t l c (λ same false_. q (one_fact w.means.layout time fact t (l / 2) k f same).0))
 
 -- the walk down to a time that is kept
-walked_to : (w : WalkView) → IsWalk w → (k t : ℕ) → t + k ≡ w.means.layout.horizon → w.low ≤ t → walked w.means w.seen ≡ walk (wish_of w.means w.seen) t (set_at w.wanted t).members
+walked_to : (w : WalkView) → IsWalk w → (k t : ℕ) → t + k ≡ w.means.layout.horizon → w.low ≤ t → walked w.means w.seen ≡ walk (support_of w.means w.seen) t (set_at w.wanted t).members
 walked_to w i zero t e l =
     let top : t ≡ w.means.layout.horizon = omega (arith, e) in
-    ap (walk (wish_of w.means w.seen) w.means.layout.horizon) (sym i.goal) ∙ ap (λ (n : ℕ). walk (wish_of w.means w.seen) n (set_at w.wanted n).members) (sym top)
+    ap (walk (support_of w.means w.seen) w.means.layout.horizon) (sym i.goal) ∙ ap (λ (n : ℕ). walk (support_of w.means w.seen) n (set_at w.wanted n).members) (sym top)
 walked_to w i (suc k) t e l =
     let next : suc t ≡ t + 1 = omega arith in
     walked_to w i k (suc t) (omega (arith, e)) (omega (arith, l))
-    ∙ step_goes_on (wish_of w.means w.seen) t (set_at w.wanted (suc t)).members (set_at w.wanted t).members (subst (λ (n : ℕ). IsStep (wishes (wish_of w.means w.seen t) (set_at w.wanted n).members) None (set_at w.wanted t).members) (sym next) (i.each t l (omega (arith, e))))
+    ∙ step_goes_on (support_of w.means w.seen) t (set_at w.wanted (suc t)).members (set_at w.wanted t).members (subst (λ (n : ℕ). IsStep (supports (support_of w.means w.seen t) (set_at w.wanted n).members) None (set_at w.wanted t).members) (sym next) (i.each t l (omega (arith, e))))
 
-pub kept_walk : (w : WalkView) → IsWalk w → walked w.means w.seen ≡ walk (wish_of w.means w.seen) w.low (set_at w.wanted w.low).members
+pub kept_walk : (w : WalkView) → IsWalk w → walked w.means w.seen ≡ walk (support_of w.means w.seen) w.low (set_at w.wanted w.low).members
 kept_walk w i = let l = i.low in walked_to w i (w.means.layout.horizon - w.low) w.low (omega (arith, l)) (omega arith)
 
 -- a step ends the walk with a choice
-pub walk_chooses : (w : WalkView) (t c : ℕ) (before : List ℕ) → IsWalk w → t + 1 ≡ w.low → IsStep (wishes (wish_of w.means w.seen t) (set_at w.wanted w.low).members) (Some c) before → walked w.means w.seen ≡ Some c
+pub walk_chooses : (w : WalkView) (t c : ℕ) (before : List ℕ) → IsWalk w → t + 1 ≡ w.low → IsStep (supports (support_of w.means w.seen t) (set_at w.wanted w.low).members) (Some c) before → walked w.means w.seen ≡ Some c
 walk_chooses w t c before i e s =
     let next : w.low ≡ suc t = omega (arith, e) in
     kept_walk w i
-    ∙ ap (λ (n : ℕ). walk (wish_of w.means w.seen) n (set_at w.wanted w.low).members) next
-    ∙ step_chooses (wish_of w.means w.seen) t c (set_at w.wanted w.low).members before s
+    ∙ ap (λ (n : ℕ). walk (support_of w.means w.seen) n (set_at w.wanted w.low).members) next
+    ∙ step_chooses (support_of w.means w.seen) t c (set_at w.wanted w.low).members before s
 
 -- or goes on to the time before it
-pub walk_goes_on : (w : WalkView) (t : ℕ) (before : Literals) → IsWalk w → t + 1 ≡ w.low → IsStep (wishes (wish_of w.means w.seen t) (set_at w.wanted w.low).members) None before.members → before.facts ≡ w.means.layout.facts → AllByRecursion (λ l. l / 2 < w.means.layout.facts) before.members → IsWalk (record w { wanted = set w.wanted t before; low = t })
+pub walk_goes_on : (w : WalkView) (t : ℕ) (before : Literals) → IsWalk w → t + 1 ≡ w.low → IsStep (supports (support_of w.means w.seen t) (set_at w.wanted w.low).members) None before.members → before.facts ≡ w.means.layout.facts → AllByRecursion (λ l. l / 2 < w.means.layout.facts) before.members → IsWalk (record w { wanted = set w.wanted t before; low = t })
 walk_goes_on w t before i e s f a =
     let top = i.low in
     let long = i.long in
@@ -154,7 +154,7 @@ walk_goes_on w t before i e s f a =
         by (inr q) = subst P (sym (other j q)) (k q)
 
     IsKept : ℕ → Literals → Literals → Type 0
-    IsKept j x y = IsStep (wishes (wish_of w.means w.seen j) x.members) None y.members
+    IsKept j x y = IsStep (supports (support_of w.means w.seen j) x.members) None y.members
 
     steps : (j : ℕ) → t ≤ j → j < w.means.layout.horizon → (j ≡ t) ⊎ (j ≡ t → ⊥) → IsKept j (set_at (set w.wanted t before) (j + 1)) (set_at (set w.wanted t before) j)
     steps j b c (inl q) =
@@ -167,7 +167,7 @@ walk_goes_on w t before i e s f a =
 
 -- at the first time there is no choice
 pub walk_ends : (w : WalkView) → IsWalk w → w.low ≡ 0 → walked w.means w.seen ≡ None
-walk_ends w i e = kept_walk w i ∙ ap (λ (n : ℕ). walk (wish_of w.means w.seen) n (set_at w.wanted w.low).members) e
+walk_ends w i e = kept_walk w i ∙ ap (λ (n : ℕ). walk (support_of w.means w.seen) n (set_at w.wanted w.low).members) e
 
 -- before the first step the goal is wanted
 pub new_walk : (m : Means) (seen : Known) (sets : List Literals) (goal : Literals) → AreMeans m → length seen ≡ variables m.layout → sets ≡ set (replicate (m.layout.horizon + 1) (no_literals m.layout.facts)) m.layout.horizon goal → goal.facts ≡ m.layout.facts → goal.members ≡ m.goal → IsWalk (record { means = m; seen = seen; wanted = sets; low = m.layout.horizon })
@@ -216,16 +216,16 @@ seen_after m seen new sets old low end v value w e i u n h k top =
 row_is : (m : Means) (seen : Known) (sets : List Literals) (low : ℕ) (row : Literals) → IsWalk (record { means = m; seen = seen; wanted = sets; low = low }) → row ≡ get_or sets low row → row ≡ set_at sets low
 row_is m seen sets low row i e = let long = i.long in let top = i.low in e ∙ get_or_default sets low row (no_literals 0) (omega (arith, long, top))
 
-pub chooses : (m : Means) (seen : Known) (sets : List Literals) (low c : ℕ) (row before : Literals) (w : WalkView) → (let x : WalkView = record { means = m; seen = seen; wanted = sets; low = low } in x) ≡ w → IsWalk (record { means = m; seen = seen; wanted = sets; low = low }) → 0 < low → row ≡ get_or sets low row → IsStep (wishes (wish_of m seen (low - 1)) row.members) (Some c) before.members → walked w.means w.seen ≡ Some c
+pub chooses : (m : Means) (seen : Known) (sets : List Literals) (low c : ℕ) (row before : Literals) (w : WalkView) → (let x : WalkView = record { means = m; seen = seen; wanted = sets; low = low } in x) ≡ w → IsWalk (record { means = m; seen = seen; wanted = sets; low = low }) → 0 < low → row ≡ get_or sets low row → IsStep (supports (support_of m seen (low - 1)) row.members) (Some c) before.members → walked w.means w.seen ≡ Some c
 chooses m seen sets low c row before w e i h r s =
     subst (λ (x : WalkView). walked x.means x.seen ≡ Some c) e
-    (walk_chooses (record { means = m; seen = seen; wanted = sets; low = low }) (low - 1) c before.members i (omega (arith, h)) (subst (λ (x : Literals). IsStep (wishes (wish_of m seen (low - 1)) x.members) (Some c) before.members) (row_is m seen sets low row i r) s))
+    (walk_chooses (record { means = m; seen = seen; wanted = sets; low = low }) (low - 1) c before.members i (omega (arith, h)) (subst (λ (x : Literals). IsStep (supports (support_of m seen (low - 1)) x.members) (Some c) before.members) (row_is m seen sets low row i r) s))
 
-pub goes_on : (m : Means) (seen : Known) (sets : List Literals) (low : ℕ) (row before after x : Literals) → IsWalk (record { means = m; seen = seen; wanted = sets; low = low }) → 0 < low → row ≡ get_or sets low row → IsStep (wishes (wish_of m seen (low - 1)) row.members) None after.members → x ≡ after → after.facts ≡ before.facts → before.facts ≡ m.layout.facts → AllByRecursion (λ l. l / 2 < after.facts) after.members → IsWalk (record { means = m; seen = seen; wanted = set sets (low - 1) x; low = low - 1 })
+pub goes_on : (m : Means) (seen : Known) (sets : List Literals) (low : ℕ) (row before after x : Literals) → IsWalk (record { means = m; seen = seen; wanted = sets; low = low }) → 0 < low → row ≡ get_or sets low row → IsStep (supports (support_of m seen (low - 1)) row.members) None after.members → x ≡ after → after.facts ≡ before.facts → before.facts ≡ m.layout.facts → AllByRecursion (λ l. l / 2 < after.facts) after.members → IsWalk (record { means = m; seen = seen; wanted = set sets (low - 1) x; low = low - 1 })
 goes_on m seen sets low row before after x i h r s e f g a =
     let facts : x.facts ≡ m.layout.facts = ap (λ (y : Literals). y.facts) e ∙ f ∙ g in
     walk_goes_on (record { means = m; seen = seen; wanted = sets; low = low }) (low - 1) x i (omega (arith, h))
-    (subst (λ (y : Literals). IsStep (wishes (wish_of m seen (low - 1)) (set_at sets low).members) None y.members) (sym e) (subst (λ (y : Literals). IsStep (wishes (wish_of m seen (low - 1)) y.members) None after.members) (row_is m seen sets low row i r) s))
+    (subst (λ (y : Literals). IsStep (supports (support_of m seen (low - 1)) (set_at sets low).members) None y.members) (sym e) (subst (λ (y : Literals). IsStep (supports (support_of m seen (low - 1)) y.members) None after.members) (row_is m seen sets low row i r) s))
     facts
     (subst (λ (n : ℕ). AllByRecursion (λ l. l / 2 < n) x.members) facts (subst (λ (y : Literals). AllByRecursion (λ l. l / 2 < y.facts) y.members) (sym e) a))
 

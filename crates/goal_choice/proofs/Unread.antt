@@ -9,7 +9,7 @@ use Rattle.clause_base.specs.Choice.{Known, same_value}
 use Rattle.gt_core.specs.Layout.{Layout, width, fact_at}
 use Rattle.gt_core.proofs.LayoutLaw.{product_le}
 use Rattle.goal_choice.specs.Means.{Supporter, Means, variable_from, start_of}
-use Rattle.goal_choice.specs.Walk.{Wish, Chooses, Wants, has_value, is_value, is_false_at, lesser, least_with, wish_without, wish_of, both, wishes}
+use Rattle.goal_choice.specs.Walk.{Support, Chooses, Wants, has_value, is_value, is_false_at, lesser, least_with, support_without, support_of, both, supports}
 use Rattle.goal_choice.specs.Members.{IsWithin, AreMeans}
 use Rattle.goal_choice.specs.Kept.{IsPassed}
 
@@ -56,12 +56,12 @@ least_unset before after start asked (s ∷ ss) a e = by (has_value before (vari
     by false false f r h = r h
 
 -- what a literal asks for by the least true supporter and the least open one
-abbrev asks : ℕ → ℕ → Bool → Option Supporter → Option Supporter → Wish
-asks start l is_false held unset = elim held [ Some s ↦ Wants s.needs | None ↦ wish_without start l (if is_false then unset else None) ]
+abbrev asks : ℕ → ℕ → Bool → Option Supporter → Option Supporter → Support
+asks start l is_false held unset = elim held [ Some s ↦ Wants s.needs | None ↦ support_without start l (if is_false then unset else None) ]
 
 still : (start l : ℕ) (f g : Bool) (held u w : Option Supporter) (ks : List ℕ) → asks start l f held u ≡ Wants ks → (g ≡ true → f ≡ true) → (u ≡ None → w ≡ None) → asks start l g held w ≡ asks start l f held u
 still start l f g (Some s) u w ks e h k = refl
-still start l true true None None w ks e h k = ap (wish_without start l) (k refl)
+still start l true true None None w ks e h k = ap (support_without start l) (k refl)
 still start l true true None (Some s) w ks e h k = cc
 still start l true false None None w ks e h k = refl
 still start l true false None (Some s) w ks e h k = cc
@@ -69,31 +69,31 @@ still start l false true None u w ks e h k = let t = h refl in cc
 still start l false false None u w ks e h k = refl
 
 -- a literal that wants others asks for the same
-wish_same : (m : Means) (before after : Known) (t l : ℕ) (ks : List ℕ) → wish_of m before t l ≡ Wants ks → IsPassed m before after t l → wish_of m after t l ≡ wish_of m before t l
-wish_same m before after t l ks e p =
+support_same : (m : Means) (before after : Known) (t l : ℕ) (ks : List ℕ) → support_of m before t l ≡ Wants ks → IsPassed m before after t l → support_of m after t l ≡ support_of m before t l
+support_same m before after t l ks e p =
     let ss = slice_index_or m.supporters l [] in
     let start = start_of m.layout t in
     ap (λ (o : Option Supporter). asks start l (is_false_at m.layout after t l) o (least_with after None start ss)) (least_held before after start (Some true) ss p.held)
     ∙ still start l (is_false_at m.layout before t l) (is_false_at m.layout after t l) (least_with before (Some true) start ss) (least_with before None start ss) (least_with after None start ss) ks e p.fact (least_unset before after start None ss p.unset)
 
 -- each of the literals wants others, where all together do
-first_wants : (v w : Wish) (ks : List ℕ) → both v w ≡ Wants ks → (ms : List ℕ) × (v ≡ Wants ms)
+first_wants : (v w : Support) (ks : List ℕ) → both v w ≡ Wants ks → (ms : List ℕ) × (v ≡ Wants ms)
 first_wants (Chooses c) w ks e = cc
 first_wants (Wants ms) w ks e = (ms, refl)
 
-rest_wants : (v w : Wish) (ks : List ℕ) → both v w ≡ Wants ks → (ms : List ℕ) × (w ≡ Wants ms)
+rest_wants : (v w : Support) (ks : List ℕ) → both v w ≡ Wants ks → (ms : List ℕ) × (w ≡ Wants ms)
 rest_wants (Chooses c) w ks e = cc
 rest_wants (Wants ms) (Chooses c) ks e = cc
 rest_wants (Wants ms) (Wants ns) ks e = (ns, refl)
 
 -- so do literals
-pub wishes_same : (m : Means) (before after : Known) (t : ℕ) (ls ks : List ℕ) → wishes (wish_of m before t) ls ≡ Wants ks → AllByRecursion (IsPassed m before after t) ls → wishes (wish_of m after t) ls ≡ wishes (wish_of m before t) ls
-wishes_same m before after t [] ks e a = refl
-wishes_same m before after t (l ∷ ls) ks e a =
-    let first = first_wants (wish_of m before t l) (wishes (wish_of m before t) ls) ks e in
-    let rest = rest_wants (wish_of m before t l) (wishes (wish_of m before t) ls) ks e in
-    ap (λ (w : Wish). both w (wishes (wish_of m after t) ls)) (wish_same m before after t l first.0 first.1 a.0)
-    ∙ ap (both (wish_of m before t l)) (wishes_same m before after t ls rest.0 rest.1 a.1)
+pub supports_same : (m : Means) (before after : Known) (t : ℕ) (ls ks : List ℕ) → supports (support_of m before t) ls ≡ Wants ks → AllByRecursion (IsPassed m before after t) ls → supports (support_of m after t) ls ≡ supports (support_of m before t) ls
+supports_same m before after t [] ks e a = refl
+supports_same m before after t (l ∷ ls) ks e a =
+    let first = first_wants (support_of m before t l) (supports (support_of m before t) ls) ks e in
+    let rest = rest_wants (support_of m before t l) (supports (support_of m before t) ls) ks e in
+    ap (λ (w : Support). both w (supports (support_of m after t) ls)) (support_same m before after t l first.0 first.1 a.0)
+    ∙ ap (both (support_of m before t l)) (supports_same m before after t ls rest.0 rest.1 a.1)
 
 -- what holds of the literals of the facts holds of some
 pub each_literal : (P : ℕ → Type 0) (facts : ℕ) (ls : List ℕ) → AllByRecursion (λ l. l / 2 < facts) ls → ((l : ℕ) → l / 2 < facts → P l) → AllByRecursion P ls
@@ -105,7 +105,7 @@ each_supporter : (P : Supporter → Type 0) (z : Layout) (ss : List Supporter) �
 each_supporter P z [] a h = tt
 each_supporter P z (s ∷ ss) a h = (h s a.0.variable, each_supporter P z ss a.1 h)
 
--- a literal is passed where the variable is none that its wish looks at
+-- a literal is passed where the variable is none that its support looks at
 pub passed_elsewhere : (m : Means) (values : Known) (v t l : ℕ) (value : Option Bool) → AreMeans m → ((k : ℕ) → k < m.layout.actions + m.layout.conditional → start_of m.layout t + k ≡ v → ⊥) → (fact_at m.layout t (l / 2) ≡ v → ⊥) → IsPassed m values (set values v value) t l
 passed_elsewhere m values v t l value a h k = record {
   held = each_supporter _ m.layout (slice_index_or m.supporters l []) (a.each l) (λ s b. value_same values v (variable_from (start_of m.layout t) s) value (Some true) (h s.variable b));

@@ -4,8 +4,8 @@ use Rattle.std.specs.List.{AllByRecursion}
 use Rattle.clause_base.specs.Choice.{Known}
 use Rattle.gt_core.specs.Layout.{variables}
 use Rattle.goal_choice.specs.Means.{Means, variable_from, start_of}
-use Rattle.goal_choice.specs.Walk.{has_value, is_false_at, wish_of, wishes, walk}
-use Rattle.goal_choice.specs.Wishes.{IsStep}
+use Rattle.goal_choice.specs.Walk.{has_value, is_false_at, support_of, supports, walk}
+use Rattle.goal_choice.specs.Supports.{IsStep}
 use Rattle.goal_choice.specs.Members.{Literals, AreMeans, no_literals}
 
 -- what a walk is made from, the values that it saw last, and sets of literals by time, which it came down to a time with
@@ -29,7 +29,7 @@ pub record IsWalk (w : WalkView) : Type 0 where
   pub low : w.low ≤ w.means.layout.horizon
   pub goal : (set_at w.wanted w.means.layout.horizon).members ≡ w.means.goal
   pub within : (t : ℕ) → w.low ≤ t → t ≤ w.means.layout.horizon → AllByRecursion (λ l. l / 2 < w.means.layout.facts) (set_at w.wanted t).members
-  pub each : (t : ℕ) → w.low ≤ t → t < w.means.layout.horizon → IsStep (wishes (wish_of w.means w.seen t) (set_at w.wanted (t + 1)).members) None (set_at w.wanted t).members
+  pub each : (t : ℕ) → w.low ≤ t → t < w.means.layout.horizon → IsStep (supports (support_of w.means w.seen t) (set_at w.wanted (t + 1)).members) None (set_at w.wanted t).members
 
 -- of a literal that is wanted after a step: as values change, the same supporters are true, none is open that was not, and it is
 -- not false before the step where it was not
@@ -44,4 +44,4 @@ IsSameFrom w v value low = (t : ℕ) → low ≤ t → w.low ≤ t → t < w.mea
 
 -- the choice of the walk over some values
 abbrev pub walked : Means → Known → Option ℕ
-walked m values = walk (wish_of m values) m.layout.horizon m.goal
+walked m values = walk (support_of m values) m.layout.horizon m.goal

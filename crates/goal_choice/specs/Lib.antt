@@ -2,6 +2,6 @@ pub mod Means
 pub mod Walk
 pub mod Choice
 pub mod Members
-pub mod Wishes
+pub mod Supports
 pub mod ChoiceLaw
 pub mod Kept

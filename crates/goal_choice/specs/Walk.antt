@@ -31,41 +31,41 @@ least_with values value start (s ∷ rest) =
     if has_value values (variable_from start s) value then lesser s (least_with values value start rest) else least_with values value start rest
 
 -- what literals that are wanted after a step ask for: a choice, or that other literals are wanted before the step
-pub data Wish : Type 0 where
-  Chooses : ℕ → Wish
-  Wants : List ℕ → Wish
+pub data Support : Type 0 where
+  Chooses : ℕ → Support
+  Wants : List ℕ → Support
 
 -- for a literal that no supporter in the step makes true: the choice of this supporter, which is then made true, or else that
 -- the literal holds before
-abbrev pub wish_without : ℕ → ℕ → Option Supporter → Wish
-wish_without start l (Some s) = Chooses (literal_of (variable_from start s) true)
-wish_without start l None = Wants (l ∷ [])
+abbrev pub support_without : ℕ → ℕ → Option Supporter → Support
+support_without start l (Some s) = Chooses (literal_of (variable_from start s) true)
+support_without start l None = Wants (l ∷ [])
 
 -- what a literal asks for that is wanted after a step: where a supporter is true, what the least of these needs; else, where the
 -- literal is false before the step, the least supporter without a value
-abbrev pub wish_among : Known → ℕ → Bool → ℕ → List Supporter → Wish
-wish_among values start is_false l supporters =
+abbrev pub support_among : Known → ℕ → Bool → ℕ → List Supporter → Support
+support_among values start is_false l supporters =
     elim (least_with values (Some true) start supporters) [
       | Some s ↦ Wants s.needs
-      | None ↦ wish_without start l (if is_false then least_with values None start supporters else None)
+      | None ↦ support_without start l (if is_false then least_with values None start supporters else None)
     ]
 
-abbrev pub wish_of : Means → Known → ℕ → ℕ → Wish
-wish_of m values t l = wish_among values (start_of m.layout t) (is_false_at m.layout values t l) l (slice_index_or m.supporters l [])
+abbrev pub support_of : Means → Known → ℕ → ℕ → Support
+support_of m values t l = support_among values (start_of m.layout t) (is_false_at m.layout values t l) l (slice_index_or m.supporters l [])
 
--- of two wishes the first choice, or all that they want
-abbrev pub both : Wish → Wish → Wish
+-- of two supports the first choice, or all that they want
+abbrev pub both : Support → Support → Support
 both (Chooses c) w = Chooses c
 both (Wants ks) (Chooses c) = Chooses c
 both (Wants ks) (Wants ms) = Wants (ks ++ ms)
 
 -- what literals ask for, in their order
-abbrev pub wishes : (ℕ → Wish) → List ℕ → Wish
-wishes wish [] = Wants []
-wishes wish (l ∷ ls) = both (wish l) (wishes wish ls)
+abbrev pub supports : (ℕ → Support) → List ℕ → Support
+supports support [] = Wants []
+supports support (l ∷ ls) = both (support l) (supports support ls)
 
 -- the walk from a time down to the initial state, where at this time some literals are wanted; what is wanted before a step is
 -- looked at in rising order
-abbrev pub walk : (ℕ → ℕ → Wish) → ℕ → List ℕ → Option ℕ
-walk wish zero wanted = None
-walk wish (suc t) wanted = elim (wishes (wish t) wanted) [ Chooses c ↦ Some c | Wants ls ↦ walk wish t (fold put [] ls) ]
+abbrev pub walk : (ℕ → ℕ → Support) → ℕ → List ℕ → Option ℕ
+walk support zero wanted = None
+walk support (suc t) wanted = elim (supports (support t) wanted) [ Chooses c ↦ Some c | Wants ls ↦ walk support t (fold put [] ls) ]

@@ -11,9 +11,9 @@ mod chooser;
 mod last_walk;
 mod literals;
 mod means;
+mod support;
 mod supporter;
 mod walk;
-mod wish;
 
 pub use chooser::GoalChooser;
 

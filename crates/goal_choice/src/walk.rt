@@ -2,12 +2,12 @@
 
 ghost use Rattle.std.specs.Prelude.{◌≡◌, ◌<◌, [], length};
 ghost use Rattle.gt_core.specs.Layout.{variables};
-ghost use Rattle.goal_choice.specs.Walk.{wish_of, wishes};
-ghost use Rattle.goal_choice.specs.Wishes.{IsStep};
+ghost use Rattle.goal_choice.specs.Walk.{support_of, supports};
+ghost use Rattle.goal_choice.specs.Supports.{IsStep};
 
 use crate::literals::Literals;
 use crate::means::Means;
-use crate::wish::{Wish, wish_for};
+use crate::support::{Support, support_for};
 use clause_base::literal::Lit;
 use clause_base::values::Values;
 
@@ -23,16 +23,16 @@ pub(crate) fn wanted_before(
     requires fits { length values.now ≡ variables means.now.layout }
     requires wanted { wanted.now.facts ≡ means.now.layout.facts }
     requires before { before.old ≡ record { facts = means.now.layout.facts; members = [] } }
-    ensures step { IsStep (wishes (wish_of means.now values.now step) wanted.now.members) result before.new.members }
+    ensures step { IsStep (supports (support_of means.now values.now step) wanted.now.members) result before.new.members }
     ensures before { before.new.facts ≡ before.old.facts }
 {
     let mut from = 0;
     'stepping: while let Some(lit) = wanted.least(from) {
         from = lit + 1;
-        match wish_for(means, values, step, lit) {
-            Wish::Choose(choice) => return Some(choice),
-            Wish::Want(lits) => before.put_all(lits),
-            Wish::Keep => before.put(lit),
+        match support_for(means, values, step, lit) {
+            Support::Choose(choice) => return Some(choice),
+            Support::Want(lits) => before.put_all(lits),
+            Support::Keep => before.put(lit),
         }
     }
     None

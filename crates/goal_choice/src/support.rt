@@ -2,8 +2,8 @@
 
 ghost use Rattle.std.specs.Prelude.{◌≡◌, ◌<◌, ◌/◌, ◌%◌, ◌==◌, not, length, Some};
 ghost use Rattle.gt_core.specs.Layout.{variables};
-ghost use Rattle.goal_choice.specs.Walk.{is_false_at, wish_of};
-ghost use Rattle.goal_choice.specs.Wishes.{meaning, WantsWithin};
+ghost use Rattle.goal_choice.specs.Walk.{is_false_at, support_of};
+ghost use Rattle.goal_choice.specs.Supports.{meaning, WantsWithin};
 
 use crate::means::Means;
 use crate::supporter::has_value;
@@ -12,7 +12,7 @@ use clause_base::values::Values;
 
 /// What a literal asks for that is wanted after a step.
 #[derive(Clone, Copy, Debug)]
-pub(crate) enum Wish<'a> {
+pub(crate) enum Support<'a> {
     /// A decision.
     Choose(Lit),
     /// That these literals hold before the step.
@@ -35,23 +35,23 @@ fn is_false_at(means: &Means, values: &Values, time: u32, lit: u32) -> bool
 }
 
 /// What a literal asks for that is wanted after a step.
-pub(crate) fn wish_for<'a>(means: &'a Means, values: &Values, step: u32, lit: u32) -> Wish<'a>
+pub(crate) fn support_for<'a>(means: &'a Means, values: &Values, step: u32, lit: u32) -> Support<'a>
     requires step { step < means.now.layout.horizon }
     requires lit { lit / 2 < means.now.layout.facts }
     requires fits { length values.now ≡ variables means.now.layout }
-    ensures wish { meaning lit result ≡ wish_of means.now values.now step lit }
+    ensures support { meaning lit result ≡ support_of means.now values.now step lit }
     ensures within { WantsWithin means.now.layout.facts result }
 {
     let start = means.layout().step_start(step);
     let supporters = means.supporters(lit);
     if let Some(supporter) = supporters.least_with(values, start, Some(true)) {
-        return Wish::Want(supporter.needs());
+        return Support::Want(supporter.needs());
     }
     if !is_false_at(means, values, step, lit) {
-        return Wish::Keep;
+        return Support::Keep;
     }
     match supporters.least_with(values, start, None) {
-        None => Wish::Keep,
-        Some(supporter) => Wish::Choose(Lit::of(start + supporter.variable(), true)),
+        None => Support::Keep,
+        Some(supporter) => Support::Choose(Lit::of(start + supporter.variable(), true)),
     }
 }

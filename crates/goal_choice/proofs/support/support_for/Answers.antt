@@ -3,8 +3,8 @@ use Rattle.std.specs.List.{AllByRecursion}
 use Rattle.gt_core.specs.Layout.{Layout, variables}
 use Rattle.goal_choice.specs.Means.{variable_from, start_of}
 use Rattle.goal_choice.proofs.Ranges.{in_step, needs_within, least_is}
-use Rattle.goal_choice.proofs.wish.wish_for.Goals as goal
-use Rattle.goal_choice.proofs.wish.wish_for.Goals.{After-variable}
+use Rattle.goal_choice.proofs.support.support_for.Goals as goal
+use Rattle.goal_choice.proofs.support.support_for.Goals.{After-variable}
 
 pub returns-in-Some-clause-within : goal.returns-in-Some-clause-within
 returns-in-Some-clause-within c =

@@ -1,24 +1,24 @@
--- What the code's wishes say.
+-- What the supports that the code finds say.
 use Rattle.std.specs.Prelude.{◌≡◌, ℕ, ◌/◌, ◌<◌, List, [], ◌∷◌, Option, Some, None, fold}
 use Rattle.std.specs.List.{AllByRecursion}
 use Rattle.clause_base.specs.Clause.{put}
-use Rattle.goal_choice.specs.Walk.{Wish as Meaning, Chooses, Wants}
-use Rattle.goal_choice.specs.declared.wish.Wish.{Wish}
-use Rattle.goal_choice.specs.declared.wish.Wish.TheVariants.{Choose, Want, Keep}
+use Rattle.goal_choice.specs.Walk.{Support as Meaning, Chooses, Wants}
+use Rattle.goal_choice.specs.declared.support.Support.{Support}
+use Rattle.goal_choice.specs.declared.support.Support.TheVariants.{Choose, Want, Keep}
 
--- the wish of a literal
-abbrev pub meaning : ℕ → Wish → Meaning
+-- the support of a literal
+abbrev pub meaning : ℕ → Support → Meaning
 meaning l (Choose c) = Chooses c
 meaning l (Want ls) = Wants ls.now
 meaning l Keep = Wants (l ∷ [])
 
 -- the literals that are wanted are of so many facts
-abbrev pub WantsWithin : ℕ → Wish → Type 0
+abbrev pub WantsWithin : ℕ → Support → Type 0
 WantsWithin facts (Choose c) = Unit {0}
 WantsWithin facts (Want ls) = AllByRecursion (λ l. l / 2 < facts) ls.now
 WantsWithin facts Keep = Unit {0}
 
 -- what the wanted literals of a step ask for is a choice, or else that these literals, rising, are wanted before it
 abbrev pub IsStep : Meaning → Option ℕ → List ℕ → Type 0
-IsStep wish (Some c) before = wish ≡ Chooses c
-IsStep wish None before = (ls : List ℕ) × (wish ≡ Wants ls) × (before ≡ fold put [] ls)
+IsStep support (Some c) before = support ≡ Chooses c
+IsStep support None before = (ls : List ℕ) × (support ≡ Wants ls) × (before ≡ fold put [] ls)
