@@ -1,13 +1,9 @@
 //! Reading the task that two files say.
 ghost use Rattle.std.specs.Prelude.{◌≡◌, ◌≤◌, length, IsTrue, IfOk};
-ghost use Rattle.pd_sexp.specs.Fault.{Reads};
-ghost use Rattle.pd_sexp.specs.View.{view};
-ghost use Rattle.pd_sexp.specs.Word.{has_words};
+ghost use Rattle.pd_sexp.specs.{Fault.Reads, View.view, Word.has_words};
 ghost use Rattle.pd_model.specs.WellFormed.{IsWellFormed};
 ghost use Rattle.pd_task.specs.Reading.{reading};
-ghost use Rattle.plan_top.specs.Files.{most_bytes};
-ghost use Rattle.plan_top.specs.Tasks.{AreTask, RefusesTask, RefusesTree, RefusesTrees};
-ghost use Rattle.plan_top.specs.Ends.{StopsBy};
+ghost use Rattle.plan_top.specs.{Files.most_bytes, Tasks.AreTask, Tasks.RefusesTask, Tasks.RefusesTree, Tasks.RefusesTrees, Ends.StopsBy};
 
 use crate::Kind;
 use crate::stop::{Stop, refuse};

@@ -11,12 +11,9 @@ pub returns-in_err-files-clause-cause : goal.returns-in_err-files-clause-cause
 returns-in_err-files-clause-cause g c =
     let told = g.S.Shelf.told c.args.shelf.now in
     let lacks = g.S.Shelf.lacks c.args.shelf.now in
-    let old = g.S.Shelf.failed c.args.shelf.now in
-    let new = g.S.Shelf.failed c.take_files.new.shelf in
-    let words = map string_bytes c.args.words.now in
-    let request = seen c.in-Some.request in
-    EndsAs-handed (StopsFrom told lacks old new 0 (files_of request)) (Comes told lacks old new words)
-    (λ end h. of_request request (sym (rw c.in-Some.is at c.in_ok-request.ensures.request)) (stopped h)) c.in_err-files.field-0.0 c.from_residual-in_err-files.result c.from_residual-in_err-files.ensures.1 c.in_err-files.ensures.stops
+    EndsAs-handed (StopsFrom told lacks (g.S.Shelf.failed c.args.shelf.now) (g.S.Shelf.failed c.take_files.new.shelf) 0 (files_of (seen c.in-Some.request)))
+    (Comes told lacks (g.S.Shelf.failed c.args.shelf.now) (g.S.Shelf.failed c.take_files.new.shelf) (map string_bytes c.args.words.now))
+    (λ end h. of_request (seen c.in-Some.request) (sym (rw c.in-Some.is at c.in_ok-request.ensures.request)) (stopped h)) c.in_err-files.field-0.0 c.from_residual-in_err-files.result c.from_residual-in_err-files.ensures.1 c.in_err-files.ensures.stops
 
 pub returns-clause-cause : goal.returns-clause-cause
 returns-clause-cause g c =

@@ -1,4 +1,4 @@
-use Rattle.std.proofs.Common.{◌≡◌, sym, length, Some, None, arith}
+use Rattle.std.proofs.Common.{◌≡◌, ℕ, List, sym, length, Some, None, arith}
 use Rattle.std.specs.Prelude.{slice_get}
 use Rattle.plan_words.specs.Seen.{seen, files_of}
 use Rattle.plan_top.specs.Files.{StopsFrom, IsTaken}
@@ -6,21 +6,15 @@ use Rattle.plan_top.proofs.Stopped.{Stops-handed}
 use Rattle.plan_top.proofs.Taking.{noted_at_last, noted_so_far, stops_here, one_more, all_taken}
 use Rattle.plan_top.proofs.take.take_files.Goals as goal
 
+-- the name after those whose files were taken
+name_at : {A : Type 0} (names : List A) (n m : ℕ) (name : A) → n ≡ m → Some name ≡ slice_get names n → slice_get names m ≡ Some name
+name_at names n m name e h = rw e at (sym h)
+
 pub returns-in_err-bytes-clause-noted : goal.returns-in_err-bytes-clause-noted
 returns-in_err-bytes-clause-noted g c =
     let names = files_of (seen c.args.request.now) in
-    let place : c.len.result ≡ length c.taking.files.items = omega (arith, c.taking.files.ok) in
-    let at : slice_get names (length c.taking.files.items) ≡ Some c.in-Some.name.now = rw place at (sym c.in-Some.ensures) in
-    noted_at_last (g.S.Shelf.told c.args.shelf.now) (g.S.Shelf.lacks c.args.shelf.now) names (g.S.Shelf.failed c.args.shelf.now) (g.S.Shelf.failed c.taking.shelf) (g.S.Shelf.failed c.take_file.new.shelf)
-    c.taking.files.items c.in-Some.name.now c.taking.invariant.so at c.in_err-bytes.ensures.notes
-
-pub returns-in_err-keep-clause-noted : goal.returns-in_err-keep-clause-noted
-returns-in_err-keep-clause-noted g c =
-    let names = files_of (seen c.args.request.now) in
-    let place : c.len.result ≡ length c.taking.files.items = omega (arith, c.taking.files.ok) in
-    let at : slice_get names (length c.taking.files.items) ≡ Some c.in-Some.name.now = rw place at (sym c.in-Some.ensures) in
-    noted_at_last (g.S.Shelf.told c.args.shelf.now) (g.S.Shelf.lacks c.args.shelf.now) names (g.S.Shelf.failed c.args.shelf.now) (g.S.Shelf.failed c.taking.shelf) (g.S.Shelf.failed c.take_file.new.shelf)
-    c.taking.files.items c.in-Some.name.now c.taking.invariant.so at c.in_ok-bytes.ensures.notes
+    noted_at_last (g.S.Shelf.told c.args.shelf.now) (g.S.Shelf.lacks c.args.shelf.now) names (g.S.Shelf.failed c.args.shelf.now) (g.S.Shelf.failed c.taking.shelf) (g.S.Shelf.failed c.take_file.new.shelf) c.taking.files.items c.in-Some.name.now c.taking.invariant.so
+    (name_at names c.len.result (length c.taking.files.items) c.in-Some.name.now (omega (arith, c.taking.files.ok)) c.in-Some.ensures) c.in_err-bytes.ensures.notes
 
 pub returns-in_err-bytes-clause-stops : goal.returns-in_err-bytes-clause-stops
 returns-in_err-bytes-clause-stops g c =
@@ -30,8 +24,7 @@ returns-in_err-bytes-clause-stops g c =
     let old = g.S.Shelf.failed c.args.shelf.now in
     let now = g.S.Shelf.failed c.taking.shelf in
     let next = g.S.Shelf.failed c.take_file.new.shelf in
-    let place : c.len.result ≡ length c.taking.files.items = omega (arith, c.taking.files.ok) in
-    let at : slice_get names (length c.taking.files.items) ≡ Some c.in-Some.name.now = rw place at (sym c.in-Some.ensures) in
+    let at = name_at names c.len.result (length c.taking.files.items) c.in-Some.name.now (omega (arith, c.taking.files.ok)) c.in-Some.ensures in
     let same : c.len-in-Some.result ≡ length c.taking.files.items = omega (arith, c.taking.files.ok) in
     let stops = rw (c.taking.invariant.told, c.taking.invariant.lacks, c.file_of.ensures, same) at c.in_err-bytes.ensures.stops in
     Stops-handed _ (StopsFrom told lacks old next 0 names)
@@ -41,8 +34,7 @@ returns-in_err-bytes-clause-stops g c =
 pub taking-preserved : goal.taking-preserved
 taking-preserved g c =
     let names = files_of (seen c.args.request.now) in
-    let place : c.len.result ≡ length c.taking.files.items = omega (arith, c.taking.files.ok) in
-    let at : slice_get names (length c.taking.files.items) ≡ Some c.in-Some.name.now = rw place at (sym c.in-Some.ensures) in
+    let at = name_at names c.len.result (length c.taking.files.items) c.in-Some.name.now (omega (arith, c.taking.files.ok)) c.in-Some.ensures in
     let is : IsTaken (g.S.Shelf.told c.args.shelf.now) (g.S.Shelf.lacks c.args.shelf.now) c.in-Some.name.now c.in_ok-bytes.bytes.items = record {
       there = rw c.taking.invariant.lacks at c.in_ok-bytes.ensures.there;
       whole = rw c.taking.invariant.told at c.in_ok-bytes.ensures.whole;
@@ -66,3 +58,9 @@ returns-clause-taken g c =
     let place : c.len.result ≡ length c.taking.files.items = omega (arith, c.taking.files.ok) in
     let none : slice_get names (length c.taking.files.items) ≡ None = rw place at (sym c.in_default.ensures) in
     all_taken (g.S.Shelf.told c.args.shelf.now) (g.S.Shelf.lacks c.args.shelf.now) names (g.S.Shelf.failed c.args.shelf.now) (g.S.Shelf.failed c.taking.shelf) c.taking.files.items c.taking.invariant.so none
+
+pub returns-in_err-keep-clause-noted : goal.returns-in_err-keep-clause-noted
+returns-in_err-keep-clause-noted g c =
+    let names = files_of (seen c.args.request.now) in
+    noted_at_last (g.S.Shelf.told c.args.shelf.now) (g.S.Shelf.lacks c.args.shelf.now) names (g.S.Shelf.failed c.args.shelf.now) (g.S.Shelf.failed c.taking.shelf) (g.S.Shelf.failed c.take_file.new.shelf) c.taking.files.items c.in-Some.name.now c.taking.invariant.so
+    (name_at names c.len.result (length c.taking.files.items) c.in-Some.name.now (omega (arith, c.taking.files.ok)) c.in-Some.ensures) c.in_ok-bytes.ensures.notes

@@ -1,4 +1,4 @@
-use Rattle.std.proofs.Common.{arith, ◌≡◌, ◌&&◌, ◌<◌, ℕ, true, List, [], length, vec_len, sym, ap, ◌∙◌, subst, rules}
+use Rattle.std.proofs.Common.{arith, ◌≡◌, true, length, vec_len, sym, ap, ◌∙◌, subst, rules}
 use Rattle.std.specs.Prelude.{nat_lt}
 use Rattle.std.proofs.lemmas.List.{get_or_read, length_push}
 use Rattle.std.proofs.lemmas.Bool.Decides.{nat_tests}
