@@ -1,8 +1,9 @@
+//! Turns in a ring, rounds, and that two runs are at work at once.
 ghost use Rattle.std.specs.Prelude.{◌≡◌, ◌≤◌, IfOk};
 ghost use Rattle.crossbeam_queue.specs.Passes.{view};
 ghost use Rattle.solver_pool.specs.Ring.{IsOwnerPass, IsRingPass, IsSlice};
 
-use crate::{
+use solver_pool::{
     CountRun, Gate, Job, Jobs, Memory, OpenGate, Opened, Pass, Resume, Ring, Served, round,
     serve_one,
 };
@@ -324,100 +325,5 @@ fn two_runs_are_at_work_at_once(rt: HostRuntime) -> Result<(), Fail> {
 
     // One worker alone never ends the wait in time.
     assert!(rt; !meet(&rt, alloc, &two, (0, 1), 1)?);
-    Ok(())
-}
-
-/// A run that finds no memory past some number of units.
-#[derive(Drop)]
-struct ShortRun {
-    horizon: u32,
-    most: u64,
-    granted: u64,
-    spoilt: bool,
-}
-
-impl Resume for ShortRun {
-    ghost use Rattle.std.specs.Prelude.{◌+◌, true, false, refl};
-
-    ghost horizon_of = { λ r. r.horizon };
-
-    ghost granted_of = { λ r. r.granted };
-
-    ghost origin_of = { λ r. record r { granted = 0; spoilt = false } };
-
-    ghost moved = { λ r k. record r { granted = r.granted + k } };
-
-    ghost state_of = { λ r. r };
-
-    ghost unsettled_at = { λ r. true };
-
-    ghost spoilt_at = { λ r. r.spoilt };
-
-    fn advance(&mut self, conflicts: u32) -> Result<(), Memory> {
-        if self.spoilt {
-            return Err(Memory);
-        }
-        if self.granted + conflicts as u64 > self.most {
-            self.spoilt = true;
-            return Err(Memory);
-        }
-        self.granted += conflicts as u64;
-        Ok(())
-    }
-
-    fn horizon(&self) -> u32 {
-        self.horizon
-    }
-
-    fn unsettled(&self) -> bool {
-        true
-    }
-
-    fn spoilt(&self) -> bool {
-        self.spoilt
-    }
-
-    fn granted(&self) -> u64 {
-        self.granted
-    }
-
-    ghost by_state = { λ r. refl };
-}
-
-/// Whether a round of two runs, the second of which finds no memory past `most` units, answers `Memory`.
-fn is_short<H: Threads + Wait + Sync>(
-    rt: &H,
-    alloc: Global,
-    most: u64,
-    workers: u32,
-) -> Result<bool, Memory>
-    requires { (1 ≤ workers) × (workers ≤ 16) }
-{
-    let mut jobs = Vec::new(alloc);
-    for (horizon, most) in [(0u32, 10u64), (1, most)] {
-        let run = ShortRun {
-            horizon,
-            most,
-            granted: 0,
-            spoilt: false,
-        };
-        if jobs.push(Job { run, target: 5 }).is_err() {
-            return Err(Memory);
-        }
-    }
-    let jobs = Jobs::new(jobs);
-    if jobs.len() > 16 || !jobs.are_rising() || !jobs.are_sound() {
-        return Err(Memory);
-    }
-    Ok(round(rt, alloc, jobs, workers, 2, &OpenGate).is_err())
-}
-
-#[test]
-fn a_spoilt_run_is_told_as_memory(rt: HostRuntime) -> Result<(), Fail> {
-    let alloc = rt.alloc();
-    for (most, short) in [(5u64, false), (4, true), (0, true)] {
-        assert_eq!(rt; is_short(&rt, alloc, most, 1)?, short);
-        assert_eq!(rt; is_short(&rt, alloc, most, 2)?, short);
-    }
     Ok(())
 }
