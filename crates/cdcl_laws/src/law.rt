@@ -13,13 +13,3 @@ pub fn runs_are_sound()
     ensures short { QuietIsShort }
     ensures short_log { LogIsShort }
 {}
-
-#[cfg(test)]
-mod tests {
-    use super::*;
-
-    #[test]
-    fn the_laws_can_be_called() {
-        runs_are_sound();
-    }
-}

@@ -1,6 +1,4 @@
 //! A solver's trail, with the value and the level of each variable in tables that are made once.
 #![tactic(auto)]
 
-#[cfg(test)]
-mod tests;
 pub mod trail;

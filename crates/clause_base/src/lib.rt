@@ -13,6 +13,4 @@ pub mod formula;
 pub mod literal;
 pub mod log;
 pub mod memory;
-#[cfg(test)]
-mod tests;
 pub mod values;

@@ -6,6 +6,4 @@ pub mod backjump;
 pub mod clauses;
 pub mod learn;
 pub mod resolvent;
-#[cfg(test)]
-mod tests;
 pub mod walk;

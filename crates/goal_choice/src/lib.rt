@@ -16,6 +16,3 @@ mod supporter;
 mod walk;
 
 pub use chooser::GoalChooser;
-
-#[cfg(test)]
-mod tests;

@@ -108,24 +108,3 @@ impl Layout {
         self.step_start(self.horizon) + time * self.facts + f
     }
 }
-
-#[cfg(test)]
-mod tests {
-    use super::*;
-
-    #[test]
-    fn variables_of_two_steps(rt: HostRuntime) {
-        let lamp = Layout::new(2, 1, 0, 0, 1);
-        assert_eq!(rt; lamp.variables(), 5);
-        assert_eq!(rt; (lamp.action(0, 0), lamp.action(1, 0)), (0, 1));
-        assert_eq!(rt;
-            (lamp.fact(0, 0), lamp.fact(1, 0), lamp.fact(2, 0)),
-            (2, 3, 4)
-        );
-        let wide = Layout::new(1, 2, 1, 1, 4);
-        assert_eq!(rt;
-            (wide.conditional(0, 0), wide.chain(0, 0), wide.fact(1, 3)),
-            (2, 3, 11)
-        );
-    }
-}

@@ -3,5 +3,3 @@
 #![tactic(auto)]
 
 pub mod marks;
-#[cfg(test)]
-mod tests;

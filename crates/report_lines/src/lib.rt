@@ -7,9 +7,6 @@
 ghost use Rattle.std.specs.Prelude.{◌≡◌, ◌++◌, OnOk, decimal};
 ghost use Rattle.report_lines.specs.Laws.{LinesReadBack, FrontsSayNoMore, ReportsSayEntries};
 
-#[cfg(test)]
-mod tests;
-
 use itoa::Buffer;
 use std::alloc::AllocError;
 

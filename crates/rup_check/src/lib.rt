@@ -12,5 +12,3 @@ mod effect;
 mod entry;
 mod falsified;
 mod kept;
-#[cfg(test)]
-mod tests;

@@ -11,7 +11,7 @@ use std::alloc::Global;
 const MOST_VARIABLES: u32 = 1_000_000_000;
 
 /// A number from its digits, and nothing where there is another byte.
-fn number_of(word: &[u8]) -> Option<u32> {
+pub fn number_of(word: &[u8]) -> Option<u32> {
     let mut number: u32 = 0;
     for byte in word {
         if !byte.is_ascii_digit() {
@@ -36,9 +36,15 @@ fn literal_of(word: &[u8]) -> Option<Lit> {
 }
 
 /// The number after the first words of a line, if it begins with these.
-fn number_after(words: &[u8], line: &[u8]) -> Option<u32> {
+pub fn number_after(words: &[u8], line: &[u8]) -> Option<u32> {
     let rest = line.strip_prefix(words)?;
     number_of(rest.split(|byte| *byte == b' ').next()?)
+}
+
+/// Whether a text has a line that begins with these words.
+pub fn has_line(words: &[u8], text: &[u8]) -> bool {
+    text.split(|byte| *byte == b'\n')
+        .any(|line| line.starts_with(words))
 }
 
 /// How many conflicts a text allows: the first number after `c conflicts` at the head of a line.

@@ -2,14 +2,19 @@
 //! stands, its conflicts and its log. `bench/solve` times it beside another solver. With the word `propagations` after the
 //! number of conflicts it prints in place of these how many propagations the run makes.
 //!
-//! Without words it reads formulas from its input, each ended by a `%` and with a line `c conflicts NUMBER`. It runs each in one
-//! go, and in pieces of 1 and of 7 conflicts, and says whether these come to the same.
+//! Without words it reads formulas from its input, each ended by a `%`, and prints the first line of each. One with a line
+//! `c conflicts NUMBER` it runs in one go, and in pieces of 1, of 7 and of 64 conflicts, says whether these come to the same, and
+//! what the checker says of the log; with a line `c trail` it prints the trail where the run stops, and with `c brief` it leaves
+//! the log out. Of one without that line it says what the checker says of the log whose lines, in the form in which logs are
+//! printed, stand before the line `p cnf`.
 #![tactic(auto)]
 
+mod checked;
 mod dimacs;
 mod propagations;
 
-use crate::dimacs::{conflicts_of, formula_of};
+use crate::checked::{log_of, write_answer};
+use crate::dimacs::{conflicts_of, formula_of, has_line};
 use crate::propagations::count_propagations;
 use cdcl_core::Standing;
 use cdcl_core::solver::Solver;
@@ -117,11 +122,25 @@ fn solved(
     Ok(Some(solver))
 }
 
+/// Writes the literals that are true where a solver stopped, oldest first.
+fn write_trail(out: &mut Vec<u8>, solver: &Solver<PlainChooser>) -> io::Result<()> {
+    write!(out, "trail")?;
+    for entry in solver.trail() {
+        write_number(out, entry.literal.0)?;
+    }
+    writeln!(out)
+}
+
 /// How the run of a text's formula ends, in words.
 fn report(alloc: Global, text: &[u8], conflicts: u32, piece: Option<u32>) -> io::Result<Vec<u8>> {
     let mut out = Vec::new(alloc);
     match solved(alloc, text, conflicts, piece) {
-        Ok(Some(solver)) => write_run(&mut out, &solver)?,
+        Ok(Some(solver)) => {
+            write_run(&mut out, &solver)?;
+            if has_line(b"c trail", text) {
+                write_trail(&mut out, &solver)?;
+            }
+        }
         Ok(None) => writeln!(&mut out, "no formula")?,
         Err(Memory) => writeln!(&mut out, "want of memory")?,
     }
@@ -149,6 +168,39 @@ fn report_propagations(alloc: Global, text: &[u8], conflicts: u32) -> io::Result
     Ok(out)
 }
 
+/// What the checker says of the log of a run in one go, in words.
+fn answer(alloc: Global, text: &[u8], conflicts: u32) -> io::Result<Vec<u8>> {
+    let mut out = Vec::new(alloc);
+    match solved(alloc, text, conflicts, None) {
+        Ok(Some(solver)) => write_answer(alloc, &mut out, solver.formula(), solver.log())?,
+        _ => writeln!(&mut out, "no log")?,
+    }
+    Ok(out)
+}
+
+/// What the checker says of the log that a text has, in words.
+fn answer_to_log(alloc: Global, text: &[u8]) -> io::Result<Vec<u8>> {
+    let mut out = Vec::new(alloc);
+    match (formula_of(alloc, text), log_of(alloc, text)) {
+        (Ok(Some(formula)), Ok(log)) => write_answer(alloc, &mut out, &formula, &log)?,
+        _ => writeln!(&mut out, "no log")?,
+    }
+    Ok(out)
+}
+
+/// Writes a report, or only its first two lines and how many there are.
+fn write_report(report: &[u8], is_brief: bool, out: &mut (impl Write + Drop)) -> io::Result<()> {
+    if !is_brief {
+        return out.write_all(report);
+    }
+    for line in report.split(|byte| *byte == b'\n').take(2) {
+        out.write_all(line)?;
+        writeln!(out)?;
+    }
+    let lines = report.iter().filter(|byte| **byte == b'\n').count();
+    writeln!(out, "lines {lines}")
+}
+
 /// Runs a text's formula in one go and in pieces, and writes how the first ends, and the others where they end otherwise.
 fn run_in_pieces(
     alloc: Global,
@@ -157,8 +209,8 @@ fn run_in_pieces(
     out: &mut (impl Write + Drop),
 ) -> io::Result<()> {
     let whole = report(alloc, text, conflicts, None)?;
-    out.write_all(whole.as_slice())?;
-    for piece in [1, 7] {
+    write_report(whole.as_slice(), has_line(b"c brief", text), out)?;
+    for piece in [1, 7, 64] {
         let cut = report(alloc, text, conflicts, Some(piece))?;
         if cut.as_slice() == whole.as_slice() {
             writeln!(out, "in pieces of {piece}: the same")?;
@@ -167,14 +219,27 @@ fn run_in_pieces(
             out.write_all(cut.as_slice())?;
         }
     }
-    Ok(())
+    out.write_all(answer(alloc, text, conflicts)?.as_slice())
 }
 
-/// Runs each of the formulas of a text, each ended by a `%`.
+/// Writes the first line of a text, without the letter before it.
+fn write_title(text: &[u8], out: &mut (impl Write + Drop)) -> io::Result<()> {
+    let lines = text.split(|byte| *byte == b'\n');
+    let title = lines.filter_map(|line| line.strip_prefix(b"c ")).next();
+    out.write_all(title.unwrap_or(b""))?;
+    writeln!(out)
+}
+
+/// Runs or checks each of the formulas of a text, each ended by a `%`.
 fn run_all(alloc: Global, text: &[u8], out: &mut (impl Write + Drop)) -> io::Result<()> {
     for part in text.split(|byte| *byte == b'%') {
-        if let Some(conflicts) = conflicts_of(part) {
-            run_in_pieces(alloc, part, conflicts, out)?;
+        if !has_line(b"p cnf", part) {
+            continue;
+        }
+        write_title(part, out)?;
+        match conflicts_of(part) {
+            Some(conflicts) => run_in_pieces(alloc, part, conflicts, out)?,
+            None => out.write_all(answer_to_log(alloc, part)?.as_slice())?,
         }
     }
     Ok(())

@@ -26,8 +26,6 @@ mod rule;
 mod serve;
 mod sorted;
 mod steps;
-#[cfg(test)]
-mod tests;
 mod turns;
 mod worker;
 mod workers;

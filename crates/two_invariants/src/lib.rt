@@ -13,7 +13,5 @@ mod known;
 pub mod laws;
 mod list;
 mod renew;
-#[cfg(test)]
-mod tests;
 
 pub use greatest::find;

@@ -1,0 +1,15 @@
+//! Tests of single layers that no program's input and output shows: answers to small tasks written by hand.
+#![tactic(auto)]
+
+#[cfg(test)]
+mod choice;
+#[cfg(test)]
+mod known;
+#[cfg(test)]
+mod pool;
+#[cfg(test)]
+mod rates;
+#[cfg(test)]
+mod tasks;
+#[cfg(test)]
+mod watches;

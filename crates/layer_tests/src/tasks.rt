@@ -1,0 +1,30 @@
+//! Small tasks.
+use gt_core::act::{Act, Acts};
+use gt_core::eff::{Eff, Effs};
+use gt_core::lits::{Bits, Lits};
+use gt_core::task::Task;
+use std::alloc::Global;
+use std::test::Fail;
+
+/// An action whose effects have no condition.
+pub(crate) fn action(alloc: Global, pre: &[u32], lits: &[u32]) -> Result<Act, Fail> {
+    let mut effects = Vec::new(alloc);
+    for lit in lits {
+        effects.push(Eff::new(Lits::of(Vec::new(alloc)), *lit))?;
+    }
+    let pre = Vec::from_slice(alloc, pre)?;
+    Ok(Act::new(Lits::of(pre), Effs::of(effects)))
+}
+
+/// The task of these actions over so many facts, with the goal that the first one holds.
+pub(crate) fn task_of(
+    alloc: Global,
+    facts: u32,
+    init: &[bool],
+    acts: Vec<Act>,
+) -> Result<Task, Fail> {
+    let init = Bits::of(Vec::from_slice(alloc, init)?);
+    let goal = Lits::of(vec![in alloc; 0]?);
+    let task = Task::try_new(facts, init, goal, false, Acts::of(acts));
+    Ok(task.ok_or("no task")?)
+}
