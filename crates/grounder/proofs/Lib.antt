@@ -6,6 +6,5 @@ pub mod Tupled
 pub mod Put
 pub mod Leaving
 pub mod Assembled
-pub mod TwoActionsTask
 pub mod Listed
 pub mod Few

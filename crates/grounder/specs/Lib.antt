@@ -2,4 +2,3 @@ pub mod Known
 pub mod Bindings
 pub mod Putting
 pub mod Few
-pub mod TwoActions

@@ -14,8 +14,6 @@ mod known;
 mod literals;
 mod places;
 mod simplify;
-#[cfg(test)]
-mod tests;
 mod tuples;
 
 pub use grounded::{GroundError, Grounded, ground};

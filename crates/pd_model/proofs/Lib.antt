@@ -3,7 +3,6 @@ pub mod Equality
 pub mod States
 pub mod Alike
 mod Rows
-pub mod LampTask
 pub mod ByTest
 pub mod Tasks
 pub mod TypeWalk

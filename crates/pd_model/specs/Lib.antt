@@ -12,5 +12,4 @@ pub mod Fits
 pub mod Exec
 pub mod Plan
 pub mod Follows
-pub mod Lamp
 pub mod Few

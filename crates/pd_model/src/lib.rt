@@ -23,8 +23,6 @@ mod predicates;
 mod run;
 mod schemas;
 mod state;
-#[cfg(test)]
-mod tests;
 mod type_tree;
 mod types;
 mod walk;

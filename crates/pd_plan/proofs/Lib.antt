@@ -2,6 +2,5 @@ pub mod Steps
 pub mod Lookups
 pub mod Kept
 pub mod Rows
-pub mod DepotTask
 pub mod Spelled
 pub mod PlanTextLaw

@@ -18,8 +18,6 @@ mod lists;
 mod names;
 mod plan_text;
 mod reader;
-#[cfg(test)]
-mod tests;
 
 use calls::read_calls;
 pub use fault::PlanFault;

@@ -13,8 +13,6 @@ ghost use Rattle.pd_sexp.specs.Word.{has_words};
 
 mod kinds;
 mod reader;
-#[cfg(test)]
-mod tests;
 mod tree;
 
 pub use kinds::{is_blank, is_letter, lowered};

@@ -6,8 +6,6 @@
 mod lines;
 mod names;
 mod report;
-#[cfg(test)]
-mod tests;
 
 pub use names::push_call;
 pub use report::{push_ground, push_order};
