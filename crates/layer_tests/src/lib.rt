@@ -6,6 +6,8 @@ mod choice;
 #[cfg(test)]
 mod known;
 #[cfg(test)]
+mod logs;
+#[cfg(test)]
 mod pool;
 #[cfg(test)]
 mod rates;

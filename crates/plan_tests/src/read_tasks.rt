@@ -1,6 +1,6 @@
 // What is seen of tasks that were read.
 use grounder::ground;
-use pd_model::{Pddl, Term};
+use pd_model::{Call, Objects, Pddl, Term};
 use pd_sexp::read_tree;
 use pd_task::read_pddl;
 use std::alloc::Global;
@@ -36,6 +36,18 @@ fn adds_win(rt: HostRuntime) -> Result<(), Fail> {
     let mut next = [false];
     assert!(rt; task.next(&[false], 0, &mut next));
     assert!(rt; next[0]);
+    assert!(rt; task.holds(&next, 0) && !task.holds(&next, 1));
+    Ok(())
+}
+
+// A task with one action that has no parameter has the call of that action, and no other.
+#[test]
+fn calls_are_those_of_the_schemas(rt: HostRuntime) -> Result<(), Fail> {
+    let task = task(&rt, rt.alloc(), BOTH, NOTHING_AT_FIRST);
+    for schema in 0..2 {
+        let objects = Objects::of(Vec::new(rt.alloc()));
+        assert_eq!(rt; task.is_call(&Call { schema, objects }), schema == 0);
+    }
     Ok(())
 }
 
