@@ -131,7 +131,10 @@ fn rounded<R: Resume + Send, H: Threads + Wait + Sync>(
     first: R,
     second: R,
 ) -> Result<Jobs<R>, Fail> {
-    let jobs = Jobs::new(vec![in alloc; job_of(first)?, job_of(second)?]?);
+    let mut jobs = Vec::new(alloc);
+    jobs.push(job_of(first)?)?;
+    jobs.push(job_of(second)?)?;
+    let jobs = Jobs::new(jobs);
     if jobs.len() > 16 || !jobs.are_rising() || !jobs.are_sound() {
         return Err("no jobs of a round")?;
     }
