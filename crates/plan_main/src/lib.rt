@@ -2,6 +2,9 @@
 //! ends with its status.
 #![tactic(auto)]
 
+ghost use Rattle.std.specs.Prelude.{◌≡◌, IsErr};
+ghost use Rattle.std.specs.Process.{exit_status};
+
 use pl_io::{FileShelf, OutSink};
 use plan_top::run;
 use solver_pool::OpenGate;
@@ -22,7 +25,9 @@ pub fn run_program<H: Files + Print + Threads + Wait + Sync>(
     rt: &H,
     alloc: Global,
     given: io::Result<Args<Global>>,
-) -> ExitCode {
+) -> ExitCode
+    ensures no_words { IsErr given → exit_status result ≡ 9 }
+{
     let Ok(given) = given else {
         return ExitCode::from(NO_WORDS);
     };
