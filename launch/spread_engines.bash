@@ -7,15 +7,23 @@ begin_folder() {
     exec 9>"$folder/lock" || wrong "the folder $folder cannot be written"
     flock -n 9 || wrong "another call works on $folder"
     if [ -f "$folder/task/SHA256SUMS" ]; then
-        is_unchanged "$folder" || wrong "a file in $folder/task was changed: take another folder"
-        cmp -s -- "$domain" "$folder/task/domain" && cmp -s -- "$problem" "$folder/task/problem" ||
-            wrong "the domain or the problem was changed since $folder was begun: take another folder"
+        is_of_task domain "$domain" && is_of_task problem "$problem" ||
+            wrong "the domain or the problem is another than that with which $folder was begun: take another folder"
+        if ! is_unchanged "$folder"; then
+            say "a file in $folder/task was changed: all are put there anew"
+            put_task || wrong "the folder $folder cannot be filled"
+        fi
         [ "$(setting "$folder" budget)" = "$budget" ] || wrong "$folder was begun with another budget"
     else
         put_task || wrong "the folder $folder cannot be filled"
     fi
     printf 'first=%s\nlast=%s\nbudget=%s\nmemory=%s\nminutes=%s\n' "$first" "$last" "$budget" "$memory" "$minutes" >"$folder/task/settings.$$" &&
         keep_file "$folder/task/settings.$$" "$folder/task/settings" || wrong "the folder $folder cannot be filled"
+}
+
+# is_of_task NAME FILE: a file has the sum that the folder was begun with.
+is_of_task() {
+    grep -q -x -F "$(sha256sum <"$2" | cut -d ' ' -f 1)  $1" "$folder/task/SHA256SUMS"
 }
 
 # put_task: what the jobs work on. The sums land last.
@@ -47,7 +55,7 @@ left_over() {
 # run_engine: runs what is left.
 run_engine() {
     mapfile -t wanted < <(left_over)
-    [ "${#wanted[@]}" -gt 0 ] || return
+    [ "${#wanted[@]}" -gt 0 ] || return 0
     "run_$engine"
 }
 

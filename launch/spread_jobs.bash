@@ -39,7 +39,7 @@ is_unchanged() {
 
 # lose FOLDER N WHY: why there is no result yet.
 lose() {
-    printf '%s\n' "$3" >"$1/h/$2/lost.$$" && keep_file "$1/h/$2/lost.$$" "$1/h/$2/lost"
+    printf '%s\n' "$3" >"$1/h/$2/lost.$$" 2>/dev/null && keep_file "$1/h/$2/lost.$$" "$1/h/$2/lost"
 }
 
 # peak PROCESS: the megabytes that it has used at most so far.
@@ -88,7 +88,7 @@ put_result() {
         for file in "${@:5}"; do
             printf 'file=%s %s\n' "$file" "$(sha256sum <"$at/$file" | cut -d ' ' -f 1)"
         done
-    } >"$at/result.$$" && keep_file "$at/result.$$" "$at/result" && rm -f -- "$at/lost"
+    } >"$at/result.$$" 2>/dev/null && keep_file "$at/result.$$" "$at/result" && rm -f -- "$at/lost"
 }
 
 # conflicts_told FILE N WORD: the conflicts that a report tells of a horizon.
@@ -124,6 +124,7 @@ run_horizon() {
     14) lose "$folder" "$n" time ;;
     15) ;;
     3 | 5 | 7) lose "$folder" "$n" "refused: $(head -n 1 "$out")" ;;
+    6) lose "$folder" "$n" 'the disk has no room' ;;
     *) lose "$folder" "$n" "the planner ended with status $status" ;;
     esac || lose "$folder" "$n" 'the result could not be kept'
     rm -f -- "$at"/*."$$"

@@ -36,19 +36,51 @@ read_results() {
     done
 }
 
-# check_answer FOLDER: the certificate and the plan on which the answer rests.
-check_answer() {
+# answer_fault FOLDER: checks the certificate and the plan on which the answer rests. Sets fault to what is wrong, or to nothing,
+# and bad to the horizon.
+answer_fault() {
     local said task=$1/task
+    fault='' bad=-1
     if [ "$certified" -ge 0 ]; then
         said=$("$program" verify "$task/domain" "$task/problem" "$1/h/$certified/certificate" 2>/dev/null)
-        [ $? = 0 ] && [[ $said =~ ^'; accepted horizon '$certified' entries '[0-9]+$ ]] ||
-            wrong "the certificate of horizon $certified is not accepted: ${said:-no answer}"
+        if ! [[ $said =~ ^'; accepted horizon '$certified' entries '[0-9]+$ ]]; then
+            fault="the certificate of horizon $certified is not accepted: ${said:-no answer}" bad=$certified
+            return
+        fi
     fi
     if [ "$found" -ge 0 ]; then
-        said=$("$program" check "$task/domain" "$task/problem" "$1/h/$found/plan" 2>/dev/null)
-        [ $? = 0 ] || wrong "the plan of horizon $found does not reach the goal: ${said:-no answer}"
-        [ "$certified" -lt "$found" ] || wrong "horizon $certified is refuted, and horizon $found has a plan"
+        if ! said=$("$program" check "$task/domain" "$task/problem" "$1/h/$found/plan" 2>/dev/null); then
+            fault="the plan of horizon $found does not reach the goal: ${said:-no answer}" bad=$found
+        elif [ "$certified" -ge "$found" ]; then
+            fault="horizon $certified is refuted, and horizon $found has a plan" bad=$certified
+        fi
     fi
+}
+
+# set_aside FOLDER N WHY: a result that is not to be trusted, so that its horizon is run again.
+set_aside() {
+    say "$3: it is set aside, and the horizon is run again"
+    mv -f -- "$1/h/$2/result" "$1/h/$2/result.bad"
+}
+
+# mend_results FOLDER: sets aside each result that has not the form or the files that it names.
+mend_results() {
+    local at n why
+    for at in "$1"/h/*/result; do
+        n=$(basename -- "$(dirname -- "$at")")
+        why=$(read_result "$1" "$n" 2>&1) || set_aside "$1" "$n" "${why#spread: }"
+    done
+}
+
+# mend_answer FOLDER: runs again what the answer rests on and does not stand. What is still wrong then is told by the join.
+mend_answer() {
+    mend_results "$1"
+    run_engine
+    read_results "$1"
+    answer_fault "$1"
+    [ -z "$fault" ] && return
+    set_aside "$1" "$bad" "$fault"
+    run_engine
 }
 
 # tell_table FOLDER
@@ -62,8 +94,10 @@ tell_table() {
                 "$(value_of "$at" megabytes)" "$(value_of "$at" where)"
         elif [ "$found" -ge 0 ] && [ "$n" -gt "$found" ] || [ "$n" -lt "$certified" ]; then
             printf '%-8s %-9s\n' "$n" needless
+        elif [ -n "$lost" ]; then
+            printf '%-8s %-9s %10s %8s %7s  %s\n' "$n" lost '' '' '' "$lost"
         else
-            printf '%-8s %-9s %10s %8s %7s  %s\n' "$n" "${lost:+lost}${lost:-open}" '' '' '' "$lost" | sed 's/^\([0-9]* *lost\)[^ ]*/\1/'
+            printf '%-8s %-9s\n' "$n" missing
         fi
     done
 }
@@ -142,13 +176,14 @@ join_results() {
     first=$(setting "$folder" first) last=$(setting "$folder" last)
     is_number "$first" 0 255 && is_number "$last" "$first" 255 || wrong "$folder/task/settings is not what a driver writes"
     read_results "$folder"
-    check_answer "$folder"
+    answer_fault "$folder"
+    [ -z "$fault" ] || wrong "$fault"
     tell_table "$folder"
     tell_answer
     if [ "$ends" = 2 ]; then
         lost=$(lost_status "$folder")
         ends=${lost:-2}
     fi
-    put_properties "$folder" || say "the properties could not be written"
+    put_properties "$folder" 2>/dev/null || say "the properties could not be written"
     exit "$ends"
 }
