@@ -119,7 +119,7 @@ run_horizon() {
         ;;
     1) run_plan "$folder" "$n" plan 0 plan && put_result "$folder" "$n" plan "$(conflicts_told "$at/plan" "$n" plan)" plan ;;
     2) [ -n "$look" ] || put_result "$folder" "$n" open "$(conflicts_told "$out" "$n" open)" ;;
-    4) run_limit "$folder" "$n" "$look" ;;
+    4) run_limit "$folder" "$n" ;;
     8) lose "$folder" "$n" memory ;;
     14) lose "$folder" "$n" time ;;
     15) ;;
@@ -130,11 +130,13 @@ run_horizon() {
     rm -f -- "$at"/*."$$"
 }
 
-# run_limit FOLDER N LOOK: past a limit. Where it is the length of the certificate the horizon is refuted, and a report tells so.
+# run_limit FOLDER N: past a limit. Where it is the length of the certificate the horizon is refuted, and a report tells so.
 run_limit() {
     local at=$1/h/$2
     if grep -q '^; limit file proof$' "$at/out.$$"; then
         run_plan "$1" "$2" refuted 1 report && put_result "$1" "$2" reported "$(conflicts_told "$at/report" "$2" refuted)" report
+    elif grep -q '^; limit literals' "$at/out.$$"; then
+        put_result "$1" "$2" limit 0
     else
         lose "$1" "$2" "$(sed 's/^; //;q' "$at/out.$$")"
     fi

@@ -12,9 +12,9 @@ read_result() {
     word=missing
     [ -f "$at/result" ] || return 0
     word=$(value_of "$at/result" word)
-    [[ $word == refuted || $word == reported || $word == plan || $word == open ]] || wrong "$at/result is not what a job writes"
+    [[ $word == refuted || $word == reported || $word == plan || $word == open || $word == limit ]] || wrong "$at/result is not what a job writes"
     [ "$(value_of "$at/result" horizon)" = "$2" ] || wrong "$at/result is of another horizon"
-    [[ $word == open ]] || grep -q '^file=' "$at/result" || wrong "$at/result names no file"
+    [[ $word == open || $word == limit ]] || grep -q '^file=' "$at/result" || wrong "$at/result names no file"
     while read -r name sum; do
         [ "$(sha256sum <"$at/$name" 2>/dev/null | cut -d ' ' -f 1)" = "$sum" ] || wrong "$at/$name is not the file that its result names"
     done < <(sed -n 's/^file=//p' "$at/result")
