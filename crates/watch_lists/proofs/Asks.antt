@@ -212,9 +212,20 @@ asking_wider cl trail words asks words' asks' i same wide more = record {
     asked : (k : ℕ) → (k < length cl) × IsAsked (has_literal trail) (clause_at cl k) (get_or asks k 0) → (k < length cl) × IsAsked (has_literal trail) (clause_at cl k) (get_or asks' k 0)
     asked k r = (r.0, subst (λ (x : ℕ). IsAsked (has_literal trail) (clause_at cl k) x) (sym (wide k (omega (arith, r.0, i.long)))) r.1)
 
-pub least_wider : (s s' : ℕ → Bool) (o : Option ℕ) → ((k : ℕ) → s' k ≡ s k) → IsLeast s o → IsLeast s' o
-least_wider s s' None h l = λ k. h k ∙ l k
-least_wider s s' (Some n) h l = (h n ∙ l.0, λ j g. h j ∙ l.1 j g)
+-- without a number that does not pass a set still has all that do, and nothing up to that number where it was the least
+pub cleaned_complete : (p s s' : ℕ → Bool) (n : ℕ) → p n ≡ false → ((k : ℕ) → p k ≡ true → s k ≡ true) → ((k : ℕ) → s' k ≡ (not (k == n) && s k)) → (k : ℕ) → p k ≡ true → s' k ≡ true
+cleaned_complete p s s' n off complete has k e = has k ∙ by (k == n) refl
+  where
+    by : (b : Bool) → (k == n) ≡ b → (not b && s k) ≡ true
+    by true f = absurd (let z : true ≡ false = sym e ∙ ap p (equal_of k n f) ∙ off in let w : ⊥ = cc in w)
+    by false f = complete k e
+
+pub cleaned_least : (s s' : ℕ → Bool) (n : ℕ) → IsLeast s (Some n) → ((k : ℕ) → s' k ≡ (not (k == n) && s k)) → (k : ℕ) → k < n + 1 → s' k ≡ false
+cleaned_least s s' n l has k h = has k ∙ by (k == n) refl
+  where
+    by : (b : Bool) → (k == n) ≡ b → (not b && s k) ≡ false
+    by true f = refl
+    by false f = let ne : k ≢ n = apart_of k n f in l.1 k (omega (arith, ne, h))
 
 -- the literal that was made true last
 pub last_true : (trail : List ℕ) (x : ℕ) → has_literal (trail ++ x ∷ []) x ≡ true

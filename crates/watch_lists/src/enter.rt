@@ -77,7 +77,7 @@ impl Lists {
         ensures free { FreeWith clause.now slot truth.now.trail self.old.watched.items self.new.watched.items }
         ensures quiet { IsQuietBelow clause.now truth.now.trail result.low }
         ensures asked { result.low ≤ length truth.now.trail → IsAsked (has_literal truth.now.trail) clause.now result.ask }
-        ensures set { self.new.asking.set.words ≡ self.old.asking.set.words }
+        ensures set { self.new.asking.set ≡ self.old.asking.set }
         ensures asks { self.new.asking.asks.items ≡ self.old.asking.asks.items }
     {
         if clause.len() < 2 {

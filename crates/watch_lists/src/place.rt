@@ -37,7 +37,7 @@ pub fn place(
     ensures taken { IsTaken clause.now number (2 * truth.now.variables) truth.now.trail pairs.new slots.old.items lists.old.watched.items lists.old.chains.heads.items lists.old.chains.nodes.items slots.new.items lists.new.watched.items lists.new.chains.heads.items lists.new.chains.nodes.items }
     ensures quiet { IfOk result (λ new. IsQuietBelow clause.now truth.now.trail new.low) }
     ensures asked { IfOk result (λ new. new.low ≤ length truth.now.trail → IsAsked (has_literal truth.now.trail) clause.now new.ask) }
-    ensures set { lists.new.asking.set.words ≡ lists.old.asking.set.words }
+    ensures set { lists.new.asking.set ≡ lists.old.asking.set }
     ensures asks { lists.new.asking.asks.items ≡ lists.old.asking.asks.items }
 {
     if pairs.enter(clause, number) {

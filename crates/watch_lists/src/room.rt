@@ -8,6 +8,7 @@ ghost use Rattle.watch_lists.specs.Added.{IsWider, HasRoom};
 
 use crate::asking::{Asking, NOTHING};
 use crate::visit::{Lists, Watched};
+use number_bits::first::First;
 use number_bits::flat::Flat;
 use number_bits::layer::Layer;
 use number_bits::set::NumberSet;
@@ -17,13 +18,13 @@ use watch_chains::chains::Chains;
 /// Makes room for a number in a set that has it for all that are less.
 fn widen_set(asking: &mut Asking, number: u32) -> Result<(), AllocError>
     requires few { number < 2147483647 }
-    requires room { number ≤ 64 * length asking.old.set.words }
+    requires room { number ≤ 64 * length asking.old.set }
     requires long { number ≤ length asking.old.asks.items }
-    ensures room { OnOk result (number < 64 * length asking.new.set.words) }
+    ensures room { OnOk result (number < 64 * length asking.new.set) }
     ensures long { OnOk result (number < length asking.new.asks.items) }
-    ensures more { length asking.old.set.words ≤ length asking.new.set.words }
+    ensures more { length asking.old.set ≤ length asking.new.set }
     ensures more_asks { length asking.old.asks.items ≤ length asking.new.asks.items }
-    ensures same { (k : ℕ) → words_have asking.new.set.words k ≡ words_have asking.old.set.words k }
+    ensures same { (k : ℕ) → words_have asking.new.set k ≡ words_have asking.old.set k }
     ensures same_asks { (k : ℕ) → k < length asking.old.asks.items → slice_index asking.new.asks.items k ≡ slice_index asking.old.asks.items k }
 {
     if asking.set.room() <= number as u64 {
@@ -73,16 +74,16 @@ impl Lists {
     pub fn widen(&mut self, number: u32, slot: u32) -> Result<(), AllocError>
         requires few { number < 2147483647 }
         requires few_slots { slot < 2147483647 }
-        requires set { number ≤ 64 * length self.old.asking.set.words }
+        requires set { number ≤ 64 * length self.old.asking.set }
         requires asks { number ≤ length self.old.asking.asks.items }
         requires nodes { 2 * slot ≤ length self.old.chains.nodes.items }
         requires watches { slot ≤ length self.old.watched.items }
         ensures room { OnOk result (HasRoom slot self.new.watched.items self.new.chains.nodes.items) }
-        ensures in_set { OnOk result (number < 64 * length self.new.asking.set.words) }
+        ensures in_set { OnOk result (number < 64 * length self.new.asking.set) }
         ensures in_asks { OnOk result (number < length self.new.asking.asks.items) }
         ensures more_asks { length self.old.asking.asks.items ≤ length self.new.asking.asks.items }
         ensures same_asks { (k : ℕ) → k < length self.old.asking.asks.items → slice_index self.new.asking.asks.items k ≡ slice_index self.old.asking.asks.items k }
-        ensures wider { IsWider self.old.watched.items self.old.chains.heads.items self.old.chains.nodes.items self.old.asking.set.words self.new.watched.items self.new.chains.heads.items self.new.chains.nodes.items self.new.asking.set.words }
+        ensures wider { IsWider self.old.watched.items self.old.chains.heads.items self.old.chains.nodes.items self.old.asking.set self.new.watched.items self.new.chains.heads.items self.new.chains.nodes.items self.new.asking.set }
     {
         widen_set(&mut self.asking, number)?;
         widen_nodes(&mut self.chains, slot)?;

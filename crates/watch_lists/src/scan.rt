@@ -57,7 +57,7 @@ pub fn find_free(truth: &Truth, clause: &[Lit], skipped: u32, low: u32, high: u3
 {
     for place in low..high {
         let lit = clause[place as usize];
-        if place != skipped && !truth.is_false(lit.0) {
+        if !truth.is_false(lit.0) && place != skipped {
             return Some(place);
         }
     }

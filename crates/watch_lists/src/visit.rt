@@ -72,19 +72,20 @@ impl Lists {
         requires code { code < spare }
         requires fallen { has_literal truth.now.trail (opposite code) ≡ true }
         requires fit { IsFit store.now spare }
+        requires kept { length kept.now ≡ length store.now }
         requires slotted { AreSlotsBelow (length store.now) slots.now }
-        requires room { length store.now ≤ 64 * length self.old.asking.set.words }
+        requires room { length store.now ≤ 64 * length self.old.asking.set }
         requires long { length store.now ≤ length self.old.asking.asks.items }
-        requires asked { AreAsked store.now (has_literal truth.now.trail) self.old.asking.set.words self.old.asking.asks.items }
+        requires asked { AreAsked store.now (has_literal truth.now.trail) self.old.asking.set self.old.asking.asks.items }
         requires real { IsReal (slot_clauses store.now slots.now) node }
-        requires own { literal_at (slot_clauses store.now slots.now) self.old.watched.items node ≡ code }
-        requires listed { (r : IsListed (slot_clauses store.now slots.now) self.old.watched.items self.old.chains.heads.items self.old.chains.nodes.items spare (IsOther (slot_flags kept.now slots.now) node) (Stays (slot_clauses store.now slots.now) self.old.watched.items (has_literal truth.now.trail) (slot_set (words_have self.old.asking.set.words) slots.now) code)) × (r.on node ≡ None) }
-        ensures listed { IsListed (slot_clauses store.now slots.now) self.new.watched.items self.new.chains.heads.items self.new.chains.nodes.items spare (IsKept (slot_flags kept.now slots.now)) (Stays (slot_clauses store.now slots.now) self.new.watched.items (has_literal truth.now.trail) (slot_set (words_have self.new.asking.set.words) slots.now) code) }
+        requires own { IsKept (slot_flags kept.now slots.now) node → literal_at (slot_clauses store.now slots.now) self.old.watched.items node ≡ code }
+        requires listed { (r : IsListed (slot_clauses store.now slots.now) self.old.watched.items self.old.chains.heads.items self.old.chains.nodes.items spare (IsOther (slot_flags kept.now slots.now) node) (Stays (slot_clauses store.now slots.now) self.old.watched.items (has_literal truth.now.trail) (slot_set (words_have self.old.asking.set) slots.now) code)) × (r.on node ≡ None) }
+        ensures listed { IsListed (slot_clauses store.now slots.now) self.new.watched.items self.new.chains.heads.items self.new.chains.nodes.items spare (IsKept (slot_flags kept.now slots.now)) (Stays (slot_clauses store.now slots.now) self.new.watched.items (has_literal truth.now.trail) (slot_set (words_have self.new.asking.set) slots.now) code) }
         ensures moves { MovesToFree (slot_clauses store.now slots.now) self.old.watched.items self.new.watched.items (has_literal truth.now.trail) }
-        ensures grows { Grows (words_have self.old.asking.set.words) (words_have self.new.asking.set.words) }
-        ensures room { length self.new.asking.set.words ≡ length self.old.asking.set.words }
+        ensures grows { Grows (words_have self.old.asking.set) (words_have self.new.asking.set) }
+        ensures room { length self.new.asking.set ≡ length self.old.asking.set }
         ensures long { length self.new.asking.asks.items ≡ length self.old.asking.asks.items }
-        ensures asked { AreAsked store.now (has_literal truth.now.trail) self.new.asking.set.words self.new.asking.asks.items }
+        ensures asked { AreAsked store.now (has_literal truth.now.trail) self.new.asking.set self.new.asking.asks.items }
         ensures lengths { chain_length self.new.chains.heads.items self.new.chains.nodes.items code ≡ chain_length self.old.chains.heads.items self.old.chains.nodes.items code }
     {
         let note = self.chains.note(node);
@@ -93,6 +94,9 @@ impl Lists {
             return;
         }
         let slot = node / 2;
+        if !is_slot_kept(kept, slots, slot) {
+            return;
+        }
         let watched = self.watched[slot as usize];
         let clause = slot_clause(store, slots, slot);
         let second = node % 2 == 1;
@@ -133,17 +137,17 @@ impl Lists {
         requires fit { IsFit store.now spare }
         requires kept { length kept.now ≡ length store.now }
         requires slotted { AreSlotsBelow (length store.now) slots.now }
-        requires room { length store.now ≤ 64 * length self.old.asking.set.words }
+        requires room { length store.now ≤ 64 * length self.old.asking.set }
         requires long { length store.now ≤ length self.old.asking.asks.items }
-        requires asked { AreAsked store.now (has_literal truth.now.trail) self.old.asking.set.words self.old.asking.asks.items }
+        requires asked { AreAsked store.now (has_literal truth.now.trail) self.old.asking.set self.old.asking.asks.items }
         requires rest { IsAtRest (slot_clauses store.now slots.now) self.old.watched.items self.old.chains.heads.items self.old.chains.nodes.items spare (slot_flags kept.now slots.now) }
         ensures rest { IsAtRest (slot_clauses store.now slots.now) self.new.watched.items self.new.chains.heads.items self.new.chains.nodes.items spare (slot_flags kept.now slots.now) }
-        ensures settled { AllSettled (slot_clauses store.now slots.now) self.new.watched.items (has_literal truth.now.trail) (slot_set (words_have self.new.asking.set.words) slots.now) code (slot_flags kept.now slots.now) }
+        ensures settled { AllSettled (slot_clauses store.now slots.now) self.new.watched.items (has_literal truth.now.trail) (slot_set (words_have self.new.asking.set) slots.now) code (slot_flags kept.now slots.now) }
         ensures moves { MovesToFree (slot_clauses store.now slots.now) self.old.watched.items self.new.watched.items (has_literal truth.now.trail) }
-        ensures grows { Grows (words_have self.old.asking.set.words) (words_have self.new.asking.set.words) }
-        ensures room { length self.new.asking.set.words ≡ length self.old.asking.set.words }
+        ensures grows { Grows (words_have self.old.asking.set) (words_have self.new.asking.set) }
+        ensures room { length self.new.asking.set ≡ length self.old.asking.set }
         ensures long { length self.new.asking.asks.items ≡ length self.old.asking.asks.items }
-        ensures asked { AreAsked store.now (has_literal truth.now.trail) self.new.asking.set.words self.new.asking.asks.items }
+        ensures asked { AreAsked store.now (has_literal truth.now.trail) self.new.asking.set self.new.asking.asks.items }
     {
         'visits: loop {
             match self.chains.pop(code) {
@@ -152,9 +156,7 @@ impl Lists {
                     return;
                 }
                 Some(node) => {
-                    if is_slot_kept(kept, slots, node / 2) {
-                        self.visit(store, kept, slots, truth, spare, code, node);
-                    }
+                    self.visit(store, kept, slots, truth, spare, code, node);
                 }
             }
         }

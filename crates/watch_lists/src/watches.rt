@@ -19,6 +19,7 @@ use clause_base::clause::Clause;
 use clause_base::formula::Formula;
 use clause_base::literal::Lit;
 use clause_base::memory::Memory;
+use number_bits::first::First;
 use number_bits::flat::Flat;
 use number_bits::layer::Layer;
 use number_bits::set::NumberSet;
@@ -42,7 +43,6 @@ pub struct Watches {
     pairs: Pairs,
     slots: Vec<u32>,
     lists: Lists,
-    least: Option<u32>,
     quiet: Vec<bool>,
 }
 
@@ -51,14 +51,14 @@ impl Model for Watches {
     ghost use Rattle.watch_lists.specs.Pending.{WatchesView};
     ghost use Rattle.watch_lists.specs.Pairs.{IsPaired};
     ghost use Rattle.watch_lists.specs.Asking.{IsAsking};
-    ghost use Rattle.number_bits.specs.Bits.{IsLeast, words_have};
+    ghost use Rattle.number_bits.specs.Bits.{words_have};
     ghost use Rattle.watch_lists.specs.Sound.{IsSound};
 
     ghost Value = { WatchesView };
 
     ghost view = { λ w. record { variables = w.variables; clauses = w.store; kept = w.kept.items; trail = w.truth.trail } };
 
-    ghost invariant = { λ w. IsSound w.variables w.truth.variables w.store w.kept.items w.truth.trail w.slots.items w.lists.watched.items w.lists.chains.heads.items w.lists.chains.nodes.items w.lists.asking.set.words w.quiet.items × IsPaired w.variables w.store w.slots.items w.pairs × IsAsking w.store w.truth.trail w.lists.asking.set.words w.lists.asking.asks.items × IsLeast (words_have w.lists.asking.set.words) w.least };
+    ghost invariant = { λ w. IsSound w.variables w.truth.variables w.store w.kept.items w.truth.trail w.slots.items w.lists.watched.items w.lists.chains.heads.items w.lists.chains.nodes.items w.lists.asking.set w.quiet.items × IsPaired w.variables w.store w.slots.items w.pairs × IsAsking w.store w.truth.trail w.lists.asking.set w.lists.asking.asks.items };
 }
 
 /// Takes the flags of the lengths from one up to another away.
@@ -76,16 +76,16 @@ fn unquiet(quiet: &mut Vec<bool>, low: u32, high: u32)
 /// Puts a new clause into the set, unless it is pending on the trail in none of its prefixes, nor on the whole. Of the lengths
 /// below the whole one it keeps the flags of those in whose prefixes the clause is not pending.
 fn raise(truth: &Truth, asking: &mut Asking, quiet: &mut Vec<bool>, number: u32, new: Entered)
-    requires number { number < 64 * length asking.old.set.words }
+    requires number { number < 64 * length asking.old.set }
     requires room { number < length asking.old.asks.items }
     requires long { truth.now.variables < length quiet.old.items }
-    ensures grows { Grows (words_have asking.old.set.words) (words_have asking.new.set.words) }
-    ensures own { new.low ≤ length truth.now.trail → words_have asking.new.set.words number ≡ true }
-    ensures others { (k : ℕ) → (k ≡ number → ⊥) → words_have asking.new.set.words k ≡ words_have asking.old.set.words k }
-    ensures none { length truth.now.trail < new.low → asking.new.set.words ≡ asking.old.set.words }
+    ensures grows { Grows (words_have asking.old.set) (words_have asking.new.set) }
+    ensures own { new.low ≤ length truth.now.trail → words_have asking.new.set number ≡ true }
+    ensures others { (k : ℕ) → (k ≡ number → ⊥) → words_have asking.new.set k ≡ words_have asking.old.set k }
+    ensures none { length truth.now.trail < new.low → asking.new.set ≡ asking.old.set }
     ensures ask { new.low ≤ length truth.now.trail → slice_index asking.new.asks.items number ≡ new.ask }
     ensures asks { (k : ℕ) → (k ≡ number → ⊥) → slice_index asking.new.asks.items k ≡ slice_index asking.old.asks.items k }
-    ensures room { length asking.new.set.words ≡ length asking.old.set.words }
+    ensures room { length asking.new.set ≡ length asking.old.set }
     ensures long { length asking.new.asks.items ≡ length asking.old.asks.items }
     ensures size { length quiet.new.items ≡ length quiet.old.items }
     ensures below { (n : ℕ) → n < new.low → slice_index_or quiet.new.items n false ≡ slice_index_or quiet.old.items n false }
@@ -118,9 +118,9 @@ fn literal_count(formula: &Formula) -> usize {
 
 /// An empty set of clauses.
 fn no_pending(alloc: Global) -> Pending
-    ensures { (k : ℕ) → words_have result.words k ≡ false }
+    ensures { (k : ℕ) → words_have result k ≡ false }
 {
-    Layer::new(
+    First::new(
         alloc,
         Layer::new(alloc, Layer::new(alloc, Flat::new(alloc))),
     )
@@ -156,7 +156,6 @@ impl Watches {
                 watched,
                 asking,
             },
-            least: None,
             quiet,
         })
     }
@@ -216,13 +215,12 @@ impl Watches {
             number,
             entered,
         );
-        let least = clean(
+        clean(
             &self.store,
             self.kept.as_slice(),
             &self.truth,
             &mut self.lists.asking,
         );
-        self.least = least;
         Ok(())
     }
 
@@ -234,7 +232,8 @@ impl Watches {
         ensures { self.new ≡ record self.old { trail = self.old.trail ++ lit ∷ [] } }
     {
         let length = self.truth.length();
-        self.quiet[length as usize] = self.least.is_none();
+        let least = self.lists.asking.set.least();
+        self.quiet[length as usize] = least.is_none();
         self.truth.push(lit.0);
         let fallen = lit.opposite();
         mark_all(
@@ -253,13 +252,12 @@ impl Watches {
             spare,
             fallen.0,
         );
-        let least = clean(
+        clean(
             &self.store,
             self.kept.as_slice(),
             &self.truth,
             &mut self.lists.asking,
         );
-        self.least = least;
     }
 
     /// Takes back what stands above a length of the trail. It takes no memory.
@@ -272,7 +270,6 @@ impl Watches {
         self.truth.cut(length);
         if self.quiet[length as usize] {
             clear(&mut self.lists.asking);
-            self.least = None;
         } else {
             rescan(
                 &self.store,
@@ -280,8 +277,6 @@ impl Watches {
                 &self.truth,
                 &mut self.lists.asking,
             );
-            let least = self.lists.asking.set.least();
-            self.least = least;
         }
     }
 
@@ -291,13 +286,12 @@ impl Watches {
         ensures { self.new ≡ record self.old { kept = slice_set self.old.kept number false } }
     {
         self.kept[number as usize] = false;
-        let least = clean(
+        clean(
             &self.store,
             self.kept.as_slice(),
             &self.truth,
             &mut self.lists.asking,
         );
-        self.least = least;
     }
 
     /// The literals of the clause with a number; it may have been removed.
@@ -325,6 +319,6 @@ impl Watches {
     pub fn least_pending(&self) -> Option<u32>
         ensures { result ≡ least_from (is_pending_in self.now.clauses self.now.kept (has_literal self.now.trail)) 0 (length self.now.clauses) }
     {
-        self.least
+        self.lists.asking.set.least()
     }
 }

@@ -7,11 +7,11 @@ use Rattle.watch_lists.proofs.front.clean.Given as goal
 
 abbrev pub invariant-cleaning : goal.invariant-cleaning
 invariant-cleaning l = record {
-  complete : (k : ℕ) → is_pending_on l.store l.kept l.truth.trail k ≡ true → words_have l.asking.set.words k ≡ true;
-  room : length l.asking.set.words ≡ length l.initial.asking.set.words;
-  none : (k : ℕ) → k < l.low → words_have l.asking.set.words k ≡ false;
+  complete : (k : ℕ) → is_pending_on l.store l.kept l.truth.trail k ≡ true → words_have l.asking.set k ≡ true;
+  room : length l.asking.set ≡ length l.initial.asking.set;
+  none : (k : ℕ) → k < l.low → words_have l.asking.set k ≡ false;
   asks : l.asking.asks.items ≡ l.initial.asking.asks.items;
-  asked : AreAsked l.store (has_literal l.truth.trail) l.asking.set.words l.asking.asks.items;
+  asked : AreAsked l.store (has_literal l.truth.trail) l.asking.set l.asking.asks.items;
   low : l.low ≤ 4294967296;
 }
 
