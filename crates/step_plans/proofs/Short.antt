@@ -1,17 +1,19 @@
 -- A run of at most n actions to the goal is a step plan of n steps: one action a step, and then empty sets.
-use Rattle.std.proofs.Common.{arith, ◌≡◌, ◌≤◌, ℕ, zero, suc, ◌+◌, List, [], ◌∷◌, length, take, slice_get, Bool, Option, Some, None, refl, sym, ap, subst, add-one}
+use Rattle.std.proofs.Common.{arith, ◌≡◌, ◌≤◌, ℕ, zero, suc, ◌+◌, List, [], ◌∷◌, length, take, slice_get, Bool, true, false, Option, Some, None, refl, sym, ap, subst, add-one, inl, inr}
 use Rattle.std.specs.Prelude.{IsTrue}
 use Rattle.gt_core.specs.Literal.{is_in}
 use Rattle.gt_core.specs.Task.{Task, initial_state}
 use Rattle.gt_core.specs.Execution.{Runs, CanRun, run, next_of_one, IsGoal}
 use Rattle.gt_core.specs.Step.{IsStep, IsStepPlan}
 use Rattle.gt_core.specs.Laws.{OneActionIsStep, EmptySetIsStep}
+use Rattle.gt_core.proofs.Literals.{in_among}
 use Rattle.pd_model.specs.Plan.{IsPlan, exec_all, meets_goal}
 use Rattle.pd_model.specs.declared.atoms.Atom.{Atom}
 use Rattle.pd_model.specs.declared.calls.Call.{Call}
 use Rattle.pd_model.specs.declared.parts.Parts.{Parts}
 use Rattle.grounding.specs.Grounded.{Grounded, IsGrounded}
 use Rattle.grounding.specs.Laws.{AreNumbers, CallsAreActions, GoalsAgree}
+use Rattle.step_plans.specs.Plans.{NoneBarred, IsStepPlanOf}
 
 -- the action of a step, if there is one
 abbrev set_of : Option ℕ → List ℕ
@@ -80,12 +82,21 @@ reached : (p : Parts) (o : Option (List Atom)) → IsTrue (meets_goal p o) → (
 reached p None h = absurd (let n : _ = h in cc)
 reached p (Some t) h = (t, refl, h)
 
+only_one : (a b : ℕ) → is_in (a ∷ []) b ≡ true → b ≡ a
+only_one a b h = elim (in_among (a ∷ []) b h) [ inl e ↦ e | inr none ↦ absurd none ]
+
+-- one action a step, or none
+each_by : (bars : ℕ → ℕ → Bool) → ((a : ℕ) → bars a a ≡ false) → (o : Option ℕ) → NoneBarred bars (is_in (set_of o))
+each_by bars itself None b c in_b in_c = absurd (let never : false ≡ true = in_b in cc)
+each_by bars itself (Some a) b c in_b in_c = rw (only_one a b in_b, only_one a c in_c) (itself a)
+
 pub short_plans :
-    (p : Parts) (g : Grounded) (order : List ℕ) (n : ℕ) (calls : List Call)
-    → OneActionIsStep → EmptySetIsStep → CallsAreActions → GoalsAgree → IsGrounded p g → length calls ≤ n → IsPlan p calls → (steps : ℕ → ℕ → Bool) × IsStepPlan g.task order steps n
-short_plans p g order n calls one none are_actions agree is short plan =
+    (bars : ℕ → ℕ → Bool) (p : Parts) (g : Grounded) (order : List ℕ) (n : ℕ) (calls : List Call)
+    → OneActionIsStep → EmptySetIsStep → CallsAreActions → GoalsAgree → ((a : ℕ) → bars a a ≡ false) → IsGrounded p g → length calls ≤ n → IsPlan p calls
+    → (steps : ℕ → ℕ → Bool) × IsStepPlanOf bars g.task order steps n
+short_plans bars p g order n calls one none are_actions agree itself is short plan =
     let t = reached p (exec_all p p.init calls) plan in
     let r = are_actions p g is calls t.0 t.1 in
     let goal = (agree p g is calls t.0 t.1 (run g.task (initial_state g.task) r.0) r.1.same).1 t.2 in
     let long = same_length g calls r.0 r.1.named in
-    (one_by_one r.0, plan_of_run g.task order one none r.0 n (omega (arith, long, short)) r.1.runs goal)
+    (one_by_one r.0, record { plan = plan_of_run g.task order one none r.0 n (omega (arith, long, short)) r.1.runs goal; each = λ t lt. each_by bars itself (slice_get r.0 t) })
