@@ -9,3 +9,4 @@ pub mod Ranges
 pub mod FormLaw
 pub mod SequenceLaw
 pub mod MembersLaw
+pub mod ExistsSteps
