@@ -3,6 +3,7 @@ pub mod StepLaw
 pub mod StepClauses
 pub mod OrderLaw
 pub mod PlanLaw
+pub mod SetAt
 pub mod Assignment
 pub mod FormulaLaw
 pub mod Ranges

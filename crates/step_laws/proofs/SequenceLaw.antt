@@ -1,5 +1,4 @@
-use Rattle.std.proofs.Common.{arith, ◌≡◌, ◌==◌, ℕ, zero, suc, ◌+◌, ◌-◌, ◌<◌, ◌≤◌, List, [], ◌∷◌, length, Bool, true, false, refl, sym, ap, ◌∙◌, subst, inl, inr}
-use Rattle.std.proofs.lemmas.Bool.Decides.{nat_tests}
+use Rattle.std.proofs.Common.{arith, ◌≡◌, ◌==◌, ℕ, zero, suc, ◌+◌, ◌<◌, ◌≤◌, List, [], ◌∷◌, length, Bool, true, false, refl, sym, ap, ◌∙◌, subst, inl, inr}
 use Rattle.gt_core.specs.Literal.{is_in}
 use Rattle.gt_core.specs.Task.{Task, initial_state}
 use Rattle.gt_core.specs.Execution.{next_of_one, CanRun, run, IsGoal}
@@ -7,6 +6,7 @@ use Rattle.gt_core.specs.Step.{IsStep, IsStepPlan}
 use Rattle.gt_core.specs.Published.{order_of}
 use Rattle.gt_core.proofs.Basics.{or_split, test_same}
 use Rattle.gt_core.proofs.StepLaw.{step_of_one, step_of_none}
+use Rattle.step_laws.proofs.SetAt.{set_next}
 use Rattle.step_laws.specs.Form.{OrderedTask, set_at, member_at, IsPlanOf}
 
 -- A plan of at most n actions in sequence is a step plan of n steps.
@@ -37,7 +37,7 @@ ends task s (k ∷ ks) zero l = absurd (omega arith)
 ends task s (k ∷ ks) (suc n) l = ends task (next_of_one task s k) ks n (omega arith)
 
 later_set : (x : List ℕ) (xs : List (List ℕ)) (t : ℕ) → set_at xs t ≡ set_at (x ∷ xs) (suc t)
-later_set x xs t = let z : (suc t == 0) ≡ false = grind (arith, nat_tests) in let d : suc t - 1 ≡ t = omega arith in rw (z, d)
+later_set x xs t = let e : t + 1 ≡ suc t = omega arith in sym (set_next x xs t) ∙ ap (set_at (x ∷ xs)) e
 
 leads : (task : Task) (order : List ℕ) (ks : List ℕ) (n : ℕ) (s : ℕ → Bool) → CanRun task s ks → (t : ℕ) → t < n → IsStep task order (state_after task s ks t) (member_at (one_by_one ks n) t) (state_after task s ks (suc t))
 leads task order ks zero s c t l = absurd (omega arith)

@@ -1,6 +1,5 @@
-use Rattle.std.specs.Prelude.{◌≡◌, ℕ, ◌<◌, ◌≤◌, List, Bool, length}
-use Rattle.gt_core.specs.Task.{Task, initial_state}
-use Rattle.gt_core.specs.Execution.{CanRun, run, IsGoal}
+use Rattle.std.specs.Prelude.{◌≡◌, ℕ, List, Bool}
+use Rattle.gt_core.specs.Task.{Task}
 use Rattle.gt_core.specs.Step.{IsStepPlan}
 use Rattle.gt_core.specs.Published.{order_of}
 use Rattle.clause_base.specs.Formula.{Satisfies, IsUnsatisfiable}
@@ -11,21 +10,10 @@ use Rattle.step_laws.specs.Form.{OrderedTask, IsOrderedTask, AreSets, steps_at}
 -- What an encoding rests on: which sets of actions are a plan, for a task, an order of its actions and a number of steps,
 -- and where the chains go of the formulas that say so.
 
--- Sets that are a plan are a step plan, sets after the last step do not matter, and where at most n actions, one after the
--- other, lead to the goal, there is such a plan of n steps.
-pub record ArePlans (are_plan : Task → List ℕ → (ℕ → ℕ → Bool) → ℕ → Type 0) : Type 0 where
-  pub steps : (task : Task) (order : List ℕ) (sets : ℕ → ℕ → Bool) (n : ℕ) → are_plan task order sets n → IsStepPlan task order sets n
-  pub same :
-      (task : Task) (order : List ℕ) (sets others : ℕ → ℕ → Bool) (n : ℕ)
-      → ((t : ℕ) → t < n → others t ≡ sets t) → are_plan task order sets n → are_plan task order others n
-  pub short :
-      (task : Task) (order : List ℕ) (n : ℕ) (ks : List ℕ) → length ks ≤ n → CanRun task (initial_state task) ks
-      → IsGoal task (run task (initial_state task) ks) → (sets : ℕ → ℕ → Bool) × are_plan task order sets n
-
--- A plan of n steps is what a satisfying assignment stands for of the formula whose chains go to these places, and where no
--- assignment satisfies it there is none.
+-- Sets that are a plan are a step plan. A plan of n steps is what a satisfying assignment stands for of the formula whose chains
+-- go to these places, and where no assignment satisfies it there is none.
 pub record IsStepping (places : Task → List (List ℕ) → List (List ℕ × ℕ)) (are_plan : Task → List ℕ → (ℕ → ℕ → Bool) → ℕ → Type 0) : Type 0 where
-  pub kind : ArePlans are_plan
+  pub steps : (task : Task) (order : List ℕ) (sets : ℕ → ℕ → Bool) (n : ℕ) → are_plan task order sets n → IsStepPlan task order sets n
   pub in_range : (form : OrderedTask) → IsOrderedTask form → IsInRange form.task form.known.clauses (places form.task form.components)
   pub plans :
       (form : OrderedTask) → IsOrderedTask form → (n : ℕ) (v : ℕ → Bool)
