@@ -1,4 +1,4 @@
-use Rattle.std.specs.Prelude.{◌≡◌, ℕ, List, Bool}
+use Rattle.std.specs.Prelude.{ℕ, List, Bool}
 use Rattle.gt_core.specs.Task.{Task}
 use Rattle.gt_core.specs.Step.{IsStepPlan}
 use Rattle.gt_core.specs.Published.{order_of}
