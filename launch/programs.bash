@@ -37,9 +37,8 @@ has_quick() {
 }
 
 # The command rt try compiles a program without its proof, runs it once, and throws it away. While it compiles, the whole
-# program stands in its folder as a module of LLVM, of which the toolchain's own clang makes a program. Where there is no
-# such module, or no such clang, the program that rt try makes is taken, which is a hundred times slower: it is run on a
-# pipe in place of the domain, and a planner that waits at the pipe is whole and can be copied.
+# program stands in its folder as a module of LLVM, of which the toolchain's own clang makes a program. Where that can not be
+# had, the program that rt try makes is taken, which is a hundred times slower.
 build_quick() (
     room=$(mktemp -d) || exit
     trap 'rm -rf -- "$room"' EXIT
@@ -50,27 +49,13 @@ build_quick() (
         TMPDIR=$room exec rt try --steps 1 -- plan "$room/pipe" /dev/null --max-horizon 0
     ) >"$room/said" 2>&1 </dev/null &
     try=$!
-    # Where rt try ends without a planner, this waits at the pipe in its place.
-    (
-        while kill -0 "$try" 2>/dev/null; do sleep 0.2; done
-        exec cat -- "$room/pipe" >/dev/null
-    ) &
-    waits=$!
-    keep_module "$room" "$try" &
-    keeps=$!
-    exec 3>"$room/pipe"
-    wait "$keeps"
-    if link_module "$room"; then
+    if keep_module "$room" "$try" && link_module "$room"; then
         put_program "$room/linked" "$quick" "$sum"
+        kill "$try" 2>/dev/null
     else
-        for made in "$room"/*/*/program; do
-            put_program "$made" "$quick" "$sum"
-        done
+        take_slow "$room" "$try"
     fi
-    exec 3>&-
-    wait "$try"
-    kill "$waits" 2>/dev/null
-    wait "$waits" 2>/dev/null
+    wait "$try" 2>/dev/null
     has_quick && exit
     sed 's/^/dokyreva: rt: /' -- "$room/said" >&2
     exit 1
@@ -78,21 +63,43 @@ build_quick() (
 
 # keep_module FOLDER PROCESS: keeps the module that rt try compiles, once it is whole: its object is begun after it.
 keep_module() {
+    local module
     while kill -0 "$2" 2>/dev/null; do
         for module in "$1"/*/*/module.bc; do
-            ls "${module%/*}"/*.o.tmp "${module%/*}"/*.o "${module%/*}"/program >/dev/null 2>&1 || continue
-            ln -- "$module" "$1/module.bc" 2>/dev/null || cp -- "$module" "$1/module.bc" && return
+            if compgen -G "${module%/*}/*.o*" >/dev/null; then
+                ln -- "$module" "$1/module.bc" 2>/dev/null || cp -- "$module" "$1/module.bc"
+                return
+            fi
         done
-        sleep 0.05
+        sleep 0.1
     done
+    return 1
 }
 
 # link_module FOLDER: makes a program of the module that was kept, by the toolchain's own tools.
 link_module() {
     local kit
     kit=$(dirname -- "$(rt doc 2>/dev/null)") || return
-    [ -f "$1/module.bc" ] && [ -x "$kit/toolchain/bin/clang" ] && [ -x "$kit/bin/rattle-link" ] || return
+    [ -x "$kit/toolchain/bin/clang" ] && [ -x "$kit/bin/rattle-link" ] || return
     "$kit/toolchain/bin/clang" --target=x86_64-unknown-linux-gnu -O1 -c -o "$1/module.o" "$1/module.bc" >>"$1/said" 2>&1 &&
         "$kit/bin/rattle-link" --target x86_64-unknown-linux-gnu --toolchain "$kit/toolchain" -o "$1/linked" "$1/module.o" \
             "$kit/c/asan.a" "$kit/c/libos_c.a" "$kit/c/liblibc_c.a" >>"$1/said" 2>&1
+}
+
+# take_slow FOLDER PROCESS: takes the program that rt try runs. It is run on a pipe in place of the domain; a planner that waits
+# at the pipe is whole and can be copied. Where rt try ends without a planner, another reader waits there in its place.
+take_slow() {
+    local waits made
+    (
+        while kill -0 "$2" 2>/dev/null; do sleep 0.2; done
+        exec cat -- "$1/pipe" >/dev/null
+    ) &
+    waits=$!
+    exec 3>"$1/pipe"
+    for made in "$1"/*/*/program; do
+        put_program "$made" "$quick" "$sum"
+    done
+    exec 3>&-
+    kill "$waits" 2>/dev/null
+    wait "$waits" 2>/dev/null
 }
