@@ -294,3 +294,8 @@ pair_pending clause ps list trail x k s i l set free none less =
         let t : has_two_free on' (i.first ∷ i.second ∷ []) ≡ true = tests_two (length (filter (is_free on') (i.first ∷ i.second ∷ []))) c in
         let z : true ≡ false = sym t ∙ ap (λ (xs : List ℕ). has_two_free on' xs) (sym i.is) ∙ less in
         absurd (let w : ⊥ = cc in w)
+
+-- the clause of a pair has two literals
+pub pair_long : (cl : List (List ℕ)) (code : ℕ) (p : Pair) → IsPairOf cl code p → length (clause_at cl p.number) ≡ 2
+pair_long cl code p (inl e) = ap (λ (xs : List ℕ). length xs) e
+pair_long cl code p (inr e) = ap (λ (xs : List ℕ). length xs) e

@@ -8,12 +8,12 @@ ghost use Rattle.number_bits.specs.Bits.{words_have};
 ghost use Rattle.watch_lists.specs.Pending.{WatchesView};
 ghost use Rattle.watch_lists.specs.Visit.{Grows};
 
-use crate::asking::{Asking, Pending};
-use crate::enter::Entered;
-use crate::front::{clean, clear, rescan};
+use crate::front::{ask_all, clean, clear, rescan};
 use crate::left::left_of;
 use crate::pairs::{Pairs, mark_all};
+use crate::pending::{Pending, no_pending};
 use crate::place::place;
+use crate::slots::begin_block;
 use crate::visit::Lists;
 use clause_base::clause::Clause;
 use clause_base::formula::Formula;
@@ -42,6 +42,7 @@ pub struct Watches {
     truth: Truth,
     pairs: Pairs,
     slots: Vec<u32>,
+    blocks: Vec<u32>,
     lists: Lists,
     quiet: Vec<bool>,
 }
@@ -58,7 +59,7 @@ impl Model for Watches {
 
     ghost view = { λ w. record { variables = w.variables; clauses = w.store; kept = w.kept.items; trail = w.truth.trail } };
 
-    ghost invariant = { λ w. IsSound w.variables w.truth.variables w.store w.kept.items w.truth.trail w.slots.items w.lists.watched.items w.lists.chains.heads.items w.lists.chains.nodes.items w.lists.asking.set w.quiet.items × IsPaired w.variables w.store w.slots.items w.pairs × IsAsking w.store w.truth.trail w.lists.asking.set w.lists.asking.asks.items };
+    ghost invariant = { λ w. IsSound w.variables w.truth.variables w.store w.kept.items w.truth.trail w.slots.items w.lists.watched.items w.lists.chains.heads.items w.lists.chains.nodes.items w.lists.pending w.quiet.items × IsPaired w.variables w.store w.slots.items w.pairs × IsAsking w.store w.truth.trail w.slots.items w.lists.pending w.lists.asks.items };
 }
 
 /// Takes the flags of the lengths from one up to another away.
@@ -73,30 +74,26 @@ fn unquiet(quiet: &mut Vec<bool>, low: u32, high: u32)
     }
 }
 
-/// Puts a new clause into the set, unless it is pending on the trail in none of its prefixes, nor on the whole. Of the lengths
-/// below the whole one it keeps the flags of those in whose prefixes the clause is not pending.
-fn raise(truth: &Truth, asking: &mut Asking, quiet: &mut Vec<bool>, number: u32, new: Entered)
-    requires number { number < 64 * length asking.old.set }
-    requires room { number < length asking.old.asks.items }
+/// Puts a new clause into the set, unless it is pending on the trail in none of its prefixes, nor on the whole. In the prefixes
+/// below a length it is not pending; of the lengths below the whole one it keeps the flags of those alone.
+fn raise(truth: &Truth, pending: &mut Pending, quiet: &mut Vec<bool>, number: u32, low: u32)
+    requires number { number < 64 * length pending.old }
     requires long { truth.now.variables < length quiet.old.items }
-    ensures grows { Grows (words_have asking.old.set) (words_have asking.new.set) }
-    ensures own { new.low ≤ length truth.now.trail → words_have asking.new.set number ≡ true }
-    ensures others { (k : ℕ) → (k ≡ number → ⊥) → words_have asking.new.set k ≡ words_have asking.old.set k }
-    ensures none { length truth.now.trail < new.low → asking.new.set ≡ asking.old.set }
-    ensures ask { new.low ≤ length truth.now.trail → slice_index asking.new.asks.items number ≡ new.ask }
-    ensures asks { (k : ℕ) → (k ≡ number → ⊥) → slice_index asking.new.asks.items k ≡ slice_index asking.old.asks.items k }
-    ensures room { length asking.new.set ≡ length asking.old.set }
-    ensures long { length asking.new.asks.items ≡ length asking.old.asks.items }
+    ensures grows { Grows (words_have pending.old) (words_have pending.new) }
+    ensures own { low ≤ length truth.now.trail → words_have pending.new number ≡ true }
+    ensures others { (k : ℕ) → (k ≡ number → ⊥) → words_have pending.new k ≡ words_have pending.old k }
+    ensures none { length truth.now.trail < low → pending.new ≡ pending.old }
+    ensures room { length pending.new ≡ length pending.old }
     ensures size { length quiet.new.items ≡ length quiet.old.items }
-    ensures below { (n : ℕ) → n < new.low → slice_index_or quiet.new.items n false ≡ slice_index_or quiet.old.items n false }
-    ensures off { (n : ℕ) → new.low ≤ n → n < length truth.now.trail → slice_index_or quiet.new.items n false ≡ false }
+    ensures below { (n : ℕ) → n < low → slice_index_or quiet.new.items n false ≡ slice_index_or quiet.old.items n false }
+    ensures off { (n : ℕ) → low ≤ n → n < length truth.now.trail → slice_index_or quiet.new.items n false ≡ false }
 {
     let length = truth.length();
-    if new.low > length {
+    if low > length {
         return;
     }
-    unquiet(quiet, new.low, length);
-    asking.insert(number, new.ask);
+    unquiet(quiet, low, length);
+    pending.insert(number);
 }
 
 /// For each length of the trail up to the whole one, that something may be pending there.
@@ -116,16 +113,6 @@ fn literal_count(formula: &Formula) -> usize {
     count
 }
 
-/// An empty set of clauses.
-fn no_pending(alloc: Global) -> Pending
-    ensures { (k : ℕ) → words_have result k ≡ false }
-{
-    First::new(
-        alloc,
-        Layer::new(alloc, Layer::new(alloc, Flat::new(alloc))),
-    )
-}
-
 impl Watches {
     /// No clauses over a formula's variables, none of which has a value, with room for the formula's clauses of two literals.
     fn empty(alloc: Global, formula: &Formula) -> Result<Watches, Memory>
@@ -140,10 +127,6 @@ impl Watches {
         let quiet = no_quiet(alloc, variables)?;
         let chains = Chains::new(alloc, 2 * variables + 1)?;
         let watched = Vec::new(alloc);
-        let asking = Asking {
-            set: no_pending(alloc),
-            asks: Vec::with_capacity(alloc, formula.count() as usize)?,
-        };
         Ok(Watches {
             variables,
             store,
@@ -151,10 +134,12 @@ impl Watches {
             truth,
             pairs,
             slots: Vec::new(alloc),
+            blocks: Vec::new(alloc),
             lists: Lists {
                 chains,
                 watched,
-                asking,
+                pending: no_pending(alloc),
+                asks: Vec::new(alloc),
             },
             quiet,
         })
@@ -197,10 +182,11 @@ impl Watches {
         let slot = self.slots.len() as u32;
         self.kept.reserve(1)?;
         self.slots.reserve(1)?;
+        begin_block(&mut self.blocks, number, slot)?;
         self.lists.widen(number, slot)?;
         self.store.push(clause)?;
         self.kept.push(true)?;
-        let entered = place(
+        let low = place(
             &mut self.pairs,
             &mut self.slots,
             &mut self.lists,
@@ -210,16 +196,19 @@ impl Watches {
         )?;
         raise(
             &self.truth,
-            &mut self.lists.asking,
+            &mut self.lists.pending,
             &mut self.quiet,
             number,
-            entered,
+            low,
         );
         clean(
             &self.store,
             self.kept.as_slice(),
+            self.slots.as_slice(),
+            self.blocks.as_slice(),
             &self.truth,
-            &mut self.lists.asking,
+            self.lists.asks.as_slice(),
+            &mut self.lists.pending,
         );
         Ok(())
     }
@@ -232,7 +221,7 @@ impl Watches {
         ensures { self.new ≡ record self.old { trail = self.old.trail ++ lit ∷ [] } }
     {
         let length = self.truth.length();
-        let least = self.lists.asking.set.least();
+        let least = self.lists.pending.least();
         self.quiet[length as usize] = least.is_none();
         self.truth.push(lit.0);
         let fallen = lit.opposite();
@@ -241,7 +230,7 @@ impl Watches {
             self.pairs.of(fallen.0),
             &self.truth,
             fallen.0,
-            &mut self.lists.asking,
+            &mut self.lists.pending,
         );
         let spare = 2 * self.variables;
         self.lists.visit_all(
@@ -255,8 +244,11 @@ impl Watches {
         clean(
             &self.store,
             self.kept.as_slice(),
+            self.slots.as_slice(),
+            self.blocks.as_slice(),
             &self.truth,
-            &mut self.lists.asking,
+            self.lists.asks.as_slice(),
+            &mut self.lists.pending,
         );
     }
 
@@ -269,13 +261,19 @@ impl Watches {
         }
         self.truth.cut(length);
         if self.quiet[length as usize] {
-            clear(&mut self.lists.asking);
+            clear(&mut self.lists.pending);
         } else {
             rescan(
                 &self.store,
                 self.kept.as_slice(),
                 &self.truth,
-                &mut self.lists.asking,
+                &mut self.lists.pending,
+            );
+            ask_all(
+                &self.store,
+                self.slots.as_slice(),
+                &self.truth,
+                &mut self.lists.asks,
             );
         }
     }
@@ -289,8 +287,11 @@ impl Watches {
         clean(
             &self.store,
             self.kept.as_slice(),
+            self.slots.as_slice(),
+            self.blocks.as_slice(),
             &self.truth,
-            &mut self.lists.asking,
+            self.lists.asks.as_slice(),
+            &mut self.lists.pending,
         );
     }
 
@@ -309,8 +310,10 @@ impl Watches {
     {
         left_of(
             &self.store,
+            self.slots.as_slice(),
+            self.blocks.as_slice(),
             &self.truth,
-            self.lists.asking.asks.as_slice(),
+            self.lists.asks.as_slice(),
             number,
         )
     }
@@ -319,6 +322,6 @@ impl Watches {
     pub fn least_pending(&self) -> Option<u32>
         ensures { result ≡ least_from (is_pending_in self.now.clauses self.now.kept (has_literal self.now.trail)) 0 (length self.now.clauses) }
     {
-        self.lists.asking.set.least()
+        self.lists.pending.least()
     }
 }

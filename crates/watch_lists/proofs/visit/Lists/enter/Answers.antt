@@ -1,9 +1,9 @@
-use Rattle.std.proofs.Common.{arith, ◌≡◌, ◌*◌, ◌∙◌, get_or, false, sym, ap, inl}
+use Rattle.std.proofs.Common.{arith, ◌≡◌, ◌*◌, ◌∙◌, get_or, set, false, sym, ap, get_or-set_same}
 use Rattle.std.proofs.lemmas.List.{get_or_read}
 use Rattle.clause_base.specs.Clause.{has_literal}
 use Rattle.watch_lists.specs.Pending.{is_free}
 use Rattle.watch_lists.proofs.Asks.{false_past, false_after}
-use Rattle.watch_lists.proofs.Enters.{IsEntered, rests_long, free_long, quiet_long}
+use Rattle.watch_lists.proofs.Enters.{IsEntered, free_short, rests_long, free_long, quiet_long}
 use Rattle.watch_lists.proofs.visit.Lists.enter.Goals as goal
 use Rattle.watch_lists.proofs.visit.Lists.enter.Goals.{After-free_until}
 
@@ -42,13 +42,18 @@ returns-clause-quiet c =
     quiet_long c.args.clause.now c.args.slot c.args.truth.now.trail c.args.self.now.watched.items (record { first = c.latest-first.result; second = c.latest-second.result; from = 0 }) c.args.self.now.chains.heads.items c.args.self.now.chains.nodes.items c.link_two.new.self.heads.items c.link_two.new.self.nodes.items c.a.inside.0 c.b.inside.0 c.free_until.result (entered c) c.free_until.ensures.lasts
 
 pub returns-clause-asked : goal.returns-clause-asked
-returns-clause-asked c h =
+returns-clause-asked c h two =
     let trail = c.args.truth.now.trail in
     let e = entered c in
     let k = c.args.clause.now in
     let off : is_free (has_literal trail) (get_or k c.latest-second.result 0) ≡ false = ap (is_free (has_literal trail)) (sym e.second_is) ∙ false_past trail c.b.inside.0 c.free_until.result c.free_until.ensures.lasts h in
+    let ask : get_or (set c.args.self.now.asks.items c.args.slot c.a.inside.0) c.args.slot 0 ≡ c.a.inside.0 = get_or-set_same c.args.self.now.asks.items c.args.slot c.a.inside.0 0 c.requires.asks in
     record {
       place = c.latest-first.result;
+      inside = c.latest-first.ensures.inside;
+      own = sym (ask ∙ e.first_is);
       others = λ p g ne. false_after trail (get_or k c.latest-second.result 0) (get_or k p 0) (c.latest-second.ensures.most p g ne) off;
-      own = inl (c.latest-first.ensures.inside, sym e.first_is);
     }
+
+pub returns-then-clause-lt2-clause-free : goal.returns-then-clause-lt2-clause-free
+returns-then-clause-lt2-clause-free c = free_short c.args.clause.now c.args.slot c.args.truth.now.trail c.args.self.now.watched.items c.if-clause-lt2.true

@@ -1,4 +1,4 @@
-use Rattle.std.proofs.Common.{arith, length, ℕ, ◌∙◌, sym, ap, subst, Bool, List}
+use Rattle.std.proofs.Common.{arith, get_or, length, ℕ, ◌∙◌, sym, ap, subst, Bool, List}
 use Rattle.number_bits.specs.Bits.{words_have}
 use Rattle.watch_lists.specs.Pending.{is_pending_on}
 use Rattle.watch_lists.specs.Sound.{IsFront}
@@ -14,5 +14,14 @@ clean-requires-clause-complete c k e =
 pub invariant_of-self : goal.invariant_of-self
 invariant_of-self c =
     let w = c.self.inside in
-    let front = subst (λ (ks : List Bool). IsFront (is_pending_on w.store ks w.truth.trail) (words_have c.clean.new.asking.set)) c.as_slice.ensures.value c.clean.ensures.front in
-    (removed_sound w.variables w.truth.variables w.store w.kept.items w.truth.trail w.slots.items w.lists.watched.items w.lists.chains.heads.items w.lists.chains.nodes.items w.lists.asking.set w.quiet.items c.args.number c.clean.new.asking.set c.self.invariant.0 c.clean.ensures.room front, c.self.invariant.1, record { asked = c.clean.ensures.asked; long = omega (arith, c.self.invariant.2.long, ap (λ (xs : List ℕ). length xs) c.clean.ensures.asks); consistent = c.self.invariant.2.consistent })
+    let front = subst (λ (ks : List Bool). IsFront (is_pending_on w.store ks w.truth.trail) (words_have c.clean.new.pending)) c.as_slice.ensures.value c.clean.ensures.front in (
+      removed_sound w.variables w.truth.variables w.store w.kept.items w.truth.trail w.slots.items w.lists.watched.items w.lists.chains.heads.items w.lists.chains.nodes.items w.lists.pending w.quiet.items c.args.number c.clean.new.pending c.self.invariant.0 c.clean.ensures.room front,
+      c.self.invariant.1,
+      record {
+        within = λ k h. c.self.invariant.2.within k (c.clean.ensures.fewer k h);
+        asked = λ n h long. c.self.invariant.2.asked n (c.clean.ensures.fewer (get_or w.slots.items n 0) h) long;
+        long = c.self.invariant.2.long;
+        distinct = c.self.invariant.2.distinct;
+        consistent = c.self.invariant.2.consistent;
+      },
+    )
