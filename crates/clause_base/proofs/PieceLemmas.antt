@@ -1,7 +1,8 @@
 -- Clauses in one list of literals, by their numbers and with one more at the end.
-use Rattle.std.proofs.Common.{arith, ◌≡◌, ℕ, zero, suc, ◌+◌, ◌-◌, ◌<◌, ◌≤◌, List, [], ◌∷◌, ◌++◌, length, take, drop, get_or, refl, ap, ◌∙◌, Some, All}
+use Rattle.std.proofs.Common.{arith, ◌≡◌, ℕ, zero, suc, ◌+◌, ◌-◌, ◌<◌, ◌≤◌, List, [], ◌∷◌, ◌++◌, length, take, drop, get_or, refl, ap, ◌∙◌, subst, Some, All}
 use Rattle.std.specs.List.{slice_get, slice_range}
 use Rattle.std.proofs.lemmas.List.Elements.{All-append, All-nil, All-cons}
+use Rattle.std.proofs.lemmas.Option.{slice_get_within, get_or_from_slice_get}
 use Rattle.clause_base.specs.Clause.{IsClause}
 use Rattle.clause_base.specs.Pieces.{pieces, start_of, AreEnds}
 
@@ -84,3 +85,7 @@ pieces-push from lits (e0 ∷ ends) more end a e =
 -- one more clause among lawful ones
 pub clauses-push : (clauses : List (List ℕ)) (clause : List ℕ) → All IsClause clauses → IsClause clause → All IsClause (clauses ++ clause ∷ [])
 clauses-push clauses clause a c = All-append IsClause clauses (clause ∷ []) a (All-cons IsClause clause [] c (All-nil IsClause))
+
+-- what holds of each clause holds of the one with a number
+pub holds_at : (P : List ℕ → Type 0) (clauses : List (List ℕ)) (number : ℕ) (clause : List ℕ) → All P clauses → slice_get clauses number ≡ Some clause → P clause
+holds_at P clauses number clause a e = subst P (get_or_from_slice_get clauses number clause clause e) (a number clause (slice_get_within clauses number clause e))
