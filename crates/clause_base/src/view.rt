@@ -1,4 +1,4 @@
-ghost use Rattle.std.specs.Prelude.{◌≡◌, ◌<◌, ◌≤◌, Some, map, length, slice_get, All, OnOk};
+ghost use Rattle.std.specs.Prelude.{◌≡◌, ◌∷◌, ◌+◌, ◌<◌, ◌≤◌, Some, map, length, drop, slice_get, slice_index_or, All, OnOk};
 ghost use Rattle.clause_base.specs.View.{shifted, StaysCode};
 
 use crate::literal::Lit;
@@ -79,7 +79,9 @@ impl<'a> View<'a> {
     #[inline]
     pub fn get(&self, place: usize) -> Lit
         requires { place < length self.now }
-        ensures { slice_get self.now place ≡ Some result }
+        ensures value { slice_get self.now place ≡ Some result }
+        ensures item { result ≡ slice_index_or self.now place result }
+        ensures rest { drop place self.now ≡ result ∷ drop (place + 1) self.now }
     {
         let lits = self.lits;
         shifted(lits[place], self.limit, self.low, self.high)

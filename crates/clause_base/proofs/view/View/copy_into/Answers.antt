@@ -10,5 +10,5 @@ loop-place-preserved c =
     let lit = c.get.result in
     c.in_ok-push.ensures.items
     ∙ ap (λ (r : List ℕ). r ++ lit ∷ []) c.loop-place.invariant
-    ∙ ap (λ (x : ℕ). take place xs ++ x ∷ []) (sym (get_or_from_slice_get xs place lit lit c.get.ensures))
-    ∙ sym (take_more xs place lit (slice_get_within xs place lit c.get.ensures))
+    ∙ ap (λ (x : ℕ). take place xs ++ x ∷ []) (sym (get_or_from_slice_get xs place lit lit c.get.ensures.value))
+    ∙ sym (take_more xs place lit (slice_get_within xs place lit c.get.ensures.value))
