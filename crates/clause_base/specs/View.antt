@@ -1,5 +1,5 @@
 -- How the literals of a clause are moved as they are read.
-use Rattle.std.specs.Prelude.{ℕ, ◌+◌, ◌≤◌, nat_lt, if◌then◌else◌, List, All}
+use Rattle.std.specs.Prelude.{ℕ, ◌+◌, ◌≤◌, nat_lt, if◌then◌else◌}
 
 -- a code below a limit goes up by one number, and any other by another
 abbrev pub shifted : (limit low high : ℕ) → ℕ → ℕ

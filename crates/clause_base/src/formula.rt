@@ -1,4 +1,4 @@
-ghost use Rattle.std.specs.Prelude.{◌≡◌, ◌∷◌, [], ◌++◌, ◌+◌, ◌<◌, ◌≤◌, List, ℕ, Some, length, slice_get, All, OnOk, OnErr, IsTrue, ◌↔◌};
+ghost use Rattle.std.specs.Prelude.{◌≡◌, ◌∷◌, [], ◌++◌, ◌+◌, ◌<◌, ◌≤◌, true, false, IfOk, List, ℕ, Some, length, slice_get, All, OnOk, OnErr, IsTrue, ◌↔◌};
 ghost use Rattle.clause_base.specs.Formula.{Cnf, IsWithinVariables};
 ghost use Rattle.clause_base.specs.Clause.{IsClause, HasVariablesBelow};
 ghost use Rattle.clause_base.specs.Repeats.{IsRepeatable, repeated as repeated_clauses, variables_of};
@@ -49,6 +49,21 @@ impl Model for Formula {
     ghost invariant = { λ f. IsJoined f.variables f.told f.repeated f.after };
 }
 
+/// Adds the clauses of a repeated part, each in memory of its own.
+fn write_out(formula: Formula, alloc: Global, part: &Repeated) -> Result<Formula, Memory>
+    requires fits { variables_of part.now ≤ formula.variables }
+    requires room { length formula.clauses + length (repeated_clauses part.now) ≤ 1073741824 }
+    ensures { IfOk result (λ f. f ≡ record formula { clauses = formula.clauses ++ repeated_clauses part.now }) }
+{
+    let mut formula = formula;
+    let mut lits = Vec::new(alloc);
+    for number in 0..part.count() {
+        part.clause(number).copy_into(&mut lits)?;
+        formula.add_sorted(&lits)?;
+    }
+    Ok(formula)
+}
+
 impl Formula {
     /// The formula without clauses. It takes no memory, and keeps the allocator for the clauses to come.
     pub fn new(alloc: Global, name: u32, variables: u32) -> Formula
@@ -64,28 +79,26 @@ impl Formula {
         }
     }
 
-    /// The formula of these clauses and then those of a repeated part. It takes no memory.
-    pub fn of(
-        alloc: Global,
-        name: u32,
-        variables: u32,
-        told: ClauseList,
-        repeated: Repeated,
-    ) -> Formula
-        requires small { variables ≤ 2147483647 }
-        requires below { All (HasVariablesBelow variables) told }
-        requires fits { variables_of repeated ≤ variables }
-        requires few { length told + length (repeated_clauses repeated) ≤ 1073741824 }
-        ensures { result ≡ record { name = name; variables = variables; clauses = told ++ repeated_clauses repeated } }
+    /// Adds the clauses of a repeated part at the end, in the memory that the part brings; where there is one already, each
+    /// clause in memory of its own.
+    pub fn repeat(self, alloc: Global, part: Repeated) -> Result<Formula, Memory>
+        requires fits { variables_of part ≤ self.variables }
+        requires room { length self.clauses + length (repeated_clauses part) ≤ 1073741824 }
+        ensures { IfOk result (λ f. f ≡ record self { clauses = self.clauses ++ repeated_clauses part }) }
     {
-        let _below = repeated.count();
-        Formula {
-            name,
-            variables,
-            told,
-            repeated,
-            after: ClauseList::new(alloc),
+        let told = self.told.count();
+        let repeated = self.repeated.count();
+        if told != 0 || repeated != 0 {
+            return write_out(self, alloc, &part);
         }
+        let _below = part.count();
+        Ok(Formula {
+            name: self.name,
+            variables: self.variables,
+            told: self.after,
+            repeated: part,
+            after: ClauseList::new(alloc),
+        })
     }
 
     /// Adds a clause at the end. After want of memory, or where there would be too many literals, the formula is unchanged.

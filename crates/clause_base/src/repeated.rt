@@ -159,8 +159,11 @@ impl Repeated {
     #[inline]
     pub fn clause(&self, number: u32) -> View<'_>
         requires { number < length (repeated self.now) }
-        ensures { slice_get (repeated self.now) number ≡ Some result }
+        ensures value { slice_get (repeated self.now) number ≡ Some result }
+        ensures lawful { IsClause result }
+        ensures below { HasVariablesBelow (variables_of self.now) result }
     {
+        let _all = self.count();
         let steps = self.step_clauses();
         if number < steps {
             self.step_clause(number)

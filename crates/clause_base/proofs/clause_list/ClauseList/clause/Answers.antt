@@ -1,5 +1,4 @@
-use Rattle.std.proofs.Common.{arith, ◌≡◌, ◌∙◌, sym, ap, List, ℕ, All, Some, length, slice_get, subst}
-use Rattle.std.proofs.lemmas.Option.{get_or_from_slice_get, slice_get_within}
+use Rattle.std.proofs.Common.{arith, ◌≡◌, ◌∙◌, sym, ap, List, ℕ, length}
 use Rattle.clause_base.specs.Clause.{IsClause}
 use Rattle.clause_base.specs.Pieces.{pieces}
 use Rattle.clause_base.proofs.PieceLemmas.{length-pieces, holds_at}
