@@ -17,4 +17,4 @@ choice_by m values = or_plain values (walk (support_of m values) m.layout.horizo
 
 -- the choice for a task over its variables by this layout
 abbrev pub choice_of : Task → Layout → Known → Option ℕ
-choice_of task z values = choice_by (means_of task z) values
+choice_of task z = choice_by (means_of task z)
