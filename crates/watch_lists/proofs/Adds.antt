@@ -166,39 +166,6 @@ listed_add cl k wa w heads heads' nodes nodes' spare kept a b r lk lw fin sin ne
         ∙ ap (λ (y : ℕ). has_literal (clause_at cl (x / 2)) y) (others x (apart_of x (2 * length cl) g) (apart_of x (2 * length cl + 1) f))
         ∙ r.notes x (real_other cl k x rx (apart_from x f g))
 
--- a clause of fewer than two literals has no nodes
-pub listed_short : (cl : List (List ℕ)) (k : List ℕ) (wa : List Watched) (heads : List ℕ) (nodes : List Node) (spare : ℕ) (kept : List Bool) → IsListed cl wa heads nodes spare (IsKept kept) NoWhy → length kept ≡ length cl → length cl < length wa → length k < 2 → 2 * (length cl + 1) ≤ length nodes → IsListed (cl ++ k ∷ []) wa heads nodes spare (IsKept (kept ++ true ∷ [])) NoWhy
-listed_short cl k wa heads nodes spare kept r lk lw short ln = record {
-  on = r.on;
-  linked = r.linked;
-  placed = record {
-    many = omega (arith, lw, length_push cl k);
-    first_in = λ c h t. subst (λ (xs : List ℕ). (get_or wa c no_watches).first < length xs) (sym (at_other cl k c (not_own c t))) (r.placed.first_in c (below c h (not_own c t)) (long c t (not_own c t)));
-    second_in = λ c h t. subst (λ (xs : List ℕ). (get_or wa c no_watches).second < length xs) (sym (at_other cl k c (not_own c t))) (r.placed.second_in c (below c h (not_own c t)) (long c t (not_own c t)));
-    apart = λ c h t. r.placed.apart c (below c h (not_own c t)) (long c t (not_own c t));
-  };
-  codes = r.codes;
-  many = omega (arith, ln, length_push cl k);
-  real = λ x l e. real_more cl k x (r.real x l e);
-  there = λ x rx m. old x (not_own (x / 2) rx.long) (r.there x (real_other cl k x rx (not_own (x / 2) rx.long)) (kept_other cl kept x lk (not_own (x / 2) rx.long) m));
-  notes = λ x rx.
-      ap (λ (xs : List ℕ). has_literal xs (note_of nodes x)) (at_other cl k (x / 2) (not_own (x / 2) rx.long))
-      ∙ r.notes x (real_other cl k x rx (not_own (x / 2) rx.long));
-}
-  where
-    not_own : (c : ℕ) → 2 ≤ length (clause_at (cl ++ k ∷ []) c) → c ≡ length cl → ⊥
-    not_own c t e = let l : length (clause_at (cl ++ k ∷ []) c) ≡ length k = ap (λ (xs : List ℕ). length xs) (at_own cl k c e) in absurd (omega (arith, t, l, short))
-
-    below : (c : ℕ) → c < length (cl ++ k ∷ []) → (c ≡ length cl → ⊥) → c < length cl
-    below c h ne = let n : c ≢ length cl = ne in omega (arith, h, length_push cl k, n)
-
-    long : (c : ℕ) → 2 ≤ length (clause_at (cl ++ k ∷ []) c) → (c ≡ length cl → ⊥) → 2 ≤ length (clause_at cl c)
-    long c t ne = subst (λ (xs : List ℕ). 2 ≤ length xs) (at_other cl k c ne) t
-
-    old : (x : ℕ) → (x / 2 ≡ length cl → ⊥) → (r.on x ≡ Some (literal_at cl wa x)) ⊎ ((r.on x ≡ Some spare) × NoWhy x) → (r.on x ≡ Some (literal_at (cl ++ k ∷ []) wa x)) ⊎ ((r.on x ≡ Some spare) × NoWhy x)
-    old x ne (inl e) = inl (e ∙ ap (λ (y : ℕ). Some y) (sym (literal_same cl k wa x ne)))
-    old x ne (inr v) = absurd v.1
-
 -- the old clauses are as pending as they were
 pub pending_other : (cl : List (List ℕ)) (k : List ℕ) (kept : List Bool) (trail : List ℕ) (c : ℕ) → length kept ≡ length cl → (c ≡ length cl → ⊥) → is_pending_on (cl ++ k ∷ []) (kept ++ true ∷ []) trail c ≡ is_pending_on cl kept trail c
 pending_other cl k kept trail c l ne =
