@@ -65,9 +65,6 @@ literal_other cl k wa w node ne =
     ap (λ (xs : List ℕ). get_or xs (place_of (set wa (length cl) w) node) 0) (at_other cl k (node / 2) ne)
     ∙ ap (λ (v : Watched). get_or (clause_at cl (node / 2)) (place_in v (node % 2 == 1)) 0) (get_or-set_other wa (length cl) (node / 2) w no_watches ne)
 
-pub literal_same : (cl : List (List ℕ)) (k : List ℕ) (wa : List Watched) (node : ℕ) → (node / 2 ≡ length cl → ⊥) → literal_at (cl ++ k ∷ []) wa node ≡ literal_at cl wa node
-literal_same cl k wa node ne = ap (λ (xs : List ℕ). get_or xs (place_of wa node) 0) (at_other cl k (node / 2) ne)
-
 -- and the new ones the chosen places
 pub literal_own : (cl : List (List ℕ)) (k : List ℕ) (wa : List Watched) (w : Watched) (node : ℕ) (second : Bool) → node / 2 ≡ length cl → (node % 2 == 1) ≡ second → length cl < length wa → literal_at (cl ++ k ∷ []) (set wa (length cl) w) node ≡ get_or k (place_in w second) 0
 literal_own cl k wa w node second e s h =
