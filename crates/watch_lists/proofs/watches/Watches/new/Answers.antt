@@ -18,4 +18,4 @@ next v n cl x old new i e p =
 
 pub loop-number-preserved : goal.loop-number-preserved
 loop-number-preserved c =
-    next c.args.formula.now.variables c.loop-number.number c.args.formula.now.clauses c.clause.result.now c.loop-number.watches c.add_sorted.new.self c.loop-number.invariant c.clause.ensures.value c.in_ok-add_sorted.ensures.ok
+    next c.args.formula.now.variables c.loop-number.number c.args.formula.now.clauses _ c.loop-number.watches c.add_sorted.new.self c.loop-number.invariant c.clause.ensures.value c.in_ok-add_sorted.ensures.ok
