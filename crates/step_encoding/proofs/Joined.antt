@@ -1,13 +1,14 @@
-use Rattle.std.proofs.Common.{arith, ◌≡◌, ℕ, zero, suc, ◌+◌, ◌-◌, ◌*◌, ◌/◌, ◌<◌, ◌≤◌, List, [], ◌∷◌, ◌++◌, map, length, refl, sym, ap, ◌∙◌, subst, ◌⊎◌, inl, inr, All}
+use Rattle.std.proofs.Common.{arith, ◌≡◌, ℕ, zero, suc, ◌+◌, ◌-◌, ◌*◌, ◌/◌, ◌<◌, ◌≤◌, List, [], ◌∷◌, ◌++◌, map, length, append_assoc, Result, Ok, Err, IfOk, refl, sym, ap, ◌∙◌, subst, ◌⊎◌, inl, inr, All}
 use Rattle.std.specs.List.{flat_map, range_with_len, AllByRecursion}
 use Rattle.std.proofs.lemmas.List.Elements.{All-nil, All-cons}
 use Rattle.gt_core.specs.Literal.{range, range_from}
 use Rattle.gt_core.specs.Layout.{Layout, width, variables}
 use Rattle.clause_base.specs.Clause.{HasVariablesBelow}
+use Rattle.clause_base.specs.Formula.{Cnf}
 use Rattle.clause_base.specs.Repeats.{Repeats, IsRepeatable, moved_code, repeated, variables_of}
 use Rattle.clause_base.proofs.Moved.{where_is, moved_below, moved_above}
 use Rattle.clause_base.proofs.RepeatLemmas.{length_repeated}
-use Rattle.step_encoding.specs.Parts.{step_part, time_part, StepsFit, TimesFit}
+use Rattle.step_encoding.specs.Parts.{added, step_part, time_part, StepsFit, TimesFit}
 
 -- The repeated part of a layout's formula.
 
@@ -74,7 +75,8 @@ first_is z step known r n e = ap repeated e ∙ first_time z.horizon (width z) z
 pub first_long : (z : Layout) (step known : List (List ℕ)) (r : Repeats) → z.horizon ≡ 0 → r ≡ first_of z known → length (repeated r) ≡ z.horizon * length step + (z.horizon + 1) * length known
 first_long z step known r n e =
     let l = length_repeated (first_of z known) in
-    ap (λ (x : Repeats). length (repeated x)) e ∙ l ∙ ap (λ (k : ℕ). k * length step + (k + 1) * length known) (sym n)
+    let both : 0 * 0 + (0 + 1) * length known ≡ 0 * length step + (0 + 1) * length known = omega arith in
+    ap (λ (x : Repeats). length (repeated x)) e ∙ l ∙ both ∙ ap (λ (k : ℕ). k * length step + (k + 1) * length known) (sym n)
 
 -- the numbers of a layout as they are read
 pub new_is : (inside now : Layout) (step known s k : List (List ℕ)) (r : Repeats) → inside ≡ now → s ≡ step → k ≡ known → r ≡ repeats_of inside s k → r ≡ repeats_of now step known
@@ -111,3 +113,14 @@ pub first_variables : (z : Layout) (known : List (List ℕ)) (r : Repeats) → z
 first_variables z known r n e =
     let whole : 0 * 0 + (0 + 1) * z.facts ≡ 0 * width z + (0 + 1) * z.facts = omega arith in
     ap variables_of e ∙ whole ∙ ap (λ (m : ℕ). m * width z + (m + 1) * z.facts) (sym n)
+
+-- the formula of its ends and its repeated part
+pub whole_by : {E : Type 0} (r : Result Cnf E) (name top : ℕ) (f0 f1 f2 f3 : Cnf) (first hopeless goal part all : List (List ℕ)) → f0 ≡ record { name = name; variables = top; clauses = [] } → f1 ≡ added f0 first → f2 ≡ added f1 hopeless → f3 ≡ added f2 goal → part ≡ all → IfOk r (λ f. f ≡ record f3 { clauses = f3.clauses ++ part }) → IfOk r (λ f. f ≡ record { name = name; variables = top; clauses = first ++ ((hopeless ++ goal) ++ all) })
+whole_by (Ok f) name top f0 f1 f2 f3 first hopeless goal part all e0 e1 e2 e3 e h =
+    let ends : f3 ≡ added (added (added (record { name = name; variables = top; clauses = [] }) first) hopeless) goal = e3 ∙ ap (λ (x : Cnf). added x goal) (e2 ∙ ap (λ (x : Cnf). added x hopeless) (e1 ∙ ap (λ (x : Cnf). added x first) e0)) in
+    h
+    ∙ ap (λ (x : Cnf). let c : Cnf = record x { clauses = x.clauses ++ part } in c) ends
+    ∙ ap (λ (x : List (List ℕ)). let c : Cnf = record { name = name; variables = top; clauses = ((first ++ hopeless) ++ goal) ++ x } in c) e
+    ∙ ap (λ (x : List (List ℕ)). let c : Cnf = record { name = name; variables = top; clauses = x } in c)
+    (append_assoc (first ++ hopeless) goal all ∙ append_assoc first hopeless (goal ++ all) ∙ ap (λ (x : List (List ℕ)). first ++ x) (sym (append_assoc hopeless goal all)))
+whole_by (Err m) name top f0 f1 f2 f3 first hopeless goal part all e0 e1 e2 e3 e h = tt
