@@ -4,7 +4,7 @@ ghost use Rattle.std.specs.Prelude.{◌≡◌, ℕ, ◌+◌, ◌*◌, ◌<◌, �
 ghost use Rattle.clause_base.specs.Clause.{has_literal};
 ghost use Rattle.watch_chains.specs.Linked.{ArePairLoose};
 ghost use Rattle.watch_lists.specs.Asking.{IsAsked};
-ghost use Rattle.watch_lists.specs.Added.{HasRoom, RestsWith, FreeWith, IsQuietBelow};
+ghost use Rattle.watch_lists.specs.Added.{HasRoom, Outlasts, RestsWith, FreeWith, IsQuietBelow};
 
 use crate::fall::{free_until, latest};
 use crate::visit::{Lists, Watched};
@@ -28,12 +28,42 @@ pub fn enter_pair(truth: &Truth, clause: &[Lit]) -> u32
     first.min(second) + 1
 }
 
+/// The places of the two literals of a clause that are not false for longest along the trail. Before any literal is true these
+/// are the last two: in a clause of a planning formula the literals that are seldom false stand there.
+fn to_watch(truth: &Truth, clause: &[Lit]) -> Watched
+    requires below { (p : ℕ) → p < length clause.now → slice_index clause.now p < 2 * truth.now.variables }
+    requires short { length clause.now ≤ 4294967295 }
+    requires two { 2 ≤ length clause.now }
+    ensures first_in { result.first < length clause.now }
+    ensures second_in { result.second < length clause.now }
+    ensures apart { result.second ≡ result.first → ⊥ }
+    ensures most { (p : ℕ) → p < length clause.now → Outlasts truth.now.trail (slice_index clause.now result.first) (slice_index clause.now p) }
+    ensures next { (p : ℕ) → p < length clause.now → (p ≡ result.first → ⊥) → Outlasts truth.now.trail (slice_index clause.now result.second) (slice_index clause.now p) }
+{
+    if truth.length() == 0 {
+        let length = clause.len() as u32;
+        return Watched {
+            first: length - 1,
+            second: length - 2,
+            from: 0,
+        };
+    }
+    let first = latest(truth, clause, NOWHERE);
+    let second = latest(truth, clause, first);
+    Watched {
+        first,
+        second,
+        from: 0,
+    }
+}
+
 impl Lists {
-    /// Watches two literals of a new clause, if it has that many. In the prefixes of the trail below the result it is not pending.
+    /// Watches two literals of a new clause. In the prefixes of the trail below the result it is not pending.
     pub fn enter(&mut self, truth: &Truth, clause: &[Lit], slot: u32) -> u32
         requires small { truth.now.variables ≤ 2147483647 }
         requires below { (p : ℕ) → p < length clause.now → slice_index clause.now p < 2 * truth.now.variables }
         requires short { length clause.now ≤ 4294967295 }
+        requires two { 2 ≤ length clause.now }
         requires codes { length self.old.chains.heads.items ≡ 2 * truth.now.variables + 1 }
         requires room { HasRoom slot self.old.watched.items self.old.chains.nodes.items }
         requires asks { slot < length self.old.asks.items }
@@ -46,18 +76,10 @@ impl Lists {
         ensures long { length self.new.asks.items ≡ length self.old.asks.items }
         ensures set { self.new.pending ≡ self.old.pending }
     {
-        if clause.len() < 2 {
-            return 0;
-        }
-        let first = latest(truth, clause, NOWHERE);
-        let second = latest(truth, clause, first);
-        self.watched[slot as usize] = Watched {
-            first,
-            second,
-            from: 0,
-        };
-        let a = clause[first as usize];
-        let b = clause[second as usize];
+        let watched = to_watch(truth, clause);
+        self.watched[slot as usize] = watched;
+        let a = clause[watched.first as usize];
+        let b = clause[watched.second as usize];
         self.chains.link_two(2 * slot, a.0, b.0);
         self.asks[slot as usize] = a.0;
         free_until(truth, b.0) + 1

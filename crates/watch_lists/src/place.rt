@@ -1,4 +1,5 @@
-//! Where a new clause is found again: in the lists of its two literals, or by a slot.
+//! Where a new clause is found again: in the lists of its two literals, or by a slot. One of fewer literals is pending from the
+//! beginning, wherever it is not true, and is not sought.
 ghost use Rattle.std.specs.Prelude.{◌≡◌, ℕ, ◌+◌, ◌*◌, ◌<◌, ◌≤◌, length, slice_index, vec_capacity, IfOk, IsOk};
 ghost use Rattle.clause_base.specs.Clause.{has_literal};
 ghost use Rattle.watch_chains.specs.Linked.{ArePairLoose};
@@ -13,8 +14,8 @@ use clause_base::literal::Lit;
 use std::alloc::AllocError;
 use watch_store::truth::Truth;
 
-/// Enters a new clause into the lists of its two literals, or gives it a slot, for which there is room. In the prefixes of the
-/// trail below the result it is not pending.
+/// Enters a new clause into the lists of its two literals, or gives it a slot, for which there is room, if it has two literals or
+/// more. In the prefixes of the trail below the result it is not pending.
 pub fn place(
     pairs: &mut Pairs,
     slots: &mut Vec<u32>,
@@ -42,6 +43,9 @@ pub fn place(
     ensures long { length lists.new.asks.items ≡ length lists.old.asks.items }
     ensures set { lists.new.pending ≡ lists.old.pending }
 {
+    if clause.len() < 2 {
+        return Ok(0);
+    }
     if pairs.enter(clause, number) {
         return Ok(enter_pair(truth, clause));
     }

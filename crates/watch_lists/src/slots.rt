@@ -30,6 +30,11 @@ pub fn is_slot_kept(kept: &[bool], slots: &[u32], slot: u32) -> bool
     kept[number as usize]
 }
 
+/// How many blocks so many numbers are in.
+pub fn blocks_of(numbers: u32) -> usize {
+    numbers.div_ceil(BLOCK) as usize
+}
+
 /// Notes where the slots of a block begin, where the number is the first of one.
 pub fn begin_block(blocks: &mut Vec<u32>, number: u32, slot: u32) -> Result<(), AllocError> {
     if blocks.len() <= (number / BLOCK) as usize {

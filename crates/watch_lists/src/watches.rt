@@ -13,7 +13,7 @@ use crate::left::left_of;
 use crate::pairs::{Pairs, mark_all};
 use crate::pending::{Pending, no_pending};
 use crate::place::place;
-use crate::slots::begin_block;
+use crate::slots::{begin_block, blocks_of};
 use crate::visit::Lists;
 use clause_base::clause::Clause;
 use clause_base::formula::Formula;
@@ -104,42 +104,63 @@ fn no_quiet(alloc: Global, variables: u32) -> Result<Vec<bool>, Memory>
     Ok(vec![in alloc; false; variables as usize + 1]?)
 }
 
-/// How many literals the clauses of a formula have.
-fn literal_count(formula: &Formula) -> usize {
-    let mut count: usize = 0;
+/// How many literals the clauses of a formula have, and how many of the clauses have more than two.
+#[derive(Clone, Copy, Debug)]
+struct Sizes {
+    literals: usize,
+    longs: usize,
+}
+
+/// The sizes of a formula, by which each table is made with its room at once.
+fn sizes_of(formula: &Formula) -> Sizes {
+    let mut literals: usize = 0;
+    let mut longs: usize = 0;
     for number in 0..formula.count() {
-        count = count.saturating_add(formula.clause(number).len());
+        let length = formula.clause(number).len();
+        literals = literals.saturating_add(length);
+        if length > 2 {
+            longs = longs.saturating_add(1);
+        }
     }
-    count
+    Sizes { literals, longs }
 }
 
 impl Watches {
-    /// No clauses over a formula's variables, none of which has a value, with room for the formula's clauses of two literals.
+    /// No clauses over a formula's variables, none of which has a value, with room for the formula's clauses.
     fn empty(alloc: Global, formula: &Formula) -> Result<Watches, Memory>
         ensures { IfOk result (λ w. w ≡ record { variables = formula.now.variables; clauses = []; kept = []; trail = [] }) }
     {
         let variables = formula.variables();
+        let sizes = sizes_of(formula);
+        let count = formula.count();
         let mut store = Store::new(alloc);
-        store.reserve(literal_count(formula), formula.count() as usize)?;
-        let kept = Vec::with_capacity(alloc, formula.count() as usize)?;
+        store.reserve(sizes.literals, count as usize)?;
+        let kept = Vec::with_capacity(alloc, count as usize)?;
         let truth = Truth::new(alloc, variables)?;
         let pairs = Pairs::new(alloc, formula)?;
+        let slots = Vec::with_capacity(alloc, sizes.longs)?;
+        let blocks = Vec::with_capacity(alloc, blocks_of(count))?;
         let quiet = no_quiet(alloc, variables)?;
-        let chains = Chains::new(alloc, 2 * variables + 1)?;
-        let watched = Vec::new(alloc);
+        let chains = Chains::new(
+            alloc,
+            2 * variables + 1,
+            sizes.longs.saturating_add(sizes.longs),
+        )?;
+        let watched = Vec::with_capacity(alloc, sizes.longs)?;
+        let asks = Vec::with_capacity(alloc, sizes.longs)?;
         Ok(Watches {
             variables,
             store,
             kept,
             truth,
             pairs,
-            slots: Vec::new(alloc),
-            blocks: Vec::new(alloc),
+            slots,
+            blocks,
             lists: Lists {
                 chains,
                 watched,
                 pending: no_pending(alloc),
-                asks: Vec::new(alloc),
+                asks,
             },
             quiet,
         })
