@@ -1,2 +1,5 @@
 pub mod Pairs
 pub mod Rows
+pub mod Repeats
+pub mod Moved
+pub mod Lists

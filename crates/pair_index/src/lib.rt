@@ -3,5 +3,8 @@
 #![tactic(auto)]
 
 pub mod build;
+pub mod list;
 pub mod pair;
+pub mod place;
+pub mod shape;
 pub mod table;

@@ -53,13 +53,20 @@ impl Table {
         Ok(Table { offsets, items })
     }
 
+    /// No pairs.
+    pub fn none(&self) -> &[Pair]
+        ensures { result.now ≡ [] }
+    {
+        &self.items[0..0]
+    }
+
     /// The pairs of a literal.
     pub fn row(&self, code: u32) -> &[Pair]
         ensures { result.now ≡ pairs_of self.now code }
     {
         let code = code as usize;
         if code + 1 >= self.offsets.len() {
-            return &self.items[0..0];
+            return self.none();
         }
         let start = self.offsets[code] as usize;
         let end = self.offsets[code + 1] as usize;

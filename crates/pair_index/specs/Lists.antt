@@ -1,0 +1,79 @@
+-- The pairs of a literal as five lists: those of the told clauses, of the step that ends and of the step that begins where a
+-- fact is, of its time, and of the clauses after all of these.
+use Rattle.std.specs.Prelude.{◌≡◌, ℕ, zero, suc, ◌+◌, ◌-◌, ◌*◌, ◌/◌, ◌%◌, ◌<◌, ◌≤◌, nat_lt, if◌then◌else◌, List, [], ◌++◌, map, length}
+use Rattle.std.specs.List.{range_with_len}
+use Rattle.pair_index.specs.declared.pair.Pair.{Pair}
+use Rattle.pair_index.specs.declared.list.Move.{Move}
+use Rattle.pair_index.specs.declared.shape.Shape.{Shape}
+use Rattle.pair_index.specs.Pairs.{pairs_of, pair_in}
+use Rattle.pair_index.specs.Moved.{moved_pair}
+
+-- the code of the first fact at time 0, and the one after the last at the last time
+abbrev pub facts_begin : Shape → ℕ
+facts_begin z = 2 * (z.horizon * z.width)
+
+abbrev pub facts_end : Shape → ℕ
+facts_end z = 2 * (z.horizon * z.width + (z.horizon + 1) * z.facts)
+
+-- where the clauses of a step, of a time and after all times go
+abbrev pub step_move : Shape → ℕ → Move
+step_move z u = record { width = z.width; step = u * z.width; facts = z.horizon * z.width + u * z.facts; first = z.tolds + u * z.steps }
+
+abbrev pub time_move : Shape → ℕ → Move
+time_move z t = record { width = 0; step = 0; facts = z.horizon * z.width + t * z.facts; first = z.tolds + (z.horizon * z.steps + t * z.times) }
+
+abbrev pub plain_move : ℕ → Move
+plain_move first = record { width = 0; step = 0; facts = 0; first = first }
+
+abbrev pub after_all : Shape → ℕ
+after_all z = z.tolds + (z.horizon * z.steps + (z.horizon + 1) * z.times)
+
+-- the pairs of a literal of a table, moved
+abbrev pub moved_list : List (List Pair) → Move → ℕ → List Pair
+moved_list table m x = map (moved_pair m) (pairs_of table x)
+
+-- those of the step of which a literal is, or that begins where a fact is
+abbrev pub next_list : Shape → List (List Pair) → ℕ → List Pair
+next_list z step x =
+    if nat_lt x (facts_begin z) then moved_list step (step_move z (x / (2 * z.width))) (x % (2 * z.width))
+    else if nat_lt x (facts_end z) then (if nat_lt ((x - facts_begin z) / (2 * z.facts)) z.horizon then moved_list step (step_move z ((x - facts_begin z) / (2 * z.facts))) (2 * z.width + (x - facts_begin z) % (2 * z.facts)) else [])
+    else []
+
+-- those of the step that ends where a fact is
+abbrev pub last_list : Shape → List (List Pair) → ℕ → List Pair
+last_list z step x =
+    if nat_lt x (facts_begin z) then []
+    else if nat_lt x (facts_end z) then (if nat_lt 0 ((x - facts_begin z) / (2 * z.facts)) then moved_list step (step_move z ((x - facts_begin z) / (2 * z.facts) - 1)) (2 * z.width + 2 * z.facts + (x - facts_begin z) % (2 * z.facts)) else [])
+    else []
+
+-- those of the time at which a fact is
+abbrev pub time_list : Shape → List (List Pair) → ℕ → List Pair
+time_list z time x =
+    if nat_lt x (facts_begin z) then []
+    else if nat_lt x (facts_end z) then moved_list time (time_move z ((x - facts_begin z) / (2 * z.facts))) ((x - facts_begin z) % (2 * z.facts))
+    else []
+
+-- all of them
+abbrev pub all_lists : Shape → (told step time after : List (List Pair)) → ℕ → List Pair
+all_lists z told step time after x = moved_list told (plain_move 0) x ++ (last_list z step x ++ (next_list z step x ++ (time_list z time x ++ moved_list after (plain_move (after_all z)) x)))
+
+abbrev pub index_of : Shape → (told step time after : List (List Pair)) → List (List Pair)
+index_of z told step time after = map (all_lists z told step time after) (range_with_len 0 (2 * z.variables))
+
+-- the variables of all steps and times are among all, and the clauses have numbers of 30 bits
+pub record IsShape (z : Shape) : Type 0 where
+  pub variables : z.horizon * z.width + (z.horizon + 1) * z.facts ≤ z.variables
+  pub small : z.variables ≤ 2147483647
+  pub few : after_all z + z.afters ≤ 1073741824
+
+-- the pairs of a table have codes and numbers below these
+pub record AreWithin (codes count : ℕ) (table : List (List Pair)) : Type 0 where
+  pub others : (x place : ℕ) → place < length (pairs_of table x) → (pair_in (pairs_of table x) place).other < codes
+  pub numbers : (x place : ℕ) → place < length (pairs_of table x) → (pair_in (pairs_of table x) place).number < count
+
+-- the tables of a formula's parts
+pub record AreTables (z : Shape) (told step time after : List (List Pair)) : Type 0 where
+  pub told_within : AreWithin (2 * z.variables) z.tolds told
+  pub step_within : AreWithin (2 * (z.width + 2 * z.facts)) z.steps step
+  pub time_within : AreWithin (2 * z.facts) z.times time
+  pub after_within : AreWithin (2 * z.variables) z.afters after
