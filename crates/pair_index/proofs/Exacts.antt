@@ -158,3 +158,9 @@ found_of cs index e c two =
       has = has_of index a b c (pairs_from 0 a cs) (e a) (among_first 0 c a b cs is c (omega arith));
       back = has_of index b a c (pairs_from 0 b cs) (e b) (among_second 0 c a b cs is c (omega arith));
     }
+
+pub within_more : (codes count codes' count' : ℕ) (table : List (List Pair)) → codes ≤ codes' → count ≤ count' → AreWithin codes count table → AreWithin codes' count' table
+within_more codes count codes' count' table h g w = record {
+  others = λ x place i. omega (arith, h, w.others x place i);
+  numbers = λ x place i. omega (arith, g, w.numbers x place i);
+}

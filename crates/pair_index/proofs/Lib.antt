@@ -5,3 +5,5 @@ pub mod Shifts
 pub mod Blocks
 pub mod Exacts
 pub mod Steps
+pub mod Whole
+pub mod Five

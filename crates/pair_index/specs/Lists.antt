@@ -1,11 +1,12 @@
 -- The pairs of a literal as five lists: those of the told clauses, of the step that ends and of the step that begins where a
 -- fact is, of its time, and of the clauses after all of these.
-use Rattle.std.specs.Prelude.{◌≡◌, ℕ, zero, suc, ◌+◌, ◌-◌, ◌*◌, ◌/◌, ◌%◌, ◌<◌, ◌≤◌, nat_lt, if◌then◌else◌, List, [], ◌++◌, map, length}
+use Rattle.std.specs.Prelude.{◌≡◌, ℕ, zero, suc, ◌+◌, ◌-◌, ◌*◌, ◌/◌, ◌%◌, ◌<◌, ◌≤◌, nat_lt, if◌then◌else◌, List, [], ◌++◌, map, length, All}
 use Rattle.std.specs.List.{range_with_len}
 use Rattle.pair_index.specs.declared.pair.Pair.{Pair}
 use Rattle.pair_index.specs.declared.list.Move.{Move}
 use Rattle.pair_index.specs.declared.shape.Shape.{Shape}
 use Rattle.pair_index.specs.Pairs.{pairs_of, pair_in}
+use Rattle.pair_index.specs.Repeats.{repeated}
 use Rattle.pair_index.specs.Moved.{moved_pair}
 
 -- the code of the first fact at time 0, and the one after the last at the last time
@@ -57,19 +58,37 @@ time_list z time x =
 abbrev pub all_lists : Shape → (told step time after : List (List Pair)) → ℕ → List Pair
 all_lists z told step time after x = moved_list told (plain_move 0) x ++ (last_list z step x ++ (next_list z step x ++ (time_list z time x ++ moved_list after (plain_move (after_all z)) x)))
 
+-- the same for each literal
 abbrev pub index_of : Shape → (told step time after : List (List Pair)) → List (List Pair)
 index_of z told step time after = map (all_lists z told step time after) (range_with_len 0 (2 * z.variables))
+
+-- the clauses of a formula with these parts
+abbrev pub clauses_of : Shape → (told step time after : List (List ℕ)) → List (List ℕ)
+clauses_of z told step time after = told ++ (repeated (record { horizon = z.horizon; width = z.width; facts = z.facts; step = step; time = time }) ++ after)
 
 -- the variables of all steps and times are among all, and the clauses have numbers of 30 bits
 pub record IsShape (z : Shape) : Type 0 where
   pub variables : z.horizon * z.width + (z.horizon + 1) * z.facts ≤ z.variables
   pub small : z.variables ≤ 2147483647
   pub few : after_all z + z.afters ≤ 1073741824
+  pub before : z.before ≡ after_all z
+  pub begin : z.facts_begin ≡ facts_begin z
+  pub end : z.facts_end ≡ facts_end z
 
 -- the pairs of a table have codes and numbers below these
 pub record AreWithin (codes count : ℕ) (table : List (List Pair)) : Type 0 where
   pub others : (x place : ℕ) → place < length (pairs_of table x) → (pair_in (pairs_of table x) place).other < codes
   pub numbers : (x place : ℕ) → place < length (pairs_of table x) → (pair_in (pairs_of table x) place).number < count
+
+-- the parts of a formula, with the numbers of a shape
+pub record AreParts (z : Shape) (told step time after : List (List ℕ)) : Type 0 where
+  pub tolds : z.tolds ≡ length told
+  pub steps : z.steps ≡ length step
+  pub times : z.times ≡ length time
+  pub afters : z.afters ≡ length after
+  pub step_below : All (All (λ l. l < 2 * (z.width + 2 * z.facts))) step
+  pub time_below : All (All (λ l. l < 2 * z.facts)) time
+  pub below : All (All (λ l. l < 2 * z.variables)) (clauses_of z told step time after)
 
 -- the tables of a formula's parts
 pub record AreTables (z : Shape) (told step time after : List (List Pair)) : Type 0 where

@@ -3,6 +3,7 @@
 #![tactic(auto)]
 
 pub mod build;
+pub mod index;
 pub mod list;
 pub mod pair;
 pub mod place;

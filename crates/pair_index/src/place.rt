@@ -7,9 +7,9 @@ use crate::shape::Shape;
 use crate::table::Table;
 
 /// The pairs of a literal that stand as they are, with the clauses numbered from a first one on.
-pub fn plain_list(table: &Table, code: u32, first: u32, codes: u32, count: u32) -> PairList<'_>
-    requires within { AreWithin codes count table.now }
-    requires few { first + count ≤ 1073741824 }
+pub fn plain_list(table: &Table, code: u32, first: u32) -> PairList<'_>
+    requires within { AreWithin 4294967296 1073741824 table.now }
+    requires few { first ≤ 1073741824 }
     ensures { result ≡ moved_list table.now (plain_move first) code }
 {
     let to = Move {
@@ -134,12 +134,10 @@ pub fn place_of<'a>(shape: &Shape, step: &'a Table, time: &'a Table, code: u32) 
     ensures next { result.next ≡ next_list shape.now step.now code }
     ensures time { result.time ≡ time_list shape.now time.now code }
 {
-    let begin = 2 * (shape.horizon * shape.width);
-    let end = begin + 2 * (shape.horizon * shape.facts + shape.facts);
-    if code < begin {
+    if code < shape.facts_begin {
         return in_step(shape, step, time, code);
     }
-    if code >= end {
+    if code >= shape.facts_end {
         return Placed {
             last: no_list(step),
             next: no_list(step),
@@ -147,8 +145,8 @@ pub fn place_of<'a>(shape: &Shape, step: &'a Table, time: &'a Table, code: u32) 
         };
     }
     let facts = 2 * shape.facts;
-    let at = (code - begin) / facts;
-    let fact = (code - begin) % facts;
+    let at = (code - shape.facts_begin) / facts;
+    let fact = (code - shape.facts_begin) % facts;
     Placed {
         last: last_of(shape, step, at, fact),
         next: next_of(shape, step, at, fact),

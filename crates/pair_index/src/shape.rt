@@ -17,6 +17,12 @@ pub struct Shape {
     pub steps: u32,
     /// How many clauses a time has.
     pub times: u32,
-    /// How many clauses come after these.
+    /// How many clauses come after those of all steps and times.
     pub afters: u32,
+    /// How many clauses come before these.
+    pub before: u32,
+    /// The code of the first fact at time 0.
+    pub facts_begin: u32,
+    /// The code after that of the last fact at the last time.
+    pub facts_end: u32,
 }

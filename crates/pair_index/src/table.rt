@@ -30,6 +30,16 @@ impl Model for Table {
 }
 
 impl Table {
+    /// No pairs, without memory.
+    pub fn empty(alloc: Global) -> Table
+        ensures { (x : ℕ) → pairs_of result x ≡ [] }
+    {
+        Table {
+            offsets: Vec::new(alloc),
+            items: Vec::new(alloc),
+        }
+    }
+
     /// The clauses of two literals of a list over codes below a number. Where there is none it takes no memory.
     pub fn new(alloc: Global, clauses: &ClauseList, codes: u32) -> Result<Table, Memory>
         requires below { All (All (λ l. l < codes)) clauses.now }
@@ -37,10 +47,7 @@ impl Table {
         ensures { IfOk result (λ table. (x : ℕ) → pairs_of table x ≡ pairs_from 0 x clauses.now) }
     {
         if !has_pairs(clauses) {
-            return Ok(Table {
-                offsets: Vec::new(alloc),
-                items: Vec::new(alloc),
-            });
+            return Ok(Table::empty(alloc));
         }
         let mut offsets = counted(alloc, clauses, codes)?;
         let all = ends_of(&mut offsets);
