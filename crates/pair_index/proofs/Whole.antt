@@ -1,5 +1,5 @@
 -- The lists of a literal are its pairs in all clauses.
-use Rattle.std.proofs.Common.{arith, ◌≡◌, ◌≢◌, ◌==◌, ℕ, zero, suc, ◌+◌, ◌-◌, ◌*◌, ◌/◌, ◌%◌, ◌<◌, ◌≤◌, List, [], ◌∷◌, ◌++◌, length, map, ltb, Bool, true, false, if◌then◌else◌, All, refl, sym, ap, ◌∙◌, subst, append-nil, length-append}
+use Rattle.std.proofs.Common.{arith, ◌≡◌, ℕ, ◌+◌, ◌-◌, ◌*◌, ◌/◌, ◌%◌, ◌<◌, ◌≤◌, List, [], ◌∷◌, ◌++◌, length, map, ltb, Bool, true, false, if◌then◌else◌, All, refl, sym, ap, ◌∙◌, append-nil, length-append}
 use Rattle.std.specs.List.{flat_map, range_with_len}
 use Rattle.std.proofs.lemmas.Bool.Decides.{nat_tests}
 use Rattle.std.proofs.lemmas.List.{append_assoc, length-map, get_or_past}
@@ -8,13 +8,13 @@ use Rattle.std.proofs.lemmas.List.FromFn.{get_or-map-range_with_len, length-map-
 use Rattle.pair_index.specs.declared.pair.Pair.{Pair}
 use Rattle.pair_index.specs.declared.shape.Shape.{Shape}
 use Rattle.pair_index.specs.Pairs.{pairs_of, pairs_from, IsIndex}
-use Rattle.pair_index.specs.Repeats.{Repeats, step_part, time_part, repeated}
+use Rattle.pair_index.specs.Repeats.{Repeats, step_part, time_part}
 use Rattle.pair_index.specs.Moved.{moved_pair}
 use Rattle.pair_index.specs.Lists.{IsShape, AreParts, facts_begin, facts_end, step_move, time_move, plain_move, after_all, moved_list, last_list, next_list, time_list, all_lists, index_of, clauses_of}
 use Rattle.pair_index.proofs.Tables.{pairs_past}
 use Rattle.pair_index.proofs.Shifts.{IsFrom, IsFromNone, pairs_moved, pairs_none, pairs_plain, pairs_append}
-use Rattle.pair_index.proofs.Blocks.{block, blocks, blocks_none, blocks_one, blocks_two, blocks_long}
-use Rattle.pair_index.proofs.Steps.{IsInStep, IsAtTime, own_from, own_not, own_no_time, next_from, last_from, fact_not, time_from, time_not, past_step, past_time, in_step_of, at_time_of}
+use Rattle.pair_index.proofs.Blocks.{blocks_none, blocks_one, blocks_two, blocks_long}
+use Rattle.pair_index.proofs.Steps.{IsAtTime, own_from, own_not, own_no_time, next_from, last_from, fact_not, time_from, time_not, past_step, past_time, in_step_of, at_time_of}
 use Rattle.pair_index.proofs.Exacts.{exact_of, found_of}
 
 -- what holds of each of two lists together

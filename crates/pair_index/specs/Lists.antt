@@ -1,6 +1,6 @@
 -- The pairs of a literal as five lists: those of the told clauses, of the step that ends and of the step that begins where a
 -- fact is, of its time, and of the clauses after all of these.
-use Rattle.std.specs.Prelude.{◌≡◌, ℕ, zero, suc, ◌+◌, ◌-◌, ◌*◌, ◌/◌, ◌%◌, ◌<◌, ◌≤◌, nat_lt, if◌then◌else◌, List, [], ◌++◌, map, length, All}
+use Rattle.std.specs.Prelude.{◌≡◌, ℕ, ◌+◌, ◌-◌, ◌*◌, ◌/◌, ◌%◌, ◌<◌, ◌≤◌, nat_lt, if◌then◌else◌, List, [], ◌++◌, map, length, All}
 use Rattle.std.specs.List.{range_with_len}
 use Rattle.pair_index.specs.declared.pair.Pair.{Pair}
 use Rattle.pair_index.specs.declared.list.Move.{Move}

@@ -92,6 +92,7 @@ impl PairIndex {
     }
 
     /// The pairs of a literal.
+    #[inline]
     pub fn lists(&self, code: u32) -> Lists<'_>
         requires { code < length self.now }
         ensures { pairs_of self.now code ≡ result.told ++ (result.last ++ (result.next ++ (result.time ++ result.after))) }

@@ -37,6 +37,7 @@ impl<'a> Model for PairList<'a> {
 }
 
 /// A literal with its variable moved.
+#[inline]
 fn moved(code: u32, to: Move) -> u32
     requires width { to.width ≤ 2147483647 }
     requires fits { moved_code to.width to.step to.facts code < 4294967296 }
@@ -50,6 +51,7 @@ fn moved(code: u32, to: Move) -> u32
 }
 
 /// The pair at a place, moved.
+#[inline]
 fn pair_at(pairs: &[Pair], place: usize, to: Move) -> Pair
     requires place { place < length pairs.now }
     requires movable { AreMovable to pairs.now }
@@ -64,6 +66,7 @@ fn pair_at(pairs: &[Pair], place: usize, to: Move) -> Pair
 
 impl<'a> PairList<'a> {
     /// These pairs, moved.
+    #[inline]
     pub(crate) fn of(pairs: &'a [Pair], to: Move) -> PairList<'a>
         requires { AreMovable to pairs.now }
         ensures { result ≡ map (moved_pair to) pairs.now }
@@ -72,6 +75,7 @@ impl<'a> PairList<'a> {
     }
 
     /// How many pairs there are.
+    #[inline]
     pub fn len(&self) -> usize
         ensures { result ≡ length self.now }
     {
@@ -79,6 +83,7 @@ impl<'a> PairList<'a> {
     }
 
     /// The pair at a place, counted from 0.
+    #[inline]
     pub fn at(&self, place: usize) -> Pair
         requires { place < length self.now }
         ensures { result ≡ pair_in self.now place }

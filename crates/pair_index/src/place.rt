@@ -7,6 +7,7 @@ use crate::shape::Shape;
 use crate::table::Table;
 
 /// The pairs of a literal that stand as they are, with the clauses numbered from a first one on.
+#[inline]
 pub fn plain_list(table: &Table, code: u32, first: u32) -> PairList<'_>
     requires within { AreWithin 4294967296 1073741824 table.now }
     requires few { first ≤ 1073741824 }
@@ -22,6 +23,7 @@ pub fn plain_list(table: &Table, code: u32, first: u32) -> PairList<'_>
 }
 
 /// No pairs.
+#[inline]
 fn no_list(table: &Table) -> PairList<'_>
     ensures { result ≡ [] }
 {
@@ -35,6 +37,7 @@ fn no_list(table: &Table) -> PairList<'_>
 }
 
 /// The pairs of a literal of one step, moved to a step.
+#[inline]
 fn step_list<'a>(shape: &Shape, table: &'a Table, step: u32, code: u32) -> PairList<'a>
     requires shape { IsShape shape.now }
     requires within { AreWithin (2 * (shape.now.width + 2 * shape.now.facts)) shape.now.steps table.now }
@@ -51,6 +54,7 @@ fn step_list<'a>(shape: &Shape, table: &'a Table, step: u32, code: u32) -> PairL
 }
 
 /// The pairs of a literal of one time, moved to a time.
+#[inline]
 fn time_list<'a>(shape: &Shape, table: &'a Table, time: u32, code: u32) -> PairList<'a>
     requires shape { IsShape shape.now }
     requires within { AreWithin (2 * shape.now.facts) shape.now.times table.now }
@@ -75,6 +79,7 @@ pub struct Placed<'a> {
 }
 
 /// The pairs of a variable of a step.
+#[inline]
 fn in_step<'a>(shape: &Shape, step: &'a Table, time: &'a Table, code: u32) -> Placed<'a>
     requires shape { IsShape shape.now }
     requires within { AreWithin (2 * (shape.now.width + 2 * shape.now.facts)) shape.now.steps step.now }
@@ -92,6 +97,7 @@ fn in_step<'a>(shape: &Shape, step: &'a Table, time: &'a Table, code: u32) -> Pl
 }
 
 /// The pairs of a fact at a time, in the step that ends there.
+#[inline]
 fn last_of<'a>(shape: &Shape, step: &'a Table, time: u32, fact: u32) -> PairList<'a>
     requires shape { IsShape shape.now }
     requires within { AreWithin (2 * (shape.now.width + 2 * shape.now.facts)) shape.now.steps step.now }
@@ -112,6 +118,7 @@ fn last_of<'a>(shape: &Shape, step: &'a Table, time: u32, fact: u32) -> PairList
 }
 
 /// The pairs of a fact at a time, in the step that begins there.
+#[inline]
 fn next_of<'a>(shape: &Shape, step: &'a Table, time: u32, fact: u32) -> PairList<'a>
     requires shape { IsShape shape.now }
     requires within { AreWithin (2 * (shape.now.width + 2 * shape.now.facts)) shape.now.steps step.now }
@@ -126,6 +133,7 @@ fn next_of<'a>(shape: &Shape, step: &'a Table, time: u32, fact: u32) -> PairList
 }
 
 /// The pairs of a literal in the clauses of steps and times.
+#[inline]
 pub fn place_of<'a>(shape: &Shape, step: &'a Table, time: &'a Table, code: u32) -> Placed<'a>
     requires shape { IsShape shape.now }
     requires step { AreWithin (2 * (shape.now.width + 2 * shape.now.facts)) shape.now.steps step.now }

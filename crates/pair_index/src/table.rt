@@ -61,6 +61,7 @@ impl Table {
     }
 
     /// No pairs.
+    #[inline]
     pub fn none(&self) -> &[Pair]
         ensures { result.now ≡ [] }
     {
@@ -68,6 +69,7 @@ impl Table {
     }
 
     /// The pairs of a literal.
+    #[inline]
     pub fn row(&self, code: u32) -> &[Pair]
         ensures { result.now ≡ pairs_of self.now code }
     {

@@ -1,6 +1,5 @@
-use Rattle.std.proofs.Common.{arith, length, ◌≡◌, ◌+◌, ◌<◌, ◌≤◌, sum, ◌∙◌}
-use Rattle.pair_index.specs.Rows.{end_of}
-use Rattle.pair_index.proofs.Tables.{end_at, end_within, table_laid, offsets_laid}
+use Rattle.std.proofs.Common.{arith, length, ◌≡◌, ◌+◌, ◌∙◌}
+use Rattle.pair_index.proofs.Tables.{end_at, end_within, table_laid}
 use Rattle.pair_index.proofs.table.Table.new.Goals as goal
 
 pub fill-requires-clause-ends : goal.fill-requires-clause-ends

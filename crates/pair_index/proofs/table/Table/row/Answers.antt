@@ -1,7 +1,6 @@
-use Rattle.std.proofs.Common.{arith, length, ◌≡◌, ◌+◌, ◌-◌, ◌<◌, ◌≤◌, List, take, drop, get_or, sym, ap, ◌∙◌}
+use Rattle.std.proofs.Common.{arith, length, ◌+◌, ◌-◌, ◌<◌, ◌≤◌, List, take, drop, sym, ap, ◌∙◌}
 use Rattle.pair_index.specs.declared.pair.Pair.{Pair}
 use Rattle.pair_index.specs.Pairs.{pairs_of}
-use Rattle.pair_index.specs.Rows.{row_at}
 use Rattle.pair_index.proofs.Tables.{row_past, row_read, ends_read}
 use Rattle.pair_index.proofs.table.Table.row.Goals as goal
 
