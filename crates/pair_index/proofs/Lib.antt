@@ -7,3 +7,4 @@ pub mod Exacts
 pub mod Steps
 pub mod Whole
 pub mod Five
+pub mod Shapes

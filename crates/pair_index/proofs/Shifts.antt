@@ -6,7 +6,7 @@ use Rattle.std.proofs.lemmas.List.Elements.{All-head, All-tail}
 use Rattle.pair_index.specs.declared.pair.Pair.{Pair}
 use Rattle.pair_index.specs.declared.list.Move.{Move}
 use Rattle.pair_index.specs.Pairs.{pair_of, pairs_from}
-use Rattle.pair_index.specs.Repeats.{moved_code}
+use Rattle.clause_base.specs.Repeats.{moved_code}
 use Rattle.pair_index.specs.Moved.{moved_pair}
 use Rattle.pair_index.specs.Lists.{plain_move}
 use Rattle.pair_index.proofs.Counts.{equal_of, apart_of, pair_first, pair_second, pair_neither}

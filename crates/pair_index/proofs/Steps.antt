@@ -3,7 +3,7 @@ use Rattle.std.proofs.Common.{arith, ◌≡◌, ◌≢◌, ◌==◌, ℕ, suc, �
 use Rattle.std.proofs.Math.Nat.{mul-le-mul_right}
 use Rattle.std.proofs.lemmas.Bool.Decides.{nat_tests}
 use Rattle.pair_index.specs.declared.shape.Shape.{Shape}
-use Rattle.pair_index.specs.Repeats.{moved_code}
+use Rattle.clause_base.specs.Repeats.{moved_code}
 use Rattle.pair_index.specs.Lists.{facts_begin, facts_end, step_move, time_move}
 use Rattle.pair_index.proofs.Shifts.{IsFrom, IsFromNone, code_own, code_fact, test_same, test_false}
 
@@ -139,6 +139,16 @@ past_time z x v h hv a below =
     let q : moved_code 0 0 (z.horizon * z.width + v * z.facts) a ≡ 2 * (z.horizon * z.width + v * z.facts) + (a - 2 * 0) = code_fact 0 0 (z.horizon * z.width + v * z.facts) a g in
     test_false _ x (λ w. omega (arith, h, mul_less v (z.horizon + 1) z.facts (omega (arith, hv)), q, w, below))
 
+-- where there is a number below a product, no factor is 0
+room_of : (n c x : ℕ) → x < 2 * (n * c) → 0 < 2 * c
+room_of n c x h = by (c == 0) refl
+  where
+    by : (b : Bool) → (c == 0) ≡ b → 0 < 2 * c
+    by true e =
+        let q : c ≡ 0 = grind (arith, nat_tests) in
+        let p : n * c ≡ n * 0 = ap (λ (k : ℕ). n * k) q in absurd (omega (arith, h, p))
+    by false e = let q : c ≢ 0 = grind (arith, nat_tests) in omega (arith, q)
+
 -- where a literal is, by division
 pub in_step_of : (z : Shape) (x : ℕ) → x < facts_begin z → IsInStep z x (x / (2 * z.width)) (x % (2 * z.width))
 in_step_of z x h = record {
@@ -148,13 +158,7 @@ in_step_of z x h = record {
 }
   where
     some : 0 < 2 * z.width
-    some = by (z.width == 0) refl
-      where
-        by : (b : Bool) → (z.width == 0) ≡ b → 0 < 2 * z.width
-        by true e =
-            let q : z.width ≡ 0 = grind (arith, nat_tests) in
-            let p : z.horizon * z.width ≡ z.horizon * 0 = ap (λ (k : ℕ). z.horizon * k) q in absurd (omega (arith, h, p))
-        by false e = let q : z.width ≢ 0 = grind (arith, nat_tests) in omega (arith, q)
+    some = room_of z.horizon z.width x h
 
     own : x % (2 * z.width) < 2 * z.width
     own = omega (arith, some)
@@ -179,13 +183,7 @@ at_time_of z x g h = record {
     y = x - facts_begin z
 
     some : 0 < 2 * z.facts
-    some = by (z.facts == 0) refl
-      where
-        by : (b : Bool) → (z.facts == 0) ≡ b → 0 < 2 * z.facts
-        by true e =
-            let q : z.facts ≡ 0 = grind (arith, nat_tests) in
-            let p : (z.horizon + 1) * z.facts ≡ (z.horizon + 1) * 0 = ap (λ (k : ℕ). (z.horizon + 1) * k) q in absurd (omega (arith, g, h, p))
-        by false e = let q : z.facts ≢ 0 = grind (arith, nat_tests) in omega (arith, q)
+    some = room_of (z.horizon + 1) z.facts (x - facts_begin z) (omega (arith, g, h))
 
     parts : y ≡ 2 * (y / (2 * z.facts) * z.facts) + y % (2 * z.facts)
     parts = omega (arith, some)

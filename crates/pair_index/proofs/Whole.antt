@@ -8,7 +8,7 @@ use Rattle.std.proofs.lemmas.List.FromFn.{get_or-map-range_with_len, length-map-
 use Rattle.pair_index.specs.declared.pair.Pair.{Pair}
 use Rattle.pair_index.specs.declared.shape.Shape.{Shape}
 use Rattle.pair_index.specs.Pairs.{pairs_of, pairs_from, IsIndex}
-use Rattle.pair_index.specs.Repeats.{Repeats, step_part, time_part}
+use Rattle.clause_base.specs.Repeats.{Repeats, step_part, time_part}
 use Rattle.pair_index.specs.Moved.{moved_pair}
 use Rattle.pair_index.specs.Lists.{IsShape, AreParts, facts_begin, facts_end, step_move, time_move, plain_move, after_all, moved_list, last_list, next_list, time_list, all_lists, index_of, clauses_of}
 use Rattle.pair_index.proofs.Tables.{pairs_past}

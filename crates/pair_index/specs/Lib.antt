@@ -1,5 +1,4 @@
 pub mod Pairs
 pub mod Rows
-pub mod Repeats
 pub mod Moved
 pub mod Lists

@@ -6,7 +6,7 @@ use Rattle.pair_index.specs.declared.pair.Pair.{Pair}
 use Rattle.pair_index.specs.declared.list.Move.{Move}
 use Rattle.pair_index.specs.declared.shape.Shape.{Shape}
 use Rattle.pair_index.specs.Pairs.{pairs_of, pair_in}
-use Rattle.pair_index.specs.Repeats.{repeated}
+use Rattle.clause_base.specs.Repeats.{Repeats, repeated}
 use Rattle.pair_index.specs.Moved.{moved_pair}
 
 -- the code of the first fact at time 0, and the one after the last at the last time
@@ -71,6 +71,7 @@ pub record IsShape (z : Shape) : Type 0 where
   pub variables : z.horizon * z.width + (z.horizon + 1) * z.facts ≤ z.variables
   pub small : z.variables ≤ 2147483647
   pub few : after_all z + z.afters ≤ 1073741824
+  pub all_steps : z.all_steps ≡ z.horizon * z.steps
   pub before : z.before ≡ after_all z
   pub begin : z.facts_begin ≡ facts_begin z
   pub end : z.facts_end ≡ facts_end z
@@ -79,6 +80,17 @@ pub record IsShape (z : Shape) : Type 0 where
 pub record AreWithin (codes count : ℕ) (table : List (List Pair)) : Type 0 where
   pub others : (x place : ℕ) → place < length (pairs_of table x) → (pair_in (pairs_of table x) place).other < codes
   pub numbers : (x place : ℕ) → place < length (pairs_of table x) → (pair_in (pairs_of table x) place).number < count
+
+-- the numbers of a formula's parts
+pub record AreNumbers (z : Shape) (variables : ℕ) (told : List (List ℕ)) (part : Repeats) (after : List (List ℕ)) : Type 0 where
+  pub variables_is : z.variables ≡ variables
+  pub horizon : z.horizon ≡ part.horizon
+  pub width : z.width ≡ part.width
+  pub facts : z.facts ≡ part.facts
+  pub tolds : z.tolds ≡ length told
+  pub steps : z.steps ≡ length part.step
+  pub times : z.times ≡ length part.time
+  pub afters : z.afters ≡ length after
 
 -- the parts of a formula, with the numbers of a shape
 pub record AreParts (z : Shape) (told step time after : List (List ℕ)) : Type 0 where

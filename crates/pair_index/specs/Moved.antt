@@ -3,7 +3,7 @@ use Rattle.std.specs.Prelude.{ℕ, ◌+◌, ◌<◌, ◌≤◌, List, length}
 use Rattle.pair_index.specs.declared.pair.Pair.{Pair}
 use Rattle.pair_index.specs.declared.list.Move.{Move}
 use Rattle.pair_index.specs.Pairs.{pair_in}
-use Rattle.pair_index.specs.Repeats.{moved_code}
+use Rattle.clause_base.specs.Repeats.{moved_code}
 
 -- a pair whose literal is moved, and whose number is counted from a first one
 abbrev pub moved_pair : Move → Pair → Pair

@@ -5,9 +5,10 @@ ghost use Rattle.pair_index.specs.Lists.{AreParts, AreWithin, IsShape, clauses_o
 
 use crate::list::PairList;
 use crate::place::{place_of, plain_list};
-use crate::shape::Shape;
+use crate::shape::{Shape, shape_of};
 use crate::table::Table;
 use clause_base::clause_list::ClauseList;
+use clause_base::formula::Formula;
 use clause_base::memory::Memory;
 use std::alloc::Global;
 use std::marker::Model;
@@ -64,6 +65,26 @@ fn step_table(alloc: Global, shape: &Shape, step: &ClauseList) -> Result<Table, 
 }
 
 impl PairIndex {
+    /// The pairs of the clauses of a formula.
+    pub fn new(alloc: Global, formula: &Formula) -> Result<PairIndex, Memory>
+        ensures { IfOk result (λ index. IsIndex formula.now.variables formula.now.clauses index) }
+    {
+        let _few = formula.count();
+        let variables = formula.variables();
+        let parts = formula.parts();
+        let part = parts.repeated;
+        let shape = shape_of(variables, parts.told, part, parts.after);
+        let index = PairIndex::of_parts(
+            alloc,
+            shape,
+            parts.told,
+            part.step(),
+            part.time(),
+            parts.after,
+        )?;
+        Ok(index)
+    }
+
     /// The pairs of the clauses of a formula with these parts.
     fn of_parts(
         alloc: Global,

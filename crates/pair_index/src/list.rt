@@ -1,7 +1,7 @@
 //! Pairs of a literal of one step or one time, moved.
 ghost use Rattle.std.specs.Prelude.{◌≡◌, ◌+◌, ◌<◌, ◌≤◌, length, map};
 ghost use Rattle.pair_index.specs.Pairs.{pair_in};
-ghost use Rattle.pair_index.specs.Repeats.{moved_code};
+ghost use Rattle.clause_base.specs.Repeats.{moved_code};
 ghost use Rattle.pair_index.specs.Moved.{moved_pair, AreMovable};
 
 use crate::pair::Pair;

@@ -48,7 +48,7 @@ fn step_list<'a>(shape: &Shape, table: &'a Table, step: u32, code: u32) -> PairL
         width: shape.width,
         step: step * shape.width,
         facts: shape.horizon * shape.width + step * shape.facts,
-        first: shape.tolds + step * shape.steps,
+        first: shape.tolds + step * shape.steps as u32,
     };
     PairList::of(table.row(code), to)
 }
@@ -65,7 +65,7 @@ fn time_list<'a>(shape: &Shape, table: &'a Table, time: u32, code: u32) -> PairL
         width: 0,
         step: 0,
         facts: shape.horizon * shape.width + time * shape.facts,
-        first: shape.tolds + (shape.horizon * shape.steps + time * shape.times),
+        first: shape.tolds + (shape.all_steps + time * shape.times),
     };
     PairList::of(table.row(code), to)
 }

@@ -1,5 +1,5 @@
 use Rattle.std.proofs.Common.{ℕ, ◌*◌, ◌<◌, ◌≤◌, ◌++◌, length, All, arith}
-use Rattle.pair_index.specs.Repeats.{repeated}
+use Rattle.clause_base.specs.Repeats.{repeated}
 use Rattle.pair_index.proofs.Exacts.{within_of}
 use Rattle.pair_index.proofs.Whole.{all_left, all_right, index_is}
 use Rattle.pair_index.proofs.index.PairIndex.of_parts.Goals as goal
