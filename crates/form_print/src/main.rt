@@ -14,7 +14,7 @@ use action_order::order::Order;
 use action_order::publish::publish;
 use all_steps::form::AllForm;
 use clause_base::formula::Formula;
-use clause_base::literal::Lit;
+use clause_base::view::View;
 use gt_core::pairs::Pairs;
 use gt_core::task::Task;
 use sample_tasks::dice::Dice;
@@ -54,10 +54,10 @@ fn print_order(rt: &impl Print, order: &Order) -> io::Result<()> {
 }
 
 /// Prints the codes of a clause.
-fn print_clause(rt: &impl Print, clause: &[Lit]) -> io::Result<()> {
+fn print_clause(rt: &impl Print, clause: &View) -> io::Result<()> {
     print!(rt; "clause")?;
-    for lit in clause {
-        let code = lit.0;
+    for place in 0..clause.len() {
+        let code = clause.get(place).0;
         print!(rt; " {code}")?;
     }
     println!(rt; "")
@@ -68,7 +68,7 @@ fn print_formula(rt: &impl Print, formula: &Formula) -> io::Result<()> {
     let (name, variables) = (formula.name(), formula.variables());
     println!(rt; "formula {name} variables {variables}")?;
     for number in 0..formula.count() {
-        print_clause(rt, formula.clause(number))?;
+        print_clause(rt, &formula.clause(number))?;
     }
     Ok(())
 }

@@ -7,6 +7,7 @@ ghost use Rattle.gt_core.specs.Published.{Pairwise, order_of};
 ghost use Rattle.clause_base.specs.Formula.{assignment_of};
 ghost use Rattle.step_clauses.specs.Variables.{layout_of};
 ghost use Rattle.step_clauses.specs.Coded.{formula_of};
+ghost use Rattle.step_clauses.specs.Shift.{one_step, one_time};
 ghost use Rattle.step_chains.specs.Chains.{AreChains};
 ghost use Rattle.step_laws.specs.Form.{IsOrderedTask, AreSets, steps_at};
 ghost use Rattle.step_laws.specs.Stepping.{IsStepping};
@@ -51,8 +52,40 @@ pub trait Placing: Drop {
         ensures { IfOk result (λ c. AreChains task.now (places task.now order.now) c) };
 }
 
+/// How many literals a formula has at most.
+const MOST_LITERALS: u64 = 4_000_000;
+
+/// The clauses of one step, where a formula with so many literals is not too large.
+fn kept_step(
+    alloc: Global,
+    task: &Task,
+    chains: &Chains,
+    literals: u64,
+) -> Result<ClauseList, Memory>
+    requires actions { chains.now.actions ≡ length task.now.actions }
+    ensures { IfOk result (λ step. literals ≤ 4000000 → (places : List (List ℕ × ℕ)) → AreChains task.now places chains.now → step ≡ one_step task.now places) }
+{
+    if literals > MOST_LITERALS {
+        return Ok(ClauseList::new(alloc));
+    }
+    let step = one_step(alloc, task, chains)?;
+    Ok(step)
+}
+
+/// The clauses of the known pairs at one time, where a formula with so many literals is not too large.
+fn kept_time(alloc: Global, pairs: &Pairs, literals: u64) -> Result<ClauseList, Memory>
+    ensures { IfOk result (λ known. literals ≤ 4000000 → known ≡ one_time pairs.now.clauses) }
+{
+    if literals > MOST_LITERALS {
+        return Ok(ClauseList::new(alloc));
+    }
+    let known = one_time(alloc, pairs)?;
+    Ok(known)
+}
+
 /// The encoding whose chains go where `P` says. The chains are found once, and how many literals a step has, and the known
-/// pairs at one time, is counted once; no clause is built before a formula is asked for.
+/// pairs at one time, is counted once. The clauses of one step and of one time are made once, where some formula has them and
+/// is not too large; each formula has copies of them, however many steps it has.
 #[derive(Debug, Drop)]
 pub struct Placed<'a, P: Placing> {
     task: &'a Task,
@@ -62,6 +95,8 @@ pub struct Placed<'a, P: Placing> {
     chains: Chains,
     step_size: u64,
     known_size: u64,
+    step: ClauseList,
+    known: ClauseList,
     placing: PhantomData<P>,
 }
 
@@ -73,13 +108,12 @@ impl<'a, P: Placing> Model for Placed<'a, P> {
 
     ghost view = { λ f. record { task = f.task.now; known = f.pairs.now; components = f.order.now } };
 
-    ghost invariant = { λ f. AreKept P.places (record { task = f.task.now; known = f.pairs.now; components = f.order.now }) f.conditional f.chains f.step_size f.known_size };
+    ghost invariant = { λ f. AreKept P.places (record { task = f.task.now; known = f.pairs.now; components = f.order.now }) f.conditional f.chains f.step_size f.known_size f.step f.known };
 }
 
 impl<'a, P: Placing> Placed<'a, P> {
     ghost use Rattle.gt_core.specs.Reached.{HoldsWherever};
     ghost use Rattle.gt_core.specs.Published.{IsPublished};
-    ghost use Rattle.step_clauses.specs.Shift.{one_step};
 
     /// The encoding for a task with an order of its actions: the published one under known pairs, each of which holds
     /// in every state that a sequence of actions reaches.
@@ -98,6 +132,10 @@ impl<'a, P: Placing> Placed<'a, P> {
         let _count = pairs.count();
         let chains = P::find(alloc, task, order)?;
         let step_size = step_size(task, &chains);
+        let known_size = known_size(pairs);
+        let ends = u64::from(task.facts()) + task.goal().len() as u64;
+        let known = kept_time(alloc, pairs, ends + known_size)?;
+        let step = kept_step(alloc, task, &chains, ends + step_size + 2 * known_size)?;
         Ok(Placed {
             task,
             pairs,
@@ -105,20 +143,11 @@ impl<'a, P: Placing> Placed<'a, P> {
             conditional: task.conditional(),
             chains,
             step_size,
-            known_size: known_size(pairs),
+            known_size,
+            step,
+            known,
             placing: PhantomData,
         })
-    }
-
-    /// The clauses of one step, where there is a step.
-    fn step(&self, alloc: Global, n: u32) -> Result<ClauseList, Memory>
-        ensures { IfOk result (λ step. 0 < n → step ≡ one_step self.now.task (P.places self.now.task self.now.components)) }
-    {
-        if n == 0 {
-            return Ok(ClauseList::new(alloc));
-        }
-        let step = one_step(alloc, self.task, &self.chains)?;
-        Ok(step)
     }
 
     /// The formula of a horizon in its layout.
@@ -128,10 +157,7 @@ impl<'a, P: Placing> Placed<'a, P> {
         requires small { literals_of (formula_of self.now.task self.now.known.clauses (P.places self.now.task self.now.components) layout.now.horizon) ≤ 4000000 }
         ensures { IfOk result (λ formula. formula ≡ formula_of self.now.task self.now.known.clauses (P.places self.now.task self.now.components) layout.now.horizon) }
     {
-        let step = self.step(alloc, layout.horizon)?;
-        let known = one_time(alloc, self.pairs)?;
-        let literals = self.size(layout.horizon);
-        let formula = joining::formula(alloc, self.task, layout, &step, &known, literals)?;
+        let formula = joining::formula(alloc, self.task, layout, &self.step, &self.known)?;
         Ok(formula)
     }
 }
@@ -176,7 +202,7 @@ impl<'a, P: Placing> StepForm for Placed<'a, P> {
 
     fn formula(&self, alloc: Global, n: u32) -> Result<Formula, FormError> {
         let count = self.size(n);
-        if count > 4_000_000 {
+        if count > MOST_LITERALS {
             return Err(FormError::Literals { count });
         }
         let layout = self.layout(n);

@@ -166,8 +166,10 @@ impl Watches {
         ensures { IfOk result (λ w. w ≡ record { variables = formula.now.variables; clauses = formula.now.clauses; kept = replicate (length formula.now.clauses) true; trail = [] }) }
     {
         let mut watches = Watches::empty(alloc, formula)?;
+        let mut lits = Vec::new(alloc);
         for number in 0..formula.count() {
-            watches.add_sorted(formula.clause(number))?;
+            formula.clause(number).copy_into(&mut lits)?;
+            watches.add_sorted(&lits)?;
         }
         Ok(watches)
     }

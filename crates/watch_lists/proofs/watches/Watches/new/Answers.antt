@@ -18,4 +18,7 @@ next v n cl x old new i e p =
 
 pub loop-number-preserved : goal.loop-number-preserved
 loop-number-preserved c =
-    next c.args.formula.now.variables c.loop-number.number c.args.formula.now.clauses c.clause.result.now c.loop-number.watches c.add_sorted.new.self c.loop-number.invariant c.clause.ensures.value c.in_ok-add_sorted.ensures.ok
+    let old = c.loop-number.watches in
+    let same = c.deref.ensures.value ∙ c.in_ok-copy_into.ensures in
+    next c.args.formula.now.variables c.loop-number.number c.args.formula.now.clauses c.clause.result old c.add_sorted.new.self c.loop-number.invariant c.clause.ensures.value
+    (c.in_ok-add_sorted.ensures.ok ∙ ap (λ (x : List ℕ). let w : WatchesView = record old { clauses = old.clauses ++ x ∷ []; kept = old.kept ++ true ∷ [] } in w) same)
