@@ -1,6 +1,6 @@
 //! A test of formulas, clause by clause: prints those of exists-steps and of all-steps of two worked tasks, and of twenty small
-//! tasks that are drawn from numbers, first under no known pair and then under all pairs that each action keeps by itself. The file `stdout` is not
-//! this program's: `bench/list-formulas` wrote it, from the definition of the clauses alone.
+//! tasks that are drawn from numbers, first under no known pair and then under all pairs that each action keeps by itself.
+//! The file `stdout` is not this program's: `bench/list-formulas` wrote it, from the definition of the clauses alone.
 #![tactic(auto)]
 
 ghost use Rattle.std.specs.Prelude.{◌≡◌, ◌≤◌};

@@ -1,7 +1,5 @@
-use Rattle.std.proofs.Common.{arith, ◌≡◌, ◌+◌, ◌<◌, ℕ, [], ◌∷◌, reverse, length, true, false, sym, ap, ◌∙◌, subst, if◌then◌else◌}
+use Rattle.std.proofs.Common.{◌<◌, ℕ, sym, subst}
 use Rattle.std.specs.List.{AllByRecursion}
-use Rattle.step_chains.specs.BothWays.{ways_in}
-use Rattle.step_chains.proofs.ExtendLaw.{found_twice}
 use Rattle.step_chains.proofs.chains.Chains.add_ways.Goals as goal
 
 pub add_backward-requires-clause-actions : goal.add_backward-requires-clause-actions
