@@ -1,4 +1,4 @@
-use Rattle.std.proofs.Common.{arith, ◌<◌}
+use Rattle.std.proofs.Common.{arith}
 use Rattle.goal_choice.proofs.Differences.{difference_from}
 use Rattle.goal_choice.proofs.seen.change_between.Goals as goal
 

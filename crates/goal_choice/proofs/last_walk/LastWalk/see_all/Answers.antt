@@ -1,4 +1,4 @@
-use Rattle.std.proofs.Common.{arith, ◌≡◌, ◌<◌, ◌∙◌, length, length-set, sym, ap}
+use Rattle.std.proofs.Common.{arith, ◌∙◌, length, length-set, sym, ap}
 use Rattle.std.specs.List.{slice_get}
 use Rattle.clause_base.specs.Choice.{Known}
 use Rattle.gt_core.specs.Layout.{variables}
