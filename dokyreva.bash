@@ -4,7 +4,6 @@ _dokyreva_values() {
     case $1 in
     --alg) echo a b c ;;
     --show) echo none domain problem ;;
-    --turns) echo forward backward ;;
     --width) echo 1 2 4 8 16 ;;
     --workers) echo 1 2 4 8 16 ;;
     --max-horizon) echo 8 16 32 64 128 255 ;;
@@ -15,10 +14,8 @@ _dokyreva_values() {
 _dokyreva_options() {
     local race='--alg --width --quota --percent --growth --start --max-horizon --budget --slice'
     case $1 in
-    plan | plan-all) echo "$race --workers" ;;
+    plan) echo "$race --workers" ;;
     gen) echo "$race --workers --show" ;;
-    batch) echo "$race --turns" ;;
-    prove) echo --budget ;;
     esac
 }
 
@@ -27,7 +24,7 @@ _dokyreva() {
     if [ "${COMP_WORDS[0]##*/}" = plan ]; then
         command=plan place=$((place + 1))
     elif [ "$place" = 1 ]; then
-        mapfile -t COMPREPLY < <(compgen -W 'plan plan-all check ground order gen prove verify batch help' -- "$word")
+        mapfile -t COMPREPLY < <(compgen -W 'plan check ground order gen help' -- "$word")
         return
     fi
     if [ "$command" = gen ] && [ "$place" = 2 ]; then
