@@ -1,6 +1,5 @@
 use Rattle.std.proofs.Common.{◌≡◌, ℕ, List, length, refl}
 use Rattle.plan_words.specs.Seen.{seen, numbers}
-use Rattle.plan_top.specs.declared.ending.Ending.{Ending}
 use Rattle.plan_top.specs.Stepping.{Exists}
 use Rattle.plan_top.specs.Tasks.{OnceRead, OnceGrounded}
 use Rattle.plan_top.specs.Generated.{AnswersGenerated}
