@@ -1,6 +1,6 @@
 use Rattle.std.proofs.Common.{◌≡◌, ◌++◌, length, vec_len}
 use Rattle.race.specs.Runs.{jobs_at}
-use Rattle.race.proofs.work.jobs_of.Given as goal
+use Rattle.race.proofs.work.list_jobs.Given as goal
 
 abbrev pub invariant-loop-run : goal.invariant-loop-run
 invariant-loop-run l = record {

@@ -1,7 +1,7 @@
 use Rattle.std.proofs.Common.{IfOk}
 use Rattle.std.specs.List.{AllByRecursion}
 use Rattle.race.specs.Fresh.{IsFresh}
-use Rattle.race.proofs.fresh.all_made.Given as goal
+use Rattle.race.proofs.ahead.push_made.Given as goal
 
 abbrev pub invariant-loop-run : goal.invariant-loop-run
 invariant-loop-run g l = record {
