@@ -87,7 +87,7 @@ pub fn race<F: StepForm + Sync, G: Gate, H: Threads + Wait + Sync>(
 {
     let supporters = Supporters::new(alloc, task)?;
     let mut racing = Racing::new(alloc, settings);
-    loop {
+    'rounds: loop {
         match racing.round(rt, alloc, task, &supporters, form, settings, gate)? {
             Step::On(next) => racing = next,
             Step::End(end) => return Ok(end),
