@@ -70,7 +70,7 @@ pub fn left_of(
 {
     match asked_by_slot(store, slots, blocks, asks, number) {
         Some(ask) => left_asked(truth, ask),
-        None => left_in(truth, store.clause(number)),
+        None => left_in(truth, &store.clause(number)),
     }
 }
 
@@ -93,6 +93,6 @@ pub fn is_left(
 {
     match asked_by_slot(store, slots, blocks, asks, number) {
         Some(ask) => !truth.is_true(ask),
-        None => is_pending(truth, store.clause(number)),
+        None => is_pending(truth, &store.clause(number)),
     }
 }
