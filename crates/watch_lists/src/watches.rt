@@ -114,17 +114,21 @@ impl Watches {
         let variables = formula.variables();
         let count = formula.count();
         let store = Store::new(alloc, formula)?;
+        let kept = vec![in alloc; true; count as usize]?;
+        let truth = Truth::new(alloc, variables)?;
+        let pairs = PairIndex::new(alloc, formula)?;
+        let quiet = no_quiet(alloc, variables)?;
         let given = Given::new(alloc, &store, count, 2 * variables)?;
         Ok(Watches {
             variables,
-            kept: vec![in alloc; true; count as usize]?,
-            truth: Truth::new(alloc, variables)?,
-            pairs: PairIndex::new(alloc, formula)?,
-            quiet: no_quiet(alloc, variables)?,
+            store,
+            kept,
+            truth,
+            pairs,
             slots: given.slots,
             blocks: given.blocks,
             lists: given.lists,
-            store,
+            quiet,
         })
     }
 
