@@ -1,9 +1,9 @@
-ghost use Rattle.std.specs.Prelude.{◌≡◌, ℕ, ◌*◌, ◌<◌, ◌≤◌, ◌∷◌, [], length, true, false, slice_index, MatchOption, IfSome};
+ghost use Rattle.std.specs.Prelude.{◌≡◌, ℕ, ◌*◌, ◌<◌, ◌≤◌, length, true, false, slice_index, MatchOption, IfSome};
 ghost use Rattle.clause_base.specs.Literal.{opposite};
 ghost use Rattle.clause_base.specs.Clause.{has_literal};
 ghost use Rattle.watch_lists.specs.Asking.{IsAsked};
 ghost use Rattle.watch_lists.specs.Pending.{is_free};
-ghost use Rattle.cdcl_rules.specs.Pending.{is_pending, open_ones};
+ghost use Rattle.cdcl_rules.specs.Pending.{is_pending};
 
 use clause_base::literal::Lit;
 use clause_base::view::View;
@@ -45,21 +45,6 @@ pub fn ask_of(truth: &Truth, clause: &View) -> u32
     }
     let first = clause.get(0);
     first.0
-}
-
-/// The literal of a pending clause that is not false, if there is one.
-pub fn left_in(truth: &Truth, clause: &View) -> Option<Lit>
-    requires below { (p : ℕ) → p < length clause.now → slice_index clause.now p < 2 * truth.now.variables }
-    requires pending { is_pending (has_literal truth.now.trail) clause.now ≡ true }
-    ensures { MatchOption result (open_ones (has_literal truth.now.trail) clause.now ≡ []) (λ lit. open_ones (has_literal truth.now.trail) clause.now ≡ lit ∷ []) }
-{
-    for place in 0..clause.len() {
-        let lit = clause.get(place);
-        if !truth.is_false(lit.0) {
-            return Some(lit);
-        }
-    }
-    None
 }
 
 /// A place from `low` up to `high`, other than `skipped`, whose literal is not false.
