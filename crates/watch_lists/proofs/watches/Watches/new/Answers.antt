@@ -16,3 +16,22 @@ pub new-given-requires-clause-fit : goal.new-given-requires-clause-fit
 new-given-requires-clause-fit c =
     subst (λ (n : ℕ). IsFit c.in_ok-store.store (2 * n)) (sym c.variables-variables.ensures.value)
     (subst (λ (cs : List (List ℕ)). IsFit cs (2 * c.args.formula.now.variables)) (sym c.in_ok-store.ensures) (fit (goal.at.new-given-requires-clause-fit c).After-count-count))
+
+pub invariant_of-result : goal.invariant_of-result
+invariant_of-result c =
+    let v = c.variables-variables.result in
+    let store = c.in_ok-store.store in
+    let g = c.in_ok-given.given in
+    let l = g.lists in
+    let all : length store ≡ c.count-count.result = (let e = ap (λ (cs : List (List ℕ)). length cs) c.in_ok-store.ensures in omega (arith, e, c.count-count.ensures.value)) in
+    let f = subst (λ (n : ℕ). IsFit store (2 * n)) (sym c.variables-variables.ensures.value)
+    (subst (λ (cs : List (List ℕ)). IsFit cs (2 * c.args.formula.now.variables)) (sym c.in_ok-store.ensures) (fit (goal.at.invariant_of-result c).After-count-count)) in
+    let small : v ≤ 2147483647 = omega (arith, c.variables-variables.ensures.small, c.variables-variables.ensures.value) in
+    let made = subst (λ (n : ℕ). AreGiven (2 * v) store n g.slots.items l.watched.items l.chains.heads.items l.chains.nodes.items l.pending l.asks.items) (sym all) c.in_ok-given.ensures in
+    let trail = ap (λ (t : TruthView). t.trail) c.in_ok-truth.ensures in
+    let kept : c.in_ok-kept.kept.items ≡ replicate (length store) true = ? in
+    let index = subst (λ (n : ℕ). IsIndex n store c.in_ok-pairs.pairs) (sym c.variables-variables.ensures.value) (subst (λ (cs : List (List ℕ)). IsIndex c.args.formula.now.variables cs c.in_ok-pairs.pairs) (sym c.in_ok-store.ensures) c.in_ok-pairs.ensures) in (
+      sound_given v c.in_ok-truth.truth.variables store c.in_ok-kept.kept.items c.in_ok-truth.truth.trail g.slots.items l.watched.items l.chains.heads.items l.chains.nodes.items l.pending l.asks.items c.in_ok-quiet.quiet.items small (ap (λ (t : TruthView). t.variables) c.in_ok-truth.ensures) (omega (arith, all, c.count-count.ensures.few, c.count-count.ensures.value)) f kept trail made c.in_ok-quiet.ensures,
+      paired_given v store g.slots.items l.watched.items l.chains.heads.items l.chains.nodes.items l.pending l.asks.items c.in_ok-pairs.pairs made index,
+      asking_given v store c.in_ok-truth.truth.trail g.slots.items l.watched.items l.chains.heads.items l.chains.nodes.items l.pending l.asks.items trail made,
+    )
