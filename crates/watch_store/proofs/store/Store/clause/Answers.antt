@@ -3,8 +3,8 @@ use Rattle.std.proofs.lemmas.Option.{get_or_from_slice_get}
 use Rattle.std.proofs.lemmas.List.{get_or_append_left, get_or-append_right}
 use Rattle.watch_store.proofs.store.Store.clause.Goals as goal
 
-pub returns-then-number-given : goal.returns-then-number-given
-returns-then-number-given c =
+pub returns-then-number-self : goal.returns-then-number-self
+returns-then-number-self c =
     let i = c.self.inside in
     sym (get_or_from_slice_get i.formula.clauses c.args.number c.clause.result [] c.clause.ensures.value)
     ∙ sym (get_or_append_left i.formula.clauses i.added [] c.args.number (omega (arith, c.self.invariant.counted)))
