@@ -166,9 +166,6 @@ given_long codes cl n slots wa heads nodes words asks slots' wa' heads' nodes' g
     }
 
 -- before any literal is true just the clauses of fewer than two literals are pending
-off_none : (trail : List ℕ) (l : ℕ) → trail ≡ [] → has_literal trail l ≡ false
-off_none trail l e = ap (λ (ys : List ℕ). has_literal ys l) e
-
 pending_short : (xs : List ℕ) → length xs < 2 → is_pending (has_literal []) xs ≡ true
 pending_short [] h = refl
 pending_short (x ∷ []) h = refl
@@ -191,9 +188,9 @@ flags_all n (m ∷ slots) h =
     ap (λ (b : Bool). b ∷ slot_flags (replicate n true) slots) (all_true n m (h 0 (omega arith)))
     ∙ ap (λ (bs : List Bool). true ∷ bs) (flags_all n slots (λ s g. h (suc s) (omega (arith, g))))
 
-take_none : (n : ℕ) → take n [] ≡ []
-take_none zero = refl
-take_none (suc n) = refl
+take_none : (n l : ℕ) → has_literal (take n []) l ≡ false
+take_none zero l = refl
+take_none (suc n) l = refl
 
 pub sound_given : (v tv : ℕ) (cl : List (List ℕ)) (kept : List Bool) (trail slots : List ℕ) (wa : List Watched) (heads : List ℕ) (nodes : List Node) (words asks : List ℕ) (quiet : List Bool) → v ≤ 2147483647 → tv ≡ v → length cl ≤ 1073741824 → IsFit cl (2 * v) → kept ≡ replicate (length cl) true → trail ≡ [] → AreGiven (2 * v) cl (length cl) slots wa heads nodes words asks → length quiet ≡ v + 1 → IsSound v tv cl kept trail slots wa heads nodes words quiet
 sound_given v tv cl kept trail slots wa heads nodes words asks quiet small same few fit ek et g size =
@@ -208,7 +205,7 @@ sound_given v tv cl kept trail slots wa heads nodes words asks quiet small same 
       slotted = g.slotted;
       slots_few = g.few;
       rest = subst (λ (ks : List Bool). IsAtRest (slot_clauses cl slots) wa heads nodes (2 * v) ks) (sym (flags_all (length cl) slots g.slotted)) g.rest;
-      free = λ n h node real must none two. ap (λ (b : Bool). not b) (off_none (take n []) _ (take_none n));
+      free = λ n h node real must none two. ap (λ (b : Bool). not b) (take_none n _);
       front = record {
         complete = λ k p.
             g.shorts k (omega (arith, kept_in (replicate (length cl) true) k (is_pending (has_literal []) (clause_at cl k)) p, long_flags (length cl))) (pending_is_short (clause_at cl k) (pending_kept cl (replicate (length cl) true) [] k p));

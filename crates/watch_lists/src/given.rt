@@ -1,7 +1,7 @@
 //! The tables of a formula's clauses, made at once before any literal is true. A clause of more than two literals has a slot and
 //! watches its last two; one of two literals is in the pair index alone; one of fewer is pending, and in the set from the
 //! beginning.
-ghost use Rattle.std.specs.Prelude.{◌≡◌, ℕ, ◌+◌, ◌*◌, ◌<◌, ◌≤◌, [], None, length, IfOk, OnOk};
+ghost use Rattle.std.specs.Prelude.{◌≡◌, ℕ, ◌+◌, ◌*◌, ◌<◌, ◌≤◌, [], None, false, length, IfOk, OnOk};
 ghost use Rattle.number_bits.specs.Bits.{words_have};
 ghost use Rattle.watch_chains.specs.Linked.{IsLinked};
 ghost use Rattle.watch_lists.specs.Visit.{IsFit};

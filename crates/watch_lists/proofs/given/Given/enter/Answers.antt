@@ -29,7 +29,7 @@ pub returns-then-length-lt2 : goal.returns-then-length-lt2
 returns-then-length-lt2 c =
     let here = (goal.at.returns-then-length-lt2 c).After-clause-clause in
     given_short c.args.codes c.args.store.now c.args.number c.args.self.now.slots.items c.widen.new.self.watched.items c.widen.new.self.chains.heads.items c.widen.new.self.chains.nodes.items c.widen.new.self.pending c.widen.new.self.asks.items c.insert.new.self (wide here) c.in_ok-widen.ensures.in_set
-    (omega (arith, ap (λ (xs : List ℕ). length xs) (read here), c.len-length.ensures, c.if-length-lt2.true)) c.insert.ensures.room c.insert.ensures.has
+    (omega (arith, ap (λ (xs : List ℕ). length xs) (read here), c.len-length.ensures, c.if-length-lt2.true)) (omega (arith, c.insert.ensures.room)) c.insert.ensures.has
 
 pub widen-requires-clause-nodes : goal.widen-requires-clause-nodes
 widen-requires-clause-nodes c = omega (arith, c.requires.given.rest.many, slots_long c.args.store.now c.args.self.now.slots.items, c.len-slot.ensures)
