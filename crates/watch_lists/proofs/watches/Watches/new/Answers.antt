@@ -29,7 +29,7 @@ invariant_of-result c =
     let small : v ≤ 2147483647 = omega (arith, c.variables-variables.ensures.small, c.variables-variables.ensures.value) in
     let made = subst (λ (n : ℕ). AreGiven (2 * v) store n g.slots.items l.watched.items l.chains.heads.items l.chains.nodes.items l.pending l.asks.items) (sym all) c.in_ok-given.ensures in
     let trail = ap (λ (t : TruthView). t.trail) c.in_ok-truth.ensures in
-    let kept : c.in_ok-kept.kept.items ≡ replicate (length store) true = c.in_ok-kept.ensures.items_if_clones_equal ? ∙ ap (λ (n : ℕ). replicate n true) (sym all) in
+    let kept : c.in_ok-kept.kept.items ≡ replicate (length store) true = c.in_ok-kept.ensures.items_if_clones_equal (λ y h. h) ∙ ap (λ (n : ℕ). replicate n true) (sym all) in
     let index = subst (λ (n : ℕ). IsIndex n store c.in_ok-pairs.pairs) (sym c.variables-variables.ensures.value) (subst (λ (cs : List (List ℕ)). IsIndex c.args.formula.now.variables cs c.in_ok-pairs.pairs) (sym c.in_ok-store.ensures) c.in_ok-pairs.ensures) in (
       sound_given v c.in_ok-truth.truth.variables store c.in_ok-kept.kept.items c.in_ok-truth.truth.trail g.slots.items l.watched.items l.chains.heads.items l.chains.nodes.items l.pending l.asks.items c.in_ok-quiet.quiet.items small (ap (λ (t : TruthView). t.variables) c.in_ok-truth.ensures) (omega (arith, all, c.count-count.ensures.few, c.count-count.ensures.value)) f kept trail made c.in_ok-quiet.ensures,
       paired_given v store g.slots.items l.watched.items l.chains.heads.items l.chains.nodes.items l.pending l.asks.items c.in_ok-pairs.pairs made index,
