@@ -1,4 +1,4 @@
-ghost use Rattle.std.specs.Prelude.{◌≡◌, ◌∷◌, [], ◌++◌, ◌+◌, ◌<◌, ◌≤◌, true, false, IfOk, List, ℕ, Some, length, slice_get, All, OnOk, OnErr, IsTrue, ◌↔◌};
+ghost use Rattle.std.specs.Prelude.{◌≡◌, ◌∷◌, [], ◌++◌, ◌+◌, ◌<◌, ◌≤◌, IfOk, List, ℕ, Some, length, slice_get, All, OnOk, OnErr, IsTrue, ◌↔◌};
 ghost use Rattle.clause_base.specs.Formula.{Cnf, IsWithinVariables};
 ghost use Rattle.clause_base.specs.Clause.{IsClause, HasVariablesBelow};
 ghost use Rattle.clause_base.specs.Repeats.{IsRepeatable, repeated as repeated_clauses, variables_of};
@@ -16,8 +16,9 @@ use std::marker::Model;
 const MOST_CLAUSES: u32 = 1_073_741_824;
 
 /// A named conjunction of clauses over variables that are numbered from 0. It has at most 2,147,483,647 variables and at most
-/// 1,073,741,824 clauses. First come clauses that it was made with, then those of a repeated part, which stand once however
-/// often they are seen, then those that were added, of at most 4,294,967,295 literals.
+/// 1,073,741,824 clauses. First come those that were added before a repeated part, then those of the repeated part, which
+/// stand once however often they are seen, then those that were added after it. Each of these keeps at most 4,294,967,295
+/// literals.
 #[derive(Debug, Drop)]
 pub struct Formula {
     name: u32,
@@ -30,11 +31,11 @@ pub struct Formula {
 /// The parts of a formula's list of clauses, in order.
 #[derive(Clone, Copy, Debug)]
 pub struct Parts<'a> {
-    /// The clauses that it was made with.
+    /// The clauses that were added before the repeated part, if there is one.
     pub told: &'a ClauseList,
     /// The clauses of all steps and of all times.
     pub repeated: &'a Repeated,
-    /// The clauses that were added.
+    /// The clauses that were added after the repeated part; all of them, if there is none.
     pub after: &'a ClauseList,
 }
 

@@ -1,6 +1,6 @@
 ghost use Rattle.std.specs.Prelude.{◌≡◌, ◌+◌, ◌*◌, ◌<◌, ◌≤◌, [], Some, IfOk, length, slice_get, All};
 ghost use Rattle.clause_base.specs.Clause.{IsClause, HasVariablesBelow};
-ghost use Rattle.clause_base.specs.Repeats.{IsRepeatable, all_steps, all_times, repeated, step_part, time_part, variables_of};
+ghost use Rattle.clause_base.specs.Repeats.{IsRepeatable, all_steps, all_times, repeated, variables_of};
 
 use crate::clause_list::ClauseList;
 use crate::memory::Memory;

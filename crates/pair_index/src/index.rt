@@ -38,14 +38,18 @@ impl Model for PairIndex {
     ghost invariant = { λ i. IsShape i.shape × AreTables i.shape i.told i.step i.time i.after };
 }
 
-/// The pairs of a literal, in five lists that stand one after another: those of told clauses; of the step that ends where a
-/// fact is; of the step that begins there, or of which a literal is; of the fact's time; and of the clauses after all these.
+/// The pairs of a literal, in five lists that stand one after another.
 #[derive(Debug, Drop)]
 pub struct Lists<'a> {
+    /// Those of the clauses before all steps.
     pub told: PairList<'a>,
+    /// Those of the step that ends where a fact is.
     pub last: PairList<'a>,
+    /// Those of the step that begins where a fact is, or of which a literal is.
     pub next: PairList<'a>,
+    /// Those of the time at which a fact is.
     pub time: PairList<'a>,
+    /// Those of the clauses after all times.
     pub after: PairList<'a>,
 }
 

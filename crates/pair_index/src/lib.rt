@@ -2,10 +2,10 @@
 //! moved to each step and time, needs tables of these alone.
 #![tactic(auto)]
 
-pub mod build;
+mod build;
 pub mod index;
 pub mod list;
 pub mod pair;
-pub mod place;
-pub mod shape;
-pub mod table;
+mod place;
+mod shape;
+mod table;

@@ -7,13 +7,16 @@ ghost use Rattle.pair_index.specs.Moved.{moved_pair, AreMovable};
 use crate::pair::Pair;
 use std::marker::Model;
 
-/// Where the pairs of one step or one time go: of the variables of their literals the first `width` begin at `step`, and those
-/// after them at `facts`, and the clauses are numbered from `first` on.
+/// Where the pairs of one step or one time go.
 #[derive(Clone, Copy, Debug)]
 pub struct Move {
+    /// How many variables of the pairs' literals are the step's own.
     pub width: u32,
+    /// The variable at which these begin.
     pub step: u32,
+    /// The variable at which the facts begin.
     pub facts: u32,
+    /// The number of the first clause.
     pub first: u32,
 }
 

@@ -73,8 +73,11 @@ fn time_list<'a>(shape: &Shape, table: &'a Table, time: u32, code: u32) -> PairL
 /// The pairs of a literal in the clauses of steps and times.
 #[derive(Debug, Drop)]
 pub struct Placed<'a> {
+    /// Those of the step that ends where a fact is.
     pub last: PairList<'a>,
+    /// Those of the step that begins where a fact is, or of which a literal is.
     pub next: PairList<'a>,
+    /// Those of the time at which a fact is.
     pub time: PairList<'a>,
 }
 

@@ -7,7 +7,7 @@ use Rattle.gt_core.specs.Task.{Task}
 use Rattle.gt_core.specs.Lawful.{conditional_in, is_task}
 use Rattle.gt_core.specs.Layout.{Layout, width, variables}
 use Rattle.gt_core.specs.Published.{Pairwise, order_of}
-use Rattle.gt_core.proofs.PublishedLaw.{published_apart}
+use Rattle.gt_core.proofs.PublishedLaw.{published_apart, component_apart}
 use Rattle.gt_core.proofs.Basics.{each_from}
 use Rattle.gt_core.proofs.Within.{lawful}
 use Rattle.clause_base.specs.Clause.{HasVariablesBelow}
@@ -98,6 +98,9 @@ module _ (task : Task) (pairs : List (ℕ × ℕ)) (places : List (List ℕ × �
 -- no action stands twice in an order
 pub distinct_fit : (form : OrderedTask) → IsOrderedTask form → Pairwise (λ a b. (a == b) ≡ false) (order_of form.components)
 distinct_fit form is = published_apart form.task form.known.clauses form.components is.published
+
+pub apart_fit : (form : OrderedTask) → IsOrderedTask form → AllByRecursion (λ ks. Pairwise (λ a b. (a == b) ≡ false) ks) form.components
+apart_fit form is = each_from _ form.components (component_apart form.task form.known.clauses form.components is.published)
 
 -- the members of all components are actions of the layout
 pub members_fit : (form : OrderedTask) → IsOrderedTask form → (actions : ℕ) → actions ≡ length form.task.actions → AllByRecursion (λ ks. AllByRecursion (λ a. a < actions) ks) form.components

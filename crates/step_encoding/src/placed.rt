@@ -49,6 +49,7 @@ pub trait Placing: Drop {
     fn find(alloc: Global, task: &Task, order: &Order) -> Result<Chains, Memory>
         requires members { AllByRecursion (λ ks. AllByRecursion (λ a. a < length task.now.actions) ks) order.now }
         requires distinct { Pairwise (λ a b. (a == b) ≡ false) (order_of order.now) }
+        requires apart { AllByRecursion (λ ks. Pairwise (λ a b. (a == b) ≡ false) ks) order.now }
         ensures { IfOk result (λ c. AreChains task.now (places task.now order.now) c) };
 }
 

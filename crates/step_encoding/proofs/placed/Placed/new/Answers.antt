@@ -1,6 +1,6 @@
 use Rattle.std.proofs.Common.{length, refl}
 use Rattle.step_laws.specs.Form.{OrderedTask, IsOrderedTask}
-use Rattle.step_encoding.proofs.Whole.{members_fit, distinct_fit}
+use Rattle.step_encoding.proofs.Whole.{members_fit, distinct_fit, apart_fit}
 use Rattle.step_encoding.proofs.placed.Placed.new.Goals as goal
 
 pub find-requires : goal.find-requires
@@ -10,4 +10,5 @@ find-requires g c =
     record {
       members = members_fit form is (length form.task.actions) refl;
       distinct = distinct_fit form is;
+      apart = apart_fit form is;
     }
