@@ -124,6 +124,22 @@ impl Formula {
         self.after.add_sorted(lits)
     }
 
+    /// The same formula in memory of its own.
+    pub fn copy(&self, alloc: Global) -> Result<Formula, Memory>
+        ensures { IfOk result (λ f. f ≡ self.now) }
+    {
+        let told = self.told.copy(alloc)?;
+        let repeated = self.repeated.copy(alloc)?;
+        let after = self.after.copy(alloc)?;
+        Ok(Formula {
+            name: self.name,
+            variables: self.variables,
+            told,
+            repeated,
+            after,
+        })
+    }
+
     /// Makes room for so many more literals and clauses, so that they are added without a further allocation.
     pub fn reserve(&mut self, literals: usize, clauses: usize) -> Result<(), Memory>
         ensures { self.new ≡ self.old }

@@ -1,8 +1,9 @@
-ghost use Rattle.std.specs.Prelude.{◌≡◌, ◌+◌, ◌*◌, ◌<◌, ◌≤◌, [], Some, length, slice_get, All};
+ghost use Rattle.std.specs.Prelude.{◌≡◌, ◌+◌, ◌*◌, ◌<◌, ◌≤◌, [], Some, IfOk, length, slice_get, All};
 ghost use Rattle.clause_base.specs.Clause.{IsClause, HasVariablesBelow};
 ghost use Rattle.clause_base.specs.Repeats.{IsRepeatable, all_steps, all_times, repeated, variables_of};
 
 use crate::clause_list::ClauseList;
+use crate::memory::Memory;
 use crate::view::View;
 use std::alloc::Global;
 use std::marker::Model;
@@ -100,6 +101,21 @@ impl Repeated {
         ensures { result.now ≡ self.now.time }
     {
         &self.time
+    }
+
+    /// The same clauses in memory of their own.
+    pub fn copy(&self, alloc: Global) -> Result<Repeated, Memory>
+        ensures { IfOk result (λ part. part ≡ self.now) }
+    {
+        let step = self.step.copy(alloc)?;
+        let time = self.time.copy(alloc)?;
+        Ok(Repeated {
+            horizon: self.horizon,
+            width: self.width,
+            facts: self.facts,
+            step,
+            time,
+        })
     }
 
     /// How many clauses all steps have.

@@ -8,12 +8,12 @@ use Rattle.clause_base.specs.Clause.{has_literal}
 use Rattle.cdcl_rules.specs.Pending.{is_pending}
 use Rattle.number_bits.specs.Bits.{IsLeast, words_have}
 use Rattle.watch_store.proofs.Mirrors.{has-snoc}
-use Rattle.watch_lists.specs.declared.pairs.Pair.{Pair}
+use Rattle.pair_index.specs.declared.pair.Pair.{Pair}
 use Rattle.watch_lists.specs.Pending.{is_free, is_pending_on}
 use Rattle.watch_lists.specs.Asking.{IsAsked, AreAsked, IsConsistent, IsAsking}
 use Rattle.cdcl_rules.specs.State.{clause_at}
 use Rattle.watch_lists.specs.Visit.{Grows, IsFit}
-use Rattle.watch_lists.specs.Pairs.{IsPairOf, pair_in}
+use Rattle.pair_index.specs.Pairs.{IsPairOf, pair_in}
 use Rattle.watch_lists.specs.Added.{Outlasts}
 use Rattle.watch_lists.proofs.Filters.{clause_is, tests_one, count_one, count_two, pending_off, any_from_has, has_get, pending_at}
 use Rattle.watch_lists.proofs.Assigns.{equal_of, apart_of, at_most_of, past_of, opposite_twice, not_false, true_longer, true_in_take}
