@@ -80,8 +80,8 @@ impl Formula {
         }
     }
 
-    /// Adds the clauses of a repeated part at the end, in the memory that the part brings; where there is one already, each
-    /// clause in memory of its own.
+    /// Adds the clauses of a repeated part at the end, in the memory that the part brings, which copies of the formula share;
+    /// where there is one already, each clause in memory of its own.
     pub fn repeat(self, alloc: Global, part: Repeated) -> Result<Formula, Memory>
         requires fits { variables_of part ≤ self.variables }
         requires room { length self.clauses + length (repeated_clauses part) ≤ 1073741824 }
@@ -92,6 +92,7 @@ impl Formula {
         if told != 0 || repeated != 0 {
             return write_out(self, alloc, &part);
         }
+        let part = part.share(alloc)?;
         let _below = part.count();
         Ok(Formula {
             name: self.name,
@@ -124,7 +125,7 @@ impl Formula {
         self.after.add_sorted(lits)
     }
 
-    /// The same formula in memory of its own.
+    /// The same formula. The clauses of its repeated part stand in the same memory, the others in memory of their own.
     pub fn copy(&self, alloc: Global) -> Result<Formula, Memory>
         ensures { IfOk result (λ f. f ≡ self.now) }
     {
