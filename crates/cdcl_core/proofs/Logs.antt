@@ -29,13 +29,14 @@ goes_applied s (Force l i) = goes_same s.log s.log refl
 goes_applied s (Decide l) = goes_same s.log s.log refl
 goes_applied s Finish = goes_same s.log s.log refl
 
+goes_step : (choose : Known → Option ℕ) (limit m : ℕ) (s : State) (r : Bool) → ((t : State) → GoesOn t.log (turns (next choose) (rests choose) limit m t).log) → GoesOn s.log (turns (next choose) (rests choose) limit m (if r then s else next choose s)).log
+goes_step choose limit m s true f = f s
+goes_step choose limit m s false f =
+    goes_then s.log (next choose s).log (turns (next choose) (rests choose) limit m (next choose s)).log (goes_applied s (event_of choose s)) (f (next choose s))
+
 goes_turns : (choose : Known → Option ℕ) (limit m : ℕ) (s : State) → GoesOn s.log (turns (next choose) (rests choose) limit m s).log
 goes_turns choose limit zero s = goes_same s.log s.log refl
-goes_turns choose limit (suc m) s = by (rests choose limit s)
-  where
-    by : (r : Bool) → GoesOn s.log (turns (next choose) (rests choose) limit m (if r then s else next choose s)).log
-    by true = goes_turns choose limit m s
-    by false = goes_then s.log (next choose s).log (turns (next choose) (rests choose) limit m (next choose s)).log (goes_applied s (event_of choose s)) (goes_turns choose limit m (next choose s))
+goes_turns choose limit (suc m) s = goes_step choose limit m s (rests choose limit s) (λ t. goes_turns choose limit m t)
 
 pub goes_reached : (choose : Known → Option ℕ) (limit : ℕ) (s t : State) → Reaches (next choose) (rests choose) limit s t → GoesOn s.log t.log
 goes_reached choose limit s t r = let f : State → Type 0 = λ u. GoesOn s.log u.log in subst f r.1 (goes_turns choose limit r.0 s)
@@ -47,3 +48,8 @@ goes_learned old new k h e = (Learn k h ∷ [], ap (λ (v : ClausesView). v.log)
 pub on_err : {T E P Q : Type 0} → (r : Result T E) → (P → Q) → OnErr r P → OnErr r Q
 on_err (Ok x) f p = tt
 on_err (Err e) f p = f p
+
+-- so where a call has failed or not
+pub goes_err : {T E P : Type 0} → (r : Result T E) → P → OnErr r P
+goes_err (Ok x) p = tt
+goes_err (Err e) p = p
