@@ -17,8 +17,7 @@ const MOST_CLAUSES: u32 = 1_073_741_824;
 
 /// A named conjunction of clauses over variables that are numbered from 0. It has at most 2,147,483,647 variables and at most
 /// 1,073,741,824 clauses. First come those that were added before a repeated part, then those of the repeated part, which
-/// stand once however often they are seen, then those that were added after it. Each of these keeps at most 4,294,967,295
-/// literals.
+/// stand once however often they are seen, then those that were added after it.
 #[derive(Debug, Drop)]
 pub struct Formula {
     name: u32,
@@ -103,7 +102,7 @@ impl Formula {
         })
     }
 
-    /// Adds a clause at the end. After want of memory, or where there would be too many literals, the formula is unchanged.
+    /// Adds a clause at the end. After want of memory the formula is unchanged.
     pub fn add(&mut self, clause: Clause) -> Result<(), Memory>
         requires below { HasVariablesBelow self.old.variables clause }
         requires room { length self.old.clauses < 1073741824 }
@@ -114,7 +113,7 @@ impl Formula {
     }
 
     /// Adds the clause of literals that are in a clause's form already, without a block of memory for it. After want of
-    /// memory, or where there would be too many literals, the formula is unchanged.
+    /// memory the formula is unchanged.
     pub fn add_sorted(&mut self, lits: &[Lit]) -> Result<(), Memory>
         requires lawful { IsClause lits.now }
         requires below { HasVariablesBelow self.old.variables lits.now }
