@@ -8,9 +8,10 @@ ghost use Rattle.watch_lists.specs.Asking.{IsAsked, IsAskedAt, IsConsistent};
 ghost use Rattle.watch_lists.specs.Pending.{is_free};
 ghost use Rattle.watch_lists.specs.Visit.{IsFit};
 
-use crate::scan::{is_pending, left_in};
+use crate::scan::{ask_of, is_pending};
 use crate::slots::find_slot;
 use clause_base::literal::Lit;
+use clause_base::view::View;
 use watch_store::store::Store;
 use watch_store::truth::Truth;
 
@@ -51,6 +52,18 @@ fn left_asked(truth: &Truth, ask: u32) -> Option<Lit>
     }
 }
 
+/// The literal of a pending clause that is not false, if there is one, by its literals.
+fn left_in(truth: &Truth, clause: &View) -> Option<Lit>
+    requires below { (p : ℕ) → p < length clause.now → slice_index clause.now p < 2 * truth.now.variables }
+    requires pending { is_pending (has_literal truth.now.trail) clause.now ≡ true }
+    ensures { MatchOption result (open_ones (has_literal truth.now.trail) clause.now ≡ []) (λ lit. open_ones (has_literal truth.now.trail) clause.now ≡ lit ∷ []) }
+{
+    if clause.len() == 0 {
+        return None;
+    }
+    left_asked(truth, ask_of(truth, clause))
+}
+
 /// The literal of a pending clause that is not false, if there is one.
 pub fn left_of(
     store: &Store,
@@ -70,7 +83,7 @@ pub fn left_of(
 {
     match asked_by_slot(store, slots, blocks, asks, number) {
         Some(ask) => left_asked(truth, ask),
-        None => left_in(truth, store.clause(number)),
+        None => left_in(truth, &store.clause(number)),
     }
 }
 
@@ -93,6 +106,6 @@ pub fn is_left(
 {
     match asked_by_slot(store, slots, blocks, asks, number) {
         Some(ask) => !truth.is_true(ask),
-        None => is_pending(truth, store.clause(number)),
+        None => is_pending(truth, &store.clause(number)),
     }
 }

@@ -13,7 +13,7 @@ pub returns-in-Some : goal.returns-in-Some
 returns-in-Some c = ap (λ (b : Bool). not b) c.is_true.ensures ∙ sym (pending_by_ask c.args.truth.now.trail (clause_at c.args.store.now c.args.number) c.in-Some.ask c.requires.consistent (c.in-Some.ensures (has_literal c.args.truth.now.trail) c.requires.asked))
 
 pub is_pending-requires : goal.is_pending-requires
-is_pending-requires c = fit_read c.args.store.now (2 * c.args.truth.now.variables) c.args.number c.clause.result.now c.requires.fit c.clause.ensures
+is_pending-requires c = fit_read c.args.store.now (2 * c.args.truth.now.variables) c.args.number c.clause.result c.requires.fit c.clause.ensures
 
 pub returns-in-None : goal.returns-in-None
 returns-in-None c = c.is_pending.ensures ∙ ap (λ (xs : List ℕ). is_pending (has_literal c.args.truth.now.trail) xs) (c.clause.ensures ∙ sym (clause_is c.args.store.now c.args.number))

@@ -14,7 +14,7 @@ pub returns-in-Some : goal.returns-in-Some
 returns-in-Some c = left_by (has_literal c.args.truth.now.trail) (clause_at c.args.store.now c.args.number) c.in-Some.ask c.left_asked.result (c.in-Some.ensures (has_literal c.args.truth.now.trail) c.requires.asked) c.left_asked.ensures
 
 pub left_in-requires-clause-below : goal.left_in-requires-clause-below
-left_in-requires-clause-below c = fit_read c.args.store.now (2 * c.args.truth.now.variables) c.args.number c.clause.result.now c.requires.fit c.clause.ensures
+left_in-requires-clause-below c = fit_read c.args.store.now (2 * c.args.truth.now.variables) c.args.number c.clause.result c.requires.fit c.clause.ensures
 
 pub left_in-requires-clause-pending : goal.left_in-requires-clause-pending
 left_in-requires-clause-pending c = subst (λ (xs : List ℕ). is_pending (has_literal c.args.truth.now.trail) xs ≡ true) (clause_is c.args.store.now c.args.number ∙ sym c.clause.ensures) c.requires.pending
