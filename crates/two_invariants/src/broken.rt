@@ -11,11 +11,20 @@ ghost use Rattle.two_invariants.specs.Breaks.{is_add};
 ghost use Rattle.two_invariants.specs.Tested.{with_more, is_lost, are_lost, IsLossOf, AreLossesOf, ActionFits, IsSetOf, AreRowsOf};
 ghost use Rattle.two_invariants.specs.Groups.{group_with, may_take_by, may_lose, breaks_under, GroupFits};
 
+use crate::by_literal::list_of;
 use crate::groups::{Group, group_effects};
+use crate::index::{Index, index_of};
 use crate::known::{Known, copy, fill_with, with_more};
 use bit_rows::row::BitRow;
 use gt_core::act::Act;
 use std::alloc::{AllocError, Global};
+
+/// Rows to work in.
+#[derive(Drop)]
+pub struct Room {
+    pub there: BitRow,
+    pub given: BitRow,
+}
 
 /// The clauses of a literal with each of some literals are broken: an action may take it where these are not sure.
 #[derive(Drop)]
@@ -43,15 +52,41 @@ fn is_taken(given: &BitRow, l: u32) -> bool
     !(l % 2 == 0 && given.contains(l))
 }
 
-/// Makes a row of the literals that effects surely make true where a set is known.
-fn fill_given(groups: &[Group], set: &BitRow, given: &mut BitRow) -> Result<(), AllocError>
-    ensures { OnOk result ((m : ℕ) → row_has given.new m ≡ group_with groups.now m (list_all (row_has set.now))) }
-{
-    given.clear();
-    for group in groups {
-        if all_known(set, group.condition.as_slice()) {
-            given.unite(&group.literals)?;
+/// Puts the literals of a group into a set, where the group's condition is known.
+fn give(group: &Group, set: &BitRow, given: &mut BitRow) -> Result<(), AllocError> {
+    if all_known(set, group.condition.as_slice()) {
+        given.unite(&group.literals)?;
+    }
+    Ok(())
+}
+
+/// Puts the literals of some groups into a set, of each whose condition is known.
+fn give_listed(
+    groups: &[Group],
+    numbers: &[usize],
+    set: &BitRow,
+    given: &mut BitRow,
+) -> Result<(), AllocError> {
+    for number in numbers {
+        if let Some(group) = groups.get(*number) {
+            give(group, set, given)?;
         }
+    }
+    Ok(())
+}
+
+/// Makes a row of the literals that effects surely make true where a set is known.
+fn fill_given(
+    groups: &[Group],
+    index: &Index,
+    set: &BitRow,
+    given: &mut BitRow,
+) -> Result<(), AllocError> {
+    given.make_same(&index.base)?;
+    let mut from = 0;
+    while let Some(lit) = index.givers.literals.least_common(set, from) {
+        give_listed(groups, list_of(&index.givers.lists, lit), set, given)?;
+        from = lit + 1;
     }
     Ok(())
 }
@@ -77,58 +112,104 @@ fn take_out(lits: &BitRow, given: &BitRow, sure: &mut BitRow)
     }
 }
 
-/// Takes out of a set what the effects of a group may take where a set is known. `there` and `given` are room for rows.
-fn take_lost(
-    facts: u32,
+/// Whether a group may take a literal where a set is known.
+fn takes(
     rows: &[BitRow],
     groups: &[Group],
+    index: &Index,
     here: &BitRow,
     group: &Group,
-    there: &mut BitRow,
-    given: &mut BitRow,
+    l: u32,
+    room: &mut Room,
+) -> Result<bool, AllocError> {
+    if !group.opposites.contains(l) {
+        return Ok(false);
+    }
+    fill_with(rows, here, group.condition.as_slice(), &mut room.there)?;
+    if room.there.has_pair() {
+        return Ok(false);
+    }
+    if l % 2 == 1 {
+        return Ok(true);
+    }
+    fill_given(groups, index, &room.there, &mut room.given)?;
+    Ok(is_taken(&room.given, l))
+}
+
+/// Whether one of some groups may take a literal where a set is known.
+fn some_takes(
+    rows: &[BitRow],
+    groups: &[Group],
+    index: &Index,
+    here: &BitRow,
+    numbers: &[usize],
+    l: u32,
+    room: &mut Room,
+) -> Result<bool, AllocError> {
+    for number in numbers {
+        if let Some(group) = groups.get(*number) {
+            if takes(rows, groups, index, here, group, l, room)? {
+                return Ok(true);
+            }
+        }
+    }
+    Ok(false)
+}
+
+/// Takes a literal out of a set where a listed group may take it.
+fn take_by_listed(
+    rows: &[BitRow],
+    groups: &[Group],
+    index: &Index,
+    here: &BitRow,
+    given: &BitRow,
+    l: u32,
     sure: &mut BitRow,
-) -> Result<(), AllocError>
-    requires few { facts ≤ 2048 }
-    requires rows { AreRowsOf (2 * facts) rows.now }
-    requires here { IsSetOf (2 * facts) (row_has here.now) }
-    requires group { GroupFits (2 * facts) group.now }
-    ensures { OnOk result ((m : ℕ) → row_has sure.new m ≡ (row_has sure.old m && not (row_has group.now.literals (opposite m) && may_take_by facts (group_with groups.now) (with_more rows.now (row_has here.now) group.now.condition.items) m))) }
-{
-    if group.opposites.least_common(sure, 0).is_none() {
+    room: &mut Room,
+) -> Result<(), AllocError> {
+    if !is_taken(given, l) {
         return Ok(());
     }
-    fill_with(rows, here, group.condition.as_slice(), there)?;
-    if there.has_pair() {
-        return Ok(());
+    let numbers = list_of(&index.takers.lists, l);
+    if some_takes(rows, groups, index, here, numbers, l, room)? {
+        sure.remove(l);
     }
-    fill_given(groups, there, given)?;
-    take_out(&group.opposites, given, sure);
     Ok(())
 }
 
-/// Takes out of a set what effects may take where a set is known.
-fn take_all_lost(
-    alloc: Global,
-    facts: u32,
+/// Takes out of a set what listed groups may take where a set is known.
+fn take_all_listed(
     rows: &[BitRow],
     groups: &[Group],
+    index: &Index,
     here: &BitRow,
+    given: &BitRow,
     sure: &mut BitRow,
-) -> Result<(), AllocError>
-    requires few { facts ≤ 2048 }
-    requires rows { AreRowsOf (2 * facts) rows.now }
-    requires here { IsSetOf (2 * facts) (row_has here.now) }
-    requires groups { AllByRecursion (GroupFits (2 * facts)) groups.now }
-    ensures { OnOk result ((m : ℕ) → row_has sure.new m ≡ (row_has sure.old m && not (may_lose facts rows.now (group_with groups.now) (row_has here.now) m))) }
-{
-    let mut there = BitRow::new(alloc);
-    let mut given = BitRow::new(alloc);
-    for group in groups {
-        take_lost(
-            facts, rows, groups, here, group, &mut there, &mut given, sure,
-        )?;
+    room: &mut Room,
+) -> Result<(), AllocError> {
+    let mut from = 0;
+    while let Some(l) = index.takers.literals.least_common(sure, from) {
+        take_by_listed(rows, groups, index, here, given, l, sure, room)?;
+        from = l + 1;
     }
     Ok(())
+}
+
+/// Takes out of a set what effects may take where the condition of a group is known: those without a condition, those
+/// of this group, and the others.
+fn take_all_lost(
+    rows: &[BitRow],
+    groups: &[Group],
+    index: &Index,
+    here: &BitRow,
+    group: &Group,
+    given: &BitRow,
+    sure: &mut BitRow,
+    room: &mut Room,
+) -> Result<(), AllocError> {
+    take_out(&index.plain, given, sure);
+    take_out(&group.opposites, given, sure);
+    take_all_listed(rows, groups, index, here, given, sure, room)
 }
 
 /// Appends the clauses of a literal with those that are not sure, where an effect may take it and there is one.
@@ -187,8 +268,10 @@ fn push_group_losses(
     clauses: &[BitRow],
     set: &BitRow,
     groups: &[Group],
+    index: &Index,
     group: &Group,
     losses: &mut Vec<Loss>,
+    room: &mut Room,
 ) -> Result<(), AllocError>
     requires rows { AreRowsOf (2 * facts) rows.now }
     requires clauses { AreRows facts clauses.now }
@@ -203,10 +286,10 @@ fn push_group_losses(
         return Ok(());
     }
     let mut given = BitRow::new(alloc);
-    fill_given(groups, &here, &mut given)?;
+    fill_given(groups, index, &here, &mut given)?;
     let mut sure = copy(alloc, &here)?;
     sure.unite(&given)?;
-    take_all_lost(alloc, facts, rows, groups, &here, &mut sure)?;
+    take_all_lost(rows, groups, index, &here, group, &given, &mut sure, room)?;
     push_losses(
         alloc,
         facts,
@@ -235,9 +318,25 @@ fn group_losses(
     ensures lost { IfOk result (λ losses. (l m : ℕ) → are_lost losses.items l m ≡ (clause_in clauses.now l m && group_with groups.now (opposite l) (breaks_under facts rows.now (group_with groups.now) (row_has set.now) l m))) }
     ensures each { IfOk result (λ losses. AllByRecursion (IsLossOf (2 * facts) clauses.now) losses.items) }
 {
+    let index = index_of(alloc, rows, set, groups)?;
+    let mut room = Room {
+        there: BitRow::new(alloc),
+        given: BitRow::new(alloc),
+    };
     let mut losses = Vec::new(alloc);
     for group in groups {
-        push_group_losses(alloc, facts, rows, clauses, set, groups, group, &mut losses)?;
+        push_group_losses(
+            alloc,
+            facts,
+            rows,
+            clauses,
+            set,
+            groups,
+            &index,
+            group,
+            &mut losses,
+            &mut room,
+        )?;
     }
     Ok(losses)
 }

@@ -5,10 +5,12 @@
 mod again;
 mod asked;
 mod broken;
+mod by_literal;
 mod drop;
 mod first;
 mod greatest;
 mod groups;
+mod index;
 mod known;
 pub mod laws;
 mod list;
