@@ -1,5 +1,10 @@
 //! Numbers by key, and by literal.
 
+ghost use Rattle.std.specs.Prelude.{◌≡◌, ℕ, ◌<◌, true, length, IfOk, OnOk};
+ghost use Rattle.bit_rows.specs.Bits.{row_has};
+ghost use Rattle.two_invariants.specs.Tested.{IsSetOf};
+ghost use Rattle.two_invariants.specs.Numbers.{numbers_for, has_number, finds, FindsMore};
+
 use bit_rows::row::BitRow;
 use std::alloc::{AllocError, Global};
 
@@ -18,6 +23,7 @@ pub fn no_lists(alloc: Global, count: usize) -> Result<Vec<Vec<usize>>, AllocErr
 /// The list of a key, which others may share.
 pub fn list_of(lists: &[Vec<usize>], key: u32) -> &[usize]
     requires { 0 < length lists.now }
+    ensures { result.now ≡ numbers_for lists.now key }
 {
     lists[key as usize % lists.len()].as_slice()
 }
@@ -25,6 +31,9 @@ pub fn list_of(lists: &[Vec<usize>], key: u32) -> &[usize]
 /// Adds a number to the list of a key.
 pub fn add_at_key(lists: &mut Vec<Vec<usize>>, key: u32, number: usize) -> Result<(), AllocError>
     requires { 0 < length lists.old.items }
+    ensures long { length lists.new.items ≡ length lists.old.items }
+    ensures more { OnOk result ((k n : ℕ) → has_number lists.old.items k n ≡ true → has_number lists.new.items k n ≡ true) }
+    ensures own { OnOk result (has_number lists.new.items key number ≡ true) }
 {
     let place = key as usize % lists.len();
     lists[place].push(number)?;
@@ -39,7 +48,9 @@ pub struct ByLiteral {
 }
 
 /// No numbers, in so many lists.
-pub fn no_numbers(alloc: Global, count: usize) -> Result<ByLiteral, AllocError> {
+pub fn no_numbers(alloc: Global, count: usize) -> Result<ByLiteral, AllocError>
+    ensures { IfOk result (λ by. 0 < length by.lists.items) }
+{
     Ok(ByLiteral {
         literals: BitRow::new(alloc),
         lists: no_lists(alloc, count)?,
@@ -49,6 +60,9 @@ pub fn no_numbers(alloc: Global, count: usize) -> Result<ByLiteral, AllocError> 
 /// Adds a number to those of a literal.
 pub fn add_number(by: &mut ByLiteral, literal: u32, number: usize) -> Result<(), AllocError>
     requires { 0 < length by.old.lists.items }
+    ensures long { length by.new.lists.items ≡ length by.old.lists.items }
+    ensures more { OnOk result (FindsMore by.old by.new) }
+    ensures own { OnOk result (finds by.new literal number ≡ true) }
 {
     by.literals.insert(literal)?;
     add_at_key(&mut by.lists, literal, number)
@@ -57,6 +71,10 @@ pub fn add_number(by: &mut ByLiteral, literal: u32, number: usize) -> Result<(),
 /// Adds a number to those of each of some literals.
 pub fn add_to_all(by: &mut ByLiteral, literals: &BitRow, number: usize) -> Result<(), AllocError>
     requires lists { 0 < length by.old.lists.items }
+    requires literals { IsSetOf 4096 (row_has literals.now) }
+    ensures long { length by.new.lists.items ≡ length by.old.lists.items }
+    ensures more { OnOk result (FindsMore by.old by.new) }
+    ensures own { OnOk result ((l : ℕ) → row_has literals.now l ≡ true → finds by.new l number ≡ true) }
 {
     let mut from = 0;
     while let Some(literal) = literals.least(from) {

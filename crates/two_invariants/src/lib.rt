@@ -8,12 +8,13 @@ mod broken;
 mod by_literal;
 mod drop;
 mod first;
+mod givers;
 mod greatest;
 mod groups;
-mod index;
 mod known;
 pub mod laws;
 mod list;
 mod renew;
+mod takers;
 
 pub use greatest::find;
