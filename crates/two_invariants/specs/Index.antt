@@ -1,5 +1,5 @@
-use Rattle.std.specs.Prelude.{◌≡◌, ℕ, ◌<◌, ◌==◌, ◌&&◌, ◌⊎◌, List, Bool, true, false, length, slice_index_or}
-use Rattle.std.specs.List.{list_any, list_all}
+use Rattle.std.specs.Prelude.{◌≡◌, ℕ, ◌<◌, ◌==◌, ◌&&◌, ◌⊎◌, List, Bool, true, false, Some, length}
+use Rattle.std.specs.List.{list_any, list_all, slice_get}
 use Rattle.bit_rows.specs.Bits.{row_has}
 use Rattle.gt_core.specs.Literal.{opposite}
 use Rattle.two_invariants.specs.Rows.{IsPart}
@@ -14,7 +14,7 @@ use Rattle.two_invariants.specs.declared.takers.Takers.{Takers}
 
 -- a group has a number
 abbrev pub IsNumbered : List Group → ℕ → Group → Type 0
-IsNumbered groups n g = (n < length groups) × (g ≡ slice_index_or groups n g)
+IsNumbered groups n g = slice_get groups n ≡ Some g
 
 -- what a group has, some group has
 abbrev pub IsGroupOf : List Group → Group → Type 0
