@@ -5,9 +5,9 @@ use Rattle.std.proofs.lemmas.Option.{slice_get_within, get_or_from_slice_get}
 use Rattle.std.proofs.lemmas.List.Folds.{list_any_at}
 use Rattle.bit_rows.specs.Bits.{row_has}
 use Rattle.gt_core.specs.Literal.{opposite}
-use Rattle.gt_core.proofs.Basics.{or_split, or_left, and_split, and_both, not_true, apart, test_same, same_if, passing, all_at, all_from, each_at, Among}
+use Rattle.gt_core.proofs.Basics.{or_split, or_left, or_right, and_split, and_both, not_true, apart, test_same, same_if, passing, all_at, all_from, each_at, Among}
 use Rattle.two_invariants.specs.Breaks.{is_add}
-use Rattle.two_invariants.specs.Rows.{IsPart}
+use Rattle.two_invariants.specs.Rows.{row_at, IsPart}
 use Rattle.two_invariants.specs.Tested.{with_more, has_no_pair}
 use Rattle.two_invariants.specs.Groups.{group_with, may_take_by, may_lose, GroupFits}
 use Rattle.two_invariants.specs.Numbers.{finds}
@@ -35,6 +35,11 @@ placed p (x ∷ xs) e =
 
 pub from_place : {A : Type 0} (p : A → Bool) (xs : List A) (n : ℕ) (x : A) → slice_get xs n ≡ Some x → p x ≡ true → list_any p xs ≡ true
 from_place p xs n x at e = list_any_at p xs n x (slice_get_within xs n x at) (ap p (get_or_from_slice_get xs n x x at) ∙ e)
+
+pub among_place : {A : Type 0} (xs : List A) (n : ℕ) (x : A) → slice_get xs n ≡ Some x → Among x xs
+among_place [] n x at = cc
+among_place (y ∷ ys) zero x at = inl (cc)
+among_place (y ∷ ys) (suc n) x at = inr (among_place ys n x at)
 
 -- a literal of a known list is known
 pub member_known : (set : ℕ → Bool) (ls : List ℕ) (k : ℕ) → list_all set ls ≡ true → list_any (λ l. l == k) ls ≡ true → set k ≡ true
@@ -109,3 +114,113 @@ overruled facts rows groups here g m e =
     off true true x h = ap not h
     off true false x h = refl
     off false f x h = refl
+
+wider : (rows : List (List ℕ)) (set more : ℕ → Bool) (ls : List ℕ) → IsPart set more → IsPart (with_more rows set ls) (with_more rows more ls)
+wider rows set more ls part m t = by (or_split (set m) _ t)
+  where
+    by : (set m ≡ true) ⊎ (list_any (λ l. row_has (row_at rows l) m) ls ≡ true) → with_more rows more ls m ≡ true
+    by (inl h) = or_left (more m) _ (part m h)
+    by (inr h) = or_right (more m) _ h
+
+pub takers_more : (facts : ℕ) (rows : List (List ℕ)) (set more : ℕ → Bool) (groups : List Group) (upto : ℕ) (takers : Takers) → IsPart set more
+    → AreTakers facts rows set groups upto takers → AreTakers facts rows more groups upto takers
+takers_more facts rows set more groups upto takers part are = record {
+  lists = are.lists;
+  plain = are.plain;
+  each = λ n g lt at m o. by g m n (are.each n g lt at m o);
+}
+  where
+    by : (g : Group) (m n : ℕ)
+        → (row_has takers.plain m ≡ true) ⊎ ((has_no_pair facts (with_more rows set g.condition.items) ≡ false) ⊎ (finds takers.by m n ≡ true))
+        → (row_has takers.plain m ≡ true) ⊎ ((has_no_pair facts (with_more rows more g.condition.items) ≡ false) ⊎ (finds takers.by m n ≡ true))
+    by g m n (inl h) = inl h
+    by g m n (inr (inl dead)) =
+        inr (inl (no_pair_less facts (with_more rows set g.condition.items) (with_more rows more g.condition.items) (wider rows set more g.condition.items part) dead))
+    by g m n (inr (inr found)) = inr (inr found)
+
+-- what the three looks leave is what no effect may take
+module _ (facts size : ℕ) (rows : List (List ℕ)) (groups : List Group) (here : ℕ → Bool) (takers : Takers) (fits : AllByRecursion (GroupFits size) groups)
+    (are : AreTakers facts rows here groups (length groups) takers) (free : has_no_pair facts here ≡ true)
+    (own : Group) (own_fits : GroupFits size own) (of : IsGroupOf groups own) (at_home : (k : ℕ) → with_more rows here own.condition.items k ≡ here k)
+    (given s0 s1 s2 s3 : ℕ → Bool) (gives : (k : ℕ) → given k ≡ group_with groups k (list_all here))
+    (one : (k : ℕ) → s1 k ≡ (s0 k && not (row_has takers.plain k && not (is_add k && given k))))
+    (two : (k : ℕ) → s2 k ≡ (s1 k && not (row_has own.opposites k && not (is_add k && given k))))
+    (less : IsPart s3 s2)
+    (lost : (k : ℕ) → s2 k ≡ true → s3 k ≡ false → may_lose facts rows (group_with groups) here k ≡ true)
+    (done : (k n : ℕ) (g : Group) → s3 k ≡ true → finds takers.by k n ≡ true → IsNumbered groups n g → takes_in facts rows groups here g k ≡ false)
+    (m : ℕ) where
+  free_there : (c : List ℕ) → with_more rows here c ≡ here → may_take_by facts (group_with groups) (with_more rows here c) m ≡ not (is_add m && given m)
+  free_there c same =
+      (λ i. has_no_pair facts (same i) && not (is_add m && group_with groups m (list_all (same i))))
+      ∙ ap (λ (b : Bool). b && not (is_add m && group_with groups m (list_all here))) free
+      ∙ ap (λ (b : Bool). not (is_add m && b)) (sym (gives m))
+
+  -- by an effect without condition
+  plain_lost : row_has takers.plain m ≡ true → not (is_add m && given m) ≡ true → may_lose facts rows (group_with groups) here m ≡ true
+  plain_lost p t =
+      let r = placed (λ (g : Group). row_has g.literals (opposite m) && (length g.condition.items == 0)) groups (are.plain m p) in
+      let h = and_split _ _ r.passes in
+      from_place (λ (g : Group). row_has g.literals (opposite m) && may_take_by facts (group_with groups) (with_more rows here g.condition.items) m) groups r.number r.one r.at
+      (and_both _ _ h.0 (free_there r.one.condition.items (empty r.one.condition.items h.1) ∙ t))
+    where
+      empty : (c : List ℕ) → (length c == 0) ≡ true → with_more rows here c ≡ here
+      empty [] e = λ i k. or_false (here k) i
+      empty (l ∷ ls) e = cc
+
+      or_false : (b : Bool) → (b || false) ≡ b
+      or_false true = refl
+      or_false false = refl
+
+  -- by an effect of the group
+  own_lost : row_has own.opposites m ≡ true → not (is_add m && given m) ≡ true → may_lose facts rows (group_with groups) here m ≡ true
+  own_lost o t =
+      of (opposite m) (λ c. may_take_by facts (group_with groups) (with_more rows here c) m)
+      (and_both _ _ (sym (own_fits.turned m) ∙ o) (free_there own.condition.items (λ i k. at_home k i) ∙ t))
+
+  added : (p x : Bool) → p ≡ true → not (p && not x) ≡ true → x ≡ true
+  added true true e h = refl
+  added true false e h = cc
+  added false x e h = cc
+
+  stays : (s x y : Bool) → s ≡ true → (x ≡ true → y ≡ true → ⊥) → (s && not (x && y)) ≡ true
+  stays true true true e h = absurd (h refl refl)
+  stays true true false e h = refl
+  stays true false y e h = refl
+  stays false x y e h = cc
+
+  pub left_is : s3 m ≡ (s0 m && not (may_lose facts rows (group_with groups) here m))
+  left_is = same_if (s3 m) (s0 m && not (may_lose facts rows (group_with groups) here m)) forth back
+    where
+      kept_one : s3 m ≡ true → (s0 m && not (row_has takers.plain m && not (is_add m && given m))) ≡ true
+      kept_one t = sym (one m) ∙ (and_split _ _ (sym (two m) ∙ less m t)).0
+
+      not_lost : s3 m ≡ true → may_lose facts rows (group_with groups) here m ≡ true → ⊥
+      not_lost t lose =
+          let r = placed (λ (g : Group). row_has g.literals (opposite m) && may_take_by facts (group_with groups) (with_more rows here g.condition.items) m) groups lose in
+          let h = and_split (row_has r.one.literals (opposite m)) _ r.passes in
+          let g_fits = each_at (GroupFits size) groups r.one fits (among_place groups r.number r.one r.at) in
+          let o = g_fits.turned m ∙ h.0 in
+          let takes = and_both (row_has r.one.opposites m) _ o h.1 in
+          by r h.1 takes (are.each r.number r.one (slice_get_within groups r.number r.one r.at) r.at m o)
+        where
+          by : (r : Placed (λ (g : Group). row_has g.literals (opposite m) && may_take_by facts (group_with groups) (with_more rows here g.condition.items) m) groups)
+              → may_take_by facts (group_with groups) (with_more rows here r.one.condition.items) m ≡ true → takes_in facts rows groups here r.one m ≡ true
+              → (row_has takers.plain m ≡ true) ⊎ ((has_no_pair facts (with_more rows here r.one.condition.items) ≡ false) ⊎ (finds takers.by m r.number ≡ true)) → ⊥
+          by r may takes (inl p) = apart _ takes (overruled facts rows groups here r.one m (ap (λ (b : Bool). is_add m && b) (sym (gives m)) ∙ added (row_has takers.plain m) (is_add m && given m) p (and_split _ _ (kept_one t)).1))
+          by r may takes (inr (inl dead)) = apart _ (and_split _ _ may).0 dead
+          by r may takes (inr (inr found)) = apart _ takes (done m r.number r.one t found r.at)
+
+      forth : s3 m ≡ true → (s0 m && not (may_lose facts rows (group_with groups) here m)) ≡ true
+      forth t = and_both _ _ (and_split _ _ (kept_one t)).0 (ap not (not_true _ (not_lost t)))
+
+      back : (s0 m && not (may_lose facts rows (group_with groups) here m)) ≡ true → s3 m ≡ true
+      back t =
+          let h = and_split (s0 m) _ t in
+          let lose : may_lose facts rows (group_with groups) here m ≡ true → ⊥ = λ l. apart _ h.1 (ap not l) in
+          let first = one m ∙ stays (s0 m) (row_has takers.plain m) (not (is_add m && given m)) h.0 (λ p q. lose (plain_lost p q)) in
+          let second = two m ∙ stays (s1 m) (row_has own.opposites m) (not (is_add m && given m)) first (λ p q. lose (own_lost p q)) in
+          not_off (s3 m) (λ f. lose (lost m second f))
+
+      not_off : (b : Bool) → (b ≡ false → ⊥) → b ≡ true
+      not_off true h = refl
+      not_off false h = absurd (h refl)
