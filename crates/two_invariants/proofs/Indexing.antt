@@ -6,10 +6,12 @@ use Rattle.std.proofs.lemmas.List.Folds.{list_any_at}
 use Rattle.bit_rows.specs.Bits.{row_has}
 use Rattle.gt_core.specs.Literal.{opposite}
 use Rattle.gt_core.proofs.Basics.{or_split, or_left, or_right, and_split, and_both, not_true, apart, test_same, same_if, passing, all_at, all_from, each_at, Among}
+use Rattle.gt_core.proofs.Literals.{opposite_twice}
 use Rattle.two_invariants.specs.Breaks.{is_add}
 use Rattle.two_invariants.specs.Rows.{row_at, IsPart}
 use Rattle.two_invariants.specs.Tested.{with_more, has_no_pair}
 use Rattle.two_invariants.specs.Groups.{group_with, may_take_by, may_lose, GroupFits}
+use Rattle.two_invariants.proofs.Steps.{opposite_below}
 use Rattle.two_invariants.specs.Numbers.{finds}
 use Rattle.two_invariants.specs.Index.{IsNumbered, IsGroupOf, gives_in, AreGivers, IsGiver, takes_in, AreTakers}
 use Rattle.two_invariants.specs.declared.groups.Group.{Group}
@@ -137,6 +139,24 @@ takers_more facts rows set more groups upto takers part are = record {
     by g m n (inr (inl dead)) =
         inr (inl (no_pair_less facts (with_more rows set g.condition.items) (with_more rows more g.condition.items) (wider rows set more g.condition.items part) dead))
     by g m n (inr (inr found)) = inr (inr found)
+
+-- what a group makes true is of so many facts
+pub given_within : (n m : ℕ) (groups : List Group) (test : List ℕ → Bool) → AllByRecursion (GroupFits (2 * n)) groups → group_with groups m test ≡ true → m < 2 * n
+given_within n m groups test fits has =
+    let r = placed (λ (g : Group). row_has g.literals m && test g.condition.items) groups has in
+    let g_fits = each_at (GroupFits (2 * n)) groups r.one fits (among_place groups r.number r.one r.at) in
+    let lit = (and_split (row_has r.one.literals m) (test r.one.condition.items) r.passes).0 in
+    let other = g_fits.within (opposite m) (g_fits.turned (opposite m) ∙ ap (row_has r.one.literals) (opposite_twice m) ∙ lit) in
+    subst (λ (k : ℕ). k < 2 * n) (opposite_twice m) (opposite_below (opposite m) n other)
+
+-- what literals tell once more is nothing new
+pub told_twice : (rows : List (List ℕ)) (set : ℕ → Bool) (ls : List ℕ) (m : ℕ) → with_more rows (with_more rows set ls) ls m ≡ with_more rows set ls m
+told_twice rows set ls m = twice (set m) (list_any (λ l. row_has (row_at rows l) m) ls)
+  where
+    twice : (a b : Bool) → ((a || b) || b) ≡ (a || b)
+    twice true b = refl
+    twice false true = refl
+    twice false false = refl
 
 -- what the three looks leave is what no effect may take
 module _ (facts size : ℕ) (rows : List (List ℕ)) (groups : List Group) (here : ℕ → Bool) (takers : Takers) (fits : AllByRecursion (GroupFits size) groups)
