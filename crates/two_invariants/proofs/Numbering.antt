@@ -1,7 +1,8 @@
-use Rattle.std.proofs.Common.{arith, ◌≡◌, ◌==◌, ℕ, zero, suc, ◌<◌, List, [], ◌∷◌, ◌++◌, length, get_or, set, true, refl, ap, ◌∙◌, Vec, Global}
+use Rattle.std.proofs.Common.{arith, ◌≡◌, ◌==◌, ℕ, zero, suc, ◌<◌, List, [], ◌∷◌, ◌++◌, length, get_or, set, true, refl, ap, sym, ◌∙◌, ◌%◌, Vec, Global}
 use Rattle.std.specs.List.{list_any}
 use Rattle.gt_core.proofs.Basics.{or_left, or_right, same_test}
-use Rattle.two_invariants.specs.Numbers.{numbers_at}
+use Rattle.std.proofs.lemmas.List.{length-set}
+use Rattle.two_invariants.specs.Numbers.{numbers_at, has_number}
 use Rattle.two_invariants.proofs.Steps.{any_push}
 
 -- Lists of numbers by key.
@@ -29,3 +30,14 @@ module _ (v w : Vec ℕ Global) (number : ℕ) (is : w.items ≡ v.items ++ numb
       ap (list_any (λ j. j == number)) is ∙ any_push (λ j. j == number) v.items number
       ∙ or_right (list_any (λ j. j == number) v.items) (number == number) (same_test number number refl)
   added_own (u ∷ us) (suc i) lt = added_own us i (omega arith)
+
+  pub more_numbers : (lists : List (Vec ℕ Global)) (i k n : ℕ) → i < length lists → v ≡ get_or lists i v → has_number lists k n ≡ true → has_number (set lists i w) k n ≡ true
+  more_numbers lists i k n lt at h =
+      ap (λ (count : ℕ). list_any (λ j. j == n) (numbers_at (set lists i w) (k % count))) (length-set lists i w)
+      ∙ added_more lists i (k % length lists) n lt at h
+
+  pub own_number : (lists : List (Vec ℕ Global)) (i key : ℕ) → i < length lists → i ≡ key % length lists → has_number (set lists i w) key number ≡ true
+  own_number lists i key lt e =
+      ap (λ (count : ℕ). list_any (λ j. j == number) (numbers_at (set lists i w) (key % count))) (length-set lists i w)
+      ∙ ap (λ (place : ℕ). list_any (λ j. j == number) (numbers_at (set lists i w) place)) (sym e)
+      ∙ added_own lists i lt

@@ -81,6 +81,23 @@ fn give(group: &Group, set: &BitRow, given: &mut BitRow) -> Result<(), AllocErro
     Ok(())
 }
 
+/// Puts the literals of the group of a number into a set, where the group's condition is known.
+fn give_at(
+    groups: &[Group],
+    number: usize,
+    set: &BitRow,
+    given: &mut BitRow,
+) -> Result<(), AllocError>
+    ensures more { OnOk result (IsPart (row_has given.old) (row_has given.new)) }
+    ensures sound { OnOk result ((m : ℕ) → row_has given.new m ≡ true → (row_has given.old m ≡ true) ⊎ (group_with groups.now m (list_all (row_has set.now)) ≡ true)) }
+    ensures done { OnOk result ((m : ℕ) (g : Group) → IsNumbered groups.now number g → gives_in (row_has set.now) g m ≡ true → row_has given.new m ≡ true) }
+{
+    let Some(group) = groups.get(number) else {
+        return Ok(());
+    };
+    give(group, set, given)
+}
+
 /// Puts the literals of some groups into a set, of each whose condition is known.
 fn give_listed(
     groups: &[Group],
@@ -93,9 +110,7 @@ fn give_listed(
     ensures done { OnOk result ((n m : ℕ) (g : Group) → list_any (λ k. k == n) numbers.now ≡ true → IsNumbered groups.now n g → gives_in (row_has set.now) g m ≡ true → row_has given.new m ≡ true) }
 {
     for number in numbers {
-        if let Some(group) = groups.get(*number) {
-            give(group, set, given)?;
-        }
+        give_at(groups, *number, set, given)?;
     }
     Ok(())
 }

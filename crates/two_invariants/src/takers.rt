@@ -158,6 +158,31 @@ fn takes(
     Ok(is_taken(&room.given, l))
 }
 
+/// Whether the group of a number may take a literal where a set is known.
+fn takes_at(
+    facts: u32,
+    rows: &[BitRow],
+    groups: &[Group],
+    givers: &Givers,
+    here: &BitRow,
+    number: usize,
+    l: u32,
+    room: &mut Room,
+) -> Result<bool, AllocError>
+    requires few { facts ≤ 2048 }
+    requires rows { AreRowsOf (2 * facts) rows.now }
+    requires groups { AllByRecursion (GroupFits (2 * facts)) groups.now }
+    requires here { IsSetOf (2 * facts) (row_has here.now) }
+    requires givers { AreGivers (row_has here.now) groups.now (length groups.now) givers.now }
+    ensures some { IfOk result (λ taken. taken ≡ true → may_lose facts rows.now (group_with groups.now) (row_has here.now) l ≡ true) }
+    ensures none { IfOk result (λ taken. taken ≡ false → (g : Group) → IsNumbered groups.now number g → takes_in facts rows.now groups.now (row_has here.now) g l ≡ false) }
+{
+    let Some(group) = groups.get(number) else {
+        return Ok(false);
+    };
+    takes(facts, rows, groups, givers, here, group, l, room)
+}
+
 /// Whether one of some groups may take a literal where a set is known.
 fn some_takes(
     facts: u32,
@@ -178,10 +203,8 @@ fn some_takes(
     ensures none { IfOk result (λ taken. taken ≡ false → (n : ℕ) (g : Group) → list_any (λ k. k == n) numbers.now ≡ true → IsNumbered groups.now n g → takes_in facts rows.now groups.now (row_has here.now) g l ≡ false) }
 {
     for number in numbers {
-        if let Some(group) = groups.get(*number) {
-            if takes(facts, rows, groups, givers, here, group, l, room)? {
-                return Ok(true);
-            }
+        if takes_at(facts, rows, groups, givers, here, *number, l, room)? {
+            return Ok(true);
         }
     }
     Ok(false)
