@@ -6,6 +6,8 @@ pub mod Closing
 pub mod Exact
 pub mod Steps
 pub mod Grouping
+pub mod Indexing
+pub mod Numbering
 pub mod Dropping
 pub mod Renewing
 pub mod Unmoved

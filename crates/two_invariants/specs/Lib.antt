@@ -5,6 +5,8 @@ pub mod Laws
 pub mod Rows
 pub mod Tested
 pub mod Groups
+pub mod Numbers
+pub mod Index
 pub mod First
 pub mod Renewed
 pub mod Rounds

@@ -7,8 +7,7 @@ ghost use Rattle.two_invariants.specs.Rows.{clause_in, AreRows};
 ghost use Rattle.two_invariants.specs.Tested.{IsSetOf, AreKnown, act_at};
 ghost use Rattle.two_invariants.specs.Renewed.{WereKnown, AreMoves, is_unmoved};
 
-use crate::broken::all_known;
-use crate::known::Known;
+use crate::known::{Known, all_known};
 use crate::renew::{renew_none, renew_rows};
 use bit_rows::row::BitRow;
 use gt_core::act::Act;

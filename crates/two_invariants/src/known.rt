@@ -108,6 +108,18 @@ pub fn close(
     }
 }
 
+/// Whether each of some literals is known.
+pub fn all_known(set: &BitRow, lits: &[u32]) -> bool
+    ensures { result ≡ list_all (row_has set.now) lits.now }
+{
+    for lit in lits {
+        if !set.contains(*lit) {
+            return false;
+        }
+    }
+    true
+}
+
 /// Makes a row of a set with what some literals tell.
 pub fn fill_with(
     rows: &[BitRow],

@@ -26,18 +26,36 @@ fn is_apart(row: &BitRow, set: &BitRow) -> bool
     true
 }
 
-/// Whether none of some literals stands in a clause with the opposite of one of a set.
+/// Whether none of some literals stands in a clause with the opposite of a literal.
+fn tells_none(clauses: &[BitRow], x: u32, lits: &BitRow) -> bool
+    requires { opposite x < length clauses.now }
+    ensures { OnTrue result ((y : ℕ) → row_has lits.now y ≡ true → clause_in clauses.now (opposite x) y ≡ true → ⊥) }
+{
+    lits.least_common(&clauses[opposite(x) as usize], 0)
+        .is_none()
+}
+
+/// Whether none of some literals stands in a clause with the opposite of one of a set. Looks at one literal of the set
+/// and at one of the others in turn, until the fewer are done.
 fn none_follows(clauses: &[BitRow], set: &BitRow, lits: &BitRow) -> bool
     requires few { length clauses.now ≤ 4096 }
+    requires even { (l : ℕ) → l < length clauses.now → opposite l < length clauses.now }
+    requires either { (l m : ℕ) → clause_in clauses.now l m ≡ clause_in clauses.now m l }
+    requires set { IsSetOf (length clauses.now) (row_has set.now) }
     requires lits { IsSetOf (length clauses.now) (row_has lits.now) }
     ensures { OnTrue result ((x y : ℕ) → row_has set.now x ≡ true → row_has lits.now y ≡ true → clause_in clauses.now y (opposite x) ≡ true → ⊥) }
 {
     let mut from = 0;
-    while let Some(y) = lits.least(from) {
-        if !is_apart(&clauses[y as usize], set) {
+    let mut low = 0;
+    while let Some(x) = set.least(from) {
+        let Some(y) = lits.least(low) else {
+            return true;
+        };
+        if !tells_none(clauses, x, lits) || !is_apart(&clauses[y as usize], set) {
             return false;
         }
-        from = y + 1;
+        from = x + 1;
+        low = y + 1;
     }
     true
 }

@@ -1,4 +1,5 @@
-use Rattle.std.proofs.Common.{◌∙◌, ◌&&◌}
+use Rattle.std.proofs.Common.{◌∙◌, ◌&&◌, length, refl}
+use Rattle.std.proofs.lemmas.Option.{slice_get_read}
 use Rattle.bit_rows.specs.Bits.{row_has}
 use Rattle.gt_core.specs.Literal.{opposite}
 use Rattle.two_invariants.specs.Rows.{clause_in}
@@ -6,7 +7,13 @@ use Rattle.two_invariants.specs.Tested.{are_lost}
 use Rattle.two_invariants.specs.Groups.{group_with, breaks_under}
 use Rattle.two_invariants.specs.declared.groups.Group.{Group}
 use Rattle.two_invariants.proofs.Grouping.{groups_more}
+use Rattle.two_invariants.proofs.Indexing.{from_place}
 use Rattle.two_invariants.proofs.broken.group_losses.Goals as goal
+
+pub push_group_losses-requires-clause-one : goal.push_group_losses-requires-clause-one
+push_group_losses-requires-clause-one c = λ l test e.
+    from_place (λ (g : Group). row_has g.literals l && test g.condition.items) c.args.groups.now c.loop-group.group-index c.group-item.result
+    (slice_get_read c.args.groups.now (length c.args.groups.now) c.loop-group.group-index c.group-item.result refl c.loop-group-test.true c.group-item.is) e
 
 pub loop-group-preserved : goal.loop-group-preserved
 loop-group-preserved c = record {

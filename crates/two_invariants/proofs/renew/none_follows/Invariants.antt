@@ -4,8 +4,11 @@ use Rattle.gt_core.specs.Literal.{opposite}
 use Rattle.two_invariants.specs.Rows.{clause_in}
 use Rattle.two_invariants.proofs.renew.none_follows.Given as goal
 
-abbrev pub invariant-loop-y : goal.invariant-loop-y
-invariant-loop-y l = (x y : ℕ) → y < l.from → row_has l.set x ≡ true → row_has l.lits y ≡ true → clause_in l.clauses y (opposite x) ≡ true → ⊥
+abbrev pub invariant-loop-x : goal.invariant-loop-x
+invariant-loop-x l = record {
+  told : (x y : ℕ) → x < l.from → row_has l.set x ≡ true → row_has l.lits y ≡ true → clause_in l.clauses y (opposite x) ≡ true → ⊥;
+  tells : (x y : ℕ) → y < l.low → row_has l.set x ≡ true → row_has l.lits y ≡ true → clause_in l.clauses y (opposite x) ≡ true → ⊥;
+}
 
-abbrev pub decreases-loop-y : goal.decreases-loop-y
-decreases-loop-y l = length l.clauses - l.from
+abbrev pub decreases-loop-x : goal.decreases-loop-x
+decreases-loop-x l = length l.clauses - l.from

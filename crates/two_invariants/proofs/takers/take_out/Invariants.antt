@@ -2,7 +2,7 @@ use Rattle.std.proofs.Common.{◌≡◌, ◌&&◌, ◌-◌, not, ℕ}
 use Rattle.std.specs.Prelude.{nat_lt}
 use Rattle.bit_rows.specs.Bits.{row_has}
 use Rattle.two_invariants.specs.Breaks.{is_add}
-use Rattle.two_invariants.proofs.broken.take_out.Given as goal
+use Rattle.two_invariants.proofs.takers.take_out.Given as goal
 
 abbrev pub invariant-loop-l : goal.invariant-loop-l
 invariant-loop-l l =

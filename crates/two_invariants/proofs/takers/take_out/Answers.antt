@@ -3,7 +3,7 @@ use Rattle.bit_rows.specs.Bits.{row_has}
 use Rattle.gt_core.proofs.Basics.{and_split}
 use Rattle.two_invariants.specs.Breaks.{is_add}
 use Rattle.two_invariants.proofs.Grouping.{taken_next, less_apart, own_part}
-use Rattle.two_invariants.proofs.broken.take_out.Goals as goal
+use Rattle.two_invariants.proofs.takers.take_out.Goals as goal
 
 pub loop-l-preserved : goal.loop-l-preserved
 loop-l-preserved c m =
