@@ -1,8 +1,9 @@
-use Rattle.std.proofs.Common.{arith, ◌≡◌, ◌==◌, ℕ, suc, zero, ◌*◌, ◌<◌, List, [], ◌∷◌, length, Bool, true, false, not, ◌&&◌, ◌||◌, refl, ap, sym, ◌∙◌, ◌⊎◌, inl, inr, subst, Some}
+use Rattle.std.proofs.Common.{arith, ◌≡◌, ◌==◌, ℕ, suc, zero, ◌+◌, ◌*◌, ◌<◌, List, [], ◌∷◌, length, Bool, true, false, not, ◌&&◌, ◌||◌, refl, ap, sym, ◌∙◌, ◌⊎◌, inl, inr, subst, Some}
 use Rattle.std.specs.Prelude.{slice_get}
 use Rattle.std.specs.List.{list_any, list_all, AllByRecursion}
 use Rattle.std.proofs.lemmas.Option.{slice_get_within, get_or_from_slice_get}
 use Rattle.std.proofs.lemmas.List.Folds.{list_any_at}
+use Rattle.std.proofs.Math.Bool.{or-false}
 use Rattle.bit_rows.specs.Bits.{row_has}
 use Rattle.gt_core.specs.Literal.{opposite}
 use Rattle.gt_core.proofs.Basics.{or_split, or_left, or_right, and_split, and_both, not_true, apart, test_same, same_if, passing, all_at, all_from, each_at, Among}
@@ -79,7 +80,7 @@ all_given set given groups givers are more sound done m =
   where
     by : (r : Placed (λ g. gives_in set g m) groups) → IsGiver r.one r.number givers → given m ≡ true
     by r (inl part) = more m (part m (and_split _ _ r.passes).0)
-    by r (inr found) = done found.0 r.number m r.one (member_known set r.one.condition.items found.0 (and_split _ _ r.passes).1 found.1) found.2 r.at r.passes
+    by r (inr found) = done found.0 r.number m r.one (member_known set r.one.condition.items found.0 (and_split _ _ r.passes).1 found.1.0) found.1.1 r.at r.passes
 
 -- a set is part of it with more
 pub more_of : (rows : List (List ℕ)) (set : ℕ → Bool) (ls : List ℕ) → IsPart set (with_more rows set ls)
@@ -88,20 +89,20 @@ more_of rows set ls m t = or_left (set m) _ t
 -- where more is known there is a contradiction too
 pub no_pair_less : (facts : ℕ) (set more : ℕ → Bool) → IsPart set more → has_no_pair facts set ≡ false → has_no_pair facts more ≡ false
 no_pair_less zero set more part e = cc
-no_pair_less (suc f) set more part e = by (set (2 * f) && set (2 * f + 1)) refl
+no_pair_less (suc f) set more part e = by (set (2 * f) && set (2 * f + 1)) refl (no_pair_less f set more part)
   where
-    by : (b : Bool) → (set (2 * f) && set (2 * f + 1)) ≡ b → has_no_pair (suc f) more ≡ false
-    by true h =
-        let p = and_split _ _ h in
-        let both = and_both (more (2 * f)) (more (2 * f + 1)) (part _ p.0) (part _ p.1) in
-        ap (λ (x : Bool). not x && has_no_pair f more) both
-    by false h =
-        let rest : has_no_pair f set ≡ false = ap (λ (x : Bool). not x && has_no_pair f set) (sym h) ∙ e in
-        ap (λ (x : Bool). not (more (2 * f) && more (2 * f + 1)) && x) (no_pair_less f set more part rest) ∙ and_none (not (more (2 * f) && more (2 * f + 1)))
-
     and_none : (b : Bool) → (b && false) ≡ false
     and_none true = refl
     and_none false = refl
+
+    by : (b : Bool) → (set (2 * f) && set (2 * f + 1)) ≡ b → (has_no_pair f set ≡ false → has_no_pair f more ≡ false) → has_no_pair (suc f) more ≡ false
+    by true h less =
+        let p = and_split _ _ h in
+        let both = and_both (more (2 * f)) (more (2 * f + 1)) (part _ p.0) (part _ p.1) in
+        ap (λ (x : Bool). not x && has_no_pair f more) both
+    by false h less =
+        let rest : has_no_pair f set ≡ false = ap (λ (x : Bool). not x && has_no_pair f set) (sym h) ∙ e in
+        ap (λ (x : Bool). not (more (2 * f) && more (2 * f + 1)) && x) (less rest) ∙ and_none (not (more (2 * f) && more (2 * f + 1)))
 
 -- what an add overrules where a set is known, it overrules where more is
 pub overruled : (facts : ℕ) (rows : List (List ℕ)) (groups : List Group) (here : ℕ → Bool) (g : Group) (m : ℕ)
@@ -184,12 +185,8 @@ module _ (facts size : ℕ) (rows : List (List ℕ)) (groups : List Group) (here
       (and_both _ _ h.0 (free_there r.one.condition.items (empty r.one.condition.items h.1) ∙ t))
     where
       empty : (c : List ℕ) → (length c == 0) ≡ true → with_more rows here c ≡ here
-      empty [] e = λ i k. or_false (here k) i
-      empty (l ∷ ls) e = cc
-
-      or_false : (b : Bool) → (b || false) ≡ b
-      or_false true = refl
-      or_false false = refl
+      empty [] e = λ i k. or-false (here k) i
+      empty (l ∷ ls) e = absurd (let n : suc (length ls) ≡ 0 = test_same (suc (length ls)) 0 e in omega arith)
 
   -- by an effect of the group
   own_lost : row_has own.opposites m ≡ true → not (is_add m && given m) ≡ true → may_lose facts rows (group_with groups) here m ≡ true
@@ -230,6 +227,10 @@ module _ (facts size : ℕ) (rows : List (List ℕ)) (groups : List Group) (here
           by r may takes (inr (inl dead)) = apart _ (and_split _ _ may).0 dead
           by r may takes (inr (inr found)) = apart _ takes (done m r.number r.one t found r.at)
 
+      not_off : (b : Bool) → (b ≡ false → ⊥) → b ≡ true
+      not_off true h = refl
+      not_off false h = absurd (h refl)
+
       forth : s3 m ≡ true → (s0 m && not (may_lose facts rows (group_with groups) here m)) ≡ true
       forth t = and_both _ _ (and_split _ _ (kept_one t)).0 (ap not (not_true _ (not_lost t)))
 
@@ -240,7 +241,3 @@ module _ (facts size : ℕ) (rows : List (List ℕ)) (groups : List Group) (here
           let first = one m ∙ stays (s0 m) (row_has takers.plain m) (not (is_add m && given m)) h.0 (λ p q. lose (plain_lost p q)) in
           let second = two m ∙ stays (s1 m) (row_has own.opposites m) (not (is_add m && given m)) first (λ p q. lose (own_lost p q)) in
           not_off (s3 m) (λ f. lose (lost m second f))
-
-      not_off : (b : Bool) → (b ≡ false → ⊥) → b ≡ true
-      not_off true h = refl
-      not_off false h = absurd (h refl)

@@ -6,6 +6,7 @@ pub mod Rows
 pub mod Tested
 pub mod Groups
 pub mod Numbers
+pub mod Plain
 pub mod Index
 pub mod First
 pub mod Renewed

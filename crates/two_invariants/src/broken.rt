@@ -15,6 +15,7 @@ ghost use Rattle.two_invariants.specs.Index.{IsGroupOf, AreGivers, AreTakers};
 use crate::givers::{Givers, fill_given, givers_of};
 use crate::groups::{Group, group_effects};
 use crate::known::{Known, copy, with_more};
+use crate::plain::{are_plain, plain_losses};
 use crate::takers::{Room, Takers, is_taken, take_all_lost, takers_of};
 use bit_rows::row::BitRow;
 use gt_core::act::Act;
@@ -28,7 +29,7 @@ pub struct Loss {
 }
 
 /// Appends the clauses of a literal with those that are not sure, where an effect may take it and there is one.
-fn push_loss(
+pub fn push_loss(
     alloc: Global,
     clauses: &[BitRow],
     given: &BitRow,
@@ -40,7 +41,7 @@ fn push_loss(
     ensures lost { OnOk result ((a m : ℕ) → are_lost losses.new.items a m ≡ (are_lost losses.old.items a m || ((l == a) && (clause_in clauses.now a m && (not (is_add a && row_has given.now a) && not (row_has sure.now m)))))) }
     ensures each { OnOk result ((size : ℕ) → l < size → AllByRecursion (IsLossOf size clauses.now) losses.old.items → AllByRecursion (IsLossOf size clauses.now) losses.new.items) }
 {
-    if !is_taken(given, l) {
+    if !is_taken(given, l) || clauses[l as usize].is_part_of(sure) {
         return Ok(());
     }
     let mut from = BitRow::new(alloc);
@@ -179,11 +180,16 @@ pub fn losses_of(
     ensures { IfOk result (λ losses. AreLossesOf facts known.now clauses.now act.now losses.items) }
 {
     let rows = known.rows.as_slice();
-    let set = with_more(alloc, rows, &known.none, act.pre())?;
+    let mut set = with_more(alloc, rows, &known.none, act.pre())?;
     if set.has_pair() {
         return Ok(Vec::new(alloc));
     }
-    let groups = group_effects(alloc, act.effects())?;
+    let effects = act.effects();
+    if are_plain(effects) {
+        let plain = plain_losses(alloc, facts, clauses, effects, &mut set)?;
+        return Ok(plain);
+    }
+    let groups = group_effects(alloc, effects)?;
     let losses = group_losses(alloc, facts, rows, clauses, &set, groups.as_slice())?;
     Ok(losses)
 }

@@ -97,7 +97,10 @@ fn put(
         list_of(places.as_slice(), key),
         effect.cond(),
     ) {
-        Some(i) => add_at(groups, i, effect.lit()),
+        Some(i) => {
+            add_at(groups, i, effect.lit())?;
+            Ok(())
+        }
         None => {
             add_at_key(places, key, groups.len())?;
             groups.push(group_of(alloc, effect)?)?;

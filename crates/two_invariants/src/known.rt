@@ -2,7 +2,7 @@
 //! its opposite. Each clause has at most two literals, so what several literals tell is what each tells by itself.
 
 ghost use Rattle.std.specs.Prelude.{◌≡◌, ℕ, ◌*◌, ◌<◌, ◌==◌, [], true, false, None, length, IfOk, IfSome, OnOk};
-ghost use Rattle.std.specs.List.{AllByRecursion};
+ghost use Rattle.std.specs.List.{AllByRecursion, list_all};
 ghost use Rattle.bit_rows.specs.Bits.{row_has};
 ghost use Rattle.two_invariants.specs.Rows.{row_at, clause_in, AreRows, IsClosure, IsGrowing, IsGrownFrom, work};
 ghost use Rattle.two_invariants.specs.Tested.{IsSetOf, with_more};

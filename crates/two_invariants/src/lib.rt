@@ -14,6 +14,7 @@ mod groups;
 mod known;
 pub mod laws;
 mod list;
+mod plain;
 mod renew;
 mod takers;
 

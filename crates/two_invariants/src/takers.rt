@@ -55,7 +55,8 @@ fn add_taker(
     ensures own { OnOk result (IsTaker facts rows.now (row_has set.now) group.now number takers.new) }
 {
     if group.condition.is_empty() {
-        return takers.plain.unite(&group.opposites);
+        takers.plain.unite(&group.opposites)?;
+        return Ok(());
     }
     fill_with(rows, set, group.condition.as_slice(), there)?;
     if there.has_pair() {
@@ -105,7 +106,7 @@ pub fn is_taken(given: &BitRow, l: u32) -> bool
 }
 
 /// Takes a literal out of a set, where an effect may take it.
-fn take_one(given: &BitRow, l: u32, sure: &mut BitRow)
+pub fn take_one(given: &BitRow, l: u32, sure: &mut BitRow)
     ensures { (m : ℕ) → row_has sure.new m ≡ (row_has sure.old m && not ((l == m) && not (is_add m && row_has given.now m))) }
 {
     if is_taken(given, l) {
@@ -180,7 +181,8 @@ fn takes_at(
     let Some(group) = groups.get(number) else {
         return Ok(false);
     };
-    takes(facts, rows, groups, givers, here, group, l, room)
+    let taken = takes(facts, rows, groups, givers, here, group, l, room)?;
+    Ok(taken)
 }
 
 /// Whether one of some groups may take a literal where a set is known.
@@ -308,5 +310,6 @@ pub fn take_all_lost(
 {
     take_out(&takers.plain, given, sure);
     take_out(&group.opposites, given, sure);
-    take_all_listed(facts, rows, groups, givers, takers, here, given, sure, room)
+    take_all_listed(facts, rows, groups, givers, takers, here, given, sure, room)?;
+    Ok(())
 }

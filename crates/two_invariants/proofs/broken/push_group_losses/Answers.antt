@@ -46,7 +46,7 @@ take_all_lost-requires-clause-sure c m t = by (or_split _ _ (sym (c.in_ok-unite.
 pub take_all_lost-requires-clause-consistent : goal.take_all_lost-requires-clause-consistent
 take_all_lost-requires-clause-consistent c =
     let facts = c.args.facts in
-    let within = λ k t. more_within (2 * facts) c.args.rows.now (row_has c.args.set.now) c.as_slice.result.now c.requires.rows c.requires.set k (sym (c.in_ok-here.ensures k) ∙ t) in
+    let within : (k : ℕ) → row_has c.in_ok-here.here k ≡ true → k < 2 * facts = λ k t. more_within (2 * facts) c.args.rows.now (row_has c.args.set.now) c.as_slice.result.now c.requires.rows c.requires.set k (sym (c.in_ok-here.ensures k) ∙ t) in
     sym (pair_test_is facts (row_has c.in_ok-here.here) c.has_pair.result within c.has_pair.ensures) ∙ ap not c.if-has_pair.false
 
 pub take_all_lost-requires-clause-own : goal.take_all_lost-requires-clause-own
