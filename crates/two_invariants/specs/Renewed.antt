@@ -1,8 +1,8 @@
-use Rattle.std.specs.Prelude.{◌≡◌, ℕ, ◌*◌, ◌<◌, ◌==◌, ◌⊎◌, List, Bool, true, false, not, ◌&&◌, ◌||◌, length}
-use Rattle.std.specs.List.{list_any, list_all, AllByRecursion}
+use Rattle.std.specs.Prelude.{◌≡◌, ℕ, ◌<◌, ◌==◌, ◌⊎◌, List, Bool, true, false, not, ◌&&◌, ◌||◌, length}
+use Rattle.std.specs.List.{list_any, list_all}
 use Rattle.bit_rows.specs.Bits.{row_has}
 use Rattle.gt_core.specs.Literal.{opposite}
-use Rattle.gt_core.specs.Task.{Effect, Action}
+use Rattle.gt_core.specs.Task.{Action}
 use Rattle.two_invariants.specs.Rows.{row_at, clause_in, IsPart, IsChained, HasNoPair, IsClosure}
 use Rattle.two_invariants.specs.Tested.{IsSetOf, breaks_by}
 use Rattle.two_invariants.specs.declared.known.Known.{Known}

@@ -1,4 +1,4 @@
-use Rattle.std.proofs.Common.{◌≡◌, ◌∙◌, ◌&&◌, ◌||◌, ap, not, Bool, ℕ}
+use Rattle.std.proofs.Common.{◌≡◌, ◌∙◌, ◌&&◌, ◌||◌, ap, not, Bool}
 use Rattle.bit_rows.specs.Bits.{row_has}
 use Rattle.two_invariants.specs.Rows.{clause_in}
 use Rattle.two_invariants.specs.Tested.{are_lost}

@@ -1,9 +1,9 @@
-use Rattle.std.proofs.Common.{◌≡◌, ◌*◌, ◌<◌, ap, ℕ, subst, sym}
+use Rattle.std.proofs.Common.{◌*◌, ◌<◌, ap, ℕ, subst, sym}
 use Rattle.bit_rows.specs.Bits.{row_has}
 use Rattle.gt_core.specs.Literal.{opposite}
-use Rattle.two_invariants.specs.Rows.{clause_in, IsClosure}
+use Rattle.two_invariants.specs.Rows.{clause_in}
 use Rattle.two_invariants.proofs.Steps.{opposite_below}
-use Rattle.two_invariants.proofs.Renewing.{same_closed, pair_closed, rest_closed}
+use Rattle.two_invariants.proofs.Renewing.{same_closed, pair_closed}
 use Rattle.two_invariants.proofs.renew.renew.Goals as goal
 
 pub returns-then-is_same : goal.returns-then-is_same

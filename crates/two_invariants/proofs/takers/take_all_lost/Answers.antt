@@ -1,4 +1,4 @@
-use Rattle.std.proofs.Common.{arith, ◌≡◌, ◌*◌, ◌<◌, ◌==◌, length, subst, ℕ}
+use Rattle.std.proofs.Common.{arith, ◌*◌, ◌<◌, ◌==◌, length, subst, ℕ}
 use Rattle.bit_rows.specs.Bits.{row_has}
 use Rattle.gt_core.specs.Literal.{opposite}
 use Rattle.gt_core.proofs.Literals.{opposite_twice}

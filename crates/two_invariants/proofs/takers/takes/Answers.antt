@@ -1,4 +1,4 @@
-use Rattle.std.proofs.Common.{arith, ◌≡◌, ◌∙◌, ◌*◌, ◌%◌, ◌<◌, ◌==◌, ◌&&◌, ap, sym, not, true, false, length, Bool, ℕ}
+use Rattle.std.proofs.Common.{arith, ◌≡◌, ◌∙◌, ◌*◌, ◌<◌, ◌==◌, ◌&&◌, ap, sym, not, true, false, length, Bool, ℕ}
 use Rattle.std.specs.List.{list_all}
 use Rattle.bit_rows.specs.Bits.{row_has}
 use Rattle.two_invariants.specs.Breaks.{is_add}
