@@ -1,3 +1,4 @@
 pub mod Listed
 pub mod Short
 pub mod Sets
+pub mod Grow

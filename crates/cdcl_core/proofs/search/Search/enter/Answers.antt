@@ -1,13 +1,25 @@
-use Rattle.std.proofs.Common.{ℕ, List, [], ◌∷◌, ◌++◌, true, ap, sym, ◌∙◌, subst}
+use Rattle.std.proofs.Common.{arith, ◌≡◌, ◌<◌, length, length-append, ℕ, List, [], ◌∷◌, ◌++◌, true, ap, sym, ◌∙◌, subst}
 use Rattle.clause_base.specs.Clause.{HasVariablesBelow}
 use Rattle.clause_base.specs.declared.log.Entry.TheVariants.{Learn}
 use Rattle.cdcl_rules.specs.Run.{after_conflict, is_going}
 use Rattle.cdcl_laws.proofs.Fuel.{all_below}
+use Rattle.clause_base.specs.Derivation.{clauses_of}
 use Rattle.conflict_walk.specs.Clauses.{ClausesView}
+use Rattle.conflict_walk.proofs.Placed.{learned_learn}
 use Rattle.cdcl_trail.specs.Mirrored.{TrailView}
 use Rattle.cdcl_core.specs.Search.{SearchView}
 use Rattle.cdcl_core.proofs.Watching.{behind, last_below}
 use Rattle.cdcl_core.proofs.search.Search.enter.Goals as goal
+
+-- one clause at least was learned
+learned_one : (old new : ClausesView) (k h : List ℕ) → new ≡ record old { log = old.log ++ Learn k h ∷ []; kept = old.kept ++ true ∷ [] } → 0 < length (clauses_of new.log)
+learned_one old new k h e =
+    let l = ap (λ (v : ClausesView). length (clauses_of v.log)) e in
+    let m = ap (λ (cs : List (List ℕ)). length cs) (learned_learn old.log k h) in
+    omega (arith, l, m, length-append (clauses_of old.log) (k ∷ []))
+
+pub follow-requires-clause-learned : goal.follow-requires-clause-learned
+follow-requires-clause-learned c = learned_one c.self.inside.clauses c.learn.new.self _ c.args.new.hints c.in_ok-learn.ensures.ok
 
 pub follow-requires-clause-behind : goal.follow-requires-clause-behind
 follow-requires-clause-behind c =
