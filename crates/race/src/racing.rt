@@ -124,7 +124,7 @@ impl Racing {
         let run = self.runs.remove(0);
         let horizon = run.horizon();
         self.window.refute(horizon);
-        let line = passed(alloc, &run)?;
+        let line = passed(alloc, run)?;
         self.lines.push(line)?;
         Ok(())
     }
