@@ -1,42 +1,43 @@
 -- What a race that ended on a task means for the task and for its report.
-use Rattle.std.proofs.Common.{◌≡◌, ℕ, ◌+◌, Bool, true, false, List, [], ◌∷◌, ◌++◌, map, length, get_or, codes, refl, sym, ap, subst, ◌∙◌, arith, Option, Some, None, if◌then◌else◌}
+use Rattle.std.proofs.Common.{◌≡◌, ◌<◌, ◌≤◌, ℕ, ◌+◌, Bool, true, false, List, [], ◌∷◌, ◌++◌, map, length, get_or, codes, refl, sym, ap, subst, ◌∙◌, arith, Option, Some, None, if◌then◌else◌}
 use Rattle.std.specs.Prelude.{IsTrue, Contains, slice_get, slice_index_or}
 use Rattle.std.specs.List.{AllByRecursion, list_all}
 use Rattle.std.proofs.lemmas.List.Elements.{All-contains, All-map, All-from_recursion, All-contains_itself, Contains-append_right}
 use Rattle.report_lines.specs.Lines.{lines_of}
-use Rattle.report_lines.specs.Horizons.{entry_line}
+use Rattle.report_lines.specs.Horizons.{Entry, entry_line, report}
 use Rattle.clause_base.specs.Derivation.{IsRefutation}
 use Rattle.clause_base.specs.Formula.{assignment_of}
 use Rattle.cdcl_rules.specs.State.{State}
 use Rattle.gt_core.specs.Published.{IsPublished, order_of}
-use Rattle.gt_core.specs.Step.{IsStepPlan}
+use Rattle.gt_core.specs.Task.{Task}
 use Rattle.horizon_rates.specs.declared.settings.Settings.{Settings}
 use Rattle.pd_model.specs.Fits.{is_call}
 use Rattle.pd_model.specs.Exec.{exec_schema}
 use Rattle.pd_model.specs.Plan.{IsPlan, exec_all, meets_goal}
-use Rattle.pd_model.specs.WellFormed.{IsWellFormed}
 use Rattle.pd_model.specs.declared.atoms.Atom.{Atom}
 use Rattle.pd_model.specs.declared.calls.Call.{Call}
 use Rattle.pd_model.specs.declared.parts.Parts.{Parts}
 use Rattle.grounding.specs.Grounded.{Grounded, IsGrounded}
-use Rattle.grounding.specs.Limits.{IsWithin}
 use Rattle.grounding.specs.Laws.{AreNumbers}
-use Rattle.step_laws.specs.Form.{OrderedTask, IsPlanOf}
+use Rattle.step_laws.specs.Form.{OrderedTask, member_at}
 use Rattle.race_end.specs.declared.line.LineEnd.{LineEnd}
 use Rattle.race_end.specs.declared.line.LineEnd.TheVariants as ends
 use Rattle.race_end.specs.declared.line.Line.{Line}
 use Rattle.race_end.specs.declared.end.RaceEnd.{RaceEnd}
 use Rattle.race_end.specs.declared.end.RaceEnd.TheVariants as races
-use Rattle.race_end.specs.Ends.{WordRefuted, LineView, EndView, Unfinished, word_of, line_view, end_view, lines_in, lines_of as lines_of_end, conflicts_in}
+use Rattle.race_end.specs.Ends.{Word, WordRefuted, WordDropped, WordOpen, WordPlan, LineView, EndView, Unfinished, word_of, line_view, end_view, lines_in, lines_of as lines_of_end, conflicts_in}
 use Rattle.race.specs.Input.{RaceInput}
 use Rattle.race.specs.Lines.{IsLine, IsMarked, WhereRefuted, state_of_line, standing_of as standing_at}
-use Rattle.step_plans.specs.Plans.{AreStepPlan, AreListed, actions_in}
+use Rattle.step_plans.specs.Plans.{AreStepPlan, IsStepPlanOf, AreListed, actions_in}
+use Rattle.step_plans.specs.Laws.{SetsOfFormsAreListed}
 use Rattle.plan_report.specs.Report.{word_text, entry_of, plan_line, conflicts_line, last_lines, report_of}
 use Rattle.plan_report.specs.Laws.{IsSmall, HasCalls, Tells}
 use Rattle.plan_top.specs.Known.{IsOrdered}
 use Rattle.plan_top.specs.Laws.{Laws}
-use Rattle.plan_top.specs.Raced.{form_of, choice_at, formula_at, input_of, ComesTo}
-use Rattle.plan_top.specs.Headline.{OfGrounded, HasStepPlan, PlanRuns, NoStepPlan, NoPlan, IsSo, LineIsSo, standing_of, conflicts_of, SpendsAll}
+use Rattle.plan_top.specs.Stepping.{Stepping, Exists, places_by, is_plan_by, bars_by}
+use Rattle.plan_top.specs.Tasks.{IsReady}
+use Rattle.plan_top.specs.Raced.{form_of, steps_at, choice_at, formula_at, input_of, ArePlan, ComesTo}
+use Rattle.plan_top.specs.Headline.{OfGrounded, HasStepPlan, PlanRuns, HasAtLeast, NoStepPlan, NoPlan, IsSo, LineIsSo, standing_of, conflicts_of, horizon_words, SpendsAll}
 
 -- ---- lines and the words in them
 
@@ -103,32 +104,72 @@ conflicts_same : (lines : List LineView) → conflicts_of (map entry_of lines) �
 conflicts_same [] = refl
 conflicts_same (line ∷ lines) = ap (λ (n : ℕ). line.conflicts + n) (conflicts_same lines)
 
-module _ (laws : Laws) (settings : Settings) (task : Parts) (g : Grounded) (well : IsWellFormed task) (is : IsGrounded task g) (fits : IsWithin task g) where
-  module _ (race : RaceEnd) (comes : ComesTo g.task settings race) where
+-- ---- plans in steps of a kind
+
+-- what a plan in steps of a kind is, as the laws of step plans have it
+pub as_barred : (how : Stepping) (task : Task) (order : List ℕ) (sets : ℕ → ℕ → Bool) (n : ℕ) → is_plan_by how task order sets n → IsStepPlanOf (bars_by how task) task order sets n
+as_barred Exists task order sets n plan = record { plan = plan; each = λ t lt a b x y. refl }
+
+from_barred : (how : Stepping) (task : Task) (order : List ℕ) (sets : ℕ → ℕ → Bool) (n : ℕ) → IsStepPlanOf (bars_by how task) task order sets n → is_plan_by how task order sets n
+from_barred Exists task order sets n of = of.plan
+
+bars_itself : (how : Stepping) (task : Task) (a : ℕ) → bars_by how task a a ≡ false
+bars_itself Exists task a = refl
+
+listed_by : SetsOfFormsAreListed → (how : Stepping) (form : OrderedTask) (n : ℕ) (values : ℕ → Bool) → AreListed (order_of form.components) (steps_at form (places_by how form.task form.components) n values)
+listed_by law Exists form n values = law form n values
+
+-- the word of a line is one of the four
+words_in : (lines : List LineView) → AllByRecursion (λ e. Contains horizon_words e.word) (map entry_of lines)
+words_in [] = tt
+words_in (line ∷ lines) = (one line.word, words_in lines)
+  where
+    one : (word : Word) → Contains horizon_words (word_text word)
+    one WordRefuted = (0, omega arith, refl)
+    one WordDropped = (1, omega arith, refl)
+    one WordOpen = (2, omega arith, refl)
+    one WordPlan = (3, omega arith, refl)
+
+module _ (laws : Laws) (how : Stepping) (settings : Settings) (task : Parts) (g : Grounded) (ready : IsReady task g) where
+  module _ (race : RaceEnd) (comes : ComesTo (places_by how) (is_plan_by how) g.task settings race) where
     abbrev form : OrderedTask
     form = form_of g.task comes.clauses comes.components
 
     abbrev order : List ℕ
     order = order_of comes.components
 
+    abbrev bars : ℕ → ℕ → Bool
+    bars = bars_by how g.task
+
     only : (h : Grounded) (others : List (ℕ × ℕ)) (parts : List (List ℕ)) → IsGrounded task h → IsOrdered h.task others parts → (h ≡ g) × (others ≡ comes.clauses) × (parts ≡ comes.components)
     only h others parts is_h ordered =
-        let same : h ≡ g = laws.one_result task h g is_h is in
+        let same : h ≡ g = laws.one_result task h g is_h ready.grounded in
         let here : IsOrdered g.task others parts = subst (λ (x : Grounded). IsOrdered x.task others parts) same ordered in
         let known : others ≡ comes.clauses = laws.invariants g.task others comes.clauses here.known comes.ordered.known in
         let published : IsPublished g.task comes.clauses parts = subst (λ (cs : List (ℕ × ℕ)). IsPublished g.task cs parts) known here.published in
         (same, known, laws.unique g.task comes.clauses parts comes.components published comes.ordered.published)
 
     of_grounded : (claim : Grounded → List (ℕ × ℕ) → List (List ℕ) → Type 0) → claim g comes.clauses comes.components → OfGrounded task claim
-    of_grounded claim h = record { g = g; clauses = comes.clauses; components = comes.components; grounded = is; ordered = comes.ordered; only = only; holds = h }
+    of_grounded claim h = record { g = g; clauses = comes.clauses; components = comes.components; grounded = ready.grounded; ordered = comes.ordered; only = only; holds = h }
 
     -- ---- refuted horizons
 
-    no_sets : (horizon : ℕ) → ((steps : List (List ℕ)) → IsPlanOf form horizon steps → ⊥) → (sets : ℕ → ℕ → Bool) → IsStepPlan g.task order sets horizon → ⊥
-    no_sets horizon none sets plan = let l = laws.lists g.task order sets horizon plan in none l.0 (record { long = l.1.long; plan = l.1.plan })
+    -- no lists of actions are a plan of so many steps
+    abbrev IsRefuted : ℕ → Type 0
+    IsRefuted horizon = (steps : List (List ℕ)) → ArePlan (places_by how) (is_plan_by how) form horizon steps → ⊥
 
-    no_plans : (horizon : ℕ) → ((steps : List (List ℕ)) → IsPlanOf form horizon steps → ⊥) → NoPlan horizon task
-    no_plans horizon none calls short plan = let s = laws.short task g order horizon calls is short plan in no_sets horizon none s.0 s.1
+    no_sets : (horizon : ℕ) → IsRefuted horizon → (sets : ℕ → ℕ → Bool) → IsStepPlanOf bars g.task order sets horizon → ⊥
+    no_sets horizon none sets of =
+        let l = laws.lists bars g.task order sets horizon of in
+        none l.0 (record { long = l.1; plan = from_barred how g.task order (member_at l.0) horizon l.2 })
+
+    longer : (horizon : ℕ) → IsRefuted horizon → (sets : ℕ → ℕ → Bool) (n : ℕ) → is_plan_by how g.task order sets n → horizon < n
+    longer horizon none sets n plan = laws.longer bars g.task order horizon (no_sets horizon none) sets n (as_barred how g.task order sets n plan)
+
+    no_plans : (horizon : ℕ) → IsRefuted horizon → NoPlan horizon task
+    no_plans horizon none calls short plan =
+        let s = laws.short bars task g order horizon calls (bars_itself how g.task) ready.grounded short plan in
+        no_sets horizon none s.0 s.1
 
     -- a line that the end tells of a horizon
     told_line : (horizon : ℕ) (word : List ℕ) (conflicts : ℕ) → Tells (lines_in (end_view race)) horizon word conflicts
@@ -137,73 +178,86 @@ module _ (laws : Laws) (settings : Settings) (task : Parts) (g : Grounded) (well
         let v = viewed (lines_of_end race) tells.0 (subst (λ (lines : List LineView). Contains lines tells.0) (lines_viewed race) tells.1) in
         (v.0, v.1, ap (λ (x : LineView). x.horizon) v.2 ∙ tells.2, ap (λ (x : LineView). word_text x.word) v.2 ∙ tells.3, ap (λ (x : LineView). x.conflicts) v.2 ∙ tells.4)
 
-    refuted_line : (horizon conflicts : ℕ) → Tells (lines_in (end_view race)) horizon (codes "refuted") conflicts → (steps : List (List ℕ)) → IsPlanOf form horizon steps → ⊥
+    refuted_line : (horizon conflicts : ℕ) → Tells (lines_in (end_view race)) horizon (codes "refuted") conflicts → IsRefuted horizon
     refuted_line horizon conflicts tells =
         let t = told_line horizon (codes "refuted") conflicts tells in
-        let P : ℕ → Type 0 = λ h. (steps : List (List ℕ)) → IsPlanOf form h steps → ⊥ in
-        let at = at_one (λ (l : Line). WhereRefuted l.end (P l.horizon)) (lines_of_end race) t.0 comes.races.refuted t.1 in
-        subst P t.2 (where_refuted t.0.end (P t.0.horizon) t.3 at)
+        let at = at_one (λ (l : Line). WhereRefuted l.end (IsRefuted l.horizon)) (lines_of_end race) t.0 comes.refuted t.1 in
+        subst IsRefuted t.2 (where_refuted t.0.end (IsRefuted t.0.horizon) t.3 at)
 
-    pub no_step_plan : (horizon conflicts : ℕ) → Tells (lines_in (end_view race)) horizon (codes "refuted") conflicts → NoStepPlan horizon task
+    pub no_step_plan : (horizon conflicts : ℕ) → Tells (lines_in (end_view race)) horizon (codes "refuted") conflicts → NoStepPlan how horizon task
     no_step_plan horizon conflicts tells =
-        of_grounded (λ h clauses components. (sets : ℕ → ℕ → Bool) → IsStepPlan h.task (order_of components) sets horizon → ⊥) (no_sets horizon (refuted_line horizon conflicts tells))
+        of_grounded (λ h clauses components. (sets : ℕ → ℕ → Bool) (n : ℕ) → n ≤ horizon → is_plan_by how h.task (order_of components) sets n → ⊥)
+        (λ sets n le plan. let more = longer horizon (refuted_line horizon conflicts tells) sets n plan in omega (arith, le, more))
+
+    pub at_least : (horizon conflicts : ℕ) → Tells (lines_in (end_view race)) horizon (codes "refuted") conflicts → HasAtLeast how (horizon + 1) task
+    at_least horizon conflicts tells =
+        of_grounded (λ h clauses components. (sets : ℕ → ℕ → Bool) (k : ℕ) → is_plan_by how h.task (order_of components) sets k → horizon + 1 ≤ k)
+        (λ sets k plan. let more = longer horizon (refuted_line horizon conflicts tells) sets k plan in omega (arith, more))
 
     pub no_plan : (horizon conflicts : ℕ) → Tells (lines_in (end_view race)) horizon (codes "refuted") conflicts → NoPlan horizon task
     no_plan horizon conflicts tells = no_plans horizon (refuted_line horizon conflicts tells)
 
-    pub line_is_so : (horizon : ℕ) (word : List ℕ) (conflicts : ℕ) → Tells (lines_in (end_view race)) horizon word conflicts → LineIsSo horizon word conflicts task
+    pub line_is_so : (horizon : ℕ) (word : List ℕ) (conflicts : ℕ) → Tells (lines_in (end_view race)) horizon word conflicts → LineIsSo how horizon word conflicts task
     line_is_so horizon word conflicts tells =
         let t = told_line horizon word conflicts tells in
-        let input = input_of form settings in
-        let so = line_so input t.0 (at_one (IsLine input) (lines_of_end race) t.0 comes.races.lines t.1) in
-        let one = subst (λ (h : ℕ). IsSo (choice_at form h) (formula_at form h) (word_text (word_of t.0.end)) t.0.conflicts) t.2 so in
-        let two = subst (λ (w : List ℕ). IsSo (choice_at form horizon) (formula_at form horizon) w t.0.conflicts) t.3 one in
-        of_grounded (λ h clauses components. IsSo (choice_at (form_of h.task clauses components) horizon) (formula_at (form_of h.task clauses components) horizon) word conflicts)
-        (subst (λ (k : ℕ). IsSo (choice_at form horizon) (formula_at form horizon) word k) t.4 two)
+        let input = input_of (places_by how) form settings in
+        let choose = choice_at (places_by how) form in
+        let formula = formula_at (places_by how) form in
+        let so = line_so input t.0 (at_one (IsLine input) (lines_of_end race) t.0 comes.lines t.1) in
+        let one = subst (λ (h : ℕ). IsSo (choose h) (formula h) (word_text (word_of t.0.end)) t.0.conflicts) t.2 so in
+        let two = subst (λ (w : List ℕ). IsSo (choose horizon) (formula horizon) w t.0.conflicts) t.3 one in
+        of_grounded (λ h clauses components. IsSo (choice_at (places_by how) (form_of h.task clauses components) horizon) (formula_at (places_by how) (form_of h.task clauses components) horizon) word conflicts)
+        (subst (λ (k : ℕ). IsSo (choose horizon) (formula horizon) word k) t.4 two)
 
   -- ---- plans
 
   -- a race that ended with a plan
-  module _ (horizon : ℕ) (steps : List (List ℕ)) (lines : List Line) (comes : ComesTo g.task settings (races.Plan horizon steps lines)) where
+  module _ (horizon : ℕ) (steps : List (List ℕ)) (lines : List Line) (comes : ComesTo (places_by how) (is_plan_by how) g.task settings (races.Plan horizon steps lines)) where
     abbrev planned : EndView
     planned = end_view (races.Plan horizon steps lines)
 
     is_listed : AreListed (order_of comes.components) steps
     is_listed =
-        let s = comes.races.steps in
-        subst (AreListed (order_of comes.components)) (sym s.2) (laws.listed (form_of g.task comes.clauses comes.components) horizon (assignment_of s.0))
+        let s = comes.steps in
+        subst (AreListed (order_of comes.components)) (sym s.2) (listed_by laws.listed how (form_of g.task comes.clauses comes.components) horizon (assignment_of s.0))
 
     is_plan : AreStepPlan g.task (order_of comes.components) steps horizon
-    is_plan = let p = comes.races.plan in record { long = p.long; plan = p.plan }
+    is_plan = let p = comes.plan in record { long = p.long; plan = (as_barred how g.task (order_of comes.components) (member_at steps) horizon p.plan).plan }
 
     its_calls : (calls : List Call) × AreNumbers g calls (actions_in steps) × IsPlan task calls
     its_calls =
-        let r = laws.run task g comes.clauses comes.components steps horizon is (laws.is_task task g is fits) comes.ordered.published is_plan in
+        let r = laws.run task g comes.clauses comes.components steps horizon ready.grounded (laws.is_task task g ready.grounded ready.fits) comes.ordered.published is_plan in
         (r.0, subst (AreNumbers g r.0) (laws.in_order (order_of comes.components) steps is_listed) r.1, r.2)
 
     pub has_calls : HasCalls task g planned
     has_calls = let c = its_calls in (c.0, c.1, calls_fit task task.init c.0 c.2)
 
-    pub plan_runs : IsSmall settings.budget planned → PlanRuns (report_of task g settings.budget planned) task
+    pub plan_runs : IsSmall settings.budget planned → PlanRuns how (report_of task g settings.budget planned) task
     plan_runs small =
         let c = its_calls in
         let text : List ℕ = report_of task g settings.budget planned in
-        let read = laws.plans task g settings.budget horizon steps (map line_view lines) c.0 well small c.1 (calls_fit task task.init c.0 c.2) in
-        let back = laws.lines task g settings.budget planned well small has_calls in
+        let read = laws.plans task g settings.budget horizon steps (map line_view lines) c.0 ready.well small c.1 (calls_fit task task.init c.0 c.2) in
+        let back = laws.lines task g settings.budget planned ready.well small has_calls in
         let entries : List (List ℕ) = map entry_line (map entry_of (map line_view lines)) in
         let last : Contains (last_lines task g settings.budget planned) (plan_line horizon (length (actions_in steps))) = (1, omega arith, refl) in
         let line : Contains (lines_of text) (plan_line horizon (length (actions_in steps))) =
         subst (λ (ls : List (List ℕ)). Contains ls (plan_line horizon (length (actions_in steps)))) (sym back) (Contains-append_right entries (last_lines task g settings.budget planned) _ last) in
-        let told = laws.steps task g settings.budget horizon steps (map line_view lines) well small has_calls in
-        ((c.0, read, c.2), of_grounded (races.Plan horizon steps lines) comes (HasStepPlan text task) (steps, horizon, line, told, is_plan, is_listed))
+        let told = laws.steps task g settings.budget horizon steps (map line_view lines) ready.well small has_calls in
+        let once = laws.once g.task comes.clauses comes.components steps comes.ordered.published is_listed in
+        ((c.0, read, c.2), of_grounded (races.Plan horizon steps lines) comes (HasStepPlan how text task) (steps, horizon, line, told, comes.plan, is_listed, once))
 
   -- ---- the budget
 
-  pub spends_all : (lines : List Line) → ComesTo g.task settings (races.Unfinished lines) → IsSmall settings.budget (end_view (races.Unfinished lines)) → SpendsAll (report_of task g settings.budget (end_view (races.Unfinished lines))) settings.budget
+  pub spends_all : (lines : List Line) → ComesTo (places_by how) (is_plan_by how) g.task settings (races.Unfinished lines) → IsSmall settings.budget (end_view (races.Unfinished lines))
+      → SpendsAll (report_of task g settings.budget (end_view (races.Unfinished lines))) settings.budget
   spends_all lines comes small =
-      let back = laws.lines task g settings.budget (Unfinished (map line_view lines)) well small tt in
-      let sum : conflicts_in (map line_view lines) ≡ settings.budget = comes.races.sums in (
-        map entry_of (map line_view lines),
-        back ∙ ap (λ (n : ℕ). map entry_line (map entry_of (map line_view lines)) ++ (conflicts_line n settings.budget ∷ (codes "; unfinished" ∷ []))) sum,
-        conflicts_same (map line_view lines) ∙ sum,
-      )
+      let back = laws.lines task g settings.budget (Unfinished (map line_view lines)) ready.well small tt in
+      let sum : conflicts_in (map line_view lines) ≡ settings.budget = comes.sums in
+      let entries : List Entry = map entry_of (map line_view lines) in
+      record {
+        entries = entries;
+        words = words_in (map line_view lines);
+        whole = ap (λ (n : ℕ). report entries (conflicts_line n settings.budget ∷ (codes "; unfinished" ∷ []))) sum;
+        lines = back ∙ ap (λ (n : ℕ). map entry_line entries ++ (conflicts_line n settings.budget ∷ (codes "; unfinished" ∷ []))) sum;
+        sum = conflicts_same (map line_view lines) ∙ sum;
+      }

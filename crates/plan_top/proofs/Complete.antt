@@ -18,7 +18,6 @@ use Rattle.plan_gen.specs.Task.{domain_of, problem_of}
 use Rattle.plan_words.specs.Seen.{Seen, plans, checks, grounds, orders, generates, files_of}
 use Rattle.plan_words.specs.declared.request.Show.{Show}
 use Rattle.plan_words.specs.declared.request.Show.TheVariants as shows
-use Rattle.plan_words.specs.Requested.{requested}
 use Rattle.plan_top.specs.declared.ending.Kind.{Kind}
 use Rattle.plan_top.specs.declared.ending.Kind.TheVariants as kinds
 use Rattle.plan_top.specs.declared.ending.Limit.{Limit}
@@ -26,17 +25,18 @@ use Rattle.plan_top.specs.declared.ending.Limit.TheVariants as limits
 use Rattle.plan_top.specs.declared.ending.Ending.{Ending}
 use Rattle.plan_top.specs.declared.ending.Ending.TheVariants.{Report}
 use Rattle.plan_top.specs.Files.{StopsFrom, RoseAmong, most_bytes}
-use Rattle.plan_top.specs.Tasks.{AreTask, RefusesTask, IsTreeFault, domain_tree, problem_tree, no_task, OnceRead, refused, read, OnceGrounded, past, within, IsOver}
+use Rattle.plan_top.specs.Stepping.{Exists, places_by, is_plan_by}
+use Rattle.plan_top.specs.Tasks.{AreTask, RefusesTask, IsTreeFault, domain_tree, problem_tree, no_task, OnceRead, not_read, read, refused, past, OnceGrounded, not_grounded, grounded, IsOver}
 use Rattle.plan_top.specs.Raced.{OnceRaced, too_large, ended, outcome_of}
 use Rattle.plan_top.specs.Generated.{AnswersGenerated, TellsGenerated, generated_line}
-use Rattle.plan_top.specs.Causes.{Answers, Decides, AnswersPlan, AnswersGround, AnswersOrder, AnswersCheck, ending_of, ComesOf, stopped, decided, Comes}
-use Rattle.plan_top.specs.Complete.{GoesWell, AreWithin, AreInOrder, IsInOrder, IsGood}
+use Rattle.plan_top.specs.Causes.{OfTwo, OfThree, Decides, AnswersPlan, AnswersGround, AnswersOrder, AnswersCheck, ending_of, Comes}
+use Rattle.plan_top.specs.Complete.{GoesWell, AreWithin, AreChecked, AreInOrder, IsGood}
 use Rattle.plan_top.specs.Ending.{status_of}
 use Rattle.gt_core.specs.Lawful.{conditional_in}
 use Rattle.grounding.specs.Grounded.{Grounded, IsGrounded}
 use Rattle.grounding.specs.Limits.{IsWithin}
 use Rattle.grounding.proofs.Unique.{one_result}
-use Rattle.plan_top.proofs.Told.{at_some, of_told_at, asked_comes, not_asked_comes}
+use Rattle.plan_top.proofs.Told.{at_some, of_told_at, IsOfRequest, asked_comes}
 
 good_zero : (end : Ending) → status_of end ≡ 0 → IsGood end
 good_zero end zero = inl (0, omega arith, sym zero)
@@ -77,8 +77,6 @@ same_task domain problem task other are others =
 
 -- ---- nor stopped at a limit
 
--- ---- nor stopped at a limit
-
 not_over : (task : Parts) (g : Grounded) (what : Limit) (count : ℕ) → IsGrounded task g → IsWithin task g → IsOver what task count → ⊥
 not_over task g limits.Tuples count is fits over = let a = fits.tuples in let b = over.over in omega (arith, a, b)
 not_over task g limits.Facts count is fits over =
@@ -90,29 +88,26 @@ not_over task g limits.Effects count is fits over =
 
 -- ---- what is decided
 
-grounded_good : (task : Parts) (g : Grounded) (answers : Grounded → Ending → Type 0) (end : Ending) → IsGrounded task g → IsWithin task g → ((h : Grounded) → answers h end → IsGood end) → OnceGrounded task answers end → IsGood end
-grounded_good task g answers end is fits good (past over) = absurd (not_over task g over.0 over.1 is fits over.3)
-grounded_good task g answers end is fits good (within h is_h fits_h answer) = good h answer
-
 -- two texts that are a task within the limits
 within_good : (domain problem : List ℕ) (answers : Parts → Grounded → Ending → Type 0) (end : Ending) → AreWithin domain problem → ((task : Parts) (g : Grounded) → answers task g end → IsGood end)
-    → OnceRead domain problem (λ task. OnceGrounded task (answers task)) end → IsGood end
-within_good domain problem answers end order good (refused r) = absurd (not_refused domain problem order.0 end order.1 r)
-within_good domain problem answers end order good (read task are well h) =
-    let same : task ≡ order.0 = same_task domain problem order.0 task order.1 are in
+    → OnceGrounded domain problem answers end → IsGood end
+within_good domain problem answers end order good (not_grounded (refused r)) = absurd (not_refused domain problem order.0 end order.1 r)
+within_good domain problem answers end order good (not_grounded (past task are over)) =
     let g = order.2 in
-    grounded_good order.0 g.0 (answers order.0) end g.1 g.2 (good order.0) (subst (λ (t : Parts). OnceGrounded t (answers t) end) same h)
+    let same : task ≡ order.0 = same_task domain problem order.0 task order.1 are in
+    absurd (not_over order.0 g.0 over.0 over.1 g.1 g.2 (subst (λ (t : Parts). IsOver over.0 t over.1) same over.3))
+within_good domain problem answers end order good (grounded task g are ready h) = good task g h
 
 race_good : (race : EndView) (text : List ℕ) (end : Ending) → end ≡ Report (outcome_of race) text → IsGood end
 race_good (Planned horizon steps lines) text end told = good_zero end (ap status_of told)
 race_good (Exhausted horizon lines) text end told = good_one end (ap status_of told)
 race_good (Unfinished lines) text end told = good_two end (ap status_of told)
 
-plan_good : (settings : Settings) (task : Parts) (g : Grounded) (end : Ending) → AnswersPlan settings task g end → IsGood end
+plan_good : (settings : Settings) (task : Parts) (g : Grounded) (end : Ending) → AnswersPlan Exists settings task g end → IsGood end
 plan_good settings task g end (too_large over) = inr (over.0, over.1, over.2)
 plan_good settings task g end (ended race comes tells) = race_good (end_view race) (report_of task g settings.budget (end_view race)) end tells.told
 
-generated_good : (kind : Generated) (number : ℕ) (settings : Settings) (g : Grounded) (end : Ending) → OnceRaced g.task settings (TellsGenerated kind number settings) end → IsGood end
+generated_good : (kind : Generated) (number : ℕ) (settings : Settings) (g : Grounded) (end : Ending) → OnceRaced (places_by Exists) (is_plan_by Exists) g.task settings (TellsGenerated kind number settings) end → IsGood end
 generated_good kind number settings g end (too_large over) = inr (over.0, over.1, over.2)
 generated_good kind number settings g end (ended race comes told) = race_good (end_view race) (generated_line kind number ++ summary_of settings.budget (end_view race)) end told
 
@@ -125,47 +120,38 @@ check_good : (task : Parts) (bytes : List ℕ) (calls : List Call) (end : Ending
 check_good task bytes calls end is (inl h) = subst IsGood (sym h.2) (verdict_good (verdict task h.0))
 check_good task bytes calls end is (inr h) = absurd (let never : Ok calls ≡ Err h.0 = sym is ∙ h.1 in cc)
 
-checked_good : (domain problem bytes : List ℕ) (end : Ending) → (order : (task : Parts) × AreTask domain problem task × ((calls : List Call) × (plan_file task bytes ≡ Ok calls)))
-    → OnceRead domain problem (λ task. AnswersCheck task bytes) end → IsGood end
-checked_good domain problem bytes end order (refused r) = absurd (not_refused domain problem order.0 end order.1 r)
-checked_good domain problem bytes end order (read task are well h) =
+checked_good : (domain problem bytes : List ℕ) (end : Ending) → AreChecked domain problem bytes → OnceRead domain problem (λ task. AnswersCheck task bytes) end → IsGood end
+checked_good domain problem bytes end order (not_read r) = absurd (not_refused domain problem order.0 end order.1 r)
+checked_good domain problem bytes end order (read task are h) =
     let same : task ≡ order.0 = same_task domain problem order.0 task order.1 are in
     check_good order.0 bytes order.2.0 end order.2.1 (subst (λ (t : Parts). AnswersCheck t bytes end) same h)
-
-answers_good : (request : Seen) (domain problem : List ℕ) (others : List (List ℕ)) (end : Ending) → IsInOrder request domain problem others → Answers request domain problem others end → IsGood end
-answers_good (plans d p n) domain problem [] end order h = within_good domain problem (AnswersPlan h.0) end order (λ task g. plan_good h.0 task g end) h.2
-answers_good (plans d p n) domain problem (o ∷ os) end order h = absurd h
-answers_good (grounds d p) domain problem [] end order h = within_good domain problem AnswersGround end order (λ task g e. good_zero end (ap status_of e)) h
-answers_good (grounds d p) domain problem (o ∷ os) end order h = absurd h
-answers_good (orders d p) domain problem [] end order h = within_good domain problem AnswersOrder end order (λ task g e. good_zero end (ap status_of e.3)) h
-answers_good (orders d p) domain problem (o ∷ os) end order h = absurd h
-answers_good (checks d p l) domain problem [] end order h = absurd h
-answers_good (checks d p l) domain problem (bytes ∷ []) end order h = checked_good domain problem bytes end order h
-answers_good (checks d p l) domain problem (bytes ∷ (o ∷ os)) end order h = absurd h
-answers_good (generates k m n s) domain problem others end order h = absurd h
 
 shown_good : (kind : Generated) (number : ℕ) (settings : Settings) (show : Show) (end : Ending) → AreWithin (domain_of kind) (problem_of kind number) → AnswersGenerated kind number settings show end → IsGood end
 shown_good kind number settings shows.Domain end order h = good_zero end (ap status_of h)
 shown_good kind number settings shows.Problem end order h = good_zero end (ap status_of h)
 shown_good kind number settings shows.None end order h =
-    within_good (domain_of kind) (problem_of kind number) (λ task g. OnceRaced g.task settings (TellsGenerated kind number settings)) end order (λ task g. generated_good kind number settings g end) h
+    within_good (domain_of kind) (problem_of kind number) (λ task g. OnceRaced (places_by Exists) (is_plan_by Exists) g.task settings (TellsGenerated kind number settings)) end order (λ task g. generated_good kind number settings g end) h
+
+-- what is decided of two files, or of three, that are in order
+two_good : (order answers : List ℕ → List ℕ → Type 0) (files : List (List ℕ)) (end : Ending) → ((a b : List ℕ) → order a b → answers a b → IsGood end) → OfTwo files order → OfTwo files answers → IsGood end
+two_good order answers [] end good is h = absurd h
+two_good order answers (a ∷ []) end good is h = absurd h
+two_good order answers (a ∷ (b ∷ [])) end good is h = good a b is h
+two_good order answers (a ∷ (b ∷ (c ∷ others))) end good is h = absurd h
+
+three_good : (order answers : List ℕ → List ℕ → List ℕ → Type 0) (files : List (List ℕ)) (end : Ending) → ((a b c : List ℕ) → order a b c → answers a b c → IsGood end) → OfThree files order → OfThree files answers → IsGood end
+three_good order answers [] end good is h = absurd h
+three_good order answers (a ∷ []) end good is h = absurd h
+three_good order answers (a ∷ (b ∷ [])) end good is h = absurd h
+three_good order answers (a ∷ (b ∷ (c ∷ []))) end good is h = good a b c is h
+three_good order answers (a ∷ (b ∷ (c ∷ (d ∷ others)))) end good is h = absurd h
 
 files_good : (request : Seen) (files : List (List ℕ)) (end : Ending) → AreInOrder request files → Decides request files end → IsGood end
-files_good (plans d p n) [] end order h = absurd h
-files_good (checks d p l) [] end order h = absurd h
-files_good (grounds d p) [] end order h = absurd h
-files_good (orders d p) [] end order h = absurd h
-files_good (generates k m n s) [] end order h = shown_good k m h.0 s end order h.2
-files_good (plans d p n) (domain ∷ []) end order h = absurd h
-files_good (checks d p l) (domain ∷ []) end order h = absurd h
-files_good (grounds d p) (domain ∷ []) end order h = absurd h
-files_good (orders d p) (domain ∷ []) end order h = absurd h
-files_good (generates k m n s) (domain ∷ []) end order h = absurd h
-files_good (plans d p n) (domain ∷ (problem ∷ others)) end order h = answers_good (plans d p n) domain problem others end order h
-files_good (checks d p l) (domain ∷ (problem ∷ others)) end order h = answers_good (checks d p l) domain problem others end order h
-files_good (grounds d p) (domain ∷ (problem ∷ others)) end order h = answers_good (grounds d p) domain problem others end order h
-files_good (orders d p) (domain ∷ (problem ∷ others)) end order h = answers_good (orders d p) domain problem others end order h
-files_good (generates k m n s) (domain ∷ (problem ∷ others)) end order h = absurd h
+files_good (plans d p n) files end order h = two_good AreWithin _ files end (λ a b o k. within_good a b (AnswersPlan Exists k.0) end o (λ task g. plan_good k.0 task g end) k.2) order h
+files_good (grounds d p) files end order h = two_good AreWithin _ files end (λ a b o k. within_good a b AnswersGround end o (λ task g e. good_zero end (ap status_of e)) k) order h
+files_good (orders d p) files end order h = two_good AreWithin _ files end (λ a b o k. within_good a b AnswersOrder end o (λ task g e. good_zero end (ap status_of e.3)) k) order h
+files_good (checks d p l) files end order h = three_good AreChecked _ files end (λ a b c o k. checked_good a b c end o k) order h
+files_good (generates kind number n show) files end order h = shown_good kind number h.1.0 show end order.1 h.1.2
 
 -- ---- what a run comes to
 
@@ -182,9 +168,6 @@ module _ (told : List ℕ → Option (List ℕ)) (lacks : List ℕ → Bool) (ol
   pub complete : (words : List (List ℕ)) (w : GoesWell words told old new) (end : Ending) → Comes told lacks old new words end → IsGood end
   complete words w end comes = step (asked_comes told lacks old new words w.request w.asked end comes)
     where
-      step : ComesOf told lacks old new w.request end → IsGood end
-      step (stopped h) = absurd (no_stop 0 (files_of w.request) w.files end w.are_told w.fit w.quiet h)
-      step (decided fit answer h) = files_good w.request w.files end w.in_order (of_told_at told (files_of w.request) w.files (λ files. Decides w.request files end) w.are_told h)
-
-  pub not_taken : (words : List (List ℕ)) → requested words ≡ None → (end : Ending) → Comes told lacks old new words end → Contains (6 ∷ 7 ∷ 8 ∷ []) (status_of end)
-  not_taken words none end comes = let seven : status_of end ≡ 7 = ap status_of (not_asked_comes told lacks old new words none end comes) in (1, omega arith, sym seven)
+      step : IsOfRequest told lacks old new words w.request w.asked end → IsGood end
+      step (inl h) = absurd (no_stop 0 (files_of w.request) w.files end w.are_told w.fit w.quiet h)
+      step (inr (fit, answer, h)) = files_good w.request w.files end w.in_order (of_told_at told (files_of w.request) w.files (λ files. Decides w.request files end) w.are_told h)

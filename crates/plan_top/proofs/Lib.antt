@@ -1,11 +1,11 @@
 pub mod Stopped
 pub mod Taking
 pub mod Verdicts
-pub mod Claims
 pub mod Told
 pub mod Answered
 pub mod Reports
-pub mod Headlines
+pub mod Claims
 pub mod Complete
 mod OneTask
 mod OneReport
+pub mod Promises

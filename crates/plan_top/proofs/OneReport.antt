@@ -1,11 +1,11 @@
 -- Runs on the same files by words that ask for one race have one ending.
-use Rattle.std.proofs.Common.{◌≡◌, ◌≤◌, ◌<◌, inl, inr, ℕ, List, [], ◌∷◌, length, Bool, Option, Some, refl, sym, ap, ap₂, subst, ◌∙◌, arith}
+use Rattle.std.proofs.Common.{◌≡◌, ◌≤◌, ◌<◌, inl, inr, ℕ, List, [], ◌∷◌, ◌++◌, length, Bool, Option, Some, refl, sym, ap, ap₂, subst, ◌∙◌, arith}
 use Rattle.std.specs.Prelude.{IfSome, ◌⊎◌}
+use Rattle.std.specs.List.{AllByRecursion}
 use Rattle.gt_core.specs.Task.{Task}
 use Rattle.gt_core.specs.Laws.{PublishedIsUnique}
 use Rattle.two_invariants.specs.Laws.{OneListOfInvariants}
-use Rattle.step_clauses.specs.Coded.{formula_of}
-use Rattle.step_laws.specs.Form.{OrderedTask, places_of}
+use Rattle.step_laws.specs.Form.{OrderedTask}
 use Rattle.step_encoding.specs.Numbers.{literals_of}
 use Rattle.horizon_rates.specs.declared.rates.Rates.{Rates}
 use Rattle.horizon_rates.specs.declared.settings.Settings.{Settings}
@@ -16,21 +16,27 @@ use Rattle.grounding.specs.Grounded.{Grounded}
 use Rattle.race_end.specs.Ends.{EndView, end_view}
 use Rattle.race_end.specs.declared.end.RaceEnd.{RaceEnd}
 use Rattle.race.specs.Race as stage
-use Rattle.plan_report.specs.Report.{report_of}
-use Rattle.plan_words.specs.Seen.{Seen, Numbers, NumbersAreSettings, numbers, plans}
+use Rattle.plan_gen.specs.declared.Kind.{Kind as Generated}
+use Rattle.plan_gen.specs.Task.{domain_of, problem_of}
+use Rattle.plan_report.specs.Report.{report_of, summary_of}
+use Rattle.plan_words.specs.Requested.{requested}
+use Rattle.plan_words.specs.Seen.{Seen, Numbers, NumbersAreSettings, numbers, generates, files_of}
+use Rattle.plan_words.specs.declared.request.Show.{Show}
+use Rattle.plan_words.specs.declared.request.Show.TheVariants as shows
 use Rattle.plan_top.specs.declared.ending.Ending.{Ending}
 use Rattle.plan_top.specs.declared.ending.Ending.TheVariants.{Report, TooLong, TooLarge, ReadFault}
 use Rattle.plan_top.specs.Files.{Fits, OfTold, Stops, StopsFrom, most_bytes}
 use Rattle.gt_core.specs.Published.{IsPublished}
 use Rattle.plan_top.specs.Known.{IsOrdered}
 use Rattle.plan_top.specs.Laws.{Laws}
-use Rattle.plan_top.specs.Tasks.{OnceGrounded}
-use Rattle.plan_top.specs.Raced.{form_of, input_of, IsTooLarge, ComesTo, too_large, ended, outcome_of}
-use Rattle.plan_top.specs.Causes.{Decides, AnswersPlan, ComesOf, stopped, decided, Comes}
+use Rattle.plan_top.specs.Stepping.{Stepping, Exists, asked_by, places_by, is_plan_by}
+use Rattle.plan_top.specs.Raced.{form_of, formula_at, input_of, IsTooLarge, ComesTo, OnceRaced, too_large, ended, outcome_of}
+use Rattle.plan_top.specs.Generated.{TellsGenerated, generated_line}
+use Rattle.plan_top.specs.Causes.{Decides, TellsRace, AnswersPlan}
 use Rattle.plan_top.specs.Ending.{status_of}
-use Rattle.plan_top.specs.OneReport.{AreSameRace, AskForOneRace, HasRead, OneEnding}
-use Rattle.plan_top.proofs.Told.{asked_comes}
-use Rattle.plan_top.proofs.OneTask.{once_read, once_grounded}
+use Rattle.plan_top.specs.OneReport.{AreSameRace, one_plan, one_generated, HasRead, OneEnding}
+use Rattle.plan_top.proofs.Told.{IsOfRequest, asked_comes}
+use Rattle.plan_top.proofs.OneTask.{once_grounded}
 
 -- ---- settings
 
@@ -43,7 +49,7 @@ same_race law s t same =
 
 -- ---- the race
 
-module _ (invariants : OneListOfInvariants) (unique : PublishedIsUnique) (task : Task) where
+module _ (invariants : OneListOfInvariants) (unique : PublishedIsUnique) (how : Stepping) (task : Task) where
   one_form : (cs ds : List (ℕ × ℕ)) (a b : List (List ℕ)) → IsOrdered task cs a → IsOrdered task ds b → form_of task cs a ≡ form_of task ds b
   one_form cs ds a b p q =
       let clauses : ds ≡ cs = invariants task ds cs q.known p.known in
@@ -51,49 +57,59 @@ module _ (invariants : OneListOfInvariants) (unique : PublishedIsUnique) (task :
       ap₂ (form_of task) (sym clauses) components
 
   module _ (s t : Settings) (rates : s.rates ≡ t.rates) (budget : s.budget ≡ t.budget) where
-    one_input : (f h : OrderedTask) → f ≡ h → input_of f s ≡ input_of h t
+    one_input : (f h : OrderedTask) → f ≡ h → input_of (places_by how) f s ≡ input_of (places_by how) h t
     one_input f h same =
-        ap (λ (z : OrderedTask). input_of z s) same ∙ ap₂ (λ (r : Rates) (b : ℕ). record (input_of h s) { rates = r; budget = b }) rates budget
+        ap (λ (z : OrderedTask). input_of (places_by how) z s) same ∙ ap₂ (λ (r : Rates) (b : ℕ). record (input_of (places_by how) h s) { rates = r; budget = b }) rates budget
 
-    one_stage : (f h : OrderedTask) → f ≡ h → stage.race_of (input_of f s) ≡ stage.race_of (input_of h t)
+    one_stage : (f h : OrderedTask) → f ≡ h → stage.race_of (input_of (places_by how) f s) ≡ stage.race_of (input_of (places_by how) h t)
     one_stage f h same = ap stage.race_of (one_input f h same)
 
-    one_horizon : (h k m n : ℕ) → IsTooLarge task s h m → IsTooLarge task t k n → TooLarge h m ≡ TooLarge k n
+    one_horizon : (h k m n : ℕ) → IsTooLarge (places_by how) task s h m → IsTooLarge (places_by how) task t k n → TooLarge h m ≡ TooLarge k n
     one_horizon h k m n x y =
         let form = one_form x.clauses y.clauses x.components y.components x.ordered y.ordered in
         let both : stage.TooLarge h ≡ stage.TooLarge k =
         sym x.ended ∙ (one_stage (form_of task x.clauses x.components) (form_of task y.clauses y.components) form ∙ y.ended) in
         let horizons : h ≡ k = cc in
         let counts : m ≡ n =
-        x.count_is ∙ (ap₂ (λ (f : OrderedTask) (z : ℕ). literals_of (formula_of task f.known.clauses (places_of f) z)) form horizons ∙ sym y.count_is) in
+        x.count_is ∙ (ap₂ (λ (f : OrderedTask) (z : ℕ). literals_of (formula_at (places_by how) f z)) form horizons ∙ sym y.count_is) in
         ap₂ TooLarge horizons counts
 
-    one_end : (x y : RaceEnd) → ComesTo task s x → ComesTo task t y → end_view x ≡ end_view y
+    one_end : (x y : RaceEnd) → ComesTo (places_by how) (is_plan_by how) task s x → ComesTo (places_by how) (is_plan_by how) task t y → end_view x ≡ end_view y
     one_end x y p q =
         let form = one_form p.clauses q.clauses p.components q.components p.ordered q.ordered in
         let both : stage.Ended (end_view x) ≡ stage.Ended (end_view y) =
-        sym p.races.ended ∙ (one_stage (form_of task p.clauses p.components) (form_of task q.clauses q.components) form ∙ q.races.ended) in
+        sym p.ended ∙ (one_stage (form_of task p.clauses p.components) (form_of task q.clauses q.components) form ∙ q.ended) in
         cc
 
-    not_both : (h m : ℕ) (y : RaceEnd) → IsTooLarge task s h m → ComesTo task t y → ⊥
+    not_both : (h m : ℕ) (y : RaceEnd) → IsTooLarge (places_by how) task s h m → ComesTo (places_by how) (is_plan_by how) task t y → ⊥
     not_both h m y p q =
         let form = one_form p.clauses q.clauses p.components q.components p.ordered q.ordered in
         let both : stage.TooLarge h ≡ stage.Ended (end_view y) =
-        sym p.ended ∙ (one_stage (form_of task p.clauses p.components) (form_of task q.clauses q.components) form ∙ q.races.ended) in
+        sym p.ended ∙ (one_stage (form_of task p.clauses p.components) (form_of task q.clauses q.components) form ∙ q.ended) in
         cc
 
-once_raced : OneListOfInvariants → PublishedIsUnique → (s t : Settings) → s.rates ≡ t.rates → s.budget ≡ t.budget → (p : Parts) (g : Grounded) (x y : Ending)
-    → AnswersPlan s p g x → AnswersPlan t p g y → x ≡ y
-once_raced invariants unique s t rates budget p g x y (too_large (h, m, e, a)) (too_large (k, n, f, b)) =
-    e ∙ (one_horizon invariants unique g.task s t rates budget h k m n a b ∙ sym f)
-once_raced invariants unique s t rates budget p g x y (too_large (h, m, e, a)) (ended race comes tells) =
-    absurd (not_both invariants unique g.task s t rates budget h m race a comes)
-once_raced invariants unique s t rates budget p g x y (ended race comes tells) (too_large (k, n, f, b)) =
-    absurd (not_both invariants unique g.task t s (sym rates) (sym budget) k n race b comes)
-once_raced invariants unique s t rates budget p g x y (ended race comes tells) (ended other too also) =
-    tells.told
-    ∙ (ap₂ (λ (b : ℕ) (v : EndView). Report (outcome_of v) (report_of p g b v)) budget (one_end invariants unique g.task s t rates budget race other comes too)
-    ∙ sym also.told)
+-- what a race comes to is one ending, where it is for each end
+once_raced : OneListOfInvariants → PublishedIsUnique → (how : Stepping) (s t : Settings) → s.rates ≡ t.rates → s.budget ≡ t.budget → (task : Task) (A B : RaceEnd → Ending → Type 0) (x y : Ending)
+    → ((race other : RaceEnd) → end_view race ≡ end_view other → A race x → B other y → x ≡ y)
+    → OnceRaced (places_by how) (is_plan_by how) task s A x → OnceRaced (places_by how) (is_plan_by how) task t B y → x ≡ y
+once_raced invariants unique how s t rates budget task A B x y same (too_large (h, m, e, a)) (too_large (k, n, f, b)) =
+    e ∙ (one_horizon invariants unique how task s t rates budget h k m n a b ∙ sym f)
+once_raced invariants unique how s t rates budget task A B x y same (too_large (h, m, e, a)) (ended race comes tells) =
+    absurd (not_both invariants unique how task s t rates budget h m race a comes)
+once_raced invariants unique how s t rates budget task A B x y same (ended race comes tells) (too_large (k, n, f, b)) =
+    absurd (not_both invariants unique how task t s (sym rates) (sym budget) k n race b comes)
+once_raced invariants unique how s t rates budget task A B x y same (ended race comes tells) (ended other too also) =
+    same race other (one_end invariants unique how task s t rates budget race other comes too) tells also
+
+-- the report on a task, and on a generated one
+one_told : (s t : Settings) → s.budget ≡ t.budget → (p : Parts) (g : Grounded) (x y : Ending) (race other : RaceEnd) → end_view race ≡ end_view other → TellsRace s p g race x → TellsRace t p g other y → x ≡ y
+one_told s t budget p g x y race other same tells also =
+    tells.told ∙ (ap₂ (λ (b : ℕ) (v : EndView). Report (outcome_of v) (report_of p g b v)) budget same ∙ sym also.told)
+
+one_summary : (kind : Generated) (number : ℕ) (s t : Settings) → s.budget ≡ t.budget → (x y : Ending) (race other : RaceEnd) → end_view race ≡ end_view other
+    → TellsGenerated kind number s race x → TellsGenerated kind number t other y → x ≡ y
+one_summary kind number s t budget x y race other same tells also =
+    tells ∙ (ap₂ (λ (b : ℕ) (v : EndView). Report (outcome_of v) (generated_line kind number ++ summary_of b v)) budget same ∙ sym also)
 
 -- ---- the files
 
@@ -128,43 +144,67 @@ module _ (told : List ℕ → Option (List ℕ)) (lacks : List ℕ → Bool) (ol
         let one = subst (λ (o : Option (List ℕ)). IfSome o (λ bytes. OfTold told (problem ∷ []) (λ others. Decides request (bytes ∷ others) end))) domain_told h in
         subst (λ (o : Option (List ℕ)). IfSome o (λ bytes. Decides request (first ∷ bytes ∷ []) end)) problem_told one
 
-    cause_of : (n : Numbers) (end : Ending) → HasRead end → ComesOf told lacks old new (plans domain problem n) end → IsCause (plans domain problem n) first second end
-    cause_of n end has (stopped p) = inl (stop_of end has p)
-    cause_of n end has (decided (one, (two, none)) answer h) =
-        inr (short domain first domain_told one, short problem second problem_told two, of_told (plans domain problem n) end h)
+    cause_of : (words : List (List ℕ)) (request : Seen) (asked : requested words ≡ Some request) → files_of request ≡ domain ∷ problem ∷ [] → (end : Ending) → HasRead end
+        → IsOfRequest told lacks old new words request asked end → IsCause request first second end
+    cause_of words request asked names end has (inl p) = inl (stop_of end has (subst (λ (ns : List (List ℕ)). StopsFrom told lacks old new 0 ns end) names p))
+    cause_of words request asked names end has (inr (fit, answer, h)) =
+        let fits = subst (λ (ns : List (List ℕ)). AllByRecursion (Fits told lacks old new) ns) names fit in
+        inr (short domain first domain_told fits.0, short problem second problem_told fits.1.0, of_told request end (subst (λ (ns : List (List ℕ)). OfTold told ns (λ files. Decides request files end)) names h))
 
-module _ (laws : Laws) (first second domain problem other_domain other_problem : List ℕ) (n m : Numbers) (same : AreSameRace n m) where
+names_by : (how : Stepping) (domain problem : List ℕ) (n : Numbers) → files_of (asked_by how domain problem n) ≡ domain ∷ problem ∷ []
+names_by Exists domain problem n = refl
+
+module _ (laws : Laws) where
   -- what the two files decide
-  one_decision : (x y : Ending) → Decides (plans domain problem n) (first ∷ second ∷ []) x → Decides (plans other_domain other_problem m) (first ∷ second ∷ []) y → x ≡ y
-  one_decision x y (s, is, p) (t, too, q) =
+  one_decision : (how : Stepping) (first second domain problem other_domain other_problem : List ℕ) (n m : Numbers) → AreSameRace n m → (x y : Ending)
+      → Decides (asked_by how domain problem n) (first ∷ second ∷ []) x → Decides (asked_by how other_domain other_problem m) (first ∷ second ∷ []) y → x ≡ y
+  one_decision Exists first second domain problem other_domain other_problem n m same x y (s, is, p) (t, too, q) =
       let race = same_race laws.settings s t (subst (λ (z : Numbers). AreSameRace z (numbers t)) (sym is) (subst (λ (z : Numbers). AreSameRace n z) (sym too) same)) in
-      once_read first second (λ task. OnceGrounded task (AnswersPlan s task)) (λ task. OnceGrounded task (AnswersPlan t task)) x y
-      (λ task. once_grounded laws.one_result task (AnswersPlan s task) (AnswersPlan t task) x y (λ g. once_raced laws.invariants laws.unique s t race.0 race.1 task g x y)) p q
+      once_grounded laws.one_result first second (AnswersPlan Exists s) (AnswersPlan Exists t) x y
+      (λ task g. once_raced laws.invariants laws.unique Exists s t race.0 race.1 g.task (TellsRace s task g) (TellsRace t task g) x y (one_told s t race.1 task g x y)) p q
 
-  one_cause : (x y : Ending) → IsCause (plans domain problem n) first second x → IsCause (plans other_domain other_problem m) first second y → x ≡ y
-  one_cause x y (inl (inl p)) (inl (inl q)) = p.0 ∙ sym q.0
-  one_cause x y (inl (inl p)) (inl (inr q)) = absurd (omega (arith, p.1, q.1))
-  one_cause x y (inl (inr p)) (inl (inl q)) = absurd (omega (arith, p.1, q.1))
-  one_cause x y (inl (inr p)) (inl (inr q)) = p.0 ∙ sym q.0
-  one_cause x y (inl (inl p)) (inr q) = absurd (omega (arith, p.1, q.0))
-  one_cause x y (inl (inr p)) (inr q) = absurd (omega (arith, p.2, q.1))
-  one_cause x y (inr p) (inl (inl q)) = absurd (omega (arith, p.0, q.1))
-  one_cause x y (inr p) (inl (inr q)) = absurd (omega (arith, p.1, q.2))
-  one_cause x y (inr p) (inr q) = one_decision x y p.2 q.2
+  one_generation : (kind : Generated) (number : ℕ) (show : Show) (n m : Numbers) → AreSameRace n m → (x y : Ending) → Decides (generates kind number n show) [] x → Decides (generates kind number m show) [] y → x ≡ y
+  one_generation kind number shows.Domain n m same x y (none, (s, is, p)) (no, (t, too, q)) = p ∙ sym q
+  one_generation kind number shows.Problem n m same x y (none, (s, is, p)) (no, (t, too, q)) = p ∙ sym q
+  one_generation kind number shows.None n m same x y (none, (s, is, p)) (no, (t, too, q)) =
+      let race = same_race laws.settings s t (subst (λ (z : Numbers). AreSameRace z (numbers t)) (sym is) (subst (λ (z : Numbers). AreSameRace n z) (sym too) same)) in
+      let answers : Settings → Parts → Grounded → Ending → Type 0 = λ z task g. OnceRaced (places_by Exists) (is_plan_by Exists) g.task z (TellsGenerated kind number z) in
+      once_grounded laws.one_result (domain_of kind) (problem_of kind number) (answers s) (answers t) x y
+      (λ task g. once_raced laws.invariants laws.unique Exists s t race.0 race.1 g.task (TellsGenerated kind number s) (TellsGenerated kind number t) x y (one_summary kind number s t race.1 x y)) p q
 
-pub one_ending : Laws → OneEnding
-one_ending laws told elsewhere lacks lacking old new before after words others x y ask p q hx hy =
-    one_cause laws ask.first ask.second ask.domain ask.problem ask.other_domain ask.other_problem ask.numbers ask.other_numbers ask.same x y
-    (cause_of told lacks old new ask.domain ask.problem ask.first ask.second ask.domain_told ask.problem_told ask.numbers x hx
-    (asked_comes told lacks old new words (plans ask.domain ask.problem ask.numbers) ask.asked x p))
-    (cause_of elsewhere lacking before after ask.other_domain ask.other_problem ask.first ask.second ask.other_domain_told ask.other_problem_told ask.other_numbers y hy
-    (asked_comes elsewhere lacking before after others (plans ask.other_domain ask.other_problem ask.other_numbers) ask.others_asked y q))
+  one_cause : (r q : Seen) (first second : List ℕ) (x y : Ending) → ((x y : Ending) → Decides r (first ∷ second ∷ []) x → Decides q (first ∷ second ∷ []) y → x ≡ y) → IsCause r first second x → IsCause q first second y → x ≡ y
+  one_cause r q first second x y one (inl (inl a)) (inl (inl b)) = a.0 ∙ sym b.0
+  one_cause r q first second x y one (inl (inl a)) (inl (inr b)) = absurd (omega (arith, a.1, b.1))
+  one_cause r q first second x y one (inl (inr a)) (inl (inl b)) = absurd (omega (arith, a.1, b.1))
+  one_cause r q first second x y one (inl (inr a)) (inl (inr b)) = a.0 ∙ sym b.0
+  one_cause r q first second x y one (inl (inl a)) (inr b) = absurd (omega (arith, a.1, b.0))
+  one_cause r q first second x y one (inl (inr a)) (inr b) = absurd (omega (arith, a.2, b.1))
+  one_cause r q first second x y one (inr a) (inl (inl b)) = absurd (omega (arith, a.0, b.1))
+  one_cause r q first second x y one (inr a) (inl (inr b)) = absurd (omega (arith, a.1, b.2))
+  one_cause r q first second x y one (inr a) (inr b) = one x y a.2 b.2
 
-has_read : (end : Ending) → (status_of end ≡ 5 → ⊥) → HasRead end
+  -- with no files, what is decided comes
+  made_of : (told : List ℕ → Option (List ℕ)) (lacks : List ℕ → Bool) (old new : List (List ℕ)) (words : List (List ℕ)) (kind : Generated) (number : ℕ) (n : Numbers) (show : Show)
+      (asked : requested words ≡ Some (generates kind number n show)) (end : Ending) → IsOfRequest told lacks old new words (generates kind number n show) asked end → Decides (generates kind number n show) [] end
+  made_of told lacks old new words kind number n show asked end (inl none) = absurd none
+  made_of told lacks old new words kind number n show asked end (inr h) = h.2
+
+  pub one_ending : OneEnding
+  one_ending told elsewhere lacks lacking old new before after words others x y (one_plan ask) p q hx hy =
+      let mine : Seen = asked_by ask.how ask.domain ask.problem ask.numbers in
+      let other : Seen = asked_by ask.how ask.other_domain ask.other_problem ask.other_numbers in
+      one_cause mine other ask.first ask.second x y (one_decision ask.how ask.first ask.second ask.domain ask.problem ask.other_domain ask.other_problem ask.numbers ask.other_numbers ask.same)
+      (cause_of told lacks old new ask.domain ask.problem ask.first ask.second ask.domain_told ask.problem_told words mine ask.asked (names_by ask.how ask.domain ask.problem ask.numbers) x hx
+      (asked_comes told lacks old new words mine ask.asked x p))
+      (cause_of elsewhere lacking before after ask.other_domain ask.other_problem ask.first ask.second ask.other_domain_told ask.other_problem_told others other ask.others_asked
+      (names_by ask.how ask.other_domain ask.other_problem ask.other_numbers) y hy
+      (asked_comes elsewhere lacking before after others other ask.others_asked y q))
+  one_ending told elsewhere lacks lacking old new before after words others x y (one_generated ask) p q hx hy =
+      one_generation ask.kind ask.number ask.show ask.numbers ask.other_numbers ask.same x y
+      (made_of told lacks old new words ask.kind ask.number ask.numbers ask.show ask.asked x (asked_comes told lacks old new words (generates ask.kind ask.number ask.numbers ask.show) ask.asked x p))
+      (made_of elsewhere lacking before after others ask.kind ask.number ask.other_numbers ask.show ask.others_asked y
+      (asked_comes elsewhere lacking before after others (generates ask.kind ask.number ask.other_numbers ask.show) ask.others_asked y q))
+
+pub has_read : (end : Ending) → (status_of end ≡ 5 → ⊥) → HasRead end
 has_read (ReadFault file) off = off refl
 has_read end off = tt
-
-pub one_report : Laws → (told elsewhere : List ℕ → Option (List ℕ)) (lacks lacking : List ℕ → Bool) (old new before after : List (List ℕ)) (words others : List (List ℕ)) (mine end : Ending)
-    → AskForOneRace told elsewhere words others → Comes told lacks old new words mine → Comes elsewhere lacking before after others end → HasRead end → (status_of mine ≡ 5 → ⊥) → mine ≡ end
-one_report laws told elsewhere lacks lacking old new before after words others mine end ask p q read off =
-    one_ending laws told elsewhere lacks lacking old new before after words others mine end ask p q (has_read mine off) read

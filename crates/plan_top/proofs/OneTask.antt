@@ -18,7 +18,7 @@ use Rattle.plan_top.specs.declared.ending.Kind.{Kind}
 use Rattle.plan_top.specs.declared.ending.Kind.TheVariants.{Syntax, Deep}
 use Rattle.plan_top.specs.declared.ending.Ending.{Ending}
 use Rattle.plan_top.specs.declared.ending.Ending.TheVariants.{Refused, TooMany}
-use Rattle.plan_top.specs.Tasks.{AreTask, IsTreeFault, RefusesTree, RefusesTrees, RefusesTask, domain_tree, problem_tree, no_task, OnceRead, refused, read, IsOver, OnceGrounded, past, within, refusal_of}
+use Rattle.plan_top.specs.Tasks.{AreTask, IsTreeFault, RefusesTree, RefusesTrees, RefusesTask, domain_tree, problem_tree, no_task, IsOver, TellsOver, IsReady, StopsTask, refused, past, OnceGrounded, not_grounded, grounded, refusal_of}
 
 -- ---- trees and their faults
 
@@ -107,14 +107,6 @@ module _ (domain problem : List ℕ) where
       let never : Ok a ≡ Err c = sym e ∙ (one_reading domain problem s t u v rs rt ru rv ∙ p) in
       cc
 
-  -- what two files decide is one ending, where it is for each task
-  pub once_read : (A B : Parts → Ending → Type 0) (x y : Ending) → ((task : Parts) → A task x → B task y → x ≡ y)
-      → OnceRead domain problem A x → OnceRead domain problem B y → x ≡ y
-  once_read A B x y same (refused p) (refused q) = one_refusal x y p q
-  once_read A B x y same (refused p) (read b are well h) = absurd (no_refusal x b p are)
-  once_read A B x y same (read a are well h) (refused q) = absurd (no_refusal y a q are)
-  once_read A B x y same (read a are well h) (read b too also k) = same a h (subst (λ (t : Parts). B t y) (one_task domain problem b a too are) k)
-
 -- ---- grounding
 
 module _ (one : OneResult) (task : Parts) where
@@ -151,10 +143,30 @@ module _ (one : OneResult) (task : Parts) where
   no_limit Actions m g x is fits = omega (arith, x.over, fits.actions, calls_same x.grounded g x.is is)
   no_limit Effects m g x is fits = omega (arith, x.over, fits.effects, effects_same x.grounded g x.is is)
 
-  -- what a task comes to that is grounded first is one ending, where it is for each ground task
-  pub once_grounded : (A B : Grounded → Ending → Type 0) (x y : Ending) → ((g : Grounded) → A g x → B g y → x ≡ y)
-      → OnceGrounded task A x → OnceGrounded task B y → x ≡ y
-  once_grounded A B x y same (past (a, m, p, over)) (past (b, n, q, too)) = p ∙ (one_limit a b m n over too ∙ sym q)
-  once_grounded A B x y same (past (a, m, p, over)) (within g is fits h) = absurd (no_limit a m g over is fits)
-  once_grounded A B x y same (within g is fits h) (past (b, n, q, too)) = absurd (no_limit b n g too is fits)
-  once_grounded A B x y same (within g is fits h) (within k too also j) = same g h (subst (λ (z : Grounded). B z y) (one task k g too is) j)
+  -- an ending that tells of a limit is one
+  one_over : (x y : Ending) → TellsOver task x → TellsOver task y → x ≡ y
+  one_over x y (a, m, p, over) (b, n, q, too) = p ∙ (one_limit a b m n over too ∙ sym q)
+
+module _ (one : OneResult) (domain problem : List ℕ) where
+  one_stop : (x y : Ending) → StopsTask domain problem x → StopsTask domain problem y → x ≡ y
+  one_stop x y (refused p) (refused q) = one_refusal domain problem x y p q
+  one_stop x y (refused p) (past b are q) = absurd (no_refusal domain problem x b p are)
+  one_stop x y (past a are p) (refused q) = absurd (no_refusal domain problem y a q are)
+  one_stop x y (past a are p) (past b too q) = one_over one a x y p (subst (λ (t : Parts). TellsOver t y) (one_task domain problem b a too are) q)
+
+  no_stop : (x : Ending) (task : Parts) (g : Grounded) → StopsTask domain problem x → AreTask domain problem task → IsReady task g → ⊥
+  no_stop x task g (refused p) are ready = no_refusal domain problem x task p are
+  no_stop x task g (past a too over) are ready =
+      no_limit one task over.0 over.1 g (subst (λ (t : Parts). IsOver over.0 t over.1) (one_task domain problem a task too are) over.3) ready.grounded ready.fits
+
+  -- what two files come to that are grounded is one ending, where it is for each ground task
+  pub once_grounded : (A B : Parts → Grounded → Ending → Type 0) (x y : Ending) → ((task : Parts) (g : Grounded) → A task g x → B task g y → x ≡ y)
+      → OnceGrounded domain problem A x → OnceGrounded domain problem B y → x ≡ y
+  once_grounded A B x y same (not_grounded p) (not_grounded q) = one_stop x y p q
+  once_grounded A B x y same (not_grounded p) (grounded b k too also h) = absurd (no_stop x b k p too also)
+  once_grounded A B x y same (grounded a g are ready h) (not_grounded q) = absurd (no_stop y a g q are ready)
+  once_grounded A B x y same (grounded a g are ready h) (grounded b k too also j) =
+      let tasks : b ≡ a = one_task domain problem b a too are in
+      let there : IsReady a k = subst (λ (t : Parts). IsReady t k) tasks also in
+      let moved : B a k y = subst (λ (t : Parts). B t k y) tasks j in
+      same a g h (subst (λ (z : Grounded). B a z y) (one a k g there.grounded ready.grounded) moved)

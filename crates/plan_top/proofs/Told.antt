@@ -1,7 +1,7 @@
 -- What the bytes of files decide, the files of a shelf decide; and which answers they give.
 use Rattle.std.proofs.Common.{◌≡◌, ℕ, Bool, true, List, [], ◌∷◌, Option, Some, None, subst, refl, ◌∙◌, sym, inl, inr}
-use Rattle.std.specs.Prelude.{IfSome}
-use Rattle.std.specs.List.{AllZip}
+use Rattle.std.specs.Prelude.{IfSome, ◌⊎◌}
+use Rattle.std.specs.List.{AllZip, AllByRecursion}
 use Rattle.horizon_rates.specs.declared.settings.Settings.{Settings}
 use Rattle.pd_model.specs.declared.memory.Which.{Which}
 use Rattle.pd_model.specs.declared.memory.Which.TheVariants.{Domain, Problem}
@@ -12,6 +12,7 @@ use Rattle.pd_model.specs.declared.parts.Parts.{Parts}
 use Rattle.pd_task.specs.declared.error.PddlError.{PddlError}
 use Rattle.pd_task.specs.declared.error.PddlError.TheVariants as errors
 use Rattle.pd_plan.specs.Fault as plan
+use Rattle.grounding.specs.Grounded.{Grounded}
 use Rattle.plan_gen.specs.declared.Kind.{Kind as Generated}
 use Rattle.plan_gen.specs.Task.{domain_of, problem_of}
 use Rattle.plan_words.specs.Seen.{Seen, Numbers, plans, checks, grounds, orders, generates, files_of}
@@ -21,12 +22,14 @@ use Rattle.plan_words.specs.declared.request.Show.TheVariants as shows
 use Rattle.plan_top.specs.declared.ending.Kind.{Kind}
 use Rattle.plan_top.specs.declared.ending.Kind.TheVariants as kinds
 use Rattle.plan_top.specs.declared.ending.Ending.{Ending}
-use Rattle.plan_top.specs.declared.ending.Ending.TheVariants.{Refused, Usage}
-use Rattle.plan_top.specs.Files.{IsTaken, OfTold}
-use Rattle.plan_top.specs.Tasks.{RefusesTask, domain_tree, problem_tree, no_task, refusal_of, OnceRead, refused, read, OnceGrounded, past, within}
+use Rattle.plan_top.specs.declared.ending.Ending.TheVariants.{Refused, TooMany, Usage}
+use Rattle.plan_top.specs.declared.ending.Limit.{Limit}
+use Rattle.plan_top.specs.Files.{IsTaken, OfTold, Fits, StopsFrom}
+use Rattle.plan_top.specs.Stepping.{Exists, places_by, is_plan_by}
+use Rattle.plan_top.specs.Tasks.{RefusesTask, domain_tree, problem_tree, no_task, refusal_of, OnceRead, not_read, read, refused, past, OnceGrounded, not_grounded, grounded}
 use Rattle.plan_top.specs.Raced.{OnceRaced, too_large, ended}
 use Rattle.plan_top.specs.Generated.{AnswersGenerated, TellsGenerated}
-use Rattle.plan_top.specs.Causes.{Decides, Answers, AnswersPlan, AnswersGround, AnswersOrder, AnswersCheck, is_answer, refusal_of_plan, ending_of, ComesOf, decided, Comes, no_request, of_request}
+use Rattle.plan_top.specs.Causes.{OfTwo, OfThree, Decides, AnswersPlan, AnswersGround, AnswersOrder, AnswersCheck, is_answer, refusal_of_plan, ending_of, Comes, no_request, stopped, decided}
 use Rattle.plan_top.proofs.Taking.{all_fit}
 
 -- ---- endings that tell of a file
@@ -63,8 +66,15 @@ refused_answer (generates k m n s) kind file at = refl
 -- two texts that are refused, or a task of which the answer is one
 read_answer : (request : Seen) (domain problem : List ℕ) (answers : Parts → Ending → Type 0) (end : Ending) → ((task : Parts) → answers task end → is_answer request end ≡ true)
     → OnceRead domain problem answers end → is_answer request end ≡ true
-read_answer request domain problem answers end from (refused r) = let is = task_refusal domain problem end r in rw is.3 (refused_answer request is.0 is.1 is.2)
-read_answer request domain problem answers end from (read task are well h) = from task h
+read_answer request domain problem answers end from (not_read r) = let is = task_refusal domain problem end r in rw is.3 (refused_answer request is.0 is.1 is.2)
+read_answer request domain problem answers end from (read task are h) = from task h
+
+-- the same of a task that is grounded, for a request that has an answer past a limit
+grounded_answer : (request : Seen) (domain problem : List ℕ) (answers : Parts → Grounded → Ending → Type 0) (end : Ending) → ((what : Limit) (count : ℕ) → is_answer request (TooMany what count) ≡ true)
+    → ((task : Parts) (g : Grounded) → answers task g end → is_answer request end ≡ true) → OnceGrounded domain problem answers end → is_answer request end ≡ true
+grounded_answer request domain problem answers end many from (not_grounded (refused r)) = let is = task_refusal domain problem end r in rw is.3 (refused_answer request is.0 is.1 is.2)
+grounded_answer request domain problem answers end many from (not_grounded (past task are over)) = rw over.2 (many over.0 over.1)
+grounded_answer request domain problem answers end many from (grounded task g are ready h) = from task g h
 
 verdict_answer : (d p l : List ℕ) (v : Verdict) → is_answer (checks d p l) (ending_of v) ≡ true
 verdict_answer d p l verdicts.Reaches = refl
@@ -81,57 +91,42 @@ check_answer : (d p l : List ℕ) (task : Parts) (bytes : List ℕ) (end : Endin
 check_answer d p l task bytes end (inl h) = rw h.2 (verdict_answer d p l (verdict task h.0))
 check_answer d p l task bytes end (inr h) = rw h.2 (fault_answer d p l h.0)
 
-plan_answer : (d p : List ℕ) (n : Numbers) (settings : Settings) (task : Parts) (end : Ending) → OnceGrounded task (AnswersPlan settings task) end → is_answer (plans d p n) end ≡ true
-plan_answer d p n settings task end (past over) = rw over.2 refl
-plan_answer d p n settings task end (within g is fits (too_large over)) = rw over.2 refl
-plan_answer d p n settings task end (within g is fits (ended race comes tells)) = rw tells.told refl
-
-files_answer : (request : Seen) (domain problem : List ℕ) (others : List (List ℕ)) (end : Ending) → Answers request domain problem others end → is_answer request end ≡ true
-files_answer (plans d p n) domain problem [] end h = read_answer (plans d p n) domain problem (λ task. OnceGrounded task (AnswersPlan h.0 task)) end (λ task. plan_answer d p n h.0 task end) h.2
-files_answer (plans d p n) domain problem (o ∷ os) end h = absurd h
-files_answer (grounds d p) domain problem [] end h = read_answer (grounds d p) domain problem (λ task. OnceGrounded task (AnswersGround task)) end step h
-  where
-    step : (task : Parts) → OnceGrounded task (AnswersGround task) end → is_answer (grounds d p) end ≡ true
-    step task (past over) = rw over.2 refl
-    step task (within g is fits e) = rw e refl
-files_answer (grounds d p) domain problem (o ∷ os) end h = absurd h
-files_answer (orders d p) domain problem [] end h = read_answer (orders d p) domain problem (λ task. OnceGrounded task (AnswersOrder task)) end step h
-  where
-    step : (task : Parts) → OnceGrounded task (AnswersOrder task) end → is_answer (orders d p) end ≡ true
-    step task (past over) = rw over.2 refl
-    step task (within g is fits k) = rw k.3 refl
-files_answer (orders d p) domain problem (o ∷ os) end h = absurd h
-files_answer (checks d p l) domain problem [] end h = absurd h
-files_answer (checks d p l) domain problem (bytes ∷ []) end h = read_answer (checks d p l) domain problem (λ task. AnswersCheck task bytes) end (λ task. check_answer d p l task bytes end) h
-files_answer (checks d p l) domain problem (bytes ∷ (o ∷ os)) end h = absurd h
-files_answer (generates k m n s) domain problem others end h = absurd h
+plan_answer : (d p : List ℕ) (n : Numbers) (settings : Settings) (task : Parts) (g : Grounded) (end : Ending) → AnswersPlan Exists settings task g end → is_answer (plans d p n) end ≡ true
+plan_answer d p n settings task g end (too_large over) = rw over.2 refl
+plan_answer d p n settings task g end (ended race comes tells) = rw tells.told refl
 
 generated_answer : (kind : Generated) (number : ℕ) (n : Numbers) (settings : Settings) (show : Show) (end : Ending) → AnswersGenerated kind number settings show end → is_answer (generates kind number n show) end ≡ true
 generated_answer kind number n settings shows.Domain end h = rw h refl
 generated_answer kind number n settings shows.Problem end h = rw h refl
-generated_answer kind number n settings shows.None end h = read_answer (generates kind number n shows.None) (domain_of kind) (problem_of kind number) (λ task. OnceGrounded task (λ g. OnceRaced g.task settings (TellsGenerated kind number settings))) end step h
+generated_answer kind number n settings shows.None end h =
+    grounded_answer (generates kind number n shows.None) (domain_of kind) (problem_of kind number) (λ task g. OnceRaced (places_by Exists) (is_plan_by Exists) g.task settings (TellsGenerated kind number settings)) end
+    (λ what count. refl) step h
   where
-    step : (task : Parts) → OnceGrounded task (λ g. OnceRaced g.task settings (TellsGenerated kind number settings)) end → is_answer (generates kind number n shows.None) end ≡ true
-    step task (past over) = rw over.2 refl
-    step task (within g is fits (too_large over)) = rw over.2 refl
-    step task (within g is fits (ended race comes told)) = rw told refl
+    step : (task : Parts) (g : Grounded) → OnceRaced (places_by Exists) (is_plan_by Exists) g.task settings (TellsGenerated kind number settings) end → is_answer (generates kind number n shows.None) end ≡ true
+    step task g (too_large over) = rw over.2 refl
+    step task g (ended race comes told) = rw told refl
+
+-- what two files decide, or three
+pub in_two : {X : Type 0} (claim : List ℕ → List ℕ → Type 0) (files : List (List ℕ)) → ((first second : List ℕ) → claim first second → X) → OfTwo files claim → X
+in_two claim [] from h = absurd h
+in_two claim (a ∷ []) from h = absurd h
+in_two claim (a ∷ (b ∷ [])) from h = from a b h
+in_two claim (a ∷ (b ∷ (c ∷ others))) from h = absurd h
+
+pub in_three : {X : Type 0} (claim : List ℕ → List ℕ → List ℕ → Type 0) (files : List (List ℕ)) → ((first second third : List ℕ) → claim first second third → X) → OfThree files claim → X
+in_three claim [] from h = absurd h
+in_three claim (a ∷ []) from h = absurd h
+in_three claim (a ∷ (b ∷ [])) from h = absurd h
+in_three claim (a ∷ (b ∷ (c ∷ []))) from h = from a b c h
+in_three claim (a ∷ (b ∷ (c ∷ (d ∷ others)))) from h = absurd h
 
 decides_answer : (request : Seen) (files : List (List ℕ)) (end : Ending) → Decides request files end → is_answer request end ≡ true
-decides_answer (plans d p n) [] end h = absurd h
-decides_answer (checks d p l) [] end h = absurd h
-decides_answer (grounds d p) [] end h = absurd h
-decides_answer (orders d p) [] end h = absurd h
-decides_answer (generates k m n s) [] end h = generated_answer k m n h.0 s end h.2
-decides_answer (plans d p n) (domain ∷ []) end h = absurd h
-decides_answer (checks d p l) (domain ∷ []) end h = absurd h
-decides_answer (grounds d p) (domain ∷ []) end h = absurd h
-decides_answer (orders d p) (domain ∷ []) end h = absurd h
-decides_answer (generates k m n s) (domain ∷ []) end h = absurd h
-decides_answer (plans d p n) (domain ∷ (problem ∷ others)) end h = files_answer (plans d p n) domain problem others end h
-decides_answer (checks d p l) (domain ∷ (problem ∷ others)) end h = files_answer (checks d p l) domain problem others end h
-decides_answer (grounds d p) (domain ∷ (problem ∷ others)) end h = files_answer (grounds d p) domain problem others end h
-decides_answer (orders d p) (domain ∷ (problem ∷ others)) end h = files_answer (orders d p) domain problem others end h
-decides_answer (generates k m n s) (domain ∷ (problem ∷ others)) end h = absurd h
+decides_answer (plans d p n) files end h =
+    in_two _ files (λ a b k. grounded_answer (plans d p n) a b (AnswersPlan Exists k.0) end (λ what count. refl) (λ task g. plan_answer d p n k.0 task g end) k.2) h
+decides_answer (grounds d p) files end h = in_two _ files (λ a b k. grounded_answer (grounds d p) a b AnswersGround end (λ what count. refl) (λ task g e. rw e refl) k) h
+decides_answer (orders d p) files end h = in_two _ files (λ a b k. grounded_answer (orders d p) a b AnswersOrder end (λ what count. refl) (λ task g e. rw e.3 refl) k) h
+decides_answer (checks d p l) files end h = in_three _ files (λ a b c k. read_answer (checks d p l) a b (λ task. AnswersCheck task c) end (λ task. check_answer d p l task c end) k) h
+decides_answer (generates kind number n show) files end h = generated_answer kind number n h.1.0 show end h.1.2
 
 -- ---- what is told
 
@@ -174,20 +169,29 @@ of_told_at told (n ∷ ns) (f ∷ fs) P are h =
 
 -- ---- what a run comes to
 
-module _ (told : List ℕ → Option (List ℕ)) (lacks : List ℕ → Bool) (old new : List (List ℕ)) where
-  -- of files that were taken, what their bytes decide comes of the request
-  pub taken_comes : (request : Seen) (files : List (List ℕ)) → AllZip (IsTaken told lacks) (files_of request) files → (end : Ending) → Decides request files end → ComesOf told lacks old new request end
-  taken_comes request files are end h =
-      decided (all_fit told lacks old new (files_of request) files are) (decides_answer request files end h) (of_taken told lacks (files_of request) files (λ fs. Decides request fs end) are h)
+module _ (told : List ℕ → Option (List ℕ)) (lacks : List ℕ → Bool) (old new : List (List ℕ)) (words : List (List ℕ)) (request : Seen) (asked : requested words ≡ Some request) where
+  -- of files that were taken, what their bytes decide comes of the words
+  pub taken_comes : (files : List (List ℕ)) → AllZip (IsTaken told lacks) (files_of request) files → (end : Ending) → Decides request files end → Comes told lacks old new words end
+  taken_comes files are end h =
+      decided request asked (all_fit told lacks old new (files_of request) files are) (decides_answer request files end h) (of_taken told lacks (files_of request) files (λ fs. Decides request fs end) are h)
 
-  -- an ending of words that ask for a request comes of it
-  pub asked_comes : (words : List (List ℕ)) (request : Seen) → requested words ≡ Some request → (end : Ending) → Comes told lacks old new words end → ComesOf told lacks old new request end
-  asked_comes words request asked end (no_request none e) = absurd (let never : Some request ≡ None = sym asked ∙ none in cc)
-  asked_comes words request asked end (of_request other other_asked h) =
+  -- an ending of words that ask for a request: a file stops it, or the files' bytes decide it
+  abbrev pub IsOfRequest : Ending → Type 0
+  IsOfRequest end = StopsFrom told lacks old new 0 (files_of request) end
+      ⊎ (AllByRecursion (Fits told lacks old new) (files_of request) × (is_answer request end ≡ true) × OfTold told (files_of request) (λ files. Decides request files end))
+
+  pub asked_comes : (end : Ending) → Comes told lacks old new words end → IsOfRequest end
+  asked_comes end (no_request none e) = absurd (let never : Some request ≡ None = sym asked ∙ none in cc)
+  asked_comes end (stopped other other_asked h) =
       let same : Some other ≡ Some request = sym other_asked ∙ asked in
       let is : other ≡ request = cc in
-      subst (λ (r : Seen). ComesOf told lacks old new r end) is h
+      inl (subst (λ (r : Seen). StopsFrom told lacks old new 0 (files_of r) end) is h)
+  asked_comes end (decided other other_asked fit answer h) =
+      let same : Some other ≡ Some request = sym other_asked ∙ asked in
+      let is : other ≡ request = cc in
+      inr (subst (λ (r : Seen). AllByRecursion (Fits told lacks old new) (files_of r) × (is_answer r end ≡ true) × OfTold told (files_of r) (λ files. Decides r files end)) is (fit, answer, h))
 
-  pub not_asked_comes : (words : List (List ℕ)) → requested words ≡ None → (end : Ending) → Comes told lacks old new words end → end ≡ Usage
-  not_asked_comes words none end (no_request n e) = e
-  not_asked_comes words none end (of_request request asked h) = absurd (let never : Some request ≡ None = sym asked ∙ none in cc)
+pub not_asked_comes : (told : List ℕ → Option (List ℕ)) (lacks : List ℕ → Bool) (old new : List (List ℕ)) (words : List (List ℕ)) → requested words ≡ None → (end : Ending) → Comes told lacks old new words end → end ≡ Usage
+not_asked_comes told lacks old new words none end (no_request n e) = e
+not_asked_comes told lacks old new words none end (stopped request asked h) = absurd (let never : Some request ≡ None = sym asked ∙ none in cc)
+not_asked_comes told lacks old new words none end (decided request asked fit answer h) = absurd (let never : Some request ≡ None = sym asked ∙ none in cc)

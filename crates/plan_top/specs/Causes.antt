@@ -20,6 +20,7 @@ use Rattle.plan_words.specs.Seen.{Seen, Numbers, numbers, plans, checks, grounds
 use Rattle.plan_words.specs.Requested.{requested}
 use Rattle.plan_top.specs.Known.{IsOrdered}
 use Rattle.plan_top.specs.Files.{Fits, StopsFrom, OfTold, RoseAmong}
+use Rattle.plan_top.specs.Stepping.{Stepping, Exists, places_by, is_plan_by}
 use Rattle.plan_top.specs.Tasks.{OnceRead, OnceGrounded}
 use Rattle.plan_top.specs.Raced.{OnceRaced, outcome_of}
 use Rattle.plan_top.specs.Generated.{AnswersGenerated}
@@ -29,20 +30,20 @@ use Rattle.plan_top.specs.declared.ending.Ending.TheVariants.{Report, Listing, R
 
 -- ---- what the bytes of its files decide for a request
 
--- a race on a task with these settings came to an end, and this is its report
+-- a race on a task came to an end, and this is its report
 pub record TellsRace (settings : Settings) (task : Parts) (g : Grounded) (race : RaceEnd) (end : Ending) : Type 0 where
   pub small : IsSmall settings.budget (end_view race)
   pub told : end ≡ Report (outcome_of (end_view race)) (report_of task g settings.budget (end_view race))
 
--- `plan`: what the race comes to
-abbrev pub AnswersPlan : Settings → Parts → Grounded → Ending → Type 0
-AnswersPlan settings task g end = OnceRaced g.task settings (TellsRace settings task g) end
+-- what a race on a ground task in these steps comes to, with its report
+abbrev pub AnswersPlan : Stepping → Settings → Parts → Grounded → Ending → Type 0
+AnswersPlan how settings task g end = OnceRaced (places_by how) (is_plan_by how) g.task settings (TellsRace settings task g) end
 
--- `ground`: the facts and the actions
+-- the facts and the actions
 abbrev pub AnswersGround : Parts → Grounded → Ending → Type 0
 AnswersGround task g end = end ≡ Listing (ground_text task g)
 
--- `order`: the actions in published order
+-- the actions in published order
 abbrev pub AnswersOrder : Parts → Grounded → Ending → Type 0
 AnswersOrder task g end =
     (clauses : List (ℕ × ℕ)) × (components : List (List ℕ)) × IsOrdered g.task clauses components × (end ≡ Listing (order_text task g components (length clauses)))
@@ -64,7 +65,7 @@ refusal_of_plan (plan.mistyped at) = Refused Mistyped Plan at
 abbrev pub RefusesCalls : Parts → List ℕ → Ending → Type 0
 RefusesCalls task bytes end = (fault : plan.Fault) × (plan_file task bytes ≡ Err fault) × (end ≡ refusal_of_plan fault)
 
--- `check`: what the calls of the plan file come to, or why it has none
+-- what the calls of a plan file come to, or why it has none
 abbrev pub AnswersCheck : Parts → List ℕ → Ending → Type 0
 AnswersCheck task bytes end = ((calls : List Call) × (plan_file task bytes ≡ Ok calls) × (end ≡ ending_of (verdict task calls))) ⊎ RefusesCalls task bytes end
 
@@ -72,19 +73,22 @@ AnswersCheck task bytes end = ((calls : List Call) × (plan_file task bytes ≡ 
 abbrev pub OfSettings : Numbers → (Settings → Type 0) → Type 0
 OfSettings n claim = (settings : Settings) × (numbers settings ≡ n) × claim settings
 
--- what a domain and a problem come to, and the files after them, for a request
-abbrev pub Answers : Seen → List ℕ → List ℕ → List (List ℕ) → Ending → Type 0
-Answers (plans d p n) domain problem [] end = OfSettings n (λ settings. OnceRead domain problem (λ task. OnceGrounded task (AnswersPlan settings task)) end)
-Answers (grounds d p) domain problem [] end = OnceRead domain problem (λ task. OnceGrounded task (AnswersGround task)) end
-Answers (orders d p) domain problem [] end = OnceRead domain problem (λ task. OnceGrounded task (AnswersOrder task)) end
-Answers (checks d p l) domain problem (bytes ∷ []) end = OnceRead domain problem (λ task. AnswersCheck task bytes) end
-Answers request domain problem others end = ⊥
+-- the claim holds of two files, or of three
+abbrev pub OfTwo : List (List ℕ) → (List ℕ → List ℕ → Type 0) → Type 0
+OfTwo (first ∷ second ∷ []) claim = claim first second
+OfTwo files claim = ⊥
+
+abbrev pub OfThree : List (List ℕ) → (List ℕ → List ℕ → List ℕ → Type 0) → Type 0
+OfThree (first ∷ second ∷ third ∷ []) claim = claim first second third
+OfThree files claim = ⊥
 
 -- what the bytes of its files decide for a request
 abbrev pub Decides : Seen → List (List ℕ) → Ending → Type 0
-Decides (generates kind number n show) [] end = OfSettings n (λ settings. AnswersGenerated kind number settings show end)
-Decides request (domain ∷ problem ∷ others) end = Answers request domain problem others end
-Decides request files end = ⊥
+Decides (plans d p n) files end = OfTwo files (λ domain problem. OfSettings n (λ settings. OnceGrounded domain problem (AnswersPlan Exists settings) end))
+Decides (grounds d p) files end = OfTwo files (λ domain problem. OnceGrounded domain problem AnswersGround end)
+Decides (orders d p) files end = OfTwo files (λ domain problem. OnceGrounded domain problem AnswersOrder end)
+Decides (checks d p l) files end = OfThree files (λ domain problem plan. OnceRead domain problem (λ task. AnswersCheck task plan) end)
+Decides (generates kind number n show) files end = (files ≡ []) × OfSettings n (λ settings. AnswersGenerated kind number settings show end)
 
 -- The endings that the files' contents give for a request: what is known of an ending where no bytes are told.
 abbrev pub is_answer : Seen → Ending → Bool
@@ -107,15 +111,13 @@ is_answer request end = false
 
 -- What a shelf tells: the bytes of names, and of which names there is no file. Then its faults before and after.
 module _ (told : List ℕ → Option (List ℕ)) (lacks : List ℕ → Bool) (old new : List (List ℕ)) where
-  -- When an ending comes for a request: a file stops it, or all are taken and their bytes decide it.
-  pub data ComesOf (request : Seen) (end : Ending) : Type 0 where
-    stopped : StopsFrom told lacks old new 0 (files_of request) end → ComesOf request end
-    decided : AllByRecursion (Fits told lacks old new) (files_of request) → IsTrue (is_answer request end) → OfTold told (files_of request) (λ files. Decides request files end) → ComesOf request end
-
-  -- when an ending comes for the words of a command line
+  -- When an ending comes for the words of a command line: they ask for nothing, a file of what they ask for stops it, or all files
+  -- are taken and their bytes decide it.
   pub data Comes (words : List (List ℕ)) (end : Ending) : Type 0 where
     no_request : requested words ≡ None → end ≡ Usage → Comes words end
-    of_request : (request : Seen) → requested words ≡ Some request → ComesOf request end → Comes words end
+    stopped : (request : Seen) → requested words ≡ Some request → StopsFrom told lacks old new 0 (files_of request) end → Comes words end
+    decided : (request : Seen) → requested words ≡ Some request → AllByRecursion (Fits told lacks old new) (files_of request) → IsTrue (is_answer request end)
+        → OfTold told (files_of request) (λ files. Decides request files end) → Comes words end
 
 -- the names of the files that words ask for
 abbrev pub names_in : List (List ℕ) → List (List ℕ)

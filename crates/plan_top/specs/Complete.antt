@@ -11,6 +11,7 @@ use Rattle.plan_words.specs.Seen.{Seen, plans, checks, grounds, orders, generate
 use Rattle.plan_words.specs.Requested.{requested}
 use Rattle.plan_top.specs.Files.{most_bytes, RoseAmong}
 use Rattle.plan_top.specs.Tasks.{AreTask}
+use Rattle.plan_top.specs.Causes.{OfTwo, OfThree}
 use Rattle.plan_top.specs.Ending.{status_of}
 use Rattle.plan_top.specs.declared.ending.Ending.{Ending}
 use Rattle.plan_top.specs.declared.ending.Ending.TheVariants.{TooLarge}
@@ -23,19 +24,17 @@ GroundsWithin task = (g : Grounded) × IsGrounded task g × IsWithin task g
 abbrev pub AreWithin : List ℕ → List ℕ → Type 0
 AreWithin domain problem = (task : Parts) × AreTask domain problem task × GroundsWithin task
 
--- a domain and a problem are in order for a request, with the files after them
-abbrev pub IsInOrder : Seen → List ℕ → List ℕ → List (List ℕ) → Type 0
-IsInOrder (plans d p n) domain problem [] = AreWithin domain problem
-IsInOrder (grounds d p) domain problem [] = AreWithin domain problem
-IsInOrder (orders d p) domain problem [] = AreWithin domain problem
-IsInOrder (checks d p l) domain problem (bytes ∷ []) = (task : Parts) × AreTask domain problem task × ((calls : List Call) × (plan_file task bytes ≡ Ok calls))
-IsInOrder request domain problem others = ⊥
+-- a domain and a problem are a task, and a plan file has calls of it
+abbrev pub AreChecked : List ℕ → List ℕ → List ℕ → Type 0
+AreChecked domain problem plan = (task : Parts) × AreTask domain problem task × ((calls : List Call) × (plan_file task plan ≡ Ok calls))
 
 -- the files of a request are in order; of a generated task, its texts
 abbrev pub AreInOrder : Seen → List (List ℕ) → Type 0
-AreInOrder (generates kind number n show) [] = AreWithin (domain_of kind) (problem_of kind number)
-AreInOrder request (domain ∷ problem ∷ others) = IsInOrder request domain problem others
-AreInOrder request files = ⊥
+AreInOrder (plans d p n) files = OfTwo files AreWithin
+AreInOrder (grounds d p) files = OfTwo files AreWithin
+AreInOrder (orders d p) files = OfTwo files AreWithin
+AreInOrder (checks d p l) files = OfThree files AreChecked
+AreInOrder (generates kind number n show) files = (files ≡ []) × AreWithin (domain_of kind) (problem_of kind number)
 
 -- The words ask for a request; the bytes of its files are told, within the limit and in order; and no fault of any was
 -- noted.

@@ -9,7 +9,8 @@ use Rattle.race_end.specs.declared.end.RaceEnd.{RaceEnd}
 use Rattle.plan_report.specs.Report.{summary_of}
 use Rattle.plan_words.specs.declared.request.Show.{Show}
 use Rattle.plan_words.specs.declared.request.Show.TheVariants as shows
-use Rattle.plan_top.specs.Tasks.{OnceRead, OnceGrounded}
+use Rattle.plan_top.specs.Tasks.{OnceGrounded}
+use Rattle.plan_top.specs.Stepping.{Exists, places_by, is_plan_by}
 use Rattle.plan_top.specs.Raced.{OnceRaced, outcome_of}
 use Rattle.plan_top.specs.declared.ending.Ending.{Ending}
 use Rattle.plan_top.specs.declared.ending.Ending.TheVariants.{Report, Listing}
@@ -32,4 +33,4 @@ abbrev pub AnswersGenerated : Kind → ℕ → Settings → Show → Ending → 
 AnswersGenerated kind number settings shows.Domain end = end ≡ Listing (domain_of kind)
 AnswersGenerated kind number settings shows.Problem end = end ≡ Listing (problem_of kind number)
 AnswersGenerated kind number settings shows.None end =
-    OnceRead (domain_of kind) (problem_of kind number) (λ task. OnceGrounded task (λ g. OnceRaced g.task settings (TellsGenerated kind number settings))) end
+    OnceGrounded (domain_of kind) (problem_of kind number) (λ task g. OnceRaced (places_by Exists) (is_plan_by Exists) g.task settings (TellsGenerated kind number settings)) end

@@ -1,7 +1,8 @@
 -- What a report and a checked plan promise of the files.
+use Rattle.std.specs.List.{AllByRecursion}
 use Rattle.std.specs.Prelude.{◌≡◌, ◌≤◌, ℕ, ◌+◌, List, [], ◌∷◌, ◌++◌, map, length, codes, Bool, Option, Some, IfSome, Ok, Contains}
 use Rattle.report_lines.specs.Lines.{lines_of}
-use Rattle.report_lines.specs.Horizons.{Entry, entry_line}
+use Rattle.report_lines.specs.Horizons.{Entry, entry_line, report}
 use Rattle.clause_base.specs.Choice.{Known}
 use Rattle.clause_base.specs.Formula.{Cnf}
 use Rattle.clause_base.specs.Derivation.{IsRefutation}
@@ -13,14 +14,16 @@ use Rattle.pd_model.specs.declared.calls.Call.{Call}
 use Rattle.pd_model.specs.declared.parts.Parts.{Parts}
 use Rattle.pd_plan.specs.PlanFile.{plan_file}
 use Rattle.gt_core.specs.Published.{order_of}
-use Rattle.gt_core.specs.Step.{IsStepPlan}
 use Rattle.grounding.specs.Grounded.{Grounded, IsGrounded}
 use Rattle.task_text.specs.Text.{ground_text, order_text}
 use Rattle.race_end.specs.Ends.{Word, WordRefuted, WordDropped, WordOpen, WordPlan}
-use Rattle.step_plans.specs.Plans.{AreStepPlan, AreListed, actions_in}
+use Rattle.step_plans.specs.Plans.{AreListed, HasActionsOnce, actions_in}
 use Rattle.plan_report.specs.Report.{word_text, plan_line, conflicts_line, calls_by_step}
 use Rattle.plan_report.specs.Laws.{TellsSteps}
+use Rattle.plan_words.specs.Seen.{Numbers}
+use Rattle.plan_words.specs.Requested.{requested}
 use Rattle.plan_top.specs.Known.{IsOrdered}
+use Rattle.plan_top.specs.Stepping.{Stepping, AreSets, asked_by, places_by, is_plan_by}
 use Rattle.plan_top.specs.Raced.{form_of, choice_at, formula_at}
 use Rattle.plan_top.specs.Tasks.{AreTask}
 
@@ -31,6 +34,13 @@ Printed old new text = (before : List ℕ) × (old ≡ Some before) × (new ≡ 
 -- Two files of these names are a task of which the claim holds, where their bytes are told. (Files are at most one task.)
 abbrev pub OfFiles : (List ℕ → Option (List ℕ)) → List ℕ → List ℕ → (Parts → Type 0) → Type 0
 OfFiles told domain problem claim = IfSome (told domain) (λ first. IfSome (told problem) (λ second. (task : Parts) × AreTask first second task × claim task))
+
+-- What is promised of a text that was printed for words that ask for a plan: of its steps, the text and the numbers, and of claims on
+-- the task of its files.
+abbrev pub OfPlans : List (List ℕ) → (List ℕ → Option (List ℕ)) → Option (List ℕ) → Option (List ℕ) → (Stepping → List ℕ → Numbers → ((Parts → Type 0) → Type 0) → Type 0) → Type 0
+OfPlans words told old new promise =
+    (how : Stepping) (text domain problem : List ℕ) (numbers : Numbers) → Printed old new text → requested words ≡ Some (asked_by how domain problem numbers)
+    → promise how text numbers (OfFiles told domain problem)
 
 -- What a task is grounded to, the clauses that are known of it, and its actions in published order, as their components:
 -- there are such, there are no others, and the claim holds of them.
@@ -45,22 +55,26 @@ pub record OfGrounded (task : Parts) (claim : Grounded → List (ℕ × ℕ) →
 
 -- ---- plans
 
--- under its step lines, which are as many as its line of the plan says, the text has the calls of a step plan, each step in
--- published order
-abbrev pub HasStepPlan : List ℕ → Parts → Grounded → List (ℕ × ℕ) → List (List ℕ) → Type 0
-HasStepPlan text task g clauses components =
+-- Under its step lines, which are as many as its line of the plan says, the text has the calls of a plan in these steps, each
+-- step in published order; and a step has actions of the task, none of them twice.
+abbrev pub HasStepPlan : Stepping → List ℕ → Parts → Grounded → List (ℕ × ℕ) → List (List ℕ) → Type 0
+HasStepPlan how text task g clauses components =
     (steps : List (List ℕ)) × (n : ℕ) × Contains (lines_of text) (plan_line n (length (actions_in steps))) × TellsSteps text (calls_by_step task g steps)
-    × AreStepPlan g.task (order_of components) steps n × AreListed (order_of components) steps
+    × AreSets (is_plan_by how) g.task (order_of components) steps n × AreListed (order_of components) steps × AllByRecursion (HasActionsOnce g.task) steps
 
 -- the text is a plan file whose calls are a plan, and its steps are a step plan
-abbrev pub PlanRuns : List ℕ → Parts → Type 0
-PlanRuns text task = ((calls : List Call) × (plan_file task text ≡ Ok calls) × IsPlan task calls) × OfGrounded task (HasStepPlan text task)
+abbrev pub PlanRuns : Stepping → List ℕ → Parts → Type 0
+PlanRuns how text task = ((calls : List Call) × (plan_file task text ≡ Ok calls) × IsPlan task calls) × OfGrounded task (HasStepPlan how text task)
+
+-- each plan in these steps has at least so many
+abbrev pub HasAtLeast : Stepping → ℕ → Parts → Type 0
+HasAtLeast how n task = OfGrounded task (λ g clauses components. (sets : ℕ → ℕ → Bool) (k : ℕ) → is_plan_by how g.task (order_of components) sets k → n ≤ k)
 
 -- ---- horizons
 
--- no list of so many sets of actions is a step plan
-abbrev pub NoStepPlan : ℕ → Parts → Type 0
-NoStepPlan horizon task = OfGrounded task (λ g clauses components. (sets : ℕ → ℕ → Bool) → IsStepPlan g.task (order_of components) sets horizon → ⊥)
+-- no list of so many sets of actions, or of fewer, is a step plan
+abbrev pub NoStepPlan : Stepping → ℕ → Parts → Type 0
+NoStepPlan how horizon task = OfGrounded task (λ g clauses components. (sets : ℕ → ℕ → Bool) (n : ℕ) → n ≤ horizon → is_plan_by how g.task (order_of components) sets n → ⊥)
 
 -- no list of at most so many calls is a plan
 abbrev pub NoPlan : ℕ → Parts → Type 0
@@ -83,9 +97,9 @@ pub record IsSo (choose : Known → Option ℕ) (formula : Cnf) (word : List ℕ
   pub derived : word_is ≡ WordRefuted → IsRefutation formula.variables formula.clauses (reached choose formula conflicts).log
 
 -- the same of a horizon of a task
-abbrev pub LineIsSo : ℕ → List ℕ → ℕ → Parts → Type 0
-LineIsSo horizon word conflicts task =
-    OfGrounded task (λ g clauses components. IsSo (choice_at (form_of g.task clauses components) horizon) (formula_at (form_of g.task clauses components) horizon) word conflicts)
+abbrev pub LineIsSo : Stepping → ℕ → List ℕ → ℕ → Parts → Type 0
+LineIsSo how horizon word conflicts task =
+    OfGrounded task (λ g clauses components. IsSo (choice_at (places_by how) (form_of g.task clauses components) horizon) (formula_at (places_by how) (form_of g.task clauses components) horizon) word conflicts)
 
 -- ---- the budget
 
@@ -94,10 +108,18 @@ abbrev pub conflicts_of : List Entry → ℕ
 conflicts_of [] = 0
 conflicts_of (e ∷ es) = e.conflicts + conflicts_of es
 
--- the text is the lines of some horizons, whose conflicts are the budget, the line that says so, and `; unfinished`
-abbrev pub SpendsAll : List ℕ → ℕ → Type 0
-SpendsAll text budget =
-    (entries : List Entry) × (lines_of text ≡ map entry_line entries ++ (conflicts_line budget budget ∷ (codes "; unfinished" ∷ []))) × (conflicts_of entries ≡ budget)
+-- the words of the lines of horizons
+abbrev pub horizon_words : List (List ℕ)
+horizon_words = codes "refuted" ∷ codes "dropped" ∷ codes "open" ∷ codes "plan" ∷ []
+
+-- the text is the lines of some horizons, each with one of the four words, whose conflicts are the budget, the line that says so,
+-- and `; unfinished`
+pub record SpendsAll (text : List ℕ) (budget : ℕ) : Type 0 where
+  pub entries : List Entry
+  pub words : AllByRecursion (λ e. Contains horizon_words e.word) entries
+  pub whole : text ≡ report entries (conflicts_line budget budget ∷ codes "; unfinished" ∷ [])
+  pub lines : lines_of text ≡ map entry_line entries ++ (conflicts_line budget budget ∷ codes "; unfinished" ∷ [])
+  pub sum : conflicts_of entries ≡ budget
 
 -- ---- the other commands
 

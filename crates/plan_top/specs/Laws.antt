@@ -4,7 +4,7 @@ use Rattle.gt_core.specs.Laws.{PublishedIsUnique}
 use Rattle.two_invariants.specs.Laws.{OneListOfInvariants}
 use Rattle.grounding.specs.Laws.{OneResult, GroundedIsTask}
 use Rattle.plan_words.specs.Seen.{NumbersAreSettings}
-use Rattle.step_plans.specs.Laws.{StepPlansRun, ShortPlansAreStepPlans, SetsAreLists, ListedAreInOrder, SetsOfFormsAreListed}
+use Rattle.step_plans.specs.Laws.{StepPlansRun, ShortPlansAreStepPlans, OtherPlansAreLonger, SetsAreLists, ListedHaveActionsOnce, ListedAreInOrder, SetsOfFormsAreListed}
 use Rattle.plan_report.specs.Laws.{LinesAreReadBack, PlansAreRead, StepsAreTold, HorizonsAreTold}
 
 pub record Laws : Type 0 where
@@ -17,7 +17,9 @@ pub record Laws : Type 0 where
   pub is_task : GroundedIsTask
   pub run : StepPlansRun
   pub short : ShortPlansAreStepPlans
+  pub longer : OtherPlansAreLonger
   pub lists : SetsAreLists
+  pub once : ListedHaveActionsOnce
   pub in_order : ListedAreInOrder
   pub listed : SetsOfFormsAreListed
   pub lines : LinesAreReadBack

@@ -1,6 +1,7 @@
 pub mod Ending
 pub mod Ends
 pub mod Known
+pub mod Stepping
 pub mod Files
 pub mod Tasks
 pub mod Raced

@@ -1,6 +1,9 @@
 -- One report for every number of workers and every slice.
 use Rattle.std.specs.Prelude.{◌≡◌, ℕ, List, Bool, Option, Some}
-use Rattle.plan_words.specs.Seen.{Numbers, plans}
+use Rattle.plan_gen.specs.declared.Kind.{Kind}
+use Rattle.plan_words.specs.Seen.{Numbers, generates}
+use Rattle.plan_words.specs.declared.request.Show.{Show}
+use Rattle.plan_top.specs.Stepping.{Stepping, asked_by}
 use Rattle.plan_words.specs.Requested.{requested}
 use Rattle.plan_top.specs.Causes.{Comes}
 use Rattle.plan_top.specs.declared.ending.Ending.{Ending}
@@ -17,7 +20,8 @@ HasRead end = Unit {0}
 
 -- words on one shelf, and others on another, ask for a plan of two files with the same bytes, which both shelves tell, by numbers
 -- that are the same but for the slice and the workers
-pub record AskForOneRace (told elsewhere : List ℕ → Option (List ℕ)) (words others : List (List ℕ)) : Type 0 where
+pub record AskForOnePlan (told elsewhere : List ℕ → Option (List ℕ)) (words others : List (List ℕ)) : Type 0 where
+  pub how : Stepping
   pub domain : List ℕ
   pub problem : List ℕ
   pub numbers : Numbers
@@ -26,13 +30,29 @@ pub record AskForOneRace (told elsewhere : List ℕ → Option (List ℕ)) (word
   pub other_numbers : Numbers
   pub first : List ℕ
   pub second : List ℕ
-  pub asked : requested words ≡ Some (plans domain problem numbers)
-  pub others_asked : requested others ≡ Some (plans other_domain other_problem other_numbers)
+  pub asked : requested words ≡ Some (asked_by how domain problem numbers)
+  pub others_asked : requested others ≡ Some (asked_by how other_domain other_problem other_numbers)
   pub same : AreSameRace numbers other_numbers
   pub domain_told : told domain ≡ Some first
   pub problem_told : told problem ≡ Some second
   pub other_domain_told : elsewhere other_domain ≡ Some first
   pub other_problem_told : elsewhere other_problem ≡ Some second
+
+-- words, and others, ask for one generated task by such numbers
+pub record AskForOneGenerated (words others : List (List ℕ)) : Type 0 where
+  pub kind : Kind
+  pub number : ℕ
+  pub show : Show
+  pub numbers : Numbers
+  pub other_numbers : Numbers
+  pub asked : requested words ≡ Some (generates kind number numbers show)
+  pub others_asked : requested others ≡ Some (generates kind number other_numbers show)
+  pub same : AreSameRace numbers other_numbers
+
+-- words on one shelf, and others on another, ask for one race
+pub data AskForOneRace (told elsewhere : List ℕ → Option (List ℕ)) (words others : List (List ℕ)) : Type 0 where
+  one_plan : AskForOnePlan told elsewhere words others → AskForOneRace told elsewhere words others
+  one_generated : AskForOneGenerated words others → AskForOneRace told elsewhere words others
 
 -- Runs on files with the same bytes by such words have one ending, but for a file that could not be read.
 abbrev pub OneEnding : Type 0

@@ -1,11 +1,15 @@
 -- The race on a ground task.
-use Rattle.std.specs.Prelude.{◌≡◌, ℕ, List, Option}
+use Rattle.std.specs.Prelude.{◌≡◌, ℕ, List, Bool, Option, map}
+use Rattle.std.specs.List.{filter}
+use Rattle.gt_core.specs.Layout.{action_at}
+use Rattle.gt_core.specs.Literal.{range}
 use Rattle.clause_base.specs.Choice.{Known}
 use Rattle.clause_base.specs.Formula.{Cnf, assignment_of}
 use Rattle.gt_core.specs.Task.{Task}
+use Rattle.gt_core.specs.Published.{order_of}
 use Rattle.step_clauses.specs.Variables.{layout_of}
 use Rattle.step_clauses.specs.Coded.{formula_of}
-use Rattle.step_laws.specs.Form.{OrderedTask, IsPlanOf, places_of, steps_for}
+use Rattle.step_laws.specs.Form.{OrderedTask}
 use Rattle.step_encoding.specs.Numbers.{literals_of}
 use Rattle.horizon_rates.specs.declared.settings.Settings.{Settings}
 use Rattle.horizon_run.specs.Run.{choice_of}
@@ -16,6 +20,7 @@ use Rattle.race.specs.Race as stage
 use Rattle.race.specs.Lines.{AreLines, EachRefuted}
 use Rattle.race.specs.Ends.{WherePlanned, AreStepsOf, AreActions, SumsWithin}
 use Rattle.plan_top.specs.Known.{IsOrdered}
+use Rattle.plan_top.specs.Stepping.{AreSets}
 use Rattle.plan_top.specs.declared.ending.Outcome.{Outcome}
 use Rattle.plan_top.specs.declared.ending.Outcome.TheVariants as outcomes
 use Rattle.plan_top.specs.declared.ending.Ending.{Ending}
@@ -25,61 +30,69 @@ use Rattle.plan_top.specs.declared.ending.Ending.TheVariants.{TooLarge}
 abbrev pub form_of : Task → List (ℕ × ℕ) → List (List ℕ) → OrderedTask
 form_of task clauses components = record { task = task; known = record { facts = task.facts; clauses = clauses }; components = components }
 
--- the choice of a horizon's solver
-abbrev pub choice_at : OrderedTask → ℕ → Known → Option ℕ
-choice_at form h = choice_of form.task (layout_of form.task (places_of form) h)
-
--- the formula of a horizon
-abbrev pub formula_at : OrderedTask → ℕ → Cnf
-formula_at form h = formula_of form.task form.known.clauses (places_of form) h
-
--- what the race on it is run on: the formulas of exists-steps, and the sets of true actions of their assignments
-abbrev pub input_of : OrderedTask → Settings → RaceInput
-input_of form settings = record {
-  rates = settings.rates;
-  budget = settings.budget;
-  choose = choice_at form;
-  formula = formula_at form;
-  steps = λ h values. steps_for form h (assignment_of values);
-}
-
--- the race comes to this end, and what the end says is so
-pub record Races (form : OrderedTask) (settings : Settings) (race : RaceEnd) : Type 0 where
-  pub ended : stage.race_of (input_of form settings) ≡ stage.Ended (end_view race)
-  pub lines : AreLines (input_of form settings) (lines_of race)
-  pub refuted : EachRefuted (λ h. (steps : List (List ℕ)) → IsPlanOf form h steps → ⊥) (lines_of race)
-  pub plan : WherePlanned race (IsPlanOf form)
-  pub steps : WherePlanned race (AreStepsOf (input_of form settings))
-  pub members : WherePlanned race (λ h steps. AreActions form.task steps)
-  pub sums : SumsWithin settings.budget race
-
 -- how an end is told
 abbrev pub outcome_of : EndView → Outcome
 outcome_of (Planned horizon steps lines) = outcomes.Planned
 outcome_of (Exhausted horizon lines) = outcomes.Exhausted
 outcome_of (Unfinished lines) = outcomes.Unfinished
 
--- the formula of a horizon is too large, when its turn comes
-pub record IsTooLarge (task : Task) (settings : Settings) (horizon : ℕ) (count : ℕ) : Type 0 where
-  pub clauses : List (ℕ × ℕ)
-  pub components : List (List ℕ)
-  pub ordered : IsOrdered task clauses components
-  pub ended : stage.race_of (input_of (form_of task clauses components) settings) ≡ stage.TooLarge horizon
-  pub count_is : count ≡ literals_of (formula_of task clauses (places_of (form_of task clauses components)) horizon)
+-- the sets of true actions of an assignment to the variables of a formula whose chains go to these places, in published order
+abbrev pub steps_at : OrderedTask → List (List ℕ × ℕ) → ℕ → (ℕ → Bool) → List (List ℕ)
+steps_at form places n v = map (λ t. filter (λ a. v (action_at (layout_of form.task places n) t a)) (order_of form.components)) (range n)
 
--- an ending that tells so
-abbrev pub TellsTooLarge : Task → Settings → Ending → Type 0
-TellsTooLarge task settings end = (horizon : ℕ) × (count : ℕ) × (end ≡ TooLarge horizon count) × IsTooLarge task settings horizon count
+-- where the chains of the formulas go
+module _ (places : Task → List (List ℕ) → List (List ℕ × ℕ)) where
+  -- the choice of a horizon's solver
+  abbrev pub choice_at : OrderedTask → ℕ → Known → Option ℕ
+  choice_at form h = choice_of form.task (layout_of form.task (places form.task form.components) h)
 
--- a race on a task comes to this end
-pub record ComesTo (task : Task) (settings : Settings) (race : RaceEnd) : Type 0 where
-  pub clauses : List (ℕ × ℕ)
-  pub components : List (List ℕ)
-  pub ordered : IsOrdered task clauses components
-  pub races : Races (form_of task clauses components) settings race
+  -- the formula of a horizon
+  abbrev pub formula_at : OrderedTask → ℕ → Cnf
+  formula_at form h = formula_of form.task form.known.clauses (places form.task form.components) h
 
--- What a race on a task comes to: it ends with a formula that is too large, of which the ending tells, or it has an end, of
--- which the answer is this.
-pub data OnceRaced (task : Task) (settings : Settings) (answers : RaceEnd → Ending → Type 0) (end : Ending) : Type 0 where
-  too_large : TellsTooLarge task settings end → OnceRaced task settings answers end
-  ended : (race : RaceEnd) → ComesTo task settings race → answers race end → OnceRaced task settings answers end
+  -- what the race on it is run on: the formulas of its steps, and the sets of true actions of their assignments
+  abbrev pub input_of : OrderedTask → Settings → RaceInput
+  input_of form settings = record {
+    rates = settings.rates;
+    budget = settings.budget;
+    choose = choice_at form;
+    formula = formula_at form;
+    steps = λ h values. steps_at form (places form.task form.components) h (assignment_of values);
+  }
+
+-- where they go, and which sets are plans
+module _ (places : Task → List (List ℕ) → List (List ℕ × ℕ)) (is_plan : Task → List ℕ → (ℕ → ℕ → Bool) → ℕ → Type 0) where
+  -- lists of actions are a plan of a task
+  abbrev pub ArePlan : OrderedTask → ℕ → List (List ℕ) → Type 0
+  ArePlan form n steps = AreSets is_plan form.task (order_of form.components) steps n
+
+  -- a race on a task comes to this end, and what the end says is so
+  pub record ComesTo (task : Task) (settings : Settings) (race : RaceEnd) : Type 0 where
+    pub clauses : List (ℕ × ℕ)
+    pub components : List (List ℕ)
+    pub ordered : IsOrdered task clauses components
+    pub ended : stage.race_of (input_of places (form_of task clauses components) settings) ≡ stage.Ended (end_view race)
+    pub lines : AreLines (input_of places (form_of task clauses components) settings) (lines_of race)
+    pub refuted : EachRefuted (λ h. (steps : List (List ℕ)) → ArePlan (form_of task clauses components) h steps → ⊥) (lines_of race)
+    pub plan : WherePlanned race (ArePlan (form_of task clauses components))
+    pub steps : WherePlanned race (AreStepsOf (input_of places (form_of task clauses components) settings))
+    pub members : WherePlanned race (λ h steps. AreActions task steps)
+    pub sums : SumsWithin settings.budget race
+
+  -- the formula of a horizon is too large, when its turn comes
+  pub record IsTooLarge (task : Task) (settings : Settings) (horizon : ℕ) (count : ℕ) : Type 0 where
+    pub clauses : List (ℕ × ℕ)
+    pub components : List (List ℕ)
+    pub ordered : IsOrdered task clauses components
+    pub ended : stage.race_of (input_of places (form_of task clauses components) settings) ≡ stage.TooLarge horizon
+    pub count_is : count ≡ literals_of (formula_at places (form_of task clauses components) horizon)
+
+  -- an ending that tells so
+  abbrev pub TellsTooLarge : Task → Settings → Ending → Type 0
+  TellsTooLarge task settings end = (horizon : ℕ) × (count : ℕ) × (end ≡ TooLarge horizon count) × IsTooLarge task settings horizon count
+
+  -- What a race on a task comes to: it ends with a formula that is too large, of which the ending tells, or it has an end, of
+  -- which the answer is this.
+  pub data OnceRaced (task : Task) (settings : Settings) (answers : RaceEnd → Ending → Type 0) (end : Ending) : Type 0 where
+    too_large : TellsTooLarge task settings end → OnceRaced task settings answers end
+    ended : (race : RaceEnd) → ComesTo task settings race → answers race end → OnceRaced task settings answers end

@@ -51,10 +51,10 @@ pub data RefusesTask (domain problem : List ℕ) (end : Ending) : Type 0 where
   problem_tree : (first : Tree) → Reads domain first → RefusesTree problem Problem end → RefusesTask domain problem end
   no_task : (first second : Tree) → Reads domain first → Reads problem second → RefusesTrees first second end → RefusesTask domain problem end
 
--- What two files decide: they are refused, or a task, which is well formed, of which the answer is this.
+-- What two files decide that are only read: they are refused, or a task, of which the answer is this.
 pub data OnceRead (domain problem : List ℕ) (answers : Parts → Ending → Type 0) (end : Ending) : Type 0 where
-  refused : RefusesTask domain problem end → OnceRead domain problem answers end
-  read : (task : Parts) → AreTask domain problem task → IsWellFormed task → answers task end → OnceRead domain problem answers end
+  not_read : RefusesTask domain problem end → OnceRead domain problem answers end
+  read : (task : Parts) → AreTask domain problem task → answers task end → OnceRead domain problem answers end
 
 -- a task is past a limit, with this count
 abbrev pub IsOver : Limit → Parts → ℕ → Type 0
@@ -67,7 +67,19 @@ IsOver limits.Effects task count = IsOverEffects task count
 abbrev pub TellsOver : Parts → Ending → Type 0
 TellsOver task end = (what : Limit) × (count : ℕ) × (end ≡ TooMany what count) × IsOver what task count
 
--- What a task comes to that is grounded first: it is past a limit, or within all, and the answer is this.
-pub data OnceGrounded (task : Parts) (answers : Grounded → Ending → Type 0) (end : Ending) : Type 0 where
-  past : TellsOver task end → OnceGrounded task answers end
-  within : (g : Grounded) → IsGrounded task g → IsWithin task g → answers g end → OnceGrounded task answers end
+-- a task is well formed, and is grounded to this within all limits
+pub record IsReady (task : Parts) (g : Grounded) : Type 0 where
+  pub well : IsWellFormed task
+  pub grounded : IsGrounded task g
+  pub fits : IsWithin task g
+
+-- why two files are no task that is grounded within the limits
+pub data StopsTask (domain problem : List ℕ) (end : Ending) : Type 0 where
+  refused : RefusesTask domain problem end → StopsTask domain problem end
+  past : (task : Parts) → AreTask domain problem task → TellsOver task end → StopsTask domain problem end
+
+-- What two files come to that are grounded: they are refused or past a limit, or a task and what it is grounded to, of which the
+-- answer is this.
+pub data OnceGrounded (domain problem : List ℕ) (answers : Parts → Grounded → Ending → Type 0) (end : Ending) : Type 0 where
+  not_grounded : StopsTask domain problem end → OnceGrounded domain problem answers end
+  grounded : (task : Parts) (g : Grounded) → AreTask domain problem task → IsReady task g → answers task g end → OnceGrounded domain problem answers end

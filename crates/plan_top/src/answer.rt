@@ -6,12 +6,13 @@ ghost use Rattle.pd_plan.specs.PlanFile.{plan_file};
 ghost use Rattle.plan_words.specs.Seen.{seen, files_of, IsSized};
 ghost use Rattle.plan_top.specs.Files.{most_bytes};
 ghost use Rattle.plan_top.specs.Tasks.{OnceRead, OnceGrounded};
+ghost use Rattle.plan_top.specs.Stepping.{Exists};
 ghost use Rattle.plan_top.specs.Causes.{Decides, AnswersPlan, AnswersGround, AnswersOrder, AnswersCheck, RefusesCalls, ending_of};
 ghost use Rattle.plan_top.specs.Ends.{EndsAs, StopsBy};
 
 use crate::generated::answer_gen;
-use crate::ground::ground_task;
 use crate::raced::{outcome, raced};
+use crate::ready::read_ready;
 use crate::stop::{Stop, refuse};
 use crate::task::read_task;
 use crate::{Ending, Kind};
@@ -81,25 +82,11 @@ fn answer_plan<H: Threads + Wait + Sync, G: Gate>(
 ) -> Result<Ending, Stop>
     requires domain_fits { length domain.now ≤ most_bytes }
     requires problem_fits { length problem.now ≤ most_bytes }
-    ensures { EndsAs (OnceRead domain.now problem.now (λ task. OnceGrounded task (AnswersPlan settings.now task))) result }
+    ensures { EndsAs (OnceGrounded domain.now problem.now (AnswersPlan Exists settings.now)) result }
 {
-    let task = read_task(alloc, domain, problem)?;
-    plan_task(rt, alloc, &task, settings, gate)
-}
-
-// What a task comes to for the command `plan`.
-fn plan_task<H: Threads + Wait + Sync, G: Gate>(
-    rt: &H,
-    alloc: Global,
-    task: &Pddl,
-    settings: &Settings,
-    gate: &G,
-) -> Result<Ending, Stop>
-    ensures { EndsAs (OnceGrounded task.now (AnswersPlan settings.now task.now)) result }
-{
-    let grounded = ground_task(alloc, task)?;
-    let end = raced(rt, alloc, grounded.task(), settings, gate)?;
-    let text = report_text(alloc, task, &grounded, &end, settings.budget)?;
+    let ready = read_ready(alloc, domain, problem)?;
+    let end = raced(rt, alloc, ready.grounded.task(), settings, gate)?;
+    let text = report_text(alloc, &ready.task, &ready.grounded, &end, settings.budget)?;
     Ok(Ending::Report {
         outcome: outcome(&end),
         text: Bytes::of(text.into_vec()),
@@ -110,19 +97,11 @@ fn plan_task<H: Threads + Wait + Sync, G: Gate>(
 fn answer_ground(alloc: Global, domain: &[u8], problem: &[u8]) -> Result<Ending, Stop>
     requires domain_fits { length domain.now ≤ most_bytes }
     requires problem_fits { length problem.now ≤ most_bytes }
-    ensures { EndsAs (OnceRead domain.now problem.now (λ task. OnceGrounded task (AnswersGround task))) result }
+    ensures { EndsAs (OnceGrounded domain.now problem.now AnswersGround) result }
 {
-    let task = read_task(alloc, domain, problem)?;
-    list_task(alloc, &task)
-}
-
-// What a task comes to for the command `ground`.
-fn list_task(alloc: Global, task: &Pddl) -> Result<Ending, Stop>
-    ensures { EndsAs (OnceGrounded task.now (AnswersGround task.now)) result }
-{
-    let grounded = ground_task(alloc, task)?;
+    let ready = read_ready(alloc, domain, problem)?;
     let mut text = Vec::new(alloc);
-    push_ground(task, &grounded, &mut text)?;
+    push_ground(&ready.task, &ready.grounded, &mut text)?;
     Ok(Ending::Listing(Bytes::of(text)))
 }
 
@@ -135,22 +114,14 @@ fn answer_order<H: Threads + Sync>(
 ) -> Result<Ending, Stop>
     requires domain_fits { length domain.now ≤ most_bytes }
     requires problem_fits { length problem.now ≤ most_bytes }
-    ensures { EndsAs (OnceRead domain.now problem.now (λ task. OnceGrounded task (AnswersOrder task))) result }
+    ensures { EndsAs (OnceGrounded domain.now problem.now AnswersOrder) result }
 {
-    let task = read_task(alloc, domain, problem)?;
-    order_task(rt, alloc, &task)
-}
-
-// What a task comes to for the command `order`.
-fn order_task<H: Threads + Sync>(rt: &H, alloc: Global, task: &Pddl) -> Result<Ending, Stop>
-    ensures { EndsAs (OnceGrounded task.now (AnswersOrder task.now)) result }
-{
-    let grounded = ground_task(alloc, task)?;
-    let acts = grounded.task();
+    let ready = read_ready(alloc, domain, problem)?;
+    let acts = ready.grounded.task();
     let pairs = find(rt, alloc, acts)?;
     let order = publish(alloc, acts, &pairs)?;
     let mut text = Vec::new(alloc);
-    push_order(task, &grounded, &order, &pairs, &mut text)?;
+    push_order(&ready.task, &ready.grounded, &order, &pairs, &mut text)?;
     Ok(Ending::Listing(Bytes::of(text)))
 }
 

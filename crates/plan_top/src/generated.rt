@@ -1,22 +1,24 @@
 //! What a generated task comes to.
-ghost use Rattle.std.specs.Prelude.{◌≡◌, ◌≤◌, ◌++◌, IfOk};
+ghost use Rattle.std.specs.Prelude.{◌≡◌, ◌≤◌, ◌++◌, length, IfOk};
 ghost use Rattle.race_end.specs.Ends.{end_view, lines_in, conflicts_in};
 ghost use Rattle.plan_gen.specs.Task.{domain_of, problem_of};
 ghost use Rattle.plan_report.specs.Report.{summary_of};
-ghost use Rattle.plan_top.specs.Tasks.{OnceRead, OnceGrounded};
+ghost use Rattle.gt_core.specs.Step.{IsStepPlan};
+ghost use Rattle.step_clauses.specs.Variables.{chain_places};
+ghost use Rattle.plan_top.specs.Files.{most_bytes};
+ghost use Rattle.plan_top.specs.Tasks.{OnceGrounded};
 ghost use Rattle.plan_top.specs.Raced.{OnceRaced};
 ghost use Rattle.plan_top.specs.Generated.{AnswersGenerated, TellsGenerated, kind_text, generated_line};
 ghost use Rattle.plan_top.specs.Ends.{EndsAs};
 
 use crate::Ending;
-use crate::ground::ground_task;
 use crate::raced::{outcome, raced};
+use crate::ready::read_ready;
 use crate::stop::Stop;
-use crate::task::read_task;
 use horizon_rates::Settings;
-use pd_model::{Memory, Pddl};
+use pd_model::Memory;
 use pl_io::Bytes;
-use plan_gen::{Kind, generate};
+use plan_gen::{Kind, Made, generate};
 use plan_report::summary_text;
 use plan_words::Show;
 use race_end::RaceEnd;
@@ -43,27 +45,26 @@ pub fn answer_gen<H: Threads + Wait + Sync, G: Gate>(
     match show {
         Show::Domain => Ok(Ending::Listing(Bytes::of(made.domain.into_vec()))),
         Show::Problem => Ok(Ending::Listing(Bytes::of(made.problem.into_vec()))),
-        Show::None => {
-            let task = read_task(alloc, made.domain.as_slice(), made.problem.as_slice())?;
-            gen_task(rt, alloc, &task, kind, number, settings, gate)
-        }
+        Show::None => { race_made(rt, alloc, &made, kind, number, settings, gate) }
     }
 }
 
-// What the task that was generated comes to.
-fn gen_task<H: Threads + Wait + Sync, G: Gate>(
+// What the task of the two texts that were generated comes to.
+fn race_made<H: Threads + Wait + Sync, G: Gate>(
     rt: &H,
     alloc: Global,
-    task: &Pddl,
+    made: &Made,
     kind: Kind,
     number: u32,
     settings: &Settings,
     gate: &G,
 ) -> Result<Ending, Stop>
-    ensures { EndsAs (OnceGrounded task.now (λ g. OnceRaced g.task settings.now (TellsGenerated kind number settings.now))) result }
+    requires domain_fits { length made.now.domain ≤ most_bytes }
+    requires problem_fits { length made.now.problem ≤ most_bytes }
+    ensures { EndsAs (OnceGrounded made.now.domain made.now.problem (λ task g. OnceRaced chain_places IsStepPlan g.task settings.now (TellsGenerated kind number settings.now))) result }
 {
-    let grounded = ground_task(alloc, task)?;
-    let end = raced(rt, alloc, grounded.task(), settings, gate)?;
+    let ready = read_ready(alloc, made.domain.as_slice(), made.problem.as_slice())?;
+    let end = raced(rt, alloc, ready.grounded.task(), settings, gate)?;
     let text = generated_text(alloc, kind, number, &end, settings)?;
     Ok(Ending::Report {
         outcome: outcome(&end),

@@ -9,10 +9,14 @@ mod generated;
 mod ground;
 mod laws;
 mod raced;
+mod ready;
+mod status;
 mod stop;
 mod take;
 mod task;
 mod top;
+mod written;
 
 pub use ending::{Ending, Kind, Limit, Outcome};
-pub use top::{Status, run};
+pub use status::Status;
+pub use top::run;

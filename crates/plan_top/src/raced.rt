@@ -1,6 +1,8 @@
 //! The race on a ground task.
 ghost use Rattle.std.specs.Prelude.{◌≡◌, IfOk};
 ghost use Rattle.race_end.specs.Ends.{end_view};
+ghost use Rattle.gt_core.specs.Step.{IsStepPlan};
+ghost use Rattle.step_clauses.specs.Variables.{chain_places};
 ghost use Rattle.plan_top.specs.Raced.{ComesTo, TellsTooLarge, outcome_of};
 ghost use Rattle.plan_top.specs.Ends.{StopsBy};
 
@@ -26,8 +28,8 @@ pub fn raced<H: Threads + Wait + Sync, G: Gate>(
     settings: &Settings,
     gate: &G,
 ) -> Result<RaceEnd, Stop>
-    ensures ended { IfOk result (ComesTo task.now settings.now) }
-    ensures stops { StopsBy (TellsTooLarge task.now settings.now) result }
+    ensures ended { IfOk result (ComesTo chain_places IsStepPlan task.now settings.now) }
+    ensures stops { StopsBy (TellsTooLarge chain_places task.now settings.now) result }
 {
     let pairs = find(rt, alloc, task)?;
     let order = publish(alloc, task, &pairs)?;

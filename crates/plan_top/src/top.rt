@@ -1,14 +1,16 @@
 //! The top call.
-ghost use Rattle.std.specs.Prelude.{◌≡◌, ◌≢◌, ◌≤◌, ◌⊎◌, ℕ, List, [], ◌∷◌, map, string_bytes, codes, Some, None, IsTrue, Contains, Bool, Option};
+ghost use Rattle.std.specs.Prelude.{◌≡◌, ◌≢◌, ◌≤◌, ◌⊎◌, ℕ, ◌+◌, List, [], ◌∷◌, map, string_bytes, codes, Some, None, IsTrue, Contains, Bool, Option};
 ghost use Rattle.pl_io.specs.Outside.{appended, TakesFront, Rose, fault_count};
+ghost use Rattle.report_lines.specs.Lines.{lines_of};
 ghost use Rattle.report_lines.specs.Horizons.{Says, is_word};
-ghost use Rattle.plan_words.specs.Seen.{Numbers, plans, checks, grounds, orders};
+ghost use Rattle.plan_report.specs.Report.{plan_line};
+ghost use Rattle.plan_words.specs.Seen.{checks, grounds, orders};
 ghost use Rattle.plan_words.specs.Requested.{requested, command_named};
 ghost use Rattle.plan_top.specs.Files.{NotesAmong};
 ghost use Rattle.plan_top.specs.Causes.{Comes, FaultOf, names_in};
 ghost use Rattle.plan_top.specs.Complete.{GoesWell, IsGood};
-ghost use Rattle.plan_top.specs.Ending.{status_of, text_of};
-ghost use Rattle.plan_top.specs.Headline.{Printed, OfFiles, PlanRuns, NoStepPlan, NoPlan, LineIsSo, SpendsAll, TellsGround, TellsOrder, CallsRun};
+ghost use Rattle.plan_top.specs.Ending.{status_of, text_of, IsSmall};
+ghost use Rattle.plan_top.specs.Headline.{Printed, OfFiles, OfPlans, PlanRuns, HasAtLeast, NoStepPlan, NoPlan, LineIsSo, SpendsAll, TellsGround, TellsOrder, CallsRun};
 ghost use Rattle.plan_top.specs.OneReport.{AskForOneRace, HasRead};
 ghost use Rattle.plan_top.specs.Ends.{ending_in};
 ghost use Rattle.plan_top.specs.declared.ending.Ending.{Ending};
@@ -16,28 +18,14 @@ ghost use Rattle.plan_top.specs.declared.ending.Ending.{Ending};
 use crate::decide::decide;
 use crate::ending::Ending;
 use crate::laws::laws;
+use crate::status::Status;
 use crate::stop::Stop;
-use pl_io::{Shelf, Sink, put_all};
+use crate::written::written;
+use pl_io::{Shelf, Sink};
 use solver_pool::Gate;
 use std::alloc::Global;
 use std::sync::Wait;
 use std::thread::Threads;
-
-/// An exit status.
-///
-/// | Status | When |
-/// |---|---|
-/// | 0 | a plan was found; a task, its order or a generated text is told; the checked calls are a plan |
-/// | 1 | the last horizon is refuted; the checked calls are none |
-/// | 2 | the budget is spent |
-/// | 3 | an input file is refused |
-/// | 4 | a file has more bytes than it may have, or the task or a formula is past a limit |
-/// | 5 | a file could not be read |
-/// | 6 | the report could not be written |
-/// | 7 | the words are none that are taken |
-/// | 8 | want of memory; nothing was written |
-#[derive(Clone, Copy, Debug, PartialEq, Eq)]
-pub struct Status(pub u8);
 
 /// Reads the words, takes the files from the shelf, decides, and writes the text due into the sink.
 ///
@@ -52,27 +40,28 @@ pub fn run<H: Threads + Wait + Sync, S: Shelf, K: Sink, G: Gate>(
     gate: &G,
 ) -> Status
     // A printed plan leads from the initial state to the goal, and its steps are a step plan.
-    ensures plan_runs { (text domain problem : List ℕ) (numbers : Numbers) → result.0 ≡ 0 → Printed (K.taken sink.old) (K.taken sink.new) text
-        → requested (map string_bytes words.now) ≡ Some (plans domain problem numbers) → OfFiles (S.told shelf.old) domain problem (PlanRuns text) }
+    ensures plan_runs { OfPlans (map string_bytes words.now) (S.told shelf.old) (K.taken sink.old) (K.taken sink.new) (λ how text numbers of_files.
+        result.0 ≡ 0 → of_files (PlanRuns how text)) }
 
-    // A horizon that is printed as refuted has no step plan of so many steps.
-    ensures refuted_steps { (text domain problem : List ℕ) (numbers : Numbers) (horizon conflicts : ℕ) → Printed (K.taken sink.old) (K.taken sink.new) text
-        → requested (map string_bytes words.now) ≡ Some (plans domain problem numbers) → Says text horizon (codes "refuted") conflicts
-        → OfFiles (S.told shelf.old) domain problem (NoStepPlan horizon) }
+    // A horizon that is printed as refuted has no step plan of so many steps, nor of fewer.
+    ensures refuted_steps { OfPlans (map string_bytes words.now) (S.told shelf.old) (K.taken sink.old) (K.taken sink.new) (λ how text numbers of_files.
+        (horizon conflicts : ℕ) → Says text horizon (codes "refuted") conflicts → of_files (NoStepPlan how horizon)) }
 
     // Nor is there a plan of at most so many actions.
-    ensures refuted_plans { (text domain problem : List ℕ) (numbers : Numbers) (horizon conflicts : ℕ) → Printed (K.taken sink.old) (K.taken sink.new) text
-        → requested (map string_bytes words.now) ≡ Some (plans domain problem numbers) → Says text horizon (codes "refuted") conflicts
-        → OfFiles (S.told shelf.old) domain problem (NoPlan horizon) }
+    ensures refuted_plans { OfPlans (map string_bytes words.now) (S.told shelf.old) (K.taken sink.old) (K.taken sink.new) (λ how text numbers of_files.
+        (horizon conflicts : ℕ) → Says text horizon (codes "refuted") conflicts → of_files (NoPlan horizon)) }
+
+    // Where the horizon below that of a printed plan is refuted, each step plan has at least as many steps as the plan.
+    ensures least { OfPlans (map string_bytes words.now) (S.told shelf.old) (K.taken sink.old) (K.taken sink.new) (λ how text numbers of_files.
+        (horizon conflicts actions : ℕ) → Contains (lines_of text) (plan_line (horizon + 1) actions) → Says text horizon (codes "refuted") conflicts → of_files (HasAtLeast how (horizon + 1))) }
 
     // Unfinished is printed only where the conflicts of the horizons are the budget.
-    ensures unfinished { (text domain problem : List ℕ) (numbers : Numbers) → result.0 ≡ 2 → Printed (K.taken sink.old) (K.taken sink.new) text
-        → requested (map string_bytes words.now) ≡ Some (plans domain problem numbers) → OfFiles (S.told shelf.old) domain problem (λ task. SpendsAll text numbers.budget) }
+    ensures unfinished { OfPlans (map string_bytes words.now) (S.told shelf.old) (K.taken sink.old) (K.taken sink.new) (λ how text numbers of_files.
+        result.0 ≡ 2 → of_files (λ task. SpendsAll text numbers.budget)) }
 
     // Each line of a horizon is so: after exactly so many conflicts its solver stands as the word says.
-    ensures lines { (text domain problem word : List ℕ) (numbers : Numbers) (horizon conflicts : ℕ) → Printed (K.taken sink.old) (K.taken sink.new) text
-        → requested (map string_bytes words.now) ≡ Some (plans domain problem numbers) → IsTrue (is_word word) → Says text horizon word conflicts
-        → OfFiles (S.told shelf.old) domain problem (LineIsSo horizon word conflicts) }
+    ensures lines { OfPlans (map string_bytes words.now) (S.told shelf.old) (K.taken sink.old) (K.taken sink.new) (λ how text numbers of_files.
+        (horizon conflicts : ℕ) (word : List ℕ) → IsTrue (is_word word) → Says text horizon word conflicts → of_files (LineIsSo how horizon word conflicts)) }
 
     // The facts and actions, and the order, that are printed are those of the task.
     ensures ground_told { (text domain problem : List ℕ) → result.0 ≡ 0 → Printed (K.taken sink.old) (K.taken sink.new) text
@@ -124,17 +113,38 @@ pub fn run<H: Threads + Wait + Sync, S: Shelf, K: Sink, G: Gate>(
         → (Rose (K.faults sink.old) (K.faults sink.new) → ⊥) → (result.0 ≡ 8) ⊎ ((end : Ending) × (result.0 ≡ status_of end) × IsGood end × (K.taken sink.new ≡ appended (K.taken sink.old) (text_of end))) }
 {
     laws();
+    answered(rt, alloc, words, shelf, sink, gate)
+}
+
+// Decides how the run ends, and writes the text of that.
+fn answered<H: Threads + Wait + Sync, S: Shelf, K: Sink, G: Gate>(
+    rt: &H,
+    alloc: Global,
+    words: &[String],
+    shelf: &mut S,
+    sink: &mut K,
+    gate: &G,
+) -> Status
+    ensures due { result.0 ≢ 6 → result.0 ≢ 8 → (end : Ending) × (result.0 ≡ status_of end)
+        × Comes (S.told shelf.old) (S.lacks shelf.old) (S.failed shelf.old) (S.failed shelf.new) (map string_bytes words.now) end
+        × (K.taken sink.new ≡ appended (K.taken sink.old) (text_of end)) }
+    ensures write_fault { result.0 ≡ 6 → Rose (K.faults sink.old) (K.faults sink.new) }
+    ensures front { result.0 ≢ 8 → (end : Ending)
+        × Comes (S.told shelf.old) (S.lacks shelf.old) (S.failed shelf.old) (S.failed shelf.new) (map string_bytes words.now) end
+        × IsSmall end × TakesFront (K.taken sink.old) (K.taken sink.new) (text_of end) }
+    ensures nothing { result.0 ≡ 8 → sink.new ≡ sink.old }
+    ensures no_command { command_named (map string_bytes words.now) ≡ None → result.0 ≢ 8 }
+    ensures untouched { requested (map string_bytes words.now) ≡ None → shelf.new ≡ shelf.old }
+    ensures noted { NotesAmong (names_in (map string_bytes words.now)) (S.failed shelf.old) (S.failed shelf.new) }
+    ensures told { S.told shelf.new ≡ S.told shelf.old }
+    ensures lacks { S.lacks shelf.new ≡ S.lacks shelf.old }
+    ensures never_falls { (name : List ℕ) → fault_count name (S.failed shelf.old) ≤ fault_count name (S.failed shelf.new) }
+    ensures faults { K.faults sink.old ≤ K.faults sink.new }
+{
     let Some(ending) = ended(decide(rt, alloc, words, shelf, gate)) else {
         return Status(8);
     };
-    let status = ending.status();
-    let Ok(due) = ending.text(alloc) else {
-        return Status(8);
-    };
-    let Ok(()) = put_all(sink, due.as_slice()) else {
-        return Status(6);
-    };
-    Status(status)
+    written(alloc, ending, sink)
 }
 
 /// The ending, answered or handed on; none for want of memory.

@@ -1,5 +1,7 @@
+use Rattle.plan_top.specs.Tasks.{OnceRead, read}
 use Rattle.plan_top.specs.Causes.{AnswersCheck}
-use Rattle.plan_top.proofs.Answered.{refused_handed, read_handed}
+use Rattle.plan_top.proofs.Stopped.{EndsAs-weaker}
+use Rattle.plan_top.proofs.Answered.{refused_handed}
 use Rattle.plan_top.proofs.answer.answer_check.Goals as goal
 
 pub returns-in_err-task : goal.returns-in_err-task
@@ -8,4 +10,5 @@ returns-in_err-task c =
 
 pub returns : goal.returns
 returns c =
-    read_handed c.args.domain.now c.args.problem.now (λ task. AnswersCheck task c.args.plan.now) c.in_ok-task.task c.in_ok-task.ensures.task c.in_ok-task.ensures.well_formed c.check_task.result c.check_task.ensures
+    EndsAs-weaker (AnswersCheck c.in_ok-task.task c.args.plan.now) (OnceRead c.args.domain.now c.args.problem.now (λ task. AnswersCheck task c.args.plan.now))
+    (λ end h. read c.in_ok-task.task c.in_ok-task.ensures.task h) c.check_task.result c.check_task.ensures

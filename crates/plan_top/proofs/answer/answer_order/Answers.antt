@@ -1,12 +1,25 @@
-use Rattle.plan_top.specs.Tasks.{OnceGrounded}
+use Rattle.std.proofs.Common.{◌≡◌, ◌∙◌, ◌++◌, ℕ, List, length, ap, subst}
+use Rattle.gt_core.specs.Task.{Task}
+use Rattle.two_invariants.specs.Closed.{AreInvariants}
+use Rattle.task_text.specs.Text.{order_text}
+use Rattle.plan_top.specs.declared.ending.Ending.TheVariants.{Listing}
+use Rattle.plan_top.specs.Tasks.{grounded}
 use Rattle.plan_top.specs.Causes.{AnswersOrder}
-use Rattle.plan_top.proofs.Answered.{refused_handed, read_handed}
+use Rattle.plan_top.proofs.Answered.{stop_handed}
 use Rattle.plan_top.proofs.answer.answer_order.Goals as goal
 
-pub returns-in_err-task : goal.returns-in_err-task
-returns-in_err-task g c =
-    refused_handed c.args.domain.now c.args.problem.now (λ task. OnceGrounded task (AnswersOrder task)) c.in_err-task.field-0.0 c.from_residual.result c.from_residual.ensures.1 c.in_err-task.ensures.stops
+pub returns-in_err-ready : goal.returns-in_err-ready
+returns-in_err-ready g c =
+    stop_handed c.args.domain.now c.args.problem.now AnswersOrder c.in_err-ready.field-0.0 c.from_residual.result c.from_residual.ensures.1 c.in_err-ready.ensures.stops
+
+pub push_order-requires-clause-published : goal.push_order-requires-clause-published
+push_order-requires-clause-published g c = rw c.task-acts.ensures at c.in_ok-order.ensures.published
 
 pub returns : goal.returns
 returns g c =
-    read_handed c.args.domain.now c.args.problem.now (λ task. OnceGrounded task (AnswersOrder task)) c.in_ok-task.task c.in_ok-task.ensures.task c.in_ok-task.ensures.well_formed c.order_task.result c.order_task.ensures
+    let ready = c.in_ok-ready.ready in
+    let order = c.in_ok-order.order in
+    let clauses = c.in_ok-pairs.pairs.clauses in
+    let text : c.of.result ≡ order_text ready.task ready.grounded order (length clauses) = c.of.ensures ∙ c.in_ok-push_order.ensures ∙ ap (λ (xs : List ℕ). xs ++ order_text ready.task ready.grounded order (length clauses)) c.new-text.ensures.items in
+    grounded ready.task ready.grounded c.in_ok-ready.ensures.task c.in_ok-ready.ensures.ready
+    (clauses, order, record { known = subst (λ (t : Task). AreInvariants t clauses) c.task-acts.ensures c.in_ok-pairs.ensures.greatest; published = rw c.task-acts.ensures at c.in_ok-order.ensures.published }, ap Listing text)

@@ -1,7 +1,7 @@
 use Rattle.std.proofs.Common.{sym, map, string_bytes}
 use Rattle.plan_words.specs.Seen.{seen, files_of}
 use Rattle.plan_top.specs.Files.{StopsFrom}
-use Rattle.plan_top.specs.Causes.{Comes, Decides, stopped, of_request}
+use Rattle.plan_top.specs.Causes.{Comes, Decides, stopped}
 use Rattle.plan_top.proofs.Stopped.{EndsAs-handed, EndsAs-weaker}
 use Rattle.plan_top.proofs.Taking.{taken_short, taken_count}
 use Rattle.plan_top.proofs.Told.{taken_comes}
@@ -13,7 +13,7 @@ returns-in_err-files-clause-cause g c =
     let lacks = g.S.Shelf.lacks c.args.shelf.now in
     EndsAs-handed (StopsFrom told lacks (g.S.Shelf.failed c.args.shelf.now) (g.S.Shelf.failed c.take_files.new.shelf) 0 (files_of (seen c.in-Some.request)))
     (Comes told lacks (g.S.Shelf.failed c.args.shelf.now) (g.S.Shelf.failed c.take_files.new.shelf) (map string_bytes c.args.words.now))
-    (λ end h. of_request (seen c.in-Some.request) (sym (rw c.in-Some.is at c.in_ok-request.ensures.request)) (stopped h)) c.in_err-files.field-0.0 c.from_residual-in_err-files.result c.from_residual-in_err-files.ensures.1 c.in_err-files.ensures.stops
+    (λ end h. stopped (seen c.in-Some.request) (sym (rw c.in-Some.is at c.in_ok-request.ensures.request)) h) c.in_err-files.field-0.0 c.from_residual-in_err-files.result c.from_residual-in_err-files.ensures.1 c.in_err-files.ensures.stops
 
 pub returns-clause-cause : goal.returns-clause-cause
 returns-clause-cause g c =
@@ -24,7 +24,7 @@ returns-clause-cause g c =
     let words = map string_bytes c.args.words.now in
     let request = seen c.in-Some.request in
     EndsAs-weaker (Decides request c.in_ok-files.files.items) (Comes told lacks old new words)
-    (λ end h. of_request request (sym (rw c.in-Some.is at c.in_ok-request.ensures.request)) (taken_comes told lacks old new request c.in_ok-files.files.items c.in_ok-files.ensures.taken end h))
+    (λ end h. taken_comes told lacks old new words request (sym (rw c.in-Some.is at c.in_ok-request.ensures.request)) c.in_ok-files.files.items c.in_ok-files.ensures.taken end h)
     c.answer.result (rw c.deref.ensures.value at c.answer.ensures)
 
 pub answer-requires-clause-fit : goal.answer-requires-clause-fit

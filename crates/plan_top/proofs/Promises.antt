@@ -1,0 +1,371 @@
+-- The promises of the top call, each from what it needs alone: mostly that its ending has a cause and that its text is written.
+use Rattle.std.proofs.Common.{◌≡◌, ◌≤◌, ◌+◌, ℕ, Bool, true, false, List, [], ◌∷◌, Option, Some, None, Ok, refl, sym, ap, subst, ◌∙◌, arith, inl, inr, codes}
+use Rattle.std.specs.Prelude.{IsTrue, Contains, ◌⊎◌}
+use Rattle.std.proofs.lemmas.Bool.Decides.{eqb_tells}
+use Rattle.pl_io.specs.Outside.{appended, TakesFront}
+use Rattle.report_lines.specs.Lines.{lines_of}
+use Rattle.report_lines.specs.Horizons.{Says, is_word}
+use Rattle.horizon_rates.specs.declared.settings.Settings.{Settings}
+use Rattle.pd_model.specs.Plan.{IsPlan, verdict}
+use Rattle.pd_model.specs.declared.calls.Call.{Call}
+use Rattle.pd_model.specs.declared.calls.Verdict.{Verdict}
+use Rattle.pd_model.specs.declared.calls.Verdict.TheVariants as verdicts
+use Rattle.pd_model.specs.declared.parts.Parts.{Parts}
+use Rattle.pd_model.specs.declared.memory.Which.{Which}
+use Rattle.pd_plan.specs.PlanFile.{plan_file}
+use Rattle.pd_plan.specs.Fault as plan
+use Rattle.grounding.specs.Grounded.{Grounded}
+use Rattle.race_end.specs.declared.end.RaceEnd.{RaceEnd}
+use Rattle.race_end.specs.declared.end.RaceEnd.TheVariants as races
+use Rattle.race_end.specs.Ends.{end_view, lines_in}
+use Rattle.plan_report.specs.Report.{report_of, plan_line}
+use Rattle.plan_report.specs.Laws.{IsSmall as IsSmallReport, HasCalls, Tells}
+use Rattle.plan_words.specs.Seen.{Seen, Numbers, numbers, plans, checks, grounds, orders, generates, files_of}
+use Rattle.plan_words.specs.Requested.{requested}
+use Rattle.plan_top.specs.declared.ending.Outcome.{Outcome}
+use Rattle.plan_top.specs.declared.ending.Outcome.TheVariants as outcomes
+use Rattle.plan_top.specs.declared.ending.Ending.{Ending}
+use Rattle.plan_top.specs.declared.ending.Ending.TheVariants.{Report, Listing, Reaches, Blocked, Short, Refused, TooLong, TooMany, TooLarge, ReadFault, Usage}
+use Rattle.plan_top.specs.Files.{StopsFrom, OfTold, RoseAmong, file_at}
+use Rattle.plan_top.specs.Stepping.{Stepping, Exists, asked_by, places_by, is_plan_by}
+use Rattle.plan_top.specs.Tasks.{AreTask, RefusesTask, IsReady, StopsTask, refused, past, OnceRead, not_read, read, OnceGrounded, not_grounded, grounded}
+use Rattle.plan_top.specs.Raced.{ComesTo, too_large, ended, outcome_of}
+use Rattle.plan_top.specs.Causes.{Decides, TellsRace, AnswersPlan, AnswersGround, AnswersOrder, AnswersCheck, refusal_of_plan, ending_of, is_answer, Comes, no_request, stopped, decided, FaultOf}
+use Rattle.plan_top.specs.Complete.{GoesWell, IsGood}
+use Rattle.plan_top.specs.OneReport.{AskForOneRace, HasRead}
+use Rattle.plan_top.specs.Ending.{status_of, status_of_race, text_of, IsSmall}
+use Rattle.plan_top.specs.Headline.{Printed, OfFiles, OfPlans, PlanRuns, HasAtLeast, NoStepPlan, NoPlan, LineIsSo, SpendsAll, TellsGround, TellsOrder, CallsRun}
+use Rattle.plan_top.specs.Laws.{Laws}
+use Rattle.plan_top.proofs.Claims as claims
+use Rattle.plan_top.proofs.Told.{task_refusal, two_weaker, three_weaker, IsOfRequest, asked_comes, not_asked_comes}
+use Rattle.plan_top.proofs.Reports.{is_stop, stop_status, stop_says_nothing, printed_is, printed_front, nothing_said}
+use Rattle.plan_top.proofs.Verdicts.{reaches_is_plan}
+use Rattle.plan_top.proofs.Complete.{complete as goes_well}
+use Rattle.plan_top.proofs.OneReport.{one_ending, has_read}
+
+-- ---- endings that stop a run
+
+not_low : {A : Type 0} (end : Ending) → is_stop end ≡ true → status_of end ≤ 2 → A
+not_low end stop low = let high = stop_status end stop in absurd (omega (arith, high, low))
+
+refused_stops : (domain problem : List ℕ) (end : Ending) → RefusesTask domain problem end → is_stop end ≡ true
+refused_stops domain problem end r = ap is_stop (task_refusal domain problem end r).3
+
+fault_stops : (f : plan.Fault) → is_stop (refusal_of_plan f) ≡ true
+fault_stops (plan.syntax at) = refl
+fault_stops (plan.unknown at) = refl
+fault_stops (plan.arity at) = refl
+fault_stops (plan.mistyped at) = refl
+
+files_stop : (told : List ℕ → Option (List ℕ)) (lacks : List ℕ → Bool) (old new : List (List ℕ)) (place : ℕ) (names : List (List ℕ)) (end : Ending) → StopsFrom told lacks old new place names end → is_stop end ≡ true
+files_stop told lacks old new place [] end h = absurd h
+files_stop told lacks old new place (name ∷ names) end (inl (inl fault)) = ap is_stop fault.0
+files_stop told lacks old new place (name ∷ names) end (inl (inr long)) = ap is_stop long.0
+files_stop told lacks old new place (name ∷ names) end (inr after) = files_stop told lacks old new (place + 1) names end after.1
+
+task_stops : (domain problem : List ℕ) (end : Ending) → StopsTask domain problem end → is_stop end ≡ true
+task_stops domain problem end (refused r) = refused_stops domain problem end r
+task_stops domain problem end (past task are over) = ap is_stop over.2
+
+-- two files that do not stop the run are a task of which the ending tells
+goes_on : (domain problem : List ℕ) (answers : Parts → Grounded → Ending → Type 0) (end : Ending) → (is_stop end ≡ true → ⊥) → OnceGrounded domain problem answers end
+    → (task : Parts) × (g : Grounded) × AreTask domain problem task × IsReady task g × answers task g end
+goes_on domain problem answers end on (not_grounded s) = absurd (on (task_stops domain problem end s))
+goes_on domain problem answers end on (grounded task g are ready h) = (task, g, are, ready, h)
+
+-- ---- the report of a race
+
+-- a race on two files came to an end, of which the ending is the report
+pub record Raced (how : Stepping) (settings : Settings) (domain problem : List ℕ) (end : Ending) : Type 0 where
+  pub task : Parts
+  pub g : Grounded
+  pub are : AreTask domain problem task
+  pub ready : IsReady task g
+  pub race : RaceEnd
+  pub comes : ComesTo (places_by how) (is_plan_by how) g.task settings race
+  pub tells : TellsRace settings task g race end
+
+raced : (how : Stepping) (settings : Settings) (domain problem : List ℕ) (end : Ending) → (is_stop end ≡ true → ⊥) → OnceGrounded domain problem (AnswersPlan how settings) end → Raced how settings domain problem end
+raced how settings domain problem end on h = let r = goes_on domain problem (AnswersPlan how settings) end on h in step r.0 r.1 r.2 r.3 r.4
+  where
+    step : (task : Parts) (g : Grounded) → AreTask domain problem task → IsReady task g → AnswersPlan how settings task g end → Raced how settings domain problem end
+    step task g are ready (too_large over) = absurd (on (ap is_stop over.2))
+    step task g are ready (ended race comes tells) = record { task = task; g = g; are = are; ready = ready; race = race; comes = comes; tells = tells }
+
+module _ (laws : Laws) (how : Stepping) (settings : Settings) (domain problem : List ℕ) (end : Ending) (r : Raced how settings domain problem end) where
+  -- a report of status 0 is that of a plan, and one of status 2 that the budget is spent
+  plan_of : status_of end ≡ 0 → PlanRuns how (text_of end) r.task
+  plan_of zero = subst (λ (e : Ending). PlanRuns how (text_of e) r.task) (sym r.tells.told) (step r.race r.comes r.tells.small (sym (ap status_of r.tells.told) ∙ zero))
+    where
+      step : (race : RaceEnd) → ComesTo (places_by how) (is_plan_by how) r.g.task settings race → IsSmallReport settings.budget (end_view race) → status_of_race (outcome_of (end_view race)) ≡ 0
+          → PlanRuns how (report_of r.task r.g settings.budget (end_view race)) r.task
+      step (races.Plan horizon steps lines) comes small zero = claims.plan_runs laws how settings r.task r.g r.ready horizon steps lines comes small
+      step (races.Exhausted horizon lines) comes small zero = absurd (omega arith)
+      step (races.Unfinished lines) comes small zero = absurd (omega arith)
+
+  spent_of : status_of end ≡ 2 → SpendsAll (text_of end) settings.budget
+  spent_of two = subst (λ (e : Ending). SpendsAll (text_of e) settings.budget) (sym r.tells.told) (step r.race r.comes r.tells.small (sym (ap status_of r.tells.told) ∙ two))
+    where
+      step : (race : RaceEnd) → ComesTo (places_by how) (is_plan_by how) r.g.task settings race → IsSmallReport settings.budget (end_view race) → status_of_race (outcome_of (end_view race)) ≡ 2
+          → SpendsAll (report_of r.task r.g settings.budget (end_view race)) settings.budget
+      step (races.Plan horizon steps lines) comes small two = absurd (omega arith)
+      step (races.Exhausted horizon lines) comes small two = absurd (omega arith)
+      step (races.Unfinished lines) comes small two = claims.spends_all laws how settings r.task r.g r.ready lines comes small
+
+  its_calls : HasCalls r.task r.g (end_view r.race)
+  its_calls = step r.race r.comes
+    where
+      step : (race : RaceEnd) → ComesTo (places_by how) (is_plan_by how) r.g.task settings race → HasCalls r.task r.g (end_view race)
+      step (races.Plan horizon steps lines) comes = claims.has_calls laws how settings r.task r.g r.ready horizon steps lines comes
+      step (races.Exhausted horizon lines) comes = tt
+      step (races.Unfinished lines) comes = tt
+
+  -- what the report says of a horizon its end tells
+  said_of : (horizon : ℕ) (word : List ℕ) (conflicts : ℕ) → IsTrue (is_word word) → Says (text_of end) horizon word conflicts → Tells (lines_in (end_view r.race)) horizon word conflicts
+  said_of horizon word conflicts one says =
+      laws.horizons r.task r.g settings.budget (end_view r.race) horizon word conflicts r.ready.well r.tells.small its_calls one
+      (subst (λ (e : Ending). Says (text_of e) horizon word conflicts) r.tells.told says)
+
+-- ---- the other commands
+
+ground_listed : (domain problem : List ℕ) (end : Ending) → (is_stop end ≡ true → ⊥) → OnceGrounded domain problem AnswersGround end → (task : Parts) × AreTask domain problem task × TellsGround (text_of end) task
+ground_listed domain problem end on h = let r = goes_on domain problem AnswersGround end on h in (r.0, r.2, (r.1, r.3.grounded, ap text_of r.4))
+
+order_listed : (domain problem : List ℕ) (end : Ending) → (is_stop end ≡ true → ⊥) → OnceGrounded domain problem AnswersOrder end → (task : Parts) × AreTask domain problem task × TellsOrder (text_of end) task
+order_listed domain problem end on h =
+    let r = goes_on domain problem AnswersOrder end on h in
+    (r.0, r.2, (r.1, r.4.0, r.4.1, r.3.grounded, r.4.2, ap text_of r.4.3))
+
+verdict_reaches : (v : Verdict) → status_of (ending_of v) ≡ 0 → v ≡ verdicts.Reaches
+verdict_reaches verdicts.Reaches zero = refl
+verdict_reaches (verdicts.Blocked index) zero = absurd (omega arith)
+verdict_reaches verdicts.Short zero = absurd (omega arith)
+
+calls_reach : (task : Parts) (bytes : List ℕ) (end : Ending) → status_of end ≡ 0 → AnswersCheck task bytes end → (calls : List Call) × (plan_file task bytes ≡ Ok calls) × IsPlan task calls
+calls_reach task bytes end zero (inl h) =
+    let reaches = verdict_reaches (verdict task h.0) (sym (ap status_of h.2) ∙ zero) in
+    (h.0, h.1, reaches_is_plan task 0 task.init h.0 reaches)
+calls_reach task bytes end zero (inr h) = not_low end (ap is_stop h.2 ∙ fault_stops h.0) (omega arith)
+
+check_reached : (domain problem bytes : List ℕ) (end : Ending) → status_of end ≡ 0 → OnceRead domain problem (λ task. AnswersCheck task bytes) end
+    → (task : Parts) × (calls : List Call) × AreTask domain problem task × (plan_file task bytes ≡ Ok calls) × IsPlan task calls
+check_reached domain problem bytes end zero (not_read r) = not_low end (refused_stops domain problem end r) (omega arith)
+check_reached domain problem bytes end zero (read task are h) = let c = calls_reach task bytes end zero h in (task, c.0, are, c.1, c.2)
+
+-- ---- words that are not taken
+
+usage_answers : (request : Seen) → is_answer request Usage ≡ true → ⊥
+usage_answers (plans d p n) h = let never : false ≡ true = h in cc
+usage_answers (checks d p l) h = let never : false ≡ true = h in cc
+usage_answers (grounds d p) h = let never : false ≡ true = h in cc
+usage_answers (orders d p) h = let never : false ≡ true = h in cc
+usage_answers (generates k m n s) h = let never : false ≡ true = h in cc
+
+race_status : (outcome : Outcome) → status_of_race outcome ≤ 2
+race_status outcomes.Planned = omega arith
+race_status outcomes.Exhausted = omega arith
+race_status outcomes.Unfinished = omega arith
+
+seven_only : (end : Ending) → status_of end ≡ 7 → end ≡ Usage
+seven_only (Report outcome text) seven = absurd (let low = race_status outcome in omega (arith, low))
+seven_only (Listing text) seven = absurd (omega arith)
+seven_only Reaches seven = absurd (omega arith)
+seven_only (Blocked index) seven = absurd (omega arith)
+seven_only Short seven = absurd (omega arith)
+seven_only (Refused kind file at) seven = absurd (omega arith)
+seven_only (TooLong file) seven = absurd (omega arith)
+seven_only (TooMany what count) seven = absurd (omega arith)
+seven_only (TooLarge horizon count) seven = absurd (omega arith)
+seven_only (ReadFault file) seven = absurd (omega arith)
+seven_only Usage seven = refl
+
+five_only : (end : Ending) → status_of end ≡ 5 → (file : Which) × (end ≡ ReadFault file)
+five_only (Report outcome text) five = absurd (let low = race_status outcome in omega (arith, low))
+five_only (Listing text) five = absurd (omega arith)
+five_only Reaches five = absurd (omega arith)
+five_only (Blocked index) five = absurd (omega arith)
+five_only Short five = absurd (omega arith)
+five_only (Refused kind file at) five = absurd (omega arith)
+five_only (TooLong file) five = absurd (omega arith)
+five_only (TooMany what count) five = absurd (omega arith)
+five_only (TooLarge horizon count) five = absurd (omega arith)
+five_only (ReadFault file) five = (file, refl)
+five_only Usage five = absurd (omega arith)
+
+fault_answers : (request : Seen) (file : Which) → is_answer request (ReadFault file) ≡ true → ⊥
+fault_answers (plans d p n) file h = let never : false ≡ true = h in cc
+fault_answers (checks d p l) file h = let never : false ≡ true = h in cc
+fault_answers (grounds d p) file h = let never : false ≡ true = h in cc
+fault_answers (orders d p) file h = let never : false ≡ true = h in cc
+fault_answers (generates k m n s) file h = let never : false ≡ true = h in cc
+
+-- ---- what is told
+
+-- What a shelf told, its faults, the words, what the sink had taken, and the status of a run.
+module _ (told : List ℕ → Option (List ℕ)) (lacks : List ℕ → Bool) (old new : List (List ℕ)) (words : List (List ℕ)) (before after : Option (List ℕ)) (status : ℕ) where
+  -- the status of an ending that comes, and its text, but for a write fault and want of memory
+  abbrev pub IsDue : Type 0
+  IsDue = (status ≡ 6 → ⊥) → (status ≡ 8 → ⊥) → (end : Ending) × (status ≡ status_of end) × Comes told lacks old new words end × (after ≡ appended before (text_of end))
+
+  -- a front of the text of an ending that comes, but for want of memory
+  abbrev pub IsFront : Type 0
+  IsFront = (status ≡ 8 → ⊥) → (end : Ending) × Comes told lacks old new words end × IsSmall end × TakesFront before after (text_of end)
+
+  due_at : (k : ℕ) → IsDue → status ≡ k → k ≤ 5 → (end : Ending) × (status_of end ≡ k) × Comes told lacks old new words end × (after ≡ appended before (text_of end))
+  due_at k due is low =
+      let d = due (λ six. absurd (omega arith)) (λ eight. absurd (omega arith)) in
+      (d.0, sym d.1 ∙ is, d.2, d.3)
+
+  -- what was decided for a request by an ending that does not stop
+  decided_for : (end : Ending) → Comes told lacks old new words end → (request : Seen) → requested words ≡ Some request → (is_stop end ≡ true → ⊥) → OfTold told (files_of request) (λ files. Decides request files end)
+  decided_for end comes request asked on = step (asked_comes told lacks old new words request asked end comes)
+    where
+      step : IsOfRequest told lacks old new words request asked end → OfTold told (files_of request) (λ files. Decides request files end)
+      step (inl h) = absurd (on (files_stop told lacks old new 0 (files_of request) end h))
+      step (inr h) = h.2
+
+  -- a claim on the task of a race that came to an end
+  of_race : (end : Ending) → Comes told lacks old new words end → (how : Stepping) (domain problem : List ℕ) (n : Numbers) (claim : Parts → Type 0) → requested words ≡ Some (asked_by how domain problem n) → (is_stop end ≡ true → ⊥)
+      → ((settings : Settings) → numbers settings ≡ n → (first second : List ℕ) (r : Raced how settings first second end) → claim r.task) → OfFiles told domain problem claim
+  of_race end comes Exists domain problem n claim asked on from =
+      two_weaker (λ first second. Decides (plans domain problem n) (first ∷ second ∷ []) end) (λ first second. (task : Parts) × AreTask first second task × claim task) (told domain) (told problem)
+      (λ first second h. let r = raced Exists h.0 first second end on h.2 in (r.task, r.are, from h.0 h.1 first second r))
+      (decided_for end comes (plans domain problem n) asked on)
+
+  pub plan_runs : Laws → IsDue → OfPlans words told before after (λ how text n of_files. status ≡ 0 → of_files (PlanRuns how text))
+  plan_runs laws due how text domain problem n printed asked zero =
+      let d = due_at 0 due zero (omega arith) in
+      let is : text ≡ text_of d.0 = printed_is before after text (text_of d.0) printed d.3 in
+      of_race d.0 d.2 how domain problem n (PlanRuns how text) asked (λ stop. let low : status_of d.0 ≤ 2 = omega (arith, d.1) in not_low d.0 stop low)
+      (λ settings same first second r. subst (λ (xs : List ℕ). PlanRuns how xs r.task) (sym is) (plan_of laws how settings first second d.0 r d.1))
+
+  pub unfinished : Laws → IsDue → OfPlans words told before after (λ how text n of_files. status ≡ 2 → of_files (λ task. SpendsAll text n.budget))
+  unfinished laws due how text domain problem n printed asked two =
+      let d = due_at 2 due two (omega arith) in
+      let is : text ≡ text_of d.0 = printed_is before after text (text_of d.0) printed d.3 in
+      of_race d.0 d.2 how domain problem n (λ task. SpendsAll text n.budget) asked (λ stop. let low : status_of d.0 ≤ 2 = omega (arith, d.1) in not_low d.0 stop low)
+      (λ settings same first second r. subst (SpendsAll text) (ap (λ (x : Numbers). x.budget) same) (subst (λ (xs : List ℕ). SpendsAll xs settings.budget) (sym is) (spent_of laws how settings first second d.0 r d.1)))
+
+  -- a claim on the task of a listing
+  of_listing : (text : List ℕ) → Printed before after text → IsDue → (request : Seen) (domain problem : List ℕ) (claim : List ℕ → Parts → Type 0) → files_of request ≡ domain ∷ problem ∷ [] → requested words ≡ Some request → status ≡ 0
+      → ((end : Ending) (first second : List ℕ) → (is_stop end ≡ true → ⊥) → Decides request (first ∷ second ∷ []) end → (task : Parts) × AreTask first second task × claim (text_of end) task) → OfFiles told domain problem (claim text)
+  of_listing text printed due request domain problem claim names asked zero from =
+      let d = due_at 0 due zero (omega arith) in
+      let is : text ≡ text_of d.0 = printed_is before after text (text_of d.0) printed d.3 in
+      let on : is_stop d.0 ≡ true → ⊥ = λ stop. let low : status_of d.0 ≤ 2 = omega (arith, d.1) in not_low d.0 stop low in
+      two_weaker (λ first second. Decides request (first ∷ second ∷ []) d.0) (λ first second. (task : Parts) × AreTask first second task × claim text task) (told domain) (told problem)
+      (λ first second h. subst (λ (xs : List ℕ). (task : Parts) × AreTask first second task × claim xs task) (sym is) (from d.0 first second on h))
+      (subst (λ (ns : List (List ℕ)). OfTold told ns (λ files. Decides request files d.0)) names (decided_for d.0 d.2 request asked on))
+
+  pub ground_told : IsDue → (text domain problem : List ℕ) → status ≡ 0 → Printed before after text → requested words ≡ Some (grounds domain problem) → OfFiles told domain problem (TellsGround text)
+  ground_told due text domain problem zero printed asked =
+      of_listing text printed due (grounds domain problem) domain problem TellsGround refl asked zero (λ end first second on h. ground_listed first second end on h)
+
+  pub order_told : IsDue → (text domain problem : List ℕ) → status ≡ 0 → Printed before after text → requested words ≡ Some (orders domain problem) → OfFiles told domain problem (TellsOrder text)
+  order_told due text domain problem zero printed asked =
+      of_listing text printed due (orders domain problem) domain problem TellsOrder refl asked zero (λ end first second on h. order_listed first second end on h)
+
+  pub reached : IsDue → (domain problem plan_name : List ℕ) → status ≡ 0 → requested words ≡ Some (checks domain problem plan_name) → CallsRun told domain problem plan_name
+  reached due domain problem plan_name zero asked =
+      let d = due_at 0 due zero (omega arith) in
+      three_weaker (λ first second third. Decides (checks domain problem plan_name) (first ∷ second ∷ third ∷ []) d.0)
+      (λ first second third. (task : Parts) × (calls : List Call) × AreTask first second task × (plan_file task third ≡ Ok calls) × IsPlan task calls)
+      (told domain) (told problem) (told plan_name) (λ first second third h. check_reached first second third d.0 d.1 h)
+      (decided_for d.0 d.2 (checks domain problem plan_name) asked (λ stop. let low : status_of d.0 ≤ 2 = omega (arith, d.1) in not_low d.0 stop low))
+
+  -- ---- what the text says of horizons
+
+  module _ (laws : Laws) (front : IsFront) (nothing : status ≡ 8 → after ≡ before) where
+    -- what the text says of a horizon, the end of the race tells
+    of_said : (how : Stepping) (text domain problem : List ℕ) (n : Numbers) → Printed before after text → requested words ≡ Some (asked_by how domain problem n) → (horizon : ℕ) (word : List ℕ) (conflicts : ℕ) (claim : Parts → Type 0)
+        → IsTrue (is_word word) → Says text horizon word conflicts
+        → ((settings : Settings) (task : Parts) (g : Grounded) (ready : IsReady task g) (race : RaceEnd) → ComesTo (places_by how) (is_plan_by how) g.task settings race → Tells (lines_in (end_view race)) horizon word conflicts → claim task) → OfFiles told domain problem claim
+    of_said how text domain problem n printed asked horizon word conflicts claim one says from = elim (eqb_tells status 8) [
+      | inl (t, eight) ↦ nothing_said before text horizon conflicts word (subst (λ (o : Option (List ℕ)). Printed before o text) (nothing eight) printed) says
+      | inr (f, other) ↦ on_front (front other)
+    ]
+      where
+        on_front : ((end : Ending) × Comes told lacks old new words end × IsSmall end × TakesFront before after (text_of end)) → OfFiles told domain problem claim
+        on_front (end, comes, small, takes) =
+            let due = printed_front before after text (text_of end) printed takes in
+            let whole : Says (text_of end) horizon word conflicts = subst (λ (xs : List ℕ). Says xs horizon word conflicts) (sym due.1) (laws.fronts text due.0 horizon word conflicts says) in
+            of_race end comes how domain problem n claim asked (λ stop. stop_says_nothing laws.entries end stop small horizon word conflicts one whole)
+            (λ settings same first second r. from settings r.task r.g r.ready r.race r.comes (said_of laws how settings first second end r horizon word conflicts one whole))
+
+    pub refuted_steps : OfPlans words told before after (λ how text n of_files. (horizon conflicts : ℕ) → Says text horizon (codes "refuted") conflicts → of_files (NoStepPlan how horizon))
+    refuted_steps how text domain problem n printed asked horizon conflicts says =
+        of_said how text domain problem n printed asked horizon (codes "refuted") conflicts (NoStepPlan how horizon) refl says
+        (λ settings task g ready race comes tells. claims.no_step_plan laws how settings task g ready race comes horizon conflicts tells)
+
+    pub refuted_plans : OfPlans words told before after (λ how text n of_files. (horizon conflicts : ℕ) → Says text horizon (codes "refuted") conflicts → of_files (NoPlan horizon))
+    refuted_plans how text domain problem n printed asked horizon conflicts says =
+        of_said how text domain problem n printed asked horizon (codes "refuted") conflicts (NoPlan horizon) refl says
+        (λ settings task g ready race comes tells. claims.no_plan laws how settings task g ready race comes horizon conflicts tells)
+
+    pub least : OfPlans words told before after (λ how text n of_files. (horizon conflicts actions : ℕ) → Contains (lines_of text) (plan_line (horizon + 1) actions) → Says text horizon (codes "refuted") conflicts → of_files (HasAtLeast how (horizon + 1)))
+    least how text domain problem n printed asked horizon conflicts actions line says =
+        of_said how text domain problem n printed asked horizon (codes "refuted") conflicts (HasAtLeast how (horizon + 1)) refl says
+        (λ settings task g ready race comes tells. claims.at_least laws how settings task g ready race comes horizon conflicts tells)
+
+    pub lines : OfPlans words told before after (λ how text n of_files. (horizon conflicts : ℕ) (word : List ℕ) → IsTrue (is_word word) → Says text horizon word conflicts → of_files (LineIsSo how horizon word conflicts))
+    lines how text domain problem n printed asked horizon conflicts word one says =
+        of_said how text domain problem n printed asked horizon word conflicts (LineIsSo how horizon word conflicts) one says
+        (λ settings task g ready race comes tells. claims.line_is_so laws how settings task g ready race comes horizon word conflicts tells)
+
+  -- ---- words and faults
+
+  usage_only : (end : Ending) → end ≡ Usage → Comes told lacks old new words end → requested words ≡ None
+  usage_only end is (no_request none e) = none
+  usage_only end is (stopped request asked h) = absurd (let never : false ≡ true = sym (ap is_stop is) ∙ files_stop told lacks old new 0 (files_of request) end h in cc)
+  usage_only end is (decided request asked fit answer h) = absurd (usage_answers request (subst (λ (e : Ending). is_answer request e ≡ true) is answer))
+
+  pub usage : IsDue → status ≡ 7 → requested words ≡ None
+  usage due seven = let d = due (λ six. absurd (omega arith)) (λ eight. absurd (omega arith)) in usage_only d.0 (seven_only d.0 (sym d.1 ∙ seven)) d.2
+
+  fault_among : (place : ℕ) (names : List (List ℕ)) (end : Ending) (file : Which) → end ≡ ReadFault file → StopsFrom told lacks old new place names end → RoseAmong names old new
+  fault_among place [] end file is h = h
+  fault_among place (name ∷ names) end file is (inl (inl fault)) = inl fault.1
+  fault_among place (name ∷ names) end file is (inl (inr long)) = absurd (let never : ReadFault file ≡ TooLong (file_at place) = sym is ∙ long.0 in cc)
+  fault_among place (name ∷ names) end file is (inr more) = inr (fault_among (place + 1) names end file is more.1)
+
+  fault_of : (end : Ending) (file : Which) → end ≡ ReadFault file → Comes told lacks old new words end → FaultOf old new words
+  fault_of end file is (no_request none e) = absurd (let never : ReadFault file ≡ Usage = sym is ∙ e in cc)
+  fault_of end file is (stopped request asked h) = rw asked (fault_among 0 (files_of request) end file is h)
+  fault_of end file is (decided request asked fit answer h) = absurd (fault_answers request file (subst (λ (e : Ending). is_answer request e ≡ true) is answer))
+
+  pub read_fault : IsDue → status ≡ 5 → FaultOf old new words
+  read_fault due five = let d = due_at 5 due five (omega arith) in let f = five_only d.0 d.1 in fault_of d.0 f.0 f.1 d.2
+
+  pub not_taken : IsDue → requested words ≡ None → Contains (6 ∷ 7 ∷ 8 ∷ []) status
+  not_taken due none = elim (eqb_tells status 6) [
+    | inl (t, six) ↦ (0, omega arith, sym six)
+    | inr (f, not_six) ↦ elim (eqb_tells status 8) [
+      | inl (t, eight) ↦ (2, omega arith, sym eight)
+      | inr (g, not_eight) ↦ other (due not_six not_eight)
+    ]
+  ]
+    where
+      other : ((end : Ending) × (status ≡ status_of end) × Comes told lacks old new words end × (after ≡ appended before (text_of end))) → Contains (6 ∷ 7 ∷ 8 ∷ []) status
+      other (end, is, comes, all) = (1, omega arith, sym (is ∙ ap status_of (not_asked_comes told lacks old new words none end comes)))
+
+  pub no_command : IsDue → (requested words ≡ None) → (status ≡ 8 → ⊥) → Contains (6 ∷ 7 ∷ []) status
+  no_command due none not_eight = elim (eqb_tells status 6) [
+    | inl (t, six) ↦ (0, omega arith, sym six)
+    | inr (f, not_six) ↦ other (due not_six not_eight)
+  ]
+    where
+      other : ((end : Ending) × (status ≡ status_of end) × Comes told lacks old new words end × (after ≡ appended before (text_of end))) → Contains (6 ∷ 7 ∷ []) status
+      other (end, is, comes, all) = (1, omega arith, sym (is ∙ ap status_of (not_asked_comes told lacks old new words none end comes)))
+
+  pub same_report : Laws → IsDue → (elsewhere : List ℕ → Option (List ℕ)) (lacking : List ℕ → Bool) (others was is : List (List ℕ)) (end : Ending) → AskForOneRace told elsewhere words others → Comes elsewhere lacking was is others end
+      → HasRead end → (status ≡ 5 → ⊥) → (status ≡ 6 → ⊥) → (status ≡ 8 → ⊥) → (status ≡ status_of end) × (after ≡ appended before (text_of end))
+  same_report laws due elsewhere lacking others was is end ask comes read not_five not_six not_eight =
+      let d = due not_six not_eight in
+      let one : d.0 ≡ end = one_ending laws told elsewhere lacks lacking old new was is words others d.0 end ask d.2 comes (has_read d.0 (λ five. not_five (d.1 ∙ five))) read in
+      (d.1 ∙ ap status_of one, d.3 ∙ ap (λ (e : Ending). appended before (text_of e)) one)
+
+  pub complete : IsDue → (status ≡ 6 → ⊥) → GoesWell words told old new → (status ≡ 8) ⊎ ((end : Ending) × (status ≡ status_of end) × IsGood end × (after ≡ appended before (text_of end)))
+  complete due not_six well = elim (eqb_tells status 8) [
+    | inl (t, eight) ↦ inl eight
+    | inr (f, not_eight) ↦ inr (let d = due not_six not_eight in (d.0, d.1, goes_well told lacks old new words well d.0 d.2, d.3))
+  ]

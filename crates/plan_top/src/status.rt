@@ -1,0 +1,17 @@
+//! Exit statuses.
+
+/// An exit status.
+///
+/// | Status | When |
+/// |---|---|
+/// | 0 | a plan was found; a task, its order or a generated text is told; the checked calls are a plan |
+/// | 1 | the last horizon is refuted; the checked calls are none |
+/// | 2 | the budget is spent |
+/// | 3 | an input file is refused |
+/// | 4 | a file has more bytes than it may have, or the task or a formula is past a limit |
+/// | 5 | a file could not be read |
+/// | 6 | the report could not be written |
+/// | 7 | the words are none that are taken |
+/// | 8 | want of memory; nothing was written |
+#[derive(Clone, Copy, Debug, PartialEq, Eq)]
+pub struct Status(pub u8);
