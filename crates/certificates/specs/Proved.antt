@@ -9,6 +9,7 @@ use Rattle.step_clauses.specs.Variables.{chain_places}
 use Rattle.step_encoding.specs.Numbers.{literals_of}
 use Rattle.proof_text.specs.Text.{proof_text}
 use Rattle.certificates.specs.Known.{IsOrdered, form_of, choice_at, formula_at}
+use Rattle.certificates.specs.Certificate.{IsCertificate}
 use Rattle.certificates.specs.declared.prove.Proved.{Proved}
 use Rattle.certificates.specs.declared.prove.Proved.TheVariants.{Certificate, TooLong, Plan, Open}
 
@@ -24,10 +25,11 @@ certificate_of horizon log = if nat_le (length (proof_text horizon log)) most_by
 abbrev pub proved_of : ℕ → State → Proved
 proved_of horizon state = elim (state.standing) [ Refuted ↦ certificate_of horizon state.log | Found ↦ Plan state.conflicts | Going ↦ Open state.conflicts ]
 
--- the run of a horizon of a task comes to this once a budget of conflicts was granted
+-- the run of a horizon of a task comes to this once a budget of conflicts was granted; what it gives as a certificate is one
 pub record Proves (task : Task) (horizon budget : ℕ) (proved : Proved) : Type 0 where
   pub clauses : List (ℕ × ℕ)
   pub components : List (List ℕ)
   pub ordered : IsOrdered task clauses components
   pub small : literals_of (formula_at chain_places (form_of task clauses components) horizon) ≤ 4000000
   pub is : proved ≡ proved_of horizon (reached (choice_at chain_places (form_of task clauses components) horizon) (formula_at chain_places (form_of task clauses components) horizon) budget)
+  pub certified : (text : List ℕ) → proved ≡ Certificate text → IsCertificate (formula_at chain_places (form_of task clauses components)) text horizon

@@ -1,8 +1,9 @@
 //! The certificate of a horizon, by its run.
-ghost use Rattle.std.specs.Prelude.{◌≡◌, ◌≤◌, ◌<◌, ℕ, Err, IfOk, false};
+ghost use Rattle.std.specs.Prelude.{◌≡◌, ◌≤◌, ◌<◌, ℕ, List, Ok, Err, IfOk, false};
 ghost use Rattle.horizon_run.specs.Run.{choice_of, reached};
 ghost use Rattle.step_encoding.specs.Numbers.{literals_of};
 ghost use Rattle.certificates.specs.Known.{HasTooMany};
+ghost use Rattle.certificates.specs.Certificate.{IsSpelled, IsCertificate};
 ghost use Rattle.certificates.specs.Proved.{certificate_of, proved_of, Proves};
 
 use crate::error::ProofError;
@@ -11,8 +12,8 @@ use cdcl_rules::standing::Standing;
 use clause_base::log::Log;
 use clause_base::memory::Memory;
 use gt_core::task::Task;
-use horizon_run::run::HorizonRun;
-use proof_text::{Text, proof_length, write_proof};
+use horizon_run::HorizonRun;
+use proof_text::{Text, proof_length, write_proof, written};
 use std::alloc::Global;
 use std::thread::Threads;
 use step_encoding::exists::ExistsForm;
@@ -68,29 +69,33 @@ fn run_on<F: StepForm>(
     requires budget { budget ≤ 1000000 }
     ensures proved { IfOk result (λ p. p ≡ proved_of horizon (reached (choice_of task.now (F.layout_of form.now horizon)) (F.formula_of form.now horizon) budget)) }
     ensures small { IfOk result (λ p. literals_of (F.formula_of form.now horizon) ≤ 4000000) }
+    ensures certified { (text : List ℕ) → result ≡ Ok (Proved.Certificate text) → IsCertificate (F.formula_of form.now) text horizon }
     ensures literals { (count : ℕ) → result ≡ Err (ProofError.Literals count) → (4000000 < count) × (count ≡ literals_of (F.formula_of form.now horizon)) }
 {
     let count = form.size(horizon);
     if count > 4_000_000 {
         return Err(ProofError::Literals { count });
     }
-    let mut run = HorizonRun::new(alloc, task, form, horizon)?;
-    run.go_on(budget as u32)?;
-    Ok(told(alloc, horizon, &run)?)
+    let mut solving = HorizonRun::new(alloc, task, form, horizon)?;
+    solving.go_on(budget as u32)?;
+    let proved = told(alloc, horizon, &solving)?;
+    Ok(proved)
 }
 
 // What a run came to.
-fn told(alloc: Global, horizon: u32, run: &HorizonRun) -> Result<Proved, Memory>
-    requires { horizon ≤ 255 }
-    ensures { IfOk result (λ p. p ≡ proved_of horizon run.now.state) }
+fn told(alloc: Global, horizon: u32, solving: &HorizonRun) -> Result<Proved, Memory>
+    requires horizon { horizon ≤ 255 }
+    requires sane { solving.now.spoilt ≡ false }
+    ensures proved { IfOk result (λ p. p ≡ proved_of horizon solving.now.state) }
+    ensures certified { (text : List ℕ) → result ≡ Ok (Proved.Certificate text) → IsCertificate (λ h. solving.now.formula) text horizon }
 {
-    match run.standing() {
-        Standing::Refuted => certificate(alloc, horizon, run.log()),
+    match solving.standing() {
+        Standing::Refuted => certificate(alloc, horizon, solving.log()),
         Standing::Found => Ok(Proved::Plan {
-            conflicts: run.conflicts(),
+            conflicts: solving.conflicts(),
         }),
         Standing::Going => Ok(Proved::Open {
-            conflicts: run.conflicts(),
+            conflicts: solving.conflicts(),
         }),
     }
 }
@@ -98,8 +103,10 @@ fn told(alloc: Global, horizon: u32, run: &HorizonRun) -> Result<Proved, Memory>
 // The certificate of a horizon and a log.
 fn certificate(alloc: Global, horizon: u32, log: &Log) -> Result<Proved, Memory>
     requires { horizon ≤ 255 }
-    ensures { IfOk result (λ p. p ≡ certificate_of horizon log.now) }
+    ensures proved { IfOk result (λ p. p ≡ certificate_of horizon log.now) }
+    ensures spelled { (text : List ℕ) → result ≡ Ok (Proved.Certificate text) → IsSpelled text horizon log.now }
 {
+    written(log);
     if proof_length(horizon, log) > MOST_BYTES {
         return Ok(Proved::TooLong);
     }

@@ -10,6 +10,7 @@ use Rattle.clause_base.specs.Formula.{assignment_of}
 use Rattle.cdcl_rules.specs.State.{State}
 use Rattle.gt_core.specs.Published.{IsPublished, order_of}
 use Rattle.gt_core.specs.Task.{Task}
+use Rattle.gt_core.specs.Laws.{NeverItself}
 use Rattle.horizon_rates.specs.declared.settings.Settings.{Settings}
 use Rattle.pd_model.specs.Fits.{is_call}
 use Rattle.pd_model.specs.Exec.{exec_schema}
@@ -19,7 +20,7 @@ use Rattle.pd_model.specs.declared.calls.Call.{Call}
 use Rattle.pd_model.specs.declared.parts.Parts.{Parts}
 use Rattle.grounding.specs.Grounded.{Grounded, IsGrounded}
 use Rattle.grounding.specs.Laws.{AreNumbers}
-use Rattle.step_laws.specs.Form.{OrderedTask, member_at}
+use Rattle.step_laws.specs.Form.{OrderedTask, AreSets, member_at}
 use Rattle.race_end.specs.declared.line.LineEnd.{LineEnd}
 use Rattle.race_end.specs.declared.line.LineEnd.TheVariants as ends
 use Rattle.race_end.specs.declared.line.Line.{Line}
@@ -29,14 +30,15 @@ use Rattle.race_end.specs.Ends.{Word, WordRefuted, WordDropped, WordOpen, WordPl
 use Rattle.race.specs.Input.{RaceInput}
 use Rattle.race.specs.Lines.{IsLine, IsMarked, WhereRefuted, state_of_line, standing_of as standing_at}
 use Rattle.step_plans.specs.Plans.{AreStepPlan, IsStepPlanOf, AreListed, actions_in}
-use Rattle.step_plans.specs.Laws.{SetsOfFormsAreListed}
 use Rattle.plan_report.specs.Report.{word_text, entry_of, plan_line, conflicts_line, last_lines, report_of}
 use Rattle.plan_report.specs.Laws.{IsSmall, HasCalls, Tells}
-use Rattle.plan_top.specs.Known.{IsOrdered}
+use Rattle.certificates.specs.Known.{IsOrdered, form_of, choice_at, formula_at}
 use Rattle.plan_top.specs.Laws.{Laws}
-use Rattle.plan_top.specs.Stepping.{Stepping, Exists, places_by, is_plan_by, bars_by}
+use Rattle.plan_words.specs.declared.request.Stepping.{Stepping}
+use Rattle.plan_words.specs.declared.request.Stepping.TheVariants.{Exists, All}
+use Rattle.plan_top.specs.Stepping.{places_by, is_plan_by, bars_by}
 use Rattle.plan_top.specs.Tasks.{IsReady}
-use Rattle.plan_top.specs.Raced.{form_of, steps_at, choice_at, formula_at, input_of, ArePlan, ComesTo}
+use Rattle.plan_top.specs.Raced.{input_of, ComesTo}
 use Rattle.plan_top.specs.Headline.{OfGrounded, HasStepPlan, PlanRuns, HasAtLeast, NoStepPlan, NoPlan, IsSo, LineIsSo, standing_of, conflicts_of, horizon_words, SpendsAll}
 
 -- ---- lines and the words in them
@@ -109,15 +111,15 @@ conflicts_same (line ∷ lines) = ap (λ (n : ℕ). line.conflicts + n) (conflic
 -- what a plan in steps of a kind is, as the laws of step plans have it
 pub as_barred : (how : Stepping) (task : Task) (order : List ℕ) (sets : ℕ → ℕ → Bool) (n : ℕ) → is_plan_by how task order sets n → IsStepPlanOf (bars_by how task) task order sets n
 as_barred Exists task order sets n plan = record { plan = plan; each = λ t lt a b x y. refl }
+as_barred All task order sets n plan = record { plan = plan.plan; each = plan.none }
 
 from_barred : (how : Stepping) (task : Task) (order : List ℕ) (sets : ℕ → ℕ → Bool) (n : ℕ) → IsStepPlanOf (bars_by how task) task order sets n → is_plan_by how task order sets n
 from_barred Exists task order sets n of = of.plan
+from_barred All task order sets n of = record { plan = of.plan; none = of.each }
 
-bars_itself : (how : Stepping) (task : Task) (a : ℕ) → bars_by how task a a ≡ false
-bars_itself Exists task a = refl
-
-listed_by : SetsOfFormsAreListed → (how : Stepping) (form : OrderedTask) (n : ℕ) (values : ℕ → Bool) → AreListed (order_of form.components) (steps_at form (places_by how form.task form.components) n values)
-listed_by law Exists form n values = law form n values
+bars_itself : NeverItself → (how : Stepping) (task : Task) (a : ℕ) → bars_by how task a a ≡ false
+bars_itself itself Exists task a = refl
+bars_itself itself All task a = itself task a
 
 -- the word of a line is one of the four
 words_in : (lines : List LineView) → AllByRecursion (λ e. Contains horizon_words e.word) (map entry_of lines)
@@ -130,46 +132,53 @@ words_in (line ∷ lines) = (one line.word, words_in lines)
     one WordOpen = (2, omega arith, refl)
     one WordPlan = (3, omega arith, refl)
 
+-- what is known of a ground task, and its order
+module _ (laws : Laws) (task : Parts) (g : Grounded) (ready : IsReady task g) (clauses : List (ℕ × ℕ)) (components : List (List ℕ)) (ordered : IsOrdered g.task clauses components) where
+  only : (h : Grounded) (others : List (ℕ × ℕ)) (parts : List (List ℕ)) → IsGrounded task h → IsOrdered h.task others parts → (h ≡ g) × (others ≡ clauses) × (parts ≡ components)
+  only h others parts is_h ordered_h =
+      let same : h ≡ g = laws.one_result task h g is_h ready.grounded in
+      let here : IsOrdered g.task others parts = subst (λ (x : Grounded). IsOrdered x.task others parts) same ordered_h in
+      let known : others ≡ clauses = laws.invariants g.task others clauses here.known ordered.known in
+      let published : IsPublished g.task clauses parts = subst (λ (cs : List (ℕ × ℕ)). IsPublished g.task cs parts) known here.published in
+      (same, known, laws.unique g.task clauses parts components published ordered.published)
+
+  pub of_grounded : (claim : Grounded → List (ℕ × ℕ) → List (List ℕ) → Type 0) → claim g clauses components → OfGrounded task claim
+  of_grounded claim h = record { g = g; clauses = clauses; components = components; grounded = ready.grounded; ordered = ordered; only = only; holds = h }
+
+  -- ---- refuted horizons
+
+  module _ (how : Stepping) (horizon : ℕ) (none : (steps : List (List ℕ)) → AreSets (is_plan_by how) g.task (order_of components) steps horizon → ⊥) where
+    no_sets : (sets : ℕ → ℕ → Bool) → IsStepPlanOf (bars_by how g.task) g.task (order_of components) sets horizon → ⊥
+    no_sets sets of =
+        let l = laws.lists (bars_by how g.task) g.task (order_of components) sets horizon of in
+        none l.0 (record { long = l.1; plan = from_barred how g.task (order_of components) (member_at l.0) horizon l.2 })
+
+    longer : (sets : ℕ → ℕ → Bool) (n : ℕ) → is_plan_by how g.task (order_of components) sets n → horizon < n
+    longer sets n plan = laws.longer (bars_by how g.task) g.task (order_of components) horizon no_sets sets n (as_barred how g.task (order_of components) sets n plan)
+
+    pub no_step_plan : NoStepPlan how horizon task
+    no_step_plan =
+        of_grounded (λ h clauses components. (sets : ℕ → ℕ → Bool) (n : ℕ) → n ≤ horizon → is_plan_by how h.task (order_of components) sets n → ⊥)
+        (λ sets n le plan. let more = longer sets n plan in omega (arith, le, more))
+
+    pub at_least : HasAtLeast how (horizon + 1) task
+    at_least =
+        of_grounded (λ h clauses components. (sets : ℕ → ℕ → Bool) (k : ℕ) → is_plan_by how h.task (order_of components) sets k → horizon + 1 ≤ k)
+        (λ sets k plan. let more = longer sets k plan in omega (arith, more))
+
+    pub no_plan : NoPlan horizon task
+    no_plan calls short plan =
+        let s = laws.short (bars_by how g.task) task g (order_of components) horizon calls (bars_itself laws.itself how g.task) ready.grounded short plan in
+        no_sets s.0 s.1
+
 module _ (laws : Laws) (how : Stepping) (settings : Settings) (task : Parts) (g : Grounded) (ready : IsReady task g) where
   module _ (race : RaceEnd) (comes : ComesTo (places_by how) (is_plan_by how) g.task settings race) where
     abbrev form : OrderedTask
     form = form_of g.task comes.clauses comes.components
 
-    abbrev order : List ℕ
-    order = order_of comes.components
-
-    abbrev bars : ℕ → ℕ → Bool
-    bars = bars_by how g.task
-
-    only : (h : Grounded) (others : List (ℕ × ℕ)) (parts : List (List ℕ)) → IsGrounded task h → IsOrdered h.task others parts → (h ≡ g) × (others ≡ comes.clauses) × (parts ≡ comes.components)
-    only h others parts is_h ordered =
-        let same : h ≡ g = laws.one_result task h g is_h ready.grounded in
-        let here : IsOrdered g.task others parts = subst (λ (x : Grounded). IsOrdered x.task others parts) same ordered in
-        let known : others ≡ comes.clauses = laws.invariants g.task others comes.clauses here.known comes.ordered.known in
-        let published : IsPublished g.task comes.clauses parts = subst (λ (cs : List (ℕ × ℕ)). IsPublished g.task cs parts) known here.published in
-        (same, known, laws.unique g.task comes.clauses parts comes.components published comes.ordered.published)
-
-    of_grounded : (claim : Grounded → List (ℕ × ℕ) → List (List ℕ) → Type 0) → claim g comes.clauses comes.components → OfGrounded task claim
-    of_grounded claim h = record { g = g; clauses = comes.clauses; components = comes.components; grounded = ready.grounded; ordered = comes.ordered; only = only; holds = h }
-
-    -- ---- refuted horizons
-
     -- no lists of actions are a plan of so many steps
-    abbrev IsRefuted : ℕ → Type 0
-    IsRefuted horizon = (steps : List (List ℕ)) → ArePlan (places_by how) (is_plan_by how) form horizon steps → ⊥
-
-    no_sets : (horizon : ℕ) → IsRefuted horizon → (sets : ℕ → ℕ → Bool) → IsStepPlanOf bars g.task order sets horizon → ⊥
-    no_sets horizon none sets of =
-        let l = laws.lists bars g.task order sets horizon of in
-        none l.0 (record { long = l.1; plan = from_barred how g.task order (member_at l.0) horizon l.2 })
-
-    longer : (horizon : ℕ) → IsRefuted horizon → (sets : ℕ → ℕ → Bool) (n : ℕ) → is_plan_by how g.task order sets n → horizon < n
-    longer horizon none sets n plan = laws.longer bars g.task order horizon (no_sets horizon none) sets n (as_barred how g.task order sets n plan)
-
-    no_plans : (horizon : ℕ) → IsRefuted horizon → NoPlan horizon task
-    no_plans horizon none calls short plan =
-        let s = laws.short bars task g order horizon calls (bars_itself how g.task) ready.grounded short plan in
-        no_sets horizon none s.0 s.1
+    abbrev pub IsRefuted : ℕ → Type 0
+    IsRefuted horizon = (steps : List (List ℕ)) → AreSets (is_plan_by how) g.task (order_of comes.components) steps horizon → ⊥
 
     -- a line that the end tells of a horizon
     told_line : (horizon : ℕ) (word : List ℕ) (conflicts : ℕ) → Tells (lines_in (end_view race)) horizon word conflicts
@@ -178,24 +187,11 @@ module _ (laws : Laws) (how : Stepping) (settings : Settings) (task : Parts) (g 
         let v = viewed (lines_of_end race) tells.0 (subst (λ (lines : List LineView). Contains lines tells.0) (lines_viewed race) tells.1) in
         (v.0, v.1, ap (λ (x : LineView). x.horizon) v.2 ∙ tells.2, ap (λ (x : LineView). word_text x.word) v.2 ∙ tells.3, ap (λ (x : LineView). x.conflicts) v.2 ∙ tells.4)
 
-    refuted_line : (horizon conflicts : ℕ) → Tells (lines_in (end_view race)) horizon (codes "refuted") conflicts → IsRefuted horizon
+    pub refuted_line : (horizon conflicts : ℕ) → Tells (lines_in (end_view race)) horizon (codes "refuted") conflicts → IsRefuted horizon
     refuted_line horizon conflicts tells =
         let t = told_line horizon (codes "refuted") conflicts tells in
         let at = at_one (λ (l : Line). WhereRefuted l.end (IsRefuted l.horizon)) (lines_of_end race) t.0 comes.refuted t.1 in
         subst IsRefuted t.2 (where_refuted t.0.end (IsRefuted t.0.horizon) t.3 at)
-
-    pub no_step_plan : (horizon conflicts : ℕ) → Tells (lines_in (end_view race)) horizon (codes "refuted") conflicts → NoStepPlan how horizon task
-    no_step_plan horizon conflicts tells =
-        of_grounded (λ h clauses components. (sets : ℕ → ℕ → Bool) (n : ℕ) → n ≤ horizon → is_plan_by how h.task (order_of components) sets n → ⊥)
-        (λ sets n le plan. let more = longer horizon (refuted_line horizon conflicts tells) sets n plan in omega (arith, le, more))
-
-    pub at_least : (horizon conflicts : ℕ) → Tells (lines_in (end_view race)) horizon (codes "refuted") conflicts → HasAtLeast how (horizon + 1) task
-    at_least horizon conflicts tells =
-        of_grounded (λ h clauses components. (sets : ℕ → ℕ → Bool) (k : ℕ) → is_plan_by how h.task (order_of components) sets k → horizon + 1 ≤ k)
-        (λ sets k plan. let more = longer horizon (refuted_line horizon conflicts tells) sets k plan in omega (arith, more))
-
-    pub no_plan : (horizon conflicts : ℕ) → Tells (lines_in (end_view race)) horizon (codes "refuted") conflicts → NoPlan horizon task
-    no_plan horizon conflicts tells = no_plans horizon (refuted_line horizon conflicts tells)
 
     pub line_is_so : (horizon : ℕ) (word : List ℕ) (conflicts : ℕ) → Tells (lines_in (end_view race)) horizon word conflicts → LineIsSo how horizon word conflicts task
     line_is_so horizon word conflicts tells =
@@ -206,7 +202,7 @@ module _ (laws : Laws) (how : Stepping) (settings : Settings) (task : Parts) (g 
         let so = line_so input t.0 (at_one (IsLine input) (lines_of_end race) t.0 comes.lines t.1) in
         let one = subst (λ (h : ℕ). IsSo (choose h) (formula h) (word_text (word_of t.0.end)) t.0.conflicts) t.2 so in
         let two = subst (λ (w : List ℕ). IsSo (choose horizon) (formula horizon) w t.0.conflicts) t.3 one in
-        of_grounded (λ h clauses components. IsSo (choice_at (places_by how) (form_of h.task clauses components) horizon) (formula_at (places_by how) (form_of h.task clauses components) horizon) word conflicts)
+        of_grounded laws task g ready comes.clauses comes.components comes.ordered (λ h clauses components. IsSo (choice_at (places_by how) (form_of h.task clauses components) horizon) (formula_at (places_by how) (form_of h.task clauses components) horizon) word conflicts)
         (subst (λ (k : ℕ). IsSo (choose horizon) (formula horizon) word k) t.4 two)
 
   -- ---- plans
@@ -219,7 +215,7 @@ module _ (laws : Laws) (how : Stepping) (settings : Settings) (task : Parts) (g 
     is_listed : AreListed (order_of comes.components) steps
     is_listed =
         let s = comes.steps in
-        subst (AreListed (order_of comes.components)) (sym s.2) (listed_by laws.listed how (form_of g.task comes.clauses comes.components) horizon (assignment_of s.0))
+        subst (AreListed (order_of comes.components)) (sym s.2) (laws.listed (form_of g.task comes.clauses comes.components) (places_by how g.task comes.components) horizon (assignment_of s.0))
 
     is_plan : AreStepPlan g.task (order_of comes.components) steps horizon
     is_plan = let p = comes.plan in record { long = p.long; plan = (as_barred how g.task (order_of comes.components) (member_at steps) horizon p.plan).plan }
@@ -244,7 +240,7 @@ module _ (laws : Laws) (how : Stepping) (settings : Settings) (task : Parts) (g 
         subst (λ (ls : List (List ℕ)). Contains ls (plan_line horizon (length (actions_in steps)))) (sym back) (Contains-append_right entries (last_lines task g settings.budget planned) _ last) in
         let told = laws.steps task g settings.budget horizon steps (map line_view lines) ready.well small has_calls in
         let once = laws.once g.task comes.clauses comes.components steps comes.ordered.published is_listed in
-        ((c.0, read, c.2), of_grounded (races.Plan horizon steps lines) comes (HasStepPlan how text task) (steps, horizon, line, told, comes.plan, is_listed, once))
+        ((c.0, read, c.2), of_grounded laws task g ready comes.clauses comes.components comes.ordered (HasStepPlan how text task) (steps, horizon, line, told, comes.plan, is_listed, once))
 
   -- ---- the budget
 

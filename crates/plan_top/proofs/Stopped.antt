@@ -31,3 +31,7 @@ pub ending_answers : (claim : Ending → Type 0) (r : Result Ending Stop) (end :
 ending_answers claim (Ok other) end h is = let same : other ≡ end = cc in subst claim same h
 ending_answers claim (Err (Ends other)) end h is = let same : other ≡ end = cc in subst claim same h
 ending_answers claim (Err Memory) end h is = absurd (let never : Some end ≡ None = is in cc)
+
+-- of want of memory nothing is said
+pub memory_handed : (claim : Ending → Type 0) (r : Result Ending Stop) → IsErrAnd r (λ told. told ≡ Memory) → EndsAs claim r
+memory_handed claim r handed = let p = err_from_is_err_and r handed in rw (p.1, p.2) tt

@@ -3,8 +3,9 @@ use Rattle.gt_core.specs.Task.{Task}
 use Rattle.two_invariants.specs.Closed.{AreInvariants}
 use Rattle.task_text.specs.Text.{order_text}
 use Rattle.plan_top.specs.declared.ending.Ending.TheVariants.{Listing}
-use Rattle.plan_top.specs.Tasks.{grounded}
 use Rattle.plan_top.specs.Causes.{AnswersOrder}
+use Rattle.plan_top.specs.Tasks.{OnceGrounded, grounded}
+use Rattle.plan_top.proofs.Stopped.{memory_handed}
 use Rattle.plan_top.proofs.Answered.{stop_handed}
 use Rattle.plan_top.proofs.answer.answer_order.Goals as goal
 
@@ -23,3 +24,6 @@ returns g c =
     let text : c.of.result ≡ order_text ready.task ready.grounded order (length clauses) = c.of.ensures ∙ c.in_ok-push_order.ensures ∙ ap (λ (xs : List ℕ). xs ++ order_text ready.task ready.grounded order (length clauses)) c.new-text.ensures.items in
     grounded ready.task ready.grounded c.in_ok-ready.ensures.task c.in_ok-ready.ensures.ready
     (clauses, order, record { known = subst (λ (t : Task). AreInvariants t clauses) c.task-acts.ensures c.in_ok-pairs.ensures.greatest; published = rw c.task-acts.ensures at c.in_ok-order.ensures.published }, ap Listing text)
+
+pub returns-in_err-push_order : goal.returns-in_err-push_order
+returns-in_err-push_order g c = memory_handed (OnceGrounded c.args.domain.now c.args.problem.now AnswersOrder) c.from_residual-in_err-push_order.result c.from_residual-in_err-push_order.ensures.1

@@ -13,7 +13,7 @@ use Rattle.plan_top.proofs.answer.answer_plan.Goals as goal
 
 pub returns-in_err-ready : goal.returns-in_err-ready
 returns-in_err-ready g c =
-    stop_handed c.args.domain.now c.args.problem.now (AnswersPlan Exists c.args.settings.now) c.in_err-ready.field-0.0 c.from_residual-in_err-ready.result c.from_residual-in_err-ready.ensures.1 c.in_err-ready.ensures.stops
+    stop_handed c.args.domain.now c.args.problem.now (AnswersPlan Exists c.args.settings.now) c.in_err-ready.field-0.0 c.from_residual.result c.from_residual.ensures.1 c.in_err-ready.ensures.stops
 
 pub returns-in_err-end : goal.returns-in_err-end
 returns-in_err-end g c =

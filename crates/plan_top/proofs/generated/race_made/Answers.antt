@@ -13,7 +13,7 @@ use Rattle.plan_top.proofs.generated.race_made.Goals as goal
 pub returns-in_err-ready : goal.returns-in_err-ready
 returns-in_err-ready g c =
     stop_handed c.args.made.now.domain c.args.made.now.problem (λ task h. OnceRaced (places_by Exists) (is_plan_by Exists) h.task c.args.settings.now (TellsGenerated c.args.kind c.args.number c.args.settings.now))
-    c.in_err-ready.field-0.0 c.from_residual-in_err-ready.result c.from_residual-in_err-ready.ensures.1 (rw (c.as_slice.ensures, c.as_slice-2.ensures) at c.in_err-ready.ensures.stops)
+    c.in_err-ready.field-0.0 c.from_residual.result c.from_residual.ensures.1 (rw (c.as_slice.ensures, c.as_slice-2.ensures) at c.in_err-ready.ensures.stops)
 
 pub returns-in_err-end : goal.returns-in_err-end
 returns-in_err-end g c =
