@@ -36,6 +36,18 @@ module _ (places : Task → List (List ℕ) → List (List ℕ × ℕ)) where
     steps = λ h values. steps_at form (places form.task form.components) h (assignment_of values);
   }
 
+  -- the formula of a horizon is too large, when its turn comes
+  pub record IsTooLarge (task : Task) (settings : Settings) (horizon : ℕ) (count : ℕ) : Type 0 where
+    pub clauses : List (ℕ × ℕ)
+    pub components : List (List ℕ)
+    pub ordered : IsOrdered task clauses components
+    pub ended : stage.race_of (input_of (form_of task clauses components) settings) ≡ stage.TooLarge horizon
+    pub count_is : count ≡ literals_of (formula_at places (form_of task clauses components) horizon)
+
+  -- an ending that tells so
+  abbrev pub TellsTooLarge : Task → Settings → Ending → Type 0
+  TellsTooLarge task settings end = (horizon : ℕ) × (count : ℕ) × (end ≡ TooLarge horizon count) × IsTooLarge task settings horizon count
+
 -- where they go, and which sets are plans
 module _ (places : Task → List (List ℕ) → List (List ℕ × ℕ)) (is_plan : Task → List ℕ → (ℕ → ℕ → Bool) → ℕ → Type 0) where
   -- lists of actions are a plan of a task
@@ -55,20 +67,8 @@ module _ (places : Task → List (List ℕ) → List (List ℕ × ℕ)) (is_plan
     pub members : WherePlanned race (λ h steps. AreActions task steps)
     pub sums : SumsWithin settings.budget race
 
-  -- the formula of a horizon is too large, when its turn comes
-  pub record IsTooLarge (task : Task) (settings : Settings) (horizon : ℕ) (count : ℕ) : Type 0 where
-    pub clauses : List (ℕ × ℕ)
-    pub components : List (List ℕ)
-    pub ordered : IsOrdered task clauses components
-    pub ended : stage.race_of (input_of places (form_of task clauses components) settings) ≡ stage.TooLarge horizon
-    pub count_is : count ≡ literals_of (formula_at places (form_of task clauses components) horizon)
-
-  -- an ending that tells so
-  abbrev pub TellsTooLarge : Task → Settings → Ending → Type 0
-  TellsTooLarge task settings end = (horizon : ℕ) × (count : ℕ) × (end ≡ TooLarge horizon count) × IsTooLarge task settings horizon count
-
   -- What a race on a task comes to: it ends with a formula that is too large, of which the ending tells, or it has an end, of
   -- which the answer is this.
   pub data OnceRaced (task : Task) (settings : Settings) (answers : RaceEnd → Ending → Type 0) (end : Ending) : Type 0 where
-    too_large : TellsTooLarge task settings end → OnceRaced task settings answers end
+    too_large : TellsTooLarge places task settings end → OnceRaced task settings answers end
     ended : (race : RaceEnd) → ComesTo task settings race → answers race end → OnceRaced task settings answers end

@@ -1,9 +1,10 @@
 //! What files come to for the commands on certificates.
 ghost use Rattle.std.specs.Prelude.{◌≤◌, length, IfOk};
+ghost use Rattle.pd_model.specs.WellFormed.{IsWellFormed};
 ghost use Rattle.certificates.specs.Certificate.{IsSpelled};
 ghost use Rattle.plan_top.specs.Files.{most_bytes};
-ghost use Rattle.plan_top.specs.Tasks.{OnceRead, OnceGrounded, IsReady};
-ghost use Rattle.plan_top.specs.Causes.{AnswersProve, AnswersProof, AnswersVerify, RefusesProof, ending_of_run, ending_of_check};
+ghost use Rattle.plan_top.specs.Tasks.{OnceRead, OnceGrounded};
+ghost use Rattle.plan_top.specs.Causes.{AnswersProve, AnswersVerify, RefusesProof, ending_of_run, ending_of_check};
 ghost use Rattle.plan_top.specs.Ends.{EndsAs, StopsBy};
 
 use crate::ground::ground_task;
@@ -78,7 +79,8 @@ fn verify_task<H: Threads + Sync>(
     task: &Pddl,
     bytes: &[u8],
 ) -> Result<Ending, Stop>
-    requires { length bytes.now ≤ 16777216 }
+    requires fits { length bytes.now ≤ 16777216 }
+    requires well_formed { IsWellFormed task.now }
     ensures { EndsAs (AnswersVerify task.now bytes.now) result }
 {
     let proof = read_certificate(alloc, bytes)?;

@@ -5,7 +5,7 @@ use Rattle.plan_top.specs.Tasks.{OnceRead, OnceGrounded}
 use Rattle.plan_top.specs.Generated.{AnswersGenerated}
 use Rattle.plan_top.specs.Causes.{OfSettings, Decides, AnswersPlan, AnswersGround, AnswersOrder, AnswersCheck, AnswersProve, AnswersVerify}
 use Rattle.plan_top.proofs.Stopped.{EndsAs-weaker}
-use Rattle.plan_top.proofs.Answered.{of_two, of_three, of_none}
+use Rattle.plan_top.proofs.Answered.{of_two, of_three, of_none, first_short, second_short, third_short}
 use Rattle.plan_top.proofs.answer.answer.Goals as goal
 
 pub returns-in-Plan : goal.returns-in-Plan
