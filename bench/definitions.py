@@ -105,41 +105,52 @@ def published(actions, pairs):
     return order
 
 
-def chains(actions, facts, order):
-    """For each component of two or more actions and each literal: its takers, and its readers after a taker, both with
-    their places in the component."""
+def links(actions, facts, members):
+    """For two or more actions in an order and each literal that has them: the literal, its takers, and its readers after a
+    taker, both with their places in the order."""
     found = []
-    for component in order:
-        if len(component) < 2:
-            continue
-        takers, readers = {}, {}
-        for place, a in enumerate(component):
-            pre, effects = actions[a]
-            for m in {opposite(lit) for _, lit in effects}:
-                takers.setdefault(m, []).append((place, a))
-            asked = {c // 2 for condition, _ in effects for c in condition}
-            for m in set(pre) | {2 * f for f in asked} | {2 * f + 1 for f in asked}:
-                readers.setdefault(m, []).append((place, a))
-        for m in range(2 * facts):
-            taking = takers.get(m, [])
-            later = [r for r in readers.get(m, []) if taking and taking[0][0] < r[0]]
-            if later:
-                found.append((taking, later))
+    if len(members) < 2:
+        return found
+    takers, readers = {}, {}
+    for place, a in enumerate(members):
+        pre, effects = actions[a]
+        for m in {opposite(lit) for _, lit in effects}:
+            takers.setdefault(m, []).append((place, a))
+        asked = {c // 2 for condition, _ in effects for c in condition}
+        for m in set(pre) | {2 * f for f in asked} | {2 * f + 1 for f in asked}:
+            readers.setdefault(m, []).append((place, a))
+    for m in range(2 * facts):
+        taking = takers.get(m, [])
+        later = [r for r in readers.get(m, []) if taking and taking[0][0] < r[0]]
+        if later:
+            found.append((m, taking, later))
     return found
 
 
-def counts(task, order):
+def chains(actions, facts, order):
+    """Those of exists-steps: of each component, by literal."""
+    return [(taking, later) for component in order for _, taking, later in links(actions, facts, component)]
+
+
+def both_ways(actions, facts, order):
+    """Those of all-steps: by literal, of all actions in their order and then in its reverse."""
+    whole = [a for component in order for a in component]
+    found = [(m, way, taking, later) for way, members in enumerate((whole, whole[::-1])) for m, taking, later in links(actions, facts, members)]
+    return [(taking, later) for _, _, taking, later in sorted(found, key=lambda f: f[:2])]
+
+
+def counts(task, order, chained=chains):
     """How many actions, conditional effects, chain variables and facts there are."""
     facts, _, _, _, actions = task
     conditional = sum(1 for _, es in actions for c, _ in es if c)
-    return len(actions), conditional, sum(len(later) for _, later in chains(actions, facts, order)), facts
+    return len(actions), conditional, sum(len(later) for _, later in chained(actions, facts, order)), facts
 
 
-def clauses(task, order, pairs, n):
+def clauses(task, order, pairs, n, chained=chains):
     """How many variables the formula of horizon n has, and its clauses in order, each sorted."""
     facts, init, goal, hopeless, actions = task
-    links = chains(actions, facts, order)
-    A, C, X, _ = counts(task, order)
+    chain_links = chained(actions, facts, order)
+    A, C, X, _ = counts(task, order, chained)
     W = A + C + X
     numbered, made, j = [], {}, 0
     for a, (_, es) in enumerate(actions):
@@ -184,7 +195,7 @@ def clauses(task, order, pairs, n):
             yield [at(2 * f + 1, t), at(2 * f, t + 1)] + [2 * (first + v) for v in made.get(2 * f + 1, [])]
             yield [at(2 * f, t), at(2 * f + 1, t + 1)] + [2 * (first + v) for v in made.get(2 * f, [])]
         chain = first + A + C
-        for takers, later in links:
+        for takers, later in chain_links:
             for place, e in takers:
                 after = [i for i, r in enumerate(later) if r[0] > place][:1]
                 yield from ([2 * (first + e) + 1, 2 * (chain + i)] for i in after)

@@ -49,7 +49,7 @@ def measured(words, folder=".", limit=None, processors=None):
 
 def planner(name=None):
     """The program with this name, or the one that ./plan-build makes."""
-    program = pathlib.Path(name).resolve() if name else CRATES / "plan_prog/out/plan_prog"
+    program = pathlib.Path(name).resolve() if name else CRATES.parent / "out/proved/plan_prog"
     if not program.exists():
         sys.exit(f"no program {program}: ./plan-build makes one")
     return program

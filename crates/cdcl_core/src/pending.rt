@@ -2,8 +2,9 @@
 //! of those that are kept, the first one in order of number asks for the next event. Which one that is the watched literals
 //! know: they are told where a literal becomes true (`Search::assign`), where a clause is learned and literals are taken back
 //! (`Search::enter`), and where clauses are dropped (`reduce`).
-ghost use Rattle.std.specs.Prelude.{◌≡◌, true, OnOk};
+ghost use Rattle.std.specs.Prelude.{◌≡◌, ◌<◌, length, true, OnOk};
 ghost use Rattle.clause_base.specs.Clause.{has_literal};
+ghost use Rattle.clause_base.specs.Derivation.{clauses_of};
 ghost use Rattle.cdcl_rules.specs.State.{clause_at};
 ghost use Rattle.cdcl_rules.specs.Pending.{is_pending_in, open_ones};
 ghost use Rattle.cdcl_rules.specs.Event.{asked};
@@ -30,11 +31,12 @@ pub fn asked(watches: &Watches, number: u32) -> Event
 pub fn follow(watches: &mut Watches, clauses: &Clauses, trail: &Trail) -> Result<(), Memory>
     requires behind { IsBehind watches.old clauses.now trail.now.entries }
     requires over { trail.now.variables ≡ clauses.now.formula.variables }
+    requires learned { 0 < length (clauses_of clauses.now.log) }
     ensures { OnOk result (watches.new ≡ watched clauses.now trail.now.entries) }
 {
     let _small = clauses.formula().variables();
     let last = clauses.count() - 1;
     watches.undo_to(trail.entries().len() as u32);
-    watches.add_sorted(clauses.clause(last))?;
+    watches.add_sorted(clauses.learned(last))?;
     Ok(())
 }

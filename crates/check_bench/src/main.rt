@@ -1,4 +1,4 @@
-//! A benchmark of the checker: a log of 100,000 entries of 20 hints each, over a chain of implications.
+//! A benchmark of the checker: a log of 400,000 entries of 20 hints each, over a chain of implications.
 //!
 //! The formula says that variable 0 is true, that each variable of a chain implies the next one, and that the last one is
 //! false. So each entry follows by going along the chain. `bench/check-log` times a run.
@@ -14,7 +14,7 @@ use std::alloc::Global;
 use std::io;
 
 /// How many entries the log has.
-const ENTRIES: u32 = 100_000;
+const ENTRIES: u32 = 400_000;
 
 /// How many implications the chain has.
 const LINKS: u32 = 18;

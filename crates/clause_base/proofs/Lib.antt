@@ -5,4 +5,7 @@ pub mod Refutation
 pub mod PieceLemmas
 pub mod ValueLemmas
 pub mod ValueWords
+pub mod Moved
+pub mod RepeatLemmas
+pub mod JoinedLemmas
 pub mod WorkedRows

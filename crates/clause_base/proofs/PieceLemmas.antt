@@ -1,7 +1,9 @@
 -- Clauses in one list of literals, by their numbers and with one more at the end.
-use Rattle.std.proofs.Common.{arith, ◌≡◌, ℕ, zero, suc, ◌+◌, ◌-◌, ◌<◌, ◌≤◌, List, [], ◌∷◌, ◌++◌, length, take, drop, get_or, refl, ap, ◌∙◌, Some, All}
+use Rattle.std.proofs.Common.{arith, ◌≡◌, ℕ, zero, suc, ◌+◌, ◌-◌, ◌<◌, ◌≤◌, List, [], ◌∷◌, ◌++◌, length, take, drop, get_or, refl, ap, ◌∙◌, subst, Some, All}
 use Rattle.std.specs.List.{slice_get, slice_range}
 use Rattle.std.proofs.lemmas.List.Elements.{All-append, All-nil, All-cons}
+use Rattle.std.proofs.lemmas.List.{drop_more}
+use Rattle.std.proofs.lemmas.Option.{slice_get_within, get_or_from_slice_get}
 use Rattle.clause_base.specs.Clause.{IsClause}
 use Rattle.clause_base.specs.Pieces.{pieces, start_of, AreEnds}
 
@@ -84,3 +86,11 @@ pieces-push from lits (e0 ∷ ends) more end a e =
 -- one more clause among lawful ones
 pub clauses-push : (clauses : List (List ℕ)) (clause : List ℕ) → All IsClause clauses → IsClause clause → All IsClause (clauses ++ clause ∷ [])
 clauses-push clauses clause a c = All-append IsClause clauses (clause ∷ []) a (All-cons IsClause clause [] c (All-nil IsClause))
+
+-- what holds of each clause holds of the one with a number
+pub holds_at : (P : List ℕ → Type 0) (clauses : List (List ℕ)) (number : ℕ) (clause : List ℕ) → All P clauses → slice_get clauses number ≡ Some clause → P clause
+holds_at P clauses number clause a e = subst P (get_or_from_slice_get clauses number clause clause e) (a number clause (slice_get_within clauses number clause e))
+
+-- a list from a place on
+pub drop_at : (xs : List ℕ) (place x : ℕ) → slice_get xs place ≡ Some x → drop place xs ≡ x ∷ drop (place + 1) xs
+drop_at xs place x e = drop_more xs place x (slice_get_within xs place x e) ∙ ap (λ (y : ℕ). y ∷ drop (place + 1) xs) (get_or_from_slice_get xs place x x e)

@@ -2,6 +2,9 @@ pub mod Literal
 pub mod Clause
 pub mod Formula
 pub mod Pieces
+pub mod Repeats
+pub mod View
+pub mod Joined
 pub mod Derivation
 pub mod Choice
 pub mod ValueBits

@@ -1,4 +1,4 @@
-ghost use Rattle.std.specs.Prelude.{◌≡◌, ◌∷◌, [], ◌++◌, ◌<◌, ◌≤◌, List, ℕ, Some, length, slice_get, slice_range, All, OnOk, OnErr};
+ghost use Rattle.std.specs.Prelude.{◌≡◌, ◌∷◌, [], ◌++◌, ◌<◌, ◌≤◌, List, ℕ, Some, length, slice_get, slice_range, All, IfOk, OnOk, OnErr};
 ghost use Rattle.std.specs.Option.{option_to_list};
 ghost use Rattle.clause_base.specs.Clause.{IsClause, clause_of};
 ghost use Rattle.clause_base.specs.Pieces.{pieces, start_of, AreEnds};
@@ -145,6 +145,21 @@ impl ClauseList {
             return Ok(());
         }
         push_piece(&mut self.lits, &mut self.ends, &self.sorted)
+    }
+
+    /// The same list in memory of its own, with no room for more.
+    pub fn copy(&self, alloc: Global) -> Result<ClauseList, Memory>
+        ensures { IfOk result (λ list. list ≡ self.now) }
+    {
+        let mut lits = Vec::with_capacity(alloc, self.lits.len())?;
+        lits.extend_from_slice(&self.lits)?;
+        let mut ends = Vec::with_capacity(alloc, self.ends.len())?;
+        ends.extend_from_slice(&self.ends)?;
+        Ok(ClauseList {
+            lits,
+            ends,
+            sorted: Vec::new(alloc),
+        })
     }
 
     /// Makes room for so many more literals and clauses, so that they are added without a further allocation.

@@ -13,4 +13,6 @@ pub mod formula;
 pub mod literal;
 pub mod log;
 pub mod memory;
+pub mod repeated;
 pub mod values;
+pub mod view;

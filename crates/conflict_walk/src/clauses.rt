@@ -11,6 +11,7 @@ use clause_base::formula::Formula;
 use clause_base::literal::Lit;
 use clause_base::log::{Entry, Hints, Log};
 use clause_base::memory::Memory;
+use clause_base::view::View;
 use std::alloc::Global;
 use std::marker::Model;
 
@@ -90,14 +91,25 @@ impl Clauses {
     }
 
     /// The literals of the clause with a number; it may have been dropped.
-    pub fn clause(&self, number: u32) -> &[Lit]
+    #[inline]
+    pub fn clause(&self, number: u32) -> View<'_>
         requires { number < length (all_clauses self.now) }
+        ensures { result ≡ clause_at (all_clauses self.now) number }
+    {
+        if number < self.formula.count() {
+            return self.formula.clause(number);
+        }
+        View::of(self.learned(number))
+    }
+
+    /// The literals of the learned clause with a number among all clauses; it may have been dropped.
+    #[inline]
+    pub fn learned(&self, number: u32) -> &[Lit]
+        requires learned { length self.now.formula.clauses ≤ number }
+        requires in_range { number < length (all_clauses self.now) }
         ensures { result.now ≡ clause_at (all_clauses self.now) number }
     {
         let given = self.formula.count();
-        if number < given {
-            return self.formula.clause(number);
-        }
         learned_at(&self.log, self.places[(number - given) as usize])
     }
 

@@ -8,6 +8,7 @@ ghost use Rattle.conflict_walk.specs.{Resolvent.literals, Resolvent.IsEmptied, R
 use cdcl_trail::trail::Trail;
 use clause_base::literal::Lit;
 use clause_base::memory::Memory;
+use clause_base::view::View;
 use lit_marks::marks::Marks;
 use std::alloc::Global;
 use std::marker::Model;
@@ -92,37 +93,38 @@ impl Resolvent {
     }
 
     /// Puts false literals in.
-    pub fn put_all(&mut self, trail: &Trail, lits: &[Lit]) -> Result<(), Memory>
+    pub fn put_all(&mut self, trail: &Trail, lits: &View) -> Result<(), Memory>
         requires over { IsOver trail.now self.old }
         requires all_false { AllFalse trail.now.entries lits.now }
         ensures over { OnOk result (IsOver trail.now self.new) }
         ensures len { length self.new.on ≡ length self.old.on }
         ensures put { OnOk result (literals self.new ≡ fold put (literals self.old) lits.now) }
     {
-        for lit in lits {
-            self.put(trail, *lit)?;
+        for place in 0..lits.len() {
+            self.put(trail, lits.get(place))?;
         }
         Ok(())
     }
 
     /// Puts literals in, all but one; the others are false.
-    fn put_others(&mut self, trail: &Trail, lits: &[Lit], but: Lit) -> Result<(), Memory>
+    fn put_others(&mut self, trail: &Trail, lits: &View, but: Lit) -> Result<(), Memory>
         requires over { IsOver trail.now self.old }
         requires others { OthersFalse trail.now.entries lits.now but }
         ensures over { OnOk result (IsOver trail.now self.new) }
         ensures len { length self.new.on ≡ length self.old.on }
         ensures put { OnOk result (literals self.new ≡ fold put (literals self.old) (filter (λ l. not (l == but)) lits.now)) }
     {
-        for lit in lits {
-            if *lit != but {
-                self.put(trail, *lit)?;
+        for place in 0..lits.len() {
+            let lit = lits.get(place);
+            if lit != but {
+                self.put(trail, lit)?;
             }
         }
         Ok(())
     }
 
     /// Resolves on a literal whose opposite is in with the clause that forced it.
-    pub fn resolve(&mut self, trail: &Trail, forced: Lit, reason: &[Lit]) -> Result<(), Memory>
+    pub fn resolve(&mut self, trail: &Trail, forced: Lit, reason: &View) -> Result<(), Memory>
         requires over { IsOver trail.now self.old }
         requires in_draft { at self.old.on (opposite forced) ≡ true }
         requires others { OthersFalse trail.now.entries reason.now forced }

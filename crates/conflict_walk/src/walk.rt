@@ -44,7 +44,7 @@ pub fn walk_back(
             match entry.reason {
                 None => return Ok(hints),
                 Some(reason) => {
-                    resolvent.resolve(trail, entry.literal, clauses.clause(reason))?;
+                    resolvent.resolve(trail, entry.literal, &clauses.clause(reason))?;
                     hints.push(reason)?;
                 }
             }

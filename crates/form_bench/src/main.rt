@@ -16,7 +16,7 @@ ghost use Rattle.gt_core.specs.Reached.{HoldsWherever};
 use action_order::order::Order;
 use action_order::publish::publish;
 use clause_base::formula::Formula;
-use clause_base::literal::Lit;
+use clause_base::view::View;
 use gt_core::memory::Memory;
 use gt_core::pairs::Pairs;
 use gt_core::task::Task;
@@ -44,13 +44,13 @@ fn summed(sum: u64, code: u32) -> u64
 }
 
 /// The number that comes after another one by a clause.
-fn sum_of_clause(sum: u64, clause: &[Lit]) -> u64
+fn sum_of_clause(sum: u64, clause: &View) -> u64
     requires { sum < 2147483648 }
     ensures { result < 2147483648 }
 {
     let mut total = summed(sum, (clause.len() % 65536) as u32);
-    for lit in clause {
-        total = summed(total, lit.0);
+    for place in 0..clause.len() {
+        total = summed(total, clause.get(place).0);
     }
     total
 }
@@ -59,7 +59,7 @@ fn sum_of_clause(sum: u64, clause: &[Lit]) -> u64
 fn sum_of(formula: &Formula) -> u64 {
     let mut sum: u64 = 0;
     for number in 0..formula.count() {
-        sum = sum_of_clause(sum, formula.clause(number));
+        sum = sum_of_clause(sum, &formula.clause(number));
     }
     sum
 }

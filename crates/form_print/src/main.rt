@@ -1,6 +1,6 @@
-//! A test of formulas, clause by clause: prints those of two worked tasks, and those of twenty small tasks that are drawn from
-//! numbers, first under no known pair and then under all pairs that each action keeps by itself. The file `stdout` is not
-//! this program's: `bench/list-formulas` wrote it, from the definition of the clauses alone.
+//! A test of formulas, clause by clause: prints those of exists-steps and of all-steps of two worked tasks, and of twenty small
+//! tasks that are drawn from numbers, first under no known pair and then under all pairs that each action keeps by itself.
+//! The file `stdout` is not this program's: `bench/list-formulas` wrote it, from the definition of the clauses alone.
 #![tactic(auto)]
 
 ghost use Rattle.std.specs.Prelude.{◌≡◌, ◌≤◌};
@@ -12,8 +12,9 @@ mod model;
 use crate::model::is_model;
 use action_order::order::Order;
 use action_order::publish::publish;
+use all_steps::form::AllForm;
 use clause_base::formula::Formula;
-use clause_base::literal::Lit;
+use clause_base::view::View;
 use gt_core::pairs::Pairs;
 use gt_core::task::Task;
 use sample_tasks::dice::Dice;
@@ -53,10 +54,10 @@ fn print_order(rt: &impl Print, order: &Order) -> io::Result<()> {
 }
 
 /// Prints the codes of a clause.
-fn print_clause(rt: &impl Print, clause: &[Lit]) -> io::Result<()> {
+fn print_clause(rt: &impl Print, clause: &View) -> io::Result<()> {
     print!(rt; "clause")?;
-    for lit in clause {
-        let code = lit.0;
+    for place in 0..clause.len() {
+        let code = clause.get(place).0;
         print!(rt; " {code}")?;
     }
     println!(rt; "")
@@ -67,13 +68,13 @@ fn print_formula(rt: &impl Print, formula: &Formula) -> io::Result<()> {
     let (name, variables) = (formula.name(), formula.variables());
     println!(rt; "formula {name} variables {variables}")?;
     for number in 0..formula.count() {
-        print_clause(rt, formula.clause(number))?;
+        print_clause(rt, &formula.clause(number))?;
     }
     Ok(())
 }
 
 /// Prints how many variables a horizon has of each kind.
-fn print_layout(rt: &impl Print, form: &ExistsForm, n: u32) -> io::Result<()>
+fn print_layout<F: StepForm>(rt: &impl Print, form: &F, n: u32) -> io::Result<()>
     requires { n ≤ 255 }
 {
     if form.size(n) > 4_000_000 {
@@ -85,9 +86,9 @@ fn print_layout(rt: &impl Print, form: &ExistsForm, n: u32) -> io::Result<()>
 }
 
 /// Prints a horizon's formula, and the steps of an assignment where it satisfies it.
-fn print_horizon(
+fn print_horizon<F: StepForm>(
     rt: &(impl Print + AllocGlobal),
-    form: &ExistsForm,
+    form: &F,
     n: u32,
     values: &[bool],
 ) -> io::Result<()>
@@ -112,7 +113,11 @@ fn print_horizon(
 }
 
 /// Prints what was asked of a form.
-fn print_form(rt: &(impl Print + AllocGlobal), form: &ExistsForm, asked: Asked) -> io::Result<()> {
+fn print_form<F: StepForm>(
+    rt: &(impl Print + AllocGlobal),
+    form: &F,
+    asked: Asked,
+) -> io::Result<()> {
     for n in 0..4 {
         let size = form.size(n);
         println!(rt; "size {n} {size}")?;
@@ -134,7 +139,7 @@ fn print_pairs(rt: &impl Print, pairs: &Pairs) -> io::Result<()> {
     println!(rt; "")
 }
 
-/// Prints a task's order and formula under known pairs.
+/// Prints a task's order and its formulas under known pairs.
 fn print_ordered(
     rt: &(impl Print + AllocGlobal),
     task: &Task,
@@ -147,13 +152,19 @@ fn print_ordered(
     requires published { IsPublished task.now pairs.now.clauses order.now }
 {
     print_order(rt, order)?;
-    match ExistsForm::new(rt.alloc(), task, pairs, order) {
-        Ok(form) => print_form(rt, &form, asked),
-        Err(_) => println!(rt; "no memory"),
-    }
+    let (Ok(exists), Ok(all)) = (
+        ExistsForm::new(rt.alloc(), task, pairs, order),
+        AllForm::new(rt.alloc(), task, pairs, order),
+    ) else {
+        return println!(rt; "no memory");
+    };
+    println!(rt; "exists-steps")?;
+    print_form(rt, &exists, asked)?;
+    println!(rt; "all-steps")?;
+    print_form(rt, &all, asked)
 }
 
-/// Prints known pairs, and a task's published order and its formula under them.
+/// Prints known pairs, and a task's published order and its formulas under them.
 fn print_known(
     rt: &(impl Print + AllocGlobal),
     task: &Task,

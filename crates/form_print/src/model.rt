@@ -7,6 +7,7 @@ ghost use Rattle.clause_base.specs.Formula.{IsModel, assignment_of};
 
 use clause_base::formula::Formula;
 use clause_base::literal::Lit;
+use clause_base::view::View;
 
 /// Whether an assignment makes a literal true.
 fn literal_value(values: &[bool], lit: Lit) -> bool
@@ -18,10 +19,15 @@ fn literal_value(values: &[bool], lit: Lit) -> bool
 }
 
 /// Whether an assignment makes a clause true.
-fn clause_value(values: &[bool], clause: &[Lit]) -> bool
+fn clause_value(values: &[bool], clause: &View) -> bool
     ensures { result ≡ clause_value (assignment_of values.now) clause.now }
 {
-    clause.iter().any(|l| literal_value(values, *l))
+    for place in 0..clause.len() {
+        if literal_value(values, clause.get(place)) {
+            return true;
+        }
+    }
+    false
 }
 
 /// Whether an assignment satisfies a formula.
@@ -32,7 +38,7 @@ pub(crate) fn is_model(formula: &Formula, values: &[bool]) -> bool
         return false;
     }
     for number in 0..formula.count() {
-        if !clause_value(values, formula.clause(number)) {
+        if !clause_value(values, &formula.clause(number)) {
             return false;
         }
     }

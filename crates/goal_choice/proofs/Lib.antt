@@ -1,8 +1,8 @@
 pub mod Sets
 pub mod Steps
-pub mod Index
 pub mod Ranges
 pub mod Unread
 pub mod Kept
 pub mod Differences
-pub mod Supporting
+pub mod Found
+pub mod NeedsLaw

@@ -58,6 +58,12 @@ in_step z n start t ss e lt l a = each_weaker (IsWithin z) (λ s. variable_from 
 pub needs_within : (z : Layout) (values : Known) (value : Option Bool) (start : ℕ) (ss : List Supporter) (s : Supporter) → AllByRecursion (IsWithin z) ss → Some s ≡ least_with values value start ss → AllByRecursion (λ l. l / 2 < z.facts) s.needs
 needs_within z values value start ss s a e = (least_is (IsWithin z) values value start ss s a e).needs
 
+-- the variable of the least one that is open is small
+pub least_small : (z : Layout) (values : Known) (start t : ℕ) (ss : List Supporter) (s : Supporter) → start ≡ start_of z t → t < z.horizon → length values ≡ variables z → variables z ≤ 2147483647 → AllByRecursion (IsWithin z) ss → Some s ≡ least_with values None start ss → start + s.variable ≤ 2147483647
+least_small z values start t ss s e lt l small a h =
+    let below = least_is (λ r. variable_from start r < length values) values None start ss s (in_step z (length values) start t ss e lt l a) h in
+    omega (arith, below, l, small)
+
 rising_by : (top low : ℕ) (ls : List ℕ) → are_rising top low ls ≡ true → IsRising ls
 rising_by top low [] e = tt
 rising_by top low (l ∷ []) e = tt

@@ -16,5 +16,5 @@ abbrev pub choice_by : Means → Known → Option ℕ
 choice_by m values = or_plain values (walk (support_of m values) m.layout.horizon m.goal)
 
 -- the choice for a task over its variables by this layout
-abbrev pub goal_choice : Task → Layout → Known → Option ℕ
-goal_choice task z values = choice_by (means_of task z) values
+abbrev pub choice_of : Task → Layout → Known → Option ℕ
+choice_of task z = choice_by (means_of task z)

@@ -5,3 +5,5 @@ pub mod Members
 pub mod Supports
 pub mod ChoiceLaw
 pub mod Kept
+pub mod Needs
+pub mod Search

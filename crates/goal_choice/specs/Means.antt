@@ -1,8 +1,9 @@
 -- What a choice backwards from the goals looks at.
-use Rattle.std.specs.Prelude.{ℕ, ◌+◌, ◌*◌, ◌==◌, List, ◌++◌, map}
+use Rattle.std.specs.Prelude.{ℕ, ◌+◌, ◌*◌, ◌==◌, List, ◌++◌, map, length}
 use Rattle.std.specs.List.{filter}
 use Rattle.gt_core.specs.Literal.{range}
 use Rattle.gt_core.specs.Task.{Task, precondition}
+use Rattle.gt_core.specs.Lawful.{conditional_in}
 use Rattle.gt_core.specs.Layout.{Layout, width}
 use Rattle.step_clauses.specs.Variables.{Row, rows, variable_at}
 
@@ -36,3 +37,11 @@ pub record Means : Type 0 where
 -- what a task with this layout gives
 abbrev pub means_of : Task → Layout → Means
 means_of task z = record { layout = z; goal = task.goal; supporters = map (supporters_of task z (rows task)) (range (2 * task.facts)) }
+
+-- the layout of one step of a task without chain variables
+abbrev pub plain_layout : Task → Layout
+plain_layout task = record { horizon = 1; actions = length task.actions; conditional = conditional_in task.actions; chains = 0; facts = task.facts }
+
+-- what is gathered from a task for all its layouts
+abbrev pub gathered_of : Task → Means
+gathered_of task = means_of task (plain_layout task)

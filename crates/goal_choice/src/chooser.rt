@@ -3,13 +3,13 @@
 ghost use Rattle.std.specs.Prelude.{◌≡◌, length, IfOk};
 ghost use Rattle.gt_core.specs.Lawful.{conditional_in};
 ghost use Rattle.gt_core.specs.Layout.{variables};
-ghost use Rattle.goal_choice.specs.Means.{means_of};
+ghost use Rattle.goal_choice.specs.Means.{means_of, gathered_of};
 ghost use Rattle.goal_choice.specs.Choice.{choice_by};
 ghost use Rattle.clause_base.specs.Choice.{plain_choice};
 ghost use Rattle.goal_choice.specs.ChoiceLaw.{choice-open};
 
 use crate::last_walk::LastWalk;
-use crate::means::Means;
+use crate::supporters::Supporters;
 use clause_base::chooser::{Chooser, PlainChooser};
 use clause_base::literal::Lit;
 use clause_base::memory::Memory;
@@ -42,9 +42,25 @@ impl GoalChooser {
         requires facts { layout.facts ≡ task.now.facts }
         ensures { IfOk result (λ c. c ≡ means_of task.now layout) }
     {
-        let means = Means::new(alloc, task, layout)?;
+        let supporters = Supporters::new(alloc, task)?;
+        GoalChooser::sharing(alloc, &supporters, layout)
+    }
+
+    /// The chooser over variables by this layout that looks at these supporters, which other choosers share. It is that of each
+    /// task whose supporters these are.
+    pub fn sharing(
+        alloc: Global,
+        supporters: &Supporters,
+        layout: Layout,
+    ) -> Result<GoalChooser, Memory>
+        requires actions { layout.actions ≡ supporters.now.layout.actions }
+        requires conditional { layout.conditional ≡ supporters.now.layout.conditional }
+        requires facts { layout.facts ≡ supporters.now.layout.facts }
+        ensures made { IfOk result (λ c. c ≡ record supporters.now { layout = layout }) }
+        ensures of { IfOk result (λ c. (task : Task) → supporters.now ≡ gathered_of task → c ≡ means_of task layout) }
+    {
         Ok(GoalChooser {
-            walk: LastWalk::new(alloc, means)?,
+            walk: LastWalk::new(alloc, supporters.over(layout)?)?,
         })
     }
 }

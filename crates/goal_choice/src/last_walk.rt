@@ -7,7 +7,7 @@ ghost use Rattle.clause_base.specs.Choice.{first_difference};
 ghost use Rattle.goal_choice.specs.Kept.{walked, IsSameFrom};
 
 use crate::literals::{Literals, empty_sets};
-use crate::means::Means;
+use crate::supporters::Supporters;
 use crate::walk::wanted_before;
 use clause_base::literal::Lit;
 use clause_base::memory::Memory;
@@ -19,7 +19,7 @@ use std::marker::Model;
 /// `low`. Beside that, a set to write over.
 #[derive(Debug, Drop)]
 pub(crate) struct LastWalk {
-    means: Means,
+    means: Supporters,
     seen: Values,
     wanted: Vec<Literals>,
     low: u32,
@@ -39,7 +39,7 @@ impl Model for LastWalk {
 
 impl LastWalk {
     /// The walk over no values, before its first step.
-    pub(crate) fn new(alloc: Global, means: Means) -> Result<LastWalk, Memory>
+    pub(crate) fn new(alloc: Global, means: Supporters) -> Result<LastWalk, Memory>
         ensures { IfOk result (λ w. w.means ≡ means) }
     {
         let layout = *means.layout();

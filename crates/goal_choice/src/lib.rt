@@ -2,17 +2,21 @@
 //! decides for an action that makes a wanted literal true, the one that is wanted at the latest time.
 //!
 //! ```text
-//! let chooser = GoalChooser::new(alloc, task, form.layout(n))?;
+//! let supporters = Supporters::new(alloc, task)?; // once for all horizons
+//! let chooser = GoalChooser::sharing(alloc, &supporters, form.layout(n))?;
 //! let solver = Solver::new(alloc, form.formula(n)?, chooser)?;
 //! ```
 #![tactic(auto)]
 
 mod chooser;
+mod flat_lists;
+mod gather;
 mod last_walk;
 mod literals;
-mod means;
+mod search;
 mod support;
-mod supporter;
+mod supporters;
 mod walk;
 
 pub use chooser::GoalChooser;
+pub use supporters::Supporters;

@@ -5,8 +5,8 @@ ghost use Rattle.gt_core.specs.Layout.{variables};
 ghost use Rattle.goal_choice.specs.Walk.{is_false_at, support_of};
 ghost use Rattle.goal_choice.specs.Supports.{meaning, WantsWithin};
 
-use crate::means::Means;
-use crate::supporter::has_value;
+use crate::search::has_value;
+use crate::supporters::Supporters;
 use clause_base::literal::Lit;
 use clause_base::values::Values;
 
@@ -22,7 +22,7 @@ pub(crate) enum Support<'a> {
 }
 
 /// Whether a fact literal is false at a time.
-fn is_false_at(means: &Means, values: &Values, time: u32, lit: u32) -> bool
+fn is_false_at(means: &Supporters, values: &Values, time: u32, lit: u32) -> bool
     requires time { time < means.now.layout.horizon }
     requires lit { lit / 2 < means.now.layout.facts }
     requires fits { length values.now ≡ variables means.now.layout }
@@ -35,7 +35,12 @@ fn is_false_at(means: &Means, values: &Values, time: u32, lit: u32) -> bool
 }
 
 /// What a literal asks for that is wanted after a step.
-pub(crate) fn support_for<'a>(means: &'a Means, values: &Values, step: u32, lit: u32) -> Support<'a>
+pub(crate) fn support_for<'a>(
+    means: &'a Supporters,
+    values: &Values,
+    step: u32,
+    lit: u32,
+) -> Support<'a>
     requires step { step < means.now.layout.horizon }
     requires lit { lit / 2 < means.now.layout.facts }
     requires fits { length values.now ≡ variables means.now.layout }
@@ -43,15 +48,14 @@ pub(crate) fn support_for<'a>(means: &'a Means, values: &Values, step: u32, lit:
     ensures within { WantsWithin means.now.layout.facts result }
 {
     let start = means.layout().step_start(step);
-    let supporters = means.supporters(lit);
-    if let Some(supporter) = supporters.least_with(values, start, Some(true)) {
-        return Support::Want(supporter.needs());
+    if let Some(supporter) = means.least_with(lit, values, start, Some(true)) {
+        return Support::Want(supporter.needs);
     }
     if !is_false_at(means, values, step, lit) {
         return Support::Keep;
     }
-    match supporters.least_with(values, start, None) {
+    match means.least_with(lit, values, start, None) {
         None => Support::Keep,
-        Some(supporter) => Support::Choose(Lit::of(start + supporter.variable(), true)),
+        Some(supporter) => Support::Choose(Lit::of(start + supporter.variable, true)),
     }
 }

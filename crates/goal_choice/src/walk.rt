@@ -6,14 +6,14 @@ ghost use Rattle.goal_choice.specs.Walk.{support_of, supports};
 ghost use Rattle.goal_choice.specs.Supports.{IsStep};
 
 use crate::literals::Literals;
-use crate::means::Means;
 use crate::support::{Support, support_for};
+use crate::supporters::Supporters;
 use clause_base::literal::Lit;
 use clause_base::values::Values;
 
 /// What the wanted literals ask for in a step: a decision, or else what is wanted before it.
 pub(crate) fn wanted_before(
-    means: &Means,
+    means: &Supporters,
     values: &Values,
     step: u32,
     wanted: &Literals,

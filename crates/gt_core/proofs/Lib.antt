@@ -7,6 +7,7 @@ pub mod PublishedLaw
 pub mod UniqueLaw
 pub mod RunLaw
 pub mod StepLaw
+pub mod EachOrder
 pub mod SequenceLaw
 pub mod ListOrder
 pub mod Within

@@ -96,6 +96,10 @@ pairwise_filter S Q D [] h p = tt
 pairwise_filter S Q D (k ∷ ks) h p =
     pairwise_filter_by S D k ks (filter S ks) (S k) (λ e. each_from (D k) (filter S ks) (λ b i. let r = filtered S ks b i in h k b e r.1 (each_at (Q k) ks b p.0 r.0))) (pairwise_filter S Q D ks h p.1)
 
+-- what holds of any two of a list
+pub pairwise_among : (R : ℕ → ℕ → Type 0) (ks : List ℕ) → ((a b : ℕ) → Among a ks → Among b ks → R a b) → Pairwise R ks
+pairwise_among R [] h = tt
+pairwise_among R (k ∷ ks) h = (each_from (R k) ks (λ b i. h k b (inl refl) (inr i)), pairwise_among R ks (λ a b i j. h a b (inr i) (inr j)))
+
 pub every_pair : (R : ℕ → ℕ → Type 0) (ks : List ℕ) → ((a b : ℕ) → R a b) → Pairwise R ks
-every_pair R [] h = tt
-every_pair R (k ∷ ks) h = (each_from (R k) ks (λ b i. h k b), every_pair R ks h)
+every_pair R ks h = pairwise_among R ks (λ a b i j. h a b)

@@ -1,11 +1,13 @@
-use Rattle.std.specs.Prelude.{◌≡◌, ℕ, ◌<◌, List, [], ◌∷◌, Bool, true}
+use Rattle.std.specs.Prelude.{◌≡◌, ℕ, ◌<◌, List, [], ◌∷◌, Bool, true, false}
 use Rattle.std.specs.List.{filter}
 use Rattle.gt_core.specs.Literal.{is_in}
 use Rattle.gt_core.specs.Task.{Task, initial_state}
 use Rattle.gt_core.specs.Lawful.{is_task}
 use Rattle.gt_core.specs.Execution.{Runs, CanRun, run, next_of_one, IsGoal}
+use Rattle.gt_core.specs.Interference.{disables}
 use Rattle.gt_core.specs.Published.{IsPublished, order_of, KeepsApart, HasEachOnce}
 use Rattle.gt_core.specs.Step.{IsStep, IsStepPlan, sequence_of}
+use Rattle.gt_core.specs.AllStep.{IsAllStep, HasMembersOnce}
 
 -- the members of a step, run one after the other in published order, can each run and lead to the state after the step
 pub record RunsInOrder (task : Task) (order : List ℕ) (s members t : ℕ → Bool) : Type 0 where
@@ -16,6 +18,16 @@ abbrev pub EachStepRunsInOrder : Type 0
 EachStepRunsInOrder =
     (task : Task) (clauses : List (ℕ × ℕ)) (components : List (List ℕ)) (s members t : ℕ → Bool)
     → IsPublished task clauses components → IsStep task (order_of components) s members t → RunsInOrder task (order_of components) s members t
+
+-- an action does not disable itself
+abbrev pub NeverItself : Type 0
+NeverItself = (task : Task) (a : ℕ) → disables task a a ≡ false
+
+-- the members of an all-step, run one after the other in any order, can each run and lead to the state after the step
+abbrev pub EachOrderRuns : Type 0
+EachOrderRuns =
+    (task : Task) (order : List ℕ) (s members t : ℕ → Bool) (ks : List ℕ) → IsAllStep task order s members t → HasMembersOnce members ks
+    → CanRun task s ks × ((f : ℕ) → f < task.facts → run task s ks f ≡ t f)
 
 -- an action that can run is a step by itself, to the state after it
 abbrev pub OneActionIsStep : Type 0

@@ -6,6 +6,7 @@ pub mod Execution
 pub mod Interference
 pub mod Published
 pub mod Step
+pub mod AllStep
 pub mod Reached
 pub mod Clauses
 pub mod Layout

@@ -1,7 +1,5 @@
 -- The run of a horizon: a solver over its formula, and where the conflicts that it is granted lead it.
 use Rattle.std.specs.Prelude.{◌≡◌, ℕ, ◌+◌, ◌*◌, ◌≤◌, List, Bool, false, Option, length}
-use Rattle.gt_core.specs.Task.{Task}
-use Rattle.gt_core.specs.Layout.{Layout}
 use Rattle.clause_base.specs.Choice.{Known}
 use Rattle.clause_base.specs.Formula.{Cnf, IsModel}
 use Rattle.clause_base.specs.Derivation.{clauses_of, IsRefutation}
@@ -10,8 +8,10 @@ use Rattle.cdcl_rules.specs.State.{State}
 use Rattle.cdcl_rules.specs.Open.{Opens}
 use Rattle.cdcl_rules.specs.Run.{start_of, after, is_going}
 use Rattle.cdcl_laws.specs.Sound.{IsSound, truths_of as trail_truths}
-use Rattle.goal_choice.specs.Means.{Means, means_of}
+use Rattle.goal_choice.specs.Means.{Means}
 use Rattle.goal_choice.specs.Choice.{choice_by}
+-- the choice by which the solver of a horizon decides: backwards from the goals
+pub use Rattle.goal_choice.specs.Choice.{choice_of}
 
 -- a run over a formula, as its clients see it: the formula, what its choice looks at, the solver's state, how many conflicts it was
 -- granted, and whether it found no memory once
@@ -21,10 +21,6 @@ pub record RunView : Type 0 where
   pub state : State
   pub granted : ℕ
   pub spoilt : Bool
-
--- the choice by which the solver of a horizon decides: backwards from the goals
-abbrev pub choice_of : Task → Layout → Known → Option ℕ
-choice_of task layout = choice_by (means_of task layout)
 
 -- the choice by which a run decides
 abbrev pub choice_in : RunView → Known → Option ℕ

@@ -4,6 +4,7 @@ ghost use Rattle.clause_base.specs.Derivation.{IsRefutation, IsDerivation};
 ghost use Rattle.cdcl_rules.specs.State.{value_of};
 ghost use Rattle.cdcl_rules.specs.Run.{after};
 ghost use Rattle.cdcl_laws.specs.Sound.{made_true};
+ghost use Rattle.goal_choice.specs.Means.{gathered_of};
 ghost use Rattle.rup_check.specs.Certificate.{Certifies};
 ghost use Rattle.step_encoding.specs.Numbers.{literals_of};
 ghost use Rattle.horizon_run.specs.Run.{choice_in, choice_of, moved_to, truths_of, IsMoved, IsNew, IsReached, AddsUp, Stays};
@@ -11,8 +12,9 @@ ghost use Rattle.horizon_run.specs.Run.{choice_in, choice_of, moved_to, truths_o
 use cdcl_core::solver::Solver;
 use cdcl_laws::law::runs_are_sound;
 use cdcl_rules::standing::Standing;
+use clause_base::log::Log;
 use clause_base::memory::Memory;
-use goal_choice::GoalChooser;
+use goal_choice::{GoalChooser, Supporters};
 use gt_core::task::Task;
 use rup_check::check::{CheckError, Checked, check};
 use std::alloc::Global;
@@ -58,12 +60,30 @@ impl HorizonRun {
         ensures formula { IfOk result (λ run. run.formula ≡ F.formula_of form.now n) }
         ensures choice { IfOk result (λ run. choice_in run ≡ choice_of task.now (F.layout_of form.now n)) }
     {
+        let supporters = Supporters::new(alloc, task)?;
+        HorizonRun::sharing(alloc, &supporters, form, n)
+    }
+
+    /// The run of a horizon before its first conflict, as `new` makes it, over supporters that the runs of other horizons share.
+    pub fn sharing<F: StepForm>(
+        alloc: Global,
+        supporters: &Supporters,
+        form: &F,
+        n: u32,
+    ) -> Result<HorizonRun, Memory>
+        requires supporters { supporters.now ≡ gathered_of (F.task form.now) }
+        requires horizon { n ≤ 255 }
+        requires size { literals_of (F.formula_of form.now n) ≤ 4000000 }
+        ensures start { IfOk result (λ run. IsNew run) }
+        ensures formula { IfOk result (λ run. run.formula ≡ F.formula_of form.now n) }
+        ensures choice { IfOk result (λ run. choice_in run ≡ choice_of (F.task form.now) (F.layout_of form.now n)) }
+    {
         let Ok(formula) = form.formula(alloc, n) else {
             return Err(Memory);
         };
         let _clauses = formula.count();
         let _variables = formula.variables();
-        let chooser = GoalChooser::new(alloc, task, form.layout(n))?;
+        let chooser = GoalChooser::sharing(alloc, supporters, form.layout(n))?;
         let mut solver = Solver::new(alloc, formula, chooser)?;
         let _sound = solver.conflicts();
         solver.advance(0)?;
@@ -126,6 +146,14 @@ impl HorizonRun {
     {
         let _log = self.solver.log();
         self.solver.conflicts()
+    }
+
+    /// What its solver learned and dropped so far, in order: a derivation, of a spoilt run too. It takes no memory.
+    pub fn log(&self) -> &Log
+        ensures value { result.now ≡ self.now.state.log }
+        ensures derivation { IsDerivation self.now.formula.variables self.now.formula.clauses self.now.state.log }
+    {
+        self.solver.log()
     }
 
     /// The value of a variable, if it has one.

@@ -1,4 +1,4 @@
-use Rattle.std.proofs.Common.{arith, false, ◌≡◌, ℕ, suc, ◌+◌, ◌-◌, ◌≤◌, min, List, [], ◌∷◌, map, length, refl, sym, ap, ◌∙◌, subst}
+use Rattle.std.proofs.Common.{arith, false, Vec, Global, ◌≡◌, ℕ, suc, ◌+◌, ◌-◌, ◌≤◌, min, List, [], ◌∷◌, map, length, refl, sym, ap, ◌∙◌, subst}
 use Rattle.std.specs.List.{AllByRecursion}
 use Rattle.horizon_rates.specs.declared.rates.Rates.{Rates}
 use Rattle.horizon_rates.specs.Quotas.{quota_at}
@@ -6,6 +6,7 @@ use Rattle.horizon_run.specs.Run.{RunView}
 use Rattle.horizon_rates.specs.Horizons.{horizon_at}
 use Rattle.horizon_rates.specs.Window.{WindowState}
 use Rattle.horizon_rates.specs.Ledger.{left_of, SumsToBudget}
+use Rattle.race.specs.Begun.{race_after, IsGranted}
 use Rattle.race.specs.Grants.{raised, grants, advanced}
 use Rattle.race.specs.Input.{RaceInput}
 use Rattle.race.specs.Lines.{IsLine}
@@ -13,6 +14,7 @@ use Rattle.race.specs.Runs.{live_run_of, horizon_of, IsRunOf, AreLow, moved_all,
 use Rattle.race.specs.State.{conflicts_used, spent}
 use Rattle.race.specs.Tied.{race_state, IsTied}
 use Rattle.race_end.specs.Ends.{line_view, conflicts_in}
+use Rattle.race.specs.declared.begun.Begun.{Begun}
 use Rattle.race.specs.declared.racing.Racing.{Racing}
 use Rattle.race_end.specs.declared.line.Line.{Line}
 use Rattle.race.proofs.Starts.{same-race}
@@ -54,16 +56,15 @@ fits-grants rates (r ∷ rs) place left a l =
     (omega arith, fits-grants rates rs (place + 1) (left - min (quota_at rates place) left) a.1 (omega arith))
 
 -- the race whose runs were advanced
-pub race-advanced : (input : RaceInput) (racing racing' : Racing) (gs : List ℕ) (left count : ℕ) → IsTied input racing
-    → racing'.window ≡ racing.window → racing'.lines.items ≡ racing.lines.items → racing'.runs.items ≡ moved_all racing.runs.items gs
-    → gs ≡ grants input.rates 0 left count → left ≡ left_of racing.ledger → count ≡ length racing.window.live
-    → race_state racing' ≡ advanced input (race_state racing)
+pub race-advanced : (input : RaceInput) (racing : Racing) (runs : List RunView) (gs : List ℕ) (begun : Begun) → IsTied input racing
+    → IsGranted input racing runs gs begun → race_after begun (moved_all runs gs) ≡ advanced input (race_state racing)
 unfolding advanced
-race-advanced input racing racing' gs left count t window lines moved granted is many =
-    let same : count ≡ length (map live_run_of racing.runs.items) = many ∙ (ap length t.live ∙ (length-horizons racing.runs.items ∙ sym (length-runners racing.runs.items))) in
-    let less : left ≡ input.budget - spent (race_state racing) = omega (arith, is, t.aside, t.spent, t.budget) in
-    let gs_are : gs ≡ grants input.rates 0 (input.budget - spent (race_state racing)) (length (map live_run_of racing.runs.items)) = granted ∙ (ap (λ (n : ℕ). grants input.rates 0 n count) less ∙ ap (λ (n : ℕ). grants input.rates 0 (input.budget - spent (race_state racing)) n) same) in
-    same-race (ap (map live_run_of) moved ∙ (raise input racing.runs.items gs t.runs ∙ ap (raised input (map live_run_of racing.runs.items)) gs_are)) (ap (λ (w : WindowState). w.next) window) (ap (map line_view) lines)
+race-advanced input racing runs gs begun t out =
+    let left = left_of racing.ledger in
+    let same : length racing.runs.items ≡ length (map live_run_of racing.runs.items) = sym (length-runners racing.runs.items) in
+    let less : left ≡ input.budget - spent (race_state racing) = omega (arith, t.aside, t.spent, t.budget) in
+    let gs_are : gs ≡ grants input.rates 0 (input.budget - spent (race_state racing)) (length (map live_run_of racing.runs.items)) = out.grants_are ∙ (ap (λ (n : ℕ). grants input.rates 0 n (length racing.runs.items)) less ∙ ap (λ (n : ℕ). grants input.rates 0 (input.budget - spent (race_state racing)) n) same) in
+    same-race (ap (λ (rs : List RunView). map live_run_of (moved_all rs gs)) out.runs_are ∙ (raise input racing.runs.items gs t.runs ∙ ap (raised input (map live_run_of racing.runs.items)) gs_are)) (ap (λ (w : WindowState). w.next) out.window) (ap (λ (ls : Vec Line Global). map line_view ls.items) out.lines)
 
 -- and its parts still fit together
 pub tied-advanced : (input : RaceInput) (racing racing' : Racing) (gs : List ℕ) → IsTied input racing → racing'.window ≡ racing.window

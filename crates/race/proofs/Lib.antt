@@ -9,3 +9,4 @@ pub mod Spends
 pub mod Packed
 pub mod Booked
 pub mod Told
+pub mod Comes

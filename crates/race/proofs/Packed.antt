@@ -68,6 +68,18 @@ all_rising rs gs f up k d lt =
     let below = up k (omega (arith, lt, n, m)) in
     omega (arith, here, next, below)
 
+-- the runs of jobs, with all of their targets granted
+pub at_targets : (rs : List RunView) (gs : List ℕ) → Fits rs gs → map run_at (jobs_at rs gs) ≡ moved_all rs gs
+at_targets [] gs f = refl
+at_targets (r ∷ rs) [] f = absurd f
+at_targets (r ∷ rs) (h ∷ gs) f = ap (λ (xs : List RunView). moved_to r (r.granted + h) ∷ xs) (at_targets rs gs f.1)
+
+pub jobs_sound : (rs : List RunView) (gs : List ℕ) → AllByRecursion (λ (r : RunView). r.spoilt ≡ false) rs
+    → AllByRecursion (λ (j : JobView RunView). j.run.spoilt ≡ false) (jobs_at rs gs)
+jobs_sound [] gs a = tt
+jobs_sound (r ∷ rs) [] a = tt
+jobs_sound (r ∷ rs) (g ∷ gs) a = (a.0, jobs_sound rs gs a.1)
+
 run_of_entry : BookEntry RunView → RunView
 run_of_entry e = moved_to e.origin e.target
 
@@ -76,11 +88,6 @@ module _ (g : Ghosts RunView) (same : (r : RunView) (k : ℕ) → moved_to (g.or
   unfolding run_of_entry
   from_entries [] = refl
   from_entries (j ∷ js) = λ i. sym (same j.run j.target) i ∷ from_entries js i
-
-  at_targets : (rs : List RunView) (gs : List ℕ) → Fits rs gs → map run_at (jobs_at rs gs) ≡ moved_all rs gs
-  at_targets [] gs f = refl
-  at_targets (r ∷ rs) [] f = absurd f
-  at_targets (r ∷ rs) (h ∷ gs) f = ap (λ (xs : List RunView). moved_to r (r.granted + h) ∷ xs) (at_targets rs gs f.1)
 
   -- the runs that a round gives back
   pub runs_back : (rs : List RunView) (gs : List ℕ) (back : List (JobView RunView)) → Fits rs gs

@@ -181,14 +181,13 @@ spends-on input racing racing' race t low t' none advanced moved on =
     let more = first-more input input.rates rs (left_of racing.ledger) (length rs) t.runs low left some refl unfound in
     omega (arith, more, t.spent, t'.spent, closed, used, used', runs', kept, end)
 
-pub spends-step : (input : RaceInput) (before racing racing' : Racing) (step : Step) → IsTied input racing → AreLow racing.runs.items
-    → IsTied input racing' → racing.ledger ≡ before.ledger → too_large input (race_state racing) ≡ None
+pub spends-step : (input : RaceInput) (n : ℕ) (racing racing' : Racing) (step : Step) → n ≡ racing.ledger.spent → IsTied input racing
+    → AreLow racing.runs.items → IsTied input racing' → too_large input (race_state racing) ≡ None
     → race_state racing' ≡ advanced input (race_state racing)
     → racing'.runs.items ≡ moved_all racing.runs.items (grants input.rates 0 (left_of racing.ledger) (length racing.runs.items))
-    → Stands input step (judged input (race_state racing')) → SpendsMore before.ledger.spent step
-spends-step input before racing racing' (OnStep next) t low t' ledger none advanced moved s =
+    → Stands input step (judged input (race_state racing')) → SpendsMore n step
+spends-step input n racing racing' (OnStep next) same t low t' none advanced moved s =
     let more = spends-on input racing racing' (race_state next) t low t' none advanced moved s.on in
-    let same = ap (λ (a : Account). a.spent) ledger in
     let is = s.tied.spent in
     omega (arith, more, same, is)
-spends-step input before racing racing' (EndStep end) t low t' ledger none advanced moved s = tt
+spends-step input n racing racing' (EndStep end) same t low t' none advanced moved s = tt

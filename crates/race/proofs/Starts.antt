@@ -19,7 +19,7 @@ use Rattle.race.specs.Lines.{IsLine}
 use Rattle.race.specs.Runs.{live_run_of, horizon_of, IsRunOf, IsLow, AreLow}
 use Rattle.race.specs.Starts.{fitting, fill, filled, started, too_large}
 use Rattle.race.specs.State.{RaceState, LiveRun, live_at, conflicts_used}
-use Rattle.race.specs.Tied.{race_state, IsTied}
+use Rattle.race.specs.Tied.{race_state, IsTied, KeepsBooks}
 use Rattle.race_end.specs.Ends.{line_view, LineView, conflicts_in}
 use Rattle.race.specs.declared.racing.Racing.{Racing}
 use Rattle.race_end.specs.declared.line.Line.{Line}
@@ -214,3 +214,7 @@ unfolding filled
 large input race h e =
     let end = fill input (input.rates.width - length race.live) race in
     large-at input race h (input.rates.width - length race.live) refl (stopped input end.live end.next end.closed h e)
+
+-- what two starts keep
+pub keeps-next : {a b c : Racing} → KeepsBooks b c → KeepsBooks a b → KeepsBooks a c
+keeps-next k h = record { ledger = k.ledger ∙ h.ledger; lines = k.lines ∙ h.lines; rounds = k.rounds ∙ h.rounds }

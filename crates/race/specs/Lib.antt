@@ -10,3 +10,4 @@ pub mod Ends
 pub mod Runs
 pub mod Tied
 pub mod Fresh
+pub mod Begun

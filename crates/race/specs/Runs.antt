@@ -1,6 +1,7 @@
 -- The runs of a race, as the code has them: those of the live horizons, and the jobs that workers are given.
-use Rattle.std.specs.Prelude.{◌≡◌, ℕ, ◌+◌, ◌-◌, ◌≤◌, List, [], ◌∷◌}
+use Rattle.std.specs.Prelude.{◌≡◌, ℕ, false, ◌+◌, ◌-◌, ◌≤◌, List, [], ◌∷◌, length, map}
 use Rattle.std.specs.List.{AllByRecursion}
+use Rattle.std.specs.List.Sorted.{IsStrictlyIncreasing}
 use Rattle.cdcl_rules.specs.declared.standing.Standing.TheVariants.{Found, Refuted}
 use Rattle.solver_pool.specs.Job.{JobView}
 use Rattle.step_encoding.specs.Numbers.{literals_of}
@@ -56,6 +57,13 @@ Fits [] [] = Unit {0}
 Fits [] (g ∷ gs) = ⊥
 Fits (r ∷ rs) [] = ⊥
 Fits (r ∷ rs) (g ∷ gs) = (r.granted + g ≤ 1073741824) × Fits rs gs
+
+-- runs with their grants may be advanced, each by its own
+pub record MayAdvance (runs : List RunView) (gs : List ℕ) : Type 0 where
+  pub fits : Fits runs gs
+  pub few : length runs ≤ 16
+  pub rising : IsStrictlyIncreasing (map horizon_of runs)
+  pub sound : AllByRecursion (λ run. run.spoilt ≡ false) runs
 
 -- a run before a round: it has not been granted too much, and is not refuted
 pub record IsLow (run : RunView) : Type 0 where

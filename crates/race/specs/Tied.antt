@@ -8,7 +8,7 @@ use Rattle.race.specs.declared.racing.Step.{Step}
 use Rattle.race.specs.declared.racing.Step.TheVariants.{On as OnStep, End as EndStep}
 use Rattle.race.specs.Input.{RaceInput}
 use Rattle.race.specs.State.{RaceState, spent}
-use Rattle.race.specs.Race.{Stage, On, Ended, last_started}
+use Rattle.race.specs.Race.{Stage, On, Ended, last_started, after_rounds}
 use Rattle.race.specs.Lines.{AreLines}
 use Rattle.race.specs.Ends.{WherePlanned, AreStepsOf, SumsWithin}
 use Rattle.race.specs.Runs.{live_run_of, horizon_of, IsRunOf, AreLow}
@@ -29,6 +29,19 @@ pub record IsTied (input : RaceInput) (racing : Racing) : Type 0 where
   pub small : input.budget ≤ 1000000
   pub runs : AllByRecursion (IsRunOf input) racing.runs.items
   pub lines : AreLines input racing.lines.items
+
+-- a race between two rounds stands where so many rounds have it: each of them spent at least one conflict
+pub record IsBetween (input : RaceInput) (racing : Racing) : Type 0 where
+  pub tied : IsTied input racing
+  pub low : AreLow racing.runs.items
+  pub after : after_rounds input racing.rounds ≡ On (race_state racing)
+  pub few : racing.rounds ≤ racing.ledger.spent
+
+-- ledger, lines and rounds are as they were
+pub record KeepsBooks (old new : Racing) : Type 0 where
+  pub ledger : new.ledger ≡ old.ledger
+  pub lines : new.lines ≡ old.lines
+  pub rounds : new.rounds ≡ old.rounds
 
 -- a race that goes on stands at a stage
 pub record GoesOn (input : RaceInput) (racing : Racing) (stage : Stage) : Type 0 where
@@ -51,3 +64,8 @@ Stands input (EndStep end) stage = Ends input end stage
 abbrev pub SpendsMore : ℕ → Step → Type 0
 SpendsMore n (OnStep racing) = n < racing.ledger.spent
 SpendsMore n (EndStep end) = Unit {0}
+
+-- a race that goes on has ended so many rounds
+abbrev pub HasEnded : ℕ → Step → Type 0
+HasEnded n (OnStep racing) = racing.rounds ≡ n
+HasEnded n (EndStep end) = Unit {0}

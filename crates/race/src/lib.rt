@@ -11,8 +11,14 @@
 //!     RaceEnd::Unfinished { .. } => ..                // the budget is spent
 //! }
 //! ```
+//!
+//! A caller that advances the runs of a round itself, as one that polls them, has a round in three parts: [`Racing::begin`], its
+//! own work, and [`Begun::end`]. [`race`] goes round by the same two.
 #![tactic(auto)]
 
+mod ahead;
+mod begun;
+mod error;
 mod fresh;
 mod grant;
 mod line;
@@ -21,4 +27,8 @@ mod run;
 mod starting;
 mod work;
 
-pub use run::{RaceError, race};
+pub use begun::{Begun, Opening};
+pub use error::RaceError;
+pub use racing::{Racing, Step};
+pub use run::race;
+pub use work::{jobs_of, with_all_granted};

@@ -1,55 +1,49 @@
-//! The rounds of a race.
+//! A race between two rounds, and what its runs come to.
 
-ghost use Rattle.std.specs.Prelude.{◌≡◌, ℕ, ◌+◌, ◌≤◌, ◌<◌, true, length, map, if◌then◌else◌, None, Some, slice_get, IfOk, OnOk, IfSome, IfNone};
-ghost use Rattle.horizon_rates.specs.Horizons.{listed};
-ghost use Rattle.step_encoding.specs.Numbers.{literals_of};
-ghost use Rattle.horizon_run.specs.Run.{choice_of};
-ghost use Rattle.horizon_rates.specs.Ledger.{left_of};
+ghost use Rattle.std.specs.Prelude.{◌≡◌, ℕ, ◌<◌, true, length, map, None, Some, slice_get, IfOk, OnOk, IfSome, IfNone};
 ghost use Rattle.race.specs.Clears.{is_refuted, any_refuted, cleared};
 ghost use Rattle.race.specs.Found.{first_found, is_found, lines};
-ghost use Rattle.race.specs.Grants.{grants, advanced};
 ghost use Rattle.race.specs.Input.{RaceInput};
 ghost use Rattle.race.specs.Lines.{AreLines};
-ghost use Rattle.race.specs.Race.{TooLarge, settled, judged, round};
-ghost use Rattle.race.specs.Runs.{live_run_of, AreLow, AreUnfound, moved_all};
-ghost use Rattle.race.specs.Starts.{started, too_large};
+ghost use Rattle.race.specs.Race.{settled, judged};
+ghost use Rattle.race.specs.Runs.{live_run_of, AreLow, AreUnfound};
 ghost use Rattle.race.specs.State.{start};
-ghost use Rattle.race.specs.Tied.{race_state, IsTied, Stands, SpendsMore, Ends};
+ghost use Rattle.race.specs.Tied.{race_state, IsTied, IsBetween, Stands, HasEnded, Ends};
 ghost use Rattle.race_end.specs.Ends.{conflicts_in, line_view};
 
-use crate::grant::{book, grant_all};
 use crate::line::{open, passed};
-use crate::run::RaceError;
-use crate::work::{advance_all, conflicts_of};
 use cdcl_rules::standing::Standing;
 use clause_base::memory::Memory;
-use gt_core::task::Task;
-use horizon_rates::{Ledger, Rates, Settings, Window};
+use horizon_rates::{Ledger, Settings, Window};
 use horizon_run::HorizonRun;
 use race_end::{Line, Lines, RaceEnd};
-use solver_pool::{Gate, Resume};
+use solver_pool::Resume;
 use std::alloc::Global;
-use std::sync::Wait;
-use std::thread::Threads;
 use step_encoding::form::StepForm;
 
 /// A race between two rounds.
 #[derive(Drop)]
-pub(crate) struct Racing {
-    pub(crate) window: Window,
-    pub(crate) ledger: Ledger,
-    // The horizon that was started last.
-    pub(crate) last: u32,
-    // The runs of the live horizons, rising.
-    pub(crate) runs: Vec<HorizonRun>,
-    // The lines of the horizons that are live no more, rising.
-    pub(crate) lines: Vec<Line>,
+pub struct Racing {
+    /// The live horizons.
+    pub window: Window,
+    /// The budget, and what of it is spent.
+    pub ledger: Ledger,
+    /// The horizon that was started last.
+    pub last: u32,
+    /// The runs of the live horizons, rising.
+    pub runs: Vec<HorizonRun>,
+    /// The lines of the horizons that are live no more, rising.
+    pub lines: Vec<Line>,
+    /// How many rounds ended.
+    pub rounds: u64,
 }
 
 /// What a round leads to.
 #[derive(Drop)]
-pub(crate) enum Step {
+pub enum Step {
+    /// The race goes on.
     On(Racing),
+    /// The race ended.
     End(RaceEnd),
 }
 
@@ -96,11 +90,13 @@ fn has_refuted(runs: &[HorizonRun]) -> bool
 }
 
 impl Racing {
-    /// The race before its first round.
-    pub(crate) fn new(alloc: Global, settings: &Settings) -> Racing
+    /// The race before its first round. It takes no memory.
+    pub fn new(alloc: Global, settings: &Settings) -> Racing
         ensures race { race_state result ≡ start }
         ensures tied { (input : RaceInput) → input.rates ≡ settings.now.rates → input.budget ≡ settings.now.budget → IsTied input result }
         ensures low { AreLow result.runs.items }
+        ensures between { (input : RaceInput) → input.rates ≡ settings.now.rates → input.budget ≡ settings.now.budget → IsBetween input result }
+        ensures none { result.rounds ≡ 0 }
     {
         Racing {
             window: Window::new(&settings.rates),
@@ -108,47 +104,8 @@ impl Racing {
             last: settings.rates.nth(0).unwrap_or(0),
             runs: Vec::new(alloc),
             lines: Vec::new(alloc),
+            rounds: 0,
         }
-    }
-
-    /// Grants each run what it may use, and has workers advance it. What the round used is booked at once.
-    fn advance<G: Gate, H: Threads + Wait + Sync>(
-        self,
-        rt: &H,
-        alloc: Global,
-        settings: &Settings,
-        gate: &G,
-    ) -> Result<Racing, Memory>
-        ghost input: { RaceInput }
-        requires tied { IsTied input self }
-        requires low { AreLow self.runs.items }
-        requires rates { input.rates ≡ settings.now.rates }
-        ensures tied { IfOk result (λ next. IsTied input next) }
-        ensures advanced { IfOk result (λ next. race_state next ≡ advanced input (race_state self)) }
-        ensures moved { IfOk result (λ next. next.runs.items ≡ moved_all self.runs.items (grants input.rates 0 (left_of self.ledger) (length self.runs.items))) }
-    {
-        let Racing {
-            window,
-            mut ledger,
-            last,
-            runs,
-            lines,
-        } = self;
-        let count = window.count();
-        let left = ledger.left();
-        let grants = grant_all(alloc, &mut ledger, &settings.rates, count)?;
-        let granted = left - ledger.left();
-        let before = conflicts_of(runs.as_slice());
-        let runs = advance_all(rt, alloc, runs, grants.as_slice(), settings, gate)?;
-        let after = conflicts_of(runs.as_slice());
-        book(&mut ledger, granted, before, after);
-        Ok(Racing {
-            window,
-            ledger,
-            last,
-            runs,
-            lines,
-        })
     }
 
     /// Closes the first live horizon, where some live one is refuted.
@@ -161,6 +118,7 @@ impl Racing {
         ensures unfound { OnOk result (AreUnfound self.new.runs.items) }
         ensures cleared { OnOk result (cleared (race_state self.new) ≡ cleared (race_state self.old)) }
         ensures fewer { OnOk result (length self.new.runs.items < length self.old.runs.items) }
+        ensures rounds { self.new.rounds ≡ self.old.rounds }
     {
         let _rising = self.window.count();
         let run = self.runs.remove(0);
@@ -179,6 +137,7 @@ impl Racing {
         ensures tied { OnOk result (IsTied input self.new) }
         ensures low { OnOk result (AreLow self.new.runs.items) }
         ensures cleared { OnOk result (race_state self.new ≡ cleared (race_state self.old)) }
+        ensures rounds { self.new.rounds ≡ self.old.rounds }
     {
         'closing: while has_refuted(self.runs.as_slice()) {
             self.close_first(alloc)?;
@@ -231,6 +190,7 @@ impl Racing {
         requires low { AreLow self.runs.items }
         requires budget { input.budget ≡ settings.now.budget }
         ensures stands { IfOk result (λ step. Stands input step (settled input (race_state self))) }
+        ensures rounds { IfOk result (HasEnded self.rounds) }
     {
         if self.window.ended() {
             let horizon = self.last;
@@ -245,7 +205,7 @@ impl Racing {
     }
 
     /// What a round comes to once its runs are advanced.
-    fn judge<F: StepForm>(
+    pub(crate) fn judge<F: StepForm>(
         mut self,
         alloc: Global,
         form: &F,
@@ -257,44 +217,12 @@ impl Racing {
         requires formula { input.formula ≡ F.formula_of form.now }
         requires steps { input.steps ≡ F.stands_for form.now }
         ensures stands { IfOk result (λ step. Stands input step (judged input (race_state self))) }
+        ensures rounds { IfOk result (HasEnded self.rounds) }
     {
         if let Some(place) = find_found(self.runs.as_slice()) {
             return Ok(Step::End(self.plan(alloc, form, place)?));
         }
         self.close(alloc)?;
         self.settle(alloc, settings)
-    }
-
-    /// One round.
-    pub(crate) fn round<F: StepForm, G: Gate, H: Threads + Wait + Sync>(
-        mut self,
-        rt: &H,
-        alloc: Global,
-        task: &Task,
-        form: &F,
-        settings: &Settings,
-        gate: &G,
-    ) -> Result<Step, RaceError>
-        ghost input: { RaceInput }
-        requires tied { IsTied input self }
-        requires low { AreLow self.runs.items }
-        requires rates { input.rates ≡ settings.now.rates }
-        requires budget { input.budget ≡ settings.now.budget }
-        requires choose { input.choose ≡ (λ h. choice_of (F.task form.now) (F.layout_of form.now h)) }
-        requires formula { input.formula ≡ F.formula_of form.now }
-        requires steps { input.steps ≡ F.stands_for form.now }
-        requires form_of { F.task form.now ≡ task.now }
-        ensures stands { IfOk result (λ step. Stands input step (round input (race_state self))) }
-        ensures spends { IfOk result (λ step. SpendsMore self.ledger.spent step) }
-        ensures literals { (horizon count : ℕ) → result ≡ Err (RaceError.Literals horizon count)
-            → (round input (race_state self) ≡ TooLarge horizon) × (count ≡ literals_of (input.formula horizon)) × (4000000 < count) }
-    {
-        self.fill(rt, alloc, task, form, settings)?;
-        if let Some(horizon) = self.too_large() {
-            let count = form.size(horizon);
-            return Err(RaceError::Literals { horizon, count });
-        }
-        let next = self.advance(rt, alloc, settings, gate)?;
-        Ok(next.judge(alloc, form, settings)?)
     }
 }

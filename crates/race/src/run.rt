@@ -1,13 +1,19 @@
-ghost use Rattle.std.specs.Prelude.{◌≡◌, ℕ, ◌<◌, List, IfOk, length};
+//! A race from its first round to its end.
+
+ghost use Rattle.std.specs.Prelude.{◌≡◌, ℕ, ◌+◌, ◌<◌, List, IfOk, IfErr, length};
 ghost use Rattle.step_encoding.specs.Numbers.{literals_of};
 ghost use Rattle.race_end.specs.Ends.{end_view, lines_of};
 ghost use Rattle.race.specs.Input.{input_of};
 ghost use Rattle.race.specs.Race.{race_of, Ended, TooLarge};
 ghost use Rattle.race.specs.Lines.{AreLines, EachRefuted};
 ghost use Rattle.race.specs.Ends.{AreStepsOf, SumsWithin, WherePlanned, AreActions};
+ghost use Rattle.race.specs.Begun.{Comes, TellsLarge};
+ghost use Rattle.race.specs.Tied.{IsBetween};
 
+use crate::begun::Opening;
+use crate::error::RaceError;
 use crate::racing::{Racing, Step};
-use clause_base::memory::Memory;
+use crate::work::advance_all;
 use gt_core::task::Task;
 use horizon_rates::Settings;
 use race_end::RaceEnd;
@@ -17,22 +23,31 @@ use std::sync::Wait;
 use std::thread::Threads;
 use step_encoding::form::StepForm;
 
-/// Why a race has no end.
-#[derive(Clone, Copy, Debug, PartialEq, Eq)]
-pub enum RaceError {
-    /// The formula of a horizon has too many literals, and none is live when its turn to start comes.
-    Literals { horizon: u32, count: u64 },
-    /// Want of memory.
-    Memory,
-}
-
-impl From<Memory> for RaceError {
-    ghost use Rattle.race.specs.declared.run.RaceError.TheVariants.{Memory as memory};
-
-    ghost from_gives = { λ _ e. e ≡ memory };
-
-    fn from(_error: Memory) -> RaceError {
-        RaceError::Memory
+impl Racing {
+    /// One round: it begins, workers advance its runs, and it ends.
+    fn round<F: StepForm + Sync, G: Gate, H: Threads + Wait + Sync>(
+        self,
+        rt: &H,
+        alloc: Global,
+        task: &Task,
+        form: &F,
+        settings: &Settings,
+        gate: &G,
+    ) -> Result<Step, RaceError>
+        requires between { IsBetween (input_of F.StepForm form.now settings.now) self }
+        requires form_of { F.task form.now ≡ task.now }
+        ensures comes { IfOk result (Comes F.StepForm form.now settings.now (self.rounds + 1)) }
+        ensures large { IfErr result (TellsLarge (input_of F.StepForm form.now settings.now)) }
+    {
+        let made = self.made_ahead(rt, alloc, task, form, settings)?;
+        let opening = self.begin(alloc, task, form, settings, made)?;
+        let Opening {
+            begun,
+            runs,
+            grants,
+        } = opening;
+        let runs = advance_all(rt, alloc, runs, grants.as_slice(), settings, gate)?;
+        Ok(begun.end(alloc, form, settings, runs)?)
     }
 }
 
@@ -41,7 +56,7 @@ impl From<Memory> for RaceError {
 ///
 /// `Literals` comes where no horizon is live and the formula of the next listed one, which is told with how many literals that has,
 /// is too large: so each listed horizon below it is refuted or dropped. `Memory` is want of memory, and nothing else.
-pub fn race<F: StepForm, G: Gate, H: Threads + Wait + Sync>(
+pub fn race<F: StepForm + Sync, G: Gate, H: Threads + Wait + Sync>(
     rt: &H,
     alloc: Global,
     task: &Task,
@@ -66,7 +81,6 @@ pub fn race<F: StepForm, G: Gate, H: Threads + Wait + Sync>(
     ensures literals { (horizon count : ℕ) → result ≡ Err (RaceError.Literals horizon count)
         → (race_of (input_of F.StepForm form.now settings.now) ≡ TooLarge horizon) × (count ≡ literals_of (F.formula_of form.now horizon)) × (4000000 < count) }
 {
-    let _lawful = form.size(0);
     let mut racing = Racing::new(alloc, settings);
     loop {
         match racing.round(rt, alloc, task, form, settings, gate)? {

@@ -1,11 +1,15 @@
 //! How a round begins: horizons start while there are free places.
 
-ghost use Rattle.std.specs.Prelude.{◌≡◌, ◌≤◌, ◌<◌, length, nat_lt, if◌then◌else◌, None, Some, IfSome, OnOk};
+ghost use Rattle.std.specs.Prelude.{◌≡◌, ◌≤◌, ◌<◌, length, nat_lt, if◌then◌else◌, None, Some, IfSome, IfOk, IfErr, OnOk};
+ghost use Rattle.std.specs.List.{AllByRecursion};
 ghost use Rattle.horizon_rates.specs.Horizons.{listed};
 ghost use Rattle.step_encoding.specs.Numbers.{literals_of};
 ghost use Rattle.horizon_run.specs.Run.{choice_of};
-ghost use Rattle.race.specs.{Fresh.IsFreshOf, Input.RaceInput, Runs.AreLow, Starts.started, Starts.fitting, Starts.filled, Starts.too_large, Tied.race_state, Tied.IsTied};
+ghost use Rattle.race.specs.{Begun.IsBegun, Begun.TellsLarge, Fresh.IsFresh, Fresh.IsFreshOf, Input.RaceInput, Input.input_of, Runs.AreLow, Runs.MayAdvance};
+ghost use Rattle.race.specs.{Starts.started, Starts.fitting, Starts.filled, Starts.too_large, Tied.race_state, Tied.IsTied, Tied.IsBetween, Tied.KeepsBooks};
 
+use crate::begun::Opening;
+use crate::error::RaceError;
 use crate::fresh::next_fresh;
 use crate::racing::Racing;
 use clause_base::memory::Memory;
@@ -13,7 +17,6 @@ use gt_core::task::Task;
 use horizon_rates::{Rates, Settings};
 use horizon_run::HorizonRun;
 use std::alloc::Global;
-use std::thread::Threads;
 use step_encoding::form::StepForm;
 
 impl Racing {
@@ -54,7 +57,7 @@ impl Racing {
         ensures tied { OnOk result (IsTied input self.new) }
         ensures low { OnOk result (AreLow self.new.runs.items) }
         ensures started { OnOk result (race_state self.new ≡ started input horizon (race_state self.old)) }
-        ensures ledger { OnOk result (self.new.ledger ≡ self.old.ledger) }
+        ensures books { OnOk result (KeepsBooks self.old self.new) }
     {
         let _form = form;
         let _reached = run.standing();
@@ -64,38 +67,37 @@ impl Racing {
         Ok(())
     }
 
-    /// Starts horizons while there are free places.
-    pub(crate) fn fill<F: StepForm, H: Threads + Sync>(
+    /// Starts horizons while there are free places, with runs that were made ahead where there are such.
+    fn fill<F: StepForm>(
         &mut self,
-        rt: &H,
         alloc: Global,
         task: &Task,
         form: &F,
-        settings: &Settings,
+        rates: &Rates,
+        mut made: Vec<HorizonRun>,
     ) -> Result<(), Memory>
         ghost input: { RaceInput }
         requires tied { IsTied input self.old }
         requires low { AreLow self.old.runs.items }
-        requires rates { input.rates ≡ settings.now.rates }
+        requires rates { input.rates ≡ rates.now }
         requires choose { input.choose ≡ (λ h. choice_of (F.task form.now) (F.layout_of form.now h)) }
         requires formula { input.formula ≡ F.formula_of form.now }
         requires form_of { F.task form.now ≡ task.now }
+        requires made { AllByRecursion (IsFresh F.StepForm form.now) made.items }
         ensures tied { OnOk result (IsTied input self.new) }
         ensures low { OnOk result (AreLow self.new.runs.items) }
         ensures filled { OnOk result (race_state self.new ≡ filled input (race_state self.old)) }
-        ensures ledger { OnOk result (self.new.ledger ≡ self.old.ledger) }
+        ensures books { OnOk result (KeepsBooks self.old self.new) }
     {
-        let mut made = Vec::new(alloc);
-        while let Some(horizon) = self.startable(form, &settings.rates) {
-            let free = settings.rates.width - self.window.count();
-            let run = next_fresh(rt, alloc, task, form, settings, free, horizon, &mut made)?;
+        while let Some(horizon) = self.startable(form, rates) {
+            let run = next_fresh(alloc, task, form, horizon, &mut made)?;
             self.start(form, horizon, run)?;
         }
         Ok(())
     }
 
     /// The next listed horizon, where none is live.
-    pub(crate) fn too_large(&self) -> Option<u32>
+    fn too_large(&self) -> Option<u32>
         ghost input: { RaceInput }
         requires { IsTied input self.now }
         ensures value { result ≡ too_large input (race_state self.now) }
@@ -105,5 +107,58 @@ impl Racing {
             return None;
         }
         self.window.next_listed()
+    }
+
+    /// How a round begins, by a race's input: horizons start, and what each run may use is set aside.
+    fn open<F: StepForm>(
+        mut self,
+        alloc: Global,
+        task: &Task,
+        form: &F,
+        settings: &Settings,
+        made: Vec<HorizonRun>,
+    ) -> Result<Opening, RaceError>
+        ghost input: { RaceInput }
+        requires between { IsBetween input self }
+        requires rates { input.rates ≡ settings.now.rates }
+        requires choose { input.choose ≡ (λ h. choice_of (F.task form.now) (F.layout_of form.now h)) }
+        requires formula { input.formula ≡ F.formula_of form.now }
+        requires form_of { F.task form.now ≡ task.now }
+        requires made { AllByRecursion (IsFresh F.StepForm form.now) made.items }
+        ensures begun { IfOk result (λ o. IsBegun input o.runs.items o.grants.items o.begun) }
+        ensures rounds { IfOk result (λ o. o.begun.rounds ≡ self.rounds) }
+        ensures out { IfOk result (λ o. MayAdvance o.runs.items o.grants.items) }
+        ensures large { IfErr result (TellsLarge input) }
+    {
+        self.fill(alloc, task, form, &settings.rates, made)?;
+        if let Some(horizon) = self.too_large() {
+            let count = form.size(horizon);
+            return Err(RaceError::Literals { horizon, count });
+        }
+        Ok(self.grant(alloc, &settings.rates)?)
+    }
+
+    /// Begins a round: horizons start while there are free places, with runs of the list `made` where there are such, and what
+    /// each run may use is set aside. The runs go out, each to be advanced by the grant at its place.
+    ///
+    /// `Literals` comes where no horizon is live and the formula of the next listed one is too large; it is told with how many
+    /// literals that has. `Memory` is want of memory.
+    pub fn begin<F: StepForm>(
+        self,
+        alloc: Global,
+        task: &Task,
+        form: &F,
+        settings: &Settings,
+        made: Vec<HorizonRun>,
+    ) -> Result<Opening, RaceError>
+        requires between { IsBetween (input_of F.StepForm form.now settings.now) self }
+        requires form_of { F.task form.now ≡ task.now }
+        requires made { AllByRecursion (IsFresh F.StepForm form.now) made.items }
+        ensures begun { IfOk result (λ o. IsBegun (input_of F.StepForm form.now settings.now) o.runs.items o.grants.items o.begun) }
+        ensures rounds { IfOk result (λ o. o.begun.rounds ≡ self.rounds) }
+        ensures out { IfOk result (λ o. MayAdvance o.runs.items o.grants.items) }
+        ensures large { IfErr result (TellsLarge (input_of F.StepForm form.now settings.now)) }
+    {
+        self.open(alloc, task, form, settings, made)
     }
 }

@@ -1,8 +1,7 @@
 // The work of a round: each run is advanced by its grant.
 ghost use Rattle.std.specs.Prelude.{◌≡◌, ◌≤◌, false, length, map, IfOk};
 ghost use Rattle.std.specs.List.{AllByRecursion};
-ghost use Rattle.std.specs.List.Sorted.{IsStrictlyIncreasing};
-ghost use Rattle.race.specs.Runs.{conflicts_of, horizon_of, jobs_at, run_at, moved_all, Fits};
+ghost use Rattle.race.specs.Runs.{conflicts_of, jobs_at, run_at, moved_all, Fits, MayAdvance};
 
 use clause_base::memory::Memory;
 use horizon_rates::Settings;
@@ -25,7 +24,7 @@ pub(crate) fn conflicts_of(runs: &[HorizonRun]) -> u64
 }
 
 /// A job for each run, up to what it was granted before and now.
-fn jobs_of(
+fn list_jobs(
     alloc: Global,
     runs: Vec<HorizonRun>,
     grants: &[u32],
@@ -43,8 +42,24 @@ fn jobs_of(
     Ok(jobs)
 }
 
-/// The run of a job, with all of its target granted: the workers granted a settled one less.
-fn with_all_granted(job: Job<HorizonRun>) -> Result<HorizonRun, Memory>
+/// A job for each run of a round, up to what it was granted before and now.
+pub fn jobs_of(
+    alloc: Global,
+    runs: Vec<HorizonRun>,
+    grants: &[u32],
+) -> Result<Vec<Job<HorizonRun>>, Memory>
+    requires { MayAdvance runs.items grants.now }
+    ensures jobs { IfOk result (λ jobs. jobs.items ≡ jobs_at runs.items grants.now) }
+    ensures sound { IfOk result (λ jobs. AllByRecursion (λ job. job.run.spoilt ≡ false) jobs.items) }
+
+    // With all of their targets granted, they are the runs advanced by their grants.
+    ensures moved { IfOk result (λ jobs. map run_at jobs.items ≡ moved_all runs.items grants.now) }
+{
+    list_jobs(alloc, runs, grants)
+}
+
+/// The run of a job, with all of its target granted: a settled one may have been granted less.
+pub fn with_all_granted(job: Job<HorizonRun>) -> Result<HorizonRun, Memory>
     ensures { IfOk result (λ run. run ≡ run_at job) }
 {
     let rest = (job.target - job.run.granted()) as u32;
@@ -73,10 +88,7 @@ pub(crate) fn advance_all<G: Gate, H: Threads + Wait + Sync>(
     settings: &Settings,
     gate: &G,
 ) -> Result<Vec<HorizonRun>, Memory>
-    requires fits { Fits runs.items grants.now }
-    requires few { length runs.items ≤ 16 }
-    requires rising { IsStrictlyIncreasing (map horizon_of runs.items) }
-    requires sound { AllByRecursion (λ run. run.spoilt ≡ false) runs.items }
+    requires { MayAdvance runs.items grants.now }
     ensures { IfOk result (λ out. out.items ≡ moved_all runs.items grants.now) }
 {
     let jobs = Jobs::new(jobs_of(alloc, runs, grants)?);

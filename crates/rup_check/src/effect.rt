@@ -5,6 +5,7 @@ ghost use Rattle.rup_check.specs.Effects.{meaning, ForcesBelow};
 
 use crate::falsified::Falsified;
 use clause_base::literal::Lit;
+use clause_base::view::View;
 
 /// What a clause says where some literals are taken as false.
 #[derive(Clone, Copy, Debug)]
@@ -18,18 +19,19 @@ pub enum Effect {
 }
 
 /// The effect of a clause. It looks at each literal of the clause at most once.
-pub fn effect_of(marks: &Falsified, clause: &[Lit]) -> Effect
+pub fn effect_of(marks: &Falsified, clause: &View) -> Effect
     requires { HasVariablesBelow marks.now.variables clause.now }
     ensures effect { meaning result ≡ effect_of_open marks.now.falsified (open_literals marks.now.falsified clause.now) }
     ensures below { ForcesBelow marks.now.variables result }
 {
     let mut open: Option<Lit> = None;
-    for lit in clause {
-        if !marks.is_false(*lit) {
+    for place in 0..clause.len() {
+        let lit = clause.get(place);
+        if !marks.is_false(lit) {
             if open.is_some() {
                 return Effect::Loose;
             }
-            open = Some(*lit);
+            open = Some(lit);
         }
     }
     match open {

@@ -27,7 +27,7 @@ fn leads_to_conflict(
         let Some(clause) = kept.clause(formula, *hint) else {
             return Ok(false);
         };
-        match effect_of(marks, clause) {
+        match effect_of(marks, &clause) {
             Effect::Loose => return Ok(false),
             Effect::Conflicts => return Ok(i + 1 == hints.len()),
             Effect::Forces(lit) => marks.falsify(lit.opposite())?,

@@ -1,12 +1,12 @@
-ghost use Rattle.std.specs.Prelude.{◌≡◌, ◌∷◌, [], ◌+◌, ◌++◌, ◌<◌, ◌||◌, ℕ, Bool, false, length, replicate, slice_get, IfOk, OnOk, option_copied};
+ghost use Rattle.std.specs.Prelude.{◌≡◌, ◌∷◌, [], ◌+◌, ◌++◌, ◌<◌, ◌||◌, ℕ, Bool, false, length, replicate, slice_get, IfOk, OnOk};
 ghost use Rattle.clause_base.specs.Derivation.{clauses_of, drops};
 ghost use Rattle.rup_check.specs.Kept.{kept_named, is_dropped, IsDropBelow};
 
 use clause_base::clause_list::ClauseList;
 use clause_base::formula::Formula;
-use clause_base::literal::Lit;
 use clause_base::log::Entry;
 use clause_base::memory::Memory;
+use clause_base::view::View;
 use std::alloc::Global;
 
 /// What is known after some entries: the clauses that they learned, and for each number so far whether it was dropped.
@@ -29,8 +29,8 @@ impl Kept {
     }
 
     /// The kept clause that a number names.
-    pub fn clause<'a>(&'a self, formula: &'a Formula, number: u32) -> Option<&'a [Lit]>
-        ensures { option_copied result ≡ kept_named formula.now.clauses self.now.learned self.now.dropped.items number }
+    pub fn clause<'a>(&'a self, formula: &'a Formula, number: u32) -> Option<View<'a>>
+        ensures { result ≡ kept_named formula.now.clauses self.now.learned self.now.dropped.items number }
     {
         if self.is_dropped(number) {
             None
@@ -52,11 +52,11 @@ impl Kept {
     }
 
     /// The learned clause with this number among the learned ones.
-    fn learned_clause(&self, number: u32) -> Option<&[Lit]>
-        ensures { option_copied result ≡ slice_get self.now.learned number }
+    fn learned_clause(&self, number: u32) -> Option<View<'_>>
+        ensures { result ≡ slice_get self.now.learned number }
     {
         if (number as usize) < self.learned.count() {
-            Some(self.learned.clause(number as usize))
+            Some(View::of(self.learned.clause(number as usize)))
         } else {
             None
         }

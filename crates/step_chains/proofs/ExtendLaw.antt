@@ -1,15 +1,18 @@
-use Rattle.std.proofs.Common.{arith, ◌≡◌, ◌+◌, ◌-◌, ◌*◌, ◌≤◌, ◌<◌, ℕ, zero, suc, List, [], ◌∷◌, ◌++◌, map, length, Bool, true, false, refl, sym, ap, ◌∙◌, drop, get_or, subst, if◌then◌else◌, length-append}
-use Rattle.std.specs.List.{AllByRecursion}
+use Rattle.std.proofs.Common.{arith, ◌≡◌, ◌+◌, ◌-◌, ◌*◌, ◌≤◌, ◌<◌, ℕ, zero, suc, List, [], ◌∷◌, ◌++◌, map, length, Bool, true, false, refl, sym, ap, ◌∙◌, drop, get_or, subst, if◌then◌else◌, length-append, reverse}
+use Rattle.std.specs.List.{AllByRecursion, filter, flat_map}
 use Rattle.std.proofs.lemmas.List.{append-nil, append_assoc, map-append}
 use Rattle.action_order.proofs.Lists.{range_more}
-use Rattle.std.proofs.lemmas.List.{drop_more, drop_all}
-use Rattle.std.proofs.lemmas.Grind.{flat_map-append}
+use Rattle.std.proofs.lemmas.List.{drop_more, drop_all, length-reverse}
+use Rattle.std.proofs.lemmas.Grind.{flat_map-append, reverse_onto}
+use Rattle.std.proofs.lemmas.List.Elements.{filter-append}
 use Rattle.std.proofs.lemmas.List.Sums.{sum_by-cons, sum_by-append}
 use Rattle.gt_core.specs.Interference.{takes, reads}
 use Rattle.gt_core.specs.Literal.{range}
 use Rattle.gt_core.specs.Task.{Task}
 use Rattle.gt_core.specs.Lawful.{is_task}
 use Rattle.gt_core.specs.Published.{order_of}
+use Rattle.gt_core.proofs.Basics.{each_at, each_from}
+use Rattle.gt_core.proofs.Pairwise.{flat_among}
 use Rattle.gt_core.proofs.Within.{lawful}
 use Rattle.step_clauses.proofs.SizeLaw.{length-range_from}
 use Rattle.std.proofs.Math.Nat.{mul-le-mul_right}
@@ -21,6 +24,7 @@ use Rattle.step_chains.specs.declared.link.Link.{Link}
 use Rattle.step_chains.specs.Links.{link_of, links_of, touches, link_count, pass_links}
 use Rattle.step_chains.specs.Chains.{LinkedChain, LinkedChains, linked_clauses, all_clauses, Extends, AreWithin, IsChainWithin, HasRoom, links_in, members_in, no_chains}
 use Rattle.step_chains.specs.Index.{IsIndexOf}
+use Rattle.step_chains.specs.BothWays.{ways, ways_in}
 use Rattle.step_chains.proofs.LinkLaw.{count_is, enter_is, pass_is, enter_none, pass_none}
 
 -- Chains that are found one after the other.
@@ -89,6 +93,31 @@ links_few task m (a ∷ members) = by (touches (link_of task m a)) (links_few ta
     by true h = omega (arith, h)
     by false h = omega (arith, h)
 
+-- the links of the reverse are the links in reverse
+links_split : (task : Task) (m : ℕ) (xs ys : List ℕ) → links_of task m (xs ++ ys) ≡ links_of task m xs ++ links_of task m ys
+links_split task m xs ys = ap (filter touches) (map-append (link_of task m) xs ys) ∙ filter-append touches (map (link_of task m) xs) (map (link_of task m) ys)
+
+pub links_back : (task : Task) (m : ℕ) (members : List ℕ) → links_of task m (reverse members) ≡ reverse (links_of task m members)
+links_back task m [] = refl
+links_back task m (a ∷ members) =
+    ap (links_of task m) (reverse_onto members a [])
+    ∙ links_split task m (reverse members) (a ∷ [])
+    ∙ ap (λ (ks : List Link). ks ++ links_of task m (a ∷ [])) (links_back task m members)
+    ∙ by (touches (link_of task m a))
+  where
+    by : (b : Bool) → reverse (links_of task m members) ++ (if b then link_of task m a ∷ [] else []) ≡ reverse (if b then link_of task m a ∷ links_of task m members else links_of task m members)
+    by true = sym (reverse_onto (links_of task m members) (link_of task m a) [])
+    by false = append-nil (reverse (links_of task m members))
+
+put_last : {A : Type 0} (P : A → Type 0) (xs : List A) (x : A) → AllByRecursion P xs → P x → AllByRecursion P (xs ++ x ∷ [])
+put_last P [] x all px = (px, tt)
+put_last P (y ∷ xs) x all px = (all.0, put_last P xs x all.1 px)
+
+-- what holds of each element holds in reverse
+pub each_back : {A : Type 0} (P : A → Type 0) (xs : List A) → AllByRecursion P xs → AllByRecursion P (reverse xs)
+each_back P [] all = tt
+each_back P (x ∷ xs) all = subst (λ (ys : List _). AllByRecursion P ys) (sym (reverse_onto xs x [])) (put_last P (reverse xs) x (each_back P xs all.1) all.0)
+
 -- a chain comes after those that were found
 pub one_found :
     (task : Task) (members : List ℕ) (m : ℕ) (old new : LinkedChains) (links : List Link)
@@ -141,10 +170,6 @@ links_within task m n (a ∷ members) all = by (touches (link_of task m a)) (lin
     by : (b : Bool) → AllByRecursion (λ k. k.action < n) (links_of task m members) → AllByRecursion (λ k. k.action < n) (if b then link_of task m a ∷ links_of task m members else links_of task m members)
     by true rest = (all.0, rest)
     by false rest = rest
-
-put_last : {A : Type 0} (P : A → Type 0) (xs : List A) (x : A) → AllByRecursion P xs → P x → AllByRecursion P (xs ++ x ∷ [])
-put_last P [] x all px = (px, tt)
-put_last P (y ∷ xs) x all px = (all.0, put_last P xs x all.1 px)
 
 chains_within_more : (actions few more : ℕ) (cs : List LinkedChain) → few ≤ more → AllByRecursion (IsChainWithin actions few) cs → AllByRecursion (IsChainWithin actions more) cs
 chains_within_more actions few more [] le all = tt
@@ -199,66 +224,100 @@ short_found task members f lt = ends (by (range (2 * task.facts)))
     ends : Extends task (map (λ m. (members, m)) (range (2 * task.facts))) f f → Extends task (map (λ m. (members, m)) (range (2 * task.facts)) ++ []) f f
     ends h = subst (λ (places : List (List ℕ × ℕ)). Extends task places f f) (sym (append-nil (map (λ m. (members, m)) (range (2 * task.facts))))) h
 
--- the members at the places of a component's first literals
-places_count : (members : List ℕ) (ms : List ℕ) → members_in (map (λ (k : ℕ). (members, k)) ms) ≡ length ms * length members
-places_count members [] = omega arith
-places_count members (m ∷ ms) =
-    let h = places_count members ms in
-    let s = sum_by-cons (λ (p : List ℕ × ℕ). length p.0) (members, m) (map (λ (k : ℕ). (members, k)) ms) in
-    let d : length (m ∷ ms) * length members ≡ length members + length ms * length members = omega arith in
-    omega (arith, h, s, d)
+-- one place for each literal
+singles : (members ms : List ℕ) → flat_map (ways false members) ms ≡ map (λ m. (members, m)) ms
+singles members [] = refl
+singles members (m ∷ ms) = ap (λ (ps : List (List ℕ × ℕ)). (members, m) ∷ ps) (singles members ms)
 
--- the room of one literal of a component more
+-- as many members at the places of each literal
+places_count : (at : ℕ → List (List ℕ × ℕ)) (k : ℕ) → ((m : ℕ) → members_in (at m) ≡ k) → (ms : List ℕ) → members_in (flat_map at ms) ≡ length ms * k
+places_count at k each [] = omega arith
+places_count at k each (m ∷ ms) =
+    let h = places_count at k each ms in
+    let s = sum_by-append (λ (p : List ℕ × ℕ). length p.0) (at m) (flat_map at ms) in
+    let o = each m in
+    let d : length (m ∷ ms) * k ≡ k + length ms * k = omega arith in
+    omega (arith, h, s, o, d)
+
+pub ways_count : (both : Bool) (members : List ℕ) (m : ℕ) → members_in (ways both members m) ≡ ways_in both (length members)
+ways_count true members m =
+    let a = sum_by-cons (λ (p : List ℕ × ℕ). length p.0) (members, m) ((reverse members, m) ∷ []) in
+    let b = sum_by-cons (λ (p : List ℕ × ℕ). length p.0) (reverse members, m) [] in
+    let r = length-reverse members in
+    omega (arith, a, b, r)
+ways_count false members m = let a = sum_by-cons (λ (p : List ℕ × ℕ). length p.0) (members, m) [] in omega (arith, a)
+
+ways_grow : (both : Bool) (n k : ℕ) → n ≤ k → ways_in both n ≤ ways_in both k
+ways_grow true n k le = omega (arith, le)
+ways_grow false n k le = le
+
+-- the room of one literal more
 pub room_of_literal :
-    (task : Task) (members : List ℕ) (m : ℕ) (links : List Link) (old now : LinkedChains)
-    → Extends task (map (λ k. (members, k)) (range m)) old now → m < 2 * task.facts → is_task task ≡ true
-    → links ≡ links_of task m members → HasRoom old (4096 * length members) → HasRoom now (length links)
-room_of_literal task members m links old now e lt t is room =
+    (task : Task) (both : Bool) (members : List ℕ) (m : ℕ) (links : List Link) (old now : LinkedChains)
+    → Extends task (flat_map (ways both members) (range m)) old now → m < 2 * task.facts → is_task task ≡ true
+    → links ≡ links_of task m members → HasRoom old (4096 * ways_in both (length members)) → HasRoom now (ways_in both (length links))
+room_of_literal task both members m links old now e lt t is room =
+    let k = ways_in both (length members) in
     let f = e.few in
-    let c = places_count members (range m) in
+    let c = places_count (ways both members) k (ways_count both members) (range m) in
     let r = length-range_from 0 m in
-    let q = ap (λ (k : ℕ). k * length members) r in
+    let q = ap (λ (n : ℕ). n * k) r in
     let l = ap length is in
     let g = links_few task m members in
+    let le : length links ≤ length members = omega (arith, l, g) in
+    let w = ways_grow both (length links) (length members) le in
     let facts = (lawful task t).facts in
-    let more : (m + 1) * length members ≤ 4096 * length members = mul-le-mul_right (length members) (omega (arith, lt, facts)) in
-    let d : (m + 1) * length members ≡ m * length members + length members = omega arith in
-    omega (arith, f, c, q, l, g, more, d, room)
+    let more : (m + 1) * k ≤ 4096 * k = mul-le-mul_right k (omega (arith, lt, facts)) in
+    let d : (m + 1) * k ≡ m * k + k = omega arith in
+    omega (arith, f, c, q, w, more, d, room)
 
 -- the room that a component takes
 pub room_of_component : (task : Task) (members : List ℕ) (rest : ℕ) (old new : LinkedChains) → is_task task ≡ true → Extends task (chain_places task (members ∷ [])) old new → HasRoom old (4096 * length members + rest) → HasRoom new rest
 room_of_component task members rest old new t e room =
     let f = e.few in
     let n = ap members_in (append-nil (map (λ (k : ℕ). (members, k)) (range (2 * task.facts)))) in
-    let c = places_count members (range (2 * task.facts)) in
+    let s = ap members_in (singles members (range (2 * task.facts))) in
+    let c = places_count (ways false members) (length members) (ways_count false members) (range (2 * task.facts)) in
     let q = ap (λ (k : ℕ). k * length members) (length-range_from 0 (2 * task.facts)) in
     let facts = (lawful task t).facts in
     let more : (2 * task.facts) * length members ≤ 4096 * length members = mul-le-mul_right (length members) (omega (arith, facts)) in
-    omega (arith, f, n, c, q, more, room)
+    omega (arith, f, n, s, c, q, more, room)
 
 -- literal after literal
-pub literal_more : (task : Task) (members : List ℕ) (m : ℕ) (a b c : LinkedChains) → Extends task (map (λ k. (members, k)) (range m)) a b → Extends task ((members, m) ∷ []) b c → Extends task (map (λ k. (members, k)) (range (m + 1))) a c
-literal_more task members m a b c one two =
-    subst (λ (places : List (List ℕ × ℕ)). Extends task places a c) (sym (map-append (λ k. (members, k)) (range m) (m ∷ [])) ∙ ap (map (λ k. (members, k))) (sym (range_more m)))
-    (found_twice task (map (λ k. (members, k)) (range m)) ((members, m) ∷ []) a b c one two)
+pub literal_more : (task : Task) (at : ℕ → List (List ℕ × ℕ)) (m : ℕ) (a b c : LinkedChains) → Extends task (flat_map at (range m)) a b → Extends task (at m) b c → Extends task (flat_map at (range (m + 1))) a c
+literal_more task at m a b c one two =
+    subst (λ (places : List (List ℕ × ℕ)). Extends task places a c)
+    (ap (λ (ps : List (List ℕ × ℕ)). flat_map at (range m) ++ ps) (sym (append-nil (at m))) ∙ sym (flat_map-append at (range m) (m ∷ [])) ∙ ap (flat_map at) (sym (range_more m)))
+    (found_twice task (flat_map at (range m)) (at m) a b c one two)
 
--- literals that no member touches have no chain
-literals_skipped : (task : Task) (members : List ℕ) (m k : ℕ) (a b : LinkedChains) → ((l : ℕ) → m ≤ l → l < m + k → links_of task l members ≡ []) → Extends task (map (λ q. (members, q)) (range m)) a b → Extends task (map (λ q. (members, q)) (range (m + k))) a b
-literals_skipped task members m zero a b none e = subst (λ (n : ℕ). Extends task (map (λ q. (members, q)) (range n)) a b) (omega arith) e
-literals_skipped task members m (suc k) a b none e =
-    let before = literals_skipped task members m k a b (λ l le lt. none l le (omega (arith, lt))) e in
-    let last = none_found task members (m + k) b (ap (link_count false) (none (m + k) (omega arith) (omega arith))) in
-    subst (λ (n : ℕ). Extends task (map (λ q. (members, q)) (range n)) a b) (omega arith) (literal_more task members (m + k) a b b before last)
+-- literals whose places have no chain
+literals_skipped : (task : Task) (at : ℕ → List (List ℕ × ℕ)) (m k : ℕ) (a b : LinkedChains) → ((l : ℕ) → m ≤ l → l < m + k → Extends task (at l) b b) → Extends task (flat_map at (range m)) a b → Extends task (flat_map at (range (m + k))) a b
+literals_skipped task at m zero a b none e = subst (λ (n : ℕ). Extends task (flat_map at (range n)) a b) (omega arith) e
+literals_skipped task at m (suc k) a b none e =
+    let before = literals_skipped task at m k a b (λ l le lt. none l le (omega (arith, lt))) e in
+    subst (λ (n : ℕ). Extends task (flat_map at (range n)) a b) (omega arith) (literal_more task at (m + k) a b b before (none (m + k) (omega arith) (omega arith)))
 
-pub skip_to : (task : Task) (members : List ℕ) (index : List (List Link)) (m n : ℕ) (a b : LinkedChains) → IsIndexOf task members index → m ≤ n → n ≤ 2 * task.facts → ((l : ℕ) → m ≤ l → l < n → get_or index l [] ≡ []) → Extends task (map (λ q. (members, q)) (range m)) a b → Extends task (map (λ q. (members, q)) (range n)) a b
-skip_to task members index m n a b is le top none e =
+-- a literal that no member touches has no chain, either way
+untouched : (task : Task) (both : Bool) (members : List ℕ) (l : ℕ) (f : LinkedChains) → links_of task l members ≡ [] → Extends task (ways both members l) f f
+untouched task both members l f e = found_twice task ((members, l) ∷ []) (if both then (reverse members, l) ∷ [] else []) f f f (none_found task members l f (ap (link_count false) e)) (by both)
+  where
+    by : (b : Bool) → Extends task (if b then (reverse members, l) ∷ [] else []) f f
+    by true = none_found task (reverse members) l f (ap (link_count false) (links_back task l members ∙ ap reverse e))
+    by false = nothing_found task f
+
+pub skip_to : (task : Task) (both : Bool) (members : List ℕ) (index : List (List Link)) (m n : ℕ) (a b : LinkedChains) → IsIndexOf task members index → m ≤ n → n ≤ 2 * task.facts → ((l : ℕ) → m ≤ l → l < n → get_or index l [] ≡ []) → Extends task (flat_map (ways both members) (range m)) a b → Extends task (flat_map (ways both members) (range n)) a b
+skip_to task both members index m n a b is le top none e =
     let whole : m + (n - m) ≡ n = omega (arith, le) in
-    subst (λ (k : ℕ). Extends task (map (λ q. (members, q)) (range k)) a b) whole
-    (literals_skipped task members m (n - m) a b (λ l low lt. let less : l < n = omega (arith, lt, whole) in sym (is.each l (omega (arith, less, top))) ∙ none l low less) e)
+    subst (λ (k : ℕ). Extends task (flat_map (ways both members) (range k)) a b) whole
+    (literals_skipped task (ways both members) m (n - m) a b (λ l low lt. let less : l < n = omega (arith, lt, whole) in untouched task both members l b (sym (is.each l (omega (arith, less, top))) ∙ none l low less)) e)
 
-pub all_literals : (task : Task) (members : List ℕ) (m : ℕ) (a b : LinkedChains) → m ≡ 2 * task.facts → Extends task (map (λ k. (members, k)) (range m)) a b → Extends task (chain_places task (members ∷ [])) a b
-all_literals task members m a b e h =
-    subst (λ (places : List (List ℕ × ℕ)). Extends task places a b) (ap (λ (n : ℕ). map (λ k. (members, k)) (range n)) e ∙ sym (append-nil (map (λ k. (members, k)) (range (2 * task.facts))))) h
+pub all_literals : (task : Task) (both : Bool) (members : List ℕ) (m : ℕ) (a b : LinkedChains) → m ≡ 2 * task.facts → Extends task (flat_map (ways both members) (range m)) a b → Extends task (flat_map (ways both members) (range (2 * task.facts))) a b
+all_literals task both members m a b e h = subst (λ (n : ℕ). Extends task (flat_map (ways both members) (range n)) a b) e h
+
+-- one way over all literals is what a component has
+pub one_component : (task : Task) (members : List ℕ) (a b : LinkedChains) → Extends task (flat_map (ways false members) (range (2 * task.facts))) a b → Extends task (chain_places task (members ∷ [])) a b
+one_component task members a b h =
+    subst (λ (places : List (List ℕ × ℕ)). Extends task places a b) (singles members (range (2 * task.facts)) ∙ sym (append-nil (map (λ k. (members, k)) (range (2 * task.facts))))) h
 
 -- component after component
 pub component_more :
@@ -293,6 +352,10 @@ room_of_order order i members f at room =
     let l = ap (λ (ks : List (List ℕ)). length (order_of ks)) at in
     let a = length-append members (order_of (drop (i + 1) order)) in
     omega (arith, l, a, room)
+
+-- what holds of the members of each component holds of all actions
+pub each_of_order : (P : ℕ → Type 0) (order : List (List ℕ)) → AllByRecursion (λ ks. AllByRecursion P ks) order → AllByRecursion P (order_of order)
+each_of_order P order all = each_from P (order_of order) (λ a i. let r = flat_among (λ ks. ks) order a i in each_at P r.0 a (each_at (λ ks. AllByRecursion P ks) order r.0 all r.1) r.2)
 
 pub first_room : (actions n : ℕ) → n ≤ 16384 → HasRoom (no_chains actions) (4096 * n)
 first_room actions n le = omega (arith, le)

@@ -1,13 +1,15 @@
 //! The chains of a task.
-ghost use Rattle.std.specs.Prelude.{◌≡◌, ◌+◌, ◌*◌, ◌/◌, ◌<◌, ◌≤◌, ◌==◌, List, ℕ, false, [], ◌∷◌, length, IfOk, OnOk};
-ghost use Rattle.std.specs.List.{AllByRecursion};
+ghost use Rattle.std.specs.Prelude.{◌≡◌, ◌+◌, ◌*◌, ◌/◌, ◌<◌, ◌≤◌, ◌==◌, List, ℕ, Bool, false, true, [], ◌∷◌, reverse, length, IfOk, OnOk};
+ghost use Rattle.std.specs.List.{flat_map, AllByRecursion};
 ghost use Rattle.gt_core.specs.Task.{Task as TaskValue};
-ghost use Rattle.gt_core.specs.Published.{Pairwise};
+ghost use Rattle.gt_core.specs.Literal.{range};
+ghost use Rattle.gt_core.specs.Published.{Pairwise, order_of};
 ghost use Rattle.gt_core.specs.Layout.{Layout as LayoutValue, action_at, chain_at};
 ghost use Rattle.step_clauses.specs.Variables.{chain_places, chains};
 ghost use Rattle.step_clauses.specs.Formula.{chain_clauses};
 ghost use Rattle.step_clauses.specs.Coded.{coded, literals_in};
 ghost use Rattle.step_chains.specs.Links.{links_of};
+ghost use Rattle.step_chains.specs.BothWays.{ways, ways_in, all_places};
 ghost use Rattle.step_chains.specs.Chains.{AreChains, AreWithin, Extends, HasRoom, links_in, all_clauses};
 
 use crate::chain::{Chain, chain_size, count};
@@ -56,6 +58,19 @@ impl Chains {
         Ok(chains)
     }
 
+    /// The chains of all-steps: for each literal, those of all actions of an order, forward and then backward.
+    pub fn find_both_ways(alloc: Global, task: &Task, order: &Order) -> Result<Chains, Memory>
+        requires members { AllByRecursion (λ ks. AllByRecursion (λ a. a < length task.now.actions) ks) order.now }
+        requires distinct { Pairwise (λ a b. (a == b) ≡ false) (order_of order.now) }
+        ensures { IfOk result (λ c. AreChains task.now (all_places task.now order.now) c) }
+    {
+        let actions = all_actions(alloc, order)?;
+        let mut chains = Chains::new(alloc, task);
+        let mut index = LinkIndex::new(alloc, task.facts())?;
+        chains.add_members(alloc, task, actions.as_slice(), &mut index, true)?;
+        Ok(chains)
+    }
+
     /// No chain yet.
     pub fn new(alloc: Global, task: &Task) -> Chains
         ensures { result ≡ no_chains (length task.now.actions) }
@@ -92,7 +107,9 @@ impl Chains {
     pub fn add(&mut self, alloc: Global, links: &[Link]) -> Result<(), Memory>
         requires actions { AllByRecursion (λ k. k.action < self.old.actions) links.now }
         requires room { HasRoom self.old (length links.now) }
-        ensures { OnOk result ((task : TaskValue) (members : List ℕ) (m : ℕ) → links.now ≡ links_of task m members → Extends task ((members, m) ∷ []) self.old self.new) }
+        ensures added { OnOk result ((task : TaskValue) (members : List ℕ) (m : ℕ) → links.now ≡ links_of task m members → Extends task ((members, m) ∷ []) self.old self.new) }
+        ensures actions { self.new.actions ≡ self.old.actions }
+        ensures few { links_in self.new.chains ≤ links_in self.old.chains + length links.now }
     {
         let count = count(links);
         if count == 0 {
@@ -132,14 +149,73 @@ impl Chains {
         if members.len() < 2 {
             return Ok(());
         }
+        self.add_members(alloc, task, members, index, false)?;
+        Ok(())
+    }
+
+    /// Adds the chains of some actions, literal after literal: those in their order and, if so asked, each time then those
+    /// in the reverse order.
+    fn add_members(
+        &mut self,
+        alloc: Global,
+        task: &Task,
+        members: &[u32],
+        index: &mut LinkIndex,
+        both: bool,
+    ) -> Result<(), Memory>
+        requires members { AllByRecursion (λ a. a < length task.now.actions) members.now }
+        requires distinct { Pairwise (λ a b. (a == b) ≡ false) members.now }
+        requires actions { self.old.actions ≡ length task.now.actions }
+        requires index { length index.old ≡ 2 * task.now.facts }
+        requires room { HasRoom self.old (4096 * ways_in both (length members.now)) }
+        ensures added { OnOk result (Extends task.now (flat_map (ways both members.now) (range (2 * task.now.facts))) self.old self.new) }
+        ensures index { OnOk result (length index.new ≡ 2 * task.now.facts) }
+    {
         index.fill(task, members)?;
         let end = literals(task);
         let mut m = index.next(0, end);
         while m < end {
-            self.add(alloc, index.links(m))?;
+            self.add_ways(alloc, index.links(m), both)?;
             let after = index.next(m + 1, end);
             m = after;
         }
         Ok(())
     }
+
+    /// Adds the chain over these links and, if so asked, then the one over them in the reverse order.
+    fn add_ways(&mut self, alloc: Global, links: &[Link], both: bool) -> Result<(), Memory>
+        requires actions { AllByRecursion (λ k. k.action < self.old.actions) links.now }
+        requires room { HasRoom self.old (ways_in both (length links.now)) }
+        ensures { OnOk result ((task : TaskValue) (members : List ℕ) (m : ℕ) → links.now ≡ links_of task m members → Extends task (ways both members m) self.old self.new) }
+    {
+        self.add(alloc, links)?;
+        if both {
+            self.add_backward(alloc, links)?;
+        }
+        Ok(())
+    }
+
+    /// Adds the chain over these links in the reverse order, if it has a variable.
+    fn add_backward(&mut self, alloc: Global, links: &[Link]) -> Result<(), Memory>
+        requires actions { AllByRecursion (λ k. k.action < self.old.actions) links.now }
+        requires room { HasRoom self.old (length links.now) }
+        ensures { OnOk result ((task : TaskValue) (members : List ℕ) (m : ℕ) → links.now ≡ links_of task m members → Extends task ((reverse members, m) ∷ []) self.old self.new) }
+    {
+        let mut back = Vec::from_slice(alloc, links)?;
+        back.reverse();
+        self.add(alloc, back.as_slice())?;
+        Ok(())
+    }
+}
+
+/// The actions of an order, one after the other.
+fn all_actions(alloc: Global, order: &Order) -> Result<Vec<u32>, Memory>
+    ensures all { IfOk result (λ actions. actions.items ≡ order_of order.now) }
+    ensures few { length (order_of order.now) ≤ 16384 }
+{
+    let mut actions = Vec::new(alloc);
+    for group in order.groups() {
+        actions.extend_from_slice(group.as_slice())?;
+    }
+    Ok(actions)
 }

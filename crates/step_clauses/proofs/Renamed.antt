@@ -1,13 +1,11 @@
 use Rattle.std.proofs.Common.{arith, ◌≡◌, ◌==◌, ℕ, ◌+◌, ◌*◌, ◌<◌, ◌≤◌, List, [], ◌∷◌, map, length, Bool, true, false, refl, sym, ap, ◌∙◌, fold, if◌then◌else◌, nat_lt, ◌⊎◌, inl, inr, Some, None}
-use Rattle.std.specs.List.{list_any, cons_option}
-use Rattle.std.proofs.lemmas.Bool.Decides.{nat_tests}
-use Rattle.gt_core.proofs.Basics.{same_if, test_same, same_test}
+use Rattle.std.specs.List.{cons_option}
 use Rattle.clause_base.specs.Literal.{opposite}
-use Rattle.clause_base.specs.Clause.{IsRising, IsClause, has_opposite_pair, put, clause_of}
+use Rattle.clause_base.proofs.Moved.{below, same, pair_renamed}
+use Rattle.clause_base.specs.Clause.{has_opposite_pair, put, clause_of}
 use Rattle.step_clauses.specs.Clause.{Literal, Is, Not, code}
 use Rattle.step_clauses.specs.Coded.{coded, literals_in}
 use Rattle.step_clauses.proofs.Alike.{ClauseAlike, Alike}
-use Rattle.std.proofs.lemmas.Bool.{lt-ltb, le-ltb, cases_lt}
 
 -- A renaming of codes that keeps their order and their opposites keeps sorted clauses as they are.
 
@@ -19,37 +17,7 @@ literals_in-renamed g (c ∷ cs) = let h = literals_in-renamed g cs in let l = l
     long [] = refl
     long (x ∷ xs) = let h = long xs in omega arith
 
-less_if_not : (a b : ℕ) → (a == b) ≡ false → b ≤ a → b < a
-less_if_not a b e h = grind (arith, nat_tests)
-
 module _ (g : ℕ → ℕ) (rises : (l m : ℕ) → l < m → g l < g m) (turns : (l : ℕ) → opposite (g l) ≡ g (opposite l)) where
-  not_above : (l m : ℕ) → m ≤ l → g m ≤ g l
-  not_above l m h = by (l == m) refl
-    where
-      by : (b : Bool) → (l == m) ≡ b → g m ≤ g l
-      by true e = let s : g m ≡ g l = ap g (sym (test_same l m e)) in omega arith
-      by false e = let k = rises m l (less_if_not l m e h) in omega arith
-
-  below_by : (l m : ℕ) → (l < m) ⊎ (m ≤ l) → nat_lt (g l) (g m) ≡ nat_lt l m
-  below_by l m (inl h) = lt-ltb (g l) (g m) (rises l m h) ∙ sym (lt-ltb l m h)
-  below_by l m (inr h) = le-ltb (g l) (g m) (not_above l m h) ∙ sym (le-ltb l m h)
-
-  below : (l m : ℕ) → nat_lt (g l) (g m) ≡ nat_lt l m
-  below l m = below_by l m (cases_lt l m)
-
-  injective : (l m : ℕ) → g l ≡ g m → l ≡ m
-  injective l m e = by (l == m) refl
-    where
-      by : (b : Bool) → (l == m) ≡ b → l ≡ m
-      by true t = test_same l m t
-      by false t = elim (cases_lt l m) [
-        | inl lt ↦ let k = rises l m lt in absurd (omega arith)
-        | inr le ↦ let k = rises m l (less_if_not l m t le) in absurd (omega arith)
-      ]
-
-  same : (l m : ℕ) → (g l == g m) ≡ (l == m)
-  same l m = same_if (g l == g m) (l == m) (λ e. same_test l m (injective l m (test_same (g l) (g m) e))) (λ e. same_test (g l) (g m) (ap g (test_same l m e)))
-
   put_by : (lits : List ℕ) (m l : ℕ) (b c : Bool) → put (map g lits) (g l) ≡ map g (put lits l) → (if b then g m ∷ put (map g lits) (g l) else if c then g m ∷ map g lits else g l ∷ g m ∷ map g lits) ≡ map g (if b then m ∷ put lits l else if c then m ∷ lits else l ∷ m ∷ lits)
   put_by lits m l true c h = ap (λ (x : List ℕ). g m ∷ x) h
   put_by lits m l false true h = refl
@@ -57,29 +25,11 @@ module _ (g : ℕ → ℕ) (rises : (l m : ℕ) → l < m → g l < g m) (turns 
 
   put_renamed : (lits : List ℕ) (l : ℕ) → put (map g lits) (g l) ≡ map g (put lits l)
   put_renamed [] l = refl
-  put_renamed (m ∷ lits) l = rw (below m l, same m l) (put_by lits m l (nat_lt m l) (m == l) (put_renamed lits l))
+  put_renamed (m ∷ lits) l = rw (below g rises turns m l, same g rises turns m l) (put_by lits m l (nat_lt m l) (m == l) (put_renamed lits l))
 
   fold_renamed : (sorted lits : List ℕ) → fold put (map g sorted) (map g lits) ≡ map g (fold put sorted lits)
   fold_renamed sorted [] = refl
   fold_renamed sorted (l ∷ lits) = ap (λ (x : List ℕ). fold put x (map g lits)) (put_renamed sorted l) ∙ fold_renamed (put sorted l) lits
-
-  any_renamed : (p q : ℕ → Bool) (lits : List ℕ) → ((m : ℕ) → p (g m) ≡ q m) → list_any p (map g lits) ≡ list_any q lits
-  any_renamed p q [] h = refl
-  any_renamed p q (m ∷ lits) h = rw (h m, any_renamed p q lits h)
-
-  pair_renamed : (lits : List ℕ) → has_opposite_pair (map g lits) ≡ has_opposite_pair lits
-  pair_renamed lits =
-      any_renamed (λ l. list_any (λ m. m == opposite l) (map g lits)) (λ l. list_any (λ m. m == opposite l) lits) lits (λ l.
-      any_renamed (λ m. m == opposite (g l)) (λ m. m == opposite l) lits (λ m. ap (λ (x : ℕ). g m == x) (turns l) ∙ same m (opposite l)))
-
-  rising_renamed : (lits : List ℕ) → IsRising lits → IsRising (map g lits)
-  rising_renamed [] r = tt
-  rising_renamed (l ∷ []) r = tt
-  rising_renamed (l ∷ m ∷ lits) r = (rises l m r.0, rising_renamed (m ∷ lits) r.1)
-
-  -- a clause stays one
-  pub clause_renamed : (lits : List ℕ) → IsClause lits → IsClause (map g lits)
-  clause_renamed lits c = record { rising = rising_renamed lits c.rising; no_pair = pair_renamed lits ∙ c.no_pair }
 
   one_coded : (lits : List ℕ) (rest : List (List ℕ)) (b c : Bool) → b ≡ c → cons_option (if b then None else Some (fold put [] (map g lits))) (map (map g) rest) ≡ map (map g) (cons_option (if c then None else Some (fold put [] lits)) rest)
   one_coded lits rest true true e = refl
@@ -105,4 +55,4 @@ module _ (g : ℕ → ℕ) (rises : (l m : ℕ) → l < m → g l < g m) (turns 
     coded_renamed (c ∷ cs) (d ∷ ds) a =
         ap (λ (x : List ℕ). cons_option (clause_of x) (coded ds)) (codes_renamed c d a.0)
         ∙ ap (λ (x : List (List ℕ)). cons_option (clause_of (map g (map code c))) x) (coded_renamed cs ds a.1)
-        ∙ one_coded (map code c) (coded cs) (has_opposite_pair (map g (map code c))) (has_opposite_pair (map code c)) (pair_renamed (map code c))
+        ∙ one_coded (map code c) (coded cs) (has_opposite_pair (map g (map code c))) (has_opposite_pair (map code c)) (pair_renamed g rises turns (map code c))

@@ -5,7 +5,7 @@ use Rattle.std.proofs.lemmas.Nat.{row_fits}
 use Rattle.gt_core.specs.Task.{Task, EffectOf, effects}
 use Rattle.gt_core.specs.Layout.{Layout, width, action_at, conditional_at, chain_at, fact_at}
 use Rattle.gt_core.proofs.Basics.{Among, apart}
-use Rattle.clause_base.specs.Literal.{opposite}
+use Rattle.clause_base.proofs.Moved.{moved_below, moved_above, moved_rises, moved_turns}
 use Rattle.step_clauses.specs.Variables.{Row, rows, rows_from, has_condition, layout_of, variable_at}
 use Rattle.step_clauses.specs.Formula.{step_clauses, pair_clause, pair_clauses}
 use Rattle.step_clauses.specs.Coded.{coded}
@@ -16,58 +16,6 @@ use Rattle.step_clauses.proofs.Alike.{NamesAlike, effect_of_row, step_alike, kno
 use Rattle.step_clauses.proofs.Renamed.{coded_renamed}
 
 -- The clauses of each step and of each time are those of one, moved.
-
-moved_below : (width step facts l : ℕ) → l < 2 * width → moved_code width step facts l ≡ 2 * step + l
-moved_below width step facts l h = let t : nat_lt l (2 * width) ≡ true = grind (arith, nat_tests) in rw t
-
-moved_above : (width step facts l : ℕ) → 2 * width ≤ l → moved_code width step facts l ≡ 2 * facts + (l - 2 * width)
-moved_above width step facts l h = let t : nat_lt l (2 * width) ≡ false = grind (arith, nat_tests) in rw t
-
-where_is : (l w : ℕ) → (l < w) ⊎ (w ≤ l)
-where_is l w = by (nat_lt l w) refl
-  where
-    by : (b : Bool) → nat_lt l w ≡ b → (l < w) ⊎ (w ≤ l)
-    by true e = inl (grind (arith, nat_tests))
-    by false e = inr (grind (arith, nat_tests))
-
-pub moved_rises : (width step facts : ℕ) → step + width ≤ facts → (l m : ℕ) → l < m → moved_code width step facts l < moved_code width step facts m
-moved_rises width step facts le l m lt = by (where_is l (2 * width)) (where_is m (2 * width))
-  where
-    by : (l < 2 * width) ⊎ (2 * width ≤ l) → (m < 2 * width) ⊎ (2 * width ≤ m) → moved_code width step facts l < moved_code width step facts m
-    by (inl a) (inl b) = let x = moved_below width step facts l a in let y = moved_below width step facts m b in omega arith
-    by (inl a) (inr b) = let x = moved_below width step facts l a in let y = moved_above width step facts m b in omega arith
-    by (inr a) (inl b) = absurd (omega arith)
-    by (inr a) (inr b) = let x = moved_above width step facts l a in let y = moved_above width step facts m b in omega arith
-
-opposite_even : (l k : ℕ) → l ≡ 2 * k → opposite l ≡ 2 * k + 1
-opposite_even l k e = let m : (l % 2 == 0) ≡ true = grind (arith, nat_tests) in rw (m, e)
-
-opposite_odd : (l k : ℕ) → l ≡ 2 * k + 1 → opposite l ≡ 2 * k
-opposite_odd l k e = let m : (l % 2 == 0) ≡ false = grind (arith, nat_tests) in rw m (omega arith)
-
--- the literals of one variable go to those of another
-turned_even : (f : ℕ → ℕ) (l k s : ℕ) → l ≡ 2 * k → f l ≡ 2 * s → f (2 * k + 1) ≡ 2 * s + 1 → opposite (f l) ≡ f (opposite l)
-turned_even f l k s e x y = opposite_even (f l) s x ∙ sym (ap f (opposite_even l k e) ∙ y)
-
-turned_odd : (f : ℕ → ℕ) (l k s : ℕ) → l ≡ 2 * k + 1 → f l ≡ 2 * s + 1 → f (2 * k) ≡ 2 * s → opposite (f l) ≡ f (opposite l)
-turned_odd f l k s e x y = opposite_odd (f l) s x ∙ sym (ap f (opposite_odd l k e) ∙ y)
-
-pub moved_turns : (width step facts l : ℕ) → opposite (moved_code width step facts l) ≡ moved_code width step facts (opposite l)
-moved_turns width step facts l = by (l % 2 == 0) refl (where_is l (2 * width))
-  where
-    by : (b : Bool) → (l % 2 == 0) ≡ b → (l < 2 * width) ⊎ (2 * width ≤ l) → opposite (moved_code width step facts l) ≡ moved_code width step facts (opposite l)
-    by true e (inl a) =
-        let h : l % 2 ≡ 0 = grind (arith, nat_tests) in
-        turned_even (moved_code width step facts) l (l / 2) (step + l / 2) (omega arith) (moved_below width step facts l a ∙ omega arith) (moved_below width step facts (2 * (l / 2) + 1) (omega arith) ∙ omega arith)
-    by true e (inr a) =
-        let h : l % 2 ≡ 0 = grind (arith, nat_tests) in
-        turned_even (moved_code width step facts) l (l / 2) (facts + (l / 2 - width)) (omega arith) (moved_above width step facts l a ∙ omega arith) (moved_above width step facts (2 * (l / 2) + 1) (omega arith) ∙ omega arith)
-    by false e (inl a) =
-        let h : l % 2 ≡ 1 = grind (arith, nat_tests) in
-        turned_odd (moved_code width step facts) l (l / 2) (step + l / 2) (omega arith) (moved_below width step facts l a ∙ omega arith) (moved_below width step facts (2 * (l / 2)) (omega arith) ∙ omega arith)
-    by false e (inr a) =
-        let h : l % 2 ≡ 1 = grind (arith, nat_tests) in
-        turned_odd (moved_code width step facts) l (l / 2) (facts + (l / 2 - width)) (omega arith) (moved_above width step facts l a ∙ omega arith) (moved_above width step facts (2 * (l / 2)) (omega arith) ∙ omega arith)
 
 pub number_below : (es : List EffectOf) (j : ℕ) (r : Row) → Among r (rows_from j es) → has_condition r.effect ≡ true → r.number < j + length (filter has_condition es)
 number_below [] j r i c = absurd i

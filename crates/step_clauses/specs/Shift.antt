@@ -1,5 +1,6 @@
-use Rattle.std.specs.Prelude.{ℕ, ◌+◌, ◌-◌, ◌*◌, nat_lt, if◌then◌else◌, List}
+use Rattle.std.specs.Prelude.{ℕ, List}
 use Rattle.std.specs.List.{flat_map}
+pub use Rattle.clause_base.specs.Repeats.{moved_code}
 use Rattle.gt_core.specs.Task.{Task}
 use Rattle.step_clauses.specs.Variables.{layout_of}
 use Rattle.step_clauses.specs.Formula.{step_clauses, pair_clause}
@@ -7,10 +8,6 @@ use Rattle.step_clauses.specs.Coded.{coded}
 
 -- The clauses of each step are those of the one step of horizon 1 with other variables. There a step's own variables
 -- come first, then those of the facts before and after it.
-
--- the code of a literal with its variable moved: `width` of them begin at `step`, and those after them at `facts`
-abbrev pub moved_code : (width step facts : ℕ) → ℕ → ℕ
-moved_code width step facts l = if nat_lt l (2 * width) then 2 * step + l else 2 * facts + (l - 2 * width)
 
 -- the clauses of the one step of horizon 1
 abbrev pub one_step : Task → List (List ℕ × ℕ) → List (List ℕ)

@@ -1,4 +1,3 @@
-pub mod Movable
 pub mod Parts
 pub mod Whole
 pub mod Joined

@@ -7,7 +7,7 @@ use Rattle.gt_core.specs.Task.{Task}
 use Rattle.gt_core.specs.Lawful.{conditional_in, is_task}
 use Rattle.gt_core.specs.Layout.{Layout, width, variables}
 use Rattle.gt_core.specs.Published.{Pairwise, order_of}
-use Rattle.gt_core.proofs.PublishedLaw.{component_apart}
+use Rattle.gt_core.proofs.PublishedLaw.{published_apart, component_apart}
 use Rattle.gt_core.proofs.Basics.{each_from}
 use Rattle.gt_core.proofs.Within.{lawful}
 use Rattle.clause_base.specs.Clause.{HasVariablesBelow}
@@ -95,10 +95,14 @@ module _ (task : Task) (pairs : List (ℕ × ℕ)) (places : List (List ℕ × �
       let h = known_within task pairs places n in_range t le in
       all_below m (moved_code w s f) cs (subst (λ (x : List (List ℕ)). AllByRecursion (HasVariablesBelow m) x) same (subst (λ (x : ℕ). AllByRecursion (HasVariablesBelow x) (coded (pair_clauses zn pairs t))) top h))
 
--- the members of all components are actions of the layout
-pub distinct_fit : (form : OrderedTask) → IsOrderedTask form → AllByRecursion (λ ks. Pairwise (λ a b. (a == b) ≡ false) ks) form.components
-distinct_fit form is = each_from _ form.components (component_apart form.task form.known.clauses form.components is.published)
+-- no action stands twice in an order
+pub distinct_fit : (form : OrderedTask) → IsOrderedTask form → Pairwise (λ a b. (a == b) ≡ false) (order_of form.components)
+distinct_fit form is = published_apart form.task form.known.clauses form.components is.published
 
+pub apart_fit : (form : OrderedTask) → IsOrderedTask form → AllByRecursion (λ ks. Pairwise (λ a b. (a == b) ≡ false) ks) form.components
+apart_fit form is = each_from _ form.components (component_apart form.task form.known.clauses form.components is.published)
+
+-- the members of all components are actions of the layout
 pub members_fit : (form : OrderedTask) → IsOrderedTask form → (actions : ℕ) → actions ≡ length form.task.actions → AllByRecursion (λ ks. AllByRecursion (λ a. a < actions) ks) form.components
 members_fit form is actions e =
     each_from _ form.components (λ ks i. each_from _ ks (λ a j. let lt = member_below form is ks i a j in omega (arith, lt, e)))

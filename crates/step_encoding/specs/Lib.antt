@@ -1,4 +1,4 @@
 pub mod Numbers
-pub mod Exists
+pub mod Kept
 pub mod Parts
 pub mod Laws

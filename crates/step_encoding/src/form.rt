@@ -29,7 +29,7 @@ impl From<Memory> for FormError {
 }
 
 /// A way to say by formulas that a task has a plan of n steps, for each horizon n up to 255.
-pub trait StepForm: Sync {
+pub trait StepForm {
     /// What the form stands on is as it must be.
     ghost is_form: { Self → Type 0 };
 

@@ -1,30 +1,43 @@
-use Rattle.std.proofs.Common.{arith, ◌≡◌, ◌==◌, ℕ, zero, suc, ◌+◌, ◌-◌, ◌*◌, ◌/◌, ◌<◌, ◌≤◌, List, [], ◌∷◌, ◌++◌, map, length, Bool, true, false, not, ◌||◌, ◌&&◌, refl, sym, ap, ◌∙◌, subst, if◌then◌else◌}
-use Rattle.std.specs.List.{filter}
-use Rattle.std.proofs.lemmas.Bool.Decides.{nat_tests}
-use Rattle.gt_core.specs.Literal.{holds, all_hold, is_in, range_from}
-use Rattle.gt_core.specs.Task.{Task, effects, precondition, action_numbers, initial_state}
+use Rattle.std.proofs.Common.{arith, ◌≡◌, ◌==◌, ℕ, zero, suc, ◌+◌, ◌/◌, ◌<◌, ◌≤◌, List, [], ◌∷◌, ◌++◌, length, Bool, true, false, not, ◌||◌, ◌&&◌, sym, ap, ◌∙◌, subst, inl, inr}
+use Rattle.std.specs.List.{filter, flat_map}
+use Rattle.gt_core.specs.Literal.{holds, is_in}
+use Rattle.gt_core.specs.Task.{Task, action_numbers, initial_state}
 use Rattle.gt_core.specs.Execution.{gains, loses, CanRun, run}
 use Rattle.gt_core.specs.Interference.{disables, Knows}
 use Rattle.gt_core.specs.Step.{gained, lost, IsStep, IsStepPlan}
 use Rattle.gt_core.specs.Published.{Pairwise, order_of, KeepsApart}
 use Rattle.gt_core.specs.Layout.{action_at}
-use Rattle.gt_core.proofs.Basics.{Among, each_at, each_from, any_same, all_same, same_if, apart, same_test}
+use Rattle.gt_core.proofs.Basics.{Among, each_at, each_from, any_same, same_if}
 use Rattle.gt_core.proofs.Literals.{holds_same, in_among, among_in, among_range, below_range}
-use Rattle.gt_core.proofs.Pairwise.{flat_among, filtered, into_filter}
+use Rattle.gt_core.proofs.Pairwise.{among_left, flat_among, filtered, into_filter, pairwise_both}
 use Rattle.step_clauses.specs.Variables.{layout_of}
 use Rattle.gt_core.proofs.PublishedLaw.{published_keeps_apart, published_all, component_apart}
 use Rattle.gt_core.proofs.RunLaw.{runs_in_order}
 use Rattle.gt_core.proofs.SequenceLaw.{Agree, run_agrees, run_joined, can_run_joined}
 use Rattle.clause_base.specs.Formula.{Satisfies, IsUnsatisfiable}
 use Rattle.step_clauses.specs.Coded.{formula_of}
-use Rattle.step_laws.specs.Form.{OrderedTask, IsOrderedTask, places_of, set_at, member_at, IsPlanOf, steps_for}
-use Rattle.step_laws.proofs.PlanLaw.{LooseStep, plan_of}
-use Rattle.step_laws.proofs.FormulaLaw.{plan_satisfies, v as of_plan}
+use Rattle.step_laws.specs.Form.{OrderedTask, IsOrderedTask, places_of, set_at, member_at, IsPlanOf, steps_at, steps_for}
+use Rattle.step_laws.proofs.SetAt.{set_of, sets_from}
+use Rattle.step_laws.proofs.PlanLaw.{LooseStep, IsOrderedBy, plan_of, ordered_by_components}
+use Rattle.step_laws.proofs.FormulaLaw.{AreApart, plan_satisfies, v as of_plan}
 use Rattle.step_clauses.proofs.CodedLaw.{encoded, decoded}
-use Rattle.step_laws.proofs.Ranges.{in_range_of, member_below}
+use Rattle.step_laws.proofs.Ranges.{in_range_of, member_below, component_of}
 use Rattle.step_clauses.proofs.InRange.{IsInRange}
 
 -- The two laws of a form: what a satisfying assignment stands for is a step plan, and each step plan is such.
+
+pub pairwise_first : {A : Type 0} (R : A → A → Type 0) (xs ys : List A) → Pairwise R (xs ++ ys) → Pairwise R xs
+pairwise_first R [] ys p = tt
+pairwise_first R (x ∷ xs) ys p = (each_from (R x) xs (λ y a. each_at (R x) (xs ++ ys) y p.0 (among_left xs ys y a)), pairwise_first R xs ys p.1)
+
+pairwise_rest : {A : Type 0} (R : A → A → Type 0) (xs ys : List A) → Pairwise R (xs ++ ys) → Pairwise R ys
+pairwise_rest R [] ys p = p
+pairwise_rest R (x ∷ xs) ys p = pairwise_rest R xs ys p.1
+
+pub pairwise_in : {A : Type 0} (R : A → A → Type 0) (xss : List (List A)) (xs : List A) → Among xs xss → Pairwise R (flat_map (λ xs. xs) xss) → Pairwise R xs
+pairwise_in R [] xs a p = absurd a
+pairwise_in R (ys ∷ xss) xs (inl e) p = subst (λ zs. Pairwise R zs) (sym e) (pairwise_first R ys _ p)
+pairwise_in R (ys ∷ xss) xs (inr a) p = pairwise_in R xss xs a (pairwise_rest R ys _ p)
 
 module _ (form : OrderedTask) (is : IsOrderedTask form) where
   abbrev task : Task
@@ -48,7 +61,7 @@ module _ (form : OrderedTask) (is : IsOrderedTask form) where
       (among_in (action_numbers form.task) a (among_range (length form.task.actions) 0 a (omega arith) (omega arith)))
 
   -- what stands in the order is an action
-  listed_below : (a : ℕ) → Among a (order_of form.components) → a < length form.task.actions
+  pub listed_below : (a : ℕ) → Among a (order_of form.components) → a < length form.task.actions
   listed_below a i = let r = flat_among (λ ks. ks) form.components a i in member_below form is r.0 r.1 a r.2
 
   -- a step's members matter only where they stand in the order
@@ -67,33 +80,20 @@ module _ (form : OrderedTask) (is : IsOrderedTask form) where
       weaker [] h = tt
       weaker (k ∷ ks) h = (each_from _ ks (λ b i x y. each_at _ ks b h.0 i (sub k x).0 (sub b y).0), weaker ks h.1)
 
-  set_by : (f : ℕ → List ℕ) (first m t : ℕ) → t < m → set_at (map f (range_from first m)) t ≡ f (first + t)
-  set_by f first zero t lt = absurd (omega arith)
-  set_by f first (suc m) t lt = by (t == 0) refl (λ e. let ne : t ≡ 0 → ⊥ = λ s. apart (t == 0) (same_test t 0 s) e in set_by f (first + 1) m (t - 1) (omega arith))
-    where
-      by : (b : Bool) → (t == 0) ≡ b → (b ≡ false → set_at (map f (range_from (first + 1) m)) (t - 1) ≡ f ((first + 1) + (t - 1))) → (if b then f first else set_at (map f (range_from (first + 1) m)) (t - 1)) ≡ f (first + t)
-      by true e on = let s : first ≡ first + t = grind (arith, nat_tests) in ap f s
-      by false e on =
-          let ne : t ≡ 0 → ⊥ = λ s. apart (t == 0) (same_test t 0 s) e in
-          let s : (first + 1) + (t - 1) ≡ first + t = omega arith in on refl ∙ ap f s
-
-  length_map : (f : ℕ → List ℕ) (first m : ℕ) → length (map f (range_from first m)) ≡ m
-  length_map f first zero = refl
-  length_map f first (suc m) = let h = length_map f (first + 1) m in omega arith
-
-  -- the first law of an encoding: what a satisfying assignment stands for is a plan
-  pub plans : (n : ℕ) (v : ℕ → Bool) → Satisfies v (formula_of form.task form.known.clauses (places_of form) n).clauses → IsPlanOf form n (steps_for form n v)
-  plans n v s =
-      let z = layout_of form.task (places_of form) n in
-      let p = plan_of form.task form.known.clauses form.components n v (in_range_of form is).effect_facts ordered (decoded v _ s) in
+  -- the first law of an encoding, where the chains go to places that order the true actions: what a satisfying assignment
+  -- stands for is a plan
+  pub plans_at : (places : List (List ℕ × ℕ)) (n : ℕ) (v : ℕ → Bool) → IsOrderedBy form.task form.known.clauses places order (layout_of form.task places n) v → Satisfies v (formula_of form.task form.known.clauses places n).clauses → IsPlanOf form n (steps_at form places n v)
+  plans_at places n v ordered s =
+      let z = layout_of form.task places n in
+      let p = plan_of form.task form.known.clauses places order n v ordered (decoded v _ s) in
       record {
-        long = length_map (λ t. filter (λ a. v (action_at z t a)) order) 0 n;
+        long = sets_from (λ t. filter (λ a. v (action_at z t a)) order) 0 n;
         plan = record {
           states = p.states;
           begins = p.begins;
           reaches = p.reaches;
           leads = λ t lt.
-              let set : set_at (steps_for form n v) t ≡ filter (λ a. v (action_at z t a)) order = let e : 0 + t ≡ t = omega arith in set_by (λ t. filter (λ a. v (action_at z t a)) order) 0 n t lt ∙ ap (λ (k : ℕ). filter (λ a. v (action_at z k a)) order) e in
+              let set : set_at (steps_at form places n v) t ≡ filter (λ a. v (action_at z t a)) order = set_of (λ t. filter (λ a. v (action_at z t a)) order) n t lt in
               subst (λ (x : List ℕ). IsStep task order (p.states t) (λ a. is_in x a) (p.states (t + 1))) (sym set)
               (step_members (p.states t) (p.states (t + 1)) (λ a. v (action_at z t a)) (is_in (filter (λ a. v (action_at z t a)) order))
               (λ a x. let r = filtered (λ a. v (action_at z t a)) order a (in_among _ a x) in (r.1, listed_below a r.0))
@@ -101,6 +101,10 @@ module _ (form : OrderedTask) (is : IsOrderedTask form) where
               (p.leads t lt));
         };
       }
+
+  -- the same for exists-steps
+  pub plans : (n : ℕ) (v : ℕ → Bool) → Satisfies v (formula_of form.task form.known.clauses (places_of form) n).clauses → IsPlanOf form n (steps_for form n v)
+  plans n v s = plans_at (places_of form) n v (ordered_by_components form.task form.known.clauses form.components (layout_of form.task (places_of form) n) v in_range.effect_facts ordered) s
 
   -- each state of a step plan is reached by actions, up to the facts
   pub record Reached (s : ℕ → Bool) : Type 0 where
@@ -128,15 +132,27 @@ module _ (form : OrderedTask) (is : IsOrderedTask form) where
       let c : (holds s p.0 || holds s p.1) ≡ true = each_at _ form.known.clauses p k i in
       rw (x, y) at c)
 
-  -- the second law: where there is a plan, an assignment satisfies the formula
-  pub satisfied : (n : ℕ) (steps : List (List ℕ)) → IsPlanOf form n steps
-      → (v : ℕ → Bool) × Satisfies v (formula_of form.task form.known.clauses (places_of form) n).clauses
-  satisfied n steps plan =
+  -- the second law, where the members of each place are apart in each step: where there is a plan, an assignment satisfies
+  -- the formula
+  pub satisfied_at : (places : List (List ℕ × ℕ)) → IsInRange form.task form.known.clauses places → (n : ℕ) (steps : List (List ℕ)) → IsPlanOf form n steps → ((t : ℕ) → t < n → AreApart form.task places (member_at steps t))
+      → (v : ℕ → Bool) × Satisfies v (formula_of form.task form.known.clauses places n).clauses
+  satisfied_at places within n steps plan parts =
       let p = plan.plan in (
-        of_plan form.task form.known.clauses form.components n in_range distinct (member_at steps) p.states,
-        encoded _ _ (plan_satisfies form.task form.known.clauses form.components n in_range distinct (member_at steps) p.states p.begins p.leads p.reaches
+        of_plan form.task form.known.clauses places order n within (member_at steps) p.states,
+        encoded _ _ (plan_satisfies form.task form.known.clauses places order n within (member_at steps) p.states p.begins p.leads parts p.reaches
             (λ t le. let r = reached (member_at steps) n p t le in knows_agree _ (p.states t) r.to (is.hold r.by r.can))),
       )
+
+  -- in a step the members of a component are apart
+  component_parts : (members : ℕ → Bool) → Pairwise (λ a b. members a ≡ true → members b ≡ true → disables task a b ≡ false) order → AreApart task (places_of form) members
+  component_parts members o ks m i =
+      let among = component_of form.task form.components (ks, m) i in
+      pairwise_both _ _ ks (distinct ks among) (pairwise_in _ form.components ks among o)
+
+  -- the same for exists-steps
+  pub satisfied : (n : ℕ) (steps : List (List ℕ)) → IsPlanOf form n steps
+      → (v : ℕ → Bool) × Satisfies v (formula_of form.task form.known.clauses (places_of form) n).clauses
+  satisfied n steps plan = satisfied_at (places_of form) in_range n steps plan (λ t lt. component_parts (member_at steps t) (plan.plan.leads t lt).ordered)
 
   pub refutes : (n : ℕ) → IsUnsatisfiable (formula_of form.task form.known.clauses (places_of form) n).clauses → (steps : List (List ℕ)) → IsPlanOf form n steps → ⊥
   refutes n none steps plan = let s = satisfied n steps plan in none s.0 s.1

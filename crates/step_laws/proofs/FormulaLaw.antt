@@ -1,17 +1,16 @@
-use Rattle.std.proofs.Common.{arith, ◌≡◌, ◌==◌, ℕ, ◌+◌, ◌*◌, ◌/◌, ◌<◌, ◌≤◌, List, [], ◌∷◌, ◌++◌, map, length, Bool, true, false, ◌||◌, ◌&&◌, refl, sym, ap, ◌∙◌, subst, if◌then◌else◌, ◌⊎◌, inl, inr}
+use Rattle.std.proofs.Common.{arith, ◌≡◌, ◌==◌, ℕ, ◌+◌, ◌*◌, ◌/◌, ◌<◌, ◌≤◌, List, [], ◌∷◌, ◌++◌, length, Bool, true, false, ◌||◌, ◌&&◌, refl, sym, ap, ◌∙◌, if◌then◌else◌, ◌⊎◌, inl, inr}
 use Rattle.std.specs.List.{flat_map}
 use Rattle.gt_core.specs.Literal.{opposite, holds, all_hold, range}
 use Rattle.gt_core.specs.Task.{Task, EffectOf, effects, precondition, initial_state}
 use Rattle.gt_core.specs.Interference.{disables, Knows, takes, reads}
 use Rattle.gt_core.specs.Step.{IsStep}
-use Rattle.gt_core.specs.Published.{Pairwise, order_of}
+use Rattle.gt_core.specs.Published.{Pairwise}
 use Rattle.gt_core.specs.Layout.{Layout, action_at, conditional_at, chain_at, fact_at}
 use Rattle.gt_core.proofs.Basics.{apart, Among, all_at, all_from, each_at, each_from, any_same, all_same, or_split, or_left, or_right, not_false, not_true, test_same}
 use Rattle.gt_core.proofs.Literals.{holds_same, below_range}
-use Rattle.gt_core.proofs.Pairwise.{among_left, flat_among, pairwise_both}
 use Rattle.step_clauses.specs.Clause.{Is, Not, clause_true, AllTrue}
 use Rattle.step_clauses.specs.Chain.{enter_clauses, pass_clauses}
-use Rattle.step_clauses.specs.Variables.{Row, rows, has_condition, Chain, chains_from, chain_places, chains, layout_of, variable_at}
+use Rattle.step_clauses.specs.Variables.{Row, rows, has_condition, Chain, chains_from, chains, layout_of, variable_at}
 use Rattle.step_clauses.specs.Formula.{literal_over, precondition_clauses, effect_clauses, frame_clauses, chain_clauses, step_clauses, initial_clauses, goal_clauses, is_single, pair_clause, pair_clauses, clauses_of_horizon}
 use Rattle.step_clauses.proofs.Satisfied.{joined, satisfied_all, satisfied_map_all}
 use Rattle.step_laws.proofs.StepLaw.{is_effective, StepHolds, StepMeans, step_holds}
@@ -23,25 +22,13 @@ use Rattle.step_clauses.proofs.Counts.{conditional_count}
 use Rattle.step_laws.proofs.Assignment.{Agrees, at, at_agrees, agrees_within, conditional_values, length-conditional_values, conditional_value, chain_values, length-chain_values, chain_at_place, has_chain_values, values, at_action, at_conditional, at_chain, at_fact}
 use Rattle.gt_core.proofs.RunLaw.{disables_over}
 
-pairwise_first : {A : Type 0} (R : A → A → Type 0) (xs ys : List A) → Pairwise R (xs ++ ys) → Pairwise R xs
-pairwise_first R [] ys p = tt
-pairwise_first R (x ∷ xs) ys p = (each_from (R x) xs (λ y a. each_at (R x) (xs ++ ys) y p.0 (among_left xs ys y a)), pairwise_first R xs ys p.1)
+-- the members of each place differ, and none in the step disables a later one
+abbrev pub AreApart : Task → List (List ℕ × ℕ) → (ℕ → Bool) → Type 0
+AreApart task places step = (ks : List ℕ) (m : ℕ) → Among {A = List ℕ × ℕ} (ks, m) places → Pairwise (λ a b. ((a == b) ≡ false) × (step a ≡ true → step b ≡ true → disables task a b ≡ false)) ks
 
-pairwise_rest : {A : Type 0} (R : A → A → Type 0) (xs ys : List A) → Pairwise R (xs ++ ys) → Pairwise R ys
-pairwise_rest R [] ys p = p
-pairwise_rest R (x ∷ xs) ys p = pairwise_rest R xs ys p.1
-
-pairwise_in : {A : Type 0} (R : A → A → Type 0) (xss : List (List A)) (xs : List A) → Among xs xss → Pairwise R (flat_map (λ xs. xs) xss) → Pairwise R xs
-pairwise_in R [] xs a p = absurd a
-pairwise_in R (ys ∷ xss) xs (inl e) p = subst (λ zs. Pairwise R zs) (sym e) (pairwise_first R ys _ p)
-pairwise_in R (ys ∷ xss) xs (inr a) p = pairwise_in R xss xs a (pairwise_rest R ys _ p)
-
-module _ (task : Task) (pairs : List (ℕ × ℕ)) (components : List (List ℕ)) (n : ℕ) (range_of : IsInRange task pairs (chain_places task components)) (distinct : (ks : List ℕ) → Among ks components → Pairwise (λ a b. (a == b) ≡ false) ks) (steps states : ℕ → ℕ → Bool) where
+module _ (task : Task) (pairs : List (ℕ × ℕ)) (places : List (List ℕ × ℕ)) (order : List ℕ) (n : ℕ) (range_of : IsInRange task pairs places) (steps states : ℕ → ℕ → Bool) where
   abbrev z : Layout
-  z = layout_of task (chain_places task components) n
-
-  abbrev places : List (List ℕ × ℕ)
-  places = chain_places task components
+  z = layout_of task places n
 
   abbrev of_conditionals : ℕ → List Bool
   of_conditionals t = conditional_values (is_effective (steps t) (states t)) (effects task)
@@ -101,23 +88,21 @@ module _ (task : Task) (pairs : List (ℕ × ℕ)) (components : List (List ℕ)
     stays_false = λ f lf x y. any_same _ (λ e. (e.literal == 2 * f) && is_effective (steps t) (states t) e) (effects task) (λ d i. ap (λ (b : Bool). (d.literal == 2 * f) && b) (v_active t lt d i)) ∙ h.stays_false f lf (sym (v_fact t f lf) ∙ x) (sym (v_fact (t + 1) f lf) ∙ y);
   }
 
-  runs_by : (t a : ℕ) → t < n → IsStep task (order_of components) (states t) (steps t) (states (t + 1)) → ((a < length task.actions) ⊎ (precondition task a ≡ [])) → v (action_at z t a) ≡ true → all_hold (λ f. v (fact_at z t f)) (precondition task a) ≡ true
+  runs_by : (t a : ℕ) → t < n → IsStep task order (states t) (steps t) (states (t + 1)) → ((a < length task.actions) ⊎ (precondition task a ≡ [])) → v (action_at z t a) ≡ true → all_hold (λ f. v (fact_at z t f)) (precondition task a) ≡ true
   runs_by t a lt s (inl la) x =
       all_from _ (precondition task a) (λ l i. v_holds t l (range_of.preconditions a l i) ∙ all_at (holds (states t)) (precondition task a) l (s.runs a (sym (v_action t a lt la) ∙ x)).able i)
   runs_by t a lt s (inr none) x = rw none
 
-  chain_step : (t : ℕ) → t < n → IsStep task (order_of components) (states t) (steps t) (states (t + 1)) → AllTrue v (chain_clauses (action_at z t) (chain_at z t) task (chains task places))
-  chain_step t lt s =
+  chain_step : (t : ℕ) → t < n → AreApart task places (steps t) → AllTrue v (chain_clauses (action_at z t) (chain_at z t) task (chains task places))
+  chain_step t lt parts =
       satisfied_all v (λ c. enter_clauses (action_at z t) (chain_at z t) (takes task c.literal) (reads task c.literal) false c.first c.members ++ pass_clauses (action_at z t) (chain_at z t) (takes task c.literal) (reads task c.literal) false c.first c.members) (chains task places) (λ c i.
       let m = member_of places 0 c i in
-      let comp = component_of c.members c.literal m in
       let ks = c.members in
       let tk = takes task c.literal in
       let rd = reads task c.literal in
       let same : (k : ℕ) → Among k ks → v (action_at z t k) ≡ steps t k = λ k j. v_action t k lt (range_of.members (ks, c.literal) m k j) in
       let h = has_chain_values v (steps t) (action_at z t) (chain_at z t) tk rd ks same false false c.first (chain_at_place task (steps t) (λ c. v (chain_at z t c)) places 0 (chain_agrees t lt) c i) in
-      let o = pairwise_both _ _ ks (distinct ks comp) (pairwise_in _ components ks comp s.ordered) in
-      let none = none_before t c.literal ks same o in
+      let none = none_before t c.literal ks same (parts ks c.literal m) in
       joined v (enter_clauses (action_at z t) (chain_at z t) tk rd false c.first ks) _
       (enter_holds v (action_at z t) (chain_at z t) tk rd false false c.first ks h)
       (pass_holds v (action_at z t) (chain_at z t) tk rd false false c.first ks h (λ e. absurd (cc)) none))
@@ -126,16 +111,6 @@ module _ (task : Task) (pairs : List (ℕ × ℕ)) (components : List (List ℕ)
       member_of [] first c i = absurd i
       member_of (p ∷ ps) first c (inl e) = inl (ap (λ (d : Chain). (d.members, d.literal)) e)
       member_of (p ∷ ps) first c (inr i) = inr (member_of ps _ c i)
-
-      mapped : (ks ls : List ℕ) (m : ℕ) (ms : List ℕ) → Among {A = List ℕ × ℕ} (ls, m) (map (λ (m : ℕ). (ks, m)) ms) → ls ≡ ks
-      mapped ks ls m [] i = absurd i
-      mapped ks ls m (k ∷ ms) (inl e) = ap (λ (p : List ℕ × ℕ). p.0) e
-      mapped ks ls m (k ∷ ms) (inr i) = mapped ks ls m ms i
-
-      component_of : (ls : List ℕ) (m : ℕ) → Among {A = List ℕ × ℕ} (ls, m) places → Among ls components
-      component_of ls m i =
-          let r = flat_among (λ ks. map (λ (m : ℕ). (ks, m)) (range (2 * task.facts))) components (ls, m) i in
-          subst (λ (x : List ℕ). Among x components) (sym (mapped r.0 ls m (range (2 * task.facts)) r.2)) r.1
 
       none_before : (t m : ℕ) (ks : List ℕ) → ((k : ℕ) → Among k ks → v (action_at z t k) ≡ steps t k) → Pairwise (λ a b. ((a == b) ≡ false) × (steps t a ≡ true → steps t b ≡ true → disables task a b ≡ false)) ks → NoneBefore v (action_at z t) (chain_at z t) (takes task m) (reads task m) ks
       none_before t m [] same o = tt
@@ -147,8 +122,8 @@ module _ (task : Task) (pairs : List (ℕ × ℕ)) (components : List (List ℕ)
       )
 
   -- a step of the plan satisfies the clauses of the step
-  pub step_satisfied : (t : ℕ) → t < n → IsStep task (order_of components) (states t) (steps t) (states (t + 1)) → AllTrue v (step_clauses z task places t)
-  step_satisfied t lt s =
+  pub step_satisfied : (t : ℕ) → t < n → IsStep task order (states t) (steps t) (states (t + 1)) → AreApart task places (steps t) → AllTrue v (step_clauses z task places t)
+  step_satisfied t lt s parts =
       let act = action_at z t in
       let now = fact_at z t in
       let later = fact_at z (t + 1) in
@@ -158,7 +133,7 @@ module _ (task : Task) (pairs : List (ℕ × ℕ)) (components : List (List ℕ)
       joined v (precondition_clauses act now 0 task.actions) _
       (preconditions_write v act now later var 0 task.actions (λ k x. let e : 0 + k ≡ k = omega arith in runs_by t k lt s (past task.actions k) (ap (λ (m : ℕ). v (act m)) (sym e) ∙ x)))
       (joined v (effect_clauses act now later var (rows task) (rows task)) _ both.0
-      (joined v (frame_clauses now later var (rows task) (range task.facts)) _ both.1 (chain_step t lt s)))
+      (joined v (frame_clauses now later var (rows task) (range task.facts)) _ both.1 (chain_step t lt parts)))
 
   initial_by : (f : ℕ) (b : Bool) → v (fact_at z 0 f) ≡ b → clause_true v ((if b then Is (fact_at z 0 f) else Not (fact_at z 0 f)) ∷ []) ≡ true
   initial_by f true e = or_left _ _ e
@@ -174,15 +149,15 @@ module _ (task : Task) (pairs : List (ℕ × ℕ)) (components : List (List ℕ)
   hopeful_by false e = tt
 
   -- a step plan's assignment satisfies the formula
-  pub plan_satisfies : ((f : ℕ) → f < task.facts → states 0 f ≡ initial_state task f) → ((t : ℕ) → t < n → IsStep task (order_of components) (states t) (steps t) (states (t + 1))) → IsGoal task (states n) → ((t : ℕ) → t ≤ n → Knows pairs (states t)) → AllTrue v (clauses_of_horizon task pairs places n)
-  plan_satisfies begins leads goal knows =
+  pub plan_satisfies : ((f : ℕ) → f < task.facts → states 0 f ≡ initial_state task f) → ((t : ℕ) → t < n → IsStep task order (states t) (steps t) (states (t + 1))) → ((t : ℕ) → t < n → AreApart task places (steps t)) → IsGoal task (states n) → ((t : ℕ) → t ≤ n → Knows pairs (states t)) → AllTrue v (clauses_of_horizon task pairs places n)
+  plan_satisfies begins leads parts goal knows =
       joined v (initial_clauses z task) _
       (satisfied_map_all v (λ f. (if initial_state task f then Is (fact_at z 0 f) else Not (fact_at z 0 f)) ∷ []) (range task.facts) (λ f i. initial_by f (initial_state task f) (v_fact 0 f (below_range task.facts f i) ∙ begins f (below_range task.facts f i))))
       (joined v (goal_clauses z task) _
       (joined v (if task.hopeless then [] ∷ [] else []) _ (hopeful_by task.hopeless goal.hopeful)
       (satisfied_map_all v (λ l. literal_over (fact_at z n) l ∷ []) task.goal (λ l i. or_left _ _ (over v (fact_at z n) l ∙ v_holds n l (range_of.goals l i) ∙ all_at (holds (states n)) task.goal l goal.reached i))))
       (joined v (flat_map (step_clauses z task places) (range n)) _
-      (satisfied_all v (step_clauses z task places) (range n) (λ t i. let lt = below_range n t i in step_satisfied t lt (leads t lt)))
+      (satisfied_all v (step_clauses z task places) (range n) (λ t i. let lt = below_range n t i in step_satisfied t lt (leads t lt) (parts t lt)))
       (satisfied_all v (pair_clauses z pairs) (range (n + 1)) (λ t i.
       let lt = below_range (n + 1) t i in
       satisfied_all v (pair_clause (fact_at z t) pairs) pairs (λ p j.

@@ -132,15 +132,15 @@ chain_from task first (p ∷ ps) ks m (inr a) =
     let r = chain_from task (first + chain_length (takes task p.1) (reads task p.1) false p.0) ps ks m a in
     record { chain = r.chain; among = inr r.among; members = r.members; literal = r.literal }
 
-pub chain_of : (task : Task) (components : List (List ℕ)) (ks : List ℕ) (m : ℕ) → Among ks components → m < 2 * task.facts → ChainOf task (chains task (chain_places task components)) ks m
-chain_of task components ks m a lt =
-    chain_from task 0 (chain_places task components) ks m
-    (among_flat (λ ks. map (λ m. (ks, m)) (range (2 * task.facts))) components ks (ks, m) a
-    (among_map (λ (m : ℕ). (ks, m)) (range (2 * task.facts)) m (among_range (2 * task.facts) 0 m (omega arith) (omega arith))))
+-- each component has a place for each literal
+pub component_place : (task : Task) (components : List (List ℕ)) (ks : List ℕ) → Among ks components → (m : ℕ) → m < 2 * task.facts → Among {A = List ℕ × ℕ} (ks, m) (chain_places task components)
+component_place task components ks a m lt =
+    among_flat (λ ks. map (λ m. (ks, m)) (range (2 * task.facts))) components ks (ks, m) a
+    (among_map (λ (m : ℕ). (ks, m)) (range (2 * task.facts)) m (among_range (2 * task.facts) 0 m (omega arith) (omega arith)))
 
--- within a component: by the chains
-pub within : (v : ℕ → Bool) (act var : ℕ → ℕ) (task : Task) (components : List (List ℕ)) (ks : List ℕ) → HasFacts task → AllTrue v (chain_clauses act var task (chains task (chain_places task components))) → Among ks components → Pairwise (λ a b. v (act a) ≡ true → v (act b) ≡ true → disables task a b ≡ false) ks
-within v act var task components ks has s a =
+-- among members with a place for each literal: by the chains
+pub within : (v : ℕ → Bool) (act var : ℕ → ℕ) (task : Task) (places : List (List ℕ × ℕ)) (ks : List ℕ) → HasFacts task → AllTrue v (chain_clauses act var task (chains task places)) → ((m : ℕ) → m < 2 * task.facts → Among {A = List ℕ × ℕ} (ks, m) places) → Pairwise (λ a b. v (act a) ≡ true → v (act b) ≡ true → disables task a b ≡ false) ks
+within v act var task places ks has s at =
     pairwise_map _ _ ks (λ x y h ex ey. not_true (disables task x y) (λ d.
     let r = reason task x y has d in
     apart (v (act y)) ey (h (r.literal, r.in_facts) r.takes_it ex r.reads_it)))
@@ -148,10 +148,10 @@ within v act var task components ks has s a =
   where
     none_before : (m : ℕ) → m < 2 * task.facts → Pairwise (λ x y. takes task m x ≡ true → v (act x) ≡ true → reads task m y ≡ true → v (act y) ≡ false) ks
     none_before m lt =
-        let c = chain_of task components ks m a lt in
+        let c = chain_from task 0 places ks m (at m lt) in
         let t = takes task c.chain.literal in
         let r = reads task c.chain.literal in
-        let all = satisfied_each v (λ c. enter_clauses act var (takes task c.literal) (reads task c.literal) false c.first c.members ++ pass_clauses act var (takes task c.literal) (reads task c.literal) false c.first c.members) (chains task (chain_places task components)) s c.chain c.among in
+        let all = satisfied_each v (λ c. enter_clauses act var (takes task c.literal) (reads task c.literal) false c.first c.members ++ pass_clauses act var (takes task c.literal) (reads task c.literal) false c.first c.members) (chains task places) s c.chain c.among in
         let both = parted v (enter_clauses act var t r false c.chain.first c.chain.members) _ all in
         let n : NoneBefore v act var t r c.chain.members = chain_holds v act var t r false c.chain.first c.chain.members both.0 both.1 in
         rw (c.members, c.literal) at n

@@ -16,7 +16,7 @@ use Rattle.step_clauses.specs.Formula.{literal_over, precondition_clauses, effec
 use Rattle.step_clauses.proofs.Satisfied.{parted, satisfied_each, satisfied_map_each}
 use Rattle.step_laws.proofs.StepLaw.{step_means}
 use Rattle.step_laws.proofs.StepClauses.{over, IsShared, clauses_hold, preconditions_read}
-use Rattle.step_laws.proofs.OrderLaw.{across, within}
+use Rattle.step_laws.proofs.OrderLaw.{AllRun, NoClash, across, within, component_place}
 use Rattle.step_clauses.proofs.InRange.{HasFacts}
 
 -- what the clauses of a step say of its true actions, of which some may be no actions of the task
@@ -32,7 +32,7 @@ pub record LoosePlan (task : Task) (order : List ℕ) (steps : ℕ → ℕ → B
   pub leads : (t : ℕ) → t < n → LooseStep task order (states t) (steps t) (states (t + 1))
   pub reaches : IsGoal task (states n)
 
-module _ (task : Task) (pairs : List (ℕ × ℕ)) (components : List (List ℕ)) (z : Layout) (v : ℕ → Bool) where
+module _ (task : Task) (pairs : List (ℕ × ℕ)) (places : List (List ℕ × ℕ)) (order : List ℕ) (z : Layout) (v : ℕ → Bool) where
   -- the state and the true actions of a time
   abbrev pub state : ℕ → ℕ → Bool
   state t f = v (fact_at z t f)
@@ -47,25 +47,24 @@ module _ (task : Task) (pairs : List (ℕ × ℕ)) (components : List (List ℕ)
   pub shared : (t : ℕ) (rs : List Row) → IsShared v (action_at z t) (fact_at z t) (fact_at z (t + 1)) (variable_at z t) rs
   shared t rs r a e = shared_by t r (has_condition r.effect) e
 
+  -- what the chains of each step say: no true action disables a later one
+  abbrev pub IsOrderedBy : Type 0
+  IsOrderedBy = (t : ℕ) → Knows pairs (state t) → AllRun task pairs (true_actions t) (state t) → NoClash task pairs (true_actions t) (state t) → AllTrue v (chain_clauses (action_at z t) (chain_at z t) task (chains task places)) → Pairwise (λ a b. true_actions t a ≡ true → true_actions t b ≡ true → disables task a b ≡ false) order
+
   -- satisfied clauses of a step are a step
-  pub step_of : HasFacts task → KeepsApart task pairs components → (t : ℕ) → Knows pairs (state t) → AllTrue v (step_clauses z task (chain_places task components) t) → LooseStep task (order_of components) (state t) (true_actions t) (state (t + 1))
-  step_of has o t k s =
+  pub step_of : IsOrderedBy → (t : ℕ) → Knows pairs (state t) → AllTrue v (step_clauses z task places t) → LooseStep task order (state t) (true_actions t) (state (t + 1))
+  step_of ordered t k s =
       let act = action_at z t in
       let now = fact_at z t in
       let later = fact_at z (t + 1) in
       let var = variable_at z t in
       let p1 = parted v (precondition_clauses act now 0 task.actions) _ s in
       let p2 = parted v (effect_clauses act now later var (rows task) (rows task)) _ p1.1 in
-      let p3 = parted v (frame_clauses now later var (rows task) (range task.facts)) (chain_clauses act (chain_at z t) task (chains task (chain_places task components))) p2.1 in
+      let p3 = parted v (frame_clauses now later var (rows task) (range task.facts)) (chain_clauses act (chain_at z t) task (chains task places)) p2.1 in
       let means = step_means task (true_actions t) (state t) (state (t + 1)) (clauses_hold v act now later var task (shared t (rows task)) p2.0 p3.0) in
       let runs : (a : ℕ) → true_actions t a ≡ true → all_hold (state t) (precondition task a) ≡ true = λ a x.
       let e : 0 + a ≡ a = omega arith in preconditions_read v act now later var 0 task.actions p1.0 a (ap (λ (n : ℕ). v (act n)) e ∙ x) in
-      record {
-        runs = runs;
-        no_clash = means.no_clash;
-        ordered = pairwise_flat _ components (λ ks a. within v act (chain_at z t) task components ks has p3.1 a) (across task pairs (true_actions t) (state t) components k runs means.no_clash o);
-        after = means.after;
-      }
+      record { runs = runs; no_clash = means.no_clash; ordered = ordered t k runs means.no_clash p3.1; after = means.after }
 
   initial_by : (f : ℕ) (b : Bool) → clause_true v ((if b then Is (fact_at z 0 f) else Not (fact_at z 0 f)) ∷ []) ≡ true → v (fact_at z 0 f) ≡ b
   initial_by f true e = by (v (fact_at z 0 f)) e
@@ -122,19 +121,25 @@ module _ (task : Task) (pairs : List (ℕ × ℕ)) (components : List (List ℕ)
       (satisfied_each v (pair_clause (fact_at z t) pairs) pairs s p a))
 
 -- the true actions of a satisfying assignment are a step plan
-pub plan_of : (task : Task) (pairs : List (ℕ × ℕ)) (components : List (List ℕ)) (n : ℕ) (v : ℕ → Bool) → HasFacts task → KeepsApart task pairs components → AllTrue v (clauses_of_horizon task pairs (chain_places task components) n) → LoosePlan task (order_of components) (true_actions task pairs components (layout_of task (chain_places task components) n) v) n
-plan_of task pairs components n v has o s =
-    let z = layout_of task (chain_places task components) n in
-    let p1 = parted v (initial_clauses z task) (goal_clauses z task ++ (flat_map (step_clauses z task (chain_places task components)) (range n) ++ flat_map (pair_clauses z pairs) (range (n + 1)))) s in
-    let p2 = parted v (goal_clauses z task) (flat_map (step_clauses z task (chain_places task components)) (range n) ++ flat_map (pair_clauses z pairs) (range (n + 1))) p1.1 in
-    let p3 = parted v (flat_map (step_clauses z task (chain_places task components)) (range n)) (flat_map (pair_clauses z pairs) (range (n + 1))) p2.1 in
-    let r = reaches task pairs components z v p2.0 in
+pub plan_of : (task : Task) (pairs : List (ℕ × ℕ)) (places : List (List ℕ × ℕ)) (order : List ℕ) (n : ℕ) (v : ℕ → Bool) → IsOrderedBy task pairs places order (layout_of task places n) v → AllTrue v (clauses_of_horizon task pairs places n) → LoosePlan task order (true_actions task pairs places order (layout_of task places n) v) n
+plan_of task pairs places order n v ordered s =
+    let z = layout_of task places n in
+    let p1 = parted v (initial_clauses z task) (goal_clauses z task ++ (flat_map (step_clauses z task places) (range n) ++ flat_map (pair_clauses z pairs) (range (n + 1)))) s in
+    let p2 = parted v (goal_clauses z task) (flat_map (step_clauses z task places) (range n) ++ flat_map (pair_clauses z pairs) (range (n + 1))) p1.1 in
+    let p3 = parted v (flat_map (step_clauses z task places) (range n)) (flat_map (pair_clauses z pairs) (range (n + 1))) p2.1 in
+    let r = reaches task pairs places order z v p2.0 in
     record {
-      states = state task pairs components z v;
-      begins = begins task pairs components z v p1.0;
+      states = state task pairs places order z v;
+      begins = begins task pairs places order z v p1.0;
       leads = λ t lt.
-          step_of task pairs components z v has o t
-          (knows task pairs components z v t (satisfied_each v (pair_clauses z pairs) (range (n + 1)) p3.1 t (among_range (n + 1) 0 t (omega arith) (omega arith))))
-          (satisfied_each v (step_clauses z task (chain_places task components)) (range n) p3.0 t (among_range n 0 t (omega arith) (omega arith)));
+          step_of task pairs places order z v ordered t
+          (knows task pairs places order z v t (satisfied_each v (pair_clauses z pairs) (range (n + 1)) p3.1 t (among_range (n + 1) 0 t (omega arith) (omega arith))))
+          (satisfied_each v (step_clauses z task places) (range n) p3.0 t (among_range n 0 t (omega arith) (omega arith)));
       reaches = record { hopeful = r.0; reached = r.1 };
     }
+
+-- the chains of components order exists-steps: within a component by its chains, across components by the order's law
+pub ordered_by_components : (task : Task) (pairs : List (ℕ × ℕ)) (components : List (List ℕ)) (z : Layout) (v : ℕ → Bool) → HasFacts task → KeepsApart task pairs components → IsOrderedBy task pairs (chain_places task components) (order_of components) z v
+ordered_by_components task pairs components z v has o t k runs clash s =
+    pairwise_flat _ components (λ ks a. within v (action_at z t) (chain_at z t) task (chain_places task components) ks has s (component_place task components ks a))
+    (across task pairs (λ a. v (action_at z t a)) (λ f. v (fact_at z t f)) components k runs clash o)

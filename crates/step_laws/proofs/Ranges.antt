@@ -1,4 +1,4 @@
-use Rattle.std.proofs.Common.{arith, ◌≡◌, ℕ, ◌+◌, ◌*◌, ◌/◌, ◌<◌, List, [], ◌∷◌, ◌++◌, length, map, true, sym, ap, subst, ◌⊎◌, inl, inr}
+use Rattle.std.proofs.Common.{arith, ◌≡◌, ℕ, ◌+◌, ◌*◌, ◌/◌, ◌<◌, List, [], ◌∷◌, length, map, true, sym, ap, subst, ◌⊎◌, inl, inr}
 use Rattle.std.specs.List.{list_all, AllByRecursion}
 use Rattle.gt_core.specs.Task.{Effect, Action, Task, EffectOf, owned, effects_from, effects, precondition, action_numbers}
 use Rattle.gt_core.specs.Active.{EffectWithin}
@@ -11,16 +11,11 @@ use Rattle.gt_core.proofs.Within.{literals_within, effects_within, lawful, preco
 use Rattle.gt_core.proofs.PublishedLaw.{components_of_list}
 use Rattle.step_laws.specs.Form.{OrderedTask, IsOrderedTask, places_of}
 use Rattle.gt_core.specs.Literal.{range}
-use Rattle.gt_core.proofs.Pairwise.{flat_among}
+use Rattle.gt_core.proofs.Pairwise.{among_split, flat_among}
 use Rattle.step_clauses.specs.Variables.{chain_places}
 use Rattle.step_clauses.proofs.InRange.{IsInRange, past}
 
 -- The numbers of a lawful task, of its known pairs and of its published order are in range.
-
-among_split : {A : Type 0} (xs ys : List A) (y : A) → Among y (xs ++ ys) → Among y xs ⊎ Among y ys
-among_split [] ys y a = inr a
-among_split (x ∷ xs) ys y (inl e) = inl (inl e)
-among_split (x ∷ xs) ys y (inr a) = elim (among_split xs ys y a) [ inl b ↦ inl (inr b) | inr b ↦ inr b ]
 
 -- the numbers of an effect are in range
 pub record EffectInRange (facts actions : ℕ) (e : EffectOf) : Type 0 where
@@ -59,7 +54,7 @@ precondition_by task t a l (inl lt) i = each_at (λ l. l / 2 < task.facts) (prec
 precondition_by task t a l (inr e) i = absurd (subst (λ (x : List ℕ). Among l x) e i)
 
 -- the members of a chain's place are a component
-component_of : (task : Task) (components : List (List ℕ)) (p : List ℕ × ℕ) → Among p (chain_places task components) → Among p.0 components
+pub component_of : (task : Task) (components : List (List ℕ)) (p : List ℕ × ℕ) → Among p (chain_places task components) → Among p.0 components
 component_of task components p i =
     let r = flat_among (λ ks. map (λ (m : ℕ). (ks, m)) (range (2 * task.facts))) components p i in
     subst (λ (x : List ℕ). Among x components) (sym (mapped r.0 p (range (2 * task.facts)) r.2)) r.1
@@ -75,15 +70,16 @@ member_below form is ks i a j =
     below_range (length form.task.actions) a (in_among (action_numbers form.task) a
     ((components_of_list (has_edge form.task form.known.clauses) (action_numbers form.task) [] form.components is.published ks i).of_actions a (among_in ks a j)))
 
-pub in_range_of : (form : OrderedTask) → IsOrderedTask form → IsInRange form.task form.known.clauses (places_of form)
-in_range_of form is = record {
+-- the numbers of a task are in range, and those of chains at places whose members are actions
+pub in_range_at : (form : OrderedTask) → IsOrderedTask form → (places : List (List ℕ × ℕ)) → ((p : List ℕ × ℕ) → Among p places → (a : ℕ) → Among a p.0 → a < length form.task.actions) → IsInRange form.task form.known.clauses places
+in_range_at form is places below = record {
   effect_facts = λ e a. (task_effects_in_range form.task is.lawful e a).literal;
   effect_actions = λ e a. (task_effects_in_range form.task is.lawful e a).action;
   conditions = λ e a. (task_effects_in_range form.task is.lawful e a).condition;
   preconditions = λ a l i. precondition_by form.task is.lawful a l (past form.task.actions a) i;
   goals = λ l i. each_at (λ l. l / 2 < form.task.facts) form.task.goal l (literals_within form.task.facts form.task.goal (lawful form.task is.lawful).goal) i;
   known = λ p i. clause_in_range p (each_at (IsClause form.known.facts) form.known.clauses p is.known.lawful i);
-  members = λ p i a j. member_below form is p.0 (component_of form.task form.components p i) a j;
+  members = below;
 }
   where
     clause_in_range : (p : ℕ × ℕ) → IsClause form.known.facts p → (p.0 / 2 < form.task.facts) × (p.1 / 2 < form.task.facts)
@@ -92,3 +88,6 @@ in_range_of form is = record {
         let a = c.0 in
         let b = c.1 in
         (omega arith, omega arith)
+
+pub in_range_of : (form : OrderedTask) → IsOrderedTask form → IsInRange form.task form.known.clauses (places_of form)
+in_range_of form is = in_range_at form is (places_of form) (λ p i a j. member_below form is p.0 (component_of form.task form.components p i) a j)

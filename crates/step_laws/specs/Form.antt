@@ -38,11 +38,20 @@ set_at (x ∷ xs) t = if t == 0 then x else set_at xs (t - 1)
 abbrev pub member_at : List (List ℕ) → ℕ → ℕ → Bool
 member_at steps t a = is_in (set_at steps t) a
 
--- a list of n sets whose steps lead from the initial state to the goal
-pub record IsPlanOf (form : OrderedTask) (n : ℕ) (steps : List (List ℕ)) : Type 0 where
+-- lists of actions that, taken as sets, are a plan of so many steps, where it is told which sets are one for a task and an
+-- order of its actions
+pub record AreSets (are_plan : Task → List ℕ → (ℕ → ℕ → Bool) → ℕ → Type 0) (task : Task) (order : List ℕ) (steps : List (List ℕ)) (n : ℕ) : Type 0 where
   pub long : length steps ≡ n
-  pub plan : IsStepPlan form.task (order_of form.components) (member_at steps) n
+  pub plan : are_plan task order (member_at steps) n
 
--- the sets of true actions of an assignment, each listed in published order
+-- a list of n sets whose steps lead from the initial state to the goal
+abbrev pub IsPlanOf : OrderedTask → ℕ → List (List ℕ) → Type 0
+IsPlanOf form n steps = AreSets IsStepPlan form.task (order_of form.components) steps n
+
+-- the sets of true actions of an assignment, each listed in published order, where the chains go to these places
+abbrev pub steps_at : OrderedTask → List (List ℕ × ℕ) → ℕ → (ℕ → Bool) → List (List ℕ)
+steps_at form places n v = map (λ t. filter (λ a. v (action_at (layout_of form.task places n) t a)) (order_of form.components)) (range n)
+
+-- the same for exists-steps
 abbrev pub steps_for : OrderedTask → ℕ → (ℕ → Bool) → List (List ℕ)
-steps_for form n v = map (λ t. filter (λ a. v (action_at (layout_of form.task (places_of form) n) t a)) (order_of form.components)) (range n)
+steps_for form n v = steps_at form (places_of form) n v

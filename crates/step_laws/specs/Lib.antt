@@ -1,2 +1,3 @@
 pub mod Form
+pub mod Stepping
 pub mod Laws

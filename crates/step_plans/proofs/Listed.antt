@@ -1,5 +1,5 @@
 -- A step plan whose sets are listed in the order is listed, set after set, as its sequence.
-use Rattle.std.proofs.Common.{arith, ◌≡◌, ◌==◌, ◌<◌, ℕ, zero, suc, ◌+◌, ◌-◌, List, [], ◌∷◌, ◌++◌, length, map, Bool, true, false, if◌then◌else◌, Some, Option, inl, inr, refl, sym, ap, subst, ◌∙◌}
+use Rattle.std.proofs.Common.{arith, ◌≡◌, ◌<◌, ℕ, zero, suc, ◌+◌, List, [], ◌∷◌, ◌++◌, length, map, Bool, true, Some, Option, inl, inr, refl, sym, ap, subst, ◌∙◌}
 use Rattle.std.specs.Prelude.{IsTrue}
 use Rattle.std.specs.List.{filter, flat_map}
 use Rattle.gt_core.specs.Literal.{is_in, range_from}
@@ -9,7 +9,7 @@ use Rattle.gt_core.specs.Execution.{run}
 use Rattle.gt_core.specs.Published.{IsPublished, order_of}
 use Rattle.gt_core.specs.Step.{sequence_of}
 use Rattle.gt_core.specs.Laws.{StepPlanRunsInOrder, IsRunToGoal}
-use Rattle.gt_core.proofs.Basics.{Among, not_true, test_same, same_if}
+use Rattle.gt_core.proofs.Basics.{Among, same_if}
 use Rattle.gt_core.proofs.Literals.{among_in, in_among}
 use Rattle.gt_core.proofs.Pairwise.{filtered, into_filter}
 use Rattle.gt_core.specs.Layout.{action_at}
@@ -19,15 +19,9 @@ use Rattle.pd_model.specs.declared.calls.Call.{Call}
 use Rattle.pd_model.specs.declared.parts.Parts.{Parts}
 use Rattle.grounding.specs.Grounded.{Grounded, IsGrounded}
 use Rattle.grounding.specs.Laws.{AreNumbers, ActionsAreCalls, GoalsAgree}
-use Rattle.step_laws.specs.Form.{OrderedTask, places_of, set_at, member_at, steps_for}
+use Rattle.step_laws.specs.Form.{OrderedTask, member_at, steps_at}
+use Rattle.step_laws.proofs.SetAt.{set_next}
 use Rattle.step_plans.specs.Plans.{AreStepPlan, AreListed, in_order, actions_in}
-
-pub set_next : (x : List ℕ) (xs : List (List ℕ)) (t : ℕ) → set_at (x ∷ xs) (t + 1) ≡ set_at xs t
-set_next x xs t = by (t + 1 == 0) (not_true (t + 1 == 0) (λ e. let q = test_same (t + 1) 0 e in omega (arith, q)))
-  where
-    by : (b : Bool) → b ≡ false → (if b then x else set_at xs (t + 1 - 1)) ≡ set_at xs t
-    by true e = absurd (let f : true ≡ false = e in cc)
-    by false e = let q : t + 1 - 1 ≡ t = omega arith in ap (set_at xs) q
 
 -- the sets from a time on are these lists, in the order
 joined_from :
@@ -83,5 +77,5 @@ listed_from : (order : List ℕ) (p : ℕ → ℕ → Bool) (first n : ℕ) → 
 listed_from order p first zero = tt
 listed_from order p first (suc n) = (taken_out (p first) order, listed_from order p (first + 1) n)
 
-pub steps_listed : (form : OrderedTask) (n : ℕ) (values : ℕ → Bool) → AreListed (order_of form.components) (steps_for form n values)
-steps_listed form n values = listed_from (order_of form.components) (λ t a. values (action_at (layout_of form.task (places_of form) n) t a)) 0 n
+pub steps_listed : (form : OrderedTask) (places : List (List ℕ × ℕ)) (n : ℕ) (values : ℕ → Bool) → AreListed (order_of form.components) (steps_at form places n values)
+steps_listed form places n values = listed_from (order_of form.components) (λ t a. values (action_at (layout_of form.task places n) t a)) 0 n

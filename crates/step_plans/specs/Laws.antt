@@ -9,7 +9,7 @@ use Rattle.pd_model.specs.declared.calls.Call.{Call}
 use Rattle.pd_model.specs.declared.parts.Parts.{Parts}
 use Rattle.grounding.specs.Grounded.{Grounded, IsGrounded}
 use Rattle.grounding.specs.Laws.{AreNumbers}
-use Rattle.step_laws.specs.Form.{OrderedTask, member_at, steps_for}
+use Rattle.step_laws.specs.Form.{OrderedTask, member_at, steps_at, steps_for}
 use Rattle.step_plans.specs.Plans.{IsStepPlanOf, AreStepPlan, AreListed, HasActionsOnce, in_order, actions_in}
 
 -- the calls of a step plan, step after step and each step in published order, are a plan
@@ -56,6 +56,11 @@ ListedHaveActionsOnce =
 abbrev pub ListedAreInOrder : Type 0
 ListedAreInOrder = (order : List ℕ) (steps : List (List ℕ)) → AreListed order steps → in_order order steps ≡ actions_in steps
 
--- what an assignment stands for is listed in published order
+-- what an assignment stands for is listed in published order, wherever the chains go
+abbrev pub SetsAtPlacesAreListed : Type 0
+SetsAtPlacesAreListed =
+    (form : OrderedTask) (places : List (List ℕ × ℕ)) (n : ℕ) (values : ℕ → Bool) → AreListed (order_of form.components) (steps_at form places n values)
+
+-- the same for exists-steps
 abbrev pub SetsOfFormsAreListed : Type 0
 SetsOfFormsAreListed = (form : OrderedTask) (n : ℕ) (values : ℕ → Bool) → AreListed (order_of form.components) (steps_for form n values)

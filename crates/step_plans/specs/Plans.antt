@@ -5,7 +5,7 @@ use Rattle.gt_core.specs.Literal.{is_in}
 use Rattle.gt_core.specs.Published.{Pairwise}
 use Rattle.gt_core.specs.Task.{Task}
 use Rattle.gt_core.specs.Step.{IsStepPlan}
-use Rattle.step_laws.specs.Form.{member_at}
+use Rattle.step_laws.specs.Form.{AreSets}
 
 -- no two members of a set are barred from being together
 abbrev pub NoneBarred : (ℕ → ℕ → Bool) → (ℕ → Bool) → Type 0
@@ -17,9 +17,8 @@ pub record IsStepPlanOf (bars : ℕ → ℕ → Bool) (task : Task) (order : Lis
   pub each : (t : ℕ) → t < n → NoneBarred bars (sets t)
 
 -- these lists of actions, taken as sets, are a step plan of so many steps
-pub record AreStepPlan (task : Task) (order : List ℕ) (steps : List (List ℕ)) (n : ℕ) : Type 0 where
-  pub long : length steps ≡ n
-  pub plan : IsStepPlan task order (member_at steps) n
+abbrev pub AreStepPlan : Task → List ℕ → List (List ℕ) → ℕ → Type 0
+AreStepPlan task order steps n = AreSets IsStepPlan task order steps n
 
 -- the members of each set, step after step and each step in the order
 abbrev pub in_order : List ℕ → List (List ℕ) → List ℕ

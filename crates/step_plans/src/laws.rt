@@ -1,6 +1,6 @@
 //! What step plans have to do with plans, as a contract.
 
-ghost use Rattle.step_plans.specs.Laws.{StepPlansRun, ShortPlansAreStepPlans, StepPlansGrow, OtherPlansAreLonger, SetsAreLists, ListedHaveActionsOnce, ListedAreInOrder, SetsOfFormsAreListed};
+ghost use Rattle.step_plans.specs.Laws.{StepPlansRun, ShortPlansAreStepPlans, StepPlansGrow, OtherPlansAreLonger, SetsAreLists, ListedHaveActionsOnce, ListedAreInOrder, SetsOfFormsAreListed, SetsAtPlacesAreListed};
 
 /// The laws of step plans and plans. It does nothing.
 pub fn laws()
@@ -12,6 +12,7 @@ pub fn laws()
     ensures once { ListedHaveActionsOnce }
     ensures in_order { ListedAreInOrder }
     ensures listed { SetsOfFormsAreListed }
+    ensures listed_at { SetsAtPlacesAreListed }
 {
     gt_core::laws::laws();
     grounding::laws::laws();

@@ -17,7 +17,7 @@ use list_of::ListOf;
 use std::alloc::Global;
 
 /// The variables of effects, as literals.
-pub(crate) type Makers = ListOf<Lit>;
+pub type Makers = ListOf<Lit>;
 
 /// Puts the variable of an effect under its literal.
 fn index_effect(
@@ -64,7 +64,7 @@ fn index_effects_of(
 }
 
 /// For each fact literal, the variables of the effects that make it true.
-pub(crate) fn index_of(alloc: Global, layout: &Layout, task: &Task) -> Result<Vec<Makers>, Memory>
+pub fn index_of(alloc: Global, layout: &Layout, task: &Task) -> Result<Vec<Makers>, Memory>
     requires horizon { 0 < layout.now.horizon }
     requires actions { layout.now.actions ≡ length task.now.actions }
     requires conditional { layout.now.conditional ≡ conditional_in task.now.actions }

@@ -5,7 +5,7 @@
 mod adders;
 mod effects;
 mod frames;
-mod index;
+pub mod index;
 pub mod known;
 mod literals;
 mod numbers;

@@ -17,7 +17,7 @@ use std::alloc::Global;
 use step_chains::Chains;
 
 /// The layout of horizon 1.
-fn one_layout(task: &Task, chains: u32) -> Layout
+pub fn one_layout(task: &Task, chains: u32) -> Layout
     requires { chains ≤ 1073741824 }
     ensures { result ≡ record { horizon = 1; actions = length task.now.actions; conditional = conditional_in task.now.actions; chains = chains; facts = task.now.facts } }
 {

@@ -21,8 +21,8 @@ pub struct Chains {
 }
 
 impl Chains {
-    /// Chains without nodes.
-    pub fn new(alloc: Global, codes: u32) -> Result<Chains, AllocError>
+    /// Chains without nodes, with room for so many.
+    pub fn new(alloc: Global, codes: u32, nodes: usize) -> Result<Chains, AllocError>
         ensures linked { IfOk result (λ c. IsLinked c.heads.items c.nodes.items (λ k. None)) }
         ensures codes { IfOk result (λ c. length c.heads.items ≡ codes) }
         ensures nodes { IfOk result (λ c. c.nodes.items ≡ []) }
@@ -33,7 +33,7 @@ impl Chains {
         }
         Ok(Chains {
             heads,
-            nodes: Vec::new(alloc),
+            nodes: Vec::with_capacity(alloc, nodes)?,
         })
     }
 

@@ -65,9 +65,6 @@ literal_other cl k wa w node ne =
     ap (λ (xs : List ℕ). get_or xs (place_of (set wa (length cl) w) node) 0) (at_other cl k (node / 2) ne)
     ∙ ap (λ (v : Watched). get_or (clause_at cl (node / 2)) (place_in v (node % 2 == 1)) 0) (get_or-set_other wa (length cl) (node / 2) w no_watches ne)
 
-pub literal_same : (cl : List (List ℕ)) (k : List ℕ) (wa : List Watched) (node : ℕ) → (node / 2 ≡ length cl → ⊥) → literal_at (cl ++ k ∷ []) wa node ≡ literal_at cl wa node
-literal_same cl k wa node ne = ap (λ (xs : List ℕ). get_or xs (place_of wa node) 0) (at_other cl k (node / 2) ne)
-
 -- and the new ones the chosen places
 pub literal_own : (cl : List (List ℕ)) (k : List ℕ) (wa : List Watched) (w : Watched) (node : ℕ) (second : Bool) → node / 2 ≡ length cl → (node % 2 == 1) ≡ second → length cl < length wa → literal_at (cl ++ k ∷ []) (set wa (length cl) w) node ≡ get_or k (place_in w second) 0
 literal_own cl k wa w node second e s h =
@@ -165,39 +162,6 @@ listed_add cl k wa w heads heads' nodes nodes' spare kept a b r lk lw fin sin ne
         ap (λ (xs : List ℕ). has_literal xs (note_of nodes' x)) (at_other cl k (x / 2) (apart_from x f g))
         ∙ ap (λ (y : ℕ). has_literal (clause_at cl (x / 2)) y) (others x (apart_of x (2 * length cl) g) (apart_of x (2 * length cl + 1) f))
         ∙ r.notes x (real_other cl k x rx (apart_from x f g))
-
--- a clause of fewer than two literals has no nodes
-pub listed_short : (cl : List (List ℕ)) (k : List ℕ) (wa : List Watched) (heads : List ℕ) (nodes : List Node) (spare : ℕ) (kept : List Bool) → IsListed cl wa heads nodes spare (IsKept kept) NoWhy → length kept ≡ length cl → length cl < length wa → length k < 2 → 2 * (length cl + 1) ≤ length nodes → IsListed (cl ++ k ∷ []) wa heads nodes spare (IsKept (kept ++ true ∷ [])) NoWhy
-listed_short cl k wa heads nodes spare kept r lk lw short ln = record {
-  on = r.on;
-  linked = r.linked;
-  placed = record {
-    many = omega (arith, lw, length_push cl k);
-    first_in = λ c h t. subst (λ (xs : List ℕ). (get_or wa c no_watches).first < length xs) (sym (at_other cl k c (not_own c t))) (r.placed.first_in c (below c h (not_own c t)) (long c t (not_own c t)));
-    second_in = λ c h t. subst (λ (xs : List ℕ). (get_or wa c no_watches).second < length xs) (sym (at_other cl k c (not_own c t))) (r.placed.second_in c (below c h (not_own c t)) (long c t (not_own c t)));
-    apart = λ c h t. r.placed.apart c (below c h (not_own c t)) (long c t (not_own c t));
-  };
-  codes = r.codes;
-  many = omega (arith, ln, length_push cl k);
-  real = λ x l e. real_more cl k x (r.real x l e);
-  there = λ x rx m. old x (not_own (x / 2) rx.long) (r.there x (real_other cl k x rx (not_own (x / 2) rx.long)) (kept_other cl kept x lk (not_own (x / 2) rx.long) m));
-  notes = λ x rx.
-      ap (λ (xs : List ℕ). has_literal xs (note_of nodes x)) (at_other cl k (x / 2) (not_own (x / 2) rx.long))
-      ∙ r.notes x (real_other cl k x rx (not_own (x / 2) rx.long));
-}
-  where
-    not_own : (c : ℕ) → 2 ≤ length (clause_at (cl ++ k ∷ []) c) → c ≡ length cl → ⊥
-    not_own c t e = let l : length (clause_at (cl ++ k ∷ []) c) ≡ length k = ap (λ (xs : List ℕ). length xs) (at_own cl k c e) in absurd (omega (arith, t, l, short))
-
-    below : (c : ℕ) → c < length (cl ++ k ∷ []) → (c ≡ length cl → ⊥) → c < length cl
-    below c h ne = let n : c ≢ length cl = ne in omega (arith, h, length_push cl k, n)
-
-    long : (c : ℕ) → 2 ≤ length (clause_at (cl ++ k ∷ []) c) → (c ≡ length cl → ⊥) → 2 ≤ length (clause_at cl c)
-    long c t ne = subst (λ (xs : List ℕ). 2 ≤ length xs) (at_other cl k c ne) t
-
-    old : (x : ℕ) → (x / 2 ≡ length cl → ⊥) → (r.on x ≡ Some (literal_at cl wa x)) ⊎ ((r.on x ≡ Some spare) × NoWhy x) → (r.on x ≡ Some (literal_at (cl ++ k ∷ []) wa x)) ⊎ ((r.on x ≡ Some spare) × NoWhy x)
-    old x ne (inl e) = inl (e ∙ ap (λ (y : ℕ). Some y) (sym (literal_same cl k wa x ne)))
-    old x ne (inr v) = absurd v.1
 
 -- the old clauses are as pending as they were
 pub pending_other : (cl : List (List ℕ)) (k : List ℕ) (kept : List Bool) (trail : List ℕ) (c : ℕ) → length kept ≡ length cl → (c ≡ length cl → ⊥) → is_pending_on (cl ++ k ∷ []) (kept ++ true ∷ []) trail c ≡ is_pending_on cl kept trail c

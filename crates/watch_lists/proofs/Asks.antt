@@ -33,85 +33,39 @@ off_of : (trail : List ℕ) (l : ℕ) → IsConsistent trail → is_free (has_li
 off_of trail l c f = ap (has_literal trail) (sym (opposite_twice l)) ∙ c (opposite l) (not_false (has_literal trail (opposite l)) f)
 
 -- a clause that asks for a literal is pending where this is not true
-pub pending_by_ask : (trail clause : List ℕ) (ask codes : ℕ) → IsConsistent trail → ((p : ℕ) → p < length clause → get_or clause p 0 < codes) → codes ≤ 4294967294 → IsAsked (has_literal trail) clause ask → is_pending (has_literal trail) clause ≡ (ask == 4294967295 || not (has_literal trail ask))
-pending_by_ask trail clause ask codes cons below small a = by a.own
+pub pending_by_ask : (trail clause : List ℕ) (ask : ℕ) → IsConsistent trail → IsAsked (has_literal trail) clause ask → is_pending (has_literal trail) clause ≡ not (has_literal trail ask)
+pending_by_ask trail clause ask cons a = met (has_literal trail ask) refl
   where
     on : ℕ → Bool
     on = has_literal trail
 
-    own : (q : ℕ) → q ≡ a.place → q < length clause → get_or clause a.place 0 ≡ ask → on ask ≡ false → on (get_or clause q 0) ≡ false
-    own q e h v f = ap on (ap (λ (i : ℕ). get_or clause i 0) e ∙ v) ∙ f
+    own : (q : ℕ) → q ≡ a.place → on ask ≡ false → on (get_or clause q 0) ≡ false
+    own q e f = ap on (ap (λ (i : ℕ). get_or clause i 0) e ∙ a.own) ∙ f
 
-    met : (b : Bool) → on ask ≡ b → a.place < length clause → get_or clause a.place 0 ≡ ask → is_pending on clause ≡ not (on ask)
-    met true f h v =
-        let any = any_from_has on clause ask (ap (λ (l : ℕ). has_literal clause l) (sym v) ∙ has_get clause a.place h) f in
+    met : (b : Bool) → on ask ≡ b → is_pending on clause ≡ not (on ask)
+    met true f =
+        let any = any_from_has on clause ask (ap (λ (l : ℕ). has_literal clause l) (sym a.own) ∙ has_get clause a.place a.inside) f in
         ap (λ (b : Bool). not b && leb (length (filter (is_free on) clause)) 1) any ∙ ap (λ (b : Bool). not b) (sym f)
-    met false f h v =
+    met false f =
         let none = none_at on clause (λ i g. at i g (i == a.place) refl) in
         let one = tests_one (length (filter (is_free on) clause)) (count_one (is_free on) clause a.place a.others) in
         ap (λ (b : Bool). not b && leb (length (filter (is_free on) clause)) 1) none ∙ one ∙ ap (λ (b : Bool). not b) (sym f)
       where
         at : (i : ℕ) → i < length clause → (b : Bool) → (i == a.place) ≡ b → on (get_or clause i 0) ≡ false
-        at i g true e = own i (equal_of i a.place e) g v f
+        at i g true e = own i (equal_of i a.place e) f
         at i g false e = off_of trail (get_or clause i 0) cons (a.others i g (apart_of i a.place e))
-
-    by : ((a.place < length clause) × (get_or clause a.place 0 ≡ ask)) ⊎ ((clause ≡ []) × (ask ≡ 4294967295)) → is_pending on clause ≡ (ask == 4294967295 || not (on ask))
-    by (inl w) =
-        let b = below a.place w.0 in
-        let ne : ask ≢ 4294967295 = omega (arith, b, w.1, small) in
-        let t : (ask == 4294967295) ≡ false = grind (arith, nat_tests) in
-        met (on ask) refl w.0 w.1 ∙ ap (λ (c : Bool). c || not (on ask)) (sym t)
-    by (inr w) =
-        let t : (ask == 4294967295) ≡ true = (let e : ask ≡ 4294967295 = w.1 in grind (arith, nat_tests)) in
-        ap (λ (xs : List ℕ). is_pending on xs) w.0 ∙ ap (λ (c : Bool). c || not (on ask)) (sym t)
 
 -- it asks for it on longer trails
 pub asked_longer : (on on' : ℕ → Bool) (clause : List ℕ) (ask : ℕ) → ((l : ℕ) → on l ≡ true → on' l ≡ true) → IsAsked on clause ask → IsAsked on' clause ask
 asked_longer on on' clause ask h a = record {
   place = a.place;
-  others = λ p g ne. ap (λ (b : Bool). not b) (h (opposite (get_or clause p 0)) (not_false (on (opposite (get_or clause p 0))) (a.others p g ne)));
+  inside = a.inside;
   own = a.own;
+  others = λ p g ne. ap (λ (b : Bool). not b) (h (opposite (get_or clause p 0)) (not_false (on (opposite (get_or clause p 0))) (a.others p g ne)));
 }
 
-pub all_longer : (cl : List (List ℕ)) (trail : List ℕ) (x : ℕ) (words asks : List ℕ) → AreAsked cl (has_literal trail) words asks → AreAsked cl (has_literal (trail ++ x ∷ [])) words asks
-all_longer cl trail x words asks a k h = let r = a k h in (r.0, asked_longer (has_literal trail) (has_literal (trail ++ x ∷ [])) (clause_at cl k) (get_or asks k 0) (true_longer trail x) r.1)
-
--- one more clause in the set
-pub asked_insert : (cl : List (List ℕ)) (on : ℕ → Bool) (words words' asks asks' : List ℕ) (number ask : ℕ) → AreAsked cl on words asks → number < length cl → number < length asks → IsAsked on (clause_at cl number) ask → ((k : ℕ) → words_have words' k ≡ (k == number || words_have words k)) → asks' ≡ set asks number ask → AreAsked cl on words' asks'
-asked_insert cl on words words' asks asks' number ask a inside room own has e k h = by (k == number) refl
-  where
-    by : (b : Bool) → (k == number) ≡ b → (k < length cl) × IsAsked on (clause_at cl k) (get_or asks' k 0)
-    by true f =
-        let q : k ≡ number = equal_of k number f in
-        let v : get_or asks' k 0 ≡ ask = ap (λ (xs : List ℕ). get_or xs k 0) e ∙ ap (λ (i : ℕ). get_or (set asks number ask) i 0) q ∙ get_or-set_same asks number ask 0 room in
-        (omega (arith, q, inside), subst (λ (x : ℕ). IsAsked on (clause_at cl k) x) (sym v) (subst (λ (n : ℕ). IsAsked on (clause_at cl n) ask) (sym q) own))
-    by false f =
-        let v : get_or asks' k 0 ≡ get_or asks k 0 = ap (λ (xs : List ℕ). get_or xs k 0) e ∙ get_or-set_other asks number k ask 0 (apart_of k number f) in
-        let r = a k (ap (λ (b : Bool). b || words_have words k) (sym f) ∙ sym (has k) ∙ h) in
-        (r.0, subst (λ (x : ℕ). IsAsked on (clause_at cl k) x) (sym v) r.1)
-
--- fewer clauses in the set
-pub asked_fewer : (cl : List (List ℕ)) (on : ℕ → Bool) (words words' asks : List ℕ) (number : ℕ) → AreAsked cl on words asks → ((k : ℕ) → words_have words' k ≡ (not (k == number) && words_have words k)) → AreAsked cl on words' asks
-asked_fewer cl on words words' asks number a has k h = a k (by (k == number) (sym (has k) ∙ h))
-  where
-    by : (b : Bool) → (not b && words_have words k) ≡ true → words_have words k ≡ true
-    by true e = absurd (let w : ⊥ = cc in w)
-    by false e = e
-
--- a clause of two literals asks for the one beside the false one
-pub asked_beside : (on : ℕ → Bool) (k : List ℕ) (ask place other : ℕ) → length k ≡ 2 → place + other ≡ 1 → is_free on (get_or k other 0) ≡ false → get_or k place 0 ≡ ask → IsAsked on k ask
-asked_beside on k ask place other two one f e = record {
-  place = place;
-  others = λ p h ne. ap (λ (i : ℕ). is_free on (get_or k i 0)) (left p h ne) ∙ f;
-  own = inl (omega (arith, two, one), e);
-}
-  where
-    left : (p : ℕ) → p < length k → (p ≡ place → ⊥) → p ≡ other
-    left p h ne = let n : p ≢ place = ne in omega (arith, h, two, one, n)
-
-pub pair_asked : (cl : List (List ℕ)) (on : ℕ → Bool) (fallen : ℕ) (p : Pair) → on (opposite fallen) ≡ true → IsPairOf cl fallen p → IsAsked on (clause_at cl p.number) p.other
-pair_asked cl on fallen p f (inl e) = subst (λ (xs : List ℕ). IsAsked on xs p.other) (sym e) (asked_beside on (fallen ∷ p.other ∷ []) p.other 1 0 refl refl (ap (λ (b : Bool). not b) f) refl)
-pair_asked cl on fallen p f (inr e) = subst (λ (xs : List ℕ). IsAsked on xs p.other) (sym e) (asked_beside on (p.other ∷ fallen ∷ []) p.other 0 1 refl refl (ap (λ (b : Bool). not b) f) refl)
+pub all_longer : (cl : List (List ℕ)) (trail : List ℕ) (x : ℕ) (set : ℕ → Bool) (asks : List ℕ) → AreAsked cl (has_literal trail) set asks → AreAsked cl (has_literal (trail ++ x ∷ [])) set asks
+all_longer cl trail x set asks a s h long = asked_longer (has_literal trail) (has_literal (trail ++ x ∷ [])) (clause_at cl s) (get_or asks s 0) (true_longer trail x) (a s h long)
 
 -- trails on which no literal is true and false
 pub consistent_none : (trail : List ℕ) → trail ≡ [] → IsConsistent trail
@@ -174,47 +128,27 @@ false_after trail l other o f = by (is_free (has_literal trail) other) refl
         let z : true ≡ false = sym g ∙ ap (λ (xs : List ℕ). is_free (has_literal xs) l) whole ∙ f in cc
     by false e = refl
 
--- a set of which no clause is
-pub asked_none : (cl : List (List ℕ)) (on : ℕ → Bool) (words asks : List ℕ) → ((k : ℕ) → words_have words k ≡ false) → AreAsked cl on words asks
-asked_none cl on words asks none k h = absurd (let z : true ≡ false = sym h ∙ none k in let w : ⊥ = cc in w)
-
--- with a clause more, and more room
-pub asked_add : (cl : List (List ℕ)) (k : List ℕ) (on : ℕ → Bool) (number low long ask : ℕ) (words words' asks asks' asks'' : List ℕ) → AreAsked cl on words asks → number ≡ length cl → length cl ≤ length asks → ((n : ℕ) → n < length asks → get_or asks' n 0 ≡ get_or asks n 0) → ((n : ℕ) → (n ≡ number → ⊥) → get_or asks'' n 0 ≡ get_or asks' n 0) → ((n : ℕ) → (n ≡ number → ⊥) → words_have words' n ≡ words_have words n) → (low ≤ long → IsAsked on k ask) → (low ≤ long → get_or asks'' number 0 ≡ ask) → (long < low → words_have words' number ≡ words_have words number) → AreAsked (cl ++ k ∷ []) on words' asks''
-asked_add cl k on number low long ask words words' asks asks' asks'' a e room wide same others own is none n h = by (n == number) refl (leb low long) refl
+-- without a number that does not pass a set still has all that do, and nothing up to that number where it was the least
+pub cleaned_complete : (p s s' : ℕ → Bool) (n : ℕ) → p n ≡ false → ((k : ℕ) → p k ≡ true → s k ≡ true) → ((k : ℕ) → s' k ≡ (not (k == n) && s k)) → (k : ℕ) → p k ≡ true → s' k ≡ true
+cleaned_complete p s s' n off complete has k e = has k ∙ by (k == n) refl
   where
-    old : (n : ℕ) → (n ≡ number → ⊥) → words_have words n ≡ true → (n < length (cl ++ k ∷ [])) × IsAsked on (clause_at (cl ++ k ∷ []) n) (get_or asks'' n 0)
-    old n ne g =
-        let r = a n g in
-        let v : get_or asks'' n 0 ≡ get_or asks n 0 = same n ne ∙ wide n (omega (arith, r.0, room)) in
-        let at : clause_at (cl ++ k ∷ []) n ≡ clause_at cl n = at_other cl k n (λ (q : n ≡ length cl). ne (q ∙ sym e)) in
-        (omega (arith, r.0, length_push cl k), subst (λ (x : ℕ). IsAsked on (clause_at (cl ++ k ∷ []) n) x) (sym v) (subst (λ (xs : List ℕ). IsAsked on xs (get_or asks n 0)) (sym at) r.1))
+    by : (b : Bool) → (k == n) ≡ b → (not b && s k) ≡ true
+    by true f = absurd (let z : true ≡ false = sym e ∙ ap p (equal_of k n f) ∙ off in let w : ⊥ = cc in w)
+    by false f = complete k e
 
-    by : (b : Bool) → (n == number) ≡ b → (r : Bool) → leb low long ≡ r → (n < length (cl ++ k ∷ [])) × IsAsked on (clause_at (cl ++ k ∷ []) n) (get_or asks'' n 0)
-    by true f true g =
-        let q : n ≡ number = equal_of n number f in
-        let l : low ≤ long = at_most_of low long g in
-        let v : get_or asks'' n 0 ≡ ask = ap (λ (i : ℕ). get_or asks'' i 0) q ∙ is l in
-        (omega (arith, q, e, length_push cl k), subst (λ (x : ℕ). IsAsked on (clause_at (cl ++ k ∷ []) n) x) (sym v) (subst (λ (xs : List ℕ). IsAsked on xs ask) (sym (at_own cl k n (q ∙ e))) (own l)))
-    by true f false g =
-        let q : n ≡ number = equal_of n number f in
-        let was : words_have words n ≡ true = ap (words_have words) q ∙ sym (none (past_of low long g)) ∙ ap (words_have words') (sym q) ∙ h in
-        absurd (omega (arith, (a n was).0, q, e))
-    by false f r g = let ne = apart_of n number f in old n ne (sym (others n ne) ∙ h)
-
--- tables with more room
-pub asking_wider : (cl : List (List ℕ)) (trail words asks words' asks' : List ℕ) → IsAsking cl trail words asks → ((k : ℕ) → words_have words' k ≡ words_have words k) → ((k : ℕ) → k < length asks → get_or asks' k 0 ≡ get_or asks k 0) → length asks ≤ length asks' → IsAsking cl trail words' asks'
-asking_wider cl trail words asks words' asks' i same wide more = record {
-  asked = λ k h. asked k (i.asked k (sym (same k) ∙ h));
-  long = omega (arith, i.long, more);
-  consistent = i.consistent;
-}
+pub cleaned_least : (s s' : ℕ → Bool) (n : ℕ) → IsLeast s (Some n) → ((k : ℕ) → s' k ≡ (not (k == n) && s k)) → (k : ℕ) → k < n + 1 → s' k ≡ false
+cleaned_least s s' n l has k h = has k ∙ by (k == n) refl
   where
-    asked : (k : ℕ) → (k < length cl) × IsAsked (has_literal trail) (clause_at cl k) (get_or asks k 0) → (k < length cl) × IsAsked (has_literal trail) (clause_at cl k) (get_or asks' k 0)
-    asked k r = (r.0, subst (λ (x : ℕ). IsAsked (has_literal trail) (clause_at cl k) x) (sym (wide k (omega (arith, r.0, i.long)))) r.1)
+    by : (b : Bool) → (k == n) ≡ b → (not b && s k) ≡ false
+    by true f = refl
+    by false f = let ne : k ≢ n = apart_of k n f in l.1 k (omega (arith, ne, h))
 
-pub least_wider : (s s' : ℕ → Bool) (o : Option ℕ) → ((k : ℕ) → s' k ≡ s k) → IsLeast s o → IsLeast s' o
-least_wider s s' None h l = λ k. h k ∙ l k
-least_wider s s' (Some n) h l = (h n ∙ l.0, λ j g. h j ∙ l.1 j g)
+pub cleaned_fewer : (s s' : ℕ → Bool) (n : ℕ) → ((k : ℕ) → s' k ≡ (not (k == n) && s k)) → (k : ℕ) → s' k ≡ true → s k ≡ true
+cleaned_fewer s s' n has k h = by (k == n) (sym (has k) ∙ h)
+  where
+    by : (b : Bool) → (not b && s k) ≡ true → s k ≡ true
+    by true e = absurd (let w : ⊥ = cc in w)
+    by false e = e
 
 -- the literal that was made true last
 pub last_true : (trail : List ℕ) (x : ℕ) → has_literal (trail ++ x ∷ []) x ≡ true
@@ -227,41 +161,20 @@ last_true trail x = has-snoc trail x x ∙ by (has_literal trail x)
     by true = refl
     by false = same
 
--- a clause stands where it is kept and what it asks for is not true
-pub stands_off : (cl : List (List ℕ)) (kept : List Bool) (trail : List ℕ) (k : ℕ) → get_or kept k false ≡ false → false ≡ is_pending_on cl kept trail k
-stands_off cl kept trail k e = sym (pending_at cl kept trail k ∙ ap (λ (b : Bool). b && is_pending (has_literal trail) (clause_at cl k)) e)
-
-pub stands_on : (cl : List (List ℕ)) (kept : List Bool) (trail : List ℕ) (k ask codes : ℕ) (b : Bool) → get_or kept k false ≡ true → IsConsistent trail → IsFit cl codes → codes ≤ 4294967294 → IsAsked (has_literal trail) (clause_at cl k) ask → b ≡ (ask == 4294967295 || not (has_literal trail ask)) → b ≡ is_pending_on cl kept trail k
-stands_on cl kept trail k ask codes b e cons fit small a v =
-    v ∙ sym (pending_by_ask trail (clause_at cl k) ask codes cons (fit.below k) small a) ∙ sym (pending_at cl kept trail k ∙ ap (λ (f : Bool). f && is_pending (has_literal trail) (clause_at cl k)) e)
-
-pub nothing_is : (ask : ℕ) (b : Bool) → ask ≡ 4294967295 → true ≡ (ask == 4294967295 || b)
-nothing_is ask b e = let t : (ask == 4294967295) ≡ true = grind (arith, nat_tests) in sym (ap (λ (c : Bool). c || b) t)
-
-pub something_is : (ask : ℕ) (b : Bool) → (ask ≡ 4294967295 → ⊥) → b ≡ (ask == 4294967295 || b)
-something_is ask b ne = let n : ask ≢ 4294967295 = ne in let t : (ask == 4294967295) ≡ false = grind (arith, nat_tests) in sym (ap (λ (c : Bool). c || b) t)
-
-pub ask_below : (cl : List (List ℕ)) (on : ℕ → Bool) (k ask codes : ℕ) → IsFit cl codes → IsAsked on (clause_at cl k) ask → (ask ≡ 4294967295 → ⊥) → ask < codes
-ask_below cl on k ask codes fit a ne = by a.own
-  where
-    by : ((a.place < length (clause_at cl k)) × (get_or (clause_at cl k) a.place 0 ≡ ask)) ⊎ ((clause_at cl k ≡ []) × (ask ≡ 4294967295)) → ask < codes
-    by (inl w) = omega (arith, fit.below k a.place w.0, w.1)
-    by (inr w) = absurd (ne w.1)
+-- what a clause asks for is a literal
+pub ask_below : (cl : List (List ℕ)) (on : ℕ → Bool) (k ask codes : ℕ) → IsFit cl codes → IsAsked on (clause_at cl k) ask → ask < codes
+ask_below cl on k ask codes fit a = omega (arith, fit.below k a.place a.inside, a.own)
 
 -- a pending clause asks for its literal that is not false, or for its first one where all are false
 pub ask_found : (on : ℕ → Bool) (xs : List ℕ) (i : ℕ) → i < length xs → is_free on (get_or xs i 0) ≡ true → is_pending on xs ≡ true → IsAsked on xs (get_or xs i 0)
-ask_found on xs i h f p = record { place = i; others = λ j g ne. by j g ne (is_free on (get_or xs j 0)) refl; own = inl (h, refl) }
+ask_found on xs i h f p = record { place = i; inside = h; own = refl; others = λ j g ne. by j g ne (is_free on (get_or xs j 0)) refl }
   where
     by : (j : ℕ) → j < length xs → (j ≡ i → ⊥) → (b : Bool) → is_free on (get_or xs j 0) ≡ b → b ≡ false
     by j g ne false e = refl
     by j g ne true e = let z : true ≡ false = sym p ∙ pending_off on xs (count_two (is_free on) xs j i g h ne e f) in cc
 
 pub ask_none : (on : ℕ → Bool) (xs : List ℕ) → ((j : ℕ) → j < length xs → is_free on (get_or xs j 0) ≡ false) → 0 < length xs → IsAsked on xs (get_or xs 0 0)
-ask_none on xs h g = record { place = 0; others = λ j l ne. h j l; own = inl (g, refl) }
-
-pub ask_empty : (on : ℕ → Bool) (xs : List ℕ) → length xs ≡ 0 → IsAsked on xs 4294967295
-ask_empty on [] e = record { place = 0; others = λ p h ne. absurd (omega (arith, h)); own = inr (refl, refl) }
-ask_empty on (x ∷ xs) e = absurd (omega (arith, e))
+ask_none on xs h g = record { place = 0; inside = g; own = refl; others = λ j l ne. h j l }
 
 -- a test cannot be true and false
 pub clash : {X : Type 0} → true ≡ false → X

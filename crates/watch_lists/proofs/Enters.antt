@@ -17,7 +17,7 @@ use Rattle.watch_lists.specs.Sound.{AreFree}
 use Rattle.watch_lists.specs.Added.{Outlasts, RestsWith, FreeWith, IsQuietBelow}
 use Rattle.watch_lists.proofs.Filters.{count_two, pending_at, pending_off}
 use Rattle.watch_lists.proofs.Assigns.{equal_of, apart_of, at_most_of, past_of, tests_at_most}
-use Rattle.watch_lists.proofs.Adds.{listed_add, listed_short, literal_other, literal_same, literal_own, own_free, free_add, rising_short, pending_other, pending_own, kept_in}
+use Rattle.watch_lists.proofs.Adds.{listed_add, literal_other, literal_own, own_free, free_add, rising_short, pending_other, pending_own, kept_in}
 
 -- what was done to the tables for a clause of two literals or more
 pub record IsEntered (k : List ℕ) (number : ℕ) (trail : List ℕ) (wa : List Watched) (w : Watched) (heads : List ℕ) (nodes : List Node) (heads' : List ℕ) (nodes' : List Node) (a b : ℕ) : Type 0 where
@@ -96,14 +96,6 @@ quiet_pair k trail u v low two first second hu hv n h l =
     pending_off on k
     (count_two (is_free on) k 0 1 (omega (arith, two)) (omega (arith, two)) (λ (e : 0 ≡ 1). absurd (omega (arith, e)))
     (first n h ∙ tests_at_most n u (omega (arith, l, hu))) (second n h ∙ tests_at_most n v (omega (arith, l, hv))))
-
-pub rests_short : (k : List ℕ) (number : ℕ) (wa : List Watched) (heads : List ℕ) (nodes : List Node) (codes : ℕ) → length k < 2 → number < length wa → 2 * number + 1 < length nodes → RestsWith k number codes wa heads nodes wa heads nodes
-rests_short k number wa heads nodes codes short w m cl kept lc lk r =
-    listed_short cl k wa heads nodes codes kept r (lk ∙ sym lc) (omega (arith, w, lc)) short (omega (arith, m, lc))
-
-pub free_short : (k : List ℕ) (number : ℕ) (trail : List ℕ) (wa : List Watched) → length k < 2 → FreeWith k number trail wa wa
-free_short k number trail wa short cl kept n lc lk h f =
-    free_add cl k wa wa kept (take n trail) (lk ∙ sym lc) (literal_same cl k wa) f (λ node e two t. absurd (omega (arith, short, two)))
 
 pub below_by : (v p : ℕ) (k : List ℕ) → HasVariablesBelow v k → p < length k → get_or k p 0 < 2 * v
 below_by v p k h l = let a = All-get_or (λ (x : ℕ). x / 2 < v) k p 0 l h in omega (arith, a)

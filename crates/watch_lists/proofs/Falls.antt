@@ -1,5 +1,5 @@
 -- For how long along the trail a literal is not false.
-use Rattle.std.proofs.Common.{arith, ◌≡◌, ◌==◌, ℕ, ◌+◌, ◌<◌, ◌≤◌, List, length, take, get_or, leb, ltb, Bool, true, false, not, refl, sym, ap, ◌∙◌, subst}
+use Rattle.std.proofs.Common.{arith, ◌≡◌, ◌==◌, ℕ, zero, suc, ◌+◌, ◌<◌, ◌≤◌, List, [], ◌∷◌, length, take, get_or, leb, ltb, Bool, true, false, not, refl, sym, ap, ◌∙◌, subst}
 use Rattle.std.proofs.lemmas.Bool.Decides.{nat_tests}
 use Rattle.std.proofs.lemmas.List.{take_all}
 use Rattle.clause_base.specs.Literal.{opposite}
@@ -52,3 +52,12 @@ most_next trail clause skipped place best next most keeps takes p h other = by (
     by false e =
         let less : p < place = grind (arith, nat_tests) in
         λ n k f. keeps n k (most p less other n k f)
+
+-- before any literal is true none is false
+pub outlasts_none : (trail : List ℕ) (l other : ℕ) → length trail ≡ 0 → Outlasts trail l other
+outlasts_none [] l other e n h f = none n
+  where
+    none : (n : ℕ) → is_free (has_literal (take n [])) l ≡ true
+    none zero = refl
+    none (suc n) = refl
+outlasts_none (x ∷ trail) l other e n h f = absurd (omega (arith, e))

@@ -1,12 +1,12 @@
 -- What a pending clause leaves: the literals of it that are not false.
-use Rattle.std.proofs.Common.{arith, ◌≡◌, ℕ, zero, suc, ◌==◌, ◌<◌, ◌≤◌, List, [], ◌∷◌, length, get_or, Bool, true, false, if◌then◌else◌, refl, ap, ◌∙◌, ◌⊎◌, inl, inr}
+use Rattle.std.proofs.Common.{arith, ◌≡◌, ℕ, zero, suc, ◌==◌, ◌<◌, ◌≤◌, List, [], ◌∷◌, length, get_or, Bool, true, false, if◌then◌else◌, Option, Some, None, MatchOption, refl, sym, ap, ◌∙◌}
 use Rattle.std.specs.List.{filter}
 use Rattle.watch_lists.specs.Pending.{is_free}
 use Rattle.watch_lists.specs.Asking.{IsAsked}
 use Rattle.watch_lists.proofs.Assigns.{equal_of, apart_of}
 
 -- a test that fails everywhere, and one that passes at one place
-none_left : (p : ℕ → Bool) (xs : List ℕ) → ((i : ℕ) → i < length xs → p (get_or xs i 0) ≡ false) → filter p xs ≡ []
+pub none_left : (p : ℕ → Bool) (xs : List ℕ) → ((i : ℕ) → i < length xs → p (get_or xs i 0) ≡ false) → filter p xs ≡ []
 none_left p [] h = refl
 none_left p (x ∷ xs) h =
     ap (λ (b : Bool). if b then x ∷ filter p xs else filter p xs) (h 0 (omega arith))
@@ -22,29 +22,18 @@ one_left p (x ∷ xs) (suc k) g h e =
     ∙ one_left p xs k (omega (arith, g)) (λ i l ne. h (suc i) (omega (arith, l)) (λ (q : suc i ≡ suc k). ne (omega (arith, q)))) e
 
 -- the one that the clause asks for, where it is not false
-pub left_one : (on : ℕ → Bool) (clause : List ℕ) (ask : ℕ) → IsAsked on clause ask → (ask ≡ 4294967295 → ⊥) → is_free on ask ≡ true → filter (is_free on) clause ≡ ask ∷ []
-left_one on clause ask a ne f = by a.own
-  where
-    by : ((a.place < length clause) × (get_or clause a.place 0 ≡ ask)) ⊎ ((clause ≡ []) × (ask ≡ 4294967295)) → filter (is_free on) clause ≡ ask ∷ []
-    by (inl w) = one_left (is_free on) clause a.place w.0 a.others (ap (is_free on) w.1 ∙ f) ∙ ap (λ (l : ℕ). l ∷ []) w.1
-    by (inr w) = absurd (ne w.1)
+pub left_one : (on : ℕ → Bool) (clause : List ℕ) (ask : ℕ) → IsAsked on clause ask → is_free on ask ≡ true → filter (is_free on) clause ≡ ask ∷ []
+left_one on clause ask a f = one_left (is_free on) clause a.place a.inside a.others (ap (is_free on) a.own ∙ f) ∙ ap (λ (l : ℕ). l ∷ []) a.own
 
 -- else none
 pub left_none : (on : ℕ → Bool) (clause : List ℕ) (ask : ℕ) → IsAsked on clause ask → is_free on ask ≡ false → filter (is_free on) clause ≡ []
-left_none on clause ask a f = by a.own
+left_none on clause ask a f = none_left (is_free on) clause (λ i g. at i g (i == a.place) refl)
   where
-    by : ((a.place < length clause) × (get_or clause a.place 0 ≡ ask)) ⊎ ((clause ≡ []) × (ask ≡ 4294967295)) → filter (is_free on) clause ≡ []
-    by (inr w) = ap (λ (xs : List ℕ). filter (is_free on) xs) w.0
-    by (inl w) = none_left (is_free on) clause (λ i g. at i g (i == a.place) refl)
-      where
-        at : (i : ℕ) → i < length clause → (b : Bool) → (i == a.place) ≡ b → is_free on (get_or clause i 0) ≡ false
-        at i g true e = ap (λ (j : ℕ). is_free on (get_or clause j 0)) (equal_of i a.place e) ∙ ap (is_free on) w.1 ∙ f
-        at i g false e = a.others i g (apart_of i a.place e)
+    at : (i : ℕ) → i < length clause → (b : Bool) → (i == a.place) ≡ b → is_free on (get_or clause i 0) ≡ false
+    at i g true e = ap (λ (j : ℕ). is_free on (get_or clause j 0)) (equal_of i a.place e) ∙ ap (is_free on) a.own ∙ f
+    at i g false e = a.others i g (apart_of i a.place e)
 
--- a clause that asks for nothing has no literals
-pub left_nothing : (codes : ℕ) (on : ℕ → Bool) (clause : List ℕ) (ask : ℕ) → ((p : ℕ) → p < length clause → get_or clause p 0 < codes) → codes ≤ 4294967294 → IsAsked on clause ask → ask ≡ 4294967295 → filter (is_free on) clause ≡ []
-left_nothing codes on clause ask below small a e = by a.own
-  where
-    by : ((a.place < length clause) × (get_or clause a.place 0 ≡ ask)) ⊎ ((clause ≡ []) × (ask ≡ 4294967295)) → filter (is_free on) clause ≡ []
-    by (inl w) = absurd (omega (arith, below a.place w.0, w.1, e, small))
-    by (inr w) = ap (λ (xs : List ℕ). filter (is_free on) xs) w.0
+-- so what is left is known from what is asked for
+pub left_by : (on : ℕ → Bool) (clause : List ℕ) (ask : ℕ) (o : Option ℕ) → IsAsked on clause ask → MatchOption o (is_free on ask ≡ false) (λ lit. (lit ≡ ask) × (is_free on ask ≡ true)) → MatchOption o (filter (is_free on) clause ≡ []) (λ lit. filter (is_free on) clause ≡ lit ∷ [])
+left_by on clause ask None a m = left_none on clause ask a m
+left_by on clause ask (Some lit) a m = left_one on clause ask a m.1 ∙ ap (λ (l : ℕ). l ∷ []) (sym m.0)

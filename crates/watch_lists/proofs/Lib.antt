@@ -15,3 +15,4 @@ pub mod Sounds
 pub mod Founds
 pub mod Asks
 pub mod Lefts
+pub mod Asked

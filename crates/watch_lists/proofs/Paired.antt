@@ -11,7 +11,7 @@ use Rattle.watch_lists.specs.declared.pairs.Pair.{Pair}
 use Rattle.watch_lists.specs.Pending.{is_free, has_two_free}
 use Rattle.cdcl_rules.specs.State.{clause_at}
 use Rattle.watch_lists.specs.Visit.{IsFit}
-use Rattle.watch_lists.specs.Pairs.{no_pair, pairs_of, pair_in, HasPair, IsInPairs, IsPairOf, AreExact, HasSlot, IsPaired, IsFuller}
+use Rattle.watch_lists.specs.Pairs.{no_pair, pairs_of, pair_in, HasPair, IsInPairs, IsUnwatched, IsPairOf, AreExact, HasSlot, IsPaired, IsFuller}
 use Rattle.watch_lists.specs.Added.{IsTaken}
 use Rattle.watch_lists.proofs.Filters.{clause_past, count_two, tests_two}
 use Rattle.watch_lists.proofs.Assigns.{equal_of, apart_of, free_after}
@@ -212,8 +212,8 @@ paired_add v number codes cl k trail ps ps' slots wa heads nodes slots' wa' head
   exact = f.exact (cl ++ k ∷ []) (at_own cl k number e) (exact_more cl k ps i.exact);
 }
   where
-    own : IsTaken k number codes trail ps' slots wa heads nodes slots' wa' heads' nodes' → IsInPairs ps' k number ⊎ HasSlot slots' number
-    own (inl t) = inl t.in_pairs
+    own : IsTaken k number codes trail ps' slots wa heads nodes slots' wa' heads' nodes' → IsUnwatched ps' k number ⊎ HasSlot slots' number
+    own (inl t) = inl t.unwatched
     own (inr t) = inr (record {
       slot = length slots;
       inside = omega (arith, ap (λ (ss : List ℕ). length ss) t.slotted, length_push slots number);
@@ -228,21 +228,22 @@ paired_add v number codes cl k trail ps ps' slots wa heads nodes slots' wa' head
       is = ap (λ (ss : List ℕ). get_or ss s.slot 0) t.slotted ∙ get_or_append_left slots (number ∷ []) 0 s.slot s.inside ∙ s.is;
     }
 
-    old : (c : ℕ) → (c ≡ length cl → ⊥) → IsInPairs ps (clause_at cl c) c ⊎ HasSlot slots c → IsInPairs ps' (clause_at (cl ++ k ∷ []) c) c ⊎ HasSlot slots' c
-    old c ne (inl p) = inl (record {
+    old : (c : ℕ) → (c ≡ length cl → ⊥) → IsUnwatched ps (clause_at cl c) c ⊎ HasSlot slots c → IsUnwatched ps' (clause_at (cl ++ k ∷ []) c) c ⊎ HasSlot slots' c
+    old c ne (inl (inl p)) = inl (inl (record {
       first = p.first;
       second = p.second;
       is = at_other cl k c ne ∙ p.is;
       has = f.more p.first p.second c p.has;
       back = f.more p.second p.first c p.back;
-    })
+    }))
+    old c ne (inl (inr p)) = inl (inr (subst (λ (xs : List ℕ). length xs < 2) (sym (at_other cl k c ne)) p))
     old c ne (inr s) = inr (slot_stays c s taken)
 
-    by : (c : ℕ) → c < length (cl ++ k ∷ []) → (b : Bool) → (c == length cl) ≡ b → IsInPairs ps' (clause_at (cl ++ k ∷ []) c) c ⊎ HasSlot slots' c
+    by : (c : ℕ) → c < length (cl ++ k ∷ []) → (b : Bool) → (c == length cl) ≡ b → IsUnwatched ps' (clause_at (cl ++ k ∷ []) c) c ⊎ HasSlot slots' c
     by c h true g =
         let q : c ≡ length cl = equal_of c (length cl) g in
-        subst (λ (n : ℕ). IsInPairs ps' (clause_at (cl ++ k ∷ []) c) n ⊎ HasSlot slots' n) (e ∙ sym q)
-        (subst (λ (xs : List ℕ). IsInPairs ps' xs number ⊎ HasSlot slots' number) (sym (at_own cl k c q)) (own taken))
+        subst (λ (n : ℕ). IsUnwatched ps' (clause_at (cl ++ k ∷ []) c) n ⊎ HasSlot slots' n) (e ∙ sym q)
+        (subst (λ (xs : List ℕ). IsUnwatched ps' xs number ⊎ HasSlot slots' number) (sym (at_own cl k c q)) (own taken))
     by c h false g =
         let ne : c ≢ length cl = apart_of c (length cl) g in
         old c ne (i.found c (omega (arith, h, length_push cl k, ne)))
@@ -294,3 +295,8 @@ pair_pending clause ps list trail x k s i l set free none less =
         let t : has_two_free on' (i.first ∷ i.second ∷ []) ≡ true = tests_two (length (filter (is_free on') (i.first ∷ i.second ∷ []))) c in
         let z : true ≡ false = sym t ∙ ap (λ (xs : List ℕ). has_two_free on' xs) (sym i.is) ∙ less in
         absurd (let w : ⊥ = cc in w)
+
+-- the clause of a pair has two literals
+pub pair_long : (cl : List (List ℕ)) (code : ℕ) (p : Pair) → IsPairOf cl code p → length (clause_at cl p.number) ≡ 2
+pair_long cl code p (inl e) = ap (λ (xs : List ℕ). length xs) e
+pair_long cl code p (inr e) = ap (λ (xs : List ℕ). length xs) e

@@ -1,5 +1,5 @@
 -- The clauses of the slots, and which of them are kept.
-use Rattle.std.proofs.Common.{arith, ◌≡◌, ◌==◌, ℕ, suc, ◌+◌, ◌<◌, ◌≤◌, List, [], ◌∷◌, ◌++◌, length, take, set, get_or, ltb, Bool, true, false, ◌&&◌, refl, sym, ap, ◌∙◌, subst, inl, inr}
+use Rattle.std.proofs.Common.{arith, ◌≡◌, ◌==◌, ℕ, suc, ◌+◌, ◌<◌, ◌≤◌, List, [], ◌∷◌, ◌++◌, length, take, set, get_or, ltb, Bool, true, false, ◌&&◌, refl, sym, ap, ◌∙◌, subst, ◌⊎◌, inl, inr}
 use Rattle.std.proofs.lemmas.Bool.Decides.{nat_tests}
 use Rattle.std.proofs.lemmas.List.{get_or-map, length-map, map-append, length_push, get_or_push}
 use Rattle.clause_base.specs.Clause.{has_literal}
@@ -141,3 +141,7 @@ taken_below n k number codes trail pairs slots wa heads nodes slots' wa' heads' 
 pub taken_few : (k : List ℕ) (number codes : ℕ) (trail : List ℕ) (pairs : List (List Pair)) (slots : List ℕ) (wa : List Watched) (heads : List ℕ) (nodes : List Node) (slots' : List ℕ) (wa' : List Watched) (heads' : List ℕ) (nodes' : List Node) → IsTaken k number codes trail pairs slots wa heads nodes slots' wa' heads' nodes' → length slots' ≤ length slots + 1
 taken_few k number codes trail pairs slots wa heads nodes slots' wa' heads' nodes' (inl t) = omega (arith, ap (λ (ss : List ℕ). length ss) t.slots_stay)
 taken_few k number codes trail pairs slots wa heads nodes slots' wa' heads' nodes' (inr t) = omega (arith, ap (λ (ss : List ℕ). length ss) t.slotted, length_push slots number)
+
+pub taken_slots : (k : List ℕ) (number codes : ℕ) (trail : List ℕ) (pairs : List (List Pair)) (slots : List ℕ) (wa : List Watched) (heads : List ℕ) (nodes : List Node) (slots' : List ℕ) (wa' : List Watched) (heads' : List ℕ) (nodes' : List Node) → IsTaken k number codes trail pairs slots wa heads nodes slots' wa' heads' nodes' → (slots' ≡ slots) ⊎ (slots' ≡ slots ++ number ∷ [])
+taken_slots k number codes trail pairs slots wa heads nodes slots' wa' heads' nodes' (inl t) = inl t.slots_stay
+taken_slots k number codes trail pairs slots wa heads nodes slots' wa' heads' nodes' (inr t) = inr t.slotted

@@ -20,7 +20,7 @@ has_below (x ∷ xs) codes l h e = by (x == l) refl e (has_below xs codes l (λ 
     by false f e on g = on e
 
 -- one node is linked, and the others stay
-pub listed_link : (cl : List (List ℕ)) (wa wa' : List Watched) (heads heads' : List ℕ) (nodes nodes' : List Node) (spare : ℕ) (kept : List Bool) (node code note : ℕ) (Why Why' : ℕ → Type 0) (r : IsListed cl wa heads nodes spare (IsOther kept node) Why) → r.on node ≡ None → IsLinked heads' nodes' (placed node (Some code) r.on) → IsPlaced cl wa' → length heads' ≡ length heads → length nodes' ≡ length nodes → note_of nodes' node ≡ note → ((k : ℕ) → (k ≡ node → ⊥) → note_of nodes' k ≡ note_of nodes k) → IsReal cl node → has_literal (clause_at cl (node / 2)) note ≡ true → ((k : ℕ) → IsReal cl k → (k ≡ node → ⊥) → literal_at cl wa' k ≡ literal_at cl wa k) → ((k : ℕ) → IsReal cl k → (k ≡ node → ⊥) → Why k → Why' k) → (code ≡ literal_at cl wa' node) ⊎ ((code ≡ spare) × Why' node) → IsListed cl wa' heads' nodes' spare (IsKept kept) Why'
+pub listed_link : (cl : List (List ℕ)) (wa wa' : List Watched) (heads heads' : List ℕ) (nodes nodes' : List Node) (spare : ℕ) (kept : List Bool) (node code note : ℕ) (Why Why' : ℕ → Type 0) (r : IsListed cl wa heads nodes spare (IsOther kept node) Why) → r.on node ≡ None → IsLinked heads' nodes' (placed node (Some code) r.on) → IsPlaced cl wa' → length heads' ≡ length heads → length nodes' ≡ length nodes → note_of nodes' node ≡ note → ((k : ℕ) → (k ≡ node → ⊥) → note_of nodes' k ≡ note_of nodes k) → IsReal cl node → has_literal (clause_at cl (node / 2)) note ≡ true → ((k : ℕ) → IsReal cl k → (k ≡ node → ⊥) → literal_at cl wa' k ≡ literal_at cl wa k) → ((k : ℕ) → IsReal cl k → (k ≡ node → ⊥) → Why k → Why' k) → (IsKept kept node → (code ≡ literal_at cl wa' node) ⊎ ((code ≡ spare) × Why' node)) → IsListed cl wa' heads' nodes' spare (IsKept kept) Why'
 listed_link cl wa wa' heads heads' nodes nodes' spare kept node code note Why Why' r off link place lh ln own others real in_clause same why here = record {
   on = placed node (Some code) r.on;
   linked = link;
@@ -43,7 +43,7 @@ listed_link cl wa wa' heads heads' nodes nodes' spare kept node code note Why Wh
     there_by : (k : ℕ) → IsReal cl k → IsKept kept k → (b : Bool) → (k == node) ≡ b → ((if b then Some code else r.on k) ≡ Some (literal_at cl wa' k)) ⊎ (((if b then Some code else r.on k) ≡ Some spare) × Why' k)
     there_by k rk m true f =
         let t : node ≡ k = grind (arith, nat_tests) in
-        subst (λ (x : ℕ). (Some code ≡ Some (literal_at cl wa' x)) ⊎ ((Some code ≡ Some spare) × Why' x)) t (here_by here)
+        subst (λ (x : ℕ). (Some code ≡ Some (literal_at cl wa' x)) ⊎ ((Some code ≡ Some spare) × Why' x)) t (here_by (here (subst (λ (x : ℕ). IsKept kept x) (sym t) m)))
     there_by k rk m false f =
         let ne : k ≢ node = grind (arith, nat_tests) in old (r.there k rk (m, ne)) ne
       where
@@ -60,10 +60,10 @@ listed_link cl wa wa' heads heads' nodes nodes' spare kept node code note Why Wh
         ap (λ (x : ℕ). has_literal (clause_at cl (k / 2)) x) (others k ne) ∙ r.notes k rk
 
 -- a node goes back to the spare chain, where a literal of its clause is true
-pub listed_true : (cl : List (List ℕ)) (wa : List Watched) (heads heads' : List ℕ) (nodes nodes' : List Node) (spare : ℕ) (kept : List Bool) (node note code : ℕ) (on set : ℕ → Bool) (r : IsListed cl wa heads nodes spare (IsOther kept node) (Stays cl wa on set code)) → r.on node ≡ None → IsLinked heads' nodes' (placed node (Some spare) r.on) → length heads' ≡ length heads → length nodes' ≡ length nodes → note_of nodes' node ≡ note → ((k : ℕ) → (k ≡ node → ⊥) → note_of nodes' k ≡ note_of nodes k) → IsReal cl node → literal_at cl wa node ≡ code → has_literal (clause_at cl (node / 2)) note ≡ true → on note ≡ true → IsListed cl wa heads' nodes' spare (IsKept kept) (Stays cl wa on set code)
+pub listed_true : (cl : List (List ℕ)) (wa : List Watched) (heads heads' : List ℕ) (nodes nodes' : List Node) (spare : ℕ) (kept : List Bool) (node note code : ℕ) (on set : ℕ → Bool) (r : IsListed cl wa heads nodes spare (IsOther kept node) (Stays cl wa on set code)) → r.on node ≡ None → IsLinked heads' nodes' (placed node (Some spare) r.on) → length heads' ≡ length heads → length nodes' ≡ length nodes → note_of nodes' node ≡ note → ((k : ℕ) → (k ≡ node → ⊥) → note_of nodes' k ≡ note_of nodes k) → IsReal cl node → (IsKept kept node → literal_at cl wa node ≡ code) → has_literal (clause_at cl (node / 2)) note ≡ true → on note ≡ true → IsListed cl wa heads' nodes' spare (IsKept kept) (Stays cl wa on set code)
 listed_true cl wa heads heads' nodes nodes' spare kept node note code on set r off link lh ln own others real watches h t =
     listed_link cl wa wa heads heads' nodes nodes' spare kept node spare note (Stays cl wa on set code) (Stays cl wa on set code) r off link r.placed lh ln own others real h (λ k q ne. refl) (λ k q ne w. w)
-    (inr (refl, (watches, settled_true on set (clause_at cl (node / 2)) note (node / 2) h t)))
+    (λ m. inr (refl, (watches m, settled_true on set (clause_at cl (node / 2)) note (node / 2) h t)))
 
 -- a moved watch leaves the other nodes' literals
 pub others_stay : (cl : List (List ℕ)) (wa : List Watched) (w' : Watched) (node : ℕ) → node / 2 < length wa → place_in w' (not (node % 2 == 1)) ≡ place_in (get_or wa (node / 2) no_watches) (not (node % 2 == 1)) → (k : ℕ) → (k ≡ node → ⊥) → literal_at cl (set wa (node / 2) w') k ≡ literal_at cl wa k

@@ -10,7 +10,7 @@ use Rattle.watch_lists.specs.Pending.{is_free}
 use Rattle.watch_lists.specs.Visit.{no_watches, IsAtRest}
 use Rattle.watch_lists.specs.Sound.{AreFree}
 use Rattle.watch_lists.specs.declared.pairs.Pair.{Pair}
-use Rattle.watch_lists.specs.Pairs.{IsInPairs}
+use Rattle.watch_lists.specs.Pairs.{IsUnwatched}
 
 -- in each prefix of the trail in which the other literal is not false, this one is not false either
 abbrev pub Outlasts : List ℕ → ℕ → ℕ → Type 0
@@ -46,9 +46,9 @@ FreeWith clause number trail watched watched' =
 abbrev pub IsQuietBelow : List ℕ → List ℕ → ℕ → Type 0
 IsQuietBelow clause trail low = (n : ℕ) → n ≤ length trail → n < low → is_pending (has_literal (take n trail)) clause ≡ false
 
--- a clause is in the lists of its two literals, and nothing else has changed
+-- a clause is in the lists of its two literals or has fewer, and nothing else has changed
 pub record IsInLists (clause : List ℕ) (number : ℕ) (pairs : List (List Pair)) (slots : List ℕ) (watched : List Watched) (heads : List ℕ) (nodes : List Node) (slots' : List ℕ) (watched' : List Watched) (heads' : List ℕ) (nodes' : List Node) : Type 0 where
-  pub in_pairs : IsInPairs pairs clause number
+  pub unwatched : IsUnwatched pairs clause number
   pub slots_stay : slots' ≡ slots
   pub watches_stay : watched' ≡ watched
   pub heads_stay : heads' ≡ heads

@@ -4,24 +4,45 @@ use Rattle.clause_base.specs.Literal.{opposite}
 use Rattle.clause_base.specs.Clause.{has_literal}
 use Rattle.number_bits.specs.Bits.{words_have}
 use Rattle.watch_lists.specs.Pending.{is_free}
+use Rattle.watch_lists.specs.Visit.{slot_clauses, slot_set}
 use Rattle.cdcl_rules.specs.State.{clause_at}
 
--- a clause asks for a literal: one of its own, where all others are false; an empty clause asks for none
+-- a clause asks for a literal: one of its own, where all others are false
 pub record IsAsked (on : ℕ → Bool) (clause : List ℕ) (ask : ℕ) : Type 0 where
   pub place : ℕ
+  pub inside : place < length clause
+  pub own : slice_index clause place ≡ ask
   pub others : (p : ℕ) → p < length clause → (p ≡ place → ⊥) → is_free on (slice_index clause p) ≡ false
-  pub own : ((place < length clause) × (slice_index clause place ≡ ask)) ⊎ ((clause ≡ []) × (ask ≡ 4294967295))
 
--- each clause of a set asks for its literal
-abbrev pub AreAsked : List (List ℕ) → (ℕ → Bool) → List ℕ → List ℕ → Type 0
-AreAsked clauses on words asks = (k : ℕ) → words_have words k ≡ true → (k < length clauses) × IsAsked on (clause_at clauses k) (slice_index asks k)
+-- each clause of a slot that is in a set and has more than two literals asks for the slot's; what the others ask for is read from
+-- their literals
+abbrev pub AreAsked : List (List ℕ) → (ℕ → Bool) → (ℕ → Bool) → List ℕ → Type 0
+AreAsked clauses on set asks = (s : ℕ) → set s ≡ true → 2 < length (clause_at clauses s) → IsAsked on (clause_at clauses s) (slice_index asks s)
+
+-- so does the clause with a number, if it has a slot
+abbrev pub IsAskedAt : List (List ℕ) → List ℕ → (ℕ → Bool) → List ℕ → ℕ → Type 0
+IsAskedAt clauses slots on asks number = (s : ℕ) → s < length slots → slice_index slots s ≡ number → 2 < length (clause_at clauses number) → IsAsked on (clause_at clauses number) (slice_index asks s)
+
+-- a set has what it had, and clauses of two literals
+abbrev pub HasPairsMore : List (List ℕ) → (ℕ → Bool) → (ℕ → Bool) → Type 0
+HasPairsMore clauses set set' = (k : ℕ) → set' k ≡ true → (set k ≡ true) ⊎ (length (clause_at clauses k) ≡ 2)
+
+-- no clause has two slots
+abbrev pub AreDistinct : List ℕ → Type 0
+AreDistinct slots = (s t : ℕ) → s < length slots → t < length slots → slice_index slots s ≡ slice_index slots t → s ≡ t
+
+-- the members of a set are below a number
+abbrev pub IsWithin : ℕ → (ℕ → Bool) → Type 0
+IsWithin n set = (k : ℕ) → set k ≡ true → k < n
 
 -- no literal is true and false
 abbrev pub IsConsistent : List ℕ → Type 0
 IsConsistent trail = (l : ℕ) → has_literal trail l ≡ true → has_literal trail (opposite l) ≡ false
 
 -- what holds of the set
-pub record IsAsking (clauses : List (List ℕ)) (trail : List ℕ) (words asks : List ℕ) : Type 0 where
-  pub asked : AreAsked clauses (has_literal trail) words asks
-  pub long : length clauses ≤ length asks
+pub record IsAsking (clauses : List (List ℕ)) (trail slots : List ℕ) (words asks : List ℕ) : Type 0 where
+  pub within : IsWithin (length clauses) (words_have words)
+  pub asked : AreAsked (slot_clauses clauses slots) (has_literal trail) (slot_set (words_have words) slots) asks
+  pub long : length slots ≤ length asks
+  pub distinct : AreDistinct slots
   pub consistent : IsConsistent trail

@@ -65,10 +65,14 @@ pub record HasSlot (slots : List ℕ) (number : ℕ) : Type 0 where
   pub inside : slot < length slots
   pub is : slice_index slots slot ≡ number
 
--- what holds of the pairs: each clause is in the lists of its two literals or has a slot
+-- a clause that is not watched: it is in the lists of its two literals, or has fewer
+abbrev pub IsUnwatched : List (List Pair) → List ℕ → ℕ → Type 0
+IsUnwatched pairs clause number = IsInPairs pairs clause number ⊎ (length clause < 2)
+
+-- what holds of the pairs: each clause of two literals or more is in the lists of its two literals or has a slot
 pub record IsPaired (variables : ℕ) (clauses : List (List ℕ)) (slots : List ℕ) (pairs : List (List Pair)) : Type 0 where
   pub long : length pairs ≡ 2 * variables + 1
-  pub found : (c : ℕ) → c < length clauses → IsInPairs pairs (clause_at clauses c) c ⊎ HasSlot slots c
+  pub found : (c : ℕ) → c < length clauses → IsUnwatched pairs (clause_at clauses c) c ⊎ HasSlot slots c
   pub exact : AreExact clauses pairs
 
 -- the lists have what they had, and may have more pairs of the clause with a number

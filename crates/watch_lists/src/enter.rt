@@ -4,98 +4,84 @@ ghost use Rattle.std.specs.Prelude.{◌≡◌, ℕ, ◌+◌, ◌*◌, ◌<◌, �
 ghost use Rattle.clause_base.specs.Clause.{has_literal};
 ghost use Rattle.watch_chains.specs.Linked.{ArePairLoose};
 ghost use Rattle.watch_lists.specs.Asking.{IsAsked};
-ghost use Rattle.watch_lists.specs.Added.{HasRoom, RestsWith, FreeWith, IsQuietBelow};
+ghost use Rattle.watch_lists.specs.Added.{HasRoom, Outlasts, RestsWith, FreeWith, IsQuietBelow};
 
-use crate::asking::NOTHING;
 use crate::fall::{free_until, latest};
 use crate::visit::{Lists, Watched};
 use clause_base::literal::Lit;
 use watch_store::truth::Truth;
 
-/// What a new clause brings: in the prefixes of the trail below a length it is not pending, and if it may be so on the whole
-/// trail, it asks for a literal.
-#[derive(Clone, Copy, Debug)]
-pub struct Entered {
-    pub low: u32,
-    pub ask: u32,
-}
-
 /// No place of a clause.
 const NOWHERE: u32 = 4_294_967_295;
 
 /// Says in which prefixes of the trail a clause of two literals is not pending: those below the result.
-pub fn enter_pair(truth: &Truth, clause: &[Lit]) -> Entered
+pub fn enter_pair(truth: &Truth, clause: &[Lit]) -> u32
     requires small { truth.now.variables ≤ 2147483647 }
     requires below { (p : ℕ) → p < length clause.now → slice_index clause.now p < 2 * truth.now.variables }
     requires two { length clause.now ≡ 2 }
-    ensures quiet { IsQuietBelow clause.now truth.now.trail result.low }
-    ensures asked { result.low ≤ length truth.now.trail → IsAsked (has_literal truth.now.trail) clause.now result.ask }
+    ensures { IsQuietBelow clause.now truth.now.trail result }
 {
     let a = clause[0];
     let b = clause[1];
     let first = free_until(truth, a.0);
     let second = free_until(truth, b.0);
-    if first < second {
-        Entered {
-            low: first + 1,
-            ask: b.0,
-        }
-    } else {
-        Entered {
-            low: second + 1,
-            ask: a.0,
-        }
-    }
+    first.min(second) + 1
 }
 
-/// A new clause without literals, or with one.
-fn enter_short(clause: &[Lit]) -> Entered
-    requires { length clause.now < 2 }
-    ensures low { result.low ≡ 0 }
-    ensures asked { (on : ℕ → Bool) → IsAsked on clause.now result.ask }
+/// The places of the two literals of a clause that are not false for longest along the trail. Before any literal is true these
+/// are the last two: in a clause of a planning formula the literals that are seldom false stand there.
+fn to_watch(truth: &Truth, clause: &[Lit]) -> Watched
+    requires below { (p : ℕ) → p < length clause.now → slice_index clause.now p < 2 * truth.now.variables }
+    requires short { length clause.now ≤ 4294967295 }
+    requires two { 2 ≤ length clause.now }
+    ensures first_in { result.first < length clause.now }
+    ensures second_in { result.second < length clause.now }
+    ensures apart { result.second ≡ result.first → ⊥ }
+    ensures most { (p : ℕ) → p < length clause.now → Outlasts truth.now.trail (slice_index clause.now result.first) (slice_index clause.now p) }
+    ensures next { (p : ℕ) → p < length clause.now → (p ≡ result.first → ⊥) → Outlasts truth.now.trail (slice_index clause.now result.second) (slice_index clause.now p) }
 {
-    if clause.is_empty() {
-        return Entered {
-            low: 0,
-            ask: NOTHING,
+    if truth.length() == 0 {
+        let length = clause.len() as u32;
+        return Watched {
+            first: length - 1,
+            second: length - 2,
+            from: 0,
         };
     }
-    let lit = clause[0];
-    Entered { low: 0, ask: lit.0 }
+    let first = latest(truth, clause, NOWHERE);
+    let second = latest(truth, clause, first);
+    Watched {
+        first,
+        second,
+        from: 0,
+    }
 }
 
 impl Lists {
-    /// Watches two literals of a new clause, if it has that many. In the prefixes of the trail below the result it is not pending.
-    pub fn enter(&mut self, truth: &Truth, clause: &[Lit], slot: u32) -> Entered
+    /// Watches two literals of a new clause. In the prefixes of the trail below the result it is not pending.
+    pub fn enter(&mut self, truth: &Truth, clause: &[Lit], slot: u32) -> u32
         requires small { truth.now.variables ≤ 2147483647 }
         requires below { (p : ℕ) → p < length clause.now → slice_index clause.now p < 2 * truth.now.variables }
         requires short { length clause.now ≤ 4294967295 }
+        requires two { 2 ≤ length clause.now }
         requires codes { length self.old.chains.heads.items ≡ 2 * truth.now.variables + 1 }
         requires room { HasRoom slot self.old.watched.items self.old.chains.nodes.items }
+        requires asks { slot < length self.old.asks.items }
         requires loose { ArePairLoose self.old.chains.heads.items self.old.chains.nodes.items (2 * slot) }
         ensures rest { RestsWith clause.now slot (2 * truth.now.variables) self.old.watched.items self.old.chains.heads.items self.old.chains.nodes.items self.new.watched.items self.new.chains.heads.items self.new.chains.nodes.items }
         ensures free { FreeWith clause.now slot truth.now.trail self.old.watched.items self.new.watched.items }
-        ensures quiet { IsQuietBelow clause.now truth.now.trail result.low }
-        ensures asked { result.low ≤ length truth.now.trail → IsAsked (has_literal truth.now.trail) clause.now result.ask }
-        ensures set { self.new.asking.set.words ≡ self.old.asking.set.words }
-        ensures asks { self.new.asking.asks.items ≡ self.old.asking.asks.items }
+        ensures quiet { IsQuietBelow clause.now truth.now.trail result }
+        ensures asked { result ≤ length truth.now.trail → 2 < length clause.now → IsAsked (has_literal truth.now.trail) clause.now (slice_index self.new.asks.items slot) }
+        ensures asks { (s : ℕ) → (s ≡ slot → ⊥) → slice_index self.new.asks.items s ≡ slice_index self.old.asks.items s }
+        ensures long { length self.new.asks.items ≡ length self.old.asks.items }
+        ensures set { self.new.pending ≡ self.old.pending }
     {
-        if clause.len() < 2 {
-            return enter_short(clause);
-        }
-        let first = latest(truth, clause, NOWHERE);
-        let second = latest(truth, clause, first);
-        self.watched[slot as usize] = Watched {
-            first,
-            second,
-            from: 0,
-        };
-        let a = clause[first as usize];
-        let b = clause[second as usize];
+        let watched = to_watch(truth, clause);
+        self.watched[slot as usize] = watched;
+        let a = clause[watched.first as usize];
+        let b = clause[watched.second as usize];
         self.chains.link_two(2 * slot, a.0, b.0);
-        Entered {
-            low: free_until(truth, b.0) + 1,
-            ask: a.0,
-        }
+        self.asks[slot as usize] = a.0;
+        free_until(truth, b.0) + 1
     }
 }

@@ -1,77 +1,80 @@
+//! The front of the set of clauses that may be pending: its least member is pending, and every clause that is kept and pending is
+//! a member.
 ghost use Rattle.std.specs.Prelude.{◌≡◌, ℕ, ◌*◌, ◌<◌, ◌≤◌, ◌==◌, ◌&&◌, not, length, true, false, slice_index};
 ghost use Rattle.clause_base.specs.Clause.{has_literal};
-ghost use Rattle.number_bits.specs.Bits.{IsLeast, words_have};
-ghost use Rattle.watch_lists.specs.Asking.{AreAsked, IsAsked, IsConsistent};
+ghost use Rattle.number_bits.specs.Bits.{words_have};
+ghost use Rattle.watch_lists.specs.Asking.{IsAsked, AreAsked, IsAskedAt, IsWithin, IsConsistent};
 ghost use Rattle.watch_lists.specs.Pending.{is_pending_on};
+ghost use Rattle.cdcl_rules.specs.Pending.{is_pending};
 ghost use Rattle.cdcl_rules.specs.State.{clause_at};
-ghost use Rattle.watch_lists.specs.Visit.{IsFit};
+ghost use Rattle.watch_lists.specs.Visit.{IsFit, slot_clauses, slot_set, AreSlotsBelow};
 ghost use Rattle.watch_lists.specs.Sound.{IsFront};
 
-use crate::asking::{Asking, NOTHING};
+use crate::left::is_left;
+use crate::pending::Pending;
 use crate::scan::{ask_of, is_pending};
+use crate::slots::slot_clause;
+use number_bits::first::First;
 use number_bits::flat::Flat;
 use number_bits::layer::Layer;
 use number_bits::set::NumberSet;
 use watch_store::store::Store;
 use watch_store::truth::Truth;
 
-/// Whether a clause is kept and pending, by the literal that it asks for.
-fn stands(store: &Store, kept: &[bool], truth: &Truth, asks: &[u32], number: u32) -> bool
-    requires small { truth.now.variables ≤ 2147483647 }
+/// Whether a clause is kept and pending.
+fn stands(
+    store: &Store,
+    kept: &[bool],
+    slots: &[u32],
+    blocks: &[u32],
+    truth: &Truth,
+    asks: &[u32],
+    number: u32,
+) -> bool
     requires fit { IsFit store.now (2 * truth.now.variables) }
     requires kept { length kept.now ≡ length store.now }
-    requires long { length store.now ≤ length asks.now }
+    requires few { length slots.now ≤ 4294967295 }
+    requires long { length slots.now ≤ length asks.now }
     requires consistent { IsConsistent truth.now.trail }
     requires inside { number < length store.now }
-    requires asked { IsAsked (has_literal truth.now.trail) (clause_at store.now number) (slice_index asks.now number) }
+    requires asked { IsAskedAt store.now slots.now (has_literal truth.now.trail) asks.now number }
     ensures { result ≡ is_pending_on store.now kept.now truth.now.trail number }
 {
-    if !kept[number as usize] {
-        return false;
-    }
-    let ask = asks[number as usize];
-    if ask == NOTHING {
-        return true;
-    }
-    !truth.is_true(ask)
+    kept[number as usize] && is_left(store, slots, blocks, truth, asks, number)
 }
 
-/// Takes a number out of the set.
-fn take_out(store: &Store, truth: &Truth, asking: &mut Asking, number: u32)
-    requires inside { number < 64 * length asking.old.set.words }
-    requires asked { AreAsked store.now (has_literal truth.now.trail) asking.old.set.words asking.old.asks.items }
-    ensures has { (k : ℕ) → words_have asking.new.set.words k ≡ (not (k == number) && words_have asking.old.set.words k) }
-    ensures room { length asking.new.set.words ≡ length asking.old.set.words }
-    ensures asks { asking.new.asks.items ≡ asking.old.asks.items }
-    ensures asked { AreAsked store.now (has_literal truth.now.trail) asking.new.set.words asking.new.asks.items }
-{
-    asking.set.remove(number);
-}
-
-/// Takes numbers that are not pending from the front of the set. The result is the least that stays.
-pub fn clean(store: &Store, kept: &[bool], truth: &Truth, asking: &mut Asking) -> Option<u32>
-    requires small { truth.now.variables ≤ 2147483647 }
+/// Takes numbers that are not pending from the front of the set.
+pub fn clean(
+    store: &Store,
+    kept: &[bool],
+    slots: &[u32],
+    blocks: &[u32],
+    truth: &Truth,
+    asks: &[u32],
+    pending: &mut Pending,
+)
     requires fit { IsFit store.now (2 * truth.now.variables) }
     requires kept { length kept.now ≡ length store.now }
-    requires long { length store.now ≤ length asking.old.asks.items }
+    requires few { length slots.now ≤ 4294967295 }
+    requires long { length slots.now ≤ length asks.now }
     requires consistent { IsConsistent truth.now.trail }
-    requires asked { AreAsked store.now (has_literal truth.now.trail) asking.old.set.words asking.old.asks.items }
-    requires complete { (k : ℕ) → is_pending_on store.now kept.now truth.now.trail k ≡ true → words_have asking.old.set.words k ≡ true }
-    ensures front { IsFront (is_pending_on store.now kept.now truth.now.trail) (words_have asking.new.set.words) }
-    ensures least { IsLeast (words_have asking.new.set.words) result }
-    ensures room { length asking.new.set.words ≡ length asking.old.set.words }
-    ensures asks { asking.new.asks.items ≡ asking.old.asks.items }
-    ensures asked { AreAsked store.now (has_literal truth.now.trail) asking.new.set.words asking.new.asks.items }
+    requires room { length store.now ≤ 64 * length pending.old }
+    requires within { IsWithin (length store.now) (words_have pending.old) }
+    requires asked { AreAsked (slot_clauses store.now slots.now) (has_literal truth.now.trail) (slot_set (words_have pending.old) slots.now) asks.now }
+    requires complete { (k : ℕ) → is_pending_on store.now kept.now truth.now.trail k ≡ true → words_have pending.old k ≡ true }
+    ensures front { IsFront (is_pending_on store.now kept.now truth.now.trail) (words_have pending.new) }
+    ensures room { length pending.new ≡ length pending.old }
+    ensures fewer { (k : ℕ) → words_have pending.new k ≡ true → words_have pending.old k ≡ true }
 {
     let mut low: u64 = 0;
     'cleaning: loop {
-        match asking.set.least() {
-            None => return None,
+        match pending.least() {
+            None => return,
             Some(number) => {
-                if stands(store, kept, truth, asking.asks.as_slice(), number) {
-                    return Some(number);
+                if stands(store, kept, slots, blocks, truth, asks, number) {
+                    return;
                 }
-                take_out(store, truth, asking, number);
+                pending.remove(number);
                 low = number as u64 + 1;
             }
         }
@@ -79,17 +82,16 @@ pub fn clean(store: &Store, kept: &[bool], truth: &Truth, asking: &mut Asking) -
 }
 
 /// Takes all numbers from the set.
-pub fn clear(asking: &mut Asking)
-    ensures none { (k : ℕ) → words_have asking.new.set.words k ≡ false }
-    ensures room { length asking.new.set.words ≡ length asking.old.set.words }
-    ensures asks { asking.new.asks.items ≡ asking.old.asks.items }
+pub fn clear(pending: &mut Pending)
+    ensures none { (k : ℕ) → words_have pending.new k ≡ false }
+    ensures room { length pending.new ≡ length pending.old }
 {
     let mut low: u64 = 0;
     'clearing: loop {
-        match asking.set.least() {
+        match pending.least() {
             None => return,
             Some(number) => {
-                asking.set.remove(number);
+                pending.remove(number);
                 low = number as u64 + 1;
             }
         }
@@ -107,41 +109,63 @@ fn is_kept_pending(store: &Store, kept: &[bool], truth: &Truth, number: u32) -> 
 }
 
 /// Puts a clause into the set, if it is kept and pending.
-fn scan_one(store: &Store, kept: &[bool], truth: &Truth, asking: &mut Asking, number: u32)
+fn scan_one(store: &Store, kept: &[bool], truth: &Truth, pending: &mut Pending, number: u32)
     requires fit { IsFit store.now (2 * truth.now.variables) }
     requires kept { length kept.now ≡ length store.now }
     requires inside { number < length store.now }
-    requires long { length store.now ≤ length asking.old.asks.items }
-    requires room { length store.now ≤ 64 * length asking.old.set.words }
-    requires asked { AreAsked store.now (has_literal truth.now.trail) asking.old.set.words asking.old.asks.items }
-    ensures others { (k : ℕ) → (k ≡ number → ⊥) → words_have asking.new.set.words k ≡ words_have asking.old.set.words k }
-    ensures own { is_pending_on store.now kept.now truth.now.trail number ≡ true → words_have asking.new.set.words number ≡ true }
-    ensures none { is_pending_on store.now kept.now truth.now.trail number ≡ false → words_have asking.new.set.words number ≡ words_have asking.old.set.words number }
-    ensures room { length asking.new.set.words ≡ length asking.old.set.words }
-    ensures long { length asking.new.asks.items ≡ length asking.old.asks.items }
-    ensures asked { AreAsked store.now (has_literal truth.now.trail) asking.new.set.words asking.new.asks.items }
+    requires room { length store.now ≤ 64 * length pending.old }
+    ensures others { (k : ℕ) → (k ≡ number → ⊥) → words_have pending.new k ≡ words_have pending.old k }
+    ensures own { is_pending_on store.now kept.now truth.now.trail number ≡ true → words_have pending.new number ≡ true }
+    ensures none { is_pending_on store.now kept.now truth.now.trail number ≡ false → words_have pending.new number ≡ words_have pending.old number }
+    ensures room { length pending.new ≡ length pending.old }
 {
     if !is_kept_pending(store, kept, truth, number) {
         return;
     }
-    let ask = ask_of(truth, store.clause(number));
-    asking.insert(number, ask);
+    pending.insert(number);
 }
 
 /// Makes the set that of the pending clauses.
-pub fn rescan(store: &Store, kept: &[bool], truth: &Truth, asking: &mut Asking)
+pub fn rescan(store: &Store, kept: &[bool], truth: &Truth, pending: &mut Pending)
     requires fit { IsFit store.now (2 * truth.now.variables) }
     requires kept { length kept.now ≡ length store.now }
     requires few { length store.now ≤ 4294967295 }
-    requires long { length store.now ≤ length asking.old.asks.items }
-    requires room { length store.now ≤ 64 * length asking.old.set.words }
-    ensures same { (k : ℕ) → words_have asking.new.set.words k ≡ is_pending_on store.now kept.now truth.now.trail k }
-    ensures room { length asking.new.set.words ≡ length asking.old.set.words }
-    ensures long { length asking.new.asks.items ≡ length asking.old.asks.items }
-    ensures asked { AreAsked store.now (has_literal truth.now.trail) asking.new.set.words asking.new.asks.items }
+    requires room { length store.now ≤ 64 * length pending.old }
+    ensures same { (k : ℕ) → words_have pending.new k ≡ is_pending_on store.now kept.now truth.now.trail k }
+    ensures room { length pending.new ≡ length pending.old }
 {
-    clear(asking);
+    clear(pending);
     for number in 0..kept.len() as u32 {
-        scan_one(store, kept, truth, asking, number);
+        scan_one(store, kept, truth, pending, number);
+    }
+}
+
+/// Notes what the clause of a slot asks for, if it has literals and is pending.
+fn ask_one(store: &Store, slots: &[u32], truth: &Truth, asks: &mut Vec<u32>, slot: u32)
+    requires fit { IsFit store.now (2 * truth.now.variables) }
+    requires slotted { AreSlotsBelow (length store.now) slots.now }
+    requires inside { slot < length slots.now }
+    requires long { length slots.now ≤ length asks.old.items }
+    ensures own { is_pending (has_literal truth.now.trail) (clause_at (slot_clauses store.now slots.now) slot) ≡ true → 2 < length (clause_at (slot_clauses store.now slots.now) slot) → IsAsked (has_literal truth.now.trail) (clause_at (slot_clauses store.now slots.now) slot) (slice_index asks.new.items slot) }
+    ensures others { (s : ℕ) → (s ≡ slot → ⊥) → slice_index asks.new.items s ≡ slice_index asks.old.items s }
+    ensures size { length asks.new.items ≡ length asks.old.items }
+{
+    let clause = slot_clause(store, slots, slot);
+    if !clause.is_empty() && is_pending(truth, clause) {
+        asks[slot as usize] = ask_of(truth, clause);
+    }
+}
+
+/// Notes what the clause of each slot asks for that is pending.
+pub fn ask_all(store: &Store, slots: &[u32], truth: &Truth, asks: &mut Vec<u32>)
+    requires fit { IsFit store.now (2 * truth.now.variables) }
+    requires slotted { AreSlotsBelow (length store.now) slots.now }
+    requires few { length slots.now ≤ 4294967295 }
+    requires long { length slots.now ≤ length asks.old.items }
+    ensures asked { (s : ℕ) → s < length slots.now → is_pending (has_literal truth.now.trail) (clause_at (slot_clauses store.now slots.now) s) ≡ true → 2 < length (clause_at (slot_clauses store.now slots.now) s) → IsAsked (has_literal truth.now.trail) (clause_at (slot_clauses store.now slots.now) s) (slice_index asks.new.items s) }
+    ensures size { length asks.new.items ≡ length asks.old.items }
+{
+    for slot in 0..slots.len() as u32 {
+        ask_one(store, slots, truth, asks, slot);
     }
 }

@@ -1,31 +1,98 @@
-//! What a pending clause leaves: its only literal that is not false.
-ghost use Rattle.std.specs.Prelude.{◌≡◌, ◌*◌, ◌<◌, ◌≤◌, ◌∷◌, [], length, slice_index, MatchOption};
+//! What a pending clause leaves: its only literal that is not false. A clause of more than two literals asks by its slot for the one
+//! literal beside those that are false; one of fewer is read.
+ghost use Rattle.std.specs.Prelude.{◌≡◌, ℕ, ◌*◌, ◌<◌, ◌≤◌, ◌∷◌, [], Bool, true, false, length, slice_index, MatchOption, IfSome};
 ghost use Rattle.clause_base.specs.Clause.{has_literal};
-ghost use Rattle.cdcl_rules.specs.Pending.{open_ones};
-ghost use Rattle.watch_lists.specs.Asking.{IsAsked};
+ghost use Rattle.cdcl_rules.specs.Pending.{open_ones, is_pending};
 ghost use Rattle.cdcl_rules.specs.State.{clause_at};
+ghost use Rattle.watch_lists.specs.Asking.{IsAsked, IsAskedAt, IsConsistent};
+ghost use Rattle.watch_lists.specs.Pending.{is_free};
 ghost use Rattle.watch_lists.specs.Visit.{IsFit};
 
-use crate::asking::NOTHING;
+use crate::scan::{is_pending, left_in};
+use crate::slots::find_slot;
 use clause_base::literal::Lit;
 use watch_store::store::Store;
 use watch_store::truth::Truth;
 
-/// The literal of a clause that is not false, if there is one, by what the clause asks for.
-pub fn left_of(store: &Store, truth: &Truth, asks: &[u32], number: u32) -> Option<Lit>
-    requires small { truth.now.variables ≤ 2147483647 }
-    requires fit { IsFit store.now (2 * truth.now.variables) }
+/// A clause with no more literals than these is read.
+const READ: usize = 2;
+
+/// What the slot of the clause with a number asks for, if it has more than two literals and its slot is found.
+fn asked_by_slot(
+    store: &Store,
+    slots: &[u32],
+    blocks: &[u32],
+    asks: &[u32],
+    number: u32,
+) -> Option<u32>
     requires inside { number < length store.now }
-    requires long { length store.now ≤ length asks.now }
-    requires asked { IsAsked (has_literal truth.now.trail) (clause_at store.now number) (slice_index asks.now number) }
+    requires few { length slots.now ≤ 4294967295 }
+    requires long { length slots.now ≤ length asks.now }
+    ensures { (on : ℕ → Bool) → IsAskedAt store.now slots.now on asks.now number → IfSome result (λ ask. IsAsked on (clause_at store.now number) ask) }
+{
+    if store.clause(number).len() <= READ {
+        return None;
+    }
+    match find_slot(slots, blocks, number) {
+        Some(slot) => Some(asks[slot as usize]),
+        None => None,
+    }
+}
+
+/// The literal that a clause asks for, if it is not false.
+fn left_asked(truth: &Truth, ask: u32) -> Option<Lit>
+    requires { ask < 2 * truth.now.variables }
+    ensures { MatchOption result (is_free (has_literal truth.now.trail) ask ≡ false) (λ lit. (lit ≡ ask) × (is_free (has_literal truth.now.trail) ask ≡ true)) }
+{
+    if truth.is_false(ask) {
+        None
+    } else {
+        Some(Lit(ask))
+    }
+}
+
+/// The literal of a pending clause that is not false, if there is one.
+pub fn left_of(
+    store: &Store,
+    slots: &[u32],
+    blocks: &[u32],
+    truth: &Truth,
+    asks: &[u32],
+    number: u32,
+) -> Option<Lit>
+    requires fit { IsFit store.now (2 * truth.now.variables) }
+    requires few { length slots.now ≤ 4294967295 }
+    requires long { length slots.now ≤ length asks.now }
+    requires inside { number < length store.now }
+    requires pending { is_pending (has_literal truth.now.trail) (clause_at store.now number) ≡ true }
+    requires asked { IsAskedAt store.now slots.now (has_literal truth.now.trail) asks.now number }
     ensures { MatchOption result (open_ones (has_literal truth.now.trail) (clause_at store.now number) ≡ []) (λ lit. open_ones (has_literal truth.now.trail) (clause_at store.now number) ≡ lit ∷ []) }
 {
-    let ask = asks[number as usize];
-    if ask == NOTHING {
-        return None;
+    match asked_by_slot(store, slots, blocks, asks, number) {
+        Some(ask) => left_asked(truth, ask),
+        None => left_in(truth, store.clause(number)),
     }
-    if truth.is_false(ask) {
-        return None;
+}
+
+/// Whether a clause is pending.
+pub fn is_left(
+    store: &Store,
+    slots: &[u32],
+    blocks: &[u32],
+    truth: &Truth,
+    asks: &[u32],
+    number: u32,
+) -> bool
+    requires fit { IsFit store.now (2 * truth.now.variables) }
+    requires few { length slots.now ≤ 4294967295 }
+    requires long { length slots.now ≤ length asks.now }
+    requires consistent { IsConsistent truth.now.trail }
+    requires inside { number < length store.now }
+    requires asked { IsAskedAt store.now slots.now (has_literal truth.now.trail) asks.now number }
+    ensures { result ≡ is_pending (has_literal truth.now.trail) (clause_at store.now number) }
+{
+    match asked_by_slot(store, slots, blocks, asks, number) {
+        Some(ask) => !truth.is_true(ask),
+        None => is_pending(truth, store.clause(number)),
     }
-    Some(Lit(ask))
 }

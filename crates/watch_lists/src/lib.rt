@@ -1,12 +1,12 @@
 //! Which clause is the least that is false or has one literal left: two literals of each clause are watched.
 #![tactic(auto)]
 
-mod asking;
 mod enter;
 mod fall;
 mod front;
 mod left;
 mod pairs;
+mod pending;
 mod place;
 mod room;
 mod scan;

@@ -6,8 +6,9 @@ ghost use Rattle.watch_chains.specs.Linked.{IsLinked, note_of};
 ghost use Rattle.watch_lists.specs.Visit.{no_watches};
 ghost use Rattle.watch_lists.specs.Added.{IsWider, HasRoom};
 
-use crate::asking::{Asking, NOTHING};
+use crate::pending::Pending;
 use crate::visit::{Lists, Watched};
+use number_bits::first::First;
 use number_bits::flat::Flat;
 use number_bits::layer::Layer;
 use number_bits::set::NumberSet;
@@ -15,22 +16,28 @@ use std::alloc::AllocError;
 use watch_chains::chains::Chains;
 
 /// Makes room for a number in a set that has it for all that are less.
-fn widen_set(asking: &mut Asking, number: u32) -> Result<(), AllocError>
+fn widen_set(pending: &mut Pending, number: u32) -> Result<(), AllocError>
     requires few { number < 2147483647 }
-    requires room { number ≤ 64 * length asking.old.set.words }
-    requires long { number ≤ length asking.old.asks.items }
-    ensures room { OnOk result (number < 64 * length asking.new.set.words) }
-    ensures long { OnOk result (number < length asking.new.asks.items) }
-    ensures more { length asking.old.set.words ≤ length asking.new.set.words }
-    ensures more_asks { length asking.old.asks.items ≤ length asking.new.asks.items }
-    ensures same { (k : ℕ) → words_have asking.new.set.words k ≡ words_have asking.old.set.words k }
-    ensures same_asks { (k : ℕ) → k < length asking.old.asks.items → slice_index asking.new.asks.items k ≡ slice_index asking.old.asks.items k }
+    requires room { number ≤ 64 * length pending.old }
+    ensures room { OnOk result (number < 64 * length pending.new) }
+    ensures more { length pending.old ≤ length pending.new }
+    ensures same { (k : ℕ) → words_have pending.new k ≡ words_have pending.old k }
 {
-    if asking.set.room() <= number as u64 {
-        asking.set.grow()?;
+    if pending.room() <= number as u64 {
+        pending.grow()?;
     }
-    if asking.asks.len() <= number as usize {
-        asking.asks.push(NOTHING)?;
+    Ok(())
+}
+
+/// Makes room for what the clause of a slot asks for, where there is room for those of all slots before it.
+fn widen_asks(asks: &mut Vec<u32>, slot: u32) -> Result<(), AllocError>
+    requires many { slot ≤ length asks.old.items }
+    ensures room { OnOk result (slot < length asks.new.items) }
+    ensures more { length asks.old.items ≤ length asks.new.items }
+    ensures same { (s : ℕ) → s < length asks.old.items → slice_index asks.new.items s ≡ slice_index asks.old.items s }
+{
+    if asks.len() <= slot as usize {
+        asks.push(0)?;
     }
     Ok(())
 }
@@ -73,18 +80,19 @@ impl Lists {
     pub fn widen(&mut self, number: u32, slot: u32) -> Result<(), AllocError>
         requires few { number < 2147483647 }
         requires few_slots { slot < 2147483647 }
-        requires set { number ≤ 64 * length self.old.asking.set.words }
-        requires asks { number ≤ length self.old.asking.asks.items }
+        requires set { number ≤ 64 * length self.old.pending }
+        requires asks { slot ≤ length self.old.asks.items }
         requires nodes { 2 * slot ≤ length self.old.chains.nodes.items }
         requires watches { slot ≤ length self.old.watched.items }
         ensures room { OnOk result (HasRoom slot self.new.watched.items self.new.chains.nodes.items) }
-        ensures in_set { OnOk result (number < 64 * length self.new.asking.set.words) }
-        ensures in_asks { OnOk result (number < length self.new.asking.asks.items) }
-        ensures more_asks { length self.old.asking.asks.items ≤ length self.new.asking.asks.items }
-        ensures same_asks { (k : ℕ) → k < length self.old.asking.asks.items → slice_index self.new.asking.asks.items k ≡ slice_index self.old.asking.asks.items k }
-        ensures wider { IsWider self.old.watched.items self.old.chains.heads.items self.old.chains.nodes.items self.old.asking.set.words self.new.watched.items self.new.chains.heads.items self.new.chains.nodes.items self.new.asking.set.words }
+        ensures in_set { OnOk result (number < 64 * length self.new.pending) }
+        ensures in_asks { OnOk result (slot < length self.new.asks.items) }
+        ensures more_asks { length self.old.asks.items ≤ length self.new.asks.items }
+        ensures same_asks { (s : ℕ) → s < length self.old.asks.items → slice_index self.new.asks.items s ≡ slice_index self.old.asks.items s }
+        ensures wider { IsWider self.old.watched.items self.old.chains.heads.items self.old.chains.nodes.items self.old.pending self.new.watched.items self.new.chains.heads.items self.new.chains.nodes.items self.new.pending }
     {
-        widen_set(&mut self.asking, number)?;
+        widen_set(&mut self.pending, number)?;
+        widen_asks(&mut self.asks, slot)?;
         widen_nodes(&mut self.chains, slot)?;
         widen_watches(&mut self.watched, slot)
     }

@@ -1,11 +1,10 @@
-ghost use Rattle.std.specs.Prelude.{◌≡◌, ℕ, ◌*◌, ◌<◌, ◌≤◌, length, true, false, slice_index, MatchOption, IfSome};
+ghost use Rattle.std.specs.Prelude.{◌≡◌, ℕ, ◌*◌, ◌<◌, ◌≤◌, ◌∷◌, [], length, true, false, slice_index, MatchOption, IfSome};
 ghost use Rattle.clause_base.specs.Literal.{opposite};
 ghost use Rattle.clause_base.specs.Clause.{has_literal};
 ghost use Rattle.watch_lists.specs.Asking.{IsAsked};
 ghost use Rattle.watch_lists.specs.Pending.{is_free};
-ghost use Rattle.cdcl_rules.specs.Pending.{is_pending};
+ghost use Rattle.cdcl_rules.specs.Pending.{is_pending, open_ones};
 
-use crate::asking::NOTHING;
 use clause_base::literal::Lit;
 use watch_store::truth::Truth;
 
@@ -29,9 +28,10 @@ pub fn is_pending(truth: &Truth, clause: &[Lit]) -> bool
     true
 }
 
-/// What a pending clause asks for: its literal that is not false, or its first one where all are false.
+/// What a pending clause asks for that has literals: the one that is not false, or its first one where all are false.
 pub fn ask_of(truth: &Truth, clause: &[Lit]) -> u32
     requires below { (p : ℕ) → p < length clause.now → slice_index clause.now p < 2 * truth.now.variables }
+    requires some { 0 < length clause.now }
     requires pending { is_pending (has_literal truth.now.trail) clause.now ≡ true }
     ensures { IsAsked (has_literal truth.now.trail) clause.now result }
 {
@@ -40,11 +40,22 @@ pub fn ask_of(truth: &Truth, clause: &[Lit]) -> u32
             return lit.0;
         }
     }
-    if clause.is_empty() {
-        return NOTHING;
-    }
     let first = clause[0];
     first.0
+}
+
+/// The literal of a pending clause that is not false, if there is one.
+pub fn left_in(truth: &Truth, clause: &[Lit]) -> Option<Lit>
+    requires below { (p : ℕ) → p < length clause.now → slice_index clause.now p < 2 * truth.now.variables }
+    requires pending { is_pending (has_literal truth.now.trail) clause.now ≡ true }
+    ensures { MatchOption result (open_ones (has_literal truth.now.trail) clause.now ≡ []) (λ lit. open_ones (has_literal truth.now.trail) clause.now ≡ lit ∷ []) }
+{
+    for lit in clause {
+        if !truth.is_false(lit.0) {
+            return Some(*lit);
+        }
+    }
+    None
 }
 
 /// A place from `low` up to `high`, other than `skipped`, whose literal is not false.
@@ -57,7 +68,7 @@ pub fn find_free(truth: &Truth, clause: &[Lit], skipped: u32, low: u32, high: u3
 {
     for place in low..high {
         let lit = clause[place as usize];
-        if place != skipped && !truth.is_false(lit.0) {
+        if !truth.is_false(lit.0) && place != skipped {
             return Some(place);
         }
     }

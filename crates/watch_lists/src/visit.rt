@@ -3,12 +3,16 @@ ghost use Rattle.clause_base.specs.Literal.{opposite};
 ghost use Rattle.clause_base.specs.Clause.{has_literal};
 ghost use Rattle.number_bits.specs.Bits.{words_have};
 ghost use Rattle.watch_chains.specs.Linked.{chain_length};
-ghost use Rattle.watch_lists.specs.Asking.{AreAsked};
+ghost use Rattle.watch_lists.specs.Asking.{AreAsked, AreDistinct, IsWithin};
 ghost use Rattle.watch_lists.specs.Visit.{IsFit, IsListed, IsAtRest, IsReal, IsKept, IsOther, Stays, MovesToFree, Grows, AllSettled, AreSlotsBelow, literal_at, place_in, slot_clauses, slot_flags, slot_set};
 
-use crate::asking::Asking;
+use crate::pending::Pending;
 use crate::scan::find_other;
 use crate::slots::{is_slot_kept, slot_clause};
+use number_bits::first::First;
+use number_bits::flat::Flat;
+use number_bits::layer::Layer;
+use number_bits::set::NumberSet;
 use watch_chains::chains::Chains;
 use watch_store::store::Store;
 use watch_store::truth::Truth;
@@ -26,7 +30,10 @@ pub struct Watched {
 pub struct Lists {
     pub chains: Chains,
     pub watched: Vec<Watched>,
-    pub asking: Asking,
+    /// The clauses that may be pending.
+    pub pending: Pending,
+    /// For each slot the literal that its clause asks for, where that is in the set.
+    pub asks: Vec<u32>,
 }
 
 impl Watched {
@@ -72,19 +79,23 @@ impl Lists {
         requires code { code < spare }
         requires fallen { has_literal truth.now.trail (opposite code) ≡ true }
         requires fit { IsFit store.now spare }
+        requires kept { length kept.now ≡ length store.now }
         requires slotted { AreSlotsBelow (length store.now) slots.now }
-        requires room { length store.now ≤ 64 * length self.old.asking.set.words }
-        requires long { length store.now ≤ length self.old.asking.asks.items }
-        requires asked { AreAsked store.now (has_literal truth.now.trail) self.old.asking.set.words self.old.asking.asks.items }
+        requires room { length store.now ≤ 64 * length self.old.pending }
+        requires long { length slots.now ≤ length self.old.asks.items }
+        requires distinct { AreDistinct slots.now }
+        requires within { IsWithin (length store.now) (words_have self.old.pending) }
+        requires asked { AreAsked (slot_clauses store.now slots.now) (has_literal truth.now.trail) (slot_set (words_have self.old.pending) slots.now) self.old.asks.items }
         requires real { IsReal (slot_clauses store.now slots.now) node }
-        requires own { literal_at (slot_clauses store.now slots.now) self.old.watched.items node ≡ code }
-        requires listed { (r : IsListed (slot_clauses store.now slots.now) self.old.watched.items self.old.chains.heads.items self.old.chains.nodes.items spare (IsOther (slot_flags kept.now slots.now) node) (Stays (slot_clauses store.now slots.now) self.old.watched.items (has_literal truth.now.trail) (slot_set (words_have self.old.asking.set.words) slots.now) code)) × (r.on node ≡ None) }
-        ensures listed { IsListed (slot_clauses store.now slots.now) self.new.watched.items self.new.chains.heads.items self.new.chains.nodes.items spare (IsKept (slot_flags kept.now slots.now)) (Stays (slot_clauses store.now slots.now) self.new.watched.items (has_literal truth.now.trail) (slot_set (words_have self.new.asking.set.words) slots.now) code) }
+        requires own { IsKept (slot_flags kept.now slots.now) node → literal_at (slot_clauses store.now slots.now) self.old.watched.items node ≡ code }
+        requires listed { (r : IsListed (slot_clauses store.now slots.now) self.old.watched.items self.old.chains.heads.items self.old.chains.nodes.items spare (IsOther (slot_flags kept.now slots.now) node) (Stays (slot_clauses store.now slots.now) self.old.watched.items (has_literal truth.now.trail) (slot_set (words_have self.old.pending) slots.now) code)) × (r.on node ≡ None) }
+        ensures listed { IsListed (slot_clauses store.now slots.now) self.new.watched.items self.new.chains.heads.items self.new.chains.nodes.items spare (IsKept (slot_flags kept.now slots.now)) (Stays (slot_clauses store.now slots.now) self.new.watched.items (has_literal truth.now.trail) (slot_set (words_have self.new.pending) slots.now) code) }
         ensures moves { MovesToFree (slot_clauses store.now slots.now) self.old.watched.items self.new.watched.items (has_literal truth.now.trail) }
-        ensures grows { Grows (words_have self.old.asking.set.words) (words_have self.new.asking.set.words) }
-        ensures room { length self.new.asking.set.words ≡ length self.old.asking.set.words }
-        ensures long { length self.new.asking.asks.items ≡ length self.old.asking.asks.items }
-        ensures asked { AreAsked store.now (has_literal truth.now.trail) self.new.asking.set.words self.new.asking.asks.items }
+        ensures grows { Grows (words_have self.old.pending) (words_have self.new.pending) }
+        ensures room { length self.new.pending ≡ length self.old.pending }
+        ensures long { length self.new.asks.items ≡ length self.old.asks.items }
+        ensures within { IsWithin (length store.now) (words_have self.new.pending) }
+        ensures asked { AreAsked (slot_clauses store.now slots.now) (has_literal truth.now.trail) (slot_set (words_have self.new.pending) slots.now) self.new.asks.items }
         ensures lengths { chain_length self.new.chains.heads.items self.new.chains.nodes.items code ≡ chain_length self.old.chains.heads.items self.old.chains.nodes.items code }
     {
         let note = self.chains.note(node);
@@ -93,6 +104,9 @@ impl Lists {
             return;
         }
         let slot = node / 2;
+        if !is_slot_kept(kept, slots, slot) {
+            return;
+        }
         let watched = self.watched[slot as usize];
         let clause = slot_clause(store, slots, slot);
         let second = node % 2 == 1;
@@ -112,7 +126,8 @@ impl Lists {
             None => {
                 self.chains.link(node, spare, beside);
                 let number = slots[slot as usize];
-                self.asking.insert(number, beside);
+                self.asks[slot as usize] = beside;
+                self.pending.insert(number);
             }
         }
     }
@@ -133,17 +148,20 @@ impl Lists {
         requires fit { IsFit store.now spare }
         requires kept { length kept.now ≡ length store.now }
         requires slotted { AreSlotsBelow (length store.now) slots.now }
-        requires room { length store.now ≤ 64 * length self.old.asking.set.words }
-        requires long { length store.now ≤ length self.old.asking.asks.items }
-        requires asked { AreAsked store.now (has_literal truth.now.trail) self.old.asking.set.words self.old.asking.asks.items }
+        requires room { length store.now ≤ 64 * length self.old.pending }
+        requires long { length slots.now ≤ length self.old.asks.items }
+        requires distinct { AreDistinct slots.now }
+        requires within { IsWithin (length store.now) (words_have self.old.pending) }
+        requires asked { AreAsked (slot_clauses store.now slots.now) (has_literal truth.now.trail) (slot_set (words_have self.old.pending) slots.now) self.old.asks.items }
         requires rest { IsAtRest (slot_clauses store.now slots.now) self.old.watched.items self.old.chains.heads.items self.old.chains.nodes.items spare (slot_flags kept.now slots.now) }
         ensures rest { IsAtRest (slot_clauses store.now slots.now) self.new.watched.items self.new.chains.heads.items self.new.chains.nodes.items spare (slot_flags kept.now slots.now) }
-        ensures settled { AllSettled (slot_clauses store.now slots.now) self.new.watched.items (has_literal truth.now.trail) (slot_set (words_have self.new.asking.set.words) slots.now) code (slot_flags kept.now slots.now) }
+        ensures settled { AllSettled (slot_clauses store.now slots.now) self.new.watched.items (has_literal truth.now.trail) (slot_set (words_have self.new.pending) slots.now) code (slot_flags kept.now slots.now) }
         ensures moves { MovesToFree (slot_clauses store.now slots.now) self.old.watched.items self.new.watched.items (has_literal truth.now.trail) }
-        ensures grows { Grows (words_have self.old.asking.set.words) (words_have self.new.asking.set.words) }
-        ensures room { length self.new.asking.set.words ≡ length self.old.asking.set.words }
-        ensures long { length self.new.asking.asks.items ≡ length self.old.asking.asks.items }
-        ensures asked { AreAsked store.now (has_literal truth.now.trail) self.new.asking.set.words self.new.asking.asks.items }
+        ensures grows { Grows (words_have self.old.pending) (words_have self.new.pending) }
+        ensures room { length self.new.pending ≡ length self.old.pending }
+        ensures long { length self.new.asks.items ≡ length self.old.asks.items }
+        ensures within { IsWithin (length store.now) (words_have self.new.pending) }
+        ensures asked { AreAsked (slot_clauses store.now slots.now) (has_literal truth.now.trail) (slot_set (words_have self.new.pending) slots.now) self.new.asks.items }
     {
         'visits: loop {
             match self.chains.pop(code) {
@@ -152,9 +170,7 @@ impl Lists {
                     return;
                 }
                 Some(node) => {
-                    if is_slot_kept(kept, slots, node / 2) {
-                        self.visit(store, kept, slots, truth, spare, code, node);
-                    }
+                    self.visit(store, kept, slots, truth, spare, code, node);
                 }
             }
         }

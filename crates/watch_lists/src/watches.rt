@@ -8,17 +8,18 @@ ghost use Rattle.number_bits.specs.Bits.{words_have};
 ghost use Rattle.watch_lists.specs.Pending.{WatchesView};
 ghost use Rattle.watch_lists.specs.Visit.{Grows};
 
-use crate::asking::{Asking, Pending};
-use crate::enter::Entered;
-use crate::front::{clean, clear, rescan};
+use crate::front::{ask_all, clean, clear, rescan};
 use crate::left::left_of;
 use crate::pairs::{Pairs, mark_all};
+use crate::pending::{Pending, no_pending};
 use crate::place::place;
+use crate::slots::{begin_block, blocks_of};
 use crate::visit::Lists;
 use clause_base::clause::Clause;
 use clause_base::formula::Formula;
 use clause_base::literal::Lit;
 use clause_base::memory::Memory;
+use number_bits::first::First;
 use number_bits::flat::Flat;
 use number_bits::layer::Layer;
 use number_bits::set::NumberSet;
@@ -41,8 +42,8 @@ pub struct Watches {
     truth: Truth,
     pairs: Pairs,
     slots: Vec<u32>,
+    blocks: Vec<u32>,
     lists: Lists,
-    least: Option<u32>,
     quiet: Vec<bool>,
 }
 
@@ -51,14 +52,14 @@ impl Model for Watches {
     ghost use Rattle.watch_lists.specs.Pending.{WatchesView};
     ghost use Rattle.watch_lists.specs.Pairs.{IsPaired};
     ghost use Rattle.watch_lists.specs.Asking.{IsAsking};
-    ghost use Rattle.number_bits.specs.Bits.{IsLeast, words_have};
+    ghost use Rattle.number_bits.specs.Bits.{words_have};
     ghost use Rattle.watch_lists.specs.Sound.{IsSound};
 
     ghost Value = { WatchesView };
 
     ghost view = { λ w. record { variables = w.variables; clauses = w.store; kept = w.kept.items; trail = w.truth.trail } };
 
-    ghost invariant = { λ w. IsSound w.variables w.truth.variables w.store w.kept.items w.truth.trail w.slots.items w.lists.watched.items w.lists.chains.heads.items w.lists.chains.nodes.items w.lists.asking.set.words w.quiet.items × IsPaired w.variables w.store w.slots.items w.pairs × IsAsking w.store w.truth.trail w.lists.asking.set.words w.lists.asking.asks.items × IsLeast (words_have w.lists.asking.set.words) w.least };
+    ghost invariant = { λ w. IsSound w.variables w.truth.variables w.store w.kept.items w.truth.trail w.slots.items w.lists.watched.items w.lists.chains.heads.items w.lists.chains.nodes.items w.lists.pending w.quiet.items × IsPaired w.variables w.store w.slots.items w.pairs × IsAsking w.store w.truth.trail w.slots.items w.lists.pending w.lists.asks.items };
 }
 
 /// Takes the flags of the lengths from one up to another away.
@@ -73,30 +74,26 @@ fn unquiet(quiet: &mut Vec<bool>, low: u32, high: u32)
     }
 }
 
-/// Puts a new clause into the set, unless it is pending on the trail in none of its prefixes, nor on the whole. Of the lengths
-/// below the whole one it keeps the flags of those in whose prefixes the clause is not pending.
-fn raise(truth: &Truth, asking: &mut Asking, quiet: &mut Vec<bool>, number: u32, new: Entered)
-    requires number { number < 64 * length asking.old.set.words }
-    requires room { number < length asking.old.asks.items }
+/// Puts a new clause into the set, unless it is pending on the trail in none of its prefixes, nor on the whole. In the prefixes
+/// below a length it is not pending; of the lengths below the whole one it keeps the flags of those alone.
+fn raise(truth: &Truth, pending: &mut Pending, quiet: &mut Vec<bool>, number: u32, low: u32)
+    requires number { number < 64 * length pending.old }
     requires long { truth.now.variables < length quiet.old.items }
-    ensures grows { Grows (words_have asking.old.set.words) (words_have asking.new.set.words) }
-    ensures own { new.low ≤ length truth.now.trail → words_have asking.new.set.words number ≡ true }
-    ensures others { (k : ℕ) → (k ≡ number → ⊥) → words_have asking.new.set.words k ≡ words_have asking.old.set.words k }
-    ensures none { length truth.now.trail < new.low → asking.new.set.words ≡ asking.old.set.words }
-    ensures ask { new.low ≤ length truth.now.trail → slice_index asking.new.asks.items number ≡ new.ask }
-    ensures asks { (k : ℕ) → (k ≡ number → ⊥) → slice_index asking.new.asks.items k ≡ slice_index asking.old.asks.items k }
-    ensures room { length asking.new.set.words ≡ length asking.old.set.words }
-    ensures long { length asking.new.asks.items ≡ length asking.old.asks.items }
+    ensures grows { Grows (words_have pending.old) (words_have pending.new) }
+    ensures own { low ≤ length truth.now.trail → words_have pending.new number ≡ true }
+    ensures others { (k : ℕ) → (k ≡ number → ⊥) → words_have pending.new k ≡ words_have pending.old k }
+    ensures none { length truth.now.trail < low → pending.new ≡ pending.old }
+    ensures room { length pending.new ≡ length pending.old }
     ensures size { length quiet.new.items ≡ length quiet.old.items }
-    ensures below { (n : ℕ) → n < new.low → slice_index_or quiet.new.items n false ≡ slice_index_or quiet.old.items n false }
-    ensures off { (n : ℕ) → new.low ≤ n → n < length truth.now.trail → slice_index_or quiet.new.items n false ≡ false }
+    ensures below { (n : ℕ) → n < low → slice_index_or quiet.new.items n false ≡ slice_index_or quiet.old.items n false }
+    ensures off { (n : ℕ) → low ≤ n → n < length truth.now.trail → slice_index_or quiet.new.items n false ≡ false }
 {
     let length = truth.length();
-    if new.low > length {
+    if low > length {
         return;
     }
-    unquiet(quiet, new.low, length);
-    asking.insert(number, new.ask);
+    unquiet(quiet, low, length);
+    pending.insert(number);
 }
 
 /// For each length of the trail up to the whole one, that something may be pending there.
@@ -107,56 +104,64 @@ fn no_quiet(alloc: Global, variables: u32) -> Result<Vec<bool>, Memory>
     Ok(vec![in alloc; false; variables as usize + 1]?)
 }
 
-/// How many literals the clauses of a formula have.
-fn literal_count(formula: &Formula) -> usize {
-    let mut count: usize = 0;
-    for number in 0..formula.count() {
-        count = count.saturating_add(formula.clause(number).len());
-    }
-    count
+/// How many literals the clauses of a formula have, and how many of the clauses have more than two.
+#[derive(Clone, Copy, Debug)]
+struct Sizes {
+    literals: usize,
+    longs: usize,
 }
 
-/// An empty set of clauses.
-fn no_pending(alloc: Global) -> Pending
-    ensures { (k : ℕ) → words_have result.words k ≡ false }
-{
-    Layer::new(
-        alloc,
-        Layer::new(alloc, Layer::new(alloc, Flat::new(alloc))),
-    )
+/// The sizes of a formula, by which each table is made with its room at once.
+fn sizes_of(formula: &Formula) -> Sizes {
+    let mut literals: usize = 0;
+    let mut longs: usize = 0;
+    for number in 0..formula.count() {
+        let length = formula.clause(number).len();
+        literals = literals.saturating_add(length);
+        if length > 2 {
+            longs = longs.saturating_add(1);
+        }
+    }
+    Sizes { literals, longs }
 }
 
 impl Watches {
-    /// No clauses over a formula's variables, none of which has a value, with room for the formula's clauses of two literals.
+    /// No clauses over a formula's variables, none of which has a value, with room for the formula's clauses.
     fn empty(alloc: Global, formula: &Formula) -> Result<Watches, Memory>
         ensures { IfOk result (λ w. w ≡ record { variables = formula.now.variables; clauses = []; kept = []; trail = [] }) }
     {
         let variables = formula.variables();
+        let sizes = sizes_of(formula);
+        let count = formula.count();
         let mut store = Store::new(alloc);
-        store.reserve(literal_count(formula), formula.count() as usize)?;
-        let kept = Vec::with_capacity(alloc, formula.count() as usize)?;
+        store.reserve(sizes.literals, count as usize)?;
+        let kept = Vec::with_capacity(alloc, count as usize)?;
         let truth = Truth::new(alloc, variables)?;
         let pairs = Pairs::new(alloc, formula)?;
+        let slots = Vec::with_capacity(alloc, sizes.longs)?;
+        let blocks = Vec::with_capacity(alloc, blocks_of(count))?;
         let quiet = no_quiet(alloc, variables)?;
-        let chains = Chains::new(alloc, 2 * variables + 1)?;
-        let watched = Vec::new(alloc);
-        let asking = Asking {
-            set: no_pending(alloc),
-            asks: Vec::with_capacity(alloc, formula.count() as usize)?,
-        };
+        let chains = Chains::new(
+            alloc,
+            2 * variables + 1,
+            sizes.longs.saturating_add(sizes.longs),
+        )?;
+        let watched = Vec::with_capacity(alloc, sizes.longs)?;
+        let asks = Vec::with_capacity(alloc, sizes.longs)?;
         Ok(Watches {
             variables,
             store,
             kept,
             truth,
             pairs,
-            slots: Vec::new(alloc),
+            slots,
+            blocks,
             lists: Lists {
                 chains,
                 watched,
-                asking,
+                pending: no_pending(alloc),
+                asks,
             },
-            least: None,
             quiet,
         })
     }
@@ -166,8 +171,10 @@ impl Watches {
         ensures { IfOk result (λ w. w ≡ record { variables = formula.now.variables; clauses = formula.now.clauses; kept = replicate (length formula.now.clauses) true; trail = [] }) }
     {
         let mut watches = Watches::empty(alloc, formula)?;
+        let mut lits = Vec::new(alloc);
         for number in 0..formula.count() {
-            watches.add_sorted(formula.clause(number))?;
+            formula.clause(number).copy_into(&mut lits)?;
+            watches.add_sorted(&lits)?;
         }
         Ok(watches)
     }
@@ -198,10 +205,11 @@ impl Watches {
         let slot = self.slots.len() as u32;
         self.kept.reserve(1)?;
         self.slots.reserve(1)?;
+        begin_block(&mut self.blocks, number, slot)?;
         self.lists.widen(number, slot)?;
         self.store.push(clause)?;
         self.kept.push(true)?;
-        let entered = place(
+        let low = place(
             &mut self.pairs,
             &mut self.slots,
             &mut self.lists,
@@ -211,18 +219,20 @@ impl Watches {
         )?;
         raise(
             &self.truth,
-            &mut self.lists.asking,
+            &mut self.lists.pending,
             &mut self.quiet,
             number,
-            entered,
+            low,
         );
-        let least = clean(
+        clean(
             &self.store,
             self.kept.as_slice(),
+            self.slots.as_slice(),
+            self.blocks.as_slice(),
             &self.truth,
-            &mut self.lists.asking,
+            self.lists.asks.as_slice(),
+            &mut self.lists.pending,
         );
-        self.least = least;
         Ok(())
     }
 
@@ -234,7 +244,8 @@ impl Watches {
         ensures { self.new ≡ record self.old { trail = self.old.trail ++ lit ∷ [] } }
     {
         let length = self.truth.length();
-        self.quiet[length as usize] = self.least.is_none();
+        let least = self.lists.pending.least();
+        self.quiet[length as usize] = least.is_none();
         self.truth.push(lit.0);
         let fallen = lit.opposite();
         mark_all(
@@ -242,7 +253,7 @@ impl Watches {
             self.pairs.of(fallen.0),
             &self.truth,
             fallen.0,
-            &mut self.lists.asking,
+            &mut self.lists.pending,
         );
         let spare = 2 * self.variables;
         self.lists.visit_all(
@@ -253,13 +264,15 @@ impl Watches {
             spare,
             fallen.0,
         );
-        let least = clean(
+        clean(
             &self.store,
             self.kept.as_slice(),
+            self.slots.as_slice(),
+            self.blocks.as_slice(),
             &self.truth,
-            &mut self.lists.asking,
+            self.lists.asks.as_slice(),
+            &mut self.lists.pending,
         );
-        self.least = least;
     }
 
     /// Takes back what stands above a length of the trail. It takes no memory.
@@ -271,17 +284,20 @@ impl Watches {
         }
         self.truth.cut(length);
         if self.quiet[length as usize] {
-            clear(&mut self.lists.asking);
-            self.least = None;
+            clear(&mut self.lists.pending);
         } else {
             rescan(
                 &self.store,
                 self.kept.as_slice(),
                 &self.truth,
-                &mut self.lists.asking,
+                &mut self.lists.pending,
             );
-            let least = self.lists.asking.set.least();
-            self.least = least;
+            ask_all(
+                &self.store,
+                self.slots.as_slice(),
+                &self.truth,
+                &mut self.lists.asks,
+            );
         }
     }
 
@@ -291,13 +307,15 @@ impl Watches {
         ensures { self.new ≡ record self.old { kept = slice_set self.old.kept number false } }
     {
         self.kept[number as usize] = false;
-        let least = clean(
+        clean(
             &self.store,
             self.kept.as_slice(),
+            self.slots.as_slice(),
+            self.blocks.as_slice(),
             &self.truth,
-            &mut self.lists.asking,
+            self.lists.asks.as_slice(),
+            &mut self.lists.pending,
         );
-        self.least = least;
     }
 
     /// The literals of the clause with a number; it may have been removed.
@@ -315,8 +333,10 @@ impl Watches {
     {
         left_of(
             &self.store,
+            self.slots.as_slice(),
+            self.blocks.as_slice(),
             &self.truth,
-            self.lists.asking.asks.as_slice(),
+            self.lists.asks.as_slice(),
             number,
         )
     }
@@ -325,6 +345,6 @@ impl Watches {
     pub fn least_pending(&self) -> Option<u32>
         ensures { result ≡ least_from (is_pending_in self.now.clauses self.now.kept (has_literal self.now.trail)) 0 (length self.now.clauses) }
     {
-        self.least
+        self.lists.pending.least()
     }
 }

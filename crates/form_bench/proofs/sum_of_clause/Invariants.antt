@@ -1,5 +1,5 @@
 use Rattle.std.proofs.Common.{◌<◌}
 use Rattle.form_bench.proofs.sum_of_clause.Given as goal
 
-abbrev pub invariant-loop-lit : goal.invariant-loop-lit
-invariant-loop-lit l = l.total < 2147483648
+abbrev pub invariant-loop-place : goal.invariant-loop-place
+invariant-loop-place l = l.total < 2147483648

@@ -1,4 +1,5 @@
 use Rattle.gt_core.proofs.RunLaw.{runs_in_order}
+use Rattle.gt_core.proofs.EachOrder.{itself, each_order}
 use Rattle.gt_core.proofs.StepLaw.{step_of_one, step_of_none}
 use Rattle.gt_core.proofs.PublishedLaw.{published_keeps_apart}
 use Rattle.gt_core.proofs.UniqueLaw.{published_same, each_once}
@@ -7,6 +8,12 @@ use Rattle.gt_core.proofs.laws.laws.Goals as goal
 
 pub returns-clause-runs_in_order : goal.returns-clause-runs_in_order
 returns-clause-runs_in_order c = runs_in_order
+
+pub returns-clause-never_itself : goal.returns-clause-never_itself
+returns-clause-never_itself c = itself
+
+pub returns-clause-each_order : goal.returns-clause-each_order
+returns-clause-each_order c = each_order
 
 pub returns-clause-one_action : goal.returns-clause-one_action
 returns-clause-one_action c = step_of_one

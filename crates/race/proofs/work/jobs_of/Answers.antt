@@ -1,39 +1,18 @@
-use Rattle.std.proofs.Common.{arith, ◌≡◌, ◌+◌, ◌≤◌, ℕ, [], ◌∷◌, ◌++◌, ◌∙◌, List, length, length-append, append_assoc, slice_index, ap, sym, subst, rules}
+use Rattle.std.proofs.Common.{◌≡◌, false, map, ◌∙◌, sym, ap, subst}
+use Rattle.std.specs.List.{AllByRecursion}
+use Rattle.std.proofs.lemmas.Result.{IfOk-weaker}
 use Rattle.solver_pool.specs.Job.{JobView}
 use Rattle.horizon_run.specs.Run.{RunView}
-use Rattle.race.specs.Runs.{Fits}
-use Rattle.race.proofs.Packed.{jobs_at-push, grant_at}
+use Rattle.race.specs.Runs.{jobs_at, run_at, moved_all}
+use Rattle.race.proofs.Packed.{at_targets, jobs_sound}
 use Rattle.race.proofs.work.jobs_of.Goals as goal
 
-pub bounds-grants-len : goal.bounds-grants-len
-bounds-grants-len c =
-    let whole : c.loop-run.yielded ++ c.in-Some.run' ∷ c.next.new.self.rest.items ≡ c.args.runs.items = search rules in
-    (grant_at _ _ _ _ _ _ whole c.requires (c.len.ensures ∙ c.loop-run.invariant.many)).there
+pub returns-clause-sound : goal.returns-clause-sound
+returns-clause-sound c =
+    IfOk-weaker c.list_jobs.result (λ jobs. jobs.items ≡ jobs_at c.args.runs.items c.args.grants.now) (λ jobs. AllByRecursion (λ (j : JobView RunView). j.run.spoilt ≡ false) jobs.items)
+    (λ jobs is. subst (AllByRecursion (λ (j : JobView RunView). j.run.spoilt ≡ false)) (sym is) (jobs_sound c.args.runs.items c.args.grants.now c.requires.sound)) c.list_jobs.ensures
 
-pub overflow_add-target : goal.overflow_add-target
-overflow_add-target c =
-    let whole : c.loop-run.yielded ++ c.in-Some.run' ∷ c.next.new.self.rest.items ≡ c.args.runs.items = search rules in
-    let few = (grant_at _ _ _ _ _ _ whole c.requires (c.len.ensures ∙ c.loop-run.invariant.many)).few in
-    omega (arith, few, c.granted.ensures.value)
-
-pub invariant_of-push : goal.invariant_of-push
-invariant_of-push c =
-    let whole : c.loop-run.yielded ++ c.in-Some.run' ∷ c.next.new.self.rest.items ≡ c.args.runs.items = search rules in
-    let few = (grant_at _ _ _ _ _ _ whole c.requires (c.len.ensures ∙ c.loop-run.invariant.many)).few in
-    (omega (arith, c.granted.ensures.value), omega (arith, few, c.granted.ensures.value))
-
-pub loop-run-preserved : goal.loop-run-preserved
-loop-run-preserved c =
-    let r = c.in-Some.run' in
-    let gs = c.args.grants.now in
-    let rest = c.next.new.self.rest.items in
-    let whole : c.loop-run.yielded ++ r ∷ rest ≡ c.args.runs.items = search rules in
-    let at : c.len.result ≡ length c.loop-run.yielded = c.len.ensures ∙ c.loop-run.invariant.many in
-    let target : c.granted.result + slice_index gs c.len.result ≡ r.granted + slice_index gs (length c.loop-run.yielded) = ap (λ (n : ℕ). n + slice_index gs c.len.result) c.granted.ensures.value ∙ ap (λ (n : ℕ). r.granted + slice_index gs n) at in
-    let job : JobView RunView = record { run = r; target = c.granted.result + slice_index gs c.len.result } in
-    let items : c.push.new.self.items ≡ c.loop-run.jobs.items ++ job ∷ [] = search rules in
-    record {
-      whole = append_assoc c.loop-run.yielded (r ∷ []) rest ∙ whole;
-      many = omega (arith, ap length items, length-append c.loop-run.jobs.items (job ∷ []), c.loop-run.invariant.many, length-append c.loop-run.yielded (r ∷ []));
-      jobs = items ∙ (λ i. c.loop-run.invariant.jobs i ++ record { run = r; target = target i } ∷ []) ∙ jobs_at-push c.loop-run.yielded r rest gs (subst (λ (rs : List RunView). Fits rs gs) (sym whole) c.requires);
-    }
+pub returns-clause-moved : goal.returns-clause-moved
+returns-clause-moved c =
+    IfOk-weaker c.list_jobs.result (λ jobs. jobs.items ≡ jobs_at c.args.runs.items c.args.grants.now) (λ jobs. map run_at jobs.items ≡ moved_all c.args.runs.items c.args.grants.now)
+    (λ jobs is. ap (map run_at) is ∙ at_targets c.args.runs.items c.args.grants.now c.requires.fits) c.list_jobs.ensures

@@ -1,4 +1,4 @@
-use Rattle.std.proofs.Common.{◌+◌, ◌<◌, ℕ, ap, sym, ◌∙◌, refl, drop, subst}
+use Rattle.std.proofs.Common.{◌+◌, ap, ◌∙◌, refl, drop}
 use Rattle.gt_core.specs.Layout.{action_at, chain_at}
 use Rattle.gt_core.proofs.Basics.{or_right}
 use Rattle.step_chains.specs.Chains.{LinkedChain}

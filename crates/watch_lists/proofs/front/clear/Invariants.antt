@@ -4,9 +4,8 @@ use Rattle.watch_lists.proofs.front.clear.Given as goal
 
 abbrev pub invariant-clearing : goal.invariant-clearing
 invariant-clearing l = record {
-  room : length l.asking.set.words ≡ length l.initial.asking.set.words;
-  none : (k : ℕ) → k < l.low → words_have l.asking.set.words k ≡ false;
-  asks : l.asking.asks.items ≡ l.initial.asking.asks.items;
+  room : length l.pending ≡ length l.initial.pending;
+  none : (k : ℕ) → k < l.low → words_have l.pending k ≡ false;
   low : l.low ≤ 4294967296;
 }
 

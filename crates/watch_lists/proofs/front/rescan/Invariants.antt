@@ -1,15 +1,11 @@
 use Rattle.std.proofs.Common.{◌≡◌, ℕ, ◌<◌, ◌≤◌, length, false}
 use Rattle.number_bits.specs.Bits.{words_have}
-use Rattle.clause_base.specs.Clause.{has_literal}
-use Rattle.watch_lists.specs.Asking.{AreAsked}
 use Rattle.watch_lists.specs.Pending.{is_pending_on}
 use Rattle.watch_lists.proofs.front.rescan.Given as goal
 
 abbrev pub invariant-loop-number : goal.invariant-loop-number
 invariant-loop-number l = record {
-  room : length l.asking.set.words ≡ length l.initial.asking.set.words;
-  long : length l.asking.asks.items ≡ length l.initial.asking.asks.items;
-  asked : AreAsked l.store (has_literal l.truth.trail) l.asking.set.words l.asking.asks.items;
-  before : (k : ℕ) → k < l.number → words_have l.asking.set.words k ≡ is_pending_on l.store l.kept l.truth.trail k;
-  after : (k : ℕ) → l.number ≤ k → words_have l.asking.set.words k ≡ false;
+  room : length l.pending ≡ length l.initial.pending;
+  before : (k : ℕ) → k < l.number → words_have l.pending k ≡ is_pending_on l.store l.kept l.truth.trail k;
+  after : (k : ℕ) → l.number ≤ k → words_have l.pending k ≡ false;
 }

@@ -1,18 +1,23 @@
-use Rattle.std.proofs.Common.{arith, ◌*◌, not, Bool, get_or, sym, ap, ◌∙◌}
+use Rattle.std.proofs.Common.{◌≡◌, ◌*◌, ◌∷◌, [], ℕ, List, true, MatchOption, sym, ◌∙◌, subst}
 use Rattle.clause_base.specs.Clause.{has_literal}
+use Rattle.cdcl_rules.specs.Pending.{open_ones, is_pending}
 use Rattle.cdcl_rules.specs.State.{clause_at}
-use Rattle.watch_lists.proofs.Asks.{ask_below}
-use Rattle.watch_lists.proofs.Lefts.{left_one, left_none, left_nothing}
+use Rattle.watch_lists.proofs.Filters.{clause_is}
+use Rattle.watch_lists.proofs.Asks.{ask_below, fit_read}
+use Rattle.watch_lists.proofs.Lefts.{left_by}
 use Rattle.watch_lists.proofs.left.left_of.Goals as goal
 
-pub is_false-requires : goal.is_false-requires
-is_false-requires c = ask_below c.args.store.now (has_literal c.args.truth.now.trail) c.args.number (get_or c.args.asks.now c.args.number 0) (2 * c.args.truth.now.variables) c.requires.fit c.requires.asked c.if-ask.false
+pub left_asked-requires : goal.left_asked-requires
+left_asked-requires c = ask_below c.args.store.now (has_literal c.args.truth.now.trail) c.args.number c.in-Some.ask (2 * c.args.truth.now.variables) c.requires.fit (c.in-Some.ensures (has_literal c.args.truth.now.trail) c.requires.asked)
 
-pub returns-then-ask : goal.returns-then-ask
-returns-then-ask c = left_nothing (2 * c.args.truth.now.variables) (has_literal c.args.truth.now.trail) (clause_at c.args.store.now c.args.number) (get_or c.args.asks.now c.args.number 0) (c.requires.fit.below c.args.number) (omega (arith, c.requires.small)) c.requires.asked c.if-ask.true
+pub returns-in-Some : goal.returns-in-Some
+returns-in-Some c = left_by (has_literal c.args.truth.now.trail) (clause_at c.args.store.now c.args.number) c.in-Some.ask c.left_asked.result (c.in-Some.ensures (has_literal c.args.truth.now.trail) c.requires.asked) c.left_asked.ensures
 
-pub returns-then-is_false : goal.returns-then-is_false
-returns-then-is_false c = left_none (has_literal c.args.truth.now.trail) (clause_at c.args.store.now c.args.number) (get_or c.args.asks.now c.args.number 0) c.requires.asked (ap (λ (b : Bool). not b) (sym c.is_false.ensures ∙ c.if-is_false.true))
+pub left_in-requires-clause-below : goal.left_in-requires-clause-below
+left_in-requires-clause-below c = fit_read c.args.store.now (2 * c.args.truth.now.variables) c.args.number c.clause.result.now c.requires.fit c.clause.ensures
 
-pub returns : goal.returns
-returns c = left_one (has_literal c.args.truth.now.trail) (clause_at c.args.store.now c.args.number) (get_or c.args.asks.now c.args.number 0) c.requires.asked c.if-ask.false (ap (λ (b : Bool). not b) (sym c.is_false.ensures ∙ c.if-is_false.false))
+pub left_in-requires-clause-pending : goal.left_in-requires-clause-pending
+left_in-requires-clause-pending c = subst (λ (xs : List ℕ). is_pending (has_literal c.args.truth.now.trail) xs ≡ true) (clause_is c.args.store.now c.args.number ∙ sym c.clause.ensures) c.requires.pending
+
+pub returns-in-None : goal.returns-in-None
+returns-in-None c = subst (λ (xs : List ℕ). MatchOption c.left_in.result (open_ones (has_literal c.args.truth.now.trail) xs ≡ []) (λ (lit : ℕ). open_ones (has_literal c.args.truth.now.trail) xs ≡ lit ∷ [])) (c.clause.ensures ∙ sym (clause_is c.args.store.now c.args.number)) c.left_in.ensures

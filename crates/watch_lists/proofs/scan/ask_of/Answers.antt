@@ -4,8 +4,7 @@ use Rattle.clause_base.specs.Literal.{opposite}
 use Rattle.clause_base.specs.Clause.{has_literal}
 use Rattle.watch_lists.specs.Pending.{is_free}
 use Rattle.watch_lists.specs.Asking.{IsAsked}
-use Rattle.watch_lists.proofs.Assigns.{equal_of, apart_of}
-use Rattle.watch_lists.proofs.Asks.{ask_found, ask_none, ask_empty}
+use Rattle.watch_lists.proofs.Asks.{ask_found, ask_none}
 use Rattle.watch_lists.proofs.scan.ask_of.Goals as goal
 
 pub returns-then-not-is_false : goal.returns-then-not-is_false
@@ -18,14 +17,9 @@ returns-then-not-is_false c =
     let f : is_free on (get_or xs i 0) ≡ true = ap (λ (x : ℕ). not (on (opposite x))) (sym e) ∙ ap (λ (b : Bool). not b) (sym c.is_false.ensures ∙ c.if-not-is_false.true) in
     subst (λ (l : ℕ). IsAsked on xs l) (sym e) (ask_found on xs i h f c.requires.pending)
 
-pub returns-then-is_empty : goal.returns-then-is_empty
-returns-then-is_empty c = ask_empty (has_literal c.args.truth.now.trail) c.args.clause.now (equal_of (length c.args.clause.now) 0 (sym c.is_empty.ensures ∙ c.if-is_empty.true))
-
 pub returns : goal.returns
 returns c =
     let xs = c.args.clause.now in
     let on = has_literal c.args.truth.now.trail in
-    let ne : length xs ≢ 0 = apart_of (length xs) 0 (sym c.is_empty.ensures ∙ c.if-is_empty.false) in
-    let some : 0 < length xs = omega (arith, ne) in
-    let e : c.first.inside.0 ≡ get_or xs 0 0 = c.first.view_is ∙ get_or_read xs 0 c.index-clause-0.result some c.index-clause-0.is 0 in
-    subst (λ (l : ℕ). IsAsked on xs l) (sym e) (ask_none on xs (λ j h. c.loop-lit.invariant j (omega (arith, h, c.loop-lit-test.false))) some)
+    let e : c.first.inside.0 ≡ get_or xs 0 0 = c.first.view_is ∙ get_or_read xs 0 c.index-clause-0.result c.requires.some c.index-clause-0.is 0 in
+    subst (λ (l : ℕ). IsAsked on xs l) (sym e) (ask_none on xs (λ j h. c.loop-lit.invariant j (omega (arith, h, c.loop-lit-test.false))) c.requires.some)

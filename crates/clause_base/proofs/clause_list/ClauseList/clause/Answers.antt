@@ -1,8 +1,7 @@
-use Rattle.std.proofs.Common.{arith, ◌≡◌, ◌∙◌, sym, ap, List, ℕ, All, Some, length, slice_get, subst}
-use Rattle.std.proofs.lemmas.Option.{get_or_from_slice_get, slice_get_within}
+use Rattle.std.proofs.Common.{arith, ◌≡◌, ◌∙◌, sym, ap, List, ℕ, length}
 use Rattle.clause_base.specs.Clause.{IsClause}
 use Rattle.clause_base.specs.Pieces.{pieces}
-use Rattle.clause_base.proofs.PieceLemmas.{length-pieces}
+use Rattle.clause_base.proofs.PieceLemmas.{length-pieces, holds_at}
 use Rattle.clause_base.proofs.clause_list.ClauseList.clause.Goals as goal
 
 pub piece-requires-clause-in_range : goal.piece-requires-clause-in_range
@@ -13,9 +12,6 @@ piece-requires-clause-in_range c =
     ∙ ap (λ (xs : List ℕ). length xs) (sym c.deref-2.ensures.value) in
     omega (arith, long, c.requires)
 
-lawful_at : (clauses : List (List ℕ)) (number : ℕ) (clause : List ℕ) → All IsClause clauses → slice_get clauses number ≡ Some clause → IsClause clause
-lawful_at clauses number clause a e = subst IsClause (get_or_from_slice_get clauses number clause clause e) (a number clause (slice_get_within clauses number clause e))
-
 pub returns-clause-lawful : goal.returns-clause-lawful
 returns-clause-lawful c =
-    lawful_at (pieces 0 c.deref.result.now c.deref-2.result.now) c.args.number c.piece.result.now (rw (c.deref.ensures.value, c.deref-2.ensures.value) c.self.invariant.1) c.piece.ensures
+    holds_at IsClause (pieces 0 c.deref.result.now c.deref-2.result.now) c.args.number c.piece.result.now (rw (c.deref.ensures.value, c.deref-2.ensures.value) c.self.invariant.1) c.piece.ensures

@@ -12,6 +12,7 @@ invariant-closing g l = record {
   tied : IsTied g.input l.self;
   unfound : AreUnfound l.self.runs.items;
   cleared : cleared (race_state l.self) ≡ cleared (race_state l.initial.self);
+  rounds : l.self.rounds ≡ l.initial.self.rounds;
 }
 
 abbrev pub decreases-closing : goal.decreases-closing

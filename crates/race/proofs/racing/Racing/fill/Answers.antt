@@ -1,7 +1,7 @@
 use Rattle.std.proofs.Common.{rules, ◌≡◌, ◌∙◌, sym, ap, None}
 use Rattle.race.specs.Starts.{filled}
 use Rattle.race.specs.Tied.{race_state}
-use Rattle.race.proofs.Starts.{fill-on, fill-off}
+use Rattle.race.proofs.Starts.{fill-on, fill-off, keeps-next}
 use Rattle.race.proofs.Advances.{length-runners}
 use Rattle.race.proofs.racing.Racing.fill.Goals as goal
 
@@ -12,7 +12,7 @@ loop-horizon-preserved g c =
       tied = c.in_ok-start.ensures.tied;
       low = c.in_ok-start.ensures.low;
       filled = ap (filled g.input) c.in_ok-start.ensures.started ∙ (sym (fill-on g.input (race_state c.loop-horizon.self) _ c.in-Some.horizon (sym (length-runners c.loop-horizon.self.runs.items)) at) ∙ c.loop-horizon.invariant.filled);
-      ledger = c.in_ok-start.ensures.ledger ∙ c.loop-horizon.invariant.ledger;
+      books = keeps-next c.in_ok-start.ensures.books c.loop-horizon.invariant.books;
       made = c.in_ok-run.ensures.made;
     }
 
@@ -21,10 +21,3 @@ returns-clause-filled g c =
     let none : c.startable.result ≡ None = cc in
     let at = sym none ∙ c.startable.ensures.value in
     sym (fill-off g.input (race_state c.loop-horizon.self) _ (sym (length-runners c.loop-horizon.self.runs.items)) at) ∙ c.loop-horizon.invariant.filled
-
-pub startable-requires-sync-F : goal.startable-requires-sync-F
-startable-requires-sync-F g c κs within = (within, (search rules, search rules))
-
-pub start-requires-sync-F : goal.start-requires-sync-F
-start-requires-sync-F g c κs within =
-    (within, (search rules, (c.loop-horizon.invariant.tied, (c.loop-horizon.invariant.low, (c.requires.1.1.1.1.1.1.1.0, (c.requires.1.1.1.1.1.1.1.1.0, (c.in_ok-run.ensures.run, (search rules, (search rules, (search rules, search rules))))))))))

@@ -3,7 +3,7 @@ use Rattle.std.specs.List.{AllByRecursion}
 use Rattle.race.specs.Fresh.{IsFresh}
 use Rattle.race.specs.Runs.{AreLow}
 use Rattle.race.specs.Starts.{filled}
-use Rattle.race.specs.Tied.{race_state, IsTied}
+use Rattle.race.specs.Tied.{race_state, IsTied, KeepsBooks}
 use Rattle.race.proofs.racing.Racing.fill.Given as goal
 
 abbrev pub ghost-startable : goal.ghost-startable
@@ -17,7 +17,7 @@ invariant-loop-horizon g l = record {
   tied : IsTied g.input l.self;
   low : AreLow l.self.runs.items;
   filled : filled g.input (race_state l.self) ≡ filled g.input (race_state l.initial.self);
-  ledger : l.self.ledger ≡ l.initial.self.ledger;
+  books : KeepsBooks l.initial.self l.self;
   made : AllByRecursion (IsFresh g.F.StepForm l.form) l.made.items;
 }
 

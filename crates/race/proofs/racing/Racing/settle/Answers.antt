@@ -1,4 +1,4 @@
-use Rattle.std.proofs.Common.{arith, ◌≡◌, ◌∙◌, sym, ap, true, ℕ, List}
+use Rattle.std.proofs.Common.{arith, ◌≡◌, ◌∙◌, refl, sym, ap, true, ℕ, List}
 use Rattle.horizon_rates.specs.Window.{IsEnded}
 use Rattle.race.specs.Found.{lines}
 use Rattle.race.specs.State.{spent}
@@ -20,6 +20,7 @@ returns-then-ended g c =
         sums = let s = c.in_ok-lines.ensures.sums in omega (arith, s, t.within);
         modelled = tt;
       };
+      rounds = tt;
     }
 
 pub returns-then-spent-settings : goal.returns-then-spent-settings
@@ -36,6 +37,7 @@ returns-then-spent-settings g c =
         sums = c.in_ok-lines-2.ensures.sums ∙ (t.spent ∙ full);
         modelled = tt;
       };
+      rounds = tt;
     }
 
 pub returns : goal.returns
@@ -45,4 +47,4 @@ returns g c =
     let no : IsEnded r.window → ⊥ = λ x. let y : c.ended.result ≡ true = c.ended.ensures.1 x in let z = c.if-ended.false in cc in
     let e = unended g.input r t no in
     let some : spent (race_state r) ≡ g.input.budget → ⊥ = λ f. c.if-spent-settings.false (c.spent.ensures.value ∙ (t.spent ∙ (f ∙ c.requires.1.1))) in
-    record { stands = record { on = settled-on g.input (race_state r) e some; tied = t; low = c.requires.1.0 } }
+    record { stands = record { on = settled-on g.input (race_state r) e some; tied = t; low = c.requires.1.0 }; rounds = refl }

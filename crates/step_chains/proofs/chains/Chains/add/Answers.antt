@@ -6,8 +6,8 @@ use Rattle.step_chains.specs.Chains.{LinkedChains, HasRoom}
 use Rattle.step_chains.proofs.ExtendLaw.{linked, none_found, one_found, within_more}
 use Rattle.step_chains.proofs.chains.Chains.add.Goals as goal
 
-pub returns-then-count-eq0 : goal.returns-then-count-eq0
-returns-then-count-eq0 c task members m is =
+pub returns-then-count-eq0-clause-added : goal.returns-then-count-eq0-clause-added
+returns-then-count-eq0-clause-added c task members m is =
     none_found task members m c.args.self.now (ap (link_count false) (sym is) ∙ sym c.count-count.ensures.count ∙ c.if-count-eq0.true)
 
 pub invariant_of-self-2 : goal.invariant_of-self-2
@@ -21,8 +21,8 @@ invariant_of-self-2 c =
     (let n = c.count-count.ensures.count ∙ ap (link_count false) (sym c.in_ok-links.ensures.items) in let m = ap length (sym c.in_ok-links.ensures.items) in let f = c.count-count.ensures.few in omega (arith, n, m, f))
     (subst (λ (f : LinkedChains). HasRoom f (length c.in_ok-links.links.items)) (sym c.self.view_is) (subst (λ (ls : List Link). HasRoom c.args.self.now (length ls)) (sym c.in_ok-links.ensures.items) c.requires.room))
 
-pub returns : goal.returns
-returns c task members m is =
+pub returns-clause-added : goal.returns-clause-added
+returns-clause-added c task members m is =
     one_found task members m c.args.self.now _ c.in_ok-links.links.items (c.in_ok-links.ensures.items ∙ is)
     (c.in_ok-push.ensures.items ∙ ap (λ (f : LinkedChains). f.chains ++ linked f.variables c.in_ok-links.links.items ∷ []) c.self.view_is)
     (ap (λ (n : ℕ). c.self.inside.variables + n) (c.count-count.ensures.count ∙ ap (link_count false) (sym c.in_ok-links.ensures.items))

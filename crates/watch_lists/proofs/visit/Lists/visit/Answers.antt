@@ -1,4 +1,4 @@
-use Rattle.std.proofs.Common.{arith, ◌≡◌, ◌<◌, ◌/◌, ◌%◌, ◌==◌, ℕ, ◌∙◌, ap, not, true, false, get_or, set, length, List, sym, refl, inl, inr, subst}
+use Rattle.std.proofs.Common.{arith, ◌≡◌, ◌<◌, ◌/◌, ◌%◌, ◌==◌, ℕ, ◌∙◌, ap, not, Bool, true, false, get_or, set, length, List, sym, refl, inl, inr, subst}
 use Rattle.std.proofs.lemmas.List.{get_or_read}
 use Rattle.clause_base.specs.Clause.{has_literal}
 use Rattle.number_bits.specs.Bits.{words_have}
@@ -8,9 +8,9 @@ use Rattle.watch_lists.specs.Asking.{IsAsked}
 use Rattle.cdcl_rules.specs.State.{clause_at}
 use Rattle.watch_lists.specs.Visit.{no_watches, place_in, slot_clauses, slot_flags, slot_set, Grows, Stays}
 use Rattle.watch_lists.proofs.Filters.{settled_one}
-use Rattle.watch_lists.proofs.Visits.{has_below, listed_link, listed_true, moves_own, others_stay, own_moved, placed_moved, Beside, beside_of, settled_grows, grows_insert, own_insert}
-use Rattle.watch_lists.proofs.Slotted.{fit_slots, slot_at, slots_long}
-use Rattle.watch_lists.proofs.Asks.{asked_insert}
+use Rattle.watch_lists.proofs.Visits.{has_below, listed_drop, listed_link, listed_true, moves_own, others_stay, own_moved, placed_moved, Beside, beside_of, settled_grows, grows_insert, own_insert}
+use Rattle.watch_lists.proofs.Slotted.{fit_slots, slots_long}
+use Rattle.watch_lists.proofs.Asked.{asked_insert, within_insert}
 use Rattle.watch_lists.proofs.visit.Lists.visit.Goals as goal
 use Rattle.watch_lists.proofs.visit.Lists.visit.Goals.{After-lit}
 
@@ -56,25 +56,25 @@ link-requires-in-Some-clause-code c =
 pub returns-then-is_true-clause-listed : goal.returns-then-is_true-clause-listed
 returns-then-is_true-clause-listed c =
     let r = c.requires.listed.0 in
-    listed_true (slot_clauses c.args.store.now c.args.slots.now) c.args.self.now.watched.items c.args.self.now.chains.heads.items c.link.new.self.heads.items c.args.self.now.chains.nodes.items c.link.new.self.nodes.items c.args.spare (slot_flags c.args.kept.now c.args.slots.now) c.args.node c.note-note.result c.args.code (has_literal c.args.truth.now.trail) (slot_set (words_have c.args.self.now.asking.set.words) c.args.slots.now) r c.requires.listed.1
+    listed_true (slot_clauses c.args.store.now c.args.slots.now) c.args.self.now.watched.items c.args.self.now.chains.heads.items c.link.new.self.heads.items c.args.self.now.chains.nodes.items c.link.new.self.nodes.items c.args.spare (slot_flags c.args.kept.now c.args.slots.now) c.args.node c.note-note.result c.args.code (has_literal c.args.truth.now.trail) (slot_set (words_have c.args.self.now.pending) c.args.slots.now) r c.requires.listed.1
     (c.link.ensures.linked r.on r.linked c.requires.listed.1) c.link.ensures.codes c.link.ensures.nodes c.link.ensures.own c.link.ensures.others c.requires.real c.requires.own (ap (λ (x : ℕ). has_literal (clause_at (slot_clauses c.args.store.now c.args.slots.now) (c.args.node / 2)) x) c.note-note.ensures ∙ r.notes c.args.node c.requires.real) (sym c.is_true.ensures ∙ c.if-is_true.true)
 
 pub returns-then-is_true-2-clause-listed : goal.returns-then-is_true-2-clause-listed
 returns-then-is_true-2-clause-listed c =
     let r = c.requires.listed.0 in
     let b = beside (goal.at.returns-then-is_true-2-clause-listed c).After-lit in
-    listed_true (slot_clauses c.args.store.now c.args.slots.now) c.args.self.now.watched.items c.args.self.now.chains.heads.items c.link-then-is_true-2.new.self.heads.items c.args.self.now.chains.nodes.items c.link-then-is_true-2.new.self.nodes.items c.args.spare (slot_flags c.args.kept.now c.args.slots.now) c.args.node c.lit.inside.0 c.args.code (has_literal c.args.truth.now.trail) (slot_set (words_have c.args.self.now.asking.set.words) c.args.slots.now) r c.requires.listed.1
+    listed_true (slot_clauses c.args.store.now c.args.slots.now) c.args.self.now.watched.items c.args.self.now.chains.heads.items c.link-then-is_true-2.new.self.heads.items c.args.self.now.chains.nodes.items c.link-then-is_true-2.new.self.nodes.items c.args.spare (slot_flags c.args.kept.now c.args.slots.now) c.args.node c.lit.inside.0 c.args.code (has_literal c.args.truth.now.trail) (slot_set (words_have c.args.self.now.pending) c.args.slots.now) r c.requires.listed.1
     (c.link-then-is_true-2.ensures.linked r.on r.linked c.requires.listed.1) c.link-then-is_true-2.ensures.codes c.link-then-is_true-2.ensures.nodes c.link-then-is_true-2.ensures.own c.link-then-is_true-2.ensures.others c.requires.real c.requires.own b.has (sym c.is_true-2.ensures ∙ c.if-is_true-2.true)
 
 pub returns-in-None-clause-listed : goal.returns-in-None-clause-listed
 returns-in-None-clause-listed c =
-    let grown : Grows (slot_set (words_have c.args.self.now.asking.set.words) c.args.slots.now) (slot_set (words_have c.insert.new.self.set.words) c.args.slots.now) = (λ k h. grows_insert (words_have c.args.self.now.asking.set.words) (words_have c.insert.new.self.set.words) (get_or c.args.slots.now (c.args.node / 2) 0) c.insert.ensures.has (get_or c.args.slots.now k 0) h) in
-    let own = own_insert (words_have c.args.self.now.asking.set.words) (words_have c.insert.new.self.set.words) (get_or c.args.slots.now (c.args.node / 2) 0) c.insert.ensures.has in
+    let grown : Grows (slot_set (words_have c.args.self.now.pending) c.args.slots.now) (slot_set (words_have c.insert.new.self) c.args.slots.now) = (λ k h. grows_insert (words_have c.args.self.now.pending) (words_have c.insert.new.self) (get_or c.args.slots.now (c.args.node / 2) 0) c.insert.ensures.has (get_or c.args.slots.now k 0) h) in
+    let own = own_insert (words_have c.args.self.now.pending) (words_have c.insert.new.self) (get_or c.args.slots.now (c.args.node / 2) 0) c.insert.ensures.has in
     let cl = slot_clauses c.args.store.now c.args.slots.now in
     let wa = c.args.self.now.watched.items in
     let on = has_literal c.args.truth.now.trail in
-    let s = slot_set (words_have c.args.self.now.asking.set.words) c.args.slots.now in
-    let s' = slot_set (words_have c.insert.new.self.set.words) c.args.slots.now in
+    let s = slot_set (words_have c.args.self.now.pending) c.args.slots.now in
+    let s' = slot_set (words_have c.insert.new.self) c.args.slots.now in
     let r = c.requires.listed.0 in
     let W = Stays cl wa on s c.args.code in
     let W' = Stays cl wa on s' c.args.code in
@@ -83,7 +83,7 @@ returns-in-None-clause-listed c =
     listed_link cl wa wa c.args.self.now.chains.heads.items c.link-in-None.new.self.heads.items c.args.self.now.chains.nodes.items c.link-in-None.new.self.nodes.items c.args.spare (slot_flags c.args.kept.now c.args.slots.now) c.args.node c.args.spare c.lit.inside.0 W W' r c.requires.listed.1
     (c.link-in-None.ensures.linked r.on r.linked c.requires.listed.1) r.placed c.link-in-None.ensures.codes c.link-in-None.ensures.nodes c.link-in-None.ensures.own c.link-in-None.ensures.others c.requires.real b.has (λ k q ne. refl)
     (λ k q ne w. (w.0, settled_grows on s s' (clause_at cl (k / 2)) (k / 2) grown w.1))
-    (inr (refl, (c.requires.own, settled_one on s' (clause_at cl (c.args.node / 2)) c.at-other.result (c.args.node / 2) none own)))
+    (λ m. inr (refl, (c.requires.own m, settled_one on s' (clause_at cl (c.args.node / 2)) c.at-other.result (c.args.node / 2) none own)))
 
 pub returns-in-Some-clause-listed : goal.returns-in-Some-clause-listed
 returns-in-Some-clause-listed c =
@@ -92,7 +92,7 @@ returns-in-Some-clause-listed c =
     let w' = c.moved.result in
     let wa' = set wa (c.args.node / 2) w' in
     let on = has_literal c.args.truth.now.trail in
-    let s = slot_set (words_have c.args.self.now.asking.set.words) c.args.slots.now in
+    let s = slot_set (words_have c.args.self.now.pending) c.args.slots.now in
     let r = c.requires.listed.0 in
     let W = Stays cl wa on s c.args.code in
     let W' = Stays cl wa' on s c.args.code in
@@ -111,11 +111,17 @@ returns-in-Some-clause-listed c =
     (c.link-in-Some.ensures.linked r.on r.linked c.requires.listed.1) (placed_moved cl wa w' (c.args.node / 2) place second r.placed c.requires.real.below c.requires.real.long c.moved.ensures.own other inside ne)
     c.link-in-Some.ensures.codes c.link-in-Some.ensures.nodes c.link-in-Some.ensures.own c.link-in-Some.ensures.others c.requires.real b.has (λ k q ne'. same k ne')
     (λ k q ne' w. (same k ne' ∙ w.0, w.1))
-    (inl (found ∙ sym (own_moved cl wa w' c.args.node place below c.moved.ensures.own)))
+    (λ m. inl (found ∙ sym (own_moved cl wa w' c.args.node place below c.moved.ensures.own)))
 
-pub insert-requires-clause-room : goal.insert-requires-clause-room
-insert-requires-clause-room c =
-    omega (arith, c.requires.slotted (c.args.node / 2) (omega (arith, c.requires.real.below, slots_long c.args.store.now c.args.slots.now)), c.requires.long)
+number_in : (c : After-lit) → get_or c.args.slots.now (c.args.node / 2) 0 < length c.args.store.now
+number_in c = c.requires.slotted (c.args.node / 2) (omega (arith, c.requires.real.below, slots_long c.args.store.now c.args.slots.now))
+
+pub insert-requires : goal.insert-requires
+insert-requires c = omega (arith, number_in (goal.at.insert-requires c).After-lit, c.requires.room)
+
+pub returns-in-None-clause-within : goal.returns-in-None-clause-within
+returns-in-None-clause-within c =
+    within_insert (length c.args.store.now) (get_or c.args.slots.now (c.args.node / 2) 0) (words_have c.args.self.now.pending) (words_have c.insert.new.self) (number_in (goal.at.returns-in-None-clause-within c).After-lit) c.requires.within c.insert.ensures.has
 
 pub returns-in-None-clause-asked : goal.returns-in-None-clause-asked
 returns-in-None-clause-asked c =
@@ -125,15 +131,14 @@ returns-in-None-clause-asked c =
     let on = has_literal c.args.truth.now.trail in
     let slot = c.args.node / 2 in
     let inside : slot < length slots = omega (arith, c.requires.real.below, slots_long store slots) in
-    let at : c.slot_clause-clause.result.now ≡ clause_at store (get_or c.args.slots.now (c.args.node / 2) 0) = c.slot_clause-clause.ensures ∙ slot_at store slots slot inside in
     let b = beside (goal.at.returns-in-None-clause-asked c).After-lit in
-    let own : IsAsked on (clause_at store (get_or c.args.slots.now (c.args.node / 2) 0)) c.lit.inside.0 = subst (λ (xs : List ℕ). IsAsked on xs c.lit.inside.0) at (record {
+    let own : IsAsked on (clause_at cl slot) c.lit.inside.0 = subst (λ (xs : List ℕ). IsAsked on xs c.lit.inside.0) c.slot_clause-clause.ensures (record {
       place = c.at-other.result;
+      inside = omega (arith, b.inside, ap (λ (xs : List ℕ). length xs) c.slot_clause-clause.ensures);
+      own = sym (c.lit.view_is ∙ get_or_read c.slot_clause-clause.result.now c.at-other.result c.index-clause-other.result (omega (arith, b.inside, ap (λ (xs : List ℕ). length xs) c.slot_clause-clause.ensures)) c.index-clause-other.is 0);
       others = c.in-None.ensures.none;
-      own = inl (omega (arith, b.inside, ap (λ (xs : List ℕ). length xs) c.slot_clause-clause.ensures), sym (ap (λ (x : ℕ). x) c.lit.view_is ∙ get_or_read c.slot_clause-clause.result.now c.at-other.result c.index-clause-other.result (omega (arith, b.inside, ap (λ (xs : List ℕ). length xs) c.slot_clause-clause.ensures)) c.index-clause-other.is 0));
     }) in
-    asked_insert store on c.args.self.now.asking.set.words c.insert.new.self.set.words c.args.self.now.asking.asks.items c.insert.new.self.asks.items (get_or c.args.slots.now (c.args.node / 2) 0) c.lit.inside.0 c.requires.asked
-    (omega (arith, c.requires.slotted slot inside)) (omega (arith, c.requires.slotted slot inside, c.requires.long)) own c.insert.ensures.has c.insert.ensures.asks
+    asked_insert store on (words_have c.args.self.now.pending) (words_have c.insert.new.self) slots c.args.self.now.asks.items (set c.args.self.now.asks.items slot c.lit.inside.0) slot c.lit.inside.0 c.requires.distinct c.requires.asked inside (omega (arith, inside, c.requires.long)) own c.insert.ensures.has refl
 
 pub returns-in-Some-clause-moves : goal.returns-in-Some-clause-moves
 returns-in-Some-clause-moves c =
@@ -148,3 +153,19 @@ returns-in-Some-clause-moves c =
     let other : place_in w' (not second) ≡ place_in (get_or wa (c.args.node / 2) no_watches) (not second) = c.moved.ensures.other ∙ ap (λ (x : Watched). place_in x (not second)) v in
     let free : is_free on (get_or (clause_at cl (c.args.node / 2)) c.in-Some.place 0) ≡ true = subst (λ (xs : List ℕ). is_free on (get_or xs c.in-Some.place 0) ≡ true) c.slot_clause-clause.ensures c.in-Some.ensures.none in
     moves_own cl wa w' c.args.node c.in-Some.place on below other c.moved.ensures.own free
+
+pub is_slot_kept-requires-clause-inside : goal.is_slot_kept-requires-clause-inside
+is_slot_kept-requires-clause-inside c = omega (arith, c.requires.real.below, slots_long c.args.store.now c.args.slots.now)
+
+pub returns-then-not-is_slot_kept-clause-listed : goal.returns-then-not-is_slot_kept-clause-listed
+returns-then-not-is_slot_kept-clause-listed c =
+    let cl = slot_clauses c.args.store.now c.args.slots.now in
+    listed_drop cl c.args.self.now.watched.items c.args.self.now.chains.heads.items c.args.self.now.chains.nodes.items c.args.spare (slot_flags c.args.kept.now c.args.slots.now) c.args.node (Stays cl c.args.self.now.watched.items (has_literal c.args.truth.now.trail) (slot_set (words_have c.args.self.now.pending) c.args.slots.now) c.args.code) c.requires.listed.0 (sym c.is_slot_kept.ensures ∙ c.if-not-is_slot_kept.true)
+
+pub returns-in-Some-clause-lengths : goal.returns-in-Some-clause-lengths
+returns-in-Some-clause-lengths c =
+    let on = has_literal c.args.truth.now.trail in
+    let place = c.in-Some.place in
+    let found : c.found.inside.0 ≡ get_or c.slot_clause-clause.result.now place 0 = c.found.view_is ∙ get_or_read c.slot_clause-clause.result.now place c.index-clause-place.result c.in-Some.ensures.inside c.index-clause-place.is 0 in
+    let free : is_free on c.found.inside.0 ≡ true = ap (is_free on) found ∙ c.in-Some.ensures.none in
+    c.link-in-Some.ensures.lengths c.args.code (omega (arith, c.requires.code, c.requires.listed.0.codes)) (λ (e : c.args.code ≡ c.found.inside.0). let z : false ≡ true = sym (ap (λ (b : Bool). not b) c.requires.fallen) ∙ ap (is_free on) e ∙ free in let w : ⊥ = cc in w)

@@ -11,7 +11,7 @@ returns-in-None-clause-rest c =
     let r = c.visits.invariant.listed in
     let e = c.in-None.ensures in
     let on = has_literal c.args.truth.now.trail in
-    let s = slot_set (words_have c.visits.self.asking.set.words) c.args.slots.now in
+    let s = slot_set (words_have c.visits.self.pending) c.args.slots.now in
     listed_end (slot_clauses c.args.store.now c.args.slots.now) c.visits.self.watched.items c.visits.self.chains.heads.items c.rename.new.self.heads.items c.visits.self.chains.nodes.items c.rename.new.self.nodes.items c.args.spare c.args.code (slot_flags c.args.kept.now c.args.slots.now) on s r (fit_slots c.args.store.now c.args.slots.now c.args.spare c.requires.fit)
     (linked_after c.visits.self.chains.heads.items c.pop.new.self.heads.items c.rename.new.self.heads.items c.visits.self.chains.nodes.items c.pop.new.self.nodes.items c.rename.new.self.nodes.items c.args.spare c.args.code r.on e r.linked c.rename.ensures.linked)
     (c.rename.ensures.nodes ∙ e.nodes_stay) (c.rename.ensures.codes ∙ ap (λ (xs : List ℕ). length xs) e.heads_stay)
@@ -20,14 +20,7 @@ pub returns-in-None-clause-settled : goal.returns-in-None-clause-settled
 returns-in-None-clause-settled c =
     let r = c.visits.invariant.listed in
     let e = c.in-None.ensures in
-    all_settled (slot_clauses c.args.store.now c.args.slots.now) c.visits.self.watched.items c.visits.self.chains.heads.items c.visits.self.chains.nodes.items c.args.spare c.args.code (slot_flags c.args.kept.now c.args.slots.now) (has_literal c.args.truth.now.trail) (slot_set (words_have c.visits.self.asking.set.words) c.args.slots.now) r (e.none r.on r.linked)
-
-pub is_slot_kept-requires-clause-inside : goal.is_slot_kept-requires-clause-inside
-is_slot_kept-requires-clause-inside c =
-    let r = c.visits.invariant.listed in
-    let p = c.in-Some.ensures.from r.on r.linked in
-    let q = r.real c.in-Some.node c.args.code p.0 in
-    omega (arith, q.below, slots_long c.args.store.now c.args.slots.now)
+    all_settled (slot_clauses c.args.store.now c.args.slots.now) c.visits.self.watched.items c.visits.self.chains.heads.items c.visits.self.chains.nodes.items c.args.spare c.args.code (slot_flags c.args.kept.now c.args.slots.now) (has_literal c.args.truth.now.trail) (slot_set (words_have c.visits.self.pending) c.args.slots.now) r (e.none r.on r.linked)
 
 pub visit-requires-clause-real : goal.visit-requires-clause-real
 visit-requires-clause-real c =
@@ -36,19 +29,19 @@ visit-requires-clause-real c =
     r.real c.in-Some.node c.args.code p.0
 
 pub visit-requires-clause-own : goal.visit-requires-clause-own
-visit-requires-clause-own c =
+visit-requires-clause-own c m =
     let r = c.visits.invariant.listed in
     let p = c.in-Some.ensures.from r.on r.linked in
-    own_literal (slot_clauses c.args.store.now c.args.slots.now) c.visits.self.watched.items c.visits.self.chains.heads.items c.visits.self.chains.nodes.items c.args.spare c.args.code (slot_flags c.args.kept.now c.args.slots.now) c.in-Some.node (Stays (slot_clauses c.args.store.now c.args.slots.now) c.visits.self.watched.items (has_literal c.args.truth.now.trail) (slot_set (words_have c.visits.self.asking.set.words) c.args.slots.now) c.args.code) r c.requires.code p.0 (sym c.is_slot_kept.ensures ∙ c.if-is_slot_kept.true)
+    own_literal (slot_clauses c.args.store.now c.args.slots.now) c.visits.self.watched.items c.visits.self.chains.heads.items c.visits.self.chains.nodes.items c.args.spare c.args.code (slot_flags c.args.kept.now c.args.slots.now) c.in-Some.node (Stays (slot_clauses c.args.store.now c.args.slots.now) c.visits.self.watched.items (has_literal c.args.truth.now.trail) (slot_set (words_have c.visits.self.pending) c.args.slots.now) c.args.code) r c.requires.code p.0 m
 
 pub visit-requires-clause-listed : goal.visit-requires-clause-listed
 visit-requires-clause-listed c =
     let r = c.visits.invariant.listed in
     let p = c.in-Some.ensures.from r.on r.linked in
-    listed_pop (slot_clauses c.args.store.now c.args.slots.now) c.visits.self.watched.items c.visits.self.chains.heads.items c.pop.new.self.heads.items c.visits.self.chains.nodes.items c.pop.new.self.nodes.items c.args.spare (slot_flags c.args.kept.now c.args.slots.now) c.in-Some.node (Stays (slot_clauses c.args.store.now c.args.slots.now) c.visits.self.watched.items (has_literal c.args.truth.now.trail) (slot_set (words_have c.visits.self.asking.set.words) c.args.slots.now) c.args.code) r p.1 c.in-Some.ensures.nodes_stay c.in-Some.ensures.codes
+    listed_pop (slot_clauses c.args.store.now c.args.slots.now) c.visits.self.watched.items c.visits.self.chains.heads.items c.pop.new.self.heads.items c.visits.self.chains.nodes.items c.pop.new.self.nodes.items c.args.spare (slot_flags c.args.kept.now c.args.slots.now) c.in-Some.node (Stays (slot_clauses c.args.store.now c.args.slots.now) c.visits.self.watched.items (has_literal c.args.truth.now.trail) (slot_set (words_have c.visits.self.pending) c.args.slots.now) c.args.code) r p.1 c.in-Some.ensures.nodes_stay c.in-Some.ensures.codes
 
-pub visits-preserved-then-is_slot_kept : goal.visits-preserved-then-is_slot_kept
-visits-preserved-then-is_slot_kept c =
+pub visits-preserved : goal.visits-preserved
+visits-preserved c =
     let i = c.visits.invariant in
     record {
       listed = c.visit.ensures.listed;
@@ -56,21 +49,6 @@ visits-preserved-then-is_slot_kept c =
       grows = λ k h. c.visit.ensures.grows k (i.grows k h);
       room = c.visit.ensures.room ∙ i.room;
       long = c.visit.ensures.long ∙ i.long;
+      within = c.visit.ensures.within;
       asked = c.visit.ensures.asked;
-    }
-
-pub visits-preserved : goal.visits-preserved
-visits-preserved c =
-    let i = c.visits.invariant in
-    let r = i.listed in
-    let p = c.in-Some.ensures.from r.on r.linked in
-    let W = Stays (slot_clauses c.args.store.now c.args.slots.now) c.visits.self.watched.items (has_literal c.args.truth.now.trail) (slot_set (words_have c.visits.self.asking.set.words) c.args.slots.now) c.args.code in
-    let x = listed_pop (slot_clauses c.args.store.now c.args.slots.now) c.visits.self.watched.items c.visits.self.chains.heads.items c.pop.new.self.heads.items c.visits.self.chains.nodes.items c.pop.new.self.nodes.items c.args.spare (slot_flags c.args.kept.now c.args.slots.now) c.in-Some.node W r p.1 c.in-Some.ensures.nodes_stay c.in-Some.ensures.codes in
-    record {
-      listed = listed_drop (slot_clauses c.args.store.now c.args.slots.now) c.visits.self.watched.items c.pop.new.self.heads.items c.pop.new.self.nodes.items c.args.spare (slot_flags c.args.kept.now c.args.slots.now) c.in-Some.node W x.0 (sym c.is_slot_kept.ensures ∙ c.if-is_slot_kept.false);
-      moves = i.moves;
-      grows = i.grows;
-      room = i.room;
-      long = i.long;
-      asked = i.asked;
     }

@@ -10,5 +10,5 @@ use Rattle.watch_lists.proofs.watches.Watches.least_pending.Goals as goal
 pub returns : goal.returns
 returns c =
     let w = c.self.inside in
-    let least = front_least (is_pending_on w.store w.kept.items w.truth.trail) (words_have w.lists.asking.set.words) w.least c.self.invariant.0.front c.self.invariant.3 in
-    subst (λ (v : WatchesView). w.least ≡ least_from (is_pending_in v.clauses v.kept (has_literal v.trail)) 0 (length v.clauses)) c.self.view_is (least_is w.store w.kept.items w.truth.trail w.least c.self.invariant.0.many least)
+    let least = front_least (is_pending_on w.store w.kept.items w.truth.trail) (words_have w.lists.pending) c.least.result c.self.invariant.0.front c.least.ensures in
+    subst (λ (v : WatchesView). c.least.result ≡ least_from (is_pending_in v.clauses v.kept (has_literal v.trail)) 0 (length v.clauses)) c.self.view_is (least_is w.store w.kept.items w.truth.trail c.least.result c.self.invariant.0.many least)

@@ -1,21 +1,34 @@
-use Rattle.std.proofs.Common.{◌≡◌, ◌∷◌, ◌∙◌, [], ℕ, List, sym, ap, subst, get_or, MatchOption}
+use Rattle.std.proofs.Common.{arith, ◌≡◌, ◌∷◌, ◌∙◌, [], ℕ, List, true, sym, ap, subst, get_or, MatchOption}
 use Rattle.clause_base.specs.Clause.{has_literal}
 use Rattle.cdcl_rules.specs.State.{clause_at}
 use Rattle.cdcl_rules.specs.Pending.{is_pending_in, open_ones}
-use Rattle.watch_lists.specs.Pending.{WatchesView}
-use Rattle.watch_lists.specs.Asking.{IsAsked}
+use Rattle.number_bits.specs.Bits.{words_have}
+use Rattle.watch_lists.specs.Pending.{WatchesView, is_pending_on}
+use Rattle.watch_lists.specs.Asking.{IsAskedAt}
+use Rattle.watch_lists.proofs.Asks.{pending_kept}
+use Rattle.watch_lists.proofs.Asked.{asked_at}
 use Rattle.watch_lists.proofs.watches.Watches.left.Goals as goal
+use Rattle.watch_lists.proofs.watches.Watches.left.Goals.{After-as_slice}
+
+member : (c : After-as_slice) → (is_pending_on c.self.inside.store c.self.inside.kept.items c.self.inside.truth.trail c.args.number ≡ true) × (words_have c.self.inside.lists.pending c.args.number ≡ true)
+member c =
+    let p = ap (λ (v : WatchesView). is_pending_in v.clauses v.kept (has_literal v.trail) c.args.number) c.self.view_is ∙ c.requires in
+    (p, c.self.invariant.0.front.complete c.args.number p)
 
 pub left_of-requires-clause-inside : goal.left_of-requires-clause-inside
-left_of-requires-clause-inside c =
-    let p = ap (λ (v : WatchesView). is_pending_in v.clauses v.kept (has_literal v.trail) c.args.number) c.self.view_is ∙ c.requires in
-    (c.self.invariant.2.asked c.args.number (c.self.invariant.0.front.complete c.args.number p)).0
+left_of-requires-clause-inside c = c.self.invariant.2.within c.args.number (member (goal.at.left_of-requires-clause-inside c).After-as_slice).1
+
+pub left_of-requires-clause-pending : goal.left_of-requires-clause-pending
+left_of-requires-clause-pending c =
+    let w = c.self.inside in
+    pending_kept w.store w.kept.items w.truth.trail c.args.number (member (goal.at.left_of-requires-clause-pending c).After-as_slice).0
 
 pub left_of-requires-clause-asked : goal.left_of-requires-clause-asked
 left_of-requires-clause-asked c =
     let w = c.self.inside in
-    let p = ap (λ (v : WatchesView). is_pending_in v.clauses v.kept (has_literal v.trail) c.args.number) c.self.view_is ∙ c.requires in
-    subst (λ (xs : List ℕ). IsAsked (has_literal w.truth.trail) (clause_at w.store c.args.number) (get_or xs c.args.number 0)) (sym c.as_slice.ensures.value) (c.self.invariant.2.asked c.args.number (c.self.invariant.0.front.complete c.args.number p)).1
+    subst (λ (ss : List ℕ). IsAskedAt w.store ss (has_literal w.truth.trail) c.as_slice-3.result.now c.args.number) (sym c.as_slice.ensures.value)
+    (subst (λ (xs : List ℕ). IsAskedAt w.store w.slots.items (has_literal w.truth.trail) xs c.args.number) (sym c.as_slice-3.ensures.value)
+    (asked_at w.store (has_literal w.truth.trail) (words_have w.lists.pending) w.slots.items w.lists.asks.items c.args.number c.self.invariant.2.asked (member (goal.at.left_of-requires-clause-asked c).After-as_slice).1))
 
 pub returns : goal.returns
 returns c =

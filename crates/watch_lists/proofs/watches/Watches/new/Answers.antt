@@ -1,7 +1,8 @@
-use Rattle.std.proofs.Common.{◌≡◌, ℕ, ◌+◌, ◌++◌, ◌∷◌, [], List, ◌∙◌, ap, Bool, true, take, replicate, sym, slice_get, Some}
+use Rattle.std.proofs.Common.{◌≡◌, ℕ, ◌+◌, ◌++◌, ◌∷◌, [], List, ◌∙◌, ap, Bool, true, take, replicate, sym, subst, slice_get, Some}
 use Rattle.std.proofs.lemmas.List.{take_more}
 use Rattle.std.proofs.lemmas.Option.{slice_get_within, get_or_from_slice_get}
 use Rattle.std.proofs.lemmas.Grind.{replicate_next}
+use Rattle.clause_base.specs.Clause.{HasVariablesBelow}
 use Rattle.watch_lists.specs.Pending.{WatchesView}
 use Rattle.watch_lists.proofs.watches.Watches.new.Goals as goal
 
@@ -18,4 +19,12 @@ next v n cl x old new i e p =
 
 pub loop-number-preserved : goal.loop-number-preserved
 loop-number-preserved c =
-    next c.args.formula.now.variables c.loop-number.number c.args.formula.now.clauses c.clause.result.now c.loop-number.watches c.add_sorted.new.self c.loop-number.invariant c.clause.ensures.value c.in_ok-add_sorted.ensures.ok
+    let old = c.loop-number.watches in
+    let same = c.deref.ensures.value ∙ c.in_ok-copy_into.ensures in
+    next c.args.formula.now.variables c.loop-number.number c.args.formula.now.clauses c.clause.result old c.add_sorted.new.self c.loop-number.invariant c.clause.ensures.value
+    (c.in_ok-add_sorted.ensures.ok ∙ ap (λ (x : List ℕ). let w : WatchesView = record old { clauses = old.clauses ++ x ∷ []; kept = old.kept ++ true ∷ [] } in w) same)
+
+pub add_sorted-requires-clause-below : goal.add_sorted-requires-clause-below
+add_sorted-requires-clause-below c =
+    subst (λ (xs : List ℕ). HasVariablesBelow c.loop-number.watches.variables xs) (sym (c.deref.ensures.value ∙ c.in_ok-copy_into.ensures))
+    (subst (λ (v : ℕ). HasVariablesBelow v c.clause.result) (sym (ap (λ (w : WatchesView). w.variables) c.loop-number.invariant)) c.clause.ensures.below)

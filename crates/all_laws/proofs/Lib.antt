@@ -1,0 +1,4 @@
+pub mod Backward
+pub mod Ways
+pub mod Reading
+pub mod Writing

@@ -1,0 +1,5 @@
+use Rattle.clause_base.proofs.JoinedLemmas.{joined_by}
+use Rattle.clause_base.proofs.formula.Formula.add.Goals as goal
+
+pub invariant_of-self : goal.invariant_of-self
+invariant_of-self c = joined_by c.add.result _ _ _ _ _ _ _ _ c.self.view_is c.self.invariant c.requires.room c.requires.below c.add.ensures.ok c.add.ensures.err

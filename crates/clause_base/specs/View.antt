@@ -1,0 +1,10 @@
+-- How the literals of a clause are moved as they are read.
+use Rattle.std.specs.Prelude.{ℕ, ◌+◌, ◌≤◌, nat_lt, if◌then◌else◌}
+
+-- a code below a limit goes up by one number, and any other by another
+abbrev pub shifted : (limit low high : ℕ) → ℕ → ℕ
+shifted limit low high l = if nat_lt l limit then low + l else high + l
+
+-- a code in 32 bits stays one
+abbrev pub StaysCode : (limit low high : ℕ) → ℕ → Type 0
+StaysCode limit low high l = l ≤ 4294967295 → shifted limit low high l ≤ 4294967295

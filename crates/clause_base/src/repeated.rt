@@ -1,0 +1,174 @@
+ghost use Rattle.std.specs.Prelude.{◌≡◌, ◌+◌, ◌*◌, ◌<◌, ◌≤◌, [], Some, length, slice_get, All};
+ghost use Rattle.clause_base.specs.Clause.{IsClause, HasVariablesBelow};
+ghost use Rattle.clause_base.specs.Repeats.{IsRepeatable, all_steps, all_times, repeated, variables_of};
+
+use crate::clause_list::ClauseList;
+use crate::view::View;
+use std::alloc::Global;
+use std::marker::Model;
+
+/// The clauses of one step and of one time, seen as those of all steps and of all times of a horizon. The variables are
+/// numbered step after step, each with `width` of its own, and after them time after time, each with one for each fact.
+/// One step's clauses stand over its own variables, then the facts before it, then those after it; one time's over the facts.
+#[derive(Debug, Drop)]
+pub struct Repeated {
+    horizon: u32,
+    width: u32,
+    facts: u32,
+    step: ClauseList,
+    time: ClauseList,
+}
+
+impl Model for Repeated {
+    ghost use Rattle.clause_base.specs.Repeats.{Repeats, IsRepeatable};
+
+    ghost Value = { Repeats };
+
+    ghost view = { λ r. record { horizon = r.horizon; width = r.width; facts = r.facts; step = r.step; time = r.time } };
+
+    ghost invariant = { λ r. IsRepeatable (record { horizon = r.horizon; width = r.width; facts = r.facts; step = r.step; time = r.time }) };
+}
+
+impl Repeated {
+    /// The clauses of one step and of one time, repeated for so many steps, each with so many variables of its own, over so many
+    /// facts. It takes no memory.
+    pub fn new(horizon: u32, width: u32, facts: u32, step: ClauseList, time: ClauseList) -> Repeated
+        requires few { horizon * length step + (horizon + 1) * length time ≤ 1073741824 }
+        requires small { horizon * width + (horizon + 1) * facts ≤ 2147483647 }
+        requires step_below { All (HasVariablesBelow (width + 2 * facts)) step }
+        requires time_below { All (HasVariablesBelow facts) time }
+        ensures { result ≡ record { horizon = horizon; width = width; facts = facts; step = step; time = time } }
+    {
+        Repeated {
+            horizon,
+            width,
+            facts,
+            step,
+            time,
+        }
+    }
+
+    /// No clauses. It takes no memory.
+    pub fn none(alloc: Global) -> Repeated
+        ensures { result ≡ record { horizon = 0; width = 0; facts = 0; step = []; time = [] } }
+    {
+        Repeated {
+            horizon: 0,
+            width: 0,
+            facts: 0,
+            step: ClauseList::new(alloc),
+            time: ClauseList::new(alloc),
+        }
+    }
+
+    /// How many steps there are.
+    #[inline]
+    pub fn horizon(&self) -> u32
+        ensures value { result ≡ self.now.horizon }
+        ensures lawful { IsRepeatable self.now }
+    {
+        self.horizon
+    }
+
+    /// How many variables a step has of its own.
+    #[inline]
+    pub fn width(&self) -> u32
+        ensures { result ≡ self.now.width }
+    {
+        self.width
+    }
+
+    /// How many facts there are.
+    #[inline]
+    pub fn facts(&self) -> u32
+        ensures { result ≡ self.now.facts }
+    {
+        self.facts
+    }
+
+    /// The clauses of one step.
+    #[inline]
+    pub fn step(&self) -> &ClauseList
+        ensures { result.now ≡ self.now.step }
+    {
+        &self.step
+    }
+
+    /// The clauses of one time.
+    #[inline]
+    pub fn time(&self) -> &ClauseList
+        ensures { result.now ≡ self.now.time }
+    {
+        &self.time
+    }
+
+    /// How many clauses all steps have.
+    #[inline]
+    fn step_clauses(&self) -> u32
+        ensures value { result ≡ length (all_steps self.now) }
+        ensures product { result ≡ self.now.horizon * length self.now.step }
+    {
+        (self.horizon as usize * self.step.count()) as u32
+    }
+
+    /// How many clauses all steps and all times have.
+    #[inline]
+    pub fn count(&self) -> u32
+        ensures value { result ≡ length (repeated self.now) }
+        ensures few { result ≤ 1073741824 }
+        ensures lawful { All IsClause (repeated self.now) }
+        ensures below { All (HasVariablesBelow (variables_of self.now)) (repeated self.now) }
+    {
+        let steps = self.horizon as usize * self.step.count();
+        let times = (self.horizon as usize + 1) * self.time.count();
+        (steps + times) as u32
+    }
+
+    /// The clause of a step.
+    #[inline]
+    fn step_clause(&self, number: u32) -> View<'_>
+        requires { number < self.now.horizon * length self.now.step }
+        ensures { slice_get (all_steps self.now) number ≡ Some result }
+    {
+        let count = self.step.count() as u32;
+        let t = number / count;
+        let limit = 2 * self.width;
+        let low = t * limit;
+        let high = 2 * (self.horizon * self.width + t * self.facts) - limit;
+        View::moved(
+            self.step.clause((number % count) as usize),
+            limit,
+            low,
+            high,
+        )
+    }
+
+    /// The clause of a time.
+    #[inline]
+    fn time_clause(&self, number: u32) -> View<'_>
+        requires { number < (self.now.horizon + 1) * length self.now.time }
+        ensures { slice_get (all_times self.now) number ≡ Some result }
+    {
+        let count = self.time.count() as u32;
+        let t = number / count;
+        let high = 2 * (self.horizon * self.width + t * self.facts);
+        View::moved(self.time.clause((number % count) as usize), 0, 0, high)
+    }
+
+    /// The clause with this number: first come those of the steps, step after step, then those of the times.
+    #[inline]
+    pub fn clause(&self, number: u32) -> View<'_>
+        requires { number < length (repeated self.now) }
+        ensures value { slice_get (repeated self.now) number ≡ Some result }
+        ensures lawful { IsClause result }
+        ensures below { HasVariablesBelow (variables_of self.now) result }
+    {
+        let _all = self.count();
+        let steps = self.step_clauses();
+        if number < steps {
+            self.step_clause(number)
+        } else {
+            self.time_clause(number - steps)
+        }
+    }
+}

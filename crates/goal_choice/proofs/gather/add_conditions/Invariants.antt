@@ -1,0 +1,7 @@
+use Rattle.std.proofs.Common.{◌≡◌, ◌++◌, map, take}
+use Rattle.std.specs.List.{filter}
+use Rattle.gt_core.specs.Lawful.{is_conditional}
+use Rattle.goal_choice.proofs.gather.add_conditions.Given as goal
+
+abbrev pub invariant-loop-effect : goal.invariant-loop-effect
+invariant-loop-effect l = l.lists ≡ l.initial.lists ++ map (λ e. l.act.precondition ++ e.condition) (filter is_conditional (take l.effect-index l.effects))

@@ -1,0 +1,127 @@
+//! The supporters of each fact literal are gathered from a task.
+
+ghost use Rattle.std.specs.Prelude.{◌≡◌, ℕ, ◌/◌, [], ◌∷◌, ◌++◌, true, false, length, map, slice_index_or, IfOk, OnOk};
+ghost use Rattle.std.specs.List.Sorted.{IsNonDecreasing};
+ghost use Rattle.goal_choice.specs.Search.{AreMarked};
+ghost use Rattle.goal_choice.specs.Needs.{needs_of, needs_in};
+
+use crate::flat_lists::FlatLists;
+use clause_base::literal::Lit;
+use clause_base::memory::Memory;
+use gt_core::act::Act;
+use gt_core::task::Task;
+use std::alloc::Global;
+use step_template::index::Makers;
+
+/// How many numbers the lists have.
+fn makers_in(index: &[Makers]) -> usize {
+    let mut all: usize = 0;
+    for makers in index {
+        all = all.saturating_add(makers.as_slice().len());
+    }
+    all
+}
+
+/// The variables of literals.
+fn variables_of(alloc: Global, lits: &[Lit]) -> Result<Vec<u32>, Memory>
+    ensures { IfOk result (λ variables. variables.items ≡ map (λ l. l / 2) lits.now) }
+{
+    let mut variables = Vec::with_capacity(alloc, lits.len())?;
+    for lit in lits {
+        variables.push(lit.variable())?;
+    }
+    Ok(variables)
+}
+
+/// Adds the variables of a literal's effects to those of the literals before it, and whether each is at most the next one.
+fn add_variables(
+    alloc: Global,
+    makers: &[Lit],
+    lists: &mut FlatLists,
+    rising: &mut Vec<bool>,
+) -> Result<(), Memory>
+    requires marked { AreMarked rising.old.items lists.old }
+    ensures marked { OnOk result (AreMarked rising.new.items lists.new) }
+    ensures lists { OnOk result (lists.new ≡ lists.old ++ map (λ l. l / 2) makers.now ∷ []) }
+{
+    let variables = variables_of(alloc, makers)?;
+    rising.push(variables.is_sorted())?;
+    lists.push(&variables, &[])?;
+    Ok(())
+}
+
+/// For each fact literal the variables of its effects, and whether each is at most the next one.
+pub(crate) fn variables_by_literal(
+    alloc: Global,
+    index: &[Makers],
+) -> Result<(FlatLists, Vec<bool>), Memory>
+    ensures lists { IfOk result (λ p. p.0 ≡ map (map (λ l. l / 2)) index.now) }
+    ensures marked { IfOk result (λ p. AreMarked p.1.items p.0) }
+{
+    let mut lists = FlatLists::with_room(alloc, index.len(), makers_in(index))?;
+    let mut rising = Vec::with_capacity(alloc, index.len())?;
+    for makers in index {
+        add_variables(alloc, makers.as_slice(), &mut lists, &mut rising)?;
+    }
+    Ok((lists, rising))
+}
+
+/// How many literals the needs of an action and of its conditional effects have.
+fn literals_of(act: &Act) -> usize {
+    let mut all = act.pre().len();
+    for effect in act.effects() {
+        if effect.is_conditional() {
+            all = all
+                .saturating_add(act.pre().len())
+                .saturating_add(effect.cond().len());
+        }
+    }
+    all
+}
+
+/// How many literals the needs of actions and of their conditional effects have.
+fn literals_in(acts: &[Act]) -> usize {
+    let mut all: usize = 0;
+    for act in acts {
+        all = all.saturating_add(literals_of(act));
+    }
+    all
+}
+
+/// Adds what each action needs.
+fn add_preconditions(acts: &[Act], lists: &mut FlatLists) -> Result<(), Memory>
+    ensures { OnOk result (lists.new ≡ lists.old ++ map (λ a. a.precondition) acts.now) }
+{
+    for act in acts {
+        lists.push(act.pre(), &[])?;
+    }
+    Ok(())
+}
+
+/// Adds what each conditional effect of an action needs.
+fn add_conditions(act: &Act, lists: &mut FlatLists) -> Result<(), Memory>
+    ensures { OnOk result (lists.new ≡ lists.old ++ needs_in act.now) }
+{
+    let effects = act.effects();
+    for effect in effects {
+        if effect.is_conditional() {
+            lists.push(act.pre(), effect.cond())?;
+        }
+    }
+    Ok(())
+}
+
+/// For each variable of the first step that is not a chain variable, what has to hold before its effects: of an action its
+/// precondition, of a conditional effect that of its action and its condition.
+pub(crate) fn needs_by_variable(alloc: Global, task: &Task) -> Result<FlatLists, Memory>
+    ensures { IfOk result (λ lists. lists ≡ needs_of task.now) }
+{
+    let acts = task.acts();
+    let count = acts.len() + task.conditional() as usize;
+    let mut lists = FlatLists::with_room(alloc, count, literals_in(acts))?;
+    add_preconditions(acts, &mut lists)?;
+    for act in acts {
+        add_conditions(act, &mut lists)?;
+    }
+    Ok(lists)
+}

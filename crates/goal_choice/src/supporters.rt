@@ -1,0 +1,153 @@
+//! What a choice is made from: the goal, and the supporters of each fact literal.
+
+ghost use Rattle.std.specs.Prelude.{◌≡◌, ◌/◌, ◌<◌, ◌≤◌, [], Some, None, length, slice_index_or, IfOk, IfSome, IfNone};
+ghost use Rattle.std.specs.List.{AllByRecursion};
+ghost use Rattle.goal_choice.specs.Means.{gathered_of, variable_from};
+ghost use Rattle.goal_choice.specs.Walk.{least_with};
+
+use crate::flat_lists::FlatLists;
+use crate::gather::{needs_by_variable, variables_by_literal};
+use crate::search::least_variable;
+use clause_base::memory::Memory;
+use clause_base::values::Values;
+use gt_core::layout::Layout;
+use gt_core::task::Task;
+use std::alloc::Global;
+use std::marker::Model;
+use std::sync::Arc;
+use step_template::index::index_of;
+use step_template::template::one_layout;
+
+/// The goal; for each fact literal the variables in the first step of the effects with it, in the order of the effects, and
+/// whether each is at most the next one; and for each such variable what has to hold before the step.
+#[derive(Debug, Drop)]
+struct Blocks {
+    goal: Vec<u32>,
+    variables: FlatLists,
+    rising: Vec<bool>,
+    needs: FlatLists,
+}
+
+/// An effect as a supporter of its literal: its variable in the first step, and the literals that have to hold before it.
+#[derive(Clone, Copy, Debug)]
+pub(crate) struct Supporter<'a> {
+    pub(crate) variable: u32,
+    pub(crate) needs: &'a [u32],
+}
+
+/// What choosers look at of a task: the literals of its goal, and the supporters of each fact literal, in blocks that are made
+/// once and shared. Contracts see what a choice over some layout is made from: here that of one step without chain variables.
+/// For every layout with the same numbers of actions, conditional effects and facts it is the same, but for the layout, since
+/// supporters are known by their variables in the first step.
+#[derive(Debug, Drop)]
+pub struct Supporters {
+    layout: Layout,
+    blocks: Arc<Blocks>,
+}
+
+impl Model for Supporters {
+    ghost use Rattle.std.specs.Prelude.{◌≡◌, ◌+◌, length};
+    ghost use Rattle.std.specs.Arc.{arc_value};
+    ghost use Rattle.goal_choice.specs.Means.{Means};
+    ghost use Rattle.goal_choice.specs.Members.{AreMeans};
+    ghost use Rattle.goal_choice.specs.Needs.{supporters_in};
+    ghost use Rattle.goal_choice.specs.Search.{AreMarked};
+
+    ghost Value = { Means };
+
+    ghost view = { λ s. record {
+      layout = s.layout;
+      goal = (arc_value s.blocks).goal.items;
+      supporters = supporters_in (arc_value s.blocks).needs (arc_value s.blocks).variables;
+    } };
+
+    ghost invariant = { λ s.
+        AreMeans (record { layout = s.layout; goal = (arc_value s.blocks).goal.items; supporters = supporters_in (arc_value s.blocks).needs (arc_value s.blocks).variables })
+        × AreMarked (arc_value s.blocks).rising.items (arc_value s.blocks).variables
+        × (length (arc_value s.blocks).needs ≡ s.layout.actions + s.layout.conditional) };
+}
+
+impl Supporters {
+    ghost use Rattle.std.specs.Prelude.{◌≡◌};
+    ghost use Rattle.clause_base.specs.Clause.{IsRising};
+    ghost use Rattle.goal_choice.specs.Members.{AreMeans};
+
+    /// What choosers look at of a task.
+    pub fn new(alloc: Global, task: &Task) -> Result<Supporters, Memory>
+        ensures { IfOk result (λ s. s ≡ gathered_of task.now) }
+    {
+        let _lawful = task.facts();
+        let layout = one_layout(task, 0);
+        let index = index_of(alloc, &layout, task)?;
+        let (variables, rising) = variables_by_literal(alloc, &index)?;
+        let needs = needs_by_variable(alloc, task)?;
+        let mut goal = Vec::with_capacity(alloc, task.goal().len())?;
+        goal.extend_from_slice(task.goal())?;
+        let blocks = Blocks {
+            goal,
+            variables,
+            rising,
+            needs,
+        };
+        Ok(Supporters {
+            layout,
+            blocks: Arc::new(alloc, blocks)?,
+        })
+    }
+
+    /// The same blocks, over another layout with the same numbers of actions, conditional effects and facts.
+    pub(crate) fn over(&self, layout: Layout) -> Result<Supporters, Memory>
+        requires actions { layout.actions ≡ self.now.layout.actions }
+        requires conditional { layout.conditional ≡ self.now.layout.conditional }
+        requires facts { layout.facts ≡ self.now.layout.facts }
+        ensures { IfOk result (λ s. s ≡ record self.now { layout = layout }) }
+    {
+        Ok(Supporters {
+            layout,
+            blocks: Arc::try_clone(&self.blocks)?,
+        })
+    }
+
+    /// How the variables are numbered.
+    pub(crate) fn layout(&self) -> &Layout
+        ensures layout { result.now ≡ self.now.layout }
+        ensures few { self.now.layout.facts ≤ 2048 }
+        ensures kept { AreMeans self.now }
+    {
+        &self.layout
+    }
+
+    /// The literals of the goal, rising.
+    pub(crate) fn goal(&self) -> &[u32]
+        ensures goal { result.now ≡ self.now.goal }
+        ensures rising { IsRising self.now.goal }
+        ensures within { AllByRecursion (λ l. l / 2 < self.now.layout.facts) self.now.goal }
+    {
+        self.blocks.goal.as_slice()
+    }
+
+    /// Of the supporters of a literal, that with the least variable among those whose variable has a value in the step that
+    /// begins at a variable.
+    pub(crate) fn least_with(
+        &self,
+        lit: u32,
+        values: &Values,
+        start: u32,
+        value: Option<bool>,
+    ) -> Option<Supporter<'_>>
+        requires lit { lit / 2 < self.now.layout.facts }
+        requires within { AllByRecursion (λ s. variable_from start s < length values.now) (slice_index_or self.now.supporters lit []) }
+        ensures some { IfSome result (λ s. least_with values.now value start (slice_index_or self.now.supporters lit []) ≡ Some (record { variable = s.variable; needs = s.needs.now })) }
+        ensures none { IfNone result (least_with values.now value start (slice_index_or self.now.supporters lit []) ≡ None) }
+    {
+        let variables = self.blocks.variables.list(lit as usize);
+        let rising = self.blocks.rising[lit as usize];
+        match least_variable(variables, rising, values, start, value) {
+            None => None,
+            Some(variable) => Some(Supporter {
+                variable,
+                needs: self.blocks.needs.list(variable as usize),
+            }),
+        }
+    }
+}

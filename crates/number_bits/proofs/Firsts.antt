@@ -1,0 +1,105 @@
+-- A set that keeps its least member beside the others, as one list of words.
+use Rattle.std.proofs.Common.{arith, ◌≡◌, ◌≢◌, ◌==◌, ℕ, ◌*◌, ◌/◌, ◌%◌, ◌<◌, ◌≤◌, List, length, get_or, set, Bool, true, false, not, ◌||◌, ◌&&◌, refl, sym, ap, ◌∙◌, eqb, Option, Some, None, get_or-set_same, get_or-set_other}
+use Rattle.std.proofs.lemmas.Bool.Decides.{nat_tests}
+use Rattle.std.specs.Option.{option_eq}
+use Rattle.word_bits.proofs.WordLaw.{set_same, set_other}
+use Rattle.number_bits.specs.Bits.{word_has, word_with, words_have, words_with, bits_with, IsLeast, IsPast, IsInside, IsFirst, IsTakenLeast}
+
+equal_of : (a b : ℕ) → (a == b) ≡ true → a ≡ b
+equal_of a b h = grind (arith, nat_tests)
+
+apart_of : (a b : ℕ) → (a == b) ≡ false → a ≡ b → ⊥
+apart_of a b h e = let t : (a == b) ≡ true = grind (arith, nat_tests) in let z : true ≡ false = sym t ∙ h in cc
+
+tests_equal : (a b : ℕ) → a ≡ b → (a == b) ≡ true
+tests_equal a b h = grind (arith, nat_tests)
+
+tests_apart : (a b : ℕ) → (a ≡ b → ⊥) → (a == b) ≡ false
+tests_apart a b h = let n : a ≢ b = h in grind (arith, nat_tests)
+
+-- a word with one more bit has that one and those that it had
+pub has_with : (words : List ℕ) (n k : ℕ) → n < 64 * length words → words_have (words_with words (Some n)) k ≡ bits_with words n k
+has_with words n k inside = by (k == n) refl
+  where
+    at : ℕ
+    at = n / 64
+
+    word : ℕ
+    word = word_with (get_or words (n / 64) 0) (n % 64)
+
+    other_bit : k / 64 ≡ n / 64 → (k % 64 ≡ n % 64 → ⊥) → words_have (set words (n / 64) word) k ≡ words_have words k
+    other_bit q ne =
+        ap (λ (i : ℕ). word_has (get_or (set words (n / 64) word) i 0) (k % 64)) q
+        ∙ ap (λ (w : ℕ). word_has w (k % 64)) (get_or-set_same words (n / 64) word 0 (omega (arith, inside)))
+        ∙ set_other (get_or words (n / 64) 0) (n % 64) (omega arith) (k % 64) ne
+        ∙ ap (λ (i : ℕ). word_has (get_or words i 0) (k % 64)) (sym q)
+
+    other : (k ≡ n → ⊥) → (b : Bool) → (k / 64 == n / 64) ≡ b → words_have (set words (n / 64) word) k ≡ words_have words k
+    other ne true f =
+        let q : k / 64 ≡ n / 64 = equal_of (k / 64) (n / 64) f in
+        other_bit q (λ (r : k % 64 ≡ n % 64). ne (omega (arith, q, r)))
+    other ne false f = ap (λ (w : ℕ). word_has w (k % 64)) (get_or-set_other words (n / 64) (k / 64) word 0 (apart_of (k / 64) (n / 64) f))
+
+    by : (b : Bool) → (k == n) ≡ b → words_have (set words (n / 64) word) k ≡ (b || words_have words k)
+    by true f =
+        let e : k ≡ n = equal_of k n f in
+        ap (words_have (set words (n / 64) word)) e
+        ∙ ap (λ (w : ℕ). word_has w (n % 64)) (get_or-set_same words (n / 64) word 0 (omega (arith, inside)))
+        ∙ set_same (get_or words (n / 64) 0) (n % 64) (omega arith)
+    by false f = other (apart_of k n f) (k / 64 == n / 64) refl
+
+-- the least member is the one that is kept beside the others
+pub first_least : (words : List ℕ) (least : Option ℕ) → IsFirst words least → IsLeast (words_have (words_with words least)) least
+first_least words None i = i.past
+first_least words (Some n) i = (
+  has_with words n n i.inside ∙ ap (λ (b : Bool). b || words_have words n) (tests_equal n n refl),
+  λ j h. has_with words n j i.inside ∙ ap (λ (b : Bool). b || words_have words j) (tests_apart j n (λ (e : j ≡ n). absurd (omega (arith, e, h)))) ∙ i.past j (omega (arith, h)),
+)
+
+-- words that have the same members beside the same least one
+pub first_same : (words words' : List ℕ) (least : Option ℕ) → IsInside words least → length words ≤ length words' → ((k : ℕ) → words_have words' k ≡ words_have words k) → (k : ℕ) → words_have (words_with words' least) k ≡ words_have (words_with words least) k
+first_same words words' None i long same k = same k
+first_same words words' (Some n) i long same k = has_with words' n k (omega (arith, i, long)) ∙ ap (λ (b : Bool). k == n || b) (same k) ∙ sym (has_with words n k i)
+
+-- the first member of an empty set
+pub first_new : (words : List ℕ) (n : ℕ) → n < 64 * length words → ((k : ℕ) → words_have words k ≡ false) → (k : ℕ) → words_have (words_with words (Some n)) k ≡ (k == n || words_have (words_with words None) k)
+first_new words n i none k = has_with words n k i
+
+-- one more member
+pub first_more : (words words' : List ℕ) (least next number : ℕ) → least < 64 * length words → next < 64 * length words' → ((k : ℕ) → bits_with words' next k ≡ (k == number || bits_with words least k)) → (k : ℕ) → words_have (words_with words' (Some next)) k ≡ (k == number || words_have (words_with words (Some least)) k)
+first_more words words' least next number i j has k = has_with words' next k j ∙ has k ∙ ap (λ (b : Bool). k == number || b) (sym (has_with words least k i))
+
+-- the least member is out
+pub first_out : (words words' : List ℕ) (n : ℕ) (least : Option ℕ) → IsFirst words (Some n) → IsTakenLeast (words_have words) (words_have words') least → IsInside words' least → (k : ℕ) → words_have (words_with words' least) k ≡ (not (k == n) && words_have (words_with words (Some n)) k)
+first_out words words' n least i taken inside k = left least taken inside ∙ by (k == n) refl
+  where
+    left : (o : Option ℕ) → IsTakenLeast (words_have words) (words_have words') o → IsInside words' o → words_have (words_with words' o) k ≡ words_have words k
+    left None t s = t.1 k ∙ sym (t.0 k)
+    left (Some m) t s = has_with words' m k s ∙ ap (λ (b : Bool). k == m || b) (t.1 k) ∙ here (k == m) refl
+      where
+        here : (b : Bool) → (k == m) ≡ b → (b || (not b && words_have words k)) ≡ words_have words k
+        here true f = sym (ap (words_have words) (equal_of k m f) ∙ t.0.0)
+        here false f = refl
+
+    by : (b : Bool) → (k == n) ≡ b → words_have words k ≡ (not b && words_have (words_with words (Some n)) k)
+    by true f = ap (words_have words) (equal_of k n f) ∙ i.past n (omega arith)
+    by false f = sym (has_with words n k i.inside ∙ ap (λ (b : Bool). b || words_have words k) f)
+
+-- another member is out
+pub first_without : (words words' : List ℕ) (n : ℕ) (least : Option ℕ) → IsInside words least → length words' ≡ length words → (least ≡ Some n → ⊥) → ((k : ℕ) → words_have words' k ≡ (not (k == n) && words_have words k)) → (k : ℕ) → words_have (words_with words' least) k ≡ (not (k == n) && words_have (words_with words least) k)
+first_without words words' n None i long ne has k = has k
+first_without words words' n (Some m) i long ne has k = has_with words' m k (omega (arith, i, long)) ∙ ap (λ (b : Bool). k == m || b) (has k) ∙ by (k == m) refl (k == n) refl ∙ ap (λ (b : Bool). not (k == n) && b) (sym (has_with words m k i))
+  where
+    by : (a : Bool) → (k == m) ≡ a → (b : Bool) → (k == n) ≡ b → (a || (not b && words_have words k)) ≡ (not b && (a || words_have words k))
+    by true f true g = absurd (ne (ap (λ (x : ℕ). Some x) (sym (equal_of k m f) ∙ equal_of k n g)))
+    by true f false g = refl
+    by false f b g = refl
+
+-- what the test for the least member tells
+pub is_least : (o : Option ℕ) (n : ℕ) → true ≡ option_eq eqb o (Some n) → o ≡ Some n
+is_least None n e = absurd (let w : ⊥ = cc in w)
+is_least (Some m) n e = ap (λ (x : ℕ). Some x) (equal_of m n (sym e))
+
+pub not_least : (o : Option ℕ) (n : ℕ) → false ≡ option_eq eqb o (Some n) → o ≡ Some n → ⊥
+not_least None n e q = let w : ⊥ = cc in w
+not_least (Some m) n e q = let z : m ≡ n = cc in apart_of m n (sym e) z

@@ -1,0 +1,18 @@
+use Rattle.std.proofs.Common.{arith, ap, sym, subst, ◌≡◌, ◌∙◌, ◌==◌, ◌&&◌, not, length, List, ℕ, Option, Some, None}
+use Rattle.number_bits.specs.Bits.{words_have, words_with, IsFirst}
+use Rattle.number_bits.proofs.Firsts.{first_out, first_without, is_least, not_least}
+use Rattle.number_bits.proofs.first.FirstNumberSet.remove.Goals as goal
+
+pub returns-then-eq-clause-has : goal.returns-then-eq-clause-has
+returns-then-eq-clause-has g c k =
+    let words = c.self.inside.others.words in
+    let is : c.self.inside.least ≡ Some c.args.number = is_least c.self.inside.least c.args.number (sym c.if-eq.true ∙ c.eq.ensures) in
+    let view : words_with words (Some c.args.number) ≡ c.args.self.now = ap (words_with words) (sym is) ∙ c.self.view_is in
+    first_out words c.take_least-self-inside.new.set.words c.args.number c.take_least-self-inside.result (subst (IsFirst words) is c.self.invariant) c.take_least-self-inside.ensures.taken c.take_least-self-inside.ensures.inside k
+    ∙ ap (λ (ws : List ℕ). not (k == c.args.number) && words_have ws k) view
+
+pub returns-else-eq-clause-has : goal.returns-else-eq-clause-has
+returns-else-eq-clause-has g c k =
+    let words = c.self.inside.others.words in
+    first_without words c.remove.new.self.words c.args.number c.self.inside.least c.self.invariant.inside (omega (arith, c.remove.ensures.room)) (not_least c.self.inside.least c.args.number (sym c.if-eq.false ∙ c.eq.ensures)) c.remove.ensures.has k
+    ∙ ap (λ (ws : List ℕ). not (k == c.args.number) && words_have ws k) c.self.view_is

@@ -1,0 +1,10 @@
+pub mod Counts
+pub mod Fills
+pub mod Tables
+pub mod Shifts
+pub mod Blocks
+pub mod Exacts
+pub mod Steps
+pub mod Whole
+pub mod Five
+pub mod Shapes

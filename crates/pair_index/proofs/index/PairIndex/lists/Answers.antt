@@ -1,0 +1,13 @@
+use Rattle.std.proofs.Common.{List, ◌<◌, length, sym, ap, ◌∙◌, arith}
+use Rattle.pair_index.specs.declared.pair.Pair.{Pair}
+use Rattle.pair_index.specs.Pairs.{pairs_of}
+use Rattle.pair_index.specs.Lists.{index_of}
+use Rattle.pair_index.proofs.Whole.{lists_read}
+use Rattle.pair_index.proofs.index.PairIndex.lists.Goals as goal
+
+pub returns : goal.returns
+returns c =
+    let long = ap (λ (v : List (List Pair)). length v) c.self.view_is in
+    let inside : c.args.code < length (index_of c.self.inside.shape c.self.inside.told c.self.inside.step c.self.inside.time c.self.inside.after) = omega (arith, long, c.requires) in
+    sym (ap (λ (v : List (List Pair)). pairs_of v c.args.code) c.self.view_is)
+    ∙ lists_read c.self.inside.shape c.self.inside.told c.self.inside.step c.self.inside.time c.self.inside.after c.args.code _ _ _ _ _ c.self.invariant.0 inside c.plain_list.ensures c.place_of-placed.ensures.last c.place_of-placed.ensures.next c.place_of-placed.ensures.time c.plain_list-2.ensures

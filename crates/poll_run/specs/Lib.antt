@@ -1,0 +1,2 @@
+pub mod PolledRun
+pub mod Polls

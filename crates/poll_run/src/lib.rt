@@ -1,0 +1,24 @@
+//! Runs that are polled by hand, and what drives them.
+//!
+//! A [`PollRun`] is a future over a run that can be stopped and advanced: each poll advances it once, by a slice, until it is
+//! settled or at its target. A [`Driver`] polls a future to its end; [`settle`] drives one run.
+//!
+//! ```text
+//! let mut driver = BlockOn::new(&rt);
+//! let run = settle(&mut driver, run, 50, 10)?;    // the run where 50 units have it, in polls of 10 units
+//! ```
+#![tactic(auto)]
+
+mod block_driver;
+mod driver;
+mod no_driver;
+mod poll_run;
+mod settling;
+#[cfg(test)]
+mod tests;
+
+pub use block_driver::BlockOn;
+pub use driver::{DriveFailed, Driver};
+pub use no_driver::NoDriver;
+pub use poll_run::PollRun;
+pub use settling::{SettleError, settle};

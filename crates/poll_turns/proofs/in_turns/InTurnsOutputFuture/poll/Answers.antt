@@ -1,0 +1,15 @@
+use Rattle.std.proofs.Common.{sym, ap, ◌∙◌, subst}
+use Rattle.std.specs.List.{AllZip}
+use Rattle.futures.specs.Joined.{MayGive}
+use Rattle.poll_turns.proofs.Slots.{gives-done, if-ok}
+use Rattle.poll_turns.proofs.in_turns.InTurnsOutputFuture.poll.Goals as goal
+
+pub returns-then-are_done-clause-value : goal.returns-then-are_done-clause-value
+returns-then-are_done-clause-value g c =
+    if-ok _ _ (λ ends is.
+    let slots = ap (λ v. v.items) (sym c.replace-slots.ensures.value) ∙ is in
+    c.poll_each.ensures.same ends.items (subst (λ ss. AllZip (MayGive g.A.Future.gives) ss ends.items) (sym slots) (gives-done g.A.Future.can_poll g.A.Future.gives ends.items)))
+    c.take_all.result c.take_all.ensures
+
+pub returns-clause-same : goal.returns-clause-same
+returns-clause-same g c = rw c.yield_now.ensures.pending (λ x. if-ok _ _ (λ ends may. c.poll_each.ensures.same ends.items may) x)

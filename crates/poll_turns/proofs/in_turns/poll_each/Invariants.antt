@@ -1,0 +1,14 @@
+use Rattle.std.proofs.Common.{◌≡◌, length}
+use Rattle.std.specs.List.{AllByRecursion}
+use Rattle.futures.specs.Task.{Keeps}
+use Rattle.futures.specs.Joined.{IsLive}
+use Rattle.poll_turns.specs.Turns.{Narrows}
+use Rattle.poll_turns.proofs.in_turns.poll_each.Given as goal
+
+abbrev pub invariant-loop-turn : goal.invariant-loop-turn
+invariant-loop-turn g l = record {
+  live : AllByRecursion (IsLive g.A.Future.can_poll) l.slots.items;
+  many : length l.slots.items ≡ length l.initial.slots.items;
+  same : Narrows g.A.Future.gives l.initial.slots.items l.slots.items;
+  kept : Keeps l.initial.cx l.cx;
+}

@@ -1,0 +1,163 @@
+// Futures that are polled in turn.
+ghost use Rattle.std.specs.Prelude.{◌≡◌, ◌≤◌, ◌<◌, true, All, length, map, IfOk};
+ghost use Rattle.std.specs.List.{AllByRecursion, AllZip};
+ghost use Rattle.futures.specs.Task.{Keeps};
+ghost use Rattle.futures.specs.Joined.{IsLive, IsDone};
+ghost use Rattle.pl_io.specs.Outside.{Rose};
+ghost use Rattle.poll_turns.specs.Turns.{AreLive, GivesAll, Narrows};
+
+use futures::Future;
+use futures::future::MaybeDone;
+use futures::task::{Context, Poll};
+use poll_run::Driver;
+use std::alloc::{AllocError, AllocFailed, Global};
+use std::mem;
+
+/// Why futures were not brought to their ends.
+#[derive(Clone, Copy, Debug, PartialEq, Eq)]
+pub enum TurnsError {
+    /// The driver gave up.
+    Driver,
+    /// Want of memory.
+    Memory,
+}
+
+/// Want of memory.
+#[derive(Clone, Copy)]
+struct Memory;
+
+impl From<AllocError> for Memory {
+    fn from(_: AllocError) -> Memory {
+        Memory
+    }
+}
+
+impl<T: Drop> From<AllocFailed<T>> for Memory {
+    fn from(_: AllocFailed<T>) -> Memory {
+        Memory
+    }
+}
+
+/// Futures of one type, or what they gave. Each poll goes through `turns`, which are places of the list, and polls each future
+/// that is not ready yet once. `T` is the output of `A`.
+#[derive(Drop)]
+struct InTurns<'t, A, T> {
+    slots: Vec<MaybeDone<A, T>>,
+    turns: &'t [u32],
+    alloc: Global,
+}
+
+impl<'t, A: Future<Output: Drop>> InTurns<'t, A, A::Output> {
+    /// Futures that were not polled yet.
+    fn new(
+        alloc: Global,
+        futures: Vec<A>,
+        turns: &'t [u32],
+    ) -> Result<InTurns<'t, A, A::Output>, Memory>
+        requires live { AllByRecursion A.can_poll futures.items }
+        requires within { All (λ t. t < length futures.items) turns.now }
+        ensures live { IfOk result (λ all. AreLive A.can_poll all) }
+        ensures gives { IfOk result (λ all. (ends : _) → GivesAll A.gives all ends → AllZip A.gives futures.items ends) }
+    {
+        let mut slots = Vec::new(alloc);
+        for future in futures {
+            slots.push(MaybeDone::Future(future))?;
+        }
+        Ok(InTurns {
+            slots,
+            turns,
+            alloc,
+        })
+    }
+}
+
+/// Polls each future once, in the order of the turns.
+fn poll_each<A: Future<Output: Drop>>(
+    slots: &mut Vec<MaybeDone<A, A::Output>>,
+    turns: &[u32],
+    cx: &mut Context<'_>,
+)
+    requires live { AllByRecursion (IsLive A.can_poll) slots.old.items }
+    requires within { All (λ t. t < length slots.old.items) turns.now }
+    ensures live { AllByRecursion (IsLive A.can_poll) slots.new.items }
+    ensures many { length slots.new.items ≡ length slots.old.items }
+    ensures same { Narrows A.gives slots.old.items slots.new.items }
+    ensures kept { Keeps cx.old cx.new }
+{
+    for turn in turns {
+        slots[*turn as usize].advance(cx);
+    }
+}
+
+/// Whether all are ready.
+fn are_done<A, T>(slots: &[MaybeDone<A, T>]) -> bool
+    ensures { result ≡ true → AllByRecursion IsDone slots.now }
+{
+    for slot in slots {
+        if !matches!(slot, MaybeDone::Done(_)) {
+            return false;
+        }
+    }
+    true
+}
+
+/// What each future gave, where all are ready.
+fn take_all<A: Drop, T: Drop>(alloc: Global, slots: Vec<MaybeDone<A, T>>) -> Result<Vec<T>, Memory>
+    requires { AllByRecursion IsDone slots.items }
+    ensures { IfOk result (λ ends. slots.items ≡ map MaybeDone.Done ends.items) }
+{
+    let mut ends = Vec::new(alloc);
+    for slot in slots {
+        match slot {
+            MaybeDone::Done(end) => ends.push(end)?,
+            _ => unreachable!(),
+        }
+    }
+    Ok(ends)
+}
+
+impl<'t, A: Future<Output: Drop>> Future for InTurns<'t, A, A::Output> {
+    ghost use Rattle.std.specs.Prelude.{IfOk};
+    ghost use Rattle.poll_turns.specs.Turns.{AreLive, GivesAll};
+
+    type Output = Result<Vec<A::Output>, Memory>;
+
+    ghost can_poll = { AreLive A.can_poll };
+
+    ghost gives = { λ all result. IfOk result (λ ends. GivesAll A.gives all ends.items) };
+
+    fn poll(&mut self, cx: &mut Context<'_>) -> Poll<Self::Output> {
+        poll_each(&mut self.slots, self.turns, cx);
+        if are_done(self.slots.as_slice()) {
+            let slots = mem::replace(&mut self.slots, Vec::new(self.alloc));
+            return Poll::Ready(take_all(self.alloc, slots));
+        }
+        cx.yield_now()
+    }
+}
+
+/// Drives futures that were not polled yet to their ends, by one future, and gives what each gave, in the order of the list. Each
+/// poll of the one goes through `turns`, which are places of the list counted from 0, and polls each future that is not ready yet
+/// once. `Driver` comes only where the driver's count of faults rose, or stands at its last value; the futures are gone then. It
+/// may wait.
+pub fn drive_in_turns<A: Future<Output: Drop>, D: Driver>(
+    alloc: Global,
+    driver: &mut D,
+    futures: Vec<A>,
+    turns: &[u32],
+) -> Result<Vec<A::Output>, TurnsError>
+    requires live { AllByRecursion A.can_poll futures.items }
+    requires within { All (λ t. t < length futures.items) turns.now }
+    ensures ends { IfOk result (λ ends. AllZip A.gives futures.items ends.items) }
+    ensures later { D.faults driver.old ≤ D.faults driver.new }
+    ensures failed { result ≡ Err TurnsError.Driver → Rose (D.faults driver.old) (D.faults driver.new) }
+{
+    let Ok(batch) = InTurns::new(alloc, futures, turns) else {
+        return Err(TurnsError::Memory);
+    };
+    match driver.drive(batch) {
+        Ok(Ok(ends)) => Ok(ends),
+        Ok(Err(_)) => Err(TurnsError::Memory),
+        Err(_) => Err(TurnsError::Driver),
+    }
+}
