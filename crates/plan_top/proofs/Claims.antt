@@ -39,7 +39,7 @@ use Rattle.plan_words.specs.declared.request.Stepping.TheVariants.{Exists, All}
 use Rattle.plan_top.specs.Stepping.{places_by, is_plan_by, bars_by}
 use Rattle.plan_top.specs.Tasks.{IsReady}
 use Rattle.plan_top.specs.Raced.{input_of, ComesTo}
-use Rattle.plan_top.specs.Headline.{OfGrounded, HasStepPlan, PlanRuns, HasAtLeast, NoStepPlan, NoPlan, IsSo, LineIsSo, standing_of, conflicts_of, horizon_words, SpendsAll}
+use Rattle.plan_top.specs.Headline.{OfGrounded, HasStepPlan, PlanRuns, HasAtLeast, NoStepPlan, NoPlan, IsSo, LineIsSo, standing_of, conflicts_of, line_words, SpendsAll}
 
 -- ---- lines and the words in them
 
@@ -122,11 +122,11 @@ bars_itself itself Exists task a = refl
 bars_itself itself All task a = itself task a
 
 -- the word of a line is one of the four
-words_in : (lines : List LineView) → AllByRecursion (λ e. Contains horizon_words e.word) (map entry_of lines)
+words_in : (lines : List LineView) → AllByRecursion (λ e. Contains line_words e.word) (map entry_of lines)
 words_in [] = tt
 words_in (line ∷ lines) = (one line.word, words_in lines)
   where
-    one : (word : Word) → Contains horizon_words (word_text word)
+    one : (word : Word) → Contains line_words (word_text word)
     one WordRefuted = (0, omega arith, refl)
     one WordDropped = (1, omega arith, refl)
     one WordOpen = (2, omega arith, refl)

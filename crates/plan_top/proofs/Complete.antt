@@ -31,7 +31,7 @@ use Rattle.gt_core.specs.Step.{IsStepPlan}
 use Rattle.step_clauses.specs.Variables.{chain_places}
 use Rattle.clause_base.specs.declared.log.Entry.{Entry}
 use Rattle.proof_text.specs.Place.{IsUnfitAt}
-use Rattle.proof_text.specs.Laws.{NoFault}
+use Rattle.proof_text.specs.Laws.{TextsAreFit}
 use Rattle.certificates.specs.Certificate.{IsSpelled}
 use Rattle.certificates.specs.declared.prove.Proved.{Proved}
 use Rattle.certificates.specs.declared.prove.Proved.TheVariants as proved
@@ -156,7 +156,7 @@ prove_good d p h b task g end (run r so e) = step r e
     step (proved.Plan conflicts) told = good_one (proves d p h b) end (ap status_of told)
     step (proved.Open conflicts) told = good_two (proves d p h b) end (ap status_of told)
 
-verify_good : (request : Seen) (task : Parts) (g : Grounded) (bytes : List ℕ) (end : Ending) → NoFault → IsGrounded task g → IsWithin task g → (horizon : ℕ) (log : List Entry) → IsSpelled bytes horizon log → AnswersVerify task bytes end → IsGood request end
+verify_good : (request : Seen) (task : Parts) (g : Grounded) (bytes : List ℕ) (end : Ending) → TextsAreFit → IsGrounded task g → IsWithin task g → (horizon : ℕ) (log : List Entry) → IsSpelled bytes horizon log → AnswersVerify task bytes end → IsGood request end
 verify_good request task g bytes end no_fault is fits horizon log spells (unfit r) =
     absurd (no_fault horizon log r.0 spells.within spells.written (subst (λ (bs : List ℕ). IsUnfitAt bs r.0) spells.spelled r.1))
 verify_good request task g bytes end no_fault is fits horizon log spells (over h l so past_limit) = absurd (not_over task g past_limit.0 past_limit.1 is fits past_limit.3)
@@ -168,7 +168,7 @@ verify_good request task g bytes end no_fault is fits horizon log spells (spelle
     step (judged.Rejected entry) told = good_one request end (ap status_of told)
     step judged.NotEmpty told = good_one request end (ap status_of told)
 
-verified_good : (request : Seen) (domain problem bytes : List ℕ) (end : Ending) → NoFault → AreSpelled domain problem bytes → OnceRead domain problem (λ task. AnswersVerify task bytes) end → IsGood request end
+verified_good : (request : Seen) (domain problem bytes : List ℕ) (end : Ending) → TextsAreFit → AreSpelled domain problem bytes → OnceRead domain problem (λ task. AnswersVerify task bytes) end → IsGood request end
 verified_good request domain problem bytes end no_fault order (not_read r) = absurd (not_refused domain problem order.0.0 end order.0.1 r)
 verified_good request domain problem bytes end no_fault order (read task are h) =
     let same : task ≡ order.0.0 = same_task domain problem order.0.0 task order.0.1 are in
@@ -189,7 +189,7 @@ three_good order answers (a ∷ (b ∷ [])) good is h = absurd h
 three_good order answers (a ∷ (b ∷ (c ∷ []))) good is h = good a b c is h
 three_good order answers (a ∷ (b ∷ (c ∷ (d ∷ others)))) good is h = absurd h
 
-files_good : NoFault → (request : Seen) (files : List (List ℕ)) (end : Ending) → AreInOrder request files → Decides request files end → IsGood request end
+files_good : TextsAreFit → (request : Seen) (files : List (List ℕ)) (end : Ending) → AreInOrder request files → Decides request files end → IsGood request end
 files_good no_fault (plans_by steps d p n) files end order h =
     two_good AreWithin _ files (λ a b o k. within_good (plans_by steps d p n) a b (AnswersPlan steps k.0) end o (λ task g. plan_good (plans_by steps d p n) steps k.0 task g end) k.2) order h
 files_good no_fault (grounds d p) files end order h = two_good AreWithin _ files (λ a b o k. within_good (grounds d p) a b AnswersGround end o (λ task g e. good_zero (grounds d p) end (ap status_of e)) k) order h
@@ -212,7 +212,7 @@ module _ (told : List ℕ → Option (List ℕ)) (lacks : List ℕ → Bool) (ol
       absurd (let past = at_some (λ (b : List ℕ). most_of (file place) < length b) (told n) f are.0 long.1.1 in let short = fit.0 in omega (arith, past, short))
   no_stop file place (n ∷ ns) (f ∷ fs) end are fit quiet (inr more) = no_stop file (place + 1) ns fs end are.1 fit.1 (λ rose. quiet (inr rose)) more.1
 
-  pub complete : NoFault → (words : List (List ℕ)) (w : GoesWell words told old new) (end : Ending) → Comes told lacks old new words end → IsGood w.request end
+  pub complete : TextsAreFit → (words : List (List ℕ)) (w : GoesWell words told old new) (end : Ending) → Comes told lacks old new words end → IsGood w.request end
   complete no_fault words w end comes = step (asked_comes told lacks old new words w.request w.asked end comes)
     where
       step : IsOfRequest told lacks old new words w.request w.asked end → IsGood w.request end

@@ -1,6 +1,6 @@
 -- The promises of the top call, each from what it needs alone: mostly that its ending has a cause and that its text is written.
-use Rattle.std.proofs.Common.{◌≡◌, ◌≤◌, ◌+◌, ℕ, Bool, true, false, List, [], ◌∷◌, ◌++◌, Option, Some, None, Ok, refl, sym, ap, subst, ◌∙◌, arith, inl, inr, codes}
-use Rattle.std.specs.Prelude.{IsTrue, Contains, ◌⊎◌, decimal}
+use Rattle.std.proofs.Common.{◌≡◌, ◌≤◌, ◌+◌, ℕ, Bool, true, false, List, [], ◌∷◌, ◌++◌, Option, Some, None, Ok, refl, sym, ap, subst, ◌∙◌, arith, inl, inr, codes, map}
+use Rattle.std.specs.Prelude.{IsTrue, Contains, ◌⊎◌}
 use Rattle.std.proofs.lemmas.Bool.Decides.{eqb_tells}
 use Rattle.pl_io.specs.Outside.{appended, TakesFront}
 use Rattle.report_lines.specs.Lines.{lines_of}
@@ -36,6 +36,7 @@ use Rattle.step_clauses.specs.Variables.{chain_places}
 use Rattle.clause_base.specs.Formula.{Cnf}
 use Rattle.clause_base.specs.Derivation.{IsRefutation}
 use Rattle.clause_base.specs.declared.log.Entry.{Entry}
+use Rattle.proof_text.specs.Text.{spaced, entry_words}
 use Rattle.certificates.specs.Known.{form_of, formula_at}
 use Rattle.certificates.specs.Certificate.{IsSpelled, IsCertificate}
 use Rattle.certificates.specs.Proved.{Proves}
@@ -282,9 +283,9 @@ checks_none laws task bytes end zero h =
     let c = checks_at 0 (omega arith) task bytes end zero h in
     let a = accepted_only c.horizon c.j c.status in
     let none = c.judges.none a.0 a.1 in
-    let line = laws.first_line c.horizon c.log c.is_spelled.within in (
+    (
       c.horizon,
-      (line.0, subst (λ (bs : List ℕ). lines_of bs ≡ (codes "horizon " ++ decimal c.horizon) ∷ line.0) (sym c.is_spelled.spelled) line.1),
+      (map (λ (e : Entry). spaced (entry_words e)) c.log, ap lines_of c.is_spelled.spelled ∙ laws.proof_lines c.horizon c.log c.is_spelled.within c.is_spelled.written),
       claims.no_step_plan laws task c.g c.ready c.judges.clauses c.judges.components c.judges.ordered Exists c.horizon none,
       claims.no_plan laws task c.g c.ready c.judges.clauses c.judges.components c.judges.ordered Exists c.horizon none,
     )

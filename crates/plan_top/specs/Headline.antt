@@ -1,6 +1,6 @@
 -- What a report and a checked plan promise of the files.
 use Rattle.std.specs.List.{AllByRecursion}
-use Rattle.std.specs.Prelude.{◌≡◌, ◌≤◌, ℕ, ◌+◌, List, [], ◌∷◌, ◌++◌, map, length, codes, decimal, Bool, Option, Some, IfSome, Ok, Contains}
+use Rattle.std.specs.Prelude.{◌≡◌, ◌≤◌, ℕ, ◌+◌, List, [], ◌∷◌, ◌++◌, map, length, codes, Bool, Option, Some, IfSome, Ok, Contains}
 use Rattle.report_lines.specs.Lines.{lines_of}
 use Rattle.report_lines.specs.Horizons.{Entry, entry_line, report}
 use Rattle.clause_base.specs.Choice.{Known}
@@ -26,6 +26,7 @@ use Rattle.plan_words.specs.declared.request.Stepping.{Stepping}
 use Rattle.plan_words.specs.declared.request.Stepping.TheVariants.{Exists}
 use Rattle.certificates.specs.Known.{IsOrdered, form_of, choice_at, formula_at}
 use Rattle.certificates.specs.Certificate.{IsCertificate}
+use Rattle.proof_text.specs.Text.{spaced, horizon_words}
 use Rattle.step_laws.specs.Form.{AreSets}
 use Rattle.step_clauses.specs.Variables.{chain_places}
 use Rattle.plan_top.specs.Stepping.{places_by, is_plan_by}
@@ -113,14 +114,14 @@ conflicts_of [] = 0
 conflicts_of (e ∷ es) = e.conflicts + conflicts_of es
 
 -- the words of the lines of horizons
-abbrev pub horizon_words : List (List ℕ)
-horizon_words = codes "refuted" ∷ codes "dropped" ∷ codes "open" ∷ codes "plan" ∷ []
+abbrev pub line_words : List (List ℕ)
+line_words = codes "refuted" ∷ codes "dropped" ∷ codes "open" ∷ codes "plan" ∷ []
 
 -- the text is the lines of some horizons, each with one of the four words, whose conflicts are the budget, the line that says so,
 -- and `; unfinished`
 pub record SpendsAll (text : List ℕ) (budget : ℕ) : Type 0 where
   pub entries : List Entry
-  pub words : AllByRecursion (λ e. Contains horizon_words e.word) entries
+  pub words : AllByRecursion (λ e. Contains line_words e.word) entries
   pub whole : text ≡ report entries (conflicts_line budget budget ∷ codes "; unfinished" ∷ [])
   pub lines : lines_of text ≡ map entry_line entries ++ (conflicts_line budget budget ∷ codes "; unfinished" ∷ [])
   pub sum : conflicts_of entries ≡ budget
@@ -133,7 +134,7 @@ Certifies text horizon task = OfGrounded task (λ g clauses components. IsCertif
 
 -- the first line of the text is `horizon N`
 abbrev pub IsOfHorizon : List ℕ → ℕ → Type 0
-IsOfHorizon text horizon = (rest : List (List ℕ)) × (lines_of text ≡ (codes "horizon " ++ decimal horizon) ∷ rest)
+IsOfHorizon text horizon = (rest : List (List ℕ)) × (lines_of text ≡ spaced (horizon_words horizon) ∷ rest)
 
 -- three files of these names are a task and a certificate of which the claim holds, where their bytes are told
 abbrev pub OfProof : (List ℕ → Option (List ℕ)) → List ℕ → List ℕ → List ℕ → (List ℕ → Parts → Type 0) → Type 0
