@@ -3,4 +3,3 @@ pub mod Reasons
 pub mod Scans
 pub mod Shorts
 pub mod Watching
-pub mod Logs

@@ -1,9 +1,7 @@
--- The places at which two lists of values differ, one after another.
-use Rattle.std.proofs.Common.{arith, ◌≡◌, ℕ, zero, suc, ◌+◌, ◌-◌, ◌<◌, ◌≤◌, [], ◌∷◌, length, set, drop, Bool, true, false, Option, Some, None, if◌then◌else◌, refl, sym, ap, ◌∙◌, subst, ◌⊎◌, inl, inr, length-drop}
-use Rattle.std.proofs.lemmas.Bool.{cases_lt, cases_eq}
+-- The first place at which two lists of values differ.
+use Rattle.std.proofs.Common.{arith, ◌≡◌, ℕ, zero, suc, ◌+◌, ◌-◌, ◌<◌, ◌≤◌, [], ◌∷◌, length, drop, Bool, true, false, Option, Some, None, if◌then◌else◌, refl, sym, ap, ◌∙◌, subst, length-drop}
 use Rattle.std.specs.List.{slice_get}
 use Rattle.clause_base.specs.Choice.{Known, same_value, first_difference}
-use Rattle.goal_choice.proofs.Unread.{get_other, get_set}
 
 same_is : (a b : Option Bool) → same_value a b ≡ true → a ≡ b
 same_is None None e = refl
@@ -15,7 +13,7 @@ same_is (Some false) (Some true) e = cc
 same_is (Some false) (Some false) e = refl
 
 -- the first values are the same
-abbrev pub IsSameBelow : ℕ → Known → Known → Type 0
+abbrev IsSameBelow : ℕ → Known → Known → Type 0
 IsSameBelow n xs ys = (k : ℕ) → k < n → slice_get xs k ≡ slice_get ys k
 
 -- what the first difference says, where the first value has number v
@@ -49,50 +47,20 @@ get_drop (suc n) k (x ∷ xs) = let same : suc (n + k) ≡ suc n + k = omega ari
 drop_long : (n : ℕ) (xs ys : Known) → length ys ≡ length xs → length (drop n ys) ≡ length (drop n xs)
 drop_long n xs ys e = length-drop n ys ∙ ap (λ (k : ℕ). k - n) e ∙ sym (length-drop n xs)
 
--- what the first difference from a place on says, where the values before are the same
-abbrev SaysFrom : ℕ → Known → Known → Option ℕ → Type 0
-SaysFrom n xs ys None = xs ≡ ys
-SaysFrom n xs ys (Some w) = (n ≤ w) × (w < length xs) × IsSameBelow w xs ys
+-- a value behind a place is one of those that stand behind it
+behind : (n k : ℕ) (xs : Known) → n ≤ k → slice_get xs k ≡ slice_get (drop n xs) (k - n)
+behind n k xs l = let same : k ≡ n + (k - n) = omega (arith, l) in ap (slice_get xs) same ∙ sym (get_drop n (k - n) xs)
 
-joined : (n : ℕ) (xs ys : Known) → length ys ≡ length xs → IsSameBelow n xs ys → drop n xs ≡ drop n ys → xs ≡ ys
-joined zero xs ys e h d = d
-joined (suc n) [] [] e h d = refl
-joined (suc n) [] (y ∷ ys) e h d = cc
-joined (suc n) (x ∷ xs) [] e h d = cc
-joined (suc n) (x ∷ xs) (y ∷ ys) e h d =
-    let head : Some x ≡ Some y = h 0 (omega arith) in
-    let first : x ≡ y = cc in
-    let rest = joined n xs ys (omega (arith, e)) (λ k l. h (suc k) (omega (arith, l))) d in
-    ap (λ (z : Option Bool). z ∷ xs) first ∙ ap (λ (zs : Known). y ∷ zs) rest
+-- what the first difference from a place on says of the values from there on
+abbrev pub SaysFrom : ℕ → Known → Known → Option ℕ → Type 0
+SaysFrom n xs ys None = (k : ℕ) → n ≤ k → slice_get ys k ≡ slice_get xs k
+SaysFrom n xs ys (Some w) = (n ≤ w) × (w < length xs) × ((k : ℕ) → n ≤ k → k < w → slice_get ys k ≡ slice_get xs k)
 
-says_from : (n : ℕ) (xs ys : Known) (o : Option ℕ) → length ys ≡ length xs → IsSameBelow n xs ys → Says n (drop n xs) (drop n ys) o → SaysFrom n xs ys o
-says_from n xs ys None e h s = joined n xs ys e h s
-says_from n xs ys (Some w) e h s =
+says_from : (n : ℕ) (xs ys : Known) (o : Option ℕ) → Says n (drop n xs) (drop n ys) o → SaysFrom n xs ys o
+says_from n xs ys None s = λ k l. behind n k ys l ∙ ap (λ (zs : Known). slice_get zs (k - n)) (sym s) ∙ sym (behind n k xs l)
+says_from n xs ys (Some w) s =
     let long = length-drop n xs in
-    (omega (arith, s.1), omega (arith, s.1, s.2, long), λ k l. by k l (cases_lt k n))
-  where
-    by : (k : ℕ) → k < w → (k < n) ⊎ (n ≤ k) → slice_get xs k ≡ slice_get ys k
-    by k l (inl a) = h k a
-    by k l (inr a) =
-        let same : n + (k - n) ≡ k = omega (arith, a) in
-        ap (slice_get xs) (sym same)
-        ∙ sym (get_drop n (k - n) xs)
-        ∙ s.3 (k - n) (omega (arith, l, a, s.1))
-        ∙ get_drop n (k - n) ys
-        ∙ ap (slice_get ys) same
+    (omega (arith, s.1), omega (arith, s.1, s.2, long), λ k l m. behind n k ys l ∙ sym (s.3 (k - n) (omega (arith, l, m, s.1))) ∙ sym (behind n k xs l))
 
--- there is none
-pub no_difference : (n : ℕ) (xs ys : Known) → length ys ≡ length xs → IsSameBelow n xs ys → None ≡ first_difference n (drop n xs) (drop n ys) → ys ≡ xs
-no_difference n xs ys e h d = sym (subst (SaysFrom n xs ys) (sym d) (says_from n xs ys (first_difference n (drop n xs) (drop n ys)) e h (says n (drop n xs) (drop n ys) (drop_long n xs ys e))))
-
--- or it is behind, and within
-pub next_difference : (n w : ℕ) (xs ys : Known) → length ys ≡ length xs → IsSameBelow n xs ys → Some w ≡ first_difference n (drop n xs) (drop n ys) → (n ≤ w) × (w < length xs) × IsSameBelow w xs ys
-next_difference n w xs ys e h d = subst (SaysFrom n xs ys) (sym d) (says_from n xs ys (first_difference n (drop n xs) (drop n ys)) e h (says n (drop n xs) (drop n ys) (drop_long n xs ys e)))
-
--- once its value is taken over, one more is the same
-pub same_more : (w : ℕ) (x : Option Bool) (xs ys : Known) → length ys ≡ length xs → w < length xs → IsSameBelow w xs ys → slice_get xs w ≡ Some x → IsSameBelow (w + 1) xs (set ys w x)
-same_more w x xs ys e l h g k b = by (cases_eq k w)
-  where
-    by : (k ≡ w) ⊎ (k ≡ w → ⊥) → slice_get xs k ≡ slice_get (set ys w x) k
-    by (inl q) = ap (slice_get xs) q ∙ g ∙ sym (get_set ys w x (omega (arith, e, l))) ∙ ap (slice_get (set ys w x)) (sym q)
-    by (inr q) = h k (omega (arith, b, q)) ∙ sym (get_other ys w k x q)
+pub difference_from : (n : ℕ) (xs ys : Known) (o : Option ℕ) → length ys ≡ length xs → o ≡ first_difference n (drop n xs) (drop n ys) → SaysFrom n xs ys o
+difference_from n xs ys o e d = subst (SaysFrom n xs ys) (sym d) (says_from n xs ys (first_difference n (drop n xs) (drop n ys)) (says n (drop n xs) (drop n ys) (drop_long n xs ys e)))

@@ -4,5 +4,6 @@ pub mod Ranges
 pub mod Unread
 pub mod Kept
 pub mod Differences
+pub mod SeenLaw
 pub mod Found
 pub mod NeedsLaw

@@ -101,7 +101,7 @@ each_literal P facts [] a h = tt
 each_literal P facts (l ∷ ls) a h = (h l a.0, each_literal P facts ls a.1 h)
 
 -- a property of all variables of actions and conditional effects in a step holds of the supporters
-each_supporter : (P : Supporter → Type 0) (z : Layout) (ss : List Supporter) → AllByRecursion (IsWithin z) ss → ((s : Supporter) → s.variable < z.actions + z.conditional → P s) → AllByRecursion P ss
+pub each_supporter : (P : Supporter → Type 0) (z : Layout) (ss : List Supporter) → AllByRecursion (IsWithin z) ss → ((s : Supporter) → s.variable < z.actions + z.conditional → P s) → AllByRecursion P ss
 each_supporter P z [] a h = tt
 each_supporter P z (s ∷ ss) a h = (h s a.0.variable, each_supporter P z ss a.1 h)
 

@@ -7,3 +7,4 @@ pub mod ChoiceLaw
 pub mod Kept
 pub mod Needs
 pub mod Search
+pub mod Seen

@@ -1,22 +1,25 @@
 //! The last walk, from which the next one goes on.
 
-ghost use Rattle.std.specs.Prelude.{◌≡◌, ◌≤◌, ◌<◌, false, Some, None, drop, length, slice_get, slice_set, IfOk, IfSome, IfNone};
-ghost use Rattle.std.specs.Bool.{OnTrue, OnFalse};
+ghost use Rattle.std.specs.Prelude.{◌≡◌, ◌≤◌, ◌<◌, false, Some, None, length, slice_get, slice_set, IfOk};
+ghost use Rattle.std.specs.Bool.{OnTrue};
 ghost use Rattle.gt_core.specs.Layout.{variables, fact_at};
-ghost use Rattle.clause_base.specs.Choice.{first_difference};
+ghost use Rattle.clause_base.specs.Choice.{Known};
 ghost use Rattle.goal_choice.specs.Kept.{walked, IsSameFrom};
+ghost use Rattle.goal_choice.specs.Seen.{AreSameBelow, AreSameFrom};
 
+use crate::descent::walk_down;
 use crate::literals::{Literals, empty_sets};
+use crate::seen::{change_between, first_fact, take_steps};
 use crate::supporters::Supporters;
-use crate::walk::wanted_before;
 use clause_base::literal::Lit;
 use clause_base::memory::Memory;
 use clause_base::values::Values;
 use std::alloc::Global;
 use std::marker::Model;
 
-/// What is kept of a walk: the values that it saw, and the literals that it wanted at each time, from the last time down to
-/// `low`. Beside that, a set to write over.
+/// What is kept of a walk: the literals that it wanted at each time, from the last time down to `low`, and the values that it saw
+/// of the variables that the steps from `low` on look at. What is kept of other variables says nothing. Beside that, a set to
+/// write over.
 #[derive(Debug, Drop)]
 pub(crate) struct LastWalk {
     means: Supporters,
@@ -113,6 +116,7 @@ impl LastWalk {
     fn see(&mut self, v: u32, value: Option<bool>)
         requires { v < length self.old.seen }
         ensures seen { self.new.seen ≡ slice_set self.old.seen v value }
+        ensures rises { self.old.low ≤ self.new.low }
         ensures means { self.new.means ≡ self.old.means }
     {
         let end = self.same_from(v, value);
@@ -122,25 +126,35 @@ impl LastWalk {
         }
     }
 
-    /// The least variable, from a given one on, whose value is another one than the walk saw.
-    fn next_change(&self, values: &Values, from: u32) -> Option<u32>
-        requires { length values.now ≡ length self.now.seen }
-        ensures { result ≡ first_difference from (drop from values.now) (drop from self.now.seen) }
+    /// The first variable, from one on, that a step which the walk went over may look at: variables of earlier steps are passed,
+    /// and of facts at earlier times.
+    fn pass_unwalked(&self, from: u32) -> u32
+        ensures behind { from ≤ result }
+        ensures passed { (seen values : Known) → AreSameBelow from self.now.means.layout self.now.low seen values → AreSameBelow result self.now.means.layout self.now.low seen values }
     {
-        values.first_difference(&self.seen, from)
+        let layout = self.means.layout();
+        let facts = layout.step_start(layout.horizon);
+        let next = from.max(layout.step_start(self.low));
+        if next < facts {
+            next
+        } else {
+            next.max(first_fact(layout, self.low))
+        }
     }
 
-    /// Sees the values that have changed.
+    /// Sees the values that have changed of the variables that the steps which the walk went over look at.
     fn see_all(&mut self, values: &Values)
-        requires { length values.now ≡ length self.old.seen }
-        ensures seen { self.new.seen ≡ values.now }
+        requires { length self.old.seen ≡ length values.now }
+        ensures seen { AreSameFrom self.new.means.layout self.new.low self.new.seen values.now }
+        ensures long { length self.new.seen ≡ length values.now }
         ensures means { self.new.means ≡ self.old.means }
     {
-        let _small = values.variables();
-        let mut from = 0;
-        'seeing: while let Some(v) = self.next_change(values, from) {
+        self.sees_all_variables();
+        let end = values.variables();
+        let mut from = self.pass_unwalked(0);
+        'seeing: while let Some(v) = change_between(values, &self.seen, from, end) {
             self.see(v, values.get(v));
-            from = v + 1;
+            from = self.pass_unwalked(v + 1);
         }
     }
 
@@ -149,36 +163,6 @@ impl LastWalk {
         ensures { length self.now.seen ≡ variables self.now.means.layout }
     {
         let _ = &self.seen;
-    }
-
-    /// Whether it has come to the initial state without a choice.
-    fn has_ended(&self) -> bool
-        ensures ended { OnTrue result (walked self.now.means self.now.seen ≡ None) }
-        ensures going { OnFalse result (0 < self.now.low) }
-    {
-        self.low == 0
-    }
-
-    /// Goes on by a step: to a choice, or else down to the time before it.
-    fn step_back(&mut self) -> Option<Lit>
-        requires { 0 < self.old.low }
-        ensures chosen { IfSome result (λ c. walked self.old.means self.old.seen ≡ Some c) }
-        ensures lower { IfNone result (self.new.low < self.old.low) }
-        ensures seen { self.new.seen ≡ self.old.seen }
-        ensures means { self.new.means ≡ self.old.means }
-    {
-        let step = self.low - 1;
-        self.before.clear();
-        let after = &self.wanted[self.low as usize];
-        match wanted_before(&self.means, &self.seen, step, after, &mut self.before) {
-            Some(choice) => Some(choice),
-            None => {
-                self.before.keeps_within();
-                std::mem::swap(&mut self.wanted[step as usize], &mut self.before);
-                self.low = step;
-                None
-            }
-        }
     }
 
     /// The choice of the walk over some values, where there is one; the walk goes on from what is kept. In the program this is a
@@ -191,11 +175,21 @@ impl LastWalk {
     {
         self.sees_all_variables();
         self.see_all(values);
-        'walking: while !self.has_ended() {
-            if let Some(choice) = self.step_back() {
-                return Some(choice);
-            }
-        }
-        None
+        let descent = walk_down(
+            &self.means,
+            values,
+            self.low,
+            &mut self.wanted,
+            &mut self.before,
+        );
+        take_steps(
+            self.means.layout(),
+            values,
+            descent.low,
+            self.low,
+            &mut self.seen,
+        );
+        self.low = descent.low;
+        descent.choice
     }
 }

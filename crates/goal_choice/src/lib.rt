@@ -9,11 +9,13 @@
 #![tactic(auto)]
 
 mod chooser;
+mod descent;
 mod flat_lists;
 mod gather;
 mod last_walk;
 mod literals;
 mod search;
+mod seen;
 mod support;
 mod supporters;
 mod walk;

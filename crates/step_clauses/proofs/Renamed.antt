@@ -1,4 +1,4 @@
-use Rattle.std.proofs.Common.{arith, ◌≡◌, ◌==◌, ℕ, ◌+◌, ◌*◌, ◌<◌, ◌≤◌, List, [], ◌∷◌, map, length, Bool, true, false, refl, sym, ap, ◌∙◌, fold, if◌then◌else◌, nat_lt, ◌⊎◌, inl, inr, Some, None}
+use Rattle.std.proofs.Common.{arith, ◌≡◌, ◌==◌, ℕ, ◌+◌, ◌*◌, ◌<◌, List, [], ◌∷◌, map, length, Bool, true, false, refl, ap, ◌∙◌, fold, if◌then◌else◌, nat_lt, Some, None}
 use Rattle.std.specs.List.{cons_option}
 use Rattle.clause_base.specs.Literal.{opposite}
 use Rattle.clause_base.proofs.Moved.{below, same, pair_renamed}

@@ -1,4 +1,4 @@
-use Rattle.std.proofs.Common.{arith, ◌∙◌, ℕ, Some, List, [], length, get_or, sym, ap}
+use Rattle.std.proofs.Common.{arith, ◌∙◌, ℕ, [], length, get_or, sym, ap}
 use Rattle.std.proofs.lemmas.Option.{get_or_from_slice_get}
 use Rattle.std.specs.List.{slice_range}
 use Rattle.clause_base.specs.Pieces.{pieces}

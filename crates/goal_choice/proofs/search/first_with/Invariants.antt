@@ -1,5 +1,4 @@
 use Rattle.std.proofs.Common.{◌≡◌, drop}
-use Rattle.std.specs.List.Sorted.{IsNonDecreasing}
 use Rattle.goal_choice.specs.Search.{least_variable}
 use Rattle.goal_choice.proofs.search.first_with.Given as goal
 

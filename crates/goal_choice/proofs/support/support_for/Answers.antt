@@ -1,4 +1,4 @@
-use Rattle.std.proofs.Common.{arith, ◌≡◌, ◌≤◌, ◌∙◌, [], length, Some, true, sym, ap, subst}
+use Rattle.std.proofs.Common.{arith, ◌≤◌, ◌∙◌, [], length, Some, true, sym, ap, subst}
 use Rattle.std.specs.Prelude.{slice_index_or}
 use Rattle.gt_core.specs.Layout.{Layout, variables}
 use Rattle.goal_choice.specs.Means.{Supporter, start_of}

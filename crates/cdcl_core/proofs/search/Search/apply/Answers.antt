@@ -1,13 +1,12 @@
-use Rattle.std.proofs.Common.{◌≡◌, ◌<◌, ◌/◌, [], ℕ, true, ap, subst, sym}
+use Rattle.std.proofs.Common.{◌<◌, ◌/◌, [], ℕ, subst, sym}
 use Rattle.clause_base.specs.Clause.{IsClause}
 use Rattle.cdcl_rules.specs.declared.event.Event.TheVariants.{Conflict, Force, Decide, Finish}
 use Rattle.cdcl_rules.specs.Learn.{learned, Learned}
 use Rattle.cdcl_rules.specs.Run.{with_learned, after_conflict}
 use Rattle.cdcl_laws.specs.Sound.{IsSound}
 use Rattle.cdcl_rules.specs.Trail.{AllFalse}
-use Rattle.cdcl_core.specs.Search.{SearchView, IsNextEvent, GoesOn}
+use Rattle.cdcl_core.specs.Search.{SearchView, IsNextEvent}
 use Rattle.cdcl_core.proofs.Keeps.{learned_same, learned_is_clause, learned_is_false, undropped_sound, next_sound, next_open}
-use Rattle.cdcl_core.proofs.Logs.{goes_same, on_err}
 use Rattle.cdcl_core.proofs.search.Search.apply.Goals as goal
 
 pub enter-requires-clause-clause : goal.enter-requires-clause-clause
@@ -86,16 +85,3 @@ finish-requires-clause-sound c =
     let v = c.args.self.now in
     let next = subst (IsNextEvent v.formula v.state) c.in-Finish.is c.requires.next in
     next_sound v.formula v.state Finish c.requires.sound c.requires.going next
-
-pub returns-in_err-learned-in-Conflict-clause-log : goal.returns-in_err-learned-in-Conflict-clause-log
-returns-in_err-learned-in-Conflict-clause-log c = goes_same c.args.self.now.state.log c.learned-in-Conflict.new.self.state.log (ap (λ (v : SearchView). v.state.log) c.in_err-learned-in-Conflict.ensures.err)
-
-pub returns-in-Conflict-clause-log : goal.returns-in-Conflict-clause-log
-returns-in-Conflict-clause-log c =
-    on_err c.enter.result (λ (g : GoesOn c.learned-in-Conflict.new.self.state.log c.enter.new.self.state.log). subst (λ (v : SearchView). GoesOn v.state.log c.enter.new.self.state.log) c.in_ok-learned-in-Conflict.ensures.ok g) c.enter.ensures.log
-
-pub returns-in-Force-clause-log : goal.returns-in-Force-clause-log
-returns-in-Force-clause-log c = on_err c.assign.result (λ (e : c.assign.new.self ≡ record c.args.self.now { spoilt = true }). goes_same c.args.self.now.state.log c.assign.new.self.state.log (ap (λ (v : SearchView). v.state.log) e)) c.assign.ensures.err
-
-pub returns-in-Decide-clause-log : goal.returns-in-Decide-clause-log
-returns-in-Decide-clause-log c = on_err c.assign-in-Decide.result (λ (e : c.assign-in-Decide.new.self ≡ record c.args.self.now { spoilt = true }). goes_same c.args.self.now.state.log c.assign-in-Decide.new.self.state.log (ap (λ (v : SearchView). v.state.log) e)) c.assign-in-Decide.ensures.err

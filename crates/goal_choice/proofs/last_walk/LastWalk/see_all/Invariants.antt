@@ -1,13 +1,12 @@
-use Rattle.std.proofs.Common.{◌≡◌, ◌-◌, ◌≤◌, length}
-use Rattle.goal_choice.proofs.Differences.{IsSameBelow}
+use Rattle.std.proofs.Common.{◌≡◌, ◌-◌, length}
+use Rattle.goal_choice.specs.Seen.{AreSameBelow}
 use Rattle.goal_choice.proofs.last_walk.LastWalk.see_all.Given as goal
 
 abbrev pub invariant-seeing : goal.invariant-seeing
 invariant-seeing l = record {
   long : length l.self.seen ≡ length l.values;
   means : l.self.means ≡ l.initial.self.means;
-  within : l.from ≤ length l.values;
-  same : IsSameBelow l.from l.values l.self.seen;
+  same : AreSameBelow l.from l.self.means.layout l.self.low l.self.seen l.values;
 }
 
 abbrev pub decreases-seeing : goal.decreases-seeing

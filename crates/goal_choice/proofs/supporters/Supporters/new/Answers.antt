@@ -1,5 +1,4 @@
 use Rattle.std.proofs.Common.{◌≡◌, ◌++◌, ◌+◌, ◌/◌, ◌∙◌, ℕ, List, map, length, sym, ap, subst}
-use Rattle.std.specs.Arc.{arc_value}
 use Rattle.goal_choice.specs.declared.supporters.Blocks.{Blocks}
 use Rattle.goal_choice.specs.Means.{Means}
 use Rattle.goal_choice.specs.Members.{AreMeans}
