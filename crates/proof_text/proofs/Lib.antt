@@ -1,0 +1,4 @@
+mod Clauses
+mod Cuts
+mod Digits
+mod Spelling

@@ -1,0 +1,5 @@
+use Rattle.proof_text.proofs.Spelling.{one_place, one_spelling, texts_fit}
+use Rattle.proof_text.proofs.laws.laws.Goals as goal
+
+pub returns : goal.returns
+returns c = record { one_spelling = one_spelling; fit = texts_fit; one_place = one_place }

@@ -1,0 +1,34 @@
+use Rattle.std.proofs.Common.{◌≡◌, ◌<◌, ◌≤◌, ◌+◌, ⊥, [], length, refl, rules, sym, subst, ap, arith, ◌∙◌}
+use Rattle.proof_text.proofs.Spelling.{all_parsed, entry_longer, left_over, one_entry_more, parsed_first, unfit_here}
+use Rattle.proof_text.proofs.read.read_proof.Goals as goal
+
+pub loop-rest-init : goal.loop-rest-init
+loop-rest-init c =
+    rw c.new-entries.ensures.items (parsed_first c.args.bytes.now c.in-Some.horizon c.in-Some.first.now c.in-Some.ensures.some.0 c.in-Some.ensures.some.1)
+
+pub overflow_sub-at : goal.overflow_sub-at
+overflow_sub-at c =
+    let left = left_over c.args.bytes.now c.in-Some.horizon c.loop-rest.entries.items c.loop-rest.rest.now c.loop-rest.invariant in
+    omega (arith, left)
+
+pub returns-in_default-2-clause-syntax : goal.returns-in_default-2-clause-syntax
+returns-in_default-2-clause-syntax c =
+    let some : c.loop-rest.rest.now ≡ [] → ⊥ = ? in
+    unfit_here c.args.bytes.now c.in-Some.horizon c.loop-rest.entries.items c.loop-rest.rest.now (length c.args.bytes.now - length c.loop-rest.rest.now) c.loop-rest.invariant some
+    (c.in_ok-others.ensures.none c.in_default-2.is) refl
+
+pub loop-rest-smaller : goal.loop-rest-smaller
+loop-rest-smaller c =
+    let adds = rw c.in-Some-2.is at c.in_ok-others.ensures.some in
+    let longer = entry_longer adds.entry c.in-Some-2.others.now in
+    subst (λ bytes. length c.in-Some-2.others.now < length bytes) (sym adds.text) longer
+
+pub loop-rest-preserved : goal.loop-rest-preserved
+loop-rest-preserved c =
+    let adds = rw c.in-Some-2.is at c.in_ok-others.ensures.some in
+    one_entry_more c.args.bytes.now c.in-Some.horizon c.loop-rest.entries.items c.read_entry.new.entries.items c.loop-rest.rest.now c.in-Some-2.others.now adds.entry c.loop-rest.invariant adds.written adds.added adds.text
+
+pub returns-clause-value : goal.returns-clause-value
+returns-clause-value c =
+    let none : c.loop-rest.rest.now ≡ [] = ? in
+    all_parsed c.args.bytes.now c.in-Some.horizon c.of.result c.loop-rest.rest.now (rw c.of.ensures c.loop-rest.invariant) none

@@ -1,0 +1,19 @@
+-- The laws of certificates as texts.
+use Rattle.std.specs.Prelude.{◌≡◌, ◌≤◌, ℕ, List}
+use Rattle.clause_base.specs.declared.log.Entry.{Entry}
+use Rattle.proof_text.specs.Text.{proof_text, AreWritten}
+use Rattle.proof_text.specs.Place.{IsUnfitAt}
+
+-- a text is that of one horizon and one log
+abbrev pub OneSpelling : Type 0
+OneSpelling =
+    (horizon other : ℕ) (log others : List Entry) → horizon ≤ 255 → other ≤ 255 → AreWritten log → AreWritten others
+    → proof_text horizon log ≡ proof_text other others → (horizon ≡ other) × (log ≡ others)
+
+-- and is unfit nowhere
+abbrev pub TextsAreFit : Type 0
+TextsAreFit = (horizon : ℕ) (log : List Entry) (at : ℕ) → horizon ≤ 255 → AreWritten log → IsUnfitAt (proof_text horizon log) at → ⊥
+
+-- other bytes are unfit at one place
+abbrev pub OnePlace : Type 0
+OnePlace = (bytes : List ℕ) (at other : ℕ) → IsUnfitAt bytes at → IsUnfitAt bytes other → at ≡ other

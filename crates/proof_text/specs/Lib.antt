@@ -1,0 +1,7 @@
+pub mod Codes
+pub mod Text
+pub mod Place
+pub mod Laws
+pub mod Length
+pub mod Reading
+pub mod Row

@@ -1,0 +1,9 @@
+//! The laws of certificates as texts.
+ghost use Rattle.proof_text.specs.Laws.{OneSpelling, TextsAreFit, OnePlace};
+
+/// A text is that of one horizon and one log, and unfit nowhere; other bytes are unfit at one place. It does nothing.
+pub fn laws()
+    ensures one_spelling { OneSpelling }
+    ensures fit { TextsAreFit }
+    ensures one_place { OnePlace }
+{}

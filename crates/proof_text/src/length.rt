@@ -1,0 +1,56 @@
+//! How long a certificate is.
+ghost use Rattle.std.specs.Prelude.{◌≡◌, ◌≤◌, ◌+◌, [], decimal, length};
+ghost use Rattle.proof_text.specs.Text.{AreWritten, IsWritten, proof_text};
+ghost use Rattle.proof_text.specs.Reading.{numbered, entry_then};
+ghost use Rattle.proof_text.specs.Row.{row_numbers};
+ghost use Rattle.proof_text.specs.Length.{saturated};
+
+use crate::row::Row;
+use clause_base::log::{Entry, Log};
+
+// How many digits a number has.
+fn digits(number: u32) -> u64
+    ensures { result ≡ length (decimal number) }
+{
+    let mut count = 1;
+    let mut rest = number;
+    while 10 <= rest {
+        rest /= 10;
+        count += 1;
+    }
+    count
+}
+
+// How many bytes the numbers of a row take, each after a blank.
+fn row_length(row: &Row<'_>) -> u64
+    ensures { result ≡ saturated (length (numbered (row_numbers row.now) [])) }
+{
+    let mut sum = 0u64;
+    for place in 0..row.len() {
+        sum = sum.saturating_add(1 + digits(row.number(place)));
+    }
+    sum
+}
+
+// How many bytes the line of an entry takes, with its LF.
+fn entry_length(entry: &Entry) -> u64
+    ensures { result ≡ saturated (length (entry_then entry.now [])) }
+{
+    match entry {
+        Entry::Learn { clause, hints } => row_length(&Row::Codes(clause.as_slice()))
+            .saturating_add(row_length(&Row::Hints(hints.as_slice())))
+            .saturating_add(9),
+        Entry::Drop { number } => 6 + digits(*number),
+    }
+}
+
+/// How many bytes the certificate has, or 18,446,744,073,709,551,615 where it has more. It takes no memory.
+pub fn proof_length(horizon: u32, log: &Log) -> u64
+    ensures { result ≡ saturated (length (proof_text horizon log.now)) }
+{
+    let mut sum = 9 + digits(horizon);
+    for entry in log.as_slice() {
+        sum = sum.saturating_add(entry_length(entry));
+    }
+    sum
+}

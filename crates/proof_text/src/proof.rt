@@ -1,0 +1,53 @@
+// What a certificate is, and why bytes are none.
+ghost use Rattle.std.specs.Prelude.{◌≡◌};
+ghost use Rattle.proof_text.specs.declared.proof.ProofFault.TheVariants as error;
+
+use clause_base::log::Log;
+use clause_base::memory::Memory;
+use list_of::ListOf;
+use std::alloc::{AllocError, AllocFailed};
+
+/// The bytes of a text. Contracts see the list of them.
+pub type Text = ListOf<u8>;
+
+/// A certificate: a horizon, and the log that is to refute it.
+#[derive(Debug, Drop)]
+pub struct Proof {
+    /// The horizon, from 0 to 255.
+    pub horizon: u32,
+    /// What a solver learned and dropped, in order.
+    pub log: Log,
+}
+
+/// Why bytes are no certificate.
+#[derive(Clone, Copy, Debug, PartialEq, Eq)]
+pub enum ProofFault {
+    /// The line that begins at this offset, from 0, does not fit.
+    Syntax { at: u32 },
+    /// Want of memory.
+    Memory,
+}
+
+impl From<AllocError> for ProofFault {
+    ghost from_gives = { λ _ e. e ≡ error.Memory };
+
+    fn from(_: AllocError) -> Self {
+        ProofFault::Memory
+    }
+}
+
+impl<T: Drop> From<AllocFailed<T>> for ProofFault {
+    ghost from_gives = { λ _ e. e ≡ error.Memory };
+
+    fn from(_: AllocFailed<T>) -> Self {
+        ProofFault::Memory
+    }
+}
+
+impl From<Memory> for ProofFault {
+    ghost from_gives = { λ _ e. e ≡ error.Memory };
+
+    fn from(_: Memory) -> Self {
+        ProofFault::Memory
+    }
+}

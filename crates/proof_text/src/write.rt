@@ -1,0 +1,60 @@
+//! Writing a certificate.
+ghost use Rattle.std.specs.Prelude.{◌≡◌, ◌≤◌, ◌++◌, [], OnOk, IfOk};
+ghost use Rattle.proof_text.specs.Text.{proof_text};
+ghost use Rattle.proof_text.specs.Reading.{numbered, entry_then};
+ghost use Rattle.proof_text.specs.Row.{row_numbers};
+
+use crate::length::proof_length;
+use crate::proof::Text;
+use crate::row::Row;
+use clause_base::log::{Entry, Log};
+use clause_base::memory::Memory;
+use report_lines::push_number;
+use std::alloc::{AllocError, Global};
+
+// Appends the numbers of a row, each after a blank.
+fn push_row(text: &mut Vec<u8>, row: &Row<'_>) -> Result<(), AllocError>
+    ensures { OnOk result (text.new.items ≡ text.old.items ++ numbered (row_numbers row.now) []) }
+{
+    for place in 0..row.len() {
+        text.push(32)?;
+        push_number(text, u64::from(row.number(place)))?;
+    }
+    Ok(())
+}
+
+// Appends the line of an entry.
+fn push_entry(text: &mut Vec<u8>, entry: &Entry) -> Result<(), AllocError>
+    ensures { OnOk result (text.new.items ≡ text.old.items ++ entry_then entry.now []) }
+{
+    match entry {
+        Entry::Learn { clause, hints } => {
+            text.extend_from_slice(b"learn".as_slice())?;
+            push_row(text, &Row::Codes(clause.as_slice()))?;
+            text.extend_from_slice(b" by".as_slice())?;
+            push_row(text, &Row::Hints(hints.as_slice()))?;
+        }
+        Entry::Drop { number } => {
+            text.extend_from_slice(b"drop ".as_slice())?;
+            push_number(text, u64::from(*number))?;
+        }
+    }
+    text.push(10)?;
+    Ok(())
+}
+
+/// The text of a certificate, in memory that is sized once. The horizon is from 0 to 255.
+pub fn write_proof(alloc: Global, horizon: u32, log: &Log) -> Result<Text, Memory>
+    requires { horizon ≤ 255 }
+    ensures { IfOk result (λ text. text ≡ proof_text horizon log.now) }
+{
+    let mut text = Vec::new(alloc);
+    text.reserve(proof_length(horizon, log) as usize)?;
+    text.extend_from_slice(b"horizon ".as_slice())?;
+    push_number(&mut text, u64::from(horizon))?;
+    text.push(10)?;
+    for entry in log.as_slice() {
+        push_entry(&mut text, entry)?;
+    }
+    Ok(Text::of(text))
+}
