@@ -96,11 +96,11 @@ pub record IsReading (bytes ns rest : List ℕ) : Type 0 where
   pub small : AreSmall ns
   pub ended : (ns ≡ [] → ⊥) → Stops rest
 
-numbered-push : (ns : List ℕ) (n : ℕ) (rest : List ℕ) → numbered (ns ++ n ∷ []) rest ≡ numbered ns (numbered (n ∷ []) rest)
+pub numbered-push : (ns : List ℕ) (n : ℕ) (rest : List ℕ) → numbered (ns ++ n ∷ []) rest ≡ numbered ns (numbered (n ∷ []) rest)
 numbered-push [] n rest = refl
 numbered-push (m ∷ ns) n rest = ap (λ (l : List ℕ). 32 ∷ (decimal m ++ l)) (numbered-push ns n rest)
 
-small-push : (ns : List ℕ) (n : ℕ) → AreSmall ns → n ≤ 4294967295 → AreSmall (ns ++ n ∷ [])
+pub small-push : (ns : List ℕ) (n : ℕ) → AreSmall ns → n ≤ 4294967295 → AreSmall (ns ++ n ∷ [])
 small-push [] n are is = (is, tt)
 small-push (m ∷ ns) n are is = (are.0, small-push ns n are.1 is)
 

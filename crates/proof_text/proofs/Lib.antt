@@ -1,4 +1,6 @@
 mod Clauses
 mod Cuts
 mod Digits
+mod Lengths
+mod Lines
 mod Spelling

@@ -1,6 +1,7 @@
 -- One text for each horizon and log, and one horizon and log for each text.
-use Rattle.std.proofs.Common.{◌≡◌, ◌∙◌, ◌≤◌, ◌<◌, ◌+◌, ◌-◌, ℕ, suc, List, [], ◌∷◌, ◌++◌, length, map, codes, refl, sym, ap, subst, arith, append_assoc, append-nil, length-append}
+use Rattle.std.proofs.Common.{◌≡◌, ◌∙◌, ◌≤◌, ◌<◌, ◌+◌, ◌-◌, ◌==◌, Bool, true, false, true≢false, ℕ, suc, List, [], ◌∷◌, ◌++◌, length, map, codes, refl, sym, ap, subst, arith, append_assoc, append-nil, length-append}
 use Rattle.std.specs.Prelude.{decimal}
+use Rattle.std.proofs.lemmas.Bool.{eqb-true}
 use Rattle.std.specs.List.{AllByRecursion}
 use Rattle.report_lines.specs.Lines.{joined}
 use Rattle.clause_base.specs.declared.log.Entry.{Entry}
@@ -249,3 +250,14 @@ pub left_over : (bytes : List ℕ) (horizon : ℕ) (log : List Entry) (rest : Li
 left_over bytes horizon log rest p =
     let long = ap length p.text in
     omega (arith, long, shorter_first horizon (entries_then log rest), entries_longer log rest)
+
+-- ---- tests for an empty rest
+
+pub empty_by : (xs : List ℕ) (t : Bool) → t ≡ (length xs == 0) → t ≡ true → xs ≡ []
+empty_by [] t e is = refl
+empty_by (x ∷ xs) t e is = let never = eqb-true (length (x ∷ xs)) 0 (sym e ∙ is) in absurd (omega (arith, never))
+
+pub not_empty_by : (xs : List ℕ) (t : Bool) → t ≡ (length xs == 0) → t ≡ false → xs ≡ [] → ⊥
+not_empty_by xs t e is none =
+    let holds : t ≡ true = e ∙ ap (λ (l : List ℕ). length l == 0) none in
+    true≢false (sym holds ∙ is)

@@ -11,6 +11,7 @@
 
 mod clause;
 mod entry;
+mod every_log;
 pub mod laws;
 mod length;
 mod number;
@@ -19,10 +20,9 @@ mod proof;
 mod read;
 mod row;
 mod write;
-mod written;
 
+pub use every_log::written;
 pub use length::proof_length;
 pub use proof::{Proof, ProofFault, Text};
 pub use read::read_proof;
 pub use write::write_proof;
-pub use written::written;

@@ -29,7 +29,10 @@ impl<'a> Row<'a> {
         ensures small { result ≤ 4294967295 }
     {
         match self {
-            Row::Codes(lits) => lits[place].0,
+            Row::Codes(lits) => {
+                let lit = lits[place];
+                lit.0
+            }
             Row::Hints(numbers) => numbers[place],
         }
     }

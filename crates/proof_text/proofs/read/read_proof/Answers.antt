@@ -1,5 +1,5 @@
-use Rattle.std.proofs.Common.{◌≡◌, ◌<◌, ◌≤◌, ◌+◌, ⊥, [], length, refl, rules, sym, subst, ap, arith, ◌∙◌}
-use Rattle.proof_text.proofs.Spelling.{all_parsed, entry_longer, left_over, one_entry_more, parsed_first, unfit_here}
+use Rattle.std.proofs.Common.{◌≡◌, ◌<◌, ◌≤◌, ◌+◌, ◌-◌, [], length, refl, rules, sym, subst, ap, arith, ◌∙◌}
+use Rattle.proof_text.proofs.Spelling.{all_parsed, empty_by, entry_longer, left_over, not_empty_by, one_entry_more, parsed_first, unfit_here}
 use Rattle.proof_text.proofs.read.read_proof.Goals as goal
 
 pub loop-rest-init : goal.loop-rest-init
@@ -13,7 +13,7 @@ overflow_sub-at c =
 
 pub returns-in_default-2-clause-syntax : goal.returns-in_default-2-clause-syntax
 returns-in_default-2-clause-syntax c =
-    let some : c.loop-rest.rest.now ≡ [] → ⊥ = ? in
+    let some = not_empty_by c.loop-rest.rest.now c.is_empty.result c.is_empty.ensures c.loop-rest-test.true in
     unfit_here c.args.bytes.now c.in-Some.horizon c.loop-rest.entries.items c.loop-rest.rest.now (length c.args.bytes.now - length c.loop-rest.rest.now) c.loop-rest.invariant some
     (c.in_ok-others.ensures.none c.in_default-2.is) refl
 
@@ -30,5 +30,11 @@ loop-rest-preserved c =
 
 pub returns-clause-value : goal.returns-clause-value
 returns-clause-value c =
-    let none : c.loop-rest.rest.now ≡ [] = ? in
+    let none = empty_by c.loop-rest.rest.now c.is_empty.result c.is_empty.ensures c.loop-rest-test.false in
     all_parsed c.args.bytes.now c.in-Some.horizon c.of.result c.loop-rest.rest.now (rw c.of.ensures c.loop-rest.invariant) none
+
+pub returns-clause-few : goal.returns-clause-few
+returns-clause-few c =
+    let left = left_over c.args.bytes.now c.in-Some.horizon c.loop-rest.entries.items c.loop-rest.rest.now c.loop-rest.invariant in
+    let same = ap length c.of.ensures in
+    omega (arith, left, same)

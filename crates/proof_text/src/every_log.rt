@@ -1,7 +1,18 @@
 //! What holds of every log.
-ghost use Rattle.proof_text.specs.Text.{AreWritten, IsWritten};
+ghost use Rattle.proof_text.specs.Text.{AreSmall, AreWritten, IsWritten};
+ghost use Rattle.proof_text.specs.Row.{row_numbers};
 
+use crate::row::Row;
 use clause_base::log::{Entry, Log};
+
+// The numbers of a row can be written.
+fn row_is_small(row: &Row<'_>)
+    ensures { AreSmall (row_numbers row.now) }
+{
+    for place in 0..row.len() {
+        let _number = row.number(place);
+    }
+}
 
 // An entry has a line.
 fn entry_is_written(entry: &Entry)
@@ -9,8 +20,8 @@ fn entry_is_written(entry: &Entry)
 {
     match entry {
         Entry::Learn { clause, hints } => {
-            let _codes = clause.as_slice();
-            let _numbers = hints.as_slice();
+            row_is_small(&Row::Codes(clause.as_slice()));
+            row_is_small(&Row::Hints(hints.as_slice()));
         }
         Entry::Drop { number } => {
             let _number = *number;

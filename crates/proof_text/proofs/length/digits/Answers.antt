@@ -1,0 +1,22 @@
+use Rattle.std.proofs.Common.{◌≡◌, ◌≤◌, arith, length, rules}
+use Rattle.proof_text.proofs.Lengths.{digits_few, one_digit, one_digit_more}
+use Rattle.proof_text.proofs.length.digits.Goals as goal
+
+pub overflow_add-count : goal.overflow_add-count
+overflow_add-count c =
+    let small : c.args.number ≤ 4294967295 = search rules in
+    let inv = c.loop-rest.invariant in
+    record { fits = omega (arith, inv.0, digits_few c.args.number small) }
+
+pub loop-rest-preserved : goal.loop-rest-preserved
+loop-rest-preserved c =
+    let small : c.args.number ≤ 4294967295 = search rules in
+    let inv = c.loop-rest.invariant in
+    let more = one_digit_more c.loop-rest.rest c.loop-rest-test.true (omega (arith, inv.1, small)) in
+    (omega (arith, inv.0, more), omega (arith, inv.1))
+
+pub returns : goal.returns
+returns c =
+    let inv = c.loop-rest.invariant in
+    let one = one_digit c.loop-rest.rest (omega (arith, c.loop-rest-test.false)) in
+    omega (arith, inv.0, one)
