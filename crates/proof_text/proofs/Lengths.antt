@@ -118,15 +118,15 @@ pub learn_counted : (clause hints : List ℕ) (m n both all : ℕ) → m ≡ sat
     → both ≡ min (m + n) 18446744073709551615 → all ≡ min (both + 9) 18446744073709551615 → all ≡ saturated (length (entry_then (Learn clause hints) []))
 learn_counted clause hints m n both all a b c d = let long = learn_length clause hints in omega (arith, long, a, b, c, d)
 
-pub drop_counted : (number d : ℕ) → number ≤ 4294967295 → d ≡ length (decimal number) → 6 + d ≡ saturated (length (entry_then (Drop number) []))
-drop_counted number d small is =
+pub drop_counted : (number d : ℕ) → d ≤ 10 → d ≡ length (decimal number) → 6 + d ≡ saturated (length (entry_then (Drop number) []))
+drop_counted number d few is =
     let long = length-append (decimal number) (10 ∷ []) in
-    omega (arith, long, is, digits_few number small)
+    omega (arith, long, is, few)
 
-pub first_counted : (horizon d : ℕ) → horizon ≤ 4294967295 → d ≡ length (decimal horizon) → 9 + d ≡ saturated (length (first_then horizon []))
-first_counted horizon d small is =
+pub first_counted : (horizon d : ℕ) → d ≤ 10 → d ≡ length (decimal horizon) → 9 + d ≡ saturated (length (first_then horizon []))
+first_counted horizon d few is =
     let long = length-append (decimal horizon) (10 ∷ []) in
-    omega (arith, long, is, digits_few horizon small)
+    omega (arith, long, is, few)
 
 pub entry_counted : (horizon : ℕ) (log : List Entry) (i : ℕ) (e d : Entry) (sum one next : ℕ) → i < length log → e ≡ get_or log i d
     → sum ≡ saturated (length (first_then horizon (entries_then (take i log) []))) → one ≡ saturated (length (entry_then e [])) → next ≡ min (sum + one) 18446744073709551615

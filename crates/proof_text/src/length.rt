@@ -10,7 +10,8 @@ use clause_base::log::{Entry, Log};
 
 // How many digits a number has.
 fn digits(number: u32) -> u64
-    ensures { result ≡ length (decimal number) }
+    ensures value { result ≡ length (decimal number) }
+    ensures few { result ≤ 10 }
 {
     let mut count = 1;
     let mut rest = number;

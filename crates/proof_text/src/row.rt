@@ -1,5 +1,5 @@
 //! The numbers of an entry, by their places. All reading of an entry for its text goes through here.
-ghost use Rattle.std.specs.Prelude.{◌≡◌, ◌<◌, ◌≤◌, length, get_or};
+ghost use Rattle.std.specs.Prelude.{◌≡◌, length, get_or};
 ghost use Rattle.proof_text.specs.Row.{row_numbers};
 
 use clause_base::literal::Lit;
@@ -22,18 +22,19 @@ impl<'a> Row<'a> {
         }
     }
 
-    /// The number at this place, counted from 0.
+    /// The number at this place, counted from 0; 0 past the end.
     pub fn number(&self, place: usize) -> u32
-        requires { place < length (row_numbers self.now) }
-        ensures value { result ≡ get_or (row_numbers self.now) place 0 }
-        ensures small { result ≤ 4294967295 }
+        ensures { result ≡ get_or (row_numbers self.now) place 0 }
     {
         match self {
-            Row::Codes(lits) => {
-                let lit = lits[place];
-                lit.0
-            }
-            Row::Hints(numbers) => numbers[place],
+            Row::Codes(lits) => match lits.get(place) {
+                Some(lit) => lit.0,
+                None => 0,
+            },
+            Row::Hints(numbers) => match numbers.get(place) {
+                Some(number) => *number,
+                None => 0,
+            },
         }
     }
 }

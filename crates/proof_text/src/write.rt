@@ -3,6 +3,7 @@ ghost use Rattle.std.specs.Prelude.{◌≡◌, ◌≤◌, ◌++◌, [], OnOk, If
 ghost use Rattle.proof_text.specs.Text.{proof_text};
 ghost use Rattle.proof_text.specs.Reading.{numbered, entry_then};
 ghost use Rattle.proof_text.specs.Row.{row_numbers};
+ghost use Rattle.clause_base.specs.declared.log.Entry.TheVariants.{Learn, Drop};
 
 use crate::length::proof_length;
 use crate::proof::Text;
@@ -23,24 +24,40 @@ fn push_row(text: &mut Vec<u8>, row: &Row<'_>) -> Result<(), AllocError>
     Ok(())
 }
 
+// Appends the line of a learned clause.
+fn push_learn(text: &mut Vec<u8>, clause: &Row<'_>, hints: &Row<'_>) -> Result<(), AllocError>
+    ensures { OnOk result (text.new.items ≡ text.old.items ++ entry_then (Learn (row_numbers clause.now) (row_numbers hints.now)) []) }
+{
+    text.extend_from_slice(b"learn".as_slice())?;
+    push_row(text, clause)?;
+    text.extend_from_slice(b" by".as_slice())?;
+    push_row(text, hints)?;
+    text.push(10)?;
+    Ok(())
+}
+
+// Appends the line of a dropped clause.
+fn push_drop(text: &mut Vec<u8>, number: u32) -> Result<(), AllocError>
+    ensures { OnOk result (text.new.items ≡ text.old.items ++ entry_then (Drop number) []) }
+{
+    text.extend_from_slice(b"drop ".as_slice())?;
+    push_number(text, u64::from(number))?;
+    text.push(10)?;
+    Ok(())
+}
+
 // Appends the line of an entry.
 fn push_entry(text: &mut Vec<u8>, entry: &Entry) -> Result<(), AllocError>
     ensures { OnOk result (text.new.items ≡ text.old.items ++ entry_then entry.now []) }
 {
     match entry {
-        Entry::Learn { clause, hints } => {
-            text.extend_from_slice(b"learn".as_slice())?;
-            push_row(text, &Row::Codes(clause.as_slice()))?;
-            text.extend_from_slice(b" by".as_slice())?;
-            push_row(text, &Row::Hints(hints.as_slice()))?;
-        }
-        Entry::Drop { number } => {
-            text.extend_from_slice(b"drop ".as_slice())?;
-            push_number(text, u64::from(*number))?;
-        }
+        Entry::Learn { clause, hints } => push_learn(
+            text,
+            &Row::Codes(clause.as_slice()),
+            &Row::Hints(hints.as_slice()),
+        ),
+        Entry::Drop { number } => push_drop(text, *number),
     }
-    text.push(10)?;
-    Ok(())
 }
 
 /// The text of a certificate, in memory that is sized once. The horizon is from 0 to 255.

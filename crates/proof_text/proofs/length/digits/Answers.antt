@@ -15,8 +15,15 @@ loop-rest-preserved c =
     let more = one_digit_more c.loop-rest.rest c.loop-rest-test.true (omega (arith, inv.1, small)) in
     (omega (arith, inv.0, more), omega (arith, inv.1))
 
-pub returns : goal.returns
-returns c =
+pub returns-clause-value : goal.returns-clause-value
+returns-clause-value c =
     let inv = c.loop-rest.invariant in
     let one = one_digit c.loop-rest.rest (omega (arith, c.loop-rest-test.false)) in
     omega (arith, inv.0, one)
+
+pub returns-clause-few : goal.returns-clause-few
+returns-clause-few c =
+    let small : c.args.number ≤ 4294967295 = search rules in
+    let inv = c.loop-rest.invariant in
+    let one = one_digit c.loop-rest.rest (omega (arith, c.loop-rest-test.false)) in
+    omega (arith, inv.0, one, digits_few c.args.number small)
