@@ -11,6 +11,7 @@ ghost use Rattle.horizon_run.specs.Run.{choice_in, choice_of, moved_to, truths_o
 use cdcl_core::solver::Solver;
 use cdcl_laws::law::runs_are_sound;
 use cdcl_rules::standing::Standing;
+use clause_base::log::Log;
 use clause_base::memory::Memory;
 use goal_choice::GoalChooser;
 use gt_core::task::Task;
@@ -126,6 +127,14 @@ impl HorizonRun {
     {
         let _log = self.solver.log();
         self.solver.conflicts()
+    }
+
+    /// What its solver learned and dropped so far, in order: a derivation, of a spoilt run too. It takes no memory.
+    pub fn log(&self) -> &Log
+        ensures value { result.now ≡ self.now.state.log }
+        ensures derivation { IsDerivation self.now.formula.variables self.now.formula.clauses self.now.state.log }
+    {
+        self.solver.log()
     }
 
     /// The value of a variable, if it has one.

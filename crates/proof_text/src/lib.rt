@@ -19,6 +19,8 @@ mod numbers;
 mod proof;
 mod read;
 mod row;
+#[cfg(test)]
+mod tests;
 mod write;
 
 pub use every_log::written;

@@ -1,0 +1,68 @@
+//! Certificates, and texts that are none.
+use crate::laws::laws;
+use crate::{ProofFault, proof_length, read_proof, write_proof, written};
+use std::alloc::Global;
+use std::test::Fail;
+
+/// Bytes, and where they go wrong, if they do.
+type Row = (&'static str, Option<u32>);
+
+const ROWS: [Row; 27] = [
+    ("horizon 0\nlearn by 0 1\n", None),
+    ("horizon 0\n", None),
+    (
+        "horizon 255\nlearn 0 3 4294967294 by 4294967295\ndrop 7\nlearn by\n",
+        None,
+    ),
+    ("horizon 17\ndrop 0\ndrop 0\n", None),
+    ("", Some(0)),
+    ("horizon 0", Some(0)),
+    ("horizon 256\n", Some(0)),
+    ("horizon 00\n", Some(0)),
+    ("horizon\n", Some(0)),
+    ("horizon 1 2\n", Some(0)),
+    ("Horizon 1\n", Some(0)),
+    ("horizon 0\nlearn by 0  1\n", Some(10)),
+    ("horizon 0\nlearn by 0 1", Some(10)),
+    ("horizon 0\nlearn by 0 1 \n", Some(10)),
+    ("horizon 0\nlearn by 0\r\n", Some(10)),
+    ("horizon 0\nlearn 2 1 by 0\n", Some(10)),
+    ("horizon 0\nlearn 2 2 by 0\n", Some(10)),
+    ("horizon 0\nlearn 2 3 by 0\n", Some(10)),
+    ("horizon 0\nlearn 1 2 by 0\nlearn 1 2 by 01\n", Some(25)),
+    ("horizon 0\nlearn 1 2 by 4294967296\n", Some(10)),
+    ("horizon 0\nlearn 99999999999999999999 by 1\n", Some(10)),
+    ("horizon 0\nlearn 1 2\n", Some(10)),
+    ("horizon 0\ndrop\n", Some(10)),
+    ("horizon 0\ndrop 1 2\n", Some(10)),
+    ("horizon 0\ndrop 1\n\n", Some(17)),
+    ("horizon 0\ndrop 1\nx", Some(17)),
+    ("horizon 0\nlearn\n", Some(10)),
+];
+
+/// Whether bytes are read, and written back byte by byte, or refused at their place.
+fn is_so(alloc: Global, row: &Row) -> Result<bool, Fail> {
+    let (text, place) = *row;
+    if text.len() > 16_777_216 {
+        return Ok(false);
+    }
+    match read_proof(alloc, text.as_bytes()) {
+        Ok(proof) => {
+            written(&proof.log);
+            let back = write_proof(alloc, proof.horizon, &proof.log)?;
+            let long = proof_length(proof.horizon, &proof.log);
+            Ok(place.is_none() && back.as_slice() == text.as_bytes() && long == text.len() as u64)
+        }
+        Err(ProofFault::Syntax { at }) => Ok(place == Some(at)),
+        Err(ProofFault::Memory) => Ok(false),
+    }
+}
+
+#[test]
+fn each_text_is_read_or_refused_at_its_place(rt: HostRuntime) -> Result<(), Fail> {
+    laws();
+    for row in &ROWS {
+        assert!(rt; is_so(rt.alloc(), row)?, "{}", row.0);
+    }
+    Ok(())
+}
