@@ -1,14 +1,12 @@
 -- Numbers in a line are cut from what follows them in one way.
-use Rattle.std.proofs.Common.{◌≡◌, ◌≢◌, ◌∙◌, ◌≤◌, ◌<◌, ◌^◌, ◌-◌, ℕ, suc, zero, List, [], ◌∷◌, ◌++◌, length, codes, Option, Some, None, is_some, IfSome, MatchOption, true≢false, refl, sym, ap, subst, arith}
+use Rattle.std.proofs.Common.{◌≡◌, ◌≢◌, ◌∙◌, ◌≤◌, ℕ, suc, List, [], ◌∷◌, ◌++◌, length, codes, Option, Some, None, is_some, IfSome, MatchOption, true≢false, refl, sym, ap, subst, arith}
 use Rattle.std.specs.Borrow.{Bor}
 use Rattle.std.specs.Prelude.{decimal, get_or}
-use Rattle.std.specs.List.{AllByRecursion}
-use Rattle.std.specs.Char.{digit_value}
-use Rattle.std.specs.Str.Parse.{AllDigits, IsNumeral, digits_value}
+use Rattle.std.specs.Str.Parse.{AllDigits, IsNumeral}
 use Rattle.std.proofs.lemmas.Fmt.{decimal_is_IsNumeral, decimal_injective}
 use Rattle.clause_base.specs.Clause.{IsClause}
-use Rattle.proof_text.specs.Text.{AreSmall, IsWritten}
-use Rattle.proof_text.specs.Reading.{BeginsDigit, BeginsNumber, EndsNumbers, HasNoNumber, HasNoLearn, HasNoNumbers, HasNoNumbersTo, IsDigit, ReadsNumbers, Stops, learn_then, numbered}
+use Rattle.proof_text.specs.Text.{AreSmall}
+use Rattle.proof_text.specs.Reading.{BeginsDigit, BeginsNumber, EndsNumbers, HasNoNumber, HasNoLearn, HasNoNumbers, HasNoNumbersTo, ReadsNumbers, Stops, learn_then, numbered}
 
 -- digits, up to the first byte that is none
 pub digits_cut : (xs ys us vs : List ℕ) → AllDigits 10 xs → AllDigits 10 ys → Stops us → Stops vs → xs ++ us ≡ ys ++ vs → (xs ≡ ys) × (us ≡ vs)

@@ -1,15 +1,15 @@
 -- What a number, a row and an entry add to a text, and to its length.
-use Rattle.std.proofs.Common.{◌≡◌, ◌∙◌, ◌≤◌, ◌<◌, ◌^◌, ◌+◌, ◌/◌, ◌%◌, ℕ, suc, List, [], ◌∷◌, ◌++◌, length, take, get_or, min, map, codes, refl, sym, ap, subst, arith, append_assoc, append-nil, length-append}
+use Rattle.std.proofs.Common.{◌≡◌, ◌∙◌, ◌≤◌, ◌<◌, ◌+◌, ◌/◌, ◌%◌, ℕ, List, [], ◌∷◌, ◌++◌, length, take, get_or, min, codes, refl, sym, ap, subst, arith, append_assoc, append-nil, length-append}
 use Rattle.std.specs.Prelude.{decimal}
 use Rattle.std.proofs.lemmas.Fmt.{decimal_digit, decimal_step, length-decimal-le}
 use Rattle.std.proofs.lemmas.List.{take_more}
 use Rattle.clause_base.specs.declared.log.Entry.{Entry}
 use Rattle.clause_base.specs.declared.log.Entry.TheVariants.{Learn, Drop}
 use Rattle.proof_text.specs.Length.{saturated}
-use Rattle.proof_text.specs.Text.{AreSmall, AreWritten, IsWritten, proof_text}
+use Rattle.proof_text.specs.Text.{AreSmall, AreWritten, IsWritten}
 use Rattle.proof_text.specs.Reading.{entry_then, numbered}
 use Rattle.proof_text.proofs.Cuts.{numbered-push, small-push}
-use Rattle.proof_text.proofs.Spelling.{entries-push, entries_then, first_then, whole_text, written-push}
+use Rattle.proof_text.proofs.Spelling.{entries-push, entries_then, first_then, written-push}
 
 -- ---- digits
 

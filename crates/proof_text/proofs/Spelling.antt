@@ -6,7 +6,7 @@ use Rattle.std.specs.List.{AllByRecursion}
 use Rattle.report_lines.specs.Lines.{joined}
 use Rattle.clause_base.specs.declared.log.Entry.{Entry}
 use Rattle.clause_base.specs.declared.log.Entry.TheVariants.{Learn, Drop}
-use Rattle.proof_text.specs.Text.{AreSmall, AreWritten, IsWritten, after_blanks, entry_line, entry_words, horizon_words, proof_lines, proof_text, spaced}
+use Rattle.proof_text.specs.Text.{AreWritten, IsWritten, after_blanks, entry_line, horizon_words, proof_lines, proof_text, spaced}
 use Rattle.proof_text.specs.Place.{AllFit, FitsAfter, IsEntryLine, IsHorizonLine, IsUnfitAt}
 use Rattle.proof_text.specs.Reading.{entry_then, learn_then, numbered, one_then}
 use Rattle.proof_text.proofs.Cuts.{by_ends, ended_cut, feed_ends, heads}

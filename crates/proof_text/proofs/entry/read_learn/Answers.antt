@@ -1,4 +1,4 @@
-use Rattle.std.proofs.Common.{◌≡◌, [], ◌∷◌, codes, rules, subst, refl}
+use Rattle.std.proofs.Common.{◌≡◌, [], ◌∷◌, codes, rules, subst}
 use Rattle.clause_base.specs.Clause.{IsClause}
 use Rattle.proof_text.proofs.Cuts.{learn_no_clause, learn_no_codes, learn_no_hints}
 use Rattle.proof_text.proofs.entry.read_learn.Goals as goal

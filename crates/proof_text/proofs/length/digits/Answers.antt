@@ -1,4 +1,4 @@
-use Rattle.std.proofs.Common.{◌≡◌, ◌≤◌, arith, length, rules}
+use Rattle.std.proofs.Common.{◌≤◌, arith, rules}
 use Rattle.proof_text.proofs.Lengths.{digits_few, one_digit, one_digit_more}
 use Rattle.proof_text.proofs.length.digits.Goals as goal
 

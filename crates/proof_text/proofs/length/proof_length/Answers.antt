@@ -1,6 +1,5 @@
 use Rattle.std.proofs.Common.{◌≡◌, ◌∙◌, ◌<◌, [], ap, arith, get_or, length, rules, sym}
 use Rattle.proof_text.specs.Length.{saturated}
-use Rattle.proof_text.specs.Text.{proof_text}
 use Rattle.std.proofs.lemmas.List.{take_all}
 use Rattle.proof_text.proofs.Lengths.{entry_counted, first_counted}
 use Rattle.proof_text.proofs.Spelling.{entries_then, first_then, whole_text}

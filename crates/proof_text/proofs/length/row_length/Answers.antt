@@ -1,4 +1,4 @@
-use Rattle.std.proofs.Common.{◌≡◌, ◌∙◌, ◌<◌, ◌+◌, ap, arith, decimal, length, min, rules}
+use Rattle.std.proofs.Common.{◌∙◌, ◌<◌, ap, arith, decimal, length}
 use Rattle.proof_text.specs.Row.{row_numbers}
 use Rattle.proof_text.proofs.Lengths.{row_counted}
 use Rattle.proof_text.proofs.length.row_length.Goals as goal

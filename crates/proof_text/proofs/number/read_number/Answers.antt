@@ -1,4 +1,4 @@
-use Rattle.std.proofs.Common.{◌≡◌, ◌+◌, ◌<◌, length, get_or, arith, refl, rules}
+use Rattle.std.proofs.Common.{◌≡◌, ◌+◌, ◌<◌, length, get_or, arith, refl}
 use Rattle.proof_text.proofs.Digits.{is_read, none_read, one_more_read, too_large, zero_leads}
 use Rattle.proof_text.proofs.number.read_number.Goals.{else-digits-gt1-via-then-digits-gt1+else-bytes-eq48, else-digits-gt1-via-else-digits-gt1}
 use Rattle.proof_text.proofs.number.read_number.Goals as goal

@@ -1,5 +1,4 @@
-use Rattle.std.proofs.Common.{◌≡◌, ◌++◌, ℕ, List, length}
-use Rattle.std.specs.Str.Parse.{AllDigits, digits_value}
+use Rattle.std.proofs.Common.{length}
 use Rattle.proof_text.proofs.Digits.{HasRead}
 use Rattle.proof_text.proofs.number.read_number.Given as goal
 

@@ -1,5 +1,5 @@
-use Rattle.std.proofs.Common.{◌≡◌, ◌≤◌, ◌++◌, ◌∷◌, [], refl, rules, arith, sym, subst, ap, List, ℕ}
-use Rattle.proof_text.proofs.Cuts.{IsReading, none_there, one_more}
+use Rattle.std.proofs.Common.{◌≤◌, refl, rules}
+use Rattle.proof_text.proofs.Cuts.{none_there, one_more}
 use Rattle.proof_text.proofs.numbers.read_numbers.Goals as goal
 
 pub returns-in_default-read_number-clause-none : goal.returns-in_default-read_number-clause-none

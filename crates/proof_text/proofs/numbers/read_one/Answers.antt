@@ -1,4 +1,4 @@
-use Rattle.std.proofs.Common.{refl, rules, arith, sym, ◌∙◌, ◌∷◌, ◌++◌, ◌≤◌, decimal, ◌≡◌}
+use Rattle.std.proofs.Common.{refl, rules, sym, ◌∙◌, ◌∷◌, ◌++◌, ◌≤◌, decimal, ◌≡◌}
 use Rattle.proof_text.proofs.Cuts.{feed_ends, number_begins, number_cut}
 use Rattle.proof_text.proofs.numbers.read_one.Goals as goal
 

@@ -1,4 +1,4 @@
-use Rattle.std.proofs.Common.{◌≡◌, ◌≤◌, ◌++◌, codes, refl, rules, arith, sym, ◌∙◌}
+use Rattle.std.proofs.Common.{◌≡◌, ◌≤◌, ◌++◌, codes, rules, arith, sym, ◌∙◌}
 use Rattle.proof_text.specs.Reading.{one_then}
 use Rattle.proof_text.proofs.Spelling.{one_cut}
 use Rattle.proof_text.proofs.read.read_horizon.Goals as goal

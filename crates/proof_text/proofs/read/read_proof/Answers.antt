@@ -1,4 +1,4 @@
-use Rattle.std.proofs.Common.{◌≡◌, ◌<◌, ◌≤◌, ◌+◌, ◌-◌, [], length, refl, rules, sym, subst, ap, arith, ◌∙◌}
+use Rattle.std.proofs.Common.{◌<◌, ◌-◌, length, refl, sym, subst, ap, arith}
 use Rattle.proof_text.proofs.Spelling.{all_parsed, empty_by, entry_longer, left_over, not_empty_by, one_entry_more, parsed_first, unfit_here}
 use Rattle.proof_text.proofs.read.read_proof.Goals as goal
 

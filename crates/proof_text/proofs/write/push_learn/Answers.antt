@@ -1,6 +1,5 @@
 use Rattle.std.proofs.Common.{◌≡◌, ◌∷◌, ◌++◌, [], codes, rules}
 use Rattle.proof_text.specs.Row.{row_numbers}
-use Rattle.proof_text.specs.Reading.{numbered}
 use Rattle.proof_text.proofs.Lengths.{learn_written}
 use Rattle.proof_text.proofs.write.push_learn.Goals as goal
 

@@ -1,6 +1,6 @@
-use Rattle.std.proofs.Common.{◌≡◌, ◌∙◌, ◌<◌, ◌∷◌, ◌++◌, [], ap, arith, codes, decimal, get_or, length, rules, sym}
+use Rattle.std.proofs.Common.{◌≡◌, ◌∙◌, ◌<◌, [], ap, arith, get_or, length, rules, sym}
 use Rattle.std.proofs.lemmas.List.{take_all}
-use Rattle.proof_text.proofs.Lengths.{entry_written, first_written}
+use Rattle.proof_text.proofs.Lengths.{entry_written}
 use Rattle.proof_text.proofs.Spelling.{entries_then, first_then, whole_text}
 use Rattle.proof_text.proofs.write.write_proof.Goals as goal
 
