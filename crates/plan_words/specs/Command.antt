@@ -11,7 +11,6 @@ use Rattle.clap_words.specs.Same.{somewhere}
 use Rattle.plan_words.specs.declared.command.Name.{Name}
 use Rattle.plan_words.specs.declared.command.Name.TheVariants.{Plan, Check, Ground, Order, Gen, Prove, Verify, Batch}
 use Rattle.plan_words.specs.declared.command.Readers.{Readers}
-use Rattle.plan_words.specs.declared.request.Stepping.{Stepping}
 use Rattle.plan_words.specs.declared.request.Stepping.TheVariants.{Exists, All}
 
 -- A word that has to stand there, of any text.

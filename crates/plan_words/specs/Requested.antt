@@ -1,5 +1,5 @@
 -- What words ask for.
-use Rattle.std.specs.Prelude.{Option, Some, None, List, [], ◌∷◌, if◌then◌else◌, option_and_then}
+use Rattle.std.specs.Prelude.{Option, None, List, [], ◌∷◌, if◌then◌else◌, option_and_then}
 use Rattle.clap.specs.Walk.{Text}
 use Rattle.clap.specs.Simple.{matches_of}
 use Rattle.clap.specs.Takes.{takes}
