@@ -275,15 +275,14 @@ accepts laws task bytes end zero h =
     let is = subst (λ (j : Judged). IsJudged (formula_at chain_places (form_of c.g.task c.judges.clauses c.judges.components) c.horizon) c.log j) a.1 c.judges.is in (
       c.horizon,
       claims.of_grounded laws task c.g c.ready c.judges.clauses c.judges.components c.judges.ordered (λ g clauses components. IsCertificate (formula_at chain_places (form_of g.task clauses components)) bytes c.horizon)
-      (record { log = c.log; is_spelled = c.is_spelled; refutes = is.1 }),
+          (record { log = c.log; is_spelled = c.is_spelled; refutes = is.1 }),
     )
 
 checks_none : Laws → (task : Parts) (bytes : List ℕ) (end : Ending) → status_of end ≡ 0 → AnswersVerify task bytes end → ProvesNone bytes task
 checks_none laws task bytes end zero h =
     let c = checks_at 0 (omega arith) task bytes end zero h in
     let a = accepted_only c.horizon c.j c.status in
-    let none = c.judges.none a.0 a.1 in
-    (
+    let none = c.judges.none a.0 a.1 in (
       c.horizon,
       (map (λ (e : Entry). spaced (entry_words e)) c.log, ap lines_of c.is_spelled.spelled ∙ laws.proof_lines c.horizon c.log c.is_spelled.within c.is_spelled.written),
       claims.no_step_plan laws task c.g c.ready c.judges.clauses c.judges.components c.judges.ordered Exists c.horizon none,

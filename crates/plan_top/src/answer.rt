@@ -4,7 +4,7 @@ ghost use Rattle.std.specs.List.{list_all};
 ghost use Rattle.pd_model.specs.Fits.{is_call};
 ghost use Rattle.pd_plan.specs.PlanFile.{plan_file};
 ghost use Rattle.plan_words.specs.Seen.{seen, files_of, IsSized};
-ghost use Rattle.plan_top.specs.Files.{most_bytes, AreShort, file_at};
+ghost use Rattle.plan_top.specs.Files.{most_bytes, AreShort, IsOfOne, file_at};
 ghost use Rattle.plan_top.specs.Tasks.{OnceRead, OnceGrounded};
 ghost use Rattle.plan_top.specs.Causes.{Decides, AnswersPlan, AnswersGround, AnswersOrder, AnswersCheck, RefusesCalls, ending_of};
 ghost use Rattle.plan_top.specs.Ends.{EndsAs, StopsBy};
@@ -41,11 +41,14 @@ pub fn answer<H: Threads + Wait + Sync, G: Gate>(
     requires fit { AreShort (file_at (seen request.now)) 0 files.now }
     requires count { length files.now ≡ length (files_of (seen request.now)) }
     requires sized { IsSized (seen request.now) }
+    requires of_one { IsOfOne (seen request.now) }
     ensures { EndsAs (Decides (seen request.now) files.now) result }
 {
     match request {
         Request::Plan {
-            stepping, settings, ..
+            stepping,
+            settings,
+            ..
         } => {
             answer_plan(
                 rt,
@@ -72,7 +75,9 @@ pub fn answer<H: Threads + Wait + Sync, G: Gate>(
             show,
         } => answer_gen(rt, alloc, *kind, *number, *show, settings, gate),
         Request::Prove {
-            horizon, budget, ..
+            horizon,
+            budget,
+            ..
         } => answer_prove(
             rt,
             alloc,
@@ -88,6 +93,7 @@ pub fn answer<H: Threads + Wait + Sync, G: Gate>(
             files[1].as_slice(),
             files[2].as_slice(),
         ),
+        Request::Batch { .. } => unreachable!(),
     }
 }
 

@@ -5,8 +5,8 @@ ghost use Rattle.pd_model.specs.WellFormed.{IsWellFormed};
 ghost use Rattle.pd_task.specs.Reading.{reading};
 ghost use Rattle.plan_top.specs.{Files.most_bytes, Tasks.AreTask, Tasks.input_of, Tasks.RefusesTask, Tasks.RefusesTree, Tasks.RefusesTrees, Ends.StopsBy};
 
-use crate::{File, Kind};
 use crate::stop::{Stop, refuse};
+use crate::{File, Kind};
 use pd_model::{Pddl, Which};
 use pd_sexp::{Tree, TreeError, read_tree};
 use pd_task::{PddlError, read_pddl};

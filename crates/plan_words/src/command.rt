@@ -53,7 +53,6 @@ pub(crate) fn name_of(word: &str) -> Option<Name>
         "gen" => Some(Name::Gen),
         "prove" => Some(Name::Prove),
         "verify" => Some(Name::Verify),
-        "batch" => Some(Name::Batch),
         _ => None,
     }
 }

@@ -61,4 +61,3 @@ returns-clause-accepted g c = accepted (g.S.Shelf.told c.args.shelf.now) (g.S.Sh
 
 pub returns-clause-rejected : goal.returns-clause-rejected
 returns-clause-rejected g c = rejected (g.S.Shelf.told c.args.shelf.now) (g.S.Shelf.lacks c.args.shelf.now) (g.S.Shelf.failed c.args.shelf.now) (g.S.Shelf.failed c.answered.new.shelf) _ (g.K.Sink.taken c.args.sink.now) (g.K.Sink.taken c.answered.new.sink) _ c.laws.ensures c.answered.ensures.due
-
