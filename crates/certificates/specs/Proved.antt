@@ -2,6 +2,7 @@
 use Rattle.std.specs.Prelude.{◌≡◌, ◌≤◌, ℕ, List, length, nat_le, if◌then◌else◌}
 use Rattle.clause_base.specs.declared.log.Entry.{Entry}
 use Rattle.cdcl_rules.specs.State.{State}
+use Rattle.cdcl_rules.specs.declared.standing.Standing.{Standing}
 use Rattle.cdcl_rules.specs.declared.standing.Standing.TheVariants.{Going, Found, Refuted}
 use Rattle.gt_core.specs.Task.{Task}
 use Rattle.horizon_run.specs.Run.{reached}
@@ -21,9 +22,15 @@ most_bytes = 16777216
 abbrev pub certificate_of : ℕ → List Entry → Proved
 certificate_of horizon log = if nat_le (length (proof_text horizon log)) most_bytes then Certificate (proof_text horizon log) else TooLong
 
--- what the run of a horizon comes to that stands so
+-- what the run of a horizon comes to that stands so in a state
+abbrev pub proved_as : ℕ → Standing → State → Proved
+proved_as horizon Refuted state = certificate_of horizon state.log
+proved_as horizon Found state = Plan state.conflicts
+proved_as horizon Going state = Open state.conflicts
+
+-- what the run of a horizon comes to in a state
 abbrev pub proved_of : ℕ → State → Proved
-proved_of horizon state = elim (state.standing) [ Refuted ↦ certificate_of horizon state.log | Found ↦ Plan state.conflicts | Going ↦ Open state.conflicts ]
+proved_of horizon state = proved_as horizon state.standing state
 
 -- the run of a horizon of a task comes to this once a budget of conflicts was granted; what it gives as a certificate is one
 pub record Proves (task : Task) (horizon budget : ℕ) (proved : Proved) : Type 0 where
