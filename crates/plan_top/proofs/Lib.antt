@@ -9,3 +9,4 @@ pub mod Complete
 mod OneTask
 mod OneReport
 pub mod Promises
+pub mod OfOne
