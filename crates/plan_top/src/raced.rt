@@ -8,7 +8,7 @@ ghost use Rattle.plan_top.specs.Ends.{StopsBy};
 use crate::stop::Stop;
 use crate::{Ending, Outcome};
 use action_order::publish::publish;
-use all_steps::BothWays;
+use all_steps::form::BothWays;
 use gt_core::task::Task;
 use horizon_rates::Settings;
 use plan_words::Stepping;
@@ -18,7 +18,8 @@ use solver_pool::Gate;
 use std::alloc::Global;
 use std::sync::Wait;
 use std::thread::Threads;
-use step_encoding::placed::{Components, Placed, Placing};
+use step_encoding::exists::Components;
+use step_encoding::placed::{Placed, Placing};
 use two_invariants::find;
 
 /// What the race on a ground task comes to, for plans in steps of a kind.
@@ -40,7 +41,7 @@ pub fn raced<H: Threads + Wait + Sync, G: Gate>(
 }
 
 // The same, for the places of the chains of one form.
-fn raced_in<P: Placing, H: Threads + Wait + Sync, G: Gate>(
+fn raced_in<P: Placing + Sync, H: Threads + Wait + Sync, G: Gate>(
     rt: &H,
     alloc: Global,
     task: &Task,
