@@ -71,7 +71,7 @@ pub enum Outcome {
 pub enum Ending {
     /// A race ended, with its report.
     Report { outcome: Outcome, text: Bytes },
-    /// The lines of a ground task, or of its actions in published order, or a text of a generated task.
+    /// The lines of a ground task, or of its actions in published order, a text of a generated task, or a certificate.
     Listing(Bytes),
     /// The checked calls are a plan.
     Reaches,

@@ -74,7 +74,7 @@ pub fn run<H: Threads + Wait + Sync, S: Shelf, K: Sink, G: Gate>(
     ensures reached { (domain problem plan : List ℕ) → result.0 ≡ 0 → requested (map string_bytes words.now) ≡ Some (checks domain problem plan)
         → CallsRun (S.told shelf.old) domain problem plan }
 
-    // What is written as a certificate is one: the horizon has no plan, and the text is accepted.
+    // What is written as a certificate is one: it spells the horizon and a derivation of the empty clause from its formula.
     ensures certified { (text domain problem : List ℕ) (horizon budget : ℕ) → result.0 ≡ 0 → Printed (K.taken sink.old) (K.taken sink.new) text
         → requested (map string_bytes words.now) ≡ Some (proves domain problem horizon budget) → OfFiles (S.told shelf.old) domain problem (Certifies text horizon) }
 
