@@ -1,5 +1,5 @@
 //! What files come to for the commands on certificates.
-ghost use Rattle.std.specs.Prelude.{◌≤◌, length, IfOk};
+ghost use Rattle.std.specs.Prelude.{◌≡◌, ◌≤◌, length, IfOk};
 ghost use Rattle.pd_model.specs.WellFormed.{IsWellFormed};
 ghost use Rattle.certificates.specs.Certificate.{IsSpelled};
 ghost use Rattle.plan_top.specs.Files.{most_bytes};
