@@ -40,7 +40,7 @@ use Rattle.certificates.specs.declared.verify.Judged.TheVariants as judged
 use Rattle.plan_top.specs.Tasks.{AreTask, RefusesTask, IsTreeFault, domain_tree, problem_tree, no_task, OnceRead, not_read, read, refused, past, OnceGrounded, not_grounded, grounded, IsOver}
 use Rattle.plan_top.specs.Raced.{OnceRaced, too_large, ended, outcome_of}
 use Rattle.plan_top.specs.Generated.{AnswersGenerated, TellsGenerated, generated_line}
-use Rattle.plan_top.specs.Causes.{OfTwo, OfThree, Decides, AnswersPlan, AnswersGround, AnswersOrder, AnswersCheck, AnswersProve, not_run, run, AnswersVerify, unfit, over, spelled, not_checked, checked, ending_of_run, ending_of_check, ending_of, Comes}
+use Rattle.plan_top.specs.Causes.{OfTwo, OfThree, Decides, AnswersPlan, AnswersGround, AnswersOrder, AnswersCheck, AnswersProve, not_run, run, AnswersVerify, unfit, beyond, spelled, not_checked, checked, ending_of_run, ending_of_check, ending_of, Comes}
 use Rattle.plan_top.specs.Complete.{GoesWell, AreWithin, AreChecked, AreSpelled, AreInOrder, IsGood}
 use Rattle.plan_top.specs.Ending.{status_of}
 use Rattle.gt_core.specs.Lawful.{conditional_in}
@@ -159,7 +159,7 @@ prove_good d p h b task g end (run r so e) = step r e
 verify_good : (request : Seen) (task : Parts) (g : Grounded) (bytes : List ℕ) (end : Ending) → TextsAreFit → IsGrounded task g → IsWithin task g → (horizon : ℕ) (log : List Entry) → IsSpelled bytes horizon log → AnswersVerify task bytes end → IsGood request end
 verify_good request task g bytes end no_fault is fits horizon log spells (unfit r) =
     absurd (no_fault horizon log r.0 spells.within spells.written (subst (λ (bs : List ℕ). IsUnfitAt bs r.0) spells.spelled r.1))
-verify_good request task g bytes end no_fault is fits horizon log spells (over h l so past_limit) = absurd (not_over task g past_limit.0 past_limit.1 is fits past_limit.3)
+verify_good request task g bytes end no_fault is fits horizon log spells (beyond h l so past_limit) = absurd (not_over task g past_limit.0 past_limit.1 is fits past_limit.3)
 verify_good request task g bytes end no_fault is fits horizon log spells (spelled h l k so ready (not_checked count many e)) = good_large request end h count e
 verify_good request task g bytes end no_fault is fits horizon log spells (spelled h l k so ready (checked j judges e)) = step j e
   where

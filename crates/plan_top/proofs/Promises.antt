@@ -31,7 +31,7 @@ use Rattle.plan_top.specs.Files.{StopsFrom, OfTold, RoseAmong, file_at}
 use Rattle.plan_top.specs.Stepping.{places_by, is_plan_by}
 use Rattle.plan_top.specs.Tasks.{AreTask, RefusesTask, IsReady, StopsTask, refused, past, OnceRead, not_read, read, OnceGrounded, not_grounded, grounded}
 use Rattle.plan_top.specs.Raced.{ComesTo, too_large, ended, outcome_of}
-use Rattle.plan_top.specs.Causes.{Decides, TellsRace, AnswersPlan, AnswersGround, AnswersOrder, AnswersCheck, AnswersProve, not_run, run, AnswersVerify, unfit, over, spelled, not_checked, checked, ending_of_run, ending_of_check, refusal_of_plan, ending_of, is_answer, Comes, no_request, stopped, decided, names_in, FaultOf}
+use Rattle.plan_top.specs.Causes.{Decides, TellsRace, AnswersPlan, AnswersGround, AnswersOrder, AnswersCheck, AnswersProve, not_run, run, AnswersVerify, unfit, beyond, spelled, not_checked, checked, ending_of_run, ending_of_check, refusal_of_plan, ending_of, is_answer, Comes, no_request, stopped, decided, names_in, FaultOf}
 use Rattle.step_clauses.specs.Variables.{chain_places}
 use Rattle.clause_base.specs.Formula.{Cnf}
 use Rattle.clause_base.specs.Derivation.{IsRefutation}
@@ -258,7 +258,7 @@ pub record Checks (task : Parts) (bytes : List ℕ) (k : ℕ) : Type 0 where
 
 checks_at : (k : ℕ) → k ≤ 1 → (task : Parts) (bytes : List ℕ) (end : Ending) → status_of end ≡ k → AnswersVerify task bytes end → Checks task bytes k
 checks_at k low task bytes end at (unfit r) = absurd (let three = sym at ∙ ap status_of r.2 in omega (arith, three, low))
-checks_at k low task bytes end at (over h log is past_limit) = absurd (let four = sym at ∙ ap status_of past_limit.2 in omega (arith, four, low))
+checks_at k low task bytes end at (beyond h log is past_limit) = absurd (let four = sym at ∙ ap status_of past_limit.2 in omega (arith, four, low))
 checks_at k low task bytes end at (spelled h log g is ready (not_checked count many e)) = absurd (let four = sym at ∙ ap status_of e in omega (arith, four, low))
 checks_at k low task bytes end at (spelled h log g is ready (checked j judges e)) =
     record { horizon = h; log = log; g = g; j = j; is_spelled = is; ready = ready; judges = judges; status = sym (ap status_of e) ∙ at }

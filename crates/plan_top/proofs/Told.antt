@@ -35,7 +35,7 @@ use Rattle.certificates.specs.declared.verify.Judged.TheVariants as judged
 use Rattle.plan_top.specs.Tasks.{RefusesTask, domain_tree, problem_tree, no_task, input_of, refusal_of, OnceRead, not_read, read, refused, past, OnceGrounded, not_grounded, grounded}
 use Rattle.plan_top.specs.Raced.{OnceRaced, too_large, ended}
 use Rattle.plan_top.specs.Generated.{AnswersGenerated, TellsGenerated}
-use Rattle.plan_top.specs.Causes.{OfTwo, OfThree, Decides, AnswersPlan, AnswersGround, AnswersOrder, AnswersCheck, AnswersProve, not_run, run, AnswersVerify, unfit, over, spelled, not_checked, checked, ending_of_run, ending_of_check, is_answer, refusal_of_plan, ending_of, Comes, no_request, stopped, decided}
+use Rattle.plan_top.specs.Causes.{OfTwo, OfThree, Decides, AnswersPlan, AnswersGround, AnswersOrder, AnswersCheck, AnswersProve, not_run, run, AnswersVerify, unfit, beyond, spelled, not_checked, checked, ending_of_run, ending_of_check, is_answer, refusal_of_plan, ending_of, Comes, no_request, stopped, decided}
 use Rattle.plan_top.proofs.Taking.{all_fit}
 
 -- ---- endings that tell of a file
@@ -132,7 +132,7 @@ judged_answer d p c h judged.NotEmpty = refl
 
 verify_answer : (d p c : List ℕ) (task : Parts) (bytes : List ℕ) (end : Ending) → AnswersVerify task bytes end → is_answer (verifies d p c) end ≡ true
 verify_answer d p c task bytes end (unfit r) = rw r.2 refl
-verify_answer d p c task bytes end (over h log is past) = rw past.2 refl
+verify_answer d p c task bytes end (beyond h log is limit) = rw limit.2 refl
 verify_answer d p c task bytes end (spelled h log g is ready (not_checked count many e)) = rw e refl
 verify_answer d p c task bytes end (spelled h log g is ready (checked j so e)) = rw e (judged_answer d p c h j)
 

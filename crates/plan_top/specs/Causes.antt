@@ -108,7 +108,7 @@ RefusesProof bytes end = (at : ℕ) × IsUnfitAt bytes at × (end ≡ Refused Sy
 -- what a certificate file comes to: it is none, the task is past a limit, or the checker says so of it
 pub data AnswersVerify (task : Parts) (bytes : List ℕ) (end : Ending) : Type 0 where
   unfit : RefusesProof bytes end → AnswersVerify task bytes end
-  over : (horizon : ℕ) (log : List Entry) → IsSpelled bytes horizon log → TellsOver task end → AnswersVerify task bytes end
+  beyond : (horizon : ℕ) (log : List Entry) → IsSpelled bytes horizon log → TellsOver task end → AnswersVerify task bytes end
   spelled : (horizon : ℕ) (log : List Entry) (g : Grounded) → IsSpelled bytes horizon log → IsReady task g → AnswersProof horizon log g end → AnswersVerify task bytes end
 
 -- what holds of the settings that have these numbers

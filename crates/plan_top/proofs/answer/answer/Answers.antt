@@ -82,10 +82,10 @@ returns-in-Verify g c =
     c.answer_verify.result (rw (c.as_slice-in-Verify.ensures, c.as_slice-in-Verify-2.ensures, c.as_slice-in-Verify-3.ensures) at c.answer_verify.ensures)
 
 pub answer_plan-requires-clause-domain_fits : goal.answer_plan-requires-clause-domain_fits
-answer_plan-requires-clause-domain_fits g c = rw c.as_slice.ensures (first_short (file_at (seen c.args.request.now)) c.args.files.now c.index-files-0.result c.requires.fit (let count : length c.args.files.now ≡ 2 = rw c.in-Plan.is at c.requires.count in omega (arith, count)) c.index-files-0.is)
+answer_plan-requires-clause-domain_fits g c κs within = rw c.as_slice.ensures (first_short (file_at (seen c.args.request.now)) c.args.files.now c.index-files-0.result c.requires.fit (let count : length c.args.files.now ≡ 2 = rw c.in-Plan.is at c.requires.count in omega (arith, count)) c.index-files-0.is)
 
 pub answer_plan-requires-clause-problem_fits : goal.answer_plan-requires-clause-problem_fits
-answer_plan-requires-clause-problem_fits g c = rw c.as_slice-in-Plan.ensures (second_short (file_at (seen c.args.request.now)) c.args.files.now c.index-files-1.result c.requires.fit (let count : length c.args.files.now ≡ 2 = rw c.in-Plan.is at c.requires.count in omega (arith, count)) c.index-files-1.is)
+answer_plan-requires-clause-problem_fits g c κs within = rw c.as_slice-in-Plan.ensures (second_short (file_at (seen c.args.request.now)) c.args.files.now c.index-files-1.result c.requires.fit (let count : length c.args.files.now ≡ 2 = rw c.in-Plan.is at c.requires.count in omega (arith, count)) c.index-files-1.is)
 
 pub answer_ground-requires-clause-domain_fits : goal.answer_ground-requires-clause-domain_fits
 answer_ground-requires-clause-domain_fits g c = rw c.as_slice-in-Ground.ensures (first_short (file_at (seen c.args.request.now)) c.args.files.now c.index-files-0-in-Ground.result c.requires.fit (let count : length c.args.files.now ≡ 2 = rw c.in-Ground.is at c.requires.count in omega (arith, count)) c.index-files-0-in-Ground.is)
@@ -94,10 +94,10 @@ pub answer_ground-requires-clause-problem_fits : goal.answer_ground-requires-cla
 answer_ground-requires-clause-problem_fits g c = rw c.as_slice-in-Ground-2.ensures (second_short (file_at (seen c.args.request.now)) c.args.files.now c.index-files-1-in-Ground.result c.requires.fit (let count : length c.args.files.now ≡ 2 = rw c.in-Ground.is at c.requires.count in omega (arith, count)) c.index-files-1-in-Ground.is)
 
 pub answer_order-requires-clause-domain_fits : goal.answer_order-requires-clause-domain_fits
-answer_order-requires-clause-domain_fits g c = rw c.as_slice-in-Order.ensures (first_short (file_at (seen c.args.request.now)) c.args.files.now c.index-files-0-in-Order.result c.requires.fit (let count : length c.args.files.now ≡ 2 = rw c.in-Order.is at c.requires.count in omega (arith, count)) c.index-files-0-in-Order.is)
+answer_order-requires-clause-domain_fits g c κs within = rw c.as_slice-in-Order.ensures (first_short (file_at (seen c.args.request.now)) c.args.files.now c.index-files-0-in-Order.result c.requires.fit (let count : length c.args.files.now ≡ 2 = rw c.in-Order.is at c.requires.count in omega (arith, count)) c.index-files-0-in-Order.is)
 
 pub answer_order-requires-clause-problem_fits : goal.answer_order-requires-clause-problem_fits
-answer_order-requires-clause-problem_fits g c = rw c.as_slice-in-Order-2.ensures (second_short (file_at (seen c.args.request.now)) c.args.files.now c.index-files-1-in-Order.result c.requires.fit (let count : length c.args.files.now ≡ 2 = rw c.in-Order.is at c.requires.count in omega (arith, count)) c.index-files-1-in-Order.is)
+answer_order-requires-clause-problem_fits g c κs within = rw c.as_slice-in-Order-2.ensures (second_short (file_at (seen c.args.request.now)) c.args.files.now c.index-files-1-in-Order.result c.requires.fit (let count : length c.args.files.now ≡ 2 = rw c.in-Order.is at c.requires.count in omega (arith, count)) c.index-files-1-in-Order.is)
 
 pub answer_check-requires-clause-domain_fits : goal.answer_check-requires-clause-domain_fits
 answer_check-requires-clause-domain_fits g c = rw c.as_slice-in-Check.ensures (first_short (file_at (seen c.args.request.now)) c.args.files.now c.index-files-0-in-Check.result c.requires.fit (let count : length c.args.files.now ≡ 3 = rw c.in-Check.is at c.requires.count in omega (arith, count)) c.index-files-0-in-Check.is)
@@ -106,19 +106,19 @@ pub answer_check-requires-clause-problem_fits : goal.answer_check-requires-claus
 answer_check-requires-clause-problem_fits g c = rw c.as_slice-in-Check-2.ensures (second_short (file_at (seen c.args.request.now)) c.args.files.now c.index-files-1-in-Check.result c.requires.fit (let count : length c.args.files.now ≡ 3 = rw c.in-Check.is at c.requires.count in omega (arith, count)) c.index-files-1-in-Check.is)
 
 pub answer_check-requires-clause-plan_fits : goal.answer_check-requires-clause-plan_fits
-answer_check-requires-clause-plan_fits g c = rw c.as_slice-in-Check-3.ensures (third_short (file_at (seen c.args.request.now)) c.args.files.now c.index-files-2.result c.requires.fit (let count : length c.args.files.now ≡ 3 = rw c.in-Check.is at c.requires.count in omega (arith, count)) c.index-files-2.is)
+answer_check-requires-clause-plan_fits g c = rw c.as_slice-in-Check-3.ensures (rw c.in-Check.is at (third_short (file_at (seen c.args.request.now)) c.args.files.now c.index-files-2.result c.requires.fit (let count : length c.args.files.now ≡ 3 = rw c.in-Check.is at c.requires.count in omega (arith, count)) c.index-files-2.is))
 
 pub answer_prove-requires-clause-domain_fits : goal.answer_prove-requires-clause-domain_fits
-answer_prove-requires-clause-domain_fits g c = rw c.as_slice-in-Prove.ensures (first_short (file_at (seen c.args.request.now)) c.args.files.now c.index-files-0-in-Prove.result c.requires.fit (let count : length c.args.files.now ≡ 2 = rw c.in-Prove.is at c.requires.count in omega (arith, count)) c.index-files-0-in-Prove.is)
+answer_prove-requires-clause-domain_fits g c κs within = rw c.as_slice-in-Prove.ensures (first_short (file_at (seen c.args.request.now)) c.args.files.now c.index-files-0-in-Prove.result c.requires.fit (let count : length c.args.files.now ≡ 2 = rw c.in-Prove.is at c.requires.count in omega (arith, count)) c.index-files-0-in-Prove.is)
 
 pub answer_prove-requires-clause-problem_fits : goal.answer_prove-requires-clause-problem_fits
-answer_prove-requires-clause-problem_fits g c = rw c.as_slice-in-Prove-2.ensures (second_short (file_at (seen c.args.request.now)) c.args.files.now c.index-files-1-in-Prove.result c.requires.fit (let count : length c.args.files.now ≡ 2 = rw c.in-Prove.is at c.requires.count in omega (arith, count)) c.index-files-1-in-Prove.is)
+answer_prove-requires-clause-problem_fits g c κs within = rw c.as_slice-in-Prove-2.ensures (second_short (file_at (seen c.args.request.now)) c.args.files.now c.index-files-1-in-Prove.result c.requires.fit (let count : length c.args.files.now ≡ 2 = rw c.in-Prove.is at c.requires.count in omega (arith, count)) c.index-files-1-in-Prove.is)
 
 pub answer_verify-requires-clause-domain_fits : goal.answer_verify-requires-clause-domain_fits
-answer_verify-requires-clause-domain_fits g c = rw c.as_slice-in-Verify.ensures (first_short (file_at (seen c.args.request.now)) c.args.files.now c.index-files-0-in-Verify.result c.requires.fit (let count : length c.args.files.now ≡ 3 = rw c.in-Verify.is at c.requires.count in omega (arith, count)) c.index-files-0-in-Verify.is)
+answer_verify-requires-clause-domain_fits g c κs within = rw c.as_slice-in-Verify.ensures (first_short (file_at (seen c.args.request.now)) c.args.files.now c.index-files-0-in-Verify.result c.requires.fit (let count : length c.args.files.now ≡ 3 = rw c.in-Verify.is at c.requires.count in omega (arith, count)) c.index-files-0-in-Verify.is)
 
 pub answer_verify-requires-clause-problem_fits : goal.answer_verify-requires-clause-problem_fits
-answer_verify-requires-clause-problem_fits g c = rw c.as_slice-in-Verify-2.ensures (second_short (file_at (seen c.args.request.now)) c.args.files.now c.index-files-1-in-Verify.result c.requires.fit (let count : length c.args.files.now ≡ 3 = rw c.in-Verify.is at c.requires.count in omega (arith, count)) c.index-files-1-in-Verify.is)
+answer_verify-requires-clause-problem_fits g c κs within = rw c.as_slice-in-Verify-2.ensures (second_short (file_at (seen c.args.request.now)) c.args.files.now c.index-files-1-in-Verify.result c.requires.fit (let count : length c.args.files.now ≡ 3 = rw c.in-Verify.is at c.requires.count in omega (arith, count)) c.index-files-1-in-Verify.is)
 
 pub answer_verify-requires-clause-proof_fits : goal.answer_verify-requires-clause-proof_fits
-answer_verify-requires-clause-proof_fits g c = rw c.as_slice-in-Verify-3.ensures (third_short (file_at (seen c.args.request.now)) c.args.files.now c.index-files-2-in-Verify.result c.requires.fit (let count : length c.args.files.now ≡ 3 = rw c.in-Verify.is at c.requires.count in omega (arith, count)) c.index-files-2-in-Verify.is)
+answer_verify-requires-clause-proof_fits g c κs within = rw c.as_slice-in-Verify-3.ensures (rw c.in-Verify.is at (third_short (file_at (seen c.args.request.now)) c.args.files.now c.index-files-2-in-Verify.result c.requires.fit (let count : length c.args.files.now ≡ 3 = rw c.in-Verify.is at c.requires.count in omega (arith, count)) c.index-files-2-in-Verify.is))

@@ -3,7 +3,7 @@ use Rattle.gt_core.specs.Task.{Task}
 use Rattle.certificates.specs.Known.{HasTooMany}
 use Rattle.certificates.specs.Judged.{Judges}
 use Rattle.plan_top.specs.Tasks.{TellsOver}
-use Rattle.plan_top.specs.Causes.{RefusesProof, AnswersVerify, unfit, over, spelled, not_checked, checked}
+use Rattle.plan_top.specs.Causes.{RefusesProof, AnswersVerify, unfit, beyond, spelled, not_checked, checked}
 use Rattle.plan_top.proofs.Stopped.{EndsAs-handed}
 use Rattle.plan_top.proofs.certify.verify_task.Goals as goal
 
@@ -14,7 +14,7 @@ returns-in_err-proof g c =
 pub returns-in_err-grounded : goal.returns-in_err-grounded
 returns-in_err-grounded g c =
     let proof = c.in_ok-proof.proof in
-    EndsAs-handed (TellsOver c.args.task.now) (AnswersVerify c.args.task.now c.args.bytes.now) (λ end k. over proof.horizon proof.log c.in_ok-proof.ensures.spelled k)
+    EndsAs-handed (TellsOver c.args.task.now) (AnswersVerify c.args.task.now c.args.bytes.now) (λ end k. beyond proof.horizon proof.log c.in_ok-proof.ensures.spelled k)
     c.in_err-grounded.field-0.0 c.from_residual-in_err-grounded.result c.from_residual-in_err-grounded.ensures.1 c.in_err-grounded.ensures.stops
 
 pub returns-in-Ok : goal.returns-in-Ok
