@@ -1,14 +1,13 @@
 -- What the run of a horizon comes to, by what is known of its states.
-use Rattle.std.proofs.Common.{arith, ◌≡◌, ◌≤◌, ◌<◌, ◌+◌, ◌∙◌, ℕ, Bool, true, false, List, Option, Result, Ok, IfOk, length, nat_le, if◌then◌else◌, refl, sym, ap, subst}
+use Rattle.std.proofs.Common.{◌≡◌, ◌∙◌, ℕ, Bool, true, false, List, Result, Ok, IfOk, length, nat_le, if◌then◌else◌, sym, ap, subst}
 use Rattle.std.proofs.lemmas.Result.{IfOk-at_ok}
-use Rattle.clause_base.specs.Choice.{Known}
 use Rattle.clause_base.specs.Formula.{Cnf}
 use Rattle.clause_base.specs.Derivation.{IsRefutation}
 use Rattle.clause_base.specs.declared.log.Entry.{Entry}
 use Rattle.clause_base.specs.declared.memory.Memory.{Memory}
 use Rattle.cdcl_rules.specs.State.{State}
 use Rattle.cdcl_rules.specs.declared.standing.Standing.TheVariants.{Going, Refuted}
-use Rattle.horizon_run.specs.Run.{RunView, choice_in, moved_to, reached, IsMoved, IsNew, IsReached}
+use Rattle.horizon_run.specs.Run.{RunView, choice_in, IsMoved, IsReached}
 use Rattle.proof_text.specs.Text.{proof_text}
 use Rattle.certificates.specs.Certificate.{IsSpelled, IsCertificate}
 use Rattle.certificates.specs.Proved.{most_bytes, certificate_of}
@@ -50,23 +49,6 @@ used_up run moved is going =
     let there = ap (λ (r : RunView). r.state) moved in
     ap (λ (s : State). s.conflicts) there ∙ is.used_up (ap (λ (s : State). s.standing) (sym there) ∙ going)
 
--- a new run that goes on by a budget is where the budget leads
-pub goes_on : (new run : RunView) (choose : Known → Option ℕ) (formula : Cnf) (budget : ℕ) → IsNew new → run ≡ moved_to new (new.granted + budget)
-    → new.formula ≡ formula → choice_in new ≡ choose → run.state ≡ reached choose formula budget
-goes_on new run choose formula budget first moved f c =
-    let n : new.granted + budget ≡ budget = let none = ap (λ (r : RunView). r.granted) first in omega (arith, none) in
-    ap (λ (r : RunView). r.state) moved
-    ∙ (ap (λ (k : ℕ). reached (choice_in new) new.formula k) n
-    ∙ (ap (λ (g : Cnf). reached (choice_in new) g budget) f
-    ∙ ap (λ (choice : Known → Option ℕ). reached choice formula budget) c))
-
--- and was granted the budget
-pub granted : (new run : RunView) (budget : ℕ) → IsNew new → run ≡ moved_to new (new.granted + budget) → run.granted ≡ budget
-granted new run budget first moved =
-    let none = ap (λ (r : RunView). r.granted) first in
-    let more = ap (λ (r : RunView). r.granted) moved in
-    omega (arith, none, more)
-
 -- a certificate is one over formulas that are the same at its horizon
 pub certificate_over : (f g : ℕ → Cnf) (text : List ℕ) (horizon : ℕ) → f horizon ≡ g horizon → IsCertificate f text horizon → IsCertificate g text horizon
 certificate_over f g text horizon same is = record {
@@ -74,3 +56,7 @@ certificate_over f g text horizon same is = record {
   is_spelled = is.is_spelled;
   refutes = subst (λ (h : Cnf). IsRefutation h.variables h.clauses is.log) same is.refutes;
 }
+
+-- equal answers have equal values
+pub value_of : {A E : Type 0} (x y : A) → ◌≡◌ {A = Result A E} (Ok x) (Ok y) → x ≡ y
+value_of x y e = cc

@@ -1,5 +1,5 @@
 -- What is known of a form of a ground task is known of the task.
-use Rattle.std.proofs.Common.{◌≡◌, ◌≤◌, ◌∙◌, ℕ, List, Result, Ok, Err, refl, sym, ap, subst}
+use Rattle.std.proofs.Common.{◌≡◌, ◌≤◌, ℕ, List, Result, Ok, Err, ap}
 use Rattle.std.specs.Prelude.{IfOk}
 use Rattle.clause_base.specs.declared.log.Entry.{Entry}
 use Rattle.gt_core.specs.Task.{Task}

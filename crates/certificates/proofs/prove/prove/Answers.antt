@@ -7,7 +7,6 @@ use Rattle.horizon_run.specs.Run.{reached, choice_of}
 use Rattle.certificates.specs.Known.{form_of, formula_at}
 use Rattle.certificates.specs.Certificate.{IsCertificate}
 use Rattle.certificates.specs.Proved.{proved_of}
-use Rattle.certificates.specs.declared.prove.Proved.{Proved}
 use Rattle.certificates.specs.declared.prove.Proved.TheVariants.{Certificate}
 use Rattle.certificates.proofs.Ties.{proves}
 use Rattle.certificates.proofs.prove.prove.Goals as goal
