@@ -1,5 +1,5 @@
 -- What is known of a form of a ground task is known of the task.
-use Rattle.std.proofs.Common.{◌≡◌, ◌≤◌, ◌∙◌, ℕ, List, Result, Ok, Err, refl, sym, ap, subst}
+use Rattle.std.proofs.Common.{◌≡◌, ◌≤◌, ℕ, List, Result, Ok, Err, ap}
 use Rattle.std.specs.Prelude.{IfOk}
 use Rattle.clause_base.specs.declared.log.Entry.{Entry}
 use Rattle.gt_core.specs.Task.{Task}
@@ -15,7 +15,7 @@ use Rattle.certificates.specs.Proved.{proved_of, Proves}
 use Rattle.certificates.specs.Judged.{IsJudged, Judges}
 use Rattle.certificates.specs.declared.error.ProofError.{ProofError}
 use Rattle.certificates.specs.declared.prove.Proved.{Proved}
-use Rattle.certificates.specs.declared.prove.Proved.TheVariants.{Certificate}
+use Rattle.certificates.specs.declared.prove.Proved.TheVariants.{Certificate, Open}
 use Rattle.certificates.specs.declared.verify.Judged.{Judged}
 use Rattle.certificates.specs.declared.verify.Judged.TheVariants.{Accepted}
 
@@ -27,10 +27,11 @@ module _ (task : Task) (clauses : List (ℕ × ℕ)) (components : List (List �
       → IfOk r (λ p. p ≡ proved_of horizon (reached (choice_at chain_places (form_of task clauses components) horizon) (formula_at chain_places (form_of task clauses components) horizon) budget))
       → IfOk r (λ p. is_small)
       → ((text : List ℕ) → r ≡ Ok (Certificate text) → IsCertificate (formula_at chain_places (form_of task clauses components)) text horizon)
+      → ((conflicts : ℕ) → r ≡ Ok (Open conflicts) → conflicts ≡ budget)
       → IfOk r (Proves task horizon budget)
-  proves budget (Ok p) is small certified =
-      record { clauses = clauses; components = components; ordered = ordered; small = small; is = is; certified = λ text e. certified text (ap Ok e) }
-  proves budget (Err e) is small certified = tt
+  proves budget (Ok p) is small certified spent =
+      record { clauses = clauses; components = components; ordered = ordered; small = small; is = is; certified = λ text e. certified text (ap Ok e); spent = λ conflicts e. spent conflicts (ap Ok e) }
+  proves budget (Err e) is small certified spent = tt
 
   pub judges : (log : List Entry) (r : Result Judged ProofError)
       → IfOk r (IsJudged (formula_at chain_places (form_of task clauses components) horizon) log)

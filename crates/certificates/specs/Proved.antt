@@ -32,7 +32,8 @@ proved_as horizon Going state = Open state.conflicts
 abbrev pub proved_of : ℕ → State → Proved
 proved_of horizon state = proved_as horizon state.standing state
 
--- the run of a horizon of a task comes to this once a budget of conflicts was granted; what it gives as a certificate is one
+-- The run of a horizon of a task comes to this once a budget of conflicts was granted. What it gives as a certificate is one, and
+-- where it is open it has used up the budget.
 pub record Proves (task : Task) (horizon budget : ℕ) (proved : Proved) : Type 0 where
   pub clauses : List (ℕ × ℕ)
   pub components : List (List ℕ)
@@ -40,3 +41,4 @@ pub record Proves (task : Task) (horizon budget : ℕ) (proved : Proved) : Type 
   pub small : literals_of (formula_at chain_places (form_of task clauses components) horizon) ≤ 4000000
   pub is : proved ≡ proved_of horizon (reached (choice_at chain_places (form_of task clauses components) horizon) (formula_at chain_places (form_of task clauses components) horizon) budget)
   pub certified : (text : List ℕ) → proved ≡ Certificate text → IsCertificate (formula_at chain_places (form_of task clauses components)) text horizon
+  pub spent : (conflicts : ℕ) → proved ≡ Open conflicts → conflicts ≡ budget

@@ -70,6 +70,7 @@ fn run_on<F: StepForm>(
     ensures proved { IfOk result (λ p. p ≡ proved_of horizon (reached (choice_of task.now (F.layout_of form.now horizon)) (F.formula_of form.now horizon) budget)) }
     ensures small { IfOk result (λ p. literals_of (F.formula_of form.now horizon) ≤ 4000000) }
     ensures certified { (text : List ℕ) → result ≡ Ok (Proved.Certificate text) → IsCertificate (F.formula_of form.now) text horizon }
+    ensures spent { (conflicts : ℕ) → result ≡ Ok (Proved.Open conflicts) → conflicts ≡ budget }
     ensures literals { (count : ℕ) → result ≡ Err (ProofError.Literals count) → (4000000 < count) × (count ≡ literals_of (F.formula_of form.now horizon)) }
 {
     let count = form.size(horizon);
@@ -88,6 +89,7 @@ fn told(alloc: Global, horizon: u32, solving: &HorizonRun) -> Result<Proved, Mem
     requires sane { solving.now.spoilt ≡ false }
     ensures proved { IfOk result (λ p. p ≡ proved_of horizon solving.now.state) }
     ensures certified { (text : List ℕ) → result ≡ Ok (Proved.Certificate text) → IsCertificate (λ h. solving.now.formula) text horizon }
+    ensures spent { (conflicts : ℕ) → result ≡ Ok (Proved.Open conflicts) → conflicts ≡ solving.now.granted }
 {
     match solving.standing() {
         Standing::Refuted => certificate(alloc, horizon, solving.log()),

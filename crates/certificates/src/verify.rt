@@ -34,7 +34,8 @@ pub fn verify(
     task: &Task,
     proof: &Proof,
 ) -> Result<Judged, ProofError>
-    requires { length proof.now.log ≤ 16777216 }
+    requires horizon { proof.now.horizon ≤ 255 }
+    requires few { length proof.now.log ≤ 16777216 }
     ensures judged { IfOk result (Judges task.now proof.now.horizon proof.now.log) }
     ensures literals { (count : ℕ) → result ≡ Err (ProofError.Literals count) → HasTooMany task.now proof.now.horizon count }
 {
@@ -46,7 +47,8 @@ pub fn verify(
 
 // What the checker says of a certificate over the formula of its horizon.
 fn judge<F: StepForm>(alloc: Global, form: &F, proof: &Proof) -> Result<Judged, ProofError>
-    requires { length proof.now.log ≤ 16777216 }
+    requires horizon { proof.now.horizon ≤ 255 }
+    requires few { length proof.now.log ≤ 16777216 }
     ensures judged { IfOk result (IsJudged (F.formula_of form.now proof.now.horizon) proof.now.log) }
     ensures small { IfOk result (λ j. literals_of (F.formula_of form.now proof.now.horizon) ≤ 4000000) }
     ensures none { (entries : ℕ) → result ≡ Ok (Judged.Accepted entries) → (steps : List (List ℕ)) → F.is_plan form.now proof.now.horizon steps → ⊥ }

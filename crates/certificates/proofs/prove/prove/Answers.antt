@@ -7,7 +7,6 @@ use Rattle.horizon_run.specs.Run.{reached, choice_of}
 use Rattle.certificates.specs.Known.{form_of, formula_at}
 use Rattle.certificates.specs.Certificate.{IsCertificate}
 use Rattle.certificates.specs.Proved.{proved_of}
-use Rattle.certificates.specs.declared.prove.Proved.{Proved}
 use Rattle.certificates.specs.declared.prove.Proved.TheVariants.{Certificate}
 use Rattle.certificates.proofs.Ties.{proves}
 use Rattle.certificates.proofs.prove.prove.Goals as goal
@@ -27,6 +26,7 @@ returns-clause-proved g c =
     (subst (λ (f : OrderedTask). IfOk r (λ p. p ≡ proved_of horizon (reached (choice_of task (layout_of f.task (chain_places f.task f.components) horizon)) (formula_at chain_places f horizon) budget))) same c.run_on.ensures.proved)
     (subst (λ (f : OrderedTask). IfOk r (λ p. literals_of (formula_at chain_places f horizon) ≤ 4000000)) same c.run_on.ensures.small)
     (subst (λ (f : OrderedTask). (text : List ℕ) → r ≡ Ok (Certificate text) → IsCertificate (formula_at chain_places f) text horizon) same c.run_on.ensures.certified)
+    c.run_on.ensures.spent
 
 pub returns-clause-literals : goal.returns-clause-literals
 returns-clause-literals g c count e =

@@ -7,7 +7,6 @@ use Rattle.step_clauses.specs.Variables.{chain_places}
 use Rattle.step_encoding.specs.Numbers.{literals_of}
 use Rattle.certificates.specs.Known.{form_of, formula_at}
 use Rattle.certificates.specs.Judged.{IsJudged}
-use Rattle.certificates.specs.declared.verify.Judged.{Judged}
 use Rattle.certificates.specs.declared.verify.Judged.TheVariants.{Accepted}
 use Rattle.certificates.proofs.Ties.{judges}
 use Rattle.certificates.proofs.verify.verify.Goals as goal
