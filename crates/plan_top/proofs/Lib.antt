@@ -9,4 +9,3 @@ pub mod Complete
 mod OneTask
 mod OneReport
 pub mod Promises
-pub mod OfOne

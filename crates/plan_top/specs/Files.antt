@@ -88,8 +88,3 @@ AreTaken told lacks file place (name ∷ names) (bytes ∷ others) = IsTaken tol
 abbrev pub AreShort : (ℕ → File) → ℕ → List (List ℕ) → Type 0
 AreShort file place [] = Unit {0}
 AreShort file place (bytes ∷ others) = (length bytes ≤ most_of (file place)) × AreShort file (place + 1) others
-
--- a request of one task
-abbrev pub IsOfOne : Seen → Type 0
-IsOfOne (batches d ps n t) = ⊥
-IsOfOne request = Unit {0}

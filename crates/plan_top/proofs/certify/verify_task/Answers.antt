@@ -31,3 +31,6 @@ returns-in-Err-Literals g c =
     let count = c.in-Err-Literals.count in
     spelled proof.horizon proof.log ground c.in_ok-proof.ensures.spelled (record { well = c.requires.well_formed; grounded = c.in_ok-grounded.ensures.grounded; fits = c.in_ok-grounded.ensures.within })
     (not_checked count (subst (λ (t : Task). HasTooMany t proof.horizon count) c.task.ensures (c.in-Err-Literals.ensures.literals count (ap Err c.in-Err-Literals.field-0-is))) refl)
+
+pub verify-requires-clause-horizon : goal.verify-requires-clause-horizon
+verify-requires-clause-horizon g c κs within = c.in_ok-proof.ensures.spelled.within

@@ -5,7 +5,6 @@ use Rattle.plan_top.specs.Causes.{Comes, Decides, stopped}
 use Rattle.plan_top.proofs.Stopped.{EndsAs-handed, EndsAs-weaker}
 use Rattle.plan_top.proofs.Taking.{taken_short, taken_count}
 use Rattle.plan_top.proofs.Told.{taken_comes}
-use Rattle.plan_top.proofs.OfOne.{of_one}
 use Rattle.plan_top.proofs.decide.decide.Goals as goal
 
 pub returns-in_err-files-clause-cause : goal.returns-in_err-files-clause-cause
@@ -40,4 +39,4 @@ pub answer-requires-clause-sized : goal.answer-requires-clause-sized
 answer-requires-clause-sized g c κs within = rw c.in-Some.is at c.in_ok-request.ensures.sized
 
 pub answer-requires-clause-of_one : goal.answer-requires-clause-of_one
-answer-requires-clause-of_one g c κs within = of_one (map string_bytes c.args.words.now) (seen c.in-Some.request) (sym (rw c.in-Some.is at c.in_ok-request.ensures.request))
+answer-requires-clause-of_one g c κs within = c.laws.ensures.one_task (map string_bytes c.args.words.now) (seen c.in-Some.request) (sym (rw c.in-Some.is at c.in_ok-request.ensures.request))

@@ -10,7 +10,7 @@ use Rattle.plan_words.specs.declared.request.Stepping.TheVariants.{Exists, All}
 use Rattle.plan_words.specs.Command.{command_of, lists, named}
 use Rattle.plan_words.specs.Seen.{Seen, counted, seen_in}
 use Rattle.plan_words.specs.Requested.{requested, requested_of}
-use Rattle.plan_top.specs.Files.{IsOfOne}
+use Rattle.plan_words.specs.OneTask.{IsOfOne}
 
 -- the command of one task
 abbrev IsSingle : Name → Type 0
