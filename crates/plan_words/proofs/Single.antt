@@ -1,5 +1,6 @@
 -- What words ask for is of one task.
-use Rattle.std.proofs.Common.{◌≡◌, Bool, true, false, List, [], ◌∷◌, Option, Some, None, subst, if◌then◌else◌}
+use Rattle.std.proofs.Common.{◌≡◌, Bool, true, false, List, [], ◌∷◌, Option, Some, None, codes, subst, if◌then◌else◌}
+use Rattle.std.specs.Str.{bytes_eq}
 use Rattle.std.specs.Prelude.{IfSome, option_and_then}
 use Rattle.clap.specs.Walk.{Text, Row}
 use Rattle.clap.specs.Takes.{takes}
@@ -23,8 +24,18 @@ one_of P false x y p q = q
 
 named_single : (text : Text) → IfSome (named text) IsSingle
 named_single text =
-    one_of IsSingle _ (Some (Plan Exists)) _ tt (one_of IsSingle _ (Some (Plan All)) _ tt (one_of IsSingle _ (Some Check) _ tt (one_of IsSingle _ (Some Ground) _ tt
-    (one_of IsSingle _ (Some Order) _ tt (one_of IsSingle _ (Some Gen) _ tt (one_of IsSingle _ (Some Prove) _ tt (one_of IsSingle _ (Some Verify) None tt tt)))))))
+    let is = λ (word : Text). bytes_eq text word in
+    let verify : Option Name = if is (codes "verify") then Some Verify else None in
+    let prove : Option Name = if is (codes "prove") then Some Prove else verify in
+    let gen : Option Name = if is (codes "gen") then Some Gen else prove in
+    let order : Option Name = if is (codes "order") then Some Order else gen in
+    let grounds : Option Name = if is (codes "ground") then Some Ground else order in
+    let check : Option Name = if is (codes "check") then Some Check else grounds in
+    let all : Option Name = if is (codes "plan-all") then Some (Plan All) else check in
+    one_of IsSingle (is (codes "plan")) (Some (Plan Exists)) all tt (one_of IsSingle (is (codes "plan-all")) (Some (Plan All)) check tt
+    (one_of IsSingle (is (codes "check")) (Some Check) grounds tt (one_of IsSingle (is (codes "ground")) (Some Ground) order tt
+    (one_of IsSingle (is (codes "order")) (Some Order) gen tt (one_of IsSingle (is (codes "gen")) (Some Gen) prove tt
+    (one_of IsSingle (is (codes "prove")) (Some Prove) verify tt (one_of IsSingle (is (codes "verify")) (Some Verify) None tt tt)))))))
 
 seen_single : (name : Name) (rows : List Row) → IsSingle name → IfSome (counted (seen_in name rows)) IsOfOne
 seen_single (Plan stepping) rows h = tt
