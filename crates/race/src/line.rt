@@ -36,16 +36,27 @@ pub(crate) fn open(alloc: Global, run: &HorizonRun) -> Result<Line, Memory>
     Ok(line_of(run, end))
 }
 
-/// The line of a run that is passed by a refuted one or refuted itself. The run ends with it.
-pub(crate) fn passed(alloc: Global, run: HorizonRun) -> Result<Line, Memory>
+/// The line of a run that is passed by a refuted one or refuted itself.
+fn passed(alloc: Global, run: &HorizonRun) -> Result<Line, Memory>
+    ghost input: { RaceInput }
+    requires run { IsRunOf input run.now }
+    requires unfound { run.now.state.standing ≡ Standing.Found → ⊥ }
+    ensures told { IfOk result (λ line. line_view line ≡ passed_line (live_run_of run.now)) }
+    ensures line { IfOk result (λ line. IsLine input line) }
+{
+    match run.standing() {
+        Standing::Refuted => open(alloc, run),
+        _ => Ok(line_of(run, LineEnd::Dropped)),
+    }
+}
+
+/// The line of a run that ends here, since it is passed by a refuted one or refuted itself.
+pub(crate) fn ended(alloc: Global, run: HorizonRun) -> Result<Line, Memory>
     ghost input: { RaceInput }
     requires run { IsRunOf input run }
     requires unfound { run.state.standing ≡ Standing.Found → ⊥ }
     ensures told { IfOk result (λ line. line_view line ≡ passed_line (live_run_of run)) }
     ensures line { IfOk result (λ line. IsLine input line) }
 {
-    match run.standing() {
-        Standing::Refuted => open(alloc, &run),
-        _ => Ok(line_of(&run, LineEnd::Dropped)),
-    }
+    passed(alloc, &run)
 }
