@@ -1,6 +1,5 @@
 -- The tables of a formula's clauses, as they are made and once they are.
-use Rattle.std.proofs.Common.{arith, ◌≡◌, ◌≢◌, ◌==◌, ℕ, zero, suc, ◌+◌, ◌*◌, ◌<◌, ◌≤◌, List, [], ◌∷◌, ◌++◌, length, take, replicate, get_or, leb, ltb, Bool, true, false, not, ◌||◌, ◌&&◌, All, Option, Some, None, refl, sym, ap, ◌∙◌, subst, ◌⊎◌, inl, inr}
-use Rattle.std.specs.List.{list_any, filter}
+use Rattle.std.proofs.Common.{arith, ◌≡◌, ◌≢◌, ◌==◌, ℕ, zero, suc, ◌+◌, ◌*◌, ◌<◌, ◌≤◌, List, [], ◌∷◌, ◌++◌, length, take, replicate, get_or, leb, ltb, Bool, true, false, not, ◌||◌, ◌&&◌, All, None, refl, sym, ap, ◌∙◌, subst, ◌⊎◌, inl, inr}
 use Rattle.std.proofs.lemmas.Bool.Decides.{nat_tests}
 use Rattle.std.proofs.lemmas.List.{map-append, length_push, get_or_push, get_or_append_left}
 use Rattle.std.proofs.lemmas.List.Elements.{All-get_or}
@@ -8,20 +7,19 @@ use Rattle.std.proofs.lemmas.Grind.{replicate_next}
 use Rattle.clause_base.specs.Clause.{IsClause, HasVariablesBelow, has_literal}
 use Rattle.cdcl_rules.specs.Pending.{is_pending}
 use Rattle.cdcl_rules.specs.State.{clause_at}
-use Rattle.number_bits.specs.Bits.{IsLeast, words_have}
+use Rattle.number_bits.specs.Bits.{words_have}
 use Rattle.pair_index.specs.declared.pair.Pair.{Pair}
 use Rattle.pair_index.specs.Pairs.{IsIndex}
 use Rattle.watch_chains.specs.declared.chains.Node.{Node}
 use Rattle.watch_chains.specs.Linked.{IsLinked}
 use Rattle.watch_lists.specs.declared.visit.Watched.{Watched}
-use Rattle.watch_lists.specs.Pending.{is_free, is_pending_on}
 use Rattle.watch_lists.specs.Asking.{IsAsking}
 use Rattle.watch_lists.specs.Added.{IsWider, RestsWith}
 use Rattle.watch_lists.specs.Given.{AreGiven}
 use Rattle.watch_lists.specs.Pairs.{HasSlot, IsUnwatched, IsPaired}
-use Rattle.watch_lists.specs.Visit.{slot_clauses, slot_flags, slot_set, AreSlotsBelow, IsFit, IsReal, IsAtRest}
+use Rattle.watch_lists.specs.Visit.{slot_clauses, slot_flags, AreSlotsBelow, IsFit, IsReal, IsAtRest}
 use Rattle.watch_lists.specs.Sound.{IsSound}
-use Rattle.watch_lists.proofs.Filters.{clause_is, clause_past, pending_at, pending_off}
+use Rattle.watch_lists.proofs.Filters.{clause_is, clause_past, pending_off}
 use Rattle.watch_lists.proofs.Assigns.{equal_of, apart_of, at_most_of, past_of}
 use Rattle.watch_lists.proofs.Adds.{kept_in}
 use Rattle.watch_lists.proofs.Asks.{consistent_none, pending_kept}

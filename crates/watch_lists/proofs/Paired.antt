@@ -1,14 +1,14 @@
 -- Clauses of two literals by the lists of their literals.
-use Rattle.std.proofs.Common.{arith, ◌≡◌, ◌≢◌, ◌==◌, ℕ, ◌+◌, ◌*◌, ◌<◌, ◌≤◌, List, [], ◌∷◌, ◌++◌, length, set, get_or, leb, ltb, Bool, true, false, not, ◌||◌, if◌then◌else◌, refl, sym, ap, ◌∙◌, subst, ◌⊎◌, inl, inr, length-set, get_or-set_same, get_or-set_other}
+use Rattle.std.proofs.Common.{arith, ◌≡◌, ◌≢◌, ◌==◌, ℕ, ◌<◌, ◌≤◌, List, [], ◌∷◌, ◌++◌, length, set, get_or, leb, ltb, Bool, true, false, not, ◌||◌, if◌then◌else◌, refl, sym, ap, ◌∙◌, subst, ◌⊎◌, inl, inr}
 use Rattle.std.specs.List.{list_any, filter}
 use Rattle.std.proofs.lemmas.Bool.Decides.{nat_tests}
-use Rattle.std.proofs.lemmas.List.{get_or_push, get_or_append_left, get_or_read, length_push}
+use Rattle.std.proofs.lemmas.List.{get_or_push, get_or_append_left, length_push}
 use Rattle.clause_base.specs.Literal.{opposite}
 use Rattle.clause_base.specs.Clause.{has_literal}
 use Rattle.watch_chains.specs.declared.chains.Node.{Node}
 use Rattle.watch_lists.specs.declared.visit.Watched.{Watched}
 use Rattle.pair_index.specs.declared.pair.Pair.{Pair}
-use Rattle.pair_index.specs.Pairs.{no_pair, pairs_of, pair_in, HasPair, IsInPairs, IsPairOf, AreExact}
+use Rattle.pair_index.specs.Pairs.{pairs_of, pair_in, HasPair, IsInPairs, IsPairOf, AreExact}
 use Rattle.watch_lists.specs.Pending.{is_free, has_two_free}
 use Rattle.cdcl_rules.specs.State.{clause_at}
 use Rattle.watch_lists.specs.Visit.{IsFit}
@@ -16,7 +16,7 @@ use Rattle.watch_lists.specs.Pairs.{IsUnwatched, HasSlot, IsPaired}
 use Rattle.watch_lists.specs.Added.{IsTaken}
 use Rattle.watch_lists.proofs.Filters.{clause_past, count_two, tests_two}
 use Rattle.watch_lists.proofs.Assigns.{equal_of, apart_of, free_after}
-use Rattle.watch_lists.proofs.Adds.{get_other, at_other, at_own}
+use Rattle.watch_lists.proofs.Adds.{at_other, at_own}
 
 -- a pair is of a clause that there is, and of a literal
 pub pair_within : (cl : List (List ℕ)) (codes code : ℕ) (p : Pair) → IsFit cl codes → IsPairOf cl code p → (p.other < codes) × (p.number < length cl)

@@ -6,7 +6,6 @@ use Rattle.clause_base.specs.Clause.{has_literal}
 use Rattle.cdcl_rules.specs.Pending.{is_pending}
 use Rattle.watch_chains.specs.declared.chains.Node.{Node}
 use Rattle.watch_lists.specs.declared.visit.Watched.{Watched}
-use Rattle.pair_index.specs.declared.pair.Pair.{Pair}
 use Rattle.watch_lists.specs.Pending.{is_pending_on}
 use Rattle.cdcl_rules.specs.State.{clause_at}
 use Rattle.watch_lists.specs.Visit.{slot_clauses, slot_flags, slot_set, AreSlotsBelow, IsFit, IsAtRest}

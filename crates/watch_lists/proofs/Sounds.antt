@@ -1,11 +1,10 @@
 -- All that holds of the tables holds with a new clause.
-use Rattle.std.proofs.Common.{arith, ◌≡◌, ℕ, ◌+◌, ◌*◌, ◌<◌, ◌≤◌, List, [], ◌∷◌, ◌++◌, length, get_or, leb, Bool, true, false, refl, sym, ◌∙◌, subst}
+use Rattle.std.proofs.Common.{arith, ◌≡◌, ℕ, ◌*◌, ◌<◌, ◌≤◌, List, [], ◌∷◌, ◌++◌, length, get_or, leb, Bool, true, false, refl, sym, ◌∙◌, subst}
 use Rattle.std.proofs.lemmas.List.{length_push}
 use Rattle.clause_base.specs.Clause.{IsClause, HasVariablesBelow}
 use Rattle.number_bits.specs.Bits.{words_have}
 use Rattle.watch_chains.specs.declared.chains.Node.{Node}
 use Rattle.watch_lists.specs.declared.visit.Watched.{Watched}
-use Rattle.pair_index.specs.declared.pair.Pair.{Pair}
 use Rattle.watch_lists.specs.Pending.{is_pending_on}
 use Rattle.watch_lists.specs.Visit.{slot_clauses, slot_flags, AreSlotsBelow, IsAtRest}
 use Rattle.watch_lists.specs.Sound.{IsFront, IsSound}

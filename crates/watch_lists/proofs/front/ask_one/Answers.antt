@@ -1,10 +1,4 @@
-use Rattle.std.proofs.Common.{arith, ◌≡◌, ◌*◌, ◌<◌, ℕ, List, length, get_or, set, true, sym, ap, ◌∙◌, subst, get_or-set_same, get_or-set_other}
-use Rattle.clause_base.specs.Clause.{has_literal}
-use Rattle.cdcl_rules.specs.Pending.{is_pending}
-use Rattle.cdcl_rules.specs.State.{clause_at}
-use Rattle.watch_lists.specs.Asking.{IsAsked}
-use Rattle.watch_lists.specs.Visit.{slot_clauses}
-use Rattle.watch_lists.proofs.Asks.{clash}
+use Rattle.std.proofs.Common.{◌*◌, ◌<◌, ℕ, List, length, get_or, sym, subst}
 use Rattle.watch_lists.proofs.Slotted.{fit_slots}
 use Rattle.watch_lists.proofs.front.ask_one.Goals as goal
 use Rattle.watch_lists.proofs.front.ask_one.Goals.{After-slot_clause-clause}

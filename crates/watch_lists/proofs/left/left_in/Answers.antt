@@ -1,4 +1,4 @@
-use Rattle.std.proofs.Common.{arith, ◌*◌}
+use Rattle.std.proofs.Common.{arith}
 use Rattle.clause_base.specs.Clause.{has_literal}
 use Rattle.watch_lists.specs.Pending.{is_free}
 use Rattle.watch_lists.proofs.Lefts.{left_by, none_left}

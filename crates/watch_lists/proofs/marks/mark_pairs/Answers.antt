@@ -1,4 +1,4 @@
-use Rattle.std.proofs.Common.{arith, ◌≡◌, ◌++◌, List, true, false, sym, subst}
+use Rattle.std.proofs.Common.{◌≡◌, List, true, false, sym, subst}
 use Rattle.clause_base.specs.Clause.{has_literal}
 use Rattle.number_bits.specs.Bits.{words_have}
 use Rattle.pair_index.specs.declared.pair.Pair.{Pair}

@@ -1,4 +1,4 @@
-use Rattle.std.proofs.Common.{arith, ◌≡◌, ◌∙◌, ◌+◌, ◌++◌, ◌≤◌, length, sym, ap, subst}
+use Rattle.std.proofs.Common.{arith, ◌∙◌, ◌+◌, ◌++◌, ◌≤◌, length, sym, ap, subst}
 use Rattle.clause_base.specs.Formula.{Cnf}
 use Rattle.clause_base.specs.Repeats.{Repeats, repeated, variables_of}
 use Rattle.clause_base.proofs.JoinedLemmas.{joined_part, repeat_is}

@@ -5,7 +5,6 @@ use Rattle.watch_lists.specs.Pending.{WatchesView, is_pending_on}
 use Rattle.watch_lists.specs.Visit.{IsFit, Grows, slot_clauses, slot_flags, slot_set}
 use Rattle.watch_lists.specs.Pairs.{IsPaired}
 use Rattle.watch_lists.specs.Sound.{IsFront, IsSound}
-use Rattle.std.proofs.lemmas.List.{length_push}
 use Rattle.watch_lists.specs.Asking.{IsAsked, AreAsked, IsWithin, IsAsking}
 use Rattle.watch_lists.proofs.Asked.{asked_add, within_add, distinct_add, asking_wider, asking_fewer}
 use Rattle.watch_lists.proofs.Adds.{fit_add}

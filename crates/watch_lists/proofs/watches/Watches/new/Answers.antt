@@ -1,8 +1,6 @@
-use Rattle.std.proofs.Common.{arith, ◌≡◌, ◌*◌, ◌≤◌, [], ℕ, List, Bool, true, All, length, replicate, ap, sym, ◌∙◌, subst}
-use Rattle.clause_base.specs.Clause.{IsClause, HasVariablesBelow}
+use Rattle.std.proofs.Common.{arith, ◌≡◌, ◌*◌, ◌≤◌, ℕ, List, true, length, replicate, ap, sym, ◌∙◌, subst}
 use Rattle.watch_store.specs.Mirror.{TruthView}
 use Rattle.pair_index.specs.Pairs.{IsIndex}
-use Rattle.watch_lists.specs.Pending.{WatchesView}
 use Rattle.watch_lists.specs.Given.{AreGiven}
 use Rattle.watch_lists.specs.Visit.{IsFit}
 use Rattle.watch_lists.proofs.Givens.{fit_given, sound_given, paired_given, asking_given}

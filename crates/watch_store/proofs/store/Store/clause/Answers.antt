@@ -1,4 +1,4 @@
-use Rattle.std.proofs.Common.{arith, ◌≡◌, ◌-◌, ◌∙◌, [], ap, sym, List, ℕ, get_or}
+use Rattle.std.proofs.Common.{arith, ◌-◌, ◌∙◌, [], ap, sym, List, ℕ, get_or}
 use Rattle.std.proofs.lemmas.Option.{get_or_from_slice_get}
 use Rattle.std.proofs.lemmas.List.{get_or_append_left, get_or-append_right}
 use Rattle.watch_store.proofs.store.Store.clause.Goals as goal
