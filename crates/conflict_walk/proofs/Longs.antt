@@ -1,5 +1,5 @@
 -- The learned clauses that are kept and long, where one more is learned and where some are dropped.
-use Rattle.std.proofs.Common.{arith, ◌≡◌, ◌≢◌, ◌==◌, ℕ, zero, suc, ◌+◌, ◌-◌, ◌<◌, ◌≤◌, List, [], ◌∷◌, ◌++◌, length, get_or, set, Bool, true, false, ◌&&◌, nat_lt, if◌then◌else◌, refl, sym, ap, ◌∙◌, filter, get_or-set_other}
+use Rattle.std.proofs.Common.{arith, ◌≡◌, ◌≢◌, ◌==◌, ℕ, zero, suc, ◌+◌, ◌-◌, ◌<◌, ◌≤◌, List, [], ◌∷◌, ◌++◌, length, get_or, set, Bool, true, false, ◌&&◌, nat_lt, if◌then◌else◌, refl, sym, ap, ◌∙◌, filter, length-set, get_or-set_other}
 use Rattle.std.specs.List.{range_with_len}
 use Rattle.std.proofs.lemmas.List.{append-nil, get_or_append_left, get_or_push, length_push, get_or-set_same, set_past}
 use Rattle.std.proofs.lemmas.Bool.Decides.{nat_tests}
@@ -83,6 +83,10 @@ fewer : (kept : List Bool) (ns : List ℕ) (k : ℕ) → is_kept (kept_without k
 fewer kept [] k e = e
 fewer kept (n ∷ ns) k e = fewer_one kept n k (fewer (set kept n false) ns k e)
 
+pub length_without : (kept : List Bool) (ns : List ℕ) → length (kept_without kept ns) ≡ length kept
+length_without kept [] = refl
+length_without kept (n ∷ ns) = length_without (set kept n false) ns ∙ length-set kept n false
+
 -- a test that passes only where another does
 both_of : (a b c : Bool) → (b ≡ true → a ≡ true) → (b && c) ≡ ((a && c) && b)
 both_of true true true h = refl
@@ -102,12 +106,12 @@ long_drop given clauses kept ns =
 -- they are numbers of clauses
 in_range : (p : ℕ → Bool) (a n i d : ℕ) → i < length (filter p (range_with_len a n)) → get_or (filter p (range_with_len a n)) i d < a + n
 in_range p a zero i d h = absurd (omega arith)
-in_range p a (suc n) i d h = by (p a) i h
+in_range p a (suc n) i d h = by (p a) i h (λ j g. in_range p (a + 1) n j d g)
   where
-    by : (b : Bool) (j : ℕ) → j < length (if b then a ∷ filter p (range_with_len (a + 1) n) else filter p (range_with_len (a + 1) n)) → get_or (if b then a ∷ filter p (range_with_len (a + 1) n) else filter p (range_with_len (a + 1) n)) j d < a + suc n
-    by true zero g = omega arith
-    by true (suc j) g = let k = in_range p (a + 1) n j d (omega (arith, g)) in omega (arith, k)
-    by false j g = let k = in_range p (a + 1) n j d g in omega (arith, k)
+    by : (b : Bool) (j : ℕ) → j < length (if b then a ∷ filter p (range_with_len (a + 1) n) else filter p (range_with_len (a + 1) n)) → ((k : ℕ) → k < length (filter p (range_with_len (a + 1) n)) → get_or (filter p (range_with_len (a + 1) n)) k d < a + 1 + n) → get_or (if b then a ∷ filter p (range_with_len (a + 1) n) else filter p (range_with_len (a + 1) n)) j d < a + suc n
+    by true zero g rest = omega arith
+    by true (suc j) g rest = let k = rest j (omega (arith, g)) in omega (arith, k)
+    by false j g rest = let k = rest j g in omega (arith, k)
 
 pub long_below : (given : ℕ) (clauses : List (List ℕ)) (kept : List Bool) (i d : ℕ) → given ≤ length clauses → i < length (long_ones given clauses kept) → get_or (long_ones given clauses kept) i d < length clauses
 long_below given clauses kept i d l h =

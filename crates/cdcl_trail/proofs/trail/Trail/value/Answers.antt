@@ -8,12 +8,12 @@ pub get-requires : goal.get-requires
 get-requires c =
     let t = c.self.inside in
     let n : length t.values ≡ t.variables = values_len t.variables t.entries.items t.values t.levels.items t.level c.self.invariant in
-    omega (arith, n, c.if-v-ge-variables.false)
+    omega (arith, n, c.if-v-self.false)
 
-pub returns-then-v-ge-variables-clause-value : goal.returns-then-v-ge-variables-clause-value
-returns-then-v-ge-variables-clause-value c =
+pub returns-then-v-self-clause-value : goal.returns-then-v-self-clause-value
+returns-then-v-self-clause-value c =
     let t = c.self.inside in
-    sym (none_past t.variables t.entries.items t.values t.levels.items t.level c.args.v c.self.invariant c.if-v-ge-variables.true) ∙ ap (λ (w : TrailView). value_of w.entries c.args.v) c.self.view_is
+    sym (none_past t.variables t.entries.items t.values t.levels.items t.level c.args.v c.self.invariant c.if-v-self.true) ∙ ap (λ (w : TrailView). value_of w.entries c.args.v) c.self.view_is
 
 pub returns-clause-value : goal.returns-clause-value
 returns-clause-value c =
@@ -23,4 +23,4 @@ returns-clause-value c =
 pub returns-clause-past : goal.returns-clause-past
 returns-clause-past c h =
     let v = ap (λ (w : TrailView). w.variables) c.self.view_is in
-    absurd (omega (arith, v, h, c.if-v-ge-variables.false))
+    absurd (omega (arith, v, h, c.if-v-self.false))
