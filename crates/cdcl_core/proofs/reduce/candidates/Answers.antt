@@ -8,7 +8,7 @@ use Rattle.conflict_walk.specs.Clauses.{ClausesView, all_clauses}
 use Rattle.conflict_walk.specs.Longs.{long_ones}
 use Rattle.conflict_walk.proofs.Longs.{long_below}
 use Rattle.cdcl_core.proofs.Scans.{free_ones, taken_one, passed_one}
-use Rattle.cdcl_core.proofs.reduce.candidates.Goals.{then-index+in_ok-push, else-index}
+use Rattle.cdcl_core.proofs.reduce.candidates.Goals.{then-not-index+in_ok-push, else-not-index}
 use Rattle.cdcl_core.proofs.reduce.candidates.Goals as goal
 
 below : (v : ClausesView) (longs : List ℕ) (i : ℕ) → longs ≡ long_ones (length v.formula.clauses) (all_clauses v) v.kept → i < length longs → get_or longs i 0 < length (all_clauses v)
@@ -23,9 +23,12 @@ index-requires c =
 
 pub loop-number-init : goal.loop-number-init
 loop-number-init c =
+    let none = c.new-numbers.ensures.items in
     let v = c.args.clauses.now in
     let trail = c.args.trail.now.entries in
-    free_ones (length v.formula.clauses) (all_clauses v) v.kept trail ∙ ap (λ (xs : List ℕ). filter (λ n. not (has_forced trail n)) xs) (sym c.longs-longs.ensures)
+    free_ones (length v.formula.clauses) (all_clauses v) v.kept trail
+    ∙ ap (λ (xs : List ℕ). filter (λ n. not (has_forced trail n)) xs) (sym c.longs-longs.ensures)
+    ∙ ap (λ (ns : List ℕ). ns ++ filter (λ n. not (has_forced trail n)) c.longs-longs.result.now) (sym none)
 
 pub loop-number-preserved : goal.loop-number-preserved
 loop-number-preserved c =
@@ -44,9 +47,9 @@ loop-number-preserved c =
     let whole = candidates (length v.formula.clauses) all v.kept trail in
     let next = drop_more longs i 0 c.loop-number-test.true in
     let xs = c.loop-number.numbers.items in
-    elim c.if-index.branch [
-      | then-index+in_ok-push w ↦ taken_one p whole xs c.if-index.numbers.items (drop i longs) (drop (i + 1) longs) k c.loop-number.invariant next (ap not (sym flag) ∙ ap not w.if-index.false) (rw w.numbers-is w.in_ok-push.ensures.items)
-      | else-index w ↦ passed_one p whole xs c.if-index.numbers.items (drop i longs) (drop (i + 1) longs) k c.loop-number.invariant next (ap not (sym flag) ∙ ap not w.if-index.true) (rw w.numbers-is)
+    elim c.if-not-index.branch [
+      | then-not-index+in_ok-push w ↦ taken_one p whole xs c.if-not-index.numbers.items (drop i longs) (drop (i + 1) longs) k c.loop-number.invariant next (ap not (sym flag) ∙ ap not w.if-not-index.true) (rw w.numbers-is w.in_ok-push.ensures.items)
+      | else-not-index w ↦ passed_one p whole xs c.if-not-index.numbers.items (drop i longs) (drop (i + 1) longs) k c.loop-number.invariant next (ap not (sym flag) ∙ ap not w.if-not-index.false) (rw w.numbers-is)
     ]
 
 pub returns : goal.returns
