@@ -3,3 +3,4 @@ pub mod Reasons
 pub mod Scans
 pub mod Shorts
 pub mod Watching
+pub mod Logs

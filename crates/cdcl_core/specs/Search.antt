@@ -3,6 +3,7 @@ use Rattle.clause_base.specs.Formula.{Cnf}
 use Rattle.clause_base.specs.Clause.{IsClause, HasVariablesBelow}
 use Rattle.clause_base.specs.Choice.{Known}
 use Rattle.clause_base.specs.Derivation.{clauses_of}
+use Rattle.clause_base.specs.declared.log.Entry.{Entry}
 use Rattle.cdcl_rules.specs.declared.standing.Standing.{Standing}
 use Rattle.cdcl_rules.specs.declared.standing.Standing.TheVariants.{Going}
 use Rattle.cdcl_rules.specs.declared.event.Event.{Event}
@@ -83,6 +84,10 @@ pub record IsKept (clauses : ClausesView) (trail : TrailView) (watches : Watches
 abbrev pub asked_first : State → Option Event
 asked_first s =
     elim (first_pending s) [ Some number ↦ Some (asked number (open_ones (is_on s.trail) (clause_at s.clauses number))) | None ↦ None ]
+
+-- a log goes on from another, all of which it begins with
+abbrev pub GoesOn : List Entry → List Entry → Type 0
+GoesOn old new = (rest : List Entry) × (new ≡ old ++ rest)
 
 -- an event is the next one of a state, for some chooser whose choices are open
 abbrev pub IsNextEvent : Cnf → State → Event → Type 0

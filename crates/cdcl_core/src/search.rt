@@ -7,7 +7,7 @@ ghost use Rattle.cdcl_rules.specs.Trail.{AllFalse};
 ghost use Rattle.cdcl_rules.specs.Learn.{learned};
 ghost use Rattle.cdcl_rules.specs.Run.{start_of, apply, with_learned, after_conflict, is_restart, is_going, is_conflict};
 ghost use Rattle.cdcl_laws.specs.Sound.{IsSound};
-ghost use Rattle.cdcl_core.specs.Search.{SearchView, IsNextEvent, asked_first, level_after};
+ghost use Rattle.cdcl_core.specs.Search.{SearchView, IsNextEvent, GoesOn, asked_first, level_after};
 
 use crate::pending::{asked, follow};
 use crate::reduce::reduce;
@@ -208,6 +208,7 @@ impl Search {
         requires undropped { IsSound self.old.formula (after_conflict self.old.state (record { clause = new.lits; hints = new.hints }) []) }
         requires sound { IsSound self.old.formula (with_learned self.old.state (record { clause = new.lits; hints = new.hints })) }
         ensures ok { OnOk result (self.new ≡ record self.old { state = with_learned self.old.state (record { clause = new.lits; hints = new.hints }) }) }
+        ensures log { OnErr result (GoesOn self.old.state.log self.new.state.log) }
         ensures formula { self.new.formula ≡ self.old.formula }
         ensures spoilt { OnErr result (self.new.spoilt ≡ true) }
     {
@@ -271,6 +272,7 @@ impl Search {
         requires room { is_conflict event ≡ true → self.old.state.conflicts < 1073741824 }
         requires next { IsNextEvent self.old.formula self.old.state event }
         ensures ok { OnOk result (self.new ≡ record self.old { state = apply self.old.state event }) }
+        ensures log { OnErr result (GoesOn self.old.state.log self.new.state.log) }
         ensures formula { self.new.formula ≡ self.old.formula }
         ensures spoilt { OnErr result (self.new.spoilt ≡ true) }
     {

@@ -7,7 +7,7 @@ ghost use Rattle.cdcl_rules.specs.Open.{Opens};
 ghost use Rattle.cdcl_rules.specs.Run.{start_of, apply, after, is_going, is_conflict, IsAfter};
 ghost use Rattle.cdcl_laws.specs.Sound.{IsSound, IsSolution, made_true};
 ghost use Rattle.cdcl_laws.specs.Laws.{AddsUp, SettledStays, ComesToRestAlways, Grants};
-ghost use Rattle.cdcl_core.specs.Search.{SolverView, IsNextEvent};
+ghost use Rattle.cdcl_core.specs.Search.{SolverView, IsNextEvent, GoesOn};
 ghost use Rattle.cdcl_core.specs.Between.{IsShortBetween};
 
 use crate::search::Search;
@@ -157,6 +157,7 @@ impl<C: Chooser> Solver<C> {
         requires room { is_conflict event ≡ true → self.old.state.conflicts < 1073741824 }
         requires next { IsNextEvent self.old.formula self.old.state event }
         ensures ok { OnOk result (self.new ≡ record self.old { state = apply self.old.state event }) }
+        ensures log { OnErr result (GoesOn self.old.state.log self.new.state.log) }
         ensures formula { self.new.formula ≡ self.old.formula }
         ensures chooser { self.new.chooser ≡ self.old.chooser }
         ensures spoilt { OnErr result (self.new.spoilt ≡ true) }
@@ -169,6 +170,7 @@ impl<C: Chooser> Solver<C> {
         requires room { self.old.state.conflicts + conflicts ≤ 1073741824 }
         requires sane { self.old.spoilt ≡ false }
         ensures after { OnOk result (IsAfter (C.choice self.old.chooser) self.old.state conflicts self.new.state) }
+        ensures log { OnErr result (GoesOn self.old.state.log self.new.state.log) }
         ensures formula { self.new.formula ≡ self.old.formula }
         ensures chooser { self.new.chooser ≡ self.old.chooser }
         ensures sane { OnOk result (self.new.spoilt ≡ false) }
@@ -186,7 +188,7 @@ impl<C: Chooser> Solver<C> {
     }
 
     /// Goes on until it is settled or has handled so many more conflicts; with 0 it does what comes before the next conflict.
-    /// After want of memory it is spoilt: it then answers `Memory` and stays as it is.
+    /// After want of memory it is spoilt, and its log begins with the old one: it then answers `Memory` and stays as it is.
     pub fn advance(&mut self, conflicts: u32) -> Result<(), Memory>
         requires { self.old.state.conflicts + conflicts ≤ 1073741824 }
         ensures after { OnOk result (self.new.state ≡ after (C.choice self.old.chooser) self.old.state conflicts) }
@@ -197,6 +199,7 @@ impl<C: Chooser> Solver<C> {
         ensures comes_to_rest { ComesToRestAlways (C.choice self.old.chooser) self.old.state }
         ensures grants { Grants (C.choice self.old.chooser) self.old.state }
         ensures short { IsShortBetween (C.choice self.old.chooser) self.old.state }
+        ensures log { OnErr result (GoesOn self.old.state.log self.new.state.log) }
         ensures formula { self.new.formula ≡ self.old.formula }
         ensures chooser { self.new.chooser ≡ self.old.chooser }
         ensures sane { OnOk result (self.old.spoilt ≡ false) }

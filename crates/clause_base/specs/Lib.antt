@@ -5,6 +5,7 @@ pub mod Pieces
 pub mod Repeats
 pub mod View
 pub mod Joined
+pub mod Shared
 pub mod Derivation
 pub mod Choice
 pub mod ValueBits

@@ -9,13 +9,12 @@ use crate::memory::Memory;
 use std::alloc::Global;
 use std::marker::Model;
 
-/// A list of clauses in two blocks of memory: their literals one after another, and where each clause ends. A
-/// third block is for sorting. It has at most
-/// 4,294,967,295 literals.
+/// A list of clauses in two blocks of memory: their literals one after another, and where each clause ends. A third block is
+/// for sorting.
 #[derive(Debug, Drop)]
 pub struct ClauseList {
     lits: Vec<Lit>,
-    ends: Vec<u32>,
+    ends: Vec<usize>,
     sorted: Vec<Lit>,
 }
 
@@ -32,15 +31,11 @@ impl Model for ClauseList {
 }
 
 /// Where the clause with this number begins.
-fn start_of(ends: &[u32], number: usize) -> usize
+fn start_of(ends: &[usize], number: usize) -> usize
     requires { number < length ends.now }
     ensures { result ≡ start_of 0 ends.now number }
 {
-    if number == 0 {
-        0
-    } else {
-        ends[number - 1] as usize
-    }
+    if number == 0 { 0 } else { ends[number - 1] }
 }
 
 /// The literals from one place to another.
@@ -53,19 +48,17 @@ fn part(lits: &[Lit], start: usize, end: usize) -> &[Lit]
 }
 
 /// The literals of the clause with this number.
-fn piece<'a>(lits: &'a [Lit], ends: &'a [u32], number: usize) -> &'a [Lit]
+fn piece<'a>(lits: &'a [Lit], ends: &'a [usize], number: usize) -> &'a [Lit]
     requires cut { AreEnds 0 ends.now (length lits.now) }
     requires in_range { number < length ends.now }
     ensures { slice_get (pieces 0 lits.now ends.now) number ≡ Some result.now }
 {
     let start = start_of(ends, number);
-    let end = ends[number] as usize;
-    part(lits, start, end)
+    part(lits, start, ends[number])
 }
 
-/// Adds a clause at the end of the literals, and its end. After want of memory, or where there would be too many literals,
-/// the clauses are unchanged.
-fn push_piece(lits: &mut Vec<Lit>, ends: &mut Vec<u32>, clause: &[Lit]) -> Result<(), Memory>
+/// Adds a clause at the end of the literals, and its end. After want of memory the clauses are unchanged.
+fn push_piece(lits: &mut Vec<Lit>, ends: &mut Vec<usize>, clause: &[Lit]) -> Result<(), Memory>
     requires cut { AreEnds 0 ends.old.items (length lits.old.items) }
     requires lawful { All IsClause (pieces 0 lits.old.items ends.old.items) }
     requires clause { IsClause clause.now }
@@ -76,11 +69,7 @@ fn push_piece(lits: &mut Vec<Lit>, ends: &mut Vec<u32>, clause: &[Lit]) -> Resul
 {
     let start = lits.len();
     lits.extend_from_slice(clause)?;
-    let Ok(end) = u32::try_from(lits.len()) else {
-        lits.truncate(start);
-        return Err(Memory);
-    };
-    if ends.push(end).is_err() {
+    if ends.push(lits.len()).is_err() {
         lits.truncate(start);
         return Err(Memory);
     }
@@ -116,7 +105,7 @@ impl ClauseList {
         piece(&self.lits, &self.ends, number)
     }
 
-    /// Adds a clause at the end. After want of memory, or where there would be too many literals, the list is unchanged.
+    /// Adds a clause at the end. After want of memory the list is unchanged.
     pub fn add(&mut self, clause: Clause) -> Result<(), Memory>
         ensures ok { OnOk result (self.new ≡ self.old ++ clause ∷ []) }
         ensures err { OnErr result (self.new ≡ self.old) }
@@ -124,8 +113,7 @@ impl ClauseList {
         self.add_sorted(clause.as_slice())
     }
 
-    /// Adds the clause of literals that are in a clause's form already. After want of memory, or where there would be too
-    /// many literals, the list is unchanged.
+    /// Adds the clause of literals that are in a clause's form already. After want of memory the list is unchanged.
     pub fn add_sorted(&mut self, lits: &[Lit]) -> Result<(), Memory>
         requires { IsClause lits.now }
         ensures ok { OnOk result (self.new ≡ self.old ++ lits.now ∷ []) }
@@ -135,7 +123,7 @@ impl ClauseList {
     }
 
     /// Adds the clause of these literals, in whatever order and however often they stand, and nothing where two of them are
-    /// opposite. After want of memory, or where there would be too many literals, the list is unchanged.
+    /// opposite. After want of memory the list is unchanged.
     pub fn add_of(&mut self, lits: &[Lit]) -> Result<(), Memory>
         ensures ok { OnOk result (self.new ≡ self.old ++ option_to_list (clause_of lits.now)) }
         ensures err { OnErr result (self.new ≡ self.old) }

@@ -17,8 +17,7 @@ const MOST_CLAUSES: u32 = 1_073_741_824;
 
 /// A named conjunction of clauses over variables that are numbered from 0. It has at most 2,147,483,647 variables and at most
 /// 1,073,741,824 clauses. First come those that were added before a repeated part, then those of the repeated part, which
-/// stand once however often they are seen, then those that were added after it. Each of these keeps at most 4,294,967,295
-/// literals.
+/// stand once however often they are seen, then those that were added after it.
 #[derive(Debug, Drop)]
 pub struct Formula {
     name: u32,
@@ -80,8 +79,8 @@ impl Formula {
         }
     }
 
-    /// Adds the clauses of a repeated part at the end, in the memory that the part brings; where there is one already, each
-    /// clause in memory of its own.
+    /// Adds the clauses of a repeated part at the end, in the memory that the part brings, which copies of the formula share;
+    /// where there is one already, each clause in memory of its own.
     pub fn repeat(self, alloc: Global, part: Repeated) -> Result<Formula, Memory>
         requires fits { variables_of part ≤ self.variables }
         requires room { length self.clauses + length (repeated_clauses part) ≤ 1073741824 }
@@ -92,6 +91,7 @@ impl Formula {
         if told != 0 || repeated != 0 {
             return write_out(self, alloc, &part);
         }
+        let part = part.share(alloc)?;
         let _below = part.count();
         Ok(Formula {
             name: self.name,
@@ -102,7 +102,7 @@ impl Formula {
         })
     }
 
-    /// Adds a clause at the end. After want of memory, or where there would be too many literals, the formula is unchanged.
+    /// Adds a clause at the end. After want of memory the formula is unchanged.
     pub fn add(&mut self, clause: Clause) -> Result<(), Memory>
         requires below { HasVariablesBelow self.old.variables clause }
         requires room { length self.old.clauses < 1073741824 }
@@ -113,7 +113,7 @@ impl Formula {
     }
 
     /// Adds the clause of literals that are in a clause's form already, without a block of memory for it. After want of
-    /// memory, or where there would be too many literals, the formula is unchanged.
+    /// memory the formula is unchanged.
     pub fn add_sorted(&mut self, lits: &[Lit]) -> Result<(), Memory>
         requires lawful { IsClause lits.now }
         requires below { HasVariablesBelow self.old.variables lits.now }
@@ -122,6 +122,22 @@ impl Formula {
         ensures err { OnErr result (self.new ≡ self.old) }
     {
         self.after.add_sorted(lits)
+    }
+
+    /// The same formula. The clauses of its repeated part stand in the same memory, the others in memory of their own.
+    pub fn copy(&self, alloc: Global) -> Result<Formula, Memory>
+        ensures { IfOk result (λ f. f ≡ self.now) }
+    {
+        let told = self.told.copy(alloc)?;
+        let repeated = self.repeated.copy(alloc)?;
+        let after = self.after.copy(alloc)?;
+        Ok(Formula {
+            name: self.name,
+            variables: self.variables,
+            told,
+            repeated,
+            after,
+        })
     }
 
     /// Makes room for so many more literals and clauses, so that they are added without a further allocation.
@@ -157,7 +173,7 @@ impl Formula {
     }
 
     /// The literals of the clause with this number, counted from 0 in the order of the list.
-    #[inline]
+    #[inline(always)]
     pub fn clause(&self, number: u32) -> View<'_>
         requires { number < length self.now.clauses }
         ensures value { slice_get self.now.clauses number ≡ Some result }

@@ -14,5 +14,6 @@ pub mod literal;
 pub mod log;
 pub mod memory;
 pub mod repeated;
+pub mod shared_list;
 pub mod values;
 pub mod view;

@@ -1,8 +1,10 @@
-ghost use Rattle.std.specs.Prelude.{◌≡◌, ◌+◌, ◌*◌, ◌<◌, ◌≤◌, [], Some, length, slice_get, All};
+ghost use Rattle.std.specs.Prelude.{◌≡◌, ◌+◌, ◌*◌, ◌<◌, ◌≤◌, [], Some, IfOk, length, slice_get, All};
 ghost use Rattle.clause_base.specs.Clause.{IsClause, HasVariablesBelow};
 ghost use Rattle.clause_base.specs.Repeats.{IsRepeatable, all_steps, all_times, repeated, variables_of};
 
 use crate::clause_list::ClauseList;
+use crate::memory::Memory;
+use crate::shared_list::SharedList;
 use crate::view::View;
 use std::alloc::Global;
 use std::marker::Model;
@@ -15,8 +17,8 @@ pub struct Repeated {
     horizon: u32,
     width: u32,
     facts: u32,
-    step: ClauseList,
-    time: ClauseList,
+    step: SharedList,
+    time: SharedList,
 }
 
 impl Model for Repeated {
@@ -43,8 +45,8 @@ impl Repeated {
             horizon,
             width,
             facts,
-            step,
-            time,
+            step: SharedList::own(step),
+            time: SharedList::own(time),
         }
     }
 
@@ -56,8 +58,8 @@ impl Repeated {
             horizon: 0,
             width: 0,
             facts: 0,
-            step: ClauseList::new(alloc),
-            time: ClauseList::new(alloc),
+            step: SharedList::own(ClauseList::new(alloc)),
+            time: SharedList::own(ClauseList::new(alloc)),
         }
     }
 
@@ -91,7 +93,7 @@ impl Repeated {
     pub fn step(&self) -> &ClauseList
         ensures { result.now ≡ self.now.step }
     {
-        &self.step
+        self.step.list()
     }
 
     /// The clauses of one time.
@@ -99,7 +101,37 @@ impl Repeated {
     pub fn time(&self) -> &ClauseList
         ensures { result.now ≡ self.now.time }
     {
-        &self.time
+        self.time.list()
+    }
+
+    /// The same clauses, in memory that their copies share.
+    pub fn share(self, alloc: Global) -> Result<Repeated, Memory>
+        ensures { IfOk result (λ part. part ≡ self) }
+    {
+        let step = self.step.share(alloc)?;
+        let time = self.time.share(alloc)?;
+        Ok(Repeated {
+            horizon: self.horizon,
+            width: self.width,
+            facts: self.facts,
+            step,
+            time,
+        })
+    }
+
+    /// The same clauses; if they are shared, in the same memory.
+    pub fn copy(&self, alloc: Global) -> Result<Repeated, Memory>
+        ensures { IfOk result (λ part. part ≡ self.now) }
+    {
+        let step = self.step.copy(alloc)?;
+        let time = self.time.copy(alloc)?;
+        Ok(Repeated {
+            horizon: self.horizon,
+            width: self.width,
+            facts: self.facts,
+            step,
+            time,
+        })
     }
 
     /// How many clauses all steps have.
@@ -125,7 +157,7 @@ impl Repeated {
     }
 
     /// The clause of a step.
-    #[inline]
+    #[inline(always)]
     fn step_clause(&self, number: u32) -> View<'_>
         requires { number < self.now.horizon * length self.now.step }
         ensures { slice_get (all_steps self.now) number ≡ Some result }
@@ -144,7 +176,7 @@ impl Repeated {
     }
 
     /// The clause of a time.
-    #[inline]
+    #[inline(always)]
     fn time_clause(&self, number: u32) -> View<'_>
         requires { number < (self.now.horizon + 1) * length self.now.time }
         ensures { slice_get (all_times self.now) number ≡ Some result }
@@ -156,7 +188,7 @@ impl Repeated {
     }
 
     /// The clause with this number: first come those of the steps, step after step, then those of the times.
-    #[inline]
+    #[inline(always)]
     pub fn clause(&self, number: u32) -> View<'_>
         requires { number < length (repeated self.now) }
         ensures value { slice_get (repeated self.now) number ≡ Some result }

@@ -79,25 +79,31 @@ fn standing_text(alloc: Global, run: &HorizonRun) -> Result<String, Fail> {
     })
 }
 
-/// A line of what is seen of a run.
-fn line(alloc: Global, run: &HorizonRun) -> Result<String, Fail> {
-    let standing = standing_text(alloc, run)?;
-    let conflicts = run.conflicts();
-    let granted = run.granted();
-    let unsettled = run.unsettled();
-    Ok(format!(in alloc;
-        "{conflicts} of {granted}, {unsettled}: {}\n",
-        standing.as_str()
-    )?)
+/// A run of which a line tells what is seen of it.
+trait Told: Resume {
+    /// Its conflicts, what it was granted, whether it goes on, and how it stands.
+    fn line(&self, alloc: Global) -> Result<String, Fail>;
+}
+
+impl Told for HorizonRun {
+    fn line(&self, alloc: Global) -> Result<String, Fail> {
+        let conflicts = self.conflicts();
+        let granted = self.granted();
+        let unsettled = self.unsettled();
+        Ok(format!(in alloc;
+            "{conflicts} of {granted}, {unsettled}: {}\n",
+            standing_text(alloc, self)?.as_str()
+        )?)
+    }
 }
 
 /// What becomes of a run as it is granted conflicts again and again.
-fn story(rt: &impl Abort, alloc: Global, n: u8, grants: &[u32]) -> Result<String, Fail> {
-    let mut run = lamp_run(alloc, n)?;
-    let mut text = line(alloc, &run)?;
+fn story<R: Told>(rt: &impl Abort, alloc: Global, run: R, grants: &[u32]) -> Result<String, Fail> {
+    let mut run = run;
+    let mut text = run.line(alloc)?;
     for conflicts in grants {
         grant(rt, &mut run, *conflicts)?;
-        text.push_str(line(alloc, &run)?.as_str())?;
+        text.push_str(run.line(alloc)?.as_str())?;
     }
     Ok(text)
 }
@@ -111,8 +117,14 @@ const ONE_STEP: &str =
 
 #[test]
 fn no_step_is_refuted_and_one_step_is_found(rt: HostRuntime) -> Result<(), Fail> {
-    assert_eq!(rt; story(&rt, rt.alloc(), 0, &[0, 1, 5])?.as_str(), NO_STEP);
-    assert_eq!(rt; story(&rt, rt.alloc(), 1, &[5])?.as_str(), ONE_STEP);
+    assert_eq!(rt;
+        story(&rt, rt.alloc(), lamp_run(rt.alloc(), 0)?, &[0, 1, 5])?.as_str(),
+        NO_STEP
+    );
+    assert_eq!(rt;
+        story(&rt, rt.alloc(), lamp_run(rt.alloc(), 1)?, &[5])?.as_str(),
+        ONE_STEP
+    );
     Ok(())
 }
 

@@ -1,5 +1,5 @@
 -- What a round that ended says of the whole race.
-use Rattle.std.proofs.Common.{arith, ◌≡◌, ℕ, ◌+◌, ◌<◌, ◌≤◌, List, length, refl, sym, ap, ◌∙◌, subst, Result, Ok, Err, IfOk}
+use Rattle.std.proofs.Common.{arith, ◌≡◌, ℕ, ◌+◌, ◌≤◌, List, length, refl, sym, ap, ◌∙◌, subst, Result, Ok, Err, IfOk}
 use Rattle.clause_base.specs.declared.memory.Memory.{Memory}
 use Rattle.horizon_rates.specs.declared.settings.Settings.{Settings}
 use Rattle.horizon_rates.specs.Ledger.{Account}
@@ -10,12 +10,11 @@ use Rattle.race_end.specs.Ends.{end_view, lines_of}
 use Rattle.race.specs.declared.begun.Begun.{Begun}
 use Rattle.race.specs.declared.racing.Step.{Step}
 use Rattle.race.specs.declared.racing.Step.TheVariants.{On as OnStep, End as EndStep}
-use Rattle.race.specs.Begun.{race_after, HasRun, Comes, IsEndOf}
+use Rattle.race.specs.Begun.{race_after, HasRun, Comes}
 use Rattle.race.specs.Ends.{WherePlanned, AreActions, AreStepsOf}
 use Rattle.race.specs.Grants.{advanced}
 use Rattle.race.specs.Input.{RaceInput, input_of}
-use Rattle.race.specs.Race.{On, Ended, judged, after_rounds}
-use Rattle.race.specs.Runs.{moved_all}
+use Rattle.race.specs.Race.{Ended, judged, after_rounds}
 use Rattle.race.specs.Tied.{race_state, Stands, SpendsMore, HasEnded}
 use Rattle.race.proofs.Advances.{race-advanced}
 use Rattle.race.proofs.Rounds.{after-next, ends-by}

@@ -8,7 +8,7 @@ use Rattle.horizon_rates.specs.declared.rates.Algorithm.{Algorithm}
 use Rattle.horizon_rates.specs.declared.rates.Algorithm.TheVariants.{A, B, C}
 use Rattle.horizon_rates.specs.declared.rates.Rates.{Rates}
 use Rattle.horizon_rates.specs.Quotas.{quota_at, quota_by}
-use Rattle.horizon_rates.specs.Ledger.{Account, left_of}
+use Rattle.horizon_rates.specs.Ledger.{left_of}
 use Rattle.horizon_run.specs.Run.{RunView, choice_in, moved_to, reached, IsMoved, IsReached}
 use Rattle.race.specs.Clears.{cleared, passed, passed_line, staying, any_refuted}
 use Rattle.race.specs.Found.{first_found, is_found}

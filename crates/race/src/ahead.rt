@@ -3,12 +3,13 @@
 
 ghost use Rattle.std.specs.Prelude.{◌≡◌, All, IfOk, IfSome, OnOk};
 ghost use Rattle.std.specs.List.{AllByRecursion};
+ghost use Rattle.goal_choice.specs.Means.{gathered_of};
 ghost use Rattle.race.specs.Fresh.{IsFresh, IsSmall};
 
-use crate::fresh::fresh_run;
+use crate::fresh::shared_run;
 use crate::racing::Racing;
 use clause_base::memory::Memory;
-use gt_core::task::Task;
+use goal_choice::Supporters;
 use horizon_rates::{Rates, Settings};
 use horizon_run::HorizonRun;
 use std::alloc::Global;
@@ -69,12 +70,12 @@ fn push_made<F: StepForm>(
 fn push_fresh<F: StepForm + Sync, H: Threads + Sync>(
     rt: &H,
     alloc: Global,
-    task: &Task,
+    supporters: &Supporters,
     form: &F,
     horizons: Vec<u32>,
     runs: &mut Vec<HorizonRun>,
 ) -> Result<(), Memory>
-    requires form_of { F.task form.now ≡ task.now }
+    requires supporters { supporters.now ≡ gathered_of (F.task form.now) }
     requires small { All (IsSmall F.StepForm form.now) horizons.items }
     requires runs { AllByRecursion (IsFresh F.StepForm form.now) runs.old.items }
     ensures { OnOk result (AllByRecursion (IsFresh F.StepForm form.now) runs.new.items) }
@@ -83,10 +84,10 @@ fn push_fresh<F: StepForm + Sync, H: Threads + Sync>(
         rt,
         horizons,
         &|horizon: u32| -> Result<HorizonRun, Memory>
-            requires form_of { F.task form.now ≡ task.now }
+            requires supporters { supporters.now ≡ gathered_of (F.task form.now) }
             requires small { IsSmall F.StepForm form.now horizon }
             ensures { IfOk result (IsFresh F.StepForm form.entry.now) }
-        { fresh_run(alloc, task, form, horizon) },
+        { shared_run(alloc, supporters, form, horizon) },
     )?;
     push_made(form, made, runs)
 }
@@ -96,13 +97,13 @@ fn push_fresh<F: StepForm + Sync, H: Threads + Sync>(
 fn fresh_from<F: StepForm + Sync, H: Threads + Sync>(
     rt: &H,
     alloc: Global,
-    task: &Task,
+    supporters: &Supporters,
     form: &F,
     settings: &Settings,
     mut first: u32,
     mut left: u32,
 ) -> Result<Vec<HorizonRun>, Memory>
-    requires { F.task form.now ≡ task.now }
+    requires { supporters.now ≡ gathered_of (F.task form.now) }
     ensures { IfOk result (λ runs. AllByRecursion (IsFresh F.StepForm form.now) runs.items) }
 {
     let mut runs = Vec::new(alloc);
@@ -111,7 +112,7 @@ fn fresh_from<F: StepForm + Sync, H: Threads + Sync>(
         let part = small_from(alloc, form, &settings.rates, first, most)?;
         first = part.last().copied().unwrap_or(255).saturating_add(1);
         left -= most;
-        push_fresh(rt, alloc, task, form, part, &mut runs)?;
+        push_fresh(rt, alloc, supporters, form, part, &mut runs)?;
     }
     Ok(runs)
 }
@@ -122,16 +123,16 @@ impl Racing {
         &self,
         rt: &H,
         alloc: Global,
-        task: &Task,
+        supporters: &Supporters,
         form: &F,
         settings: &Settings,
     ) -> Result<Vec<HorizonRun>, Memory>
-        requires { F.task form.now ≡ task.now }
+        requires { supporters.now ≡ gathered_of (F.task form.now) }
         ensures { IfOk result (λ runs. AllByRecursion (IsFresh F.StepForm form.now) runs.items) }
     {
         let free = settings.rates.width.saturating_sub(self.window.count());
         match self.window.next_listed() {
-            Some(first) => fresh_from(rt, alloc, task, form, settings, first, free),
+            Some(first) => fresh_from(rt, alloc, supporters, form, settings, first, free),
             None => Ok(Vec::new(alloc)),
         }
     }

@@ -2,9 +2,11 @@
 
 ghost use Rattle.std.specs.Prelude.{◌≡◌, ◌∷◌, IfOk, IfSome, IfNone, OnOk};
 ghost use Rattle.std.specs.List.{AllByRecursion};
+ghost use Rattle.goal_choice.specs.Means.{gathered_of};
 ghost use Rattle.race.specs.Fresh.{IsFresh, IsFreshOf, IsSmall};
 
 use clause_base::memory::Memory;
+use goal_choice::Supporters;
 use gt_core::task::Task;
 use horizon_run::HorizonRun;
 use solver_pool::Resume;
@@ -24,6 +26,21 @@ pub(crate) fn fresh_run<F: StepForm>(
     ensures fresh { IfOk result (IsFresh F.StepForm form.now) }
 {
     let run = HorizonRun::new(alloc, task, form, horizon)?;
+    Ok(run)
+}
+
+/// The run of a horizon before its first conflict, over supporters that the runs of other horizons share.
+pub(crate) fn shared_run<F: StepForm>(
+    alloc: Global,
+    supporters: &Supporters,
+    form: &F,
+    horizon: u32,
+) -> Result<HorizonRun, Memory>
+    requires supporters { supporters.now ≡ gathered_of (F.task form.now) }
+    requires small { IsSmall F.StepForm form.now horizon }
+    ensures { IfOk result (IsFresh F.StepForm form.now) }
+{
+    let run = HorizonRun::sharing(alloc, supporters, form, horizon)?;
     Ok(run)
 }
 

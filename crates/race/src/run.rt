@@ -1,6 +1,7 @@
 //! A race from its first round to its end.
 
 ghost use Rattle.std.specs.Prelude.{◌≡◌, ℕ, ◌+◌, ◌<◌, List, IfOk, IfErr, length};
+ghost use Rattle.goal_choice.specs.Means.{gathered_of};
 ghost use Rattle.step_encoding.specs.Numbers.{literals_of};
 ghost use Rattle.race_end.specs.Ends.{end_view, lines_of};
 ghost use Rattle.race.specs.Input.{input_of};
@@ -14,6 +15,7 @@ use crate::begun::Opening;
 use crate::error::RaceError;
 use crate::racing::{Racing, Step};
 use crate::work::advance_all;
+use goal_choice::Supporters;
 use gt_core::task::Task;
 use horizon_rates::Settings;
 use race_end::RaceEnd;
@@ -30,16 +32,18 @@ impl Racing {
         rt: &H,
         alloc: Global,
         task: &Task,
+        supporters: &Supporters,
         form: &F,
         settings: &Settings,
         gate: &G,
     ) -> Result<Step, RaceError>
         requires between { IsBetween (input_of F.StepForm form.now settings.now) self }
         requires form_of { F.task form.now ≡ task.now }
+        requires supporters { supporters.now ≡ gathered_of (F.task form.now) }
         ensures comes { IfOk result (Comes F.StepForm form.now settings.now (self.rounds + 1)) }
         ensures large { IfErr result (TellsLarge (input_of F.StepForm form.now settings.now)) }
     {
-        let made = self.made_ahead(rt, alloc, task, form, settings)?;
+        let made = self.made_ahead(rt, alloc, supporters, form, settings)?;
         let opening = self.begin(alloc, task, form, settings, made)?;
         let Opening {
             begun,
@@ -81,9 +85,10 @@ pub fn race<F: StepForm + Sync, G: Gate, H: Threads + Wait + Sync>(
     ensures literals { (horizon count : ℕ) → result ≡ Err (RaceError.Literals horizon count)
         → (race_of (input_of F.StepForm form.now settings.now) ≡ TooLarge horizon) × (count ≡ literals_of (F.formula_of form.now horizon)) × (4000000 < count) }
 {
+    let supporters = Supporters::new(alloc, task)?;
     let mut racing = Racing::new(alloc, settings);
-    loop {
-        match racing.round(rt, alloc, task, form, settings, gate)? {
+    'rounds: loop {
+        match racing.round(rt, alloc, task, &supporters, form, settings, gate)? {
             Step::On(next) => racing = next,
             Step::End(end) => return Ok(end),
         }

@@ -8,3 +8,4 @@ pub mod Serve
 pub mod Worker
 pub mod Rounds
 pub mod CountRun
+pub mod Turns

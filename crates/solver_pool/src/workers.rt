@@ -25,6 +25,7 @@ pub(crate) fn new_workers<R: Resume, H: Wait>(
     requires owns { (view owner.old.pass.pass).owner ≡ true }
     ensures pass { IsRingPass R.Resume ring.now owner.new.pass }
     ensures started { IfOk result (λ workers. StartsWorkers R.Resume ring.now owner.old owner.new workers.items) }
+    ensures many { IfOk result (λ workers. vec_len workers ≡ count) }
 {
     let mut workers = Vec::new(alloc);
     for _i in 0..count {

@@ -1,5 +1,5 @@
 -- What the slots' clauses ask for that are in the set, as the set and the slots change.
-use Rattle.std.proofs.Common.{arith, ◌≡◌, ◌≢◌, ◌==◌, ℕ, ◌+◌, ◌<◌, ◌≤◌, List, [], ◌∷◌, ◌++◌, length, set, get_or, leb, ltb, Bool, true, false, ◌||◌, ◌&&◌, refl, sym, ap, ◌∙◌, subst, ◌⊎◌, inl, inr, get_or-set_same, get_or-set_other}
+use Rattle.std.proofs.Common.{arith, ◌≡◌, ◌≢◌, ◌==◌, ℕ, ◌<◌, ◌≤◌, List, [], ◌∷◌, ◌++◌, length, set, get_or, leb, ltb, Bool, true, false, ◌||◌, refl, sym, ap, ◌∙◌, subst, ◌⊎◌, inl, inr, get_or-set_same, get_or-set_other}
 use Rattle.std.proofs.lemmas.Bool.Decides.{nat_tests}
 use Rattle.std.proofs.lemmas.List.{length_push, get_or_push}
 use Rattle.clause_base.specs.Clause.{has_literal}
@@ -25,7 +25,7 @@ long_in cl s long = by (ltb s (length cl)) refl
         let h : length cl ≤ s = grind (arith, nat_tests) in
         absurd (omega (arith, long, ap (λ (xs : List ℕ). length xs) (clause_past cl s h)))
 
-slot_in : (store : List (List ℕ)) (slots : List ℕ) (s : ℕ) → 2 < length (clause_at (slot_clauses store slots) s) → s < length slots
+pub slot_in : (store : List (List ℕ)) (slots : List ℕ) (s : ℕ) → 2 < length (clause_at (slot_clauses store slots) s) → s < length slots
 slot_in store slots s long = omega (arith, long_in (slot_clauses store slots) s long, slots_long store slots)
 
 -- nothing is asked for where the set has no clause

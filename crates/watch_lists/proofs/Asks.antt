@@ -1,23 +1,22 @@
 -- What the clauses of the set ask for tells whether they are pending.
-use Rattle.std.proofs.Common.{arith, ◌≡◌, ◌≢◌, ◌==◌, ℕ, suc, ◌+◌, ◌-◌, ◌%◌, ◌<◌, ◌≤◌, List, [], ◌∷◌, ◌++◌, length, take, set, get_or, leb, Bool, true, false, not, ◌||◌, ◌&&◌, if◌then◌else◌, refl, sym, ap, ◌∙◌, subst, ◌⊎◌, inl, inr, Option, Some, None, get_or-set_same, get_or-set_other}
+use Rattle.std.proofs.Common.{arith, ◌≡◌, ◌≢◌, ◌==◌, ℕ, suc, ◌+◌, ◌-◌, ◌%◌, ◌<◌, ◌≤◌, List, [], ◌∷◌, ◌++◌, length, take, set, get_or, leb, Bool, true, false, not, ◌||◌, ◌&&◌, if◌then◌else◌, refl, sym, ap, ◌∙◌, subst, Some}
 use Rattle.std.specs.List.{list_any, filter}
 use Rattle.std.proofs.lemmas.Bool.Decides.{nat_tests}
-use Rattle.std.proofs.lemmas.List.{take_all, length_push}
+use Rattle.std.proofs.lemmas.List.{take_all}
 use Rattle.clause_base.specs.Literal.{opposite}
 use Rattle.clause_base.specs.Clause.{has_literal}
 use Rattle.cdcl_rules.specs.Pending.{is_pending}
-use Rattle.number_bits.specs.Bits.{IsLeast, words_have}
+use Rattle.number_bits.specs.Bits.{IsLeast}
 use Rattle.watch_store.proofs.Mirrors.{has-snoc}
-use Rattle.watch_lists.specs.declared.pairs.Pair.{Pair}
+use Rattle.pair_index.specs.declared.pair.Pair.{Pair}
 use Rattle.watch_lists.specs.Pending.{is_free, is_pending_on}
-use Rattle.watch_lists.specs.Asking.{IsAsked, AreAsked, IsConsistent, IsAsking}
+use Rattle.watch_lists.specs.Asking.{IsAsked, AreAsked, IsConsistent}
 use Rattle.cdcl_rules.specs.State.{clause_at}
 use Rattle.watch_lists.specs.Visit.{Grows, IsFit}
-use Rattle.watch_lists.specs.Pairs.{IsPairOf, pair_in}
+use Rattle.pair_index.specs.Pairs.{pair_in}
 use Rattle.watch_lists.specs.Added.{Outlasts}
 use Rattle.watch_lists.proofs.Filters.{clause_is, tests_one, count_one, count_two, pending_off, any_from_has, has_get, pending_at}
-use Rattle.watch_lists.proofs.Assigns.{equal_of, apart_of, at_most_of, past_of, opposite_twice, not_false, true_longer, true_in_take}
-use Rattle.watch_lists.proofs.Adds.{at_other, at_own}
+use Rattle.watch_lists.proofs.Assigns.{equal_of, apart_of, opposite_twice, not_false, true_longer, true_in_take}
 
 -- the literals of a clause that is read
 pub fit_read : (cl : List (List ℕ)) (codes k : ℕ) (xs : List ℕ) → IsFit cl codes → xs ≡ get_or cl k [] → (p : ℕ) → p < length xs → get_or xs p 0 < codes

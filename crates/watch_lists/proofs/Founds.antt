@@ -6,11 +6,12 @@ use Rattle.std.proofs.lemmas.List.Filters.{length-filter_both}
 use Rattle.clause_base.specs.Literal.{opposite}
 use Rattle.clause_base.specs.Clause.{has_literal}
 use Rattle.cdcl_rules.specs.Pending.{is_pending}
-use Rattle.watch_lists.specs.declared.pairs.Pair.{Pair}
+use Rattle.pair_index.specs.declared.pair.Pair.{Pair}
 use Rattle.watch_lists.specs.Pending.{is_free, has_two_free, is_pending_on}
 use Rattle.cdcl_rules.specs.State.{clause_at}
 use Rattle.watch_lists.specs.Visit.{slot_clauses, slot_flags, slot_set, Grows}
-use Rattle.watch_lists.specs.Pairs.{pairs_of, pair_in, IsInPairs, IsUnwatched, HasSlot, IsPaired}
+use Rattle.pair_index.specs.Pairs.{pairs_of, pair_in, IsInPairs}
+use Rattle.watch_lists.specs.Pairs.{IsUnwatched, HasSlot, IsPaired}
 use Rattle.watch_lists.proofs.Filters.{pending_at, tests_one}
 use Rattle.watch_lists.proofs.Assigns.{pending_parts, pending_earlier}
 use Rattle.watch_lists.proofs.Adds.{kept_in}

@@ -10,9 +10,9 @@ pub mod Wider
 pub mod Enters
 pub mod Paired
 pub mod Slotted
-pub mod Spans
 pub mod Sounds
 pub mod Founds
 pub mod Asks
 pub mod Lefts
 pub mod Asked
+pub mod Givens

@@ -6,7 +6,6 @@ use Rattle.clause_base.specs.Clause.{has_literal}
 use Rattle.cdcl_rules.specs.Pending.{is_pending}
 use Rattle.watch_chains.specs.declared.chains.Node.{Node}
 use Rattle.watch_lists.specs.declared.visit.Watched.{Watched}
-use Rattle.watch_lists.specs.declared.pairs.Pair.{Pair}
 use Rattle.watch_lists.specs.Pending.{is_pending_on}
 use Rattle.cdcl_rules.specs.State.{clause_at}
 use Rattle.watch_lists.specs.Visit.{slot_clauses, slot_flags, slot_set, AreSlotsBelow, IsFit, IsAtRest}
@@ -100,21 +99,21 @@ below_as : (m n : ℕ) (slots : List ℕ) → m ≡ n → AreSlotsBelow m slots 
 below_as m n slots e h = subst (λ (x : ℕ). AreSlotsBelow x slots) e h
 
 -- a clause that was taken leaves the tables at rest
-pub taken_rest : (cl : List (List ℕ)) (k : List ℕ) (kept : List Bool) (number codes : ℕ) (trail : List ℕ) (pairs : List (List Pair)) (slots : List ℕ) (wa : List Watched) (heads : List ℕ) (nodes : List Node) (slots' : List ℕ) (wa' : List Watched) (heads' : List ℕ) (nodes' : List Node) → length kept ≡ length cl → number ≡ length cl → AreSlotsBelow (length cl) slots → IsTaken k number codes trail pairs slots wa heads nodes slots' wa' heads' nodes' → IsAtRest (slot_clauses cl slots) wa heads nodes codes (slot_flags kept slots) → IsAtRest (slot_clauses (cl ++ k ∷ []) slots') wa' heads' nodes' codes (slot_flags (kept ++ true ∷ []) slots')
-taken_rest cl k kept number codes trail pairs slots wa heads nodes slots' wa' heads' nodes' lk e h (inl t) r =
+pub taken_rest : (cl : List (List ℕ)) (k : List ℕ) (kept : List Bool) (number codes : ℕ) (trail : List ℕ) (slots : List ℕ) (wa : List Watched) (heads : List ℕ) (nodes : List Node) (slots' : List ℕ) (wa' : List Watched) (heads' : List ℕ) (nodes' : List Node) → length kept ≡ length cl → number ≡ length cl → AreSlotsBelow (length cl) slots → IsTaken k number codes trail slots wa heads nodes slots' wa' heads' nodes' → IsAtRest (slot_clauses cl slots) wa heads nodes codes (slot_flags kept slots) → IsAtRest (slot_clauses (cl ++ k ∷ []) slots') wa' heads' nodes' codes (slot_flags (kept ++ true ∷ []) slots')
+taken_rest cl k kept number codes trail slots wa heads nodes slots' wa' heads' nodes' lk e h (inl t) r =
     rw (t.slots_stay, t.watches_stay, t.heads_stay, t.nodes_stay, slots_same cl k slots h, flags_same kept slots (below_as (length cl) (length kept) slots (sym lk) h)) r
-taken_rest cl k kept number codes trail pairs slots wa heads nodes slots' wa' heads' nodes' lk e h (inr t) r =
+taken_rest cl k kept number codes trail slots wa heads nodes slots' wa' heads' nodes' lk e h (inr t) r =
     rw (t.slotted, slots_more cl k slots number h e, flags_more kept slots number (below_as (length cl) (length kept) slots (sym lk) h) (e ∙ sym lk))
     (t.rests (slot_clauses cl slots) (slot_flags kept slots) (slots_long cl slots) (flags_long kept slots) r)
 
 -- and its watched literals right in each prefix of the trail
-pub taken_free : (cl : List (List ℕ)) (k : List ℕ) (kept : List Bool) (number codes : ℕ) (trail : List ℕ) (pairs : List (List Pair)) (slots : List ℕ) (wa : List Watched) (heads : List ℕ) (nodes : List Node) (slots' : List ℕ) (wa' : List Watched) (heads' : List ℕ) (nodes' : List Node) (n : ℕ) → length kept ≡ length cl → number ≡ length cl → AreSlotsBelow (length cl) slots → IsTaken k number codes trail pairs slots wa heads nodes slots' wa' heads' nodes' → n ≤ length trail → AreFree (slot_clauses cl slots) wa (slot_flags kept slots) (take n trail) → AreFree (slot_clauses (cl ++ k ∷ []) slots') wa' (slot_flags (kept ++ true ∷ []) slots') (take n trail)
-taken_free cl k kept number codes trail pairs slots wa heads nodes slots' wa' heads' nodes' n lk e h (inl t) l f =
+pub taken_free : (cl : List (List ℕ)) (k : List ℕ) (kept : List Bool) (number codes : ℕ) (trail : List ℕ) (slots : List ℕ) (wa : List Watched) (heads : List ℕ) (nodes : List Node) (slots' : List ℕ) (wa' : List Watched) (heads' : List ℕ) (nodes' : List Node) (n : ℕ) → length kept ≡ length cl → number ≡ length cl → AreSlotsBelow (length cl) slots → IsTaken k number codes trail slots wa heads nodes slots' wa' heads' nodes' → n ≤ length trail → AreFree (slot_clauses cl slots) wa (slot_flags kept slots) (take n trail) → AreFree (slot_clauses (cl ++ k ∷ []) slots') wa' (slot_flags (kept ++ true ∷ []) slots') (take n trail)
+taken_free cl k kept number codes trail slots wa heads nodes slots' wa' heads' nodes' n lk e h (inl t) l f =
     subst (λ (ss : List ℕ). AreFree (slot_clauses (cl ++ k ∷ []) ss) wa' (slot_flags (kept ++ true ∷ []) ss) (take n trail)) (sym t.slots_stay)
     (subst (λ (w : List Watched). AreFree (slot_clauses (cl ++ k ∷ []) slots) w (slot_flags (kept ++ true ∷ []) slots) (take n trail)) (sym t.watches_stay)
     (subst (λ (cs : List (List ℕ)). AreFree cs wa (slot_flags (kept ++ true ∷ []) slots) (take n trail)) (sym (slots_same cl k slots h))
     (subst (λ (ks : List Bool). AreFree (slot_clauses cl slots) wa ks (take n trail)) (sym (flags_same kept slots (below_as (length cl) (length kept) slots (sym lk) h))) f)))
-taken_free cl k kept number codes trail pairs slots wa heads nodes slots' wa' heads' nodes' n lk e h (inr t) l f =
+taken_free cl k kept number codes trail slots wa heads nodes slots' wa' heads' nodes' n lk e h (inr t) l f =
     subst (λ (ss : List ℕ). AreFree (slot_clauses (cl ++ k ∷ []) ss) wa' (slot_flags (kept ++ true ∷ []) ss) (take n trail)) (sym t.slotted)
     (subst (λ (cs : List (List ℕ)). AreFree cs wa' (slot_flags (kept ++ true ∷ []) (slots ++ number ∷ [])) (take n trail)) (sym (slots_more cl k slots number h e))
     (subst (λ (ks : List Bool). AreFree (slot_clauses cl slots ++ k ∷ []) wa' ks (take n trail)) (sym (flags_more kept slots number (below_as (length cl) (length kept) slots (sym lk) h) (e ∙ sym lk)))
@@ -134,14 +133,14 @@ below_more n slots number e h s g = by (s == length slots) refl
 below_wider : (n : ℕ) (slots : List ℕ) → AreSlotsBelow n slots → AreSlotsBelow (n + 1) slots
 below_wider n slots h s g = omega (arith, h s g)
 
-pub taken_below : (n : ℕ) (k : List ℕ) (number codes : ℕ) (trail : List ℕ) (pairs : List (List Pair)) (slots : List ℕ) (wa : List Watched) (heads : List ℕ) (nodes : List Node) (slots' : List ℕ) (wa' : List Watched) (heads' : List ℕ) (nodes' : List Node) → number ≡ n → IsTaken k number codes trail pairs slots wa heads nodes slots' wa' heads' nodes' → AreSlotsBelow n slots → AreSlotsBelow (n + 1) slots'
-taken_below n k number codes trail pairs slots wa heads nodes slots' wa' heads' nodes' e (inl t) h = subst (λ (ss : List ℕ). AreSlotsBelow (n + 1) ss) (sym t.slots_stay) (below_wider n slots h)
-taken_below n k number codes trail pairs slots wa heads nodes slots' wa' heads' nodes' e (inr t) h = subst (λ (ss : List ℕ). AreSlotsBelow (n + 1) ss) (sym t.slotted) (below_more n slots number e h)
+pub taken_below : (n : ℕ) (k : List ℕ) (number codes : ℕ) (trail : List ℕ) (slots : List ℕ) (wa : List Watched) (heads : List ℕ) (nodes : List Node) (slots' : List ℕ) (wa' : List Watched) (heads' : List ℕ) (nodes' : List Node) → number ≡ n → IsTaken k number codes trail slots wa heads nodes slots' wa' heads' nodes' → AreSlotsBelow n slots → AreSlotsBelow (n + 1) slots'
+taken_below n k number codes trail slots wa heads nodes slots' wa' heads' nodes' e (inl t) h = subst (λ (ss : List ℕ). AreSlotsBelow (n + 1) ss) (sym t.slots_stay) (below_wider n slots h)
+taken_below n k number codes trail slots wa heads nodes slots' wa' heads' nodes' e (inr t) h = subst (λ (ss : List ℕ). AreSlotsBelow (n + 1) ss) (sym t.slotted) (below_more n slots number e h)
 
-pub taken_few : (k : List ℕ) (number codes : ℕ) (trail : List ℕ) (pairs : List (List Pair)) (slots : List ℕ) (wa : List Watched) (heads : List ℕ) (nodes : List Node) (slots' : List ℕ) (wa' : List Watched) (heads' : List ℕ) (nodes' : List Node) → IsTaken k number codes trail pairs slots wa heads nodes slots' wa' heads' nodes' → length slots' ≤ length slots + 1
-taken_few k number codes trail pairs slots wa heads nodes slots' wa' heads' nodes' (inl t) = omega (arith, ap (λ (ss : List ℕ). length ss) t.slots_stay)
-taken_few k number codes trail pairs slots wa heads nodes slots' wa' heads' nodes' (inr t) = omega (arith, ap (λ (ss : List ℕ). length ss) t.slotted, length_push slots number)
+pub taken_few : (k : List ℕ) (number codes : ℕ) (trail : List ℕ) (slots : List ℕ) (wa : List Watched) (heads : List ℕ) (nodes : List Node) (slots' : List ℕ) (wa' : List Watched) (heads' : List ℕ) (nodes' : List Node) → IsTaken k number codes trail slots wa heads nodes slots' wa' heads' nodes' → length slots' ≤ length slots + 1
+taken_few k number codes trail slots wa heads nodes slots' wa' heads' nodes' (inl t) = omega (arith, ap (λ (ss : List ℕ). length ss) t.slots_stay)
+taken_few k number codes trail slots wa heads nodes slots' wa' heads' nodes' (inr t) = omega (arith, ap (λ (ss : List ℕ). length ss) t.slotted, length_push slots number)
 
-pub taken_slots : (k : List ℕ) (number codes : ℕ) (trail : List ℕ) (pairs : List (List Pair)) (slots : List ℕ) (wa : List Watched) (heads : List ℕ) (nodes : List Node) (slots' : List ℕ) (wa' : List Watched) (heads' : List ℕ) (nodes' : List Node) → IsTaken k number codes trail pairs slots wa heads nodes slots' wa' heads' nodes' → (slots' ≡ slots) ⊎ (slots' ≡ slots ++ number ∷ [])
-taken_slots k number codes trail pairs slots wa heads nodes slots' wa' heads' nodes' (inl t) = inl t.slots_stay
-taken_slots k number codes trail pairs slots wa heads nodes slots' wa' heads' nodes' (inr t) = inr t.slotted
+pub taken_slots : (k : List ℕ) (number codes : ℕ) (trail : List ℕ) (slots : List ℕ) (wa : List Watched) (heads : List ℕ) (nodes : List Node) (slots' : List ℕ) (wa' : List Watched) (heads' : List ℕ) (nodes' : List Node) → IsTaken k number codes trail slots wa heads nodes slots' wa' heads' nodes' → (slots' ≡ slots) ⊎ (slots' ≡ slots ++ number ∷ [])
+taken_slots k number codes trail slots wa heads nodes slots' wa' heads' nodes' (inl t) = inl t.slots_stay
+taken_slots k number codes trail slots wa heads nodes slots' wa' heads' nodes' (inr t) = inr t.slotted

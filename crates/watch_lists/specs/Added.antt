@@ -9,8 +9,6 @@ use Rattle.watch_lists.specs.declared.visit.Watched.{Watched}
 use Rattle.watch_lists.specs.Pending.{is_free}
 use Rattle.watch_lists.specs.Visit.{no_watches, IsAtRest}
 use Rattle.watch_lists.specs.Sound.{AreFree}
-use Rattle.watch_lists.specs.declared.pairs.Pair.{Pair}
-use Rattle.watch_lists.specs.Pairs.{IsUnwatched}
 
 -- in each prefix of the trail in which the other literal is not false, this one is not false either
 abbrev pub Outlasts : List ℕ → ℕ → ℕ → Type 0
@@ -46,9 +44,9 @@ FreeWith clause number trail watched watched' =
 abbrev pub IsQuietBelow : List ℕ → List ℕ → ℕ → Type 0
 IsQuietBelow clause trail low = (n : ℕ) → n ≤ length trail → n < low → is_pending (has_literal (take n trail)) clause ≡ false
 
--- a clause is in the lists of its two literals or has fewer, and nothing else has changed
-pub record IsInLists (clause : List ℕ) (number : ℕ) (pairs : List (List Pair)) (slots : List ℕ) (watched : List Watched) (heads : List ℕ) (nodes : List Node) (slots' : List ℕ) (watched' : List Watched) (heads' : List ℕ) (nodes' : List Node) : Type 0 where
-  pub unwatched : IsUnwatched pairs clause number
+-- a clause of fewer than two literals is not watched, and nothing has changed
+pub record IsLeft (clause : List ℕ) (slots : List ℕ) (watched : List Watched) (heads : List ℕ) (nodes : List Node) (slots' : List ℕ) (watched' : List Watched) (heads' : List ℕ) (nodes' : List Node) : Type 0 where
+  pub short : length clause < 2
   pub slots_stay : slots' ≡ slots
   pub watches_stay : watched' ≡ watched
   pub heads_stay : heads' ≡ heads
@@ -60,7 +58,7 @@ pub record IsInSlot (clause : List ℕ) (number codes : ℕ) (trail slots : List
   pub rests : RestsWith clause (length slots) codes watched heads nodes watched' heads' nodes'
   pub free : FreeWith clause (length slots) trail watched watched'
 
--- a clause is in the lists of its two literals or has the next slot
-abbrev pub IsTaken : List ℕ → ℕ → ℕ → List ℕ → List (List Pair) → List ℕ → List Watched → List ℕ → List Node → List ℕ → List Watched → List ℕ → List Node → Type 0
-IsTaken clause number codes trail pairs slots watched heads nodes slots' watched' heads' nodes' =
-    IsInLists clause number pairs slots watched heads nodes slots' watched' heads' nodes' ⊎ IsInSlot clause number codes trail slots watched heads nodes slots' watched' heads' nodes'
+-- a clause has fewer than two literals or the next slot
+abbrev pub IsTaken : List ℕ → ℕ → ℕ → List ℕ → List ℕ → List Watched → List ℕ → List Node → List ℕ → List Watched → List ℕ → List Node → Type 0
+IsTaken clause number codes trail slots watched heads nodes slots' watched' heads' nodes' =
+    IsLeft clause slots watched heads nodes slots' watched' heads' nodes' ⊎ IsInSlot clause number codes trail slots watched heads nodes slots' watched' heads' nodes'

@@ -4,3 +4,4 @@ pub mod Asking
 pub mod Pairs
 pub mod Sound
 pub mod Added
+pub mod Given

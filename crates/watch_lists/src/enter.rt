@@ -9,27 +9,13 @@ ghost use Rattle.watch_lists.specs.Added.{HasRoom, Outlasts, RestsWith, FreeWith
 use crate::fall::{free_until, latest};
 use crate::visit::{Lists, Watched};
 use clause_base::literal::Lit;
+use clause_base::view::View;
 use watch_store::truth::Truth;
 
 /// No place of a clause.
 const NOWHERE: u32 = 4_294_967_295;
 
-/// Says in which prefixes of the trail a clause of two literals is not pending: those below the result.
-pub fn enter_pair(truth: &Truth, clause: &[Lit]) -> u32
-    requires small { truth.now.variables ≤ 2147483647 }
-    requires below { (p : ℕ) → p < length clause.now → slice_index clause.now p < 2 * truth.now.variables }
-    requires two { length clause.now ≡ 2 }
-    ensures { IsQuietBelow clause.now truth.now.trail result }
-{
-    let a = clause[0];
-    let b = clause[1];
-    let first = free_until(truth, a.0);
-    let second = free_until(truth, b.0);
-    first.min(second) + 1
-}
-
-/// The places of the two literals of a clause that are not false for longest along the trail. Before any literal is true these
-/// are the last two: in a clause of a planning formula the literals that are seldom false stand there.
+/// The places of the two literals of a clause that are not false for longest along the trail.
 fn to_watch(truth: &Truth, clause: &[Lit]) -> Watched
     requires below { (p : ℕ) → p < length clause.now → slice_index clause.now p < 2 * truth.now.variables }
     requires short { length clause.now ≤ 4294967295 }
@@ -40,14 +26,6 @@ fn to_watch(truth: &Truth, clause: &[Lit]) -> Watched
     ensures most { (p : ℕ) → p < length clause.now → Outlasts truth.now.trail (slice_index clause.now result.first) (slice_index clause.now p) }
     ensures next { (p : ℕ) → p < length clause.now → (p ≡ result.first → ⊥) → Outlasts truth.now.trail (slice_index clause.now result.second) (slice_index clause.now p) }
 {
-    if truth.length() == 0 {
-        let length = clause.len() as u32;
-        return Watched {
-            first: length - 1,
-            second: length - 2,
-            from: 0,
-        };
-    }
     let first = latest(truth, clause, NOWHERE);
     let second = latest(truth, clause, first);
     Watched {
@@ -83,5 +61,30 @@ impl Lists {
         self.chains.link_two(2 * slot, a.0, b.0);
         self.asks[slot as usize] = a.0;
         free_until(truth, b.0) + 1
+    }
+
+    /// Watches the last two literals of a clause, where no literal is true yet: in a clause of a planning formula those stand
+    /// there that are seldom false.
+    pub fn enter_last(&mut self, clause: &View, slot: u32, codes: u32)
+        requires below { (p : ℕ) → p < length clause.now → slice_index clause.now p < codes }
+        requires short { length clause.now ≤ 4294967295 }
+        requires two { 2 ≤ length clause.now }
+        requires codes { length self.old.chains.heads.items ≡ codes + 1 }
+        requires room { HasRoom slot self.old.watched.items self.old.chains.nodes.items }
+        requires loose { ArePairLoose self.old.chains.heads.items self.old.chains.nodes.items (2 * slot) }
+        ensures rest { RestsWith clause.now slot codes self.old.watched.items self.old.chains.heads.items self.old.chains.nodes.items self.new.watched.items self.new.chains.heads.items self.new.chains.nodes.items }
+        ensures set { self.new.pending ≡ self.old.pending }
+        ensures asks { self.new.asks.items ≡ self.old.asks.items }
+    {
+        let length = clause.len() as u32;
+        let watched = Watched {
+            first: length - 1,
+            second: length - 2,
+            from: 0,
+        };
+        self.watched[slot as usize] = watched;
+        let a = clause.get(watched.first as usize);
+        let b = clause.get(watched.second as usize);
+        self.chains.link_two(2 * slot, a.0, b.0);
     }
 }

@@ -105,7 +105,7 @@ fn is_kept_pending(store: &Store, kept: &[bool], truth: &Truth, number: u32) -> 
     requires inside { number < length store.now }
     ensures { result ≡ is_pending_on store.now kept.now truth.now.trail number }
 {
-    kept[number as usize] && is_pending(truth, store.clause(number))
+    kept[number as usize] && is_pending(truth, &store.clause(number))
 }
 
 /// Puts a clause into the set, if it is kept and pending.
@@ -151,8 +151,8 @@ fn ask_one(store: &Store, slots: &[u32], truth: &Truth, asks: &mut Vec<u32>, slo
     ensures size { length asks.new.items ≡ length asks.old.items }
 {
     let clause = slot_clause(store, slots, slot);
-    if !clause.is_empty() && is_pending(truth, clause) {
-        asks[slot as usize] = ask_of(truth, clause);
+    if clause.len() != 0 && is_pending(truth, &clause) {
+        asks[slot as usize] = ask_of(truth, &clause);
     }
 }
 

@@ -4,8 +4,9 @@
 mod enter;
 mod fall;
 mod front;
+mod given;
 mod left;
-mod pairs;
+mod marks;
 mod pending;
 mod place;
 mod room;

@@ -1,23 +1,19 @@
-//! Where a new clause is found again: in the lists of its two literals, or by a slot. One of fewer literals is pending from the
-//! beginning, wherever it is not true, and is not sought.
+//! How an added clause is found again: by a slot, where it has two literals or more. One of fewer is pending from the beginning,
+//! wherever it is not true, and is not sought.
 ghost use Rattle.std.specs.Prelude.{◌≡◌, ℕ, ◌+◌, ◌*◌, ◌<◌, ◌≤◌, length, slice_index, vec_capacity, IfOk, IsOk};
 ghost use Rattle.clause_base.specs.Clause.{has_literal};
 ghost use Rattle.watch_chains.specs.Linked.{ArePairLoose};
 ghost use Rattle.watch_lists.specs.Asking.{IsAsked};
 ghost use Rattle.watch_lists.specs.Added.{HasRoom, IsTaken, IsQuietBelow};
-ghost use Rattle.watch_lists.specs.Pairs.{IsFuller};
 
-use crate::enter::enter_pair;
-use crate::pairs::Pairs;
 use crate::visit::Lists;
 use clause_base::literal::Lit;
 use std::alloc::AllocError;
 use watch_store::truth::Truth;
 
-/// Enters a new clause into the lists of its two literals, or gives it a slot, for which there is room, if it has two literals or
-/// more. In the prefixes of the trail below the result it is not pending.
+/// Gives a new clause the next slot, for which there is room, if it has two literals or more. In the prefixes of the trail below
+/// the result it is not pending.
 pub fn place(
-    pairs: &mut Pairs,
     slots: &mut Vec<u32>,
     lists: &mut Lists,
     truth: &Truth,
@@ -27,7 +23,6 @@ pub fn place(
     requires small { truth.now.variables ≤ 2147483647 }
     requires below { (p : ℕ) → p < length clause.now → slice_index clause.now p < 2 * truth.now.variables }
     requires short { length clause.now ≤ 4294967295 }
-    requires pairs { length pairs.old ≡ 2 * truth.now.variables + 1 }
     requires few { length slots.old.items ≤ 2147483647 }
     requires capacity { length slots.old.items < vec_capacity slots.old }
     requires codes { length lists.old.chains.heads.items ≡ 2 * truth.now.variables + 1 }
@@ -35,8 +30,7 @@ pub fn place(
     requires asks { length slots.old.items < length lists.old.asks.items }
     requires loose { ArePairLoose lists.old.chains.heads.items lists.old.chains.nodes.items (2 * length slots.old.items) }
     ensures ok { IsOk result }
-    ensures fuller { IsFuller clause.now number pairs.old pairs.new }
-    ensures taken { IsTaken clause.now number (2 * truth.now.variables) truth.now.trail pairs.new slots.old.items lists.old.watched.items lists.old.chains.heads.items lists.old.chains.nodes.items slots.new.items lists.new.watched.items lists.new.chains.heads.items lists.new.chains.nodes.items }
+    ensures taken { IsTaken clause.now number (2 * truth.now.variables) truth.now.trail slots.old.items lists.old.watched.items lists.old.chains.heads.items lists.old.chains.nodes.items slots.new.items lists.new.watched.items lists.new.chains.heads.items lists.new.chains.nodes.items }
     ensures quiet { IfOk result (λ low. IsQuietBelow clause.now truth.now.trail low) }
     ensures asked { IfOk result (λ low. low ≤ length truth.now.trail → 2 < length clause.now → IsAsked (has_literal truth.now.trail) clause.now (slice_index lists.new.asks.items (length slots.old.items))) }
     ensures asks { (s : ℕ) → (s ≡ length slots.old.items → ⊥) → slice_index lists.new.asks.items s ≡ slice_index lists.old.asks.items s }
@@ -45,9 +39,6 @@ pub fn place(
 {
     if clause.len() < 2 {
         return Ok(0);
-    }
-    if pairs.enter(clause, number) {
-        return Ok(enter_pair(truth, clause));
     }
     let slot = slots.len() as u32;
     slots.push(number)?;

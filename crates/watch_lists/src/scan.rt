@@ -1,20 +1,22 @@
-ghost use Rattle.std.specs.Prelude.{◌≡◌, ℕ, ◌*◌, ◌<◌, ◌≤◌, ◌∷◌, [], length, true, false, slice_index, MatchOption, IfSome};
+ghost use Rattle.std.specs.Prelude.{◌≡◌, ℕ, ◌*◌, ◌<◌, ◌≤◌, length, true, false, slice_index, MatchOption, IfSome};
 ghost use Rattle.clause_base.specs.Literal.{opposite};
 ghost use Rattle.clause_base.specs.Clause.{has_literal};
 ghost use Rattle.watch_lists.specs.Asking.{IsAsked};
 ghost use Rattle.watch_lists.specs.Pending.{is_free};
-ghost use Rattle.cdcl_rules.specs.Pending.{is_pending, open_ones};
+ghost use Rattle.cdcl_rules.specs.Pending.{is_pending};
 
 use clause_base::literal::Lit;
+use clause_base::view::View;
 use watch_store::truth::Truth;
 
 /// Whether a clause has no true literal and at most one that is not false.
-pub fn is_pending(truth: &Truth, clause: &[Lit]) -> bool
+pub fn is_pending(truth: &Truth, clause: &View) -> bool
     requires { (p : ℕ) → p < length clause.now → slice_index clause.now p < 2 * truth.now.variables }
     ensures { result ≡ is_pending (has_literal truth.now.trail) clause.now }
 {
     let mut free = false;
-    for lit in clause {
+    for place in 0..clause.len() {
+        let lit = clause.get(place);
         if truth.is_true(lit.0) {
             return false;
         }
@@ -29,37 +31,24 @@ pub fn is_pending(truth: &Truth, clause: &[Lit]) -> bool
 }
 
 /// What a pending clause asks for that has literals: the one that is not false, or its first one where all are false.
-pub fn ask_of(truth: &Truth, clause: &[Lit]) -> u32
+pub fn ask_of(truth: &Truth, clause: &View) -> u32
     requires below { (p : ℕ) → p < length clause.now → slice_index clause.now p < 2 * truth.now.variables }
     requires some { 0 < length clause.now }
     requires pending { is_pending (has_literal truth.now.trail) clause.now ≡ true }
     ensures { IsAsked (has_literal truth.now.trail) clause.now result }
 {
-    for lit in clause {
+    for place in 0..clause.len() {
+        let lit = clause.get(place);
         if !truth.is_false(lit.0) {
             return lit.0;
         }
     }
-    let first = clause[0];
+    let first = clause.get(0);
     first.0
 }
 
-/// The literal of a pending clause that is not false, if there is one.
-pub fn left_in(truth: &Truth, clause: &[Lit]) -> Option<Lit>
-    requires below { (p : ℕ) → p < length clause.now → slice_index clause.now p < 2 * truth.now.variables }
-    requires pending { is_pending (has_literal truth.now.trail) clause.now ≡ true }
-    ensures { MatchOption result (open_ones (has_literal truth.now.trail) clause.now ≡ []) (λ lit. open_ones (has_literal truth.now.trail) clause.now ≡ lit ∷ []) }
-{
-    for lit in clause {
-        if !truth.is_false(lit.0) {
-            return Some(*lit);
-        }
-    }
-    None
-}
-
 /// A place from `low` up to `high`, other than `skipped`, whose literal is not false.
-pub fn find_free(truth: &Truth, clause: &[Lit], skipped: u32, low: u32, high: u32) -> Option<u32>
+pub fn find_free(truth: &Truth, clause: &View, skipped: u32, low: u32, high: u32) -> Option<u32>
     requires below { (p : ℕ) → p < length clause.now → slice_index clause.now p < 2 * truth.now.variables }
     requires high { high ≤ length clause.now }
     ensures none { MatchOption result ((p : ℕ) → low ≤ p → p < high → (p ≡ skipped → ⊥) → is_free (has_literal truth.now.trail) (slice_index clause.now p) ≡ false) (λ p. is_free (has_literal truth.now.trail) (slice_index clause.now p) ≡ true) }
@@ -67,7 +56,7 @@ pub fn find_free(truth: &Truth, clause: &[Lit], skipped: u32, low: u32, high: u3
     ensures inside { IfSome result (λ p. p < length clause.now) }
 {
     for place in low..high {
-        let lit = clause[place as usize];
+        let lit = clause.get(place as usize);
         if !truth.is_false(lit.0) && place != skipped {
             return Some(place);
         }
@@ -76,7 +65,7 @@ pub fn find_free(truth: &Truth, clause: &[Lit], skipped: u32, low: u32, high: u3
 }
 
 /// A place other than `skipped` whose literal is not false, sought from `from` on and then from the front.
-pub fn find_other(truth: &Truth, clause: &[Lit], skipped: u32, from: u32) -> Option<u32>
+pub fn find_other(truth: &Truth, clause: &View, skipped: u32, from: u32) -> Option<u32>
     requires below { (p : ℕ) → p < length clause.now → slice_index clause.now p < 2 * truth.now.variables }
     requires short { length clause.now ≤ 4294967295 }
     ensures none { MatchOption result ((p : ℕ) → p < length clause.now → (p ≡ skipped → ⊥) → is_free (has_literal truth.now.trail) (slice_index clause.now p) ≡ false) (λ p. is_free (has_literal truth.now.trail) (slice_index clause.now p) ≡ true) }

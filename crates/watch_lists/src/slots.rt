@@ -4,7 +4,7 @@ ghost use Rattle.std.specs.Prelude.{◌≡◌, ◌<◌, ◌≤◌, length, false
 ghost use Rattle.cdcl_rules.specs.State.{clause_at};
 ghost use Rattle.watch_lists.specs.Visit.{slot_clauses, slot_flags, AreSlotsBelow};
 
-use clause_base::literal::Lit;
+use clause_base::view::View;
 use std::alloc::AllocError;
 use watch_store::store::Store;
 
@@ -12,10 +12,11 @@ use watch_store::store::Store;
 const BLOCK: u32 = 16;
 
 /// The literals of the clause of a slot.
-pub fn slot_clause<'a>(store: &'a Store, slots: &[u32], slot: u32) -> &'a [Lit]
+#[inline]
+pub fn slot_clause<'a>(store: &'a Store, slots: &[u32], slot: u32) -> View<'a>
     requires inside { slot < length slots.now }
     requires below { AreSlotsBelow (length store.now) slots.now }
-    ensures { result.now ≡ clause_at (slot_clauses store.now slots.now) slot }
+    ensures { result ≡ clause_at (slot_clauses store.now slots.now) slot }
 {
     store.clause(slots[slot as usize])
 }

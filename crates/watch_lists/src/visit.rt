@@ -111,16 +111,16 @@ impl Lists {
         let clause = slot_clause(store, slots, slot);
         let second = node % 2 == 1;
         let other = watched.at(!second);
-        let lit = clause[other as usize];
+        let lit = clause.get(other as usize);
         let beside = lit.0;
         if truth.is_true(beside) {
             self.chains.link(node, spare, beside);
             return;
         }
-        match find_other(truth, clause, other, watched.from) {
+        match find_other(truth, &clause, other, watched.from) {
             Some(place) => {
                 self.watched[slot as usize] = watched.moved(second, place);
-                let found = clause[place as usize];
+                let found = clause.get(place as usize);
                 self.chains.link(node, found.0, beside);
             }
             None => {

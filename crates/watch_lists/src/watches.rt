@@ -9,8 +9,9 @@ ghost use Rattle.watch_lists.specs.Pending.{WatchesView};
 ghost use Rattle.watch_lists.specs.Visit.{Grows};
 
 use crate::front::{ask_all, clean, clear, rescan};
+use crate::given::{Given, count_longs};
 use crate::left::left_of;
-use crate::pairs::{Pairs, mark_all};
+use crate::marks::mark_pairs;
 use crate::pending::{Pending, no_pending};
 use crate::place::place;
 use crate::slots::{begin_block, blocks_of};
@@ -23,6 +24,7 @@ use number_bits::first::First;
 use number_bits::flat::Flat;
 use number_bits::layer::Layer;
 use number_bits::set::NumberSet;
+use pair_index::index::PairIndex;
 use std::alloc::Global;
 use std::marker::Model;
 use watch_chains::chains::Chains;
@@ -30,7 +32,7 @@ use watch_store::store::Store;
 use watch_store::truth::Truth;
 
 /// How many clauses there may be.
-const MOST_CLAUSES: usize = 2_147_483_647;
+const MOST_CLAUSES: u32 = 2_147_483_647;
 
 /// Clauses by number, which of them are kept, and the literals that are true, oldest first. A clause of two
 /// literals is in the lists of both, and of each other clause two literals are watched.
@@ -40,7 +42,7 @@ pub struct Watches {
     store: Store,
     kept: Vec<bool>,
     truth: Truth,
-    pairs: Pairs,
+    pairs: PairIndex,
     slots: Vec<u32>,
     blocks: Vec<u32>,
     lists: Lists,
@@ -104,79 +106,31 @@ fn no_quiet(alloc: Global, variables: u32) -> Result<Vec<bool>, Memory>
     Ok(vec![in alloc; false; variables as usize + 1]?)
 }
 
-/// How many literals the clauses of a formula have, and how many of the clauses have more than two.
-#[derive(Clone, Copy, Debug)]
-struct Sizes {
-    literals: usize,
-    longs: usize,
-}
-
-/// The sizes of a formula, by which each table is made with its room at once.
-fn sizes_of(formula: &Formula) -> Sizes {
-    let mut literals: usize = 0;
-    let mut longs: usize = 0;
-    for number in 0..formula.count() {
-        let length = formula.clause(number).len();
-        literals = literals.saturating_add(length);
-        if length > 2 {
-            longs = longs.saturating_add(1);
-        }
-    }
-    Sizes { literals, longs }
-}
-
 impl Watches {
-    /// No clauses over a formula's variables, none of which has a value, with room for the formula's clauses.
-    fn empty(alloc: Global, formula: &Formula) -> Result<Watches, Memory>
-        ensures { IfOk result (λ w. w ≡ record { variables = formula.now.variables; clauses = []; kept = []; trail = [] }) }
+    /// The clauses of a formula, all kept, where no variable has a value.
+    pub fn new(alloc: Global, formula: &Formula) -> Result<Watches, Memory>
+        ensures { IfOk result (λ w. w ≡ record { variables = formula.now.variables; clauses = formula.now.clauses; kept = replicate (length formula.now.clauses) true; trail = [] }) }
     {
         let variables = formula.variables();
-        let sizes = sizes_of(formula);
         let count = formula.count();
-        let mut store = Store::new(alloc);
-        store.reserve(sizes.literals, count as usize)?;
-        let kept = Vec::with_capacity(alloc, count as usize)?;
+        let store = Store::new(alloc, formula)?;
+        let kept = vec![in alloc; true; count as usize]?;
         let truth = Truth::new(alloc, variables)?;
-        let pairs = Pairs::new(alloc, formula)?;
-        let slots = Vec::with_capacity(alloc, sizes.longs)?;
-        let blocks = Vec::with_capacity(alloc, blocks_of(count))?;
+        let pairs = PairIndex::new(alloc, formula)?;
         let quiet = no_quiet(alloc, variables)?;
-        let chains = Chains::new(
-            alloc,
-            2 * variables + 1,
-            sizes.longs.saturating_add(sizes.longs),
-        )?;
-        let watched = Vec::with_capacity(alloc, sizes.longs)?;
-        let asks = Vec::with_capacity(alloc, sizes.longs)?;
+        let longs = count_longs(formula);
+        let given = Given::new(alloc, &store, count, longs, 2 * variables)?;
         Ok(Watches {
             variables,
             store,
             kept,
             truth,
             pairs,
-            slots,
-            blocks,
-            lists: Lists {
-                chains,
-                watched,
-                pending: no_pending(alloc),
-                asks,
-            },
+            slots: given.slots,
+            blocks: given.blocks,
+            lists: given.lists,
             quiet,
         })
-    }
-
-    /// The clauses of a formula, all kept, where no variable has a value.
-    pub fn new(alloc: Global, formula: &Formula) -> Result<Watches, Memory>
-        ensures { IfOk result (λ w. w ≡ record { variables = formula.now.variables; clauses = formula.now.clauses; kept = replicate (length formula.now.clauses) true; trail = [] }) }
-    {
-        let mut watches = Watches::empty(alloc, formula)?;
-        let mut lits = Vec::new(alloc);
-        for number in 0..formula.count() {
-            formula.clause(number).copy_into(&mut lits)?;
-            watches.add_sorted(&lits)?;
-        }
-        Ok(watches)
     }
 
     /// Adds a clause with the next number, kept; it may be false or have one literal left. After want of memory, or where there
@@ -201,7 +155,7 @@ impl Watches {
         if count >= MOST_CLAUSES {
             return Err(Memory);
         }
-        let number = count as u32;
+        let number = count;
         let slot = self.slots.len() as u32;
         self.kept.reserve(1)?;
         self.slots.reserve(1)?;
@@ -210,7 +164,6 @@ impl Watches {
         self.store.push(clause)?;
         self.kept.push(true)?;
         let low = place(
-            &mut self.pairs,
             &mut self.slots,
             &mut self.lists,
             &self.truth,
@@ -248,9 +201,9 @@ impl Watches {
         self.quiet[length as usize] = least.is_none();
         self.truth.push(lit.0);
         let fallen = lit.opposite();
-        mark_all(
+        mark_pairs(
             &self.store,
-            self.pairs.of(fallen.0),
+            &self.pairs,
             &self.truth,
             fallen.0,
             &mut self.lists.pending,
@@ -316,14 +269,6 @@ impl Watches {
             self.lists.asks.as_slice(),
             &mut self.lists.pending,
         );
-    }
-
-    /// The literals of the clause with a number; it may have been removed.
-    pub fn clause(&self, number: u32) -> &[Lit]
-        requires { number < length self.now.clauses }
-        ensures { result.now ≡ slice_index_or self.now.clauses number [] }
-    {
-        self.store.clause(number)
     }
 
     /// What a clause that is kept and pending leaves: its only literal that is not false, if there is one. It takes no memory.

@@ -23,16 +23,16 @@ pushed_by pushed ends end b e t = e ∙ ap (λ (a : Bool). if a then ends ++ end
 
 pub returns-clause-cut : goal.returns-clause-cut
 returns-clause-cut c =
-    let long : c.in-Ok.end ≡ length c.extend_from_slice.new.self.items = search rules in
+    let long : c.len.result ≡ length c.extend_from_slice.new.self.items = search rules in
     cut_by _ _ _ _ _ _ c.requires.cut (pushed_by _ _ _ _ c.push.ensures.items c.if-is_err.ensures.negation) c.in_ok-extend_from_slice.ensures.items long
 
 pub returns-clause-ok : goal.returns-clause-ok
 returns-clause-ok c =
-    let long : c.in-Ok.end ≡ length c.extend_from_slice.new.self.items = search rules in
+    let long : c.len.result ≡ length c.extend_from_slice.new.self.items = search rules in
     pieces_by _ _ _ _ _ _ c.requires.cut (pushed_by _ _ _ _ c.push.ensures.items c.if-is_err.ensures.negation) c.in_ok-extend_from_slice.ensures.items long
 
 pub returns-clause-lawful : goal.returns-clause-lawful
 returns-clause-lawful c =
-    let long : c.in-Ok.end ≡ length c.extend_from_slice.new.self.items = search rules in
+    let long : c.len.result ≡ length c.extend_from_slice.new.self.items = search rules in
     let more = pieces_by _ _ _ _ _ _ c.requires.cut (pushed_by _ _ _ _ c.push.ensures.items c.if-is_err.ensures.negation) c.in_ok-extend_from_slice.ensures.items long in
     subst (λ (xss : List (List ℕ)). All IsClause xss) (sym more) (clauses-push (pieces 0 c.args.lits.now.items c.args.ends.now.items) c.args.clause.now c.requires.lawful c.requires.clause)

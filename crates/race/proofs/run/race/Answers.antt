@@ -1,7 +1,6 @@
-use Rattle.std.proofs.Common.{arith, rules, ◌≡◌, ◌+◌, ◌-◌, ◌<◌, ℕ, List, Err, refl, sym, subst}
+use Rattle.std.proofs.Common.{arith, ◌≡◌, ◌+◌, Err, refl, subst}
 use Rattle.std.proofs.lemmas.Result.{IfErr-at_err, err_from_is_err_and}
 use Rattle.gt_core.specs.Task.{Task}
-use Rattle.race.specs.declared.error.RaceError.{RaceError}
 use Rattle.race.specs.declared.error.RaceError.TheVariants.{Literals}
 use Rattle.race.specs.declared.racing.Step.{Step}
 use Rattle.race.specs.declared.racing.Step.TheVariants.{On as OnStep}
@@ -12,22 +11,22 @@ use Rattle.race.proofs.run.race.Given.{Over}
 use Rattle.race.proofs.run.race.Goals.{In-End, In-On}
 use Rattle.race.proofs.run.race.Goals as goal
 
-pub loop-next-init : goal.loop-next-init
-loop-next-init g c = c.new-racing.ensures.between (input_of g.F.StepForm c.args.form.now c.args.settings.now) refl refl
+pub rounds-init : goal.rounds-init
+rounds-init g c = c.new-racing.ensures.between (input_of g.F.StepForm c.args.form.now c.args.settings.now) refl refl
 
 -- what the round led to
-on : (g : Over) (c : In-On g) → Comes g.F.StepForm c.args.form.now c.args.settings.now (c.loop-next.racing.rounds + 1) (OnStep c.in-On.next)
-on g c = subst (λ (step : Step). Comes g.F.StepForm c.args.form.now c.args.settings.now (c.loop-next.racing.rounds + 1) step) c.in-On.is c.in_ok-next.ensures.comes
+on : (g : Over) (c : In-On g) → Comes g.F.StepForm c.args.form.now c.args.settings.now (c.rounds.racing.rounds + 1) (OnStep c.in-On.next)
+on g c = subst (λ (step : Step). Comes g.F.StepForm c.args.form.now c.args.settings.now (c.rounds.racing.rounds + 1) step) c.in-On.is c.in_ok-next.ensures.comes
 
 ends : (g : Over) (c : In-End g) → IsEndOf g.F.StepForm c.args.form.now c.args.settings.now c.in-End.end
-ends g c = subst (λ (step : Step). Comes g.F.StepForm c.args.form.now c.args.settings.now (c.loop-next.racing.rounds + 1) step) c.in-End.is c.in_ok-next.ensures.comes
+ends g c = subst (λ (step : Step). Comes g.F.StepForm c.args.form.now c.args.settings.now (c.rounds.racing.rounds + 1) step) c.in-End.is c.in_ok-next.ensures.comes
 
-pub loop-next-preserved : goal.loop-next-preserved
-loop-next-preserved g c = (on g (goal.at.loop-next-preserved g c).In-On).0
+pub rounds-preserved : goal.rounds-preserved
+rounds-preserved g c = (on g (goal.at.rounds-preserved g c).In-On).0
 
-pub loop-next-smaller : goal.loop-next-smaller
-loop-next-smaller g c =
-    let o = on g (goal.at.loop-next-smaller g c).In-On in
+pub rounds-smaller : goal.rounds-smaller
+rounds-smaller g c =
+    let o = on g (goal.at.rounds-smaller g c).In-On in
     let next = o.1 in
     let few = o.0.few in
     let within = o.0.tied.within in
@@ -51,7 +50,7 @@ returns-in-End g c =
 pub returns-in_err-next-clause-literals : goal.returns-in_err-next-clause-literals
 returns-in_err-next-clause-literals g c =
     let input = input_of g.F.StepForm c.args.form.now c.args.settings.now in
-    let p = err_from_is_err_and c.from_residual.result c.from_residual.ensures.1 in
+    let p = err_from_is_err_and c.from_residual-in_err-next.result c.from_residual-in_err-next.ensures.1 in
     λ h n e.
     let same = p.2 in
     let at = p.1 in

@@ -1,4 +1,4 @@
-use Rattle.std.proofs.Common.{arith, ◌≡◌, ◌+◌, ◌≤◌, ℕ, [], ◌∷◌, ◌++◌, ◌∙◌, List, length, length-append, append_assoc, slice_index, ap, sym, subst, rules}
+use Rattle.std.proofs.Common.{arith, ◌≡◌, ◌+◌, ℕ, [], ◌∷◌, ◌++◌, ◌∙◌, List, length, length-append, append_assoc, slice_index, ap, sym, subst, rules}
 use Rattle.solver_pool.specs.Job.{JobView}
 use Rattle.horizon_run.specs.Run.{RunView}
 use Rattle.race.specs.Runs.{Fits}

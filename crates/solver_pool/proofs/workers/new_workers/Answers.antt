@@ -24,4 +24,5 @@ loop-i-preserved g c =
             subst (λ (n : ℕ). IsAtWork g.R.Resume true n book begun record { pass = c.give.new.owner; done = k.done; failed = k.failed }) one (gives_out g.R.Resume _ book begun k _ c.in_ok-pass.ensures.counted refl refl inv.0),
             subst (λ (l : List (Worker g.row.R.Denot g.R.Resume)). All (IsNewWorker g.R.Resume c.args.ring.now book) l) (sym items) (All-append (IsNewWorker g.R.Resume c.args.ring.now book) _ _ inv.1 (all_one (IsNewWorker g.R.Resume c.args.ring.now book) w started)),
           );
+      many = search rules;
     }

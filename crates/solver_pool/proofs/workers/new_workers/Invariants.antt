@@ -1,4 +1,4 @@
-use Rattle.std.proofs.Common.{◌≡◌, true}
+use Rattle.std.proofs.Common.{◌≡◌, true, vec_len}
 use Rattle.crossbeam_queue.specs.Passes.{view}
 use Rattle.solver_pool.specs.Ring.{IsRingPass}
 use Rattle.solver_pool.specs.Worker.{StartsWorkers}
@@ -9,4 +9,5 @@ invariant-loop-i g l = record {
   pass : IsRingPass g.R.Resume l.ring l.owner.pass;
   owns : (view l.owner.pass.pass).owner ≡ true;
   started : StartsWorkers g.R.Resume l.ring l.initial.owner l.owner l.workers.items;
+  many : vec_len l.workers ≡ l._i;
 }

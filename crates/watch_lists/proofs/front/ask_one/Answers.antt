@@ -1,15 +1,9 @@
-use Rattle.std.proofs.Common.{arith, ◌≡◌, ◌*◌, ◌<◌, ℕ, List, length, get_or, set, true, sym, ap, ◌∙◌, subst, get_or-set_same, get_or-set_other}
-use Rattle.clause_base.specs.Clause.{has_literal}
-use Rattle.cdcl_rules.specs.Pending.{is_pending}
-use Rattle.cdcl_rules.specs.State.{clause_at}
-use Rattle.watch_lists.specs.Asking.{IsAsked}
-use Rattle.watch_lists.specs.Visit.{slot_clauses}
-use Rattle.watch_lists.proofs.Asks.{clash}
+use Rattle.std.proofs.Common.{◌*◌, ◌<◌, ℕ, List, length, get_or, sym, subst}
 use Rattle.watch_lists.proofs.Slotted.{fit_slots}
 use Rattle.watch_lists.proofs.front.ask_one.Goals as goal
 use Rattle.watch_lists.proofs.front.ask_one.Goals.{After-slot_clause-clause}
 
-below : (c : After-slot_clause-clause) → (p : ℕ) → p < length c.slot_clause-clause.result.now → get_or c.slot_clause-clause.result.now p 0 < 2 * c.args.truth.now.variables
+below : (c : After-slot_clause-clause) → (p : ℕ) → p < length c.slot_clause-clause.result → get_or c.slot_clause-clause.result p 0 < 2 * c.args.truth.now.variables
 below c = subst (λ (xs : List ℕ). (p : ℕ) → p < length xs → get_or xs p 0 < 2 * c.args.truth.now.variables) (sym c.slot_clause-clause.ensures) ((fit_slots c.args.store.now c.args.slots.now (2 * c.args.truth.now.variables) c.requires.fit).below c.args.slot)
 
 pub is_pending-requires : goal.is_pending-requires

@@ -3,5 +3,5 @@ use Rattle.clause_base.specs.Clause.{has_literal}
 use Rattle.watch_lists.specs.Pending.{is_free}
 use Rattle.watch_lists.proofs.scan.ask_of.Given as goal
 
-abbrev pub invariant-loop-lit : goal.invariant-loop-lit
-invariant-loop-lit l = (p : ℕ) → p < l.lit-index → is_free (has_literal l.truth.trail) (get_or l.clause p 0) ≡ false
+abbrev pub invariant-loop-place : goal.invariant-loop-place
+invariant-loop-place l = (p : ℕ) → p < l.place → is_free (has_literal l.truth.trail) (get_or l.clause p 0) ≡ false

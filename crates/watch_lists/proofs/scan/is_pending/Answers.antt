@@ -10,10 +10,10 @@ pub returns-then-free : goal.returns-then-free
 returns-then-free c =
     let xs = c.args.clause.now in
     let on = has_literal c.args.truth.now.trail in
-    let i = c.loop-lit.lit-index in
-    let h : i < length xs = omega (arith, c.loop-lit-test.true) in
-    let e = get_or_read xs i c.lit-item.result h c.lit-item.is 0 in
-    let one = c.loop-lit.invariant.free ∙ ap (λ (b : Bool). bit b) c.if-free.true in
-    let v : c.lit.inside.0 ≡ c.lit-item.result = c.lit.view_is in
-    let f : is_free on c.lit-item.result ≡ true = ap (λ (x : ℕ). not (on (opposite x))) (sym v) ∙ ap (λ (b : Bool). not b) (sym c.is_false.ensures ∙ c.if-not-is_false.true) in
-    two_by_here on xs i c.lit-item.result h e one f
+    let i = c.loop-place.place in
+    let h : i < length xs = omega (arith, c.loop-place-test.true) in
+    let e = get_or_read xs i c.get-lit.result h c.get-lit.ensures.item 0 in
+    let one = c.loop-place.invariant.free ∙ ap (λ (b : Bool). bit b) c.if-free.true in
+    let v : c.lit.inside.0 ≡ c.get-lit.result = c.lit.view_is in
+    let f : is_free on c.get-lit.result ≡ true = ap (λ (x : ℕ). not (on (opposite x))) (sym v) ∙ ap (λ (b : Bool). not b) (sym c.is_false.ensures ∙ c.if-not-is_false.true) in
+    two_by_here on xs i c.get-lit.result h e one f

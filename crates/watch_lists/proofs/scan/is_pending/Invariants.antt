@@ -4,8 +4,8 @@ use Rattle.clause_base.specs.Clause.{has_literal}
 use Rattle.watch_lists.specs.Pending.{is_free}
 use Rattle.watch_lists.proofs.scan.is_pending.Given as goal
 
-abbrev pub invariant-loop-lit : goal.invariant-loop-lit
-invariant-loop-lit l = record {
-  none : list_any (has_literal l.truth.trail) (take l.lit-index l.clause) ≡ false;
-  free : length (filter (is_free (has_literal l.truth.trail)) (take l.lit-index l.clause)) ≡ cond l.free 1 0;
+abbrev pub invariant-loop-place : goal.invariant-loop-place
+invariant-loop-place l = record {
+  none : list_any (has_literal l.truth.trail) (take l.place l.clause) ≡ false;
+  free : length (filter (is_free (has_literal l.truth.trail)) (take l.place l.clause)) ≡ cond l.free 1 0;
 }

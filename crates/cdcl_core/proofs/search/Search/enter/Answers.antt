@@ -7,8 +7,9 @@ use Rattle.clause_base.specs.Derivation.{clauses_of}
 use Rattle.conflict_walk.specs.Clauses.{ClausesView}
 use Rattle.conflict_walk.proofs.Placed.{learned_learn}
 use Rattle.cdcl_trail.specs.Mirrored.{TrailView}
-use Rattle.cdcl_core.specs.Search.{SearchView}
+use Rattle.cdcl_core.specs.Search.{SearchView, GoesOn}
 use Rattle.cdcl_core.proofs.Watching.{behind, last_below}
+use Rattle.cdcl_core.proofs.Logs.{goes_same, goes_then, goes_learned, goes_err}
 use Rattle.cdcl_core.proofs.search.Search.enter.Goals as goal
 
 -- one clause at least was learned
@@ -31,3 +32,22 @@ follow-requires-clause-behind c =
     let below = subst (λ (v : SearchView). HasVariablesBelow v.state.variables k) (sym c.self.view_is) (last_below s.variables s.clauses k all) in
     let learned = c.in_ok-learn.ensures.ok ∙ ap (λ (x : List ℕ). let v : ClausesView = record t.clauses { log = t.clauses.log ++ Learn x c.args.new.hints ∷ []; kept = t.clauses.kept ++ true ∷ [] } in v) c.of_sorted-clause.ensures in
     behind t.clauses c.learn.new.self t.trail.entries c.backtrack.new.self.entries t.watches k c.args.new.hints c.level_after-level.result m learned (ap (λ (v : TrailView). v.entries) c.backtrack.ensures) c.requires.clause below
+
+pub returns-in_err-learn-clause-log : goal.returns-in_err-learn-clause-log
+returns-in_err-learn-clause-log c =
+    let t = c.self.inside in
+    goes_err c.from_residual.result
+    (subst (λ (v : SearchView). GoesOn v.state.log c.learn.new.self.log) c.self.view_is (goes_same t.clauses.log c.learn.new.self.log (ap (λ (v : ClausesView). v.log) c.in_err-learn.ensures.err)))
+
+pub returns-in_err-follow-clause-log : goal.returns-in_err-follow-clause-log
+returns-in_err-follow-clause-log c =
+    let t = c.self.inside in
+    goes_err c.from_residual-in_err-follow.result
+    (subst (λ (v : SearchView). GoesOn v.state.log c.learn.new.self.log) c.self.view_is (goes_learned t.clauses c.learn.new.self _ c.args.new.hints c.in_ok-learn.ensures.ok))
+
+pub returns-in_err-reduce-clause-log : goal.returns-in_err-reduce-clause-log
+returns-in_err-reduce-clause-log c =
+    let t = c.self.inside in
+    let learned = goes_learned t.clauses c.learn.new.self _ c.args.new.hints c.in_ok-learn.ensures.ok in
+    goes_err c.from_residual-in_err-reduce.result
+    (subst (λ (v : SearchView). GoesOn v.state.log c.reduce.new.clauses.log) c.self.view_is (goes_then t.clauses.log c.learn.new.self.log c.reduce.new.clauses.log learned (goes_same c.learn.new.self.log c.reduce.new.clauses.log (ap (λ (v : ClausesView). v.log) c.in_err-reduce.ensures.err))))

@@ -4,8 +4,9 @@ use Rattle.cdcl_rules.specs.Event.{event_of}
 use Rattle.cdcl_rules.specs.Run.{next, rests, apply, is_going, is_conflict}
 use Rattle.cdcl_rules.proofs.Advance.{one_on, rests_here, rests_settled, conflicts_stay, conflict_below}
 use Rattle.cdcl_laws.proofs.Fuel.{left_falls}
-use Rattle.cdcl_core.specs.Search.{SolverView, IsNextEvent}
+use Rattle.cdcl_core.specs.Search.{SolverView, IsNextEvent, GoesOn}
 use Rattle.cdcl_core.proofs.Keeps.{next_open}
+use Rattle.cdcl_core.proofs.Logs.{goes_then, goes_reached, goes_err}
 use Rattle.cdcl_core.proofs.solver.Solver.run.Goals as goal
 
 pub apply-requires-clause-next : goal.apply-requires-clause-next
@@ -73,3 +74,10 @@ returns-clause-after g c =
     let done : is_going c.loop-self.self.state.standing ≡ false = sym c.is_going.ensures ∙ c.loop-self-test.false in
     let r = rests_settled choose limit c.args.self.now.state c.loop-self.self.state c.loop-self.invariant.reached done in
     subst (λ (n : ℕ). ComesToRest (next choose) (rests choose) (n + c.args.conflicts) c.args.self.now.state c.loop-self.self.state) c.conflicts.ensures.value r
+
+pub returns-in_err-apply-clause-log : goal.returns-in_err-apply-clause-log
+returns-in_err-apply-clause-log g c =
+    let limit = c.conflicts.result + c.args.conflicts in
+    let before = goes_reached (g.C.Chooser.choice c.args.self.now.chooser) limit c.args.self.now.state c.loop-self.self.state c.loop-self.invariant.reached in
+    goes_err c.from_residual.result
+    (goes_then c.args.self.now.state.log c.loop-self.self.state.log c.apply.new.self.state.log before (subst (λ (w : SolverView g.row.C.Denot). GoesOn w.state.log c.apply.new.self.state.log) c.event-event.ensures.kept c.in_err-apply.ensures.log))

@@ -1,4 +1,4 @@
-use Rattle.std.proofs.Common.{arith, ◌≡◌, ℕ, ◌∙◌, ap, sym, subst, IfOk, List}
+use Rattle.std.proofs.Common.{ℕ, ◌∙◌, ap, subst, IfOk, List}
 use Rattle.std.proofs.lemmas.Result.{IfOk-weaker}
 use Rattle.horizon_rates.specs.Ledger.{Account}
 use Rattle.horizon_run.specs.Run.{RunView}

@@ -1,4 +1,4 @@
-use Rattle.std.proofs.Common.{rules, ◌≡◌, ◌∙◌, sym, ap, None}
+use Rattle.std.proofs.Common.{◌≡◌, ◌∙◌, sym, ap, None}
 use Rattle.race.specs.Starts.{filled}
 use Rattle.race.specs.Tied.{race_state}
 use Rattle.race.proofs.Starts.{fill-on, fill-off, keeps-next}

@@ -1,4 +1,4 @@
-use Rattle.std.proofs.Common.{rules, ◌≡◌, ◌∙◌, sym, ap, subst, None, ℕ, List, map, IfOk}
+use Rattle.std.proofs.Common.{◌≡◌, ◌∙◌, sym, ap, subst, None, ℕ, List, map, IfOk}
 use Rattle.horizon_run.specs.Run.{RunView}
 use Rattle.race.specs.Found.{first_found}
 use Rattle.race.specs.Race.{Stage, settled}

@@ -1,6 +1,4 @@
-use Rattle.std.proofs.Common.{arith, rules, ◌≡◌}
-use Rattle.race.specs.State.{start}
-use Rattle.race.specs.Tied.{race_state}
+use Rattle.std.proofs.Common.{arith, rules}
 use Rattle.race.proofs.Rounds.{at-first}
 use Rattle.race.proofs.racing.Racing.new.Goals as goal
 

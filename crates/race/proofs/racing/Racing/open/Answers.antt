@@ -1,10 +1,8 @@
-use Rattle.std.proofs.Common.{arith, rules, ◌≡◌, ◌+◌, ◌∙◌, ℕ, List, sym, ap, refl, map, None, Some}
-use Rattle.std.specs.declared.vec.Vec.{Vec}
+use Rattle.std.proofs.Common.{arith, ◌≡◌, ◌+◌, ◌∙◌, ℕ, sym, ap, refl, map, None}
 use Rattle.clause_base.specs.Formula.{Cnf}
 use Rattle.horizon_rates.specs.Ledger.{Account}
 use Rattle.step_encoding.specs.Numbers.{literals_of}
 use Rattle.race_end.specs.Ends.{line_view}
-use Rattle.race.specs.declared.racing.Racing.{Racing}
 use Rattle.race.specs.Grants.{advanced}
 use Rattle.race.specs.Race.{TooLarge, judged, after_rounds}
 use Rattle.race.specs.Starts.{too_large}

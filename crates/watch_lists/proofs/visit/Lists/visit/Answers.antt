@@ -15,7 +15,7 @@ use Rattle.watch_lists.proofs.visit.Lists.visit.Goals as goal
 use Rattle.watch_lists.proofs.visit.Lists.visit.Goals.{After-lit}
 
 beside : (c : After-lit) → Beside (slot_clauses c.args.store.now c.args.slots.now) c.args.self.now.watched.items c.args.node c.at-other.result c.lit.inside.0
-beside c = beside_of (slot_clauses c.args.store.now c.args.slots.now) c.args.self.now.watched.items c.args.node c.at-other.result c.index.result.now c.slot_clause-clause.result.now c.index-clause-other.result c.lit.inside.0 c.requires.listed.0.placed c.requires.real c.index.ensures c.at-other.ensures c.slot_clause-clause.ensures c.index-clause-other.is c.lit.view_is
+beside c = beside_of (slot_clauses c.args.store.now c.args.slots.now) c.args.self.now.watched.items c.args.node c.at-other.result c.index.result.now c.slot_clause-clause.result c.get-lit.result c.lit.inside.0 c.requires.listed.0.placed c.requires.real c.index.ensures c.at-other.ensures c.slot_clause-clause.ensures c.get-lit.ensures.item c.lit.view_is
 
 pub is_true-requires : goal.is_true-requires
 is_true-requires c =
@@ -49,7 +49,7 @@ link-requires-in-Some-clause-code c =
     let place = c.in-Some.place in
     let e = c.slot_clause-clause.ensures in
     let inside : place < length (clause_at cl (c.args.node / 2)) = subst (λ (xs : List ℕ). place < length xs) e c.in-Some.ensures.inside in
-    let found : c.found.inside.0 ≡ get_or (clause_at cl (c.args.node / 2)) place 0 = c.found.view_is ∙ get_or_read c.slot_clause-clause.result.now place c.index-clause-place.result c.in-Some.ensures.inside c.index-clause-place.is 0 ∙ ap (λ (xs : List ℕ). get_or xs place 0) e in
+    let found : c.found.inside.0 ≡ get_or (clause_at cl (c.args.node / 2)) place 0 = c.found.view_is ∙ get_or_read c.slot_clause-clause.result place c.get-found.result c.in-Some.ensures.inside c.get-found.ensures.item 0 ∙ ap (λ (xs : List ℕ). get_or xs place 0) e in
     let l = (fit_slots c.args.store.now c.args.slots.now c.args.spare c.requires.fit).below (c.args.node / 2) place inside in
     omega (arith, l, found, c.requires.listed.0.codes)
 
@@ -106,7 +106,7 @@ returns-in-Some-clause-listed c =
     let inside : place < length (clause_at cl (c.args.node / 2)) = omega (arith, lx, c.in-Some.ensures.inside) in
     let ne : place ≡ place_in (get_or wa (c.args.node / 2) no_watches) (not second) → ⊥ = (λ (e : place ≡ place_in (get_or wa (c.args.node / 2) no_watches) (not second)). c.in-Some.ensures.other (e ∙ sym b.place)) in
     let same = others_stay cl wa w' c.args.node below other in
-    let found : c.found.inside.0 ≡ get_or (clause_at cl (c.args.node / 2)) place 0 = c.found.view_is ∙ get_or_read c.slot_clause-clause.result.now place c.index-clause-place.result c.in-Some.ensures.inside c.index-clause-place.is 0 ∙ ap (λ (xs : List ℕ). get_or xs place 0) c.slot_clause-clause.ensures in
+    let found : c.found.inside.0 ≡ get_or (clause_at cl (c.args.node / 2)) place 0 = c.found.view_is ∙ get_or_read c.slot_clause-clause.result place c.get-found.result c.in-Some.ensures.inside c.get-found.ensures.item 0 ∙ ap (λ (xs : List ℕ). get_or xs place 0) c.slot_clause-clause.ensures in
     listed_link cl wa wa' c.args.self.now.chains.heads.items c.link-in-Some.new.self.heads.items c.args.self.now.chains.nodes.items c.link-in-Some.new.self.nodes.items c.args.spare (slot_flags c.args.kept.now c.args.slots.now) c.args.node c.found.inside.0 c.lit.inside.0 W W' r c.requires.listed.1
     (c.link-in-Some.ensures.linked r.on r.linked c.requires.listed.1) (placed_moved cl wa w' (c.args.node / 2) place second r.placed c.requires.real.below c.requires.real.long c.moved.ensures.own other inside ne)
     c.link-in-Some.ensures.codes c.link-in-Some.ensures.nodes c.link-in-Some.ensures.own c.link-in-Some.ensures.others c.requires.real b.has (λ k q ne'. same k ne')
@@ -135,7 +135,7 @@ returns-in-None-clause-asked c =
     let own : IsAsked on (clause_at cl slot) c.lit.inside.0 = subst (λ (xs : List ℕ). IsAsked on xs c.lit.inside.0) c.slot_clause-clause.ensures (record {
       place = c.at-other.result;
       inside = omega (arith, b.inside, ap (λ (xs : List ℕ). length xs) c.slot_clause-clause.ensures);
-      own = sym (c.lit.view_is ∙ get_or_read c.slot_clause-clause.result.now c.at-other.result c.index-clause-other.result (omega (arith, b.inside, ap (λ (xs : List ℕ). length xs) c.slot_clause-clause.ensures)) c.index-clause-other.is 0);
+      own = sym (c.lit.view_is ∙ get_or_read c.slot_clause-clause.result c.at-other.result c.get-lit.result (omega (arith, b.inside, ap (λ (xs : List ℕ). length xs) c.slot_clause-clause.ensures)) c.get-lit.ensures.item 0);
       others = c.in-None.ensures.none;
     }) in
     asked_insert store on (words_have c.args.self.now.pending) (words_have c.insert.new.self) slots c.args.self.now.asks.items (set c.args.self.now.asks.items slot c.lit.inside.0) slot c.lit.inside.0 c.requires.distinct c.requires.asked inside (omega (arith, inside, c.requires.long)) own c.insert.ensures.has refl
@@ -166,6 +166,6 @@ pub returns-in-Some-clause-lengths : goal.returns-in-Some-clause-lengths
 returns-in-Some-clause-lengths c =
     let on = has_literal c.args.truth.now.trail in
     let place = c.in-Some.place in
-    let found : c.found.inside.0 ≡ get_or c.slot_clause-clause.result.now place 0 = c.found.view_is ∙ get_or_read c.slot_clause-clause.result.now place c.index-clause-place.result c.in-Some.ensures.inside c.index-clause-place.is 0 in
+    let found : c.found.inside.0 ≡ get_or c.slot_clause-clause.result place 0 = c.found.view_is ∙ get_or_read c.slot_clause-clause.result place c.get-found.result c.in-Some.ensures.inside c.get-found.ensures.item 0 in
     let free : is_free on c.found.inside.0 ≡ true = ap (is_free on) found ∙ c.in-Some.ensures.none in
     c.link-in-Some.ensures.lengths c.args.code (omega (arith, c.requires.code, c.requires.listed.0.codes)) (λ (e : c.args.code ≡ c.found.inside.0). let z : false ≡ true = sym (ap (λ (b : Bool). not b) c.requires.fallen) ∙ ap (is_free on) e ∙ free in let w : ⊥ = cc in w)

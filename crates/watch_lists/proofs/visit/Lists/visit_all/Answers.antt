@@ -1,9 +1,9 @@
-use Rattle.std.proofs.Common.{arith, ℕ, ◌∙◌, sym, ap, length, List}
+use Rattle.std.proofs.Common.{ℕ, ◌∙◌, ap, length, List}
 use Rattle.clause_base.specs.Clause.{has_literal}
 use Rattle.number_bits.specs.Bits.{words_have}
 use Rattle.watch_lists.specs.Visit.{slot_clauses, slot_flags, slot_set, Stays}
-use Rattle.watch_lists.proofs.Visits.{listed_pop, listed_drop, own_literal, moves_on, listed_end, all_settled, linked_after}
-use Rattle.watch_lists.proofs.Slotted.{fit_slots, slots_long}
+use Rattle.watch_lists.proofs.Visits.{listed_pop, own_literal, moves_on, listed_end, all_settled, linked_after}
+use Rattle.watch_lists.proofs.Slotted.{fit_slots}
 use Rattle.watch_lists.proofs.visit.Lists.visit_all.Goals as goal
 
 pub returns-in-None-clause-rest : goal.returns-in-None-clause-rest

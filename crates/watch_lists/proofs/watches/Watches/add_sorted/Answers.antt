@@ -5,7 +5,6 @@ use Rattle.watch_lists.specs.Pending.{WatchesView, is_pending_on}
 use Rattle.watch_lists.specs.Visit.{IsFit, Grows, slot_clauses, slot_flags, slot_set}
 use Rattle.watch_lists.specs.Pairs.{IsPaired}
 use Rattle.watch_lists.specs.Sound.{IsFront, IsSound}
-use Rattle.std.proofs.lemmas.List.{length_push}
 use Rattle.watch_lists.specs.Asking.{IsAsked, AreAsked, IsWithin, IsAsking}
 use Rattle.watch_lists.proofs.Asked.{asked_add, within_add, distinct_add, asking_wider, asking_fewer}
 use Rattle.watch_lists.proofs.Adds.{fit_add}
@@ -69,7 +68,7 @@ clean-requires-clause-fit c =
 fewer_slots : (c : After-raise) → length c.place.new.slots.items ≤ length c.self.inside.slots.items + 1
 fewer_slots c =
     let w = c.self.inside in
-    let few = taken_few c.args.clause.now c.count-count.result (2 * w.truth.variables) w.truth.trail c.place.new.pairs c.reserve-2.new.self.items c.widen.new.self.watched.items c.widen.new.self.chains.heads.items c.widen.new.self.chains.nodes.items c.place.new.slots.items c.place.new.lists.watched.items c.place.new.lists.chains.heads.items c.place.new.lists.chains.nodes.items c.place.ensures.taken in
+    let few = taken_few c.args.clause.now c.count-count.result (2 * w.truth.variables) w.truth.trail c.reserve-2.new.self.items c.widen.new.self.watched.items c.widen.new.self.chains.heads.items c.widen.new.self.chains.nodes.items c.place.new.slots.items c.place.new.lists.watched.items c.place.new.lists.chains.heads.items c.place.new.lists.chains.nodes.items c.place.ensures.taken in
     omega (arith, few, ap (λ (ss : List ℕ). length ss) c.reserve-2.ensures.items)
 
 -- what holds of the set with the new clause
@@ -82,7 +81,7 @@ asking c =
     let same : c.reserve-2.new.self.items ≡ w.slots.items = c.reserve-2.ensures.items in
     let long : length c.reserve-2.new.self.items ≡ length w.slots.items = ap (λ (ss : List ℕ). length ss) same in
     let shape = subst (λ (ss : List ℕ). (c.place.new.slots.items ≡ ss) ⊎ (c.place.new.slots.items ≡ ss ++ number ∷ [])) same
-    (taken_slots k number (2 * w.truth.variables) w.truth.trail c.place.new.pairs c.reserve-2.new.self.items c.widen.new.self.watched.items c.widen.new.self.chains.heads.items c.widen.new.self.chains.nodes.items c.place.new.slots.items c.place.new.lists.watched.items c.place.new.lists.chains.heads.items c.place.new.lists.chains.nodes.items c.place.ensures.taken) in
+    (taken_slots k number (2 * w.truth.variables) w.truth.trail c.reserve-2.new.self.items c.widen.new.self.watched.items c.widen.new.self.chains.heads.items c.widen.new.self.chains.nodes.items c.place.new.slots.items c.place.new.lists.watched.items c.place.new.lists.chains.heads.items c.place.new.lists.chains.nodes.items c.place.ensures.taken) in
     let others : (n : ℕ) → (n ≡ number → ⊥) → words_have c.raise.new.pending n ≡ words_have w.lists.pending n = (λ n ne. c.raise.ensures.others n ne ∙ ap (λ (ws : List ℕ). words_have ws n) c.place.ensures.set ∙ c.widen.ensures.wider.set n) in
     record {
       within = within_add w.store k (words_have w.lists.pending) (words_have c.raise.new.pending) number c.count-count.ensures.value old.within others;
@@ -140,13 +139,13 @@ invariant_of-self-2 c =
     let front = subst (λ (cs : List (List ℕ)). IsFront (is_pending_on cs (w.kept.items ++ true ∷ []) w.truth.trail) (words_have c.clean.new.pending)) c.in_ok-push.ensures.ok
     (subst (λ (ks : List Bool). IsFront (is_pending_on c.push.new.self ks w.truth.trail) (words_have c.clean.new.pending)) (c.as_slice.ensures.value ∙ kept) c.clean.ensures.front) in
     let words : length c.clean.new.pending ≡ length c.widen.new.self.pending = (let a = ap (λ (ws : List ℕ). length ws) c.place.ensures.set in omega (arith, c.clean.ensures.room, c.raise.ensures.room, a)) in
-    let done = sound_add w.variables w.truth.variables w.store w.kept.items w.truth.trail c.reserve-2.new.self.items c.widen.new.self.watched.items c.widen.new.self.chains.heads.items c.widen.new.self.chains.nodes.items c.widen.new.self.pending w.quiet.items k c.count-count.result c.in_ok-low.low c.place.new.pairs c.place.new.slots.items c.place.new.lists.watched.items c.place.new.lists.chains.heads.items c.place.new.lists.chains.nodes.items c.clean.new.pending c.raise.new.quiet.items
+    let done = sound_add w.variables w.truth.variables w.store w.kept.items w.truth.trail c.reserve-2.new.self.items c.widen.new.self.watched.items c.widen.new.self.chains.heads.items c.widen.new.self.chains.nodes.items c.widen.new.self.pending w.quiet.items k c.count-count.result c.in_ok-low.low c.place.new.slots.items c.place.new.lists.watched.items c.place.new.lists.chains.heads.items c.place.new.lists.chains.nodes.items c.clean.new.pending c.raise.new.quiet.items
     slotted c.requires.lawful below (c.count-count.ensures.value ∙ sym i.many) (omega (arith, c.if-count-ge-MOST_CLAUSES.false)) c.in_ok-widen.ensures.in_set c.place.ensures.taken c.in_ok-low.ensures.quiet words front c.raise.ensures.size c.raise.ensures.below c.raise.ensures.off in
-    let pairs = paired_add w.variables c.count-count.result (2 * w.truth.variables) w.store k w.truth.trail w.pairs c.place.new.pairs c.reserve-2.new.self.items c.widen.new.self.watched.items c.widen.new.self.chains.heads.items c.widen.new.self.chains.nodes.items c.place.new.slots.items c.place.new.lists.watched.items c.place.new.lists.chains.heads.items c.place.new.lists.chains.nodes.items
-    (subst (λ (ss : List ℕ). IsPaired w.variables w.store ss w.pairs) (sym c.reserve-2.ensures.items) c.self.invariant.1) c.count-count.ensures.value c.place.ensures.fuller c.place.ensures.taken in (
+    let pairs = paired_add w.variables c.count-count.result (2 * w.truth.variables) w.store k w.truth.trail w.pairs c.reserve-2.new.self.items c.widen.new.self.watched.items c.widen.new.self.chains.heads.items c.widen.new.self.chains.nodes.items c.place.new.slots.items c.place.new.lists.watched.items c.place.new.lists.chains.heads.items c.place.new.lists.chains.nodes.items
+    (subst (λ (ss : List ℕ). IsPaired w.variables w.store ss w.pairs) (sym c.reserve-2.ensures.items) c.self.invariant.1) c.count-count.ensures.value c.place.ensures.taken in (
       subst (λ (cs : List (List ℕ)). IsSound w.variables w.truth.variables cs c.push-2.new.self.items w.truth.trail c.place.new.slots.items c.place.new.lists.watched.items c.place.new.lists.chains.heads.items c.place.new.lists.chains.nodes.items c.clean.new.pending c.raise.new.quiet.items) (sym c.in_ok-push.ensures.ok)
           (subst (λ (ks : List Bool). IsSound w.variables w.truth.variables (w.store ++ k ∷ []) ks w.truth.trail c.place.new.slots.items c.place.new.lists.watched.items c.place.new.lists.chains.heads.items c.place.new.lists.chains.nodes.items c.clean.new.pending c.raise.new.quiet.items) (sym kept) done),
-      subst (λ (cs : List (List ℕ)). IsPaired w.variables cs c.place.new.slots.items c.place.new.pairs) (sym c.in_ok-push.ensures.ok) pairs,
+      subst (λ (cs : List (List ℕ)). IsPaired w.variables cs c.place.new.slots.items w.pairs) (sym c.in_ok-push.ensures.ok) pairs,
       subst (λ (cs : List (List ℕ)). IsAsking cs w.truth.trail c.place.new.slots.items c.clean.new.pending c.place.new.lists.asks.items) (sym c.in_ok-push.ensures.ok)
           (asking_fewer (w.store ++ k ∷ []) w.truth.trail c.place.new.slots.items c.raise.new.pending c.clean.new.pending c.place.new.lists.asks.items (asking (goal.at.invariant_of-self-2 c).After-raise) c.clean.ensures.fewer),
     )

@@ -5,8 +5,7 @@ use Rattle.number_bits.specs.Bits.{words_have}
 use Rattle.watch_store.specs.Mirror.{TruthView}
 use Rattle.watch_lists.specs.Pending.{WatchesView, is_pending_on}
 use Rattle.watch_lists.specs.Visit.{slot_clauses, slot_flags, slot_set, AllSettled, MovesToFree, IsAtRest}
-use Rattle.watch_lists.specs.declared.pairs.Pair.{Pair}
-use Rattle.watch_lists.specs.Pairs.{pairs_of, pair_in, IsPairOf}
+use Rattle.pair_index.specs.Pairs.{pairs_of, pair_in}
 use Rattle.watch_lists.specs.Asking.{AreAsked, IsConsistent}
 use Rattle.watch_lists.specs.Sound.{IsFront, AreFree}
 use Rattle.watch_lists.proofs.Assigns.{opposite_twice, assign_complete, assign_free, assign_quiets, whole_free}
@@ -57,10 +56,8 @@ asked_slots c =
     let w = c.self.inside in
     subst (λ (ss : List ℕ). AreAsked (slot_clauses w.store ss) (has_literal c.push.new.self.trail) (slot_set (words_have c.visit_all.new.self.pending) ss) c.visit_all.new.self.asks.items) c.as_slice-2.ensures.value c.visit_all.ensures.asked
 
-pub mark_all-requires-clause-exact : goal.mark_all-requires-clause-exact
-mark_all-requires-clause-exact c k h =
-    let w = c.self.inside in
-    subst (λ (xs : List Pair). IsPairOf w.store c.fallen.inside.0 (pair_in xs k)) (sym c.of.ensures) (c.self.invariant.1.exact c.fallen.inside.0 k (subst (λ (xs : List Pair). k < length xs) c.of.ensures h))
+pub mark_pairs-requires-clause-exact : goal.mark_pairs-requires-clause-exact
+mark_pairs-requires-clause-exact c = c.self.invariant.1.exact c.fallen.inside.0
 
 pub visit_all-requires-clause-fallen : goal.visit_all-requires-clause-fallen
 visit_all-requires-clause-fallen c =
@@ -72,16 +69,16 @@ visit_all-requires-clause-fallen c =
 pub visit_all-requires-clause-within : goal.visit_all-requires-clause-within
 visit_all-requires-clause-within c =
     let w = c.self.inside in
-    within_pairs w.store (words_have w.lists.pending) (words_have c.mark_all.new.pending) c.mark_all.ensures.only c.self.invariant.2.within
+    within_pairs w.store (words_have w.lists.pending) (words_have c.mark_pairs.new.pending) c.mark_pairs.ensures.only c.self.invariant.2.within
 
 pub visit_all-requires-clause-asked : goal.visit_all-requires-clause-asked
 visit_all-requires-clause-asked c =
     let w = c.self.inside in
     let tr = trail_is (goal.at.visit_all-requires-clause-asked c).After-push in
-    subst (λ (ss : List ℕ). AreAsked (slot_clauses w.store ss) (has_literal c.push.new.self.trail) (slot_set (words_have c.mark_all.new.pending) ss) w.lists.asks.items) (sym c.as_slice-2.ensures.value)
-    (subst (λ (ys : List ℕ). AreAsked (slot_clauses w.store w.slots.items) (has_literal ys) (slot_set (words_have c.mark_all.new.pending) w.slots.items) w.lists.asks.items) (sym tr)
-    (all_longer (slot_clauses w.store w.slots.items) w.truth.trail c.lit.inside.0 (slot_set (words_have c.mark_all.new.pending) w.slots.items) w.lists.asks.items
-    (asked_pairs w.store (has_literal w.truth.trail) (words_have w.lists.pending) (words_have c.mark_all.new.pending) w.slots.items w.lists.asks.items c.mark_all.ensures.only c.self.invariant.2.asked)))
+    subst (λ (ss : List ℕ). AreAsked (slot_clauses w.store ss) (has_literal c.push.new.self.trail) (slot_set (words_have c.mark_pairs.new.pending) ss) w.lists.asks.items) (sym c.as_slice-2.ensures.value)
+    (subst (λ (ys : List ℕ). AreAsked (slot_clauses w.store w.slots.items) (has_literal ys) (slot_set (words_have c.mark_pairs.new.pending) w.slots.items) w.lists.asks.items) (sym tr)
+    (all_longer (slot_clauses w.store w.slots.items) w.truth.trail c.lit.inside.0 (slot_set (words_have c.mark_pairs.new.pending) w.slots.items) w.lists.asks.items
+    (asked_pairs w.store (has_literal w.truth.trail) (words_have w.lists.pending) (words_have c.mark_pairs.new.pending) w.slots.items w.lists.asks.items c.mark_pairs.ensures.only c.self.invariant.2.asked)))
 
 pub clean-requires-clause-consistent : goal.clean-requires-clause-consistent
 clean-requires-clause-consistent c =
@@ -99,12 +96,12 @@ clean-requires-clause-complete c =
     let visited = (goal.at.clean-requires-clause-complete c).After-visit_all in
     let slotted = assign_complete (slot_clauses w.store w.slots.items) w.lists.watched.items c.visit_all.new.self.watched.items (slot_flags w.kept.items w.slots.items) w.truth.trail c.lit.inside.0 (slot_set (words_have w.lists.pending) w.slots.items) (slot_set (words_have c.visit_all.new.self.pending) w.slots.items) (flags_long w.kept.items w.slots.items ∙ sym (slots_long w.store w.slots.items)) (rest visited).placed
     (whole_free (slot_clauses w.store w.slots.items) w.lists.watched.items (slot_flags w.kept.items w.slots.items) w.truth.trail i.free) (moves visited) (settled visited)
-    (λ k h. e.grows (get_or w.slots.items k 0) (c.mark_all.ensures.grows (get_or w.slots.items k 0) h))
+    (λ k h. e.grows (get_or w.slots.items k 0) (c.mark_pairs.ensures.grows (get_or w.slots.items k 0) h))
     (slots_complete w.store w.kept.items w.slots.items w.truth.trail (words_have w.lists.pending) i.front.complete) in
-    let done = found_complete w.variables w.store w.kept.items w.truth.trail w.slots.items c.lit.inside.0 w.pairs c.of.result.now (words_have w.lists.pending) (words_have c.visit_all.new.self.pending) i.many c.self.invariant.1
-    (c.of.ensures ∙ ap (λ (l : ℕ). pairs_of w.pairs l) op)
-    (λ k h none. e.grows _ (c.mark_all.ensures.in_set k h (ap (λ (ys : List ℕ). has_literal ys (pair_in c.of.result.now k).other) tr ∙ none)))
-    (λ k h. e.grows k (c.mark_all.ensures.grows k h)) i.front.complete slotted in
+    let done = found_complete w.variables w.store w.kept.items w.truth.trail w.slots.items c.lit.inside.0 w.pairs (pairs_of w.pairs c.fallen.inside.0) (words_have w.lists.pending) (words_have c.visit_all.new.self.pending) i.many c.self.invariant.1
+    (ap (λ (l : ℕ). pairs_of w.pairs l) op)
+    (λ k h none. e.grows _ (c.mark_pairs.ensures.in_set k h (ap (λ (ys : List ℕ). has_literal ys (pair_in (pairs_of w.pairs c.fallen.inside.0) k).other) tr ∙ none)))
+    (λ k h. e.grows k (c.mark_pairs.ensures.grows k h)) i.front.complete slotted in
     λ k p. done k (ap (λ (ys : List ℕ). is_pending_on w.store w.kept.items ys k) (sym tr) ∙ ap (λ (ks : List Bool). is_pending_on w.store ks c.push.new.self.trail k) (sym c.as_slice-3.ensures.value) ∙ p)
 
 pub invariant_of-self : goal.invariant_of-self
@@ -117,7 +114,7 @@ invariant_of-self c =
     let visited = (goal.at.invariant_of-self c).After-visit_all in
     let free = assign_free (slot_clauses w.store w.slots.items) w.lists.watched.items c.visit_all.new.self.watched.items (slot_flags w.kept.items w.slots.items) w.truth.trail c.lit.inside.0 (slot_set (words_have c.visit_all.new.self.pending) w.slots.items) i.free (moves visited) (settled visited) in (
       sound_moved w.variables w.truth.variables w.store w.kept.items w.truth.trail w.slots.items w.lists.watched.items w.lists.chains.heads.items w.lists.chains.nodes.items w.lists.pending w.quiet.items c.push.new.self.variables c.push.new.self.trail c.visit_all.new.self.watched.items c.visit_all.new.self.chains.heads.items c.visit_all.new.self.chains.nodes.items c.clean.new.pending (set w.quiet.items c.length-length.result c.is_none.result) i
-          (ap (λ (v : TruthView). v.variables) c.push.ensures) (omega (arith, c.mark_all.ensures.room, e.room, c.clean.ensures.room)) (rest visited)
+          (ap (λ (v : TruthView). v.variables) c.push.ensures) (omega (arith, c.mark_pairs.ensures.room, e.room, c.clean.ensures.room)) (rest visited)
           (subst (λ (ys : List ℕ). (n : ℕ) → n ≤ length ys → AreFree (slot_clauses w.store w.slots.items) c.visit_all.new.self.watched.items (slot_flags w.kept.items w.slots.items) (take n ys)) (sym tr) free)
           (subst (λ (ks : List Bool). IsFront (is_pending_on w.store ks c.push.new.self.trail) (words_have c.clean.new.pending)) c.as_slice-3.ensures.value c.clean.ensures.front)
           (length-set w.quiet.items c.length-length.result c.is_none.result)

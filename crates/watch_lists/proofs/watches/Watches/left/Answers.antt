@@ -1,4 +1,4 @@
-use Rattle.std.proofs.Common.{arith, ◌≡◌, ◌∷◌, ◌∙◌, [], ℕ, List, true, sym, ap, subst, get_or, MatchOption}
+use Rattle.std.proofs.Common.{◌≡◌, ◌∷◌, ◌∙◌, [], ℕ, List, true, sym, ap, subst, MatchOption}
 use Rattle.clause_base.specs.Clause.{has_literal}
 use Rattle.cdcl_rules.specs.State.{clause_at}
 use Rattle.cdcl_rules.specs.Pending.{is_pending_in, open_ones}

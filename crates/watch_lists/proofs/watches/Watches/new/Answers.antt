@@ -1,30 +1,35 @@
-use Rattle.std.proofs.Common.{◌≡◌, ℕ, ◌+◌, ◌++◌, ◌∷◌, [], List, ◌∙◌, ap, Bool, true, take, replicate, sym, subst, slice_get, Some}
-use Rattle.std.proofs.lemmas.List.{take_more}
-use Rattle.std.proofs.lemmas.Option.{slice_get_within, get_or_from_slice_get}
-use Rattle.std.proofs.lemmas.Grind.{replicate_next}
-use Rattle.clause_base.specs.Clause.{HasVariablesBelow}
-use Rattle.watch_lists.specs.Pending.{WatchesView}
+use Rattle.std.proofs.Common.{arith, ◌≡◌, ◌*◌, ◌≤◌, ℕ, List, true, length, replicate, ap, sym, ◌∙◌, subst}
+use Rattle.watch_store.specs.Mirror.{TruthView}
+use Rattle.pair_index.specs.Pairs.{IsIndex}
+use Rattle.watch_lists.specs.Given.{AreGiven}
+use Rattle.watch_lists.specs.Visit.{IsFit}
+use Rattle.watch_lists.proofs.Givens.{fit_given, sound_given, paired_given, asking_given}
 use Rattle.watch_lists.proofs.watches.Watches.new.Goals as goal
+use Rattle.watch_lists.proofs.watches.Watches.new.Goals.{After-count-count}
 
--- the clauses so far and one more
-next : (v n : ℕ) (cl : List (List ℕ)) (x : List ℕ) (old new : WatchesView) → old ≡ record { variables = v; clauses = take n cl; kept = replicate n true; trail = [] } → slice_get cl n ≡ Some x → new ≡ record old { clauses = old.clauses ++ x ∷ []; kept = old.kept ++ true ∷ [] } → new ≡ record { variables = v; clauses = take (n + 1) cl; kept = replicate (n + 1) true; trail = [] }
-next v n cl x old new i e p =
-    let grow = λ (o : WatchesView). record o { clauses = o.clauses ++ x ∷ []; kept = o.kept ++ true ∷ [] } in
-    let view : List (List ℕ) → List Bool → WatchesView = λ cs ks. record { variables = v; clauses = cs; kept = ks; trail = [] } in
-    let t = take_more cl n [] (slice_get_within cl n x e) in
-    let g = get_or_from_slice_get cl n x [] e in
-    p ∙ ap grow i
-    ∙ ap (λ (cs : List (List ℕ)). view cs (replicate n true ++ true ∷ [])) (ap (λ (y : List ℕ). take n cl ++ y ∷ []) (sym g) ∙ sym t)
-    ∙ ap (λ (ks : List Bool). view (take (n + 1) cl) ks) (sym (replicate_next n true))
+fit : (c : After-count-count) → IsFit c.args.formula.now.clauses (2 * c.args.formula.now.variables)
+fit c = fit_given c.args.formula.now.variables c.args.formula.now.clauses c.variables-variables.ensures.small c.count-count.ensures.lawful c.variables-variables.ensures.below
 
-pub loop-number-preserved : goal.loop-number-preserved
-loop-number-preserved c =
-    let old = c.loop-number.watches in
-    let same = c.deref.ensures.value ∙ c.in_ok-copy_into.ensures in
-    next c.args.formula.now.variables c.loop-number.number c.args.formula.now.clauses c.clause.result old c.add_sorted.new.self c.loop-number.invariant c.clause.ensures.value
-    (c.in_ok-add_sorted.ensures.ok ∙ ap (λ (x : List ℕ). let w : WatchesView = record old { clauses = old.clauses ++ x ∷ []; kept = old.kept ++ true ∷ [] } in w) same)
+pub new-requires-4-clause-fit : goal.new-requires-4-clause-fit
+new-requires-4-clause-fit c =
+    subst (λ (n : ℕ). IsFit c.in_ok-store.store (2 * n)) (sym c.variables-variables.ensures.value)
+    (subst (λ (cs : List (List ℕ)). IsFit cs (2 * c.args.formula.now.variables)) (sym c.in_ok-store.ensures) (fit (goal.at.new-requires-4-clause-fit c).After-count-count))
 
-pub add_sorted-requires-clause-below : goal.add_sorted-requires-clause-below
-add_sorted-requires-clause-below c =
-    subst (λ (xs : List ℕ). HasVariablesBelow c.loop-number.watches.variables xs) (sym (c.deref.ensures.value ∙ c.in_ok-copy_into.ensures))
-    (subst (λ (v : ℕ). HasVariablesBelow v c.clause.result) (sym (ap (λ (w : WatchesView). w.variables) c.loop-number.invariant)) c.clause.ensures.below)
+pub invariant_of-result : goal.invariant_of-result
+invariant_of-result c =
+    let v = c.variables-variables.result in
+    let store = c.in_ok-store.store in
+    let g = c.in_ok-given.given in
+    let l = g.lists in
+    let all : length store ≡ c.count-count.result = (let e = ap (λ (cs : List (List ℕ)). length cs) c.in_ok-store.ensures in omega (arith, e, c.count-count.ensures.value)) in
+    let f = subst (λ (n : ℕ). IsFit store (2 * n)) (sym c.variables-variables.ensures.value)
+    (subst (λ (cs : List (List ℕ)). IsFit cs (2 * c.args.formula.now.variables)) (sym c.in_ok-store.ensures) (fit (goal.at.invariant_of-result c).After-count-count)) in
+    let small : v ≤ 2147483647 = omega (arith, c.variables-variables.ensures.small, c.variables-variables.ensures.value) in
+    let made = subst (λ (n : ℕ). AreGiven (2 * v) store n g.slots.items l.watched.items l.chains.heads.items l.chains.nodes.items l.pending l.asks.items) (sym all) c.in_ok-given.ensures in
+    let trail = ap (λ (t : TruthView). t.trail) c.in_ok-truth.ensures in
+    let kept : c.in_ok-kept.kept.items ≡ replicate (length store) true = c.in_ok-kept.ensures.items_if_clones_equal (λ y h. h) ∙ ap (λ (n : ℕ). replicate n true) (sym all) in
+    let index = subst (λ (n : ℕ). IsIndex n store c.in_ok-pairs.pairs) (sym c.variables-variables.ensures.value) (subst (λ (cs : List (List ℕ)). IsIndex c.args.formula.now.variables cs c.in_ok-pairs.pairs) (sym c.in_ok-store.ensures) c.in_ok-pairs.ensures) in (
+      sound_given v c.in_ok-truth.truth.variables store c.in_ok-kept.kept.items c.in_ok-truth.truth.trail g.slots.items l.watched.items l.chains.heads.items l.chains.nodes.items l.pending l.asks.items c.in_ok-quiet.quiet.items small (ap (λ (t : TruthView). t.variables) c.in_ok-truth.ensures) (omega (arith, all, c.count-count.ensures.few, c.count-count.ensures.value)) f kept trail made c.in_ok-quiet.ensures,
+      paired_given v store g.slots.items l.watched.items l.chains.heads.items l.chains.nodes.items l.pending l.asks.items c.in_ok-pairs.pairs made index,
+      asking_given v store c.in_ok-truth.truth.trail g.slots.items l.watched.items l.chains.heads.items l.chains.nodes.items l.pending l.asks.items trail made,
+    )

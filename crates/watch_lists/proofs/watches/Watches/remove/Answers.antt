@@ -1,4 +1,4 @@
-use Rattle.std.proofs.Common.{arith, get_or, length, ℕ, ◌∙◌, sym, ap, subst, Bool, List}
+use Rattle.std.proofs.Common.{get_or, ◌∙◌, sym, ap, subst, Bool, List}
 use Rattle.number_bits.specs.Bits.{words_have}
 use Rattle.watch_lists.specs.Pending.{is_pending_on}
 use Rattle.watch_lists.specs.Sound.{IsFront}

@@ -1,0 +1,56 @@
+use Rattle.std.proofs.Common.{◌≡◌, List, true, false, sym, subst}
+use Rattle.clause_base.specs.Clause.{has_literal}
+use Rattle.number_bits.specs.Bits.{words_have}
+use Rattle.pair_index.specs.declared.pair.Pair.{Pair}
+use Rattle.pair_index.specs.Pairs.{IsPairOf}
+use Rattle.pair_index.proofs.Five.{EachPair, AreFive, each_of_five, five_of_each}
+use Rattle.watch_lists.proofs.Asked.{pairs_then}
+use Rattle.watch_lists.proofs.marks.mark_pairs.Goals as goal
+use Rattle.watch_lists.proofs.marks.mark_pairs.Goals.{After-lists-lists}
+
+parts : (c : After-lists-lists) → AreFive (IsPairOf c.args.store.now c.args.fallen) c.lists-lists.result.told c.lists-lists.result.last c.lists-lists.result.next c.lists-lists.result.time c.lists-lists.result.after
+parts c =
+    five_of_each (IsPairOf c.args.store.now c.args.fallen) c.lists-lists.result.told c.lists-lists.result.last c.lists-lists.result.next c.lists-lists.result.time c.lists-lists.result.after
+    (subst (λ (xs : List Pair). EachPair (IsPairOf c.args.store.now c.args.fallen) xs) c.lists-lists.ensures c.requires.exact)
+
+pub mark_all-requires-clause-exact : goal.mark_all-requires-clause-exact
+mark_all-requires-clause-exact c = (parts (goal.at.mark_all-requires-clause-exact c).After-lists-lists).first
+
+pub mark_all-requires-2-clause-exact : goal.mark_all-requires-2-clause-exact
+mark_all-requires-2-clause-exact c = (parts (goal.at.mark_all-requires-2-clause-exact c).After-lists-lists).second
+
+pub mark_all-requires-3-clause-exact : goal.mark_all-requires-3-clause-exact
+mark_all-requires-3-clause-exact c = (parts (goal.at.mark_all-requires-3-clause-exact c).After-lists-lists).third
+
+pub mark_all-requires-4-clause-exact : goal.mark_all-requires-4-clause-exact
+mark_all-requires-4-clause-exact c = (parts (goal.at.mark_all-requires-4-clause-exact c).After-lists-lists).fourth
+
+pub mark_all-requires-5-clause-exact : goal.mark_all-requires-5-clause-exact
+mark_all-requires-5-clause-exact c = (parts (goal.at.mark_all-requires-5-clause-exact c).After-lists-lists).fifth
+
+pub returns-clause-in_set : goal.returns-clause-in_set
+returns-clause-in_set c =
+    let on = has_literal c.args.truth.now.trail in
+    let P : Pair → Type 0 = λ p. on p.other ≡ false → words_have c.mark_all-5.new.pending p.number ≡ true in
+    let ls = c.lists-lists.result in
+    subst (EachPair P) (sym c.lists-lists.ensures)
+    (each_of_five P ls.told ls.last ls.next ls.time ls.after
+    (λ i h f. c.mark_all-5.ensures.grows _ (c.mark_all-4.ensures.grows _ (c.mark_all-3.ensures.grows _ (c.mark_all-2.ensures.grows _ (c.mark_all.ensures.in_set i h f)))))
+    (λ i h f. c.mark_all-5.ensures.grows _ (c.mark_all-4.ensures.grows _ (c.mark_all-3.ensures.grows _ (c.mark_all-2.ensures.in_set i h f))))
+    (λ i h f. c.mark_all-5.ensures.grows _ (c.mark_all-4.ensures.grows _ (c.mark_all-3.ensures.in_set i h f)))
+    (λ i h f. c.mark_all-5.ensures.grows _ (c.mark_all-4.ensures.in_set i h f))
+    c.mark_all-5.ensures.in_set)
+
+pub returns-clause-grows : goal.returns-clause-grows
+returns-clause-grows c k h = c.mark_all-5.ensures.grows k (c.mark_all-4.ensures.grows k (c.mark_all-3.ensures.grows k (c.mark_all-2.ensures.grows k (c.mark_all.ensures.grows k h))))
+
+pub returns-clause-only : goal.returns-clause-only
+returns-clause-only c =
+    let store = c.args.store.now in
+    let s0 = words_have c.args.pending.now in
+    let s1 = words_have c.mark_all.new.pending in
+    let s2 = words_have c.mark_all-2.new.pending in
+    let s3 = words_have c.mark_all-3.new.pending in
+    let s4 = words_have c.mark_all-4.new.pending in
+    let s5 = words_have c.mark_all-5.new.pending in
+    pairs_then store s0 s4 s5 (pairs_then store s0 s3 s4 (pairs_then store s0 s2 s3 (pairs_then store s0 s1 s2 c.mark_all.ensures.only c.mark_all-2.ensures.only) c.mark_all-3.ensures.only) c.mark_all-4.ensures.only) c.mark_all-5.ensures.only

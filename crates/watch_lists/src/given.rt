@@ -1,0 +1,128 @@
+//! The tables of a formula's clauses, made at once before any literal is true. A clause of more than two literals has a slot and
+//! watches its last two; one of two literals is in the pair index alone; one of fewer is pending, and in the set from the
+//! beginning.
+ghost use Rattle.std.specs.Prelude.{◌≡◌, ℕ, ◌+◌, ◌*◌, ◌<◌, ◌≤◌, [], None, false, length, IfOk, OnOk};
+ghost use Rattle.number_bits.specs.Bits.{words_have};
+ghost use Rattle.watch_chains.specs.Linked.{IsLinked};
+ghost use Rattle.watch_lists.specs.Visit.{IsFit};
+ghost use Rattle.watch_lists.specs.Given.{AreGiven};
+
+use crate::pending::no_pending;
+use crate::slots::{begin_block, blocks_of};
+use crate::visit::Lists;
+use clause_base::clause_list::ClauseList;
+use clause_base::formula::Formula;
+use clause_base::memory::Memory;
+use number_bits::first::First;
+use number_bits::flat::Flat;
+use number_bits::layer::Layer;
+use number_bits::set::NumberSet;
+use std::alloc::Global;
+use watch_chains::chains::Chains;
+use watch_store::store::Store;
+
+/// The slots of a formula's clauses, and what is watched of them.
+#[derive(Drop)]
+pub struct Given {
+    pub slots: Vec<u32>,
+    pub blocks: Vec<u32>,
+    pub lists: Lists,
+}
+
+/// How many clauses of a list have more than two literals.
+fn longs_of(list: &ClauseList) -> usize {
+    let mut longs: usize = 0;
+    for number in 0..list.count() {
+        if list.clause(number).len() > 2 {
+            longs = longs.saturating_add(1);
+        }
+    }
+    longs
+}
+
+/// How many clauses of a formula have more than two literals, counted once for all steps and once for all times.
+pub fn count_longs(formula: &Formula) -> usize {
+    let parts = formula.parts();
+    let steps = parts.repeated.horizon() as usize;
+    let step = longs_of(parts.repeated.step());
+    let time = longs_of(parts.repeated.time());
+    longs_of(parts.told)
+        .saturating_add(longs_of(parts.after))
+        .saturating_add(steps.saturating_mul(step))
+        .saturating_add((steps + 1).saturating_mul(time))
+}
+
+impl Given {
+    /// The tables of no clauses, with room for so many, of which so many have slots.
+    fn empty(alloc: Global, count: u32, longs: usize, codes: u32) -> Result<Given, Memory>
+        requires { codes ≤ 4294967294 }
+        ensures slots { IfOk result (λ g. g.slots.items ≡ []) }
+        ensures watched { IfOk result (λ g. g.lists.watched.items ≡ []) }
+        ensures asks { IfOk result (λ g. g.lists.asks.items ≡ []) }
+        ensures pending { IfOk result (λ g. (k : ℕ) → words_have g.lists.pending k ≡ false) }
+        ensures linked { IfOk result (λ g. IsLinked g.lists.chains.heads.items g.lists.chains.nodes.items (λ k. None)) }
+        ensures codes { IfOk result (λ g. length g.lists.chains.heads.items ≡ codes + 1) }
+    {
+        let slots = Vec::with_capacity(alloc, longs)?;
+        let blocks = Vec::with_capacity(alloc, blocks_of(count))?;
+        let chains = Chains::new(alloc, codes + 1, longs.saturating_add(longs))?;
+        let watched = Vec::with_capacity(alloc, longs)?;
+        let asks = Vec::with_capacity(alloc, longs)?;
+        Ok(Given {
+            slots,
+            blocks,
+            lists: Lists {
+                chains,
+                watched,
+                pending: no_pending(alloc),
+                asks,
+            },
+        })
+    }
+
+    /// Gives the next clause a slot, if it has more than two literals, and puts it into the set, if it has fewer than two.
+    fn enter(&mut self, store: &Store, number: u32, codes: u32) -> Result<(), Memory>
+        requires fit { IsFit store.now codes }
+        requires inside { number < length store.now }
+        requires few { length store.now ≤ 1073741824 }
+        requires given { AreGiven codes store.now number self.old.slots.items self.old.lists.watched.items self.old.lists.chains.heads.items self.old.lists.chains.nodes.items self.old.lists.pending self.old.lists.asks.items }
+        ensures { OnOk result (AreGiven codes store.now (number + 1) self.new.slots.items self.new.lists.watched.items self.new.lists.chains.heads.items self.new.lists.chains.nodes.items self.new.lists.pending self.new.lists.asks.items) }
+    {
+        let slot = self.slots.len() as u32;
+        begin_block(&mut self.blocks, number, slot)?;
+        self.lists.widen(number, slot)?;
+        let clause = store.clause(number);
+        let length = clause.len();
+        if length == 2 {
+            return Ok(());
+        }
+        if length < 2 {
+            self.lists.pending.insert(number);
+            return Ok(());
+        }
+        self.slots.push(number)?;
+        self.lists.enter_last(&clause, slot, codes);
+        Ok(())
+    }
+
+    /// The tables of the clauses of a store, of which there are so many, with room for so many of more than two literals.
+    pub fn new(
+        alloc: Global,
+        store: &Store,
+        count: u32,
+        longs: usize,
+        codes: u32,
+    ) -> Result<Given, Memory>
+        requires fit { IsFit store.now codes }
+        requires count { count ≡ length store.now }
+        requires few { count ≤ 1073741824 }
+        requires codes { codes ≤ 4294967294 }
+        ensures { IfOk result (λ g. AreGiven codes store.now count g.slots.items g.lists.watched.items g.lists.chains.heads.items g.lists.chains.nodes.items g.lists.pending g.lists.asks.items) }
+    {
+        let mut given = Given::empty(alloc, count, longs, codes)?;
+        for number in 0..count {
+            given.enter(store, number, codes)?;
+        }
+        Ok(given)
+    }
+}

@@ -1,0 +1,74 @@
+//! The clauses of two literals of a literal that became false: each whose other literal is not true asks for it.
+ghost use Rattle.std.specs.Prelude.{◌≡◌, ℕ, ◌*◌, ◌<◌, ◌≤◌, ◌++◌, length, false, true};
+ghost use Rattle.clause_base.specs.Clause.{has_literal};
+ghost use Rattle.number_bits.specs.Bits.{words_have};
+ghost use Rattle.pair_index.specs.Pairs.{IsPairOf, pairs_of, pair_in};
+ghost use Rattle.watch_lists.specs.Asking.{HasPairsMore};
+ghost use Rattle.watch_lists.specs.Visit.{Grows, IsFit};
+
+use crate::pending::Pending;
+use number_bits::first::First;
+use number_bits::flat::Flat;
+use number_bits::layer::Layer;
+use number_bits::set::NumberSet;
+use pair_index::index::PairIndex;
+use pair_index::list::PairList;
+use pair_index::pair::Pair;
+use watch_store::store::Store;
+use watch_store::truth::Truth;
+
+/// Puts the clause of a pair of a false literal into the set, if its other literal is not true.
+fn mark(store: &Store, pair: Pair, truth: &Truth, fallen: u32, pending: &mut Pending)
+    requires fit { IsFit store.now (2 * truth.now.variables) }
+    requires exact { IsPairOf store.now fallen pair }
+    requires room { length store.now ≤ 64 * length pending.old }
+    ensures in_set { has_literal truth.now.trail pair.other ≡ false → words_have pending.new pair.number ≡ true }
+    ensures grows { Grows (words_have pending.old) (words_have pending.new) }
+    ensures only { HasPairsMore store.now (words_have pending.old) (words_have pending.new) }
+    ensures room { length pending.new ≡ length pending.old }
+{
+    if truth.is_true(pair.other) {
+        return;
+    }
+    pending.insert(pair.number);
+}
+
+/// Puts the clauses of a list of pairs of a false literal into the set whose other literal is not true.
+fn mark_all(store: &Store, pairs: &PairList, truth: &Truth, fallen: u32, pending: &mut Pending)
+    requires fit { IsFit store.now (2 * truth.now.variables) }
+    requires exact { (i : ℕ) → i < length pairs.now → IsPairOf store.now fallen (pair_in pairs.now i) }
+    requires room { length store.now ≤ 64 * length pending.old }
+    ensures in_set { (i : ℕ) → i < length pairs.now → has_literal truth.now.trail (pair_in pairs.now i).other ≡ false → words_have pending.new (pair_in pairs.now i).number ≡ true }
+    ensures grows { Grows (words_have pending.old) (words_have pending.new) }
+    ensures only { HasPairsMore store.now (words_have pending.old) (words_have pending.new) }
+    ensures room { length pending.new ≡ length pending.old }
+{
+    for place in 0..pairs.len() {
+        mark(store, pairs.at(place), truth, fallen, pending);
+    }
+}
+
+/// Puts the clauses of two literals of a false literal into the set whose other literal is not true.
+pub fn mark_pairs(
+    store: &Store,
+    index: &PairIndex,
+    truth: &Truth,
+    fallen: u32,
+    pending: &mut Pending,
+)
+    requires fit { IsFit store.now (2 * truth.now.variables) }
+    requires inside { fallen < length index.now }
+    requires exact { (i : ℕ) → i < length (pairs_of index.now fallen) → IsPairOf store.now fallen (pair_in (pairs_of index.now fallen) i) }
+    requires room { length store.now ≤ 64 * length pending.old }
+    ensures in_set { (i : ℕ) → i < length (pairs_of index.now fallen) → has_literal truth.now.trail (pair_in (pairs_of index.now fallen) i).other ≡ false → words_have pending.new (pair_in (pairs_of index.now fallen) i).number ≡ true }
+    ensures grows { Grows (words_have pending.old) (words_have pending.new) }
+    ensures only { HasPairsMore store.now (words_have pending.old) (words_have pending.new) }
+    ensures room { length pending.new ≡ length pending.old }
+{
+    let lists = index.lists(fallen);
+    mark_all(store, &lists.told, truth, fallen, pending);
+    mark_all(store, &lists.last, truth, fallen, pending);
+    mark_all(store, &lists.next, truth, fallen, pending);
+    mark_all(store, &lists.time, truth, fallen, pending);
+    mark_all(store, &lists.after, truth, fallen, pending);
+}
