@@ -14,8 +14,9 @@ _dokyreva_values() {
 _dokyreva_options() {
     local race='--alg --width --quota --percent --growth --start --max-horizon --budget --slice'
     case $1 in
-    plan) echo "$race --workers" ;;
+    plan | plan-all) echo "$race --workers" ;;
     gen) echo "$race --workers --show" ;;
+    prove) echo --budget ;;
     esac
 }
 
@@ -24,7 +25,7 @@ _dokyreva() {
     if [ "${COMP_WORDS[0]##*/}" = plan ]; then
         command=plan place=$((place + 1))
     elif [ "$place" = 1 ]; then
-        mapfile -t COMPREPLY < <(compgen -W 'plan check ground order gen help' -- "$word")
+        mapfile -t COMPREPLY < <(compgen -W 'plan plan-all check ground order gen prove verify help' -- "$word")
         return
     fi
     if [ "$command" = gen ] && [ "$place" = 2 ]; then

@@ -1,13 +1,16 @@
 # The words that the planner takes, for those who ask and for those who miss one. To be read by scripts that have set root.
 
-commands='plan check ground order gen'
+commands='plan plan-all check ground order gen prove verify'
 options='--alg --width --quota --percent --growth --start --max-horizon --budget --slice --workers --show'
 
 tell_words() {
     cat <<'END'
 ./dokyreva COMMAND WORD..
   plan DOMAIN PROBLEM [OPTION..]       a plan, or that there is none up to a horizon
+  plan-all DOMAIN PROBLEM [OPTION..]   the same with steps whose actions may be executed in every order
   check DOMAIN PROBLEM PLAN            what the calls of a plan file come to
+  prove DOMAIN PROBLEM HORIZON [--budget K]   a certificate that there is no plan of so many steps (0 to 255)
+  verify DOMAIN PROBLEM CERTIFICATE    whether such a certificate is right
   ground DOMAIN PROBLEM                the facts and the actions of a problem
   order DOMAIN PROBLEM                 the actions in the order in which a step executes them
   gen KIND NUMBER [OPTION..] [--show none|domain|problem (none)]   KIND corridor or gripper, NUMBER 1 to 64

@@ -1,5 +1,5 @@
 -- A log that goes on from another.
-use Rattle.std.proofs.Common.{◌≡◌, ℕ, zero, suc, List, [], ◌∷◌, ◌++◌, map, Bool, true, false, if◌then◌else◌, Result, Ok, Err, OnOk, OnErr, refl, sym, ap, ◌∙◌, append_assoc, subst, Option}
+use Rattle.std.proofs.Common.{◌≡◌, ℕ, zero, suc, List, [], ◌∷◌, ◌++◌, map, Bool, true, false, if◌then◌else◌, Result, Ok, Err, OnErr, refl, sym, ap, ◌∙◌, append_assoc, subst, Option}
 use Rattle.std.proofs.lemmas.List.{append-nil}
 use Rattle.clause_base.specs.Choice.{Known}
 use Rattle.clause_base.specs.declared.log.Entry.{Entry}

@@ -1,15 +1,32 @@
--- One number of a scan.
-use Rattle.std.proofs.Common.{arith, ◌≡◌, ℕ, suc, ◌+◌, ◌-◌, ◌<◌, List, [], ◌∷◌, ◌++◌, Bool, sym, ap, ◌∙◌, filter, if◌then◌else◌, append_assoc}
+-- The learned clauses that may be dropped, of those that are kept and long.
+use Rattle.std.proofs.Common.{◌≡◌, ℕ, ◌-◌, ◌&&◌, List, [], ◌∷◌, ◌++◌, Bool, true, false, not, nat_lt, length, refl, sym, ap, ◌∙◌, filter, if◌then◌else◌, append_assoc}
 use Rattle.std.specs.List.{range_with_len}
+use Rattle.cdcl_rules.specs.declared.trail.Assigned.{Assigned}
+use Rattle.cdcl_rules.specs.State.{clause_at, is_kept}
+use Rattle.cdcl_rules.specs.Reduce.{has_forced, is_candidate, candidates}
+use Rattle.conflict_walk.specs.Longs.{is_long, long_ones}
+use Rattle.conflict_walk.proofs.Longs.{filter_both}
 
--- those that pass, from a number on
-pub filter_step : (p : ℕ → Bool) (k n : ℕ) (b : Bool) → k < n → p k ≡ b → filter p (range_with_len k (n - k)) ≡ (if b then k ∷ filter p (range_with_len (k + 1) (n - (k + 1))) else filter p (range_with_len (k + 1) (n - (k + 1))))
-filter_step p k n b h e = let s : n - k ≡ suc (n - (k + 1)) = omega arith in ap (λ (m : ℕ). filter p (range_with_len k m)) s ∙ rw e
+grouped : (a b c : Bool) → (a && (b && c)) ≡ ((a && b) && c)
+grouped true b c = refl
+grouped false b c = refl
 
--- a list is read on by one that is taken
-pub one_taken : (whole xs new old rest : List ℕ) (k : ℕ) → whole ≡ xs ++ old → old ≡ k ∷ rest → new ≡ xs ++ k ∷ [] → whole ≡ new ++ rest
-one_taken whole xs new old rest k e f g = e ∙ ap (λ (ls : List ℕ). xs ++ ls) f ∙ sym (append_assoc xs (k ∷ []) rest) ∙ ap (λ (ls : List ℕ). ls ++ rest) (sym g)
+-- those that forced no entry
+pub free_ones : (given : ℕ) (clauses : List (List ℕ)) (kept : List Bool) (trail : List Assigned) → candidates given clauses kept trail ≡ filter (λ n. not (has_forced trail n)) (long_ones given clauses kept)
+free_ones given clauses kept trail =
+    sym (filter_both (is_long clauses kept) (λ n. not (has_forced trail n)) (is_candidate clauses kept trail)
+    (λ k. grouped (is_kept kept k) (nat_lt 8 (length (clause_at clauses k))) (not (has_forced trail k)))
+    (range_with_len given (length clauses - given)))
 
--- or by one that is not
-pub none_taken : (whole xs new old rest : List ℕ) → whole ≡ xs ++ old → old ≡ rest → new ≡ xs → whole ≡ new ++ rest
-none_taken whole xs new old rest e f g = e ∙ ap (λ (ls : List ℕ). xs ++ ls) f ∙ ap (λ (ls : List ℕ). ls ++ rest) (sym g)
+-- one that is taken, and one that is not
+pub taken_one : (p : ℕ → Bool) (whole xs new ys rest : List ℕ) (k : ℕ) → whole ≡ xs ++ filter p ys → ys ≡ k ∷ rest → p k ≡ true → new ≡ xs ++ k ∷ [] → whole ≡ new ++ filter p rest
+taken_one p whole xs new ys rest k e f g h =
+    e ∙ ap (λ (ls : List ℕ). xs ++ filter p ls) f
+    ∙ ap (λ (b : Bool). xs ++ (if b then k ∷ filter p rest else filter p rest)) g
+    ∙ sym (append_assoc xs (k ∷ []) (filter p rest)) ∙ ap (λ (ls : List ℕ). ls ++ filter p rest) (sym h)
+
+pub passed_one : (p : ℕ → Bool) (whole xs new ys rest : List ℕ) (k : ℕ) → whole ≡ xs ++ filter p ys → ys ≡ k ∷ rest → p k ≡ false → new ≡ xs → whole ≡ new ++ filter p rest
+passed_one p whole xs new ys rest k e f g h =
+    e ∙ ap (λ (ls : List ℕ). xs ++ filter p ls) f
+    ∙ ap (λ (b : Bool). xs ++ (if b then k ∷ filter p rest else filter p rest)) g
+    ∙ ap (λ (ls : List ℕ). ls ++ filter p rest) (sym h)

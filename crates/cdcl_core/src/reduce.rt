@@ -13,9 +13,6 @@ use conflict_walk::clauses::Clauses;
 use std::alloc::Global;
 use watch_lists::watches::Watches;
 
-/// A clause with no more literals than these is not dropped.
-const SHORT: usize = 8;
-
 /// For each of so many clauses whether it forced an entry of the trail.
 fn forced_flags(alloc: Global, entries: &[Assigned], count: u32) -> Result<Vec<bool>, Memory>
     ensures len { IfOk result (λ flags. length flags.items ≡ count) }
@@ -32,24 +29,17 @@ fn forced_flags(alloc: Global, entries: &[Assigned], count: u32) -> Result<Vec<b
     Ok(flags)
 }
 
-/// Whether a clause may be dropped, by whether it forced an entry of the trail.
-fn is_candidate(clauses: &Clauses, number: u32, has_forced: bool) -> bool
-    requires { number < length (all_clauses clauses.now) }
-    ensures { result ≡ (is_kept clauses.now.kept number && (nat_lt 8 (length (clause_at (all_clauses clauses.now) number)) && not has_forced)) }
-{
-    clauses.is_kept(number) && clauses.clause(number).len() > SHORT && !has_forced
-}
-
-/// The numbers of the learned clauses that may be dropped.
+/// The numbers of the learned clauses that may be dropped: of those that are kept and long, those that forced no entry.
 fn candidates(alloc: Global, clauses: &Clauses, trail: &Trail) -> Result<Vec<u32>, Memory>
     ensures { IfOk result (λ numbers. numbers.items ≡ candidates (length clauses.now.formula.clauses) (all_clauses clauses.now) clauses.now.kept trail.now.entries) }
 {
     let count = clauses.count();
     let forced = forced_flags(alloc, trail.entries(), count)?;
+    let longs = clauses.longs();
     let mut numbers = Vec::new(alloc);
-    for number in clauses.formula().count()..count {
-        if is_candidate(clauses, number, forced[number as usize]) {
-            numbers.push(number)?;
+    for number in longs {
+        if !forced[*number as usize] {
+            numbers.push(*number)?;
         }
     }
     Ok(numbers)

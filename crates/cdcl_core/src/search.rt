@@ -110,10 +110,10 @@ impl Search {
         self.spoilt
     }
 
-    /// The value of a variable, if it has one.
+    /// The value of a variable, if it has one; none past the last variable.
     pub fn value(&self, v: u32) -> Option<bool>
-        requires { v < self.now.formula.variables }
-        ensures { result ≡ value_of self.now.state.trail v }
+        ensures value { result ≡ value_of self.now.state.trail v }
+        ensures past { self.now.formula.variables ≤ v → result ≡ None }
     {
         self.trail.value(v)
     }

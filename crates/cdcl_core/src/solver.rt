@@ -1,4 +1,4 @@
-ghost use Rattle.std.specs.Prelude.{◌≡◌, ◌≤◌, ◌+◌, ◌*◌, ◌<◌, ◌++◌, true, false, ◌&&◌, nat_le, length, IfOk, OnOk, OnErr};
+ghost use Rattle.std.specs.Prelude.{◌≡◌, ◌≤◌, ◌+◌, ◌*◌, ◌<◌, ◌++◌, true, false, None, ◌&&◌, nat_le, length, IfOk, OnOk, OnErr};
 ghost use Rattle.clause_base.specs.Formula.{Satisfies};
 ghost use Rattle.clause_base.specs.Derivation.{clauses_of, IsDerivation, EndsEmpty};
 ghost use Rattle.cdcl_rules.specs.State.{value_of};
@@ -92,10 +92,10 @@ impl<C: Chooser> Solver<C> {
         self.search.formula()
     }
 
-    /// The value of a variable, if it has one.
+    /// The value of a variable, if it has one; none past the last variable.
     pub fn value(&self, v: u32) -> Option<bool>
-        requires { v < self.now.formula.variables }
-        ensures { result ≡ value_of self.now.state.trail v }
+        ensures value { result ≡ value_of self.now.state.trail v }
+        ensures past { self.now.formula.variables ≤ v → result ≡ None }
     {
         self.search.value(v)
     }

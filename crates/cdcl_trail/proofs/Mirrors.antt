@@ -51,6 +51,19 @@ on_below n (a ∷ es) b l e = by (a.literal == l) refl (on_below n es (λ k d h.
     by true f on h = let t : a.literal ≡ l = grind (arith, nat_tests) in subst (λ (k : ℕ). k / 2 < n) t h
     by false f on h = on (ap (λ (c : Bool). c || is_on es l) (sym f) ∙ e)
 
+-- no variable past the last one has a value
+off_past : (n : ℕ) (es : List Assigned) → All (λ a. a.literal / 2 < n) es → (l : ℕ) → n ≤ l / 2 → is_on es l ≡ false
+off_past n es b l h = by (is_on es l) refl
+  where
+    by : (s : Bool) → is_on es l ≡ s → is_on es l ≡ false
+    by true e = let k = on_below n es b l e in absurd (omega (arith, k, h))
+    by false e = e
+
+pub none_past : (n : ℕ) (es : List Assigned) (vs : Known) (ls : List ℕ) (level v : ℕ) → IsMirrored n es vs ls level → n ≤ v → value_of es v ≡ None
+none_past n es vs ls level v m h =
+    ap (λ (s : Bool). if s then Some true else if is_on es (2 * v + 1) then Some false else None) (off_past n es m.below (2 * v) (omega (arith, h)))
+    ∙ ap (λ (s : Bool). if s then Some false else None) (off_past n es m.below (2 * v + 1) (omega (arith, h)))
+
 -- a trail has at most as many entries as there are variables
 pub entries_fit : (n : ℕ) (es : List Assigned) (vs : Known) (ls : List ℕ) (level : ℕ) → IsMirrored n es vs ls level → length es ≤ n
 entries_fit n es vs ls level m =

@@ -74,11 +74,14 @@ impl Trail {
         })
     }
 
-    /// The value of a variable, if it has one.
+    /// The value of a variable, if it has one; none past the last variable.
     pub fn value(&self, v: u32) -> Option<bool>
-        requires { v < self.now.variables }
-        ensures { result ≡ value_of self.now.entries v }
+        ensures value { result ≡ value_of self.now.entries v }
+        ensures past { self.now.variables ≤ v → result ≡ None }
     {
+        if v >= self.variables {
+            return None;
+        }
         self.values.get(v)
     }
 

@@ -44,7 +44,7 @@ some_wanted (Some r) e = omega (arith, ltb-true 0 r.start_inclusive e)
 differs : (a b : Text) → bytes_eq a b ≡ false → a ≡ b → ⊥
 differs a b off same = true≢false (sym ((bytes_eq-Decides a b).1 same) ∙ off)
 
-none_some : {X : Type 0} (x : X) → None ≡ Some x → ⊥
+pub none_some : {X : Type 0} (x : X) → None ≡ Some x → ⊥
 none_some x e = true≢false (sym (ap is_some e))
 
 -- the argument that an id finds, and its place
@@ -90,7 +90,7 @@ some_default (x ∷ xs) e = omega arith
 
 -- what the test asks of an argument
 pub record HasValue (a : Arg) : Type 0 where
-  pub set : a.action ≡ Some Set
+  pub set : (a.action ≡ Some Set) ⊎ (a.value_parser ≡ None)
   pub least : 1 ≤ least_values a
   pub plain : IsPlainArg a
   pub delimiter : a.val_delim ≡ None
@@ -101,7 +101,7 @@ pub record HasValue (a : Arg) : Type 0 where
 pub value_of : (a : Arg) → (has_value (rule_of a) && not (is_own a.id.now)) ≡ true → HasValue a
 value_of a h =
     let t = both (has_value (rule_of a)) _ h in
-    let p = both (is_set a.action) _ t.0 in
+    let p = both (is_set a.action || not (is_some a.value_parser)) _ t.0 in
     let q = both (wants_some a.num_vals) _ p.1 in
     let r = both (rule_of a).is_simple _ q.1 in
     let s = both (rule_of a).is_free _ r.1 in
@@ -114,7 +114,7 @@ value_of a h =
     let n = neither (bytes_eq a.id.now []) _ (is_false _ t.1) in
     let m = neither (bytes_eq a.id.now _) _ n.1 in
     record {
-      set = set_is a.action p.0;
+      set = elim (either (is_set a.action) _ p.0) [ inl set ↦ inl (set_is a.action set) | inr bare ↦ inr (is_none a.value_parser bare) ];
       least = some_wanted a.num_vals q.0;
       plain = (is_false _ x.0, is_nil _ c.0, is_nil _ o.0, is_nil _ g.0);
       delimiter = is_none a.val_delim v.0;

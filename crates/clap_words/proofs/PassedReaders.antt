@@ -23,7 +23,7 @@ use Rattle.clap.proofs.CallerLemmas.{default_present, entry_by_id, present_has_e
 use Rattle.clap.proofs.WalkLemmas.{one_text-rows}
 use Rattle.clap_words.specs.Fit.{has_values}
 use Rattle.clap_words.specs.Passed.{Passed}
-use Rattle.clap_words.proofs.Arguments.{HasValue, HasValues, found_at, values_of}
+use Rattle.clap_words.proofs.Arguments.{HasValue, HasValues, found_at, none_some, values_of}
 
 -- an entry with an id is found by it
 found_in : (xs : List Entry) (id : Text) (i : ℕ) → i < length xs → ((d : Entry) → bytes_eq (slice_index_or xs i d).0.now id ≡ true)
@@ -90,6 +90,9 @@ module _ (old : Command) (m : ArgMatches) (p : IsParsedFrom old m) (has : HasVal
   value : HasValue own
   value = has.each k d lt
 
+  set_with : (by : ValueParser) → own.value_parser ≡ Some by → own.action ≡ Some Set
+  set_with by parser = elim value.set [ inl set ↦ set | inr bare ↦ absurd (none_some by (sym bare ∙ parser)) ]
+
   same_rules : (j : ℕ) (x : Arg) → j < length (args_of p.built) → slice_index_or (args_of p.built) j x ≡ x → bytes_eq x.id.now own.id.now ≡ true → SameRules own x
   same_rules j x lj at same = same_rules_by_id old m p k d lt (λ i e li eq. has.distinct i k d e li lt eq) value.own j x lj at same
 
@@ -110,14 +113,14 @@ module _ (old : Command) (m : ArgMatches) (p : IsParsedFrom old m) (has : HasVal
       sym any.4.1 ∙ ap reading_of (ap parser_of_value (s.parser by parser)))
       (λ any.
       let s = same_rules any.0 any.1 any.2 any.3 any.4.0 in
-      let set : any.1.action ≡ Some Set = s.action Set value.set in
+      let set : any.1.action ≡ Some Set = s.action Set (set_with by parser) in
       let bad : Set ≡ Count = rw set at any.4.1 in
       cc)
       (λ any.
       let s = same_rules any.0 any.1 any.2 any.3 any.4.0 in
       elim any.4.1 [
         | inl none ↦
-            let one = s.least value.set value.least in
+            let one = s.least (set_with by parser) value.least in
             absurd (omega arith)
         | inr splits ↦
             let bad : false ≡ true = rw (s.val_delim, value.delimiter) at splits in

@@ -1,5 +1,5 @@
 -- Commands that can be parsed without a test of the values that they give.
-use Rattle.std.specs.Prelude.{◌≡◌, ◌&&◌, ◌||◌, not, Bool, true, false, Option, Some, None, List, [], ◌∷◌, codes, length, nat_lt}
+use Rattle.std.specs.Prelude.{◌≡◌, ◌&&◌, ◌||◌, not, Bool, true, false, Option, Some, None, is_some, List, [], ◌∷◌, codes, length, nat_lt}
 use Rattle.std.specs.List.{list_all, list_any}
 use Rattle.std.specs.Str.{bytes_eq}
 use Rattle.clap.specs.Walk.{Text, Rule}
@@ -20,9 +20,10 @@ abbrev pub wants_some : Option ValueRange → Bool
 wants_some None = true
 wants_some (Some range) = nat_lt 0 range.start_inclusive
 
--- An argument has one value or more, which the words or a default give, and no rule on another argument.
+-- An argument has one value or more, which the words or a default give, and no rule on another argument. One with a reader
+-- of its own is set by its words; one without may also be given again and again.
 abbrev pub has_value : Rule → Bool
-has_value r = is_set r.action && (wants_some r.range && (r.is_simple && (r.is_free && (r.required || nat_lt 0 (length r.defaults)))))
+has_value r = (is_set r.action || not (is_some r.parser)) && (wants_some r.range && (r.is_simple && (r.is_free && (r.required || nat_lt 0 (length r.defaults)))))
 
 -- The name is none, or one that `clap` has arguments of its own for.
 abbrev pub is_own : Text → Bool

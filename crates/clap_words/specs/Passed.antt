@@ -4,12 +4,16 @@ use Rattle.std.specs.Option.{option_map_or}
 use Rattle.std.specs.Str.Parse.{digits_value, without_leading_plus}
 use Rattle.clap.specs.Lexer.{without_minus}
 use Rattle.clap.specs.Values.{Accepts, IsSignedIn, read_as, reading_of}
-use Rattle.clap.specs.Walk.{Text, Row, Rule, arg_by_id, one_of, first_of}
+use Rattle.clap.specs.Walk.{Text, Row, Rule, arg_by_id, one_of, first_of, all_of}
 use Rattle.clap.specs.declared.builder.value_parser.ValueParser.{ValueParser}
 
 -- The text of an argument.
 abbrev pub text_at : Text → List Row → Text
 text_at id rows = unwrap_or (first_of id rows) []
+
+-- The texts of an argument, in the order of the words.
+abbrev pub texts_at : Text → List Row → List Text
+texts_at id rows = unwrap_or (all_of id rows) []
 
 -- The number of an argument.
 abbrev pub number_at : Text → List Row → ℕ

@@ -15,4 +15,4 @@ mod parsing;
 mod values;
 
 pub use parsing::{Memory, parse};
-pub use values::{number, text};
+pub use values::{number, text, texts};

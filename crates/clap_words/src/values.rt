@@ -1,5 +1,5 @@
-ghost use Rattle.std.specs.Prelude.{◌≡◌, ◌≤◌};
-ghost use Rattle.clap.specs.Words.{found_of, rows_of};
+ghost use Rattle.std.specs.Prelude.{◌≡◌, ◌≤◌, map, option_map};
+ghost use Rattle.clap.specs.Words.{found_of, rows_of, all_of};
 ghost use Rattle.clap_words.specs.Passed.{HasNumber, text_at, number_at};
 
 use clap::ArgMatches;
@@ -9,6 +9,13 @@ pub fn text<'a>(matches: &ArgMatches<'a>, name: &str) -> &'a str
     ensures { result.now ≡ text_at name.now (rows_of (found_of matches.now)) }
 {
     matches.get_str(name).unwrap_or("")
+}
+
+/// The texts of the argument of this name, in the order of the words; `None` where it has none.
+pub fn texts<'m, 'a>(matches: &'m ArgMatches<'a>, name: &str) -> Option<&'m [&'a str]>
+    ensures { option_map (λ found. map (λ text. text.now) found.now) result ≡ all_of name.now (rows_of (found_of matches.now)) }
+{
+    matches.get_strs(name)
 }
 
 /// The number of the argument of this name, which its reader took, from `low` to `high`.

@@ -173,7 +173,7 @@ impl Formula {
     }
 
     /// The literals of the clause with this number, counted from 0 in the order of the list.
-    #[inline]
+    #[inline(always)]
     pub fn clause(&self, number: u32) -> View<'_>
         requires { number < length self.now.clauses }
         ensures value { slice_get self.now.clauses number ≡ Some result }

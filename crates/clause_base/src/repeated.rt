@@ -157,7 +157,7 @@ impl Repeated {
     }
 
     /// The clause of a step.
-    #[inline]
+    #[inline(always)]
     fn step_clause(&self, number: u32) -> View<'_>
         requires { number < self.now.horizon * length self.now.step }
         ensures { slice_get (all_steps self.now) number ≡ Some result }
@@ -176,7 +176,7 @@ impl Repeated {
     }
 
     /// The clause of a time.
-    #[inline]
+    #[inline(always)]
     fn time_clause(&self, number: u32) -> View<'_>
         requires { number < (self.now.horizon + 1) * length self.now.time }
         ensures { slice_get (all_times self.now) number ≡ Some result }
@@ -188,7 +188,7 @@ impl Repeated {
     }
 
     /// The clause with this number: first come those of the steps, step after step, then those of the times.
-    #[inline]
+    #[inline(always)]
     pub fn clause(&self, number: u32) -> View<'_>
         requires { number < length (repeated self.now) }
         ensures value { slice_get (repeated self.now) number ≡ Some result }

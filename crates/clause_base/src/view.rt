@@ -41,7 +41,7 @@ fn shifted(lit: Lit, limit: u32, low: u32, high: u32) -> Lit
 
 impl<'a> View<'a> {
     /// These literals, as they are.
-    #[inline]
+    #[inline(always)]
     pub fn of(lits: &'a [Lit]) -> View<'a>
         ensures { result ≡ lits.now }
     {
@@ -54,7 +54,7 @@ impl<'a> View<'a> {
     }
 
     /// These literals, of which the codes below the limit go up by `low`, and the others by `high`.
-    #[inline]
+    #[inline(always)]
     pub(crate) fn moved(lits: &'a [Lit], limit: u32, low: u32, high: u32) -> View<'a>
         requires { All (StaysCode limit low high) lits.now }
         ensures { result ≡ map (shifted limit low high) lits.now }

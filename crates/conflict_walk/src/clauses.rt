@@ -1,10 +1,11 @@
 //! A solver's clauses by number: first come the formula's, then those that the log learns. A learned clause stands in the log
 //! alone, and is found by the place of its entry, since an entry that drops a clause takes no number.
-ghost use Rattle.std.specs.Prelude.{◌≡◌, ◌+◌, ◌<◌, ◌≤◌, ◌∷◌, [], ◌++◌, true, false, map, length, replicate, slice_set, IsSome, Some, IfOk, OnOk, OnErr};
+ghost use Rattle.std.specs.Prelude.{◌≡◌, ℕ, ◌+◌, ◌<◌, ◌≤◌, ◌∷◌, [], ◌++◌, true, false, map, filter, length, replicate, vec_capacity, slice_set, if◌then◌else◌, IsOk, IsSome, Some, IfOk, OnOk, OnErr};
 ghost use Rattle.clause_base.specs.Derivation.{clauses_of};
 ghost use Rattle.cdcl_rules.specs.State.{clause_at, is_kept};
 ghost use Rattle.cdcl_rules.specs.Reduce.{kept_without};
 ghost use Rattle.conflict_walk.specs.Clauses.{all_clauses, learned_at};
+ghost use Rattle.conflict_walk.specs.Longs.{long_ones};
 
 use clause_base::clause::Clause;
 use clause_base::formula::Formula;
@@ -12,26 +13,33 @@ use clause_base::literal::Lit;
 use clause_base::log::{Entry, Hints, Log};
 use clause_base::memory::Memory;
 use clause_base::view::View;
-use std::alloc::Global;
+use std::alloc::{AllocError, Global};
 use std::marker::Model;
 
-/// A solver's clauses, and which of them are kept.
+/// A learned clause with no more literals than these is never dropped.
+const SHORT: usize = 8;
+
+/// A solver's clauses, which of them are kept, and the numbers of the learned ones that are kept and long.
 #[derive(Drop)]
 pub struct Clauses {
     formula: Formula,
     log: Log,
     places: Vec<usize>,
     kept: Vec<bool>,
+    longs: Vec<u32>,
 }
 
 impl Model for Clauses {
+    ghost use Rattle.std.specs.Prelude.{◌≡◌, ◌++◌, length};
+    ghost use Rattle.clause_base.specs.Derivation.{clauses_of};
     ghost use Rattle.conflict_walk.specs.Clauses.{ClausesView, IsPlaced};
+    ghost use Rattle.conflict_walk.specs.Longs.{long_ones};
 
     ghost Value = { ClausesView };
 
     ghost view = { λ c. record { formula = c.formula; log = c.log; kept = c.kept.items } };
 
-    ghost invariant = { λ c. IsPlaced c.formula c.log c.places.items c.kept.items };
+    ghost invariant = { λ c. IsPlaced c.formula c.log c.places.items c.kept.items × (c.longs.items ≡ long_ones (length c.formula.clauses) (c.formula.clauses ++ clauses_of c.log) c.kept.items) };
 }
 
 /// The clause that the entry at a place learns.
@@ -42,6 +50,46 @@ fn learned_at(log: &Log, place: usize) -> &[Lit]
     match &log.as_slice()[place] {
         Entry::Learn { clause, .. } => clause.as_slice(),
         Entry::Drop { .. } => &[],
+    }
+}
+
+/// Adds a number for which there is room, if it is that of a long clause.
+fn add_long(longs: &mut Vec<u32>, number: u32, is_long: bool) -> Result<(), AllocError>
+    requires { length longs.old.items < vec_capacity longs.old }
+    ensures ok { IsOk result }
+    ensures added { longs.new.items ≡ (if is_long then longs.old.items ++ number ∷ [] else longs.old.items) }
+{
+    if is_long {
+        longs.push(number)?;
+    }
+    Ok(())
+}
+
+/// Whether there is a flag with a number and it is set.
+fn has_flag(kept: &[bool], number: u32) -> bool
+    ensures { result ≡ is_kept kept.now number }
+{
+    match kept.get(number as usize) {
+        Some(flag) => *flag,
+        None => false,
+    }
+}
+
+/// Keeps of some numbers those of clauses that are kept.
+fn keep_longs(longs: &mut Vec<u32>, kept: &[bool])
+    ensures { longs.new.items ≡ filter (is_kept kept.now) longs.old.items }
+{
+    longs.retain(|number| has_flag(kept, *number));
+}
+
+/// Takes the flags of some numbers away.
+fn take_flags(kept: &mut Vec<bool>, numbers: &[u32])
+    ensures { kept.new.items ≡ kept_without kept.old.items numbers.now }
+{
+    for number in numbers {
+        if let Some(flag) = kept.get_mut(*number as usize) {
+            *flag = false;
+        }
     }
 }
 
@@ -56,6 +104,7 @@ impl Clauses {
             log: Log::new(alloc),
             places: Vec::new(alloc),
             kept,
+            longs: Vec::new(alloc),
         })
     }
 
@@ -121,6 +170,13 @@ impl Clauses {
         self.kept[number as usize]
     }
 
+    /// The numbers of the learned clauses that are kept and have more than 8 literals, rising.
+    pub fn longs(&self) -> &[u32]
+        ensures { result.now ≡ long_ones (length self.now.formula.clauses) (all_clauses self.now) self.now.kept }
+    {
+        self.longs.as_slice()
+    }
+
     /// Learns a clause from those that the hints name. After want of memory nothing has changed.
     pub fn learn(&mut self, clause: Clause, hints: Hints) -> Result<(), Memory>
         requires { length (clauses_of self.old.log) < 1073741824 }
@@ -128,11 +184,15 @@ impl Clauses {
         ensures err { OnErr result (self.new ≡ self.old) }
     {
         let place = self.log.as_slice().len();
+        let number = self.count();
+        let is_long = clause.as_slice().len() > SHORT;
         self.places.reserve(1)?;
         self.kept.reserve(1)?;
+        self.longs.reserve(1)?;
         self.log.push(Entry::Learn { clause, hints })?;
         self.places.push(place)?;
         self.kept.push(true)?;
+        add_long(&mut self.longs, number, is_long)?;
         Ok(())
     }
 
@@ -142,11 +202,8 @@ impl Clauses {
         ensures err { OnErr result (self.new ≡ self.old) }
     {
         self.log.push_drops(numbers)?;
-        for number in numbers {
-            if let Some(flag) = self.kept.get_mut(*number as usize) {
-                *flag = false;
-            }
-        }
+        take_flags(&mut self.kept, numbers);
+        keep_longs(&mut self.longs, &self.kept);
         Ok(())
     }
 }

@@ -6,14 +6,25 @@ use gt_core::task::Task;
 use std::alloc::Global;
 use std::test::Fail;
 
+/// An effect under a condition.
+pub(crate) fn effect_if(alloc: Global, condition: &[u32], lit: u32) -> Result<Eff, Fail> {
+    let condition = Vec::from_slice(alloc, condition)?;
+    Ok(Eff::new(Lits::of(condition), lit))
+}
+
+/// An action with these effects.
+pub(crate) fn acting(alloc: Global, pre: &[u32], effects: Vec<Eff>) -> Result<Act, Fail> {
+    let pre = Vec::from_slice(alloc, pre)?;
+    Ok(Act::new(Lits::of(pre), Effs::of(effects)))
+}
+
 /// An action whose effects have no condition.
 pub(crate) fn action(alloc: Global, pre: &[u32], lits: &[u32]) -> Result<Act, Fail> {
     let mut effects = Vec::new(alloc);
     for lit in lits {
-        effects.push(Eff::new(Lits::of(Vec::new(alloc)), *lit))?;
+        effects.push(effect_if(alloc, &[], *lit)?)?;
     }
-    let pre = Vec::from_slice(alloc, pre)?;
-    Ok(Act::new(Lits::of(pre), Effs::of(effects)))
+    acting(alloc, pre, effects)
 }
 
 /// The task of these actions over so many facts, with the goal that the first one holds.

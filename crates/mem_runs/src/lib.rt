@@ -20,9 +20,9 @@ pub fn shelf_of(alloc: Global, files: &[Named], failing: &[u32]) -> Result<MemSh
     Ok(MemShelf::new(alloc, shelved(alloc, files)?, failing))
 }
 
-/// An empty sink that fails at no call and has room for 2,000 bytes, of which it takes at most 1,000 a call.
+/// An empty sink that fails at no call and has room for 100,000 bytes, of which it takes at most 1,000 a call.
 pub fn ample_sink(alloc: Global) -> Result<MemSink, Memory> {
-    MemSink::new(alloc, 1000, Numbers::of(Vec::new(alloc)), 2000)
+    MemSink::new(alloc, 1000, Numbers::of(Vec::new(alloc)), 100_000)
 }
 
 /// Runs these words, which stand in one text with a blank between each two, on a shelf, and writes into the sink; the

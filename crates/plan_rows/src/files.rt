@@ -5,8 +5,8 @@ use std::alloc::{AllocError, Global};
 /// A file for the runs after it.
 #[derive(Drop)]
 pub struct Given<'a> {
-    name: &'a str,
-    text: String,
+    pub name: &'a str,
+    pub text: String,
 }
 
 /// The files as a run takes them.

@@ -6,6 +6,7 @@
 //! %file|NAME|TEXT|                     a file for all runs after it
 //! %many|NAME|HEAD|WORD|COUNT|TAIL|     the same, with `WORD0`, `WORD1`, .. between HEAD and TAIL, a blank before each
 //! %long|NAME|HEAD|END|LENGTH|          the same, with HEAD and then the byte END up to a length
+//! %kept|NAME|WORDS|                    the same, with what these words print
 //! %run|SHOWS|WORDS|MORE|..|            a run: what it shows, and its words, with a blank between each two
 //! %words|WORDS|                        what these words ask for
 //! ```
@@ -69,6 +70,24 @@ fn write_row<H: Threads + Wait + Sync>(
     Ok(())
 }
 
+/// Adds a file with what a run prints.
+fn keep<'a, H: Threads + Wait + Sync>(
+    rt: &H,
+    alloc: Global,
+    part: &'a str,
+    files: &mut Vec<Given<'a>>,
+) -> io::Result<()> {
+    let mut fields = part.split('|').skip(1);
+    let name = fields.next().unwrap_or("");
+    let words = fields.next().unwrap_or("");
+    let named = named(alloc, files.as_slice())?;
+    if let Ok((_, text)) = run_once(rt, alloc, words, named.as_slice(), &[]) {
+        let text = String::from_utf8(text).unwrap_or(String::new(alloc));
+        files.push(Given { name, text })?;
+    }
+    Ok(())
+}
+
 /// Writes words and what they ask for.
 fn write_words(alloc: Global, row: &str, out: &mut (impl Write + Drop)) -> io::Result<()> {
     let words = row.split('|').nth(1).unwrap_or("");
@@ -84,6 +103,8 @@ fn main(rt: HostRuntime) -> io::Result<()> {
     for part in input.split('%').skip(1) {
         if part.starts_with("run|") {
             write_row(&rt, alloc, part, files.as_slice(), &mut out)?;
+        } else if part.starts_with("kept|") {
+            keep(&rt, alloc, part, &mut files)?;
         } else if part.starts_with("words|") {
             write_words(alloc, part, &mut out)?;
         } else {

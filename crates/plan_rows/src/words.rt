@@ -1,19 +1,23 @@
 //! What words ask for.
 use horizon_rates::Settings;
 use mem_runs::split;
-use plan_words::{Memory, Request, read_words};
+use plan_words::{Memory, Request, Stepping, read_words};
 use std::alloc::{AllocError, Global};
 
 /// What is asked for, with the settings in the order of the table of options.
 fn told(alloc: Global, request: &Request<'_>) -> Result<String, AllocError> {
     match request {
         Request::Plan {
+            stepping,
             domain,
             problem,
             settings,
         } => {
             let settings = numbers(alloc, settings)?;
-            format!(in alloc; "plan {domain} {problem} {settings}")
+            match stepping {
+                Stepping::Exists => format!(in alloc; "plan {domain} {problem} {settings}"),
+                Stepping::All => format!(in alloc; "plan-all {domain} {problem} {settings}"),
+            }
         }
         Request::Check {
             domain,
@@ -31,7 +35,38 @@ fn told(alloc: Global, request: &Request<'_>) -> Result<String, AllocError> {
             let settings = numbers(alloc, settings)?;
             format!(in alloc; "gen {kind:?} {number} {settings} {show:?}")
         }
+        Request::Prove {
+            domain,
+            problem,
+            horizon,
+            budget,
+        } => format!(in alloc; "prove {domain} {problem} {horizon} {budget}"),
+        Request::Verify {
+            domain,
+            problem,
+            certificate,
+        } => format!(in alloc; "verify {domain} {problem} {certificate}"),
+        Request::Batch {
+            domain,
+            problems,
+            settings,
+            turns,
+        } => {
+            let settings = numbers(alloc, settings)?;
+            let problems = listed(alloc, problems.as_slice())?;
+            format!(in alloc; "batch {domain}{problems} {settings} {turns:?}")
+        }
     }
+}
+
+/// Names, each after a blank.
+fn listed(alloc: Global, names: &[&str]) -> Result<String, AllocError> {
+    let mut text = String::new(alloc);
+    for name in names {
+        text.push_str(" ")?;
+        text.push_str(name)?;
+    }
+    Ok(text)
 }
 
 /// The numbers of settings.

@@ -1,5 +1,5 @@
 -- What is answered of two files, or of three, is what the files decide; and what is handed on.
-use Rattle.std.proofs.Common.{◌≡◌, ◌≤◌, ◌<◌, ◌∙◌, ℕ, Bool, List, [], ◌∷◌, length, get_or, Result, refl, subst, ap, arith}
+use Rattle.std.proofs.Common.{◌≡◌, ◌≤◌, ◌<◌, ◌∙◌, ℕ, Bool, List, [], ◌∷◌, length, get_or, Result, refl, sym, subst, ap, arith}
 use Rattle.std.specs.Prelude.{IsErrAnd}
 use Rattle.std.specs.List.{AllByRecursion}
 use Rattle.std.proofs.lemmas.List.{length-map}
@@ -14,6 +14,8 @@ use Rattle.race.specs.Ends.{WherePlanned, AreActions, SumsWithin}
 use Rattle.plan_report.specs.Laws.{HasActionsBelow}
 use Rattle.plan_top.specs.declared.stop.Stop.{Stop}
 use Rattle.plan_top.specs.declared.ending.Ending.{Ending}
+use Rattle.plan_top.specs.declared.ending.File.{File}
+use Rattle.plan_top.specs.Files.{AreShort, most_of}
 use Rattle.plan_top.specs.Ends.{EndsBy, EndsAs}
 use Rattle.plan_top.specs.Tasks.{AreTask, IsReady, StopsTask, RefusesTask, OnceRead, not_read, OnceGrounded, not_grounded, grounded}
 use Rattle.plan_top.specs.Raced.{OnceRaced, too_large, TellsTooLarge}
@@ -40,6 +42,22 @@ of_three claim (a ∷ (b ∷ (c ∷ (d ∷ others)))) first second third three o
 pub of_none : (files : List (List ℕ)) → length files ≡ 0 → files ≡ []
 of_none [] none = refl
 of_none (f ∷ fs) none = absurd (omega arith)
+
+-- the first two files and the third have no more bytes than they may have
+pub first_short : (file : ℕ → File) (files : List (List ℕ)) (first : List ℕ) → AreShort file 0 files → 1 ≤ length files → first ≡ get_or files 0 first → length first ≤ most_of (file 0)
+first_short file [] first short some is = absurd (omega arith)
+first_short file (a ∷ others) first short some is = subst (λ (x : List ℕ). length x ≤ most_of (file 0)) (sym is) short.0
+
+pub second_short : (file : ℕ → File) (files : List (List ℕ)) (second : List ℕ) → AreShort file 0 files → 2 ≤ length files → second ≡ get_or files 1 second → length second ≤ most_of (file 1)
+second_short file [] second short some is = absurd (omega arith)
+second_short file (a ∷ []) second short some is = absurd (omega arith)
+second_short file (a ∷ (b ∷ others)) second short some is = subst (λ (x : List ℕ). length x ≤ most_of (file 1)) (sym is) short.1.0
+
+pub third_short : (file : ℕ → File) (files : List (List ℕ)) (third : List ℕ) → AreShort file 0 files → 3 ≤ length files → third ≡ get_or files 2 third → length third ≤ most_of (file 2)
+third_short file [] third short some is = absurd (omega arith)
+third_short file (a ∷ []) third short some is = absurd (omega arith)
+third_short file (a ∷ (b ∷ [])) third short some is = absurd (omega arith)
+third_short file (a ∷ (b ∷ (c ∷ others))) third short some is = subst (λ (x : List ℕ). length x ≤ most_of (file 2)) (sym is) short.1.1.0
 
 -- ---- what is handed on
 

@@ -10,6 +10,7 @@ use Rattle.clause_base.specs.Formula.{assignment_of}
 use Rattle.cdcl_rules.specs.State.{State}
 use Rattle.gt_core.specs.Published.{IsPublished, order_of}
 use Rattle.gt_core.specs.Task.{Task}
+use Rattle.gt_core.specs.Laws.{NeverItself}
 use Rattle.horizon_rates.specs.declared.settings.Settings.{Settings}
 use Rattle.pd_model.specs.Fits.{is_call}
 use Rattle.pd_model.specs.Exec.{exec_schema}
@@ -19,7 +20,7 @@ use Rattle.pd_model.specs.declared.calls.Call.{Call}
 use Rattle.pd_model.specs.declared.parts.Parts.{Parts}
 use Rattle.grounding.specs.Grounded.{Grounded, IsGrounded}
 use Rattle.grounding.specs.Laws.{AreNumbers}
-use Rattle.step_laws.specs.Form.{OrderedTask, member_at}
+use Rattle.step_laws.specs.Form.{OrderedTask, AreSets, member_at}
 use Rattle.race_end.specs.declared.line.LineEnd.{LineEnd}
 use Rattle.race_end.specs.declared.line.LineEnd.TheVariants as ends
 use Rattle.race_end.specs.declared.line.Line.{Line}
@@ -29,15 +30,16 @@ use Rattle.race_end.specs.Ends.{Word, WordRefuted, WordDropped, WordOpen, WordPl
 use Rattle.race.specs.Input.{RaceInput}
 use Rattle.race.specs.Lines.{IsLine, IsMarked, WhereRefuted, state_of_line, standing_of as standing_at}
 use Rattle.step_plans.specs.Plans.{AreStepPlan, IsStepPlanOf, AreListed, actions_in}
-use Rattle.step_plans.specs.Laws.{SetsOfFormsAreListed}
 use Rattle.plan_report.specs.Report.{word_text, entry_of, plan_line, conflicts_line, last_lines, report_of}
 use Rattle.plan_report.specs.Laws.{IsSmall, HasCalls, Tells}
-use Rattle.plan_top.specs.Known.{IsOrdered}
+use Rattle.certificates.specs.Known.{IsOrdered, form_of, choice_at, formula_at}
 use Rattle.plan_top.specs.Laws.{Laws}
-use Rattle.plan_top.specs.Stepping.{Stepping, Exists, AreSets, places_by, is_plan_by, bars_by}
+use Rattle.plan_words.specs.declared.request.Stepping.{Stepping}
+use Rattle.plan_words.specs.declared.request.Stepping.TheVariants.{Exists, All}
+use Rattle.plan_top.specs.Stepping.{places_by, is_plan_by, bars_by}
 use Rattle.plan_top.specs.Tasks.{IsReady}
-use Rattle.plan_top.specs.Raced.{form_of, steps_at, choice_at, formula_at, input_of, ComesTo}
-use Rattle.plan_top.specs.Headline.{OfGrounded, HasStepPlan, PlanRuns, HasAtLeast, NoStepPlan, NoPlan, IsSo, LineIsSo, standing_of, conflicts_of, horizon_words, SpendsAll}
+use Rattle.plan_top.specs.Raced.{input_of, ComesTo}
+use Rattle.plan_top.specs.Headline.{OfGrounded, HasStepPlan, PlanRuns, HasAtLeast, NoStepPlan, NoPlan, IsSo, LineIsSo, standing_of, conflicts_of, line_words, SpendsAll}
 
 -- ---- lines and the words in them
 
@@ -109,22 +111,22 @@ conflicts_same (line ∷ lines) = ap (λ (n : ℕ). line.conflicts + n) (conflic
 -- what a plan in steps of a kind is, as the laws of step plans have it
 pub as_barred : (how : Stepping) (task : Task) (order : List ℕ) (sets : ℕ → ℕ → Bool) (n : ℕ) → is_plan_by how task order sets n → IsStepPlanOf (bars_by how task) task order sets n
 as_barred Exists task order sets n plan = record { plan = plan; each = λ t lt a b x y. refl }
+as_barred All task order sets n plan = record { plan = plan.plan; each = plan.none }
 
 from_barred : (how : Stepping) (task : Task) (order : List ℕ) (sets : ℕ → ℕ → Bool) (n : ℕ) → IsStepPlanOf (bars_by how task) task order sets n → is_plan_by how task order sets n
 from_barred Exists task order sets n of = of.plan
+from_barred All task order sets n of = record { plan = of.plan; none = of.each }
 
-bars_itself : (how : Stepping) (task : Task) (a : ℕ) → bars_by how task a a ≡ false
-bars_itself Exists task a = refl
-
-listed_by : SetsOfFormsAreListed → (how : Stepping) (form : OrderedTask) (n : ℕ) (values : ℕ → Bool) → AreListed (order_of form.components) (steps_at form (places_by how form.task form.components) n values)
-listed_by law Exists form n values = law form n values
+bars_itself : NeverItself → (how : Stepping) (task : Task) (a : ℕ) → bars_by how task a a ≡ false
+bars_itself itself Exists task a = refl
+bars_itself itself All task a = itself task a
 
 -- the word of a line is one of the four
-words_in : (lines : List LineView) → AllByRecursion (λ e. Contains horizon_words e.word) (map entry_of lines)
+words_in : (lines : List LineView) → AllByRecursion (λ e. Contains line_words e.word) (map entry_of lines)
 words_in [] = tt
 words_in (line ∷ lines) = (one line.word, words_in lines)
   where
-    one : (word : Word) → Contains horizon_words (word_text word)
+    one : (word : Word) → Contains line_words (word_text word)
     one WordRefuted = (0, omega arith, refl)
     one WordDropped = (1, omega arith, refl)
     one WordOpen = (2, omega arith, refl)
@@ -166,7 +168,7 @@ module _ (laws : Laws) (task : Parts) (g : Grounded) (ready : IsReady task g) (c
 
     pub no_plan : NoPlan horizon task
     no_plan calls short plan =
-        let s = laws.short (bars_by how g.task) task g (order_of components) horizon calls (bars_itself how g.task) ready.grounded short plan in
+        let s = laws.short (bars_by how g.task) task g (order_of components) horizon calls (bars_itself laws.itself how g.task) ready.grounded short plan in
         no_sets s.0 s.1
 
 module _ (laws : Laws) (how : Stepping) (settings : Settings) (task : Parts) (g : Grounded) (ready : IsReady task g) where
@@ -213,7 +215,7 @@ module _ (laws : Laws) (how : Stepping) (settings : Settings) (task : Parts) (g 
     is_listed : AreListed (order_of comes.components) steps
     is_listed =
         let s = comes.steps in
-        subst (AreListed (order_of comes.components)) (sym s.2) (listed_by laws.listed how (form_of g.task comes.clauses comes.components) horizon (assignment_of s.0))
+        subst (AreListed (order_of comes.components)) (sym s.2) (laws.listed (form_of g.task comes.clauses comes.components) (places_by how g.task comes.components) horizon (assignment_of s.0))
 
     is_plan : AreStepPlan g.task (order_of comes.components) steps horizon
     is_plan = let p = comes.plan in record { long = p.long; plan = (as_barred how g.task (order_of comes.components) (member_at steps) horizon p.plan).plan }

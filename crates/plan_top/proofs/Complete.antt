@@ -1,5 +1,6 @@
 -- Words and files that are in order are answered.
-use Rattle.std.proofs.Common.{◌≡◌, ◌<◌, ◌≤◌, ℕ, ◌+◌, Bool, List, [], ◌∷◌, ◌++◌, length, Option, Some, Ok, Err, refl, sym, subst, ap, ◌∙◌, arith, inl, inr}
+use Rattle.std.proofs.Common.{◌≡◌, ◌<◌, ◌≤◌, ℕ, ◌+◌, Bool, List, [], ◌∷◌, ◌++◌, length, Option, Some, None, Ok, Err, refl, sym, subst, ap, ◌∙◌, arith, inl, inr}
+use Rattle.std.specs.Prelude.{Contains}
 use Rattle.std.specs.List.{AllZip, AllByRecursion}
 use Rattle.pd_sexp.specs.Tree.{Tree}
 use Rattle.pd_sexp.specs.Fault.{Reads}
@@ -14,7 +15,8 @@ use Rattle.plan_report.specs.Report.{report_of, summary_of}
 use Rattle.pd_model.specs.declared.parts.Parts.{Parts}
 use Rattle.plan_gen.specs.declared.Kind.{Kind as Generated}
 use Rattle.plan_gen.specs.Task.{domain_of, problem_of}
-use Rattle.plan_words.specs.Seen.{Seen, plans, checks, grounds, orders, generates, files_of}
+use Rattle.plan_words.specs.Seen.{Seen, plans_by, checks, grounds, orders, generates, proves, verifies, batches, files_of}
+use Rattle.plan_words.specs.declared.request.Stepping.{Stepping}
 use Rattle.plan_words.specs.declared.request.Show.{Show}
 use Rattle.plan_words.specs.declared.request.Show.TheVariants as shows
 use Rattle.plan_top.specs.declared.ending.Kind.{Kind}
@@ -22,14 +24,24 @@ use Rattle.plan_top.specs.declared.ending.Kind.TheVariants as kinds
 use Rattle.plan_top.specs.declared.ending.Limit.{Limit}
 use Rattle.plan_top.specs.declared.ending.Limit.TheVariants as limits
 use Rattle.plan_top.specs.declared.ending.Ending.{Ending}
-use Rattle.plan_top.specs.declared.ending.Ending.TheVariants.{Report}
-use Rattle.plan_top.specs.Files.{StopsFrom, RoseAmong, most_bytes}
-use Rattle.plan_top.specs.Stepping.{Exists, places_by, is_plan_by}
+use Rattle.plan_top.specs.declared.ending.Ending.TheVariants.{Report, TooLarge}
+use Rattle.plan_top.specs.declared.ending.File.{File}
+use Rattle.plan_top.specs.Files.{StopsFrom, RoseAmong, AreShort, file_at, most_of}
+use Rattle.gt_core.specs.Step.{IsStepPlan}
+use Rattle.step_clauses.specs.Variables.{chain_places}
+use Rattle.clause_base.specs.declared.log.Entry.{Entry}
+use Rattle.proof_text.specs.Place.{IsUnfitAt}
+use Rattle.proof_text.specs.Laws.{TextsAreFit}
+use Rattle.certificates.specs.Certificate.{IsSpelled}
+use Rattle.certificates.specs.declared.prove.Proved.{Proved}
+use Rattle.certificates.specs.declared.prove.Proved.TheVariants as proved
+use Rattle.certificates.specs.declared.verify.Judged.{Judged}
+use Rattle.certificates.specs.declared.verify.Judged.TheVariants as judged
 use Rattle.plan_top.specs.Tasks.{AreTask, RefusesTask, IsTreeFault, domain_tree, problem_tree, no_task, OnceRead, not_read, read, refused, past, OnceGrounded, not_grounded, grounded, IsOver}
 use Rattle.plan_top.specs.Raced.{OnceRaced, too_large, ended, outcome_of}
 use Rattle.plan_top.specs.Generated.{AnswersGenerated, TellsGenerated, generated_line}
-use Rattle.plan_top.specs.Causes.{OfTwo, OfThree, Decides, AnswersPlan, AnswersGround, AnswersOrder, AnswersCheck, ending_of, Comes}
-use Rattle.plan_top.specs.Complete.{GoesWell, AreWithin, AreChecked, AreInOrder, IsGood}
+use Rattle.plan_top.specs.Causes.{OfTwo, OfThree, Decides, AnswersPlan, AnswersGround, AnswersOrder, AnswersCheck, AnswersProve, not_run, run, AnswersVerify, unfit, beyond, spelled, not_checked, checked, ending_of_run, ending_of_check, ending_of, Comes}
+use Rattle.plan_top.specs.Complete.{GoesWell, AreWithin, AreChecked, AreSpelled, AreInOrder, IsGood}
 use Rattle.plan_top.specs.Ending.{status_of}
 use Rattle.gt_core.specs.Lawful.{conditional_in}
 use Rattle.grounding.specs.Grounded.{Grounded, IsGrounded}
@@ -37,14 +49,17 @@ use Rattle.grounding.specs.Limits.{IsWithin}
 use Rattle.grounding.proofs.Unique.{one_result}
 use Rattle.plan_top.proofs.Told.{at_some, of_told_at, IsOfRequest, asked_comes}
 
-good_zero : (end : Ending) → status_of end ≡ 0 → IsGood end
-good_zero end zero = inl (0, omega arith, sym zero)
+good_zero : (request : Seen) (end : Ending) → status_of end ≡ 0 → IsGood request end
+good_zero request end zero = inl (0, omega arith, sym zero)
 
-good_one : (end : Ending) → status_of end ≡ 1 → IsGood end
-good_one end one = inl (1, omega arith, sym one)
+good_one : (request : Seen) (end : Ending) → status_of end ≡ 1 → IsGood request end
+good_one request end one = inl (1, omega arith, sym one)
 
-good_two : (end : Ending) → status_of end ≡ 2 → IsGood end
-good_two end two = inl (2, omega arith, sym two)
+good_two : (request : Seen) (end : Ending) → status_of end ≡ 2 → IsGood request end
+good_two request end two = inl (2, omega arith, sym two)
+
+good_large : (request : Seen) (end : Ending) (horizon count : ℕ) → end ≡ TooLarge horizon count → IsGood request end
+good_large request end horizon count e = inr (inl (horizon, count, e))
 
 -- ---- a task is refused for nothing
 
@@ -88,85 +103,118 @@ not_over task g limits.Effects count is fits over =
 -- ---- what is decided
 
 -- two texts that are a task within the limits
-within_good : (domain problem : List ℕ) (answers : Parts → Grounded → Ending → Type 0) (end : Ending) → AreWithin domain problem → ((task : Parts) (g : Grounded) → answers task g end → IsGood end)
-    → OnceGrounded domain problem answers end → IsGood end
-within_good domain problem answers end order good (not_grounded (refused r)) = absurd (not_refused domain problem order.0 end order.1 r)
-within_good domain problem answers end order good (not_grounded (past task are over)) =
+within_good : (request : Seen) (domain problem : List ℕ) (answers : Parts → Grounded → Ending → Type 0) (end : Ending) → AreWithin domain problem → ((task : Parts) (g : Grounded) → answers task g end → IsGood request end)
+    → OnceGrounded domain problem answers end → IsGood request end
+within_good request domain problem answers end order good (not_grounded (refused r)) = absurd (not_refused domain problem order.0 end order.1 r)
+within_good request domain problem answers end order good (not_grounded (past task are over)) =
     let g = order.2 in
     let same : task ≡ order.0 = same_task domain problem order.0 task order.1 are in
     absurd (not_over order.0 g.0 over.0 over.1 g.1 g.2 (subst (λ (t : Parts). IsOver over.0 t over.1) same over.3))
-within_good domain problem answers end order good (grounded task g are ready h) = good task g h
+within_good request domain problem answers end order good (grounded task g are ready h) = good task g h
 
-race_good : (race : EndView) (text : List ℕ) (end : Ending) → end ≡ Report (outcome_of race) text → IsGood end
-race_good (Planned horizon steps lines) text end told = good_zero end (ap status_of told)
-race_good (Exhausted horizon lines) text end told = good_one end (ap status_of told)
-race_good (Unfinished lines) text end told = good_two end (ap status_of told)
+race_good : (request : Seen) (race : EndView) (text : List ℕ) (end : Ending) → end ≡ Report (outcome_of race) text → IsGood request end
+race_good request (Planned horizon steps lines) text end told = good_zero request end (ap status_of told)
+race_good request (Exhausted horizon lines) text end told = good_one request end (ap status_of told)
+race_good request (Unfinished lines) text end told = good_two request end (ap status_of told)
 
-plan_good : (settings : Settings) (task : Parts) (g : Grounded) (end : Ending) → AnswersPlan Exists settings task g end → IsGood end
-plan_good settings task g end (too_large over) = inr (over.0, over.1, over.2)
-plan_good settings task g end (ended race comes tells) = race_good (end_view race) (report_of task g settings.budget (end_view race)) end tells.told
+plan_good : (request : Seen) (steps : Stepping) (settings : Settings) (task : Parts) (g : Grounded) (end : Ending) → AnswersPlan steps settings task g end → IsGood request end
+plan_good request steps settings task g end (too_large over) = good_large request end over.0 over.1 over.2
+plan_good request steps settings task g end (ended race comes tells) = race_good request (end_view race) (report_of task g settings.budget (end_view race)) end tells.told
 
-generated_good : (kind : Generated) (number : ℕ) (settings : Settings) (g : Grounded) (end : Ending) → OnceRaced (places_by Exists) (is_plan_by Exists) g.task settings (TellsGenerated kind number settings) end → IsGood end
-generated_good kind number settings g end (too_large over) = inr (over.0, over.1, over.2)
-generated_good kind number settings g end (ended race comes told) = race_good (end_view race) (generated_line kind number ++ summary_of settings.budget (end_view race)) end told
+generated_good : (request : Seen) (kind : Generated) (number : ℕ) (settings : Settings) (g : Grounded) (end : Ending) → OnceRaced chain_places IsStepPlan g.task settings (TellsGenerated kind number settings) end → IsGood request end
+generated_good request kind number settings g end (too_large over) = good_large request end over.0 over.1 over.2
+generated_good request kind number settings g end (ended race comes told) = race_good request (end_view race) (generated_line kind number ++ summary_of settings.budget (end_view race)) end told
 
-verdict_good : (v : Verdict) → IsGood (ending_of v)
-verdict_good verdicts.Reaches = good_zero (ending_of verdicts.Reaches) refl
-verdict_good (verdicts.Blocked index) = good_one (ending_of (verdicts.Blocked index)) refl
-verdict_good verdicts.Short = good_one (ending_of verdicts.Short) refl
+verdict_good : (request : Seen) (v : Verdict) → IsGood request (ending_of v)
+verdict_good request verdicts.Reaches = good_zero request (ending_of verdicts.Reaches) refl
+verdict_good request (verdicts.Blocked index) = good_one request (ending_of (verdicts.Blocked index)) refl
+verdict_good request verdicts.Short = good_one request (ending_of verdicts.Short) refl
 
-check_good : (task : Parts) (bytes : List ℕ) (calls : List Call) (end : Ending) → plan_file task bytes ≡ Ok calls → AnswersCheck task bytes end → IsGood end
-check_good task bytes calls end is (inl h) = subst IsGood (sym h.2) (verdict_good (verdict task h.0))
-check_good task bytes calls end is (inr h) = absurd (let never : Ok calls ≡ Err h.0 = sym is ∙ h.1 in cc)
+check_good : (request : Seen) (task : Parts) (bytes : List ℕ) (calls : List Call) (end : Ending) → plan_file task bytes ≡ Ok calls → AnswersCheck task bytes end → IsGood request end
+check_good request task bytes calls end is (inl h) = subst (IsGood request) (sym h.2) (verdict_good request (verdict task h.0))
+check_good request task bytes calls end is (inr h) = absurd (let never : Ok calls ≡ Err h.0 = sym is ∙ h.1 in cc)
 
-checked_good : (domain problem bytes : List ℕ) (end : Ending) → AreChecked domain problem bytes → OnceRead domain problem (λ task. AnswersCheck task bytes) end → IsGood end
-checked_good domain problem bytes end order (not_read r) = absurd (not_refused domain problem order.0 end order.1 r)
-checked_good domain problem bytes end order (read task are h) =
+checked_good : (request : Seen) (domain problem bytes : List ℕ) (end : Ending) → AreChecked domain problem bytes → OnceRead domain problem (λ task. AnswersCheck task bytes) end → IsGood request end
+checked_good request domain problem bytes end order (not_read r) = absurd (not_refused domain problem order.0 end order.1 r)
+checked_good request domain problem bytes end order (read task are h) =
     let same : task ≡ order.0 = same_task domain problem order.0 task order.1 are in
-    check_good order.0 bytes order.2.0 end order.2.1 (subst (λ (t : Parts). AnswersCheck t bytes end) same h)
+    check_good request order.0 bytes order.2.0 end order.2.1 (subst (λ (t : Parts). AnswersCheck t bytes end) same h)
 
-shown_good : (kind : Generated) (number : ℕ) (settings : Settings) (show : Show) (end : Ending) → AreWithin (domain_of kind) (problem_of kind number) → AnswersGenerated kind number settings show end → IsGood end
-shown_good kind number settings shows.Domain end order h = good_zero end (ap status_of h)
-shown_good kind number settings shows.Problem end order h = good_zero end (ap status_of h)
-shown_good kind number settings shows.None end order h =
-    within_good (domain_of kind) (problem_of kind number) (λ task g. OnceRaced (places_by Exists) (is_plan_by Exists) g.task settings (TellsGenerated kind number settings)) end order (λ task g. generated_good kind number settings g end) h
+shown_good : (request : Seen) (kind : Generated) (number : ℕ) (settings : Settings) (show : Show) (end : Ending) → AreWithin (domain_of kind) (problem_of kind number) → AnswersGenerated kind number settings show end → IsGood request end
+shown_good request kind number settings shows.Domain end order h = good_zero request end (ap status_of h)
+shown_good request kind number settings shows.Problem end order h = good_zero request end (ap status_of h)
+shown_good request kind number settings shows.None end order h =
+    within_good request (domain_of kind) (problem_of kind number) (λ task g. OnceRaced chain_places IsStepPlan g.task settings (TellsGenerated kind number settings)) end order (λ task g. generated_good request kind number settings g end) h
+
+prove_good : (d p : List ℕ) (h b : ℕ) (task : Parts) (g : Grounded) (end : Ending) → AnswersProve h b task g end → IsGood (proves d p h b) end
+prove_good d p h b task g end (not_run count many e) = good_large (proves d p h b) end h count e
+prove_good d p h b task g end (run r so e) = step r e
+  where
+    step : (r : Proved) → end ≡ ending_of_run h r → IsGood (proves d p h b) end
+    step (proved.Certificate text) told = good_zero (proves d p h b) end (ap status_of told)
+    step proved.TooLong told = inr (inr (tt, told))
+    step (proved.Plan conflicts) told = good_one (proves d p h b) end (ap status_of told)
+    step (proved.Open conflicts) told = good_two (proves d p h b) end (ap status_of told)
+
+verify_good : (request : Seen) (task : Parts) (g : Grounded) (bytes : List ℕ) (end : Ending) → TextsAreFit → IsGrounded task g → IsWithin task g → (horizon : ℕ) (log : List Entry) → IsSpelled bytes horizon log → AnswersVerify task bytes end → IsGood request end
+verify_good request task g bytes end no_fault is fits horizon log spells (unfit r) =
+    absurd (no_fault horizon log r.0 spells.within spells.written (subst (λ (bs : List ℕ). IsUnfitAt bs r.0) spells.spelled r.1))
+verify_good request task g bytes end no_fault is fits horizon log spells (beyond h l so past_limit) = absurd (not_over task g past_limit.0 past_limit.1 is fits past_limit.3)
+verify_good request task g bytes end no_fault is fits horizon log spells (spelled h l k so ready (not_checked count many e)) = good_large request end h count e
+verify_good request task g bytes end no_fault is fits horizon log spells (spelled h l k so ready (checked j judges e)) = step j e
+  where
+    step : (j : Judged) → end ≡ ending_of_check h j → IsGood request end
+    step (judged.Accepted entries) told = good_zero request end (ap status_of told)
+    step (judged.Rejected entry) told = good_one request end (ap status_of told)
+    step judged.NotEmpty told = good_one request end (ap status_of told)
+
+verified_good : (request : Seen) (domain problem bytes : List ℕ) (end : Ending) → TextsAreFit → AreSpelled domain problem bytes → OnceRead domain problem (λ task. AnswersVerify task bytes) end → IsGood request end
+verified_good request domain problem bytes end no_fault order (not_read r) = absurd (not_refused domain problem order.0.0 end order.0.1 r)
+verified_good request domain problem bytes end no_fault order (read task are h) =
+    let same : task ≡ order.0.0 = same_task domain problem order.0.0 task order.0.1 are in
+    let g = order.0.2 in
+    verify_good request order.0.0 g.0 bytes end no_fault g.1 g.2 order.1.0 order.1.1 order.1.2 (subst (λ (t : Parts). AnswersVerify t bytes end) same h)
 
 -- what is decided of two files, or of three, that are in order
-two_good : (order answers : List ℕ → List ℕ → Type 0) (files : List (List ℕ)) (end : Ending) → ((a b : List ℕ) → order a b → answers a b → IsGood end) → OfTwo files order → OfTwo files answers → IsGood end
-two_good order answers [] end good is h = absurd h
-two_good order answers (a ∷ []) end good is h = absurd h
-two_good order answers (a ∷ (b ∷ [])) end good is h = good a b is h
-two_good order answers (a ∷ (b ∷ (c ∷ others))) end good is h = absurd h
+two_good : {X : Type 0} (order answers : List ℕ → List ℕ → Type 0) (files : List (List ℕ)) → ((a b : List ℕ) → order a b → answers a b → X) → OfTwo files order → OfTwo files answers → X
+two_good order answers [] good is h = absurd h
+two_good order answers (a ∷ []) good is h = absurd h
+two_good order answers (a ∷ (b ∷ [])) good is h = good a b is h
+two_good order answers (a ∷ (b ∷ (c ∷ others))) good is h = absurd h
 
-three_good : (order answers : List ℕ → List ℕ → List ℕ → Type 0) (files : List (List ℕ)) (end : Ending) → ((a b c : List ℕ) → order a b c → answers a b c → IsGood end) → OfThree files order → OfThree files answers → IsGood end
-three_good order answers [] end good is h = absurd h
-three_good order answers (a ∷ []) end good is h = absurd h
-three_good order answers (a ∷ (b ∷ [])) end good is h = absurd h
-three_good order answers (a ∷ (b ∷ (c ∷ []))) end good is h = good a b c is h
-three_good order answers (a ∷ (b ∷ (c ∷ (d ∷ others)))) end good is h = absurd h
+three_good : {X : Type 0} (order answers : List ℕ → List ℕ → List ℕ → Type 0) (files : List (List ℕ)) → ((a b c : List ℕ) → order a b c → answers a b c → X) → OfThree files order → OfThree files answers → X
+three_good order answers [] good is h = absurd h
+three_good order answers (a ∷ []) good is h = absurd h
+three_good order answers (a ∷ (b ∷ [])) good is h = absurd h
+three_good order answers (a ∷ (b ∷ (c ∷ []))) good is h = good a b c is h
+three_good order answers (a ∷ (b ∷ (c ∷ (d ∷ others)))) good is h = absurd h
 
-files_good : (request : Seen) (files : List (List ℕ)) (end : Ending) → AreInOrder request files → Decides request files end → IsGood end
-files_good (plans d p n) files end order h = two_good AreWithin _ files end (λ a b o k. within_good a b (AnswersPlan Exists k.0) end o (λ task g. plan_good k.0 task g end) k.2) order h
-files_good (grounds d p) files end order h = two_good AreWithin _ files end (λ a b o k. within_good a b AnswersGround end o (λ task g e. good_zero end (ap status_of e)) k) order h
-files_good (orders d p) files end order h = two_good AreWithin _ files end (λ a b o k. within_good a b AnswersOrder end o (λ task g e. good_zero end (ap status_of e.3)) k) order h
-files_good (checks d p l) files end order h = three_good AreChecked _ files end (λ a b c o k. checked_good a b c end o k) order h
-files_good (generates kind number n show) files end order h = shown_good kind number h.1.0 show end order.1 h.1.2
+files_good : TextsAreFit → (request : Seen) (files : List (List ℕ)) (end : Ending) → AreInOrder request files → Decides request files end → IsGood request end
+files_good no_fault (plans_by steps d p n) files end order h =
+    two_good AreWithin _ files (λ a b o k. within_good (plans_by steps d p n) a b (AnswersPlan steps k.0) end o (λ task g. plan_good (plans_by steps d p n) steps k.0 task g end) k.2) order h
+files_good no_fault (grounds d p) files end order h = two_good AreWithin _ files (λ a b o k. within_good (grounds d p) a b AnswersGround end o (λ task g e. good_zero (grounds d p) end (ap status_of e)) k) order h
+files_good no_fault (orders d p) files end order h = two_good AreWithin _ files (λ a b o k. within_good (orders d p) a b AnswersOrder end o (λ task g e. good_zero (orders d p) end (ap status_of e.3)) k) order h
+files_good no_fault (checks d p l) files end order h = three_good AreChecked _ files (λ a b c o k. checked_good (checks d p l) a b c end o k) order h
+files_good no_fault (generates kind number n show) files end order h = shown_good (generates kind number n show) kind number h.1.0 show end order.1 h.1.2
+files_good no_fault (proves d p horizon budget) files end order h = two_good AreWithin _ files (λ a b o k. within_good (proves d p horizon budget) a b (AnswersProve horizon budget) end o (λ task g. prove_good d p horizon budget task g end) k) order h
+files_good no_fault (verifies d p c) files end order h = three_good AreSpelled _ files (λ a b l o k. verified_good (verifies d p c) a b l end no_fault o k) order h
+files_good no_fault (batches d ps n t) files end order h = absurd h
 
 -- ---- what a run comes to
 
 module _ (told : List ℕ → Option (List ℕ)) (lacks : List ℕ → Bool) (old new : List (List ℕ)) where
-  no_stop : (place : ℕ) (names files : List (List ℕ)) (end : Ending) → AllZip (λ name bytes. told name ≡ Some bytes) names files → AllByRecursion (λ bytes. length bytes ≤ most_bytes) files
-      → (RoseAmong names old new → ⊥) → StopsFrom told lacks old new place names end → ⊥
-  no_stop place [] files end are fit quiet h = h
-  no_stop place (n ∷ ns) [] end are fit quiet h = are
-  no_stop place (n ∷ ns) (f ∷ fs) end are fit quiet (inl (inl fault)) = quiet (inl fault.1)
-  no_stop place (n ∷ ns) (f ∷ fs) end are fit quiet (inl (inr long)) =
-      absurd (let past = at_some (λ (b : List ℕ). most_bytes < length b) (told n) f are.0 long.1.1 in let short = fit.0 in omega (arith, past, short))
-  no_stop place (n ∷ ns) (f ∷ fs) end are fit quiet (inr more) = no_stop (place + 1) ns fs end are.1 fit.1 (λ rose. quiet (inr rose)) more.1
+  no_stop : (file : ℕ → File) (place : ℕ) (names files : List (List ℕ)) (end : Ending) → AllZip (λ name bytes. told name ≡ Some bytes) names files → AreShort file place files
+      → (RoseAmong names old new → ⊥) → StopsFrom told lacks old new file place names end → ⊥
+  no_stop file place [] files end are fit quiet h = h
+  no_stop file place (n ∷ ns) [] end are fit quiet h = are
+  no_stop file place (n ∷ ns) (f ∷ fs) end are fit quiet (inl (inl fault)) = quiet (inl fault.1)
+  no_stop file place (n ∷ ns) (f ∷ fs) end are fit quiet (inl (inr long)) =
+      absurd (let past = at_some (λ (b : List ℕ). most_of (file place) < length b) (told n) f are.0 long.1.1 in let short = fit.0 in omega (arith, past, short))
+  no_stop file place (n ∷ ns) (f ∷ fs) end are fit quiet (inr more) = no_stop file (place + 1) ns fs end are.1 fit.1 (λ rose. quiet (inr rose)) more.1
 
-  pub complete : (words : List (List ℕ)) (w : GoesWell words told old new) (end : Ending) → Comes told lacks old new words end → IsGood end
-  complete words w end comes = step (asked_comes told lacks old new words w.request w.asked end comes)
+  pub complete : TextsAreFit → (words : List (List ℕ)) (w : GoesWell words told old new) (end : Ending) → Comes told lacks old new words end → IsGood w.request end
+  complete no_fault words w end comes = step (asked_comes told lacks old new words w.request w.asked end comes)
     where
-      step : IsOfRequest told lacks old new words w.request w.asked end → IsGood end
-      step (inl h) = absurd (no_stop 0 (files_of w.request) w.files end w.are_told w.fit w.quiet h)
-      step (inr (fit, answer, h)) = files_good w.request w.files end w.in_order (of_told_at told (files_of w.request) w.files (λ files. Decides w.request files end) w.are_told h)
+      step : IsOfRequest told lacks old new words w.request w.asked end → IsGood w.request end
+      step (inl h) = absurd (no_stop (file_at w.request) 0 (files_of w.request) w.files end w.are_told w.fit w.quiet h)
+      step (inr (fit, answer, h)) = files_good no_fault w.request w.files end w.in_order (of_told_at told (files_of w.request) w.files (λ files. Decides w.request files end) w.are_told h)

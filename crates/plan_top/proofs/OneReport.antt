@@ -1,7 +1,6 @@
 -- Runs on the same files by words that ask for one race have one ending.
 use Rattle.std.proofs.Common.{◌≡◌, ◌≤◌, ◌<◌, inl, inr, ℕ, List, [], ◌∷◌, ◌++◌, length, Bool, Option, Some, refl, sym, ap, ap₂, subst, ◌∙◌, arith}
 use Rattle.std.specs.Prelude.{IfSome, ◌⊎◌}
-use Rattle.std.specs.List.{AllByRecursion}
 use Rattle.gt_core.specs.Task.{Task}
 use Rattle.gt_core.specs.Laws.{PublishedIsUnique}
 use Rattle.two_invariants.specs.Laws.{OneListOfInvariants}
@@ -9,8 +8,8 @@ use Rattle.step_laws.specs.Form.{OrderedTask}
 use Rattle.step_encoding.specs.Numbers.{literals_of}
 use Rattle.horizon_rates.specs.declared.rates.Rates.{Rates}
 use Rattle.horizon_rates.specs.declared.settings.Settings.{Settings}
-use Rattle.pd_model.specs.declared.memory.Which.{Which}
-use Rattle.pd_model.specs.declared.memory.Which.TheVariants.{Domain, Problem}
+use Rattle.plan_top.specs.declared.ending.File.{File}
+use Rattle.plan_top.specs.declared.ending.File.TheVariants.{Domain, Problem}
 use Rattle.pd_model.specs.declared.parts.Parts.{Parts}
 use Rattle.grounding.specs.Grounded.{Grounded}
 use Rattle.race_end.specs.Ends.{EndView, end_view}
@@ -20,17 +19,21 @@ use Rattle.plan_gen.specs.declared.Kind.{Kind as Generated}
 use Rattle.plan_gen.specs.Task.{domain_of, problem_of}
 use Rattle.plan_report.specs.Report.{report_of, summary_of}
 use Rattle.plan_words.specs.Requested.{requested}
-use Rattle.plan_words.specs.Seen.{Seen, Numbers, NumbersAreSettings, numbers, generates, files_of}
+use Rattle.plan_words.specs.Seen.{Seen, Numbers, NumbersAreSettings, numbers, plans_by, generates, files_of}
 use Rattle.plan_words.specs.declared.request.Show.{Show}
 use Rattle.plan_words.specs.declared.request.Show.TheVariants as shows
 use Rattle.plan_top.specs.declared.ending.Ending.{Ending}
 use Rattle.plan_top.specs.declared.ending.Ending.TheVariants.{Report, TooLong, TooLarge, ReadFault}
-use Rattle.plan_top.specs.Files.{Fits, OfTold, Stops, StopsFrom, most_bytes}
+use Rattle.plan_top.specs.Files.{Fits, FitFrom, OfTold, Stops, StopsFrom, most_of, most_bytes, file_at}
 use Rattle.gt_core.specs.Published.{IsPublished}
-use Rattle.plan_top.specs.Known.{IsOrdered}
+use Rattle.certificates.specs.Known.{IsOrdered, form_of, formula_at}
 use Rattle.plan_top.specs.Laws.{Laws}
-use Rattle.plan_top.specs.Stepping.{Stepping, Exists, asked_by, places_by, is_plan_by}
-use Rattle.plan_top.specs.Raced.{form_of, formula_at, input_of, IsTooLarge, ComesTo, OnceRaced, too_large, ended, outcome_of}
+use Rattle.plan_words.specs.declared.request.Stepping.{Stepping}
+use Rattle.gt_core.specs.Step.{IsStepPlan}
+use Rattle.step_clauses.specs.Variables.{chain_places}
+use Rattle.plan_words.specs.declared.request.Stepping.TheVariants.{Exists}
+use Rattle.plan_top.specs.Stepping.{places_by, is_plan_by}
+use Rattle.plan_top.specs.Raced.{input_of, IsTooLarge, ComesTo, OnceRaced, too_large, ended, outcome_of}
 use Rattle.plan_top.specs.Generated.{TellsGenerated, generated_line}
 use Rattle.plan_top.specs.Causes.{Decides, TellsRace, AnswersPlan}
 use Rattle.plan_top.specs.Ending.{status_of}
@@ -123,21 +126,21 @@ abbrev IsCause : Seen → List ℕ → List ℕ → Ending → Type 0
 IsCause request first second end = IsStop first second end ⊎ ((length first ≤ most_bytes) × (length second ≤ most_bytes) × Decides request (first ∷ second ∷ []) end)
 
 module _ (told : List ℕ → Option (List ℕ)) (lacks : List ℕ → Bool) (old new : List (List ℕ)) where
-  too_long : (file : Which) (name bytes : List ℕ) → told name ≡ Some bytes → (end : Ending) → HasRead end → Stops told lacks old new file name end
-      → (end ≡ TooLong file) × (most_bytes < length bytes)
+  too_long : (file : File) (name bytes : List ℕ) → told name ≡ Some bytes → (end : Ending) → HasRead end → Stops told lacks old new file name end
+      → (end ≡ TooLong file) × (most_of file < length bytes)
   too_long file name bytes is end has (inl fault) = absurd (subst HasRead fault.0 has)
-  too_long file name bytes is end has (inr long) = (long.0, subst (λ (o : Option (List ℕ)). IfSome o (λ bs. most_bytes < length bs)) is long.1.1)
+  too_long file name bytes is end has (inr long) = (long.0, subst (λ (o : Option (List ℕ)). IfSome o (λ bs. most_of file < length bs)) is long.1.1)
 
-  short : (name bytes : List ℕ) → told name ≡ Some bytes → Fits told lacks old new name → length bytes ≤ most_bytes
-  short name bytes is fits = subst (λ (o : Option (List ℕ)). IfSome o (λ bs. length bs ≤ most_bytes)) is fits.1
+  short : (file : File) (name bytes : List ℕ) → told name ≡ Some bytes → Fits told lacks old new file name → length bytes ≤ most_of file
+  short file name bytes is fits = subst (λ (o : Option (List ℕ)). IfSome o (λ bs. length bs ≤ most_of file)) is fits.1
 
   module _ (domain problem first second : List ℕ) (domain_told : told domain ≡ Some first) (problem_told : told problem ≡ Some second) where
-    stop_of : (end : Ending) → HasRead end → StopsFrom told lacks old new 0 (domain ∷ problem ∷ []) end → IsStop first second end
-    stop_of end has (inl p) = inl (too_long Domain domain first domain_told end has p)
-    stop_of end has (inr (fits, inl p)) =
+    stop_of : (request : Seen) (end : Ending) → HasRead end → StopsFrom told lacks old new (file_at request) 0 (domain ∷ problem ∷ []) end → IsStop first second end
+    stop_of request end has (inl p) = inl (too_long Domain domain first domain_told end has p)
+    stop_of request end has (inr (fits, inl p)) =
         let long = too_long Problem problem second problem_told end has p in
-        inr (long.0, short domain first domain_told fits, long.1)
-    stop_of end has (inr (fits, inr (f, none))) = absurd none
+        inr (long.0, short Domain domain first domain_told fits, long.1)
+    stop_of request end has (inr (fits, inr (f, none))) = absurd none
 
     of_told : (request : Seen) (end : Ending) → OfTold told (domain ∷ problem ∷ []) (λ files. Decides request files end) → Decides request (first ∷ second ∷ []) end
     of_told request end h =
@@ -146,22 +149,19 @@ module _ (told : List ℕ → Option (List ℕ)) (lacks : List ℕ → Bool) (ol
 
     cause_of : (words : List (List ℕ)) (request : Seen) (asked : requested words ≡ Some request) → files_of request ≡ domain ∷ problem ∷ [] → (end : Ending) → HasRead end
         → IsOfRequest told lacks old new words request asked end → IsCause request first second end
-    cause_of words request asked names end has (inl p) = inl (stop_of end has (subst (λ (ns : List (List ℕ)). StopsFrom told lacks old new 0 ns end) names p))
+    cause_of words request asked names end has (inl p) = inl (stop_of request end has (subst (λ (ns : List (List ℕ)). StopsFrom told lacks old new (file_at request) 0 ns end) names p))
     cause_of words request asked names end has (inr (fit, answer, h)) =
-        let fits = subst (λ (ns : List (List ℕ)). AllByRecursion (Fits told lacks old new) ns) names fit in
-        inr (short domain first domain_told fits.0, short problem second problem_told fits.1.0, of_told request end (subst (λ (ns : List (List ℕ)). OfTold told ns (λ files. Decides request files end)) names h))
-
-names_by : (how : Stepping) (domain problem : List ℕ) (n : Numbers) → files_of (asked_by how domain problem n) ≡ domain ∷ problem ∷ []
-names_by Exists domain problem n = refl
+        let fits = subst (λ (ns : List (List ℕ)). FitFrom told lacks old new (file_at request) 0 ns) names fit in
+        inr (short Domain domain first domain_told fits.0, short Problem problem second problem_told fits.1.0, of_told request end (subst (λ (ns : List (List ℕ)). OfTold told ns (λ files. Decides request files end)) names h))
 
 module _ (laws : Laws) where
   -- what the two files decide
   one_decision : (how : Stepping) (first second domain problem other_domain other_problem : List ℕ) (n m : Numbers) → AreSameRace n m → (x y : Ending)
-      → Decides (asked_by how domain problem n) (first ∷ second ∷ []) x → Decides (asked_by how other_domain other_problem m) (first ∷ second ∷ []) y → x ≡ y
-  one_decision Exists first second domain problem other_domain other_problem n m same x y (s, is, p) (t, too, q) =
+      → Decides (plans_by how domain problem n) (first ∷ second ∷ []) x → Decides (plans_by how other_domain other_problem m) (first ∷ second ∷ []) y → x ≡ y
+  one_decision how first second domain problem other_domain other_problem n m same x y (s, is, p) (t, too, q) =
       let race = same_race laws.settings s t (subst (λ (z : Numbers). AreSameRace z (numbers t)) (sym is) (subst (λ (z : Numbers). AreSameRace n z) (sym too) same)) in
-      once_grounded laws.one_result first second (AnswersPlan Exists s) (AnswersPlan Exists t) x y
-      (λ task g. once_raced laws.invariants laws.unique Exists s t race.0 race.1 g.task (TellsRace s task g) (TellsRace t task g) x y (one_told s t race.1 task g x y)) p q
+      once_grounded laws.one_result first second (AnswersPlan how s) (AnswersPlan how t) x y
+      (λ task g. once_raced laws.invariants laws.unique how s t race.0 race.1 g.task (TellsRace s task g) (TellsRace t task g) x y (one_told s t race.1 task g x y)) p q
 
   one_generation : (kind : Generated) (number : ℕ) (show : Show) (n m : Numbers) → AreSameRace n m → (x y : Ending) → Decides (generates kind number n show) [] x → Decides (generates kind number m show) [] y → x ≡ y
   one_generation kind number shows.Domain n m same x y p q = p.1.2 ∙ sym q.1.2
@@ -170,7 +170,7 @@ module _ (laws : Laws) where
       let s = p.1.0 in
       let t = q.1.0 in
       let race = same_race laws.settings s t (subst (λ (z : Numbers). AreSameRace z (numbers t)) (sym p.1.1) (subst (λ (z : Numbers). AreSameRace n z) (sym q.1.1) same)) in
-      let answers : Settings → Parts → Grounded → Ending → Type 0 = λ z task g. OnceRaced (places_by Exists) (is_plan_by Exists) g.task z (TellsGenerated kind number z) in
+      let answers : Settings → Parts → Grounded → Ending → Type 0 = λ z task g. OnceRaced chain_places IsStepPlan g.task z (TellsGenerated kind number z) in
       once_grounded laws.one_result (domain_of kind) (problem_of kind number) (answers s) (answers t) x y
       (λ task g. once_raced laws.invariants laws.unique Exists s t race.0 race.1 g.task (TellsGenerated kind number s) (TellsGenerated kind number t) x y (one_summary kind number s t race.1 x y)) p.1.2 q.1.2
 
@@ -193,13 +193,12 @@ module _ (laws : Laws) where
 
   pub one_ending : OneEnding
   one_ending told elsewhere lacks lacking old new before after words others x y (one_plan ask) p q hx hy =
-      let mine : Seen = asked_by ask.how ask.domain ask.problem ask.numbers in
-      let other : Seen = asked_by ask.how ask.other_domain ask.other_problem ask.other_numbers in
-      one_cause mine other ask.first ask.second x y (one_decision ask.how ask.first ask.second ask.domain ask.problem ask.other_domain ask.other_problem ask.numbers ask.other_numbers ask.same)
-      (cause_of told lacks old new ask.domain ask.problem ask.first ask.second ask.domain_told ask.problem_told words mine ask.asked (names_by ask.how ask.domain ask.problem ask.numbers) x hx
+      let mine : Seen = plans_by ask.steps ask.domain ask.problem ask.numbers in
+      let other : Seen = plans_by ask.steps ask.other_domain ask.other_problem ask.other_numbers in
+      one_cause mine other ask.first ask.second x y (one_decision ask.steps ask.first ask.second ask.domain ask.problem ask.other_domain ask.other_problem ask.numbers ask.other_numbers ask.same)
+      (cause_of told lacks old new ask.domain ask.problem ask.first ask.second ask.domain_told ask.problem_told words mine ask.asked refl x hx
       (asked_comes told lacks old new words mine ask.asked x p))
-      (cause_of elsewhere lacking before after ask.other_domain ask.other_problem ask.first ask.second ask.other_domain_told ask.other_problem_told others other ask.others_asked
-      (names_by ask.how ask.other_domain ask.other_problem ask.other_numbers) y hy
+      (cause_of elsewhere lacking before after ask.other_domain ask.other_problem ask.first ask.second ask.other_domain_told ask.other_problem_told others other ask.others_asked refl y hy
       (asked_comes elsewhere lacking before after others other ask.others_asked y q))
   one_ending told elsewhere lacks lacking old new before after words others x y (one_generated ask) p q hx hy =
       one_generation ask.kind ask.number ask.show ask.numbers ask.other_numbers ask.same x y

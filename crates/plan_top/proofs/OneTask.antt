@@ -3,8 +3,8 @@ use Rattle.std.proofs.Common.{◌≡◌, ◌<◌, ◌+◌, ◌-◌, ℕ, List, �
 use Rattle.std.proofs.Math.Seq.{take-add}
 use Rattle.pd_sexp.specs.Tree.{Tree}
 use Rattle.pd_sexp.specs.Fault.{Fault, syntax, deep, IsFault, IsViable, IsLongestViable, Reads}
-use Rattle.pd_model.specs.declared.memory.Which.{Which}
-use Rattle.pd_model.specs.declared.memory.Which.TheVariants.{Domain, Problem}
+use Rattle.plan_top.specs.declared.ending.File.{File}
+use Rattle.plan_top.specs.declared.ending.File.TheVariants.{Domain, Problem}
 use Rattle.pd_model.specs.declared.parts.Parts.{Parts}
 use Rattle.pd_task.specs.Reading.{reading}
 use Rattle.gt_core.specs.Lawful.{conditional_in}
@@ -46,26 +46,26 @@ no_fault : (bytes : List ℕ) (tree : Tree) (f : Fault) → Reads bytes tree →
 no_fault bytes tree (syntax j) r f = f.0 tree r.file
 no_fault bytes tree (deep j) r f = r.shallow j f.0
 
-abbrev refusal : Which → Fault → Ending
+abbrev refusal : File → Fault → Ending
 refusal file (syntax at) = Refused Syntax file at
 refusal file (deep at) = Refused Deep file at
 
 -- the fault of which a refusal tells
-fault_of : (bytes : List ℕ) (file : Which) (kind : Kind) (at : ℕ) → IsTreeFault bytes kind at → (f : Fault) × IsFault bytes f × (Refused kind file at ≡ refusal file f)
+fault_of : (bytes : List ℕ) (file : File) (kind : Kind) (at : ℕ) → IsTreeFault bytes kind at → (f : Fault) × IsFault bytes f × (Refused kind file at ≡ refusal file f)
 fault_of bytes file Syntax at h = (syntax at, h, refl)
 fault_of bytes file Deep at h = (deep at, h, refl)
 fault_of bytes file _ at h = absurd h
 
-fault_in : (bytes : List ℕ) (file : Which) (end : Ending) → RefusesTree bytes file end → (f : Fault) × IsFault bytes f × (end ≡ refusal file f)
+fault_in : (bytes : List ℕ) (file : File) (end : Ending) → RefusesTree bytes file end → (f : Fault) × IsFault bytes f × (end ≡ refusal file f)
 fault_in bytes file end (kind, at, is, h) = let f = fault_of bytes file kind at h in (f.0, f.1, is ∙ f.2)
 
-one_tree_refusal : (bytes : List ℕ) (file : Which) (x y : Ending) → RefusesTree bytes file x → RefusesTree bytes file y → x ≡ y
+one_tree_refusal : (bytes : List ℕ) (file : File) (x y : Ending) → RefusesTree bytes file x → RefusesTree bytes file y → x ≡ y
 one_tree_refusal bytes file x y p q =
     let f = fault_in bytes file x p in
     let g = fault_in bytes file y q in
     f.2 ∙ (ap (refusal file) (one_fault bytes f.0 g.0 f.1 g.1) ∙ sym g.2)
 
-no_tree_refusal : (bytes : List ℕ) (file : Which) (tree : Tree) (x : Ending) → Reads bytes tree → RefusesTree bytes file x → ⊥
+no_tree_refusal : (bytes : List ℕ) (file : File) (tree : Tree) (x : Ending) → Reads bytes tree → RefusesTree bytes file x → ⊥
 no_tree_refusal bytes file tree x r p = let f = fault_in bytes file x p in no_fault bytes tree f.0 r f.1
 
 one_tree : (bytes : List ℕ) (t u : Tree) → Reads bytes t → Reads bytes u → t ≡ u

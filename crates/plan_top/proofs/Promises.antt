@@ -1,5 +1,5 @@
 -- The promises of the top call, each from what it needs alone: mostly that its ending has a cause and that its text is written.
-use Rattle.std.proofs.Common.{◌≡◌, ◌≤◌, ◌+◌, ℕ, Bool, true, false, List, [], ◌∷◌, Option, Some, None, Ok, refl, sym, ap, subst, ◌∙◌, arith, inl, inr, codes}
+use Rattle.std.proofs.Common.{◌≡◌, ◌≤◌, ◌+◌, ℕ, Bool, true, false, List, [], ◌∷◌, ◌++◌, Option, Some, None, Ok, refl, sym, ap, subst, ◌∙◌, arith, inl, inr, codes, map}
 use Rattle.std.specs.Prelude.{IsTrue, Contains, ◌⊎◌}
 use Rattle.std.proofs.lemmas.Bool.Decides.{eqb_tells}
 use Rattle.pl_io.specs.Outside.{appended, TakesFront}
@@ -11,7 +11,7 @@ use Rattle.pd_model.specs.declared.calls.Call.{Call}
 use Rattle.pd_model.specs.declared.calls.Verdict.{Verdict}
 use Rattle.pd_model.specs.declared.calls.Verdict.TheVariants as verdicts
 use Rattle.pd_model.specs.declared.parts.Parts.{Parts}
-use Rattle.pd_model.specs.declared.memory.Which.{Which}
+use Rattle.plan_top.specs.declared.ending.File.{File}
 use Rattle.pd_plan.specs.PlanFile.{plan_file}
 use Rattle.pd_plan.specs.Fault as plan
 use Rattle.grounding.specs.Grounded.{Grounded}
@@ -20,21 +20,36 @@ use Rattle.race_end.specs.declared.end.RaceEnd.TheVariants as races
 use Rattle.race_end.specs.Ends.{end_view, lines_in}
 use Rattle.plan_report.specs.Report.{report_of, plan_line}
 use Rattle.plan_report.specs.Laws.{IsSmall as IsSmallReport, HasCalls, Tells}
-use Rattle.plan_words.specs.Seen.{Seen, Numbers, numbers, plans, checks, grounds, orders, generates, files_of}
+use Rattle.plan_words.specs.Seen.{Seen, Numbers, numbers, plans_by, checks, grounds, orders, generates, proves, verifies, batches, files_of}
+use Rattle.plan_words.specs.declared.request.Stepping.{Stepping}
 use Rattle.plan_words.specs.Requested.{requested}
 use Rattle.plan_top.specs.declared.ending.Outcome.{Outcome}
 use Rattle.plan_top.specs.declared.ending.Outcome.TheVariants as outcomes
 use Rattle.plan_top.specs.declared.ending.Ending.{Ending}
-use Rattle.plan_top.specs.declared.ending.Ending.TheVariants.{Report, Listing, Reaches, Blocked, Short, Refused, TooLong, TooMany, TooLarge, ReadFault, Usage}
+use Rattle.plan_top.specs.declared.ending.Ending.TheVariants.{Report, Listing, Reaches, Blocked, Short, Refused, TooLong, TooMany, TooLarge, ReadFault, Usage, Found, Open, Accepted, Rejected, NotEmpty}
 use Rattle.plan_top.specs.Files.{StopsFrom, OfTold, RoseAmong, file_at}
-use Rattle.plan_top.specs.Stepping.{Stepping, Exists, asked_by, places_by, is_plan_by}
+use Rattle.plan_top.specs.Stepping.{places_by, is_plan_by}
 use Rattle.plan_top.specs.Tasks.{AreTask, RefusesTask, IsReady, StopsTask, refused, past, OnceRead, not_read, read, OnceGrounded, not_grounded, grounded}
 use Rattle.plan_top.specs.Raced.{ComesTo, too_large, ended, outcome_of}
-use Rattle.plan_top.specs.Causes.{Decides, TellsRace, AnswersPlan, AnswersGround, AnswersOrder, AnswersCheck, refusal_of_plan, ending_of, is_answer, Comes, no_request, stopped, decided, names_in, FaultOf}
+use Rattle.plan_top.specs.Causes.{Decides, TellsRace, AnswersPlan, AnswersGround, AnswersOrder, AnswersCheck, AnswersProve, not_run, run, AnswersVerify, unfit, beyond, spelled, not_checked, checked, ending_of_run, ending_of_check, refusal_of_plan, ending_of, is_answer, Comes, no_request, stopped, decided, names_in, FaultOf}
+use Rattle.step_clauses.specs.Variables.{chain_places}
+use Rattle.clause_base.specs.Formula.{Cnf}
+use Rattle.clause_base.specs.Derivation.{IsRefutation}
+use Rattle.clause_base.specs.declared.log.Entry.{Entry}
+use Rattle.proof_text.specs.Text.{spaced, entry_words}
+use Rattle.certificates.specs.Known.{form_of, formula_at}
+use Rattle.certificates.specs.Certificate.{IsSpelled, IsCertificate}
+use Rattle.certificates.specs.Proved.{Proves}
+use Rattle.certificates.specs.Judged.{IsJudged, Judges}
+use Rattle.certificates.specs.declared.prove.Proved.{Proved}
+use Rattle.certificates.specs.declared.prove.Proved.TheVariants as proved
+use Rattle.certificates.specs.declared.verify.Judged.{Judged}
+use Rattle.certificates.specs.declared.verify.Judged.TheVariants as judged
+use Rattle.plan_words.specs.declared.request.Stepping.TheVariants.{Exists}
 use Rattle.plan_top.specs.Complete.{GoesWell, IsGood}
 use Rattle.plan_top.specs.OneReport.{AskForOneRace, HasRead}
 use Rattle.plan_top.specs.Ending.{status_of, status_of_race, text_of, IsSmall}
-use Rattle.plan_top.specs.Headline.{Printed, OfFiles, OfPlans, PlanRuns, HasAtLeast, NoStepPlan, NoPlan, LineIsSo, SpendsAll, TellsGround, TellsOrder, CallsRun}
+use Rattle.plan_top.specs.Headline.{Printed, OfFiles, OfPlans, PlanRuns, HasAtLeast, NoStepPlan, NoPlan, LineIsSo, SpendsAll, Certifies, OfProof, ProvesNone, TellsGround, TellsOrder, CallsRun}
 use Rattle.plan_top.specs.Laws.{Laws}
 use Rattle.plan_top.proofs.Claims as claims
 use Rattle.plan_top.proofs.Told.{task_refusal, two_weaker, three_weaker, IsOfRequest, asked_comes, not_asked_comes}
@@ -57,11 +72,11 @@ fault_stops (plan.unknown at) = refl
 fault_stops (plan.arity at) = refl
 fault_stops (plan.mistyped at) = refl
 
-files_stop : (told : List ℕ → Option (List ℕ)) (lacks : List ℕ → Bool) (old new : List (List ℕ)) (place : ℕ) (names : List (List ℕ)) (end : Ending) → StopsFrom told lacks old new place names end → is_stop end ≡ true
-files_stop told lacks old new place [] end h = absurd h
-files_stop told lacks old new place (name ∷ names) end (inl (inl fault)) = ap is_stop fault.0
-files_stop told lacks old new place (name ∷ names) end (inl (inr long)) = ap is_stop long.0
-files_stop told lacks old new place (name ∷ names) end (inr after) = files_stop told lacks old new (place + 1) names end after.1
+files_stop : (told : List ℕ → Option (List ℕ)) (lacks : List ℕ → Bool) (old new : List (List ℕ)) (file : ℕ → File) (place : ℕ) (names : List (List ℕ)) (end : Ending) → StopsFrom told lacks old new file place names end → is_stop end ≡ true
+files_stop told lacks old new file place [] end h = absurd h
+files_stop told lacks old new file place (name ∷ names) end (inl (inl fault)) = ap is_stop fault.0
+files_stop told lacks old new file place (name ∷ names) end (inl (inr long)) = ap is_stop long.0
+files_stop told lacks old new file place (name ∷ names) end (inr after) = files_stop told lacks old new file (place + 1) names end after.1
 
 task_stops : (domain problem : List ℕ) (end : Ending) → StopsTask domain problem end → is_stop end ≡ true
 task_stops domain problem end (refused r) = refused_stops domain problem end r
@@ -155,11 +170,14 @@ check_reached domain problem bytes end zero (read task are h) = let c = calls_re
 -- ---- words that are not taken
 
 usage_answers : (request : Seen) → is_answer request Usage ≡ true → ⊥
-usage_answers (plans d p n) h = let never : false ≡ true = h in cc
+usage_answers (plans_by steps d p n) h = let never : false ≡ true = h in cc
 usage_answers (checks d p l) h = let never : false ≡ true = h in cc
 usage_answers (grounds d p) h = let never : false ≡ true = h in cc
 usage_answers (orders d p) h = let never : false ≡ true = h in cc
 usage_answers (generates k m n s) h = let never : false ≡ true = h in cc
+usage_answers (proves d p h b) k = let never : false ≡ true = k in cc
+usage_answers (verifies d p c) h = let never : false ≡ true = h in cc
+usage_answers (batches d ps n t) h = let never : false ≡ true = h in cc
 
 race_status : (outcome : Outcome) → status_of_race outcome ≤ 2
 race_status outcomes.Planned = omega arith
@@ -178,8 +196,13 @@ seven_only (TooMany what count) seven = absurd (omega arith)
 seven_only (TooLarge horizon count) seven = absurd (omega arith)
 seven_only (ReadFault file) seven = absurd (omega arith)
 seven_only Usage seven = refl
+seven_only (Found horizon conflicts) seven = absurd (omega arith)
+seven_only (Open horizon conflicts) seven = absurd (omega arith)
+seven_only (Accepted horizon entries) seven = absurd (omega arith)
+seven_only (Rejected entry) seven = absurd (omega arith)
+seven_only NotEmpty seven = absurd (omega arith)
 
-five_only : (end : Ending) → status_of end ≡ 5 → (file : Which) × (end ≡ ReadFault file)
+five_only : (end : Ending) → status_of end ≡ 5 → (file : File) × (end ≡ ReadFault file)
 five_only (Report outcome text) five = absurd (let low = race_status outcome in omega (arith, low))
 five_only (Listing text) five = absurd (omega arith)
 five_only Reaches five = absurd (omega arith)
@@ -191,13 +214,101 @@ five_only (TooMany what count) five = absurd (omega arith)
 five_only (TooLarge horizon count) five = absurd (omega arith)
 five_only (ReadFault file) five = (file, refl)
 five_only Usage five = absurd (omega arith)
+five_only (Found horizon conflicts) five = absurd (omega arith)
+five_only (Open horizon conflicts) five = absurd (omega arith)
+five_only (Accepted horizon entries) five = absurd (omega arith)
+five_only (Rejected entry) five = absurd (omega arith)
+five_only NotEmpty five = absurd (omega arith)
 
-fault_answers : (request : Seen) (file : Which) → is_answer request (ReadFault file) ≡ true → ⊥
-fault_answers (plans d p n) file h = let never : false ≡ true = h in cc
+fault_answers : (request : Seen) (file : File) → is_answer request (ReadFault file) ≡ true → ⊥
+fault_answers (plans_by steps d p n) file h = let never : false ≡ true = h in cc
 fault_answers (checks d p l) file h = let never : false ≡ true = h in cc
 fault_answers (grounds d p) file h = let never : false ≡ true = h in cc
 fault_answers (orders d p) file h = let never : false ≡ true = h in cc
 fault_answers (generates k m n s) file h = let never : false ≡ true = h in cc
+fault_answers (proves d p h b) file k = let never : false ≡ true = k in cc
+fault_answers (verifies d p c) file h = let never : false ≡ true = h in cc
+fault_answers (batches d ps n t) file h = let never : false ≡ true = h in cc
+
+-- ---- certificates
+
+-- what is written as a certificate is one
+proves_so : Laws → (task : Parts) (g : Grounded) (horizon budget : ℕ) (end : Ending) → status_of end ≡ 0 → IsReady task g → AnswersProve horizon budget task g end → Certifies (text_of end) horizon task
+proves_so laws task g horizon budget end zero ready (not_run count many e) = absurd (let four = sym zero ∙ ap status_of e in omega (arith, four))
+proves_so laws task g horizon budget end zero ready (run p so e) = step p so e
+  where
+    step : (p : Proved) → Proves g.task horizon budget p → end ≡ ending_of_run horizon p → Certifies (text_of end) horizon task
+    step (proved.Certificate text) so told =
+        claims.of_grounded laws task g ready so.clauses so.components so.ordered (λ h clauses components. IsCertificate (formula_at chain_places (form_of h.task clauses components)) (text_of end) horizon)
+        (subst (λ (e : Ending). IsCertificate (formula_at chain_places (form_of g.task so.clauses so.components)) (text_of e) horizon) (sym told) (so.certified text refl))
+    step proved.TooLong so told = absurd (let four = sym zero ∙ ap status_of told in omega (arith, four))
+    step (proved.Plan conflicts) so told = absurd (let one = sym zero ∙ ap status_of told in omega (arith, one))
+    step (proved.Open conflicts) so told = absurd (let two = sym zero ∙ ap status_of told in omega (arith, two))
+
+-- what the checker said of a certificate whose ending has a status below 2
+pub record Checks (task : Parts) (bytes : List ℕ) (k : ℕ) : Type 0 where
+  pub horizon : ℕ
+  pub log : List Entry
+  pub g : Grounded
+  pub j : Judged
+  pub is_spelled : IsSpelled bytes horizon log
+  pub ready : IsReady task g
+  pub judges : Judges g.task horizon log j
+  pub status : status_of (ending_of_check horizon j) ≡ k
+
+checks_at : (k : ℕ) → k ≤ 1 → (task : Parts) (bytes : List ℕ) (end : Ending) → status_of end ≡ k → AnswersVerify task bytes end → Checks task bytes k
+checks_at k low task bytes end at (unfit r) = absurd (let three = sym at ∙ ap status_of r.2 in omega (arith, three, low))
+checks_at k low task bytes end at (beyond h log is past_limit) = absurd (let four = sym at ∙ ap status_of past_limit.2 in omega (arith, four, low))
+checks_at k low task bytes end at (spelled h log g is ready (not_checked count many e)) = absurd (let four = sym at ∙ ap status_of e in omega (arith, four, low))
+checks_at k low task bytes end at (spelled h log g is ready (checked j judges e)) =
+    record { horizon = h; log = log; g = g; j = j; is_spelled = is; ready = ready; judges = judges; status = sym (ap status_of e) ∙ at }
+
+accepted_only : (horizon : ℕ) (j : Judged) → status_of (ending_of_check horizon j) ≡ 0 → (entries : ℕ) × (j ≡ judged.Accepted entries)
+accepted_only horizon (judged.Accepted entries) zero = (entries, refl)
+accepted_only horizon (judged.Rejected entry) zero = absurd (omega arith)
+accepted_only horizon judged.NotEmpty zero = absurd (omega arith)
+
+accepts : Laws → (task : Parts) (bytes : List ℕ) (end : Ending) → status_of end ≡ 0 → AnswersVerify task bytes end → (horizon : ℕ) × Certifies bytes horizon task
+accepts laws task bytes end zero h =
+    let c = checks_at 0 (omega arith) task bytes end zero h in
+    let a = accepted_only c.horizon c.j c.status in
+    let is = subst (λ (j : Judged). IsJudged (formula_at chain_places (form_of c.g.task c.judges.clauses c.judges.components) c.horizon) c.log j) a.1 c.judges.is in (
+      c.horizon,
+      claims.of_grounded laws task c.g c.ready c.judges.clauses c.judges.components c.judges.ordered (λ g clauses components. IsCertificate (formula_at chain_places (form_of g.task clauses components)) bytes c.horizon)
+          (record { log = c.log; is_spelled = c.is_spelled; refutes = is.1 }),
+    )
+
+checks_none : Laws → (task : Parts) (bytes : List ℕ) (end : Ending) → status_of end ≡ 0 → AnswersVerify task bytes end → ProvesNone bytes task
+checks_none laws task bytes end zero h =
+    let c = checks_at 0 (omega arith) task bytes end zero h in
+    let a = accepted_only c.horizon c.j c.status in
+    let none = c.judges.none a.0 a.1 in (
+      c.horizon,
+      (map (λ (e : Entry). spaced (entry_words e)) c.log, ap lines_of c.is_spelled.spelled ∙ laws.proof_lines c.horizon c.log c.is_spelled.within c.is_spelled.written),
+      claims.no_step_plan laws task c.g c.ready c.judges.clauses c.judges.components c.judges.ordered Exists c.horizon none,
+      claims.no_plan laws task c.g c.ready c.judges.clauses c.judges.components c.judges.ordered Exists c.horizon none,
+    )
+
+-- a log that is judged so is no refutation
+not_refutation : (f : Cnf) (horizon : ℕ) (log : List Entry) (j : Judged) → status_of (ending_of_check horizon j) ≡ 1 → IsJudged f log j → IsRefutation f.variables f.clauses log → ⊥
+not_refutation f horizon log (judged.Accepted entries) one is refutes = absurd (omega arith)
+not_refutation f horizon log (judged.Rejected entry) one is refutes = is.here (refutes.derived entry is.in_range)
+not_refutation f horizon log judged.NotEmpty one is refutes = is.1 refutes.ends_empty
+
+rejects : Laws → (task : Parts) (bytes : List ℕ) (end : Ending) → status_of end ≡ 1 → AnswersVerify task bytes end → (horizon : ℕ) → Certifies bytes horizon task → ⊥
+rejects laws task bytes end one h horizon certifies =
+    let c = checks_at 1 (omega arith) task bytes end one h in
+    let same = certifies.only c.g c.judges.clauses c.judges.components c.ready.grounded c.judges.ordered in
+    let formulas : formula_at chain_places (form_of c.g.task c.judges.clauses c.judges.components) ≡ formula_at chain_places (form_of certifies.g.task certifies.clauses certifies.components) =
+    ap (λ (g : Grounded). formula_at chain_places (form_of g.task c.judges.clauses c.judges.components)) same.0
+    ∙ (ap (λ (cs : List (ℕ × ℕ)). formula_at chain_places (form_of certifies.g.task cs c.judges.components)) same.1
+    ∙ ap (λ (ps : List (List ℕ)). formula_at chain_places (form_of certifies.g.task certifies.clauses ps)) same.2) in
+    let cert = certifies.holds in
+    let one_value = laws.one_spelling c.horizon horizon c.log cert.log c.is_spelled.within cert.is_spelled.within c.is_spelled.written cert.is_spelled.written (sym c.is_spelled.spelled ∙ cert.is_spelled.spelled) in
+    let is = subst (λ (f : ℕ → Cnf). IsJudged (f c.horizon) c.log c.j) formulas c.judges.is in
+    let here = subst (λ (n : ℕ). IsJudged (formula_at chain_places (form_of certifies.g.task certifies.clauses certifies.components) n) c.log c.j) one_value.0 is in
+    let there = subst (λ (log : List Entry). IsJudged (formula_at chain_places (form_of certifies.g.task certifies.clauses certifies.components) horizon) log c.j) one_value.1 here in
+    not_refutation (formula_at chain_places (form_of certifies.g.task certifies.clauses certifies.components) horizon) c.horizon cert.log c.j c.status there cert.refutes
 
 -- ---- what is told
 
@@ -221,16 +332,16 @@ module _ (told : List ℕ → Option (List ℕ)) (lacks : List ℕ → Bool) (ol
   decided_for end comes request asked on = step (asked_comes told lacks old new words request asked end comes)
     where
       step : IsOfRequest told lacks old new words request asked end → OfTold told (files_of request) (λ files. Decides request files end)
-      step (inl h) = absurd (on (files_stop told lacks old new 0 (files_of request) end h))
+      step (inl h) = absurd (on (files_stop told lacks old new (file_at request) 0 (files_of request) end h))
       step (inr h) = h.2
 
   -- a claim on the task of a race that came to an end
-  of_race : (end : Ending) → Comes told lacks old new words end → (how : Stepping) (domain problem : List ℕ) (n : Numbers) (claim : Parts → Type 0) → requested words ≡ Some (asked_by how domain problem n) → (is_stop end ≡ true → ⊥)
+  of_race : (end : Ending) → Comes told lacks old new words end → (how : Stepping) (domain problem : List ℕ) (n : Numbers) (claim : Parts → Type 0) → requested words ≡ Some (plans_by how domain problem n) → (is_stop end ≡ true → ⊥)
       → ((settings : Settings) → numbers settings ≡ n → (first second : List ℕ) (r : Raced how settings first second end) → claim r.task) → OfFiles told domain problem claim
-  of_race end comes Exists domain problem n claim asked on from =
-      two_weaker (λ first second. Decides (plans domain problem n) (first ∷ second ∷ []) end) (λ first second. (task : Parts) × AreTask first second task × claim task) (told domain) (told problem)
-      (λ first second h. let r = raced Exists h.0 first second end on h.2 in (r.task, r.are, from h.0 h.1 first second r))
-      (decided_for end comes (plans domain problem n) asked on)
+  of_race end comes how domain problem n claim asked on from =
+      two_weaker (λ first second. Decides (plans_by how domain problem n) (first ∷ second ∷ []) end) (λ first second. (task : Parts) × AreTask first second task × claim task) (told domain) (told problem)
+      (λ first second h. let r = raced how h.0 first second end on h.2 in (r.task, r.are, from h.0 h.1 first second r))
+      (decided_for end comes (plans_by how domain problem n) asked on)
 
   pub plan_runs : Laws → IsDue → OfPlans words told before after (λ how text n of_files. status ≡ 0 → of_files (PlanRuns how text))
   plan_runs laws due how text domain problem n printed asked zero =
@@ -248,22 +359,22 @@ module _ (told : List ℕ → Option (List ℕ)) (lacks : List ℕ → Bool) (ol
 
   -- a claim on the task of a listing
   of_listing : (text : List ℕ) → Printed before after text → IsDue → (request : Seen) (domain problem : List ℕ) (claim : List ℕ → Parts → Type 0) → files_of request ≡ domain ∷ problem ∷ [] → requested words ≡ Some request → status ≡ 0
-      → ((end : Ending) (first second : List ℕ) → (is_stop end ≡ true → ⊥) → Decides request (first ∷ second ∷ []) end → (task : Parts) × AreTask first second task × claim (text_of end) task) → OfFiles told domain problem (claim text)
+      → ((end : Ending) (first second : List ℕ) → status_of end ≡ 0 → (is_stop end ≡ true → ⊥) → Decides request (first ∷ second ∷ []) end → (task : Parts) × AreTask first second task × claim (text_of end) task) → OfFiles told domain problem (claim text)
   of_listing text printed due request domain problem claim names asked zero from =
       let d = due_at 0 due zero (omega arith) in
       let is : text ≡ text_of d.0 = printed_is before after text (text_of d.0) printed d.3 in
       let on : is_stop d.0 ≡ true → ⊥ = λ stop. let low : status_of d.0 ≤ 2 = omega (arith, d.1) in not_low d.0 stop low in
       two_weaker (λ first second. Decides request (first ∷ second ∷ []) d.0) (λ first second. (task : Parts) × AreTask first second task × claim text task) (told domain) (told problem)
-      (λ first second h. subst (λ (xs : List ℕ). (task : Parts) × AreTask first second task × claim xs task) (sym is) (from d.0 first second on h))
+      (λ first second h. subst (λ (xs : List ℕ). (task : Parts) × AreTask first second task × claim xs task) (sym is) (from d.0 first second d.1 on h))
       (subst (λ (ns : List (List ℕ)). OfTold told ns (λ files. Decides request files d.0)) names (decided_for d.0 d.2 request asked on))
 
   pub ground_told : IsDue → (text domain problem : List ℕ) → status ≡ 0 → Printed before after text → requested words ≡ Some (grounds domain problem) → OfFiles told domain problem (TellsGround text)
   ground_told due text domain problem zero printed asked =
-      of_listing text printed due (grounds domain problem) domain problem TellsGround refl asked zero (λ end first second on h. ground_listed first second end on h)
+      of_listing text printed due (grounds domain problem) domain problem TellsGround refl asked zero (λ end first second at on h. ground_listed first second end on h)
 
   pub order_told : IsDue → (text domain problem : List ℕ) → status ≡ 0 → Printed before after text → requested words ≡ Some (orders domain problem) → OfFiles told domain problem (TellsOrder text)
   order_told due text domain problem zero printed asked =
-      of_listing text printed due (orders domain problem) domain problem TellsOrder refl asked zero (λ end first second on h. order_listed first second end on h)
+      of_listing text printed due (orders domain problem) domain problem TellsOrder refl asked zero (λ end first second at on h. order_listed first second end on h)
 
   pub reached : IsDue → (domain problem plan_name : List ℕ) → status ≡ 0 → requested words ≡ Some (checks domain problem plan_name) → CallsRun told domain problem plan_name
   reached due domain problem plan_name zero asked =
@@ -273,11 +384,43 @@ module _ (told : List ℕ → Option (List ℕ)) (lacks : List ℕ → Bool) (ol
       (told domain) (told problem) (told plan_name) (λ first second third h. check_reached first second third d.0 d.1 h)
       (decided_for d.0 d.2 (checks domain problem plan_name) asked (λ stop. let low : status_of d.0 ≤ 2 = omega (arith, d.1) in not_low d.0 stop low))
 
+  -- ---- certificates
+
+  pub certified : Laws → IsDue → (text domain problem : List ℕ) (horizon budget : ℕ) → status ≡ 0 → Printed before after text → requested words ≡ Some (proves domain problem horizon budget) → OfFiles told domain problem (Certifies text horizon)
+  certified laws due text domain problem horizon budget zero printed asked =
+      of_listing text printed due (proves domain problem horizon budget) domain problem (λ xs task. Certifies xs horizon task) refl asked zero
+      (λ end first second at on h. let r = goes_on first second (AnswersProve horizon budget) end on h in (r.0, r.2, proves_so laws r.0 r.1 horizon budget end at r.3 r.4))
+
+  -- what a certificate file came to that was answered so
+  judged_for : (k : ℕ) → k ≤ 1 → IsDue → (domain problem proof : List ℕ) (claim : List ℕ → Parts → Type 0) → status ≡ k → requested words ≡ Some (verifies domain problem proof)
+      → ((first second third : List ℕ) (task : Parts) (end : Ending) → status_of end ≡ k → AreTask first second task → AnswersVerify task third end → claim third task) → OfProof told domain problem proof claim
+  judged_for k low due domain problem proof claim is asked from =
+      let d = due_at k due is (omega arith) in
+      three_weaker (λ first second third. Decides (verifies domain problem proof) (first ∷ second ∷ third ∷ []) d.0) (λ first second third. (task : Parts) × AreTask first second task × claim third task)
+      (told domain) (told problem) (told proof) (λ first second third h. step d.0 d.1 first second third h)
+      (decided_for d.0 d.2 (verifies domain problem proof) asked (λ stop. let small : status_of d.0 ≤ 2 = omega (arith, d.1, low) in not_low d.0 stop small))
+    where
+      step : (end : Ending) → status_of end ≡ k → (first second third : List ℕ) → OnceRead first second (λ task. AnswersVerify task third) end → (task : Parts) × AreTask first second task × claim third task
+      step end at first second third (not_read r) = not_low end (refused_stops first second end r) (omega (arith, at, low))
+      step end at first second third (read task are h) = (task, are, from first second third task end at are h)
+
+  pub verified : Laws → IsDue → (domain problem proof : List ℕ) → status ≡ 0 → requested words ≡ Some (verifies domain problem proof) → OfProof told domain problem proof ProvesNone
+  verified laws due domain problem proof zero asked =
+      judged_for 0 (omega arith) due domain problem proof ProvesNone zero asked (λ first second third task end at are h. checks_none laws task third end at h)
+
+  pub accepted : Laws → IsDue → (domain problem proof : List ℕ) → status ≡ 0 → requested words ≡ Some (verifies domain problem proof) → OfProof told domain problem proof (λ text task. (horizon : ℕ) × Certifies text horizon task)
+  accepted laws due domain problem proof zero asked =
+      judged_for 0 (omega arith) due domain problem proof (λ text task. (horizon : ℕ) × Certifies text horizon task) zero asked (λ first second third task end at are h. accepts laws task third end at h)
+
+  pub rejected : Laws → IsDue → (domain problem proof : List ℕ) → status ≡ 1 → requested words ≡ Some (verifies domain problem proof) → OfProof told domain problem proof (λ text task. (horizon : ℕ) → Certifies text horizon task → ⊥)
+  rejected laws due domain problem proof one asked =
+      judged_for 1 (omega arith) due domain problem proof (λ text task. (horizon : ℕ) → Certifies text horizon task → ⊥) one asked (λ first second third task end at are h. rejects laws task third end at h)
+
   -- ---- what the text says of horizons
 
   module _ (laws : Laws) (front : IsFront) (nothing : status ≡ 8 → after ≡ before) where
     -- what the text says of a horizon, the end of the race tells
-    of_said : (how : Stepping) (text domain problem : List ℕ) (n : Numbers) → Printed before after text → requested words ≡ Some (asked_by how domain problem n) → (horizon : ℕ) (word : List ℕ) (conflicts : ℕ) (claim : Parts → Type 0)
+    of_said : (how : Stepping) (text domain problem : List ℕ) (n : Numbers) → Printed before after text → requested words ≡ Some (plans_by how domain problem n) → (horizon : ℕ) (word : List ℕ) (conflicts : ℕ) (claim : Parts → Type 0)
         → IsTrue (is_word word) → Says text horizon word conflicts
         → ((settings : Settings) (task : Parts) (g : Grounded) (ready : IsReady task g) (race : RaceEnd) → ComesTo (places_by how) (is_plan_by how) g.task settings race → Tells (lines_in (end_view race)) horizon word conflicts → claim task) → OfFiles told domain problem claim
     of_said how text domain problem n printed asked horizon word conflicts claim one says from = elim (eqb_tells status 8) [
@@ -316,25 +459,25 @@ module _ (told : List ℕ → Option (List ℕ)) (lacks : List ℕ → Bool) (ol
 
   usage_only : (end : Ending) → end ≡ Usage → Comes told lacks old new words end → requested words ≡ None
   usage_only end is (no_request none e) = none
-  usage_only end is (stopped request asked h) = absurd (let never : false ≡ true = sym (ap is_stop is) ∙ files_stop told lacks old new 0 (files_of request) end h in cc)
+  usage_only end is (stopped request asked h) = absurd (let never : false ≡ true = sym (ap is_stop is) ∙ files_stop told lacks old new (file_at request) 0 (files_of request) end h in cc)
   usage_only end is (decided request asked fit answer h) = absurd (usage_answers request (subst (λ (e : Ending). is_answer request e ≡ true) is answer))
 
   pub usage : IsDue → status ≡ 7 → requested words ≡ None
   usage due seven = let d = due (λ six. absurd (omega arith)) (λ eight. absurd (omega arith)) in usage_only d.0 (seven_only d.0 (sym d.1 ∙ seven)) d.2
 
-  fault_among : (place : ℕ) (names : List (List ℕ)) (end : Ending) (file : Which) → end ≡ ReadFault file → StopsFrom told lacks old new place names end → RoseAmong names old new
-  fault_among place [] end file is h = h
-  fault_among place (name ∷ names) end file is (inl (inl fault)) = inl fault.1
-  fault_among place (name ∷ names) end file is (inl (inr long)) = absurd (let never : ReadFault file ≡ TooLong (file_at place) = sym is ∙ long.0 in cc)
-  fault_among place (name ∷ names) end file is (inr more) = inr (fault_among (place + 1) names end file is more.1)
+  fault_among : (files : ℕ → File) (place : ℕ) (names : List (List ℕ)) (end : Ending) (file : File) → end ≡ ReadFault file → StopsFrom told lacks old new files place names end → RoseAmong names old new
+  fault_among files place [] end file is h = h
+  fault_among files place (name ∷ names) end file is (inl (inl fault)) = inl fault.1
+  fault_among files place (name ∷ names) end file is (inl (inr long)) = absurd (let never : ReadFault file ≡ TooLong (files place) = sym is ∙ long.0 in cc)
+  fault_among files place (name ∷ names) end file is (inr more) = inr (fault_among files (place + 1) names end file is more.1)
 
   names_of : (others : List (List ℕ)) (request : Seen) → requested others ≡ Some request → names_in others ≡ files_of request
   names_of others request asked = ap (λ (o : Option Seen). elim o as (λ _. List (List ℕ)) [ None ↦ [] | Some r ↦ files_of r ]) asked
 
-  fault_of : (end : Ending) (file : Which) → end ≡ ReadFault file → Comes told lacks old new words end → FaultOf old new words
+  fault_of : (end : Ending) (file : File) → end ≡ ReadFault file → Comes told lacks old new words end → FaultOf old new words
   fault_of end file is (no_request none e) = absurd (let never : ReadFault file ≡ Usage = sym is ∙ e in cc)
   fault_of end file is (stopped request asked h) =
-      subst (λ (ns : List (List ℕ)). RoseAmong ns old new) (sym (names_of words request asked)) (fault_among 0 (files_of request) end file is h)
+      subst (λ (ns : List (List ℕ)). RoseAmong ns old new) (sym (names_of words request asked)) (fault_among (file_at request) 0 (files_of request) end file is h)
   fault_of end file is (decided request asked fit answer h) = absurd (fault_answers request file (subst (λ (e : Ending). is_answer request e ≡ true) is answer))
 
   pub read_fault : IsDue → status ≡ 5 → FaultOf old new words
@@ -368,8 +511,8 @@ module _ (told : List ℕ → Option (List ℕ)) (lacks : List ℕ → Bool) (ol
       let one : d.0 ≡ end = one_ending laws told elsewhere lacks lacking old new was is words others d.0 end ask d.2 comes (has_read d.0 (λ five. not_five (d.1 ∙ five))) reads in
       (d.1 ∙ ap status_of one, d.3 ∙ ap (λ (e : Ending). appended before (text_of e)) one)
 
-  pub complete : IsDue → (status ≡ 6 → ⊥) → GoesWell words told old new → (status ≡ 8) ⊎ ((end : Ending) × (status ≡ status_of end) × IsGood end × (after ≡ appended before (text_of end)))
-  complete due not_six well = elim (eqb_tells status 8) [
+  pub complete : Laws → IsDue → (status ≡ 6 → ⊥) → (well : GoesWell words told old new) → (status ≡ 8) ⊎ ((end : Ending) × (status ≡ status_of end) × IsGood well.request end × (after ≡ appended before (text_of end)))
+  complete laws due not_six well = elim (eqb_tells status 8) [
     | inl (t, eight) ↦ inl eight
-    | inr (f, not_eight) ↦ inr (let d = due not_six not_eight in (d.0, d.1, goes_well told lacks old new words well d.0 d.2, d.3))
+    | inr (f, not_eight) ↦ inr (let d = due not_six not_eight in (d.0, d.1, goes_well told lacks old new laws.no_fault words well d.0 d.2, d.3))
   ]

@@ -9,14 +9,14 @@ use Rattle.report_lines.specs.Lines.{is_line, joined}
 use Rattle.report_lines.specs.Horizons.{Says, IsEntry, is_word, is_remark}
 use Rattle.report_lines.specs.Laws.{ReportsSayEntries}
 use Rattle.report_lines.proofs.Entries.{line-append, word_line, decimal_word}
-use Rattle.pd_model.specs.declared.memory.Which.{Which}
-use Rattle.pd_model.specs.declared.memory.Which.TheVariants.{Domain, Problem, Plan}
+use Rattle.plan_top.specs.declared.ending.File.{File}
+use Rattle.plan_top.specs.declared.ending.File.TheVariants.{Domain, Problem, Plan, Proof}
 use Rattle.plan_top.specs.declared.ending.Kind.{Kind}
 use Rattle.plan_top.specs.declared.ending.Kind.TheVariants as kinds
 use Rattle.plan_top.specs.declared.ending.Limit.{Limit}
 use Rattle.plan_top.specs.declared.ending.Limit.TheVariants as limits
 use Rattle.plan_top.specs.declared.ending.Ending.{Ending}
-use Rattle.plan_top.specs.declared.ending.Ending.TheVariants.{Report, Listing, Reaches, Blocked, Short, Refused, TooLong, TooMany, TooLarge, ReadFault, Usage}
+use Rattle.plan_top.specs.declared.ending.Ending.TheVariants.{Report, Listing, Reaches, Blocked, Short, Refused, TooLong, TooMany, TooLarge, ReadFault, Usage, Found, Open, Accepted, Rejected, NotEmpty}
 use Rattle.plan_top.specs.Ending.{status_of, text_of, line_of, kind_word, limit_word, word_of, IsSmall}
 use Rattle.plan_top.specs.Headline.{Printed}
 
@@ -43,6 +43,11 @@ stop_status (TooMany what count) h = omega arith
 stop_status (TooLarge horizon count) h = omega arith
 stop_status (ReadFault file) h = omega arith
 stop_status Usage h = absurd (let never : false ≡ true = h in cc)
+stop_status (Found horizon conflicts) h = absurd (let never : false ≡ true = h in cc)
+stop_status (Open horizon conflicts) h = absurd (let never : false ≡ true = h in cc)
+stop_status (Accepted horizon entries) h = absurd (let never : false ≡ true = h in cc)
+stop_status (Rejected entry) h = absurd (let never : false ≡ true = h in cc)
+stop_status NotEmpty h = absurd (let never : false ≡ true = h in cc)
 
 decimal_line : (n : ℕ) → n < 2 ^ 64 → is_line (decimal n) ≡ true
 decimal_line n small = word_line (decimal n) (decimal_word n small)
@@ -57,10 +62,11 @@ kind_line kinds.Duplicate = refl
 kind_line kinds.Unsupported = refl
 kind_line kinds.Mistyped = refl
 
-file_line : (file : Which) → is_line (word_of file) ≡ true
+file_line : (file : File) → is_line (word_of file) ≡ true
 file_line Domain = refl
 file_line Problem = refl
 file_line Plan = refl
+file_line Proof = refl
 
 limit_line : (what : Limit) → is_line (limit_word what) ≡ true
 limit_line limits.Tuples = refl
@@ -91,6 +97,11 @@ stop_remark (TooLarge horizon count) h small =
     (refl, rw rest refl)
 stop_remark (ReadFault file) h small = (refl, rw (file_line file) refl)
 stop_remark Usage h small = absurd (let never : false ≡ true = h in cc)
+stop_remark (Found horizon conflicts) h small = absurd (let never : false ≡ true = h in cc)
+stop_remark (Open horizon conflicts) h small = absurd (let never : false ≡ true = h in cc)
+stop_remark (Accepted horizon entries) h small = absurd (let never : false ≡ true = h in cc)
+stop_remark (Rejected entry) h small = absurd (let never : false ≡ true = h in cc)
+stop_remark NotEmpty h small = absurd (let never : false ≡ true = h in cc)
 
 pub stop_says_nothing : ReportsSayEntries → (end : Ending) → is_stop end ≡ true → IsSmall end → (horizon : ℕ) (word : List ℕ) (conflicts : ℕ) → IsTrue (is_word word) → Says (text_of end) horizon word conflicts → ⊥
 stop_says_nothing say end stop small horizon word conflicts one says =

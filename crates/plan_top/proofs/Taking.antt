@@ -1,7 +1,6 @@
 -- What is known while the files of a request are taken, in order: what holds of the rest of them holds of all.
 use Rattle.std.proofs.Common.{◌≡◌, ◌<◌, ◌≤◌, ℕ, ◌+◌, Bool, List, [], ◌∷◌, ◌++◌, length, drop, Option, Some, None, refl, sym, ap, subst, ◌∙◌, arith, inl, inr, append_assoc, append-nil, length-append, add-one, suc}
 use Rattle.std.specs.Prelude.{IfSome, slice_get}
-use Rattle.std.specs.List.{AllZip, AllByRecursion}
 use Rattle.std.proofs.Math.Seq.{drop-cons}
 use Rattle.std.proofs.Math.ListN.{drop_of_length-le}
 use Rattle.std.proofs.lemmas.Option.{slice_get_within, slice_get_cases, get_or_from_slice_get}
@@ -9,7 +8,8 @@ use Rattle.std.proofs.lemmas.List.Sums.{sum_by-append}
 use Rattle.pl_io.specs.Outside.{Notes, fault_count}
 use Rattle.plan_words.specs.Among.{AreAmong}
 use Rattle.plan_top.specs.declared.ending.Ending.{Ending}
-use Rattle.plan_top.specs.Files.{Stops, StopsFrom, Fits, IsTaken, NotesAmong, file_at, most_bytes}
+use Rattle.plan_top.specs.declared.ending.File.{File}
+use Rattle.plan_top.specs.Files.{Stops, StopsFrom, Fits, FitFrom, IsTaken, AreTaken, AreShort, NotesAmong, most_of}
 
 -- ---- what is left of a list
 
@@ -45,30 +45,31 @@ never_falls names old new name notes = more_count name old notes.0 new notes.1
 
 -- ---- a file that fits
 
-told_fits : (told : Option (List ℕ)) (bytes : List ℕ) → IfSome told (λ file. bytes ≡ file) → length bytes ≤ most_bytes → IfSome told (λ file. length file ≤ most_bytes)
-told_fits None bytes is fits = tt
-told_fits (Some file) bytes is fits = subst (λ (xs : List ℕ). length xs ≤ most_bytes) is fits
+told_fits : (told : Option (List ℕ)) (bytes : List ℕ) (most : ℕ) → IfSome told (λ file. bytes ≡ file) → length bytes ≤ most → IfSome told (λ file. length file ≤ most)
+told_fits None bytes most is fits = tt
+told_fits (Some file) bytes most is fits = subst (λ (xs : List ℕ). length xs ≤ most) is fits
 
-pub taken_fits : (told : List ℕ → Option (List ℕ)) (lacks : List ℕ → Bool) (old new : List (List ℕ)) (name bytes : List ℕ) → IsTaken told lacks name bytes → Fits told lacks old new name
-taken_fits told lacks old new name bytes is = (is.there, told_fits (told name) bytes is.whole is.fits)
+module _ (told : List ℕ → Option (List ℕ)) (lacks : List ℕ → Bool) where
+  pub taken_fits : (old new : List (List ℕ)) (file : File) (name bytes : List ℕ) → IsTaken told lacks file name bytes → Fits told lacks old new file name
+  taken_fits old new file name bytes is = (is.there, told_fits (told name) bytes (most_of file) is.whole is.fits)
 
-pub all_fit : (told : List ℕ → Option (List ℕ)) (lacks : List ℕ → Bool) (old new names files : List (List ℕ)) → AllZip (IsTaken told lacks) names files → AllByRecursion (Fits told lacks old new) names
-all_fit told lacks old new [] [] h = tt
-all_fit told lacks old new [] (f ∷ fs) h = absurd h
-all_fit told lacks old new (n ∷ ns) [] h = absurd h
-all_fit told lacks old new (n ∷ ns) (f ∷ fs) h = (taken_fits told lacks old new n f h.0, all_fit told lacks old new ns fs h.1)
+  pub all_fit : (old new : List (List ℕ)) (file : ℕ → File) (place : ℕ) (names files : List (List ℕ)) → AreTaken told lacks file place names files → FitFrom told lacks old new file place names
+  all_fit old new file place [] [] h = tt
+  all_fit old new file place [] (f ∷ fs) h = absurd h
+  all_fit old new file place (n ∷ ns) [] h = absurd h
+  all_fit old new file place (n ∷ ns) (f ∷ fs) h = (taken_fits old new (file place) n f h.0, all_fit old new file (place + 1) ns fs h.1)
 
-pub taken_short : (told : List ℕ → Option (List ℕ)) (lacks : List ℕ → Bool) (names files : List (List ℕ)) → AllZip (IsTaken told lacks) names files → AllByRecursion (λ bytes. length bytes ≤ most_bytes) files
-taken_short told lacks [] [] h = tt
-taken_short told lacks [] (f ∷ fs) h = absurd h
-taken_short told lacks (n ∷ ns) [] h = tt
-taken_short told lacks (n ∷ ns) (f ∷ fs) h = (h.0.fits, taken_short told lacks ns fs h.1)
+  pub taken_short : (file : ℕ → File) (place : ℕ) (names files : List (List ℕ)) → AreTaken told lacks file place names files → AreShort file place files
+  taken_short file place [] [] h = tt
+  taken_short file place [] (f ∷ fs) h = absurd h
+  taken_short file place (n ∷ ns) [] h = tt
+  taken_short file place (n ∷ ns) (f ∷ fs) h = (h.0.fits, taken_short file (place + 1) ns fs h.1)
 
-pub taken_count : (told : List ℕ → Option (List ℕ)) (lacks : List ℕ → Bool) (names files : List (List ℕ)) → AllZip (IsTaken told lacks) names files → length files ≡ length names
-taken_count told lacks [] [] h = refl
-taken_count told lacks [] (f ∷ fs) h = absurd h
-taken_count told lacks (n ∷ ns) [] h = absurd h
-taken_count told lacks (n ∷ ns) (f ∷ fs) h = let e = taken_count told lacks ns fs h.1 in omega arith
+  pub taken_count : (file : ℕ → File) (place : ℕ) (names files : List (List ℕ)) → AreTaken told lacks file place names files → length files ≡ length names
+  taken_count file place [] [] h = refl
+  taken_count file place [] (f ∷ fs) h = absurd h
+  taken_count file place (n ∷ ns) [] h = absurd h
+  taken_count file place (n ∷ ns) (f ∷ fs) h = let e = taken_count file (place + 1) ns fs h.1 in omega arith
 
 -- ---- stops that are told with the faults of later
 
@@ -76,12 +77,12 @@ taken_count told lacks (n ∷ ns) (f ∷ fs) h = let e = taken_count told lacks 
 abbrev Rises : List (List ℕ) → List (List ℕ) → Type 0
 Rises old now = (name : List ℕ) → fault_count name old ≤ fault_count name now
 
-earlier : (told : List ℕ → Option (List ℕ)) (lacks : List ℕ → Bool) (old now new : List (List ℕ)) → Rises old now → (place : ℕ) (names : List (List ℕ)) (end : Ending)
-    → StopsFrom told lacks now new place names end → StopsFrom told lacks old new place names end
-earlier told lacks old now new rises place [] end h = absurd h
-earlier told lacks old now new rises place (name ∷ names) end (inl (inl fault)) = let before = rises name in let after = fault.1 in inl (inl (fault.0, omega arith))
-earlier told lacks old now new rises place (name ∷ names) end (inl (inr long)) = inl (inr long)
-earlier told lacks old now new rises place (name ∷ names) end (inr more) = inr (more.0, earlier told lacks old now new rises (place + 1) names end more.1)
+earlier : (told : List ℕ → Option (List ℕ)) (lacks : List ℕ → Bool) (old now new : List (List ℕ)) → Rises old now → (file : ℕ → File) (place : ℕ) (names : List (List ℕ)) (end : Ending)
+    → StopsFrom told lacks now new file place names end → StopsFrom told lacks old new file place names end
+earlier told lacks old now new rises file place [] end h = absurd h
+earlier told lacks old now new rises file place (name ∷ names) end (inl (inl fault)) = let before = rises name in let after = fault.1 in inl (inl (fault.0, omega arith))
+earlier told lacks old now new rises file place (name ∷ names) end (inl (inr long)) = inl (inr long)
+earlier told lacks old now new rises file place (name ∷ names) end (inr more) = inr (more.0, earlier told lacks old now new rises file (place + 1) names end more.1)
 
 notes_rise : (old now : List (List ℕ)) (name : List ℕ) → Notes old now name → Rises old now
 notes_rise old now name (inl same) other = rw same (omega arith)
@@ -90,20 +91,20 @@ notes_rise old now name (inr more) other = more_count other old (name ∷ []) no
 -- ---- the files that were taken so far
 
 -- these files were taken, and so many faults were noted
-pub record TakenSoFar (told : List ℕ → Option (List ℕ)) (lacks : List ℕ → Bool) (names old now files : List (List ℕ)) : Type 0 where
+pub record TakenSoFar (told : List ℕ → Option (List ℕ)) (lacks : List ℕ → Bool) (file : ℕ → File) (names old now files : List (List ℕ)) : Type 0 where
   pub noted : (more : List (List ℕ)) → AreAmong (drop (length files) names) more → NotesAmong names old (now ++ more)
-  pub taken : (others : List (List ℕ)) → AllZip (IsTaken told lacks) (drop (length files) names) others → AllZip (IsTaken told lacks) names (files ++ others)
-  pub stops : (new : List (List ℕ)) (end : Ending) → StopsFrom told lacks now new (length files) (drop (length files) names) end → StopsFrom told lacks old new 0 names end
+  pub taken : (others : List (List ℕ)) → AreTaken told lacks file (length files) (drop (length files) names) others → AreTaken told lacks file 0 names (files ++ others)
+  pub stops : (new : List (List ℕ)) (end : Ending) → StopsFrom told lacks now new file (length files) (drop (length files) names) end → StopsFrom told lacks old new file 0 names end
 
-module _ (told : List ℕ → Option (List ℕ)) (lacks : List ℕ → Bool) (names old : List (List ℕ)) where
-  pub none_taken : TakenSoFar told lacks names old old []
+module _ (told : List ℕ → Option (List ℕ)) (lacks : List ℕ → Bool) (file : ℕ → File) (names old : List (List ℕ)) where
+  pub none_taken : TakenSoFar told lacks file names old old []
   none_taken = record {
     noted = λ more among. (more, refl, among);
     taken = λ others h. h;
     stops = λ new end h. h;
   }
 
-  module _ (now next files : List (List ℕ)) (name : List ℕ) (so : TakenSoFar told lacks names old now files) (at : slice_get names (length files) ≡ Some name) (notes : Notes now next name) where
+  module _ (now next files : List (List ℕ)) (name : List ℕ) (so : TakenSoFar told lacks file names old now files) (at : slice_get names (length files) ≡ Some name) (notes : Notes now next name) where
     -- with the next file's faults
     noted_next : (more : List (List ℕ)) → AreAmong (drop (length files + 1) names) more → NotesAmong names old (next ++ more)
     noted_next more among = step notes
@@ -115,22 +116,22 @@ module _ (told : List ℕ → Option (List ℕ)) (lacks : List ℕ → Bool) (na
     pub noted_at_last : NotesAmong names old next
     noted_at_last = rw append-nil at (noted_next [] tt)
 
-    pub stops_here : (end : Ending) → Stops told lacks now next (file_at (length files)) name end → StopsFrom told lacks old next 0 names end
+    pub stops_here : (end : Ending) → Stops told lacks now next (file (length files)) name end → StopsFrom told lacks old next file 0 names end
     stops_here end stops = so.stops next end (rw (drop_at names (length files) name at) (inl stops))
 
-    pub one_more : (bytes : List ℕ) → IsTaken told lacks name bytes → TakenSoFar told lacks names old next (files ++ bytes ∷ [])
+    pub one_more : (bytes : List ℕ) → IsTaken told lacks (file (length files)) name bytes → TakenSoFar told lacks file names old next (files ++ bytes ∷ [])
     one_more bytes is = record {
       noted = λ more among. noted_next more (rw (length_push files bytes) at among);
       taken = λ others h. rw append_assoc (so.taken (bytes ∷ others) (rw (drop_at names (length files) name at) (is, rw (length_push files bytes) at h)));
       stops = λ new end h. so.stops new end (rw (drop_at names (length files) name at) (inr (
-        taken_fits told lacks now new name bytes is,
-        earlier told lacks now next new (notes_rise now next name notes) (length files + 1) (drop (length files + 1) names) end (rw (length_push files bytes) at h),
+        taken_fits told lacks now new (file (length files)) name bytes is,
+        earlier told lacks now next new (notes_rise now next name notes) file (length files + 1) (drop (length files + 1) names) end (rw (length_push files bytes) at h),
       )));
     }
 
-  module _ (now files : List (List ℕ)) (so : TakenSoFar told lacks names old now files) where
+  module _ (now files : List (List ℕ)) (so : TakenSoFar told lacks file names old now files) where
     pub noted_so_far : NotesAmong names old now
     noted_so_far = rw append-nil at (so.noted [] tt)
 
-    pub all_taken : slice_get names (length files) ≡ None → AllZip (IsTaken told lacks) names files
+    pub all_taken : slice_get names (length files) ≡ None → AreTaken told lacks file 0 names files
     all_taken none = rw append-nil at (so.taken [] (rw (drop_none names (length files) none) tt))

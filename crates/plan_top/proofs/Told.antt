@@ -1,10 +1,10 @@
 -- What the bytes of files decide, the files of a shelf decide; and which answers they give.
-use Rattle.std.proofs.Common.{◌≡◌, ℕ, Bool, true, List, [], ◌∷◌, Option, Some, None, subst, refl, ◌∙◌, sym, inl, inr}
+use Rattle.std.proofs.Common.{◌≡◌, ℕ, ◌+◌, Bool, true, List, [], ◌∷◌, Option, Some, None, subst, refl, ◌∙◌, sym, inl, inr}
 use Rattle.std.specs.Prelude.{IfSome, ◌⊎◌}
-use Rattle.std.specs.List.{AllZip, AllByRecursion}
+use Rattle.std.specs.List.{AllZip}
 use Rattle.horizon_rates.specs.declared.settings.Settings.{Settings}
-use Rattle.pd_model.specs.declared.memory.Which.{Which}
-use Rattle.pd_model.specs.declared.memory.Which.TheVariants.{Domain, Problem}
+use Rattle.plan_top.specs.declared.ending.File.{File}
+use Rattle.plan_top.specs.declared.ending.File.TheVariants.{Domain, Problem, Proof}
 use Rattle.pd_model.specs.declared.calls.Verdict.{Verdict}
 use Rattle.pd_model.specs.declared.calls.Verdict.TheVariants as verdicts
 use Rattle.pd_model.specs.Plan.{verdict}
@@ -15,7 +15,7 @@ use Rattle.pd_plan.specs.Fault as plan
 use Rattle.grounding.specs.Grounded.{Grounded}
 use Rattle.plan_gen.specs.declared.Kind.{Kind as Generated}
 use Rattle.plan_gen.specs.Task.{domain_of, problem_of}
-use Rattle.plan_words.specs.Seen.{Seen, Numbers, plans, checks, grounds, orders, generates, files_of}
+use Rattle.plan_words.specs.Seen.{Seen, Numbers, plans_by, checks, grounds, orders, generates, proves, verifies, batches, files_of}
 use Rattle.plan_words.specs.Requested.{requested}
 use Rattle.plan_words.specs.declared.request.Show.{Show}
 use Rattle.plan_words.specs.declared.request.Show.TheVariants as shows
@@ -24,26 +24,32 @@ use Rattle.plan_top.specs.declared.ending.Kind.TheVariants as kinds
 use Rattle.plan_top.specs.declared.ending.Ending.{Ending}
 use Rattle.plan_top.specs.declared.ending.Ending.TheVariants.{Refused, TooMany, Usage}
 use Rattle.plan_top.specs.declared.ending.Limit.{Limit}
-use Rattle.plan_top.specs.Files.{IsTaken, OfTold, Fits, StopsFrom}
-use Rattle.plan_top.specs.Stepping.{Exists, places_by, is_plan_by}
-use Rattle.plan_top.specs.Tasks.{RefusesTask, domain_tree, problem_tree, no_task, refusal_of, OnceRead, not_read, read, refused, past, OnceGrounded, not_grounded, grounded}
+use Rattle.plan_top.specs.Files.{AreTaken, OfTold, FitFrom, StopsFrom, file_at}
+use Rattle.gt_core.specs.Step.{IsStepPlan}
+use Rattle.step_clauses.specs.Variables.{chain_places}
+use Rattle.plan_words.specs.declared.request.Stepping.{Stepping}
+use Rattle.certificates.specs.declared.prove.Proved.{Proved}
+use Rattle.certificates.specs.declared.prove.Proved.TheVariants as proved
+use Rattle.certificates.specs.declared.verify.Judged.{Judged}
+use Rattle.certificates.specs.declared.verify.Judged.TheVariants as judged
+use Rattle.plan_top.specs.Tasks.{RefusesTask, domain_tree, problem_tree, no_task, input_of, refusal_of, OnceRead, not_read, read, refused, past, OnceGrounded, not_grounded, grounded}
 use Rattle.plan_top.specs.Raced.{OnceRaced, too_large, ended}
 use Rattle.plan_top.specs.Generated.{AnswersGenerated, TellsGenerated}
-use Rattle.plan_top.specs.Causes.{OfTwo, OfThree, Decides, AnswersPlan, AnswersGround, AnswersOrder, AnswersCheck, is_answer, refusal_of_plan, ending_of, Comes, no_request, stopped, decided}
+use Rattle.plan_top.specs.Causes.{OfTwo, OfThree, Decides, AnswersPlan, AnswersGround, AnswersOrder, AnswersCheck, AnswersProve, not_run, run, AnswersVerify, unfit, beyond, spelled, not_checked, checked, ending_of_run, ending_of_check, is_answer, refusal_of_plan, ending_of, Comes, no_request, stopped, decided}
 use Rattle.plan_top.proofs.Taking.{all_fit}
 
 -- ---- endings that tell of a file
 
 -- the ending refuses a file
 abbrev pub IsRefusal : Ending → Type 0
-IsRefusal end = (kind : Kind) × (file : Which) × (at : ℕ) × (end ≡ Refused kind file at)
+IsRefusal end = (kind : Kind) × (file : File) × (at : ℕ) × (end ≡ Refused kind file at)
 
 refusal_is : (cause : PddlError) (end : Ending) → refusal_of cause ≡ Some end → IsRefusal end
-refusal_is (errors.Shape file at) end e = (kinds.Shape, file, at, cc)
-refusal_is (errors.Unknown file at) end e = (kinds.Unknown, file, at, cc)
-refusal_is (errors.Arity file at) end e = (kinds.Arity, file, at, cc)
-refusal_is (errors.Duplicate file at) end e = (kinds.Duplicate, file, at, cc)
-refusal_is (errors.Unsupported file at) end e = (kinds.Unsupported, file, at, cc)
+refusal_is (errors.Shape file at) end e = (kinds.Shape, input_of file, at, cc)
+refusal_is (errors.Unknown file at) end e = (kinds.Unknown, input_of file, at, cc)
+refusal_is (errors.Arity file at) end e = (kinds.Arity, input_of file, at, cc)
+refusal_is (errors.Duplicate file at) end e = (kinds.Duplicate, input_of file, at, cc)
+refusal_is (errors.Unsupported file at) end e = (kinds.Unsupported, input_of file, at, cc)
 refusal_is errors.Memory end e = absurd (none_some end e)
   where
     none_some : (x : Ending) → None ≡ Some x → ⊥
@@ -56,8 +62,11 @@ task_refusal domain problem end (no_task first second one two r) = refusal_is r.
 
 -- ---- which answers the contents give
 
-refused_answer : (request : Seen) (kind : Kind) (file : Which) (at : ℕ) → is_answer request (Refused kind file at) ≡ true
-refused_answer (plans d p n) kind file at = refl
+refused_answer : (request : Seen) (kind : Kind) (file : File) (at : ℕ) → is_answer request (Refused kind file at) ≡ true
+refused_answer (plans_by steps d p n) kind file at = refl
+refused_answer (proves d p h b) kind file at = refl
+refused_answer (verifies d p c) kind file at = refl
+refused_answer (batches d ps n t) kind file at = refl
 refused_answer (checks d p l) kind file at = refl
 refused_answer (grounds d p) kind file at = refl
 refused_answer (orders d p) kind file at = refl
@@ -91,20 +100,41 @@ check_answer : (d p l : List ℕ) (task : Parts) (bytes : List ℕ) (end : Endin
 check_answer d p l task bytes end (inl h) = rw h.2 (verdict_answer d p l (verdict task h.0))
 check_answer d p l task bytes end (inr h) = rw h.2 (fault_answer d p l h.0)
 
-plan_answer : (d p : List ℕ) (n : Numbers) (settings : Settings) (task : Parts) (g : Grounded) (end : Ending) → AnswersPlan Exists settings task g end → is_answer (plans d p n) end ≡ true
-plan_answer d p n settings task g end (too_large over) = rw over.2 refl
-plan_answer d p n settings task g end (ended race comes tells) = rw tells.told refl
+plan_answer : (steps : Stepping) (d p : List ℕ) (n : Numbers) (settings : Settings) (task : Parts) (g : Grounded) (end : Ending) → AnswersPlan steps settings task g end → is_answer (plans_by steps d p n) end ≡ true
+plan_answer steps d p n settings task g end (too_large over) = rw over.2 refl
+plan_answer steps d p n settings task g end (ended race comes tells) = rw tells.told refl
 
 generated_answer : (kind : Generated) (number : ℕ) (n : Numbers) (settings : Settings) (show : Show) (end : Ending) → AnswersGenerated kind number settings show end → is_answer (generates kind number n show) end ≡ true
 generated_answer kind number n settings shows.Domain end h = rw h refl
 generated_answer kind number n settings shows.Problem end h = rw h refl
 generated_answer kind number n settings shows.None end h =
-    grounded_answer (generates kind number n shows.None) (domain_of kind) (problem_of kind number) (λ task g. OnceRaced (places_by Exists) (is_plan_by Exists) g.task settings (TellsGenerated kind number settings)) end
+    grounded_answer (generates kind number n shows.None) (domain_of kind) (problem_of kind number) (λ task g. OnceRaced chain_places IsStepPlan g.task settings (TellsGenerated kind number settings)) end
     (λ what count. refl) step h
   where
-    step : (task : Parts) (g : Grounded) → OnceRaced (places_by Exists) (is_plan_by Exists) g.task settings (TellsGenerated kind number settings) end → is_answer (generates kind number n shows.None) end ≡ true
+    step : (task : Parts) (g : Grounded) → OnceRaced chain_places IsStepPlan g.task settings (TellsGenerated kind number settings) end → is_answer (generates kind number n shows.None) end ≡ true
     step task g (too_large over) = rw over.2 refl
     step task g (ended race comes told) = rw told refl
+
+run_answer : (d q : List ℕ) (h b : ℕ) (p : Proved) → is_answer (proves d q h b) (ending_of_run h p) ≡ true
+run_answer d q h b (proved.Certificate text) = refl
+run_answer d q h b proved.TooLong = refl
+run_answer d q h b (proved.Plan conflicts) = refl
+run_answer d q h b (proved.Open conflicts) = refl
+
+prove_answer : (d p : List ℕ) (h b : ℕ) (task : Parts) (g : Grounded) (end : Ending) → AnswersProve h b task g end → is_answer (proves d p h b) end ≡ true
+prove_answer d p h b task g end (not_run count many e) = rw e refl
+prove_answer d p h b task g end (run r so e) = rw e (run_answer d p h b r)
+
+judged_answer : (d p c : List ℕ) (h : ℕ) (j : Judged) → is_answer (verifies d p c) (ending_of_check h j) ≡ true
+judged_answer d p c h (judged.Accepted entries) = refl
+judged_answer d p c h (judged.Rejected entry) = refl
+judged_answer d p c h judged.NotEmpty = refl
+
+verify_answer : (d p c : List ℕ) (task : Parts) (bytes : List ℕ) (end : Ending) → AnswersVerify task bytes end → is_answer (verifies d p c) end ≡ true
+verify_answer d p c task bytes end (unfit r) = rw r.2 refl
+verify_answer d p c task bytes end (beyond h log is limit) = rw limit.2 refl
+verify_answer d p c task bytes end (spelled h log g is ready (not_checked count many e)) = rw e refl
+verify_answer d p c task bytes end (spelled h log g is ready (checked j so e)) = rw e (judged_answer d p c h j)
 
 -- what two files decide, or three
 pub in_two : {X : Type 0} (claim : List ℕ → List ℕ → Type 0) (files : List (List ℕ)) → ((first second : List ℕ) → claim first second → X) → OfTwo files claim → X
@@ -121,12 +151,15 @@ in_three claim (a ∷ (b ∷ (c ∷ []))) from h = from a b c h
 in_three claim (a ∷ (b ∷ (c ∷ (d ∷ others)))) from h = absurd h
 
 decides_answer : (request : Seen) (files : List (List ℕ)) (end : Ending) → Decides request files end → is_answer request end ≡ true
-decides_answer (plans d p n) files end h =
-    in_two _ files (λ a b k. grounded_answer (plans d p n) a b (AnswersPlan Exists k.0) end (λ what count. refl) (λ task g. plan_answer d p n k.0 task g end) k.2) h
+decides_answer (plans_by steps d p n) files end h =
+    in_two _ files (λ a b k. grounded_answer (plans_by steps d p n) a b (AnswersPlan steps k.0) end (λ what count. refl) (λ task g. plan_answer steps d p n k.0 task g end) k.2) h
 decides_answer (grounds d p) files end h = in_two _ files (λ a b k. grounded_answer (grounds d p) a b AnswersGround end (λ what count. refl) (λ task g e. rw e refl) k) h
 decides_answer (orders d p) files end h = in_two _ files (λ a b k. grounded_answer (orders d p) a b AnswersOrder end (λ what count. refl) (λ task g e. rw e.3 refl) k) h
 decides_answer (checks d p l) files end h = in_three _ files (λ a b c k. read_answer (checks d p l) a b (λ task. AnswersCheck task c) end (λ task. check_answer d p l task c end) k) h
 decides_answer (generates kind number n show) files end h = generated_answer kind number n h.1.0 show end h.1.2
+decides_answer (proves d p h b) files end k = in_two _ files (λ first second o. grounded_answer (proves d p h b) first second (AnswersProve h b) end (λ what count. refl) (λ task g. prove_answer d p h b task g end) o) k
+decides_answer (verifies d p c) files end h = in_three _ files (λ first second third o. read_answer (verifies d p c) first second (λ task. AnswersVerify task third) end (λ task. verify_answer d p c task third end) o) h
+decides_answer (batches d ps n t) files end h = absurd h
 
 -- ---- what is told
 
@@ -134,12 +167,12 @@ at_told : (P : List ℕ → Type 0) (told : Option (List ℕ)) (bytes : List ℕ
 at_told P None bytes is h = tt
 at_told P (Some file) bytes is h = subst P is h
 
-of_taken : (told : List ℕ → Option (List ℕ)) (lacks : List ℕ → Bool) (names files : List (List ℕ)) (claim : List (List ℕ) → Type 0) → AllZip (IsTaken told lacks) names files → claim files → OfTold told names claim
-of_taken told lacks [] [] claim are h = h
-of_taken told lacks [] (f ∷ fs) claim are h = absurd are
-of_taken told lacks (n ∷ ns) [] claim are h = absurd are
-of_taken told lacks (n ∷ ns) (f ∷ fs) claim are h =
-    at_told (λ bytes. OfTold told ns (λ others. claim (bytes ∷ others))) (told n) f are.0.whole (of_taken told lacks ns fs (λ others. claim (f ∷ others)) are.1 h)
+of_taken : (told : List ℕ → Option (List ℕ)) (lacks : List ℕ → Bool) (file : ℕ → File) (place : ℕ) (names files : List (List ℕ)) (claim : List (List ℕ) → Type 0) → AreTaken told lacks file place names files → claim files → OfTold told names claim
+of_taken told lacks file place [] [] claim are h = h
+of_taken told lacks file place [] (f ∷ fs) claim are h = absurd are
+of_taken told lacks file place (n ∷ ns) [] claim are h = absurd are
+of_taken told lacks file place (n ∷ ns) (f ∷ fs) claim are h =
+    at_told (λ bytes. OfTold told ns (λ others. claim (bytes ∷ others))) (told n) f are.0.whole (of_taken told lacks file (place + 1) ns fs (λ others. claim (f ∷ others)) are.1 h)
 
 told_weaker : (P Q : List ℕ → Type 0) (told : Option (List ℕ)) → ((bytes : List ℕ) → P bytes → Q bytes) → IfSome told P → IfSome told Q
 told_weaker P Q None weaker h = tt
@@ -171,25 +204,25 @@ of_told_at told (n ∷ ns) (f ∷ fs) P are h =
 
 module _ (told : List ℕ → Option (List ℕ)) (lacks : List ℕ → Bool) (old new : List (List ℕ)) (words : List (List ℕ)) (request : Seen) (asked : requested words ≡ Some request) where
   -- of files that were taken, what their bytes decide comes of the words
-  pub taken_comes : (files : List (List ℕ)) → AllZip (IsTaken told lacks) (files_of request) files → (end : Ending) → Decides request files end → Comes told lacks old new words end
+  pub taken_comes : (files : List (List ℕ)) → AreTaken told lacks (file_at request) 0 (files_of request) files → (end : Ending) → Decides request files end → Comes told lacks old new words end
   taken_comes files are end h =
-      decided request asked (all_fit told lacks old new (files_of request) files are) (decides_answer request files end h) (of_taken told lacks (files_of request) files (λ fs. Decides request fs end) are h)
+      decided request asked (all_fit told lacks old new (file_at request) 0 (files_of request) files are) (decides_answer request files end h) (of_taken told lacks (file_at request) 0 (files_of request) files (λ fs. Decides request fs end) are h)
 
   -- an ending of words that ask for a request: a file stops it, or the files' bytes decide it
   abbrev pub IsOfRequest : Ending → Type 0
-  IsOfRequest end = StopsFrom told lacks old new 0 (files_of request) end
-      ⊎ (AllByRecursion (Fits told lacks old new) (files_of request) × (is_answer request end ≡ true) × OfTold told (files_of request) (λ files. Decides request files end))
+  IsOfRequest end = StopsFrom told lacks old new (file_at request) 0 (files_of request) end
+      ⊎ (FitFrom told lacks old new (file_at request) 0 (files_of request) × (is_answer request end ≡ true) × OfTold told (files_of request) (λ files. Decides request files end))
 
   pub asked_comes : (end : Ending) → Comes told lacks old new words end → IsOfRequest end
   asked_comes end (no_request none e) = absurd (let never : Some request ≡ None = sym asked ∙ none in cc)
   asked_comes end (stopped other other_asked h) =
       let same : Some other ≡ Some request = sym other_asked ∙ asked in
       let is : other ≡ request = cc in
-      inl (subst (λ (r : Seen). StopsFrom told lacks old new 0 (files_of r) end) is h)
+      inl (subst (λ (r : Seen). StopsFrom told lacks old new (file_at r) 0 (files_of r) end) is h)
   asked_comes end (decided other other_asked fit answer h) =
       let same : Some other ≡ Some request = sym other_asked ∙ asked in
       let is : other ≡ request = cc in
-      inr (subst (λ (r : Seen). AllByRecursion (Fits told lacks old new) (files_of r) × (is_answer r end ≡ true) × OfTold told (files_of r) (λ files. Decides r files end)) is (fit, answer, h))
+      inr (subst (λ (r : Seen). FitFrom told lacks old new (file_at r) 0 (files_of r) × (is_answer r end ≡ true) × OfTold told (files_of r) (λ files. Decides r files end)) is (fit, answer, h))
 
 pub not_asked_comes : (told : List ℕ → Option (List ℕ)) (lacks : List ℕ → Bool) (old new : List (List ℕ)) (words : List (List ℕ)) → requested words ≡ None → (end : Ending) → Comes told lacks old new words end → end ≡ Usage
 not_asked_comes told lacks old new words none end (no_request n e) = e

@@ -1,9 +1,7 @@
 -- When each ending of a run comes.
 use Rattle.std.specs.Prelude.{◌≡◌, ◌⊎◌, ℕ, List, [], ◌∷◌, length, Bool, true, false, IsTrue, Option, Some, None, Ok, Err}
-use Rattle.std.specs.List.{AllByRecursion}
 use Rattle.horizon_rates.specs.declared.settings.Settings.{Settings}
 use Rattle.pd_model.specs.Plan.{verdict}
-use Rattle.pd_model.specs.declared.memory.Which.TheVariants.{Plan}
 use Rattle.pd_model.specs.declared.calls.Call.{Call}
 use Rattle.pd_model.specs.declared.calls.Verdict.{Verdict}
 use Rattle.pd_model.specs.declared.calls.Verdict.TheVariants as verdicts
@@ -16,17 +14,28 @@ use Rattle.race_end.specs.Ends.{end_view}
 use Rattle.race_end.specs.declared.end.RaceEnd.{RaceEnd}
 use Rattle.plan_report.specs.Report.{report_of}
 use Rattle.plan_report.specs.Laws.{IsSmall}
-use Rattle.plan_words.specs.Seen.{Seen, Numbers, numbers, plans, checks, grounds, orders, generates, files_of}
+use Rattle.plan_words.specs.Seen.{Seen, Numbers, numbers, plans_by, checks, grounds, orders, generates, proves, verifies, batches, files_of}
+use Rattle.plan_words.specs.declared.request.Stepping.{Stepping}
 use Rattle.plan_words.specs.Requested.{requested}
-use Rattle.plan_top.specs.Known.{IsOrdered}
-use Rattle.plan_top.specs.Files.{Fits, StopsFrom, OfTold, RoseAmong}
-use Rattle.plan_top.specs.Stepping.{Stepping, Exists, places_by, is_plan_by}
-use Rattle.plan_top.specs.Tasks.{OnceRead, OnceGrounded}
+use Rattle.certificates.specs.Known.{IsOrdered, HasTooMany}
+use Rattle.certificates.specs.Certificate.{IsSpelled}
+use Rattle.certificates.specs.Proved.{Proves}
+use Rattle.certificates.specs.Judged.{Judges}
+use Rattle.certificates.specs.declared.prove.Proved.{Proved}
+use Rattle.certificates.specs.declared.prove.Proved.TheVariants as proved
+use Rattle.certificates.specs.declared.verify.Judged.{Judged}
+use Rattle.certificates.specs.declared.verify.Judged.TheVariants as judged
+use Rattle.clause_base.specs.declared.log.Entry.{Entry}
+use Rattle.proof_text.specs.Place.{IsUnfitAt}
+use Rattle.plan_top.specs.Files.{FitFrom, StopsFrom, OfTold, RoseAmong, file_at}
+use Rattle.plan_top.specs.Stepping.{places_by, is_plan_by}
+use Rattle.plan_top.specs.Tasks.{OnceRead, OnceGrounded, TellsOver, IsReady}
+use Rattle.plan_top.specs.declared.ending.File.TheVariants.{Plan, Proof}
 use Rattle.plan_top.specs.Raced.{OnceRaced, outcome_of}
 use Rattle.plan_top.specs.Generated.{AnswersGenerated}
 use Rattle.plan_top.specs.declared.ending.Kind.TheVariants.{Syntax, Unknown, Arity, Mistyped}
 use Rattle.plan_top.specs.declared.ending.Ending.{Ending}
-use Rattle.plan_top.specs.declared.ending.Ending.TheVariants.{Report, Listing, Reaches, Blocked, Short, Refused, TooMany, TooLarge, Usage}
+use Rattle.plan_top.specs.declared.ending.Ending.TheVariants.{Report, Listing, Reaches, Blocked, Short, Refused, TooLong, TooMany, TooLarge, Usage, Found, Open, Accepted, Rejected, NotEmpty}
 
 -- ---- what the bytes of its files decide for a request
 
@@ -37,7 +46,7 @@ pub record TellsRace (settings : Settings) (task : Parts) (g : Grounded) (race :
 
 -- what a race on a ground task in these steps comes to, with its report
 abbrev pub AnswersPlan : Stepping → Settings → Parts → Grounded → Ending → Type 0
-AnswersPlan how settings task g end = OnceRaced (places_by how) (is_plan_by how) g.task settings (TellsRace settings task g) end
+AnswersPlan steps settings task g end = OnceRaced (places_by steps) (is_plan_by steps) g.task settings (TellsRace settings task g) end
 
 -- the facts and the actions
 abbrev pub AnswersGround : Parts → Grounded → Ending → Type 0
@@ -69,6 +78,39 @@ RefusesCalls task bytes end = (fault : plan.Fault) × (plan_file task bytes ≡ 
 abbrev pub AnswersCheck : Parts → List ℕ → Ending → Type 0
 AnswersCheck task bytes end = ((calls : List Call) × (plan_file task bytes ≡ Ok calls) × (end ≡ ending_of (verdict task calls))) ⊎ RefusesCalls task bytes end
 
+-- the ending that tells what the run of a horizon came to
+abbrev pub ending_of_run : ℕ → Proved → Ending
+ending_of_run horizon (proved.Certificate text) = Listing text
+ending_of_run horizon proved.TooLong = TooLong Proof
+ending_of_run horizon (proved.Plan conflicts) = Found horizon conflicts
+ending_of_run horizon (proved.Open conflicts) = Open horizon conflicts
+
+-- what the run of a horizon comes to, or that its formula is too large
+pub data AnswersProve (horizon budget : ℕ) (task : Parts) (g : Grounded) (end : Ending) : Type 0 where
+  not_run : (count : ℕ) → HasTooMany g.task horizon count → end ≡ TooLarge horizon count → AnswersProve horizon budget task g end
+  run : (p : Proved) → Proves g.task horizon budget p → end ≡ ending_of_run horizon p → AnswersProve horizon budget task g end
+
+-- the ending that tells what the checker says of a certificate
+abbrev pub ending_of_check : ℕ → Judged → Ending
+ending_of_check horizon (judged.Accepted entries) = Accepted horizon entries
+ending_of_check horizon (judged.Rejected entry) = Rejected entry
+ending_of_check horizon judged.NotEmpty = NotEmpty
+
+-- what the checker says of a certificate on a ground task, or that the formula of its horizon is too large
+pub data AnswersProof (horizon : ℕ) (log : List Entry) (g : Grounded) (end : Ending) : Type 0 where
+  not_checked : (count : ℕ) → HasTooMany g.task horizon count → end ≡ TooLarge horizon count → AnswersProof horizon log g end
+  checked : (j : Judged) → Judges g.task horizon log j → end ≡ ending_of_check horizon j → AnswersProof horizon log g end
+
+-- the ending tells where the bytes are no certificate
+abbrev pub RefusesProof : List ℕ → Ending → Type 0
+RefusesProof bytes end = (at : ℕ) × IsUnfitAt bytes at × (end ≡ Refused Syntax Proof at)
+
+-- what a certificate file comes to: it is none, the task is past a limit, or the checker says so of it
+pub data AnswersVerify (task : Parts) (bytes : List ℕ) (end : Ending) : Type 0 where
+  unfit : RefusesProof bytes end → AnswersVerify task bytes end
+  beyond : (horizon : ℕ) (log : List Entry) → IsSpelled bytes horizon log → TellsOver task end → AnswersVerify task bytes end
+  spelled : (horizon : ℕ) (log : List Entry) (g : Grounded) → IsSpelled bytes horizon log → IsReady task g → AnswersProof horizon log g end → AnswersVerify task bytes end
+
 -- what holds of the settings that have these numbers
 abbrev pub OfSettings : Numbers → (Settings → Type 0) → Type 0
 OfSettings n claim = (settings : Settings) × (numbers settings ≡ n) × claim settings
@@ -84,19 +126,22 @@ OfThree files claim = ⊥
 
 -- what the bytes of its files decide for a request
 abbrev pub Decides : Seen → List (List ℕ) → Ending → Type 0
-Decides (plans d p n) files end = OfTwo files (λ domain problem. OfSettings n (λ settings. OnceGrounded domain problem (AnswersPlan Exists settings) end))
+Decides (plans_by steps d p n) files end = OfTwo files (λ domain problem. OfSettings n (λ settings. OnceGrounded domain problem (AnswersPlan steps settings) end))
 Decides (grounds d p) files end = OfTwo files (λ domain problem. OnceGrounded domain problem AnswersGround end)
 Decides (orders d p) files end = OfTwo files (λ domain problem. OnceGrounded domain problem AnswersOrder end)
 Decides (checks d p l) files end = OfThree files (λ domain problem plan. OnceRead domain problem (λ task. AnswersCheck task plan) end)
 Decides (generates kind number n show) files end = (files ≡ []) × OfSettings n (λ settings. AnswersGenerated kind number settings show end)
+Decides (proves d p horizon budget) files end = OfTwo files (λ domain problem. OnceGrounded domain problem (AnswersProve horizon budget) end)
+Decides (verifies d p c) files end = OfThree files (λ domain problem proof. OnceRead domain problem (λ task. AnswersVerify task proof) end)
+Decides (batches d ps n t) files end = ⊥
 
 -- The endings that the files' contents give for a request: what is known of an ending where no bytes are told.
 abbrev pub is_answer : Seen → Ending → Bool
 is_answer request (Refused kind file at) = true
 is_answer (checks d p l) (TooMany what count) = false
 is_answer request (TooMany what count) = true
-is_answer (plans d p n) (TooLarge horizon count) = true
-is_answer (plans d p n) (Report outcome text) = true
+is_answer (plans_by steps d p n) (TooLarge horizon count) = true
+is_answer (plans_by steps d p n) (Report outcome text) = true
 is_answer (generates kind number n show) (TooLarge horizon count) = true
 is_answer (generates kind number n show) (Report outcome text) = true
 is_answer (generates kind number n show) (Listing text) = true
@@ -105,6 +150,15 @@ is_answer (orders d p) (Listing text) = true
 is_answer (checks d p l) Reaches = true
 is_answer (checks d p l) (Blocked index) = true
 is_answer (checks d p l) Short = true
+is_answer (proves d p h b) (TooLarge horizon count) = true
+is_answer (proves d p h b) (Listing text) = true
+is_answer (proves d p h b) (TooLong Proof) = true
+is_answer (proves d p h b) (Found horizon conflicts) = true
+is_answer (proves d p h b) (Open horizon conflicts) = true
+is_answer (verifies d p c) (TooLarge horizon count) = true
+is_answer (verifies d p c) (Accepted horizon entries) = true
+is_answer (verifies d p c) (Rejected entry) = true
+is_answer (verifies d p c) NotEmpty = true
 is_answer request end = false
 
 -- ---- what a run comes to
@@ -115,8 +169,8 @@ module _ (told : List ℕ → Option (List ℕ)) (lacks : List ℕ → Bool) (ol
   -- are taken and their bytes decide it.
   pub data Comes (words : List (List ℕ)) (end : Ending) : Type 0 where
     no_request : requested words ≡ None → end ≡ Usage → Comes words end
-    stopped : (request : Seen) → requested words ≡ Some request → StopsFrom told lacks old new 0 (files_of request) end → Comes words end
-    decided : (request : Seen) → requested words ≡ Some request → AllByRecursion (Fits told lacks old new) (files_of request) → IsTrue (is_answer request end)
+    stopped : (request : Seen) → requested words ≡ Some request → StopsFrom told lacks old new (file_at request) 0 (files_of request) end → Comes words end
+    decided : (request : Seen) → requested words ≡ Some request → FitFrom told lacks old new (file_at request) 0 (files_of request) → IsTrue (is_answer request end)
         → OfTold told (files_of request) (λ files. Decides request files end) → Comes words end
 
 -- the names of the files that words ask for

@@ -1,20 +1,23 @@
 -- Words and files that are in order, so that they are answered.
 use Rattle.std.specs.Prelude.{◌≡◌, ◌⊎◌, ◌≤◌, Contains, ℕ, List, [], ◌∷◌, length, Option, Some, Ok}
-use Rattle.std.specs.List.{AllZip, AllByRecursion}
+use Rattle.std.specs.List.{AllZip}
 use Rattle.pd_model.specs.declared.calls.Call.{Call}
 use Rattle.pd_model.specs.declared.parts.Parts.{Parts}
 use Rattle.pd_plan.specs.PlanFile.{plan_file}
 use Rattle.grounding.specs.Grounded.{Grounded, IsGrounded}
 use Rattle.grounding.specs.Limits.{IsWithin}
 use Rattle.plan_gen.specs.Task.{domain_of, problem_of}
-use Rattle.plan_words.specs.Seen.{Seen, plans, checks, grounds, orders, generates, files_of}
+use Rattle.plan_words.specs.Seen.{Seen, plans_by, checks, grounds, orders, generates, proves, verifies, batches, files_of}
 use Rattle.plan_words.specs.Requested.{requested}
-use Rattle.plan_top.specs.Files.{most_bytes, RoseAmong}
+use Rattle.plan_top.specs.Files.{AreShort, file_at, RoseAmong}
 use Rattle.plan_top.specs.Tasks.{AreTask}
+use Rattle.clause_base.specs.declared.log.Entry.{Entry}
+use Rattle.certificates.specs.Certificate.{IsSpelled}
 use Rattle.plan_top.specs.Causes.{OfTwo, OfThree}
 use Rattle.plan_top.specs.Ending.{status_of}
 use Rattle.plan_top.specs.declared.ending.Ending.{Ending}
-use Rattle.plan_top.specs.declared.ending.Ending.TheVariants.{TooLarge}
+use Rattle.plan_top.specs.declared.ending.Ending.TheVariants.{TooLarge, TooLong}
+use Rattle.plan_top.specs.declared.ending.File.TheVariants.{Proof}
 
 -- a task is grounded within the limits
 abbrev pub GroundsWithin : Parts → Type 0
@@ -28,13 +31,20 @@ AreWithin domain problem = (task : Parts) × AreTask domain problem task × Grou
 abbrev pub AreChecked : List ℕ → List ℕ → List ℕ → Type 0
 AreChecked domain problem plan = (task : Parts) × AreTask domain problem task × ((calls : List Call) × (plan_file task plan ≡ Ok calls))
 
+-- a domain and a problem are a task within the limits, and a certificate is spelled
+abbrev pub AreSpelled : List ℕ → List ℕ → List ℕ → Type 0
+AreSpelled domain problem proof = AreWithin domain problem × ((horizon : ℕ) × (log : List Entry) × IsSpelled proof horizon log)
+
 -- the files of a request are in order; of a generated task, its texts
 abbrev pub AreInOrder : Seen → List (List ℕ) → Type 0
-AreInOrder (plans d p n) files = OfTwo files AreWithin
+AreInOrder (plans_by steps d p n) files = OfTwo files AreWithin
 AreInOrder (grounds d p) files = OfTwo files AreWithin
 AreInOrder (orders d p) files = OfTwo files AreWithin
 AreInOrder (checks d p l) files = OfThree files AreChecked
 AreInOrder (generates kind number n show) files = (files ≡ []) × AreWithin (domain_of kind) (problem_of kind number)
+AreInOrder (proves d p horizon budget) files = OfTwo files AreWithin
+AreInOrder (verifies d p c) files = OfThree files AreSpelled
+AreInOrder (batches d ps n t) files = ⊥
 
 -- The words ask for a request; the bytes of its files are told, within the limit and in order; and no fault of any was
 -- noted.
@@ -43,10 +53,17 @@ pub record GoesWell (words : List (List ℕ)) (told : List ℕ → Option (List 
   pub files : List (List ℕ)
   pub asked : requested words ≡ Some request
   pub are_told : AllZip (λ name bytes. told name ≡ Some bytes) (files_of request) files
-  pub fit : AllByRecursion (λ bytes. length bytes ≤ most_bytes) files
+  pub fit : AreShort (file_at request) 0 files
   pub in_order : AreInOrder request files
   pub quiet : RoseAmong (files_of request) old new → ⊥
 
--- the exit statuses of words and files that are in order: 4 for a formula that is too large alone
-abbrev pub IsGood : Ending → Type 0
-IsGood end = Contains (0 ∷ 1 ∷ 2 ∷ []) (status_of end) ⊎ ((horizon : ℕ) × (count : ℕ) × (end ≡ TooLarge horizon count))
+-- a certificate is asked for
+abbrev pub IsProve : Seen → Type 0
+IsProve (proves d p horizon budget) = Unit {0}
+IsProve request = ⊥
+
+-- the exit statuses of words and files that are in order: 4 for a formula that is too large alone, and for a certificate that is too
+-- long where one is asked for
+abbrev pub IsGood : Seen → Ending → Type 0
+IsGood request end =
+    Contains (0 ∷ 1 ∷ 2 ∷ []) (status_of end) ⊎ (((horizon : ℕ) × (count : ℕ) × (end ≡ TooLarge horizon count)) ⊎ (IsProve request × (end ≡ TooLong Proof)))

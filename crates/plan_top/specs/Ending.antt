@@ -1,8 +1,9 @@
 -- The exit status and the text of each ending of a run.
 use Rattle.std.specs.Prelude.{ℕ, ◌+◌, ◌<◌, ◌^◌, List, [], ◌∷◌, ◌++◌, codes, decimal}
 use Rattle.report_lines.specs.Lines.{joined}
-use Rattle.pd_model.specs.declared.memory.Which.{Which}
-use Rattle.pd_model.specs.declared.memory.Which.TheVariants.{Domain, Problem, Plan}
+use Rattle.report_lines.specs.Horizons.{entry_line}
+use Rattle.plan_top.specs.declared.ending.File.{File}
+use Rattle.plan_top.specs.declared.ending.File.TheVariants.{Domain, Problem, Plan, Proof}
 use Rattle.plan_top.specs.declared.ending.Kind.{Kind}
 use Rattle.plan_top.specs.declared.ending.Kind.TheVariants as kinds
 use Rattle.plan_top.specs.declared.ending.Limit.{Limit}
@@ -10,7 +11,7 @@ use Rattle.plan_top.specs.declared.ending.Limit.TheVariants as limits
 use Rattle.plan_top.specs.declared.ending.Outcome.{Outcome}
 use Rattle.plan_top.specs.declared.ending.Outcome.TheVariants as outcomes
 use Rattle.plan_top.specs.declared.ending.Ending.{Ending}
-use Rattle.plan_top.specs.declared.ending.Ending.TheVariants.{Report, Listing, Reaches, Blocked, Short, Refused, TooLong, TooMany, TooLarge, ReadFault, Usage}
+use Rattle.plan_top.specs.declared.ending.Ending.TheVariants.{Report, Listing, Reaches, Blocked, Short, Refused, TooLong, TooMany, TooLarge, ReadFault, Usage, Found, Open, Accepted, Rejected, NotEmpty}
 use Rattle.plan_top.specs.declared.ending.Due.{Due}
 use Rattle.plan_top.specs.declared.ending.Due.TheVariants.{Made, Fixed}
 
@@ -32,12 +33,18 @@ status_of (TooMany what count) = 4
 status_of (TooLarge horizon count) = 4
 status_of (ReadFault file) = 5
 status_of Usage = 7
+status_of (Found horizon conflicts) = 1
+status_of (Open horizon conflicts) = 2
+status_of (Accepted horizon entries) = 0
+status_of (Rejected entry) = 1
+status_of NotEmpty = 1
 
 -- the word for a file
-abbrev pub word_of : Which → List ℕ
+abbrev pub word_of : File → List ℕ
 word_of Domain = codes "domain"
 word_of Problem = codes "problem"
 word_of Plan = codes "plan"
+word_of Proof = codes "proof"
 
 -- the word for a kind of fault
 abbrev pub kind_word : Kind → List ℕ
@@ -70,6 +77,11 @@ line_of (TooMany what count) = codes "; limit " ++ (limit_word what ++ (codes " 
 line_of (TooLarge horizon count) = codes "; limit literals " ++ (decimal count ++ (codes " horizon " ++ decimal horizon))
 line_of (ReadFault file) = codes "; read fault " ++ word_of file
 line_of Usage = codes "; usage: plan, check, ground, order or gen"
+line_of (Found horizon conflicts) = entry_line (record { horizon = horizon; word = codes "plan"; conflicts = conflicts })
+line_of (Open horizon conflicts) = entry_line (record { horizon = horizon; word = codes "open"; conflicts = conflicts })
+line_of (Accepted horizon entries) = codes "; accepted horizon " ++ (decimal horizon ++ (codes " entries " ++ decimal entries))
+line_of (Rejected entry) = codes "; rejected entry " ++ decimal entry
+line_of NotEmpty = codes "; not empty"
 
 -- the text due: that of a report or a listing, or one line
 abbrev pub text_of : Ending → List ℕ
@@ -83,6 +95,10 @@ IsSmall (TooMany what count) = count < 2 ^ 64
 IsSmall (TooLarge horizon count) = (horizon < 2 ^ 64) × (count < 2 ^ 64)
 IsSmall (Refused kind file at) = at < 2 ^ 32
 IsSmall (Blocked index) = index < 2 ^ 32
+IsSmall (Found horizon conflicts) = (horizon < 2 ^ 64) × (conflicts < 2 ^ 64)
+IsSmall (Open horizon conflicts) = (horizon < 2 ^ 64) × (conflicts < 2 ^ 64)
+IsSmall (Accepted horizon entries) = (horizon < 2 ^ 64) × (entries < 2 ^ 64)
+IsSmall (Rejected entry) = entry < 2 ^ 64
 IsSmall _ = Unit {0}
 
 -- the bytes of a text that is due

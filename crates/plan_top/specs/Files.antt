@@ -1,19 +1,31 @@
 -- Taking the files of a request from a shelf.
 use Rattle.std.specs.Prelude.{◌≡◌, ◌⊎◌, ◌<◌, ◌≤◌, ℕ, ◌+◌, ◌==◌, List, [], ◌∷◌, ◌++◌, length, Bool, IsTrue, if◌then◌else◌, Option, IfSome}
 use Rattle.pl_io.specs.Outside.{FaultRose}
-use Rattle.pd_model.specs.declared.memory.Which.{Which}
-use Rattle.pd_model.specs.declared.memory.Which.TheVariants.{Domain, Problem, Plan}
 use Rattle.plan_words.specs.Among.{AreAmong}
+use Rattle.plan_words.specs.Seen.{Seen, verifies, batches}
+use Rattle.plan_top.specs.declared.ending.File.{File}
+use Rattle.plan_top.specs.declared.ending.File.TheVariants.{Domain, Problem, Plan, Proof}
 use Rattle.plan_top.specs.declared.ending.Ending.{Ending}
 use Rattle.plan_top.specs.declared.ending.Ending.TheVariants.{TooLong, ReadFault}
 
--- how many bytes a file may have
+-- how many bytes a domain, a problem or a plan may have
 abbrev pub most_bytes : ℕ
 most_bytes = 1048576
 
--- what the file at a place among those of a request is: the domain, the problem, and then the plan
-abbrev pub file_at : ℕ → Which
-file_at place = if place == 0 then Domain else if place == 1 then Problem else Plan
+-- how many bytes a file may have
+abbrev pub most_of : File → ℕ
+most_of Proof = 16777216
+most_of file = most_bytes
+
+-- what the files after the first two of a request are
+abbrev pub third_of : Seen → File
+third_of (verifies d p c) = Proof
+third_of (batches d ps n t) = Problem
+third_of request = Plan
+
+-- what the file at a place among those of a request is
+abbrev pub file_at : Seen → ℕ → File
+file_at request place = if place == 0 then Domain else if place == 1 then Problem else third_of request
 
 -- The names at which a shelf failed are the old ones, followed by names among these, at most one for each.
 abbrev pub NotesAmong : List (List ℕ) → List (List ℕ) → List (List ℕ) → Type 0
@@ -25,10 +37,10 @@ RoseAmong [] old new = ⊥
 RoseAmong (name ∷ names) old new = FaultRose name old new ⊎ RoseAmong names old new
 
 -- a file was taken: it is not told to be missing, its bytes are what is told of them, and they are no more than may be
-pub record IsTaken (told : List ℕ → Option (List ℕ)) (lacks : List ℕ → Bool) (name bytes : List ℕ) : Type 0 where
+pub record IsTaken (told : List ℕ → Option (List ℕ)) (lacks : List ℕ → Bool) (file : File) (name bytes : List ℕ) : Type 0 where
   pub there : IsTrue (lacks name) → ⊥
-  pub whole : IfSome (told name) (λ file. bytes ≡ file)
-  pub fits : length bytes ≤ most_bytes
+  pub whole : IfSome (told name) (λ told. bytes ≡ told)
+  pub fits : length bytes ≤ most_of file
 
 -- the claim holds of the bytes of the files of these names, where all of them are told
 abbrev pub OfTold : (List ℕ → Option (List ℕ)) → List (List ℕ) → (List (List ℕ) → Type 0) → Type 0
@@ -41,19 +53,38 @@ module _ (told : List ℕ → Option (List ℕ)) (lacks : List ℕ → Bool) (ol
   abbrev pub IsThere : List ℕ → (List ℕ → Type 0) → Type 0
   IsThere name claim = (IsTrue (lacks name) → ⊥) × IfSome (told name) claim
 
-  -- the file is there, and has no more bytes than a file may have
-  abbrev pub Fits : List ℕ → Type 0
-  Fits name = IsThere name (λ bytes. length bytes ≤ most_bytes)
+  -- the file is there, and has no more bytes than it may have
+  abbrev pub Fits : File → List ℕ → Type 0
+  Fits file name = IsThere name (λ bytes. length bytes ≤ most_of file)
 
   -- the file is there, and has more
-  abbrev pub IsTooLong : List ℕ → Type 0
-  IsTooLong name = IsThere name (λ bytes. most_bytes < length bytes)
+  abbrev pub IsTooLong : File → List ℕ → Type 0
+  IsTooLong file name = IsThere name (λ bytes. most_of file < length bytes)
 
   -- this file was not taken whole
-  abbrev pub Stops : Which → List ℕ → Ending → Type 0
-  Stops file name end = ((end ≡ ReadFault file) × FaultRose name old new) ⊎ ((end ≡ TooLong file) × IsTooLong name)
+  abbrev pub Stops : File → List ℕ → Ending → Type 0
+  Stops file name end = ((end ≡ ReadFault file) × FaultRose name old new) ⊎ ((end ≡ TooLong file) × IsTooLong file name)
 
-  -- one of the files from this place on, which are taken in order, was not taken whole, and those before it were
-  abbrev pub StopsFrom : ℕ → List (List ℕ) → Ending → Type 0
-  StopsFrom place [] end = ⊥
-  StopsFrom place (name ∷ names) end = Stops (file_at place) name end ⊎ (Fits name × StopsFrom (place + 1) names end)
+  -- what the file at each place is
+  module _ (file : ℕ → File) where
+    -- one of the files from this place on, which are taken in order, was not taken whole, and those before it were
+    abbrev pub StopsFrom : ℕ → List (List ℕ) → Ending → Type 0
+    StopsFrom place [] end = ⊥
+    StopsFrom place (name ∷ names) end = Stops (file place) name end ⊎ (Fits (file place) name × StopsFrom (place + 1) names end)
+
+    -- each of the files from this place on fits
+    abbrev pub FitFrom : ℕ → List (List ℕ) → Type 0
+    FitFrom place [] = Unit {0}
+    FitFrom place (name ∷ names) = Fits (file place) name × FitFrom (place + 1) names
+
+-- the files of these names from a place on were taken
+abbrev pub AreTaken : (List ℕ → Option (List ℕ)) → (List ℕ → Bool) → (ℕ → File) → ℕ → List (List ℕ) → List (List ℕ) → Type 0
+AreTaken told lacks file place [] [] = Unit {0}
+AreTaken told lacks file place [] (bytes ∷ others) = ⊥
+AreTaken told lacks file place (name ∷ names) [] = ⊥
+AreTaken told lacks file place (name ∷ names) (bytes ∷ others) = IsTaken told lacks (file place) name bytes × AreTaken told lacks file (place + 1) names others
+
+-- files from a place on have no more bytes than they may have
+abbrev pub AreShort : (ℕ → File) → ℕ → List (List ℕ) → Type 0
+AreShort file place [] = Unit {0}
+AreShort file place (bytes ∷ others) = (length bytes ≤ most_of (file place)) × AreShort file (place + 1) others

@@ -10,7 +10,8 @@ use Rattle.plan_report.specs.Report.{summary_of}
 use Rattle.plan_words.specs.declared.request.Show.{Show}
 use Rattle.plan_words.specs.declared.request.Show.TheVariants as shows
 use Rattle.plan_top.specs.Tasks.{OnceGrounded}
-use Rattle.plan_top.specs.Stepping.{Exists, places_by, is_plan_by}
+use Rattle.gt_core.specs.Step.{IsStepPlan}
+use Rattle.step_clauses.specs.Variables.{chain_places}
 use Rattle.plan_top.specs.Raced.{OnceRaced, outcome_of}
 use Rattle.plan_top.specs.declared.ending.Ending.{Ending}
 use Rattle.plan_top.specs.declared.ending.Ending.TheVariants.{Report, Listing}
@@ -33,4 +34,4 @@ abbrev pub AnswersGenerated : Kind → ℕ → Settings → Show → Ending → 
 AnswersGenerated kind number settings shows.Domain end = end ≡ Listing (domain_of kind)
 AnswersGenerated kind number settings shows.Problem end = end ≡ Listing (problem_of kind number)
 AnswersGenerated kind number settings shows.None end =
-    OnceGrounded (domain_of kind) (problem_of kind number) (λ task g. OnceRaced (places_by Exists) (is_plan_by Exists) g.task settings (TellsGenerated kind number settings)) end
+    OnceGrounded (domain_of kind) (problem_of kind number) (λ task g. OnceRaced chain_places IsStepPlan g.task settings (TellsGenerated kind number settings)) end

@@ -20,11 +20,16 @@ use Rattle.race_end.specs.Ends.{Word, WordRefuted, WordDropped, WordOpen, WordPl
 use Rattle.step_plans.specs.Plans.{AreListed, HasActionsOnce, actions_in}
 use Rattle.plan_report.specs.Report.{word_text, plan_line, conflicts_line, calls_by_step}
 use Rattle.plan_report.specs.Laws.{TellsSteps}
-use Rattle.plan_words.specs.Seen.{Numbers}
+use Rattle.plan_words.specs.Seen.{Numbers, plans_by}
 use Rattle.plan_words.specs.Requested.{requested}
-use Rattle.plan_top.specs.Known.{IsOrdered}
-use Rattle.plan_top.specs.Stepping.{Stepping, AreSets, asked_by, places_by, is_plan_by}
-use Rattle.plan_top.specs.Raced.{form_of, choice_at, formula_at}
+use Rattle.plan_words.specs.declared.request.Stepping.{Stepping}
+use Rattle.plan_words.specs.declared.request.Stepping.TheVariants.{Exists}
+use Rattle.certificates.specs.Known.{IsOrdered, form_of, choice_at, formula_at}
+use Rattle.certificates.specs.Certificate.{IsCertificate}
+use Rattle.proof_text.specs.Text.{spaced, horizon_words}
+use Rattle.step_laws.specs.Form.{AreSets}
+use Rattle.step_clauses.specs.Variables.{chain_places}
+use Rattle.plan_top.specs.Stepping.{places_by, is_plan_by}
 use Rattle.plan_top.specs.Tasks.{AreTask}
 
 -- the bytes that a sink took in between, where it tells them
@@ -39,7 +44,7 @@ OfFiles told domain problem claim = IfSome (told domain) (λ first. IfSome (told
 -- the task of its files.
 abbrev pub OfPlans : List (List ℕ) → (List ℕ → Option (List ℕ)) → Option (List ℕ) → Option (List ℕ) → (Stepping → List ℕ → Numbers → ((Parts → Type 0) → Type 0) → Type 0) → Type 0
 OfPlans words told old new promise =
-    (how : Stepping) (text domain problem : List ℕ) (numbers : Numbers) → Printed old new text → requested words ≡ Some (asked_by how domain problem numbers)
+    (how : Stepping) (text domain problem : List ℕ) (numbers : Numbers) → Printed old new text → requested words ≡ Some (plans_by how domain problem numbers)
     → promise how text numbers (OfFiles told domain problem)
 
 -- What a task is grounded to, the clauses that are known of it, and its actions in published order, as their components:
@@ -109,17 +114,36 @@ conflicts_of [] = 0
 conflicts_of (e ∷ es) = e.conflicts + conflicts_of es
 
 -- the words of the lines of horizons
-abbrev pub horizon_words : List (List ℕ)
-horizon_words = codes "refuted" ∷ codes "dropped" ∷ codes "open" ∷ codes "plan" ∷ []
+abbrev pub line_words : List (List ℕ)
+line_words = codes "refuted" ∷ codes "dropped" ∷ codes "open" ∷ codes "plan" ∷ []
 
 -- the text is the lines of some horizons, each with one of the four words, whose conflicts are the budget, the line that says so,
 -- and `; unfinished`
 pub record SpendsAll (text : List ℕ) (budget : ℕ) : Type 0 where
   pub entries : List Entry
-  pub words : AllByRecursion (λ e. Contains horizon_words e.word) entries
+  pub words : AllByRecursion (λ e. Contains line_words e.word) entries
   pub whole : text ≡ report entries (conflicts_line budget budget ∷ codes "; unfinished" ∷ [])
   pub lines : lines_of text ≡ map entry_line entries ++ (conflicts_line budget budget ∷ codes "; unfinished" ∷ [])
   pub sum : conflicts_of entries ≡ budget
+
+-- ---- certificates
+
+-- the text is a certificate that a horizon of the task has no plan
+abbrev pub Certifies : List ℕ → ℕ → Parts → Type 0
+Certifies text horizon task = OfGrounded task (λ g clauses components. IsCertificate (formula_at chain_places (form_of g.task clauses components)) text horizon)
+
+-- the first line of the text is `horizon N`
+abbrev pub IsOfHorizon : List ℕ → ℕ → Type 0
+IsOfHorizon text horizon = (rest : List (List ℕ)) × (lines_of text ≡ spaced (horizon_words horizon) ∷ rest)
+
+-- three files of these names are a task and a certificate of which the claim holds, where their bytes are told
+abbrev pub OfProof : (List ℕ → Option (List ℕ)) → List ℕ → List ℕ → List ℕ → (List ℕ → Parts → Type 0) → Type 0
+OfProof told domain problem proof claim =
+    IfSome (told domain) (λ first. IfSome (told problem) (λ second. IfSome (told proof) (λ third. (task : Parts) × AreTask first second task × claim third task)))
+
+-- the text names a horizon that has no step plan of so many steps, nor of fewer, and no plan of at most so many actions
+abbrev pub ProvesNone : List ℕ → Parts → Type 0
+ProvesNone text task = (horizon : ℕ) × IsOfHorizon text horizon × NoStepPlan Exists horizon task × NoPlan horizon task
 
 -- ---- the other commands
 

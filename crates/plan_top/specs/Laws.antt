@@ -1,10 +1,11 @@
 -- What the crates below promise of plans and reports, gathered.
 use Rattle.report_lines.specs.Laws.{FrontsSayNoMore, ReportsSayEntries}
-use Rattle.gt_core.specs.Laws.{PublishedIsUnique}
+use Rattle.gt_core.specs.Laws.{PublishedIsUnique, NeverItself}
 use Rattle.two_invariants.specs.Laws.{OneListOfInvariants}
 use Rattle.grounding.specs.Laws.{OneResult, GroundedIsTask}
 use Rattle.plan_words.specs.Seen.{NumbersAreSettings}
-use Rattle.step_plans.specs.Laws.{StepPlansRun, ShortPlansAreStepPlans, OtherPlansAreLonger, SetsAreLists, ListedHaveActionsOnce, ListedAreInOrder, SetsOfFormsAreListed}
+use Rattle.step_plans.specs.Laws.{StepPlansRun, ShortPlansAreStepPlans, OtherPlansAreLonger, SetsAreLists, ListedHaveActionsOnce, ListedAreInOrder, SetsAtPlacesAreListed}
+use Rattle.proof_text.specs.Laws.{OneSpelling, LinesAreRead, TextsAreFit}
 use Rattle.plan_report.specs.Laws.{LinesAreReadBack, PlansAreRead, StepsAreTold, HorizonsAreTold}
 
 pub record Laws : Type 0 where
@@ -13,6 +14,7 @@ pub record Laws : Type 0 where
   pub entries : ReportsSayEntries
   pub invariants : OneListOfInvariants
   pub unique : PublishedIsUnique
+  pub itself : NeverItself
   pub one_result : OneResult
   pub is_task : GroundedIsTask
   pub run : StepPlansRun
@@ -21,8 +23,11 @@ pub record Laws : Type 0 where
   pub lists : SetsAreLists
   pub once : ListedHaveActionsOnce
   pub in_order : ListedAreInOrder
-  pub listed : SetsOfFormsAreListed
+  pub listed : SetsAtPlacesAreListed
   pub lines : LinesAreReadBack
   pub plans : PlansAreRead
   pub steps : StepsAreTold
   pub horizons : HorizonsAreTold
+  pub one_spelling : OneSpelling
+  pub proof_lines : LinesAreRead
+  pub no_fault : TextsAreFit

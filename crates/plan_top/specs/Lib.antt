@@ -1,6 +1,5 @@
 pub mod Ending
 pub mod Ends
-pub mod Known
 pub mod Stepping
 pub mod Files
 pub mod Tasks

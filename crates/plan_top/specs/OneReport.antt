@@ -1,9 +1,9 @@
 -- One report for every number of workers and every slice.
 use Rattle.std.specs.Prelude.{◌≡◌, ℕ, List, Bool, Option, Some}
 use Rattle.plan_gen.specs.declared.Kind.{Kind}
-use Rattle.plan_words.specs.Seen.{Numbers, generates}
+use Rattle.plan_words.specs.Seen.{Numbers, plans_by, generates}
 use Rattle.plan_words.specs.declared.request.Show.{Show}
-use Rattle.plan_top.specs.Stepping.{Stepping, asked_by}
+use Rattle.plan_words.specs.declared.request.Stepping.{Stepping}
 use Rattle.plan_words.specs.Requested.{requested}
 use Rattle.plan_top.specs.Causes.{Comes}
 use Rattle.plan_top.specs.declared.ending.Ending.{Ending}
@@ -21,7 +21,7 @@ HasRead end = Unit {0}
 -- words on one shelf, and others on another, ask for a plan of two files with the same bytes, which both shelves tell, by numbers
 -- that are the same but for the slice and the workers
 pub record AskForOnePlan (told elsewhere : List ℕ → Option (List ℕ)) (words others : List (List ℕ)) : Type 0 where
-  pub how : Stepping
+  pub steps : Stepping
   pub domain : List ℕ
   pub problem : List ℕ
   pub numbers : Numbers
@@ -30,8 +30,8 @@ pub record AskForOnePlan (told elsewhere : List ℕ → Option (List ℕ)) (word
   pub other_numbers : Numbers
   pub first : List ℕ
   pub second : List ℕ
-  pub asked : requested words ≡ Some (asked_by how domain problem numbers)
-  pub others_asked : requested others ≡ Some (asked_by how other_domain other_problem other_numbers)
+  pub asked : requested words ≡ Some (plans_by steps domain problem numbers)
+  pub others_asked : requested others ≡ Some (plans_by steps other_domain other_problem other_numbers)
   pub same : AreSameRace numbers other_numbers
   pub domain_told : told domain ≡ Some first
   pub problem_told : told problem ≡ Some second

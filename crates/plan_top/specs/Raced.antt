@@ -1,34 +1,22 @@
 -- The race on a ground task.
-use Rattle.std.specs.Prelude.{◌≡◌, ℕ, List, Bool, Option, map}
-use Rattle.std.specs.List.{filter}
-use Rattle.gt_core.specs.Layout.{action_at}
-use Rattle.gt_core.specs.Literal.{range}
-use Rattle.clause_base.specs.Choice.{Known}
-use Rattle.clause_base.specs.Formula.{Cnf, assignment_of}
+use Rattle.std.specs.Prelude.{◌≡◌, ℕ, List, Bool}
+use Rattle.clause_base.specs.Formula.{assignment_of}
 use Rattle.gt_core.specs.Task.{Task}
 use Rattle.gt_core.specs.Published.{order_of}
-use Rattle.step_clauses.specs.Variables.{layout_of}
-use Rattle.step_clauses.specs.Coded.{formula_of}
-use Rattle.step_laws.specs.Form.{OrderedTask}
+use Rattle.step_laws.specs.Form.{OrderedTask, AreSets, steps_at}
 use Rattle.step_encoding.specs.Numbers.{literals_of}
 use Rattle.horizon_rates.specs.declared.settings.Settings.{Settings}
-use Rattle.horizon_run.specs.Run.{choice_of}
 use Rattle.race_end.specs.declared.end.RaceEnd.{RaceEnd}
 use Rattle.race_end.specs.Ends.{EndView, Planned, Exhausted, Unfinished, end_view, lines_of}
 use Rattle.race.specs.Input.{RaceInput}
 use Rattle.race.specs.Race as stage
 use Rattle.race.specs.Lines.{AreLines, EachRefuted}
 use Rattle.race.specs.Ends.{WherePlanned, AreStepsOf, AreActions, SumsWithin}
-use Rattle.plan_top.specs.Known.{IsOrdered}
-use Rattle.plan_top.specs.Stepping.{AreSets}
+use Rattle.certificates.specs.Known.{IsOrdered, form_of, choice_at, formula_at}
 use Rattle.plan_top.specs.declared.ending.Outcome.{Outcome}
 use Rattle.plan_top.specs.declared.ending.Outcome.TheVariants as outcomes
 use Rattle.plan_top.specs.declared.ending.Ending.{Ending}
 use Rattle.plan_top.specs.declared.ending.Ending.TheVariants.{TooLarge}
-
--- a task with what is known of it and its order
-abbrev pub form_of : Task → List (ℕ × ℕ) → List (List ℕ) → OrderedTask
-form_of task clauses components = record { task = task; known = record { facts = task.facts; clauses = clauses }; components = components }
 
 -- how an end is told
 abbrev pub outcome_of : EndView → Outcome
@@ -36,27 +24,15 @@ outcome_of (Planned horizon steps lines) = outcomes.Planned
 outcome_of (Exhausted horizon lines) = outcomes.Exhausted
 outcome_of (Unfinished lines) = outcomes.Unfinished
 
--- the sets of true actions of an assignment to the variables of a formula whose chains go to these places, in published order
-abbrev pub steps_at : OrderedTask → List (List ℕ × ℕ) → ℕ → (ℕ → Bool) → List (List ℕ)
-steps_at form places n v = map (λ t. filter (λ a. v (action_at (layout_of form.task places n) t a)) (order_of form.components)) (range n)
-
 -- where the chains of the formulas go
 module _ (places : Task → List (List ℕ) → List (List ℕ × ℕ)) where
-  -- the choice of a horizon's solver
-  abbrev pub choice_at : OrderedTask → ℕ → Known → Option ℕ
-  choice_at form h = choice_of form.task (layout_of form.task (places form.task form.components) h)
-
-  -- the formula of a horizon
-  abbrev pub formula_at : OrderedTask → ℕ → Cnf
-  formula_at form h = formula_of form.task form.known.clauses (places form.task form.components) h
-
   -- what the race on it is run on: the formulas of its steps, and the sets of true actions of their assignments
   abbrev pub input_of : OrderedTask → Settings → RaceInput
   input_of form settings = record {
     rates = settings.rates;
     budget = settings.budget;
-    choose = choice_at form;
-    formula = formula_at form;
+    choose = choice_at places form;
+    formula = formula_at places form;
     steps = λ h values. steps_at form (places form.task form.components) h (assignment_of values);
   }
 
@@ -66,7 +42,7 @@ module _ (places : Task → List (List ℕ) → List (List ℕ × ℕ)) where
     pub components : List (List ℕ)
     pub ordered : IsOrdered task clauses components
     pub ended : stage.race_of (input_of (form_of task clauses components) settings) ≡ stage.TooLarge horizon
-    pub count_is : count ≡ literals_of (formula_at (form_of task clauses components) horizon)
+    pub count_is : count ≡ literals_of (formula_at places (form_of task clauses components) horizon)
 
   -- an ending that tells so
   abbrev pub TellsTooLarge : Task → Settings → Ending → Type 0

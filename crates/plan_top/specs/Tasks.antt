@@ -4,13 +4,15 @@ use Rattle.pd_sexp.specs.Tree.{Tree}
 use Rattle.pd_sexp.specs.Fault.{syntax, deep, IsFault, Reads}
 use Rattle.pd_model.specs.WellFormed.{IsWellFormed}
 use Rattle.pd_model.specs.declared.memory.Which.{Which}
-use Rattle.pd_model.specs.declared.memory.Which.TheVariants.{Domain, Problem}
+use Rattle.pd_model.specs.declared.memory.Which.TheVariants as which
 use Rattle.pd_model.specs.declared.parts.Parts.{Parts}
 use Rattle.pd_task.specs.Reading.{reading}
 use Rattle.pd_task.specs.declared.error.PddlError.{PddlError}
 use Rattle.pd_task.specs.declared.error.PddlError.TheVariants as errors
 use Rattle.grounding.specs.Grounded.{Grounded, IsGrounded}
 use Rattle.grounding.specs.Limits.{IsWithin, IsOverTuples, IsOverFacts, IsOverActions, IsOverEffects}
+use Rattle.plan_top.specs.declared.ending.File.{File}
+use Rattle.plan_top.specs.declared.ending.File.TheVariants.{Domain, Problem, Plan}
 use Rattle.plan_top.specs.declared.ending.Limit.{Limit}
 use Rattle.plan_top.specs.declared.ending.Limit.TheVariants as limits
 use Rattle.plan_top.specs.declared.ending.Kind.{Kind}
@@ -28,17 +30,23 @@ IsTreeFault bytes Syntax at = IsFault bytes (syntax at)
 IsTreeFault bytes Deep at = IsFault bytes (deep at)
 IsTreeFault bytes _ at = ⊥
 
+-- a file of a task, as an input
+abbrev pub input_of : Which → File
+input_of which.Domain = Domain
+input_of which.Problem = Problem
+input_of which.Plan = Plan
+
 -- the ending that tells of a cause for which two trees are no task
 abbrev pub refusal_of : PddlError → Option Ending
-refusal_of (errors.Shape file at) = Some (Refused Shape file at)
-refusal_of (errors.Unknown file at) = Some (Refused Unknown file at)
-refusal_of (errors.Arity file at) = Some (Refused Arity file at)
-refusal_of (errors.Duplicate file at) = Some (Refused Duplicate file at)
-refusal_of (errors.Unsupported file at) = Some (Refused Unsupported file at)
+refusal_of (errors.Shape file at) = Some (Refused Shape (input_of file) at)
+refusal_of (errors.Unknown file at) = Some (Refused Unknown (input_of file) at)
+refusal_of (errors.Arity file at) = Some (Refused Arity (input_of file) at)
+refusal_of (errors.Duplicate file at) = Some (Refused Duplicate (input_of file) at)
+refusal_of (errors.Unsupported file at) = Some (Refused Unsupported (input_of file) at)
 refusal_of errors.Memory = None
 
 -- the ending tells of a fault that a file has as a tree
-abbrev pub RefusesTree : List ℕ → Which → Ending → Type 0
+abbrev pub RefusesTree : List ℕ → File → Ending → Type 0
 RefusesTree bytes file end = (kind : Kind) × (at : ℕ) × (end ≡ Refused kind file at) × IsTreeFault bytes kind at
 
 -- the ending tells of the cause for which two trees are no task

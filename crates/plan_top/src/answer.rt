@@ -1,28 +1,29 @@
 //! What the bytes of its files decide for a request.
 ghost use Rattle.std.specs.Prelude.{◌≡◌, ◌≤◌, ◌<◌, ◌^◌, length, IsTrue, IfOk, Ok};
-ghost use Rattle.std.specs.List.{list_all, AllByRecursion};
+ghost use Rattle.std.specs.List.{list_all};
 ghost use Rattle.pd_model.specs.Fits.{is_call};
 ghost use Rattle.pd_plan.specs.PlanFile.{plan_file};
 ghost use Rattle.plan_words.specs.Seen.{seen, files_of, IsSized};
-ghost use Rattle.plan_top.specs.Files.{most_bytes};
+ghost use Rattle.plan_words.specs.OneTask.{IsOfOne};
+ghost use Rattle.plan_top.specs.Files.{most_bytes, AreShort, file_at};
 ghost use Rattle.plan_top.specs.Tasks.{OnceRead, OnceGrounded};
-ghost use Rattle.plan_top.specs.Stepping.{Exists};
 ghost use Rattle.plan_top.specs.Causes.{Decides, AnswersPlan, AnswersGround, AnswersOrder, AnswersCheck, RefusesCalls, ending_of};
 ghost use Rattle.plan_top.specs.Ends.{EndsAs, StopsBy};
 
+use crate::certify::{answer_prove, answer_verify};
 use crate::generated::answer_gen;
 use crate::raced::{outcome, raced};
 use crate::ready::read_ready;
 use crate::stop::{Stop, refuse};
 use crate::task::read_task;
-use crate::{Ending, Kind};
+use crate::{Ending, File, Kind};
 use action_order::publish::publish;
 use horizon_rates::Settings;
-use pd_model::{Calls, Pddl, Verdict, Which};
+use pd_model::{Calls, Pddl, Verdict};
 use pd_plan::{PlanFault, read_plan};
 use pl_io::Bytes;
 use plan_report::report_text;
-use plan_words::Request;
+use plan_words::{Request, Stepping};
 use solver_pool::Gate;
 use std::alloc::Global;
 use std::sync::Wait;
@@ -38,16 +39,22 @@ pub fn answer<H: Threads + Wait + Sync, G: Gate>(
     files: &[Bytes],
     gate: &G,
 ) -> Result<Ending, Stop>
-    requires fit { AllByRecursion (λ bytes. length bytes ≤ most_bytes) files.now }
+    requires fit { AreShort (file_at (seen request.now)) 0 files.now }
     requires count { length files.now ≡ length (files_of (seen request.now)) }
     requires sized { IsSized (seen request.now) }
+    requires of_one { IsOfOne (seen request.now) }
     ensures { EndsAs (Decides (seen request.now) files.now) result }
 {
     match request {
-        Request::Plan { settings, .. } => {
+        Request::Plan {
+            stepping,
+            settings,
+            ..
+        } => {
             answer_plan(
                 rt,
                 alloc,
+                *stepping,
                 files[0].as_slice(),
                 files[1].as_slice(),
                 settings,
@@ -68,13 +75,34 @@ pub fn answer<H: Threads + Wait + Sync, G: Gate>(
             settings,
             show,
         } => answer_gen(rt, alloc, *kind, *number, *show, settings, gate),
+        Request::Prove {
+            horizon,
+            budget,
+            ..
+        } => answer_prove(
+            rt,
+            alloc,
+            files[0].as_slice(),
+            files[1].as_slice(),
+            *horizon,
+            *budget,
+        ),
+        Request::Verify { .. } => answer_verify(
+            rt,
+            alloc,
+            files[0].as_slice(),
+            files[1].as_slice(),
+            files[2].as_slice(),
+        ),
+        Request::Batch { .. } => unreachable!(),
     }
 }
 
-// What a domain and a problem come to for the command `plan`.
+// What a domain and a problem come to for the commands `plan` and `plan-all`.
 fn answer_plan<H: Threads + Wait + Sync, G: Gate>(
     rt: &H,
     alloc: Global,
+    steps: Stepping,
     domain: &[u8],
     problem: &[u8],
     settings: &Settings,
@@ -82,10 +110,10 @@ fn answer_plan<H: Threads + Wait + Sync, G: Gate>(
 ) -> Result<Ending, Stop>
     requires domain_fits { length domain.now ≤ most_bytes }
     requires problem_fits { length problem.now ≤ most_bytes }
-    ensures { EndsAs (OnceGrounded domain.now problem.now (AnswersPlan Exists settings.now)) result }
+    ensures { EndsAs (OnceGrounded domain.now problem.now (AnswersPlan steps settings.now)) result }
 {
     let ready = read_ready(alloc, domain, problem)?;
-    let end = raced(rt, alloc, ready.grounded.task(), settings, gate)?;
+    let end = raced(rt, alloc, steps, ready.grounded.task(), settings, gate)?;
     let text = report_text(alloc, &ready.task, &ready.grounded, &end, settings.budget)?;
     Ok(Ending::Report {
         outcome: outcome(&end),
@@ -153,7 +181,7 @@ fn read_calls(alloc: Global, task: &Pddl, plan: &[u8]) -> Result<Calls, Stop>
     ensures few { IfOk result (λ calls. length calls < 2 ^ 32) }
     ensures stops { StopsBy (RefusesCalls task.now plan.now) result }
 {
-    let file = Which::Plan;
+    let file = File::Plan;
     match read_plan(alloc, plan, task) {
         Ok(calls) => Ok(calls),
         Err(PlanFault::Syntax { at }) => Err(refuse(Kind::Syntax, file, at)),

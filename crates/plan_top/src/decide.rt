@@ -11,6 +11,7 @@ use crate::answer::answer;
 use crate::stop::Stop;
 use crate::take::take_files;
 use pl_io::Shelf;
+use plan_words::laws::laws;
 use plan_words::read_words;
 use solver_pool::Gate;
 use std::alloc::Global;
@@ -37,5 +38,6 @@ pub fn decide<H: Threads + Wait + Sync, S: Shelf, G: Gate>(
         return Ok(Ending::Usage);
     };
     let files = take_files(alloc, &request, shelf)?;
+    laws();
     answer(rt, alloc, &request, &files, gate)
 }

@@ -1,11 +1,25 @@
 //! How a run ends, with the exit status and the text due.
-ghost use Rattle.std.specs.Prelude.{◌≡◌, ◌<◌, ◌^◌, ◌++◌, OnOk, IfOk, IsOk, codes, decimal};
+ghost use Rattle.std.specs.Prelude.{◌≡◌, ◌<◌, ◌^◌, ◌∷◌, ◌++◌, [], OnOk, IfOk, IsOk, codes, decimal};
+ghost use Rattle.report_lines.specs.Lines.{joined};
+ghost use Rattle.report_lines.specs.Horizons.{entry_line};
 ghost use Rattle.plan_top.specs.Ending.{status_of_race, status_of, text_of, bytes_of, word_of, kind_word, limit_word, IsSmall};
 
-use pd_model::Which;
 use pl_io::{Bytes, Memory};
 use report_lines::push_number;
 use std::alloc::Global;
+
+/// An input file.
+#[derive(Clone, Copy, Debug, PartialEq, Eq)]
+pub enum File {
+    /// The domain.
+    Domain,
+    /// The problem.
+    Problem,
+    /// The plan.
+    Plan,
+    /// The certificate, which is told as `proof`.
+    Proof,
+}
 
 /// What is wrong with a file that is refused.
 #[derive(Clone, Copy, Debug, PartialEq, Eq)]
@@ -57,7 +71,7 @@ pub enum Outcome {
 pub enum Ending {
     /// A race ended, with its report.
     Report { outcome: Outcome, text: Bytes },
-    /// The lines of a ground task, or of its actions in published order, or a text of a generated task.
+    /// The lines of a ground task, or of its actions in published order, a text of a generated task, or a certificate.
     Listing(Bytes),
     /// The checked calls are a plan.
     Reaches,
@@ -66,17 +80,27 @@ pub enum Ending {
     /// All calls run, and the goal does not hold in the last state.
     Short,
     /// A file is refused, at the offset of a byte.
-    Refused { kind: Kind, file: Which, at: u32 },
+    Refused { kind: Kind, file: File, at: u32 },
     /// A file has more bytes than may be.
-    TooLong(Which),
+    TooLong(File),
     /// The task is past a limit, with the count; past 2^64 - 1, that number.
     TooMany { what: Limit, count: u64 },
     /// The formula of a horizon has too many literals, when the horizon's turn to start comes.
     TooLarge { horizon: u32, count: u64 },
     /// A file could not be read.
-    ReadFault(Which),
+    ReadFault(File),
     /// The words are none that are taken.
     Usage,
+    /// The run of a horizon found a plan after so many conflicts.
+    Found { horizon: u32, conflicts: u64 },
+    /// The run of a horizon is open after so many conflicts.
+    Open { horizon: u32, conflicts: u64 },
+    /// A certificate of a horizon is accepted, with so many entries.
+    Accepted { horizon: u32, entries: u32 },
+    /// This entry of a certificate, counted from 0, is the first that does not follow.
+    Rejected { entry: u32 },
+    /// The last entry of a certificate is not the empty clause, or there is none.
+    NotEmpty,
 }
 
 impl Outcome {
@@ -99,8 +123,10 @@ impl Ending {
     {
         match self {
             Ending::Report { outcome, .. } => outcome.status(),
-            Ending::Listing(_) | Ending::Reaches => 0,
+            Ending::Listing(_) | Ending::Reaches | Ending::Accepted { .. } => 0,
             Ending::Blocked { .. } | Ending::Short => 1,
+            Ending::Found { .. } | Ending::Rejected { .. } | Ending::NotEmpty => 1,
+            Ending::Open { .. } => 2,
             Ending::Refused { .. } => 3,
             Ending::TooLong(_) | Ending::TooMany { .. } | Ending::TooLarge { .. } => 4,
             Ending::ReadFault(_) => 5,
@@ -126,6 +152,17 @@ impl Ending {
             Ending::TooLarge { horizon, count } => Ok(Due::Made(too_large(alloc, horizon, count)?)),
             Ending::ReadFault(file) => Ok(Due::Made(of_file(alloc, "; read fault ", file)?)),
             Ending::Usage => Ok(Due::Fixed("; usage: plan, check, ground, order or gen\n")),
+            Ending::Found { horizon, conflicts } => {
+                Ok(Due::Made(of_horizon(alloc, horizon, "plan", conflicts)?))
+            }
+            Ending::Open { horizon, conflicts } => {
+                Ok(Due::Made(of_horizon(alloc, horizon, "open", conflicts)?))
+            }
+            Ending::Accepted { horizon, entries } => {
+                Ok(Due::Made(accepted(alloc, horizon, entries)?))
+            }
+            Ending::Rejected { entry } => Ok(Due::Made(rejected(alloc, entry)?)),
+            Ending::NotEmpty => Ok(Due::Fixed("; not empty\n")),
         }
     }
 }
@@ -151,13 +188,14 @@ impl Due {
     }
 }
 
-fn file_word(file: Which) -> &'static str
+fn file_word(file: File) -> &'static str
     ensures { result.now ≡ word_of file }
 {
     match file {
-        Which::Domain => "domain",
-        Which::Problem => "problem",
-        Which::Plan => "plan",
+        File::Domain => "domain",
+        File::Problem => "problem",
+        File::Plan => "plan",
+        File::Proof => "proof",
     }
 }
 
@@ -187,7 +225,7 @@ fn word_of_limit(what: Limit) -> &'static str
     }
 }
 
-fn of_file(alloc: Global, front: &str, file: Which) -> Result<Bytes, Memory>
+fn of_file(alloc: Global, front: &str, file: File) -> Result<Bytes, Memory>
     ensures { IfOk result (λ t. t ≡ front.now ++ (word_of file ++ codes "\n")) }
 {
     let mut text = Vec::from_slice(alloc, front.as_bytes())?;
@@ -230,7 +268,7 @@ fn blocked(alloc: Global, index: u32) -> Result<Bytes, Memory>
     Ok(Bytes::of(text))
 }
 
-fn refusal(alloc: Global, kind: Kind, file: Which, at: u32) -> Result<Bytes, Memory>
+fn refusal(alloc: Global, kind: Kind, file: File, at: u32) -> Result<Bytes, Memory>
     ensures text { IfOk result (λ t. t ≡ text_of (Ending.Refused kind file at)) }
     ensures small { OnOk result (at < 2 ^ 32) }
 {
@@ -241,7 +279,7 @@ fn refusal(alloc: Global, kind: Kind, file: Which, at: u32) -> Result<Bytes, Mem
     Ok(Bytes::of(text))
 }
 
-fn push_place(text: &mut Vec<u8>, file: Which, at: u32) -> Result<(), Memory>
+fn push_place(text: &mut Vec<u8>, file: File, at: u32) -> Result<(), Memory>
     ensures { OnOk result (text.new.items ≡ text.old.items ++ (word_of file ++ (codes " " ++ (decimal at ++ codes "\n")))) }
 {
     text.extend_from_slice(file_word(file).as_bytes())?;
@@ -249,4 +287,40 @@ fn push_place(text: &mut Vec<u8>, file: Which, at: u32) -> Result<(), Memory>
     push_number(text, u64::from(at))?;
     text.extend_from_slice(b"\n")?;
     Ok(())
+}
+
+fn of_horizon(alloc: Global, horizon: u32, word: &str, conflicts: u64) -> Result<Bytes, Memory>
+    ensures text { IfOk result (λ t. t ≡ joined (entry_line (record { horizon = horizon; word = word.now; conflicts = conflicts }) ∷ [])) }
+    ensures small { OnOk result ((horizon < 2 ^ 64) × (conflicts < 2 ^ 64)) }
+{
+    let mut text = Vec::from_slice(alloc, b"; horizon ")?;
+    push_number(&mut text, u64::from(horizon))?;
+    text.extend_from_slice(b" ")?;
+    text.extend_from_slice(word.as_bytes())?;
+    text.extend_from_slice(b" conflicts ")?;
+    push_number(&mut text, conflicts)?;
+    text.extend_from_slice(b"\n")?;
+    Ok(Bytes::of(text))
+}
+
+fn accepted(alloc: Global, horizon: u32, entries: u32) -> Result<Bytes, Memory>
+    ensures text { IfOk result (λ t. t ≡ text_of (Ending.Accepted horizon entries)) }
+    ensures small { OnOk result ((horizon < 2 ^ 64) × (entries < 2 ^ 64)) }
+{
+    let mut text = Vec::from_slice(alloc, b"; accepted horizon ")?;
+    push_number(&mut text, u64::from(horizon))?;
+    text.extend_from_slice(b" entries ")?;
+    push_number(&mut text, u64::from(entries))?;
+    text.extend_from_slice(b"\n")?;
+    Ok(Bytes::of(text))
+}
+
+fn rejected(alloc: Global, entry: u32) -> Result<Bytes, Memory>
+    ensures text { IfOk result (λ t. t ≡ text_of (Ending.Rejected entry)) }
+    ensures small { OnOk result (entry < 2 ^ 64) }
+{
+    let mut text = Vec::from_slice(alloc, b"; rejected entry ")?;
+    push_number(&mut text, u64::from(entry))?;
+    text.extend_from_slice(b"\n")?;
+    Ok(Bytes::of(text))
 }

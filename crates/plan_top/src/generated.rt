@@ -20,7 +20,7 @@ use pd_model::Memory;
 use pl_io::Bytes;
 use plan_gen::{Kind, Made, generate};
 use plan_report::summary_text;
-use plan_words::Show;
+use plan_words::{Show, Stepping};
 use race_end::RaceEnd;
 use report_lines::push_number;
 use solver_pool::Gate;
@@ -64,7 +64,14 @@ fn race_made<H: Threads + Wait + Sync, G: Gate>(
     ensures { EndsAs (OnceGrounded made.now.domain made.now.problem (λ task g. OnceRaced chain_places IsStepPlan g.task settings.now (TellsGenerated kind number settings.now))) result }
 {
     let ready = read_ready(alloc, made.domain.as_slice(), made.problem.as_slice())?;
-    let end = raced(rt, alloc, ready.grounded.task(), settings, gate)?;
+    let end = raced(
+        rt,
+        alloc,
+        Stepping::Exists,
+        ready.grounded.task(),
+        settings,
+        gate,
+    )?;
     let text = generated_text(alloc, kind, number, &end, settings)?;
     Ok(Ending::Report {
         outcome: outcome(&end),

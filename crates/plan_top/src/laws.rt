@@ -12,4 +12,5 @@ pub fn laws()
     grounding::laws::laws();
     step_plans::laws::laws();
     plan_report::laws::laws();
+    proof_text::laws::laws();
 }

@@ -3,6 +3,7 @@
 #![tactic(auto)]
 
 mod answer;
+mod certify;
 mod decide;
 mod ending;
 mod generated;
@@ -17,6 +18,6 @@ mod task;
 mod top;
 mod written;
 
-pub use ending::{Ending, Kind, Limit, Outcome};
+pub use ending::{Ending, File, Kind, Limit, Outcome};
 pub use status::Status;
 pub use top::run;

@@ -1,39 +1,59 @@
 //! The race on a ground task.
 ghost use Rattle.std.specs.Prelude.{◌≡◌, IfOk};
 ghost use Rattle.race_end.specs.Ends.{end_view};
-ghost use Rattle.gt_core.specs.Step.{IsStepPlan};
-ghost use Rattle.step_clauses.specs.Variables.{chain_places};
+ghost use Rattle.plan_top.specs.Stepping.{places_by, is_plan_by};
 ghost use Rattle.plan_top.specs.Raced.{ComesTo, TellsTooLarge, outcome_of};
 ghost use Rattle.plan_top.specs.Ends.{StopsBy};
 
 use crate::stop::Stop;
 use crate::{Ending, Outcome};
 use action_order::publish::publish;
+use all_steps::form::BothWays;
 use gt_core::task::Task;
 use horizon_rates::Settings;
+use plan_words::Stepping;
 use race::{RaceError, race};
 use race_end::RaceEnd;
 use solver_pool::Gate;
 use std::alloc::Global;
 use std::sync::Wait;
 use std::thread::Threads;
-use step_encoding::exists::ExistsForm;
+use step_encoding::exists::Components;
+use step_encoding::placed::{Placed, Placing};
 use two_invariants::find;
 
-/// What the race on a ground task comes to.
+/// What the race on a ground task comes to, for plans in steps of a kind.
 pub fn raced<H: Threads + Wait + Sync, G: Gate>(
+    rt: &H,
+    alloc: Global,
+    steps: Stepping,
+    task: &Task,
+    settings: &Settings,
+    gate: &G,
+) -> Result<RaceEnd, Stop>
+    ensures ended { IfOk result (ComesTo (places_by steps) (is_plan_by steps) task.now settings.now) }
+    ensures stops { StopsBy (TellsTooLarge (places_by steps) task.now settings.now) result }
+{
+    match steps {
+        Stepping::Exists => raced_in::<Components, H, G>(rt, alloc, task, settings, gate),
+        Stepping::All => raced_in::<BothWays, H, G>(rt, alloc, task, settings, gate),
+    }
+}
+
+// The same, for the places of the chains of one form.
+fn raced_in<P: Placing + Sync, H: Threads + Wait + Sync, G: Gate>(
     rt: &H,
     alloc: Global,
     task: &Task,
     settings: &Settings,
     gate: &G,
 ) -> Result<RaceEnd, Stop>
-    ensures ended { IfOk result (ComesTo chain_places IsStepPlan task.now settings.now) }
-    ensures stops { StopsBy (TellsTooLarge chain_places task.now settings.now) result }
+    ensures ended { IfOk result (ComesTo P.places P.are_plan task.now settings.now) }
+    ensures stops { StopsBy (TellsTooLarge P.places task.now settings.now) result }
 {
     let pairs = find(rt, alloc, task)?;
     let order = publish(alloc, task, &pairs)?;
-    let form = ExistsForm::new(alloc, task, &pairs, &order)?;
+    let form = Placed::<P>::new(alloc, task, &pairs, &order)?;
     match race(rt, alloc, task, &form, settings, gate) {
         Ok(end) => Ok(end),
         Err(RaceError::Literals { horizon, count }) => {

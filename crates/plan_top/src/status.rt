@@ -4,8 +4,8 @@
 ///
 /// | Status | When |
 /// |---|---|
-/// | 0 | a plan was found; a task, its order or a generated text is told; the checked calls are a plan |
-/// | 1 | the last horizon is refuted; the checked calls are none |
+/// | 0 | a plan was found; a task, its order, a generated text or a certificate is told; the checked calls are a plan; the certificate is accepted |
+/// | 1 | the last horizon is refuted; the checked calls are none; the horizon of `prove` has a plan; the certificate is rejected |
 /// | 2 | the budget is spent |
 /// | 3 | an input file is refused |
 /// | 4 | a file has more bytes than it may have, or the task or a formula is past a limit |

@@ -2,8 +2,8 @@
 ghost use Rattle.std.specs.Prelude.{◌≡◌};
 ghost use Rattle.plan_top.specs.declared.stop.Stop.TheVariants as stop;
 
-use crate::{Ending, Kind};
-use pd_model::{Memory, Which};
+use crate::{Ending, File, Kind};
+use pd_model::Memory;
 use std::alloc::AllocError;
 
 /// The run ends, or memory is wanting.
@@ -64,7 +64,7 @@ impl From<AllocError> for Stop {
 }
 
 /// The end of a run that refuses a file, at the offset of a byte.
-pub fn refuse(kind: Kind, file: Which, at: u32) -> Stop
+pub fn refuse(kind: Kind, file: File, at: u32) -> Stop
     ensures { result ≡ Stop.Ends (Ending.Refused kind file at) }
 {
     Stop::Ends(Ending::Refused { kind, file, at })

@@ -1,20 +1,15 @@
 //! Taking files from the shelf.
 ghost use Rattle.std.specs.Prelude.{◌≡◌, ◌≤◌, ℕ, List, [], ◌∷◌, ◌++◌, length, IsTrue, OnOk, IfOk, IfSome};
-ghost use Rattle.std.specs.List.{AllZip};
 ghost use Rattle.pl_io.specs.Outside.{Notes};
 ghost use Rattle.plan_words.specs.Seen.{seen, files_of};
-ghost use Rattle.plan_top.specs.Files.{Stops, StopsFrom, IsTaken, NotesAmong, file_at, most_bytes};
+ghost use Rattle.plan_top.specs.Files.{Stops, StopsFrom, AreTaken, NotesAmong, file_at, third_of, most_of};
 ghost use Rattle.plan_top.specs.Ends.{StopsBy};
 
-use crate::Ending;
 use crate::stop::Stop;
-use pd_model::Which;
+use crate::{Ending, File};
 use pl_io::{Bytes, Shelf, TakeError, Taken};
 use plan_words::Request;
 use std::alloc::{AllocError, Global};
-
-/// How many bytes a file may have.
-const MOST_BYTES: usize = 1_048_576;
 
 /// Takes the files of a request, in the order of the words, each at most once: the bytes of each.
 pub fn take_files<S: Shelf>(
@@ -25,12 +20,12 @@ pub fn take_files<S: Shelf>(
     ensures told { S.told shelf.new ≡ S.told shelf.old }
     ensures lacks { S.lacks shelf.new ≡ S.lacks shelf.old }
     ensures noted { NotesAmong (files_of (seen request.now)) (S.failed shelf.old) (S.failed shelf.new) }
-    ensures taken { IfOk result (λ files. AllZip (IsTaken (S.told shelf.old) (S.lacks shelf.old)) (files_of (seen request.now)) files.items) }
-    ensures stops { StopsBy (StopsFrom (S.told shelf.old) (S.lacks shelf.old) (S.failed shelf.old) (S.failed shelf.new) 0 (files_of (seen request.now))) result }
+    ensures taken { IfOk result (λ files. AreTaken (S.told shelf.old) (S.lacks shelf.old) (file_at (seen request.now)) 0 (files_of (seen request.now)) files.items) }
+    ensures stops { StopsBy (StopsFrom (S.told shelf.old) (S.lacks shelf.old) (S.failed shelf.old) (S.failed shelf.new) (file_at (seen request.now)) 0 (files_of (seen request.now))) result }
 {
     let mut files = Vec::new(alloc);
     'taking: while let Some(name) = request.file(files.len()) {
-        let bytes = take_file(alloc, file_of(files.len()), name, shelf)?;
+        let bytes = take_file(alloc, file_of(request, files.len()), name, shelf)?;
         keep(&mut files, bytes)?;
     }
     Ok(files)
@@ -45,20 +40,42 @@ fn keep(files: &mut Vec<Bytes>, bytes: Vec<u8>) -> Result<(), AllocError>
 }
 
 // What the file at a place among those of a request is.
-fn file_of(place: usize) -> Which
-    ensures { result ≡ file_at place }
+fn file_of(request: &Request<'_>, place: usize) -> File
+    ensures { result ≡ file_at (seen request.now) place }
 {
     match place {
-        0 => Which::Domain,
-        1 => Which::Problem,
-        _ => Which::Plan,
+        0 => File::Domain,
+        1 => File::Problem,
+        _ => third_of(request),
+    }
+}
+
+// What the files after the first two of a request are.
+fn third_of(request: &Request<'_>) -> File
+    ensures { result ≡ third_of (seen request.now) }
+{
+    match request {
+        Request::Verify { .. } => File::Proof,
+        Request::Batch { .. } => File::Problem,
+        _ => File::Plan,
+    }
+}
+
+// How many bytes a file may have.
+fn most_of(file: File) -> usize
+    ensures value { result ≡ most_of file }
+    ensures some { 1 ≤ result }
+{
+    match file {
+        File::Proof => 16_777_216,
+        _ => 1_048_576,
     }
 }
 
 // The bytes of a file.
 fn take_file<S: Shelf>(
     alloc: Global,
-    file: Which,
+    file: File,
     name: &str,
     shelf: &mut S,
 ) -> Result<Vec<u8>, Stop>
@@ -67,11 +84,11 @@ fn take_file<S: Shelf>(
     ensures notes { Notes (S.failed shelf.old) (S.failed shelf.new) name.now }
     ensures there { OnOk result (IsTrue (S.lacks shelf.old name.now) → ⊥) }
     ensures whole { IfOk result (λ bytes. IfSome (S.told shelf.old name.now) (λ told. bytes.items ≡ told)) }
-    ensures fits { IfOk result (λ bytes. length bytes.items ≤ most_bytes) }
+    ensures fits { IfOk result (λ bytes. length bytes.items ≤ most_of file) }
     ensures stops { StopsBy (Stops (S.told shelf.old) (S.lacks shelf.old) (S.failed shelf.old) (S.failed shelf.new) file name.now) result }
 {
     let mut bytes = Vec::new(alloc);
-    match shelf.take(name, MOST_BYTES, &mut bytes) {
+    match shelf.take(name, most_of(file), &mut bytes) {
         Ok(Taken::Whole) => Ok(bytes),
         Ok(Taken::Longer) => Err(Stop::Ends(Ending::TooLong(file))),
         Err(TakeError::Failed) => Err(Stop::Ends(Ending::ReadFault(file))),

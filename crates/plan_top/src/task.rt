@@ -3,17 +3,28 @@ ghost use Rattle.std.specs.Prelude.{◌≡◌, ◌≤◌, length, IsTrue, IfOk};
 ghost use Rattle.pd_sexp.specs.{Fault.Reads, View.view, Word.has_words};
 ghost use Rattle.pd_model.specs.WellFormed.{IsWellFormed};
 ghost use Rattle.pd_task.specs.Reading.{reading};
-ghost use Rattle.plan_top.specs.{Files.most_bytes, Tasks.AreTask, Tasks.RefusesTask, Tasks.RefusesTree, Tasks.RefusesTrees, Ends.StopsBy};
+ghost use Rattle.plan_top.specs.{Files.most_bytes, Tasks.AreTask, Tasks.input_of, Tasks.RefusesTask, Tasks.RefusesTree, Tasks.RefusesTrees, Ends.StopsBy};
 
-use crate::Kind;
 use crate::stop::{Stop, refuse};
+use crate::{File, Kind};
 use pd_model::{Pddl, Which};
 use pd_sexp::{Tree, TreeError, read_tree};
 use pd_task::{PddlError, read_pddl};
 use std::alloc::Global;
 
+// A file of a task, as an input.
+fn input(file: Which) -> File
+    ensures { result ≡ input_of file }
+{
+    match file {
+        Which::Domain => File::Domain,
+        Which::Problem => File::Problem,
+        Which::Plan => File::Plan,
+    }
+}
+
 /// The tree of a file.
-pub fn tree_of(alloc: Global, file: Which, bytes: &[u8]) -> Result<Tree, Stop>
+pub fn tree_of(alloc: Global, file: File, bytes: &[u8]) -> Result<Tree, Stop>
     requires { length bytes.now ≤ most_bytes }
     ensures tree { IfOk result (λ tree. Reads bytes.now (view tree)) }
     ensures words { IfOk result (λ tree. IsTrue (has_words (view tree))) }
@@ -40,11 +51,11 @@ pub fn task_of(alloc: Global, domain: &Tree, problem: &Tree) -> Result<Pddl, Sto
             let _types = task.types();
             Ok(task)
         }
-        Err(PddlError::Shape { file, at }) => Err(refuse(Kind::Shape, file, at)),
-        Err(PddlError::Unknown { file, at }) => Err(refuse(Kind::Unknown, file, at)),
-        Err(PddlError::Arity { file, at }) => Err(refuse(Kind::Arity, file, at)),
-        Err(PddlError::Duplicate { file, at }) => Err(refuse(Kind::Duplicate, file, at)),
-        Err(PddlError::Unsupported { file, at }) => Err(refuse(Kind::Unsupported, file, at)),
+        Err(PddlError::Shape { file, at }) => Err(refuse(Kind::Shape, input(file), at)),
+        Err(PddlError::Unknown { file, at }) => Err(refuse(Kind::Unknown, input(file), at)),
+        Err(PddlError::Arity { file, at }) => Err(refuse(Kind::Arity, input(file), at)),
+        Err(PddlError::Duplicate { file, at }) => Err(refuse(Kind::Duplicate, input(file), at)),
+        Err(PddlError::Unsupported { file, at }) => Err(refuse(Kind::Unsupported, input(file), at)),
         Err(PddlError::Memory) => Err(Stop::Memory),
     }
 }
@@ -57,7 +68,7 @@ pub fn read_task(alloc: Global, domain: &[u8], problem: &[u8]) -> Result<Pddl, S
     ensures well_formed { IfOk result IsWellFormed }
     ensures stops { StopsBy (RefusesTask domain.now problem.now) result }
 {
-    let first = tree_of(alloc, Which::Domain, domain)?;
-    let second = tree_of(alloc, Which::Problem, problem)?;
+    let first = tree_of(alloc, File::Domain, domain)?;
+    let second = tree_of(alloc, File::Problem, problem)?;
     task_of(alloc, &first, &second)
 }

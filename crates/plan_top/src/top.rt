@@ -4,13 +4,13 @@ ghost use Rattle.pl_io.specs.Outside.{appended, TakesFront, Rose, fault_count};
 ghost use Rattle.report_lines.specs.Lines.{lines_of};
 ghost use Rattle.report_lines.specs.Horizons.{Says, is_word};
 ghost use Rattle.plan_report.specs.Report.{plan_line};
-ghost use Rattle.plan_words.specs.Seen.{checks, grounds, orders};
+ghost use Rattle.plan_words.specs.Seen.{checks, grounds, orders, proves, verifies};
 ghost use Rattle.plan_words.specs.Requested.{requested, command_named};
 ghost use Rattle.plan_top.specs.Files.{NotesAmong};
 ghost use Rattle.plan_top.specs.Causes.{Comes, FaultOf, names_in};
 ghost use Rattle.plan_top.specs.Complete.{GoesWell, IsGood};
 ghost use Rattle.plan_top.specs.Ending.{status_of, text_of, IsSmall};
-ghost use Rattle.plan_top.specs.Headline.{Printed, OfFiles, OfPlans, PlanRuns, HasAtLeast, NoStepPlan, NoPlan, LineIsSo, SpendsAll, TellsGround, TellsOrder, CallsRun};
+ghost use Rattle.plan_top.specs.Headline.{Printed, OfFiles, OfPlans, PlanRuns, HasAtLeast, NoStepPlan, NoPlan, LineIsSo, SpendsAll, Certifies, OfProof, ProvesNone, TellsGround, TellsOrder, CallsRun};
 ghost use Rattle.plan_top.specs.OneReport.{AskForOneRace, HasRead};
 ghost use Rattle.plan_top.specs.Ends.{ending_in};
 ghost use Rattle.plan_top.specs.declared.ending.Ending.{Ending};
@@ -29,7 +29,8 @@ use std::thread::Threads;
 
 /// Reads the words, takes the files from the shelf, decides, and writes the text due into the sink.
 ///
-/// The words are those after the program's name: a command (`plan`, `check`, `ground`, `order` or `gen`), and what it takes.
+/// The words are those after the program's name: a command (`plan`, `plan-all`, `check`, `ground`, `order`, `gen`,
+/// `prove` or `verify`), and what it takes.
 /// The workers of a race tell the gate of each turn; the report is the same for any number of them.
 pub fn run<H: Threads + Wait + Sync, S: Shelf, K: Sink, G: Gate>(
     rt: &H,
@@ -73,6 +74,21 @@ pub fn run<H: Threads + Wait + Sync, S: Shelf, K: Sink, G: Gate>(
     ensures reached { (domain problem plan : List ℕ) → result.0 ≡ 0 → requested (map string_bytes words.now) ≡ Some (checks domain problem plan)
         → CallsRun (S.told shelf.old) domain problem plan }
 
+    // What is written as a certificate is one: it spells the horizon and a derivation of the empty clause from its formula.
+    ensures certified { (text domain problem : List ℕ) (horizon budget : ℕ) → result.0 ≡ 0 → Printed (K.taken sink.old) (K.taken sink.new) text
+        → requested (map string_bytes words.now) ≡ Some (proves domain problem horizon budget) → OfFiles (S.told shelf.old) domain problem (Certifies text horizon) }
+
+    // Where a certificate is accepted, the horizon that it names has no step plan of so many steps, nor of fewer, and no plan of at
+    // most so many actions.
+    ensures verified { (domain problem proof : List ℕ) → result.0 ≡ 0 → requested (map string_bytes words.now) ≡ Some (verifies domain problem proof)
+        → OfProof (S.told shelf.old) domain problem proof ProvesNone }
+
+    // What is accepted is a certificate, and what is rejected is none.
+    ensures accepted { (domain problem proof : List ℕ) → result.0 ≡ 0 → requested (map string_bytes words.now) ≡ Some (verifies domain problem proof)
+        → OfProof (S.told shelf.old) domain problem proof (λ text task. (horizon : ℕ) × Certifies text horizon task) }
+    ensures rejected { (domain problem proof : List ℕ) → result.0 ≡ 1 → requested (map string_bytes words.now) ≡ Some (verifies domain problem proof)
+        → OfProof (S.told shelf.old) domain problem proof (λ text task. (horizon : ℕ) → Certifies text horizon task → ⊥) }
+
     // Each status has its cause, and with every status but 6 the bytes taken are exactly the text due.
     ensures due { result.0 ≢ 6 → result.0 ≢ 8 → (end : Ending) × (result.0 ≡ status_of end)
         × Comes (S.told shelf.old) (S.lacks shelf.old) (S.failed shelf.old) (S.failed shelf.new) (map string_bytes words.now) end
@@ -109,8 +125,8 @@ pub fn run<H: Threads + Wait + Sync, S: Shelf, K: Sink, G: Gate>(
         → (result.0 ≡ status_of end) × (K.taken sink.new ≡ appended (K.taken sink.old) (text_of end)) }
 
     // Words that are taken and files in order give an answer, where no fault comes from outside.
-    ensures complete { GoesWell (map string_bytes words.now) (S.told shelf.old) (S.failed shelf.old) (S.failed shelf.new)
-        → (Rose (K.faults sink.old) (K.faults sink.new) → ⊥) → (result.0 ≡ 8) ⊎ ((end : Ending) × (result.0 ≡ status_of end) × IsGood end × (K.taken sink.new ≡ appended (K.taken sink.old) (text_of end))) }
+    ensures complete { (well : GoesWell (map string_bytes words.now) (S.told shelf.old) (S.failed shelf.old) (S.failed shelf.new))
+        → (Rose (K.faults sink.old) (K.faults sink.new) → ⊥) → (result.0 ≡ 8) ⊎ ((end : Ending) × (result.0 ≡ status_of end) × IsGood well.request end × (K.taken sink.new ≡ appended (K.taken sink.old) (text_of end))) }
 {
     laws();
     answered(rt, alloc, words, shelf, sink, gate)

@@ -1,6 +1,7 @@
 -- Each command can be parsed, and gives its numbers.
-use Rattle.std.proofs.Common.{◌≡◌, ◌∙◌, ℕ, Bool, true, false, true≢false, List, [], ◌∷◌, map, Option, Some, None, is_some, slice_get, option_and_then, pos, refl, sym, ap, subst, codes, if◌then◌else◌, String, Global, string_bytes}
+use Rattle.std.proofs.Common.{◌≡◌, ◌∙◌, ℕ, Bool, true, false, true≢false, List, [], ◌∷◌, map, Option, Some, None, is_some, slice_get, option_and_then, option_map, pos, refl, sym, ap, subst, codes, if◌then◌else◌, String, Global, string_bytes}
 use Rattle.std.specs.List.{list_any}
+use Rattle.std.proofs.lemmas.Option.{slice_get-map}
 use Rattle.std.specs.Prelude.{unwrap_or}
 use Rattle.clap.specs.Values.{same_text}
 use Rattle.clap.specs.ValueTests.{accepts}
@@ -11,15 +12,15 @@ use Rattle.clap.specs.declared.builder.value_parser.ValueParser.{ValueParser}
 use Rattle.clap.specs.declared.builder.value_parser.ValueParser.TheVariants as reader
 use Rattle.clap.proofs.WalkLemmas.{list_any-map}
 use Rattle.plan_words.specs.declared.command.Name.{Name}
-use Rattle.plan_words.specs.declared.command.Name.TheVariants.{Plan, Check, Ground, Order, Gen}
+use Rattle.plan_words.specs.declared.command.Name.TheVariants.{Plan, Check, Ground, Order, Gen, Prove, Verify, Batch}
 use Rattle.plan_words.specs.declared.command.Readers.{Readers}
 use Rattle.clap_words.specs.Same.{IsSame}
-use Rattle.plan_words.specs.Command.{AreReaders, TakesWords, command_of, lists, named, number}
+use Rattle.plan_words.specs.Command.{AreReaders, TakesWords, command_of, lists, named, number, race_options, workers_option}
 use Rattle.clap_words.specs.Fit.{IsFit}
 use Rattle.clap_words.specs.Passed.{HasNumber, Passed}
-use Rattle.plan_words.specs.Ranges.{Has}
+use Rattle.plan_words.specs.Ranges.{Has, HasNumbers, HasSettings}
 use Rattle.plan_words.specs.Requested.{command_named, requested, requested_of}
-use Rattle.plan_words.specs.Seen.{Seen, seen_in}
+use Rattle.plan_words.specs.Seen.{Seen, counted, seen_in}
 use Rattle.plan_words.proofs.SameReaders.{as_lists}
 
 -- one of the words passes
@@ -28,7 +29,7 @@ one_passes words (reader.Names names) t h e = list_any-map (λ w. same_text fals
 one_passes words _ t h e = absurd h
 
 pub fit : (by : Readers) → AreReaders by → (name : Name) → IsFit (command_of by name)
-fit by are Plan =
+fit by are (Plan stepping) =
     let a = one_passes _ by.algorithms (codes "a") are.algorithms refl in
     record { simple = refl; leaf = refl; defaults = rw a refl; values = refl }
 fit by are Check = record { simple = refl; leaf = refl; defaults = refl; values = refl }
@@ -38,62 +39,79 @@ fit by are Gen =
     let a = one_passes _ by.algorithms (codes "a") are.algorithms refl in
     let n = one_passes _ by.shows (codes "none") are.shows refl in
     record { simple = refl; leaf = refl; defaults = rw (a, n) refl; values = refl }
+fit by are Prove = record { simple = refl; leaf = refl; defaults = refl; values = refl }
+fit by are Verify = record { simple = refl; leaf = refl; defaults = refl; values = refl }
+fit by are Batch =
+    let a = one_passes _ by.algorithms (codes "a") are.algorithms refl in
+    let t = one_passes _ by.turns (codes "forward") are.turns refl in
+    record { simple = refl; leaf = refl; defaults = rw (a, t) refl; values = refl }
 
 -- the one lemma for an argument with a range
 number_in : (rules : List Rule) (rows : List Row) → Passed rules rows → (id : Text) (r : Rule) (low high : ℕ) → arg_by_id rules id ≡ Some r
     → r.parser ≡ Some (reader.Signed (pos low) (pos high)) → HasNumber low high id rows
 number_in rules rows passed id r low high finds by = let got = passed id r _ finds by in (got.0, got.1, got.2)
 
-pub numbers_of : (by : Readers) (name : Name) (rows : List Row) → Passed (command_of by name).top.rules rows → Has name rows
-numbers_of by Plan rows passed =
-    let each = number_in (command_of by Plan).top.rules rows passed in
+-- each of some arguments is found by its name, where all are
+found_each : (rules rs : List Rule) → map (λ (r : Rule). arg_by_id rules r.id) rs ≡ map (λ r. Some r) rs → (k : ℕ) (r : Rule) → slice_get rs k ≡ Some r → arg_by_id rules r.id ≡ Some r
+found_each rules rs all k r at =
+    let left = slice_get-map (λ (x : Rule). arg_by_id rules x.id) rs k ∙ ap (option_map (λ (x : Rule). arg_by_id rules x.id)) at in
+    let right = slice_get-map (λ (x : Rule). Some x) rs k ∙ ap (option_map (λ (x : Rule). Some x)) at in
+    let same : Some (arg_by_id rules r.id) ≡ Some (Some r) = sym left ∙ (ap (λ (l : List (Option Rule)). slice_get l k) all ∙ right) in
+    ap (λ (o : Option (Option Rule)). unwrap_or o None) same
+
+-- the numbers of a race, where its options are among the arguments
+race_of : (algorithms : ValueParser) (rules : List Rule) (rows : List Row) → Passed rules rows
+    → map (λ (r : Rule). arg_by_id rules r.id) (race_options algorithms) ≡ map (λ r. Some r) (race_options algorithms) → HasNumbers rows
+race_of algorithms rules rows passed all =
+    let each = λ (k low high : ℕ) (name default : Text) (at : slice_get (race_options algorithms) k ≡ Some (number name low high default)).
+    number_in rules rows passed name (number name low high default) low high (found_each rules (race_options algorithms) all k _ at) refl in
     record {
-      width = each (codes "width") (number (codes "width") 1 16 (codes "4")) 1 16 refl refl;
-      quota = each (codes "quota") (number (codes "quota") 1 10000 (codes "50")) 1 10000 refl refl;
-      percent = each (codes "percent") (number (codes "percent") 1 99 (codes "50")) 1 99 refl refl;
-      growth = each (codes "growth") (number (codes "growth") 101 400 (codes "150")) 101 400 refl refl;
-      start = each (codes "start") (number (codes "start") 0 255 (codes "0")) 0 255 refl refl;
-      max = each (codes "max-horizon") (number (codes "max-horizon") 0 255 (codes "64")) 0 255 refl refl;
-      budget = each (codes "budget") (number (codes "budget") 0 1000000 (codes "100000")) 0 1000000 refl refl;
-      slice = each (codes "slice") (number (codes "slice") 1 10000 (codes "10")) 1 10000 refl refl;
-      workers = each (codes "workers") (number (codes "workers") 1 16 (codes "4")) 1 16 refl refl;
+      width = each 1 1 16 (codes "width") (codes "4") refl;
+      quota = each 2 1 10000 (codes "quota") (codes "50") refl;
+      percent = each 3 1 99 (codes "percent") (codes "50") refl;
+      growth = each 4 101 400 (codes "growth") (codes "150") refl;
+      start = each 5 0 255 (codes "start") (codes "0") refl;
+      max = each 6 0 255 (codes "max-horizon") (codes "64") refl;
+      budget = each 7 0 1000000 (codes "budget") (codes "100000") refl;
+      slice = each 8 1 10000 (codes "slice") (codes "10") refl;
     }
+
+settings_of : (algorithms : ValueParser) (rules : List Rule) (rows : List Row) → Passed rules rows
+    → map (λ (r : Rule). arg_by_id rules r.id) (race_options algorithms) ≡ map (λ r. Some r) (race_options algorithms)
+    → arg_by_id rules (codes "workers") ≡ Some workers_option → HasSettings rows
+settings_of algorithms rules rows passed all workers = (race_of algorithms rules rows passed all, number_in rules rows passed (codes "workers") workers_option 1 16 workers refl)
+
+pub numbers_of : (by : Readers) (name : Name) (rows : List Row) → Passed (command_of by name).top.rules rows → Has name rows
+numbers_of by (Plan stepping) rows passed = settings_of by.algorithms (command_of by (Plan stepping)).top.rules rows passed refl refl
 numbers_of by Check rows passed = tt
 numbers_of by Ground rows passed = tt
 numbers_of by Order rows passed = tt
 numbers_of by Gen rows passed =
-    let each = number_in (command_of by Gen).top.rules rows passed in (
-      each (codes "number") _ 1 64 refl refl,
-      record {
-        width = each (codes "width") _ 1 16 refl refl;
-        quota = each (codes "quota") _ 1 10000 refl refl;
-        percent = each (codes "percent") _ 1 99 refl refl;
-        growth = each (codes "growth") _ 101 400 refl refl;
-        start = each (codes "start") _ 0 255 refl refl;
-        max = each (codes "max-horizon") _ 0 255 refl refl;
-        budget = each (codes "budget") _ 0 1000000 refl refl;
-        slice = each (codes "slice") _ 1 10000 refl refl;
-        workers = each (codes "workers") _ 1 16 refl refl;
-      },
-    )
+    let rules = (command_of by Gen).top.rules in
+    (number_in rules rows passed (codes "number") _ 1 64 refl refl, settings_of by.algorithms rules rows passed refl refl)
+numbers_of by Prove rows passed =
+    let each = number_in (command_of by Prove).top.rules rows passed in
+    (each (codes "horizon") _ 0 255 refl refl, each (codes "budget") _ 0 1000000 refl refl)
+numbers_of by Verify rows passed = tt
+numbers_of by Batch rows passed = race_of by.algorithms (command_of by Batch).top.rules rows passed refl
 
 -- ---- what is asked for
 
 -- a command that is the fixed one but for where its lists lie, and takes the words, asks for what the fixed one does
-pub asked : (by : Readers) → AreReaders by → (name : Name) (words : List Text) (app : App) (rows : List Row) (s : Seen) → app ≡ command_of by name
+pub asked : (by : Readers) → AreReaders by → (name : Name) (words : List Text) (app : App) (rows : List Row) (o : Option Seen) → app ≡ command_of by name
     → ((fixed : App) → IsSame app fixed → true ≡ takes fixed words) → ((fixed : App) → IsSame app fixed → rows ≡ matches_of fixed words)
-    → s ≡ seen_in name rows → Some s ≡ requested_of name words
-asked by are name words app rows s is taken found seen =
+    → o ≡ counted (seen_in name rows) → o ≡ requested_of name words
+asked by are name words app rows o is taken found seen =
     let same = subst (λ (a : App). IsSame a (command_of lists name)) (sym is) (as_lists by are name) in
-    ap (λ (x : Seen). Some x) (seen ∙ ap (seen_in name) (found (command_of lists name) same))
-    ∙ ap (λ (b : Bool). if b then Some (seen_in name (matches_of (command_of lists name) words)) else None) (taken (command_of lists name) same)
+    (seen ∙ ap (λ (rs : List Row). counted (seen_in name rs)) (found (command_of lists name) same))
+    ∙ ap (λ (b : Bool). if b then counted (seen_in name (matches_of (command_of lists name) words)) else None) (taken (command_of lists name) same)
 
 -- and one that refuses them asks for nothing
 pub unasked : (by : Readers) → AreReaders by → (name : Name) (words : List Text) (app : App) → app ≡ command_of by name
     → ((fixed : App) → IsSame app fixed → false ≡ takes fixed words) → None ≡ requested_of name words
 unasked by are name words app is refused =
     let same = subst (λ (a : App). IsSame a (command_of lists name)) (sym is) (as_lists by are name) in
-    ap (λ (b : Bool). if b then Some (seen_in name (matches_of (command_of lists name) words)) else None) (refused (command_of lists name) same)
+    ap (λ (b : Bool). if b then counted (seen_in name (matches_of (command_of lists name) words)) else None) (refused (command_of lists name) same)
 
 pub no_words : (words : List (String Global)) → slice_get words 0 ≡ None → command_named (map string_bytes words) ≡ None
 no_words [] none = refl

@@ -2,3 +2,4 @@ mod Chain
 mod Fit
 mod SameReaders
 mod Numbers
+mod Single

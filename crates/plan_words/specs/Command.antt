@@ -1,6 +1,7 @@
 -- The commands as `clap` reads them: the arguments of each, in their order.
 use Rattle.std.specs.Prelude.{map, ◌≡◌, ℕ, Option, Some, None, List, [], ◌∷◌, ◌++◌, codes, pos, true, if◌then◌else◌}
 use Rattle.std.specs.Str.{bytes_eq}
+use Rattle.clap.specs.Lexer.{usize_max}
 use Rattle.clap.specs.Walk.{Text, Rule, texts}
 use Rattle.clap.specs.Simple.{App, new_app, new_rule, with_rule}
 use Rattle.clap.specs.declared.builder.action.ArgAction.TheVariants.{Set}
@@ -8,8 +9,9 @@ use Rattle.clap.specs.declared.builder.value_parser.ValueParser.{ValueParser}
 use Rattle.clap.specs.declared.builder.value_parser.ValueParser.TheVariants as reader
 use Rattle.clap_words.specs.Same.{somewhere}
 use Rattle.plan_words.specs.declared.command.Name.{Name}
-use Rattle.plan_words.specs.declared.command.Name.TheVariants.{Plan, Check, Ground, Order, Gen}
+use Rattle.plan_words.specs.declared.command.Name.TheVariants.{Plan, Check, Ground, Order, Gen, Prove, Verify, Batch}
 use Rattle.plan_words.specs.declared.command.Readers.{Readers}
+use Rattle.plan_words.specs.declared.request.Stepping.TheVariants.{Exists, All}
 
 -- A word that has to stand there, of any text.
 abbrev pub word : Text → Rule
@@ -18,6 +20,10 @@ word id = record (new_rule id) { required = true; action = Some Set }
 -- A word that has to stand there, which this reader takes.
 abbrev pub reading_word : Text → ValueParser → Rule
 reading_word id by = record (new_rule id) { required = true; action = Some Set; parser = Some by }
+
+-- Words of which one or more have to stand there. What a further one does is `clap`'s choice: it is added.
+abbrev pub many_words : Text → Rule
+many_words id = record (new_rule id) { required = true; range = Some (record { start_inclusive = 1; end_inclusive = usize_max }) }
 
 -- `--name VALUE`, which this reader takes, and the value where it is not given.
 abbrev pub option : Text → ValueParser → Text → Rule
@@ -42,21 +48,25 @@ kind_words = codes "corridor" ∷ codes "gripper" ∷ []
 abbrev pub show_words : List Text
 show_words = codes "none" ∷ codes "domain" ∷ codes "problem" ∷ []
 
+abbrev pub turn_words : List Text
+turn_words = codes "forward" ∷ codes "backward" ∷ []
+
 -- A reader of a list holds references. Where they lie is of no account, and here they lie at no place in particular.
 abbrev pub one_among : List Text → ValueParser
 one_among words = reader.Names (somewhere (map somewhere words))
 
 -- The readers of the lists.
 abbrev pub lists : Readers
-lists = record { algorithms = one_among algorithm_words; kinds = one_among kind_words; shows = one_among show_words }
+lists = record { algorithms = one_among algorithm_words; kinds = one_among kind_words; shows = one_among show_words; turns = one_among turn_words }
 
 -- The readers take the words of these lists, wherever they lie in memory.
 pub record AreReaders (by : Readers) : Type 0 where
   pub algorithms : TakesWords algorithm_words by.algorithms
   pub kinds : TakesWords kind_words by.kinds
   pub shows : TakesWords show_words by.shows
+  pub turns : TakesWords turn_words by.turns
 
--- The options of a race: the window's, the list's, and those of the work.
+-- The options of a race: the window's, the list's, those of the work, and that of the workers.
 abbrev pub window_options : ValueParser → List Rule
 window_options algorithms =
     option (codes "alg") algorithms (codes "a")
@@ -72,15 +82,21 @@ list_options =
     ∷ number (codes "max-horizon") 0 255 (codes "64")
     ∷ []
 
+abbrev pub budget_option : Rule
+budget_option = number (codes "budget") 0 1000000 (codes "100000")
+
 abbrev pub work_options : List Rule
-work_options =
-    number (codes "budget") 0 1000000 (codes "100000")
-    ∷ number (codes "slice") 1 10000 (codes "10")
-    ∷ number (codes "workers") 1 16 (codes "4")
-    ∷ []
+work_options = budget_option ∷ number (codes "slice") 1 10000 (codes "10") ∷ []
+
+abbrev pub workers_option : Rule
+workers_option = number (codes "workers") 1 16 (codes "4")
+
+-- All but that of the workers.
+abbrev pub race_options : ValueParser → List Rule
+race_options algorithms = window_options algorithms ++ (list_options ++ work_options)
 
 abbrev pub options : ValueParser → List Rule
-options algorithms = window_options algorithms ++ (list_options ++ work_options)
+options algorithms = race_options algorithms ++ workers_option ∷ []
 
 -- The words of the two files that are a task.
 abbrev pub two : List Rule
@@ -88,21 +104,29 @@ two = word (codes "domain") ∷ word (codes "problem") ∷ []
 
 -- The word that names a command.
 abbrev pub word_of : Name → Text
-word_of Plan = codes "plan"
+word_of (Plan Exists) = codes "plan"
+word_of (Plan All) = codes "plan-all"
 word_of Check = codes "check"
 word_of Ground = codes "ground"
 word_of Order = codes "order"
 word_of Gen = codes "gen"
+word_of Prove = codes "prove"
+word_of Verify = codes "verify"
+word_of Batch = codes "batch"
 
 -- What follows that word: the words in their order, then the options.
 abbrev pub rules_of : Readers → Name → List Rule
-rules_of by Plan = two ++ options by.algorithms
+rules_of by (Plan stepping) = two ++ options by.algorithms
 rules_of by Check = two ++ word (codes "plan") ∷ []
 rules_of by Ground = two
 rules_of by Order = two
 rules_of by Gen = reading_word (codes "kind") by.kinds
     ∷ reading_word (codes "number") (reader.Signed (pos 1) (pos 64))
     ∷ (options by.algorithms ++ option (codes "show") by.shows (codes "none") ∷ [])
+rules_of by Prove = two ++ reading_word (codes "horizon") (reader.Signed (pos 0) (pos 255)) ∷ budget_option ∷ []
+rules_of by Verify = two ++ word (codes "certificate") ∷ []
+rules_of by Batch = word (codes "domain") ∷ many_words (codes "problem")
+    ∷ (race_options by.algorithms ++ option (codes "turns") by.turns (codes "forward") ∷ [])
 
 -- The command with these arguments added, in their order.
 abbrev pub with_rules : App → List Rule → App
@@ -115,9 +139,12 @@ command_of by name = with_rules (new_app (word_of name)) (rules_of by name)
 
 -- The command that a word names.
 abbrev pub named : Text → Option Name
-named text = if bytes_eq text (codes "plan") then Some Plan
+named text = if bytes_eq text (codes "plan") then Some (Plan Exists)
+    else if bytes_eq text (codes "plan-all") then Some (Plan All)
     else if bytes_eq text (codes "check") then Some Check
     else if bytes_eq text (codes "ground") then Some Ground
     else if bytes_eq text (codes "order") then Some Order
     else if bytes_eq text (codes "gen") then Some Gen
+    else if bytes_eq text (codes "prove") then Some Prove
+    else if bytes_eq text (codes "verify") then Some Verify
     else None

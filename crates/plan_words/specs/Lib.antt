@@ -1,5 +1,6 @@
 pub mod Among
 pub mod Command
+pub mod OneTask
 pub mod Ranges
 pub mod Requested
 pub mod Seen

@@ -1,15 +1,15 @@
 -- What words ask for.
-use Rattle.std.specs.Prelude.{Option, Some, None, List, [], ◌∷◌, if◌then◌else◌, option_and_then}
+use Rattle.std.specs.Prelude.{Option, None, List, [], ◌∷◌, if◌then◌else◌, option_and_then}
 use Rattle.clap.specs.Walk.{Text}
 use Rattle.clap.specs.Simple.{matches_of}
 use Rattle.clap.specs.Takes.{takes}
 use Rattle.plan_words.specs.declared.command.Name.{Name}
 use Rattle.plan_words.specs.Command.{command_of, lists, named}
-use Rattle.plan_words.specs.Seen.{Seen, seen_in}
+use Rattle.plan_words.specs.Seen.{Seen, counted, seen_in}
 
--- What a command's words ask for: what its matches give, where it takes the words.
+-- What a command's words ask for: what its matches give, where it takes the words and there are as many as may be.
 abbrev pub requested_of : Name → List Text → Option Seen
-requested_of name words = if takes (command_of lists name) words then Some (seen_in name (matches_of (command_of lists name) words)) else None
+requested_of name words = if takes (command_of lists name) words then counted (seen_in name (matches_of (command_of lists name) words)) else None
 
 -- The command that the first word names, where there is one.
 abbrev pub command_named : List Text → Option Name

@@ -5,7 +5,7 @@
 //!
 //! ```text
 //! match read_words(alloc, words)? {
-//!     Some(Request::Plan { domain, problem, settings }) => plan(domain, problem, &settings),
+//!     Some(Request::Plan { stepping, domain, problem, settings }) => plan(stepping, domain, problem, &settings),
 //!     Some(_) => ..,
 //!     None => usage(),
 //! }
@@ -20,4 +20,4 @@ mod values;
 
 pub use clap_words::Memory;
 pub use read::read_words;
-pub use request::{Request, Show};
+pub use request::{Problems, Request, Show, Stepping, Turns};

@@ -9,7 +9,8 @@ use crate::values::request_in;
 use clap_words::{Memory, parse};
 use std::alloc::Global;
 
-/// What the words after the program's name ask for; `None` exactly where they are not taken.
+/// What the words after the program's name ask for; `None` exactly where they are not taken. A batch of more than 16
+/// problems is not taken.
 pub fn read_words<'a>(alloc: Global, words: &'a [String]) -> Result<Option<Request<'a>>, Memory>
     ensures request { IfOk result (λ r. option_map seen r ≡ requested (map string_bytes words.entry.now)) }
     // The size of a task to be generated is in its range.
@@ -40,7 +41,7 @@ fn read_command<'a>(
         return Err(Memory);
     };
     match parse(command, words) {
-        Ok(Some(matches)) => Ok(Some(request_in(name, &matches))),
+        Ok(Some(matches)) => request_in(alloc, name, &matches),
         Ok(None) => Ok(None),
         Err(error) => Err(error),
     }

@@ -37,7 +37,7 @@ pub(crate) fn open(alloc: Global, run: &HorizonRun) -> Result<Line, Memory>
 }
 
 /// The line of a run that is passed by a refuted one or refuted itself.
-pub(crate) fn passed(alloc: Global, run: &HorizonRun) -> Result<Line, Memory>
+fn passed(alloc: Global, run: &HorizonRun) -> Result<Line, Memory>
     ghost input: { RaceInput }
     requires run { IsRunOf input run.now }
     requires unfound { run.now.state.standing ≡ Standing.Found → ⊥ }
@@ -48,4 +48,15 @@ pub(crate) fn passed(alloc: Global, run: &HorizonRun) -> Result<Line, Memory>
         Standing::Refuted => open(alloc, run),
         _ => Ok(line_of(run, LineEnd::Dropped)),
     }
+}
+
+/// The line of a run that ends here, since it is passed by a refuted one or refuted itself.
+pub(crate) fn ended(alloc: Global, run: HorizonRun) -> Result<Line, Memory>
+    ghost input: { RaceInput }
+    requires run { IsRunOf input run }
+    requires unfound { run.state.standing ≡ Standing.Found → ⊥ }
+    ensures told { IfOk result (λ line. line_view line ≡ passed_line (live_run_of run)) }
+    ensures line { IfOk result (λ line. IsLine input line) }
+{
+    passed(alloc, &run)
 }

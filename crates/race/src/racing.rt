@@ -11,7 +11,7 @@ ghost use Rattle.race.specs.State.{start};
 ghost use Rattle.race.specs.Tied.{race_state, IsTied, IsBetween, Stands, HasEnded, Ends};
 ghost use Rattle.race_end.specs.Ends.{conflicts_in, line_view};
 
-use crate::line::{open, passed};
+use crate::line::{ended, open};
 use cdcl_rules::standing::Standing;
 use clause_base::memory::Memory;
 use horizon_rates::{Ledger, Settings, Window};
@@ -124,7 +124,7 @@ impl Racing {
         let run = self.runs.remove(0);
         let horizon = run.horizon();
         self.window.refute(horizon);
-        let line = passed(alloc, &run)?;
+        let line = ended(alloc, run)?;
         self.lines.push(line)?;
         Ok(())
     }

@@ -1,7 +1,7 @@
-use Rattle.std.proofs.Common.{◌≡◌, ◌==◌, ℕ, ◌*◌, List, Bool, true, false, not, ◌&&◌}
+use Rattle.std.proofs.Common.{◌≡◌, ◌==◌, ℕ, ◌*◌, List, Bool, true, false, not}
 use Rattle.bit_rows.specs.Bits.{row_has, IsPairAcross}
 use Rattle.gt_core.specs.Literal.{opposite}
-use Rattle.gt_core.specs.Task.{Effect, Action}
+use Rattle.gt_core.specs.Task.{Action}
 use Rattle.gt_core.proofs.Basics.{passing, or_left, and_split, not_true}
 use Rattle.two_invariants.specs.Tested.{IsSetOf, AreRowsOf, with_more, has_no_pair, may_take, is_sure, breaks_with, breaks_by}
 use Rattle.two_invariants.specs.declared.known.Known.{Known}

@@ -6,8 +6,14 @@ pub mod Closing
 pub mod Exact
 pub mod Steps
 pub mod Grouping
+pub mod Indexing
+pub mod Counting
+pub mod Taking
+pub mod Numbering
+pub mod PlainEffects
 pub mod Dropping
 pub mod Renewing
+pub mod Bounding
 pub mod Unmoved
 pub mod Contradicted
 pub mod RoundLaw

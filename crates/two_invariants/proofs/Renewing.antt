@@ -1,11 +1,11 @@
-use Rattle.std.proofs.Common.{arith, ◌≡◌, ◌==◌, ℕ, ◌+◌, ◌*◌, ◌%◌, ◌/◌, ◌<◌, ◌≤◌, length, List, Bool, true, false, not, ◌&&◌, ◌||◌, refl, sym, ap, ◌∙◌, ◌⊎◌, inl, inr, subst}
+use Rattle.std.proofs.Common.{arith, ◌≡◌, ◌==◌, ℕ, ◌+◌, ◌%◌, ◌/◌, ◌<◌, length, List, Bool, true, false, not, ◌&&◌, ◌||◌, refl, sym, ap, ◌∙◌, ◌⊎◌, inl, inr, subst}
 use Rattle.bit_rows.specs.Bits.{row_has, IsPairAcross}
 use Rattle.gt_core.specs.Literal.{opposite}
-use Rattle.gt_core.proofs.Basics.{or_split, or_left, or_right, and_split, and_both, cases, same_test, test_same, apart}
+use Rattle.gt_core.proofs.Basics.{or_split, or_left, and_split, and_both, cases, same_test, test_same, apart}
 use Rattle.gt_core.proofs.Literals.{opposite_twice, add_opposite, delete_opposite, even_is_add, odd_is_delete}
 use Rattle.two_invariants.specs.Rows.{row_at, clause_in, IsPart, IsChained, HasNoPair, IsClosure}
 use Rattle.two_invariants.specs.Tested.{IsSetOf}
-use Rattle.two_invariants.specs.Renewed.{IsLessened, WasClosed, WasTold, WereKnown}
+use Rattle.two_invariants.specs.Renewed.{WasClosed, WasTold, WereKnown}
 use Rattle.two_invariants.specs.declared.known.Known.{Known}
 use Rattle.two_invariants.proofs.Closing.{closure_within}
 

@@ -1,7 +1,6 @@
 use Rattle.std.proofs.Common.{arith, ◌≡◌, ◌==◌, ℕ, suc, ◌+◌, ◌*◌, ◌/◌, ◌<◌, ◌≤◌, List, [], ◌∷◌, length, Bool, true, false, not, ◌&&◌, ◌||◌, refl, ap, sym, ◌∙◌, ◌⊎◌, inl, inr, subst}
 use Rattle.std.specs.Prelude.{if◌then◌else◌, slice_index}
 use Rattle.std.specs.List.{list_any, AllByRecursion, AllZip, range_with_len}
-use Rattle.std.proofs.lemmas.Bool.{cases_lt}
 use Rattle.std.proofs.lemmas.Bool.Decides.{nat_tests}
 use Rattle.gt_core.specs.Task.{Action, Task, action}
 use Rattle.gt_core.specs.Lawful.{is_task, is_action}
@@ -26,7 +25,7 @@ use Rattle.two_invariants.proofs.Lists.{all_map}
 use Rattle.two_invariants.proofs.Fewer.{breaks_less}
 use Rattle.two_invariants.proofs.Closing.{total_below, total_less}
 use Rattle.two_invariants.proofs.Exact.{breaks_to, breaks_from, either_breaks, breaks_either, row_within, none_within}
-use Rattle.two_invariants.proofs.Steps.{opposite_below, past_rows}
+use Rattle.two_invariants.proofs.Steps.{opposite_below}
 use Rattle.std.proofs.Math.Bool.{or_comm}
 use Rattle.std.proofs.lemmas.Bool.{or_parts}
 

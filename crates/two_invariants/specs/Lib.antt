@@ -5,6 +5,9 @@ pub mod Laws
 pub mod Rows
 pub mod Tested
 pub mod Groups
+pub mod Numbers
+pub mod Plain
+pub mod Index
 pub mod First
 pub mod Renewed
 pub mod Rounds

@@ -1,12 +1,13 @@
-use Rattle.std.specs.Prelude.{◌≡◌, ℕ, ◌*◌, ◌<◌, ◌==◌, ◌⊎◌, List, Bool, true, false, not, ◌&&◌, ◌||◌, length}
-use Rattle.std.specs.List.{list_any, list_all, AllByRecursion}
+use Rattle.std.specs.Prelude.{◌≡◌, ℕ, ◌<◌, ◌==◌, ◌⊎◌, List, Bool, true, false, not, ◌&&◌, ◌||◌, length}
+use Rattle.std.specs.List.{list_any, list_all}
 use Rattle.bit_rows.specs.Bits.{row_has}
 use Rattle.gt_core.specs.Literal.{opposite}
-use Rattle.gt_core.specs.Task.{Effect, Action}
+use Rattle.gt_core.specs.Task.{Action}
 use Rattle.two_invariants.specs.Rows.{row_at, clause_in, IsPart, IsChained, HasNoPair, IsClosure}
 use Rattle.two_invariants.specs.Tested.{IsSetOf, breaks_by}
 use Rattle.two_invariants.specs.declared.known.Known.{Known}
 use Rattle.two_invariants.specs.declared.again.Moved.{Moved}
+use Rattle.two_invariants.specs.declared.renew.Bound.{Bound}
 
 -- What is known after clauses were dropped, and which actions may break others than before.
 
@@ -43,6 +44,11 @@ pub record AreMoves (asked : ℕ → Bool) (old new : Known) (moved : Moved) : T
   pub rows : (k m : ℕ) → row_has moved.rows k ≡ false → clause_in new.rows.items k m ≡ clause_in old.rows.items k m
   pub none : moved.none ≡ false → (m : ℕ) → row_has new.none m ≡ row_has old.none m
   pub lacking : (k m : ℕ) → asked k ≡ true → row_has moved.lacking k ≡ false → (row_has new.none m ≡ row_has old.none m) ⊎ (clause_in new.rows.items k m ≡ true)
+
+-- the literals that stand in a clause are listed, and so are their opposites
+pub record IsBound (V : ℕ → ℕ → Bool) (bound : Bound) : Type 0 where
+  pub literals : (l m : ℕ) → V l m ≡ true → row_has bound.literals l ≡ true
+  pub opposites : (l m : ℕ) → V (opposite l) m ≡ true → row_has bound.opposites l ≡ true
 
 -- Actions.
 

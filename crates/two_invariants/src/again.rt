@@ -7,9 +7,8 @@ ghost use Rattle.two_invariants.specs.Rows.{clause_in, AreRows};
 ghost use Rattle.two_invariants.specs.Tested.{IsSetOf, AreKnown, act_at};
 ghost use Rattle.two_invariants.specs.Renewed.{WereKnown, AreMoves, is_unmoved};
 
-use crate::broken::all_known;
-use crate::known::Known;
-use crate::renew::{renew_none, renew_rows};
+use crate::known::{Known, all_known};
+use crate::renew::{bound_literals, renew_none, renew_rows};
 use bit_rows::row::BitRow;
 use gt_core::act::Act;
 use gt_core::eff::Eff;
@@ -62,9 +61,10 @@ pub fn renew_known(
     ensures known { IfOk result (λ moved. AreKnown (clause_in clauses.now) (2 * facts) (row_has asked.now) known.new) }
     ensures moved { IfOk result (λ moved. AreMoves (row_has asked.now) known.old known.new moved) }
 {
-    let rows = renew_rows(alloc, facts, clauses, stale, asked, &mut known.rows)?;
+    let bound = bound_literals(alloc, facts, clauses)?;
+    let rows = renew_rows(alloc, facts, clauses, &bound, stale, asked, &mut known.rows)?;
     let done = known.rows.as_slice();
-    let lits = renew_none(alloc, facts, clauses, asked, done, &mut known.none)?;
+    let lits = renew_none(alloc, facts, clauses, &bound, asked, done, &mut known.none)?;
     let lacking = find_lacking(alloc, asked, known.rows.as_slice(), &lits)?;
     Ok(Moved {
         rows,

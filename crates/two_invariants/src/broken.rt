@@ -9,10 +9,14 @@ ghost use Rattle.gt_core.specs.Literal.{opposite};
 ghost use Rattle.two_invariants.specs.Rows.{clause_in, AreRows};
 ghost use Rattle.two_invariants.specs.Breaks.{is_add};
 ghost use Rattle.two_invariants.specs.Tested.{with_more, is_lost, are_lost, IsLossOf, AreLossesOf, ActionFits, IsSetOf, AreRowsOf};
-ghost use Rattle.two_invariants.specs.Groups.{group_with, may_take_by, may_lose, breaks_under, GroupFits};
+ghost use Rattle.two_invariants.specs.Groups.{group_with, breaks_under, GroupFits};
+ghost use Rattle.two_invariants.specs.Index.{IsGroupOf, AreGivers, AreTakers};
 
+use crate::givers::{Givers, fill_given, givers_of};
 use crate::groups::{Group, group_effects};
-use crate::known::{Known, copy, fill_with, with_more};
+use crate::known::{Known, copy, with_more};
+use crate::plain::{are_plain, plain_losses};
+use crate::takers::{Room, Takers, is_taken, take_all_lost, takers_of};
 use bit_rows::row::BitRow;
 use gt_core::act::Act;
 use std::alloc::{AllocError, Global};
@@ -24,115 +28,8 @@ pub struct Loss {
     pub from: BitRow,
 }
 
-/// Whether each of some literals is known.
-pub fn all_known(set: &BitRow, lits: &[u32]) -> bool
-    ensures { result ≡ list_all (row_has set.now) lits.now }
-{
-    for lit in lits {
-        if !set.contains(*lit) {
-            return false;
-        }
-    }
-    true
-}
-
-/// Whether an effect may take a literal where some are given: an add overrules a delete.
-fn is_taken(given: &BitRow, l: u32) -> bool
-    ensures { result ≡ not (is_add l && row_has given.now l) }
-{
-    !(l % 2 == 0 && given.contains(l))
-}
-
-/// Makes a row of the literals that effects surely make true where a set is known.
-fn fill_given(groups: &[Group], set: &BitRow, given: &mut BitRow) -> Result<(), AllocError>
-    ensures { OnOk result ((m : ℕ) → row_has given.new m ≡ group_with groups.now m (list_all (row_has set.now))) }
-{
-    given.clear();
-    for group in groups {
-        if all_known(set, group.condition.as_slice()) {
-            given.unite(&group.literals)?;
-        }
-    }
-    Ok(())
-}
-
-/// Takes a literal out of a set, where an effect may take it.
-fn take_one(given: &BitRow, l: u32, sure: &mut BitRow)
-    ensures { (m : ℕ) → row_has sure.new m ≡ (row_has sure.old m && not ((l == m) && not (is_add m && row_has given.now m))) }
-{
-    if is_taken(given, l) {
-        sure.remove(l);
-    }
-}
-
-/// Takes those of some literals out of a set that an effect may take.
-fn take_out(lits: &BitRow, given: &BitRow, sure: &mut BitRow)
-    requires { IsSetOf 4096 (row_has lits.now) }
-    ensures { (m : ℕ) → row_has sure.new m ≡ (row_has sure.old m && not (row_has lits.now m && not (is_add m && row_has given.now m))) }
-{
-    let mut from = 0;
-    while let Some(l) = lits.least_common(sure, from) {
-        take_one(given, l, sure);
-        from = l + 1;
-    }
-}
-
-/// Takes out of a set what the effects of a group may take where a set is known. `there` and `given` are room for rows.
-fn take_lost(
-    facts: u32,
-    rows: &[BitRow],
-    groups: &[Group],
-    here: &BitRow,
-    group: &Group,
-    there: &mut BitRow,
-    given: &mut BitRow,
-    sure: &mut BitRow,
-) -> Result<(), AllocError>
-    requires few { facts ≤ 2048 }
-    requires rows { AreRowsOf (2 * facts) rows.now }
-    requires here { IsSetOf (2 * facts) (row_has here.now) }
-    requires group { GroupFits (2 * facts) group.now }
-    ensures { OnOk result ((m : ℕ) → row_has sure.new m ≡ (row_has sure.old m && not (row_has group.now.literals (opposite m) && may_take_by facts (group_with groups.now) (with_more rows.now (row_has here.now) group.now.condition.items) m))) }
-{
-    if group.opposites.least_common(sure, 0).is_none() {
-        return Ok(());
-    }
-    fill_with(rows, here, group.condition.as_slice(), there)?;
-    if there.has_pair() {
-        return Ok(());
-    }
-    fill_given(groups, there, given)?;
-    take_out(&group.opposites, given, sure);
-    Ok(())
-}
-
-/// Takes out of a set what effects may take where a set is known.
-fn take_all_lost(
-    alloc: Global,
-    facts: u32,
-    rows: &[BitRow],
-    groups: &[Group],
-    here: &BitRow,
-    sure: &mut BitRow,
-) -> Result<(), AllocError>
-    requires few { facts ≤ 2048 }
-    requires rows { AreRowsOf (2 * facts) rows.now }
-    requires here { IsSetOf (2 * facts) (row_has here.now) }
-    requires groups { AllByRecursion (GroupFits (2 * facts)) groups.now }
-    ensures { OnOk result ((m : ℕ) → row_has sure.new m ≡ (row_has sure.old m && not (may_lose facts rows.now (group_with groups.now) (row_has here.now) m))) }
-{
-    let mut there = BitRow::new(alloc);
-    let mut given = BitRow::new(alloc);
-    for group in groups {
-        take_lost(
-            facts, rows, groups, here, group, &mut there, &mut given, sure,
-        )?;
-    }
-    Ok(())
-}
-
 /// Appends the clauses of a literal with those that are not sure, where an effect may take it and there is one.
-fn push_loss(
+pub fn push_loss(
     alloc: Global,
     clauses: &[BitRow],
     given: &BitRow,
@@ -144,7 +41,7 @@ fn push_loss(
     ensures lost { OnOk result ((a m : ℕ) → are_lost losses.new.items a m ≡ (are_lost losses.old.items a m || ((l == a) && (clause_in clauses.now a m && (not (is_add a && row_has given.now a) && not (row_has sure.now m)))))) }
     ensures each { OnOk result ((size : ℕ) → l < size → AllByRecursion (IsLossOf size clauses.now) losses.old.items → AllByRecursion (IsLossOf size clauses.now) losses.new.items) }
 {
-    if !is_taken(given, l) {
+    if !is_taken(given, l) || clauses[l as usize].is_part_of(sure) {
         return Ok(());
     }
     let mut from = BitRow::new(alloc);
@@ -187,14 +84,20 @@ fn push_group_losses(
     clauses: &[BitRow],
     set: &BitRow,
     groups: &[Group],
+    givers: &Givers,
+    takers: &Takers,
     group: &Group,
     losses: &mut Vec<Loss>,
+    room: &mut Room,
 ) -> Result<(), AllocError>
     requires rows { AreRowsOf (2 * facts) rows.now }
     requires clauses { AreRows facts clauses.now }
     requires set { IsSetOf (2 * facts) (row_has set.now) }
     requires groups { AllByRecursion (GroupFits (2 * facts)) groups.now }
     requires group { GroupFits (2 * facts) group.now }
+    requires one { IsGroupOf groups.now group.now }
+    requires givers { AreGivers (row_has set.now) groups.now (length groups.now) givers.now }
+    requires takers { AreTakers facts rows.now (row_has set.now) groups.now (length groups.now) takers.now }
     ensures lost { OnOk result ((l m : ℕ) → are_lost losses.new.items l m ≡ (are_lost losses.old.items l m || (clause_in clauses.now l m && (row_has group.now.literals (opposite l) && breaks_under facts rows.now (group_with groups.now) (row_has set.now) l m group.now.condition.items)))) }
     ensures each { OnOk result (AllByRecursion (IsLossOf (2 * facts) clauses.now) losses.old.items → AllByRecursion (IsLossOf (2 * facts) clauses.now) losses.new.items) }
 {
@@ -203,10 +106,12 @@ fn push_group_losses(
         return Ok(());
     }
     let mut given = BitRow::new(alloc);
-    fill_given(groups, &here, &mut given)?;
+    fill_given(groups, givers, &here, &mut given)?;
     let mut sure = copy(alloc, &here)?;
     sure.unite(&given)?;
-    take_all_lost(alloc, facts, rows, groups, &here, &mut sure)?;
+    take_all_lost(
+        facts, rows, groups, givers, takers, &here, group, &given, &mut sure, room,
+    )?;
     push_losses(
         alloc,
         facts,
@@ -235,9 +140,27 @@ fn group_losses(
     ensures lost { IfOk result (λ losses. (l m : ℕ) → are_lost losses.items l m ≡ (clause_in clauses.now l m && group_with groups.now (opposite l) (breaks_under facts rows.now (group_with groups.now) (row_has set.now) l m))) }
     ensures each { IfOk result (λ losses. AllByRecursion (IsLossOf (2 * facts) clauses.now) losses.items) }
 {
+    let givers = givers_of(alloc, set, groups)?;
+    let takers = takers_of(alloc, facts, rows, set, groups)?;
+    let mut room = Room {
+        there: BitRow::new(alloc),
+        given: BitRow::new(alloc),
+    };
     let mut losses = Vec::new(alloc);
     for group in groups {
-        push_group_losses(alloc, facts, rows, clauses, set, groups, group, &mut losses)?;
+        push_group_losses(
+            alloc,
+            facts,
+            rows,
+            clauses,
+            set,
+            groups,
+            &givers,
+            &takers,
+            group,
+            &mut losses,
+            &mut room,
+        )?;
     }
     Ok(losses)
 }
@@ -257,11 +180,16 @@ pub fn losses_of(
     ensures { IfOk result (λ losses. AreLossesOf facts known.now clauses.now act.now losses.items) }
 {
     let rows = known.rows.as_slice();
-    let set = with_more(alloc, rows, &known.none, act.pre())?;
+    let mut set = with_more(alloc, rows, &known.none, act.pre())?;
     if set.has_pair() {
         return Ok(Vec::new(alloc));
     }
-    let groups = group_effects(alloc, act.effects())?;
+    let effects = act.effects();
+    if are_plain(effects) {
+        let plain = plain_losses(alloc, facts, clauses, effects, &mut set)?;
+        return Ok(plain);
+    }
+    let groups = group_effects(alloc, effects)?;
     let losses = group_losses(alloc, facts, rows, clauses, &set, groups.as_slice())?;
     Ok(losses)
 }

@@ -29,7 +29,7 @@ use std::alloc::{AllocError, Global};
 use std::thread::Threads;
 
 /// How many actions are worth a thread of their own.
-const LEAST_PIECE: usize = 128;
+const LEAST_PIECE: usize = 512;
 
 /// What each of some actions breaks, tested in parallel.
 fn all_losses(

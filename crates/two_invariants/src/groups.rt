@@ -6,6 +6,7 @@ ghost use Rattle.bit_rows.specs.Bits.{row_has};
 ghost use Rattle.gt_core.specs.Literal.{opposite};
 ghost use Rattle.two_invariants.specs.{Tested.EffectFits, Groups.effect_with, Groups.group_with, Groups.GroupFits};
 
+use crate::by_literal::{add_at_key, list_of, no_lists};
 use bit_rows::row::BitRow;
 use gt_core::eff::Eff;
 use gt_core::lits::opposite;
@@ -19,26 +20,25 @@ pub struct Group {
     pub opposites: BitRow,
 }
 
-/// The first place, from one on, of a group with a condition.
-fn place_from(groups: &[Group], from: usize, condition: &[u32]) -> Option<usize>
+/// A number that conditions have in common that are the same.
+fn key_of(condition: &[u32]) -> u32 {
+    let mut key: u32 = 0;
+    for lit in condition {
+        key = (key % 65_521) * 4_099 + *lit % 65_536;
+    }
+    key
+}
+
+/// The place of a group with a condition, among some places.
+fn place_of(groups: &[Group], places: &[usize], condition: &[u32]) -> Option<usize>
     ensures { IfSome result (λ i. (i < length groups.now) × ((d : Group) → (slice_index_or groups.now i d).condition.items ≡ condition.now)) }
 {
-    for i in from..groups.len() {
-        if groups[i].condition.as_slice() == condition {
-            return Some(i);
+    for place in places {
+        if *place < groups.len() && groups[*place].condition.as_slice() == condition {
+            return Some(*place);
         }
     }
     None
-}
-
-/// A place of a group with a condition, looked for from one place on and then from the first.
-fn place_of(groups: &[Group], from: usize, condition: &[u32]) -> Option<usize>
-    ensures { IfSome result (λ i. (i < length groups.now) × ((d : Group) → (slice_index_or groups.now i d).condition.items ≡ condition.now)) }
-{
-    match place_from(groups, from, condition) {
-        Some(i) => Some(i),
-        None => place_from(groups, 0, condition),
-    }
 }
 
 /// Puts a literal into a group.
@@ -79,24 +79,32 @@ fn group_of(alloc: Global, effect: &Eff) -> Result<Group, AllocError>
     })
 }
 
-/// Puts an effect into the group of its condition, which is looked for from a place on. The place after it.
+/// Puts an effect into the group of its condition, which is looked for among the places of its key.
 fn put(
     alloc: Global,
     groups: &mut Vec<Group>,
-    from: usize,
+    places: &mut Vec<Vec<usize>>,
     effect: &Eff,
-) -> Result<usize, AllocError>
+) -> Result<(), AllocError>
+    requires places { 0 < length places.old.items }
+    ensures places { length places.new.items ≡ length places.old.items }
     ensures has { OnOk result ((l : ℕ) (test : List ℕ → Bool) → group_with groups.new.items l test ≡ (group_with groups.old.items l test || ((effect.now.literal == l) && test effect.now.condition))) }
     ensures fit { OnOk result ((size : ℕ) → EffectFits size effect.now → AllByRecursion (GroupFits size) groups.old.items → AllByRecursion (GroupFits size) groups.new.items) }
 {
-    match place_of(groups.as_slice(), from, effect.cond()) {
+    let key = key_of(effect.cond());
+    match place_of(
+        groups.as_slice(),
+        list_of(places.as_slice(), key),
+        effect.cond(),
+    ) {
         Some(i) => {
             add_at(groups, i, effect.lit())?;
-            Ok(i + 1)
+            Ok(())
         }
         None => {
+            add_at_key(places, key, groups.len())?;
             groups.push(group_of(alloc, effect)?)?;
-            Ok(0)
+            Ok(())
         }
     }
 }
@@ -107,9 +115,9 @@ pub fn group_effects(alloc: Global, effects: &[Eff]) -> Result<Vec<Group>, Alloc
     ensures fit { IfOk result (λ groups. (size : ℕ) → AllByRecursion (EffectFits size) effects.now → AllByRecursion (GroupFits size) groups.items) }
 {
     let mut groups = Vec::new(alloc);
-    let mut next = 0;
+    let mut places = no_lists(alloc, effects.len())?;
     for effect in effects {
-        next = put(alloc, &mut groups, next, effect)?;
+        put(alloc, &mut groups, &mut places, effect)?;
     }
     Ok(groups)
 }

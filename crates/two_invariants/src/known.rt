@@ -2,7 +2,7 @@
 //! its opposite. Each clause has at most two literals, so what several literals tell is what each tells by itself.
 
 ghost use Rattle.std.specs.Prelude.{◌≡◌, ℕ, ◌*◌, ◌<◌, ◌==◌, [], true, false, None, length, IfOk, IfSome, OnOk};
-ghost use Rattle.std.specs.List.{AllByRecursion};
+ghost use Rattle.std.specs.List.{AllByRecursion, list_all};
 ghost use Rattle.bit_rows.specs.Bits.{row_has};
 ghost use Rattle.two_invariants.specs.Rows.{row_at, clause_in, AreRows, IsClosure, IsGrowing, IsGrownFrom, work};
 ghost use Rattle.two_invariants.specs.Tested.{IsSetOf, with_more};
@@ -106,6 +106,18 @@ pub fn close(
             Some(x) => follow(facts, clauses, asked, done, below, x, row, todo)?,
         }
     }
+}
+
+/// Whether each of some literals is known.
+pub fn all_known(set: &BitRow, lits: &[u32]) -> bool
+    ensures { result ≡ list_all (row_has set.now) lits.now }
+{
+    for lit in lits {
+        if !set.contains(*lit) {
+            return false;
+        }
+    }
+    true
 }
 
 /// Makes a row of a set with what some literals tell.

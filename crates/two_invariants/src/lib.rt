@@ -5,13 +5,17 @@
 mod again;
 mod asked;
 mod broken;
+mod by_literal;
 mod drop;
 mod first;
+mod givers;
 mod greatest;
 mod groups;
 mod known;
 pub mod laws;
 mod list;
+mod plain;
 mod renew;
+mod takers;
 
 pub use greatest::find;

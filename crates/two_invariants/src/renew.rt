@@ -6,12 +6,48 @@ ghost use Rattle.bit_rows.specs.Bits.{row_has};
 ghost use Rattle.gt_core.specs.Literal.{opposite};
 ghost use Rattle.two_invariants.specs.Rows.{row_at, clause_in, AreRows, IsPart, IsClosure};
 ghost use Rattle.two_invariants.specs.Tested.{IsSetOf};
-ghost use Rattle.two_invariants.specs.Renewed.{WasClosed, WasTold};
+ghost use Rattle.two_invariants.specs.Renewed.{IsBound, WasClosed, WasTold};
 
 use crate::known::close;
 use bit_rows::row::BitRow;
 use gt_core::lits::opposite;
 use std::alloc::{AllocError, Global};
+
+/// The literals that stand in a clause, and their opposites, which tell something.
+#[derive(Drop)]
+pub struct Bound {
+    pub literals: BitRow,
+    pub opposites: BitRow,
+}
+
+/// Notes a literal that stands in a clause of its row.
+fn note_bound(row: &BitRow, l: u32, bound: &mut Bound) -> Result<(), AllocError>
+    ensures literals { OnOk result (IsPart (row_has bound.old.literals) (row_has bound.new.literals)) }
+    ensures opposites { OnOk result (IsPart (row_has bound.old.opposites) (row_has bound.new.opposites)) }
+    ensures own { OnOk result ((m : ℕ) → row_has row.now m ≡ true → (row_has bound.new.literals l ≡ true) × (row_has bound.new.opposites (opposite l) ≡ true)) }
+{
+    if row.least(0).is_none() {
+        return Ok(());
+    }
+    bound.literals.insert(l)?;
+    bound.opposites.insert(opposite(l))?;
+    Ok(())
+}
+
+/// The literals that stand in a clause.
+pub fn bound_literals(alloc: Global, facts: u32, clauses: &[BitRow]) -> Result<Bound, AllocError>
+    requires { AreRows facts clauses.now }
+    ensures { IfOk result (IsBound (clause_in clauses.now)) }
+{
+    let mut bound = Bound {
+        literals: BitRow::new(alloc),
+        opposites: BitRow::new(alloc),
+    };
+    for l in 0..2 * facts {
+        note_bound(&clauses[l as usize], l, &mut bound)?;
+    }
+    Ok(bound)
+}
 
 /// Whether none of a set stands in a row with its opposite.
 fn is_apart(row: &BitRow, set: &BitRow) -> bool
@@ -26,14 +62,44 @@ fn is_apart(row: &BitRow, set: &BitRow) -> bool
     true
 }
 
-/// Whether none of some literals stands in a clause with the opposite of one of a set.
-fn none_follows(clauses: &[BitRow], set: &BitRow, lits: &BitRow) -> bool
+/// Whether none of some literals stands in a clause with the opposite of a literal.
+fn tells_none(clauses: &[BitRow], x: u32, lits: &BitRow) -> bool
+    requires { opposite x < length clauses.now }
+    ensures { OnTrue result ((y : ℕ) → row_has lits.now y ≡ true → clause_in clauses.now (opposite x) y ≡ true → ⊥) }
+{
+    lits.least_common(&clauses[opposite(x) as usize], 0)
+        .is_none()
+}
+
+/// Whether no literal of a set tells one of some literals.
+fn all_tell_none(clauses: &[BitRow], bound: &Bound, set: &BitRow, lits: &BitRow) -> bool
     requires few { length clauses.now ≤ 4096 }
+    requires even { (l : ℕ) → l < length clauses.now → opposite l < length clauses.now }
+    requires either { (l m : ℕ) → clause_in clauses.now l m ≡ clause_in clauses.now m l }
+    requires bound { IsBound (clause_in clauses.now) bound.now }
+    requires set { IsSetOf (length clauses.now) (row_has set.now) }
+    ensures { OnTrue result ((x y : ℕ) → row_has set.now x ≡ true → row_has lits.now y ≡ true → clause_in clauses.now y (opposite x) ≡ true → ⊥) }
+{
+    let mut from = 0;
+    while let Some(x) = set.least_common(&bound.opposites, from) {
+        if !tells_none(clauses, x, lits) {
+            return false;
+        }
+        from = x + 1;
+    }
+    true
+}
+
+/// Whether none of some literals is told by a literal of a set.
+fn none_is_told(clauses: &[BitRow], bound: &Bound, set: &BitRow, lits: &BitRow) -> bool
+    requires few { length clauses.now ≤ 4096 }
+    requires either { (l m : ℕ) → clause_in clauses.now l m ≡ clause_in clauses.now m l }
+    requires bound { IsBound (clause_in clauses.now) bound.now }
     requires lits { IsSetOf (length clauses.now) (row_has lits.now) }
     ensures { OnTrue result ((x y : ℕ) → row_has set.now x ≡ true → row_has lits.now y ≡ true → clause_in clauses.now y (opposite x) ≡ true → ⊥) }
 {
     let mut from = 0;
-    while let Some(y) = lits.least(from) {
+    while let Some(y) = lits.least_common(&bound.literals, from) {
         if !is_apart(&clauses[y as usize], set) {
             return false;
         }
@@ -42,11 +108,47 @@ fn none_follows(clauses: &[BitRow], set: &BitRow, lits: &BitRow) -> bool
     true
 }
 
+/// Whether two sets of numbers below 4,096 have no more in common than two others have.
+fn has_fewer(one: &BitRow, other: &BitRow, third: &BitRow, fourth: &BitRow) -> bool
+    requires one { IsSetOf 4096 (row_has one.now) }
+    requires third { IsSetOf 4096 (row_has third.now) }
+{
+    let mut from = 0;
+    let mut low = 0;
+    while let Some(x) = one.least_common(other, from) {
+        let Some(y) = third.least_common(fourth, low) else {
+            return false;
+        };
+        from = x + 1;
+        low = y + 1;
+    }
+    true
+}
+
+/// Whether none of some literals stands in a clause with the opposite of one of a set. Looks at the fewer of those of the
+/// set that tell something and of the others that stand in a clause.
+fn none_follows(clauses: &[BitRow], bound: &Bound, set: &BitRow, lits: &BitRow) -> bool
+    requires few { length clauses.now ≤ 4096 }
+    requires even { (l : ℕ) → l < length clauses.now → opposite l < length clauses.now }
+    requires either { (l m : ℕ) → clause_in clauses.now l m ≡ clause_in clauses.now m l }
+    requires bound { IsBound (clause_in clauses.now) bound.now }
+    requires set { IsSetOf (length clauses.now) (row_has set.now) }
+    requires lits { IsSetOf (length clauses.now) (row_has lits.now) }
+    ensures { OnTrue result ((x y : ℕ) → row_has set.now x ≡ true → row_has lits.now y ≡ true → clause_in clauses.now y (opposite x) ≡ true → ⊥) }
+{
+    if has_fewer(set, &bound.opposites, lits, &bound.literals) {
+        all_tell_none(clauses, bound, set, lits)
+    } else {
+        none_is_told(clauses, bound, set, lits)
+    }
+}
+
 /// Makes `next`, which has what is known at once, the set of all that follows. Whether it is another than the old set,
 /// which is the same else. `rest` is room for a row.
 fn renew(
     facts: u32,
     clauses: &[BitRow],
+    bound: &Bound,
     asked: &BitRow,
     done: &[BitRow],
     below: u32,
@@ -56,6 +158,7 @@ fn renew(
 ) -> Result<bool, AllocError>
     requires clauses { AreRows facts clauses.now }
     requires either { (l m : ℕ) → clause_in clauses.now l m ≡ clause_in clauses.now m l }
+    requires bound { IsBound (clause_in clauses.now) bound.now }
     requires long { length done.now ≡ 2 * facts }
     requires done { (k : ℕ) → row_has asked.now k ≡ true → k < below → IsClosure (clause_in clauses.now) (λ m. k == m) (row_has (row_at done.now k)) }
     requires within { IsSetOf (2 * facts) (row_has next.old) }
@@ -71,7 +174,7 @@ fn renew(
     if !old.has_pair() {
         rest.make_same(old)?;
         rest.subtract(next);
-        if none_follows(clauses, next, rest) {
+        if none_follows(clauses, bound, next, rest) {
             return Ok(true);
         }
     }
@@ -105,6 +208,7 @@ fn is_untouched(set: &BitRow, stale: &BitRow) -> bool
 fn renew_row(
     facts: u32,
     clauses: &[BitRow],
+    bound: &Bound,
     stale: &BitRow,
     asked: &BitRow,
     rows: &[BitRow],
@@ -114,6 +218,7 @@ fn renew_row(
 ) -> Result<bool, AllocError>
     requires clauses { AreRows facts clauses.now }
     requires either { (l m : ℕ) → clause_in clauses.now l m ≡ clause_in clauses.now m l }
+    requires bound { IsBound (clause_in clauses.now) bound.now }
     requires x { x < 2 * facts }
     requires long { length rows.now ≡ 2 * facts }
     requires done { (k : ℕ) → row_has asked.now k ≡ true → k < x → IsClosure (clause_in clauses.now) (λ m. k == m) (row_has (row_at rows.now k)) }
@@ -125,7 +230,7 @@ fn renew_row(
         return Ok(false);
     }
     fill_first(clauses, x, next)?;
-    let anew = renew(facts, clauses, asked, rows, x, old, next, rest)?;
+    let anew = renew(facts, clauses, bound, asked, rows, x, old, next, rest)?;
     Ok(anew)
 }
 
@@ -144,6 +249,7 @@ fn set_row(rows: &mut Vec<BitRow>, x: u32, row: &BitRow) -> Result<(), AllocErro
 fn renew_at(
     facts: u32,
     clauses: &[BitRow],
+    bound: &Bound,
     stale: &BitRow,
     asked: &BitRow,
     rows: &mut Vec<BitRow>,
@@ -154,6 +260,7 @@ fn renew_at(
 ) -> Result<(), AllocError>
     requires clauses { AreRows facts clauses.now }
     requires either { (l m : ℕ) → clause_in clauses.now l m ≡ clause_in clauses.now m l }
+    requires bound { IsBound (clause_in clauses.now) bound.now }
     requires x { x < 2 * facts }
     requires long { length rows.old.items ≡ 2 * facts }
     requires done { (k : ℕ) → row_has asked.now k ≡ true → k < x → IsClosure (clause_in clauses.now) (λ m. k == m) (row_has (row_at rows.old.items k)) }
@@ -164,7 +271,17 @@ fn renew_at(
     ensures more { OnOk result ((k : ℕ) → row_has moved.new k ≡ false → row_has moved.old k ≡ false) }
     ensures same { OnOk result (row_has moved.new x ≡ false → row_at rows.new.items x ≡ row_at rows.old.items x) }
 {
-    if renew_row(facts, clauses, stale, asked, rows.as_slice(), x, next, rest)? {
+    if renew_row(
+        facts,
+        clauses,
+        bound,
+        stale,
+        asked,
+        rows.as_slice(),
+        x,
+        next,
+        rest,
+    )? {
         set_row(rows, x, next)?;
         moved.insert(x)?;
     }
@@ -176,12 +293,14 @@ pub fn renew_rows(
     alloc: Global,
     facts: u32,
     clauses: &[BitRow],
+    bound: &Bound,
     stale: &BitRow,
     asked: &BitRow,
     rows: &mut Vec<BitRow>,
 ) -> Result<BitRow, AllocError>
     requires clauses { AreRows facts clauses.now }
     requires either { (l m : ℕ) → clause_in clauses.now l m ≡ clause_in clauses.now m l }
+    requires bound { IsBound (clause_in clauses.now) bound.now }
     requires asked { IsSetOf (2 * facts) (row_has asked.now) }
     requires long { length rows.old.items ≡ 2 * facts }
     requires were { (k : ℕ) → row_has asked.now k ≡ true → WasTold (clause_in clauses.now) (row_has stale.now) (2 * facts) k (row_has (row_at rows.old.items k)) }
@@ -196,7 +315,7 @@ pub fn renew_rows(
     let mut from = 0;
     while let Some(x) = asked.least(from) {
         renew_at(
-            facts, clauses, stale, asked, rows, x, &mut next, &mut rest, &mut moved,
+            facts, clauses, bound, stale, asked, rows, x, &mut next, &mut rest, &mut moved,
         )?;
         from = x + 1;
     }
@@ -233,12 +352,14 @@ pub fn renew_none(
     alloc: Global,
     facts: u32,
     clauses: &[BitRow],
+    bound: &Bound,
     asked: &BitRow,
     rows: &[BitRow],
     none: &mut BitRow,
 ) -> Result<BitRow, AllocError>
     requires clauses { AreRows facts clauses.now }
     requires either { (l m : ℕ) → clause_in clauses.now l m ≡ clause_in clauses.now m l }
+    requires bound { IsBound (clause_in clauses.now) bound.now }
     requires long { length rows.now ≡ 2 * facts }
     requires done { (k : ℕ) → row_has asked.now k ≡ true → k < 2 * facts → IsClosure (clause_in clauses.now) (λ m. k == m) (row_has (row_at rows.now k)) }
     requires was { WasClosed (clause_in clauses.now) (2 * facts) (λ l. clause_in clauses.now l l) (row_has none.old) }
@@ -250,6 +371,7 @@ pub fn renew_none(
     if !renew(
         facts,
         clauses,
+        bound,
         asked,
         rows,
         2 * facts,

@@ -10,6 +10,8 @@ ghost use Rattle.watch_lists.specs.Given.{AreGiven};
 use crate::pending::no_pending;
 use crate::slots::{begin_block, blocks_of};
 use crate::visit::Lists;
+use clause_base::clause_list::ClauseList;
+use clause_base::formula::Formula;
 use clause_base::memory::Memory;
 use number_bits::first::First;
 use number_bits::flat::Flat;
@@ -27,17 +29,27 @@ pub struct Given {
     pub lists: Lists,
 }
 
-/// How many of so many clauses have more than two literals.
-fn count_longs(store: &Store, count: u32) -> usize
-    requires { count ≤ length store.now }
-{
+/// How many clauses of a list have more than two literals.
+fn longs_of(list: &ClauseList) -> usize {
     let mut longs: usize = 0;
-    for number in 0..count {
-        if store.clause(number).len() > 2 {
+    for number in 0..list.count() {
+        if list.clause(number).len() > 2 {
             longs = longs.saturating_add(1);
         }
     }
     longs
+}
+
+/// How many clauses of a formula have more than two literals, counted once for all steps and once for all times.
+pub fn count_longs(formula: &Formula) -> usize {
+    let parts = formula.parts();
+    let steps = parts.repeated.horizon() as usize;
+    let step = longs_of(parts.repeated.step());
+    let time = longs_of(parts.repeated.time());
+    longs_of(parts.told)
+        .saturating_add(longs_of(parts.after))
+        .saturating_add(steps.saturating_mul(step))
+        .saturating_add((steps + 1).saturating_mul(time))
 }
 
 impl Given {
@@ -93,15 +105,20 @@ impl Given {
         Ok(())
     }
 
-    /// The tables of the clauses of a store, of which there are so many.
-    pub fn new(alloc: Global, store: &Store, count: u32, codes: u32) -> Result<Given, Memory>
+    /// The tables of the clauses of a store, of which there are so many, with room for so many of more than two literals.
+    pub fn new(
+        alloc: Global,
+        store: &Store,
+        count: u32,
+        longs: usize,
+        codes: u32,
+    ) -> Result<Given, Memory>
         requires fit { IsFit store.now codes }
         requires count { count ≡ length store.now }
         requires few { count ≤ 1073741824 }
         requires codes { codes ≤ 4294967294 }
         ensures { IfOk result (λ g. AreGiven codes store.now count g.slots.items g.lists.watched.items g.lists.chains.heads.items g.lists.chains.nodes.items g.lists.pending g.lists.asks.items) }
     {
-        let longs = count_longs(store, count);
         let mut given = Given::empty(alloc, count, longs, codes)?;
         for number in 0..count {
             given.enter(store, number, codes)?;

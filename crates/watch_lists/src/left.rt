@@ -1,6 +1,6 @@
 //! What a pending clause leaves: its only literal that is not false. A clause of more than two literals asks by its slot for the one
 //! literal beside those that are false; one of fewer is read.
-ghost use Rattle.std.specs.Prelude.{◌≡◌, ℕ, ◌*◌, ◌<◌, ◌≤◌, ◌∷◌, [], Bool, true, false, length, slice_index, MatchOption, IfSome};
+ghost use Rattle.std.specs.Prelude.{◌≡◌, ℕ, ◌*◌, ◌<◌, ◌≤◌, ◌∷◌, [], List, Bool, true, false, length, slice_index, MatchOption, IfSome};
 ghost use Rattle.clause_base.specs.Clause.{has_literal};
 ghost use Rattle.cdcl_rules.specs.Pending.{open_ones, is_pending};
 ghost use Rattle.cdcl_rules.specs.State.{clause_at};
@@ -18,20 +18,19 @@ use watch_store::truth::Truth;
 /// A clause with no more literals than these is read.
 const READ: usize = 2;
 
-/// What the slot of the clause with a number asks for, if it has more than two literals and its slot is found.
+/// What the slot of the clause with a number and so many literals asks for, if these are more than two and its slot is found.
 fn asked_by_slot(
-    store: &Store,
+    count: usize,
     slots: &[u32],
     blocks: &[u32],
     asks: &[u32],
     number: u32,
 ) -> Option<u32>
-    requires inside { number < length store.now }
     requires few { length slots.now ≤ 4294967295 }
     requires long { length slots.now ≤ length asks.now }
-    ensures { (on : ℕ → Bool) → IsAskedAt store.now slots.now on asks.now number → IfSome result (λ ask. IsAsked on (clause_at store.now number) ask) }
+    ensures { (on : ℕ → Bool) (clauses : List (List ℕ)) → length (clause_at clauses number) ≡ count → IsAskedAt clauses slots.now on asks.now number → IfSome result (λ ask. IsAsked on (clause_at clauses number) ask) }
 {
-    if store.clause(number).len() <= READ {
+    if count <= READ {
         return None;
     }
     match find_slot(slots, blocks, number) {
@@ -81,9 +80,10 @@ pub fn left_of(
     requires asked { IsAskedAt store.now slots.now (has_literal truth.now.trail) asks.now number }
     ensures { MatchOption result (open_ones (has_literal truth.now.trail) (clause_at store.now number) ≡ []) (λ lit. open_ones (has_literal truth.now.trail) (clause_at store.now number) ≡ lit ∷ []) }
 {
-    match asked_by_slot(store, slots, blocks, asks, number) {
+    let clause = store.clause(number);
+    match asked_by_slot(clause.len(), slots, blocks, asks, number) {
         Some(ask) => left_asked(truth, ask),
-        None => left_in(truth, &store.clause(number)),
+        None => left_in(truth, &clause),
     }
 }
 
@@ -104,8 +104,9 @@ pub fn is_left(
     requires asked { IsAskedAt store.now slots.now (has_literal truth.now.trail) asks.now number }
     ensures { result ≡ is_pending (has_literal truth.now.trail) (clause_at store.now number) }
 {
-    match asked_by_slot(store, slots, blocks, asks, number) {
+    let clause = store.clause(number);
+    match asked_by_slot(clause.len(), slots, blocks, asks, number) {
         Some(ask) => !truth.is_true(ask),
-        None => is_pending(truth, &store.clause(number)),
+        None => is_pending(truth, &clause),
     }
 }

@@ -9,7 +9,7 @@ ghost use Rattle.watch_lists.specs.Pending.{WatchesView};
 ghost use Rattle.watch_lists.specs.Visit.{Grows};
 
 use crate::front::{ask_all, clean, clear, rescan};
-use crate::given::Given;
+use crate::given::{Given, count_longs};
 use crate::left::left_of;
 use crate::marks::mark_pairs;
 use crate::pending::{Pending, no_pending};
@@ -118,7 +118,8 @@ impl Watches {
         let truth = Truth::new(alloc, variables)?;
         let pairs = PairIndex::new(alloc, formula)?;
         let quiet = no_quiet(alloc, variables)?;
-        let given = Given::new(alloc, &store, count, 2 * variables)?;
+        let longs = count_longs(formula);
+        let given = Given::new(alloc, &store, count, longs, 2 * variables)?;
         Ok(Watches {
             variables,
             store,

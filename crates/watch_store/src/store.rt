@@ -52,7 +52,7 @@ impl Store {
     }
 
     /// The literals of a clause.
-    #[inline]
+    #[inline(always)]
     pub fn clause(&self, number: u32) -> View<'_>
         requires { number < length self.now }
         ensures { result ≡ slice_index_or self.now number [] }

@@ -4,7 +4,7 @@ use Rattle.race_end.specs.Ends.{end_view}
 use Rattle.plan_report.specs.Report.{report_of}
 use Rattle.plan_top.specs.declared.ending.Outcome.{Outcome}
 use Rattle.plan_top.specs.declared.ending.Ending.TheVariants.{Report}
-use Rattle.plan_top.specs.Stepping.{Exists, places_by, is_plan_by}
+use Rattle.plan_top.specs.Stepping.{places_by, is_plan_by}
 use Rattle.plan_top.specs.Tasks.{grounded}
 use Rattle.plan_top.specs.Raced.{ComesTo, ended, outcome_of}
 use Rattle.plan_top.specs.Causes.{TellsRace, AnswersPlan}
@@ -13,17 +13,17 @@ use Rattle.plan_top.proofs.answer.answer_plan.Goals as goal
 
 pub returns-in_err-ready : goal.returns-in_err-ready
 returns-in_err-ready g c =
-    stop_handed c.args.domain.now c.args.problem.now (AnswersPlan Exists c.args.settings.now) c.in_err-ready.field-0.0 c.from_residual.result c.from_residual.ensures.1 c.in_err-ready.ensures.stops
+    stop_handed c.args.domain.now c.args.problem.now (AnswersPlan c.args.steps c.args.settings.now) c.in_err-ready.field-0.0 c.from_residual.result c.from_residual.ensures.1 c.in_err-ready.ensures.stops
 
 pub returns-in_err-end : goal.returns-in_err-end
 returns-in_err-end g c =
-    race_handed (places_by Exists) (is_plan_by Exists) c.args.domain.now c.args.problem.now c.in_ok-ready.ready.task c.in_ok-ready.ready.grounded c.in_ok-ready.ensures.task c.in_ok-ready.ensures.ready c.args.settings.now
+    race_handed (places_by c.args.steps) (is_plan_by c.args.steps) c.args.domain.now c.args.problem.now c.in_ok-ready.ready.task c.in_ok-ready.ready.grounded c.in_ok-ready.ensures.task c.in_ok-ready.ensures.ready c.args.settings.now
     (TellsRace c.args.settings.now) c.in_err-end.field-0.0 c.from_residual-in_err-end.result c.from_residual-in_err-end.ensures.1 (rw c.task.ensures at c.in_err-end.ensures.stops)
 
 pub report_text-requires-clause-actions : goal.report_text-requires-clause-actions
 report_text-requires-clause-actions g c =
     let ready = c.in_ok-ready.ready in
-    let comes = subst (λ (t : Task). ComesTo (places_by Exists) (is_plan_by Exists) t c.args.settings.now c.in_ok-end.end) c.task.ensures c.in_ok-end.ensures.ended in
+    let comes = subst (λ (t : Task). ComesTo (places_by c.args.steps) (is_plan_by c.args.steps) t c.args.settings.now c.in_ok-end.end) c.task.ensures c.in_ok-end.ensures.ended in
     actions_below ready.task ready.grounded c.in_ok-ready.ensures.ready.grounded c.in_ok-end.end comes.members
 
 pub returns : goal.returns
@@ -31,7 +31,7 @@ returns g c =
     let settings = c.args.settings.now in
     let ready = c.in_ok-ready.ready in
     let end = c.in_ok-end.end in
-    let comes = subst (λ (t : Task). ComesTo (places_by Exists) (is_plan_by Exists) t settings end) c.task.ensures c.in_ok-end.ensures.ended in
+    let comes = subst (λ (t : Task). ComesTo (places_by c.args.steps) (is_plan_by c.args.steps) t settings end) c.task.ensures c.in_ok-end.ensures.ended in
     let text : c.of.result ≡ report_of ready.task ready.grounded settings.budget (end_view end) = c.of.ensures ∙ c.into_vec.ensures ∙ c.in_ok-text.ensures.text in
     grounded ready.task ready.grounded c.in_ok-ready.ensures.task c.in_ok-ready.ensures.ready
     (ended end comes (record { small = c.in_ok-text.ensures.small; told = ap (λ (o : Outcome). Report o c.of.result) c.outcome.ensures ∙ ap (Report (outcome_of (end_view end))) text }))

@@ -1,7 +1,7 @@
 use Rattle.std.proofs.Common.{◌≡◌, ℕ, List, sym, length, Some, None, arith}
 use Rattle.std.specs.Prelude.{slice_get}
 use Rattle.plan_words.specs.Seen.{seen, files_of}
-use Rattle.plan_top.specs.Files.{StopsFrom, IsTaken}
+use Rattle.plan_top.specs.Files.{StopsFrom, IsTaken, file_at}
 use Rattle.plan_top.proofs.Stopped.{Stops-handed}
 use Rattle.plan_top.proofs.Taking.{noted_at_last, noted_so_far, stops_here, one_more, all_taken}
 use Rattle.plan_top.proofs.take.take_files.Goals as goal
@@ -13,7 +13,7 @@ name_at names n m name e h = rw e at (sym h)
 pub returns-in_err-bytes-clause-noted : goal.returns-in_err-bytes-clause-noted
 returns-in_err-bytes-clause-noted g c =
     let names = files_of (seen c.args.request.now) in
-    noted_at_last (g.S.Shelf.told c.args.shelf.now) (g.S.Shelf.lacks c.args.shelf.now) names (g.S.Shelf.failed c.args.shelf.now) (g.S.Shelf.failed c.taking.shelf) (g.S.Shelf.failed c.take_file.new.shelf) c.taking.files.items c.in-Some.name.now c.taking.invariant.so
+    noted_at_last (g.S.Shelf.told c.args.shelf.now) (g.S.Shelf.lacks c.args.shelf.now) (file_at (seen c.args.request.now)) names (g.S.Shelf.failed c.args.shelf.now) (g.S.Shelf.failed c.taking.shelf) (g.S.Shelf.failed c.take_file.new.shelf) c.taking.files.items c.in-Some.name.now c.taking.invariant.so
     (name_at names c.len.result (length c.taking.files.items) c.in-Some.name.now (omega (arith, c.taking.files.ok)) c.in-Some.ensures) c.in_err-bytes.ensures.notes
 
 pub returns-in_err-bytes-clause-stops : goal.returns-in_err-bytes-clause-stops
@@ -27,29 +27,30 @@ returns-in_err-bytes-clause-stops g c =
     let at = name_at names c.len.result (length c.taking.files.items) c.in-Some.name.now (omega (arith, c.taking.files.ok)) c.in-Some.ensures in
     let same : c.len-in-Some.result ≡ length c.taking.files.items = omega (arith, c.taking.files.ok) in
     let stops = rw (c.taking.invariant.told, c.taking.invariant.lacks, c.file_of.ensures, same) at c.in_err-bytes.ensures.stops in
-    Stops-handed _ (StopsFrom told lacks old next 0 names)
-    (stops_here told lacks names old now next c.taking.files.items c.in-Some.name.now c.taking.invariant.so at c.in_err-bytes.ensures.notes)
+    Stops-handed _ (StopsFrom told lacks old next (file_at (seen c.args.request.now)) 0 names)
+    (stops_here told lacks (file_at (seen c.args.request.now)) names old now next c.taking.files.items c.in-Some.name.now c.taking.invariant.so at c.in_err-bytes.ensures.notes)
     c.in_err-bytes.field-0.0 c.from_residual.result c.from_residual.ensures.1 stops
 
 pub taking-preserved : goal.taking-preserved
 taking-preserved g c =
     let names = files_of (seen c.args.request.now) in
     let at = name_at names c.len.result (length c.taking.files.items) c.in-Some.name.now (omega (arith, c.taking.files.ok)) c.in-Some.ensures in
-    let is : IsTaken (g.S.Shelf.told c.args.shelf.now) (g.S.Shelf.lacks c.args.shelf.now) c.in-Some.name.now c.in_ok-bytes.bytes.items = record {
+    let same : c.len-in-Some.result ≡ length c.taking.files.items = omega (arith, c.taking.files.ok) in
+    let is : IsTaken (g.S.Shelf.told c.args.shelf.now) (g.S.Shelf.lacks c.args.shelf.now) (file_at (seen c.args.request.now) (length c.taking.files.items)) c.in-Some.name.now c.in_ok-bytes.bytes.items = record {
       there = rw c.taking.invariant.lacks at c.in_ok-bytes.ensures.there;
       whole = rw c.taking.invariant.told at c.in_ok-bytes.ensures.whole;
-      fits = c.in_ok-bytes.ensures.fits;
+      fits = rw (c.file_of.ensures, same) at c.in_ok-bytes.ensures.fits;
     } in
     record {
       told = cc (c.in_ok-bytes.ensures.told, c.taking.invariant.told);
       lacks = cc (c.in_ok-bytes.ensures.lacks, c.taking.invariant.lacks);
-      so = rw c.in_ok-keep.ensures (one_more (g.S.Shelf.told c.args.shelf.now) (g.S.Shelf.lacks c.args.shelf.now) names (g.S.Shelf.failed c.args.shelf.now) (g.S.Shelf.failed c.taking.shelf)
+      so = rw c.in_ok-keep.ensures (one_more (g.S.Shelf.told c.args.shelf.now) (g.S.Shelf.lacks c.args.shelf.now) (file_at (seen c.args.request.now)) names (g.S.Shelf.failed c.args.shelf.now) (g.S.Shelf.failed c.taking.shelf)
           (g.S.Shelf.failed c.take_file.new.shelf) c.taking.files.items c.in-Some.name.now c.taking.invariant.so at c.in_ok-bytes.ensures.notes c.in_ok-bytes.bytes.items is);
     }
 
 pub returns-clause-noted : goal.returns-clause-noted
 returns-clause-noted g c =
-    noted_so_far (g.S.Shelf.told c.args.shelf.now) (g.S.Shelf.lacks c.args.shelf.now) (files_of (seen c.args.request.now)) (g.S.Shelf.failed c.args.shelf.now) (g.S.Shelf.failed c.taking.shelf)
+    noted_so_far (g.S.Shelf.told c.args.shelf.now) (g.S.Shelf.lacks c.args.shelf.now) (file_at (seen c.args.request.now)) (files_of (seen c.args.request.now)) (g.S.Shelf.failed c.args.shelf.now) (g.S.Shelf.failed c.taking.shelf)
     c.taking.files.items c.taking.invariant.so
 
 pub returns-clause-taken : goal.returns-clause-taken
@@ -57,10 +58,10 @@ returns-clause-taken g c =
     let names = files_of (seen c.args.request.now) in
     let place : c.len.result ≡ length c.taking.files.items = omega (arith, c.taking.files.ok) in
     let none : slice_get names (length c.taking.files.items) ≡ None = rw place at (sym c.in_default.ensures) in
-    all_taken (g.S.Shelf.told c.args.shelf.now) (g.S.Shelf.lacks c.args.shelf.now) names (g.S.Shelf.failed c.args.shelf.now) (g.S.Shelf.failed c.taking.shelf) c.taking.files.items c.taking.invariant.so none
+    all_taken (g.S.Shelf.told c.args.shelf.now) (g.S.Shelf.lacks c.args.shelf.now) (file_at (seen c.args.request.now)) names (g.S.Shelf.failed c.args.shelf.now) (g.S.Shelf.failed c.taking.shelf) c.taking.files.items c.taking.invariant.so none
 
 pub returns-in_err-keep-clause-noted : goal.returns-in_err-keep-clause-noted
 returns-in_err-keep-clause-noted g c =
     let names = files_of (seen c.args.request.now) in
-    noted_at_last (g.S.Shelf.told c.args.shelf.now) (g.S.Shelf.lacks c.args.shelf.now) names (g.S.Shelf.failed c.args.shelf.now) (g.S.Shelf.failed c.taking.shelf) (g.S.Shelf.failed c.take_file.new.shelf) c.taking.files.items c.in-Some.name.now c.taking.invariant.so
+    noted_at_last (g.S.Shelf.told c.args.shelf.now) (g.S.Shelf.lacks c.args.shelf.now) (file_at (seen c.args.request.now)) names (g.S.Shelf.failed c.args.shelf.now) (g.S.Shelf.failed c.taking.shelf) (g.S.Shelf.failed c.take_file.new.shelf) c.taking.files.items c.in-Some.name.now c.taking.invariant.so
     (name_at names c.len.result (length c.taking.files.items) c.in-Some.name.now (omega (arith, c.taking.files.ok)) c.in-Some.ensures) c.in_ok-bytes.ensures.notes

@@ -1,5 +1,6 @@
 use Rattle.std.proofs.Common.{◌≡◌, ◌-◌, length}
 use Rattle.plan_words.specs.Seen.{seen, files_of}
+use Rattle.plan_top.specs.Files.{file_at}
 use Rattle.plan_top.proofs.Taking.{TakenSoFar}
 use Rattle.plan_top.proofs.take.take_files.Given as goal
 
@@ -7,7 +8,7 @@ abbrev pub invariant-taking : goal.invariant-taking
 invariant-taking g l = record {
   told : g.S.Shelf.told l.shelf ≡ g.S.Shelf.told l.fn.shelf;
   lacks : g.S.Shelf.lacks l.shelf ≡ g.S.Shelf.lacks l.fn.shelf;
-  so : TakenSoFar (g.S.Shelf.told l.fn.shelf) (g.S.Shelf.lacks l.fn.shelf) (files_of (seen l.request)) (g.S.Shelf.failed l.fn.shelf) (g.S.Shelf.failed l.shelf) l.files.items;
+  so : TakenSoFar (g.S.Shelf.told l.fn.shelf) (g.S.Shelf.lacks l.fn.shelf) (file_at (seen l.request)) (files_of (seen l.request)) (g.S.Shelf.failed l.fn.shelf) (g.S.Shelf.failed l.shelf) l.files.items;
 }
 
 abbrev pub decreases-taking : goal.decreases-taking

@@ -1,5 +1,5 @@
 use Rattle.std.proofs.Common.{ap, refl, arith}
-use Rattle.plan_top.proofs.Promises.{plan_runs, refuted_steps, refuted_plans, least, unfinished, lines, ground_told, order_told, reached, read_fault, usage, not_taken, no_command, same_report, complete}
+use Rattle.plan_top.proofs.Promises.{plan_runs, refuted_steps, refuted_plans, least, unfinished, lines, ground_told, order_told, reached, read_fault, usage, not_taken, no_command, same_report, complete, certified, verified, accepted, rejected}
 use Rattle.plan_top.proofs.top.run.Goals as goal
 
 pub returns-clause-plan_runs : goal.returns-clause-plan_runs
@@ -45,7 +45,19 @@ pub returns-clause-same_report : goal.returns-clause-same_report
 returns-clause-same_report g c = same_report (g.S.Shelf.told c.args.shelf.now) (g.S.Shelf.lacks c.args.shelf.now) (g.S.Shelf.failed c.args.shelf.now) (g.S.Shelf.failed c.answered.new.shelf) _ (g.K.Sink.taken c.args.sink.now) (g.K.Sink.taken c.answered.new.sink) _ c.laws.ensures c.answered.ensures.due
 
 pub returns-clause-complete : goal.returns-clause-complete
-returns-clause-complete g c well quiet = complete (g.S.Shelf.told c.args.shelf.now) (g.S.Shelf.lacks c.args.shelf.now) (g.S.Shelf.failed c.args.shelf.now) (g.S.Shelf.failed c.answered.new.shelf) _ (g.K.Sink.taken c.args.sink.now) (g.K.Sink.taken c.answered.new.sink) _ c.answered.ensures.due (λ six. quiet (c.answered.ensures.write_fault six)) well
+returns-clause-complete g c well quiet = complete (g.S.Shelf.told c.args.shelf.now) (g.S.Shelf.lacks c.args.shelf.now) (g.S.Shelf.failed c.args.shelf.now) (g.S.Shelf.failed c.answered.new.shelf) _ (g.K.Sink.taken c.args.sink.now) (g.K.Sink.taken c.answered.new.sink) _ c.laws.ensures c.answered.ensures.due (λ six. quiet (c.answered.ensures.write_fault six)) well
 
 pub returns-clause-front : goal.returns-clause-front
 returns-clause-front g c six = let f = c.answered.ensures.front (λ eight. absurd (omega (arith, six, eight))) in (f.0, f.1, f.3)
+
+pub returns-clause-certified : goal.returns-clause-certified
+returns-clause-certified g c = certified (g.S.Shelf.told c.args.shelf.now) (g.S.Shelf.lacks c.args.shelf.now) (g.S.Shelf.failed c.args.shelf.now) (g.S.Shelf.failed c.answered.new.shelf) _ (g.K.Sink.taken c.args.sink.now) (g.K.Sink.taken c.answered.new.sink) _ c.laws.ensures c.answered.ensures.due
+
+pub returns-clause-verified : goal.returns-clause-verified
+returns-clause-verified g c = verified (g.S.Shelf.told c.args.shelf.now) (g.S.Shelf.lacks c.args.shelf.now) (g.S.Shelf.failed c.args.shelf.now) (g.S.Shelf.failed c.answered.new.shelf) _ (g.K.Sink.taken c.args.sink.now) (g.K.Sink.taken c.answered.new.sink) _ c.laws.ensures c.answered.ensures.due
+
+pub returns-clause-accepted : goal.returns-clause-accepted
+returns-clause-accepted g c = accepted (g.S.Shelf.told c.args.shelf.now) (g.S.Shelf.lacks c.args.shelf.now) (g.S.Shelf.failed c.args.shelf.now) (g.S.Shelf.failed c.answered.new.shelf) _ (g.K.Sink.taken c.args.sink.now) (g.K.Sink.taken c.answered.new.sink) _ c.laws.ensures c.answered.ensures.due
+
+pub returns-clause-rejected : goal.returns-clause-rejected
+returns-clause-rejected g c = rejected (g.S.Shelf.told c.args.shelf.now) (g.S.Shelf.lacks c.args.shelf.now) (g.S.Shelf.failed c.args.shelf.now) (g.S.Shelf.failed c.answered.new.shelf) _ (g.K.Sink.taken c.args.sink.now) (g.K.Sink.taken c.answered.new.sink) _ c.laws.ensures c.answered.ensures.due

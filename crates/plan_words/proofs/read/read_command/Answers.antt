@@ -1,4 +1,5 @@
-use Rattle.std.proofs.Common.{sym, subst, map, string_bytes}
+use Rattle.std.proofs.Common.{sym, subst, map, string_bytes, option_map}
+use Rattle.std.proofs.lemmas.Result.{IfOk-weaker}
 use Rattle.clap.specs.Words.{App, app_of, found_of, rows_of}
 use Rattle.clap_words.specs.Fit.{IsFit}
 use Rattle.clap_words.specs.Passed.{Passed}
@@ -20,8 +21,8 @@ returns-in-Ok-Some-clause-request c =
     let rows = rows_of (found_of c.in-Ok-Some.matches) in
     let taken = rw c.in-Ok-Some.field-0-is at c.in-Ok-Some.ensures.taken in
     let found = rw c.in-Ok-Some.field-0-is at c.in-Ok-Some.ensures.rows in
-    asked c.lists_of_words-by.result c.lists_of_words-by.ensures c.args.name (map string_bytes c.args.words.now) (app_of c.in-Ok.command) rows (seen c.request_in.result)
-    c.in-Ok.ensures taken found c.request_in.ensures.value
+    IfOk-weaker c.request_in.result _ _ (λ o value. asked c.lists_of_words-by.result c.lists_of_words-by.ensures c.args.name (map string_bytes c.args.words.now) (app_of c.in-Ok.command) rows (option_map seen o)
+    c.in-Ok.ensures taken found value) c.request_in.ensures.value
 
 pub returns-in-Ok-None-clause-request : goal.returns-in-Ok-None-clause-request
 returns-in-Ok-None-clause-request c =

@@ -1,4 +1,4 @@
-use Rattle.std.proofs.Common.{◌≡◌, ◌∙◌, ◌*◌, ◌⊎◌, inl, inr, ap, subst, not, true, false, ℕ, List}
+use Rattle.std.proofs.Common.{◌≡◌, ◌∙◌, ◌*◌, inl, inr, ap, subst, true, ℕ, List}
 use Rattle.bit_rows.specs.Bits.{row_has}
 use Rattle.gt_core.proofs.Basics.{cases}
 use Rattle.two_invariants.specs.Rows.{clause_in}

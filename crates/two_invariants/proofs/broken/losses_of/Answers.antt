@@ -1,15 +1,18 @@
-use Rattle.std.proofs.Common.{◌≡◌, ◌∙◌, ◌*◌, ◌&&◌, ap, sym, subst, refl, true, false, Bool, ℕ, List}
-use Rattle.std.specs.List.{AllByRecursion}
+use Rattle.std.proofs.Common.{◌≡◌, ◌∙◌, ◌*◌, ◌<◌, ◌==◌, ◌&&◌, ap, sym, subst, refl, true, false, not, length, Bool, ℕ, List}
+use Rattle.std.specs.List.{AllByRecursion, list_all}
 use Rattle.bit_rows.specs.Bits.{row_has, IsPairAcross}
 use Rattle.gt_core.specs.Literal.{opposite}
 use Rattle.gt_core.specs.Task.{Effect}
 use Rattle.two_invariants.specs.Rows.{clause_in}
-use Rattle.two_invariants.specs.Tested.{EffectFits, AreLossesOf, with_more, breaks_by}
+use Rattle.two_invariants.specs.Tested.{EffectFits, AreLossesOf, with_more, has_no_pair, breaks_by}
+use Rattle.two_invariants.specs.Plain.{breaks_plainly}
 use Rattle.two_invariants.specs.declared.broken.Loss.{Loss}
 use Rattle.two_invariants.specs.Groups.{effect_with, group_with, breaks_under, GroupFits}
 use Rattle.two_invariants.specs.declared.groups.Group.{Group}
 use Rattle.two_invariants.proofs.Contradicted.{breaks_nothing}
 use Rattle.two_invariants.proofs.Steps.{more_within}
+use Rattle.two_invariants.proofs.Exact.{pair_test_is}
+use Rattle.two_invariants.proofs.PlainEffects.{breaks_the_same}
 use Rattle.two_invariants.proofs.broken.losses_of.Goals as goal
 
 pub group_losses-requires-clause-set : goal.group_losses-requires-clause-set
@@ -20,7 +23,7 @@ group_losses-requires-clause-set c m t =
 pub group_losses-requires-clause-groups : goal.group_losses-requires-clause-groups
 group_losses-requires-clause-groups c =
     subst (λ (gs : List Group). AllByRecursion (GroupFits (2 * c.args.facts)) gs) (sym c.as_slice.ensures.value)
-    (c.in_ok-groups.ensures.fit (2 * c.args.facts) (subst (λ (es : List Effect). AllByRecursion (EffectFits (2 * c.args.facts)) es) (sym c.effects.ensures) c.requires.act.effects))
+    (c.in_ok-groups.ensures.fit (2 * c.args.facts) (subst (λ (es : List Effect). AllByRecursion (EffectFits (2 * c.args.facts)) es) (sym c.effects-effects.ensures) c.requires.act.effects))
 
 pub returns-then-has_pair : goal.returns-then-has_pair
 returns-then-has_pair c =
@@ -45,8 +48,29 @@ returns c =
     let none = row_has c.args.known.now.none in
     let value = c.as_slice-rows.ensures.value in
     let set : row_has c.in_ok-set.set ≡ with_more c.args.known.now.rows.items none c.args.act.now.precondition = (λ i m. c.in_ok-set.ensures m i) ∙ (λ i. with_more (value i) none (c.pre.ensures i)) in
-    let has : group_with c.as_slice.result.now ≡ effect_with c.args.act.now.effects = (λ i. group_with (c.as_slice.ensures.value i)) ∙ (λ i l test. c.in_ok-groups.ensures.same l test i) ∙ (λ i. effect_with (c.effects.ensures i)) in
+    let has : group_with c.as_slice.result.now ≡ effect_with c.args.act.now.effects = (λ i. group_with (c.as_slice.ensures.value i)) ∙ (λ i l test. c.in_ok-groups.ensures.same l test i) ∙ (λ i. effect_with (c.effects-effects.ensures i)) in
     record {
       lost = λ l m. c.in_ok-losses.ensures.lost l m ∙ (λ i. clause_in c.args.clauses.now l m && has i (opposite l) (breaks_under c.args.facts (value i) (has i) (set i) l m));
       each = c.in_ok-losses.ensures.each;
+    }
+
+pub returns-then-are_plain : goal.returns-then-are_plain
+returns-then-are_plain c =
+    let facts = c.args.facts in
+    let known = c.args.known.now in
+    let x = c.args.act.now in
+    let rows = known.rows.items in
+    let none = row_has known.none in
+    let value = c.as_slice-rows.ensures.value in
+    let set : row_has c.in_ok-set.set ≡ with_more rows none x.precondition = (λ i m. c.in_ok-set.ensures m i) ∙ (λ i. with_more (value i) none (c.pre.ensures i)) in
+    let within : (k : ℕ) → row_has c.in_ok-set.set k ≡ true → k < 2 * facts = λ k t. more_within (2 * facts) rows none x.precondition c.requires.rows c.requires.none k (sym (λ i. set i k) ∙ t) in
+    let free : has_no_pair facts (with_more rows none x.precondition) ≡ true =
+    ap (has_no_pair facts) (sym set) ∙ sym (pair_test_is facts (row_has c.in_ok-set.set) c.has_pair.result within c.has_pair.ensures) ∙ ap not c.if-has_pair.false in
+    let plain : list_all (λ (e : Effect). length e.condition == 0) x.effects ≡ true = ap (list_all (λ (e : Effect). length e.condition == 0)) (sym c.effects-effects.ensures) ∙ sym c.are_plain.ensures ∙ c.if-are_plain.true in
+    record {
+      lost = λ l m.
+          c.in_ok-plain.ensures.lost l m
+          ∙ (λ i. clause_in c.args.clauses.now l m && breaks_plainly (set i) (c.effects-effects.ensures i) l m)
+          ∙ ap (λ (b : Bool). clause_in c.args.clauses.now l m && b) (breaks_the_same facts rows (with_more rows none x.precondition) x.effects plain free l m);
+      each = c.in_ok-plain.ensures.each;
     }

@@ -1,4 +1,4 @@
-use Rattle.std.proofs.Common.{◌≡◌, ◌∙◌, ◌*◌, ap, sym, not, ◌&&◌, ◌||◌, Bool, ℕ}
+use Rattle.std.proofs.Common.{arith, ◌≡◌, ◌∙◌, ◌*◌, ◌<◌, ◌⊎◌, inl, inr, ap, sym, not, true, length, ◌&&◌, ◌||◌, Bool, ℕ}
 use Rattle.std.specs.List.{list_all}
 use Rattle.bit_rows.specs.Bits.{row_has}
 use Rattle.gt_core.specs.Literal.{opposite}
@@ -8,8 +8,54 @@ use Rattle.two_invariants.specs.Tested.{with_more, has_no_pair, are_lost}
 use Rattle.two_invariants.specs.Groups.{group_with, may_lose, is_sure_by}
 use Rattle.two_invariants.proofs.Exact.{pair_test_is}
 use Rattle.two_invariants.proofs.Steps.{more_within, and_true}
+use Rattle.gt_core.proofs.Basics.{or_split}
 use Rattle.two_invariants.proofs.Grouping.{none_lost}
+use Rattle.two_invariants.proofs.Indexing.{givers_more, takers_more, more_of, given_within, told_twice}
 use Rattle.two_invariants.proofs.broken.push_group_losses.Goals as goal
+
+pub fill_given-requires-clause-set : goal.fill_given-requires-clause-set
+fill_given-requires-clause-set c m t =
+    let few = c.requires.clauses.few in
+    let lt = more_within (2 * c.args.facts) c.args.rows.now (row_has c.args.set.now) c.as_slice.result.now c.requires.rows c.requires.set m (sym (c.in_ok-here.ensures m) ∙ t) in
+    omega arith
+
+pub fill_given-requires-clause-givers : goal.fill_given-requires-clause-givers
+fill_given-requires-clause-givers c =
+    givers_more (row_has c.args.set.now) (row_has c.in_ok-here.here) c.args.groups.now (length c.args.groups.now) c.args.givers.now
+    (λ m t. c.in_ok-here.ensures m ∙ more_of c.args.rows.now (row_has c.args.set.now) c.as_slice.result.now m t) c.requires.givers
+
+pub take_all_lost-requires-clause-givers : goal.take_all_lost-requires-clause-givers
+take_all_lost-requires-clause-givers c =
+    givers_more (row_has c.args.set.now) (row_has c.in_ok-here.here) c.args.groups.now (length c.args.groups.now) c.args.givers.now
+    (λ m t. c.in_ok-here.ensures m ∙ more_of c.args.rows.now (row_has c.args.set.now) c.as_slice.result.now m t) c.requires.givers
+
+pub take_all_lost-requires-clause-takers : goal.take_all_lost-requires-clause-takers
+take_all_lost-requires-clause-takers c =
+    takers_more c.args.facts c.args.rows.now (row_has c.args.set.now) (row_has c.in_ok-here.here) c.args.groups.now (length c.args.groups.now) c.args.takers.now
+    (λ m t. c.in_ok-here.ensures m ∙ more_of c.args.rows.now (row_has c.args.set.now) c.as_slice.result.now m t) c.requires.takers
+
+pub take_all_lost-requires-clause-sure : goal.take_all_lost-requires-clause-sure
+take_all_lost-requires-clause-sure c m t = by (or_split _ _ (sym (c.in_ok-unite.ensures.has m) ∙ t))
+  where
+    by : (row_has c.in_ok-sure.sure m ≡ true) ⊎ (row_has c.fill_given.new.given m ≡ true) → m < 2 * c.args.facts
+    by (inl h) =
+        more_within (2 * c.args.facts) c.args.rows.now (row_has c.args.set.now) c.as_slice.result.now c.requires.rows c.requires.set m
+        (sym (c.in_ok-here.ensures m) ∙ sym (c.in_ok-sure.ensures m) ∙ h)
+    by (inr h) = given_within c.args.facts m c.args.groups.now (list_all (row_has c.in_ok-here.here)) c.requires.groups (sym (c.in_ok-fill_given.ensures m) ∙ h)
+
+pub take_all_lost-requires-clause-consistent : goal.take_all_lost-requires-clause-consistent
+take_all_lost-requires-clause-consistent c =
+    let facts = c.args.facts in
+    let within : (k : ℕ) → row_has c.in_ok-here.here k ≡ true → k < 2 * facts = λ k t. more_within (2 * facts) c.args.rows.now (row_has c.args.set.now) c.as_slice.result.now c.requires.rows c.requires.set k (sym (c.in_ok-here.ensures k) ∙ t) in
+    sym (pair_test_is facts (row_has c.in_ok-here.here) c.has_pair.result within c.has_pair.ensures) ∙ ap not c.if-has_pair.false
+
+pub take_all_lost-requires-clause-own : goal.take_all_lost-requires-clause-own
+take_all_lost-requires-clause-own c m =
+    let rows = c.args.rows.now in
+    let set = row_has c.args.set.now in
+    let cond = c.args.group.now.condition.items in
+    let here : row_has c.in_ok-here.here ≡ with_more rows set cond = (λ i k. c.in_ok-here.ensures k i) ∙ (λ i. with_more rows set (c.as_slice.ensures.value i)) in
+    (λ i. with_more rows (here i) cond m) ∙ told_twice rows set cond m ∙ (λ i. sym here i m)
 
 pub take_all_lost-requires-clause-here : goal.take_all_lost-requires-clause-here
 take_all_lost-requires-clause-here c m t =

@@ -1,5 +1,4 @@
 use Rattle.std.proofs.Common.{◌∙◌}
-use Rattle.bit_rows.specs.Bits.{row_has}
 use Rattle.two_invariants.specs.Rows.{clause_in}
 use Rattle.two_invariants.specs.Tested.{is_lost}
 use Rattle.two_invariants.proofs.Dropping.{still_either, dropped_twice}

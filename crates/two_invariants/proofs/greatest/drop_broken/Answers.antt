@@ -1,4 +1,4 @@
-use Rattle.std.proofs.Common.{arith, ◌*◌, ◌<◌, ap, sym, subst, ℕ, List, length, Vec, Global}
+use Rattle.std.proofs.Common.{arith, ◌*◌, ◌<◌, sym, subst, ℕ, List, length, Vec, Global}
 use Rattle.std.specs.List.{AllByRecursion}
 use Rattle.bit_rows.specs.Bits.{row_has}
 use Rattle.gt_core.specs.Task.{Action}

@@ -1,4 +1,4 @@
-use Rattle.std.proofs.Common.{◌≡◌, ◌==◌, ◌<◌, ◌*◌, ◌∙◌, ap, sym, subst, refl, true, inl, ℕ, List, length}
+use Rattle.std.proofs.Common.{◌≡◌, ◌<◌, ◌*◌, ◌∙◌, ap, sym, subst, refl, inl, ℕ, List, length}
 use Rattle.std.specs.List.{AllByRecursion}
 use Rattle.bit_rows.specs.Bits.{row_has}
 use Rattle.gt_core.specs.Literal.{opposite, state_of}
@@ -7,7 +7,7 @@ use Rattle.two_invariants.specs.Rows.{clause_in, AreRows}
 use Rattle.two_invariants.specs.Tested.{IsSetOf, AreKnown, act_at}
 use Rattle.two_invariants.specs.First.{is_first}
 use Rattle.two_invariants.specs.Renewed.{WereKnown, IsSettled}
-use Rattle.two_invariants.specs.Rounds.{Surrounds, IsTested}
+use Rattle.two_invariants.specs.Rounds.{IsTested}
 use Rattle.two_invariants.proofs.Steps.{surrounds_first, not_opposite}
 use Rattle.two_invariants.proofs.RoundLaw.{actions_fit, still_around, are_invariants, all_settled, were_known}
 use Rattle.two_invariants.proofs.Unmoved.{asked_among, asked_within}

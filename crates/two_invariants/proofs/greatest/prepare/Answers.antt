@@ -1,4 +1,4 @@
-use Rattle.std.proofs.Common.{◌*◌, ◌<◌, ◌==◌, ◌≡◌, ◌||◌, subst, true, ℕ, List, length}
+use Rattle.std.proofs.Common.{◌<◌, ◌==◌, ◌≡◌, ◌||◌, subst, true, ℕ, List, length}
 use Rattle.std.specs.List.{list_any, AllByRecursion}
 use Rattle.bit_rows.specs.Bits.{row_has}
 use Rattle.gt_core.specs.Task.{Action}

@@ -1,7 +1,9 @@
-use Rattle.std.proofs.Common.{◌≡◌, ◌*◌, ap, ℕ, subst, sym}
+use Rattle.std.proofs.Common.{◌*◌, ◌<◌, ap, ℕ, subst, sym}
 use Rattle.bit_rows.specs.Bits.{row_has}
-use Rattle.two_invariants.specs.Rows.{clause_in, IsClosure}
-use Rattle.two_invariants.proofs.Renewing.{same_closed, pair_closed, rest_closed}
+use Rattle.gt_core.specs.Literal.{opposite}
+use Rattle.two_invariants.specs.Rows.{clause_in}
+use Rattle.two_invariants.proofs.Steps.{opposite_below}
+use Rattle.two_invariants.proofs.Renewing.{same_closed, pair_closed}
 use Rattle.two_invariants.proofs.renew.renew.Goals as goal
 
 pub returns-then-is_same : goal.returns-then-is_same
@@ -9,3 +11,8 @@ returns-then-is_same c = same_closed (clause_in c.args.clauses.now) (2 * c.args.
 
 pub returns-then-has_pair : goal.returns-then-has_pair
 returns-then-has_pair c = pair_closed (clause_in c.args.clauses.now) (row_has c.args.next.now) c.if-has_pair.ensures
+
+pub none_follows-requires-clause-even : goal.none_follows-requires-clause-even
+none_follows-requires-clause-even c = λ l lt.
+    let long = c.requires.clauses.long in
+    subst (λ (n : ℕ). opposite l < n) (sym long) (opposite_below l c.args.facts (subst (λ (n : ℕ). l < n) long lt))

@@ -1,4 +1,4 @@
-use Rattle.std.proofs.Common.{◌≡◌, ◌==◌, subst, sym, Bool, ℕ, List}
+use Rattle.std.proofs.Common.{◌==◌, subst, sym, Bool, ℕ, List}
 use Rattle.std.specs.Prelude.{if◌then◌else◌}
 use Rattle.bit_rows.specs.Bits.{row_has}
 use Rattle.two_invariants.specs.Rows.{row_at, clause_in, IsClosure}

@@ -1,4 +1,4 @@
-use Rattle.std.proofs.Common.{arith, ◌≡◌, ◌∙◌, ◌==◌, ◌<◌, ◌≤◌, ◌+◌, ◌⊎◌, inl, inr, subst, sym, true, false, Bool, ℕ, List}
+use Rattle.std.proofs.Common.{arith, ◌≡◌, ◌∙◌, ◌==◌, ◌<◌, ◌⊎◌, inl, inr, subst, sym, true, false, Bool, ℕ, List}
 use Rattle.std.proofs.lemmas.Bool.{cases_lt}
 use Rattle.bit_rows.specs.Bits.{row_has}
 use Rattle.gt_core.proofs.Basics.{apart}

@@ -5,7 +5,7 @@ use Rattle.cdcl_rules.specs.Learn.{learned, Learned}
 use Rattle.cdcl_rules.specs.Run.{with_learned, after_conflict}
 use Rattle.cdcl_laws.specs.Sound.{IsSound}
 use Rattle.cdcl_rules.specs.Trail.{AllFalse}
-use Rattle.cdcl_core.specs.Search.{SearchView, IsNextEvent, GoesOn}
+use Rattle.cdcl_core.specs.Search.{SearchView, IsNextEvent}
 use Rattle.cdcl_core.proofs.Keeps.{learned_same, learned_is_clause, learned_is_false, undropped_sound, next_sound, next_open}
 use Rattle.cdcl_core.proofs.Logs.{goes_same, goes_err, on_err}
 use Rattle.cdcl_core.proofs.search.Search.apply.Goals as goal

@@ -12,7 +12,7 @@ given_at v e h = let l = ap (λ (w : ClausesView). length w.formula.clauses) v i
 pub index-requires : goal.index-requires
 index-requires c =
     let t = c.self.inside in
-    let e : length t.places.items ≡ length (clauses_of t.log) = ap (λ (ps : List ℕ). length ps) c.self.invariant.places_are ∙ places-length 0 t.log in
+    let e : length t.places.items ≡ length (clauses_of t.log) = ap (λ (ps : List ℕ). length ps) c.self.invariant.0.places_are ∙ places-length 0 t.log in
     let n = subst (λ (w : ClausesView). c.args.number < length (all_clauses w)) (sym c.self.view_is) c.requires.in_range in
     let g = given_at c.self.view_is c.count-given.ensures.value c.requires.learned in
     omega (arith, e, n, g, length-append t.formula.clauses (clauses_of t.log), c.count-given.ensures.value, t.places.ok)
@@ -21,13 +21,13 @@ pub learned_at-requires : goal.learned_at-requires
 learned_at-requires c =
     let t = c.self.inside in
     let n = subst (λ (w : ClausesView). c.args.number < length (all_clauses w)) (sym c.self.view_is) c.requires.in_range in
-    let p = place_at t.formula t.log t.places.items t.kept.items c.args.number c.count-given.result c.index.result.now c.self.invariant c.count-given.ensures.value (given_at c.self.view_is c.count-given.ensures.value c.requires.learned) n c.index.ensures in
+    let p = place_at t.formula t.log t.places.items t.kept.items c.args.number c.count-given.result c.index.result.now c.self.invariant.0 c.count-given.ensures.value (given_at c.self.view_is c.count-given.ensures.value c.requires.learned) n c.index.ensures in
     subst (λ (o : Option (List ℕ)). IsSome o) (sym p) refl
 
 pub returns : goal.returns
 returns c =
     let t = c.self.inside in
     let n = subst (λ (w : ClausesView). c.args.number < length (all_clauses w)) (sym c.self.view_is) c.requires.in_range in
-    let p = place_at t.formula t.log t.places.items t.kept.items c.args.number c.count-given.result c.index.result.now c.self.invariant c.count-given.ensures.value (given_at c.self.view_is c.count-given.ensures.value c.requires.learned) n c.index.ensures in
+    let p = place_at t.formula t.log t.places.items t.kept.items c.args.number c.count-given.result c.index.result.now c.self.invariant.0 c.count-given.ensures.value (given_at c.self.view_is c.count-given.ensures.value c.requires.learned) n c.index.ensures in
     some_same (learned_at t.log c.index.result.now) c.learned_at.result.now (clause_at (t.formula.clauses ++ clauses_of t.log) c.args.number) c.learned_at.ensures p
     ∙ ap (λ (w : ClausesView). clause_at (all_clauses w) c.args.number) c.self.view_is

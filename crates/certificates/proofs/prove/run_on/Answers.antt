@@ -1,0 +1,10 @@
+use Rattle.std.proofs.Common.{◌≡◌, ◌∙◌, Ok, ap}
+use Rattle.certificates.specs.declared.prove.Proved.TheVariants.{Certificate}
+use Rattle.certificates.proofs.Runs.{certificate_over, value_of}
+use Rattle.certificates.proofs.prove.run_on.Goals as goal
+
+pub returns-clause-certified : goal.returns-clause-certified
+returns-clause-certified g c text e =
+    let inner : c.in_ok-proved.proved ≡ Certificate text = value_of c.in_ok-proved.proved (Certificate text) e in
+    certificate_over (λ h. c.go_on.new.self.formula) (g.F.StepForm.formula_of c.args.form.now) text c.args.horizon
+    (c.go_on.ensures.formula ∙ c.in_ok-solving.ensures.formula) (c.in_ok-proved.ensures.certified text (ap Ok inner))

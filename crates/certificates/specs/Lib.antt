@@ -1,0 +1,4 @@
+pub mod Known
+pub mod Certificate
+pub mod Proved
+pub mod Judged

@@ -1,0 +1,44 @@
+-- What the run of a horizon comes to, with its certificate.
+use Rattle.std.specs.Prelude.{◌≡◌, ◌≤◌, ℕ, List, length, nat_le, if◌then◌else◌}
+use Rattle.clause_base.specs.declared.log.Entry.{Entry}
+use Rattle.cdcl_rules.specs.State.{State}
+use Rattle.cdcl_rules.specs.declared.standing.Standing.{Standing}
+use Rattle.cdcl_rules.specs.declared.standing.Standing.TheVariants.{Going, Found, Refuted}
+use Rattle.gt_core.specs.Task.{Task}
+use Rattle.horizon_run.specs.Run.{reached}
+use Rattle.step_clauses.specs.Variables.{chain_places}
+use Rattle.step_encoding.specs.Numbers.{literals_of}
+use Rattle.proof_text.specs.Text.{proof_text}
+use Rattle.certificates.specs.Known.{IsOrdered, form_of, choice_at, formula_at}
+use Rattle.certificates.specs.Certificate.{IsCertificate}
+use Rattle.certificates.specs.declared.prove.Proved.{Proved}
+use Rattle.certificates.specs.declared.prove.Proved.TheVariants.{Certificate, TooLong, Plan, Open}
+
+-- how many bytes a certificate may have
+abbrev pub most_bytes : ℕ
+most_bytes = 16777216
+
+-- the certificate of a horizon and a log, where it is not too long
+abbrev pub certificate_of : ℕ → List Entry → Proved
+certificate_of horizon log = if nat_le (length (proof_text horizon log)) most_bytes then Certificate (proof_text horizon log) else TooLong
+
+-- what the run of a horizon comes to that stands so in a state
+abbrev pub proved_as : ℕ → Standing → State → Proved
+proved_as horizon Refuted state = certificate_of horizon state.log
+proved_as horizon Found state = Plan state.conflicts
+proved_as horizon Going state = Open state.conflicts
+
+-- what the run of a horizon comes to in a state
+abbrev pub proved_of : ℕ → State → Proved
+proved_of horizon state = proved_as horizon state.standing state
+
+-- The run of a horizon of a task comes to this once a budget of conflicts was granted. What it gives as a certificate is one, and
+-- where it is open it has used up the budget.
+pub record Proves (task : Task) (horizon budget : ℕ) (proved : Proved) : Type 0 where
+  pub clauses : List (ℕ × ℕ)
+  pub components : List (List ℕ)
+  pub ordered : IsOrdered task clauses components
+  pub small : literals_of (formula_at chain_places (form_of task clauses components) horizon) ≤ 4000000
+  pub is : proved ≡ proved_of horizon (reached (choice_at chain_places (form_of task clauses components) horizon) (formula_at chain_places (form_of task clauses components) horizon) budget)
+  pub certified : (text : List ℕ) → proved ≡ Certificate text → IsCertificate (formula_at chain_places (form_of task clauses components)) text horizon
+  pub spent : (conflicts : ℕ) → proved ≡ Open conflicts → conflicts ≡ budget

@@ -1,0 +1,28 @@
+//! Why there is no answer.
+ghost use Rattle.std.specs.Prelude.{◌≡◌};
+ghost use Rattle.certificates.specs.declared.error.ProofError.TheVariants as errors;
+
+/// Why there is no answer on a horizon.
+#[derive(Clone, Copy, Debug, PartialEq, Eq)]
+pub enum ProofError {
+    /// The formula of the horizon has too many literals, so many.
+    Literals { count: u64 },
+    /// Want of memory.
+    Memory,
+}
+
+impl From<gt_core::memory::Memory> for ProofError {
+    ghost from_gives = { λ _ e. e ≡ errors.Memory };
+
+    fn from(_: gt_core::memory::Memory) -> Self {
+        ProofError::Memory
+    }
+}
+
+impl From<clause_base::memory::Memory> for ProofError {
+    ghost from_gives = { λ _ e. e ≡ errors.Memory };
+
+    fn from(_: clause_base::memory::Memory) -> Self {
+        ProofError::Memory
+    }
+}

@@ -1,0 +1,116 @@
+//! The certificate of a horizon, by its run.
+ghost use Rattle.std.specs.Prelude.{◌≡◌, ◌≤◌, ◌<◌, ℕ, List, Ok, Err, IfOk, false};
+ghost use Rattle.horizon_run.specs.Run.{choice_of, reached};
+ghost use Rattle.step_encoding.specs.Numbers.{literals_of};
+ghost use Rattle.certificates.specs.Known.{HasTooMany};
+ghost use Rattle.certificates.specs.Certificate.{IsSpelled, IsCertificate};
+ghost use Rattle.certificates.specs.Proved.{certificate_of, proved_of, Proves};
+
+use crate::error::ProofError;
+use action_order::publish::publish;
+use cdcl_rules::standing::Standing;
+use clause_base::log::Log;
+use clause_base::memory::Memory;
+use gt_core::task::Task;
+use horizon_run::HorizonRun;
+use proof_text::{Text, proof_length, write_proof, written};
+use std::alloc::Global;
+use std::thread::Threads;
+use step_encoding::exists::ExistsForm;
+use step_encoding::form::StepForm;
+use two_invariants::find;
+
+/// How many bytes a certificate may have.
+const MOST_BYTES: u64 = 16_777_216;
+
+/// What the run of a horizon comes to.
+#[derive(Debug, Drop)]
+pub enum Proved {
+    /// It is refuted: its certificate.
+    Certificate(Text),
+    /// It is refuted, and its certificate has more than 16,777,216 bytes.
+    TooLong,
+    /// A plan was found after so many conflicts.
+    Plan { conflicts: u64 },
+    /// It is open after so many conflicts, the whole budget.
+    Open { conflicts: u64 },
+}
+
+/// What the run of a horizon of a task comes to that is granted a budget of conflicts. `Literals` comes exactly where the
+/// horizon's formula has more than 4,000,000 literals.
+pub fn prove(
+    rt: &(impl Threads + Sync),
+    alloc: Global,
+    task: &Task,
+    horizon: u32,
+    budget: u64,
+) -> Result<Proved, ProofError>
+    requires horizon { horizon ≤ 255 }
+    requires budget { budget ≤ 1000000 }
+    ensures proved { IfOk result (Proves task.now horizon budget) }
+    ensures literals { (count : ℕ) → result ≡ Err (ProofError.Literals count) → HasTooMany task.now horizon count }
+{
+    let pairs = find(rt, alloc, task)?;
+    let order = publish(alloc, task, &pairs)?;
+    let form = ExistsForm::new(alloc, task, &pairs, &order)?;
+    run_on(alloc, task, &form, horizon, budget)
+}
+
+// What the run of a horizon of a form comes to.
+fn run_on<F: StepForm>(
+    alloc: Global,
+    task: &Task,
+    form: &F,
+    horizon: u32,
+    budget: u64,
+) -> Result<Proved, ProofError>
+    requires form_of { F.task form.now ≡ task.now }
+    requires horizon { horizon ≤ 255 }
+    requires budget { budget ≤ 1000000 }
+    ensures proved { IfOk result (λ p. p ≡ proved_of horizon (reached (choice_of task.now (F.layout_of form.now horizon)) (F.formula_of form.now horizon) budget)) }
+    ensures small { IfOk result (λ p. literals_of (F.formula_of form.now horizon) ≤ 4000000) }
+    ensures certified { (text : List ℕ) → result ≡ Ok (Proved.Certificate text) → IsCertificate (F.formula_of form.now) text horizon }
+    ensures spent { (conflicts : ℕ) → result ≡ Ok (Proved.Open conflicts) → conflicts ≡ budget }
+    ensures literals { (count : ℕ) → result ≡ Err (ProofError.Literals count) → (4000000 < count) × (count ≡ literals_of (F.formula_of form.now horizon)) }
+{
+    let count = form.size(horizon);
+    if count > 4_000_000 {
+        return Err(ProofError::Literals { count });
+    }
+    let mut solving = HorizonRun::new(alloc, task, form, horizon)?;
+    solving.go_on(budget as u32)?;
+    let proved = told(alloc, horizon, &solving)?;
+    Ok(proved)
+}
+
+// What a run came to.
+fn told(alloc: Global, horizon: u32, solving: &HorizonRun) -> Result<Proved, Memory>
+    requires horizon { horizon ≤ 255 }
+    requires sane { solving.now.spoilt ≡ false }
+    ensures proved { IfOk result (λ p. p ≡ proved_of horizon solving.now.state) }
+    ensures certified { (text : List ℕ) → result ≡ Ok (Proved.Certificate text) → IsCertificate (λ h. solving.now.formula) text horizon }
+    ensures spent { (conflicts : ℕ) → result ≡ Ok (Proved.Open conflicts) → conflicts ≡ solving.now.granted }
+{
+    match solving.standing() {
+        Standing::Refuted => certificate(alloc, horizon, solving.log()),
+        Standing::Found => Ok(Proved::Plan {
+            conflicts: solving.conflicts(),
+        }),
+        Standing::Going => Ok(Proved::Open {
+            conflicts: solving.conflicts(),
+        }),
+    }
+}
+
+// The certificate of a horizon and a log.
+fn certificate(alloc: Global, horizon: u32, log: &Log) -> Result<Proved, Memory>
+    requires { horizon ≤ 255 }
+    ensures proved { IfOk result (λ p. p ≡ certificate_of horizon log.now) }
+    ensures spelled { (text : List ℕ) → result ≡ Ok (Proved.Certificate text) → IsSpelled text horizon log.now }
+{
+    written(log);
+    if proof_length(horizon, log) > MOST_BYTES {
+        return Ok(Proved::TooLong);
+    }
+    Ok(Proved::Certificate(write_proof(alloc, horizon, log)?))
+}

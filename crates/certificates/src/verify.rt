@@ -1,0 +1,72 @@
+//! The checker on a certificate.
+ghost use Rattle.std.specs.Prelude.{◌≡◌, ◌≤◌, ◌<◌, ℕ, List, length, Ok, Err, IfOk};
+ghost use Rattle.step_encoding.specs.Numbers.{literals_of};
+ghost use Rattle.certificates.specs.Known.{HasTooMany};
+ghost use Rattle.certificates.specs.Judged.{IsJudged, Judges};
+
+use crate::error::ProofError;
+use action_order::publish::publish;
+use gt_core::task::Task;
+use proof_text::Proof;
+use rup_check::check::{CheckError, check};
+use std::alloc::Global;
+use std::thread::Threads;
+use step_encoding::exists::ExistsForm;
+use step_encoding::form::{FormError, StepForm};
+use two_invariants::find;
+
+/// What the checker says of a certificate.
+#[derive(Clone, Copy, Debug, PartialEq, Eq)]
+pub enum Judged {
+    /// It is accepted, with so many entries.
+    Accepted { entries: u32 },
+    /// This entry, counted from 0, is the first that does not follow.
+    Rejected { entry: u32 },
+    /// All entries follow, and the last one does not learn the empty clause, or there is none.
+    NotEmpty,
+}
+
+/// What the checker says of a certificate over the formula of its horizon of a task. `Literals` comes exactly where that formula
+/// has more than 4,000,000 literals. No solver is run.
+pub fn verify(
+    rt: &(impl Threads + Sync),
+    alloc: Global,
+    task: &Task,
+    proof: &Proof,
+) -> Result<Judged, ProofError>
+    requires horizon { proof.now.horizon ≤ 255 }
+    requires few { length proof.now.log ≤ 16777216 }
+    ensures judged { IfOk result (Judges task.now proof.now.horizon proof.now.log) }
+    ensures literals { (count : ℕ) → result ≡ Err (ProofError.Literals count) → HasTooMany task.now proof.now.horizon count }
+{
+    let pairs = find(rt, alloc, task)?;
+    let order = publish(alloc, task, &pairs)?;
+    let form = ExistsForm::new(alloc, task, &pairs, &order)?;
+    judge(alloc, &form, proof)
+}
+
+// What the checker says of a certificate over the formula of its horizon.
+fn judge<F: StepForm>(alloc: Global, form: &F, proof: &Proof) -> Result<Judged, ProofError>
+    requires horizon { proof.now.horizon ≤ 255 }
+    requires few { length proof.now.log ≤ 16777216 }
+    ensures judged { IfOk result (IsJudged (F.formula_of form.now proof.now.horizon) proof.now.log) }
+    ensures small { IfOk result (λ j. literals_of (F.formula_of form.now proof.now.horizon) ≤ 4000000) }
+    ensures none { (entries : ℕ) → result ≡ Ok (Judged.Accepted entries) → (steps : List (List ℕ)) → F.is_plan form.now proof.now.horizon steps → ⊥ }
+    ensures literals { (count : ℕ) → result ≡ Err (ProofError.Literals count) → (4000000 < count) × (count ≡ literals_of (F.formula_of form.now proof.now.horizon)) }
+{
+    let _lawful = form.size(0);
+    let formula = match form.formula(alloc, proof.horizon) {
+        Ok(formula) => formula,
+        Err(FormError::Literals { count }) => return Err(ProofError::Literals { count }),
+        Err(FormError::Memory) => return Err(ProofError::Memory),
+    };
+    let _few = formula.count();
+    match check(alloc, &formula, &proof.log) {
+        Ok(checked) => Ok(Judged::Accepted {
+            entries: checked.entries(),
+        }),
+        Err(CheckError::Rejected { entry }) => Ok(Judged::Rejected { entry }),
+        Err(CheckError::NotEmpty) => Ok(Judged::NotEmpty),
+        Err(CheckError::Memory) => Err(ProofError::Memory),
+    }
+}

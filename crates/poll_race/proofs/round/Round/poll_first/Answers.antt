@@ -1,0 +1,22 @@
+use Rattle.std.proofs.Common.{◌≡◌, List, ◌∷◌, ◌∙◌, drop, sym, ap, subst}
+use Rattle.horizon_run.specs.Run.{moved_to}
+use Rattle.race.specs.Input.{input_of}
+use Rattle.poll_race.specs.declared.work.Work.{Work}
+use Rattle.poll_race.specs.Works.{AreAtWork}
+use Rattle.poll_race.proofs.Lists.{first-of, set-first}
+use Rattle.poll_race.proofs.Polled.{done-first}
+use Rattle.poll_race.proofs.round.Round.poll_first.Goals as goal
+
+pub returns-in_ok-push-in-Ready-clause-within : goal.returns-in_ok-push-in-Ready-clause-within
+returns-in_ok-push-in-Ready-clause-within g c =
+    let round = c.args.self.now in
+    let works = round.works.items in
+    let w = c.index_mut.result.now in
+    let whole = first-of works w c.requires.some c.index_mut.ensures.value in
+    let took = c.take_first-target.ensures (record w { poll = c.poll.new.self }) (drop 1 works) (set-first works (record w { poll = c.poll.new.self }) c.requires.some) in
+    let split : works ≡ w ∷ c.take_first-target.new.works.items = whole ∙ ap (λ (ws : List Work). w ∷ ws) (sym {A = List Work} took.0) in
+    record {
+      run = done-first (input_of g.F.StepForm c.args.form.now c.args.settings.now) round.begun round.done.items c.push.new.self.items works c.take_first-target.new.works.items w c.in-Ready.run' c.in_ok-run-in-Ready.run'
+          split c.in-Ready.ensures.advances (c.in_ok-run-in-Ready.ensures ∙ ap (moved_to c.in-Ready.run') (took.1 ∙ c.in-Ready.ensures.target)) c.in_ok-push-in-Ready.ensures.items c.requires.within.run;
+      work = (subst AreAtWork split c.requires.within.work).1;
+    }

@@ -1,0 +1,4 @@
+pub mod Numbers
+pub mod Works
+pub mod Tied
+pub mod View

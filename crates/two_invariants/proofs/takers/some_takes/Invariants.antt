@@ -1,0 +1,10 @@
+use Rattle.std.proofs.Common.{◌≡◌, ◌==◌, ℕ, true, false, take}
+use Rattle.std.specs.List.{list_any}
+use Rattle.bit_rows.specs.Bits.{row_has}
+use Rattle.two_invariants.specs.Index.{IsNumbered, takes_in}
+use Rattle.two_invariants.specs.declared.groups.Group.{Group}
+use Rattle.two_invariants.proofs.takers.some_takes.Given as goal
+
+abbrev pub invariant-loop-number : goal.invariant-loop-number
+invariant-loop-number l =
+    (n : ℕ) (g : Group) → list_any (λ k. k == n) (take l.number-index l.numbers) ≡ true → IsNumbered l.groups n g → takes_in l.facts l.rows l.groups (row_has l.here) g l.l ≡ false

@@ -1,0 +1,18 @@
+use Rattle.std.proofs.Common.{◌≡◌, ◌<◌, ◌-◌, ◌*◌, ℕ, true, false}
+use Rattle.bit_rows.specs.Bits.{row_has}
+use Rattle.two_invariants.specs.Rows.{IsPart}
+use Rattle.two_invariants.specs.Groups.{group_with, may_lose}
+use Rattle.two_invariants.specs.Numbers.{finds}
+use Rattle.two_invariants.specs.Index.{IsNumbered, takes_in}
+use Rattle.two_invariants.specs.declared.groups.Group.{Group}
+use Rattle.two_invariants.proofs.takers.take_all_listed.Given as goal
+
+abbrev pub invariant-loop-l : goal.invariant-loop-l
+invariant-loop-l l = record {
+  less : IsPart (row_has l.sure) (row_has l.initial.sure);
+  lost : (m : ℕ) → row_has l.initial.sure m ≡ true → row_has l.sure m ≡ false → may_lose l.facts l.rows (group_with l.groups) (row_has l.here) m ≡ true;
+  done : (m n : ℕ) (g : Group) → m < l.from → row_has l.sure m ≡ true → finds l.takers.by m n ≡ true → IsNumbered l.groups n g → takes_in l.facts l.rows l.groups (row_has l.here) g m ≡ false;
+}
+
+abbrev pub decreases-loop-l : goal.decreases-loop-l
+decreases-loop-l l = 2 * l.facts - l.from
