@@ -1,7 +1,9 @@
 //! What an action makes of a state, and what is known of a task's states.
-use crate::tasks::{acting, action, effect_if, task_of};
+use crate::tasks::{Sketch, action, sketched, task_of};
 use gt_core::pairs::Pairs;
+use std::alloc::Global;
 use std::test::Fail;
+use std::thread::Threads;
 use two_invariants::find;
 use two_invariants::laws::laws;
 
@@ -46,48 +48,38 @@ fn burnt_or_there(rt: HostRuntime) -> Result<(), Fail> {
     Ok(())
 }
 
-/// Four facts, of which the second alone is true. The third becomes true where it is false, and false at any time; where
-/// the first is false, it becomes true and the second false if the second is true, and it becomes false if the fourth is
-/// false. What is known from no literal, and a condition that rules an effect out, tell the nine.
-#[test]
-fn nine_with_conditions(rt: HostRuntime) -> Result<(), Fail> {
-    let turn = vec![in rt.alloc(); effect_if(rt.alloc(), &[5], 4)?]?;
-    let first = effect_if(rt.alloc(), &[2], 0)?;
-    let second = effect_if(rt.alloc(), &[7], 1)?;
-    let third = effect_if(rt.alloc(), &[2], 3)?;
-    let moves = vec![in rt.alloc(); first, second, third]?;
-    let turn = acting(rt.alloc(), &[], turn)?;
-    let moves = acting(rt.alloc(), &[1], moves)?;
-    let back = action(rt.alloc(), &[], &[5])?;
-    let acts = vec![in rt.alloc(); turn, moves, back]?;
-    let task = task_of(rt.alloc(), 4, &[false, true, false, false], acts)?;
-    let Ok(pairs) = find(&rt, rt.alloc(), &task) else {
+/// How many pairs are known of four facts, of which the second alone is true, under these actions.
+fn count_known<H: Threads + Sync>(
+    rt: &H,
+    alloc: Global,
+    sketches: &[Sketch],
+) -> Result<usize, Fail> {
+    let acts = sketched(alloc, sketches)?;
+    let task = task_of(alloc, 4, &[false, true, false, false], acts)?;
+    let Ok(pairs) = find(rt, alloc, &task) else {
         return Err("no memory".into());
     };
-    assert_eq!(rt; pairs.count(), 9);
+    Ok(pairs.count() as usize)
+}
+
+/// The third fact becomes true where it is false, and false at any time; where the first is false, it becomes true and the
+/// second false if the second is true, and it becomes false if the fourth is false. What is known from no literal, and a
+/// condition that rules an effect out, tell the nine.
+#[test]
+fn nine_with_conditions(rt: HostRuntime) -> Result<(), Fail> {
+    let turn: Sketch = (&[], &[(&[5], 4)]);
+    let moves: Sketch = (&[1], &[(&[2], 0), (&[7], 1), (&[2], 3)]);
+    let back: Sketch = (&[], &[(&[], 5)]);
+    assert_eq!(rt; count_known(&rt, rt.alloc(), &[turn, moves, back])?, 9);
     Ok(())
 }
 
-/// Four facts, of which the second alone is true. An effect that would be told by two hops never comes, and the third
-/// action adds the second fact in any case.
+/// An effect that would be told by two hops never comes, and the third action adds the second fact in any case.
 #[test]
 fn thirteen_by_two_hops(rt: HostRuntime) -> Result<(), Fail> {
-    let first = effect_if(rt.alloc(), &[4], 0)?;
-    let loses = effect_if(rt.alloc(), &[], 3)?;
-    let third = effect_if(rt.alloc(), &[3], 4)?;
-    let fourth = effect_if(rt.alloc(), &[], 6)?;
-    let not_first = effect_if(rt.alloc(), &[], 1)?;
-    let again = effect_if(rt.alloc(), &[3], 1)?;
-    let gains = effect_if(rt.alloc(), &[], 2)?;
-    let one = acting(rt.alloc(), &[], vec![in rt.alloc(); first, loses]?)?;
-    let two = acting(rt.alloc(), &[2], vec![in rt.alloc(); third, fourth]?)?;
-    let three = vec![in rt.alloc(); not_first, again, gains]?;
-    let three = acting(rt.alloc(), &[5, 6], three)?;
-    let acts = vec![in rt.alloc(); one, two, three]?;
-    let task = task_of(rt.alloc(), 4, &[false, true, false, false], acts)?;
-    let Ok(pairs) = find(&rt, rt.alloc(), &task) else {
-        return Err("no memory".into());
-    };
-    assert_eq!(rt; pairs.count(), 13);
+    let one: Sketch = (&[], &[(&[4], 0), (&[], 3)]);
+    let two: Sketch = (&[2], &[(&[3], 4), (&[], 6)]);
+    let three: Sketch = (&[5, 6], &[(&[], 1), (&[3], 1), (&[], 2)]);
+    assert_eq!(rt; count_known(&rt, rt.alloc(), &[one, two, three])?, 13);
     Ok(())
 }

@@ -7,13 +7,13 @@ use std::alloc::Global;
 use std::test::Fail;
 
 /// An effect under a condition.
-pub(crate) fn effect_if(alloc: Global, condition: &[u32], lit: u32) -> Result<Eff, Fail> {
+fn effect_if(alloc: Global, condition: &[u32], lit: u32) -> Result<Eff, Fail> {
     let condition = Vec::from_slice(alloc, condition)?;
     Ok(Eff::new(Lits::of(condition), lit))
 }
 
 /// An action with these effects.
-pub(crate) fn acting(alloc: Global, pre: &[u32], effects: Vec<Eff>) -> Result<Act, Fail> {
+fn acting(alloc: Global, pre: &[u32], effects: Vec<Eff>) -> Result<Act, Fail> {
     let pre = Vec::from_slice(alloc, pre)?;
     Ok(Act::new(Lits::of(pre), Effs::of(effects)))
 }
@@ -25,6 +25,27 @@ pub(crate) fn action(alloc: Global, pre: &[u32], lits: &[u32]) -> Result<Act, Fa
         effects.push(effect_if(alloc, &[], *lit)?)?;
     }
     acting(alloc, pre, effects)
+}
+
+/// An action by its precondition and its effects, each by its condition and its literal.
+pub(crate) type Sketch<'a> = (&'a [u32], &'a [(&'a [u32], u32)]);
+
+/// The action of a sketch.
+fn drawn(alloc: Global, pre: &[u32], sketches: &[(&[u32], u32)]) -> Result<Act, Fail> {
+    let mut effects = Vec::new(alloc);
+    for (condition, lit) in sketches {
+        effects.push(effect_if(alloc, condition, *lit)?)?;
+    }
+    acting(alloc, pre, effects)
+}
+
+/// The actions of sketches.
+pub(crate) fn sketched(alloc: Global, sketches: &[Sketch]) -> Result<Vec<Act>, Fail> {
+    let mut acts = Vec::new(alloc);
+    for (pre, effects) in sketches {
+        acts.push(drawn(alloc, pre, effects)?)?;
+    }
+    Ok(acts)
 }
 
 /// The task of these actions over so many facts, with the goal that the first one holds.
