@@ -1,4 +1,4 @@
 use Rattle.race.proofs.racing.Racing.close_first.Given as goal
 
-abbrev pub ghost-passed : goal.ghost-passed
-ghost-passed g a = g.input
+abbrev pub ghost-ended : goal.ghost-ended
+ghost-ended g a = g.input
