@@ -1,0 +1,53 @@
+//! Lamps, as ground tasks with nothing known of them.
+ghost use Rattle.std.specs.Prelude.{◌≡◌, [], IfOk};
+ghost use Rattle.gt_core.specs.Published.{IsPublished};
+
+use action_order::order::Order;
+use action_order::publish::publish;
+use clause_base::memory::Memory;
+use gt_core::act::{Act, Acts};
+use gt_core::eff::{Eff, Effs};
+use gt_core::lits::{Bits, Lits};
+use gt_core::pairs::Pairs;
+use gt_core::task::Task;
+use std::alloc::Global;
+use std::test::Fail;
+use step_encoding::exists::ExistsForm;
+
+/// A lamp, with an action that turns it on, and the goal that it is on.
+fn lamp(alloc: Global, on: bool) -> Result<Task, Fail> {
+    let pre = Lits::of(vec![in alloc; 1]?);
+    let effs = Effs::of(vec![in alloc; Eff::new(Lits::of(Vec::new(alloc)), 0)]?);
+    let acts = Acts::of(vec![in alloc; Act::new(pre, effs)]?);
+    let init = Bits::of(vec![in alloc; on]?);
+    let goal = Lits::of(vec![in alloc; 0]?);
+    Ok(Task::try_new(1, init, goal, false, acts).ok_or("no task")?)
+}
+
+/// A task with nothing known of it, and its order.
+#[derive(Drop)]
+pub(crate) struct Ground {
+    pub(crate) task: Task,
+    pub(crate) pairs: Pairs,
+    pub(crate) order: Order,
+    ghost facts: { pairs.facts ≡ task.facts },
+    ghost none: { pairs.clauses ≡ [] },
+}
+
+/// The ground task of a lamp.
+pub(crate) fn grounded(alloc: Global, on: bool) -> Result<Ground, Fail>
+    ensures { IfOk result (λ ground. IsPublished ground.task ground.pairs.clauses ground.order) }
+{
+    let task = lamp(alloc, on)?;
+    let pairs = Pairs::empty(alloc, task.facts())?;
+    let order = publish(alloc, &task, &pairs)?;
+    Ok(Ground { task, pairs, order })
+}
+
+/// Its form.
+pub(crate) fn form_of(alloc: Global, ground: &Ground) -> Result<ExistsForm<'_>, Memory>
+    requires { IsPublished ground.now.task ground.now.pairs.clauses ground.now.order }
+    ensures { IfOk result (λ form. form.task ≡ ground.now.task) }
+{
+    ExistsForm::new(alloc, &ground.task, &ground.pairs, &ground.order)
+}
