@@ -14,4 +14,6 @@ mod rates;
 #[cfg(test)]
 mod tasks;
 #[cfg(test)]
+mod turns;
+#[cfg(test)]
 mod watches;

@@ -1,0 +1,141 @@
+//! The gate is told before and after each turn, and of its horizon.
+ghost use Rattle.std.specs.Prelude.{◌≡◌, false, nat_lt};
+ghost use Rattle.solver_pool.specs.CountRun.{count_moved, count_state, count_state-unsettled};
+
+use solver_pool::{CountRun, Gate, Job, Jobs, Memory, Resume, round};
+use std::alloc::Global;
+use std::sync::Wait;
+use std::sync::atomic::{AtomicU64, Ordering};
+use std::test::Fail;
+use std::thread::Threads;
+
+/// How many steps are told.
+const STEPS: usize = 9;
+
+/// The steps of a round, each with its horizon h: `3h` that a run enters, `3h + 1` that it is advanced, `3h + 2` that it leaves.
+#[derive(Drop)]
+struct Told {
+    next: AtomicU64,
+    steps: [AtomicU64; STEPS],
+}
+
+impl Told {
+    fn new() -> Told {
+        Told {
+            next: AtomicU64::new(0),
+            steps: [
+                AtomicU64::new(0),
+                AtomicU64::new(0),
+                AtomicU64::new(0),
+                AtomicU64::new(0),
+                AtomicU64::new(0),
+                AtomicU64::new(0),
+                AtomicU64::new(0),
+                AtomicU64::new(0),
+                AtomicU64::new(0),
+            ],
+        }
+    }
+
+    fn note(&self, horizon: u32, kind: u64) {
+        let place = self.next.fetch_add(1, Ordering::SeqCst);
+        if place < STEPS as u64 {
+            let step = 3 * u64::from(horizon) + kind;
+            self.steps[place as usize].store(step, Ordering::SeqCst);
+        }
+    }
+
+    /// Whether there are nine steps, and these.
+    fn are(&self, wanted: &[u64]) -> bool {
+        let mut same = self.next.load(Ordering::SeqCst) == 9;
+        for (step, wanted) in self.steps.iter().zip(wanted) {
+            same &= step.load(Ordering::SeqCst) == *wanted;
+        }
+        same
+    }
+}
+
+impl Gate for Told {
+    fn enter(&self, horizon: u32) {
+        self.note(horizon, 0);
+    }
+
+    fn leave(&self, horizon: u32) {
+        self.note(horizon, 2);
+    }
+}
+
+/// A run that counts, and tells of each time that it is advanced.
+#[derive(Drop)]
+struct ToldRun<'a> {
+    run: CountRun,
+    told: &'a Told,
+}
+
+impl Resume for ToldRun<'_> {
+    ghost horizon_of = { λ r. r.run.horizon };
+
+    ghost granted_of = { λ r. r.run.granted };
+
+    ghost origin_of = { λ r. record r { run = record r.run { granted = 0 } } };
+
+    ghost moved = { λ r k. record r { run = count_moved r.run k } };
+
+    ghost state_of = { λ r. record r { run = count_state r.run } };
+
+    ghost unsettled_at = { λ r. nat_lt r.run.granted r.run.need };
+
+    ghost spoilt_at = { λ r. false };
+
+    fn advance(&mut self, conflicts: u32) -> Result<(), Memory> {
+        self.told.note(self.run.horizon, 1);
+        self.run.granted += u64::from(conflicts);
+        Ok(())
+    }
+
+    fn horizon(&self) -> u32 {
+        self.run.horizon
+    }
+
+    fn unsettled(&self) -> bool {
+        self.run.granted < self.run.need
+    }
+
+    fn spoilt(&self) -> bool {
+        false
+    }
+
+    fn granted(&self) -> u64 {
+        self.run.granted
+    }
+
+    ghost by_state = { λ r. count_state-unsettled r.run };
+}
+
+/// A round of one worker in turns of one unit, of two runs: that of horizon 4 needs two units, that of horizon 7 one.
+fn round_told<H: Threads + Wait + Sync>(rt: &H, alloc: Global, told: &Told) -> Result<(), Memory> {
+    let mut jobs = Vec::new(alloc);
+    for (horizon, target) in [(4, 2), (7, 1)] {
+        let run = ToldRun {
+            run: CountRun::new(horizon, target),
+            told,
+        };
+        if jobs.push(Job { run, target }).is_err() {
+            return Err(Memory);
+        }
+    }
+    let jobs = Jobs::new(jobs);
+    if jobs.len() > 16 || !jobs.are_rising() || !jobs.are_sound() {
+        return Err(Memory);
+    }
+    round(rt, alloc, jobs, 1, 1, told)?;
+    Ok(())
+}
+
+#[test]
+fn a_run_enters_before_its_turn_and_leaves_after(rt: HostRuntime) -> Result<(), Fail> {
+    let told = Told::new();
+    round_told(&rt, rt.alloc(), &told)?;
+    assert!(rt; told.are(&[12, 13, 14, 21, 22, 23, 12, 13, 14]));
+    Ok(())
+}
