@@ -1,5 +1,5 @@
 //! The gate is told before and after each turn, and of its horizon.
-ghost use Rattle.std.specs.Prelude.{◌≡◌, false, nat_lt};
+ghost use Rattle.std.specs.Prelude.{◌≡◌, ◌≤◌, false, nat_lt};
 ghost use Rattle.solver_pool.specs.CountRun.{count_moved, count_state, count_state-unsettled};
 
 use solver_pool::{CountRun, Gate, Job, Jobs, Memory, Resume, round};
@@ -37,7 +37,9 @@ impl Told {
         }
     }
 
-    fn note(&self, horizon: u32, kind: u64) {
+    fn note(&self, horizon: u32, kind: u64)
+        requires { kind ≤ 2 }
+    {
         let place = self.next.fetch_add(1, Ordering::SeqCst);
         if place < STEPS as u64 {
             let step = 3 * u64::from(horizon) + kind;
