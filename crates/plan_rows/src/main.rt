@@ -70,6 +70,20 @@ fn write_row<H: Threads + Wait + Sync>(
     Ok(())
 }
 
+/// What a run prints; nothing where there was no memory for it.
+fn printed<H: Threads + Wait + Sync>(
+    rt: &H,
+    alloc: Global,
+    words: &str,
+    files: &[Given],
+) -> io::Result<String> {
+    let named = named(alloc, files)?;
+    let Ok((_, text)) = run_once(rt, alloc, words, named.as_slice(), &[]) else {
+        return Ok(String::new(alloc));
+    };
+    Ok(String::from_utf8(text).unwrap_or(String::new(alloc)))
+}
+
 /// Adds a file with what a run prints.
 fn keep<'a, H: Threads + Wait + Sync>(
     rt: &H,
@@ -80,11 +94,8 @@ fn keep<'a, H: Threads + Wait + Sync>(
     let mut fields = part.split('|').skip(1);
     let name = fields.next().unwrap_or("");
     let words = fields.next().unwrap_or("");
-    let named = named(alloc, files.as_slice())?;
-    if let Ok((_, text)) = run_once(rt, alloc, words, named.as_slice(), &[]) {
-        let text = String::from_utf8(text).unwrap_or(String::new(alloc));
-        files.push(Given { name, text })?;
-    }
+    let text = printed(rt, alloc, words, files.as_slice())?;
+    files.push(Given { name, text })?;
     Ok(())
 }
 
