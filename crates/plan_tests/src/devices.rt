@@ -1,5 +1,5 @@
 // Shelves and sinks that fail.
-use crate::tasks::{DARK, LAMP};
+use crate::tasks::{DARK, LAMP, LAMP_PLAN, MARKED, MARKS};
 use mem_runs::{Named, ample_sink, run_into, run_once, shelf_of};
 use pl_io::{MemSink, Numbers};
 use solver_pool::OpenGate;
@@ -25,6 +25,10 @@ fn shelves_that_fail_at_a_call(rt: HostRuntime) -> Result<(), Fail> {
         ("order d p", 1, "; read fault domain\n"),
         ("order d p", 2, "; read fault problem\n"),
     ];
+    let words = "plan d p --max-horizon 0";
+    let (status, text) = run_once(&rt, rt.alloc(), words, &[("d", MARKS)], &[])?;
+    assert_eq!(rt; status.0, 5);
+    assert_eq!(rt; text.as_slice(), b"; read fault problem\n".as_slice());
     for (words, call, wanted) in rows {
         let (status, text) = run_once(&rt, rt.alloc(), words, &FILES, &[call])?;
         assert_eq!(rt; status.0, 5, "{words}, call {call}");
@@ -32,6 +36,8 @@ fn shelves_that_fail_at_a_call(rt: HostRuntime) -> Result<(), Fail> {
     }
     Ok(())
 }
+
+const MARKS_ALONE: [Named<'static>; 2] = [("d", MARKS), ("p", MARKED)];
 
 // Each file that the words name is taken once, and no other: a call more would fail, and the shelf note it.
 #[test]
@@ -53,29 +59,19 @@ fn files_are_taken_once(rt: HostRuntime) -> Result<(), Fail> {
     Ok(())
 }
 
-// What `plan` prints of the task.
-const PLANNED: &str = "; horizon 0 refuted conflicts 1
-; horizon 1 plan conflicts 0
-; horizon 2 plan conflicts 0
-; horizon 3 plan conflicts 0
-; conflicts 1 of 100000
-; plan of 1 steps with 1 actions
-; step 1
-(flip)
-";
-
 // A sink that takes at most so many bytes a call and fails at a call has taken the bytes of the calls before it.
 fn fails_at<H: Threads + Wait + Sync + Abort>(
     rt: &H,
     alloc: Global,
     words: &str,
+    files: &[Named],
     most: u32,
     call: u32,
     front: &[u8],
 ) -> Result<(), Fail> {
     assert!(rt; 0 < most);
     let mut sink = MemSink::new(alloc, most, Numbers::of(vec![in alloc; call]?), 1000)?;
-    let mut shelf = shelf_of(alloc, &FILES, &[])?;
+    let mut shelf = shelf_of(alloc, files, &[])?;
     let status = run_into(rt, alloc, words, &mut shelf, &mut sink, &OpenGate)?;
     assert_eq!(rt; status.0, 6, "{words}, call {call}");
     assert_eq!(rt; sink.taken(), front, "{words}, call {call}");
@@ -87,7 +83,7 @@ fn fails_at<H: Threads + Wait + Sync + Abort>(
 #[test]
 fn sinks_that_fail_at_a_byte(rt: HostRuntime) -> Result<(), Fail> {
     let rows = [
-        ("plan d p", PLANNED),
+        ("plan d p", LAMP_PLAN),
         ("check d p l", "; reaches the goal\n"),
         (
             "ground d p",
@@ -98,11 +94,13 @@ fn sinks_that_fail_at_a_byte(rt: HostRuntime) -> Result<(), Fail> {
             "; actions 1 components 1 pairs 0\n; 0 0 (flip)\n",
         ),
     ];
-    fails_at(&rt, rt.alloc(), "plan d p", 10, 2, b"; horizon ")?;
+    let words = "plan d p --max-horizon 0";
+    fails_at(&rt, rt.alloc(), words, &MARKS_ALONE, 10, 2, b"; horizon ")?;
+    fails_at(&rt, rt.alloc(), "plan d p", &FILES, 10, 2, b"; horizon ")?;
     for (words, text) in rows {
         for count in 0..text.len() {
             let front = &text.as_bytes()[..count];
-            fails_at(&rt, rt.alloc(), words, 1, count as u32 + 1, front)?;
+            fails_at(&rt, rt.alloc(), words, &FILES, 1, count as u32 + 1, front)?;
         }
     }
     Ok(())

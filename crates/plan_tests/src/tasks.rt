@@ -27,3 +27,44 @@ pub(crate) const BLOCKS: &[u8] = b"; The usual blocks.
 pub(crate) const TOWER: &[u8] = b"(DEFINE (PROBLEM TOWER) (:DOMAIN BLOCKS) (:OBJECTS A B C D)
 (:INIT (ONTABLE A) (ONTABLE B) (ONTABLE C) (ONTABLE D) (CLEAR A) (CLEAR B) (CLEAR C) (CLEAR D) (HANDEMPTY))
 (:GOAL (AND (ON D C) (ON C B) (ON B A))))";
+
+// What `plan` prints of the tower.
+pub(crate) const TOWER_PLAN: &str = "; horizon 0 refuted conflicts 1
+; horizon 1 refuted conflicts 1
+; horizon 2 refuted conflicts 1
+; horizon 3 refuted conflicts 1
+; horizon 4 refuted conflicts 1
+; horizon 5 refuted conflicts 2
+; horizon 6 plan conflicts 0
+; horizon 7 plan conflicts 0
+; conflicts 7 of 100000
+; plan of 6 steps with 6 actions
+; step 1
+(pick-up b)
+; step 2
+(stack b a)
+; step 3
+(pick-up c)
+; step 4
+(stack c b)
+; step 5
+(pick-up d)
+; step 6
+(stack d c)
+";
+
+// What `plan` prints of the lamp.
+pub(crate) const LAMP_PLAN: &str = "; horizon 0 refuted conflicts 1
+; horizon 1 plan conflicts 0
+; horizon 2 plan conflicts 0
+; horizon 3 plan conflicts 0
+; conflicts 1 of 100000
+; plan of 1 steps with 1 actions
+; step 1
+(flip)
+";
+
+// A predicate that holds of one object.
+pub(crate) const MARKS: &[u8] = b"(define (domain m) (:predicates (p ?x)))";
+
+pub(crate) const MARKED: &[u8] = b"(define (problem x) (:objects a b) (:init (p a)) (:goal (p a)))";
