@@ -1,6 +1,8 @@
-//! Tests of runs that are polled by hand: the run of a horizon of a lamp, settled over both drivers.
+//! Tests of runs and races that are polled by hand: lamps of one action, over both drivers.
 #![tactic(auto)]
 
+#[cfg(test)]
+mod batches;
 #[cfg(test)]
 mod lamps;
 #[cfg(test)]
