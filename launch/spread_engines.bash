@@ -65,13 +65,16 @@ run_local() {
     trap 'kill $(jobs -p) 2>/dev/null; wait; exit 70' INT TERM HUP
     for n in "${wanted[@]}"; do
         if [ "$running" -ge "$side_by_side" ]; then
-            wait -n
+            wait -n || unkept=70
         else
             running=$((running + 1))
         fi
         bash "$folder/task/spread" --horizons-of "$folder" "$n" 9>&- &
     done
-    wait
+    while [ "$running" -gt 0 ]; do
+        wait -n || unkept=70
+        running=$((running - 1))
+    done
     trap - INT TERM HUP
 }
 

@@ -126,7 +126,7 @@ run_horizon() {
     3 | 5 | 7) lose "$folder" "$n" "refused: $(head -n 1 "$out")" ;;
     6) lose "$folder" "$n" 'the disk has no room' ;;
     *) lose "$folder" "$n" "the planner ended with status $status" ;;
-    esac || lose "$folder" "$n" 'the result could not be kept'
+    esac || lose "$folder" "$n" 'the result could not be kept' || unkept=70
     rm -f -- "$at"/*."$$"
 }
 
@@ -142,12 +142,13 @@ run_limit() {
     fi
 }
 
-# run_horizons FOLDER N..: one after another.
+# run_horizons FOLDER N..: one after another. Status 70 where not even why there is no result could be written.
 run_horizons() {
     local folder=$1 n
     for n in "${@:2}"; do
         run_horizon "$folder" "$n"
     done
+    return "${unkept:-0}"
 }
 
 # run_chunk FOLDER K: the horizons of a job.

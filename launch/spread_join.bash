@@ -182,7 +182,8 @@ join_results() {
     tell_answer
     if [ "$ends" = 2 ]; then
         lost=$(lost_status "$folder")
-        ends=${lost:-2}
+        ends=${lost:-${unkept:-2}}
+        [ -n "$lost" ] || [ "$ends" = 2 ] || say "a job failed, and could not write why: is the disk full?"
     fi
     put_properties "$folder" 2>/dev/null || say "the properties could not be written"
     exit "$ends"
