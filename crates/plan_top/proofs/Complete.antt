@@ -19,13 +19,13 @@ use Rattle.plan_words.specs.Seen.{Seen, plans_by, checks, grounds, orders, gener
 use Rattle.plan_words.specs.declared.request.Stepping.{Stepping}
 use Rattle.plan_words.specs.declared.request.Show.{Show}
 use Rattle.plan_words.specs.declared.request.Show.TheVariants as shows
-use Rattle.plan_top.specs.declared.ending.Kind.{Kind}
-use Rattle.plan_top.specs.declared.ending.Kind.TheVariants as kinds
-use Rattle.plan_top.specs.declared.ending.Limit.{Limit}
-use Rattle.plan_top.specs.declared.ending.Limit.TheVariants as limits
-use Rattle.plan_top.specs.declared.ending.Ending.{Ending}
-use Rattle.plan_top.specs.declared.ending.Ending.TheVariants.{Report, TooLarge}
-use Rattle.plan_top.specs.declared.ending.File.{File}
+use Rattle.plan_endings.specs.declared.ending.Kind.{Kind}
+use Rattle.plan_endings.specs.declared.ending.Kind.TheVariants as kinds
+use Rattle.plan_endings.specs.declared.ending.Limit.{Limit}
+use Rattle.plan_endings.specs.declared.ending.Limit.TheVariants as limits
+use Rattle.plan_endings.specs.declared.ending.Ending.{Ending}
+use Rattle.plan_endings.specs.declared.ending.Ending.TheVariants.{Report, TooLarge}
+use Rattle.plan_endings.specs.declared.ending.File.{File}
 use Rattle.plan_top.specs.Files.{StopsFrom, RoseAmong, AreShort, file_at, most_of}
 use Rattle.gt_core.specs.Step.{IsStepPlan}
 use Rattle.step_clauses.specs.Variables.{chain_places}
@@ -42,7 +42,7 @@ use Rattle.plan_top.specs.Raced.{OnceRaced, too_large, ended, outcome_of}
 use Rattle.plan_top.specs.Generated.{AnswersGenerated, TellsGenerated, generated_line}
 use Rattle.plan_top.specs.Causes.{OfTwo, OfThree, Decides, AnswersPlan, AnswersGround, AnswersOrder, AnswersCheck, AnswersProve, not_run, run, AnswersVerify, unfit, beyond, spelled, not_checked, checked, ending_of_run, ending_of_check, ending_of, Comes}
 use Rattle.plan_top.specs.Complete.{GoesWell, AreWithin, AreChecked, AreSpelled, AreInOrder, IsGood}
-use Rattle.plan_top.specs.Ending.{status_of}
+use Rattle.plan_endings.specs.Ending.{status_of}
 use Rattle.gt_core.specs.Lawful.{conditional_in}
 use Rattle.grounding.specs.Grounded.{Grounded, IsGrounded}
 use Rattle.grounding.specs.Limits.{IsWithin}

@@ -8,8 +8,8 @@ use Rattle.step_laws.specs.Form.{OrderedTask}
 use Rattle.step_encoding.specs.Numbers.{literals_of}
 use Rattle.horizon_rates.specs.declared.rates.Rates.{Rates}
 use Rattle.horizon_rates.specs.declared.settings.Settings.{Settings}
-use Rattle.plan_top.specs.declared.ending.File.{File}
-use Rattle.plan_top.specs.declared.ending.File.TheVariants.{Domain, Problem}
+use Rattle.plan_endings.specs.declared.ending.File.{File}
+use Rattle.plan_endings.specs.declared.ending.File.TheVariants.{Domain, Problem}
 use Rattle.pd_model.specs.declared.parts.Parts.{Parts}
 use Rattle.grounding.specs.Grounded.{Grounded}
 use Rattle.race_end.specs.Ends.{EndView, end_view}
@@ -22,8 +22,8 @@ use Rattle.plan_words.specs.Requested.{requested}
 use Rattle.plan_words.specs.Seen.{Seen, Numbers, NumbersAreSettings, numbers, plans_by, generates, files_of}
 use Rattle.plan_words.specs.declared.request.Show.{Show}
 use Rattle.plan_words.specs.declared.request.Show.TheVariants as shows
-use Rattle.plan_top.specs.declared.ending.Ending.{Ending}
-use Rattle.plan_top.specs.declared.ending.Ending.TheVariants.{Report, TooLong, TooLarge, ReadFault}
+use Rattle.plan_endings.specs.declared.ending.Ending.{Ending}
+use Rattle.plan_endings.specs.declared.ending.Ending.TheVariants.{Report, TooLong, TooLarge, ReadFault}
 use Rattle.plan_top.specs.Files.{Fits, FitFrom, OfTold, Stops, StopsFrom, most_of, most_bytes, file_at}
 use Rattle.gt_core.specs.Published.{IsPublished}
 use Rattle.certificates.specs.Known.{IsOrdered, form_of, formula_at}
@@ -36,7 +36,7 @@ use Rattle.plan_top.specs.Stepping.{places_by, is_plan_by}
 use Rattle.plan_top.specs.Raced.{input_of, IsTooLarge, ComesTo, OnceRaced, too_large, ended, outcome_of}
 use Rattle.plan_top.specs.Generated.{TellsGenerated, generated_line}
 use Rattle.plan_top.specs.Causes.{Decides, TellsRace, AnswersPlan}
-use Rattle.plan_top.specs.Ending.{status_of}
+use Rattle.plan_endings.specs.Ending.{status_of}
 use Rattle.plan_top.specs.OneReport.{AreSameRace, one_plan, one_generated, HasRead, OneEnding}
 use Rattle.plan_top.proofs.Told.{IsOfRequest, asked_comes}
 use Rattle.plan_top.proofs.OneTask.{once_grounded}

@@ -9,15 +9,15 @@ use Rattle.report_lines.specs.Lines.{is_line, joined}
 use Rattle.report_lines.specs.Horizons.{Says, IsEntry, is_word, is_remark}
 use Rattle.report_lines.specs.Laws.{ReportsSayEntries}
 use Rattle.report_lines.proofs.Entries.{line-append, word_line, decimal_word}
-use Rattle.plan_top.specs.declared.ending.File.{File}
-use Rattle.plan_top.specs.declared.ending.File.TheVariants.{Domain, Problem, Plan, Proof}
-use Rattle.plan_top.specs.declared.ending.Kind.{Kind}
-use Rattle.plan_top.specs.declared.ending.Kind.TheVariants as kinds
-use Rattle.plan_top.specs.declared.ending.Limit.{Limit}
-use Rattle.plan_top.specs.declared.ending.Limit.TheVariants as limits
-use Rattle.plan_top.specs.declared.ending.Ending.{Ending}
-use Rattle.plan_top.specs.declared.ending.Ending.TheVariants.{Report, Listing, Reaches, Blocked, Short, Refused, TooLong, TooMany, TooLarge, ReadFault, Usage, Found, Open, Accepted, Rejected, NotEmpty}
-use Rattle.plan_top.specs.Ending.{status_of, text_of, line_of, kind_word, limit_word, word_of, IsSmall}
+use Rattle.plan_endings.specs.declared.ending.File.{File}
+use Rattle.plan_endings.specs.declared.ending.File.TheVariants.{Domain, Problem, Plan, Proof}
+use Rattle.plan_endings.specs.declared.ending.Kind.{Kind}
+use Rattle.plan_endings.specs.declared.ending.Kind.TheVariants as kinds
+use Rattle.plan_endings.specs.declared.ending.Limit.{Limit}
+use Rattle.plan_endings.specs.declared.ending.Limit.TheVariants as limits
+use Rattle.plan_endings.specs.declared.ending.Ending.{Ending}
+use Rattle.plan_endings.specs.declared.ending.Ending.TheVariants.{Report, Listing, Reaches, Blocked, Short, Refused, TooLong, TooMany, TooLarge, ReadFault, Usage, Found, Open, Accepted, Rejected, NotEmpty}
+use Rattle.plan_endings.specs.Ending.{status_of, text_of, line_of, kind_word, limit_word, word_of, IsSmall}
 use Rattle.plan_top.specs.Headline.{Printed}
 
 -- ---- endings that stop a run

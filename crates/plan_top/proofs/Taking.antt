@@ -7,8 +7,8 @@ use Rattle.std.proofs.lemmas.Option.{slice_get_within, slice_get_cases, get_or_f
 use Rattle.std.proofs.lemmas.List.Sums.{sum_by-append}
 use Rattle.pl_io.specs.Outside.{Notes, fault_count}
 use Rattle.plan_words.specs.Among.{AreAmong}
-use Rattle.plan_top.specs.declared.ending.Ending.{Ending}
-use Rattle.plan_top.specs.declared.ending.File.{File}
+use Rattle.plan_endings.specs.declared.ending.Ending.{Ending}
+use Rattle.plan_endings.specs.declared.ending.File.{File}
 use Rattle.plan_top.specs.Files.{Stops, StopsFrom, Fits, FitFrom, IsTaken, AreTaken, AreShort, NotesAmong, most_of}
 
 -- ---- what is left of a list

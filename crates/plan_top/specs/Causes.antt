@@ -30,12 +30,12 @@ use Rattle.proof_text.specs.Place.{IsUnfitAt}
 use Rattle.plan_top.specs.Files.{FitFrom, StopsFrom, OfTold, RoseAmong, file_at}
 use Rattle.plan_top.specs.Stepping.{places_by, is_plan_by}
 use Rattle.plan_top.specs.Tasks.{OnceRead, OnceGrounded, TellsOver, IsReady}
-use Rattle.plan_top.specs.declared.ending.File.TheVariants.{Plan, Proof}
+use Rattle.plan_endings.specs.declared.ending.File.TheVariants.{Plan, Proof}
 use Rattle.plan_top.specs.Raced.{OnceRaced, outcome_of}
 use Rattle.plan_top.specs.Generated.{AnswersGenerated}
-use Rattle.plan_top.specs.declared.ending.Kind.TheVariants.{Syntax, Unknown, Arity, Mistyped}
-use Rattle.plan_top.specs.declared.ending.Ending.{Ending}
-use Rattle.plan_top.specs.declared.ending.Ending.TheVariants.{Report, Listing, Reaches, Blocked, Short, Refused, TooLong, TooMany, TooLarge, Usage, Found, Open, Accepted, Rejected, NotEmpty}
+use Rattle.plan_endings.specs.declared.ending.Kind.TheVariants.{Syntax, Unknown, Arity, Mistyped}
+use Rattle.plan_endings.specs.declared.ending.Ending.{Ending}
+use Rattle.plan_endings.specs.declared.ending.Ending.TheVariants.{Report, Listing, Reaches, Blocked, Short, Refused, TooLong, TooMany, TooLarge, Usage, Found, Open, Accepted, Rejected, NotEmpty}
 
 -- ---- what the bytes of its files decide for a request
 

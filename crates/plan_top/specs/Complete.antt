@@ -14,10 +14,10 @@ use Rattle.plan_top.specs.Tasks.{AreTask}
 use Rattle.clause_base.specs.declared.log.Entry.{Entry}
 use Rattle.certificates.specs.Certificate.{IsSpelled}
 use Rattle.plan_top.specs.Causes.{OfTwo, OfThree}
-use Rattle.plan_top.specs.Ending.{status_of}
-use Rattle.plan_top.specs.declared.ending.Ending.{Ending}
-use Rattle.plan_top.specs.declared.ending.Ending.TheVariants.{TooLarge, TooLong}
-use Rattle.plan_top.specs.declared.ending.File.TheVariants.{Proof}
+use Rattle.plan_endings.specs.Ending.{status_of}
+use Rattle.plan_endings.specs.declared.ending.Ending.{Ending}
+use Rattle.plan_endings.specs.declared.ending.Ending.TheVariants.{TooLarge, TooLong}
+use Rattle.plan_endings.specs.declared.ending.File.TheVariants.{Proof}
 
 -- a task is grounded within the limits
 abbrev pub GroundsWithin : Parts → Type 0

@@ -3,10 +3,10 @@ use Rattle.std.specs.Prelude.{◌≡◌, ◌⊎◌, ◌<◌, ◌≤◌, ℕ, ◌
 use Rattle.pl_io.specs.Outside.{FaultRose}
 use Rattle.plan_words.specs.Among.{AreAmong}
 use Rattle.plan_words.specs.Seen.{Seen, verifies, batches}
-use Rattle.plan_top.specs.declared.ending.File.{File}
-use Rattle.plan_top.specs.declared.ending.File.TheVariants.{Domain, Problem, Plan, Proof}
-use Rattle.plan_top.specs.declared.ending.Ending.{Ending}
-use Rattle.plan_top.specs.declared.ending.Ending.TheVariants.{TooLong, ReadFault}
+use Rattle.plan_endings.specs.declared.ending.File.{File}
+use Rattle.plan_endings.specs.declared.ending.File.TheVariants.{Domain, Problem, Plan, Proof}
+use Rattle.plan_endings.specs.declared.ending.Ending.{Ending}
+use Rattle.plan_endings.specs.declared.ending.Ending.TheVariants.{TooLong, ReadFault}
 
 -- how many bytes a domain, a problem or a plan may have
 abbrev pub most_bytes : ℕ

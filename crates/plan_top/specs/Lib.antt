@@ -1,4 +1,3 @@
-pub mod Ending
 pub mod Ends
 pub mod Stepping
 pub mod Files

@@ -6,8 +6,8 @@ use Rattle.plan_words.specs.declared.request.Show.{Show}
 use Rattle.plan_words.specs.declared.request.Stepping.{Stepping}
 use Rattle.plan_words.specs.Requested.{requested}
 use Rattle.plan_top.specs.Causes.{Comes}
-use Rattle.plan_top.specs.declared.ending.Ending.{Ending}
-use Rattle.plan_top.specs.declared.ending.Ending.TheVariants.{ReadFault}
+use Rattle.plan_endings.specs.declared.ending.Ending.{Ending}
+use Rattle.plan_endings.specs.declared.ending.Ending.TheVariants.{ReadFault}
 
 -- numbers that are the same but for the slice and the workers
 abbrev pub AreSameRace : Numbers → Numbers → Type 0

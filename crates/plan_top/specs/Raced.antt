@@ -13,10 +13,10 @@ use Rattle.race.specs.Race as stage
 use Rattle.race.specs.Lines.{AreLines, EachRefuted}
 use Rattle.race.specs.Ends.{WherePlanned, AreStepsOf, AreActions, SumsWithin}
 use Rattle.certificates.specs.Known.{IsOrdered, form_of, choice_at, formula_at}
-use Rattle.plan_top.specs.declared.ending.Outcome.{Outcome}
-use Rattle.plan_top.specs.declared.ending.Outcome.TheVariants as outcomes
-use Rattle.plan_top.specs.declared.ending.Ending.{Ending}
-use Rattle.plan_top.specs.declared.ending.Ending.TheVariants.{TooLarge}
+use Rattle.plan_endings.specs.declared.ending.Outcome.{Outcome}
+use Rattle.plan_endings.specs.declared.ending.Outcome.TheVariants as outcomes
+use Rattle.plan_endings.specs.declared.ending.Ending.{Ending}
+use Rattle.plan_endings.specs.declared.ending.Ending.TheVariants.{TooLarge}
 
 -- how an end is told
 abbrev pub outcome_of : EndView → Outcome

@@ -11,14 +11,14 @@ use Rattle.pd_task.specs.declared.error.PddlError.{PddlError}
 use Rattle.pd_task.specs.declared.error.PddlError.TheVariants as errors
 use Rattle.grounding.specs.Grounded.{Grounded, IsGrounded}
 use Rattle.grounding.specs.Limits.{IsWithin, IsOverTuples, IsOverFacts, IsOverActions, IsOverEffects}
-use Rattle.plan_top.specs.declared.ending.File.{File}
-use Rattle.plan_top.specs.declared.ending.File.TheVariants.{Domain, Problem, Plan}
-use Rattle.plan_top.specs.declared.ending.Limit.{Limit}
-use Rattle.plan_top.specs.declared.ending.Limit.TheVariants as limits
-use Rattle.plan_top.specs.declared.ending.Kind.{Kind}
-use Rattle.plan_top.specs.declared.ending.Kind.TheVariants.{Syntax, Deep, Shape, Unknown, Arity, Duplicate, Unsupported}
-use Rattle.plan_top.specs.declared.ending.Ending.{Ending}
-use Rattle.plan_top.specs.declared.ending.Ending.TheVariants.{Refused, TooMany}
+use Rattle.plan_endings.specs.declared.ending.File.{File}
+use Rattle.plan_endings.specs.declared.ending.File.TheVariants.{Domain, Problem, Plan}
+use Rattle.plan_endings.specs.declared.ending.Limit.{Limit}
+use Rattle.plan_endings.specs.declared.ending.Limit.TheVariants as limits
+use Rattle.plan_endings.specs.declared.ending.Kind.{Kind}
+use Rattle.plan_endings.specs.declared.ending.Kind.TheVariants.{Syntax, Deep, Shape, Unknown, Arity, Duplicate, Unsupported}
+use Rattle.plan_endings.specs.declared.ending.Ending.{Ending}
+use Rattle.plan_endings.specs.declared.ending.Ending.TheVariants.{Refused, TooMany}
 
 -- two files are a task
 abbrev pub AreTask : List ℕ → List ℕ → Parts → Type 0

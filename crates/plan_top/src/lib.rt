@@ -5,7 +5,6 @@
 mod answer;
 mod certify;
 mod decide;
-mod ending;
 mod generated;
 mod ground;
 mod laws;
@@ -18,6 +17,6 @@ mod task;
 mod top;
 mod written;
 
-pub use ending::{Ending, File, Kind, Limit, Outcome};
+pub use plan_endings::{Ending, File, Kind, Limit, Outcome};
 pub use status::Status;
 pub use top::run;

@@ -9,14 +9,14 @@ ghost use Rattle.plan_words.specs.Requested.{requested, command_named};
 ghost use Rattle.plan_top.specs.Files.{NotesAmong};
 ghost use Rattle.plan_top.specs.Causes.{Comes, FaultOf, names_in};
 ghost use Rattle.plan_top.specs.Complete.{GoesWell, IsGood};
-ghost use Rattle.plan_top.specs.Ending.{status_of, text_of, IsSmall};
+ghost use Rattle.plan_endings.specs.Ending.{status_of, text_of, IsSmall};
 ghost use Rattle.plan_top.specs.Headline.{Printed, OfFiles, OfPlans, PlanRuns, HasAtLeast, NoStepPlan, NoPlan, LineIsSo, SpendsAll, Certifies, OfProof, ProvesNone, TellsGround, TellsOrder, CallsRun};
 ghost use Rattle.plan_top.specs.OneReport.{AskForOneRace, HasRead};
 ghost use Rattle.plan_top.specs.Ends.{ending_in};
-ghost use Rattle.plan_top.specs.declared.ending.Ending.{Ending};
+ghost use Rattle.plan_endings.specs.declared.ending.Ending.{Ending};
 
 use crate::decide::decide;
-use crate::ending::Ending;
+use crate::Ending;
 use crate::laws::laws;
 use crate::status::Status;
 use crate::stop::Stop;
