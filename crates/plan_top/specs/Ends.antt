@@ -14,6 +14,10 @@ abbrev pub StopsBy : {A : Type 0} → (Ending → Type 0) → Result A Stop → 
 StopsBy claim (Ok x) = Unit {0}
 StopsBy claim (Err stop) = EndsBy claim stop
 
+-- a call stops for want of memory alone
+abbrev pub OnlyMemory : {A : Type 0} → Result A Stop → Type 0
+OnlyMemory result = StopsBy (λ end. ⊥) result
+
 -- the ending, answered or handed on, is of this kind
 abbrev pub EndsAs : (Ending → Type 0) → Result Ending Stop → Type 0
 EndsAs claim (Ok end) = claim end

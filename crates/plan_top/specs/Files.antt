@@ -1,5 +1,5 @@
 -- Taking the files of a request from a shelf.
-use Rattle.std.specs.Prelude.{◌≡◌, ◌⊎◌, ◌<◌, ◌≤◌, ℕ, ◌+◌, ◌==◌, List, [], ◌∷◌, ◌++◌, length, Bool, IsTrue, if◌then◌else◌, Option, IfSome}
+use Rattle.std.specs.Prelude.{◌≡◌, ◌⊎◌, ◌<◌, ◌≤◌, ℕ, ◌+◌, ◌==◌, List, [], ◌∷◌, ◌++◌, length, Bool, IsTrue, if◌then◌else◌, Option, Some, None, IfSome}
 use Rattle.pl_io.specs.Outside.{FaultRose}
 use Rattle.plan_words.specs.Among.{AreAmong}
 use Rattle.plan_words.specs.Seen.{Seen, verifies, batches}
@@ -65,12 +65,31 @@ module _ (told : List ℕ → Option (List ℕ)) (lacks : List ℕ → Bool) (ol
   abbrev pub Stops : File → List ℕ → Ending → Type 0
   Stops file name end = ((end ≡ ReadFault file) × FaultRose name old new) ⊎ ((end ≡ TooLong file) × IsTooLong file name)
 
+  -- this file was taken, or has more bytes than it may have
+  abbrev pub IsTakenOrLong : File → List ℕ → Option (List ℕ) → Type 0
+  IsTakenOrLong file name (Some bytes) = IsTaken told lacks file name bytes
+  IsTakenOrLong file name None = IsTooLong file name
+
   -- what the file at each place is
   module _ (file : ℕ → File) where
     -- one of the files from this place on, which are taken in order, was not taken whole, and those before it were
     abbrev pub StopsFrom : ℕ → List (List ℕ) → Ending → Type 0
     StopsFrom place [] end = ⊥
     StopsFrom place (name ∷ names) end = Stops (file place) name end ⊎ (Fits (file place) name × StopsFrom (place + 1) names end)
+
+    -- one of the files from this place on, which are taken in order, could not be read; those before it are there, whatever their
+    -- lengths
+    abbrev pub FaultsFrom : ℕ → List (List ℕ) → Ending → Type 0
+    FaultsFrom place [] end = ⊥
+    FaultsFrom place (name ∷ names) end =
+        ((end ≡ ReadFault (file place)) × FaultRose name old new) ⊎ ((IsTrue (lacks name) → ⊥) × FaultsFrom (place + 1) names end)
+
+    -- each of the files of these names from this place on was taken, or has more bytes than it may have
+    abbrev pub AreTakenOrLong : ℕ → List (List ℕ) → List (Option (List ℕ)) → Type 0
+    AreTakenOrLong place [] [] = Unit {0}
+    AreTakenOrLong place [] (bytes ∷ others) = ⊥
+    AreTakenOrLong place (name ∷ names) [] = ⊥
+    AreTakenOrLong place (name ∷ names) (bytes ∷ others) = IsTakenOrLong (file place) name bytes × AreTakenOrLong (place + 1) names others
 
     -- each of the files from this place on fits
     abbrev pub FitFrom : ℕ → List (List ℕ) → Type 0

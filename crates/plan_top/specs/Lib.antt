@@ -5,6 +5,7 @@ pub mod Tasks
 pub mod Raced
 pub mod Generated
 pub mod Causes
+pub mod Parts
 pub mod Complete
 pub mod Headline
 pub mod Laws

@@ -3,13 +3,18 @@
 #![tactic(auto)]
 
 mod answer;
+mod batch;
 mod certify;
 mod decide;
+mod first;
 mod generated;
 mod ground;
 mod laws;
+mod parts;
 mod raced;
+mod races;
 mod ready;
+mod reported;
 mod status;
 mod stop;
 mod take;
