@@ -39,6 +39,14 @@ pub fn run_program<H: Files + Print + Threads + Wait + Sync + RandomSource + All
     let mut shelf = FileShelf::new(rt, alloc);
     let mut sink = OutSink::new(rt);
     let mut driver = BlockOn::new(rt);
-    let status = run(rt, alloc, &words, &mut shelf, &mut sink, &OpenGate, &mut driver);
+    let status = run(
+        rt,
+        alloc,
+        &words,
+        &mut shelf,
+        &mut sink,
+        &OpenGate,
+        &mut driver,
+    );
     ExitCode::from(status.0)
 }

@@ -133,7 +133,7 @@ module _ (told : List ℕ → Option (List ℕ)) (lacks : List ℕ → Bool) (ol
   too_long file name bytes is end has (inl fault) = absurd (subst HasRead fault.0 has)
   too_long file name bytes is end has (inr long) = (long.0, subst (λ (o : Option (List ℕ)). IfSome o (λ bs. most_of file < length bs)) is long.1.1)
 
-  short : (file : File) (name bytes : List ℕ) → told name ≡ Some bytes → Fits told lacks old new file name → length bytes ≤ most_of file
+  short : (file : File) (name bytes : List ℕ) → told name ≡ Some bytes → Fits told lacks file name → length bytes ≤ most_of file
   short file name bytes is fits = subst (λ (o : Option (List ℕ)). IfSome o (λ bs. length bs ≤ most_of file)) is fits.1
 
   module _ (domain problem first second : List ℕ) (domain_told : told domain ≡ Some first) (problem_told : told problem ≡ Some second) where
@@ -152,7 +152,7 @@ module _ (told : List ℕ → Option (List ℕ)) (lacks : List ℕ → Bool) (ol
     cause_of : (request : Seen) → files_of request ≡ domain ∷ problem ∷ [] → (end : Ending) → HasRead end → ComesFor told lacks old new request end → IsCause request first second end
     cause_of request names end has (stopped p) = inl (stop_of request end has (subst (λ (ns : List (List ℕ)). StopsFrom told lacks old new (file_at request) 0 ns end) names p))
     cause_of request names end has (decided fit answer h) =
-        let fits = subst (λ (ns : List (List ℕ)). FitFrom told lacks old new (file_at request) 0 ns) names fit in
+        let fits = subst (λ (ns : List (List ℕ)). FitFrom told lacks (file_at request) 0 ns) names fit in
         inr (short Domain domain first domain_told fits.0, short Problem problem second problem_told fits.1.0, of_told request end (subst (λ (ns : List (List ℕ)). OfTold told ns (λ files. Decides request files end)) names h))
 
 -- a file that could not be read is told

@@ -151,7 +151,7 @@ in_three claim (a ∷ (b ∷ [])) from h = absurd h
 in_three claim (a ∷ (b ∷ (c ∷ []))) from h = from a b c h
 in_three claim (a ∷ (b ∷ (c ∷ (d ∷ others)))) from h = absurd h
 
-decides_answer : (request : Seen) (files : List (List ℕ)) (end : Ending) → Decides request files end → is_answer request end ≡ true
+pub decides_answer : (request : Seen) (files : List (List ℕ)) (end : Ending) → Decides request files end → is_answer request end ≡ true
 decides_answer (plans_by steps d p n) files end h =
     in_two _ files (λ a b k. grounded_answer (plans_by steps d p n) a b (AnswersPlan steps k.0) end (λ what count. refl) (λ task g. plan_answer steps d p n k.0 task g end) k.2) h
 decides_answer (grounds d p) files end h = in_two _ files (λ a b k. grounded_answer (grounds d p) a b AnswersGround end (λ what count. refl) (λ task g e. rw e refl) k) h
@@ -207,7 +207,7 @@ module _ (told : List ℕ → Option (List ℕ)) (lacks : List ℕ → Bool) (ol
   -- of files that were taken, what their bytes decide comes of a request of one task
   pub taken_comes : (request : Seen) (files : List (List ℕ)) → AreTaken told lacks (file_at request) 0 (files_of request) files → (end : Ending) → Decides request files end → ComesFor told lacks old new request end
   taken_comes request files are end h =
-      decided (all_fit told lacks old new (file_at request) 0 (files_of request) files are) (decides_answer request files end h) (of_taken told lacks (file_at request) 0 (files_of request) files (λ fs. Decides request fs end) are h)
+      decided (all_fit told lacks (file_at request) 0 (files_of request) files are) (decides_answer request files end h) (of_taken told lacks (file_at request) 0 (files_of request) files (λ fs. Decides request fs end) are h)
 
   -- what comes of a request of one task comes of the request
   pub one_comes : (request : Seen) → IsOfOne request → (end : Ending) → ComesFor told lacks old new request end → ComesOf told lacks old new request end

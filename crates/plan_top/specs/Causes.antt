@@ -176,7 +176,7 @@ module _ (told : List ℕ → Option (List ℕ)) (lacks : List ℕ → Bool) (ol
   -- When an ending comes for a request of one task: a file of it stops it, or all files are taken and their bytes decide it.
   pub data ComesFor (request : Seen) (end : Ending) : Type 0 where
     stopped : StopsFrom told lacks old new (file_at request) 0 (files_of request) end → ComesFor request end
-    decided : FitFrom told lacks old new (file_at request) 0 (files_of request) → IsTrue (is_answer request end)
+    decided : FitFrom told lacks (file_at request) 0 (files_of request) → IsTrue (is_answer request end)
         → OfTold told (files_of request) (λ files. Decides request files end) → ComesFor request end
 
   -- Each problem of a batch, with the domain alone, comes to the part at its place as `plan` comes to its ending.

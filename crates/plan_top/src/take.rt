@@ -41,7 +41,7 @@ pub fn take_each<S: Shelf>(
     ensures told { S.told shelf.new ≡ S.told shelf.old }
     ensures lacks { S.lacks shelf.new ≡ S.lacks shelf.old }
     ensures noted { NotesAmong (files_of (seen request.now)) (S.failed shelf.old) (S.failed shelf.new) }
-    ensures taken { IfOk result (λ files. AreTakenOrLong (S.told shelf.old) (S.lacks shelf.old) (S.failed shelf.old) (S.failed shelf.new) (file_at (seen request.now)) 0 (files_of (seen request.now)) files.items) }
+    ensures taken { IfOk result (λ files. AreTakenOrLong (S.told shelf.old) (S.lacks shelf.old) (file_at (seen request.now)) 0 (files_of (seen request.now)) files.items) }
     ensures stops { StopsBy (FaultsFrom (S.told shelf.old) (S.lacks shelf.old) (S.failed shelf.old) (S.failed shelf.new) (file_at (seen request.now)) 0 (files_of (seen request.now))) result }
 {
     let mut files = Vec::new(alloc);
@@ -127,7 +127,7 @@ fn take_short<S: Shelf>(
     ensures told { S.told shelf.new ≡ S.told shelf.old }
     ensures lacks { S.lacks shelf.new ≡ S.lacks shelf.old }
     ensures notes { Notes (S.failed shelf.old) (S.failed shelf.new) name.now }
-    ensures taken { IfOk result (IsTakenOrLong (S.told shelf.old) (S.lacks shelf.old) (S.failed shelf.old) (S.failed shelf.new) file name.now) }
+    ensures taken { IfOk result (IsTakenOrLong (S.told shelf.old) (S.lacks shelf.old) file name.now) }
     ensures stops { StopsBy (λ end. (end ≡ Ending.ReadFault file) × FaultRose name.now (S.failed shelf.old) (S.failed shelf.new)) result }
 {
     match take_file(alloc, file, name, shelf) {
