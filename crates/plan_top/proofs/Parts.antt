@@ -1,18 +1,18 @@
 -- The parts of a batch: from its files to an ending for each problem.
-use Rattle.std.proofs.Common.{◌≡◌, ◌∙◌, ◌≤◌, ℕ, ◌+◌, Bool, true, false, List, [], ◌∷◌, ◌++◌, length, Option, Some, None, refl, sym, ap, subst, arith, inl, inr}
+use Rattle.std.proofs.Common.{◌≡◌, ◌∙◌, ◌≤◌, ◌<◌, ℕ, ◌+◌, Bool, true, false, List, [], ◌∷◌, ◌++◌, length, Option, Some, None, refl, sym, ap, subst, arith, inl, inr}
 use Rattle.std.specs.List.{AllByRecursion, AllZip}
 use Rattle.horizon_rates.specs.declared.settings.Settings.{Settings}
-use Rattle.plan_words.specs.Seen.{Numbers, numbers, plans, plans_by, batches}
+use Rattle.plan_words.specs.Seen.{Seen, Numbers, numbers, plans, plans_by, batches, files_of}
 use Rattle.plan_words.specs.declared.request.Stepping.TheVariants.{Exists}
 use Rattle.plan_words.specs.declared.request.Turns.{Turns}
 use Rattle.plan_endings.specs.declared.ending.Ending.{Ending}
 use Rattle.plan_endings.specs.declared.ending.Ending.TheVariants.{ReadFault}
 use Rattle.plan_endings.specs.declared.ending.File.{File}
 use Rattle.plan_endings.specs.declared.ending.File.TheVariants.{Domain, Problem}
-use Rattle.plan_top.specs.Files.{IsTaken, IsTooLong, IsTakenOrLong, AreTakenOrLong, most_of, most_bytes, file_at}
+use Rattle.plan_top.specs.Files.{FaultsFrom, IsTaken, IsTooLong, IsTakenOrLong, AreTakenOrLong, most_of, most_bytes, file_at}
 use Rattle.plan_top.specs.Tasks.{OnceGrounded, grounded}
-use Rattle.plan_top.specs.Causes.{AnswersPlan, HasRead, ComesFor, stopped, decided, ArePartsOf, ComesForBatch, in_parts, is_answer}
-use Rattle.plan_top.specs.Parts.{IsShort, AnswersPart, AnswersBatch, EndsAlone, IsRunOf, IsSound, ArePrepared, AnswersRun, open_in, woven}
+use Rattle.plan_top.specs.Causes.{AnswersPlan, HasRead, ComesFor, stopped, decided, ArePartsOf, ComesForBatch, unread, in_parts, ComesOf, is_answer}
+use Rattle.plan_top.specs.Parts.{IsBatch, IsShort, AnswersPart, AnswersBatch, EndsAlone, IsRunOf, IsSound, ArePrepared, AnswersRun, open_in, woven}
 use Rattle.plan_top.specs.declared.parts.Run.{Run}
 use Rattle.plan_top.proofs.Complete.{batch_most}
 use Rattle.plan_top.proofs.Taking.{taken_fits}
@@ -84,6 +84,30 @@ module _ (told : List ℕ → Option (List ℕ)) (lacks : List ℕ → Bool) (ol
   pub batch_comes : (first : Option (List ℕ)) (files : List (Option (List ℕ))) → AreTakenOrLong told lacks (file_at (batches domain all (numbers settings) turns)) 0 (domain ∷ all) (first ∷ files) → (end : Ending)
       → AnswersBatch settings first files end → ComesForBatch told lacks old new domain all (numbers settings) turns end
   batch_comes first files are end (parts, h, e) = in_parts parts (parts_come first are.0 1 all files parts are.1 h) e
+
+-- the same of a request for a batch
+module _ (told : List ℕ → Option (List ℕ)) (lacks : List ℕ → Bool) (old new : List (List ℕ)) (settings : Settings) (turns : Turns) (request : Seen) (is : IsBatch settings turns request) where
+  -- its files were taken, or have more bytes than they may have
+  abbrev AreMet : List (Option (List ℕ)) → Type 0
+  AreMet files = AreTakenOrLong told lacks (file_at request) 0 (files_of request) files
+
+  met_batch : (files : List (Option (List ℕ))) → AreMet files → AreTakenOrLong told lacks (file_at (batches is.0 is.1 (numbers settings) turns)) 0 (is.0 ∷ is.1) files
+  met_batch files are = subst (λ (r : Seen). AreTakenOrLong told lacks (file_at r) 0 (files_of r) files) is.2 are
+
+  pub some_files : (files : List (Option (List ℕ))) → AreMet files → 0 < length files
+  some_files files are = let count = met_count told lacks (file_at (batches is.0 is.1 (numbers settings) turns)) 0 (is.0 ∷ is.1) files (met_batch files are) in omega (arith, count)
+
+  pub files_short : (files : List (Option (List ℕ))) → AreMet files → AllByRecursion IsShort files
+  files_short files are = all_short told lacks old new is.0 is.1 settings turns 0 (is.0 ∷ is.1) files (met_batch files are)
+
+  pub files_few : (files : List (Option (List ℕ))) → AreMet files → length files ≤ 17
+  files_few files are = let count = met_count told lacks (file_at (batches is.0 is.1 (numbers settings) turns)) 0 (is.0 ∷ is.1) files (met_batch files are) in let few = is.3 in omega (arith, count, few)
+
+  pub request_comes : (first : Option (List ℕ)) (files : List (Option (List ℕ))) → AreMet (first ∷ files) → (end : Ending) → AnswersBatch settings first files end → ComesOf told lacks old new request end
+  request_comes first files are end h = subst (λ (r : Seen). ComesOf told lacks old new r end) (sym is.2) (batch_comes told lacks old new is.0 is.1 settings turns first files (met_batch (first ∷ files) are) end h)
+
+  pub request_unread : (end : Ending) → FaultsFrom told lacks old new (file_at request) 0 (files_of request) end → ComesOf told lacks old new request end
+  request_unread end h = subst (λ (r : Seen). FaultsFrom told lacks old new (file_at r) 0 (files_of r) end → ComesOf told lacks old new r end) (sym is.2) (λ k. unread k) h
 
 -- ---- before the races
 

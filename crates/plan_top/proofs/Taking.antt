@@ -25,6 +25,10 @@ drop_none xs n none = elim (slice_get_cases xs n).1 [
   | inr past ↦ drop_of_length-le xs past.0
 ]
 
+-- the name after those whose files were taken
+pub name_at : {A : Type 0} (names : List A) (n m : ℕ) (name : A) → n ≡ m → Some name ≡ slice_get names n → slice_get names m ≡ Some name
+name_at names n m name e h = rw e at (sym h)
+
 length_push : {X : Type 0} (xs : List X) (x : X) → length (xs ++ x ∷ []) ≡ length xs + 1
 length_push xs x = omega (arith, length-append xs (x ∷ []))
 

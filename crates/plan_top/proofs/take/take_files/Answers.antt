@@ -1,14 +1,10 @@
-use Rattle.std.proofs.Common.{◌≡◌, ◌+◌, ℕ, List, sym, length, Some, None, arith}
+use Rattle.std.proofs.Common.{◌≡◌, ◌+◌, sym, length, Some, None, arith}
 use Rattle.std.specs.Prelude.{slice_get}
 use Rattle.plan_words.specs.Seen.{seen, files_of}
 use Rattle.plan_top.specs.Files.{StopsFrom, IsTaken, file_at}
 use Rattle.plan_top.proofs.Stopped.{Stops-handed}
-use Rattle.plan_top.proofs.Taking.{noted_at, noted_at_last, stops_here, one_more, all_taken}
+use Rattle.plan_top.proofs.Taking.{name_at, noted_at, noted_at_last, stops_here, one_more, all_taken}
 use Rattle.plan_top.proofs.take.take_files.Goals as goal
-
--- the name after those whose files were taken
-name_at : {A : Type 0} (names : List A) (n m : ℕ) (name : A) → n ≡ m → Some name ≡ slice_get names n → slice_get names m ≡ Some name
-name_at names n m name e h = rw e at (sym h)
 
 pub returns-in_err-bytes-clause-noted : goal.returns-in_err-bytes-clause-noted
 returns-in_err-bytes-clause-noted g c =
