@@ -16,4 +16,4 @@ returns-clause-cause g c =
     c.decide_request.result c.decide_request.ensures.cause
 
 pub decide_request-requires : goal.decide_request-requires
-decide_request-requires g c κs within = rw c.in-Some.is at c.in_ok-request.ensures.sized
+decide_request-requires g c = rw c.in-Some.is at c.in_ok-request.ensures.sized
