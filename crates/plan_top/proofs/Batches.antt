@@ -1,18 +1,17 @@
 -- The parts of a batch: from its files to an ending for each problem.
-use Rattle.std.proofs.Common.{◌≡◌, ◌∙◌, ◌≤◌, ◌<◌, ℕ, ◌+◌, Bool, true, false, List, [], ◌∷◌, ◌++◌, length, Option, Some, None, refl, sym, ap, subst, arith, inl, inr}
+use Rattle.std.proofs.Common.{◌≡◌, ◌≤◌, ◌<◌, ℕ, ◌+◌, Bool, true, false, List, [], ◌∷◌, ◌++◌, length, Option, Some, None, refl, sym, subst, arith, inl, inr}
 use Rattle.std.specs.Prelude.{IsTrue, IfSome}
 use Rattle.std.specs.List.{AllByRecursion, AllZip}
 use Rattle.horizon_rates.specs.declared.settings.Settings.{Settings}
-use Rattle.plan_words.specs.Seen.{Seen, Numbers, numbers, plans, plans_by, batches, files_of}
-use Rattle.plan_words.specs.declared.request.Stepping.TheVariants.{Exists}
+use Rattle.plan_words.specs.Seen.{Seen, Numbers, numbers, plans, batches, files_of}
 use Rattle.plan_words.specs.declared.request.Turns.{Turns}
 use Rattle.plan_endings.specs.declared.ending.Ending.{Ending}
 use Rattle.plan_endings.specs.declared.ending.Ending.TheVariants.{ReadFault}
 use Rattle.plan_endings.specs.declared.ending.File.{File}
 use Rattle.plan_endings.specs.declared.ending.File.TheVariants.{Domain, Problem}
 use Rattle.plan_top.specs.Files.{FaultsFrom, IsTaken, IsTooLong, IsTakenOrLong, AreTakenOrLong, most_of, most_bytes, file_at}
-use Rattle.plan_top.specs.Tasks.{OnceGrounded, grounded}
-use Rattle.plan_top.specs.Causes.{AnswersPlan, HasRead, ComesFor, stopped, decided, ArePartsOf, ComesForBatch, unread, in_parts, ComesOf, is_answer}
+use Rattle.plan_top.specs.Tasks.{grounded}
+use Rattle.plan_top.specs.Causes.{HasRead, ComesFor, stopped, ArePartsOf, ComesForBatch, unread, in_parts, ComesOf, is_answer}
 use Rattle.plan_top.specs.Parts.{IsBatch, IsShort, AnswersPart, AnswersBatch, EndsAlone, IsRunOf, IsSound, ArePrepared, AnswersRun, open_in, woven}
 use Rattle.plan_top.specs.declared.parts.Run.{Run}
 use Rattle.plan_top.proofs.Complete.{batch_most}

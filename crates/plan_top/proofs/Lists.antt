@@ -1,5 +1,5 @@
 -- Lists place by place.
-use Rattle.std.proofs.Common.{◌≡◌, ◌<◌, ℕ, ◌+◌, zero, suc, List, [], ◌∷◌, ◌++◌, length, take, slice_index_or, subst, sym, add-one, refl, ap, arith}
+use Rattle.std.proofs.Common.{◌≡◌, ◌<◌, ℕ, zero, suc, List, [], ◌∷◌, ◌++◌, length, take, slice_index_or, subst, sym, refl, ap, arith}
 use Rattle.std.specs.List.{AllByRecursion, AllZip}
 
 -- what stands at a place of both lists

@@ -1,4 +1,4 @@
-use Rattle.std.proofs.Common.{◌≡◌, ◌∙◌, length, sym, subst, arith}
+use Rattle.std.proofs.Common.{◌≡◌, ◌∙◌, sym, arith}
 use Rattle.std.specs.List.{AllZip}
 use Rattle.plan_endings.specs.Ending.{batch_of}
 use Rattle.plan_top.specs.Parts.{AnswersRun, AnswersBatch, woven}
