@@ -9,6 +9,7 @@ ghost use Rattle.cdcl_laws.specs.Sound.{IsSound, IsSolution, made_true};
 ghost use Rattle.cdcl_laws.specs.Laws.{AddsUp, SettledStays, ComesToRestAlways, Grants};
 ghost use Rattle.cdcl_core.specs.Search.{SolverView, IsNextEvent, GoesOn};
 ghost use Rattle.cdcl_core.specs.Between.{IsShortBetween};
+ghost use Rattle.cdcl_core.specs.Told.{IsToldUpTo, literals_on};
 
 use crate::search::Search;
 use cdcl_laws::law::runs_are_sound;
@@ -27,16 +28,35 @@ use std::marker::Model;
 pub struct Solver<C: Chooser> {
     search: Search,
     chooser: C,
+    told: C::Told,
+    kept: usize,
 }
 
 impl<C: Chooser> Model for Solver<C> {
+    ghost use Rattle.std.specs.Prelude.{◌≡◌, false};
     ghost use Rattle.cdcl_core.specs.Search.{SolverView};
+    ghost use Rattle.cdcl_core.specs.Told.{IsToldUpTo};
 
     ghost Value = { SolverView C };
 
     ghost view = { λ s. record { formula = s.search.formula; state = s.search.state; chooser = s.chooser; spoilt = s.search.spoilt } };
 
-    ghost invariant = { λ s. C.fits s.chooser s.search.formula.variables };
+    ghost invariant = { λ s.
+        C.fits s.chooser s.search.formula.variables
+        × (s.search.spoilt ≡ false → IsToldUpTo (C.knows s.chooser s.told) s.kept s.search.state.trail) };
+}
+
+/// Tells a chooser, which knows of a search's trail up to a length, what the trail has behind that.
+fn tell<C: Chooser>(chooser: &C, told: &mut C::Told, kept: usize, search: &Search)
+    requires fits { C.fits chooser.now search.now.formula.variables }
+    requires told { IsToldUpTo (C.knows chooser.now told.old) kept search.now.state.trail }
+    ensures { C.knows chooser.now told.new (literals_on search.now.state.trail) }
+{
+    chooser.untell(told, kept);
+    let entries = search.entries();
+    for i in kept..entries.len() {
+        chooser.tell(told, entries[i].literal);
+    }
 }
 
 impl<C: Chooser + Drop> Solver<C> {
@@ -46,7 +66,13 @@ impl<C: Chooser + Drop> Solver<C> {
         ensures start { IfOk result (λ s. s ≡ record { formula = formula; state = start_of formula; chooser = chooser; spoilt = false }) }
     {
         let search = Search::new(alloc, formula)?;
-        Ok(Solver { search, chooser })
+        let told = chooser.start(alloc)?;
+        Ok(Solver {
+            search,
+            chooser,
+            told,
+            kept: 0,
+        })
     }
 }
 
@@ -141,7 +167,9 @@ impl<C: Chooser> Solver<C> {
             Some(event) => event,
             None => {
                 self.search.pass_given();
-                match self.chooser.choose(self.search.values()) {
+                tell(&self.chooser, &mut self.told, self.kept, &self.search);
+                self.kept = self.search.entries().len();
+                match self.chooser.choose_told(&mut self.told, self.search.values()) {
                     None => Event::Finish,
                     Some(lit) => Event::Decide(lit),
                 }
@@ -162,7 +190,9 @@ impl<C: Chooser> Solver<C> {
         ensures chooser { self.new.chooser ≡ self.old.chooser }
         ensures spoilt { OnErr result (self.new.spoilt ≡ true) }
     {
-        self.search.apply(event)
+        let done = self.search.apply(event);
+        self.kept = self.kept.min(self.search.entries().len());
+        done
     }
 
     /// Goes on until it is settled or the next event is a conflict past the limit.
