@@ -1,8 +1,9 @@
 -- What the chooser of a solver was told: the values of the literals on a trail, and what stays as the trail changes.
-use Rattle.std.proofs.Common.{arith, ◌≡◌, ◌≢◌, ◌==◌, ℕ, zero, suc, ◌+◌, ◌*◌, ◌/◌, ◌%◌, ◌≤◌, List, [], ◌∷◌, ◌++◌, length, take, map, min, reverse, Bool, true, false, ◌||◌, Option, Some, None, refl, sym, ap, ◌∙◌, subst, if◌then◌else◌, ◌⊎◌, inl, inr, Result, Ok, Err, OnOk, OnErr}
+use Rattle.std.proofs.Common.{arith, ◌≡◌, ◌≢◌, ◌==◌, ℕ, zero, suc, ◌+◌, ◌*◌, ◌/◌, ◌%◌, ◌<◌, ◌≤◌, List, [], ◌∷◌, ◌++◌, length, take, get_or, map, min, reverse, Bool, true, false, ◌||◌, Option, Some, None, refl, sym, ap, ◌∙◌, subst, if◌then◌else◌, ◌⊎◌, inl, inr, Result, Ok, Err, OnOk, OnErr}
 use Rattle.std.proofs.lemmas.Bool.{cases_eq}
 use Rattle.std.proofs.lemmas.Bool.Decides.{nat_tests}
-use Rattle.std.proofs.lemmas.List.{take-take, take-append-le, map-append, length-append, length-map}
+use Rattle.std.proofs.lemmas.List.{take-take, take-append-le, take_all, map-append, length-append, length-map, get_or-map}
+use Rattle.std.proofs.Math.Seq.{take-suc}
 use Rattle.clause_base.specs.Choice.{Known}
 use Rattle.clause_base.specs.Told.{told_value, told_from, told_values}
 use Rattle.clause_base.specs.Literal.{opposite}
@@ -124,3 +125,18 @@ told_on knows kept now e old new (Ok x) ok err m h sane =
     let t : apply old.state e ≡ new.state = sym (ap (λ (v : SearchView). v.state) ok) in
     subst (λ (k : ℕ). IsToldUpTo knows k new.state.trail) (sym m) (subst (λ (x : State). IsToldUpTo knows (min kept (length x.trail)) x.trail) t (told_after knows kept old.state e (h s)))
 told_on knows kept now e old new (Err x) ok err m h sane = let z : true ≡ false = sym err ∙ sane in cc
+
+-- one more literal on a trail
+pub next_told : (trail : List Assigned) (i : ℕ) (a : Assigned) → i < length trail → a ≡ get_or trail i a → take (i + 1) (literals_on trail) ≡ take i (literals_on trail) ++ a.literal ∷ []
+next_told trail i a h e =
+    let s : i + 1 ≡ suc i = omega arith in
+    let long = length-map (λ (b : Assigned). b.literal) trail in
+    let at : get_or (literals_on trail) i a.literal ≡ a.literal = get_or-map (λ (b : Assigned). b.literal) trail i a ∙ ap (λ (b : Assigned). b.literal) (sym e) in
+    ap (λ (k : ℕ). take k (literals_on trail)) s ∙ take-suc (literals_on trail) i a.literal (omega (arith, long, h)) ∙ ap (λ (x : ℕ). take i (literals_on trail) ++ x ∷ []) at
+
+-- all of them were told
+pub told_all : (knows : List ℕ → Type 0) (n i : ℕ) (trail : List Assigned) → n ≡ length trail → n ≤ i → knows (take i (literals_on trail)) → knows (literals_on trail)
+told_all knows n i trail e h k = let long = length-map (λ (b : Assigned). b.literal) trail in subst knows (take_all i (literals_on trail) (omega (arith, long, e, h))) k
+
+pub told_now : (knows : List ℕ → Type 0) (kept : ℕ) (trail : List Assigned) → knows (literals_on trail) → kept ≡ length trail → IsToldUpTo knows kept trail
+told_now knows kept trail k e = record { told = literals_on trail; known = k; within = omega (arith, e); same = refl }

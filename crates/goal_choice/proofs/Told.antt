@@ -80,13 +80,13 @@ last_is ls l h e =
     ∙ take-suc ls (length ls - 1) l (omega (arith, h))
     ∙ ap (λ (x : ℕ). take (length ls - 1) ls ++ x ∷ []) (sym e)
 
-pub take_back_keeps : (v w : ToldView) (l x low end last facts room capacity : ℕ) (own : List ℕ) → v ≡ w → IsTold v facts room → 0 < length v.told → last ≡ length v.told - 1 → l ≡ get_or v.told last l → x ≡ l / 2 → ((None {A = Bool} ≡ Some false → told_value w.told x ≡ None) → IsSameFrom (walk_of w) x None end) → low ≡ max v.low end → end ≤ v.means.layout.horizon → own ≡ take last v.told → room ≤ capacity
+pub take_back_keeps : (v w : ToldView) (l x low end last facts room capacity : ℕ) (own : List ℕ) → v ≡ w → IsTold v facts room → 0 < length v.told → last ≡ length v.told - 1 → l ≡ get_or v.told last l → x ≡ l / 2 → ((None ≡ Some false → told_value w.told x ≡ None) → IsSameFrom (walk_of w) x None end) → low ≡ max v.low end → end ≤ v.means.layout.horizon → own ≡ take last v.told → room ≤ capacity
     → IsTold (record v { told = own; low = low }) facts capacity
 take_back_keeps v w l x low end last facts room capacity own e i some at at_last is u m top o c =
     let n = length v.told - 1 in
     let here : l ≡ get_or v.told (length v.told - 1) l = at_last ∙ ap (λ (k : ℕ). get_or v.told k l) at in
     let below : l / 2 < variables v.means.layout = subst (λ (k : ℕ). k / 2 < variables v.means.layout) (sym here) (All-get_or (λ k. k / 2 < variables v.means.layout) v.told (length v.told - 1) l (omega (arith, some)) i.below) in
-    let u1 = subst (λ (z : ToldView). (None {A = Bool} ≡ Some false → told_value z.told x ≡ None) → IsSameFrom (walk_of z) x None end) (sym e) u in
+    let u1 = subst (λ (z : ToldView). (None ≡ Some false → told_value z.told x ≡ None) → IsSameFrom (walk_of z) x None end) (sym e) u in
     let u2 = subst (λ (y : ℕ). IsSameFrom (walk_of v) y None end) is (u1 (λ q. cc)) in
     let r = i.room in
     let t = i.walk.low in
