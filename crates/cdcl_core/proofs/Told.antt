@@ -1,8 +1,9 @@
 -- What the chooser of a solver was told: the values of the literals on a trail, and what stays as the trail changes.
-use Rattle.std.proofs.Common.{arith, ◌≡◌, ◌≢◌, ◌==◌, ℕ, zero, suc, ◌+◌, ◌*◌, ◌/◌, ◌%◌, ◌<◌, ◌≤◌, List, [], ◌∷◌, ◌++◌, length, take, get_or, map, min, reverse, Bool, true, false, ◌||◌, Option, Some, None, refl, sym, ap, ◌∙◌, subst, if◌then◌else◌, ◌⊎◌, inl, inr, Result, Ok, Err, OnOk, OnErr}
+use Rattle.std.proofs.Common.{arith, ◌≡◌, ◌≢◌, ◌==◌, ℕ, zero, suc, ◌+◌, ◌*◌, ◌/◌, ◌%◌, ◌<◌, ◌≤◌, List, [], ◌∷◌, ◌++◌, length, take, get_or, map, min, All, reverse, Bool, true, false, ◌||◌, Option, Some, None, refl, sym, ap, ◌∙◌, subst, if◌then◌else◌, ◌⊎◌, inl, inr, Result, Ok, Err, OnOk, OnErr}
 use Rattle.std.proofs.lemmas.Bool.{cases_eq}
 use Rattle.std.proofs.lemmas.Bool.Decides.{nat_tests}
-use Rattle.std.proofs.lemmas.List.{take-take, take-append-le, take_all, map-append, length-append, length-map, get_or-map}
+use Rattle.std.proofs.lemmas.List.{take-take, take-append-le, take_all, map-append, length-append, length-map, length-take, get_or-map}
+use Rattle.std.proofs.lemmas.List.Elements.{All-get_or}
 use Rattle.std.proofs.Math.Seq.{take-suc}
 use Rattle.clause_base.specs.Choice.{Known}
 use Rattle.clause_base.specs.Told.{told_value, told_from, told_values}
@@ -82,7 +83,7 @@ grown knows kept trail rest i =
       told = i.told;
       known = i.known;
       within = omega (arith, w, long);
-      same = i.same ∙ sym (ap (take kept) (map-append (λ (a : Assigned). a.literal) trail rest) ∙ take-append-le kept (literals_on trail) (literals_on rest) (let l = length-map (λ (a : Assigned). a.literal) trail in omega (arith, l, w)));
+      same = i.same ∙ sym (ap (take kept) (map-append (λ (a : Assigned). a.literal) trail rest) ∙ take-append-le kept (literals_on trail) (literals_on rest) (let l = length-map trail (λ (a : Assigned). a.literal) in omega (arith, l, w)));
     })
 
 -- and as it goes back
@@ -94,11 +95,11 @@ shrunk knows kept trail rest i =
       known = i.known;
       within = omega arith;
       same =
-      sym (take-take (min kept (length trail)) kept i.told (omega arith))
-      ∙ ap (take (min kept (length trail))) i.same
-      ∙ take-take (min kept (length trail)) kept (literals_on (trail ++ rest)) (omega arith)
-      ∙ ap (take (min kept (length trail))) (map-append (λ (a : Assigned). a.literal) trail rest)
-      ∙ take-append-le (min kept (length trail)) (literals_on trail) (literals_on rest) (let l = length-map (λ (a : Assigned). a.literal) trail in omega (arith, l));
+          sym (take-take (min kept (length trail)) kept i.told (omega arith))
+          ∙ ap (take (min kept (length trail))) i.same
+          ∙ take-take (min kept (length trail)) kept (literals_on (trail ++ rest)) (omega arith)
+          ∙ ap (take (min kept (length trail))) (map-append (λ (a : Assigned). a.literal) trail rest)
+          ∙ take-append-le (min kept (length trail)) (literals_on trail) (literals_on rest) (let l = length-map trail (λ (a : Assigned). a.literal) in omega (arith, l));
     }
 
 same_length : (knows : List ℕ → Type 0) (kept : ℕ) (trail : List Assigned) → IsToldUpTo knows kept trail → IsToldUpTo knows (min kept (length trail)) trail
@@ -130,13 +131,20 @@ told_on knows kept now e old new (Err x) ok err m h sane = let z : true ≡ fals
 pub next_told : (trail : List Assigned) (i : ℕ) (a : Assigned) → i < length trail → a ≡ get_or trail i a → take (i + 1) (literals_on trail) ≡ take i (literals_on trail) ++ a.literal ∷ []
 next_told trail i a h e =
     let s : i + 1 ≡ suc i = omega arith in
-    let long = length-map (λ (b : Assigned). b.literal) trail in
-    let at : get_or (literals_on trail) i a.literal ≡ a.literal = get_or-map (λ (b : Assigned). b.literal) trail i a ∙ ap (λ (b : Assigned). b.literal) (sym e) in
+    let long = length-map trail (λ (b : Assigned). b.literal) in
+    let at : get_or (literals_on trail) i a.literal ≡ a.literal = get_or-map (λ (b : Assigned). b.literal) trail i a a.literal h ∙ ap (λ (b : Assigned). b.literal) (sym e) in
     ap (λ (k : ℕ). take k (literals_on trail)) s ∙ take-suc (literals_on trail) i a.literal (omega (arith, long, h)) ∙ ap (λ (x : ℕ). take i (literals_on trail) ++ x ∷ []) at
 
 -- all of them were told
 pub told_all : (knows : List ℕ → Type 0) (n i : ℕ) (trail : List Assigned) → n ≡ length trail → n ≤ i → knows (take i (literals_on trail)) → knows (literals_on trail)
-told_all knows n i trail e h k = let long = length-map (λ (b : Assigned). b.literal) trail in subst knows (take_all i (literals_on trail) (omega (arith, long, e, h))) k
+told_all knows n i trail e h k = let long = length-map trail (λ (b : Assigned). b.literal) in subst knows (take_all i (literals_on trail) (omega (arith, long, e, h))) k
 
 pub told_now : (knows : List ℕ → Type 0) (kept : ℕ) (trail : List Assigned) → knows (literals_on trail) → kept ≡ length trail → IsToldUpTo knows kept trail
 told_now knows kept trail k e = record { told = literals_on trail; known = k; within = omega (arith, e); same = refl }
+
+-- a literal on a trail is of one of the variables, and before it fewer were told than there are
+pub below_at : (n i : ℕ) (trail : List Assigned) (a : Assigned) → i < length trail → a ≡ get_or trail i a → All (λ b. b.literal / 2 < n) trail → a.literal / 2 < n
+below_at n i trail a h e all = subst (λ (b : Assigned). b.literal / 2 < n) (sym e) (All-get_or (λ (b : Assigned). b.literal / 2 < n) trail i a h all)
+
+pub few_told : (n i : ℕ) (trail : List Assigned) → i < length trail → length trail ≤ n → length (take i (literals_on trail)) < n
+few_told n i trail h few = let long = length-map trail (λ (b : Assigned). b.literal) in let front = length-take i (literals_on trail) in omega (arith, long, front, h, few)

@@ -1,7 +1,7 @@
 ghost use Rattle.std.specs.Prelude.{◌≡◌, ◌≤◌, ◌+◌, ◌*◌, ◌<◌, ◌++◌, true, false, None, ◌&&◌, nat_le, length, IfOk, OnOk, OnErr};
 ghost use Rattle.clause_base.specs.Formula.{Satisfies};
 ghost use Rattle.clause_base.specs.Derivation.{clauses_of, IsDerivation, EndsEmpty};
-ghost use Rattle.cdcl_rules.specs.State.{value_of};
+ghost use Rattle.cdcl_rules.specs.State.{value_of, values_of};
 ghost use Rattle.cdcl_rules.specs.Event.{event_of};
 ghost use Rattle.cdcl_rules.specs.Open.{Opens};
 ghost use Rattle.cdcl_rules.specs.Run.{start_of, apply, after, is_going, is_conflict, IsAfter};
@@ -18,6 +18,7 @@ use cdcl_rules::standing::Standing;
 use cdcl_rules::trail::Assigned;
 use clause_base::chooser::Chooser;
 use clause_base::formula::Formula;
+use clause_base::literal::Lit;
 use clause_base::log::Log;
 use clause_base::memory::Memory;
 use std::alloc::Global;
@@ -55,7 +56,8 @@ fn tell<C: Chooser>(chooser: &C, told: &mut C::Told, kept: usize, search: &Searc
     chooser.untell(told, kept);
     let entries = search.entries();
     for i in kept..entries.len() {
-        chooser.tell(told, entries[i].literal);
+        let entry = entries[i];
+        chooser.tell(told, entry.literal);
     }
 }
 
@@ -154,6 +156,20 @@ impl<C: Chooser> Solver<C> {
         event.is_conflict() && self.search.conflicts() >= limit
     }
 
+    /// The literal that its chooser chooses, which is told before how the trail has changed since its last choice.
+    fn choice(&mut self) -> Option<Lit>
+        requires sane { self.old.spoilt ≡ false }
+        requires sound { IsSound self.old.formula self.old.state }
+        ensures chosen { result ≡ C.choice self.old.chooser (values_of self.old.formula.variables self.old.state.trail) }
+        ensures kept { self.new ≡ self.old }
+    {
+        self.search.pass_given();
+        tell(&self.chooser, &mut self.told, self.kept, &self.search);
+        self.kept = self.search.entries().len();
+        self.chooser
+            .choose_told(&mut self.told, self.search.values())
+    }
+
     /// The next event.
     fn event(&mut self) -> Event
         requires sane { self.old.spoilt ≡ false }
@@ -165,15 +181,10 @@ impl<C: Chooser> Solver<C> {
     {
         match self.search.asked() {
             Some(event) => event,
-            None => {
-                self.search.pass_given();
-                tell(&self.chooser, &mut self.told, self.kept, &self.search);
-                self.kept = self.search.entries().len();
-                match self.chooser.choose_told(&mut self.told, self.search.values()) {
-                    None => Event::Finish,
-                    Some(lit) => Event::Decide(lit),
-                }
-            }
+            None => match self.choice() {
+                None => Event::Finish,
+                Some(lit) => Event::Decide(lit),
+            },
         }
     }
 
@@ -191,7 +202,8 @@ impl<C: Chooser> Solver<C> {
         ensures spoilt { OnErr result (self.new.spoilt ≡ true) }
     {
         let done = self.search.apply(event);
-        self.kept = self.kept.min(self.search.entries().len());
+        let length = self.search.entries().len();
+        self.kept = self.kept.min(length);
         done
     }
 
