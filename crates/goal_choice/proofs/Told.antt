@@ -1,5 +1,5 @@
 -- What is kept of a walk stands where one more literal is told, and where the last one is taken back.
-use Rattle.std.proofs.Common.{arith, ◌≡◌, ◌==◌, ℕ, suc, ◌+◌, ◌-◌, ◌/◌, ◌%◌, ◌<◌, ◌≤◌, List, [], ◌∷◌, ◌++◌, length, take, set, get_or, All, Bool, true, false, Option, Some, None, refl, sym, ap, ◌∙◌, subst}
+use Rattle.std.proofs.Common.{arith, ◌≡◌, ◌==◌, ℕ, suc, ◌-◌, ◌/◌, ◌%◌, ◌<◌, ◌≤◌, List, [], ◌∷◌, ◌++◌, length, take, set, get_or, Bool, false, Option, Some, None, refl, sym, ap, ◌∙◌, subst}
 use Rattle.std.specs.Prelude.{max}
 use Rattle.std.proofs.lemmas.List.Elements.{All-append, All-take, All-nil, All-cons, All-get_or}
 use Rattle.std.proofs.Math.Seq.{take-suc}
@@ -8,8 +8,6 @@ use Rattle.clause_base.specs.Choice.{Known}
 use Rattle.clause_base.specs.Told.{told_value, told_values}
 use Rattle.clause_base.proofs.ToldLemmas.{told_same, told_set, more_elsewhere, more_given, more_open}
 use Rattle.gt_core.specs.Layout.{variables}
-use Rattle.goal_choice.specs.Means.{Means}
-use Rattle.goal_choice.specs.Members.{Literals}
 use Rattle.goal_choice.specs.Kept.{WalkView, IsWalk, IsSameFrom}
 use Rattle.goal_choice.specs.Told.{ToldView, IsTold, walk_of}
 use Rattle.goal_choice.proofs.Kept.{seen_on}

@@ -8,8 +8,8 @@ pub loop-i-init : goal.loop-i-init
 loop-i-init g c =
     subst (g.C.Chooser.knows c.args.chooser.now c.untell.new.told) c.requires.told.same (c.untell.ensures c.requires.told.told c.requires.told.known)
 
-pub tell-requires-clause-room : goal.tell-requires-clause-room
-tell-requires-clause-room g c =
+pub tell-requires : goal.tell-requires
+tell-requires g c =
     let trail = c.args.search.now.state.trail in
     let n = c.args.search.now.formula.variables in
     let i = c.loop-i.i in
@@ -17,7 +17,7 @@ tell-requires-clause-room g c =
     let is : a ≡ get_or trail i a = c.index-entries-i.is ∙ ap (λ (ts : List Assigned). get_or ts i a) c.entries-entries.ensures.value in
     let long : length c.entries-entries.result.now ≡ length trail = ap (λ (ts : List Assigned). length ts) c.entries-entries.ensures.value in
     let lt : i < length trail = omega (arith, long) in
-    (take i (literals_on trail), n, c.loop-i.invariant, c.requires.fits, few_told n i trail lt c.entries-entries.ensures.short, below_at n i trail a lt is c.entries-entries.ensures.below)
+    record { room = (take i (literals_on trail), n, c.loop-i.invariant, c.requires.fits, few_told n i trail lt c.entries-entries.ensures.short, below_at n i trail a lt is c.entries-entries.ensures.below) }
 
 pub loop-i-preserved : goal.loop-i-preserved
 loop-i-preserved g c =

@@ -1,4 +1,4 @@
-use Rattle.std.proofs.Common.{arith, ◌≡◌, ◌≤◌, ◌∙◌, ℕ, [], List, fold, sym, ap}
+use Rattle.std.proofs.Common.{arith, ◌≡◌, ◌∙◌, ℕ, [], List, fold, sym, ap}
 use Rattle.clause_base.specs.Clause.{put}
 use Rattle.gt_core.specs.Layout.{Layout}
 use Rattle.goal_choice.specs.Members.{Literals}

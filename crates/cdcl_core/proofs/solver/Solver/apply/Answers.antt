@@ -10,7 +10,7 @@ returns-clause-log g c = subst (λ (v : SolverView g.row.C.Denot). OnErr c.apply
 
 pub invariant_of-self : goal.invariant_of-self
 invariant_of-self g c =
-    let long = ap (λ (ts : List Assigned). length ts) c.entries.ensures.value in (
+    let long = ap (λ (ts : List Assigned). length ts) c.entries-length.ensures.value in (
       subst (λ (f : Cnf). g.C.Chooser.fits c.self.inside.chooser f.variables) (sym c.apply-done.ensures.formula) c.self.invariant.0,
       told_on (g.C.Chooser.knows c.self.inside.chooser c.self.inside.told) c.self.inside.kept _ c.args.event c.self.inside.search c.apply-done.new.self c.apply-done.result c.apply-done.ensures.ok c.apply-done.ensures.spoilt (omega (arith, long)) c.self.invariant.1,
     )

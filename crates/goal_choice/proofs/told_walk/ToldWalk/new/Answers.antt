@@ -1,4 +1,4 @@
-use Rattle.std.proofs.Common.{arith, ◌/◌, ◌<◌, ◌∙◌, [], ℕ, List, All, ap, sym, subst, length}
+use Rattle.std.proofs.Common.{arith, ◌/◌, ◌<◌, ◌∙◌, All, ap, sym, subst}
 use Rattle.std.proofs.lemmas.List.Elements.{All-nil}
 use Rattle.clause_base.specs.Told.{told_values}
 use Rattle.clause_base.proofs.ToldLemmas.{length-told_from}
