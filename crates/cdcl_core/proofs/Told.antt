@@ -1,11 +1,10 @@
 -- What the chooser of a solver was told: the values of the literals on a trail, and what stays as the trail changes.
-use Rattle.std.proofs.Common.{arith, ◌≡◌, ◌≢◌, ◌==◌, ℕ, zero, suc, ◌+◌, ◌*◌, ◌/◌, ◌%◌, ◌<◌, ◌≤◌, List, [], ◌∷◌, ◌++◌, length, take, get_or, map, min, All, reverse, Bool, true, false, ◌||◌, Option, Some, None, refl, sym, ap, ◌∙◌, subst, if◌then◌else◌, ◌⊎◌, inl, inr, Result, Ok, Err, OnOk, OnErr}
+use Rattle.std.proofs.Common.{arith, ◌≡◌, ◌==◌, ℕ, zero, suc, ◌+◌, ◌*◌, ◌/◌, ◌%◌, ◌<◌, ◌≤◌, List, [], ◌∷◌, ◌++◌, length, take, get_or, min, All, reverse, Bool, true, false, ◌||◌, Option, Some, None, refl, sym, ap, ◌∙◌, subst, if◌then◌else◌, ◌⊎◌, inl, inr, Result, Ok, Err, OnOk, OnErr}
 use Rattle.std.proofs.lemmas.Bool.{cases_eq}
 use Rattle.std.proofs.lemmas.Bool.Decides.{nat_tests}
 use Rattle.std.proofs.lemmas.List.{take-take, take-append-le, take_all, map-append, length-append, length-map, length-take, get_or-map}
 use Rattle.std.proofs.lemmas.List.Elements.{All-get_or}
 use Rattle.std.proofs.Math.Seq.{take-suc}
-use Rattle.clause_base.specs.Choice.{Known}
 use Rattle.clause_base.specs.Told.{told_value, told_from, told_values}
 use Rattle.clause_base.specs.Literal.{opposite}
 use Rattle.cdcl_rules.specs.declared.trail.Assigned.{Assigned}
@@ -15,7 +14,6 @@ use Rattle.cdcl_rules.specs.State.{State, is_on, value_of, values_from, values_o
 use Rattle.cdcl_rules.specs.Learn.{backtracked, backjump_level, learned}
 use Rattle.cdcl_rules.specs.Run.{apply, trail_after, is_restart}
 use Rattle.cdcl_rules.specs.Trail.{IsTrail}
-use Rattle.cdcl_rules.proofs.Tests.{or_true}
 use Rattle.cdcl_rules.proofs.Trails.{trail_apart, is_on-reverse, backtracked_is}
 use Rattle.cdcl_core.specs.Search.{SearchView}
 use Rattle.cdcl_core.specs.Told.{literals_on, IsToldUpTo}

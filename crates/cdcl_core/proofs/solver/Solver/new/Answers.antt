@@ -1,6 +1,5 @@
-use Rattle.std.proofs.Common.{arith, ◌≡◌, [], refl, sym, ap, subst}
+use Rattle.std.proofs.Common.{arith, [], refl, sym, subst}
 use Rattle.cdcl_core.specs.Search.{SearchView}
-use Rattle.cdcl_core.specs.Told.{IsToldUpTo}
 use Rattle.cdcl_core.proofs.solver.Solver.new.Goals as goal
 
 pub invariant_of-result : goal.invariant_of-result
