@@ -20,12 +20,24 @@ use step_template::template::one_layout;
 
 /// The goal; for each fact literal the variables in the first step of the effects with it, in the order of the effects, and
 /// whether each is at most the next one; and for each such variable what has to hold before the step.
-#[derive(Debug, Drop)]
+#[derive(Debug)]
 struct Blocks {
     goal: Vec<u32>,
     variables: FlatLists,
     rising: Vec<bool>,
     needs: FlatLists,
+}
+
+/// Letting one go is one call, in which its parts go: whoever holds one proves one step.
+impl Drop for Blocks {
+    fn drop(self) {
+        let Blocks {
+            goal: _,
+            variables: _,
+            rising: _,
+            needs: _,
+        } = self;
+    }
 }
 
 /// An effect as a supporter of its literal: its variable in the first step, and the literals that have to hold before it.
