@@ -8,46 +8,11 @@ ghost use Rattle.two_invariants.specs.Rows.{row_at, clause_in, AreRows, IsPart, 
 ghost use Rattle.two_invariants.specs.Tested.{IsSetOf};
 ghost use Rattle.two_invariants.specs.Renewed.{IsBound, WasClosed, WasTold};
 
-use crate::known::close;
+use crate::bound::{Bound, add_partners, add_told};
+use crate::close::close;
 use bit_rows::row::BitRow;
 use gt_core::lits::opposite;
 use std::alloc::{AllocError, Global};
-
-/// The literals that stand in a clause, and their opposites, which tell something.
-#[derive(Drop)]
-pub struct Bound {
-    pub literals: BitRow,
-    pub opposites: BitRow,
-}
-
-/// Notes a literal that stands in a clause of its row.
-fn note_bound(row: &BitRow, l: u32, bound: &mut Bound) -> Result<(), AllocError>
-    ensures literals { OnOk result (IsPart (row_has bound.old.literals) (row_has bound.new.literals)) }
-    ensures opposites { OnOk result (IsPart (row_has bound.old.opposites) (row_has bound.new.opposites)) }
-    ensures own { OnOk result ((m : ℕ) → row_has row.now m ≡ true → (row_has bound.new.literals l ≡ true) × (row_has bound.new.opposites (opposite l) ≡ true)) }
-{
-    if row.least(0).is_none() {
-        return Ok(());
-    }
-    bound.literals.insert(l)?;
-    bound.opposites.insert(opposite(l))?;
-    Ok(())
-}
-
-/// The literals that stand in a clause.
-pub fn bound_literals(alloc: Global, facts: u32, clauses: &[BitRow]) -> Result<Bound, AllocError>
-    requires { AreRows facts clauses.now }
-    ensures { IfOk result (IsBound (clause_in clauses.now)) }
-{
-    let mut bound = Bound {
-        literals: BitRow::new(alloc),
-        opposites: BitRow::new(alloc),
-    };
-    for l in 0..2 * facts {
-        note_bound(&clauses[l as usize], l, &mut bound)?;
-    }
-    Ok(bound)
-}
 
 /// Whether none of a set stands in a row with its opposite.
 fn is_apart(row: &BitRow, set: &BitRow) -> bool
@@ -60,47 +25,6 @@ fn is_apart(row: &BitRow, set: &BitRow) -> bool
         return false;
     }
     true
-}
-
-/// Puts in what the literals of a set tell at once.
-fn add_told(
-    clauses: &[BitRow],
-    bound: &Bound,
-    set: &BitRow,
-    told: &mut BitRow,
-) -> Result<(), AllocError>
-    requires few { length clauses.now ≤ 4096 }
-    requires even { (l : ℕ) → l < length clauses.now → opposite l < length clauses.now }
-    requires bound { IsBound (clause_in clauses.now) bound.now }
-    requires set { IsSetOf (length clauses.now) (row_has set.now) }
-    ensures { OnOk result ((x y : ℕ) → row_has set.now x ≡ true → clause_in clauses.now (opposite x) y ≡ true → row_has told.new y ≡ true) }
-{
-    let mut from = 0;
-    while let Some(x) = set.least_common(&bound.opposites, from) {
-        told.unite(&clauses[opposite(x) as usize])?;
-        from = x + 1;
-    }
-    Ok(())
-}
-
-/// Puts in the literals that stand in a clause with one of some literals.
-fn add_partners(
-    clauses: &[BitRow],
-    bound: &Bound,
-    lits: &BitRow,
-    partners: &mut BitRow,
-) -> Result<(), AllocError>
-    requires few { length clauses.now ≤ 4096 }
-    requires bound { IsBound (clause_in clauses.now) bound.now }
-    requires lits { IsSetOf (length clauses.now) (row_has lits.now) }
-    ensures { OnOk result ((y m : ℕ) → row_has lits.now y ≡ true → clause_in clauses.now y m ≡ true → row_has partners.new m ≡ true) }
-{
-    let mut from = 0;
-    while let Some(y) = lits.least_common(&bound.literals, from) {
-        partners.unite(&clauses[y as usize])?;
-        from = y + 1;
-    }
-    Ok(())
 }
 
 /// Whether two sets of numbers below 4,096 have no more in common than two others have.
@@ -197,7 +121,17 @@ fn renew(
             return Ok(true);
         }
     }
-    close(facts, clauses, asked, done, below, next, &mut spare.rest)?;
+    close(
+        facts,
+        clauses,
+        bound,
+        asked,
+        done,
+        below,
+        next,
+        &mut spare.rest,
+        &mut spare.room,
+    )?;
     if next.is_same(old) {
         return Ok(false);
     }

@@ -5,7 +5,7 @@ use Rattle.bit_rows.specs.Bits.{row_has}
 use Rattle.gt_core.proofs.Basics.{apart, or_left, or_right, and_split, and_both}
 use Rattle.two_invariants.specs.Rows.{clause_in}
 use Rattle.two_invariants.proofs.Bounding.{next_too}
-use Rattle.two_invariants.proofs.renew.add_partners.Goals as goal
+use Rattle.two_invariants.proofs.bound.add_partners.Goals as goal
 
 pub loop-y-preserved : goal.loop-y-preserved
 loop-y-preserved c = λ y m lt l v.
