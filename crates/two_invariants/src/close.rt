@@ -1,7 +1,7 @@
 //! All that literals tell: the least set with them that has, with a literal, each other one of a clause with its
 //! opposite. Literals whose sets are done are followed one by one, the others all at once.
 
-ghost use Rattle.std.specs.Prelude.{◌≡◌, ℕ, ◌*◌, ◌<◌, true, false, None, length, IfSome, OnOk};
+ghost use Rattle.std.specs.Prelude.{◌≡◌, ℕ, ◌*◌, ◌<◌, ◌==◌, true, false, None, length, IfSome, OnOk};
 ghost use Rattle.bit_rows.specs.Bits.{row_has};
 ghost use Rattle.two_invariants.specs.Rows.{row_at, clause_in, AreRows, IsClosure, IsGrowing, IsGrownFrom, work};
 ghost use Rattle.two_invariants.specs.Tested.{IsSetOf};
