@@ -2,9 +2,8 @@ use Rattle.std.proofs.Common.{arith, ◌≡◌, ◌∙◌, ap, subst, not, ◌&&
 use Rattle.std.proofs.lemmas.List.{get_or_read}
 use Rattle.bit_rows.specs.Bits.{row_has}
 use Rattle.two_invariants.specs.Rows.{row_at, clause_in}
-use Rattle.two_invariants.proofs.Closing.{follows_done, follows_new}
-use Rattle.two_invariants.proofs.Steps.{opposite_below}
-use Rattle.two_invariants.proofs.known.follow.Goals as goal
+use Rattle.two_invariants.proofs.Closing.{follows_done}
+use Rattle.two_invariants.proofs.close.follow.Goals as goal
 
 pub returns-then-is_done : goal.returns-then-is_done
 returns-then-is_done c =
@@ -20,19 +19,4 @@ returns-then-is_done c =
     (λ m. subst (λ (r : List ℕ). row_has c.unite.new.self m ≡ (R m || row_has r m)) read (c.in_ok-unite.ensures.has m))
     (λ m. subst (λ (r : List ℕ). row_has c.subtract.new.self m ≡ ((not (c.args.x == m) && T m) && not (row_has r m))) read
     (c.subtract.ensures.has m ∙ ap (λ (b : Bool). b && not (row_has c.index-done-x.result m)) (c.remove.ensures.has m))) in
-    record { grown = f.grown; growing = f.growing; less = f.less }
-
-pub returns : goal.returns
-returns c =
-    let V = clause_in c.args.clauses.now in
-    let R = row_has c.args.row.now in
-    let T = row_has c.args.todo.now in
-    let below = opposite_below c.args.x c.args.facts (c.requires.growing.within c.args.x (c.requires.growing.listed c.args.x c.requires.todo)) in
-    let lt : c.opposite.result < length c.args.clauses.now = let e = c.opposite.ensures in let n = c.requires.clauses.long in omega arith in
-    let read = get_or_read c.args.clauses.now c.opposite.result c.index-clauses-opposite.result lt c.index-clauses-opposite.is [] ∙ ap (row_at c.args.clauses.now) c.opposite.ensures in
-    let f = follows_new V (2 * c.args.facts) c.requires.clauses.within R T c.args.x c.requires.growing c.requires.todo
-    (row_has c.unite-2.new.self) (row_has c.unite_without.new.self)
-    (λ m. subst (λ (r : List ℕ). row_has c.unite-2.new.self m ≡ (R m || row_has r m)) read (c.in_ok-unite-2.ensures.has m))
-    (λ m. subst (λ (r : List ℕ). row_has c.unite_without.new.self m ≡ ((not (c.args.x == m) && T m) || (row_has r m && not (R m)))) read
-    (c.in_ok-unite_without.ensures.has m ∙ ap (λ (b : Bool). b || (row_has c.index-clauses-opposite.result m && not (R m))) (c.remove.ensures.has m))) in
     record { grown = f.grown; growing = f.growing; less = f.less }

@@ -7,7 +7,7 @@ use Rattle.gt_core.proofs.Basics.{apart}
 use Rattle.gt_core.proofs.Literals.{opposite_twice}
 use Rattle.two_invariants.specs.Rows.{clause_in}
 use Rattle.two_invariants.proofs.Steps.{past_rows}
-use Rattle.two_invariants.proofs.renew.bound_literals.Goals as goal
+use Rattle.two_invariants.proofs.bound.bound_literals.Goals as goal
 
 pub loop-l-preserved : goal.loop-l-preserved
 loop-l-preserved c = λ k m lt v. by k m v lt (cases_lt k c.loop-l.l)

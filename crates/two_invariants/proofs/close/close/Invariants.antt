@@ -1,7 +1,7 @@
 use Rattle.std.proofs.Common.{◌*◌}
 use Rattle.bit_rows.specs.Bits.{row_has}
 use Rattle.two_invariants.specs.Rows.{clause_in, IsGrownFrom, IsGrowing, work}
-use Rattle.two_invariants.proofs.known.close.Given as goal
+use Rattle.two_invariants.proofs.close.close.Given as goal
 
 abbrev pub invariant-follow : goal.invariant-follow
 invariant-follow l = record {

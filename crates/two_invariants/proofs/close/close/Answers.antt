@@ -1,7 +1,7 @@
 use Rattle.std.proofs.Common.{◌*◌}
 use Rattle.two_invariants.specs.Rows.{clause_in}
 use Rattle.two_invariants.proofs.Closing.{grown_twice}
-use Rattle.two_invariants.proofs.known.close.Goals as goal
+use Rattle.two_invariants.proofs.close.close.Goals as goal
 
 pub follow-preserved : goal.follow-preserved
 follow-preserved c = record {
