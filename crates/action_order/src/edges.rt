@@ -20,13 +20,25 @@ use std::alloc::{AllocError, Global};
 /// Rows of actions: for each literal those that need it, for each fact those that have it in an effect condition, for
 /// each literal those that surely make it true, and those with a precondition that it excludes; and for each action
 /// the literals that it surely makes true.
-#[derive(Drop)]
 pub struct Rows {
     needing: Vec<BitRow>,
     asking: Vec<BitRow>,
     sure: Vec<Lits>,
     making: Vec<BitRow>,
     excluding: Vec<BitRow>,
+}
+
+/// Letting one go is one call, in which its parts go: whoever holds one proves one step.
+impl Drop for Rows {
+    fn drop(self) {
+        let Rows {
+            needing: _,
+            asking: _,
+            sure: _,
+            making: _,
+            excluding: _,
+        } = self;
+    }
 }
 
 /// The actions that surely make each literal true.

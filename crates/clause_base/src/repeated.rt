@@ -151,14 +151,12 @@ impl Repeated {
             step,
             time,
         } = self;
-        let step = step.share(alloc)?;
-        let time = time.share(alloc)?;
         Ok(Repeated {
             horizon,
             width,
             facts,
-            step,
-            time,
+            step: step.share(alloc)?,
+            time: time.share(alloc)?,
         })
     }
 

@@ -29,7 +29,7 @@ use std::alloc::Global;
 use std::marker::Model;
 
 /// A task over numbered facts and actions, with the atom of each fact and the call of each action.
-#[derive(Debug, Drop)]
+#[derive(Debug)]
 pub struct Grounded {
     facts: Atoms,
     calls: Calls,
@@ -42,6 +42,17 @@ impl Model for Grounded {
     ghost Value = { Grounded };
 
     ghost view = { λ g. record { facts = g.facts; calls = g.calls; task = g.task } };
+}
+
+/// Letting one go is one call, in which its parts go: whoever holds one proves one step.
+impl Drop for Grounded {
+    fn drop(self) {
+        let Grounded {
+            facts: _,
+            calls: _,
+            task: _,
+        } = self;
+    }
 }
 
 /// Why a task is not grounded: it is past a limit, told with its count, or memory ran out.

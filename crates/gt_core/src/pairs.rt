@@ -9,7 +9,7 @@ use std::marker::Model;
 /// A set of clauses of one fact literal, or of two literals of different facts, over so many facts. It is kept as a
 /// sorted list, and as a row of bits for each literal, which has the literals that stand in a clause with it. A
 /// literal without a clause takes no row.
-#[derive(Debug, Drop)]
+#[derive(Debug)]
 pub struct Pairs {
     facts: u32,
     clauses: Vec<(u32, u32)>,
@@ -24,6 +24,17 @@ impl Model for Pairs {
     ghost view = { λ p. record { facts = p.facts; clauses = p.clauses.items } };
 
     ghost invariant = { λ p. IsKnownClauses (record { facts = p.facts; clauses = p.clauses.items }) × AreClauseRows p.facts p.clauses.items p.rows.items };
+}
+
+/// Letting one go is one call, in which its parts go: whoever holds one proves one step.
+impl Drop for Pairs {
+    fn drop(self) {
+        let Pairs {
+            facts: _,
+            clauses: _,
+            rows: _,
+        } = self;
+    }
 }
 
 impl Pairs {

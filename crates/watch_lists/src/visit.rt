@@ -26,7 +26,6 @@ pub struct Watched {
 }
 
 /// What changes where a literal becomes false.
-#[derive(Drop)]
 pub struct Lists {
     pub chains: Chains,
     pub watched: Vec<Watched>,
@@ -34,6 +33,18 @@ pub struct Lists {
     pub pending: Pending,
     /// For each slot the literal that its clause asks for, where that is in the set.
     pub asks: Vec<u32>,
+}
+
+/// Letting one go is one call, in which its parts go: whoever holds one proves one step.
+impl Drop for Lists {
+    fn drop(self) {
+        let Lists {
+            chains: _,
+            watched: _,
+            pending: _,
+            asks: _,
+        } = self;
+    }
 }
 
 impl Watched {

@@ -36,7 +36,6 @@ const MOST_CLAUSES: u32 = 2_147_483_647;
 
 /// Clauses by number, which of them are kept, and the literals that are true, oldest first. A clause of two
 /// literals is in the lists of both, and of each other clause two literals are watched.
-#[derive(Drop)]
 pub struct Watches {
     variables: u32,
     store: Store,
@@ -62,6 +61,23 @@ impl Model for Watches {
     ghost view = { λ w. record { variables = w.variables; clauses = w.store; kept = w.kept.items; trail = w.truth.trail } };
 
     ghost invariant = { λ w. IsSound w.variables w.truth.variables w.store w.kept.items w.truth.trail w.slots.items w.lists.watched.items w.lists.chains.heads.items w.lists.chains.nodes.items w.lists.pending w.quiet.items × IsPaired w.variables w.store w.slots.items w.pairs × IsAsking w.store w.truth.trail w.slots.items w.lists.pending w.lists.asks.items };
+}
+
+/// Letting one go is one call, in which its parts go: whoever holds one proves one step.
+impl Drop for Watches {
+    fn drop(self) {
+        let Watches {
+            variables: _,
+            store: _,
+            kept: _,
+            truth: _,
+            pairs: _,
+            slots: _,
+            blocks: _,
+            lists: _,
+            quiet: _,
+        } = self;
+    }
 }
 
 /// Takes the flags of the lengths from one up to another away.

@@ -9,7 +9,6 @@ use std::alloc::Global;
 use std::marker::Model;
 
 /// The literals that are true, oldest first, with the truth of each literal by its code and the place of each variable.
-#[derive(Drop)]
 pub struct Truth {
     variables: u32,
     length: u32,
@@ -27,6 +26,19 @@ impl Model for Truth {
     ghost view = { λ t. record { variables = t.variables; trail = take t.length t.trail.items } };
 
     ghost invariant = { λ t. IsMirror t.variables t.length t.trail.items t.on.items t.places.items };
+}
+
+/// Letting one go is one call, in which its parts go: whoever holds one proves one step.
+impl Drop for Truth {
+    fn drop(self) {
+        let Truth {
+            variables: _,
+            length: _,
+            trail: _,
+            on: _,
+            places: _,
+        } = self;
+    }
 }
 
 impl Truth {
