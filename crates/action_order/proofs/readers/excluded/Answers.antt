@@ -1,11 +1,10 @@
-use Rattle.std.proofs.Common.{arith, ◌≡◌, ◌∙◌, ◌*◌, ◌<◌, ◌&&◌, ◌||◌, ◌⊎◌, inl, inr, ap, sym, subst, Bool, true, false, length, List, [], ℕ}
-use Rattle.std.specs.Prelude.{nat_lt}
+use Rattle.std.proofs.Common.{◌≡◌, ◌∙◌, ◌<◌, ◌||◌, inl, inr, ap, sym, subst, Bool, true, length, List, [], ℕ}
 use Rattle.std.proofs.lemmas.List.{get_or_read}
-use Rattle.std.proofs.lemmas.Bool.{lt-ltb, ltb-true}
+use Rattle.std.proofs.lemmas.Bool.{lt-ltb}
 use Rattle.bit_rows.specs.Bits.{row_has}
 use Rattle.gt_core.specs.Literal.{opposite}
 use Rattle.gt_core.specs.Interference.{has_clause}
-use Rattle.gt_core.proofs.Basics.{apart, and_split, and_both, or_left, or_right, or_split, same_if}
+use Rattle.gt_core.proofs.Basics.{apart, and_split, and_both, or_right, or_split, same_if}
 use Rattle.gt_core.proofs.Literals.{opposite_twice}
 use Rattle.action_order.specs.Graph.{row_at}
 use Rattle.action_order.specs.Readers.{is_excluded}
