@@ -114,6 +114,7 @@ impl Rows {
     /// The rows of some actions.
     fn new(alloc: Global, facts: u32, acts: &[Act], pairs: &Pairs) -> Result<Rows, AllocError>
         requires facts { facts ≤ 2048 }
+        requires same { pairs.now.facts ≡ facts }
         requires few { length acts.now ≤ 16384 }
         requires within { AllByRecursion (ActionWithin facts) acts.now }
         ensures { IfOk result (AreEdgeRows pairs.now.clauses facts acts.now) }
@@ -174,6 +175,7 @@ pub fn edges(
     pairs: &Pairs,
 ) -> Result<Vec<BitRow>, AllocError>
     requires facts { facts ≤ 2048 }
+    requires same { pairs.now.facts ≡ facts }
     requires few { length acts.now ≤ 16384 }
     requires within { AllByRecursion (ActionWithin facts) acts.now }
     ensures { IfOk result (λ targets. AreEdges pairs.now.clauses acts.now (length acts.now) targets.items) }

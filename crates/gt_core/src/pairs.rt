@@ -38,7 +38,8 @@ impl Drop for Pairs {
 }
 
 impl Pairs {
-    ghost use Rattle.std.specs.Prelude.{◌≡◌, ◌≤◌, ◌<◌, ◌*◌, [], ◌∷◌, length, slice_get, Some, IfOk, OnOk, OnErr};
+    ghost use Rattle.std.specs.Prelude.{◌≡◌, ℕ, ◌≤◌, ◌<◌, ◌*◌, [], ◌∷◌, length, slice_get, Some, IfOk, OnOk, OnErr};
+    ghost use Rattle.bit_rows.specs.Bits.{row_has};
     ghost use Rattle.gt_core.specs.Literal.{opposite};
     ghost use Rattle.gt_core.specs.Interference.{has_clause};
     ghost use Rattle.gt_core.specs.Clauses.{KnownClauses, IsKnownClauses, SameClauses};
@@ -94,6 +95,14 @@ impl Pairs {
             return false;
         }
         self.rows[l as usize].contains(m)
+    }
+
+    /// The literals of the facts that stand in a clause with one, and itself where it is a clause alone.
+    pub fn row(&self, l: u32) -> &BitRow
+        requires { l < 2 * self.now.facts }
+        ensures { (m : ℕ) → m < 2 * self.now.facts → row_has result.now m ≡ has_clause self.now.clauses l m }
+    {
+        &self.rows[l as usize]
     }
 
     /// How many clauses there are.

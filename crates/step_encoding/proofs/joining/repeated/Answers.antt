@@ -1,4 +1,4 @@
-use Rattle.std.proofs.Common.{arith, ◌≡◌, ◌<◌, ◌∙◌, ℕ, length, sym, ap}
+use Rattle.std.proofs.Common.{arith, ◌∙◌, length, sym, ap}
 use Rattle.gt_core.specs.Layout.{Layout}
 use Rattle.clause_base.specs.Repeats.{Repeats, repeated}
 use Rattle.clause_base.proofs.RepeatLemmas.{length_repeated}
