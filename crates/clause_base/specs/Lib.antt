@@ -9,3 +9,4 @@ pub mod Derivation
 pub mod Choice
 pub mod ValueBits
 pub mod ChoiceLaw
+pub mod Told
