@@ -66,6 +66,8 @@ impl<C: Chooser + Drop> Drop for Solver<C> {
         let Solver {
             search: _,
             chooser: _,
+            told: _,
+            kept: _,
         } = self;
     }
 }
