@@ -1,5 +1,5 @@
 -- What the slots' clauses ask for that are in the set, as the set and the slots change.
-use Rattle.std.proofs.Common.{arith, ◌≡◌, ◌≢◌, ◌==◌, ℕ, ◌<◌, ◌≤◌, List, [], ◌∷◌, ◌++◌, length, set, get_or, leb, ltb, Bool, true, false, ◌||◌, refl, sym, ap, ◌∙◌, subst, ◌⊎◌, inl, inr, get_or-set_same, get_or-set_other}
+use Rattle.std.proofs.Common.{arith, ◌≡◌, ◌≢◌, ◌==◌, ℕ, ◌<◌, ◌≤◌, List, [], ◌∷◌, ◌++◌, length, take, set, get_or, leb, ltb, Bool, true, false, ◌||◌, refl, sym, ap, ◌∙◌, subst, ◌⊎◌, inl, inr, get_or-set_same, get_or-set_other}
 use Rattle.std.proofs.lemmas.Bool.Decides.{nat_tests}
 use Rattle.std.proofs.lemmas.List.{length_push, get_or_push}
 use Rattle.clause_base.specs.Clause.{has_literal}
@@ -7,12 +7,12 @@ use Rattle.cdcl_rules.specs.Pending.{is_pending}
 use Rattle.cdcl_rules.specs.State.{clause_at}
 use Rattle.number_bits.specs.Bits.{words_have}
 use Rattle.watch_lists.specs.Pending.{is_pending_on}
-use Rattle.watch_lists.specs.Asking.{IsAsked, AreAsked, IsAskedAt, HasPairsMore, AreDistinct, IsWithin, IsAsking}
+use Rattle.watch_lists.specs.Asking.{IsAsked, AreAsked, IsAskedAt, HasPairsMore, AreDistinct, IsWithin, IsConsistent, IsAsking}
 use Rattle.watch_lists.specs.Visit.{slot_clauses, slot_set, AreSlotsBelow}
 use Rattle.watch_lists.proofs.Filters.{clause_past, pending_at}
 use Rattle.watch_lists.proofs.Assigns.{equal_of, apart_of, at_most_of, past_of}
 use Rattle.watch_lists.proofs.Adds.{at_other, at_own, get_other, kept_in}
-use Rattle.watch_lists.proofs.Asks.{pending_kept}
+use Rattle.watch_lists.proofs.Asks.{pending_kept, consistent_take}
 use Rattle.watch_lists.proofs.Slotted.{slot_at, slots_long, slots_same, slots_more}
 
 -- a clause of more than two literals is one of a list
@@ -202,4 +202,14 @@ asking_fewer cl trail slots words words' asks i fewer = record {
   long = i.long;
   distinct = i.distinct;
   consistent = i.consistent;
+}
+
+-- on a shorter trail, where the set was found anew
+pub asking_shorter : (cl : List (List ℕ)) (trail slots words asks : List ℕ) (m : ℕ) (trail' words' asks' : List ℕ) → IsAsking cl trail slots words asks → trail' ≡ take m trail → IsWithin (length cl) (words_have words') → AreAsked (slot_clauses cl slots) (has_literal trail') (slot_set (words_have words') slots) asks' → length asks' ≡ length asks → IsAsking cl trail' slots words' asks'
+asking_shorter cl trail slots words asks m trail' words' asks' i e within asked long = record {
+  within = within;
+  asked = asked;
+  long = omega (arith, i.long, long);
+  distinct = i.distinct;
+  consistent = subst IsConsistent (sym e) (consistent_take m trail i.consistent);
 }

@@ -7,7 +7,7 @@ use Rattle.clause_base.specs.Literal.{opposite}
 use Rattle.clause_base.specs.Clause.{has_literal}
 use Rattle.cdcl_rules.specs.Pending.{is_pending}
 use Rattle.number_bits.specs.Bits.{IsLeast}
-use Rattle.watch_store.proofs.Mirrors.{has-snoc}
+use Rattle.cdcl_trail.proofs.Assignments.{has-snoc}
 use Rattle.pair_index.specs.declared.pair.Pair.{Pair}
 use Rattle.watch_lists.specs.Pending.{is_free, is_pending_on}
 use Rattle.watch_lists.specs.Asking.{IsAsked, AreAsked, IsConsistent}

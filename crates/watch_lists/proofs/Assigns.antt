@@ -6,7 +6,7 @@ use Rattle.clause_base.specs.Literal.{opposite}
 use Rattle.clause_base.specs.Clause.{has_literal}
 use Rattle.std.specs.Option.{is_some}
 use Rattle.number_bits.specs.Bits.{IsLeast}
-use Rattle.watch_store.proofs.Mirrors.{has-snoc}
+use Rattle.cdcl_trail.proofs.Assignments.{has-snoc}
 use Rattle.watch_lists.specs.declared.visit.Watched.{Watched}
 use Rattle.watch_lists.specs.Pending.{is_free, has_two_free, is_pending_on}
 use Rattle.cdcl_rules.specs.Pending.{is_pending}

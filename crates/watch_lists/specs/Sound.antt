@@ -19,9 +19,9 @@ AreFree clauses watched kept trail =
     (node : ℕ) → IsReal clauses node → IsKept kept node → list_any (has_literal trail) (clause_at clauses (node / 2)) ≡ false → has_two_free (has_literal trail) (clause_at clauses (node / 2)) ≡ true → is_free (has_literal trail) (literal_at clauses watched node) ≡ true
 
 -- what holds of the tables
-pub record IsSound (variables truth_variables : ℕ) (clauses : List (List ℕ)) (kept : List Bool) (trail : List ℕ) (slots : List ℕ) (watched : List Watched) (heads : List ℕ) (nodes : List Node) (words : List ℕ) (quiet : List Bool) : Type 0 where
+pub record IsSound (variables assigned_variables : ℕ) (clauses : List (List ℕ)) (kept : List Bool) (trail : List ℕ) (slots : List ℕ) (watched : List Watched) (heads : List ℕ) (nodes : List Node) (words : List ℕ) (quiet : List Bool) : Type 0 where
   pub small : variables ≤ 2147483647
-  pub same : truth_variables ≡ variables
+  pub same : assigned_variables ≡ variables
   pub many : length kept ≡ length clauses
   pub few : length clauses ≤ 2147483647
   pub fit : IsFit clauses (2 * variables)

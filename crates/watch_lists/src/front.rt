@@ -19,7 +19,7 @@ use number_bits::flat::Flat;
 use number_bits::layer::Layer;
 use number_bits::set::NumberSet;
 use watch_store::store::Store;
-use watch_store::truth::Truth;
+use cdcl_trail::assignment::Assignment;
 
 /// Whether a clause is kept and pending.
 fn stands(
@@ -27,20 +27,20 @@ fn stands(
     kept: &[bool],
     slots: &[u32],
     blocks: &[u32],
-    truth: &Truth,
+    assignment: &Assignment,
     asks: &[u32],
     number: u32,
 ) -> bool
-    requires fit { IsFit store.now (2 * truth.now.variables) }
+    requires fit { IsFit store.now (2 * assignment.now.variables) }
     requires kept { length kept.now ≡ length store.now }
     requires few { length slots.now ≤ 4294967295 }
     requires long { length slots.now ≤ length asks.now }
-    requires consistent { IsConsistent truth.now.trail }
+    requires consistent { IsConsistent assignment.now.trail }
     requires inside { number < length store.now }
-    requires asked { IsAskedAt store.now slots.now (has_literal truth.now.trail) asks.now number }
-    ensures { result ≡ is_pending_on store.now kept.now truth.now.trail number }
+    requires asked { IsAskedAt store.now slots.now (has_literal assignment.now.trail) asks.now number }
+    ensures { result ≡ is_pending_on store.now kept.now assignment.now.trail number }
 {
-    kept[number as usize] && is_left(store, slots, blocks, truth, asks, number)
+    kept[number as usize] && is_left(store, slots, blocks, assignment, asks, number)
 }
 
 /// Takes numbers that are not pending from the front of the set.
@@ -49,20 +49,20 @@ pub fn clean(
     kept: &[bool],
     slots: &[u32],
     blocks: &[u32],
-    truth: &Truth,
+    assignment: &Assignment,
     asks: &[u32],
     pending: &mut Pending,
 )
-    requires fit { IsFit store.now (2 * truth.now.variables) }
+    requires fit { IsFit store.now (2 * assignment.now.variables) }
     requires kept { length kept.now ≡ length store.now }
     requires few { length slots.now ≤ 4294967295 }
     requires long { length slots.now ≤ length asks.now }
-    requires consistent { IsConsistent truth.now.trail }
+    requires consistent { IsConsistent assignment.now.trail }
     requires room { length store.now ≤ 64 * length pending.old }
     requires within { IsWithin (length store.now) (words_have pending.old) }
-    requires asked { AreAsked (slot_clauses store.now slots.now) (has_literal truth.now.trail) (slot_set (words_have pending.old) slots.now) asks.now }
-    requires complete { (k : ℕ) → is_pending_on store.now kept.now truth.now.trail k ≡ true → words_have pending.old k ≡ true }
-    ensures front { IsFront (is_pending_on store.now kept.now truth.now.trail) (words_have pending.new) }
+    requires asked { AreAsked (slot_clauses store.now slots.now) (has_literal assignment.now.trail) (slot_set (words_have pending.old) slots.now) asks.now }
+    requires complete { (k : ℕ) → is_pending_on store.now kept.now assignment.now.trail k ≡ true → words_have pending.old k ≡ true }
+    ensures front { IsFront (is_pending_on store.now kept.now assignment.now.trail) (words_have pending.new) }
     ensures room { length pending.new ≡ length pending.old }
     ensures fewer { (k : ℕ) → words_have pending.new k ≡ true → words_have pending.old k ≡ true }
 {
@@ -71,7 +71,7 @@ pub fn clean(
         match pending.least() {
             None => return,
             Some(number) => {
-                if stands(store, kept, slots, blocks, truth, asks, number) {
+                if stands(store, kept, slots, blocks, assignment, asks, number) {
                     return;
                 }
                 pending.remove(number);
@@ -99,73 +99,73 @@ pub fn clear(pending: &mut Pending)
 }
 
 /// Whether a number is that of a clause that is kept and pending, by its literals.
-fn is_kept_pending(store: &Store, kept: &[bool], truth: &Truth, number: u32) -> bool
-    requires fit { IsFit store.now (2 * truth.now.variables) }
+fn is_kept_pending(store: &Store, kept: &[bool], assignment: &Assignment, number: u32) -> bool
+    requires fit { IsFit store.now (2 * assignment.now.variables) }
     requires kept { length kept.now ≡ length store.now }
     requires inside { number < length store.now }
-    ensures { result ≡ is_pending_on store.now kept.now truth.now.trail number }
+    ensures { result ≡ is_pending_on store.now kept.now assignment.now.trail number }
 {
-    kept[number as usize] && is_pending(truth, &store.clause(number))
+    kept[number as usize] && is_pending(assignment, &store.clause(number))
 }
 
 /// Puts a clause into the set, if it is kept and pending.
-fn scan_one(store: &Store, kept: &[bool], truth: &Truth, pending: &mut Pending, number: u32)
-    requires fit { IsFit store.now (2 * truth.now.variables) }
+fn scan_one(store: &Store, kept: &[bool], assignment: &Assignment, pending: &mut Pending, number: u32)
+    requires fit { IsFit store.now (2 * assignment.now.variables) }
     requires kept { length kept.now ≡ length store.now }
     requires inside { number < length store.now }
     requires room { length store.now ≤ 64 * length pending.old }
     ensures others { (k : ℕ) → (k ≡ number → ⊥) → words_have pending.new k ≡ words_have pending.old k }
-    ensures own { is_pending_on store.now kept.now truth.now.trail number ≡ true → words_have pending.new number ≡ true }
-    ensures none { is_pending_on store.now kept.now truth.now.trail number ≡ false → words_have pending.new number ≡ words_have pending.old number }
+    ensures own { is_pending_on store.now kept.now assignment.now.trail number ≡ true → words_have pending.new number ≡ true }
+    ensures none { is_pending_on store.now kept.now assignment.now.trail number ≡ false → words_have pending.new number ≡ words_have pending.old number }
     ensures room { length pending.new ≡ length pending.old }
 {
-    if !is_kept_pending(store, kept, truth, number) {
+    if !is_kept_pending(store, kept, assignment, number) {
         return;
     }
     pending.insert(number);
 }
 
 /// Makes the set that of the pending clauses.
-pub fn rescan(store: &Store, kept: &[bool], truth: &Truth, pending: &mut Pending)
-    requires fit { IsFit store.now (2 * truth.now.variables) }
+pub fn rescan(store: &Store, kept: &[bool], assignment: &Assignment, pending: &mut Pending)
+    requires fit { IsFit store.now (2 * assignment.now.variables) }
     requires kept { length kept.now ≡ length store.now }
     requires few { length store.now ≤ 4294967295 }
     requires room { length store.now ≤ 64 * length pending.old }
-    ensures same { (k : ℕ) → words_have pending.new k ≡ is_pending_on store.now kept.now truth.now.trail k }
+    ensures same { (k : ℕ) → words_have pending.new k ≡ is_pending_on store.now kept.now assignment.now.trail k }
     ensures room { length pending.new ≡ length pending.old }
 {
     clear(pending);
     for number in 0..kept.len() as u32 {
-        scan_one(store, kept, truth, pending, number);
+        scan_one(store, kept, assignment, pending, number);
     }
 }
 
 /// Notes what the clause of a slot asks for, if it has literals and is pending.
-fn ask_one(store: &Store, slots: &[u32], truth: &Truth, asks: &mut Vec<u32>, slot: u32)
-    requires fit { IsFit store.now (2 * truth.now.variables) }
+fn ask_one(store: &Store, slots: &[u32], assignment: &Assignment, asks: &mut Vec<u32>, slot: u32)
+    requires fit { IsFit store.now (2 * assignment.now.variables) }
     requires slotted { AreSlotsBelow (length store.now) slots.now }
     requires inside { slot < length slots.now }
     requires long { length slots.now ≤ length asks.old.items }
-    ensures own { is_pending (has_literal truth.now.trail) (clause_at (slot_clauses store.now slots.now) slot) ≡ true → 2 < length (clause_at (slot_clauses store.now slots.now) slot) → IsAsked (has_literal truth.now.trail) (clause_at (slot_clauses store.now slots.now) slot) (slice_index asks.new.items slot) }
+    ensures own { is_pending (has_literal assignment.now.trail) (clause_at (slot_clauses store.now slots.now) slot) ≡ true → 2 < length (clause_at (slot_clauses store.now slots.now) slot) → IsAsked (has_literal assignment.now.trail) (clause_at (slot_clauses store.now slots.now) slot) (slice_index asks.new.items slot) }
     ensures others { (s : ℕ) → (s ≡ slot → ⊥) → slice_index asks.new.items s ≡ slice_index asks.old.items s }
     ensures size { length asks.new.items ≡ length asks.old.items }
 {
     let clause = slot_clause(store, slots, slot);
-    if clause.len() != 0 && is_pending(truth, &clause) {
-        asks[slot as usize] = ask_of(truth, &clause);
+    if clause.len() != 0 && is_pending(assignment, &clause) {
+        asks[slot as usize] = ask_of(assignment, &clause);
     }
 }
 
 /// Notes what the clause of each slot asks for that is pending.
-pub fn ask_all(store: &Store, slots: &[u32], truth: &Truth, asks: &mut Vec<u32>)
-    requires fit { IsFit store.now (2 * truth.now.variables) }
+pub fn ask_all(store: &Store, slots: &[u32], assignment: &Assignment, asks: &mut Vec<u32>)
+    requires fit { IsFit store.now (2 * assignment.now.variables) }
     requires slotted { AreSlotsBelow (length store.now) slots.now }
     requires few { length slots.now ≤ 4294967295 }
     requires long { length slots.now ≤ length asks.old.items }
-    ensures asked { (s : ℕ) → s < length slots.now → is_pending (has_literal truth.now.trail) (clause_at (slot_clauses store.now slots.now) s) ≡ true → 2 < length (clause_at (slot_clauses store.now slots.now) s) → IsAsked (has_literal truth.now.trail) (clause_at (slot_clauses store.now slots.now) s) (slice_index asks.new.items s) }
+    ensures asked { (s : ℕ) → s < length slots.now → is_pending (has_literal assignment.now.trail) (clause_at (slot_clauses store.now slots.now) s) ≡ true → 2 < length (clause_at (slot_clauses store.now slots.now) s) → IsAsked (has_literal assignment.now.trail) (clause_at (slot_clauses store.now slots.now) s) (slice_index asks.new.items s) }
     ensures size { length asks.new.items ≡ length asks.old.items }
 {
     for slot in 0..slots.len() as u32 {
-        ask_one(store, slots, truth, asks, slot);
+        ask_one(store, slots, assignment, asks, slot);
     }
 }

@@ -13,7 +13,7 @@ use crate::slots::find_slot;
 use clause_base::literal::Lit;
 use clause_base::view::View;
 use watch_store::store::Store;
-use watch_store::truth::Truth;
+use cdcl_trail::assignment::Assignment;
 
 /// A clause with no more literals than these is read.
 const READ: usize = 2;
@@ -40,11 +40,11 @@ fn asked_by_slot(
 }
 
 /// The literal that a clause asks for, if it is not false.
-fn left_asked(truth: &Truth, ask: u32) -> Option<Lit>
-    requires { ask < 2 * truth.now.variables }
-    ensures { MatchOption result (is_free (has_literal truth.now.trail) ask ≡ false) (λ lit. (lit ≡ ask) × (is_free (has_literal truth.now.trail) ask ≡ true)) }
+fn left_asked(assignment: &Assignment, ask: u32) -> Option<Lit>
+    requires { ask < 2 * assignment.now.variables }
+    ensures { MatchOption result (is_free (has_literal assignment.now.trail) ask ≡ false) (λ lit. (lit ≡ ask) × (is_free (has_literal assignment.now.trail) ask ≡ true)) }
 {
-    if truth.is_false(ask) {
+    if assignment.is_false(ask) {
         None
     } else {
         Some(Lit(ask))
@@ -52,15 +52,15 @@ fn left_asked(truth: &Truth, ask: u32) -> Option<Lit>
 }
 
 /// The literal of a pending clause that is not false, if there is one, by its literals.
-fn left_in(truth: &Truth, clause: &View) -> Option<Lit>
-    requires below { (p : ℕ) → p < length clause.now → slice_index clause.now p < 2 * truth.now.variables }
-    requires pending { is_pending (has_literal truth.now.trail) clause.now ≡ true }
-    ensures { MatchOption result (open_ones (has_literal truth.now.trail) clause.now ≡ []) (λ lit. open_ones (has_literal truth.now.trail) clause.now ≡ lit ∷ []) }
+fn left_in(assignment: &Assignment, clause: &View) -> Option<Lit>
+    requires below { (p : ℕ) → p < length clause.now → slice_index clause.now p < 2 * assignment.now.variables }
+    requires pending { is_pending (has_literal assignment.now.trail) clause.now ≡ true }
+    ensures { MatchOption result (open_ones (has_literal assignment.now.trail) clause.now ≡ []) (λ lit. open_ones (has_literal assignment.now.trail) clause.now ≡ lit ∷ []) }
 {
     if clause.len() == 0 {
         return None;
     }
-    left_asked(truth, ask_of(truth, clause))
+    left_asked(assignment, ask_of(assignment, clause))
 }
 
 /// The literal of a pending clause that is not false, if there is one.
@@ -68,22 +68,22 @@ pub fn left_of(
     store: &Store,
     slots: &[u32],
     blocks: &[u32],
-    truth: &Truth,
+    assignment: &Assignment,
     asks: &[u32],
     number: u32,
 ) -> Option<Lit>
-    requires fit { IsFit store.now (2 * truth.now.variables) }
+    requires fit { IsFit store.now (2 * assignment.now.variables) }
     requires few { length slots.now ≤ 4294967295 }
     requires long { length slots.now ≤ length asks.now }
     requires inside { number < length store.now }
-    requires pending { is_pending (has_literal truth.now.trail) (clause_at store.now number) ≡ true }
-    requires asked { IsAskedAt store.now slots.now (has_literal truth.now.trail) asks.now number }
-    ensures { MatchOption result (open_ones (has_literal truth.now.trail) (clause_at store.now number) ≡ []) (λ lit. open_ones (has_literal truth.now.trail) (clause_at store.now number) ≡ lit ∷ []) }
+    requires pending { is_pending (has_literal assignment.now.trail) (clause_at store.now number) ≡ true }
+    requires asked { IsAskedAt store.now slots.now (has_literal assignment.now.trail) asks.now number }
+    ensures { MatchOption result (open_ones (has_literal assignment.now.trail) (clause_at store.now number) ≡ []) (λ lit. open_ones (has_literal assignment.now.trail) (clause_at store.now number) ≡ lit ∷ []) }
 {
     let clause = store.clause(number);
     match asked_by_slot(clause.len(), slots, blocks, asks, number) {
-        Some(ask) => left_asked(truth, ask),
-        None => left_in(truth, &clause),
+        Some(ask) => left_asked(assignment, ask),
+        None => left_in(assignment, &clause),
     }
 }
 
@@ -92,21 +92,21 @@ pub fn is_left(
     store: &Store,
     slots: &[u32],
     blocks: &[u32],
-    truth: &Truth,
+    assignment: &Assignment,
     asks: &[u32],
     number: u32,
 ) -> bool
-    requires fit { IsFit store.now (2 * truth.now.variables) }
+    requires fit { IsFit store.now (2 * assignment.now.variables) }
     requires few { length slots.now ≤ 4294967295 }
     requires long { length slots.now ≤ length asks.now }
-    requires consistent { IsConsistent truth.now.trail }
+    requires consistent { IsConsistent assignment.now.trail }
     requires inside { number < length store.now }
-    requires asked { IsAskedAt store.now slots.now (has_literal truth.now.trail) asks.now number }
-    ensures { result ≡ is_pending (has_literal truth.now.trail) (clause_at store.now number) }
+    requires asked { IsAskedAt store.now slots.now (has_literal assignment.now.trail) asks.now number }
+    ensures { result ≡ is_pending (has_literal assignment.now.trail) (clause_at store.now number) }
 {
     let clause = store.clause(number);
     match asked_by_slot(clause.len(), slots, blocks, asks, number) {
-        Some(ask) => !truth.is_true(ask),
-        None => is_pending(truth, &clause),
+        Some(ask) => !assignment.is_true(ask),
+        None => is_pending(assignment, &clause),
     }
 }

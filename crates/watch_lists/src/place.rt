@@ -9,30 +9,30 @@ ghost use Rattle.watch_lists.specs.Added.{HasRoom, IsTaken, IsQuietBelow};
 use crate::visit::Lists;
 use clause_base::literal::Lit;
 use std::alloc::AllocError;
-use watch_store::truth::Truth;
+use cdcl_trail::assignment::Assignment;
 
 /// Gives a new clause the next slot, for which there is room, if it has two literals or more. In the prefixes of the trail below
 /// the result it is not pending.
 pub fn place(
     slots: &mut Vec<u32>,
     lists: &mut Lists,
-    truth: &Truth,
+    assignment: &Assignment,
     clause: &[Lit],
     number: u32,
 ) -> Result<u32, AllocError>
-    requires small { truth.now.variables ≤ 2147483647 }
-    requires below { (p : ℕ) → p < length clause.now → slice_index clause.now p < 2 * truth.now.variables }
+    requires small { assignment.now.variables ≤ 2147483647 }
+    requires below { (p : ℕ) → p < length clause.now → slice_index clause.now p < 2 * assignment.now.variables }
     requires short { length clause.now ≤ 4294967295 }
     requires few { length slots.old.items ≤ 2147483647 }
     requires capacity { length slots.old.items < vec_capacity slots.old }
-    requires codes { length lists.old.chains.heads.items ≡ 2 * truth.now.variables + 1 }
+    requires codes { length lists.old.chains.heads.items ≡ 2 * assignment.now.variables + 1 }
     requires room { HasRoom (length slots.old.items) lists.old.watched.items lists.old.chains.nodes.items }
     requires asks { length slots.old.items < length lists.old.asks.items }
     requires loose { ArePairLoose lists.old.chains.heads.items lists.old.chains.nodes.items (2 * length slots.old.items) }
     ensures ok { IsOk result }
-    ensures taken { IsTaken clause.now number (2 * truth.now.variables) truth.now.trail slots.old.items lists.old.watched.items lists.old.chains.heads.items lists.old.chains.nodes.items slots.new.items lists.new.watched.items lists.new.chains.heads.items lists.new.chains.nodes.items }
-    ensures quiet { IfOk result (λ low. IsQuietBelow clause.now truth.now.trail low) }
-    ensures asked { IfOk result (λ low. low ≤ length truth.now.trail → 2 < length clause.now → IsAsked (has_literal truth.now.trail) clause.now (slice_index lists.new.asks.items (length slots.old.items))) }
+    ensures taken { IsTaken clause.now number (2 * assignment.now.variables) assignment.now.trail slots.old.items lists.old.watched.items lists.old.chains.heads.items lists.old.chains.nodes.items slots.new.items lists.new.watched.items lists.new.chains.heads.items lists.new.chains.nodes.items }
+    ensures quiet { IfOk result (λ low. IsQuietBelow clause.now assignment.now.trail low) }
+    ensures asked { IfOk result (λ low. low ≤ length assignment.now.trail → 2 < length clause.now → IsAsked (has_literal assignment.now.trail) clause.now (slice_index lists.new.asks.items (length slots.old.items))) }
     ensures asks { (s : ℕ) → (s ≡ length slots.old.items → ⊥) → slice_index lists.new.asks.items s ≡ slice_index lists.old.asks.items s }
     ensures long { length lists.new.asks.items ≡ length lists.old.asks.items }
     ensures set { lists.new.pending ≡ lists.old.pending }
@@ -42,5 +42,5 @@ pub fn place(
     }
     let slot = slots.len() as u32;
     slots.push(number)?;
-    Ok(lists.enter(truth, clause, slot))
+    Ok(lists.enter(assignment, clause, slot))
 }

@@ -15,7 +15,7 @@ use number_bits::layer::Layer;
 use number_bits::set::NumberSet;
 use watch_chains::chains::Chains;
 use watch_store::store::Store;
-use watch_store::truth::Truth;
+use cdcl_trail::assignment::Assignment;
 
 /// The places of a clause's two watched literals, and the place where the search for another goes on.
 #[derive(Clone, Copy, Debug)]
@@ -70,14 +70,14 @@ impl Lists {
         store: &Store,
         kept: &[bool],
         slots: &[u32],
-        truth: &Truth,
+        assignment: &Assignment,
         spare: u32,
         code: u32,
         node: u32,
     )
-        requires spare { spare ≡ 2 * truth.now.variables }
+        requires spare { spare ≡ 2 * assignment.now.variables }
         requires code { code < spare }
-        requires fallen { has_literal truth.now.trail (opposite code) ≡ true }
+        requires falsified { has_literal assignment.now.trail (opposite code) ≡ true }
         requires fit { IsFit store.now spare }
         requires kept { length kept.now ≡ length store.now }
         requires slotted { AreSlotsBelow (length store.now) slots.now }
@@ -85,21 +85,21 @@ impl Lists {
         requires long { length slots.now ≤ length self.old.asks.items }
         requires distinct { AreDistinct slots.now }
         requires within { IsWithin (length store.now) (words_have self.old.pending) }
-        requires asked { AreAsked (slot_clauses store.now slots.now) (has_literal truth.now.trail) (slot_set (words_have self.old.pending) slots.now) self.old.asks.items }
+        requires asked { AreAsked (slot_clauses store.now slots.now) (has_literal assignment.now.trail) (slot_set (words_have self.old.pending) slots.now) self.old.asks.items }
         requires real { IsReal (slot_clauses store.now slots.now) node }
         requires own { IsKept (slot_flags kept.now slots.now) node → literal_at (slot_clauses store.now slots.now) self.old.watched.items node ≡ code }
-        requires listed { (r : IsListed (slot_clauses store.now slots.now) self.old.watched.items self.old.chains.heads.items self.old.chains.nodes.items spare (IsOther (slot_flags kept.now slots.now) node) (Stays (slot_clauses store.now slots.now) self.old.watched.items (has_literal truth.now.trail) (slot_set (words_have self.old.pending) slots.now) code)) × (r.on node ≡ None) }
-        ensures listed { IsListed (slot_clauses store.now slots.now) self.new.watched.items self.new.chains.heads.items self.new.chains.nodes.items spare (IsKept (slot_flags kept.now slots.now)) (Stays (slot_clauses store.now slots.now) self.new.watched.items (has_literal truth.now.trail) (slot_set (words_have self.new.pending) slots.now) code) }
-        ensures moves { MovesToFree (slot_clauses store.now slots.now) self.old.watched.items self.new.watched.items (has_literal truth.now.trail) }
+        requires listed { (r : IsListed (slot_clauses store.now slots.now) self.old.watched.items self.old.chains.heads.items self.old.chains.nodes.items spare (IsOther (slot_flags kept.now slots.now) node) (Stays (slot_clauses store.now slots.now) self.old.watched.items (has_literal assignment.now.trail) (slot_set (words_have self.old.pending) slots.now) code)) × (r.on node ≡ None) }
+        ensures listed { IsListed (slot_clauses store.now slots.now) self.new.watched.items self.new.chains.heads.items self.new.chains.nodes.items spare (IsKept (slot_flags kept.now slots.now)) (Stays (slot_clauses store.now slots.now) self.new.watched.items (has_literal assignment.now.trail) (slot_set (words_have self.new.pending) slots.now) code) }
+        ensures moves { MovesToFree (slot_clauses store.now slots.now) self.old.watched.items self.new.watched.items (has_literal assignment.now.trail) }
         ensures grows { Grows (words_have self.old.pending) (words_have self.new.pending) }
         ensures room { length self.new.pending ≡ length self.old.pending }
         ensures long { length self.new.asks.items ≡ length self.old.asks.items }
         ensures within { IsWithin (length store.now) (words_have self.new.pending) }
-        ensures asked { AreAsked (slot_clauses store.now slots.now) (has_literal truth.now.trail) (slot_set (words_have self.new.pending) slots.now) self.new.asks.items }
+        ensures asked { AreAsked (slot_clauses store.now slots.now) (has_literal assignment.now.trail) (slot_set (words_have self.new.pending) slots.now) self.new.asks.items }
         ensures lengths { chain_length self.new.chains.heads.items self.new.chains.nodes.items code ≡ chain_length self.old.chains.heads.items self.old.chains.nodes.items code }
     {
         let note = self.chains.note(node);
-        if truth.is_true(note) {
+        if assignment.is_true(note) {
             self.chains.link(node, spare, note);
             return;
         }
@@ -113,11 +113,11 @@ impl Lists {
         let other = watched.at(!second);
         let lit = clause.get(other as usize);
         let beside = lit.0;
-        if truth.is_true(beside) {
+        if assignment.is_true(beside) {
             self.chains.link(node, spare, beside);
             return;
         }
-        match find_other(truth, &clause, other, watched.from) {
+        match find_other(assignment, &clause, other, watched.from) {
             Some(place) => {
                 self.watched[slot as usize] = watched.moved(second, place);
                 let found = clause.get(place as usize);
@@ -138,13 +138,13 @@ impl Lists {
         store: &Store,
         kept: &[bool],
         slots: &[u32],
-        truth: &Truth,
+        assignment: &Assignment,
         spare: u32,
         code: u32,
     )
-        requires spare { spare ≡ 2 * truth.now.variables }
+        requires spare { spare ≡ 2 * assignment.now.variables }
         requires code { code < spare }
-        requires fallen { has_literal truth.now.trail (opposite code) ≡ true }
+        requires falsified { has_literal assignment.now.trail (opposite code) ≡ true }
         requires fit { IsFit store.now spare }
         requires kept { length kept.now ≡ length store.now }
         requires slotted { AreSlotsBelow (length store.now) slots.now }
@@ -152,16 +152,16 @@ impl Lists {
         requires long { length slots.now ≤ length self.old.asks.items }
         requires distinct { AreDistinct slots.now }
         requires within { IsWithin (length store.now) (words_have self.old.pending) }
-        requires asked { AreAsked (slot_clauses store.now slots.now) (has_literal truth.now.trail) (slot_set (words_have self.old.pending) slots.now) self.old.asks.items }
+        requires asked { AreAsked (slot_clauses store.now slots.now) (has_literal assignment.now.trail) (slot_set (words_have self.old.pending) slots.now) self.old.asks.items }
         requires rest { IsAtRest (slot_clauses store.now slots.now) self.old.watched.items self.old.chains.heads.items self.old.chains.nodes.items spare (slot_flags kept.now slots.now) }
         ensures rest { IsAtRest (slot_clauses store.now slots.now) self.new.watched.items self.new.chains.heads.items self.new.chains.nodes.items spare (slot_flags kept.now slots.now) }
-        ensures settled { AllSettled (slot_clauses store.now slots.now) self.new.watched.items (has_literal truth.now.trail) (slot_set (words_have self.new.pending) slots.now) code (slot_flags kept.now slots.now) }
-        ensures moves { MovesToFree (slot_clauses store.now slots.now) self.old.watched.items self.new.watched.items (has_literal truth.now.trail) }
+        ensures settled { AllSettled (slot_clauses store.now slots.now) self.new.watched.items (has_literal assignment.now.trail) (slot_set (words_have self.new.pending) slots.now) code (slot_flags kept.now slots.now) }
+        ensures moves { MovesToFree (slot_clauses store.now slots.now) self.old.watched.items self.new.watched.items (has_literal assignment.now.trail) }
         ensures grows { Grows (words_have self.old.pending) (words_have self.new.pending) }
         ensures room { length self.new.pending ≡ length self.old.pending }
         ensures long { length self.new.asks.items ≡ length self.old.asks.items }
         ensures within { IsWithin (length store.now) (words_have self.new.pending) }
-        ensures asked { AreAsked (slot_clauses store.now slots.now) (has_literal truth.now.trail) (slot_set (words_have self.new.pending) slots.now) self.new.asks.items }
+        ensures asked { AreAsked (slot_clauses store.now slots.now) (has_literal assignment.now.trail) (slot_set (words_have self.new.pending) slots.now) self.new.asks.items }
     {
         'visits: loop {
             match self.chains.pop(code) {
@@ -170,7 +170,7 @@ impl Lists {
                     return;
                 }
                 Some(node) => {
-                    self.visit(store, kept, slots, truth, spare, code, node);
+                    self.visit(store, kept, slots, assignment, spare, code, node);
                 }
             }
         }

@@ -10,7 +10,7 @@ use Rattle.watch_lists.proofs.scan.ask_of.Goals as goal
 pub returns-then-not-is_false : goal.returns-then-not-is_false
 returns-then-not-is_false c =
     let xs = c.args.clause.now in
-    let on = has_literal c.args.truth.now.trail in
+    let on = has_literal c.args.assignment.now.trail in
     let i = c.loop-place.place in
     let h : i < length xs = omega (arith, c.loop-place-test.true) in
     let e : c.lit.inside.0 ≡ get_or xs i 0 = c.lit.view_is ∙ get_or_read xs i c.get-lit.result h c.get-lit.ensures.item 0 in
@@ -20,6 +20,6 @@ returns-then-not-is_false c =
 pub returns : goal.returns
 returns c =
     let xs = c.args.clause.now in
-    let on = has_literal c.args.truth.now.trail in
+    let on = has_literal c.args.assignment.now.trail in
     let e : c.first.inside.0 ≡ get_or xs 0 0 = c.first.view_is ∙ get_or_read xs 0 c.get-first.result c.requires.some c.get-first.ensures.item 0 in
     subst (λ (l : ℕ). IsAsked on xs l) (sym e) (ask_none on xs (λ j h. c.loop-place.invariant j (omega (arith, h, c.loop-place-test.false))) c.requires.some)
