@@ -16,3 +16,4 @@ pub mod Asks
 pub mod Lefts
 pub mod Asked
 pub mod Givens
+pub mod Views

@@ -8,9 +8,9 @@ ghost use Rattle.watch_lists.specs.Added.{HasRoom, Outlasts, RestsWith, FreeWith
 
 use crate::fall::{free_until, latest};
 use crate::visit::{Lists, Watched};
+use cdcl_trail::assignment::Assignment;
 use clause_base::literal::Lit;
 use clause_base::view::View;
-use cdcl_trail::assignment::Assignment;
 
 /// No place of a clause.
 const NOWHERE: u32 = 4_294_967_295;

@@ -4,8 +4,8 @@ ghost use Rattle.clause_base.specs.Clause.{has_literal};
 ghost use Rattle.watch_lists.specs.Pending.{is_free};
 ghost use Rattle.watch_lists.specs.Added.{Outlasts};
 
-use clause_base::literal::Lit;
 use cdcl_trail::assignment::Assignment;
+use clause_base::literal::Lit;
 
 /// The length of the longest prefix of the trail in which a literal is not false.
 pub fn free_until(assignment: &Assignment, code: u32) -> u32

@@ -14,12 +14,12 @@ use crate::left::is_left;
 use crate::pending::Pending;
 use crate::scan::{ask_of, is_pending};
 use crate::slots::slot_clause;
+use cdcl_trail::assignment::Assignment;
 use number_bits::first::First;
 use number_bits::flat::Flat;
 use number_bits::layer::Layer;
 use number_bits::set::NumberSet;
 use watch_store::store::Store;
-use cdcl_trail::assignment::Assignment;
 
 /// Whether a clause is kept and pending.
 fn stands(
@@ -109,7 +109,13 @@ fn is_kept_pending(store: &Store, kept: &[bool], assignment: &Assignment, number
 }
 
 /// Puts a clause into the set, if it is kept and pending.
-fn scan_one(store: &Store, kept: &[bool], assignment: &Assignment, pending: &mut Pending, number: u32)
+fn scan_one(
+    store: &Store,
+    kept: &[bool],
+    assignment: &Assignment,
+    pending: &mut Pending,
+    number: u32,
+)
     requires fit { IsFit store.now (2 * assignment.now.variables) }
     requires kept { length kept.now ≡ length store.now }
     requires inside { number < length store.now }

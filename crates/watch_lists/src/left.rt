@@ -10,10 +10,10 @@ ghost use Rattle.watch_lists.specs.Visit.{IsFit};
 
 use crate::scan::{ask_of, is_pending};
 use crate::slots::find_slot;
+use cdcl_trail::assignment::Assignment;
 use clause_base::literal::Lit;
 use clause_base::view::View;
 use watch_store::store::Store;
-use cdcl_trail::assignment::Assignment;
 
 /// A clause with no more literals than these is read.
 const READ: usize = 2;

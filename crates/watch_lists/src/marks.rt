@@ -7,6 +7,7 @@ ghost use Rattle.watch_lists.specs.Asking.{HasPairsMore};
 ghost use Rattle.watch_lists.specs.Visit.{Grows, IsFit};
 
 use crate::pending::Pending;
+use cdcl_trail::assignment::Assignment;
 use number_bits::first::First;
 use number_bits::flat::Flat;
 use number_bits::layer::Layer;
@@ -15,7 +16,6 @@ use pair_index::index::PairIndex;
 use pair_index::list::PairList;
 use pair_index::pair::Pair;
 use watch_store::store::Store;
-use cdcl_trail::assignment::Assignment;
 
 /// Puts the clause of a pair of a false literal into the set, if its other literal is not true.
 fn mark(store: &Store, pair: Pair, assignment: &Assignment, falsified: u32, pending: &mut Pending)
@@ -34,7 +34,13 @@ fn mark(store: &Store, pair: Pair, assignment: &Assignment, falsified: u32, pend
 }
 
 /// Puts the clauses of a list of pairs of a false literal into the set whose other literal is not true.
-fn mark_all(store: &Store, pairs: &PairList, assignment: &Assignment, falsified: u32, pending: &mut Pending)
+fn mark_all(
+    store: &Store,
+    pairs: &PairList,
+    assignment: &Assignment,
+    falsified: u32,
+    pending: &mut Pending,
+)
     requires fit { IsFit store.now (2 * assignment.now.variables) }
     requires exact { (i : ℕ) → i < length pairs.now → IsPairOf store.now falsified (pair_in pairs.now i) }
     requires room { length store.now ≤ 64 * length pending.old }

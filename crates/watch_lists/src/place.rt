@@ -7,9 +7,9 @@ ghost use Rattle.watch_lists.specs.Asking.{IsAsked};
 ghost use Rattle.watch_lists.specs.Added.{HasRoom, IsTaken, IsQuietBelow};
 
 use crate::visit::Lists;
+use cdcl_trail::assignment::Assignment;
 use clause_base::literal::Lit;
 use std::alloc::AllocError;
-use cdcl_trail::assignment::Assignment;
 
 /// Gives a new clause the next slot, for which there is room, if it has two literals or more. In the prefixes of the trail below
 /// the result it is not pending.

@@ -27,7 +27,13 @@ fn unquiet(quiet: &mut Vec<bool>, low: u32, high: u32)
 
 /// Puts a new clause into the set, unless it is pending on the trail in none of its prefixes, nor on the whole. In the prefixes
 /// below a length it is not pending; of the lengths below the whole one it keeps the flags of those alone.
-pub fn raise(assignment: &Assignment, pending: &mut Pending, quiet: &mut Vec<bool>, number: u32, low: u32)
+pub fn raise(
+    assignment: &Assignment,
+    pending: &mut Pending,
+    quiet: &mut Vec<bool>,
+    number: u32,
+    low: u32,
+)
     requires number { number < 64 * length pending.old }
     requires long { assignment.now.variables < length quiet.old.items }
     ensures grows { Grows (words_have pending.old) (words_have pending.new) }

@@ -5,9 +5,9 @@ ghost use Rattle.watch_lists.specs.Asking.{IsAsked};
 ghost use Rattle.watch_lists.specs.Pending.{is_free};
 ghost use Rattle.cdcl_rules.specs.Pending.{is_pending};
 
+use cdcl_trail::assignment::Assignment;
 use clause_base::literal::Lit;
 use clause_base::view::View;
-use cdcl_trail::assignment::Assignment;
 
 /// Whether a clause has no true literal and at most one that is not false.
 pub fn is_pending(assignment: &Assignment, clause: &View) -> bool
@@ -48,7 +48,13 @@ pub fn ask_of(assignment: &Assignment, clause: &View) -> u32
 }
 
 /// A place from `low` up to `high`, other than `skipped`, whose literal is not false.
-pub fn find_free(assignment: &Assignment, clause: &View, skipped: u32, low: u32, high: u32) -> Option<u32>
+pub fn find_free(
+    assignment: &Assignment,
+    clause: &View,
+    skipped: u32,
+    low: u32,
+    high: u32,
+) -> Option<u32>
     requires below { (p : ℕ) → p < length clause.now → slice_index clause.now p < 2 * assignment.now.variables }
     requires high { high ≤ length clause.now }
     ensures none { MatchOption result ((p : ℕ) → low ≤ p → p < high → (p ≡ skipped → ⊥) → is_free (has_literal assignment.now.trail) (slice_index clause.now p) ≡ false) (λ p. is_free (has_literal assignment.now.trail) (slice_index clause.now p) ≡ true) }

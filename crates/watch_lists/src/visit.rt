@@ -9,13 +9,13 @@ ghost use Rattle.watch_lists.specs.Visit.{IsFit, IsListed, IsAtRest, IsReal, IsK
 use crate::pending::Pending;
 use crate::scan::find_other;
 use crate::slots::{is_slot_kept, slot_clause};
+use cdcl_trail::assignment::Assignment;
 use number_bits::first::First;
 use number_bits::flat::Flat;
 use number_bits::layer::Layer;
 use number_bits::set::NumberSet;
 use watch_chains::chains::Chains;
 use watch_store::store::Store;
-use cdcl_trail::assignment::Assignment;
 
 /// The places of a clause's two watched literals, and the place where the search for another goes on.
 #[derive(Clone, Copy, Debug)]

@@ -22,12 +22,11 @@ pub struct Watches {
 }
 
 impl Model for Watches {
-    ghost use Rattle.cdcl_trail.specs.Assignment.{literals};
-    ghost use Rattle.watch_lists.specs.Pending.{WatchesView};
+    ghost use Rattle.watch_lists.specs.Pending.{WatchesView, without_reasons};
 
     ghost Value = { WatchesView };
 
-    ghost view = { λ w. record { variables = w.watching.variables; clauses = w.watching.clauses; kept = w.watching.kept; trail = literals w.watching.entries } };
+    ghost view = { λ w. without_reasons w.watching };
 }
 
 impl Watches {

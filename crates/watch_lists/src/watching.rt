@@ -202,12 +202,13 @@ impl Watching {
             return;
         }
         self.trail.cut(length);
+        let assignment = self.trail.assignment();
         refresh(
             &self.store,
             self.kept.as_slice(),
             self.slots.as_slice(),
             self.quiet.as_slice(),
-            &self.trail.assignment(),
+            &assignment,
             &mut self.lists.pending,
             &mut self.lists.asks,
         );
@@ -222,12 +223,13 @@ impl Watching {
         if self.trail.length() == before {
             return;
         }
+        let assignment = self.trail.assignment();
         refresh(
             &self.store,
             self.kept.as_slice(),
             self.slots.as_slice(),
             self.quiet.as_slice(),
-            &self.trail.assignment(),
+            &assignment,
             &mut self.lists.pending,
             &mut self.lists.asks,
         );

@@ -1,7 +1,7 @@
 use Rattle.std.proofs.Common.{List, Bool, length, ap, sym, ◌∙◌, subst}
 use Rattle.cdcl_rules.specs.Reduce.{first_half}
 use Rattle.conflict_walk.specs.Clauses.{all_clauses}
-use Rattle.watch_lists.specs.Pending.{WatchesView}
+use Rattle.watch_lists.specs.Pending.{WatchingView}
 use Rattle.cdcl_core.specs.Search.{AreKept}
 use Rattle.cdcl_core.proofs.Watching.{half_kept, watched_drops}
 use Rattle.cdcl_core.proofs.reduce.reduce.Goals as goal
@@ -9,13 +9,13 @@ use Rattle.cdcl_core.proofs.reduce.reduce.Goals as goal
 pub forget-requires : goal.forget-requires
 forget-requires c =
     let v = c.args.clauses.now in
-    let trail = c.args.trail.now.entries in
+    let trail = c.args.watching.now.entries in
     let given = length v.formula.clauses in
     let e = c.first_half-half.ensures ∙ ap first_half (c.as_slice.ensures.value ∙ c.in_ok-numbers.ensures) in
-    let k = ap (λ (w : WatchesView). w.kept) c.requires in
+    let k = ap (λ (w : WatchingView). w.kept) c.requires in
     subst (λ (ks : List Bool). AreKept ks c.first_half-half.result.now) (sym k)
     (subst (AreKept v.kept) (sym e) (half_kept given (all_clauses v) v.kept trail))
 
 pub returns-clause-mirrored : goal.returns-clause-mirrored
 returns-clause-mirrored c =
-    watched_drops c.args.clauses.now c.drop_all.new.self c.args.trail.now.entries c.args.watches.now c.forget.new.watches c.first_half-half.result.now c.requires c.in_ok-drop_all.ensures.ok c.forget.ensures
+    watched_drops c.args.clauses.now c.drop_all.new.self c.args.watching.now.entries c.args.watching.now c.forget.new.watching c.first_half-half.result.now c.requires c.in_ok-drop_all.ensures.ok c.forget.ensures

@@ -8,22 +8,22 @@ use Rattle.cdcl_core.proofs.search.Search.learned.Goals as goal
 pub learn-requires-clause-reasoned : goal.learn-requires-clause-reasoned
 learn-requires-clause-reasoned c =
     let t = c.self.inside in
-    sound_reasoned t.clauses.formula (state_of t.clauses t.trail.entries t.standing) c.self.invariant.sound
+    sound_reasoned t.clauses.formula (state_of t.clauses t.watching.entries t.standing) c.self.invariant.sound
 
 pub learn-requires-clause-number : goal.learn-requires-clause-number
 learn-requires-clause-number c =
     let t = c.self.inside in
     let next = subst (λ (w : SearchView). IsNextEvent w.formula w.state (Conflict c.args.number)) (sym c.self.view_is) c.requires.next in
-    (conflict_is t.clauses.formula (state_of t.clauses t.trail.entries t.standing) c.args.number c.self.invariant.sound next).in_range
+    (conflict_is t.clauses.formula (state_of t.clauses t.watching.entries t.standing) c.args.number c.self.invariant.sound next).in_range
 
 pub learn-requires-clause-rising : goal.learn-requires-clause-rising
 learn-requires-clause-rising c =
     let t = c.self.inside in
     let next = subst (λ (w : SearchView). IsNextEvent w.formula w.state (Conflict c.args.number)) (sym c.self.view_is) c.requires.next in
-    (conflict_is t.clauses.formula (state_of t.clauses t.trail.entries t.standing) c.args.number c.self.invariant.sound next).rising
+    (conflict_is t.clauses.formula (state_of t.clauses t.watching.entries t.standing) c.args.number c.self.invariant.sound next).rising
 
 pub learn-requires-clause-all_false : goal.learn-requires-clause-all_false
 learn-requires-clause-all_false c =
     let t = c.self.inside in
     let next = subst (λ (w : SearchView). IsNextEvent w.formula w.state (Conflict c.args.number)) (sym c.self.view_is) c.requires.next in
-    (conflict_is t.clauses.formula (state_of t.clauses t.trail.entries t.standing) c.args.number c.self.invariant.sound next).all_false
+    (conflict_is t.clauses.formula (state_of t.clauses t.watching.entries t.standing) c.args.number c.self.invariant.sound next).all_false

@@ -6,7 +6,7 @@ use Rattle.watch_lists.specs.Pending.{WatchingView, is_pending_on}
 use Rattle.watch_lists.specs.Visit.{IsFit, Grows, slot_clauses, slot_flags, slot_set}
 use Rattle.watch_lists.specs.Pairs.{IsPaired}
 use Rattle.watch_lists.specs.Sound.{IsFront, IsSound}
-use Rattle.watch_lists.specs.Asking.{IsAsked, AreAsked, IsWithin, IsAsking}
+use Rattle.watch_lists.specs.Asking.{IsAsked, AreAsked, IsWithin, IsConsistent, IsAsking}
 use Rattle.watch_lists.proofs.Asked.{asked_add, within_add, distinct_add, asking_wider, asking_fewer}
 use Rattle.watch_lists.proofs.Adds.{fit_add}
 use Rattle.watch_lists.proofs.Paired.{paired_add}
@@ -43,6 +43,25 @@ sound : (c : After-assignment-assignment) → IsSound c.self.inside.variables c.
 sound c =
     let w = c.self.inside in
     subst (λ (v : AssignmentView). IsSound w.variables v.variables w.store w.kept.items v.trail w.slots.items w.lists.watched.items w.lists.chains.heads.items w.lists.chains.nodes.items w.lists.pending w.quiet.items) (sym c.assignment-assignment.ensures) c.self.invariant.0
+
+pub place-requires-clause-small : goal.place-requires-clause-small
+place-requires-clause-small c =
+    let i = sound (goal.at.place-requires-clause-small c).After-assignment-assignment in
+    omega (arith, i.small, i.same)
+
+pub place-requires-clause-codes : goal.place-requires-clause-codes
+place-requires-clause-codes c =
+    let i = sound (goal.at.place-requires-clause-codes c).After-assignment-assignment in
+    omega (arith, i.same, i.rest.codes, c.widen.ensures.wider.codes)
+
+pub raise-requires-clause-long : goal.raise-requires-clause-long
+raise-requires-clause-long c =
+    let i = sound (goal.at.raise-requires-clause-long c).After-assignment-assignment in
+    omega (arith, i.same, i.quiet_size)
+
+pub clean-requires-clause-consistent : goal.clean-requires-clause-consistent
+clean-requires-clause-consistent c =
+    subst (λ (v : AssignmentView). IsConsistent v.trail) (sym c.assignment-assignment.ensures) c.self.invariant.2.consistent
 
 pub place-requires-clause-below : goal.place-requires-clause-below
 place-requires-clause-below c p h =

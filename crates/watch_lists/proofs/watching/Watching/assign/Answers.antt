@@ -10,7 +10,7 @@ use Rattle.cdcl_trail.specs.Mirrored.{TrailView}
 use Rattle.cdcl_trail.proofs.Assignments.{has_is}
 use Rattle.cdcl_trail.proofs.Mirrors.{off_of_none, half_opposite}
 use Rattle.watch_lists.specs.Pending.{WatchingView, is_pending_on}
-use Rattle.watch_lists.specs.Visit.{slot_clauses, slot_flags, slot_set, AllSettled, MovesToFree, IsAtRest}
+use Rattle.watch_lists.specs.Visit.{slot_clauses, slot_flags, slot_set, IsFit, AllSettled, MovesToFree, IsAtRest}
 use Rattle.pair_index.specs.Pairs.{pairs_of, pair_in}
 use Rattle.watch_lists.specs.Asking.{AreAsked, IsConsistent}
 use Rattle.watch_lists.specs.Sound.{IsFront, AreFree}
@@ -79,6 +79,12 @@ asked_slots c =
     let w = c.self.inside in
     subst (λ (ss : List ℕ). AreAsked (slot_clauses w.store ss) (has_literal c.assignment-assignment.result.trail) (slot_set (words_have c.visit_all.new.self.pending) ss) c.visit_all.new.self.asks.items) c.as_slice-2.ensures.value c.visit_all.ensures.asked
 
+pub mark_pairs-requires-clause-fit : goal.mark_pairs-requires-clause-fit
+mark_pairs-requires-clause-fit c =
+    let w = c.self.inside in
+    let i = c.self.invariant.0 in
+    subst (λ (n : ℕ). IsFit w.store (2 * n)) (sym (ap (λ (t : AssignmentView). t.variables) c.assignment-assignment.ensures ∙ ap (λ (t : TrailView). t.variables) c.push.ensures ∙ i.same)) i.fit
+
 pub mark_pairs-requires-clause-exact : goal.mark_pairs-requires-clause-exact
 mark_pairs-requires-clause-exact c = c.self.invariant.1.exact c.falsified.inside.0
 
@@ -102,6 +108,12 @@ visit_all-requires-clause-asked c =
     (subst (λ (ys : List ℕ). AreAsked (slot_clauses w.store w.slots.items) (has_literal ys) (slot_set (words_have c.mark_pairs.new.pending) w.slots.items) w.lists.asks.items) (sym tr)
     (all_longer (slot_clauses w.store w.slots.items) (literals w.trail.entries) c.args.entry.literal (slot_set (words_have c.mark_pairs.new.pending) w.slots.items) w.lists.asks.items
     (asked_pairs w.store (has_literal (literals w.trail.entries)) (words_have w.lists.pending) (words_have c.mark_pairs.new.pending) w.slots.items w.lists.asks.items c.mark_pairs.ensures.only c.self.invariant.2.asked)))
+
+pub clean-requires-clause-fit : goal.clean-requires-clause-fit
+clean-requires-clause-fit c =
+    let w = c.self.inside in
+    let i = c.self.invariant.0 in
+    subst (λ (n : ℕ). IsFit w.store (2 * n)) (sym (ap (λ (t : AssignmentView). t.variables) c.assignment-assignment.ensures ∙ ap (λ (t : TrailView). t.variables) c.push.ensures ∙ i.same)) i.fit
 
 pub clean-requires-clause-consistent : goal.clean-requires-clause-consistent
 clean-requires-clause-consistent c =

@@ -1,11 +1,12 @@
-use Rattle.std.proofs.Common.{◌≡◌, ◌∷◌, ◌∙◌, [], ℕ, List, true, sym, ap, subst, MatchOption}
-use Rattle.cdcl_trail.specs.Assignment.{literals}
+use Rattle.std.proofs.Common.{◌≡◌, ◌*◌, ◌∷◌, ◌∙◌, [], ℕ, List, true, sym, ap, subst, MatchOption}
+use Rattle.cdcl_trail.specs.Assignment.{AssignmentView, literals}
 use Rattle.clause_base.specs.Clause.{has_literal}
 use Rattle.cdcl_rules.specs.State.{clause_at}
-use Rattle.cdcl_rules.specs.Pending.{is_pending_in, open_ones}
+use Rattle.cdcl_rules.specs.Pending.{is_pending, is_pending_in, open_ones}
 use Rattle.number_bits.specs.Bits.{words_have}
 use Rattle.watch_lists.specs.Pending.{WatchingView, is_pending_on}
 use Rattle.watch_lists.specs.Asking.{IsAskedAt}
+use Rattle.watch_lists.specs.Visit.{IsFit}
 use Rattle.watch_lists.proofs.Asks.{pending_kept}
 use Rattle.watch_lists.proofs.Asked.{asked_at}
 use Rattle.watch_lists.proofs.watching.Watching.left.Goals as goal
@@ -22,16 +23,26 @@ left_of-requires-clause-inside c = c.self.invariant.2.within c.args.number (memb
 pub left_of-requires-clause-pending : goal.left_of-requires-clause-pending
 left_of-requires-clause-pending c =
     let w = c.self.inside in
-    pending_kept w.store w.kept.items (literals w.trail.entries) c.args.number (member (goal.at.left_of-requires-clause-pending c).After-as_slice).0
+    subst (λ (t : AssignmentView). is_pending (has_literal t.trail) (clause_at w.store c.args.number) ≡ true) (sym c.assignment-assignment.ensures)
+    (pending_kept w.store w.kept.items (literals w.trail.entries) c.args.number (member (goal.at.left_of-requires-clause-pending c).After-as_slice).0)
 
 pub left_of-requires-clause-asked : goal.left_of-requires-clause-asked
 left_of-requires-clause-asked c =
     let w = c.self.inside in
-    subst (λ (ss : List ℕ). IsAskedAt w.store ss (has_literal (literals w.trail.entries)) c.as_slice-3.result.now c.args.number) (sym c.as_slice.ensures.value)
+    subst (λ (t : AssignmentView). IsAskedAt w.store c.as_slice.result.now (has_literal t.trail) c.as_slice-3.result.now c.args.number) (sym c.assignment-assignment.ensures)
+    (subst (λ (ss : List ℕ). IsAskedAt w.store ss (has_literal (literals w.trail.entries)) c.as_slice-3.result.now c.args.number) (sym c.as_slice.ensures.value)
     (subst (λ (xs : List ℕ). IsAskedAt w.store w.slots.items (has_literal (literals w.trail.entries)) xs c.args.number) (sym c.as_slice-3.ensures.value)
-    (asked_at w.store (has_literal (literals w.trail.entries)) (words_have w.lists.pending) w.slots.items w.lists.asks.items c.args.number c.self.invariant.2.asked (member (goal.at.left_of-requires-clause-asked c).After-as_slice).1))
+    (asked_at w.store (has_literal (literals w.trail.entries)) (words_have w.lists.pending) w.slots.items w.lists.asks.items c.args.number c.self.invariant.2.asked (member (goal.at.left_of-requires-clause-asked c).After-as_slice).1)))
+
+pub left_of-requires-clause-fit : goal.left_of-requires-clause-fit
+left_of-requires-clause-fit c =
+    let w = c.self.inside in
+    let i = c.self.invariant.0 in
+    subst (λ (n : ℕ). IsFit w.store (2 * n)) (sym (ap (λ (t : AssignmentView). t.variables) c.assignment-assignment.ensures ∙ i.same)) i.fit
 
 pub returns : goal.returns
 returns c =
+    let w = c.self.inside in
     let n = c.args.number in
-    subst (λ (v : WatchingView). MatchOption c.left_of.result (open_ones (has_literal (literals v.entries)) (clause_at v.clauses n) ≡ []) (λ (lit : ℕ). open_ones (has_literal (literals v.entries)) (clause_at v.clauses n) ≡ lit ∷ [])) c.self.view_is c.left_of.ensures
+    let here = subst (λ (t : AssignmentView). MatchOption c.left_of.result (open_ones (has_literal t.trail) (clause_at w.store n) ≡ []) (λ (lit : ℕ). open_ones (has_literal t.trail) (clause_at w.store n) ≡ lit ∷ [])) c.assignment-assignment.ensures c.left_of.ensures in
+    subst (λ (v : WatchingView). MatchOption c.left_of.result (open_ones (has_literal (literals v.entries)) (clause_at v.clauses n) ≡ []) (λ (lit : ℕ). open_ones (has_literal (literals v.entries)) (clause_at v.clauses n) ≡ lit ∷ [])) c.self.view_is here
