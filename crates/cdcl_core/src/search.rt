@@ -22,7 +22,7 @@ use clause_base::memory::Memory;
 use clause_base::values::Values;
 use conflict_walk::backjump::backjump_level;
 use conflict_walk::clauses::Clauses;
-use conflict_walk::learn::{Learned, learn};
+use conflict_walk::learn::{LearnedClause, learn};
 use conflict_walk::resolvent::Resolvent;
 use std::alloc::Global;
 use std::marker::Model;
@@ -150,7 +150,7 @@ impl Search {
     }
 
     /// What the conflict in a clause teaches. After want of memory the search is spoilt.
-    fn learned(&mut self, number: u32) -> Result<Learned, Memory>
+    fn learned(&mut self, number: u32) -> Result<LearnedClause, Memory>
         requires sane { self.old.spoilt ≡ false }
         requires going { is_going self.old.state.standing ≡ true }
         requires next { IsNextEvent self.old.formula self.old.state (Event.Conflict number) }
@@ -196,7 +196,7 @@ impl Search {
     /// Enters what a conflict teaches: its clause and hints into the log, which counts the conflict. With the empty clause all
     /// is refuted, else the trail backtracks, and at a restart clauses are dropped. After want of memory the search is spoilt;
     /// it may then have entered the clause.
-    fn enter(&mut self, new: Learned) -> Result<(), Memory>
+    fn enter(&mut self, new: LearnedClause) -> Result<(), Memory>
         requires sane { self.old.spoilt ≡ false }
         requires going { is_going self.old.state.standing ≡ true }
         requires room { self.old.state.conflicts < 1073741824 }

@@ -3,7 +3,7 @@
 ghost use Rattle.std.specs.Prelude.{◌≡◌, ℕ, ◌+◌, ◌*◌, ◌<◌, ◌≤◌, Bool, length, slice_index};
 ghost use Rattle.clause_base.specs.Clause.{has_literal};
 ghost use Rattle.watch_chains.specs.Linked.{ArePairLoose};
-ghost use Rattle.watch_lists.specs.Asking.{IsAsked};
+ghost use Rattle.watch_lists.specs.Units.{IsUnit};
 ghost use Rattle.watch_lists.specs.Added.{HasRoom, Outlasts, RestsWith, FreeWith, IsQuietBelow};
 
 use crate::fall::{free_until, latest};
@@ -44,14 +44,14 @@ impl Lists {
         requires two { 2 ≤ length clause.now }
         requires codes { length self.old.chains.heads.items ≡ 2 * assignment.now.variables + 1 }
         requires room { HasRoom slot self.old.watched.items self.old.chains.nodes.items }
-        requires asks { slot < length self.old.asks.items }
+        requires units { slot < length self.old.units.items }
         requires loose { ArePairLoose self.old.chains.heads.items self.old.chains.nodes.items (2 * slot) }
         ensures rest { RestsWith clause.now slot (2 * assignment.now.variables) self.old.watched.items self.old.chains.heads.items self.old.chains.nodes.items self.new.watched.items self.new.chains.heads.items self.new.chains.nodes.items }
         ensures free { FreeWith clause.now slot assignment.now.trail self.old.watched.items self.new.watched.items }
         ensures quiet { IsQuietBelow clause.now assignment.now.trail result }
-        ensures asked { result ≤ length assignment.now.trail → 2 < length clause.now → IsAsked (has_literal assignment.now.trail) clause.now (slice_index self.new.asks.items slot) }
-        ensures asks { (s : ℕ) → (s ≡ slot → ⊥) → slice_index self.new.asks.items s ≡ slice_index self.old.asks.items s }
-        ensures long { length self.new.asks.items ≡ length self.old.asks.items }
+        ensures units_are { result ≤ length assignment.now.trail → 2 < length clause.now → IsUnit (has_literal assignment.now.trail) clause.now (slice_index self.new.units.items slot) }
+        ensures units { (s : ℕ) → (s ≡ slot → ⊥) → slice_index self.new.units.items s ≡ slice_index self.old.units.items s }
+        ensures long { length self.new.units.items ≡ length self.old.units.items }
         ensures set { self.new.pending ≡ self.old.pending }
     {
         let watched = to_watch(assignment, clause);
@@ -59,7 +59,7 @@ impl Lists {
         let a = clause[watched.first as usize];
         let b = clause[watched.second as usize];
         self.chains.link_two(2 * slot, a.0, b.0);
-        self.asks[slot as usize] = a.0;
+        self.units[slot as usize] = a.0;
         free_until(assignment, b.0) + 1
     }
 
@@ -74,7 +74,7 @@ impl Lists {
         requires loose { ArePairLoose self.old.chains.heads.items self.old.chains.nodes.items (2 * slot) }
         ensures rest { RestsWith clause.now slot codes self.old.watched.items self.old.chains.heads.items self.old.chains.nodes.items self.new.watched.items self.new.chains.heads.items self.new.chains.nodes.items }
         ensures set { self.new.pending ≡ self.old.pending }
-        ensures asks { self.new.asks.items ≡ self.old.asks.items }
+        ensures units { self.new.units.items ≡ self.old.units.items }
     {
         let length = clause.len() as u32;
         let watched = Watched {

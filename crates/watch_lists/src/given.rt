@@ -58,7 +58,7 @@ impl Given {
         requires { codes ≤ 4294967294 }
         ensures slots { IfOk result (λ g. g.slots.items ≡ []) }
         ensures watched { IfOk result (λ g. g.lists.watched.items ≡ []) }
-        ensures asks { IfOk result (λ g. g.lists.asks.items ≡ []) }
+        ensures units { IfOk result (λ g. g.lists.units.items ≡ []) }
         ensures pending { IfOk result (λ g. (k : ℕ) → words_have g.lists.pending k ≡ false) }
         ensures linked { IfOk result (λ g. IsLinked g.lists.chains.heads.items g.lists.chains.nodes.items (λ k. None)) }
         ensures codes { IfOk result (λ g. length g.lists.chains.heads.items ≡ codes + 1) }
@@ -67,7 +67,7 @@ impl Given {
         let blocks = Vec::with_capacity(alloc, blocks_of(count))?;
         let chains = Chains::new(alloc, codes + 1, longs.saturating_add(longs))?;
         let watched = Vec::with_capacity(alloc, longs)?;
-        let asks = Vec::with_capacity(alloc, longs)?;
+        let units = Vec::with_capacity(alloc, longs)?;
         Ok(Given {
             slots,
             blocks,
@@ -75,7 +75,7 @@ impl Given {
                 chains,
                 watched,
                 pending: no_pending(alloc),
-                asks,
+                units,
             },
         })
     }
@@ -85,8 +85,8 @@ impl Given {
         requires fit { IsFit store.now codes }
         requires inside { number < length store.now }
         requires few { length store.now ≤ 1073741824 }
-        requires given { AreGiven codes store.now number self.old.slots.items self.old.lists.watched.items self.old.lists.chains.heads.items self.old.lists.chains.nodes.items self.old.lists.pending self.old.lists.asks.items }
-        ensures { OnOk result (AreGiven codes store.now (number + 1) self.new.slots.items self.new.lists.watched.items self.new.lists.chains.heads.items self.new.lists.chains.nodes.items self.new.lists.pending self.new.lists.asks.items) }
+        requires given { AreGiven codes store.now number self.old.slots.items self.old.lists.watched.items self.old.lists.chains.heads.items self.old.lists.chains.nodes.items self.old.lists.pending self.old.lists.units.items }
+        ensures { OnOk result (AreGiven codes store.now (number + 1) self.new.slots.items self.new.lists.watched.items self.new.lists.chains.heads.items self.new.lists.chains.nodes.items self.new.lists.pending self.new.lists.units.items) }
     {
         let slot = self.slots.len() as u32;
         begin_block(&mut self.blocks, number, slot)?;
@@ -117,7 +117,7 @@ impl Given {
         requires count { count ≡ length store.now }
         requires few { count ≤ 1073741824 }
         requires codes { codes ≤ 4294967294 }
-        ensures { IfOk result (λ g. AreGiven codes store.now count g.slots.items g.lists.watched.items g.lists.chains.heads.items g.lists.chains.nodes.items g.lists.pending g.lists.asks.items) }
+        ensures { IfOk result (λ g. AreGiven codes store.now count g.slots.items g.lists.watched.items g.lists.chains.heads.items g.lists.chains.nodes.items g.lists.pending g.lists.units.items) }
     {
         let mut given = Given::empty(alloc, count, longs, codes)?;
         for number in 0..count {

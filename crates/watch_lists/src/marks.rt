@@ -1,9 +1,9 @@
-//! The clauses of two literals of a literal that became false: each whose other literal is not true asks for it.
+//! The clauses of two literals of a literal that became false: each whose other literal is not true has that for its unit literal.
 ghost use Rattle.std.specs.Prelude.{◌≡◌, ℕ, ◌*◌, ◌<◌, ◌≤◌, ◌++◌, length, false, true};
 ghost use Rattle.clause_base.specs.Clause.{has_literal};
 ghost use Rattle.number_bits.specs.Bits.{words_have};
 ghost use Rattle.pair_index.specs.Pairs.{IsPairOf, pairs_of, pair_in};
-ghost use Rattle.watch_lists.specs.Asking.{HasPairsMore};
+ghost use Rattle.watch_lists.specs.Units.{HasPairsMore};
 ghost use Rattle.watch_lists.specs.Visit.{Grows, IsFit};
 
 use crate::pending::Pending;

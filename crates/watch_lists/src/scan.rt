@@ -1,7 +1,7 @@
 ghost use Rattle.std.specs.Prelude.{◌≡◌, ℕ, ◌*◌, ◌<◌, ◌≤◌, length, true, false, slice_index, MatchOption, IfSome};
 ghost use Rattle.clause_base.specs.Literal.{opposite};
 ghost use Rattle.clause_base.specs.Clause.{has_literal};
-ghost use Rattle.watch_lists.specs.Asking.{IsAsked};
+ghost use Rattle.watch_lists.specs.Units.{IsUnit};
 ghost use Rattle.watch_lists.specs.Pending.{is_free};
 ghost use Rattle.cdcl_rules.specs.Pending.{is_pending};
 
@@ -30,12 +30,12 @@ pub fn is_pending(assignment: &Assignment, clause: &View) -> bool
     true
 }
 
-/// What a pending clause asks for that has literals: the one that is not false, or its first one where all are false.
-pub fn ask_of(assignment: &Assignment, clause: &View) -> u32
+/// The unit literal of a pending clause that has literals: the one that is not false, or its first one where all are false.
+pub fn unit_of(assignment: &Assignment, clause: &View) -> u32
     requires below { (p : ℕ) → p < length clause.now → slice_index clause.now p < 2 * assignment.now.variables }
     requires some { 0 < length clause.now }
     requires pending { is_pending (has_literal assignment.now.trail) clause.now ≡ true }
-    ensures { IsAsked (has_literal assignment.now.trail) clause.now result }
+    ensures { IsUnit (has_literal assignment.now.trail) clause.now result }
 {
     for place in 0..clause.len() {
         let lit = clause.get(place);

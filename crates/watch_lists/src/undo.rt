@@ -2,12 +2,12 @@
 ghost use Rattle.std.specs.Prelude.{◌≡◌, ℕ, ◌*◌, ◌<◌, ◌≤◌, length, true, false, slice_index_or};
 ghost use Rattle.clause_base.specs.Clause.{has_literal};
 ghost use Rattle.number_bits.specs.Bits.{words_have};
-ghost use Rattle.watch_lists.specs.Asking.{AreAsked, IsWithin};
+ghost use Rattle.watch_lists.specs.Units.{AreUnits, IsWithin};
 ghost use Rattle.watch_lists.specs.Pending.{is_pending_on};
 ghost use Rattle.watch_lists.specs.Sound.{IsFront};
 ghost use Rattle.watch_lists.specs.Visit.{IsFit, slot_clauses, slot_set, AreSlotsBelow};
 
-use crate::front::{ask_all, clear, rescan};
+use crate::front::{clear, find_units, rescan};
 use crate::pending::Pending;
 use cdcl_trail::assignment::Assignment;
 use number_bits::first::First;
@@ -24,7 +24,7 @@ pub fn refresh(
     quiet: &[bool],
     assignment: &Assignment,
     pending: &mut Pending,
-    asks: &mut Vec<u32>,
+    units: &mut Vec<u32>,
 )
     requires fit { IsFit store.now (2 * assignment.now.variables) }
     requires kept { length kept.now ≡ length store.now }
@@ -32,19 +32,19 @@ pub fn refresh(
     requires slotted { AreSlotsBelow (length store.now) slots.now }
     requires few_slots { length slots.now ≤ 4294967295 }
     requires room { length store.now ≤ 64 * length pending.old }
-    requires long { length slots.now ≤ length asks.old.items }
+    requires long { length slots.now ≤ length units.old.items }
     requires flags { length assignment.now.trail < length quiet.now }
     requires quiet { slice_index_or quiet.now (length assignment.now.trail) false ≡ true → (k : ℕ) → is_pending_on store.now kept.now assignment.now.trail k ≡ false }
     ensures front { IsFront (is_pending_on store.now kept.now assignment.now.trail) (words_have pending.new) }
     ensures within { IsWithin (length store.now) (words_have pending.new) }
-    ensures asked { AreAsked (slot_clauses store.now slots.now) (has_literal assignment.now.trail) (slot_set (words_have pending.new) slots.now) asks.new.items }
+    ensures units_are { AreUnits (slot_clauses store.now slots.now) (has_literal assignment.now.trail) (slot_set (words_have pending.new) slots.now) units.new.items }
     ensures room { length pending.new ≡ length pending.old }
-    ensures long { length asks.new.items ≡ length asks.old.items }
+    ensures long { length units.new.items ≡ length units.old.items }
 {
     if quiet[assignment.length() as usize] {
         clear(pending);
     } else {
         rescan(store, kept, assignment, pending);
-        ask_all(store, slots, assignment, asks);
+        find_units(store, slots, assignment, units);
     }
 }

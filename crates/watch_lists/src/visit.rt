@@ -3,8 +3,8 @@ ghost use Rattle.clause_base.specs.Literal.{opposite};
 ghost use Rattle.clause_base.specs.Clause.{has_literal};
 ghost use Rattle.number_bits.specs.Bits.{words_have};
 ghost use Rattle.watch_chains.specs.Linked.{chain_length};
-ghost use Rattle.watch_lists.specs.Asking.{AreAsked, AreDistinct, IsWithin};
-ghost use Rattle.watch_lists.specs.Visit.{IsFit, IsListed, IsAtRest, IsReal, IsKept, IsOther, Stays, MovesToFree, Grows, AllSettled, AreSlotsBelow, literal_at, place_in, slot_clauses, slot_flags, slot_set};
+ghost use Rattle.watch_lists.specs.Units.{AreUnits, AreDistinct, IsWithin};
+ghost use Rattle.watch_lists.specs.Visit.{IsFit, IsListed, IsAtRest, IsReal, IsNodeKept, IsOther, Stays, MovesToFree, Grows, AllSettled, AreSlotsBelow, literal_at, place_in, slot_clauses, slot_flags, slot_set};
 
 use crate::pending::Pending;
 use crate::scan::find_other;
@@ -32,8 +32,8 @@ pub struct Lists {
     pub watched: Vec<Watched>,
     /// The clauses that may be pending.
     pub pending: Pending,
-    /// For each slot the literal that its clause asks for, where that is in the set.
-    pub asks: Vec<u32>,
+    /// For each slot the unit literal of its clause, where that is in the set.
+    pub units: Vec<u32>,
 }
 
 impl Watched {
@@ -82,25 +82,25 @@ impl Lists {
         requires kept { length kept.now ≡ length store.now }
         requires slotted { AreSlotsBelow (length store.now) slots.now }
         requires room { length store.now ≤ 64 * length self.old.pending }
-        requires long { length slots.now ≤ length self.old.asks.items }
+        requires long { length slots.now ≤ length self.old.units.items }
         requires distinct { AreDistinct slots.now }
         requires within { IsWithin (length store.now) (words_have self.old.pending) }
-        requires asked { AreAsked (slot_clauses store.now slots.now) (has_literal assignment.now.trail) (slot_set (words_have self.old.pending) slots.now) self.old.asks.items }
+        requires units_are { AreUnits (slot_clauses store.now slots.now) (has_literal assignment.now.trail) (slot_set (words_have self.old.pending) slots.now) self.old.units.items }
         requires real { IsReal (slot_clauses store.now slots.now) node }
-        requires own { IsKept (slot_flags kept.now slots.now) node → literal_at (slot_clauses store.now slots.now) self.old.watched.items node ≡ code }
+        requires own { IsNodeKept (slot_flags kept.now slots.now) node → literal_at (slot_clauses store.now slots.now) self.old.watched.items node ≡ code }
         requires listed { (r : IsListed (slot_clauses store.now slots.now) self.old.watched.items self.old.chains.heads.items self.old.chains.nodes.items spare (IsOther (slot_flags kept.now slots.now) node) (Stays (slot_clauses store.now slots.now) self.old.watched.items (has_literal assignment.now.trail) (slot_set (words_have self.old.pending) slots.now) code)) × (r.on node ≡ None) }
-        ensures listed { IsListed (slot_clauses store.now slots.now) self.new.watched.items self.new.chains.heads.items self.new.chains.nodes.items spare (IsKept (slot_flags kept.now slots.now)) (Stays (slot_clauses store.now slots.now) self.new.watched.items (has_literal assignment.now.trail) (slot_set (words_have self.new.pending) slots.now) code) }
+        ensures listed { IsListed (slot_clauses store.now slots.now) self.new.watched.items self.new.chains.heads.items self.new.chains.nodes.items spare (IsNodeKept (slot_flags kept.now slots.now)) (Stays (slot_clauses store.now slots.now) self.new.watched.items (has_literal assignment.now.trail) (slot_set (words_have self.new.pending) slots.now) code) }
         ensures moves { MovesToFree (slot_clauses store.now slots.now) self.old.watched.items self.new.watched.items (has_literal assignment.now.trail) }
         ensures grows { Grows (words_have self.old.pending) (words_have self.new.pending) }
         ensures room { length self.new.pending ≡ length self.old.pending }
-        ensures long { length self.new.asks.items ≡ length self.old.asks.items }
+        ensures long { length self.new.units.items ≡ length self.old.units.items }
         ensures within { IsWithin (length store.now) (words_have self.new.pending) }
-        ensures asked { AreAsked (slot_clauses store.now slots.now) (has_literal assignment.now.trail) (slot_set (words_have self.new.pending) slots.now) self.new.asks.items }
+        ensures units_are { AreUnits (slot_clauses store.now slots.now) (has_literal assignment.now.trail) (slot_set (words_have self.new.pending) slots.now) self.new.units.items }
         ensures lengths { chain_length self.new.chains.heads.items self.new.chains.nodes.items code ≡ chain_length self.old.chains.heads.items self.old.chains.nodes.items code }
     {
-        let note = self.chains.note(node);
-        if assignment.is_true(note) {
-            self.chains.link(node, spare, note);
+        let blocking = self.chains.blocking(node);
+        if assignment.is_true(blocking) {
+            self.chains.link(node, spare, blocking);
             return;
         }
         let slot = node / 2;
@@ -126,7 +126,7 @@ impl Lists {
             None => {
                 self.chains.link(node, spare, beside);
                 let number = slots[slot as usize];
-                self.asks[slot as usize] = beside;
+                self.units[slot as usize] = beside;
                 self.pending.insert(number);
             }
         }
@@ -149,19 +149,19 @@ impl Lists {
         requires kept { length kept.now ≡ length store.now }
         requires slotted { AreSlotsBelow (length store.now) slots.now }
         requires room { length store.now ≤ 64 * length self.old.pending }
-        requires long { length slots.now ≤ length self.old.asks.items }
+        requires long { length slots.now ≤ length self.old.units.items }
         requires distinct { AreDistinct slots.now }
         requires within { IsWithin (length store.now) (words_have self.old.pending) }
-        requires asked { AreAsked (slot_clauses store.now slots.now) (has_literal assignment.now.trail) (slot_set (words_have self.old.pending) slots.now) self.old.asks.items }
+        requires units_are { AreUnits (slot_clauses store.now slots.now) (has_literal assignment.now.trail) (slot_set (words_have self.old.pending) slots.now) self.old.units.items }
         requires rest { IsAtRest (slot_clauses store.now slots.now) self.old.watched.items self.old.chains.heads.items self.old.chains.nodes.items spare (slot_flags kept.now slots.now) }
         ensures rest { IsAtRest (slot_clauses store.now slots.now) self.new.watched.items self.new.chains.heads.items self.new.chains.nodes.items spare (slot_flags kept.now slots.now) }
         ensures settled { AllSettled (slot_clauses store.now slots.now) self.new.watched.items (has_literal assignment.now.trail) (slot_set (words_have self.new.pending) slots.now) code (slot_flags kept.now slots.now) }
         ensures moves { MovesToFree (slot_clauses store.now slots.now) self.old.watched.items self.new.watched.items (has_literal assignment.now.trail) }
         ensures grows { Grows (words_have self.old.pending) (words_have self.new.pending) }
         ensures room { length self.new.pending ≡ length self.old.pending }
-        ensures long { length self.new.asks.items ≡ length self.old.asks.items }
+        ensures long { length self.new.units.items ≡ length self.old.units.items }
         ensures within { IsWithin (length store.now) (words_have self.new.pending) }
-        ensures asked { AreAsked (slot_clauses store.now slots.now) (has_literal assignment.now.trail) (slot_set (words_have self.new.pending) slots.now) self.new.asks.items }
+        ensures units_are { AreUnits (slot_clauses store.now slots.now) (has_literal assignment.now.trail) (slot_set (words_have self.new.pending) slots.now) self.new.units.items }
     {
         'visits: loop {
             match self.chains.pop(code) {

@@ -13,9 +13,9 @@ use crate::given::{Given, count_longs};
 use crate::left::left_of;
 use crate::marks::mark_pairs;
 use crate::pending::{Pending, no_pending};
-use crate::place::place;
 use crate::quiet::{no_quiet, raise};
 use crate::slots::{begin_block, blocks_of};
+use crate::take_slot::take_slot;
 use crate::undo::refresh;
 use crate::visit::Lists;
 use cdcl_rules::trail::Assigned;
@@ -56,15 +56,15 @@ impl Model for Watching {
     ghost use Rattle.cdcl_trail.specs.Assignment.{literals};
     ghost use Rattle.watch_lists.specs.Pending.{WatchingView};
     ghost use Rattle.watch_lists.specs.Pairs.{IsPaired};
-    ghost use Rattle.watch_lists.specs.Asking.{IsAsking};
+    ghost use Rattle.watch_lists.specs.Units.{HasUnits};
     ghost use Rattle.number_bits.specs.Bits.{words_have};
-    ghost use Rattle.watch_lists.specs.Sound.{IsSound};
+    ghost use Rattle.watch_lists.specs.Sound.{AreTablesSound};
 
     ghost Value = { WatchingView };
 
     ghost view = { λ w. record { variables = w.variables; clauses = w.store; kept = w.kept.items; entries = w.trail.entries } };
 
-    ghost invariant = { λ w. IsSound w.variables w.trail.variables w.store w.kept.items (literals w.trail.entries) w.slots.items w.lists.watched.items w.lists.chains.heads.items w.lists.chains.nodes.items w.lists.pending w.quiet.items × IsPaired w.variables w.store w.slots.items w.pairs × IsAsking w.store (literals w.trail.entries) w.slots.items w.lists.pending w.lists.asks.items };
+    ghost invariant = { λ w. AreTablesSound w.variables w.trail.variables w.store w.kept.items (literals w.trail.entries) w.slots.items w.lists.watched.items w.lists.chains.heads.items w.lists.chains.nodes.items w.lists.pending w.quiet.items × IsPaired w.variables w.store w.slots.items w.pairs × HasUnits w.store (literals w.trail.entries) w.slots.items w.lists.pending w.lists.units.items };
 }
 
 impl Watching {
@@ -129,7 +129,7 @@ impl Watching {
         self.store.push(clause)?;
         self.kept.push(true)?;
         let assignment = self.trail.assignment();
-        let low = place(
+        let low = take_slot(
             &mut self.slots,
             &mut self.lists,
             &assignment,
@@ -149,7 +149,7 @@ impl Watching {
             self.slots.as_slice(),
             self.blocks.as_slice(),
             &assignment,
-            self.lists.asks.as_slice(),
+            self.lists.units.as_slice(),
             &mut self.lists.pending,
         );
         Ok(())
@@ -189,7 +189,7 @@ impl Watching {
             self.slots.as_slice(),
             self.blocks.as_slice(),
             &assignment,
-            self.lists.asks.as_slice(),
+            self.lists.units.as_slice(),
             &mut self.lists.pending,
         );
     }
@@ -210,7 +210,7 @@ impl Watching {
             self.quiet.as_slice(),
             &assignment,
             &mut self.lists.pending,
-            &mut self.lists.asks,
+            &mut self.lists.units,
         );
     }
 
@@ -231,7 +231,7 @@ impl Watching {
             self.quiet.as_slice(),
             &assignment,
             &mut self.lists.pending,
-            &mut self.lists.asks,
+            &mut self.lists.units,
         );
     }
 
@@ -248,7 +248,7 @@ impl Watching {
             self.slots.as_slice(),
             self.blocks.as_slice(),
             &assignment,
-            self.lists.asks.as_slice(),
+            self.lists.units.as_slice(),
             &mut self.lists.pending,
         );
     }
@@ -264,7 +264,7 @@ impl Watching {
             self.slots.as_slice(),
             self.blocks.as_slice(),
             &assignment,
-            self.lists.asks.as_slice(),
+            self.lists.units.as_slice(),
             number,
         )
     }

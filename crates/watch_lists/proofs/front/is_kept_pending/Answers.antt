@@ -1,5 +1,5 @@
 use Rattle.std.proofs.Common.{◌*◌}
-use Rattle.watch_lists.proofs.Asks.{fit_read}
+use Rattle.watch_lists.proofs.UnitsTell.{fit_read}
 use Rattle.watch_lists.proofs.front.is_kept_pending.Goals as goal
 
 pub is_pending-requires : goal.is_pending-requires

@@ -1,7 +1,7 @@
 use Rattle.std.proofs.Common.{arith, ◌≡◌, ◌∙◌}
 use Rattle.number_bits.specs.Bits.{words_have}
 use Rattle.watch_lists.specs.Pending.{is_pending_on}
-use Rattle.watch_lists.proofs.Asks.{scanned}
+use Rattle.watch_lists.proofs.UnitsTell.{scanned}
 use Rattle.watch_lists.proofs.front.rescan.Goals as goal
 
 pub loop-number-preserved : goal.loop-number-preserved

@@ -4,7 +4,7 @@ use Rattle.number_bits.specs.Bits.{words_have}
 use Rattle.pair_index.specs.declared.pair.Pair.{Pair}
 use Rattle.pair_index.specs.Pairs.{IsPairOf}
 use Rattle.pair_index.proofs.Five.{EachPair, AreFive, each_of_five, five_of_each}
-use Rattle.watch_lists.proofs.Asked.{pairs_then}
+use Rattle.watch_lists.proofs.UnitsOfSlots.{pairs_then}
 use Rattle.watch_lists.proofs.marks.mark_pairs.Goals as goal
 use Rattle.watch_lists.proofs.marks.mark_pairs.Goals.{After-lists-lists}
 

@@ -50,5 +50,5 @@ visits-preserved c =
       room = c.visit.ensures.room ∙ i.room;
       long = c.visit.ensures.long ∙ i.long;
       within = c.visit.ensures.within;
-      asked = c.visit.ensures.asked;
+      units_are = c.visit.ensures.units_are;
     }

@@ -12,11 +12,11 @@ use Rattle.cdcl_trail.proofs.Mirrors.{off_of_none, half_opposite}
 use Rattle.watch_lists.specs.Pending.{WatchingView, is_pending_on}
 use Rattle.watch_lists.specs.Visit.{slot_clauses, slot_flags, slot_set, IsFit, AllSettled, MovesToFree, IsAtRest}
 use Rattle.pair_index.specs.Pairs.{pairs_of, pair_in}
-use Rattle.watch_lists.specs.Asking.{AreAsked, IsConsistent}
+use Rattle.watch_lists.specs.Units.{AreUnits, IsConsistent}
 use Rattle.watch_lists.specs.Sound.{IsFront, AreFree}
 use Rattle.watch_lists.proofs.Assigns.{opposite_twice, assign_complete, assign_free, assign_quiets, whole_free}
-use Rattle.watch_lists.proofs.Asks.{all_longer, consistent_push, last_true}
-use Rattle.watch_lists.proofs.Asked.{asked_pairs, within_pairs}
+use Rattle.watch_lists.proofs.UnitsTell.{all_longer, consistent_push, last_true}
+use Rattle.watch_lists.proofs.UnitsOfSlots.{units_pairs, within_pairs}
 use Rattle.watch_lists.proofs.Slotted.{slots_long, flags_long, slots_complete}
 use Rattle.watch_lists.proofs.Founds.{found_complete}
 use Rattle.watch_lists.proofs.Undoes.{sound_moved}
@@ -74,10 +74,10 @@ rest c =
     subst (λ (ks : List Bool). IsAtRest (slot_clauses w.store w.slots.items) c.visit_all.new.self.watched.items c.visit_all.new.self.chains.heads.items c.visit_all.new.self.chains.nodes.items (2 * w.variables) (slot_flags ks w.slots.items)) c.as_slice.ensures.value
     (subst (λ (ss : List ℕ). IsAtRest (slot_clauses w.store ss) c.visit_all.new.self.watched.items c.visit_all.new.self.chains.heads.items c.visit_all.new.self.chains.nodes.items (2 * w.variables) (slot_flags c.as_slice.result.now ss)) c.as_slice-2.ensures.value c.visit_all.ensures.rest)
 
-asked_slots : (c : After-visit_all) → AreAsked (slot_clauses c.self.inside.store c.self.inside.slots.items) (has_literal c.assignment-assignment.result.trail) (slot_set (words_have c.visit_all.new.self.pending) c.self.inside.slots.items) c.visit_all.new.self.asks.items
-asked_slots c =
+units_of_slots : (c : After-visit_all) → AreUnits (slot_clauses c.self.inside.store c.self.inside.slots.items) (has_literal c.assignment-assignment.result.trail) (slot_set (words_have c.visit_all.new.self.pending) c.self.inside.slots.items) c.visit_all.new.self.units.items
+units_of_slots c =
     let w = c.self.inside in
-    subst (λ (ss : List ℕ). AreAsked (slot_clauses w.store ss) (has_literal c.assignment-assignment.result.trail) (slot_set (words_have c.visit_all.new.self.pending) ss) c.visit_all.new.self.asks.items) c.as_slice-2.ensures.value c.visit_all.ensures.asked
+    subst (λ (ss : List ℕ). AreUnits (slot_clauses w.store ss) (has_literal c.assignment-assignment.result.trail) (slot_set (words_have c.visit_all.new.self.pending) ss) c.visit_all.new.self.units.items) c.as_slice-2.ensures.value c.visit_all.ensures.units_are
 
 pub mark_pairs-requires-clause-fit : goal.mark_pairs-requires-clause-fit
 mark_pairs-requires-clause-fit c =
@@ -100,14 +100,14 @@ visit_all-requires-clause-within c =
     let w = c.self.inside in
     within_pairs w.store (words_have w.lists.pending) (words_have c.mark_pairs.new.pending) c.mark_pairs.ensures.only c.self.invariant.2.within
 
-pub visit_all-requires-clause-asked : goal.visit_all-requires-clause-asked
-visit_all-requires-clause-asked c =
+pub visit_all-requires-clause-units_are : goal.visit_all-requires-clause-units_are
+visit_all-requires-clause-units_are c =
     let w = c.self.inside in
-    let tr = trail_is (goal.at.visit_all-requires-clause-asked c).After-assignment-assignment in
-    subst (λ (ss : List ℕ). AreAsked (slot_clauses w.store ss) (has_literal c.assignment-assignment.result.trail) (slot_set (words_have c.mark_pairs.new.pending) ss) w.lists.asks.items) (sym c.as_slice-2.ensures.value)
-    (subst (λ (ys : List ℕ). AreAsked (slot_clauses w.store w.slots.items) (has_literal ys) (slot_set (words_have c.mark_pairs.new.pending) w.slots.items) w.lists.asks.items) (sym tr)
-    (all_longer (slot_clauses w.store w.slots.items) (literals w.trail.entries) c.args.entry.literal (slot_set (words_have c.mark_pairs.new.pending) w.slots.items) w.lists.asks.items
-    (asked_pairs w.store (has_literal (literals w.trail.entries)) (words_have w.lists.pending) (words_have c.mark_pairs.new.pending) w.slots.items w.lists.asks.items c.mark_pairs.ensures.only c.self.invariant.2.asked)))
+    let tr = trail_is (goal.at.visit_all-requires-clause-units_are c).After-assignment-assignment in
+    subst (λ (ss : List ℕ). AreUnits (slot_clauses w.store ss) (has_literal c.assignment-assignment.result.trail) (slot_set (words_have c.mark_pairs.new.pending) ss) w.lists.units.items) (sym c.as_slice-2.ensures.value)
+    (subst (λ (ys : List ℕ). AreUnits (slot_clauses w.store w.slots.items) (has_literal ys) (slot_set (words_have c.mark_pairs.new.pending) w.slots.items) w.lists.units.items) (sym tr)
+    (all_longer (slot_clauses w.store w.slots.items) (literals w.trail.entries) c.args.entry.literal (slot_set (words_have c.mark_pairs.new.pending) w.slots.items) w.lists.units.items
+    (units_pairs w.store (has_literal (literals w.trail.entries)) (words_have w.lists.pending) (words_have c.mark_pairs.new.pending) w.slots.items w.lists.units.items c.mark_pairs.ensures.only c.self.invariant.2.units_are)))
 
 pub clean-requires-clause-fit : goal.clean-requires-clause-fit
 clean-requires-clause-fit c =
@@ -158,7 +158,7 @@ invariant_of-self c =
       c.self.invariant.1,
       record {
         within = λ k h. e.within k (c.clean.ensures.fewer k h);
-        asked = subst (λ (ys : List ℕ). AreAsked (slot_clauses w.store w.slots.items) (has_literal ys) (slot_set (words_have c.clean.new.pending) w.slots.items) c.visit_all.new.self.asks.items) seen (λ n h long. asked_slots visited n (c.clean.ensures.fewer (get_or w.slots.items n 0) h) long);
+        units_are = subst (λ (ys : List ℕ). AreUnits (slot_clauses w.store w.slots.items) (has_literal ys) (slot_set (words_have c.clean.new.pending) w.slots.items) c.visit_all.new.self.units.items) seen (λ n h long. units_of_slots visited n (c.clean.ensures.fewer (get_or w.slots.items n 0) h) long);
         long = omega (arith, c.self.invariant.2.long, e.long);
         distinct = c.self.invariant.2.distinct;
         consistent = subst IsConsistent seen (consistent here);

@@ -7,9 +7,9 @@ use Rattle.cdcl_trail.specs.Assignment.{AssignmentView, literals}
 use Rattle.cdcl_trail.specs.Mirrored.{TrailView}
 use Rattle.watch_lists.specs.Pending.{is_pending_on}
 use Rattle.watch_lists.specs.Visit.{IsFit, slot_clauses, slot_set}
-use Rattle.watch_lists.specs.Asking.{AreAsked, IsAsking}
-use Rattle.watch_lists.specs.Sound.{IsFront, IsSound}
-use Rattle.watch_lists.proofs.Asked.{asking_shorter}
+use Rattle.watch_lists.specs.Units.{AreUnits, HasUnits}
+use Rattle.watch_lists.specs.Sound.{IsFront, AreTablesSound}
+use Rattle.watch_lists.proofs.UnitsOfSlots.{has_units_shorter}
 use Rattle.watch_lists.proofs.Undoes.{undo_sound}
 use Rattle.watch_lists.proofs.watching.Watching.cut.Goals as goal
 use Rattle.watch_lists.proofs.watching.Watching.cut.Goals.{After-assignment-assignment}
@@ -57,9 +57,9 @@ invariant_of-self c =
     let new = literals c.cut.new.self.entries in
     let front = subst (λ (xs : List ℕ). IsFront (is_pending_on w.store w.kept.items xs) (words_have c.refresh.new.pending)) (told at)
     (subst (λ (ks : List Bool). IsFront (is_pending_on w.store ks c.assignment-assignment.result.trail) (words_have c.refresh.new.pending)) c.as_slice.ensures.value c.refresh.ensures.front) in
-    let asked = subst (λ (xs : List ℕ). AreAsked (slot_clauses w.store w.slots.items) (has_literal xs) (slot_set (words_have c.refresh.new.pending) w.slots.items) c.refresh.new.asks.items) (told at)
-    (subst (λ (ss : List ℕ). AreAsked (slot_clauses w.store ss) (has_literal c.assignment-assignment.result.trail) (slot_set (words_have c.refresh.new.pending) ss) c.refresh.new.asks.items) c.as_slice-2.ensures.value c.refresh.ensures.asked) in (
+    let units_are = subst (λ (xs : List ℕ). AreUnits (slot_clauses w.store w.slots.items) (has_literal xs) (slot_set (words_have c.refresh.new.pending) w.slots.items) c.refresh.new.units.items) (told at)
+    (subst (λ (ss : List ℕ). AreUnits (slot_clauses w.store ss) (has_literal c.assignment-assignment.result.trail) (slot_set (words_have c.refresh.new.pending) ss) c.refresh.new.units.items) c.as_slice-2.ensures.value c.refresh.ensures.units_are) in (
       undo_sound w.variables w.trail.variables w.store w.kept.items (literals w.trail.entries) w.slots.items w.lists.watched.items w.lists.chains.heads.items w.lists.chains.nodes.items w.lists.pending w.quiet.items c.cut.new.self.variables c.args.length new c.refresh.new.pending c.self.invariant.0 (ap (λ (t : TrailView). t.variables) c.cut.ensures) (taken at) (omega (arith, less at)) c.refresh.ensures.room front,
       c.self.invariant.1,
-      asking_shorter w.store (literals w.trail.entries) w.slots.items w.lists.pending w.lists.asks.items c.args.length new c.refresh.new.pending c.refresh.new.asks.items c.self.invariant.2 (taken at) c.refresh.ensures.within asked c.refresh.ensures.long,
+      has_units_shorter w.store (literals w.trail.entries) w.slots.items w.lists.pending w.lists.units.items c.args.length new c.refresh.new.pending c.refresh.new.units.items c.self.invariant.2 (taken at) c.refresh.ensures.within units_are c.refresh.ensures.long,
     )

@@ -5,10 +5,10 @@ use Rattle.cdcl_rules.specs.State.{clause_at}
 use Rattle.cdcl_rules.specs.Pending.{is_pending, is_pending_in, open_ones}
 use Rattle.number_bits.specs.Bits.{words_have}
 use Rattle.watch_lists.specs.Pending.{WatchingView, is_pending_on}
-use Rattle.watch_lists.specs.Asking.{IsAskedAt}
+use Rattle.watch_lists.specs.Units.{IsUnitAt}
 use Rattle.watch_lists.specs.Visit.{IsFit}
-use Rattle.watch_lists.proofs.Asks.{pending_kept}
-use Rattle.watch_lists.proofs.Asked.{asked_at}
+use Rattle.watch_lists.proofs.UnitsTell.{pending_kept}
+use Rattle.watch_lists.proofs.UnitsOfSlots.{unit_at}
 use Rattle.watch_lists.proofs.watching.Watching.left.Goals as goal
 use Rattle.watch_lists.proofs.watching.Watching.left.Goals.{After-as_slice}
 
@@ -26,13 +26,13 @@ left_of-requires-clause-pending c =
     subst (λ (t : AssignmentView). is_pending (has_literal t.trail) (clause_at w.store c.args.number) ≡ true) (sym c.assignment-assignment.ensures)
     (pending_kept w.store w.kept.items (literals w.trail.entries) c.args.number (member (goal.at.left_of-requires-clause-pending c).After-as_slice).0)
 
-pub left_of-requires-clause-asked : goal.left_of-requires-clause-asked
-left_of-requires-clause-asked c =
+pub left_of-requires-clause-units_are : goal.left_of-requires-clause-units_are
+left_of-requires-clause-units_are c =
     let w = c.self.inside in
-    subst (λ (t : AssignmentView). IsAskedAt w.store c.as_slice.result.now (has_literal t.trail) c.as_slice-3.result.now c.args.number) (sym c.assignment-assignment.ensures)
-    (subst (λ (ss : List ℕ). IsAskedAt w.store ss (has_literal (literals w.trail.entries)) c.as_slice-3.result.now c.args.number) (sym c.as_slice.ensures.value)
-    (subst (λ (xs : List ℕ). IsAskedAt w.store w.slots.items (has_literal (literals w.trail.entries)) xs c.args.number) (sym c.as_slice-3.ensures.value)
-    (asked_at w.store (has_literal (literals w.trail.entries)) (words_have w.lists.pending) w.slots.items w.lists.asks.items c.args.number c.self.invariant.2.asked (member (goal.at.left_of-requires-clause-asked c).After-as_slice).1)))
+    subst (λ (t : AssignmentView). IsUnitAt w.store c.as_slice.result.now (has_literal t.trail) c.as_slice-3.result.now c.args.number) (sym c.assignment-assignment.ensures)
+    (subst (λ (ss : List ℕ). IsUnitAt w.store ss (has_literal (literals w.trail.entries)) c.as_slice-3.result.now c.args.number) (sym c.as_slice.ensures.value)
+    (subst (λ (xs : List ℕ). IsUnitAt w.store w.slots.items (has_literal (literals w.trail.entries)) xs c.args.number) (sym c.as_slice-3.ensures.value)
+    (unit_at w.store (has_literal (literals w.trail.entries)) (words_have w.lists.pending) w.slots.items w.lists.units.items c.args.number c.self.invariant.2.units_are (member (goal.at.left_of-requires-clause-units_are c).After-as_slice).1)))
 
 pub left_of-requires-clause-fit : goal.left_of-requires-clause-fit
 left_of-requires-clause-fit c =

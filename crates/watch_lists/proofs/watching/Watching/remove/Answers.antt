@@ -3,7 +3,7 @@ use Rattle.clause_base.specs.Clause.{has_literal}
 use Rattle.cdcl_trail.specs.Assignment.{AssignmentView, literals}
 use Rattle.number_bits.specs.Bits.{words_have}
 use Rattle.watch_lists.specs.Pending.{is_pending_on}
-use Rattle.watch_lists.specs.Asking.{AreAsked, IsConsistent}
+use Rattle.watch_lists.specs.Units.{AreUnits, IsConsistent}
 use Rattle.watch_lists.specs.Visit.{IsFit, slot_clauses, slot_set}
 use Rattle.watch_lists.specs.Sound.{IsFront}
 use Rattle.watch_lists.proofs.Removes.{pending_before, removed_sound}
@@ -19,13 +19,13 @@ pub clean-requires-clause-consistent : goal.clean-requires-clause-consistent
 clean-requires-clause-consistent c =
     subst (λ (t : AssignmentView). IsConsistent t.trail) (sym c.assignment-assignment.ensures) c.self.invariant.2.consistent
 
-pub clean-requires-clause-asked : goal.clean-requires-clause-asked
-clean-requires-clause-asked c =
+pub clean-requires-clause-units_are : goal.clean-requires-clause-units_are
+clean-requires-clause-units_are c =
     let w = c.self.inside in
     let set = words_have w.lists.pending in
-    subst (λ (t : AssignmentView). AreAsked (slot_clauses w.store c.as_slice-2.result.now) (has_literal t.trail) (slot_set set c.as_slice-2.result.now) c.as_slice-4.result.now) (sym c.assignment-assignment.ensures)
-    (subst (λ (ss : List ℕ). AreAsked (slot_clauses w.store ss) (has_literal (literals w.trail.entries)) (slot_set set ss) c.as_slice-4.result.now) (sym c.as_slice-2.ensures.value)
-    (subst (λ (xs : List ℕ). AreAsked (slot_clauses w.store w.slots.items) (has_literal (literals w.trail.entries)) (slot_set set w.slots.items) xs) (sym c.as_slice-4.ensures.value) c.self.invariant.2.asked))
+    subst (λ (t : AssignmentView). AreUnits (slot_clauses w.store c.as_slice-2.result.now) (has_literal t.trail) (slot_set set c.as_slice-2.result.now) c.as_slice-4.result.now) (sym c.assignment-assignment.ensures)
+    (subst (λ (ss : List ℕ). AreUnits (slot_clauses w.store ss) (has_literal (literals w.trail.entries)) (slot_set set ss) c.as_slice-4.result.now) (sym c.as_slice-2.ensures.value)
+    (subst (λ (xs : List ℕ). AreUnits (slot_clauses w.store w.slots.items) (has_literal (literals w.trail.entries)) (slot_set set w.slots.items) xs) (sym c.as_slice-4.ensures.value) c.self.invariant.2.units_are))
 
 pub clean-requires-clause-complete : goal.clean-requires-clause-complete
 clean-requires-clause-complete c k e =
@@ -44,7 +44,7 @@ invariant_of-self c =
       c.self.invariant.1,
       record {
         within = λ k h. c.self.invariant.2.within k (c.clean.ensures.fewer k h);
-        asked = λ n h long. c.self.invariant.2.asked n (c.clean.ensures.fewer (get_or w.slots.items n 0) h) long;
+        units_are = λ n h long. c.self.invariant.2.units_are n (c.clean.ensures.fewer (get_or w.slots.items n 0) h) long;
         long = c.self.invariant.2.long;
         distinct = c.self.invariant.2.distinct;
         consistent = c.self.invariant.2.consistent;

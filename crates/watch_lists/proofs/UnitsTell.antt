@@ -1,4 +1,4 @@
--- What the clauses of the set ask for tells whether they are pending.
+-- The unit literals of the clauses of the set tell whether they are pending.
 use Rattle.std.proofs.Common.{arith, ◌≡◌, ◌≢◌, ◌==◌, ℕ, suc, ◌+◌, ◌-◌, ◌%◌, ◌<◌, ◌≤◌, List, [], ◌∷◌, ◌++◌, length, take, set, get_or, leb, Bool, true, false, not, ◌||◌, ◌&&◌, if◌then◌else◌, refl, sym, ap, ◌∙◌, subst, Some}
 use Rattle.std.specs.List.{list_any, filter}
 use Rattle.std.proofs.lemmas.Bool.Decides.{nat_tests}
@@ -10,7 +10,7 @@ use Rattle.number_bits.specs.Bits.{IsLeast}
 use Rattle.cdcl_trail.proofs.Assignments.{has-snoc}
 use Rattle.pair_index.specs.declared.pair.Pair.{Pair}
 use Rattle.watch_lists.specs.Pending.{is_free, is_pending_on}
-use Rattle.watch_lists.specs.Asking.{IsAsked, AreAsked, IsConsistent}
+use Rattle.watch_lists.specs.Units.{IsUnit, AreUnits, IsConsistent}
 use Rattle.cdcl_rules.specs.State.{clause_at}
 use Rattle.watch_lists.specs.Visit.{Grows, IsFit}
 use Rattle.pair_index.specs.Pairs.{pair_in}
@@ -31,19 +31,19 @@ none_at p (x ∷ xs) h = ap (λ (b : Bool). b || list_any p xs) (h 0 (omega arit
 off_of : (trail : List ℕ) (l : ℕ) → IsConsistent trail → is_free (has_literal trail) l ≡ false → has_literal trail l ≡ false
 off_of trail l c f = ap (has_literal trail) (sym (opposite_twice l)) ∙ c (opposite l) (not_false (has_literal trail (opposite l)) f)
 
--- a clause that asks for a literal is pending where this is not true
-pub pending_by_ask : (trail clause : List ℕ) (ask : ℕ) → IsConsistent trail → IsAsked (has_literal trail) clause ask → is_pending (has_literal trail) clause ≡ not (has_literal trail ask)
-pending_by_ask trail clause ask cons a = met (has_literal trail ask) refl
+-- a clause with a unit literal is pending where this is not true
+pub pending_by_unit : (trail clause : List ℕ) (unit : ℕ) → IsConsistent trail → IsUnit (has_literal trail) clause unit → is_pending (has_literal trail) clause ≡ not (has_literal trail unit)
+pending_by_unit trail clause unit cons a = met (has_literal trail unit) refl
   where
     on : ℕ → Bool
     on = has_literal trail
 
-    own : (q : ℕ) → q ≡ a.place → on ask ≡ false → on (get_or clause q 0) ≡ false
+    own : (q : ℕ) → q ≡ a.place → on unit ≡ false → on (get_or clause q 0) ≡ false
     own q e f = ap on (ap (λ (i : ℕ). get_or clause i 0) e ∙ a.own) ∙ f
 
-    met : (b : Bool) → on ask ≡ b → is_pending on clause ≡ not (on ask)
+    met : (b : Bool) → on unit ≡ b → is_pending on clause ≡ not (on unit)
     met true f =
-        let any = any_from_has on clause ask (ap (λ (l : ℕ). has_literal clause l) (sym a.own) ∙ has_get clause a.place a.inside) f in
+        let any = any_from_has on clause unit (ap (λ (l : ℕ). has_literal clause l) (sym a.own) ∙ has_get clause a.place a.inside) f in
         ap (λ (b : Bool). not b && leb (length (filter (is_free on) clause)) 1) any ∙ ap (λ (b : Bool). not b) (sym f)
     met false f =
         let none = none_at on clause (λ i g. at i g (i == a.place) refl) in
@@ -54,17 +54,17 @@ pending_by_ask trail clause ask cons a = met (has_literal trail ask) refl
         at i g true e = own i (equal_of i a.place e) f
         at i g false e = off_of trail (get_or clause i 0) cons (a.others i g (apart_of i a.place e))
 
--- it asks for it on longer trails
-pub asked_longer : (on on' : ℕ → Bool) (clause : List ℕ) (ask : ℕ) → ((l : ℕ) → on l ≡ true → on' l ≡ true) → IsAsked on clause ask → IsAsked on' clause ask
-asked_longer on on' clause ask h a = record {
+-- it is its unit literal on longer trails
+pub unit_longer : (on on' : ℕ → Bool) (clause : List ℕ) (unit : ℕ) → ((l : ℕ) → on l ≡ true → on' l ≡ true) → IsUnit on clause unit → IsUnit on' clause unit
+unit_longer on on' clause unit h a = record {
   place = a.place;
   inside = a.inside;
   own = a.own;
   others = λ p g ne. ap (λ (b : Bool). not b) (h (opposite (get_or clause p 0)) (not_false (on (opposite (get_or clause p 0))) (a.others p g ne)));
 }
 
-pub all_longer : (cl : List (List ℕ)) (trail : List ℕ) (x : ℕ) (set : ℕ → Bool) (asks : List ℕ) → AreAsked cl (has_literal trail) set asks → AreAsked cl (has_literal (trail ++ x ∷ [])) set asks
-all_longer cl trail x set asks a s h long = asked_longer (has_literal trail) (has_literal (trail ++ x ∷ [])) (clause_at cl s) (get_or asks s 0) (true_longer trail x) (a s h long)
+pub all_longer : (cl : List (List ℕ)) (trail : List ℕ) (x : ℕ) (set : ℕ → Bool) (units : List ℕ) → AreUnits cl (has_literal trail) set units → AreUnits cl (has_literal (trail ++ x ∷ [])) set units
+all_longer cl trail x set units a s h long = unit_longer (has_literal trail) (has_literal (trail ++ x ∷ [])) (clause_at cl s) (get_or units s 0) (true_longer trail x) (a s h long)
 
 -- trails on which no literal is true and false
 pub consistent_none : (trail : List ℕ) → trail ≡ [] → IsConsistent trail
@@ -160,20 +160,20 @@ last_true trail x = has-snoc trail x x ∙ by (has_literal trail x)
     by true = refl
     by false = same
 
--- what a clause asks for is a literal
-pub ask_below : (cl : List (List ℕ)) (on : ℕ → Bool) (k ask codes : ℕ) → IsFit cl codes → IsAsked on (clause_at cl k) ask → ask < codes
-ask_below cl on k ask codes fit a = omega (arith, fit.below k a.place a.inside, a.own)
+-- a unit literal is a literal of the clause
+pub unit_below : (cl : List (List ℕ)) (on : ℕ → Bool) (k unit codes : ℕ) → IsFit cl codes → IsUnit on (clause_at cl k) unit → unit < codes
+unit_below cl on k unit codes fit a = omega (arith, fit.below k a.place a.inside, a.own)
 
--- a pending clause asks for its literal that is not false, or for its first one where all are false
-pub ask_found : (on : ℕ → Bool) (xs : List ℕ) (i : ℕ) → i < length xs → is_free on (get_or xs i 0) ≡ true → is_pending on xs ≡ true → IsAsked on xs (get_or xs i 0)
-ask_found on xs i h f p = record { place = i; inside = h; own = refl; others = λ j g ne. by j g ne (is_free on (get_or xs j 0)) refl }
+-- the unit literal of a pending clause is the one that is not false, or the first one where all are false
+pub unit_found : (on : ℕ → Bool) (xs : List ℕ) (i : ℕ) → i < length xs → is_free on (get_or xs i 0) ≡ true → is_pending on xs ≡ true → IsUnit on xs (get_or xs i 0)
+unit_found on xs i h f p = record { place = i; inside = h; own = refl; others = λ j g ne. by j g ne (is_free on (get_or xs j 0)) refl }
   where
     by : (j : ℕ) → j < length xs → (j ≡ i → ⊥) → (b : Bool) → is_free on (get_or xs j 0) ≡ b → b ≡ false
     by j g ne false e = refl
     by j g ne true e = let z : true ≡ false = sym p ∙ pending_off on xs (count_two (is_free on) xs j i g h ne e f) in cc
 
-pub ask_none : (on : ℕ → Bool) (xs : List ℕ) → ((j : ℕ) → j < length xs → is_free on (get_or xs j 0) ≡ false) → 0 < length xs → IsAsked on xs (get_or xs 0 0)
-ask_none on xs h g = record { place = 0; inside = g; own = refl; others = λ j l ne. h j l }
+pub unit_none : (on : ℕ → Bool) (xs : List ℕ) → ((j : ℕ) → j < length xs → is_free on (get_or xs j 0) ≡ false) → 0 < length xs → IsUnit on xs (get_or xs 0 0)
+unit_none on xs h g = record { place = 0; inside = g; own = refl; others = λ j l ne. h j l }
 
 -- a test cannot be true and false
 pub clash : {X : Type 0} → true ≡ false → X

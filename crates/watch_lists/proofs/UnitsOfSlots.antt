@@ -1,4 +1,4 @@
--- What the slots' clauses ask for that are in the set, as the set and the slots change.
+-- The unit literals of the slots' clauses that are in the set, as the set and the slots change.
 use Rattle.std.proofs.Common.{arith, ◌≡◌, ◌≢◌, ◌==◌, ℕ, ◌<◌, ◌≤◌, List, [], ◌∷◌, ◌++◌, length, take, set, get_or, leb, ltb, Bool, true, false, ◌||◌, refl, sym, ap, ◌∙◌, subst, ◌⊎◌, inl, inr, get_or-set_same, get_or-set_other}
 use Rattle.std.proofs.lemmas.Bool.Decides.{nat_tests}
 use Rattle.std.proofs.lemmas.List.{length_push, get_or_push}
@@ -7,12 +7,12 @@ use Rattle.cdcl_rules.specs.Pending.{is_pending}
 use Rattle.cdcl_rules.specs.State.{clause_at}
 use Rattle.number_bits.specs.Bits.{words_have}
 use Rattle.watch_lists.specs.Pending.{is_pending_on}
-use Rattle.watch_lists.specs.Asking.{IsAsked, AreAsked, IsAskedAt, HasPairsMore, AreDistinct, IsWithin, IsConsistent, IsAsking}
+use Rattle.watch_lists.specs.Units.{IsUnit, AreUnits, IsUnitAt, HasPairsMore, AreDistinct, IsWithin, IsConsistent, HasUnits}
 use Rattle.watch_lists.specs.Visit.{slot_clauses, slot_set, AreSlotsBelow}
 use Rattle.watch_lists.proofs.Filters.{clause_past, pending_at}
 use Rattle.watch_lists.proofs.Assigns.{equal_of, apart_of, at_most_of, past_of}
 use Rattle.watch_lists.proofs.Adds.{at_other, at_own, get_other, kept_in}
-use Rattle.watch_lists.proofs.Asks.{pending_kept, consistent_take}
+use Rattle.watch_lists.proofs.UnitsTell.{pending_kept, consistent_take}
 use Rattle.watch_lists.proofs.Slotted.{slot_at, slots_long, slots_same, slots_more}
 
 -- a clause of more than two literals is one of a list
@@ -28,38 +28,38 @@ long_in cl s long = by (ltb s (length cl)) refl
 pub slot_in : (store : List (List ℕ)) (slots : List ℕ) (s : ℕ) → 2 < length (clause_at (slot_clauses store slots) s) → s < length slots
 slot_in store slots s long = omega (arith, long_in (slot_clauses store slots) s long, slots_long store slots)
 
--- nothing is asked for where the set has no clause
-pub asked_none : (cl : List (List ℕ)) (on set : ℕ → Bool) (slots asks : List ℕ) → ((k : ℕ) → set k ≡ false) → AreAsked cl on (slot_set set slots) asks
-asked_none cl on set slots asks none s h = absurd (let z : true ≡ false = sym h ∙ none (get_or slots s 0) in let w : ⊥ = cc in w)
+-- there is none where the set has no clause
+pub units_none : (cl : List (List ℕ)) (on set : ℕ → Bool) (slots units : List ℕ) → ((k : ℕ) → set k ≡ false) → AreUnits cl on (slot_set set slots) units
+units_none cl on set slots units none s h = absurd (let z : true ≡ false = sym h ∙ none (get_or slots s 0) in let w : ⊥ = cc in w)
 
 pub within_none : (n : ℕ) (set : ℕ → Bool) → ((k : ℕ) → set k ≡ false) → IsWithin n set
 within_none n set none k h = absurd (let z : true ≡ false = sym h ∙ none k in let w : ⊥ = cc in w)
 
--- what the clause with a number asks for that is in the set
-pub asked_at : (store : List (List ℕ)) (on set : ℕ → Bool) (slots asks : List ℕ) (number : ℕ) → AreAsked (slot_clauses store slots) on (slot_set set slots) asks → set number ≡ true → IsAskedAt store slots on asks number
-asked_at store on set slots asks number a h s inside e long =
+-- the unit literal of the clause with a number that is in the set
+pub unit_at : (store : List (List ℕ)) (on set : ℕ → Bool) (slots units : List ℕ) (number : ℕ) → AreUnits (slot_clauses store slots) on (slot_set set slots) units → set number ≡ true → IsUnitAt store slots on units number
+unit_at store on set slots units number a h s inside e long =
     let at : clause_at (slot_clauses store slots) s ≡ clause_at store number = slot_at store slots s inside ∙ ap (λ (n : ℕ). clause_at store n) e in
-    subst (λ (xs : List ℕ). IsAsked on xs (get_or asks s 0)) at (a s (ap set e ∙ h) (subst (λ (xs : List ℕ). 2 < length xs) (sym at) long))
+    subst (λ (xs : List ℕ). IsUnit on xs (get_or units s 0)) at (a s (ap set e ∙ h) (subst (λ (xs : List ℕ). 2 < length xs) (sym at) long))
 
--- one more clause of the set, and what its slot asks for
-pub asked_insert : (store : List (List ℕ)) (on was is : ℕ → Bool) (slots asks asks' : List ℕ) (slot ask : ℕ) → AreDistinct slots → AreAsked (slot_clauses store slots) on (slot_set was slots) asks → slot < length slots → slot < length asks → IsAsked on (clause_at (slot_clauses store slots) slot) ask → ((k : ℕ) → is k ≡ (k == get_or slots slot 0 || was k)) → asks' ≡ set asks slot ask → AreAsked (slot_clauses store slots) on (slot_set is slots) asks'
-asked_insert store on was is slots asks asks' slot ask distinct a inside room own has e s h long = by (s == slot) refl
+-- one more clause of the set, and the unit literal of its slot
+pub units_insert : (store : List (List ℕ)) (on was is : ℕ → Bool) (slots units units' : List ℕ) (slot unit : ℕ) → AreDistinct slots → AreUnits (slot_clauses store slots) on (slot_set was slots) units → slot < length slots → slot < length units → IsUnit on (clause_at (slot_clauses store slots) slot) unit → ((k : ℕ) → is k ≡ (k == get_or slots slot 0 || was k)) → units' ≡ set units slot unit → AreUnits (slot_clauses store slots) on (slot_set is slots) units'
+units_insert store on was is slots units units' slot unit distinct a inside room own has e s h long = by (s == slot) refl
   where
     cl : List (List ℕ)
     cl = slot_clauses store slots
 
-    other : (s ≡ slot → ⊥) → (b : Bool) → (get_or slots s 0 == get_or slots slot 0) ≡ b → IsAsked on (clause_at cl s) (get_or asks' s 0)
+    other : (s ≡ slot → ⊥) → (b : Bool) → (get_or slots s 0 == get_or slots slot 0) ≡ b → IsUnit on (clause_at cl s) (get_or units' s 0)
     other ne true f = absurd (ne (distinct s slot (slot_in store slots s long) inside (equal_of (get_or slots s 0) (get_or slots slot 0) f)))
     other ne false f =
         let was_in : was (get_or slots s 0) ≡ true = ap (λ (b : Bool). b || was (get_or slots s 0)) (sym f) ∙ sym (has (get_or slots s 0)) ∙ h in
-        let v : get_or asks' s 0 ≡ get_or asks s 0 = ap (λ (xs : List ℕ). get_or xs s 0) e ∙ get_or-set_other asks slot s ask 0 ne in
-        subst (λ (x : ℕ). IsAsked on (clause_at cl s) x) (sym v) (a s was_in long)
+        let v : get_or units' s 0 ≡ get_or units s 0 = ap (λ (xs : List ℕ). get_or xs s 0) e ∙ get_or-set_other units slot s unit 0 ne in
+        subst (λ (x : ℕ). IsUnit on (clause_at cl s) x) (sym v) (a s was_in long)
 
-    by : (b : Bool) → (s == slot) ≡ b → IsAsked on (clause_at cl s) (get_or asks' s 0)
+    by : (b : Bool) → (s == slot) ≡ b → IsUnit on (clause_at cl s) (get_or units' s 0)
     by true f =
         let q : s ≡ slot = equal_of s slot f in
-        let v : get_or asks' s 0 ≡ ask = ap (λ (xs : List ℕ). get_or xs s 0) e ∙ ap (λ (i : ℕ). get_or (set asks slot ask) i 0) q ∙ get_or-set_same asks slot ask 0 room in
-        subst (λ (x : ℕ). IsAsked on (clause_at cl s) x) (sym v) (subst (λ (n : ℕ). IsAsked on (clause_at cl n) ask) (sym q) own)
+        let v : get_or units' s 0 ≡ unit = ap (λ (xs : List ℕ). get_or xs s 0) e ∙ ap (λ (i : ℕ). get_or (set units slot unit) i 0) q ∙ get_or-set_same units slot unit 0 room in
+        subst (λ (x : ℕ). IsUnit on (clause_at cl s) x) (sym v) (subst (λ (n : ℕ). IsUnit on (clause_at cl n) unit) (sym q) own)
     by false f = other (apart_of s slot f) (get_or slots s 0 == get_or slots slot 0) refl
 
 pub within_insert : (n number : ℕ) (was is : ℕ → Bool) → number < n → IsWithin n was → ((k : ℕ) → is k ≡ (k == number || was k)) → IsWithin n is
@@ -70,10 +70,10 @@ within_insert n number was is inside w has k h = by (k == number) refl (sym (has
     by false f e = w k e
 
 -- clauses of two literals more
-pub asked_pairs : (store : List (List ℕ)) (on was is : ℕ → Bool) (slots asks : List ℕ) → HasPairsMore store was is → AreAsked (slot_clauses store slots) on (slot_set was slots) asks → AreAsked (slot_clauses store slots) on (slot_set is slots) asks
-asked_pairs store on was is slots asks more a s h long = by (more (get_or slots s 0) h)
+pub units_pairs : (store : List (List ℕ)) (on was is : ℕ → Bool) (slots units : List ℕ) → HasPairsMore store was is → AreUnits (slot_clauses store slots) on (slot_set was slots) units → AreUnits (slot_clauses store slots) on (slot_set is slots) units
+units_pairs store on was is slots units more a s h long = by (more (get_or slots s 0) h)
   where
-    by : (was (get_or slots s 0) ≡ true) ⊎ (length (clause_at store (get_or slots s 0)) ≡ 2) → IsAsked on (clause_at (slot_clauses store slots) s) (get_or asks s 0)
+    by : (was (get_or slots s 0) ≡ true) ⊎ (length (clause_at store (get_or slots s 0)) ≡ 2) → IsUnit on (clause_at (slot_clauses store slots) s) (get_or units s 0)
     by (inl e) = a s e long
     by (inr two) = absurd (omega (arith, long, two, ap (λ (xs : List ℕ). length xs) (slot_at store slots s (slot_in store slots s long))))
 
@@ -104,12 +104,12 @@ pairs_insert store was is number two has k h = by (k == number) refl (sym (has k
     by true f e = inr (ap (λ (n : ℕ). length (clause_at store n)) (equal_of k number f) ∙ two)
     by false f e = inl e
 
--- the set is that of the pending clauses, each of which asks
-pub asked_scanned : (store : List (List ℕ)) (kept : List Bool) (trail slots asks : List ℕ) (set : ℕ → Bool) → ((k : ℕ) → set k ≡ is_pending_on store kept trail k) → ((s : ℕ) → s < length slots → is_pending (has_literal trail) (clause_at (slot_clauses store slots) s) ≡ true → 2 < length (clause_at (slot_clauses store slots) s) → IsAsked (has_literal trail) (clause_at (slot_clauses store slots) s) (get_or asks s 0)) → AreAsked (slot_clauses store slots) (has_literal trail) (slot_set set slots) asks
-asked_scanned store kept trail slots asks set same asked s h long =
+-- the set is that of the pending clauses, each of which has its unit literal
+pub units_scanned : (store : List (List ℕ)) (kept : List Bool) (trail slots units : List ℕ) (set : ℕ → Bool) → ((k : ℕ) → set k ≡ is_pending_on store kept trail k) → ((s : ℕ) → s < length slots → is_pending (has_literal trail) (clause_at (slot_clauses store slots) s) ≡ true → 2 < length (clause_at (slot_clauses store slots) s) → IsUnit (has_literal trail) (clause_at (slot_clauses store slots) s) (get_or units s 0)) → AreUnits (slot_clauses store slots) (has_literal trail) (slot_set set slots) units
+units_scanned store kept trail slots units set same units_are s h long =
     let inside = slot_in store slots s long in
     let number = get_or slots s 0 in
-    asked s inside (ap (λ (xs : List ℕ). is_pending (has_literal trail) xs) (slot_at store slots s inside) ∙ pending_kept store kept trail number (sym (same number) ∙ h)) long
+    units_are s inside (ap (λ (xs : List ℕ). is_pending (has_literal trail) xs) (slot_at store slots s inside) ∙ pending_kept store kept trail number (sym (same number) ∙ h)) long
 
 pub within_scanned : (store : List (List ℕ)) (kept : List Bool) (trail : List ℕ) (set : ℕ → Bool) → length kept ≡ length store → ((k : ℕ) → set k ≡ is_pending_on store kept trail k) → IsWithin (length store) set
 within_scanned store kept trail set many same k h =
@@ -119,40 +119,40 @@ within_scanned store kept trail set many same k h =
 apart_by : (m n : ℕ) → m < n → m ≡ n → ⊥
 apart_by m n h e = absurd (omega (arith, h, e))
 
-asked_same : (cl : List (List ℕ)) (k : List ℕ) (on was is : ℕ → Bool) (number : ℕ) (slots asks asks' : List ℕ) → number ≡ length cl → AreSlotsBelow (length cl) slots → AreAsked (slot_clauses cl slots) on (slot_set was slots) asks → ((s : ℕ) → s < length slots → get_or asks' s 0 ≡ get_or asks s 0) → ((n : ℕ) → (n ≡ number → ⊥) → is n ≡ was n) → (s : ℕ) → s < length slots → is (get_or slots s 0) ≡ true → 2 < length (clause_at (slot_clauses cl slots) s) → IsAsked on (clause_at (slot_clauses cl slots) s) (get_or asks' s 0)
-asked_same cl k on was is number slots asks asks' e below a same others s inside h long =
+unit_same : (cl : List (List ℕ)) (k : List ℕ) (on was is : ℕ → Bool) (number : ℕ) (slots units units' : List ℕ) → number ≡ length cl → AreSlotsBelow (length cl) slots → AreUnits (slot_clauses cl slots) on (slot_set was slots) units → ((s : ℕ) → s < length slots → get_or units' s 0 ≡ get_or units s 0) → ((n : ℕ) → (n ≡ number → ⊥) → is n ≡ was n) → (s : ℕ) → s < length slots → is (get_or slots s 0) ≡ true → 2 < length (clause_at (slot_clauses cl slots) s) → IsUnit on (clause_at (slot_clauses cl slots) s) (get_or units' s 0)
+unit_same cl k on was is number slots units units' e below a same others s inside h long =
     let was_in : was (get_or slots s 0) ≡ true = sym (others (get_or slots s 0) (λ (q : get_or slots s 0 ≡ number). absurd (omega (arith, q, e, below s inside)))) ∙ h in
-    subst (λ (x : ℕ). IsAsked on (clause_at (slot_clauses cl slots) s) x) (sym (same s inside)) (a s was_in long)
+    subst (λ (x : ℕ). IsUnit on (clause_at (slot_clauses cl slots) s) x) (sym (same s inside)) (a s was_in long)
 
-pub asked_add : (cl : List (List ℕ)) (k : List ℕ) (on was is : ℕ → Bool) (number low len : ℕ) (slots slots' asks asks' : List ℕ) → number ≡ length cl → AreSlotsBelow (length cl) slots → (slots' ≡ slots) ⊎ (slots' ≡ slots ++ number ∷ []) → IsWithin (length cl) was → AreAsked (slot_clauses cl slots) on (slot_set was slots) asks → ((s : ℕ) → s < length slots → get_or asks' s 0 ≡ get_or asks s 0) → ((n : ℕ) → (n ≡ number → ⊥) → is n ≡ was n) → (low ≤ len → 2 < length k → IsAsked on k (get_or asks' (length slots) 0)) → (len < low → is number ≡ was number) → AreAsked (slot_clauses (cl ++ k ∷ []) slots') on (slot_set is slots') asks'
-asked_add cl k on was is number low len slots slots' asks asks' e below (inl t) within a same others own none =
-    subst (λ (ss : List ℕ). AreAsked (slot_clauses (cl ++ k ∷ []) ss) on (slot_set is ss) asks') (sym t)
-    (subst (λ (cs : List (List ℕ)). AreAsked cs on (slot_set is slots) asks') (sym (slots_same cl k slots below))
-    (λ s h long. asked_same cl k on was is number slots asks asks' e below a same others s (slot_in cl slots s long) h long))
-asked_add cl k on was is number low len slots slots' asks asks' e below (inr t) within a same others own none =
-    subst (λ (ss : List ℕ). AreAsked (slot_clauses (cl ++ k ∷ []) ss) on (slot_set is ss) asks') (sym t)
-    (subst (λ (cs : List (List ℕ)). AreAsked cs on (slot_set is (slots ++ number ∷ [])) asks') (sym (slots_more cl k slots number below e))
+pub units_add : (cl : List (List ℕ)) (k : List ℕ) (on was is : ℕ → Bool) (number low len : ℕ) (slots slots' units units' : List ℕ) → number ≡ length cl → AreSlotsBelow (length cl) slots → (slots' ≡ slots) ⊎ (slots' ≡ slots ++ number ∷ []) → IsWithin (length cl) was → AreUnits (slot_clauses cl slots) on (slot_set was slots) units → ((s : ℕ) → s < length slots → get_or units' s 0 ≡ get_or units s 0) → ((n : ℕ) → (n ≡ number → ⊥) → is n ≡ was n) → (low ≤ len → 2 < length k → IsUnit on k (get_or units' (length slots) 0)) → (len < low → is number ≡ was number) → AreUnits (slot_clauses (cl ++ k ∷ []) slots') on (slot_set is slots') units'
+units_add cl k on was is number low len slots slots' units units' e below (inl t) within a same others own none =
+    subst (λ (ss : List ℕ). AreUnits (slot_clauses (cl ++ k ∷ []) ss) on (slot_set is ss) units') (sym t)
+    (subst (λ (cs : List (List ℕ)). AreUnits cs on (slot_set is slots) units') (sym (slots_same cl k slots below))
+    (λ s h long. unit_same cl k on was is number slots units units' e below a same others s (slot_in cl slots s long) h long))
+units_add cl k on was is number low len slots slots' units units' e below (inr t) within a same others own none =
+    subst (λ (ss : List ℕ). AreUnits (slot_clauses (cl ++ k ∷ []) ss) on (slot_set is ss) units') (sym t)
+    (subst (λ (cs : List (List ℕ)). AreUnits cs on (slot_set is (slots ++ number ∷ [])) units') (sym (slots_more cl k slots number below e))
     (λ s h long. by s h long (s == length slots) refl))
   where
     cs : List (List ℕ)
     cs = slot_clauses cl slots
 
-    last : (s : ℕ) → s ≡ length slots → is number ≡ true → 2 < length k → (b : Bool) → leb low len ≡ b → IsAsked on k (get_or asks' s 0)
-    last s q h long true f = subst (λ (i : ℕ). IsAsked on k (get_or asks' i 0)) (sym q) (own (at_most_of low len f) long)
+    last : (s : ℕ) → s ≡ length slots → is number ≡ true → 2 < length k → (b : Bool) → leb low len ≡ b → IsUnit on k (get_or units' s 0)
+    last s q h long true f = subst (λ (i : ℕ). IsUnit on k (get_or units' i 0)) (sym q) (own (at_most_of low len f) long)
     last s q h long false f = absurd (omega (arith, within number (sym (none (past_of low len f)) ∙ h), e))
 
-    by : (s : ℕ) → slot_set is (slots ++ number ∷ []) s ≡ true → 2 < length (clause_at (cs ++ k ∷ []) s) → (b : Bool) → (s == length slots) ≡ b → IsAsked on (clause_at (cs ++ k ∷ []) s) (get_or asks' s 0)
+    by : (s : ℕ) → slot_set is (slots ++ number ∷ []) s ≡ true → 2 < length (clause_at (cs ++ k ∷ []) s) → (b : Bool) → (s == length slots) ≡ b → IsUnit on (clause_at (cs ++ k ∷ []) s) (get_or units' s 0)
     by s h long true f =
         let q : s ≡ length slots = equal_of s (length slots) f in
         let at = at_own cs k s (q ∙ sym (slots_long cl slots)) in
         let here : is number ≡ true = ap is (sym (get_or_push slots number 0 s (sym q))) ∙ h in
-        subst (λ (xs : List ℕ). IsAsked on xs (get_or asks' s 0)) (sym at) (last s q here (subst (λ (xs : List ℕ). 2 < length xs) at long) (leb low len) refl)
+        subst (λ (xs : List ℕ). IsUnit on xs (get_or units' s 0)) (sym at) (last s q here (subst (λ (xs : List ℕ). 2 < length xs) at long) (leb low len) refl)
     by s h long false f =
         let ne : s ≡ length slots → ⊥ = apart_of s (length slots) f in
         let at = at_other cs k s (λ (q : s ≡ length cs). ne (q ∙ slots_long cl slots)) in
         let long' = subst (λ (xs : List ℕ). 2 < length xs) at long in
         let here : is (get_or slots s 0) ≡ true = ap is (sym (get_other slots number 0 s ne)) ∙ h in
-        subst (λ (xs : List ℕ). IsAsked on xs (get_or asks' s 0)) (sym at) (asked_same cl k on was is number slots asks asks' e below a same others s (slot_in cl slots s long') here long')
+        subst (λ (xs : List ℕ). IsUnit on xs (get_or units' s 0)) (sym at) (unit_same cl k on was is number slots units units' e below a same others s (slot_in cl slots s long') here long')
 
 pub within_add : (cl : List (List ℕ)) (k : List ℕ) (was is : ℕ → Bool) (number : ℕ) → number ≡ length cl → IsWithin (length cl) was → ((n : ℕ) → (n ≡ number → ⊥) → is n ≡ was n) → IsWithin (length (cl ++ k ∷ [])) is
 within_add cl k was is number e w others n h = by (n == number) refl
@@ -185,30 +185,30 @@ distinct_add n slots slots' number e below d (inr t) = subst AreDistinct (sym t)
         d s u (inside s a ne) (inside u b me) (sym (get_other slots number 0 s ne) ∙ q ∙ get_other slots number 0 u me)
 
 -- tables with more room
-pub asking_wider : (cl : List (List ℕ)) (trail slots words asks words' asks' : List ℕ) → IsAsking cl trail slots words asks → ((k : ℕ) → words_have words' k ≡ words_have words k) → ((s : ℕ) → s < length asks → get_or asks' s 0 ≡ get_or asks s 0) → length asks ≤ length asks' → IsAsking cl trail slots words' asks'
-asking_wider cl trail slots words asks words' asks' i same wide more = record {
+pub has_units_wider : (cl : List (List ℕ)) (trail slots words units words' units' : List ℕ) → HasUnits cl trail slots words units → ((k : ℕ) → words_have words' k ≡ words_have words k) → ((s : ℕ) → s < length units → get_or units' s 0 ≡ get_or units s 0) → length units ≤ length units' → HasUnits cl trail slots words' units'
+has_units_wider cl trail slots words units words' units' i same wide more = record {
   within = λ k h. i.within k (sym (same k) ∙ h);
-  asked = λ s h long. subst (λ (x : ℕ). IsAsked (has_literal trail) (clause_at (slot_clauses cl slots) s) x) (sym (wide s (omega (arith, slot_in cl slots s long, i.long)))) (i.asked s (sym (same (get_or slots s 0)) ∙ h) long);
+  units_are = λ s h long. subst (λ (x : ℕ). IsUnit (has_literal trail) (clause_at (slot_clauses cl slots) s) x) (sym (wide s (omega (arith, slot_in cl slots s long, i.long)))) (i.units_are s (sym (same (get_or slots s 0)) ∙ h) long);
   long = omega (arith, i.long, more);
   distinct = i.distinct;
   consistent = i.consistent;
 }
 
 -- and with fewer clauses in the set
-pub asking_fewer : (cl : List (List ℕ)) (trail slots words words' asks : List ℕ) → IsAsking cl trail slots words asks → ((k : ℕ) → words_have words' k ≡ true → words_have words k ≡ true) → IsAsking cl trail slots words' asks
-asking_fewer cl trail slots words words' asks i fewer = record {
+pub has_units_fewer : (cl : List (List ℕ)) (trail slots words words' units : List ℕ) → HasUnits cl trail slots words units → ((k : ℕ) → words_have words' k ≡ true → words_have words k ≡ true) → HasUnits cl trail slots words' units
+has_units_fewer cl trail slots words words' units i fewer = record {
   within = λ k h. i.within k (fewer k h);
-  asked = λ s h long. i.asked s (fewer (get_or slots s 0) h) long;
+  units_are = λ s h long. i.units_are s (fewer (get_or slots s 0) h) long;
   long = i.long;
   distinct = i.distinct;
   consistent = i.consistent;
 }
 
 -- on a shorter trail, where the set was found anew
-pub asking_shorter : (cl : List (List ℕ)) (trail slots words asks : List ℕ) (m : ℕ) (trail' words' asks' : List ℕ) → IsAsking cl trail slots words asks → trail' ≡ take m trail → IsWithin (length cl) (words_have words') → AreAsked (slot_clauses cl slots) (has_literal trail') (slot_set (words_have words') slots) asks' → length asks' ≡ length asks → IsAsking cl trail' slots words' asks'
-asking_shorter cl trail slots words asks m trail' words' asks' i e within asked long = record {
+pub has_units_shorter : (cl : List (List ℕ)) (trail slots words units : List ℕ) (m : ℕ) (trail' words' units' : List ℕ) → HasUnits cl trail slots words units → trail' ≡ take m trail → IsWithin (length cl) (words_have words') → AreUnits (slot_clauses cl slots) (has_literal trail') (slot_set (words_have words') slots) units' → length units' ≡ length units → HasUnits cl trail' slots words' units'
+has_units_shorter cl trail slots words units m trail' words' units' i e within units_are long = record {
   within = within;
-  asked = asked;
+  units_are = units_are;
   long = omega (arith, i.long, long);
   distinct = i.distinct;
   consistent = subst IsConsistent (sym e) (consistent_take m trail i.consistent);
