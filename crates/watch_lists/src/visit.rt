@@ -1,3 +1,7 @@
+//! Where a literal becomes false, each clause that watches it is visited. Its blocking literal is tried first (Eén and Sörensson,
+//! 2003): where that is true, the clause is not read. Else another literal that is not false is sought from the place on where
+//! the last search ended, and then from the front: of a long clause the literals that were found false are not read anew each
+//! time, so that all searches between two undos together take as many steps as the clause is long, or twice that (Gent, 2013).
 ghost use Rattle.std.specs.Prelude.{◌≡◌, ℕ, ◌+◌, ◌*◌, ◌/◌, ◌%◌, ◌<◌, ◌≤◌, ◌==◌, None, length, true, not};
 ghost use Rattle.clause_base.specs.Literal.{opposite};
 ghost use Rattle.clause_base.specs.Clause.{has_literal};

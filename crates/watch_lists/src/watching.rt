@@ -1,6 +1,6 @@
 //! The clauses that are watched on a trail, and which of them is the first that is kept and pending, as literals become true and
 //! are taken back and clauses come and go.
-ghost use Rattle.std.specs.Prelude.{◌≡◌, ℕ, ◌*◌, ◌/◌, ◌<◌, ◌++◌, ◌∷◌, [], None, take, length, replicate, true, false, slice_set, IfOk, OnOk, OnErr, MatchOption};
+ghost use Rattle.std.specs.Prelude.{◌≡◌, ℕ, ◌*◌, ◌/◌, ◌<◌, ◌++◌, ◌∷◌, [], None, take, length, replicate, true, false, slice_set, slice_index_or, IfOk, OnOk, OnErr, MatchOption};
 ghost use Rattle.clause_base.specs.Clause.{IsClause, has_literal, HasVariablesBelow};
 ghost use Rattle.cdcl_rules.specs.State.{clause_at, value_of};
 ghost use Rattle.cdcl_rules.specs.Pending.{is_pending_in, least_from, open_ones};
@@ -161,11 +161,11 @@ impl Watching {
         requires opened { value_of self.old.entries (entry.literal / 2) ≡ None }
         ensures { self.new ≡ record self.old { entries = self.old.entries ++ entry ∷ [] } }
     {
+        let falsified = entry.literal.opposite();
         let length = self.trail.length();
         let least = self.lists.pending.least();
         self.quiet[length as usize] = least.is_none();
         self.trail.push(entry);
-        let falsified = entry.literal.opposite();
         let assignment = self.trail.assignment();
         mark_pairs(
             &self.store,

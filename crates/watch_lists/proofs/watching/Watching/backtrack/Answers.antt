@@ -28,7 +28,7 @@ taken c =
 less : (c : After-assignment-assignment) → length c.backtrack.new.self.entries < length (literals c.self.inside.trail.entries)
 less c =
     let e = ap (λ (t : TrailView). length t.entries) c.backtrack.ensures in
-    omega (arith, back_le c.args.level c.self.inside.trail.entries, e, c.if-length.false, c.length.ensures.is, c.length-before.ensures.is, length-map c.self.inside.trail.entries (λ (a : Assigned). a.literal))
+    omega (arith, back_le c.args.level c.self.inside.trail.entries, e, c.if-length-before.false, c.length.ensures.is, c.length-before.ensures.is, length-map c.self.inside.trail.entries (λ (a : Assigned). a.literal))
 
 told : (c : After-assignment-assignment) → c.assignment-assignment.result.trail ≡ literals c.backtrack.new.self.entries
 told c = ap (λ (t : AssignmentView). t.trail) c.assignment-assignment.ensures
@@ -37,6 +37,23 @@ long_is : (c : After-assignment-assignment) → length c.assignment-assignment.r
 long_is c =
     let e = ap (λ (xs : List ℕ). length xs) (told c ∙ taken c) in
     omega (arith, e, length-take-le (length c.backtrack.new.self.entries) (literals c.self.inside.trail.entries) (omega (arith, less c)))
+
+-- where nothing is taken back, what held holds
+pub invariant_of-self : goal.invariant_of-self
+invariant_of-self c =
+    let w = c.self.inside in
+    let old = w.trail.entries in
+    let new = c.backtrack.new.self.entries in
+    let long = length-map old (λ (a : Assigned). a.literal) in
+    let same : literals new ≡ literals old =
+    short_of c.args.level old new (ap (λ (t : TrailView). t.entries) c.backtrack.ensures)
+    ∙ take_all (length new) (literals old) (omega (arith, c.if-length-before.true, c.length.ensures.is, c.length-before.ensures.is, long)) in
+    let over = ap (λ (t : TrailView). t.variables) c.backtrack.ensures in (
+      subst (λ (xs : List ℕ). AreTablesSound w.variables c.backtrack.new.self.variables w.store w.kept.items xs w.slots.items w.lists.watched.items w.lists.chains.heads.items w.lists.chains.nodes.items w.lists.pending w.quiet.items) (sym same)
+          (subst (λ (n : ℕ). AreTablesSound w.variables n w.store w.kept.items (literals old) w.slots.items w.lists.watched.items w.lists.chains.heads.items w.lists.chains.nodes.items w.lists.pending w.quiet.items) (sym over) c.self.invariant.0),
+      c.self.invariant.1,
+      subst (λ (xs : List ℕ). HasUnits w.store xs w.slots.items w.lists.pending w.lists.units.items) (sym same) c.self.invariant.2,
+    )
 
 pub refresh-requires-clause-fit : goal.refresh-requires-clause-fit
 refresh-requires-clause-fit c =
@@ -58,10 +75,10 @@ refresh-requires-clause-quiet c q k =
     ∙ ap (λ (xs : List ℕ). is_pending_on w.store w.kept.items xs k) (told at ∙ taken at)
     ∙ c.self.invariant.0.quiets (length c.backtrack.new.self.entries) (less at) flag k
 
-pub invariant_of-self : goal.invariant_of-self
-invariant_of-self c =
+pub invariant_of-self-2 : goal.invariant_of-self-2
+invariant_of-self-2 c =
     let w = c.self.inside in
-    let at = (goal.at.invariant_of-self c).After-assignment-assignment in
+    let at = (goal.at.invariant_of-self-2 c).After-assignment-assignment in
     let new = literals c.backtrack.new.self.entries in
     let front = subst (λ (xs : List ℕ). IsFront (is_pending_on w.store w.kept.items xs) (words_have c.refresh.new.pending)) (told at)
     (subst (λ (ks : List Bool). IsFront (is_pending_on w.store ks c.assignment-assignment.result.trail) (words_have c.refresh.new.pending)) c.as_slice.ensures.value c.refresh.ensures.front) in
