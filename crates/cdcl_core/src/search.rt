@@ -32,7 +32,6 @@ use watch_lists::watching::Watching;
 const RESTART: u64 = 64;
 
 /// A search over a formula.
-#[derive(Drop)]
 pub struct Search {
     alloc: Global,
     clauses: Clauses,
@@ -50,6 +49,20 @@ impl Model for Search {
     ghost view = { λ s. record { formula = s.clauses.formula; state = state_of s.clauses s.watching.entries s.standing; spoilt = s.spoilt } };
 
     ghost invariant = { λ s. IsKept s.clauses s.watching s.resolvent s.standing s.spoilt };
+}
+
+/// Letting one go is one call, in which its parts go: whoever holds one proves one step.
+impl Drop for Search {
+    fn drop(self) {
+        let Search {
+            alloc: _,
+            clauses: _,
+            watching: _,
+            resolvent: _,
+            standing: _,
+            spoilt: _,
+        } = self;
+    }
 }
 
 impl Search {

@@ -23,7 +23,6 @@ use std::alloc::Global;
 use std::marker::Model;
 
 /// A solver of a formula by learning from conflicts. Its chooser makes the decisions.
-#[derive(Drop)]
 pub struct Solver<C: Chooser> {
     search: Search,
     chooser: C,
@@ -37,6 +36,16 @@ impl<C: Chooser> Model for Solver<C> {
     ghost view = { λ s. record { formula = s.search.formula; state = s.search.state; chooser = s.chooser; spoilt = s.search.spoilt } };
 
     ghost invariant = { λ s. C.fits s.chooser s.search.formula.variables };
+}
+
+/// Letting one go is one call, in which its parts go: whoever holds one proves one step.
+impl<C: Chooser + Drop> Drop for Solver<C> {
+    fn drop(self) {
+        let Solver {
+            search: _,
+            chooser: _,
+        } = self;
+    }
 }
 
 impl<C: Chooser + Drop> Solver<C> {

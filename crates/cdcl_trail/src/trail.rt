@@ -15,7 +15,6 @@ use std::marker::Model;
 
 /// The literals that are true, oldest first, over a number of variables; for each literal whether it is true; for each variable
 /// its value, and its level and position where it has a value.
-#[derive(Drop)]
 pub struct Trail {
     variables: u32,
     entries: Vec<Assigned>,
@@ -36,6 +35,21 @@ impl Model for Trail {
     ghost view = { λ t. record { variables = t.variables; entries = t.entries.items } };
 
     ghost invariant = { λ t. IsMirrored t.variables t.entries.items t.values t.levels.items t.level × IsAssignment t.variables (literals t.entries.items) t.on.items t.positions.items × (t.variables ≤ vec_capacity t.entries) };
+}
+
+/// Letting one go is one call, in which its parts go: whoever holds one proves one step.
+impl Drop for Trail {
+    fn drop(self) {
+        let Trail {
+            variables: _,
+            entries: _,
+            values: _,
+            levels: _,
+            level: _,
+            on: _,
+            positions: _,
+        } = self;
+    }
 }
 
 /// The level with an entry, from the level before it.

@@ -11,7 +11,7 @@ use std::marker::Model;
 
 /// A list of clauses in two blocks of memory: their literals one after another, and where each clause ends. A third block is
 /// for sorting.
-#[derive(Debug, Drop)]
+#[derive(Debug)]
 pub struct ClauseList {
     lits: Vec<Lit>,
     ends: Vec<usize>,
@@ -28,6 +28,17 @@ impl Model for ClauseList {
     ghost view = { λ c. pieces 0 c.lits.items c.ends.items };
 
     ghost invariant = { λ c. AreEnds 0 c.ends.items (length c.lits.items) × All IsClause (pieces 0 c.lits.items c.ends.items) };
+}
+
+/// Letting one go is one call, in which its parts go: whoever holds one proves one step.
+impl Drop for ClauseList {
+    fn drop(self) {
+        let ClauseList {
+            lits: _,
+            ends: _,
+            sorted: _,
+        } = self;
+    }
 }
 
 /// Where the clause with this number begins.

@@ -12,7 +12,7 @@ use std::marker::Model;
 /// The clauses of one step and of one time, seen as those of all steps and of all times of a horizon. The variables are
 /// numbered step after step, each with `width` of its own, and after them time after time, each with one for each fact.
 /// One step's clauses stand over its own variables, then the facts before it, then those after it; one time's over the facts.
-#[derive(Debug, Drop)]
+#[derive(Debug)]
 pub struct Repeated {
     horizon: u32,
     width: u32,
@@ -29,6 +29,19 @@ impl Model for Repeated {
     ghost view = { λ r. record { horizon = r.horizon; width = r.width; facts = r.facts; step = r.step; time = r.time } };
 
     ghost invariant = { λ r. IsRepeatable (record { horizon = r.horizon; width = r.width; facts = r.facts; step = r.step; time = r.time }) };
+}
+
+/// Letting one go is one call, in which its parts go: whoever holds one proves one step.
+impl Drop for Repeated {
+    fn drop(self) {
+        let Repeated {
+            horizon: _,
+            width: _,
+            facts: _,
+            step: _,
+            time: _,
+        } = self;
+    }
 }
 
 impl Repeated {
@@ -108,12 +121,19 @@ impl Repeated {
     pub fn share(self, alloc: Global) -> Result<Repeated, Memory>
         ensures { IfOk result (λ part. part ≡ self) }
     {
-        let step = self.step.share(alloc)?;
-        let time = self.time.share(alloc)?;
+        let Repeated {
+            horizon,
+            width,
+            facts,
+            step,
+            time,
+        } = self;
+        let step = step.share(alloc)?;
+        let time = time.share(alloc)?;
         Ok(Repeated {
-            horizon: self.horizon,
-            width: self.width,
-            facts: self.facts,
+            horizon,
+            width,
+            facts,
             step,
             time,
         })

@@ -20,7 +20,6 @@ use std::marker::Model;
 const SHORT: usize = 8;
 
 /// A solver's clauses, which of them are kept, and the numbers of the learned ones that are kept and long.
-#[derive(Drop)]
 pub struct Clauses {
     formula: Formula,
     log: Log,
@@ -40,6 +39,19 @@ impl Model for Clauses {
     ghost view = { λ c. record { formula = c.formula; log = c.log; kept = c.kept.items } };
 
     ghost invariant = { λ c. IsLogged c.formula c.log c.places.items c.kept.items × (c.longs.items ≡ long_ones (length c.formula.clauses) (c.formula.clauses ++ clauses_of c.log) c.kept.items) };
+}
+
+/// Letting one go is one call, in which its parts go: whoever holds one proves one step.
+impl Drop for Clauses {
+    fn drop(self) {
+        let Clauses {
+            formula: _,
+            log: _,
+            places: _,
+            kept: _,
+            longs: _,
+        } = self;
+    }
 }
 
 /// The clause that the entry at a place learns.

@@ -30,7 +30,6 @@ pub struct Watched {
 }
 
 /// What changes where a literal becomes false.
-#[derive(Drop)]
 pub struct Lists {
     pub chains: Chains,
     pub watched: Vec<Watched>,
@@ -38,6 +37,18 @@ pub struct Lists {
     pub pending: Pending,
     /// For each slot the unit literal of its clause, where that is in the set.
     pub units: Vec<u32>,
+}
+
+/// Letting one go is one call, in which its parts go: whoever holds one proves one step.
+impl Drop for Lists {
+    fn drop(self) {
+        let Lists {
+            chains: _,
+            watched: _,
+            pending: _,
+            units: _,
+        } = self;
+    }
 }
 
 impl Watched {

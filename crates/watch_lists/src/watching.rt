@@ -38,7 +38,6 @@ const MOST_CLAUSES: u32 = 2_147_483_647;
 
 /// Clauses by number, which of them are kept, and the trail that they are watched on. A clause of two literals is in the lists of
 /// both, and of each other clause two literals are watched.
-#[derive(Drop)]
 pub struct Watching {
     variables: u32,
     store: Store,
@@ -65,6 +64,23 @@ impl Model for Watching {
     ghost view = { λ w. record { variables = w.variables; clauses = w.store; kept = w.kept.items; entries = w.trail.entries } };
 
     ghost invariant = { λ w. AreTablesSound w.variables w.trail.variables w.store w.kept.items (literals w.trail.entries) w.slots.items w.lists.watched.items w.lists.chains.heads.items w.lists.chains.nodes.items w.lists.pending w.quiet.items × IsPaired w.variables w.store w.slots.items w.pairs × HasUnits w.store (literals w.trail.entries) w.slots.items w.lists.pending w.lists.units.items };
+}
+
+/// Letting one go is one call, in which its parts go: whoever holds one proves one step.
+impl Drop for Watching {
+    fn drop(self) {
+        let Watching {
+            variables: _,
+            store: _,
+            kept: _,
+            trail: _,
+            pairs: _,
+            slots: _,
+            blocks: _,
+            lists: _,
+            quiet: _,
+        } = self;
+    }
 }
 
 impl Watching {
