@@ -29,8 +29,8 @@ use Rattle.watch_lists.proofs.Slotted.{slot_at, slots_long, below_more}
 use Rattle.watch_lists.proofs.Wider.{rest_wider}
 
 -- the tables of no clause
-pub given_none : (codes : ℕ) (cl : List (List ℕ)) (slots : List ℕ) (wa : List Watched) (heads : List ℕ) (nodes : List Node) (words units : List ℕ) → slots ≡ [] → IsLinked heads nodes (λ k. None) → length heads ≡ codes + 1 → ((k : ℕ) → words_have words k ≡ false) → AreGiven codes cl 0 slots wa heads nodes words units
-given_none codes cl slots wa heads nodes words units e linked long none = record {
+pub given_none : (codes : ℕ) (cl : List (List ℕ)) (slots : List ℕ) (wa : List Watched) (heads : List ℕ) (nodes : List Node) (words units : List ℕ) → slots ≡ [] → IsLinked heads nodes (λ k. None) → length heads ≡ codes + 1 → ((k : ℕ) → words_have words k ≡ false) → length cl ≤ 64 * length words → AreGiven codes cl 0 slots wa heads nodes words units
+given_none codes cl slots wa heads nodes words units e linked long none wide = record {
   slotted = λ s h. absurd (omega (arith, h, no_slots));
   few = omega (arith, no_slots);
   rest = record {
@@ -51,7 +51,7 @@ given_none codes cl slots wa heads nodes words units e linked long none = record
   longs = λ c h. absurd (omega (arith, h));
   shorts = λ c h. absurd (omega (arith, h));
   only = λ c h. absurd (let z : true ≡ false = sym h ∙ none c in let w : ⊥ = cc in w);
-  room = omega arith;
+  room = wide;
   long = omega (arith, no_slots);
   distinct = λ s t a. absurd (omega (arith, a, no_slots));
 }
@@ -88,29 +88,29 @@ next_by P n old own c h = by (c == n) refl
     by false f = let ne : c ≢ n = apart_of c n f in old c (omega (arith, h, ne))
 
 -- the next clause has two literals
-pub given_two : (codes : ℕ) (cl : List (List ℕ)) (n : ℕ) (slots : List ℕ) (wa : List Watched) (heads : List ℕ) (nodes : List Node) (words units : List ℕ) → AreGiven codes cl n slots wa heads nodes words units → n < 64 * length words → length (clause_at cl n) ≡ 2 → AreGiven codes cl (n + 1) slots wa heads nodes words units
-given_two codes cl n slots wa heads nodes words units g room two = record {
+pub given_two : (codes : ℕ) (cl : List (List ℕ)) (n : ℕ) (slots : List ℕ) (wa : List Watched) (heads : List ℕ) (nodes : List Node) (words units : List ℕ) → AreGiven codes cl n slots wa heads nodes words units → length (clause_at cl n) ≡ 2 → AreGiven codes cl (n + 1) slots wa heads nodes words units
+given_two codes cl n slots wa heads nodes words units g two = record {
   slotted = λ s h. omega (arith, g.slotted s h);
   few = omega (arith, g.few);
   rest = g.rest;
   longs = next_by (λ c. 2 < length (clause_at cl c) → HasSlot slots c) n g.longs (λ h. absurd (omega (arith, h, two)));
   shorts = next_by (λ c. length (clause_at cl c) < 2 → words_have words c ≡ true) n g.shorts (λ h. absurd (omega (arith, h, two)));
   only = λ c h. let o = g.only c h in (omega (arith, o.0), o.1);
-  room = omega (arith, room);
+  room = g.room;
   long = g.long;
   distinct = g.distinct;
 }
 
 -- it has fewer
-pub given_short : (codes : ℕ) (cl : List (List ℕ)) (n : ℕ) (slots : List ℕ) (wa : List Watched) (heads : List ℕ) (nodes : List Node) (words units words' : List ℕ) → AreGiven codes cl n slots wa heads nodes words units → n < 64 * length words → length (clause_at cl n) < 2 → length words' ≡ length words → ((k : ℕ) → words_have words' k ≡ (k == n || words_have words k)) → AreGiven codes cl (n + 1) slots wa heads nodes words' units
-given_short codes cl n slots wa heads nodes words units words' g room short long has = record {
+pub given_short : (codes : ℕ) (cl : List (List ℕ)) (n : ℕ) (slots : List ℕ) (wa : List Watched) (heads : List ℕ) (nodes : List Node) (words units words' : List ℕ) → AreGiven codes cl n slots wa heads nodes words units → length (clause_at cl n) < 2 → length words' ≡ length words → ((k : ℕ) → words_have words' k ≡ (k == n || words_have words k)) → AreGiven codes cl (n + 1) slots wa heads nodes words' units
+given_short codes cl n slots wa heads nodes words units words' g short long has = record {
   slotted = λ s h. omega (arith, g.slotted s h);
   few = omega (arith, g.few);
   rest = g.rest;
   longs = next_by (λ c. 2 < length (clause_at cl c) → HasSlot slots c) n g.longs (λ h. absurd (omega (arith, h, short)));
   shorts = next_by (λ c. length (clause_at cl c) < 2 → words_have words' c ≡ true) n (λ c h t. has c ∙ stays (c == n) (g.shorts c h t)) (λ h. has n ∙ ap (λ (b : Bool). b || words_have words n) same);
   only = λ c h. by c (c == n) refl (sym (has c) ∙ h);
-  room = omega (arith, room, long);
+  room = omega (arith, g.room, long);
   long = g.long;
   distinct = g.distinct;
 }
@@ -128,8 +128,8 @@ given_short codes cl n slots wa heads nodes words units words' g room short long
     by c false f h = let o = g.only c h in (omega (arith, o.0), o.1)
 
 -- it has more, and the next slot
-pub given_long : (codes : ℕ) (cl : List (List ℕ)) (n : ℕ) (slots : List ℕ) (wa : List Watched) (heads : List ℕ) (nodes : List Node) (words units : List ℕ) (slots' : List ℕ) (wa' : List Watched) (heads' : List ℕ) (nodes' : List Node) → AreGiven codes cl n slots wa heads nodes words units → n < 64 * length words → length slots < length units → 2 < length (clause_at cl n) → slots' ≡ slots ++ n ∷ [] → RestsWith (clause_at cl n) (length slots) codes wa heads nodes wa' heads' nodes' → AreGiven codes cl (n + 1) slots' wa' heads' nodes' words units
-given_long codes cl n slots wa heads nodes words units slots' wa' heads' nodes' g room wide long e rests =
+pub given_long : (codes : ℕ) (cl : List (List ℕ)) (n : ℕ) (slots : List ℕ) (wa : List Watched) (heads : List ℕ) (nodes : List Node) (words units : List ℕ) (slots' : List ℕ) (wa' : List Watched) (heads' : List ℕ) (nodes' : List Node) → AreGiven codes cl n slots wa heads nodes words units → length slots < length units → 2 < length (clause_at cl n) → slots' ≡ slots ++ n ∷ [] → RestsWith (clause_at cl n) (length slots) codes wa heads nodes wa' heads' nodes' → AreGiven codes cl (n + 1) slots' wa' heads' nodes' words units
+given_long codes cl n slots wa heads nodes words units slots' wa' heads' nodes' g wide long e rests =
     subst (λ (ss : List ℕ). AreGiven codes cl (n + 1) ss wa' heads' nodes' words units) (sym e) (record {
       slotted = below_more n slots n refl g.slotted;
       few = omega (arith, g.few, length_push slots n);
@@ -144,7 +144,7 @@ given_long codes cl n slots wa heads nodes words units slots' wa' heads' nodes' 
       });
       shorts = next_by (λ c. length (clause_at cl c) < 2 → words_have words c ≡ true) n g.shorts (λ h. absurd (omega (arith, h, long)));
       only = λ c h. let o = g.only c h in (omega (arith, o.0), o.1);
-      room = omega (arith, room);
+      room = g.room;
       long = omega (arith, wide, length_push slots n);
       distinct = distinct_add n slots (slots ++ n ∷ []) n refl g.slotted g.distinct (inr refl);
     })

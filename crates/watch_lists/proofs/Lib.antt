@@ -17,3 +17,4 @@ pub mod Lefts
 pub mod UnitsOfSlots
 pub mod Givens
 pub mod Views
+pub mod Templates

@@ -17,6 +17,6 @@ pub record AreGiven (codes : ℕ) (clauses : List (List ℕ)) (number : ℕ) (sl
   pub longs : (c : ℕ) → c < number → 2 < length (clause_at clauses c) → HasSlot slots c
   pub shorts : (c : ℕ) → c < number → length (clause_at clauses c) < 2 → words_have words c ≡ true
   pub only : (c : ℕ) → words_have words c ≡ true → (c < number) × (length (clause_at clauses c) < 2)
-  pub room : number ≤ 64 * length words
+  pub room : length clauses ≤ 64 * length words
   pub long : length slots ≤ length units
   pub distinct : AreDistinct slots

@@ -75,6 +75,18 @@ fn widen_watches(watched: &mut Vec<Watched>, slot: u32) -> Result<(), AllocError
     Ok(())
 }
 
+/// Makes room for so many numbers in an empty set.
+pub fn make_room(pending: &mut Pending, count: u32) -> Result<(), AllocError>
+    requires few { count ≤ 1073741824 }
+    ensures room { OnOk result (count ≤ 64 * length pending.new) }
+    ensures same { OnOk result ((k : ℕ) → words_have pending.new k ≡ words_have pending.old k) }
+{
+    for word in 0..count / 64 + 1 {
+        widen_set(pending, 64 * word)?;
+    }
+    Ok(())
+}
+
 impl Lists {
     /// Makes room for a clause and for a slot, where there is room for all before them.
     pub fn widen(&mut self, number: u32, slot: u32) -> Result<(), AllocError>

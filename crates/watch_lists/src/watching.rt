@@ -96,7 +96,7 @@ impl Watching {
         let pairs = PairIndex::new(alloc, formula)?;
         let quiet = no_quiet(alloc, variables)?;
         let longs = count_longs(formula);
-        let given = Given::new(alloc, &store, count, longs, 2 * variables)?;
+        let given = Given::new(alloc, &store, formula, longs, 2 * variables)?;
         Ok(Watching {
             variables,
             store,

@@ -26,7 +26,7 @@ invariant_of-result c =
     let f = subst (λ (n : ℕ). IsFit store (2 * n)) (sym c.variables-variables.ensures.value)
     (subst (λ (cs : List (List ℕ)). IsFit cs (2 * c.args.formula.now.variables)) (sym c.in_ok-store.ensures) (fit (goal.at.invariant_of-result c).After-count-count)) in
     let small : v ≤ 2147483647 = omega (arith, c.variables-variables.ensures.small, c.variables-variables.ensures.value) in
-    let made = subst (λ (n : ℕ). AreGiven (2 * v) store n g.slots.items l.watched.items l.chains.heads.items l.chains.nodes.items l.pending l.units.items) (sym all) c.in_ok-given.ensures in
+    let made = c.in_ok-given.ensures in
     let trail = ap (λ (t : TrailView). literals t.entries) c.in_ok-trail.ensures in
     let kept : c.in_ok-kept.kept.items ≡ replicate (length store) true = c.in_ok-kept.ensures.items_if_clones_equal (λ y h. h) ∙ ap (λ (n : ℕ). replicate n true) (sym all) in
     let index = subst (λ (n : ℕ). IsIndex n store c.in_ok-pairs.pairs) (sym c.variables-variables.ensures.value) (subst (λ (cs : List (List ℕ)). IsIndex c.args.formula.now.variables cs c.in_ok-pairs.pairs) (sym c.in_ok-store.ensures) c.in_ok-pairs.ensures) in (
