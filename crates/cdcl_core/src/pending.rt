@@ -35,5 +35,6 @@ pub fn follow(watching: &mut Watching, clauses: &Clauses) -> Result<(), Memory>
     ensures err { OnErr result (watching.new ≡ watching.old) }
 {
     let last = clauses.count() - 1;
-    watching.add_sorted(clauses.learned(last))
+    watching.add_sorted(clauses.learned(last))?;
+    Ok(())
 }

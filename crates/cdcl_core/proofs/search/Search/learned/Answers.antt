@@ -35,3 +35,19 @@ learn-requires-clause-all_false c =
     let next = subst (λ (w : SearchView). IsNextEvent w.formula w.state (Conflict c.args.number)) (sym c.self.view_is) c.requires.next in
     subst (λ (v : TrailView). AllFalse v.entries (clause_at (all_clauses t.clauses) c.args.number)) (sym c.trail.ensures)
     (conflict_is t.clauses.formula (state_of t.clauses t.watching.entries t.standing) c.args.number c.self.invariant.sound next).all_false
+
+pub returns-clause-clause : goal.returns-clause-clause
+returns-clause-clause c =
+    let t = c.self.inside in
+    let n = c.args.number in
+    c.in_ok-learned.ensures.clause
+    ∙ ap (λ (v : TrailView). (learned (all_clauses t.clauses) v.entries n).clause) c.trail.ensures
+    ∙ ap (λ (v : SearchView). (learned v.state.clauses v.state.trail n).clause) c.self.view_is
+
+pub returns-clause-hints : goal.returns-clause-hints
+returns-clause-hints c =
+    let t = c.self.inside in
+    let n = c.args.number in
+    c.in_ok-learned.ensures.hints
+    ∙ ap (λ (v : TrailView). (learned (all_clauses t.clauses) v.entries n).hints) c.trail.ensures
+    ∙ ap (λ (v : SearchView). (learned v.state.clauses v.state.trail n).hints) c.self.view_is
