@@ -135,9 +135,11 @@ impl Search {
         self.watching.trail().values()
     }
 
-    /// The literals that are true, oldest first.
+    /// The literals that are true, oldest first; they are of the variables, each of which has at most one.
     pub fn entries(&self) -> &[Assigned]
-        ensures { result.now ≡ self.now.state.trail }
+        ensures value { result.now ≡ self.now.state.trail }
+        ensures below { All (λ a. a.literal / 2 < self.now.formula.variables) self.now.state.trail }
+        ensures short { length self.now.state.trail ≤ self.now.formula.variables }
     {
         self.watching.trail().entries()
     }

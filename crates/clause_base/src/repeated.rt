@@ -54,12 +54,35 @@ impl Repeated {
         requires time_below { All (HasVariablesBelow facts) time }
         ensures { result ≡ record { horizon = horizon; width = width; facts = facts; step = step; time = time } }
     {
+        Repeated::sharing(
+            horizon,
+            width,
+            facts,
+            SharedList::own(step),
+            SharedList::own(time),
+        )
+    }
+
+    /// The same of lists that may stand in memory that others share.
+    pub fn sharing(
+        horizon: u32,
+        width: u32,
+        facts: u32,
+        step: SharedList,
+        time: SharedList,
+    ) -> Repeated
+        requires few { horizon * length step + (horizon + 1) * length time ≤ 1073741824 }
+        requires small { horizon * width + (horizon + 1) * facts ≤ 2147483647 }
+        requires step_below { All (HasVariablesBelow (width + 2 * facts)) step }
+        requires time_below { All (HasVariablesBelow facts) time }
+        ensures { result ≡ record { horizon = horizon; width = width; facts = facts; step = step; time = time } }
+    {
         Repeated {
             horizon,
             width,
             facts,
-            step: SharedList::own(step),
-            time: SharedList::own(time),
+            step,
+            time,
         }
     }
 
@@ -128,14 +151,12 @@ impl Repeated {
             step,
             time,
         } = self;
-        let step = step.share(alloc)?;
-        let time = time.share(alloc)?;
         Ok(Repeated {
             horizon,
             width,
             facts,
-            step,
-            time,
+            step: step.share(alloc)?,
+            time: time.share(alloc)?,
         })
     }
 

@@ -9,7 +9,6 @@ use std::alloc::{AllocError, Global};
 use std::marker::Model;
 
 /// Files in memory, by name. The calls of `take` whose numbers, counted from 1, are listed as failing fail.
-#[derive(Drop)]
 pub struct MemShelf {
     alloc: Global,
     files: Files,
@@ -24,6 +23,19 @@ impl Model for MemShelf {
     ghost Value = { ShelfInMemory };
 
     ghost view = { λ shelf. record { files = shelf.files; failing = shelf.failing; calls = shelf.calls; failed = shelf.failed } };
+}
+
+/// Letting one go is one call, in which its parts go: whoever holds one proves one step.
+impl Drop for MemShelf {
+    fn drop(self) {
+        let MemShelf {
+            alloc: _,
+            files: _,
+            failing: _,
+            calls: _,
+            failed: _,
+        } = self;
+    }
 }
 
 impl MemShelf {
