@@ -31,14 +31,14 @@ pub struct Clauses {
 impl Model for Clauses {
     ghost use Rattle.std.specs.Prelude.{◌≡◌, ◌++◌, length};
     ghost use Rattle.clause_base.specs.Derivation.{clauses_of};
-    ghost use Rattle.conflict_walk.specs.Clauses.{ClausesView, IsPlaced};
+    ghost use Rattle.conflict_walk.specs.Clauses.{ClausesView, IsLogged};
     ghost use Rattle.conflict_walk.specs.Longs.{long_ones};
 
     ghost Value = { ClausesView };
 
     ghost view = { λ c. record { formula = c.formula; log = c.log; kept = c.kept.items } };
 
-    ghost invariant = { λ c. IsPlaced c.formula c.log c.places.items c.kept.items × (c.longs.items ≡ long_ones (length c.formula.clauses) (c.formula.clauses ++ clauses_of c.log) c.kept.items) };
+    ghost invariant = { λ c. IsLogged c.formula c.log c.places.items c.kept.items × (c.longs.items ≡ long_ones (length c.formula.clauses) (c.formula.clauses ++ clauses_of c.log) c.kept.items) };
 }
 
 /// Letting one go is one call, in which its parts go: whoever holds one proves one step.
