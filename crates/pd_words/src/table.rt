@@ -77,15 +77,6 @@ impl Table {
         &self.names
     }
 
-    /// The names themselves, by number; takes no memory.
-    pub fn into_names(self) -> Vec<Name>
-        ensures { result.items ≡ self }
-    {
-        let Table { names, numbers } = self;
-        drop(numbers);
-        names
-    }
-
     /// Gives a new name the next number. It fails only for want of memory.
     pub fn add(&mut self, alloc: Global, name: &Name) -> Result<(), ReadError>
         requires { number_of name.now self.old ≡ None }

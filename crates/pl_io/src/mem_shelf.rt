@@ -151,6 +151,7 @@ impl Shelf for MemShelf {
 #[cfg(test)]
 mod tests {
     use super::*;
+    use crate::takes::takes_each;
     use std::test::Fail;
 
     fn bytes(alloc: Global, text: &str) -> Result<Bytes, AllocError> {
@@ -175,15 +176,7 @@ mod tests {
             ("domain", 8, Err(TakeError::Failed), ">"),
             ("domain", 0, Ok(Taken::Longer), ">"),
         ];
-        for (name, most, answer, left) in cases {
-            let mut into = vec![in alloc; b'>']?;
-            assert_eq!(rt;
-                shelf.take(name, most, &mut into),
-                answer,
-                "at {name} {most}"
-            );
-            assert_eq!(rt; into.as_slice(), left.as_bytes(), "at {name} {most}");
-        }
+        takes_each(&rt, alloc, &mut shelf, &cases)?;
         let failed = shelf.failed();
         assert_eq!(rt; failed.len(), 2);
         assert_eq!(rt; failed[0].as_slice(), "problem".as_bytes());
