@@ -25,7 +25,6 @@ use std::alloc::Global;
 use std::marker::Model;
 
 /// A solver of a formula by learning from conflicts. Its chooser makes the decisions.
-#[derive(Drop)]
 pub struct Solver<C: Chooser> {
     search: Search,
     chooser: C,
@@ -58,6 +57,18 @@ fn tell<C: Chooser>(chooser: &C, told: &mut C::Told, kept: usize, search: &Searc
     for i in kept..entries.len() {
         let entry = entries[i];
         chooser.tell(told, entry.literal);
+    }
+}
+
+/// Letting one go is one call, in which its parts go: whoever holds one proves one step.
+impl<C: Chooser + Drop> Drop for Solver<C> {
+    fn drop(self) {
+        let Solver {
+            search: _,
+            chooser: _,
+            told: _,
+            kept: _,
+        } = self;
     }
 }
 

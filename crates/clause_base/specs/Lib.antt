@@ -1,7 +1,6 @@
 pub mod Literal
 pub mod Clause
 pub mod Formula
-pub mod Pieces
 pub mod Repeats
 pub mod View
 pub mod Joined
