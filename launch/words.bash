@@ -3,6 +3,18 @@
 commands='plan plan-all check ground order gen prove verify'
 options='--alg --width --quota --percent --growth --start --max-horizon --budget --slice --workers --show'
 
+# options_of COMMAND: the options that it takes; all that there are where it is no command.
+options_of() {
+    local race=${options%% --workers*}
+    case $1 in
+    plan | plan-all) echo "$race --workers" ;;
+    gen) echo "$race --workers --show" ;;
+    prove) echo --budget ;;
+    check | ground | order | verify) ;;
+    *) echo "$options" ;;
+    esac
+}
+
 tell_words() {
     cat <<'END'
 ./dokyreva COMMAND WORD..
@@ -70,16 +82,21 @@ tell_nearest() {
     esac
     for word in "${@:2}"; do
         case $word in
-        --?*) ;;
-        *) continue ;;
-        esac
-        word=${word%%=*}
-        case " $options " in
-        *" $word "*) ;;
-        *)
-            meant=$(nearest "$word" $options)
-            [ -z "$meant" ] || say "there is no option $word: is it $meant?"
-            ;;
+        --?*) tell_option "${1-}" "${word%%=*}" ;;
         esac
     done
+}
+
+# tell_option COMMAND OPTION: where the command does not take it, that it does not, or which option was perhaps meant.
+tell_option() {
+    local taken meant
+    taken=$(options_of "$1")
+    case " $taken | $options " in
+    *" $2 "*"|"*) ;;
+    *"|"*" $2 "*) say "$1 takes no option $2" ;;
+    *)
+        meant=$(nearest "$2" $taken)
+        [ -z "$meant" ] || say "there is no option $2: is it $meant?"
+        ;;
+    esac
 }

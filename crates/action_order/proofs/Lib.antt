@@ -14,3 +14,4 @@ pub mod GroupLaw
 pub mod ListedLaw
 pub mod OrderLaw
 pub mod PublishLaw
+pub mod ExclusionLaw

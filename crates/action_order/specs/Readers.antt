@@ -1,7 +1,7 @@
-use Rattle.std.specs.Prelude.{◌≡◌, ℕ, ◌*◌, ◌/◌, ◌<◌, ◌==◌, List, [], Bool, true, ◌&&◌, ◌||◌, nat_lt, length, slice_index_or}
+use Rattle.std.specs.Prelude.{◌≡◌, ℕ, ◌*◌, ◌/◌, ◌<◌, ◌==◌, ◌⊎◌, List, [], Bool, true, ◌&&◌, ◌||◌, nat_lt, length, slice_index_or}
 use Rattle.std.specs.List.{AllByRecursion, list_any}
 use Rattle.bit_rows.specs.Bits.{row_has}
-use Rattle.gt_core.specs.Literal.{range}
+use Rattle.gt_core.specs.Literal.{range, opposite}
 use Rattle.gt_core.specs.Task.{Effect, Action}
 use Rattle.gt_core.specs.Active.{EffectWithin}
 use Rattle.gt_core.specs.Interference.{action_needs, action_asks, exclusive}
@@ -45,6 +45,15 @@ has_fact condition f = list_any (λ c. c / 2 == f) condition
 -- a number is in the row of a literal that a literal excludes
 abbrev pub is_excluded : List (ℕ × ℕ) → List (List ℕ) → ℕ → ℕ → ℕ → Bool
 is_excluded clauses needing p upto b = list_any (λ q. exclusive clauses p q && row_has (row_at needing q) b) (range upto)
+
+-- the numbers of one row are in another
+abbrev pub IsPartOf : List ℕ → List ℕ → Type 0
+IsPartOf row other = (b : ℕ) → row_has row b ≡ true → row_has other b ≡ true
+
+-- a number that a row has and had not before is in the row of the opposite of one of some literals
+abbrev pub IsOpposed : List (List ℕ) → (ℕ → Bool) → List ℕ → List ℕ → Type 0
+IsOpposed needing lits before after =
+    (b : ℕ) → row_has after b ≡ true → (row_has before b ≡ true) ⊎ ((m : ℕ) × (m < length needing) × (lits m ≡ true) × (row_has (row_at needing (opposite m)) b ≡ true))
 
 -- for each literal that some action needs, the actions whose precondition it excludes
 pub record AreExclusions (clauses : List (ℕ × ℕ)) (needing : List (List ℕ)) (upto : ℕ) (rows : List (List ℕ)) : Type 0 where

@@ -20,13 +20,25 @@ use std::alloc::{AllocError, Global};
 /// Rows of actions: for each literal those that need it, for each fact those that have it in an effect condition, for
 /// each literal those that surely make it true, and those with a precondition that it excludes; and for each action
 /// the literals that it surely makes true.
-#[derive(Drop)]
 pub struct Rows {
     needing: Vec<BitRow>,
     asking: Vec<BitRow>,
     sure: Vec<Lits>,
     making: Vec<BitRow>,
     excluding: Vec<BitRow>,
+}
+
+/// Letting one go is one call, in which its parts go: whoever holds one proves one step.
+impl Drop for Rows {
+    fn drop(self) {
+        let Rows {
+            needing: _,
+            asking: _,
+            sure: _,
+            making: _,
+            excluding: _,
+        } = self;
+    }
 }
 
 /// The actions that surely make each literal true.
@@ -102,6 +114,7 @@ impl Rows {
     /// The rows of some actions.
     fn new(alloc: Global, facts: u32, acts: &[Act], pairs: &Pairs) -> Result<Rows, AllocError>
         requires facts { facts ≤ 2048 }
+        requires same { pairs.now.facts ≡ facts }
         requires few { length acts.now ≤ 16384 }
         requires within { AllByRecursion (ActionWithin facts) acts.now }
         ensures { IfOk result (AreEdgeRows pairs.now.clauses facts acts.now) }
@@ -162,6 +175,7 @@ pub fn edges(
     pairs: &Pairs,
 ) -> Result<Vec<BitRow>, AllocError>
     requires facts { facts ≤ 2048 }
+    requires same { pairs.now.facts ≡ facts }
     requires few { length acts.now ≤ 16384 }
     requires within { AllByRecursion (ActionWithin facts) acts.now }
     ensures { IfOk result (λ targets. AreEdges pairs.now.clauses acts.now (length acts.now) targets.items) }

@@ -5,7 +5,7 @@ use std::marker::Model;
 
 /// An order of a task's actions, as its components one after the other. Actions are numbered as in the task, places
 /// from 0.
-#[derive(Debug, Drop)]
+#[derive(Debug)]
 pub struct Order {
     components: Vec<ActNumbers>,
     order: Vec<u32>,
@@ -22,6 +22,18 @@ impl Model for Order {
     ghost view = { λ o. o.components.items };
 
     ghost invariant = { λ o. IsOrder o.components.items o.order.items o.places.items o.names.items };
+}
+
+/// Letting one go is one call, in which its parts go: whoever holds one proves one step.
+impl Drop for Order {
+    fn drop(self) {
+        let Order {
+            components: _,
+            order: _,
+            places: _,
+            names: _,
+        } = self;
+    }
 }
 
 impl Order {

@@ -1,14 +1,14 @@
 //! Which actions read a literal, in their precondition or in the condition of an effect, and which cannot share a step
 //! with one that needs it.
 
-ghost use Rattle.std.specs.Prelude.{◌≡◌, ℕ, ◌*◌, ◌/◌, ◌<◌, ◌≤◌, ◌==◌, ◌&&◌, ◌||◌, length, OnOk, IfOk};
+ghost use Rattle.std.specs.Prelude.{◌≡◌, ℕ, ◌*◌, ◌/◌, ◌<◌, ◌≤◌, ◌==◌, ◌&&◌, ◌||◌, nat_lt, true, length, OnOk, IfOk};
 ghost use Rattle.std.specs.List.{AllByRecursion};
 ghost use Rattle.bit_rows.specs.Bits.{row_has};
-ghost use Rattle.gt_core.specs.Literal.{is_in};
+ghost use Rattle.gt_core.specs.Literal.{is_in, opposite};
 ghost use Rattle.gt_core.specs.Active.{EffectWithin};
-ghost use Rattle.gt_core.specs.Interference.{action_asks, exclusive};
+ghost use Rattle.gt_core.specs.Interference.{action_asks, exclusive, has_clause};
 ghost use Rattle.action_order.specs.Graph.{row_at};
-ghost use Rattle.action_order.specs.Readers.{ActionWithin, IsEntered, AreRowsOf, AreExclusions, of_effects, needs, asks_of, has_fact, is_excluded};
+ghost use Rattle.action_order.specs.Readers.{ActionWithin, IsEntered, AreRowsOf, AreExclusions, IsPartOf, IsOpposed, of_effects, needs, asks_of, has_fact, is_excluded};
 
 use bit_rows::row::{BitRow, empty_rows};
 use gt_core::act::Act;
@@ -116,8 +116,13 @@ fn add_excluded(
     Ok(())
 }
 
-/// The actions with a precondition that a literal excludes.
-fn excluded(alloc: Global, pairs: &Pairs, needing: &[BitRow], p: u32) -> Result<BitRow, AllocError>
+/// The actions with a precondition that a literal excludes, looked for literal by literal.
+fn excluded_by_each(
+    alloc: Global,
+    pairs: &Pairs,
+    needing: &[BitRow],
+    p: u32,
+) -> Result<BitRow, AllocError>
     requires { length needing.now ≤ 4096 }
     ensures { IfOk result (λ row. (b : ℕ) → row_has row b ≡ is_excluded pairs.now.clauses needing.now p (length needing.now) b) }
 {
@@ -128,21 +133,81 @@ fn excluded(alloc: Global, pairs: &Pairs, needing: &[BitRow], p: u32) -> Result<
     Ok(row)
 }
 
+/// The literals that are clauses by themselves.
+fn lone_clauses(alloc: Global, pairs: &Pairs, count: u32) -> Result<BitRow, AllocError>
+    ensures { IfOk result (λ row. (m : ℕ) → row_has row m ≡ (nat_lt m count && has_clause pairs.now.clauses m m)) }
+{
+    let mut row = BitRow::new(alloc);
+    for m in 0..count {
+        if pairs.has(m, m) {
+            row.insert(m)?;
+        }
+    }
+    Ok(row)
+}
+
+/// Puts in the actions that need the opposite of one of some literals; of these, those count for which there is a row.
+fn add_opposed(row: &mut BitRow, needing: &[BitRow], lits: &BitRow) -> Result<(), AllocError>
+    requires few { length needing.now ≤ 4096 }
+    requires even { (l : ℕ) → l < length needing.now → opposite l < length needing.now }
+    ensures old { OnOk result (IsPartOf row.old row.new) }
+    ensures all { OnOk result ((m : ℕ) → m < length needing.now → row_has lits.now m ≡ true → IsPartOf (row_at needing.now (opposite m)) row.new) }
+    ensures only { OnOk result (IsOpposed needing.now (row_has lits.now) row.old row.new) }
+{
+    let mut from = 0;
+    while let Some(m) = lits.least(from) {
+        if m as usize >= needing.len() {
+            return Ok(());
+        }
+        row.unite(&needing[opposite(m) as usize])?;
+        from = m + 1;
+    }
+    Ok(())
+}
+
+/// The actions with a precondition that a literal excludes. `alone` has the literals that are clauses by themselves.
+fn excluded(
+    alloc: Global,
+    pairs: &Pairs,
+    needing: &[BitRow],
+    alone: &BitRow,
+    p: u32,
+) -> Result<BitRow, AllocError>
+    requires few { length needing.now ≤ 4096 }
+    requires long { length needing.now ≡ 2 * pairs.now.facts }
+    requires alone { (m : ℕ) → row_has alone.now m ≡ (nat_lt m (length needing.now) && has_clause pairs.now.clauses m m) }
+    requires p { p < length needing.now }
+    ensures { IfOk result (λ row. (b : ℕ) → row_has row b ≡ is_excluded pairs.now.clauses needing.now p (length needing.now) b) }
+{
+    let other = opposite(p);
+    if alone.contains(other) {
+        return excluded_by_each(alloc, pairs, needing, p);
+    }
+    let mut row = BitRow::new(alloc);
+    row.unite(&needing[other as usize])?;
+    let partners = pairs.row(other);
+    add_opposed(&mut row, needing, partners)?;
+    add_opposed(&mut row, needing, alone)?;
+    Ok(row)
+}
+
 /// For each literal that some action needs, the actions with a precondition that it excludes.
 pub fn find_exclusions(
     alloc: Global,
     pairs: &Pairs,
     needing: &[BitRow],
 ) -> Result<Vec<BitRow>, AllocError>
-    requires { length needing.now ≤ 4096 }
+    requires few { length needing.now ≤ 4096 }
+    requires long { length needing.now ≡ 2 * pairs.now.facts }
     ensures { IfOk result (λ rows. AreExclusions pairs.now.clauses needing.now (length needing.now) rows.items) }
 {
+    let alone = lone_clauses(alloc, pairs, needing.len() as u32)?;
     let mut rows = Vec::new(alloc);
     for p in 0..needing.len() {
         let row = if needing[p].is_without_room() {
             BitRow::new(alloc)
         } else {
-            excluded(alloc, pairs, needing, p as u32)?
+            excluded(alloc, pairs, needing, &alone, p as u32)?
         };
         rows.push(row)?;
     }

@@ -120,7 +120,7 @@ impl BitRow {
     {
         let others = other.words.as_slice();
         grow(&mut self.words, others.len())?;
-        unite_words(&mut self.words, others);
+        unite_words(self.words.as_mut_slice(), others, 0);
         Ok(())
     }
 
@@ -131,7 +131,7 @@ impl BitRow {
     {
         let others = other.words.as_slice();
         grow(&mut self.words, others.len())?;
-        unite_words_without(&mut self.words, others, third.words.as_slice());
+        unite_words_without(self.words.as_mut_slice(), others, third.words.as_slice());
         Ok(())
     }
 
@@ -140,7 +140,7 @@ impl BitRow {
         ensures room { room self.new ≡ room self.old }
         ensures has { (k : ℕ) → row_has self.new k ≡ (row_has self.old k && not (row_has other.now k)) }
     {
-        subtract_words(&mut self.words, other.words.as_slice());
+        subtract_words(self.words.as_mut_slice(), other.words.as_slice());
     }
 
     /// Takes all numbers out, and the room with them.
@@ -180,7 +180,7 @@ impl BitRow {
     }
 }
 
-ghost use Rattle.std.specs.Prelude.{◌≡◌, ℕ, ◌+◌, ◌*◌, ◌/◌, ◌<◌, ◌≤◌, ◌==◌, ◌||◌, ◌&&◌, not, true, false, [], length, slice_index, slice_index_or, OnOk, IfOk};
+ghost use Rattle.std.specs.Prelude.{◌≡◌, ℕ, ◌+◌, ◌*◌, ◌/◌, ◌<◌, ◌≤◌, ◌==◌, ◌||◌, ◌&&◌, nat_le, nat_lt, not, true, false, [], length, slice_index, slice_index_or, OnOk, IfOk};
 ghost use Rattle.std.specs.Bool.{OnTrue};
 ghost use Rattle.bit_rows.specs.Bits.{IsLeastFrom, IsPairAcross, row_has};
 
@@ -234,36 +234,43 @@ fn clear_bit(words: &mut Vec<u64>, number: u32)
     }
 }
 
-fn unite_words(words: &mut Vec<u64>, others: &[u64])
-    requires { length others.now ≤ length words.old.items }
-    ensures long { length words.new.items ≡ length words.old.items }
-    ensures has { (k : ℕ) → row_has words.new.items k ≡ (row_has words.old.items k || row_has others.now k) }
+/// Puts the bits of other words into words, from a place on.
+fn unite_words(words: &mut [u64], others: &[u64], from: usize)
+    requires { length others.now ≤ length words.old }
+    ensures long { length words.new ≡ length words.old }
+    ensures has { (k : ℕ) → row_has words.new k ≡ (row_has words.old k || (nat_le from (k / 64) && row_has others.now k)) }
 {
-    for i in 0..others.len() {
+    for i in from..others.len() {
         words[i] = united(words[i], others[i]);
     }
 }
 
-/// A word of a row, none past its end.
-fn word_at(words: &[u64], i: usize) -> u64
-    ensures { result ≡ slice_index words.now i }
+/// Puts the bits of other words without those of thirds into words, up to a place.
+fn unite_words_less(words: &mut [u64], others: &[u64], thirds: &[u64], end: usize)
+    requires words { end ≤ length words.old }
+    requires others { end ≤ length others.now }
+    requires thirds { end ≤ length thirds.now }
+    ensures long { length words.new ≡ length words.old }
+    ensures has { (k : ℕ) → row_has words.new k ≡ (row_has words.old k || (nat_lt (k / 64) end && (row_has others.now k && not (row_has thirds.now k)))) }
 {
-    if i < words.len() { words[i] } else { 0 }
-}
-
-fn unite_words_without(words: &mut Vec<u64>, others: &[u64], thirds: &[u64])
-    requires { length others.now ≤ length words.old.items }
-    ensures long { length words.new.items ≡ length words.old.items }
-    ensures has { (k : ℕ) → row_has words.new.items k ≡ (row_has words.old.items k || (row_has others.now k && not (row_has thirds.now k))) }
-{
-    for i in 0..others.len() {
-        words[i] = united(words[i], without(others[i], word_at(thirds, i)));
+    for i in 0..end {
+        words[i] = united(words[i], without(others[i], thirds[i]));
     }
 }
 
-fn subtract_words(words: &mut Vec<u64>, others: &[u64])
-    ensures long { length words.new.items ≡ length words.old.items }
-    ensures has { (k : ℕ) → row_has words.new.items k ≡ (row_has words.old.items k && not (row_has others.now k)) }
+fn unite_words_without(words: &mut [u64], others: &[u64], thirds: &[u64])
+    requires { length others.now ≤ length words.old }
+    ensures long { length words.new ≡ length words.old }
+    ensures has { (k : ℕ) → row_has words.new k ≡ (row_has words.old k || (row_has others.now k && not (row_has thirds.now k))) }
+{
+    let end = others.len().min(thirds.len());
+    unite_words_less(words, others, thirds, end);
+    unite_words(words, others, end);
+}
+
+fn subtract_words(words: &mut [u64], others: &[u64])
+    ensures long { length words.new ≡ length words.old }
+    ensures has { (k : ℕ) → row_has words.new k ≡ (row_has words.old k && not (row_has others.now k)) }
 {
     let end = words.len().min(others.len());
     for i in 0..end {
@@ -271,15 +278,37 @@ fn subtract_words(words: &mut Vec<u64>, others: &[u64])
     }
 }
 
-fn is_part(words: &[u64], others: &[u64]) -> bool
-    ensures { OnTrue result ((k : ℕ) → row_has words.now k ≡ true → row_has others.now k ≡ true) }
+/// Whether all words from a place on are zero.
+fn are_zero(words: &[u64], from: usize) -> bool
+    ensures { OnTrue result ((k : ℕ) → from ≤ k / 64 → row_has words.now k ≡ false) }
 {
-    for i in 0..words.len() {
-        if without(words[i], word_at(others, i)) != 0 {
+    for i in from..words.len() {
+        if words[i] != 0 {
             return false;
         }
     }
     true
+}
+
+/// Whether no bit of words is missing in others, up to a place.
+fn is_part_below(words: &[u64], others: &[u64], end: usize) -> bool
+    requires words { end ≤ length words.now }
+    requires others { end ≤ length others.now }
+    ensures { OnTrue result ((k : ℕ) → k / 64 < end → row_has words.now k ≡ true → row_has others.now k ≡ true) }
+{
+    for i in 0..end {
+        if without(words[i], others[i]) != 0 {
+            return false;
+        }
+    }
+    true
+}
+
+fn is_part(words: &[u64], others: &[u64]) -> bool
+    ensures { OnTrue result ((k : ℕ) → row_has words.now k ≡ true → row_has others.now k ≡ true) }
+{
+    let end = words.len().min(others.len());
+    is_part_below(words, others, end) && are_zero(words, end)
 }
 
 fn has_pair_in(words: &[u64], others: &[u64]) -> bool

@@ -25,10 +25,9 @@ use Rattle.cdcl_laws.proofs.Kept.{conflict_good, learnt, all_rising, sound_next,
 use Rattle.cdcl_laws.proofs.Fuel.{opens}
 use Rattle.cdcl_laws.proofs.Start.{start_sound}
 use Rattle.clause_base.specs.Derivation.{clause_kept}
-use Rattle.cdcl_trail.specs.Mirrored.{TrailView}
 use Rattle.conflict_walk.specs.Clauses.{ClausesView}
 use Rattle.conflict_walk.specs.Resolvent.{ResolventView, IsEmptied}
-use Rattle.watch_lists.specs.Pending.{WatchesView}
+use Rattle.watch_lists.specs.Pending.{WatchingView}
 use Rattle.cdcl_core.specs.Search.{IsKept, IsNextEvent, state_of, asked_first}
 
 -- two states with the same parts
@@ -42,14 +41,14 @@ given_clauses f = record { formula = f; log = []; kept = replicate (length f.cla
 pub start_is : (f : Cnf) → state_of (given_clauses f) [] Going ≡ start_of f
 start_is f = ap (λ (cs : List (List ℕ)). let s : State = record { variables = f.variables; given = length f.clauses; clauses = cs; kept = replicate (length f.clauses) true; trail = []; conflicts = 0; log = []; standing = Going } in s) (append-nil f.clauses)
 
-pub kept_start : (f : Cnf) (clauses : ClausesView) (trail : TrailView) (watches : WatchesView) (resolvent : ResolventView) → clauses ≡ given_clauses f → trail ≡ record { variables = f.variables; entries = [] } → watches ≡ record { variables = f.variables; clauses = f.clauses; kept = replicate (length f.clauses) true; trail = [] } → IsEmptied resolvent → length resolvent.on ≡ 2 * f.variables → All IsClause f.clauses → IsWithinVariables f → IsKept clauses trail watches resolvent Going false
-kept_start f clauses trail watches resolvent l t m e w c b = rw (l, t, m) (record {
+pub kept_start : (f : Cnf) (clauses : ClausesView) (watching : WatchingView) (resolvent : ResolventView) → clauses ≡ given_clauses f → watching ≡ record { variables = f.variables; clauses = f.clauses; kept = replicate (length f.clauses) true; entries = [] } → IsEmptied resolvent → length resolvent.on ≡ 2 * f.variables → All IsClause f.clauses → IsWithinVariables f → IsKept clauses watching resolvent Going false
+kept_start f clauses watching resolvent l m e w c b = rw (l, m) (record {
   over = refl;
   wide = w;
   empty = λ h. e;
   going = λ h. let z : false ≡ true = h in cc;
   sound = subst (IsSound f) (sym (start_is f)) (start_sound f c b);
-  mirrored = λ h g. ap (λ (cs : List (List ℕ)). let v : WatchesView = record { variables = f.variables; clauses = cs; kept = replicate (length f.clauses) true; trail = [] } in v) (sym (append-nil f.clauses));
+  mirrored = λ h g. ap (λ (cs : List (List ℕ)). let v : WatchingView = record { variables = f.variables; clauses = cs; kept = replicate (length f.clauses) true; entries = [] } in v) (sym (append-nil f.clauses));
 })
 
 -- a conflict that comes next is in a clause that is kept and whose literals are all false

@@ -4,3 +4,4 @@ pub mod Scans
 pub mod Shorts
 pub mod Watching
 pub mod Logs
+pub mod Told

@@ -45,10 +45,6 @@ goes_reached choose limit s t r = let f : State → Type 0 = λ u. GoesOn s.log 
 pub goes_learned : (old new : ClausesView) (k h : List ℕ) → new ≡ record old { log = old.log ++ Learn k h ∷ []; kept = old.kept ++ true ∷ [] } → GoesOn old.log new.log
 goes_learned old new k h e = (Learn k h ∷ [], ap (λ (v : ClausesView). v.log) e)
 
-pub on_err : {T E P Q : Type 0} → (r : Result T E) → (P → Q) → OnErr r P → OnErr r Q
-on_err (Ok x) f p = tt
-on_err (Err e) f p = f p
-
 -- so where a call has failed or not
 pub goes_err : {T E P : Type 0} → (r : Result T E) → P → OnErr r P
 goes_err (Ok x) p = tt

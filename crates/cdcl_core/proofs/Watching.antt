@@ -17,15 +17,12 @@ use Rattle.cdcl_rules.specs.Event.{asked}
 use Rattle.cdcl_rules.specs.Learn.{backtracked}
 use Rattle.cdcl_rules.specs.Reduce.{has_forced, is_candidate, candidates, first_half, kept_without}
 use Rattle.cdcl_rules.proofs.Tests.{and_split}
-use Rattle.cdcl_trail.proofs.Mirrors.{off_of_none, half_opposite}
+use Rattle.cdcl_trail.specs.Assignment.{literals}
+use Rattle.cdcl_trail.proofs.Assignments.{has_is}
 use Rattle.conflict_walk.specs.Clauses.{ClausesView, all_clauses}
 use Rattle.conflict_walk.proofs.Placed.{learned_learn, learned_drops}
-use Rattle.watch_lists.specs.Pending.{WatchesView}
+use Rattle.watch_lists.specs.Pending.{WatchingView}
 use Rattle.cdcl_core.specs.Search.{watched, AreKept, IsBehind, asked_first}
-
-has_is : (trail : List Assigned) (l : ℕ) → has_literal (map (λ a. a.literal) trail) l ≡ is_on trail l
-has_is [] l = refl
-has_is (a ∷ trail) l = ap (λ (b : Bool). (a.literal == l) || b) (has_is trail l)
 
 -- what is told of literals by two tests that agree is the same
 open_same : (on on' : ℕ → Bool) → ((l : ℕ) → on l ≡ on' l) → (c : List ℕ) → open_ones on c ≡ open_ones on' c
@@ -50,17 +47,17 @@ least_same p q k (suc n) h =
     ∙ ap (λ (o : Option ℕ). if q k then Some k else o) (least_same p q (k + 1) n h)
 
 -- the first pending clause of those that are watched
-pub first_watched : (clauses : ClausesView) (trail : List Assigned) (w : WatchesView) (o : Option ℕ) → w ≡ watched clauses trail → o ≡ least_from (is_pending_in w.clauses w.kept (has_literal w.trail)) 0 (length w.clauses) → o ≡ least_from (is_pending_in (all_clauses clauses) clauses.kept (is_on trail)) 0 (length (all_clauses clauses))
+pub first_watched : (clauses : ClausesView) (trail : List Assigned) (w : WatchingView) (o : Option ℕ) → w ≡ watched clauses trail → o ≡ least_from (is_pending_in w.clauses w.kept (has_literal (literals w.entries))) 0 (length w.clauses) → o ≡ least_from (is_pending_in (all_clauses clauses) clauses.kept (is_on trail)) 0 (length (all_clauses clauses))
 first_watched clauses trail w o m e =
-    e ∙ ap (λ (v : WatchesView). least_from (is_pending_in v.clauses v.kept (has_literal v.trail)) 0 (length v.clauses)) m
-    ∙ least_same (is_pending_in (all_clauses clauses) clauses.kept (has_literal (map (λ a. a.literal) trail))) (is_pending_in (all_clauses clauses) clauses.kept (is_on trail)) 0 (length (all_clauses clauses))
-    (pending_same (has_literal (map (λ a. a.literal) trail)) (is_on trail) (has_is trail) (all_clauses clauses) clauses.kept)
+    e ∙ ap (λ (v : WatchingView). least_from (is_pending_in v.clauses v.kept (has_literal (literals v.entries))) 0 (length v.clauses)) m
+    ∙ least_same (is_pending_in (all_clauses clauses) clauses.kept (has_literal (literals trail))) (is_pending_in (all_clauses clauses) clauses.kept (is_on trail)) 0 (length (all_clauses clauses))
+    (pending_same (has_literal (literals trail)) (is_on trail) (has_is trail) (all_clauses clauses) clauses.kept)
 
 -- and its literals that are not false
-pub open_watched : (clauses : ClausesView) (trail : List Assigned) (w : WatchesView) (n : ℕ) → w ≡ watched clauses trail → open_ones (has_literal w.trail) (clause_at w.clauses n) ≡ open_ones (is_on trail) (clause_at (all_clauses clauses) n)
+pub open_watched : (clauses : ClausesView) (trail : List Assigned) (w : WatchingView) (n : ℕ) → w ≡ watched clauses trail → open_ones (has_literal (literals w.entries)) (clause_at w.clauses n) ≡ open_ones (is_on trail) (clause_at (all_clauses clauses) n)
 open_watched clauses trail w n m =
-    ap (λ (v : WatchesView). open_ones (has_literal v.trail) (clause_at v.clauses n)) m
-    ∙ open_same (has_literal (map (λ a. a.literal) trail)) (is_on trail) (has_is trail) (clause_at (all_clauses clauses) n)
+    ap (λ (v : WatchingView). open_ones (has_literal (literals v.entries)) (clause_at v.clauses n)) m
+    ∙ open_same (has_literal (literals trail)) (is_on trail) (has_is trail) (clause_at (all_clauses clauses) n)
 
 -- and what it asks for
 asked_by : State → Option ℕ → Option Event
@@ -74,74 +71,51 @@ pub some_asked : (s : State) (n : ℕ) → first_pending s ≡ Some n → Some (
 unfolding asked_by
 some_asked s n e = sym (ap (asked_by s) e)
 
--- a literal whose variable has no value is neither true nor false where the clauses are watched
-pub off_watched : (clauses : ClausesView) (trail : List Assigned) (w : WatchesView) (l : ℕ) → w ≡ watched clauses trail → value_of trail (l / 2) ≡ None → has_literal w.trail l ≡ false
-off_watched clauses trail w l m e = ap (λ (v : WatchesView). has_literal v.trail l) m ∙ has_is trail l ∙ off_of_none trail l e
-
-pub free_watched : (clauses : ClausesView) (trail : List Assigned) (w : WatchesView) (l : ℕ) → w ≡ watched clauses trail → value_of trail (l / 2) ≡ None → has_literal w.trail (opposite l) ≡ false
-free_watched clauses trail w l m e =
-    off_watched clauses trail w (opposite l) m (ap (value_of trail) (half_opposite l) ∙ e)
-
 -- one literal more is true
-pub watched_assign : (clauses : ClausesView) (trail : List Assigned) (w w' : WatchesView) (a : Assigned) → w ≡ watched clauses trail → w' ≡ record w { trail = w.trail ++ a.literal ∷ [] } → w' ≡ watched clauses (trail ++ a ∷ [])
-watched_assign clauses trail w w' a m e =
-    e ∙ ap (λ (v : WatchesView). record v { trail = v.trail ++ a.literal ∷ [] }) m
-    ∙ ap (λ (ls : List ℕ). let v : WatchesView = record { variables = clauses.formula.variables; clauses = all_clauses clauses; kept = clauses.kept; trail = ls } in v) (sym (map_push (λ (x : Assigned). x.literal) trail a))
-
--- the trail goes back to its beginning
-literals_back : (level : ℕ) (trail : List Assigned) → take (length (backtracked level trail)) (map (λ a. a.literal) trail) ≡ map (λ a. a.literal) (backtracked level trail)
-literals_back level [] = refl
-literals_back level (a ∷ trail) = by a.reason (level == 0) (literals_back level trail) (literals_back (level - 1) trail)
-  where
-    by : (o : Option ℕ) (b : Bool) → take (length (backtracked level trail)) (map (λ x. x.literal) trail) ≡ map (λ x. x.literal) (backtracked level trail) → take (length (backtracked (level - 1) trail)) (map (λ x. x.literal) trail) ≡ map (λ x. x.literal) (backtracked (level - 1) trail) → take (length (elim o as (λ _. List Assigned) [ Some r ↦ a ∷ backtracked level trail | None ↦ if b then [] else a ∷ backtracked (level - 1) trail ])) (map (λ x. x.literal) (a ∷ trail)) ≡ map (λ x. x.literal) (elim o as (λ _. List Assigned) [ Some r ↦ a ∷ backtracked level trail | None ↦ if b then [] else a ∷ backtracked (level - 1) trail ])
-    by (Some r) b same less = ap (λ (ls : List ℕ). a.literal ∷ ls) same
-    by None true same less = refl
-    by None false same less = ap (λ (ls : List ℕ). a.literal ∷ ls) less
+pub watched_assign : (clauses : ClausesView) (trail : List Assigned) (w w' : WatchingView) (a : Assigned) → w ≡ watched clauses trail → w' ≡ record w { entries = w.entries ++ a ∷ [] } → w' ≡ watched clauses (trail ++ a ∷ [])
+watched_assign clauses trail w w' a m e = e ∙ ap (λ (v : WatchingView). record v { entries = v.entries ++ a ∷ [] }) m
 
 -- what a search watches once it follows
-views_same : (n m : ℕ) (cs ds : List (List ℕ)) (ks ls : List Bool) (t u : List ℕ) → n ≡ m → cs ≡ ds → ks ≡ ls → t ≡ u → (let v : WatchesView = record { variables = n; clauses = cs; kept = ks; trail = t } in v) ≡ (let w : WatchesView = record { variables = m; clauses = ds; kept = ls; trail = u } in w)
-views_same n m cs ds ks ls t u a b c d = cc
+views_same : (n m : ℕ) (cs ds : List (List ℕ)) (ks ls : List Bool) (t : List Assigned) → n ≡ m → cs ≡ ds → ks ≡ ls → (let v : WatchingView = record { variables = n; clauses = cs; kept = ks; entries = t } in v) ≡ (let w : WatchingView = record { variables = m; clauses = ds; kept = ls; entries = t } in w)
+views_same n m cs ds ks ls t a b c = cc
 
-pub followed : (w w1 w2 : WatchesView) (clauses : ClausesView) (trail : List Assigned) (len : ℕ) (k : List ℕ) (b : IsBehind w clauses trail) → w1 ≡ record w { trail = take len w.trail } → len ≡ length trail → k ≡ b.last → w2 ≡ record w1 { clauses = w1.clauses ++ k ∷ []; kept = w1.kept ++ true ∷ [] } → w2 ≡ watched clauses trail
-followed w w1 w2 clauses trail len k b e l f g =
-    g ∙ ap (λ (v : WatchesView). record v { clauses = v.clauses ++ k ∷ []; kept = v.kept ++ true ∷ [] }) e
-    ∙ views_same w.variables clauses.formula.variables (w.clauses ++ k ∷ []) (all_clauses clauses) (w.kept ++ true ∷ []) clauses.kept (take len w.trail) (map (λ a. a.literal) trail)
-    b.variables (ap (λ (x : List ℕ). w.clauses ++ x ∷ []) f ∙ b.clauses_are) b.kept_are (ap (λ (n : ℕ). take n w.trail) l ∙ b.back)
+pub followed : (w w2 : WatchingView) (clauses : ClausesView) (k : List ℕ) (b : IsBehind w clauses) → k ≡ b.last → w2 ≡ record w { clauses = w.clauses ++ k ∷ []; kept = w.kept ++ true ∷ [] } → w2 ≡ watched clauses w.entries
+followed w w2 clauses k b f g =
+    g ∙ views_same w.variables clauses.formula.variables (w.clauses ++ k ∷ []) (all_clauses clauses) (w.kept ++ true ∷ []) clauses.kept w.entries
+    b.variables (ap (λ (x : List ℕ). w.clauses ++ x ∷ []) f ∙ b.clauses_are) b.kept_are
 
 -- the last clause
 pub last_is : (cs all : List (List ℕ)) (k : List ℕ) (n : ℕ) → cs ++ k ∷ [] ≡ all → n ≡ length cs → clause_at all n ≡ k
 last_is cs all k n e h = unwrap_or-slice_get all n [] ∙ ap (λ (xs : List (List ℕ)). get_or xs n []) (sym e) ∙ get_or_push cs k [] n (sym h)
 
-pub count_behind : (w : WatchesView) (clauses : ClausesView) (trail : List Assigned) → IsBehind w clauses trail → length (all_clauses clauses) ≡ length w.clauses + 1
-count_behind w clauses trail b = ap (λ (xs : List (List ℕ)). length xs) (sym b.clauses_are) ∙ length_push w.clauses b.last
+pub count_behind : (w : WatchingView) (clauses : ClausesView) → IsBehind w clauses → length (all_clauses clauses) ≡ length w.clauses + 1
+count_behind w clauses b = ap (λ (xs : List (List ℕ)). length xs) (sym b.clauses_are) ∙ length_push w.clauses b.last
 
 pub last_below : (n : ℕ) (cs : List (List ℕ)) (k : List ℕ) → All (HasVariablesBelow n) (cs ++ k ∷ []) → HasVariablesBelow n k
 last_below n cs k a =
     subst (HasVariablesBelow n) (get_or_push cs k [] (length cs) refl) (All-get_or (HasVariablesBelow n) (cs ++ k ∷ []) (length cs) [] (omega (arith, length_push cs k)) a)
 
 -- once a clause is learned and the trail goes back, what is watched is behind
-pub behind : (clauses clauses' : ClausesView) (trail trail' : List Assigned) (w : WatchesView) (k h : List ℕ) (level : ℕ) → w ≡ watched clauses trail → clauses' ≡ record clauses { log = clauses.log ++ Learn k h ∷ []; kept = clauses.kept ++ true ∷ [] } → trail' ≡ backtracked level trail → IsClause k → HasVariablesBelow clauses.formula.variables k → IsBehind w clauses' trail'
-behind clauses clauses' trail trail' w k h level m e t lawful below = record {
-  last = k;
-  lawful = lawful;
-  below = subst (λ (n : ℕ). HasVariablesBelow n k) (sym (ap (λ (v : WatchesView). v.variables) m)) below;
-  variables = ap (λ (v : WatchesView). v.variables) m ∙ sym (ap (λ (c : ClausesView). c.formula.variables) e);
-  clauses_are = ap (λ (v : WatchesView). v.clauses ++ k ∷ []) m
-      ∙ append_assoc clauses.formula.clauses (clauses_of clauses.log) (k ∷ [])
-      ∙ ap (λ (xs : List (List ℕ)). clauses.formula.clauses ++ xs) (sym (learned_learn clauses.log k h))
-      ∙ sym (ap all_clauses e);
-  kept_are = ap (λ (v : WatchesView). v.kept ++ true ∷ []) m ∙ sym (ap (λ (c : ClausesView). c.kept) e);
-  back = ap (λ (v : WatchesView). take (length trail') v.trail) m
-      ∙ ap (λ (es : List Assigned). take (length es) (map (λ a. a.literal) trail)) t
-      ∙ literals_back level trail
-      ∙ ap (λ (es : List Assigned). map (λ a. a.literal) es) (sym t);
-}
+pub behind : (clauses clauses' : ClausesView) (trail trail' : List Assigned) (w w' : WatchingView) (k h : List ℕ) → w ≡ watched clauses trail → clauses' ≡ record clauses { log = clauses.log ++ Learn k h ∷ []; kept = clauses.kept ++ true ∷ [] } → w' ≡ record w { entries = trail' } → IsClause k → HasVariablesBelow clauses.formula.variables k → IsBehind w' clauses'
+behind clauses clauses' trail trail' w w' k h m e t lawful below =
+    let g : w' ≡ watched clauses trail' = t ∙ ap (λ (v : WatchingView). record v { entries = trail' }) m in
+    record {
+      last = k;
+      lawful = lawful;
+      below = subst (λ (n : ℕ). HasVariablesBelow n k) (sym (ap (λ (v : WatchingView). v.variables) g)) below;
+      variables = ap (λ (v : WatchingView). v.variables) g ∙ sym (ap (λ (c : ClausesView). c.formula.variables) e);
+      clauses_are = ap (λ (v : WatchingView). v.clauses ++ k ∷ []) g
+          ∙ append_assoc clauses.formula.clauses (clauses_of clauses.log) (k ∷ [])
+          ∙ ap (λ (xs : List (List ℕ)). clauses.formula.clauses ++ xs) (sym (learned_learn clauses.log k h))
+          ∙ sym (ap all_clauses e);
+      kept_are = ap (λ (v : WatchingView). v.kept ++ true ∷ []) g ∙ sym (ap (λ (c : ClausesView). c.kept) e);
+    }
 
 -- clauses are dropped
-pub watched_drops : (clauses clauses' : ClausesView) (trail : List Assigned) (w w' : WatchesView) (ns : List ℕ) → w ≡ watched clauses trail → clauses' ≡ record clauses { log = clauses.log ++ map (λ n. Drop n) ns; kept = kept_without clauses.kept ns } → w' ≡ record w { kept = kept_without w.kept ns } → w' ≡ watched clauses' trail
+pub watched_drops : (clauses clauses' : ClausesView) (trail : List Assigned) (w w' : WatchingView) (ns : List ℕ) → w ≡ watched clauses trail → clauses' ≡ record clauses { log = clauses.log ++ map (λ n. Drop n) ns; kept = kept_without clauses.kept ns } → w' ≡ record w { kept = kept_without w.kept ns } → w' ≡ watched clauses' trail
 watched_drops clauses clauses' trail w w' ns m e f =
-    f ∙ ap (λ (v : WatchesView). record v { kept = kept_without v.kept ns }) m
-    ∙ ap (λ (cs : List (List ℕ)). let v : WatchesView = record { variables = clauses.formula.variables; clauses = clauses.formula.clauses ++ cs; kept = kept_without clauses.kept ns; trail = map (λ a. a.literal) trail } in v) (sym (learned_drops clauses.log ns))
+    f ∙ ap (λ (v : WatchingView). record v { kept = kept_without v.kept ns }) m
+    ∙ ap (λ (cs : List (List ℕ)). let v : WatchingView = record { variables = clauses.formula.variables; clauses = clauses.formula.clauses ++ cs; kept = kept_without clauses.kept ns; entries = trail } in v) (sym (learned_drops clauses.log ns))
     ∙ sym (ap (λ (c : ClausesView). watched c trail) e)
 
 -- each clause that is dropped is kept when its turn comes

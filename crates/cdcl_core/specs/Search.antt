@@ -1,4 +1,4 @@
-use Rattle.std.specs.Prelude.{◌≡◌, ℕ, ◌*◌, List, [], ◌∷◌, ◌++◌, length, take, map, slice_set, if◌then◌else◌, Bool, true, false, Option, Some, None}
+use Rattle.std.specs.Prelude.{◌≡◌, ℕ, ◌*◌, List, [], ◌∷◌, ◌++◌, length, map, slice_set, if◌then◌else◌, Bool, true, false, Option, Some, None}
 use Rattle.clause_base.specs.Formula.{Cnf}
 use Rattle.clause_base.specs.Clause.{IsClause, HasVariablesBelow}
 use Rattle.clause_base.specs.Choice.{Known}
@@ -15,10 +15,9 @@ use Rattle.cdcl_rules.specs.Learn.{backjump_level}
 use Rattle.cdcl_rules.specs.Run.{is_restart, is_going}
 use Rattle.cdcl_rules.specs.Open.{Opens}
 use Rattle.cdcl_laws.specs.Sound.{IsSound}
-use Rattle.cdcl_trail.specs.Mirrored.{TrailView}
 use Rattle.conflict_walk.specs.Clauses.{ClausesView, all_clauses}
 use Rattle.conflict_walk.specs.Resolvent.{ResolventView, IsEmptied}
-use Rattle.watch_lists.specs.Pending.{WatchesView}
+use Rattle.watch_lists.specs.Pending.{WatchingView}
 
 -- a search for an assignment, as its clients see it
 pub record SearchView : Type 0 where
@@ -47,23 +46,22 @@ state_of clauses trail standing = record {
 }
 
 -- these clauses as they are watched on a trail
-abbrev pub watched : ClausesView → List Assigned → WatchesView
+abbrev pub watched : ClausesView → List Assigned → WatchingView
 watched clauses trail = record {
   variables = clauses.formula.variables;
   clauses = all_clauses clauses;
   kept = clauses.kept;
-  trail = map (λ a. a.literal) trail;
+  entries = trail;
 }
 
--- what is watched are all clauses but the last, on a trail that went back since to this one
-pub record IsBehind (watches : WatchesView) (clauses : ClausesView) (trail : List Assigned) : Type 0 where
+-- what is watched are all clauses but the last
+pub record IsBehind (watching : WatchingView) (clauses : ClausesView) : Type 0 where
   pub last : List ℕ
   pub lawful : IsClause last
-  pub below : HasVariablesBelow watches.variables last
-  pub variables : watches.variables ≡ clauses.formula.variables
-  pub clauses_are : watches.clauses ++ last ∷ [] ≡ all_clauses clauses
-  pub kept_are : watches.kept ++ true ∷ [] ≡ clauses.kept
-  pub back : take (length trail) watches.trail ≡ map (λ a. a.literal) trail
+  pub below : HasVariablesBelow watching.variables last
+  pub variables : watching.variables ≡ clauses.formula.variables
+  pub clauses_are : watching.clauses ++ last ∷ [] ≡ all_clauses clauses
+  pub kept_are : watching.kept ++ true ∷ [] ≡ clauses.kept
 
 -- each of these clauses is kept when its turn comes to be dropped
 abbrev pub AreKept : List Bool → List ℕ → Type 0
@@ -72,13 +70,13 @@ AreKept kept (n ∷ numbers) = (is_kept kept n ≡ true) × AreKept (slice_set k
 
 -- what a search keeps: a sound state, a trail over the formula's variables and a resolvent that is empty unless it is spoilt; as
 -- long as it is going its clauses are watched on its trail
-pub record IsKept (clauses : ClausesView) (trail : TrailView) (watches : WatchesView) (resolvent : ResolventView) (standing : Standing) (spoilt : Bool) : Type 0 where
-  pub over : trail.variables ≡ clauses.formula.variables
+pub record IsKept (clauses : ClausesView) (watching : WatchingView) (resolvent : ResolventView) (standing : Standing) (spoilt : Bool) : Type 0 where
+  pub over : watching.variables ≡ clauses.formula.variables
   pub wide : length resolvent.on ≡ 2 * clauses.formula.variables
   pub empty : spoilt ≡ false → IsEmptied resolvent
   pub going : spoilt ≡ true → standing ≡ Going
-  pub sound : IsSound clauses.formula (state_of clauses trail.entries standing)
-  pub mirrored : spoilt ≡ false → is_going standing ≡ true → watches ≡ watched clauses trail.entries
+  pub sound : IsSound clauses.formula (state_of clauses watching.entries standing)
+  pub mirrored : spoilt ≡ false → is_going standing ≡ true → watching ≡ watched clauses watching.entries
 
 -- what the first clause asks for that is kept and pending
 abbrev pub asked_first : State → Option Event

@@ -11,7 +11,7 @@ use cdcl_trail::trail::Trail;
 use clause_base::memory::Memory;
 use conflict_walk::clauses::Clauses;
 use std::alloc::Global;
-use watch_lists::watches::Watches;
+use watch_lists::watching::Watching;
 
 /// For each of so many clauses whether it forced an entry of the trail.
 fn forced_flags(alloc: Global, entries: &[Assigned], count: u32) -> Result<Vec<bool>, Memory>
@@ -53,30 +53,26 @@ fn first_half(numbers: &[u32]) -> &[u32]
 }
 
 /// Stops watching clauses.
-fn forget(watches: &mut Watches, numbers: &[u32])
-    requires { AreKept watches.old.kept numbers.now }
-    ensures { watches.new ≡ record watches.old { kept = kept_without watches.old.kept numbers.now } }
+fn forget(watching: &mut Watching, numbers: &[u32])
+    requires { AreKept watching.old.kept numbers.now }
+    ensures { watching.new ≡ record watching.old { kept = kept_without watching.old.kept numbers.now } }
 {
     for number in numbers {
-        watches.remove(*number);
+        watching.remove(*number);
     }
 }
 
 /// Drops the first half of the candidates. After want of memory nothing has changed.
-pub fn reduce(
-    alloc: Global,
-    clauses: &mut Clauses,
-    watches: &mut Watches,
-    trail: &Trail,
-) -> Result<(), Memory>
-    requires { watches.old ≡ watched clauses.old trail.now.entries }
-    ensures ok { OnOk result (clauses.new ≡ record clauses.old { log = clauses.old.log ++ map (λ n. Drop n) (first_half (candidates (length clauses.old.formula.clauses) (all_clauses clauses.old) clauses.old.kept trail.now.entries)); kept = kept_without clauses.old.kept (first_half (candidates (length clauses.old.formula.clauses) (all_clauses clauses.old) clauses.old.kept trail.now.entries)) }) }
+pub fn reduce(alloc: Global, clauses: &mut Clauses, watching: &mut Watching) -> Result<(), Memory>
+    requires { watching.old ≡ watched clauses.old watching.old.entries }
+    ensures ok { OnOk result (clauses.new ≡ record clauses.old { log = clauses.old.log ++ map (λ n. Drop n) (first_half (candidates (length clauses.old.formula.clauses) (all_clauses clauses.old) clauses.old.kept watching.old.entries)); kept = kept_without clauses.old.kept (first_half (candidates (length clauses.old.formula.clauses) (all_clauses clauses.old) clauses.old.kept watching.old.entries)) }) }
     ensures err { OnErr result (clauses.new ≡ clauses.old) }
-    ensures mirrored { OnOk result (watches.new ≡ watched clauses.new trail.now.entries) }
+    ensures same { OnErr result (watching.new ≡ watching.old) }
+    ensures mirrored { OnOk result (watching.new ≡ watched clauses.new watching.old.entries) }
 {
-    let numbers = candidates(alloc, clauses, trail)?;
+    let numbers = candidates(alloc, clauses, watching.trail())?;
     let half = first_half(numbers.as_slice());
     clauses.drop_all(half)?;
-    forget(watches, half);
+    forget(watching, half);
     Ok(())
 }

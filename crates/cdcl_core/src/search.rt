@@ -14,7 +14,6 @@ use crate::reduce::reduce;
 use cdcl_rules::event::Event;
 use cdcl_rules::standing::Standing;
 use cdcl_rules::trail::Assigned;
-use cdcl_trail::trail::Trail;
 use clause_base::clause::Clause;
 use clause_base::formula::Formula;
 use clause_base::literal::Lit;
@@ -23,22 +22,20 @@ use clause_base::memory::Memory;
 use clause_base::values::Values;
 use conflict_walk::backjump::backjump_level;
 use conflict_walk::clauses::Clauses;
-use conflict_walk::learn::{Learned, learn};
+use conflict_walk::learn::{LearnedClause, learn};
 use conflict_walk::resolvent::Resolvent;
 use std::alloc::Global;
 use std::marker::Model;
-use watch_lists::watches::Watches;
+use watch_lists::watching::Watching;
 
 /// At each so manyth conflict the search restarts: it backtracks to level 0, and drops learned clauses.
 const RESTART: u64 = 64;
 
 /// A search over a formula.
-#[derive(Drop)]
 pub struct Search {
     alloc: Global,
     clauses: Clauses,
-    trail: Trail,
-    watches: Watches,
+    watching: Watching,
     resolvent: Resolvent,
     standing: Standing,
     spoilt: bool,
@@ -49,9 +46,23 @@ impl Model for Search {
 
     ghost Value = { SearchView };
 
-    ghost view = { λ s. record { formula = s.clauses.formula; state = state_of s.clauses s.trail.entries s.standing; spoilt = s.spoilt } };
+    ghost view = { λ s. record { formula = s.clauses.formula; state = state_of s.clauses s.watching.entries s.standing; spoilt = s.spoilt } };
 
-    ghost invariant = { λ s. IsKept s.clauses s.trail s.watches s.resolvent s.standing s.spoilt };
+    ghost invariant = { λ s. IsKept s.clauses s.watching s.resolvent s.standing s.spoilt };
+}
+
+/// Letting one go is one call, in which its parts go: whoever holds one proves one step.
+impl Drop for Search {
+    fn drop(self) {
+        let Search {
+            alloc: _,
+            clauses: _,
+            watching: _,
+            resolvent: _,
+            standing: _,
+            spoilt: _,
+        } = self;
+    }
 }
 
 impl Search {
@@ -63,8 +74,7 @@ impl Search {
         let _lawful = formula.count();
         Ok(Search {
             alloc,
-            trail: Trail::new(alloc, variables)?,
-            watches: Watches::new(alloc, &formula)?,
+            watching: Watching::new(alloc, &formula)?,
             resolvent: Resolvent::new(alloc, variables)?,
             standing: Standing::Going,
             spoilt: false,
@@ -115,28 +125,30 @@ impl Search {
         ensures value { result ≡ value_of self.now.state.trail v }
         ensures past { self.now.formula.variables ≤ v → result ≡ None }
     {
-        self.trail.value(v)
+        self.watching.trail().value(v)
     }
 
     /// The values of all variables.
     pub fn values(&self) -> &Values
         ensures { result.now ≡ values_of self.now.formula.variables self.now.state.trail }
     {
-        self.trail.values()
+        self.watching.trail().values()
     }
 
-    /// The literals that are true, oldest first.
+    /// The literals that are true, oldest first; they are of the variables, each of which has at most one.
     pub fn entries(&self) -> &[Assigned]
-        ensures { result.now ≡ self.now.state.trail }
+        ensures value { result.now ≡ self.now.state.trail }
+        ensures below { All (λ a. a.literal / 2 < self.now.formula.variables) self.now.state.trail }
+        ensures short { length self.now.state.trail ≤ self.now.formula.variables }
     {
-        self.trail.entries()
+        self.watching.trail().entries()
     }
 
     /// Lets a chooser's search for the least variable without a value begin where it should.
     pub fn pass_given(&mut self)
         ensures { self.new ≡ self.old }
     {
-        self.trail.pass_given();
+        self.watching.pass_given();
     }
 
     /// What the first clause asks for that is kept and pending.
@@ -146,14 +158,14 @@ impl Search {
         ensures event { result ≡ asked_first self.now.state }
         ensures sound { IsSound self.now.formula self.now.state }
     {
-        match self.watches.least_pending() {
+        match self.watching.least_pending() {
             None => None,
-            Some(number) => Some(asked(&self.watches, number)),
+            Some(number) => Some(asked(&self.watching, number)),
         }
     }
 
     /// What the conflict in a clause teaches. After want of memory the search is spoilt.
-    fn learned(&mut self, number: u32) -> Result<Learned, Memory>
+    fn learned(&mut self, number: u32) -> Result<LearnedClause, Memory>
         requires sane { self.old.spoilt ≡ false }
         requires going { is_going self.old.state.standing ≡ true }
         requires next { IsNextEvent self.old.formula self.old.state (Event.Conflict number) }
@@ -167,7 +179,7 @@ impl Search {
             self.alloc,
             &mut self.resolvent,
             &self.clauses,
-            &self.trail,
+            self.watching.trail(),
             number,
         )?;
         self.spoilt = false;
@@ -192,14 +204,14 @@ impl Search {
         if self.is_restart() {
             0
         } else {
-            backjump_level(&self.trail, lits)
+            backjump_level(self.watching.trail(), lits)
         }
     }
 
     /// Enters what a conflict teaches: its clause and hints into the log, which counts the conflict. With the empty clause all
     /// is refuted, else the trail backtracks, and at a restart clauses are dropped. After want of memory the search is spoilt;
     /// it may then have entered the clause.
-    fn enter(&mut self, new: Learned) -> Result<(), Memory>
+    fn enter(&mut self, new: LearnedClause) -> Result<(), Memory>
         requires sane { self.old.spoilt ≡ false }
         requires going { is_going self.old.state.standing ≡ true }
         requires room { self.old.state.conflicts < 1073741824 }
@@ -223,36 +235,25 @@ impl Search {
             self.spoilt = false;
             return Ok(());
         }
-        self.trail.backtrack(level);
-        follow(&mut self.watches, &self.clauses, &self.trail)?;
+        self.watching.backtrack(level);
+        follow(&mut self.watching, &self.clauses)?;
         if is_restart {
-            reduce(
-                self.alloc,
-                &mut self.clauses,
-                &mut self.watches,
-                &self.trail,
-            )?;
+            reduce(self.alloc, &mut self.clauses, &mut self.watching)?;
         }
         self.spoilt = false;
         Ok(())
     }
 
-    /// Makes a literal true. After want of memory the search is spoilt.
-    fn assign(&mut self, entry: Assigned) -> Result<(), Memory>
+    /// Makes a literal true.
+    fn assign(&mut self, entry: Assigned)
         requires sane { self.old.spoilt ≡ false }
         requires going { is_going self.old.state.standing ≡ true }
         requires below { entry.literal / 2 < self.old.formula.variables }
         requires opened { value_of self.old.state.trail (entry.literal / 2) ≡ None }
         requires sound { IsSound self.old.formula (record self.old.state { trail = self.old.state.trail ++ entry ∷ [] }) }
-        ensures ok { OnOk result (self.new ≡ record self.old { state = record self.old.state { trail = self.old.state.trail ++ entry ∷ [] } }) }
-        ensures err { OnErr result (self.new ≡ record self.old { spoilt = true }) }
+        ensures { self.new ≡ record self.old { state = record self.old.state { trail = self.old.state.trail ++ entry ∷ [] } } }
     {
-        let lit = entry.literal;
-        self.spoilt = true;
-        self.trail.push(entry)?;
-        self.watches.assign(lit);
-        self.spoilt = false;
-        Ok(())
+        self.watching.assign(entry);
     }
 
     /// Says that the values satisfy the formula.
@@ -281,14 +282,20 @@ impl Search {
                 let learned = self.learned(number)?;
                 self.enter(learned)
             }
-            Event::Force(literal, clause) => self.assign(Assigned {
-                literal,
-                reason: Some(clause),
-            }),
-            Event::Decide(literal) => self.assign(Assigned {
-                literal,
-                reason: None,
-            }),
+            Event::Force(literal, clause) => {
+                self.assign(Assigned {
+                    literal,
+                    reason: Some(clause),
+                });
+                Ok(())
+            }
+            Event::Decide(literal) => {
+                self.assign(Assigned {
+                    literal,
+                    reason: None,
+                });
+                Ok(())
+            }
             Event::Finish => {
                 self.finish();
                 Ok(())

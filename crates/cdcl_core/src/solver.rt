@@ -1,7 +1,7 @@
 ghost use Rattle.std.specs.Prelude.{◌≡◌, ◌≤◌, ◌+◌, ◌*◌, ◌<◌, ◌++◌, true, false, None, ◌&&◌, nat_le, length, IfOk, OnOk, OnErr};
 ghost use Rattle.clause_base.specs.Formula.{Satisfies};
 ghost use Rattle.clause_base.specs.Derivation.{clauses_of, IsDerivation, EndsEmpty};
-ghost use Rattle.cdcl_rules.specs.State.{value_of};
+ghost use Rattle.cdcl_rules.specs.State.{value_of, values_of};
 ghost use Rattle.cdcl_rules.specs.Event.{event_of};
 ghost use Rattle.cdcl_rules.specs.Open.{Opens};
 ghost use Rattle.cdcl_rules.specs.Run.{start_of, apply, after, is_going, is_conflict, IsAfter};
@@ -9,6 +9,7 @@ ghost use Rattle.cdcl_laws.specs.Sound.{IsSound, IsSolution, made_true};
 ghost use Rattle.cdcl_laws.specs.Laws.{AddsUp, SettledStays, ComesToRestAlways, Grants};
 ghost use Rattle.cdcl_core.specs.Search.{SolverView, IsNextEvent, GoesOn};
 ghost use Rattle.cdcl_core.specs.Between.{IsShortBetween};
+ghost use Rattle.cdcl_core.specs.Told.{IsToldUpTo, literals_on};
 
 use crate::search::Search;
 use cdcl_laws::law::runs_are_sound;
@@ -17,26 +18,58 @@ use cdcl_rules::standing::Standing;
 use cdcl_rules::trail::Assigned;
 use clause_base::chooser::Chooser;
 use clause_base::formula::Formula;
+use clause_base::literal::Lit;
 use clause_base::log::Log;
 use clause_base::memory::Memory;
 use std::alloc::Global;
 use std::marker::Model;
 
 /// A solver of a formula by learning from conflicts. Its chooser makes the decisions.
-#[derive(Drop)]
 pub struct Solver<C: Chooser> {
     search: Search,
     chooser: C,
+    told: C::Told,
+    kept: usize,
 }
 
 impl<C: Chooser> Model for Solver<C> {
+    ghost use Rattle.std.specs.Prelude.{◌≡◌, false};
     ghost use Rattle.cdcl_core.specs.Search.{SolverView};
+    ghost use Rattle.cdcl_core.specs.Told.{IsToldUpTo};
 
     ghost Value = { SolverView C };
 
     ghost view = { λ s. record { formula = s.search.formula; state = s.search.state; chooser = s.chooser; spoilt = s.search.spoilt } };
 
-    ghost invariant = { λ s. C.fits s.chooser s.search.formula.variables };
+    ghost invariant = { λ s.
+        C.fits s.chooser s.search.formula.variables
+        × (s.search.spoilt ≡ false → IsToldUpTo (C.knows s.chooser s.told) s.kept s.search.state.trail) };
+}
+
+/// Tells a chooser, which knows of a search's trail up to a length, what the trail has behind that.
+fn tell<C: Chooser>(chooser: &C, told: &mut C::Told, kept: usize, search: &Search)
+    requires fits { C.fits chooser.now search.now.formula.variables }
+    requires told { IsToldUpTo (C.knows chooser.now told.old) kept search.now.state.trail }
+    ensures { C.knows chooser.now told.new (literals_on search.now.state.trail) }
+{
+    chooser.untell(told, kept);
+    let entries = search.entries();
+    for i in kept..entries.len() {
+        let entry = entries[i];
+        chooser.tell(told, entry.literal);
+    }
+}
+
+/// Letting one go is one call, in which its parts go: whoever holds one proves one step.
+impl<C: Chooser + Drop> Drop for Solver<C> {
+    fn drop(self) {
+        let Solver {
+            search: _,
+            chooser: _,
+            told: _,
+            kept: _,
+        } = self;
+    }
 }
 
 impl<C: Chooser + Drop> Solver<C> {
@@ -46,7 +79,13 @@ impl<C: Chooser + Drop> Solver<C> {
         ensures start { IfOk result (λ s. s ≡ record { formula = formula; state = start_of formula; chooser = chooser; spoilt = false }) }
     {
         let search = Search::new(alloc, formula)?;
-        Ok(Solver { search, chooser })
+        let told = chooser.start(alloc)?;
+        Ok(Solver {
+            search,
+            chooser,
+            told,
+            kept: 0,
+        })
     }
 }
 
@@ -128,6 +167,20 @@ impl<C: Chooser> Solver<C> {
         event.is_conflict() && self.search.conflicts() >= limit
     }
 
+    /// The literal that its chooser chooses, which is told before how the trail has changed since its last choice.
+    fn choice(&mut self) -> Option<Lit>
+        requires sane { self.old.spoilt ≡ false }
+        requires sound { IsSound self.old.formula self.old.state }
+        ensures chosen { result ≡ C.choice self.old.chooser (values_of self.old.formula.variables self.old.state.trail) }
+        ensures kept { self.new ≡ self.old }
+    {
+        self.search.pass_given();
+        tell(&self.chooser, &mut self.told, self.kept, &self.search);
+        self.kept = self.search.entries().len();
+        self.chooser
+            .choose_told(&mut self.told, self.search.values())
+    }
+
     /// The next event.
     fn event(&mut self) -> Event
         requires sane { self.old.spoilt ≡ false }
@@ -139,13 +192,10 @@ impl<C: Chooser> Solver<C> {
     {
         match self.search.asked() {
             Some(event) => event,
-            None => {
-                self.search.pass_given();
-                match self.chooser.choose(self.search.values()) {
-                    None => Event::Finish,
-                    Some(lit) => Event::Decide(lit),
-                }
-            }
+            None => match self.choice() {
+                None => Event::Finish,
+                Some(lit) => Event::Decide(lit),
+            },
         }
     }
 
@@ -162,7 +212,10 @@ impl<C: Chooser> Solver<C> {
         ensures chooser { self.new.chooser ≡ self.old.chooser }
         ensures spoilt { OnErr result (self.new.spoilt ≡ true) }
     {
-        self.search.apply(event)
+        let done = self.search.apply(event);
+        let length = self.search.entries().len();
+        self.kept = self.kept.min(length);
+        done
     }
 
     /// Goes on until it is settled or the next event is a conflict past the limit.

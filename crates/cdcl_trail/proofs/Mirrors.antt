@@ -1,9 +1,7 @@
 use Rattle.std.proofs.Common.{arith, ◌≡◌, ◌≢◌, ◌==◌, ℕ, zero, suc, ◌+◌, ◌-◌, ◌*◌, ◌/◌, ◌%◌, ◌<◌, ◌≤◌, List, [], ◌∷◌, ◌++◌, length, reverse, set, get_or, Bool, true, false, not, ◌||◌, refl, sym, ap, ◌∙◌, subst, if◌then◌else◌, Option, Some, None, ◌⊎◌, inl, inr, All, length-set, get_or-set_same, get_or-set_other, zero-add, replicate}
 use Rattle.std.specs.List.{slice_get, AllByRecursion}
-use Rattle.std.specs.Option.{option_eq}
-use Rattle.std.proofs.Math.Bool.{beq}
 use Rattle.std.proofs.Math.Nat.{eq-or-lt_of_le}
-use Rattle.std.proofs.lemmas.List.{reverse-append, length-reverse, get_or_default}
+use Rattle.std.proofs.lemmas.List.{reverse-append, length-reverse, get_or_default, length-map, length_push, map_push}
 use Rattle.std.proofs.lemmas.List.Elements.{All-push, All-from_recursion, recursion_from_All}
 use Rattle.std.proofs.lemmas.Bool.{or_left}
 use Rattle.std.proofs.lemmas.Bool.Decides.{nat_tests}
@@ -15,6 +13,8 @@ use Rattle.cdcl_rules.specs.Learn.{level_from, level_of, backtracked}
 use Rattle.cdcl_rules.proofs.Measure.{open_count, open_count-le, count_lt, is_on-more, length-values_from, values_from-at}
 use Rattle.cdcl_rules.proofs.Tests.{or_true}
 use Rattle.cdcl_rules.proofs.Trails.{is_on-reverse}
+use Rattle.cdcl_trail.specs.Assignment.{IsAssignment, literals}
+use Rattle.cdcl_trail.proofs.Assignments.{assigned_push, assigned_pop, has_is}
 use Rattle.cdcl_trail.specs.Mirrored.{IsMirrored, IsOnce, step_of}
 
 value_of-reverse : (es : List Assigned) (v : ℕ) → value_of (reverse es) v ≡ value_of es v
@@ -301,51 +301,6 @@ value_got n es vs ls level v o m e =
 abbrev pub no_value : Option Bool
 no_value = None
 
--- no variable has both of its literals on the trail
-once_apart : (es : List Assigned) (v : ℕ) → IsOnce es → is_on es (2 * v) ≡ true → is_on es (2 * v + 1) ≡ true → ⊥
-once_apart [] v o p q = cc
-once_apart (a ∷ es) v o p q = by (a.literal == 2 * v) (a.literal == 2 * v + 1) refl refl p q (once_apart es v o.1)
-  where
-    by : (b c : Bool) → (a.literal == 2 * v) ≡ b → (a.literal == 2 * v + 1) ≡ c → (b || is_on es (2 * v)) ≡ true → (c || is_on es (2 * v + 1)) ≡ true → (is_on es (2 * v) ≡ true → is_on es (2 * v + 1) ≡ true → ⊥) → ⊥
-    by true true f g p q on = let s : a.literal ≡ 2 * v = grind (arith, nat_tests) in let t : a.literal ≡ 2 * v + 1 = grind (arith, nat_tests) in absurd (omega arith)
-    by true false f g p q on = let s : a.literal ≡ 2 * v = grind (arith, nat_tests) in other_variable es (2 * v + 1) (a.literal / 2) o.0 q (omega arith)
-    by false true f g p q on = let s : a.literal ≡ 2 * v + 1 = grind (arith, nat_tests) in other_variable es (2 * v) (a.literal / 2) o.0 p (omega arith)
-    by false false f g p q on = on p q
-
--- whether a value is the one of a sign
-abbrev pub is_sign : Option Bool → Bool → Bool
-is_sign None even = false
-is_sign (Some true) even = even
-is_sign (Some false) even = not even
-
-sign_by : (p q even here : Bool) → (p ≡ true → q ≡ true → ⊥) → here ≡ (if even then p else q) → is_sign (if p then Some true else if q then Some false else None) even ≡ here
-sign_by true true even here h e = absurd (h refl refl)
-sign_by true false true here h e = sym e
-sign_by true false false here h e = sym e
-sign_by false true true here h e = sym e
-sign_by false true false here h e = sym e
-sign_by false false true here h e = sym e
-sign_by false false false here h e = sym e
-
-own_side : (es : List Assigned) (l : ℕ) (even : Bool) → (l % 2 == 0) ≡ even → is_on es l ≡ (if even then is_on es (2 * (l / 2)) else is_on es (2 * (l / 2) + 1))
-own_side es l true e = let s : l ≡ 2 * (l / 2) = grind (arith, nat_tests) in ap (is_on es) s
-own_side es l false e = let s : l ≡ 2 * (l / 2) + 1 = grind (arith, nat_tests) in ap (is_on es) s
-
--- a literal is true where its variable has its value
-pub sign_on : (n : ℕ) (es : List Assigned) (vs : Known) (ls : List ℕ) (level l : ℕ) → IsMirrored n es vs ls level → is_sign (value_of es (l / 2)) (l % 2 == 0) ≡ is_on es l
-sign_on n es vs ls level l m =
-    sign_by (is_on es (2 * (l / 2))) (is_on es (2 * (l / 2) + 1)) (l % 2 == 0) (is_on es l)
-    (λ p q. once_apart (reverse es) (l / 2) m.once (is_on-reverse es (2 * (l / 2)) ∙ p) (is_on-reverse es (2 * (l / 2) + 1) ∙ q))
-    (own_side es l (l % 2 == 0) refl)
-
--- an option is the value of a sign where the test says so
-pub sign_test : (o : Option Bool) (even : Bool) → option_eq beq o (Some even) ≡ is_sign o even
-sign_test None even = refl
-sign_test (Some true) true = refl
-sign_test (Some true) false = refl
-sign_test (Some false) true = refl
-sign_test (Some false) false = refl
-
 replicated_from : (v n : ℕ) → replicate n no_value ≡ values_from [] v n
 replicated_from v zero = refl
 replicated_from v (suc n) = ap (λ (xs : Known). None ∷ xs) (replicated_from (v + 1) n)
@@ -367,3 +322,25 @@ pub level_at : (n : ℕ) (es : List Assigned) (vs : Known) (ls : List ℕ) (leve
 level_at n es vs ls level l d m e =
     let b : l / 2 < length ls = omega (arith, m.levels_len, false_below n es vs ls level l m e) in
     get_or_default ls (l / 2) d 0 b ∙ ap (λ (v : ℕ). get_or ls v 0) (sym (half_opposite l)) ∙ m.levels_are (opposite l) e
+
+-- there is room for one more entry
+pub room : (n : ℕ) (es : List Assigned) (vs : Known) (ls : List ℕ) (level : ℕ) (a : Assigned) → IsMirrored n es vs ls level → a.literal / 2 < n → value_of es (a.literal / 2) ≡ None → length es < n
+room n es vs ls level a m b e =
+    let h = entries_fit n (es ++ a ∷ []) (set vs (a.literal / 2) (Some (a.literal % 2 == 0))) (set ls (a.literal / 2) (level + step_of a.reason)) (level + step_of a.reason) (mirrored_push n es vs ls level a m b e) in
+    omega (arith, h, length_push es a)
+
+-- what the last entry raised the level by
+pub step_fits : (n : ℕ) (xs : List Assigned) (a : Assigned) (vs : Known) (ls : List ℕ) (level : ℕ) → IsMirrored n (xs ++ a ∷ []) vs ls level → step_of a.reason ≤ level
+step_fits n xs a vs ls level m = omega (arith, m.level_is, decisions-push xs a)
+
+-- the tables with one more entry, and with one less
+pub entry_push : (n : ℕ) (es : List Assigned) (on : List Bool) (positions : List ℕ) (a : Assigned) → IsAssignment n (literals es) on positions → length es < n → a.literal / 2 < n → value_of es (a.literal / 2) ≡ None → IsAssignment n (literals (es ++ a ∷ [])) (set on a.literal true) (set positions (a.literal / 2) (length es))
+entry_push n es on positions a m r b e =
+    let long : length (literals es) ≡ length es = length-map es (λ (x : Assigned). x.literal) in
+    subst (λ (xs : List ℕ). IsAssignment n xs (set on a.literal true) (set positions (a.literal / 2) (length es))) (sym (map_push (λ (x : Assigned). x.literal) es a))
+    (subst (λ (k : ℕ). IsAssignment n (literals es ++ a.literal ∷ []) (set on a.literal true) (set positions (a.literal / 2) k)) long
+    (assigned_push n (literals es) on positions a.literal m (omega (arith, r, long)) (omega (arith, b)) (has_is es a.literal ∙ off_of_none es a.literal e) (has_is es (opposite a.literal) ∙ off_of_none es (opposite a.literal) (ap (value_of es) (half_opposite a.literal) ∙ e))))
+
+pub entry_pop : (n : ℕ) (xs : List Assigned) (on : List Bool) (positions : List ℕ) (a : Assigned) → IsAssignment n (literals (xs ++ a ∷ [])) on positions → IsAssignment n (literals xs) (set on a.literal false) positions
+entry_pop n xs on positions a m =
+    assigned_pop n (literals xs) on positions a.literal (subst (λ (ls : List ℕ). IsAssignment n ls on positions) (map_push (λ (x : Assigned). x.literal) xs a) m)

@@ -1,9 +1,11 @@
-ghost use Rattle.std.specs.Prelude.{◌≡◌, ◌<◌, ◌≤◌, ◌+◌, ◌/◌, ◌==◌, [], ◌++◌, ◌∷◌, true, None, All, length, IfOk, OnOk, OnErr};
+ghost use Rattle.std.specs.Prelude.{◌≡◌, ◌<◌, ◌≤◌, ◌+◌, ◌/◌, ◌==◌, [], ◌++◌, ◌∷◌, true, None, All, take, length, IfOk, MatchOption};
 ghost use Rattle.clause_base.specs.Literal.{opposite};
 ghost use Rattle.cdcl_rules.specs.State.{is_on, value_of, values_of, decision_count};
 ghost use Rattle.cdcl_rules.specs.Learn.{backtracked, level_of};
+ghost use Rattle.cdcl_trail.specs.Assignment.{literals};
 ghost use Rattle.cdcl_trail.specs.Mirrored.{IsMirrored, TrailView, step_of};
 
+use crate::assignment::Assignment;
 use cdcl_rules::trail::Assigned;
 use clause_base::literal::Lit;
 use clause_base::memory::Memory;
@@ -11,25 +13,43 @@ use clause_base::values::Values;
 use std::alloc::Global;
 use std::marker::Model;
 
-/// The literals that are true, oldest first, over a number of variables; for each variable its value, and its level where it
-/// has a value.
-#[derive(Drop)]
+/// The literals that are true, oldest first, over a number of variables; for each literal whether it is true; for each variable
+/// its value, and its level and position where it has a value.
 pub struct Trail {
     variables: u32,
     entries: Vec<Assigned>,
     values: Values,
     levels: Vec<u32>,
     level: u32,
+    on: Vec<bool>,
+    positions: Vec<u32>,
 }
 
 impl Model for Trail {
+    ghost use Rattle.std.specs.Prelude.{◌≤◌, vec_capacity};
+    ghost use Rattle.cdcl_trail.specs.Assignment.{IsAssignment, literals};
     ghost use Rattle.cdcl_trail.specs.Mirrored.{TrailView, IsMirrored};
 
     ghost Value = { TrailView };
 
     ghost view = { λ t. record { variables = t.variables; entries = t.entries.items } };
 
-    ghost invariant = { λ t. IsMirrored t.variables t.entries.items t.values t.levels.items t.level };
+    ghost invariant = { λ t. IsMirrored t.variables t.entries.items t.values t.levels.items t.level × IsAssignment t.variables (literals t.entries.items) t.on.items t.positions.items × (t.variables ≤ vec_capacity t.entries) };
+}
+
+/// Letting one go is one call, in which its parts go: whoever holds one proves one step.
+impl Drop for Trail {
+    fn drop(self) {
+        let Trail {
+            variables: _,
+            entries: _,
+            values: _,
+            levels: _,
+            level: _,
+            on: _,
+            positions: _,
+        } = self;
+    }
 }
 
 /// The level with an entry, from the level before it.
@@ -45,7 +65,7 @@ fn level_after(level: u32, entry: &Assigned) -> u32
 
 /// The level before an entry, from the level with it.
 fn level_before(level: u32, entry: &Assigned) -> u32
-    requires { 0 < level }
+    requires { step_of entry.now.reason ≤ level }
     ensures { level ≡ result + step_of entry.now.reason }
 {
     match entry.reason {
@@ -61,16 +81,17 @@ impl Trail {
         ensures { IfOk result (λ t. t ≡ record { variables = variables; entries = [] }) }
     {
         let values = Values::new(alloc, variables)?;
-        let mut levels = Vec::with_capacity(alloc, variables as usize)?;
-        for _ in 0..variables {
-            levels.push(0)?;
-        }
+        let levels = vec![in alloc; 0; variables as usize]?;
+        let positions = vec![in alloc; 0; variables as usize]?;
+        let on = vec![in alloc; false; 2 * variables as usize]?;
         Ok(Trail {
             variables,
             entries: Vec::with_capacity(alloc, variables as usize)?,
             values,
             levels,
             level: 0,
+            on,
+            positions,
         })
     }
 
@@ -83,22 +104,6 @@ impl Trail {
             return None;
         }
         self.values.get(v)
-    }
-
-    /// Whether a literal is true.
-    pub fn is_true(&self, lit: Lit) -> bool
-        requires { lit / 2 < self.now.variables }
-        ensures { result ≡ is_on self.now.entries lit }
-    {
-        self.values.get(lit.variable()) == Some(lit.is_positive())
-    }
-
-    /// Whether a literal is false.
-    pub fn is_false(&self, lit: Lit) -> bool
-        requires { lit / 2 < self.now.variables }
-        ensures { result ≡ is_on self.now.entries (opposite lit) }
-    {
-        self.is_true(lit.opposite())
     }
 
     /// The values of all variables.
@@ -115,6 +120,14 @@ impl Trail {
         ensures short { length self.now.entries ≤ self.now.variables }
     {
         self.entries.as_slice()
+    }
+
+    /// How many entries there are.
+    pub fn length(&self) -> u32
+        ensures is { result ≡ length self.now.entries }
+        ensures short { result ≤ self.now.variables }
+    {
+        self.entries.len() as u32
     }
 
     /// The current level, which is the number of decisions.
@@ -151,32 +164,71 @@ impl Trail {
         self.values.pass_given();
     }
 
-    /// Makes a literal true whose variable has no value. After want of memory the trail is unchanged.
-    pub fn push(&mut self, entry: Assigned) -> Result<(), Memory>
-        requires below { entry.literal / 2 < self.old.variables }
-        requires opened { value_of self.old.entries (entry.literal / 2) ≡ None }
-        ensures ok { OnOk result (self.new ≡ record self.old { entries = self.old.entries ++ entry ∷ [] }) }
-        ensures err { OnErr result (self.new ≡ self.old) }
+    /// What the trail says.
+    #[inline(always)]
+    pub fn assignment(&self) -> Assignment<'_>
+        ensures { result ≡ record { variables = self.now.variables; trail = literals self.now.entries } }
     {
-        self.entries.push(entry)?;
-        let v = entry.literal.variable();
-        self.level = level_after(self.level, &entry);
-        self.values.set(v, Some(entry.literal.is_positive()));
-        self.levels[v as usize] = self.level;
-        Ok(())
+        Assignment::of(
+            self.variables,
+            self.entries.as_slice(),
+            self.on.as_slice(),
+            self.positions.as_slice(),
+        )
     }
 
-    /// Takes back what stands above a level.
+    /// Makes a literal true whose variable has no value. It takes no memory.
+    pub fn push(&mut self, entry: Assigned)
+        requires below { entry.literal / 2 < self.old.variables }
+        requires opened { value_of self.old.entries (entry.literal / 2) ≡ None }
+        ensures { self.new ≡ record self.old { entries = self.old.entries ++ entry ∷ [] } }
+    {
+        let lit = entry.literal;
+        let v = lit.variable();
+        self.level = level_after(self.level, &entry);
+        self.values.set(v, Some(lit.is_positive()));
+        self.levels[v as usize] = self.level;
+        self.on[lit.0 as usize] = true;
+        self.positions[v as usize] = self.entries.len() as u32;
+        self.entries.push_reserved(entry);
+    }
+
+    /// Takes the last entry back, if there is one.
+    fn pop(&mut self) -> Option<Assigned>
+        ensures { MatchOption result ((self.new ≡ self.old) × (self.old.entries ≡ [])) (λ entry. self.old ≡ record self.new { entries = self.new.entries ++ entry ∷ [] }) }
+    {
+        match self.entries.pop() {
+            None => None,
+            Some(entry) => {
+                let lit = entry.literal;
+                self.level = level_before(self.level, &entry);
+                self.values.set(lit.variable(), None);
+                self.on[lit.0 as usize] = false;
+                Some(entry)
+            }
+        }
+    }
+
+    /// Takes back what stands above a level. It takes no memory.
     pub fn backtrack(&mut self, level: u32)
         ensures { self.new ≡ record self.old { entries = backtracked level self.old.entries } }
     {
-        while self.level > level {
-            match self.entries.pop() {
+        while self.level() > level {
+            match self.pop() {
                 None => return,
-                Some(entry) => {
-                    self.level = level_before(self.level, &entry);
-                    self.values.set(entry.literal.variable(), None);
-                }
+                Some(_) => {}
+            }
+        }
+    }
+
+    /// Takes back what stands above a length. It takes no memory.
+    pub fn cut(&mut self, length: u32)
+        ensures { self.new ≡ record self.old { entries = take length self.old.entries } }
+    {
+        while self.length() > length {
+            match self.pop() {
+                None => return,
+                Some(_) => {}
             }
         }
     }

@@ -6,6 +6,7 @@ pub mod PieceLemmas
 pub mod ValueLemmas
 pub mod ValueWords
 pub mod Moved
+pub mod ToldLemmas
 pub mod RepeatLemmas
 pub mod JoinedLemmas
 pub mod WorkedRows

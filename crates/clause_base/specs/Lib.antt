@@ -1,7 +1,6 @@
 pub mod Literal
 pub mod Clause
 pub mod Formula
-pub mod Pieces
 pub mod Repeats
 pub mod View
 pub mod Joined
@@ -10,3 +9,4 @@ pub mod Derivation
 pub mod Choice
 pub mod ValueBits
 pub mod ChoiceLaw
+pub mod Told

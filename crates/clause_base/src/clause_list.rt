@@ -1,78 +1,52 @@
-ghost use Rattle.std.specs.Prelude.{◌≡◌, ◌∷◌, [], ◌++◌, ◌<◌, ◌≤◌, List, ℕ, Some, length, slice_get, slice_range, All, IfOk, OnOk, OnErr};
+ghost use Rattle.std.specs.Prelude.{◌≡◌, ◌∷◌, [], ◌++◌, ◌<◌, Some, length, slice_get, All, IfOk, OnOk, OnErr};
 ghost use Rattle.std.specs.Option.{option_to_list};
 ghost use Rattle.clause_base.specs.Clause.{IsClause, clause_of};
-ghost use Rattle.clause_base.specs.Pieces.{pieces, start_of, AreEnds};
 
 use crate::clause::{Clause, has_opposite_neighbours, sort_into};
 use crate::literal::Lit;
 use crate::memory::Memory;
+use list_of::FlatLists;
 use std::alloc::Global;
 use std::marker::Model;
 
-/// A list of clauses in two blocks of memory: their literals one after another, and where each clause ends. A third block is
-/// for sorting.
-#[derive(Debug, Drop)]
+/// A list of clauses: their literals one after another in one block of memory, where each ends in another, and a third block for
+/// sorting.
+#[derive(Debug)]
 pub struct ClauseList {
-    lits: Vec<Lit>,
-    ends: Vec<usize>,
+    lists: FlatLists<Lit>,
     sorted: Vec<Lit>,
 }
 
 impl Model for ClauseList {
-    ghost use Rattle.std.specs.Prelude.{List, ℕ, All, length};
+    ghost use Rattle.std.specs.Prelude.{List, ℕ, All};
     ghost use Rattle.clause_base.specs.Clause.{IsClause};
-    ghost use Rattle.clause_base.specs.Pieces.{pieces, AreEnds};
 
     ghost Value = { List (List ℕ) };
 
-    ghost view = { λ c. pieces 0 c.lits.items c.ends.items };
+    ghost view = { λ c. c.lists };
 
-    ghost invariant = { λ c. AreEnds 0 c.ends.items (length c.lits.items) × All IsClause (pieces 0 c.lits.items c.ends.items) };
+    ghost invariant = { λ c. All IsClause c.lists };
 }
 
-/// Where the clause with this number begins.
-fn start_of(ends: &[usize], number: usize) -> usize
-    requires { number < length ends.now }
-    ensures { result ≡ start_of 0 ends.now number }
-{
-    if number == 0 { 0 } else { ends[number - 1] }
-}
-
-/// The literals from one place to another.
-fn part(lits: &[Lit], start: usize, end: usize) -> &[Lit]
-    requires rising { start ≤ end }
-    requires within { end ≤ length lits.now }
-    ensures { result.now ≡ slice_range lits.now start end }
-{
-    &lits[start..end]
-}
-
-/// The literals of the clause with this number.
-fn piece<'a>(lits: &'a [Lit], ends: &'a [usize], number: usize) -> &'a [Lit]
-    requires cut { AreEnds 0 ends.now (length lits.now) }
-    requires in_range { number < length ends.now }
-    ensures { slice_get (pieces 0 lits.now ends.now) number ≡ Some result.now }
-{
-    let start = start_of(ends, number);
-    part(lits, start, ends[number])
-}
-
-/// Adds a clause at the end of the literals, and its end. After want of memory the clauses are unchanged.
-fn push_piece(lits: &mut Vec<Lit>, ends: &mut Vec<usize>, clause: &[Lit]) -> Result<(), Memory>
-    requires cut { AreEnds 0 ends.old.items (length lits.old.items) }
-    requires lawful { All IsClause (pieces 0 lits.old.items ends.old.items) }
-    requires clause { IsClause clause.now }
-    ensures cut { AreEnds 0 ends.new.items (length lits.new.items) }
-    ensures lawful { All IsClause (pieces 0 lits.new.items ends.new.items) }
-    ensures ok { OnOk result (pieces 0 lits.new.items ends.new.items ≡ pieces 0 lits.old.items ends.old.items ++ clause.now ∷ []) }
-    ensures err { OnErr result (pieces 0 lits.new.items ends.new.items ≡ pieces 0 lits.old.items ends.old.items) }
-{
-    let start = lits.len();
-    lits.extend_from_slice(clause)?;
-    if ends.push(lits.len()).is_err() {
-        lits.truncate(start);
-        return Err(Memory);
+/// Letting one go is one call, in which its parts go: whoever holds one proves one step.
+impl Drop for ClauseList {
+    fn drop(self) {
+        let ClauseList {
+            lists: _,
+            sorted: _,
+        } = self;
     }
+}
+
+/// Adds a clause at the end. After want of memory the clauses are unchanged.
+fn push_clause(lists: &mut FlatLists<Lit>, clause: &[Lit]) -> Result<(), Memory>
+    requires lawful { All IsClause lists.old }
+    requires clause { IsClause clause.now }
+    ensures lawful { All IsClause lists.new }
+    ensures ok { OnOk result (lists.new ≡ lists.old ++ clause.now ∷ []) }
+    ensures err { OnErr result (lists.new ≡ lists.old) }
+{
+    lists.push(clause)?;
     Ok(())
 }
 
@@ -82,8 +56,7 @@ impl ClauseList {
         ensures { result ≡ [] }
     {
         ClauseList {
-            lits: Vec::new(alloc),
-            ends: Vec::new(alloc),
+            lists: FlatLists::new(alloc),
             sorted: Vec::new(alloc),
         }
     }
@@ -93,7 +66,7 @@ impl ClauseList {
         ensures value { result ≡ length self.now }
         ensures lawful { All IsClause self.now }
     {
-        self.ends.len()
+        self.lists.len()
     }
 
     /// The literals of the clause with this number, counted from 0.
@@ -102,7 +75,7 @@ impl ClauseList {
         ensures value { slice_get self.now number ≡ Some result.now }
         ensures lawful { IsClause result.now }
     {
-        piece(&self.lits, &self.ends, number)
+        self.lists.at(number)
     }
 
     /// Adds a clause at the end. After want of memory the list is unchanged.
@@ -119,7 +92,7 @@ impl ClauseList {
         ensures ok { OnOk result (self.new ≡ self.old ++ lits.now ∷ []) }
         ensures err { OnErr result (self.new ≡ self.old) }
     {
-        push_piece(&mut self.lits, &mut self.ends, lits)
+        push_clause(&mut self.lists, lits)
     }
 
     /// Adds the clause of these literals, in whatever order and however often they stand, and nothing where two of them are
@@ -132,20 +105,15 @@ impl ClauseList {
         if has_opposite_neighbours(&self.sorted) {
             return Ok(());
         }
-        push_piece(&mut self.lits, &mut self.ends, &self.sorted)
+        push_clause(&mut self.lists, &self.sorted)
     }
 
     /// The same list in memory of its own, with no room for more.
     pub fn copy(&self, alloc: Global) -> Result<ClauseList, Memory>
         ensures { IfOk result (λ list. list ≡ self.now) }
     {
-        let mut lits = Vec::with_capacity(alloc, self.lits.len())?;
-        lits.extend_from_slice(&self.lits)?;
-        let mut ends = Vec::with_capacity(alloc, self.ends.len())?;
-        ends.extend_from_slice(&self.ends)?;
         Ok(ClauseList {
-            lits,
-            ends,
+            lists: self.lists.copy(alloc)?,
             sorted: Vec::new(alloc),
         })
     }
@@ -154,8 +122,7 @@ impl ClauseList {
     pub fn reserve(&mut self, literals: usize, clauses: usize) -> Result<(), Memory>
         ensures { self.new ≡ self.old }
     {
-        self.lits.reserve(literals)?;
-        self.ends.reserve(clauses)?;
+        self.lists.reserve(literals, clauses)?;
         Ok(())
     }
 }

@@ -18,13 +18,26 @@ const MOST_CLAUSES: u32 = 1_073_741_824;
 /// A named conjunction of clauses over variables that are numbered from 0. It has at most 2,147,483,647 variables and at most
 /// 1,073,741,824 clauses. First come those that were added before a repeated part, then those of the repeated part, which
 /// stand once however often they are seen, then those that were added after it.
-#[derive(Debug, Drop)]
+#[derive(Debug)]
 pub struct Formula {
     name: u32,
     variables: u32,
     told: ClauseList,
     repeated: Repeated,
     after: ClauseList,
+}
+
+/// Letting one go is one call, in which its parts go: whoever holds one proves one step.
+impl Drop for Formula {
+    fn drop(self) {
+        let Formula {
+            name: _,
+            variables: _,
+            told: _,
+            repeated: _,
+            after: _,
+        } = self;
+    }
 }
 
 /// The parts of a formula's list of clauses, in order.
@@ -93,10 +106,17 @@ impl Formula {
         }
         let part = part.share(alloc)?;
         let _below = part.count();
+        let Formula {
+            name,
+            variables,
+            told: _,
+            repeated: _,
+            after,
+        } = self;
         Ok(Formula {
-            name: self.name,
-            variables: self.variables,
-            told: self.after,
+            name,
+            variables,
+            told: after,
             repeated: part,
             after: ClauseList::new(alloc),
         })

@@ -20,7 +20,7 @@ pub enum Entry {
 }
 
 /// A list of entries: clauses that are learned from a formula and the entries before, and clauses that are dropped.
-#[derive(Debug, Drop)]
+#[derive(Debug)]
 pub struct Log {
     entries: Vec<Entry>,
 }
@@ -32,6 +32,13 @@ impl Model for Log {
     ghost Value = { List Entry };
 
     ghost view = { λ l. l.entries.items };
+}
+
+/// Letting one go is one call, in which its parts go: whoever holds one proves one step.
+impl Drop for Log {
+    fn drop(self) {
+        let Log { entries: _ } = self;
+    }
 }
 
 impl Log {
@@ -55,7 +62,8 @@ impl Log {
     pub fn into_vec(self) -> Vec<Entry>
         ensures { result.items ≡ self }
     {
-        self.entries
+        let Log { entries } = self;
+        entries
     }
 
     /// The entries.

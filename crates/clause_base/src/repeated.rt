@@ -12,7 +12,7 @@ use std::marker::Model;
 /// The clauses of one step and of one time, seen as those of all steps and of all times of a horizon. The variables are
 /// numbered step after step, each with `width` of its own, and after them time after time, each with one for each fact.
 /// One step's clauses stand over its own variables, then the facts before it, then those after it; one time's over the facts.
-#[derive(Debug, Drop)]
+#[derive(Debug)]
 pub struct Repeated {
     horizon: u32,
     width: u32,
@@ -31,6 +31,19 @@ impl Model for Repeated {
     ghost invariant = { λ r. IsRepeatable (record { horizon = r.horizon; width = r.width; facts = r.facts; step = r.step; time = r.time }) };
 }
 
+/// Letting one go is one call, in which its parts go: whoever holds one proves one step.
+impl Drop for Repeated {
+    fn drop(self) {
+        let Repeated {
+            horizon: _,
+            width: _,
+            facts: _,
+            step: _,
+            time: _,
+        } = self;
+    }
+}
+
 impl Repeated {
     /// The clauses of one step and of one time, repeated for so many steps, each with so many variables of its own, over so many
     /// facts. It takes no memory.
@@ -41,12 +54,35 @@ impl Repeated {
         requires time_below { All (HasVariablesBelow facts) time }
         ensures { result ≡ record { horizon = horizon; width = width; facts = facts; step = step; time = time } }
     {
+        Repeated::sharing(
+            horizon,
+            width,
+            facts,
+            SharedList::own(step),
+            SharedList::own(time),
+        )
+    }
+
+    /// The same of lists that may stand in memory that others share.
+    pub fn sharing(
+        horizon: u32,
+        width: u32,
+        facts: u32,
+        step: SharedList,
+        time: SharedList,
+    ) -> Repeated
+        requires few { horizon * length step + (horizon + 1) * length time ≤ 1073741824 }
+        requires small { horizon * width + (horizon + 1) * facts ≤ 2147483647 }
+        requires step_below { All (HasVariablesBelow (width + 2 * facts)) step }
+        requires time_below { All (HasVariablesBelow facts) time }
+        ensures { result ≡ record { horizon = horizon; width = width; facts = facts; step = step; time = time } }
+    {
         Repeated {
             horizon,
             width,
             facts,
-            step: SharedList::own(step),
-            time: SharedList::own(time),
+            step,
+            time,
         }
     }
 
@@ -108,14 +144,19 @@ impl Repeated {
     pub fn share(self, alloc: Global) -> Result<Repeated, Memory>
         ensures { IfOk result (λ part. part ≡ self) }
     {
-        let step = self.step.share(alloc)?;
-        let time = self.time.share(alloc)?;
-        Ok(Repeated {
-            horizon: self.horizon,
-            width: self.width,
-            facts: self.facts,
+        let Repeated {
+            horizon,
+            width,
+            facts,
             step,
             time,
+        } = self;
+        Ok(Repeated {
+            horizon,
+            width,
+            facts,
+            step: step.share(alloc)?,
+            time: time.share(alloc)?,
         })
     }
 

@@ -17,7 +17,7 @@ enum Held {
 }
 
 /// A list of clauses that does not change any more. Once it is shared, its copies stand in the same memory.
-#[derive(Debug, Drop)]
+#[derive(Debug)]
 pub struct SharedList {
     held: Held,
 }
@@ -29,6 +29,13 @@ impl Model for SharedList {
     ghost Value = { List (List ℕ) };
 
     ghost view = { λ s. clauses_held s.held };
+}
+
+/// Letting one go is one call, in which its parts go: whoever holds one proves one step.
+impl Drop for SharedList {
+    fn drop(self) {
+        let SharedList { held: _ } = self;
+    }
 }
 
 impl SharedList {
@@ -45,7 +52,8 @@ impl SharedList {
     pub fn share(self, alloc: Global) -> Result<SharedList, Memory>
         ensures { IfOk result (λ list. list ≡ self) }
     {
-        match self.held {
+        let SharedList { held } = self;
+        match held {
             Held::Own(list) => Ok(SharedList {
                 held: Held::Shared(Arc::new(alloc, list)?),
             }),

@@ -11,7 +11,7 @@ use word_bits::least_bit;
 
 /// For each of at most 2,147,483,647 variables true, false or not given. They are kept as bits, 64 variables to a word: which
 /// have a value, and which are true. What the second row has of a variable without a value says nothing.
-#[derive(Debug, Drop)]
+#[derive(Debug)]
 pub struct Values {
     variables: u32,
     given: Vec<u64>,
@@ -28,6 +28,18 @@ impl Model for Values {
     ghost view = { λ v. values_of v.variables v.given.items v.trues.items };
 
     ghost invariant = { λ v. AreRows v.variables v.low v.given.items v.trues.items };
+}
+
+/// Letting one go is one call, in which its parts go: whoever holds one proves one step.
+impl Drop for Values {
+    fn drop(self) {
+        let Values {
+            variables: _,
+            given: _,
+            trues: _,
+            low: _,
+        } = self;
+    }
 }
 
 /// How many words are compared at a time.

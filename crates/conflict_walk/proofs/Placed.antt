@@ -6,7 +6,7 @@ use Rattle.clause_base.specs.declared.log.Entry.{Entry}
 use Rattle.clause_base.specs.declared.log.Entry.TheVariants.{Learn, Drop}
 use Rattle.clause_base.specs.Derivation.{clauses_of}
 use Rattle.cdcl_rules.specs.State.{clause_at}
-use Rattle.conflict_walk.specs.Clauses.{places_from, learned_at, IsPlaced}
+use Rattle.conflict_walk.specs.Clauses.{places_from, learned_at, IsLogged}
 
 pub places-length : (p : ℕ) (log : List Entry) → length (places_from p log) ≡ length (clauses_of log)
 places-length p [] = refl
@@ -71,7 +71,7 @@ clause_new (c ∷ clauses) more zero h = absurd (omega arith)
 clause_new (c ∷ clauses) more (suc n) h = let e : n - length clauses ≡ suc n - suc (length clauses) = omega arith in clause_new clauses more n (omega arith) ∙ ap (clause_at more) e
 
 -- a further clause is learned
-pub placed_learn : (f : Cnf) (log : List Entry) (places : List ℕ) (kept : List Bool) (c h : List ℕ) → IsPlaced f log places kept → length (clauses_of log) < 1073741824 → IsPlaced f (log ++ Learn c h ∷ []) (places ++ length log ∷ []) (kept ++ true ∷ [])
+pub placed_learn : (f : Cnf) (log : List Entry) (places : List ℕ) (kept : List Bool) (c h : List ℕ) → IsLogged f log places kept → length (clauses_of log) < 1073741824 → IsLogged f (log ++ Learn c h ∷ []) (places ++ length log ∷ []) (kept ++ true ∷ [])
 placed_learn f log places kept c h p r = record {
   places_are = ap (λ (ps : List ℕ). ps ++ length log ∷ []) p.places_are ∙ ap (λ (k : ℕ). places_from 0 log ++ k ∷ []) (sym (zero-add (length log))) ∙ sym (places_learn 0 log c h);
   flags = omega (arith, p.flags, length-append kept (true ∷ []), long);
@@ -82,7 +82,7 @@ placed_learn f log places kept c h p r = record {
     long = ap (λ (cs : List (List ℕ)). length cs) (learned_learn log c h) ∙ length-append (clauses_of log) (c ∷ [])
 
 -- clauses are dropped
-pub placed_drops : (f : Cnf) (log : List Entry) (places : List ℕ) (kept flags : List Bool) (ns : List ℕ) → IsPlaced f log places kept → length flags ≡ length kept → IsPlaced f (log ++ map (λ n. Drop n) ns) places flags
+pub placed_drops : (f : Cnf) (log : List Entry) (places : List ℕ) (kept flags : List Bool) (ns : List ℕ) → IsLogged f log places kept → length flags ≡ length kept → IsLogged f (log ++ map (λ n. Drop n) ns) places flags
 placed_drops f log places kept flags ns p e = record {
   places_are = p.places_are ∙ sym (places_drops 0 log ns);
   flags = omega (arith, e, p.flags, ap (λ (cs : List (List ℕ)). length cs) (learned_drops log ns));
@@ -90,7 +90,7 @@ placed_drops f log places kept flags ns p e = record {
 }
 
 -- the place of a learned clause, by its number
-pub place_at : (f : Cnf) (log : List Entry) (places : List ℕ) (kept : List Bool) (n given p : ℕ) → IsPlaced f log places kept → given ≡ length f.clauses → given ≤ n → n < length (f.clauses ++ clauses_of log) → p ≡ get_or places (n - given) p → learned_at log p ≡ Some (clause_at (f.clauses ++ clauses_of log) n)
+pub place_at : (f : Cnf) (log : List Entry) (places : List ℕ) (kept : List Bool) (n given p : ℕ) → IsLogged f log places kept → given ≡ length f.clauses → given ≤ n → n < length (f.clauses ++ clauses_of log) → p ≡ get_or places (n - given) p → learned_at log p ≡ Some (clause_at (f.clauses ++ clauses_of log) n)
 place_at f log places kept n given p i g l h e =
     let d = get_or (places_from 0 log) (n - given) p in
     let is : p ≡ d = e ∙ ap (λ (ps : List ℕ). get_or ps (n - given) p) i.places_are in

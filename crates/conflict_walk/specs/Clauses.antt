@@ -30,7 +30,7 @@ abbrev pub learned_at : List Entry → ℕ → Option (List ℕ)
 learned_at log place = elim (slice_get log place) [ Some entry ↦ learned_by entry | None ↦ None ]
 
 -- each learned clause is found by its place, and each clause has a flag
-pub record IsPlaced (f : Cnf) (log : List Entry) (places : List ℕ) (kept : List Bool) : Type 0 where
+pub record IsLogged (f : Cnf) (log : List Entry) (places : List ℕ) (kept : List Bool) : Type 0 where
   pub places_are : places ≡ places_from 0 log
   pub flags : length kept ≡ length f.clauses + length (clauses_of log)
   pub few : length (clauses_of log) ≤ 1073741824

@@ -20,7 +20,6 @@ use std::marker::Model;
 const SHORT: usize = 8;
 
 /// A solver's clauses, which of them are kept, and the numbers of the learned ones that are kept and long.
-#[derive(Drop)]
 pub struct Clauses {
     formula: Formula,
     log: Log,
@@ -32,14 +31,27 @@ pub struct Clauses {
 impl Model for Clauses {
     ghost use Rattle.std.specs.Prelude.{◌≡◌, ◌++◌, length};
     ghost use Rattle.clause_base.specs.Derivation.{clauses_of};
-    ghost use Rattle.conflict_walk.specs.Clauses.{ClausesView, IsPlaced};
+    ghost use Rattle.conflict_walk.specs.Clauses.{ClausesView, IsLogged};
     ghost use Rattle.conflict_walk.specs.Longs.{long_ones};
 
     ghost Value = { ClausesView };
 
     ghost view = { λ c. record { formula = c.formula; log = c.log; kept = c.kept.items } };
 
-    ghost invariant = { λ c. IsPlaced c.formula c.log c.places.items c.kept.items × (c.longs.items ≡ long_ones (length c.formula.clauses) (c.formula.clauses ++ clauses_of c.log) c.kept.items) };
+    ghost invariant = { λ c. IsLogged c.formula c.log c.places.items c.kept.items × (c.longs.items ≡ long_ones (length c.formula.clauses) (c.formula.clauses ++ clauses_of c.log) c.kept.items) };
+}
+
+/// Letting one go is one call, in which its parts go: whoever holds one proves one step.
+impl Drop for Clauses {
+    fn drop(self) {
+        let Clauses {
+            formula: _,
+            log: _,
+            places: _,
+            kept: _,
+            longs: _,
+        } = self;
+    }
 }
 
 /// The clause that the entry at a place learns.

@@ -14,7 +14,6 @@ use std::alloc::Global;
 use std::marker::Model;
 
 /// A clause in the making, with the number of its literals that are of the current level.
-#[derive(Drop)]
 pub struct Resolvent {
     draft: Marks,
     count: u32,
@@ -26,6 +25,13 @@ impl Model for Resolvent {
     ghost Value = { ResolventView };
 
     ghost view = { λ r. record { on = r.draft; count = r.count } };
+}
+
+/// Letting one go is one call, in which its parts go: whoever holds one proves one step.
+impl Drop for Resolvent {
+    fn drop(self) {
+        let Resolvent { draft: _, count: _ } = self;
+    }
 }
 
 impl Resolvent {

@@ -2,10 +2,8 @@
 use Rattle.std.proofs.Common.{arith, ◌≡◌, ℕ, zero, suc, ◌==◌, ◌+◌, ◌-◌, ◌*◌, ◌/◌, ◌%◌, ◌<◌, ◌≤◌, List, [], ◌∷◌, length, set, get_or, replicate, fold, Bool, true, false, Option, Some, None, refl, sym, ap, ◌∙◌, subst, if◌then◌else◌, ◌⊎◌, inl, inr}
 use Rattle.std.proofs.lemmas.List.{length-set, length-replicate, get_or-set_same, get_or-set_other, get_or-replicate, get_or_default}
 use Rattle.std.proofs.Math.Nat.{mul_comm, div-add-mod, mod-lt}
-use Rattle.std.proofs.lemmas.Bool.{cases_eq}
-use Rattle.std.proofs.lemmas.Bool.Decides.{nat_tests}
+use Rattle.std.proofs.lemmas.Bool.{cases_eq, cases_lt}
 use Rattle.std.specs.Prelude.{not}
-use Rattle.std.specs.Bool.{OnTrue, OnFalse}
 use Rattle.std.specs.List.{slice_get, AllByRecursion}
 use Rattle.clause_base.specs.Clause.{put}
 use Rattle.clause_base.specs.Choice.{Known, same_value}
@@ -192,27 +190,6 @@ new_walk m seen sets goal a f e g h = record {
     facts t b (inl q) = ap (λ (k : ℕ). (set_at (set (replicate (m.layout.horizon + 1) (no_literals m.layout.facts)) m.layout.horizon goal) k).facts) q ∙ ap (λ (x : Literals). x.facts) (get_or-set_same (replicate (m.layout.horizon + 1) (no_literals m.layout.facts)) m.layout.horizon goal (no_literals 0) long_enough) ∙ g
     facts t b (inr q) = ap (λ (x : Literals). x.facts) (get_or-set_other (replicate (m.layout.horizon + 1) (no_literals m.layout.facts)) m.layout.horizon t goal (no_literals 0) q ∙ get_or-replicate (m.layout.horizon + 1) t (no_literals m.layout.facts) (no_literals 0) (omega (arith, b)))
 
--- the walk has ended where it came to the first time
-pub walk_ended : (w : WalkView) → IsWalk w → OnTrue (w.low == 0) (walked w.means w.seen ≡ None)
-walk_ended w i = by (w.low == 0) refl
-  where
-    by : (b : Bool) → (w.low == 0) ≡ b → OnTrue b (walked w.means w.seen ≡ None)
-    by true e = let z : w.low ≡ 0 = grind (arith, nat_tests) in walk_ends w i z
-    by false e = tt
-
-pub walk_goes : (n : ℕ) → OnFalse (n == 0) (0 < n)
-walk_goes n = by (n == 0) refl
-  where
-    by : (b : Bool) → (n == 0) ≡ b → OnFalse b (0 < n)
-    by true e = tt
-    by false e = grind (arith, nat_tests)
-
--- the same by the fields of a walk
-pub seen_after : (m : Means) (seen new : Known) (sets : List Literals) (old low end v : ℕ) (value : Option Bool) (w : WalkView) → (let x : WalkView = record { means = m; seen = seen; wanted = sets; low = old } in x) ≡ w → IsWalk (record { means = m; seen = seen; wanted = sets; low = old }) → IsSameFrom w v value end → new ≡ set seen v value → old ≤ low → end ≤ low → low ≤ m.layout.horizon → IsWalk (record { means = m; seen = new; wanted = sets; low = low })
-seen_after m seen new sets old low end v value w e i u n h k top =
-    subst (λ (s : Known). IsWalk (record { means = m; seen = s; wanted = sets; low = low })) (sym n)
-    (seen_on (record { means = m; seen = seen; wanted = sets; low = old }) v low end value i (subst (λ (x : WalkView). IsSameFrom x v value end) (sym e) u) h k top)
-
 row_is : (m : Means) (seen : Known) (sets : List Literals) (low : ℕ) (row : Literals) → IsWalk (record { means = m; seen = seen; wanted = sets; low = low }) → row ≡ get_or sets low row → row ≡ set_at sets low
 row_is m seen sets low row i e = let long = i.long in let top = i.low in e ∙ get_or_default sets low row (no_literals 0) (omega (arith, long, top))
 
@@ -234,6 +211,10 @@ other_facts m seen sets low y old i h e r =
     let long = i.long in
     let top = i.low in
     ap (λ (x : Literals). x.facts) (e ∙ r ∙ get_or_default sets (low - 1) old (no_literals 0) (omega (arith, long, top))) ∙ i.facts (low - 1) (omega (arith, top))
+
+-- what stands from a time on that the walk has not come below
+pub same_low : (w : WalkView) (v low : ℕ) (value : Option Bool) → IsSameFrom w v value low → low ≤ w.low → IsSameFrom w v value 0
+same_low w v low value h le t a b c = h t (omega (arith, le, b)) b c
 
 -- a place among steps of so many variables
 pub placed : (v w : ℕ) → 0 < w → (v ≡ v / w * w + v % w) × (v % w < w)
@@ -259,15 +240,27 @@ step_behind w v n steps value i s h e =
     let p = placed v (width w.means.layout) (has_width v w.means.layout.horizon (width w.means.layout) less) in
     subst (λ (x : ℕ). IsSameFrom w v value (v / x + 1)) (sym e) (same_behind w v (v / width w.means.layout) (v % width w.means.layout) value i less p.0 p.1)
 
+-- a variable of a step that the walk has not come to
+pub step_below : (w : WalkView) (v steps first : ℕ) (value : Option Bool) → IsWalk w → steps ≡ start_of w.means.layout w.means.layout.horizon → v < steps → first ≡ start_of w.means.layout w.low → v < first → IsSameFrom w v value 0
+step_below w v steps first value i s h f k = same_low w v (v / width w.means.layout + 1) value (step_behind w v (width w.means.layout) steps value i s h refl) (by (cases_lt (v / width w.means.layout) w.low))
+  where
+    by : (v / width w.means.layout < w.low) ⊎ (w.low ≤ v / width w.means.layout) → v / width w.means.layout + 1 ≤ w.low
+    by (inl l) = omega (arith, l)
+    by (inr l) =
+        let less : v < start_of w.means.layout w.low = omega (arith, f, k) in
+        let p = placed v (width w.means.layout) (has_width v w.low (width w.means.layout) less) in
+        let m = product_le w.low (v / width w.means.layout) (width w.means.layout) l in
+        let q = p.0 in
+        absurd (omega (arith, m, q, less))
+
 pub step_false : (w : WalkView) (v steps : ℕ) (value : Option Bool) → IsWalk w → steps ≡ start_of w.means.layout w.means.layout.horizon → v < steps → value ≡ Some false → slice_get w.seen v ≡ Some None → IsSameFrom w v value 0
 step_false w v steps value i s h e k = same_false w v value i (omega (arith, s, h)) e k
 
 -- what is kept before the first step
-pub begun : (m : Means) (seen : Known) (items : List Literals) (h facts variables_ : ℕ) (place goal : Literals) (ls : List ℕ) → AreMeans m → h ≡ m.layout.horizon → facts ≡ m.layout.facts → seen ≡ replicate variables_ None → variables_ ≡ variables m.layout → items ≡ replicate (h + 1) (no_literals facts) → place ≡ get_or items h place → goal ≡ record place { members = fold put place.members ls } → ls ≡ m.goal → IsWalk (record { means = m; seen = seen; wanted = set items h goal; low = h })
-begun m seen items h facts variables_ place goal ls a e f s n k p g l =
+pub begun : (m : Means) (seen : Known) (items : List Literals) (h facts : ℕ) (place goal : Literals) (ls : List ℕ) → AreMeans m → h ≡ m.layout.horizon → facts ≡ m.layout.facts → length seen ≡ variables m.layout → items ≡ replicate (h + 1) (no_literals facts) → place ≡ get_or items h place → goal ≡ record place { members = fold put place.members ls } → ls ≡ m.goal → IsWalk (record { means = m; seen = seen; wanted = set items h goal; low = h })
+begun m seen items h facts place goal ls a e f n k p g l =
     subst (λ (x : ℕ). IsWalk (record { means = m; seen = seen; wanted = set items x goal; low = x })) (sym e)
-    (new_walk m seen (set items m.layout.horizon goal) goal a
-    (ap (λ (x : Known). length x) s ∙ length-replicate variables_ None ∙ n)
+    (new_walk m seen (set items m.layout.horizon goal) goal a n
     (ap (λ (x : List Literals). set x m.layout.horizon goal) (k ∙ ap (λ (x : ℕ). replicate (x + 1) (no_literals facts)) e ∙ ap (λ (x : ℕ). replicate (m.layout.horizon + 1) (no_literals x)) f))
     (ap (λ (x : Literals). x.facts) g ∙ ap (λ (x : Literals). x.facts) empty ∙ f)
     (ap (λ (x : Literals). x.members) g ∙ ap (λ (x : Literals). fold put x.members ls) empty ∙ ap (λ (xs : List ℕ). fold put [] xs) l ∙ put_rising m.goal a.rising))

@@ -3,7 +3,6 @@ pub mod Steps
 pub mod Ranges
 pub mod Unread
 pub mod Kept
-pub mod Differences
-pub mod SeenLaw
+pub mod Told
 pub mod Found
 pub mod NeedsLaw

@@ -5,6 +5,6 @@ pub mod Members
 pub mod Supports
 pub mod ChoiceLaw
 pub mod Kept
+pub mod Told
 pub mod Needs
 pub mod Search
-pub mod Seen

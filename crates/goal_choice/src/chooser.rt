@@ -4,12 +4,13 @@ ghost use Rattle.std.specs.Prelude.{◌≡◌, length, IfOk};
 ghost use Rattle.gt_core.specs.Lawful.{conditional_in};
 ghost use Rattle.gt_core.specs.Layout.{variables};
 ghost use Rattle.goal_choice.specs.Means.{means_of, gathered_of};
-ghost use Rattle.goal_choice.specs.Choice.{choice_by};
-ghost use Rattle.clause_base.specs.Choice.{plain_choice};
+ghost use Rattle.goal_choice.specs.Choice.{choice_by, or_plain};
 ghost use Rattle.goal_choice.specs.ChoiceLaw.{choice-open};
 
-use crate::last_walk::LastWalk;
+use crate::descent::whole_walk;
+use crate::literals::Literals;
 use crate::supporters::Supporters;
+use crate::told_walk::ToldWalk;
 use clause_base::chooser::{Chooser, PlainChooser};
 use clause_base::literal::Lit;
 use clause_base::memory::Memory;
@@ -19,19 +20,24 @@ use gt_core::task::Task;
 use std::alloc::Global;
 use std::marker::Model;
 
-/// The chooser of actions backwards from the goals. It fits the number of variables of the layout that it was made with. What
-/// it keeps of its last walk is made with it, and no answer depends on that.
+/// The chooser of actions backwards from the goals. It fits the number of variables of the layout that it was made with. Beside
+/// what it chooses by it has two sets to write over.
 #[derive(Debug, Drop)]
 pub struct GoalChooser {
-    walk: LastWalk,
+    means: Supporters,
+    wanted: Literals,
+    before: Literals,
 }
 
 impl Model for GoalChooser {
+    ghost use Rattle.std.specs.Prelude.{◌≡◌};
     ghost use Rattle.goal_choice.specs.Means.{Means};
 
     ghost Value = { Means };
 
-    ghost view = { λ c. c.walk.means };
+    ghost view = { λ c. c.means };
+
+    ghost invariant = { λ c. (c.wanted.facts ≡ c.means.layout.facts) × (c.before.facts ≡ c.means.layout.facts) };
 }
 
 impl GoalChooser {
@@ -59,8 +65,14 @@ impl GoalChooser {
         ensures made { IfOk result (λ c. c ≡ record supporters.now { layout = layout }) }
         ensures of { IfOk result (λ c. (task : Task) → supporters.now ≡ gathered_of task → c ≡ means_of task layout) }
     {
+        let means = supporters.over(layout)?;
+        let facts = means.layout().facts;
+        let wanted = Literals::new(alloc, facts)?;
+        let before = Literals::new(alloc, facts)?;
         Ok(GoalChooser {
-            walk: LastWalk::new(alloc, supporters.over(layout)?)?,
+            means,
+            wanted,
+            before,
         })
     }
 }
@@ -72,17 +84,38 @@ impl Chooser for GoalChooser {
 
     ghost opens = { λ c values _. choice-open c values };
 
+    type Told = ToldWalk;
+
+    ghost knows = { λ c t ls. (t.means ≡ c) × (t.told ≡ ls) };
+
+    fn start(&self, alloc: Global) -> Result<ToldWalk, Memory> {
+        ToldWalk::new(alloc, self.means.over(*self.means.layout())?)
+    }
+
+    fn tell(&self, told: &mut ToldWalk, lit: Lit) {
+        told.tell(lit);
+    }
+
+    fn untell(&self, told: &mut ToldWalk, length: usize) {
+        told.untell(length);
+    }
+
+    fn choose_told(&mut self, told: &mut ToldWalk, values: &Values) -> Option<Lit> {
+        or_plain(told.choice(values), values)
+    }
+
     fn choose(&mut self, values: &Values) -> Option<Lit> {
-        match self.walk.choice(values) {
-            Some(lit) => Some(lit),
-            None => least_variable_false(values),
-        }
+        let found = whole_walk(&self.means, values, &mut self.wanted, &mut self.before);
+        or_plain(found, values)
     }
 }
 
-/// The least variable without a value, made false.
-fn least_variable_false(values: &Values) -> Option<Lit>
-    ensures { result ≡ plain_choice values.now }
+/// A choice, or else the plain one: the least variable without a value, made false.
+fn or_plain(found: Option<Lit>, values: &Values) -> Option<Lit>
+    ensures { result ≡ or_plain values.now found }
 {
-    PlainChooser::new().choose(values)
+    match found {
+        Some(lit) => Some(lit),
+        None => PlainChooser::new().choose(values),
+    }
 }

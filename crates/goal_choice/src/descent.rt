@@ -1,6 +1,7 @@
 //! A walk goes down from a time.
 
-ghost use Rattle.std.specs.Prelude.{◌≡◌, ◌-◌, ◌≤◌, ◌<◌, Some, IfSome, IfNone};
+ghost use Rattle.std.specs.Prelude.{◌≡◌, ◌-◌, ◌≤◌, ◌<◌, Some, length, IfSome, IfNone};
+ghost use Rattle.gt_core.specs.Layout.{variables};
 ghost use Rattle.goal_choice.specs.Kept.{walked, IsWalk};
 
 use crate::literals::Literals;
@@ -71,4 +72,32 @@ pub(crate) fn walk_down(
         low -= 1;
     }
     Descent { choice: None, low }
+}
+
+/// The choice of the walk over some values, where there is one, from the goals at the last time on.
+pub(crate) fn whole_walk(
+    means: &Supporters,
+    values: &Values,
+    wanted: &mut Literals,
+    before: &mut Literals,
+) -> Option<Lit>
+    requires fits { length values.now ≡ variables means.now.layout }
+    requires wanted { wanted.old.facts ≡ means.now.layout.facts }
+    requires before { before.old.facts ≡ means.now.layout.facts }
+    ensures choice { result ≡ walked means.now values.now }
+    ensures wanted { wanted.new.facts ≡ means.now.layout.facts }
+    ensures before { before.new.facts ≡ means.now.layout.facts }
+{
+    wanted.clear();
+    wanted.put_all(means.goal());
+    let mut time = means.layout().horizon;
+    'walking: while time > 0 {
+        before.clear();
+        if let Some(choice) = wanted_before(means, values, time - 1, wanted, before) {
+            return Some(choice);
+        }
+        std::mem::swap(wanted, before);
+        time -= 1;
+    }
+    None
 }

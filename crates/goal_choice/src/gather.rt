@@ -5,11 +5,11 @@ ghost use Rattle.std.specs.List.Sorted.{IsNonDecreasing};
 ghost use Rattle.goal_choice.specs.Search.{AreMarked};
 ghost use Rattle.goal_choice.specs.Needs.{needs_of, needs_in};
 
-use crate::flat_lists::FlatLists;
 use clause_base::literal::Lit;
 use clause_base::memory::Memory;
 use gt_core::act::Act;
 use gt_core::task::Task;
+use list_of::FlatLists;
 use std::alloc::Global;
 use step_template::index::Makers;
 
@@ -37,7 +37,7 @@ fn variables_of(alloc: Global, lits: &[Lit]) -> Result<Vec<u32>, Memory>
 fn add_variables(
     alloc: Global,
     makers: &[Lit],
-    lists: &mut FlatLists,
+    lists: &mut FlatLists<u32>,
     rising: &mut Vec<bool>,
 ) -> Result<(), Memory>
     requires marked { AreMarked rising.old.items lists.old }
@@ -46,7 +46,7 @@ fn add_variables(
 {
     let variables = variables_of(alloc, makers)?;
     rising.push(variables.is_sorted())?;
-    lists.push(&variables, &[])?;
+    lists.push(&variables)?;
     Ok(())
 }
 
@@ -54,7 +54,7 @@ fn add_variables(
 pub(crate) fn variables_by_literal(
     alloc: Global,
     index: &[Makers],
-) -> Result<(FlatLists, Vec<bool>), Memory>
+) -> Result<(FlatLists<u32>, Vec<bool>), Memory>
     ensures lists { IfOk result (λ p. p.0 ≡ map (map (λ l. l / 2)) index.now) }
     ensures marked { IfOk result (λ p. AreMarked p.1.items p.0) }
 {
@@ -89,23 +89,23 @@ fn literals_in(acts: &[Act]) -> usize {
 }
 
 /// Adds what each action needs.
-fn add_preconditions(acts: &[Act], lists: &mut FlatLists) -> Result<(), Memory>
+fn add_preconditions(acts: &[Act], lists: &mut FlatLists<u32>) -> Result<(), Memory>
     ensures { OnOk result (lists.new ≡ lists.old ++ map (λ a. a.precondition) acts.now) }
 {
     for act in acts {
-        lists.push(act.pre(), &[])?;
+        lists.push(act.pre())?;
     }
     Ok(())
 }
 
 /// Adds what each conditional effect of an action needs.
-fn add_conditions(act: &Act, lists: &mut FlatLists) -> Result<(), Memory>
+fn add_conditions(act: &Act, lists: &mut FlatLists<u32>) -> Result<(), Memory>
     ensures { OnOk result (lists.new ≡ lists.old ++ needs_in act.now) }
 {
     let effects = act.effects();
     for effect in effects {
         if effect.is_conditional() {
-            lists.push(act.pre(), effect.cond())?;
+            lists.push_joined(act.pre(), effect.cond())?;
         }
     }
     Ok(())
@@ -113,7 +113,7 @@ fn add_conditions(act: &Act, lists: &mut FlatLists) -> Result<(), Memory>
 
 /// For each variable of the first step that is not a chain variable, what has to hold before its effects: of an action its
 /// precondition, of a conditional effect that of its action and its condition.
-pub(crate) fn needs_by_variable(alloc: Global, task: &Task) -> Result<FlatLists, Memory>
+pub(crate) fn needs_by_variable(alloc: Global, task: &Task) -> Result<FlatLists<u32>, Memory>
     ensures { IfOk result (λ lists. lists ≡ needs_of task.now) }
 {
     let acts = task.acts();

@@ -12,13 +12,13 @@ mod chooser;
 mod descent;
 mod flat_lists;
 mod gather;
-mod last_walk;
 mod literals;
 mod search;
-mod seen;
 mod support;
 mod supporters;
+mod told_walk;
 mod walk;
 
 pub use chooser::GoalChooser;
 pub use supporters::Supporters;
+pub use told_walk::ToldWalk;

@@ -5,13 +5,14 @@ ghost use Rattle.std.specs.List.{AllByRecursion};
 ghost use Rattle.goal_choice.specs.Means.{gathered_of, variable_from};
 ghost use Rattle.goal_choice.specs.Walk.{least_with};
 
-use crate::flat_lists::FlatLists;
+use crate::flat_lists::list_at;
 use crate::gather::{needs_by_variable, variables_by_literal};
 use crate::search::least_variable;
 use clause_base::memory::Memory;
 use clause_base::values::Values;
 use gt_core::layout::Layout;
 use gt_core::task::Task;
+use list_of::FlatLists;
 use std::alloc::Global;
 use std::marker::Model;
 use std::sync::Arc;
@@ -20,12 +21,24 @@ use step_template::template::one_layout;
 
 /// The goal; for each fact literal the variables in the first step of the effects with it, in the order of the effects, and
 /// whether each is at most the next one; and for each such variable what has to hold before the step.
-#[derive(Debug, Drop)]
+#[derive(Debug)]
 struct Blocks {
     goal: Vec<u32>,
-    variables: FlatLists,
+    variables: FlatLists<u32>,
     rising: Vec<bool>,
-    needs: FlatLists,
+    needs: FlatLists<u32>,
+}
+
+/// Letting one go is one call, in which its parts go: whoever holds one proves one step.
+impl Drop for Blocks {
+    fn drop(self) {
+        let Blocks {
+            goal: _,
+            variables: _,
+            rising: _,
+            needs: _,
+        } = self;
+    }
 }
 
 /// An effect as a supporter of its literal: its variable in the first step, and the literals that have to hold before it.
@@ -48,10 +61,7 @@ pub struct Supporters {
 impl Model for Supporters {
     ghost use Rattle.std.specs.Prelude.{◌≡◌, ◌+◌, length};
     ghost use Rattle.std.specs.Arc.{arc_value};
-    ghost use Rattle.goal_choice.specs.Means.{Means};
-    ghost use Rattle.goal_choice.specs.Members.{AreMeans};
-    ghost use Rattle.goal_choice.specs.Needs.{supporters_in};
-    ghost use Rattle.goal_choice.specs.Search.{AreMarked};
+    ghost use Rattle.goal_choice.specs.{Means.Means, Members.AreMeans, Needs.supporters_in, Search.AreMarked};
 
     ghost Value = { Means };
 
@@ -140,13 +150,13 @@ impl Supporters {
         ensures some { IfSome result (λ s. least_with values.now value start (slice_index_or self.now.supporters lit []) ≡ Some (record { variable = s.variable; needs = s.needs.now })) }
         ensures none { IfNone result (least_with values.now value start (slice_index_or self.now.supporters lit []) ≡ None) }
     {
-        let variables = self.blocks.variables.list(lit as usize);
+        let variables = list_at(&self.blocks.variables, lit as usize);
         let rising = self.blocks.rising[lit as usize];
         match least_variable(variables, rising, values, start, value) {
             None => None,
             Some(variable) => Some(Supporter {
                 variable,
-                needs: self.blocks.needs.list(variable as usize),
+                needs: list_at(&self.blocks.needs, variable as usize),
             }),
         }
     }

@@ -7,22 +7,15 @@ ghost use Rattle.grounder.specs.Known.{IsKnown};
 
 use crate::known::Known;
 use crate::literals::may_be_true;
-use pd_model::{Call, Calls, Cond, Memory, Pddl};
-use std::alloc::Global;
+use pd_model::{Call, Calls, Cond, Memory};
 
 /// Whether no literal wants a constant atom to be false.
-fn all_may_be_true(
-    alloc: Global,
-    p: &Pddl,
-    known: &Known,
-    objects: &[u32],
-    conds: &[Cond],
-) -> Result<bool, Memory>
-    requires { IsKnown p.now known.now }
-    ensures { IfOk result (λ answer. answer ≡ list_all (may_be_true p.now known.now.facts) (literals_of objects.now conds.now)) }
+fn all_may_be_true(known: &Known, objects: &[u32], conds: &[Cond]) -> Result<bool, Memory>
+    requires { IsKnown known.now }
+    ensures { IfOk result (λ answer. answer ≡ list_all (may_be_true known.now.domains.now known.now.facts) (literals_of objects.now conds.now)) }
 {
     for cond in conds {
-        if !may_be_true(alloc, p, known, objects, cond)? {
+        if !may_be_true(known, objects, cond)? {
             return Ok(false);
         }
     }
@@ -30,35 +23,25 @@ fn all_may_be_true(
 }
 
 /// Whether a kept call is an action: its precondition wants no constant atom to be false.
-fn is_able(alloc: Global, p: &Pddl, known: &Known, call: &Call) -> Result<bool, Memory>
-    requires { IsKnown p.now known.now }
-    ensures { IfOk result (λ answer. answer ≡ list_all (may_be_true p.now known.now.facts) (instance_of p.now call.now).precondition) }
+fn is_able(known: &Known, call: &Call) -> Result<bool, Memory>
+    requires { IsKnown known.now }
+    ensures { IfOk result (λ answer. answer ≡ list_all (may_be_true known.now.domains.now known.now.facts) (instance_of known.now.domains.now call.now).precondition) }
 {
+    let p = known.domains.task();
     let Some(schema) = p.schemas().as_slice().get(call.schema as usize) else {
         return Ok(true);
     };
-    all_may_be_true(
-        alloc,
-        p,
-        known,
-        call.objects.as_slice(),
-        schema.pre.as_slice(),
-    )
+    all_may_be_true(known, call.objects.as_slice(), schema.pre.as_slice())
 }
 
 /// The actions among the kept calls, in order.
-pub(crate) fn actions_of(
-    alloc: Global,
-    p: &Pddl,
-    known: &Known,
-    kept: Calls,
-) -> Result<Calls, Memory>
-    requires { IsKnown p.now known.now }
-    ensures { IfOk result (λ calls. calls ≡ actions_of p.now known.now.facts kept) }
+pub(crate) fn actions_of(known: &Known, kept: Calls) -> Result<Calls, Memory>
+    requires { IsKnown known.now }
+    ensures { IfOk result (λ calls. calls ≡ actions_of known.now.domains.now known.now.facts kept) }
 {
-    let mut calls = Vec::new(alloc);
+    let mut calls = Vec::new(known.alloc);
     for call in kept.into_vec() {
-        if is_able(alloc, p, known, &call)? {
+        if is_able(known, &call)? {
             calls.push(call)?;
         }
     }

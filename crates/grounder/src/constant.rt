@@ -73,12 +73,8 @@ fn leave_out_call(
     requires few { HasFew domains.now call.now }
     ensures { OnOk result (LeavesOut (λ a. list_any (deletes reached.now a) (instance_of domains.now call.now).changes) constant.old constant.new) }
 {
-    let Some(schema) = domains
-        .task()
-        .schemas()
-        .as_slice()
-        .get(call.schema as usize)
-    else {
+    let p = domains.task();
+    let Some(schema) = p.schemas().as_slice().get(call.schema as usize) else {
         return Ok(());
     };
     for effect in schema.effects.as_slice() {

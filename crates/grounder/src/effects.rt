@@ -13,7 +13,7 @@ use crate::places::place_in;
 use crate::simplify::{fact_literal, simplified};
 use gt_core::eff::{Eff, Effs};
 use gt_core::lits::Lits;
-use pd_model::{Effect, Memory, Pddl, instance_of};
+use pd_model::{Effect, Memory, instance_of};
 use std::alloc::Global;
 use std::collections::BTreeSet;
 
@@ -26,51 +26,47 @@ struct Keyed {
 
 /// Puts the effect of an instance into a set, where it is left.
 fn put_effect(
-    alloc: Global,
-    p: &Pddl,
     known: &Known,
     objects: &[u32],
     effect: &Effect,
     into: &mut BTreeSet<Keyed>,
 ) -> Result<(), Memory>
-    requires { IsKnown p.now known.now }
-    ensures { OnOk result (effects_at into.new.keys ≡ put_change p.now known.now.facts (change_of effect.now objects.now) (effects_at into.old.keys)) }
+    requires { IsKnown known.now }
+    ensures { OnOk result (effects_at into.new.keys ≡ put_change known.now.domains.now known.now.facts (change_of effect.now objects.now) (effects_at into.old.keys)) }
 {
-    let atom = instance_of(alloc, objects, &effect.atom)?;
+    let atom = instance_of(known.alloc, objects, &effect.atom)?;
     let Some(place) = place_in(known.facts.as_slice(), &atom) else {
         return Ok(());
     };
     let conds = effect.cond.as_slice();
-    if any_never(alloc, p, known, objects, conds)? {
+    if any_never(known, objects, conds)? {
         return Ok(());
     }
     let literal = fact_literal(place, effect.adds);
-    let condition = simplified(alloc, p, known, objects, conds)?.into_vec();
+    let condition = simplified(known, objects, conds)?.into_vec();
     into.insert(Keyed { literal, condition })?;
     Ok(())
 }
 
 /// Puts the effects of an effect's instances into a set.
 fn put_instances(
-    alloc: Global,
-    p: &Pddl,
     known: &Known,
     objects: &[u32],
     effect: &Effect,
     into: &mut BTreeSet<Keyed>,
 ) -> Result<(), Memory>
-    requires known { IsKnown p.now known.now }
-    requires few { HasFewTuples p.now effect.now }
-    ensures { OnOk result (effects_at into.new.keys ≡ put_changes p.now known.now.facts (changes_of p.now objects.now effect.now) (effects_at into.old.keys)) }
+    requires known { IsKnown known.now }
+    requires few { HasFewTuples known.now.domains.now effect.now }
+    ensures { OnOk result (effects_at into.new.keys ≡ put_changes known.now.domains.now known.now.facts (changes_of known.now.domains.now objects.now effect.now) (effects_at into.old.keys)) }
 {
     let over = effect.over.as_slice();
     if !known.domains.have_objects(over) {
         return Ok(());
     }
-    let bindings = bindings_of(alloc, known.domains, over)?;
+    let bindings = bindings_of(known.alloc, known.domains, over)?;
     for number in (0..bindings.count).rev() {
-        let objects = bindings.extended(alloc, objects, number)?;
-        put_effect(alloc, p, known, &objects, effect, into)?;
+        let objects = bindings.extended(known.alloc, objects, number)?;
+        put_effect(known, &objects, effect, into)?;
     }
     Ok(())
 }
@@ -87,20 +83,14 @@ fn effects_in(alloc: Global, set: BTreeSet<Keyed>) -> Result<Effs, Memory>
 }
 
 /// The effects of an action with these effects and objects.
-pub(crate) fn effects_of(
-    alloc: Global,
-    p: &Pddl,
-    known: &Known,
-    objects: &[u32],
-    effects: &[Effect],
-) -> Result<Effs, Memory>
-    requires known { IsKnown p.now known.now }
-    requires few { AllByRecursion (HasFewTuples p.now) effects.now }
-    ensures { IfOk result (λ all. all ≡ put_changes p.now known.now.facts (flat_map (changes_of p.now objects.now) effects.now) []) }
+pub(crate) fn effects_of(known: &Known, objects: &[u32], effects: &[Effect]) -> Result<Effs, Memory>
+    requires known { IsKnown known.now }
+    requires few { AllByRecursion (HasFewTuples known.now.domains.now) effects.now }
+    ensures { IfOk result (λ all. all ≡ put_changes known.now.domains.now known.now.facts (flat_map (changes_of known.now.domains.now objects.now) effects.now) []) }
 {
-    let mut set = BTreeSet::new(alloc);
+    let mut set = BTreeSet::new(known.alloc);
     for i in (0..effects.len()).rev() {
-        put_instances(alloc, p, known, objects, &effects[i], &mut set)?;
+        put_instances(known, objects, &effects[i], &mut set)?;
     }
-    effects_in(alloc, set)
+    effects_in(known.alloc, set)
 }

@@ -29,7 +29,7 @@ use std::alloc::Global;
 use std::marker::Model;
 
 /// A task over numbered facts and actions, with the atom of each fact and the call of each action.
-#[derive(Debug, Drop)]
+#[derive(Debug)]
 pub struct Grounded {
     facts: Atoms,
     calls: Calls,
@@ -42,6 +42,17 @@ impl Model for Grounded {
     ghost Value = { Grounded };
 
     ghost view = { λ g. record { facts = g.facts; calls = g.calls; task = g.task } };
+}
+
+/// Letting one go is one call, in which its parts go: whoever holds one proves one step.
+impl Drop for Grounded {
+    fn drop(self) {
+        let Grounded {
+            facts: _,
+            calls: _,
+            task: _,
+        } = self;
+    }
 }
 
 /// Why a task is not grounded: it is past a limit, told with its count, or memory ran out.
@@ -71,40 +82,44 @@ impl From<Memory> for GroundError {
 }
 
 /// The action of a call.
-fn action_of(alloc: Global, p: &Pddl, known: &Known, call: &Call) -> Result<Act, Memory>
-    requires known { IsKnown p.now known.now }
-    requires few { HasFew p.now call.now }
-    ensures { IfOk result (λ act. act ≡ action_of p.now known.now.facts (instance_of p.now call.now)) }
+fn action_of(known: &Known, call: &Call) -> Result<Act, Memory>
+    requires known { IsKnown known.now }
+    requires few { HasFew known.now.domains.now call.now }
+    ensures { IfOk result (λ act. act ≡ action_of known.now.domains.now known.now.facts (instance_of known.now.domains.now call.now)) }
 {
+    let p = known.domains.task();
     let Some(schema) = p.schemas().as_slice().get(call.schema as usize) else {
-        return Ok(Act::new(Lits::of(Vec::new(alloc)), Effs::of(Vec::new(alloc))));
+        return Ok(Act::new(
+            Lits::of(Vec::new(known.alloc)),
+            Effs::of(Vec::new(known.alloc)),
+        ));
     };
     let objects = call.objects.as_slice();
-    let pre = simplified(alloc, p, known, objects, schema.pre.as_slice())?;
-    let effects = effects_of(alloc, p, known, objects, schema.effects.as_slice())?;
+    let pre = simplified(known, objects, schema.pre.as_slice())?;
+    let effects = effects_of(known, objects, schema.effects.as_slice())?;
     Ok(Act::new(pre, effects))
 }
 
 /// The actions of calls.
-fn acts_of(alloc: Global, p: &Pddl, known: &Known, calls: &[Call]) -> Result<Acts, Memory>
-    requires known { IsKnown p.now known.now }
-    requires few { HaveFew p.now calls.now }
-    ensures { IfOk result (λ acts. acts ≡ map (λ c. action_of p.now known.now.facts (instance_of p.now c)) calls.now) }
+fn acts_of(known: &Known, calls: &[Call]) -> Result<Acts, Memory>
+    requires known { IsKnown known.now }
+    requires few { HaveFew known.now.domains.now calls.now }
+    ensures { IfOk result (λ acts. acts ≡ map (λ c. action_of known.now.domains.now known.now.facts (instance_of known.now.domains.now c)) calls.now) }
 {
-    let mut acts = Vec::with_capacity(alloc, calls.len())?;
+    let mut acts = Vec::with_capacity(known.alloc, calls.len())?;
     for call in calls {
-        acts.push(action_of(alloc, p, known, call)?)?;
+        acts.push(action_of(known, call)?)?;
     }
     Ok(Acts::of(acts))
 }
 
 /// The truth of each fact in the initial state.
-fn initial_values(alloc: Global, p: &Pddl, known: &Known) -> Result<Bits, Memory>
-    requires { IsKnown p.now known.now }
-    ensures { IfOk result (λ values. values ≡ values_in known.now.facts p.now.init) }
+fn initial_values(known: &Known) -> Result<Bits, Memory>
+    requires { IsKnown known.now }
+    ensures { IfOk result (λ values. values ≡ values_in known.now.facts known.now.domains.now.init) }
 {
     let facts = known.facts.as_slice();
-    let mut values = Vec::with_capacity(alloc, facts.len())?;
+    let mut values = Vec::with_capacity(known.alloc, facts.len())?;
     for atom in facts {
         values.push(known.initial.has(atom))?;
     }
@@ -115,12 +130,14 @@ fn initial_values(alloc: Global, p: &Pddl, known: &Known) -> Result<Bits, Memory
 fn known_of<'a>(alloc: Global, domains: &'a Domains<'a>, facts: Atoms) -> Result<Known<'a>, Memory>
     requires sorted { IsSorted atom_less facts }
     requires few { length facts ≤ most_facts }
-    ensures known { IfOk result (λ known. IsKnown domains.now known) }
+    ensures known { IfOk result (λ known. IsKnown known) }
+    ensures domains { IfOk result (λ known. known.domains.now ≡ domains.now) }
     ensures facts { IfOk result (λ known. known.facts ≡ facts) }
 {
     let mut initial = State::new(alloc);
     initial.add_all(domains.task().init().as_slice())?;
     Ok(Known {
+        alloc,
         domains,
         facts,
         initial,
@@ -128,22 +145,16 @@ fn known_of<'a>(alloc: Global, domains: &'a Domains<'a>, facts: Atoms) -> Result
 }
 
 /// The task of facts, calls and their actions.
-fn task_of(
-    alloc: Global,
-    p: &Pddl,
-    known: &Known,
-    calls: &[Call],
-    acts: Acts,
-) -> Result<Task, Memory>
-    requires known { IsKnown p.now known.now }
-    requires acts { acts ≡ map (λ c. action_of p.now known.now.facts (instance_of p.now c)) calls.now }
-    requires task { is_task (task_of p.now known.now.facts calls.now) ≡ true }
-    ensures { IfOk result (λ task. task ≡ task_of p.now known.now.facts calls.now) }
+fn task_of(known: &Known, calls: &[Call], acts: Acts) -> Result<Task, Memory>
+    requires known { IsKnown known.now }
+    requires acts { acts ≡ map (λ c. action_of known.now.domains.now known.now.facts (instance_of known.now.domains.now c)) calls.now }
+    requires task { is_task (task_of known.now.domains.now known.now.facts calls.now) ≡ true }
+    ensures { IfOk result (λ task. task ≡ task_of known.now.domains.now known.now.facts calls.now) }
 {
-    let init = initial_values(alloc, p, known)?;
-    let conds = p.goal().as_slice();
-    let goal = simplified(alloc, p, known, &[], conds)?;
-    let hopeless = any_never(alloc, p, known, &[], conds)?;
+    let init = initial_values(known)?;
+    let conds = known.domains.task().goal().as_slice();
+    let goal = simplified(known, &[], conds)?;
+    let hopeless = any_never(known, &[], conds)?;
     let facts = known.facts.as_slice().len() as u32;
     Ok(Task::new(facts, init, goal, hopeless, acts))
 }
@@ -171,17 +182,17 @@ pub fn ground(alloc: Global, p: &Pddl) -> Result<Grounded, GroundError>
         return Err(GroundError::Facts { count });
     }
     let known = known_of(alloc, &domains, facts)?;
-    let calls = actions_of(alloc, p, &known, reached.calls)?;
+    let calls = actions_of(&known, reached.calls)?;
     let count = calls.as_slice().len() as u64;
     if count > 16384 {
         return Err(GroundError::Actions { count });
     }
-    let acts = acts_of(alloc, p, &known, calls.as_slice())?;
+    let acts = acts_of(&known, calls.as_slice())?;
     let count = conditional_in(acts.as_slice());
     if count > 65536 {
         return Err(GroundError::Effects { count });
     }
-    let task = task_of(alloc, p, &known, calls.as_slice(), acts)?;
+    let task = task_of(&known, calls.as_slice(), acts)?;
     Ok(Grounded {
         facts: known.facts,
         calls,

@@ -2,11 +2,13 @@
 
 use atom_join::Domains;
 use pd_model::{Atoms, State};
+use std::alloc::Global;
 
-/// The task with the objects that fit its types, the facts, in order, and the initial atoms. Of the atoms that are no
-/// facts, the initial ones are constant and the rest are not reachable.
+/// The task with the objects that fit its types, the facts, in order, and the initial atoms, and where memory comes from. Of
+/// the atoms that are no facts, the initial ones are constant and the rest are not reachable.
 #[derive(Drop)]
 pub(crate) struct Known<'a> {
+    pub(crate) alloc: Global,
     pub(crate) domains: &'a Domains<'a>,
     pub(crate) facts: Atoms,
     pub(crate) initial: State,

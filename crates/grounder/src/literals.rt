@@ -10,7 +10,7 @@ ghost use Rattle.grounder.specs.Known.{IsKnown};
 use crate::known::Known;
 use crate::places::has;
 use atom_join::may_hold;
-use pd_model::{Atom, Cond, Memory, Pddl, Term, instance_of, object_of};
+use pd_model::{Atom, Cond, Memory, Term, instance_of, object_of};
 use std::alloc::Global;
 
 /// Whether an equation of two terms is as is wanted.
@@ -52,22 +52,16 @@ pub(crate) fn all_may_hold(
 }
 
 /// Whether the literal does not want a constant atom to be false.
-pub(crate) fn may_be_true(
-    alloc: Global,
-    p: &Pddl,
-    known: &Known,
-    objects: &[u32],
-    cond: &Cond,
-) -> Result<bool, Memory>
-    requires { IsKnown p.now known.now }
-    ensures { IfOk result (λ answer. answer ≡ may_be_true p.now known.now.facts (literal_of objects.now cond.now)) }
+pub(crate) fn may_be_true(known: &Known, objects: &[u32], cond: &Cond) -> Result<bool, Memory>
+    requires { IsKnown known.now }
+    ensures { IfOk result (λ answer. answer ≡ may_be_true known.now.domains.now known.now.facts (literal_of objects.now cond.now)) }
 {
     match cond {
         Cond::Has { atom, want } => {
             if *want {
                 return Ok(true);
             }
-            let atom = instance_of(alloc, objects, atom)?;
+            let atom = instance_of(known.alloc, objects, atom)?;
             Ok(has(known.facts.as_slice(), &atom) || !known.initial.has(&atom))
         }
         Cond::Same { .. } => Ok(true),
@@ -76,19 +70,13 @@ pub(crate) fn may_be_true(
 
 /// Whether the literal is never true: it wants an atom that is not reachable, or a constant one to be false, or is
 /// a false equation.
-fn is_never(
-    alloc: Global,
-    p: &Pddl,
-    known: &Known,
-    objects: &[u32],
-    cond: &Cond,
-) -> Result<bool, Memory>
-    requires { IsKnown p.now known.now }
-    ensures { IfOk result (λ answer. answer ≡ is_never p.now known.now.facts (literal_of objects.now cond.now)) }
+fn is_never(known: &Known, objects: &[u32], cond: &Cond) -> Result<bool, Memory>
+    requires { IsKnown known.now }
+    ensures { IfOk result (λ answer. answer ≡ is_never known.now.domains.now known.now.facts (literal_of objects.now cond.now)) }
 {
     match cond {
         Cond::Has { atom, want } => {
-            let atom = instance_of(alloc, objects, atom)?;
+            let atom = instance_of(known.alloc, objects, atom)?;
             Ok(!has(known.facts.as_slice(), &atom) && known.initial.has(&atom) != *want)
         }
         Cond::Same { left, right, want } => Ok(!agrees(objects, *left, *right, *want)),
@@ -96,18 +84,12 @@ fn is_never(
 }
 
 /// Whether some literal is never true.
-pub(crate) fn any_never(
-    alloc: Global,
-    p: &Pddl,
-    known: &Known,
-    objects: &[u32],
-    conds: &[Cond],
-) -> Result<bool, Memory>
-    requires { IsKnown p.now known.now }
-    ensures { IfOk result (λ answer. answer ≡ any_never p.now known.now.facts (literals_of objects.now conds.now)) }
+pub(crate) fn any_never(known: &Known, objects: &[u32], conds: &[Cond]) -> Result<bool, Memory>
+    requires { IsKnown known.now }
+    ensures { IfOk result (λ answer. answer ≡ any_never known.now.domains.now known.now.facts (literals_of objects.now conds.now)) }
 {
     for cond in conds {
-        if is_never(alloc, p, known, objects, cond)? {
+        if is_never(known, objects, cond)? {
             return Ok(true);
         }
     }

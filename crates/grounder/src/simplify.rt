@@ -8,8 +8,7 @@ ghost use Rattle.grounder.specs.Putting.{put_literal};
 use crate::known::Known;
 use crate::places::place_in;
 use gt_core::lits::Lits;
-use pd_model::{Cond, Memory, Pddl, instance_of};
-use std::alloc::Global;
+use pd_model::{Cond, Memory, instance_of};
 use std::collections::BTreeSet;
 
 /// The fact literal of the fact at a place: it says that the fact is true, or that it is false.
@@ -22,19 +21,13 @@ pub(crate) fn fact_literal(place: usize, want: bool) -> u32
 }
 
 /// The fact literal of a literal, where its atom is a fact.
-fn number_of(
-    alloc: Global,
-    p: &Pddl,
-    known: &Known,
-    objects: &[u32],
-    cond: &Cond,
-) -> Result<Option<u32>, Memory>
-    requires { IsKnown p.now known.now }
+fn number_of(known: &Known, objects: &[u32], cond: &Cond) -> Result<Option<u32>, Memory>
+    requires { IsKnown known.now }
     ensures { IfOk result (λ number. number ≡ number_of known.now.facts (literal_of objects.now cond.now)) }
 {
     match cond {
         Cond::Has { atom, want } => {
-            let atom = instance_of(alloc, objects, atom)?;
+            let atom = instance_of(known.alloc, objects, atom)?;
             match place_in(known.facts.as_slice(), &atom) {
                 Some(place) => Ok(Some(fact_literal(place, *want))),
                 None => Ok(None),
@@ -55,21 +48,15 @@ fn put_literal(literal: Option<u32>, into: &mut BTreeSet<u32>) -> Result<(), Mem
 }
 
 /// What is left of literals: the fact literals, in order, each once.
-pub(crate) fn simplified(
-    alloc: Global,
-    p: &Pddl,
-    known: &Known,
-    objects: &[u32],
-    conds: &[Cond],
-) -> Result<Lits, Memory>
-    requires { IsKnown p.now known.now }
+pub(crate) fn simplified(known: &Known, objects: &[u32], conds: &[Cond]) -> Result<Lits, Memory>
+    requires { IsKnown known.now }
     ensures { IfOk result (λ literals. literals ≡ simplified known.now.facts (literals_of objects.now conds.now)) }
 {
-    let mut set = BTreeSet::new(alloc);
+    let mut set = BTreeSet::new(known.alloc);
     for i in (0..conds.len()).rev() {
-        let literal = number_of(alloc, p, known, objects, &conds[i])?;
+        let literal = number_of(known, objects, &conds[i])?;
         put_literal(literal, &mut set)?;
     }
-    let literals: Vec<u32> = set.into_iter().collect(alloc)?;
+    let literals: Vec<u32> = set.into_iter().collect(known.alloc)?;
     Ok(Lits::of(literals))
 }

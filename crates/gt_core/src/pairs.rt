@@ -9,7 +9,7 @@ use std::marker::Model;
 /// A set of clauses of one fact literal, or of two literals of different facts, over so many facts. It is kept as a
 /// sorted list, and as a row of bits for each literal, which has the literals that stand in a clause with it. A
 /// literal without a clause takes no row.
-#[derive(Debug, Drop)]
+#[derive(Debug)]
 pub struct Pairs {
     facts: u32,
     clauses: Vec<(u32, u32)>,
@@ -26,8 +26,20 @@ impl Model for Pairs {
     ghost invariant = { λ p. IsKnownClauses (record { facts = p.facts; clauses = p.clauses.items }) × AreClauseRows p.facts p.clauses.items p.rows.items };
 }
 
+/// Letting one go is one call, in which its parts go: whoever holds one proves one step.
+impl Drop for Pairs {
+    fn drop(self) {
+        let Pairs {
+            facts: _,
+            clauses: _,
+            rows: _,
+        } = self;
+    }
+}
+
 impl Pairs {
-    ghost use Rattle.std.specs.Prelude.{◌≡◌, ◌≤◌, ◌<◌, ◌*◌, [], ◌∷◌, length, slice_get, Some, IfOk, OnOk, OnErr};
+    ghost use Rattle.std.specs.Prelude.{◌≡◌, ℕ, ◌≤◌, ◌<◌, ◌*◌, [], ◌∷◌, length, slice_get, Some, IfOk, OnOk, OnErr};
+    ghost use Rattle.bit_rows.specs.Bits.{row_has};
     ghost use Rattle.gt_core.specs.Literal.{opposite};
     ghost use Rattle.gt_core.specs.Interference.{has_clause};
     ghost use Rattle.gt_core.specs.Clauses.{KnownClauses, IsKnownClauses, SameClauses};
@@ -83,6 +95,14 @@ impl Pairs {
             return false;
         }
         self.rows[l as usize].contains(m)
+    }
+
+    /// The literals of the facts that stand in a clause with one, and itself where it is a clause alone.
+    pub fn row(&self, l: u32) -> &BitRow
+        requires { l < 2 * self.now.facts }
+        ensures { (m : ℕ) → m < 2 * self.now.facts → row_has result.now m ≡ has_clause self.now.clauses l m }
+    {
+        &self.rows[l as usize]
     }
 
     /// How many clauses there are.

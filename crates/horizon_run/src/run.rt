@@ -22,7 +22,6 @@ use std::marker::Model;
 use step_encoding::form::StepForm;
 
 /// A solver over the formula of a horizon, and how many conflicts it was granted.
-#[derive(Drop)]
 pub struct HorizonRun {
     pub(crate) solver: Solver<GoalChooser>,
     pub(crate) granted: u64,
@@ -43,6 +42,16 @@ impl Model for HorizonRun {
     } };
 
     ghost invariant = { λ r. IsRun (choice_by r.solver.chooser) r.solver.formula r.solver.state r.granted r.solver.spoilt };
+}
+
+/// Letting one go is one call, in which its parts go: whoever holds one proves one step.
+impl Drop for HorizonRun {
+    fn drop(self) {
+        let HorizonRun {
+            solver: _,
+            granted: _,
+        } = self;
+    }
 }
 
 impl HorizonRun {

@@ -1,6 +1,10 @@
-//! Lists of items: a type that other crates give names of their own, as `pub type Files = ListOf<NamedFile>`.
+//! Lists of items: a type that other crates give names of their own, as `pub type Files = ListOf<NamedFile>`; and lists of
+//! lists in two blocks of memory.
 #![tactic(auto)]
 
+mod flat_lists;
+
+pub use flat_lists::FlatLists;
 use std::alloc::{AllocError, Global};
 use std::marker::Model;
 
@@ -53,7 +57,7 @@ impl<T> ListOf<T> {
 }
 
 impl<T: Drop> ListOf<T> {
-    ghost use Rattle.std.specs.Prelude.{◌≡◌, ◌++◌, ◌∷◌, [], OnOk, OnErr};
+    ghost use Rattle.std.specs.Prelude.{◌≡◌, ◌++◌, ◌∷◌, [], OnOk, OnErr, IfSome, IfNone};
 
     /// Makes room for so many more items, or answers `AllocError`. The items stay.
     pub fn reserve(&mut self, more: usize) -> Result<(), AllocError>
@@ -69,6 +73,21 @@ impl<T: Drop> ListOf<T> {
     {
         self.items.push(item)?;
         Ok(())
+    }
+
+    /// Takes the last item out, where there is one.
+    pub fn pop(&mut self) -> Option<T>
+        ensures some { IfSome result (λ item. self.old ≡ self.new ++ item ∷ []) }
+        ensures none { IfNone result ((self.old ≡ []) × (self.new ≡ [])) }
+    {
+        self.items.pop()
+    }
+
+    /// Takes all items out. The room stays.
+    pub fn clear(&mut self)
+        ensures { self.new ≡ [] }
+    {
+        self.items.clear();
     }
 }
 
@@ -98,11 +117,15 @@ mod tests {
         list.push(7)?;
         list.push(9)?;
         assert_eq!(rt; list.as_slice(), [7, 9].as_slice());
-        let other = ListOf::of(list.into_vec());
+        assert_eq!(rt; list.pop(), Some(9));
+        list.push(9)?;
+        let mut other = ListOf::of(list.into_vec());
         assert_eq!(rt;
             ListOf::copied_from(alloc, other.as_slice())?.as_slice(),
             [7, 9].as_slice()
         );
+        other.clear();
+        assert_eq!(rt; other.pop(), None);
         Ok(())
     }
 }

@@ -17,7 +17,7 @@ use std::marker::Model;
 /// step and of one time stand in tables by the literals of that step and that time, whatever the horizon is; those that are
 /// told, and those that were added after all of these, in tables by all literals, where there are such clauses. Nothing in it
 /// changes after it is made.
-#[derive(Debug, Drop)]
+#[derive(Debug)]
 pub struct PairIndex {
     shape: Shape,
     told: Table,
@@ -36,6 +36,19 @@ impl Model for PairIndex {
     ghost view = { λ i. index_of i.shape i.told i.step i.time i.after };
 
     ghost invariant = { λ i. IsShape i.shape × AreTables i.shape i.told i.step i.time i.after };
+}
+
+/// Letting one go is one call, in which its parts go: whoever holds one proves one step.
+impl Drop for PairIndex {
+    fn drop(self) {
+        let PairIndex {
+            shape: _,
+            told: _,
+            step: _,
+            time: _,
+            after: _,
+        } = self;
+    }
 }
 
 /// The pairs of a literal, in five lists that stand one after another.

@@ -11,7 +11,7 @@ use std::marker::Model;
 
 /// For each literal by its code the clauses of two literals that it is in, in two blocks of memory: the pairs one after
 /// another, and where those of each literal begin.
-#[derive(Debug, Drop)]
+#[derive(Debug)]
 pub struct Table {
     offsets: Vec<u32>,
     items: Vec<Pair>,
@@ -27,6 +27,16 @@ impl Model for Table {
     ghost view = { λ t. rows_of t.offsets.items t.items.items };
 
     ghost invariant = { λ t. AreOffsets t.offsets.items (length t.items.items) };
+}
+
+/// Letting one go is one call, in which its parts go: whoever holds one proves one step.
+impl Drop for Table {
+    fn drop(self) {
+        let Table {
+            offsets: _,
+            items: _,
+        } = self;
+    }
 }
 
 impl Table {

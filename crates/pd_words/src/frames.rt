@@ -8,7 +8,7 @@ ghost use Rattle.pd_words.specs.Frames as frames;
 use crate::fault::{Fault, ReadError};
 use crate::items::{name_at, no_more, place_of};
 use crate::table::Table;
-use crate::words::is;
+use crate::words::{is, is_any};
 use pd_model::Which;
 use pd_sexp::{Name, Tree};
 use std::alloc::Global;
@@ -86,19 +86,9 @@ fn is_single(file: Which, head: &Name) -> bool
     ensures { result ≡ is_one_of (frames.single file) head.now }
 {
     match file {
-        Which::Domain => {
-            is(head, ":requirements")
-                || is(head, ":types")
-                || is(head, ":constants")
-                || is(head, ":predicates")
-        }
+        Which::Domain => is_any!(head; ":requirements", ":types", ":constants", ":predicates"),
         Which::Problem => {
-            is(head, ":domain")
-                || is(head, ":requirements")
-                || is(head, ":objects")
-                || is(head, ":init")
-                || is(head, ":goal")
-                || is(head, ":length")
+            is_any!(head; ":domain", ":requirements", ":objects", ":init", ":goal", ":length")
         }
         Which::Plan => false,
     }
@@ -118,13 +108,9 @@ fn is_left_out(file: Which, head: &Name) -> bool
 {
     match file {
         Which::Domain => {
-            is(head, ":functions")
-                || is(head, ":durative-action")
-                || is(head, ":derived")
-                || is(head, ":axiom")
-                || is(head, ":constraints")
+            is_any!(head; ":functions", ":durative-action", ":derived", ":axiom", ":constraints")
         }
-        Which::Problem => is(head, ":metric") || is(head, ":constraints"),
+        Which::Problem => is_any!(head; ":metric", ":constraints"),
         Which::Plan => false,
     }
 }

@@ -3,7 +3,7 @@ ghost use Rattle.std.specs.Prelude.{◌≡◌};
 ghost use Rattle.pd_sexp.specs.View.{view};
 ghost use Rattle.pd_words.specs.Words as words;
 
-use crate::words::is;
+use crate::words::{is, is_any};
 use pd_sexp::{Name, Tree};
 
 /// What a list's first word makes of it.
@@ -48,24 +48,13 @@ pub fn keyword_of(word: &Name) -> Keyword
 fn is_left_out(word: &Name) -> bool
     ensures { result ≡ words.is_left_out word.now }
 {
-    is(word, "or")
-        || is(word, "imply")
-        || is(word, "exists")
-        || is(word, "preference")
-        || is(word, "<")
-        || is(word, ">")
-        || is(word, "<=")
-        || is(word, ">=")
+    is_any!(word; "or", "imply", "exists", "preference", "<", ">", "<=", ">=")
 }
 
 fn is_assignment(word: &Name) -> bool
     ensures { result ≡ words.is_assignment word.now }
 {
-    is(word, "increase")
-        || is(word, "decrease")
-        || is(word, "assign")
-        || is(word, "scale-up")
-        || is(word, "scale-down")
+    is_any!(word; "increase", "decrease", "assign", "scale-up", "scale-down")
 }
 
 /// What a list's first item makes of it.

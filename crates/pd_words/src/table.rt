@@ -13,7 +13,7 @@ use std::collections::BTreeMap;
 use std::marker::Model;
 
 /// Distinct names, numbered from 0 in the order in which they were added.
-#[derive(Debug, Drop)]
+#[derive(Debug)]
 pub struct Table {
     names: Vec<Name>,
     numbers: BTreeMap<Vec<u8>, u32>,
@@ -25,6 +25,16 @@ impl Model for Table {
     ghost view = { λ t. t.names.items };
 
     ghost invariant = { λ t. (name : List ℕ) → get_by (λ key. slice_cmp nat_cmp name key.items) t.numbers ≡ number_of name t.names.items };
+}
+
+/// Letting one go is one call, in which its parts go: whoever holds one proves one step.
+impl Drop for Table {
+    fn drop(self) {
+        let Table {
+            names: _,
+            numbers: _,
+        } = self;
+    }
 }
 
 impl Table {
@@ -65,15 +75,6 @@ impl Table {
         ensures { result.now ≡ self.now }
     {
         &self.names
-    }
-
-    /// The names themselves, by number; takes no memory.
-    pub fn into_names(self) -> Vec<Name>
-        ensures { result.items ≡ self }
-    {
-        let Table { names, numbers } = self;
-        drop(numbers);
-        names
     }
 
     /// Gives a new name the next number. It fails only for want of memory.

@@ -12,6 +12,15 @@ pub fn is(word: &Name, text: &str) -> bool
     word.as_slice() == text.as_bytes()
 }
 
+/// `is_any!(word; "a", "b", ..)`: whether the word is one of these texts, which are looked at in this order.
+macro_rules! is_any {
+    ($word:expr; $first:literal $(, $text:literal)*) => {
+        is($word, $first) $(|| is($word, $text))*
+    };
+}
+
+pub(crate) use is_any;
+
 /// Whether the word stands before a type in a typed list.
 pub fn is_dash(word: &Name) -> bool
     ensures { result ≡ words.is_dash word.now }

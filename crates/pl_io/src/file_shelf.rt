@@ -1,5 +1,6 @@
 // The shelf of the running program: the files of the system, by their paths. It tells no content.
 ghost use Rattle.std.specs.Prelude.{◌≡◌, ◌≤◌, ◌+◌, ◌++◌, ℕ, List, [], ◌∷◌, length, None, false};
+ghost use Rattle.std.specs.declared.io.ErrorKind.TheVariants as kinds;
 ghost use Rattle.pl_io.specs.Outside.{Took};
 
 use crate::{Bytes, Names, Shelf, TakeError, Taken};
@@ -33,11 +34,13 @@ impl<'a, H: Files> FileShelf<'a, H> {
 }
 
 /// Want of memory of the system is no fault of the file.
-fn cause_of(kind: ErrorKind) -> TakeError {
-    if kind == ErrorKind::OutOfMemory {
-        TakeError::Memory
-    } else {
-        TakeError::Failed
+fn cause_of(kind: ErrorKind) -> TakeError
+    ensures memory { kind ≡ kinds.OutOfMemory → result ≡ TakeError.Memory }
+    ensures failed { ¬ (kind ≡ kinds.OutOfMemory) → result ≡ TakeError.Failed }
+{
+    match kind {
+        ErrorKind::OutOfMemory => TakeError::Memory,
+        _ => TakeError::Failed,
     }
 }
 
@@ -126,6 +129,7 @@ impl<'a, H: Files> Shelf for FileShelf<'a, H> {
 #[cfg(test)]
 mod tests {
     use super::*;
+    use crate::takes::takes_each;
     use std::io;
     use std::test::Fail;
 
@@ -172,22 +176,15 @@ mod tests {
         let alloc = rt.alloc();
         fs::write(&rt, "shelf-file", "(define)")?;
         let mut shelf = FileShelf::new(&rt, alloc);
-        let cases = [
+        let read = [
             ("shelf-file", 9, Ok(Taken::Whole), ">(define)"),
             ("shelf-file", 8, Ok(Taken::Whole), ">(define)"),
             ("shelf-file", 7, Ok(Taken::Longer), ">(define"),
-            ("shelf-none", 8, Err(TakeError::Failed), ">"),
-            (".", 8, Err(TakeError::Failed), ">"),
-            ("", 8, Err(TakeError::Failed), ">"),
         ];
-        for (name, most, answer, left) in cases {
-            let mut into = vec![in alloc; b'>']?;
-            assert_eq!(rt;
-                shelf.take(name, most, &mut into),
-                answer,
-                "at {name} {most}"
-            );
-            assert_eq!(rt; into.as_slice(), left.as_bytes(), "at {name} {most}");
+        takes_each(&rt, alloc, &mut shelf, &read)?;
+        for name in ["shelf-none", ".", ""] {
+            let failed = (name, 8, Err(TakeError::Failed), ">");
+            takes_each(&rt, alloc, &mut shelf, &[failed])?;
         }
         assert_eq!(rt; shelf.failed.as_slice().len(), 3);
         fs::remove_file(&rt, "shelf-file")?;

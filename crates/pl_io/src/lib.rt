@@ -11,6 +11,8 @@ mod mem_shelf;
 mod mem_sink;
 mod out_sink;
 mod outside;
+#[cfg(test)]
+mod takes;
 
 pub use file_shelf::FileShelf;
 pub use lists::{Bytes, Files, NamedFile, Names, Numbers};

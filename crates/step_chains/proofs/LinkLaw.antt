@@ -1,4 +1,4 @@
-use Rattle.std.proofs.Common.{arith, ◌≡◌, ◌+◌, ◌≤◌, ℕ, zero, suc, List, [], ◌∷◌, ◌++◌, Bool, true, false, ◌&&◌, ◌||◌, refl, if◌then◌else◌}
+use Rattle.std.proofs.Common.{arith, ◌≡◌, ◌+◌, ◌≤◌, ℕ, zero, suc, List, [], ◌∷◌, ◌++◌, Bool, true, false, ◌&&◌, ◌||◌, refl, sym, ◌∙◌, if◌then◌else◌}
 use Rattle.std.specs.List.{list_any}
 use Rattle.gt_core.specs.Interference.{takes, reads}
 use Rattle.gt_core.specs.Task.{Task}
@@ -37,50 +37,56 @@ left_is : (task : Task) (m : ℕ) (members : List ℕ) → list_any (λ k. k.rea
 left_is task m [] = refl
 left_is task m (a ∷ members) = left_by a (links_of task m members) (list_any (reads task m) members) (left_is task m members) (takes task m a) (reads task m a)
 
+-- the clauses of one member, by whether a taker was seen, whether it takes and reads the literal, the next variable, and
+-- whether a reader is left
+abbrev One : Type 0
+One = ℕ → Bool → Bool → Bool → ℕ → Bool → List (List Literal)
+
+-- The clauses of a walk begin with those of its first member.
+record Begins {A : Type 0} (one : One) (number : A → ℕ) (take read : A → Bool) (all : Bool → ℕ → List A → List (List Literal)) : Type 0 where
+  none : (seen : Bool) (i : ℕ) → all seen i [] ≡ []
+  some : (seen : Bool) (i : ℕ) (k : A) (ks : List A) → all seen i (k ∷ ks) ≡ one (number k) seen (take k) (read k) i (list_any read ks) ++ all (seen || take k) (if seen && read k then i + 1 else i) ks
+
+module _ (one : One) (idle : (a : ℕ) (seen : Bool) (i : ℕ) (left : Bool) → one a seen false false i left ≡ []) (over : Bool → ℕ → List Link → List (List Literal)) (begins : Begins one (λ k. k.action) (λ k. k.takes) (λ k. k.reads) over) where
+  -- where a member's link is put before the others, the clauses begin with its own
+  put_by :
+      (a : ℕ) (ks : List Link) (left : Bool) (all : Bool → ℕ → List (List Literal))
+      → list_any (λ k. k.reads) ks ≡ left → ((s : Bool) (j : ℕ) → over s j ks ≡ all s j)
+      → (seen t r : Bool) (i : ℕ) → over seen i (Put a t r ks) ≡ one a seen t r i left ++ all (seen || t) (if seen && r then i + 1 else i)
+  put_by a ks left all e ih seen true r i = begins.some seen i (record { action = a; takes = true; reads = r }) ks ∙ rw (e, ih (seen || true) (if seen && r then i + 1 else i)) refl
+  put_by a ks left all e ih seen false true i = begins.some seen i (record { action = a; takes = false; reads = true }) ks ∙ rw (e, ih (seen || false) (if seen && true then i + 1 else i)) refl
+  put_by a ks left all e ih true false false i = rw (idle a true i left) (ih true i)
+  put_by a ks left all e ih false false false i = rw (idle a false i left) (ih false i)
+
+  links_is :
+      (task : Task) (m : ℕ) (all : Bool → ℕ → List ℕ → List (List Literal)) → Begins one (λ a. a) (takes task m) (reads task m) all
+      → (seen : Bool) (i : ℕ) (members : List ℕ) → over seen i (links_of task m members) ≡ all seen i members
+  links_is task m all is seen i [] = begins.none seen i ∙ sym (is.none seen i)
+  links_is task m all is seen i (a ∷ members) =
+      put_by a (links_of task m members) (list_any (reads task m) members) (λ s j. all s j members)
+      (left_is task m members) (λ s j. links_is task m all is s j members) seen (takes task m a) (reads task m a) i
+      ∙ sym (is.some seen i a members)
+
 module _ (act var : ℕ → ℕ) where
-  abbrev Entered : ℕ → Bool → Bool → Bool → ℕ → Bool → List (List Literal)
+  abbrev Entered : One
   Entered a seen t r i left = if t then (if left then (Not (act a) ∷ Is (var (if seen && r then i + 1 else i)) ∷ []) ∷ [] else []) else []
 
-  enter_by :
-      (a : ℕ) (ks : List Link) (left : Bool) (all : Bool → ℕ → List (List Literal))
-      → list_any (λ k. k.reads) ks ≡ left → ((s : Bool) (j : ℕ) → enter_links act var s j ks ≡ all s j)
-      → (seen t r : Bool) (i : ℕ) → enter_links act var seen i (Put a t r ks) ≡ Entered a seen t r i left ++ all (seen || t) (if seen && r then i + 1 else i)
-  enter_by a ks left all e ih true true true i = rw (e, ih true (i + 1)) refl
-  enter_by a ks left all e ih true true false i = rw (e, ih true i) refl
-  enter_by a ks left all e ih true false true i = ih true (i + 1)
-  enter_by a ks left all e ih true false false i = ih true i
-  enter_by a ks left all e ih false true true i = rw (e, ih true i) refl
-  enter_by a ks left all e ih false true false i = rw (e, ih true i) refl
-  enter_by a ks left all e ih false false true i = ih false i
-  enter_by a ks left all e ih false false false i = ih false i
-
   pub enter_is : (task : Task) (m : ℕ) (seen : Bool) (i : ℕ) (members : List ℕ) → enter_links act var seen i (links_of task m members) ≡ enter_clauses act var (takes task m) (reads task m) seen i members
-  enter_is task m seen i [] = refl
-  enter_is task m seen i (a ∷ members) =
-      enter_by a (links_of task m members) (list_any (reads task m) members) (λ s j. enter_clauses act var (takes task m) (reads task m) s j members)
-      (left_is task m members) (λ s j. enter_is task m s j members) seen (takes task m a) (reads task m a) i
+  enter_is task m seen i members =
+      links_is Entered (λ a seen i left. refl) (enter_links act var) (record { none = λ s j. refl; some = λ s j k ks. refl })
+      task m (enter_clauses act var (takes task m) (reads task m)) (record { none = λ s j. refl; some = λ s j k ks. refl }) seen i members
 
-  abbrev Passed : ℕ → Bool → Bool → ℕ → Bool → List (List Literal)
-  Passed a seen r i left = if seen && r then (Not (var i) ∷ Not (act a) ∷ []) ∷ (if left then (Not (var i) ∷ Is (var (i + 1)) ∷ []) ∷ [] else []) else []
+  abbrev Passed : One
+  Passed a seen t r i left = if seen && r then (Not (var i) ∷ Not (act a) ∷ []) ∷ (if left then (Not (var i) ∷ Is (var (i + 1)) ∷ []) ∷ [] else []) else []
 
-  pass_by :
-      (a : ℕ) (ks : List Link) (left : Bool) (all : Bool → ℕ → List (List Literal))
-      → list_any (λ k. k.reads) ks ≡ left → ((s : Bool) (j : ℕ) → pass_links act var s j ks ≡ all s j)
-      → (seen t r : Bool) (i : ℕ) → pass_links act var seen i (Put a t r ks) ≡ Passed a seen r i left ++ all (seen || t) (if seen && r then i + 1 else i)
-  pass_by a ks left all e ih true true true i = rw (e, ih true (i + 1)) refl
-  pass_by a ks left all e ih true true false i = ih true i
-  pass_by a ks left all e ih true false true i = rw (e, ih true (i + 1)) refl
-  pass_by a ks left all e ih true false false i = ih true i
-  pass_by a ks left all e ih false true true i = ih true i
-  pass_by a ks left all e ih false true false i = ih true i
-  pass_by a ks left all e ih false false true i = ih false i
-  pass_by a ks left all e ih false false false i = ih false i
+  pass_idle : (a : ℕ) (seen : Bool) (i : ℕ) (left : Bool) → Passed a seen false false i left ≡ []
+  pass_idle a true i left = refl
+  pass_idle a false i left = refl
 
   pub pass_is : (task : Task) (m : ℕ) (seen : Bool) (i : ℕ) (members : List ℕ) → pass_links act var seen i (links_of task m members) ≡ pass_clauses act var (takes task m) (reads task m) seen i members
-  pass_is task m seen i [] = refl
-  pass_is task m seen i (a ∷ members) =
-      pass_by a (links_of task m members) (list_any (reads task m) members) (λ s j. pass_clauses act var (takes task m) (reads task m) s j members)
-      (left_is task m members) (λ s j. pass_is task m s j members) seen (takes task m a) (reads task m a) i
+  pass_is task m seen i members =
+      links_is Passed pass_idle (pass_links act var) (record { none = λ s j. refl; some = λ s j k ks. refl })
+      task m (pass_clauses act var (takes task m) (reads task m)) (record { none = λ s j. refl; some = λ s j k ks. refl }) seen i members
 
 -- after a taker each reader has a variable
 

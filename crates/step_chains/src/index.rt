@@ -9,7 +9,7 @@ ghost use Rattle.gt_core.specs.Active.{EffectWithin};
 ghost use Rattle.gt_core.specs.Published.{Pairwise};
 ghost use Rattle.step_chains.specs.Index.{Marks, AreTouched};
 
-use crate::link::{Link, Links};
+use crate::link::{Link, Links, mark};
 use bit_rows::row::BitRow;
 use clause_base::memory::Memory;
 use equal_items::items_of;
@@ -98,7 +98,12 @@ fn mark_in(lists: &mut Vec<Links>, touched: &mut BitRow, lit: u32, link: Link) -
     ensures marks { OnOk result (Marks link.action (λ l. if lit == l then link.takes else false) (λ l. if lit == l then link.reads else false) lists.old.items lists.new.items) }
 {
     touched.insert(lit)?;
-    lists[lit as usize].mark(link.action, link.takes, link.reads)?;
+    mark(
+        &mut lists[lit as usize],
+        link.action,
+        link.takes,
+        link.reads,
+    )?;
     Ok(())
 }
 
@@ -234,12 +239,17 @@ impl LinkIndex {
     }
 
     /// Notes that an action takes a literal, or reads it.
-    fn mark(&mut self, lit: u32, link: Link) -> Result<(), Memory>
-        requires some { (link.takes || link.reads) ≡ true }
+    fn mark(&mut self, action: u32, lit: u32, takes: bool, reads: bool) -> Result<(), Memory>
+        requires some { (takes || reads) ≡ true }
         requires lit { lit < length self.old }
         ensures long { length self.new ≡ length self.old }
-        ensures marks { OnOk result (Marks link.action (λ l. if lit == l then link.takes else false) (λ l. if lit == l then link.reads else false) self.old self.new) }
+        ensures marks { OnOk result (Marks action (λ l. if lit == l then takes else false) (λ l. if lit == l then reads else false) self.old self.new) }
     {
+        let link = Link {
+            action,
+            takes,
+            reads,
+        };
         mark_in(&mut self.lists, &mut self.touched, lit, link)
     }
 
@@ -249,12 +259,7 @@ impl LinkIndex {
         ensures long { length self.new ≡ length self.old }
         ensures marks { OnOk result (Marks a (λ l. lit == l) (λ _. false) self.old self.new) }
     {
-        let link = Link {
-            action: a,
-            takes: true,
-            reads: false,
-        };
-        self.mark(lit, link)?;
+        self.mark(a, lit, true, false)?;
         Ok(())
     }
 
@@ -264,12 +269,7 @@ impl LinkIndex {
         ensures long { length self.new ≡ length self.old }
         ensures marks { OnOk result (Marks a (λ _. false) (λ l. lit == l) self.old self.new) }
     {
-        let link = Link {
-            action: a,
-            takes: false,
-            reads: true,
-        };
-        self.mark(lit, link)?;
+        self.mark(a, lit, false, true)?;
         Ok(())
     }
 }

@@ -1,9 +1,10 @@
 //! The actions that touch one fact literal.
-ghost use Rattle.std.specs.Prelude.{◌≡◌, ◌||◌, true, [], ◌∷◌, ◌++◌, List, Bool, OnOk};
+ghost use Rattle.std.specs.Prelude.{◌≡◌, ◌||◌, true, ◌++◌, List, Bool, OnOk};
+ghost use Rattle.step_chains.specs.declared.link.Link.{Link as LinkValue};
+ghost use Rattle.step_chains.specs.Index.{entry, IsAway};
 
 use clause_base::memory::Memory;
-use std::alloc::Global;
-use std::marker::Model;
+use list_of::ListOf;
 
 /// An action beside a fact literal: whether it may take the literal away, and whether it reads it.
 #[derive(Clone, Copy, Debug)]
@@ -28,67 +29,28 @@ fn joined(link: Link, takes: bool, reads: bool) -> Link
 }
 
 /// The links of one literal, in the order of their actions.
-#[derive(Debug, Drop)]
-pub(crate) struct Links {
-    items: Vec<Link>,
-}
+pub(crate) type Links = ListOf<Link>;
 
-impl Model for Links {
-    ghost use Rattle.std.specs.Prelude.{List};
-    ghost use Rattle.step_chains.specs.declared.link.Link.{Link};
-
-    ghost Value = { List Link };
-
-    ghost view = { λ l. l.items.items };
-}
-
-impl Links {
-    ghost use Rattle.step_chains.specs.declared.link.Link.{Link as LinkValue};
-    ghost use Rattle.step_chains.specs.Index.{entry, IsAway};
-
-    /// No link yet.
-    pub(crate) fn new(alloc: Global) -> Links
-        ensures { result ≡ [] }
-    {
-        Links {
-            items: Vec::new(alloc),
-        }
+/// Notes that an action takes the literal of some links, or reads it. The action is the last one that was noted, or none that
+/// was.
+pub(crate) fn mark(links: &mut Links, action: u32, takes: bool, reads: bool) -> Result<(), Memory>
+    requires { (takes || reads) ≡ true }
+    ensures { OnOk result ((base : List LinkValue) (t r : Bool) → IsAway action base → links.old ≡ base ++ entry action t r → links.new ≡ base ++ entry action (t || takes) (r || reads)) }
+{
+    let link = Link {
+        action,
+        takes,
+        reads,
+    };
+    let Some(last) = links.pop() else {
+        links.push(link)?;
+        return Ok(());
+    };
+    if last.action == action {
+        links.push(joined(last, takes, reads))?;
+        return Ok(());
     }
-
-    /// The links.
-    pub(crate) fn as_slice(&self) -> &[Link]
-        ensures { result.now ≡ self.now }
-    {
-        self.items.as_slice()
-    }
-
-    /// Takes all links out.
-    pub(crate) fn clear(&mut self)
-        ensures { self.new ≡ [] }
-    {
-        self.items.clear();
-    }
-
-    /// Notes that an action takes the literal, or reads it. The action is the last one that was noted, or none that was.
-    pub(crate) fn mark(&mut self, action: u32, takes: bool, reads: bool) -> Result<(), Memory>
-        requires { (takes || reads) ≡ true }
-        ensures { OnOk result ((base : List LinkValue) (t r : Bool) → IsAway action base → self.old ≡ base ++ entry action t r → self.new ≡ base ++ entry action (t || takes) (r || reads)) }
-    {
-        let link = Link {
-            action,
-            takes,
-            reads,
-        };
-        let Some(last) = self.items.pop() else {
-            self.items.push(link)?;
-            return Ok(());
-        };
-        if last.action == action {
-            self.items.push(joined(last, takes, reads))?;
-            return Ok(());
-        }
-        self.items.push(last)?;
-        self.items.push(link)?;
-        Ok(())
-    }
+    links.push(last)?;
+    links.push(link)?;
+    Ok(())
 }

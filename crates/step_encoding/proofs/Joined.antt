@@ -6,7 +6,7 @@ use Rattle.gt_core.specs.Layout.{Layout, width, variables}
 use Rattle.clause_base.specs.Clause.{HasVariablesBelow}
 use Rattle.clause_base.specs.Formula.{Cnf}
 use Rattle.clause_base.specs.Repeats.{Repeats, IsRepeatable, moved_code, repeated, variables_of}
-use Rattle.clause_base.proofs.Moved.{where_is, moved_below, moved_above}
+use Rattle.clause_base.proofs.Moved.{where_is, moved_above}
 use Rattle.clause_base.proofs.RepeatLemmas.{length_repeated}
 use Rattle.step_encoding.specs.Parts.{added, step_part, time_part, StepsFit, TimesFit}
 

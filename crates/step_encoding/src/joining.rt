@@ -15,6 +15,7 @@ use clause_base::clause_list::ClauseList;
 use clause_base::formula::Formula;
 use clause_base::memory::Memory;
 use clause_base::repeated::Repeated;
+use clause_base::shared_list::SharedList;
 use gt_core::layout::Layout;
 use gt_core::task::Task;
 use std::alloc::Global;
@@ -30,12 +31,12 @@ fn empty_formula(alloc: Global, task: &Task, layout: &Layout) -> Result<Formula,
     Ok(formula)
 }
 
-/// The clauses of all steps and of all times of a layout, in copies of those of one step and of one time.
+/// The clauses of all steps and of all times of a layout, by those of one step and of one time.
 fn repeated(
     alloc: Global,
     layout: &Layout,
-    step: &ClauseList,
-    known: &ClauseList,
+    step: &SharedList,
+    known: &SharedList,
 ) -> Result<Repeated, Memory>
     requires steps_fit { StepsFit layout.now step.now (variables layout.now) }
     requires times_fit { TimesFit layout.now known.now (variables layout.now) }
@@ -47,21 +48,22 @@ fn repeated(
     let _all = layout.variables();
     let time = known.copy(alloc)?;
     if layout.horizon == 0 {
-        return Ok(Repeated::new(0, 0, layout.facts, ClauseList::new(alloc), time));
+        let none = SharedList::own(ClauseList::new(alloc));
+        return Ok(Repeated::sharing(0, 0, layout.facts, none, time));
     }
     let step = step.copy(alloc)?;
     let width = layout.actions + layout.conditional + layout.chains;
-    Ok(Repeated::new(layout.horizon, width, layout.facts, step, time))
+    Ok(Repeated::sharing(layout.horizon, width, layout.facts, step, time))
 }
 
-/// The formula of a layout's horizon, from the clauses of one step and of one time, whatever chains the step has. These are
-/// copied once, however many steps there are.
+/// The formula of a layout's horizon, from the clauses of one step and of one time, whatever chains the step has. It
+/// copies none of these where they are in memory that is shared.
 pub fn formula(
     alloc: Global,
     task: &Task,
     layout: &Layout,
-    step: &ClauseList,
-    known: &ClauseList,
+    step: &SharedList,
+    known: &SharedList,
 ) -> Result<Formula, Memory>
     requires horizon { layout.now.horizon ≤ 255 }
     requires facts { layout.now.facts ≡ task.now.facts }

@@ -9,8 +9,7 @@ ghost use Rattle.step_clauses.specs.Variables.{layout_of};
 ghost use Rattle.step_clauses.specs.Coded.{formula_of};
 ghost use Rattle.step_clauses.specs.Shift.{one_step, one_time};
 ghost use Rattle.step_chains.specs.Chains.{AreChains};
-ghost use Rattle.step_laws.specs.Form.{IsOrderedTask, AreSets, steps_at};
-ghost use Rattle.step_laws.specs.Stepping.{IsStepping};
+ghost use Rattle.step_laws.specs.{Form.IsOrderedTask, Form.AreSets, Form.steps_at, Stepping.IsStepping};
 ghost use Rattle.step_encoding.specs.Numbers.{literals_of};
 ghost use Rattle.step_encoding.specs.Laws.{numbers_of, plans_of, refutes_of, sets_of, members_of};
 
@@ -22,6 +21,7 @@ use action_order::order::Order;
 use clause_base::clause_list::ClauseList;
 use clause_base::formula::Formula;
 use clause_base::memory::Memory;
+use clause_base::shared_list::SharedList;
 use gt_core::layout::Layout;
 use gt_core::pairs::Pairs;
 use gt_core::task::Task;
@@ -56,37 +56,38 @@ pub trait Placing: Drop {
 /// How many literals a formula has at most.
 const MOST_LITERALS: u64 = 4_000_000;
 
-/// The clauses of one step, where a formula with so many literals is not too large.
+/// The clauses of one step, where a formula with so many literals is not too large, in memory that formulas share.
 fn kept_step(
     alloc: Global,
     task: &Task,
     chains: &Chains,
     literals: u64,
-) -> Result<ClauseList, Memory>
+) -> Result<SharedList, Memory>
     requires actions { chains.now.actions ≡ length task.now.actions }
     ensures { IfOk result (λ step. literals ≤ 4000000 → (places : List (List ℕ × ℕ)) → AreChains task.now places chains.now → step ≡ one_step task.now places) }
 {
     if literals > MOST_LITERALS {
-        return Ok(ClauseList::new(alloc));
+        return Ok(SharedList::own(ClauseList::new(alloc)));
     }
     let step = one_step(alloc, task, chains)?;
-    Ok(step)
+    SharedList::own(step).share(alloc)
 }
 
-/// The clauses of the known pairs at one time, where a formula with so many literals is not too large.
-fn kept_time(alloc: Global, pairs: &Pairs, literals: u64) -> Result<ClauseList, Memory>
+/// The clauses of the known pairs at one time, where a formula with so many literals is not too large, in memory that
+/// formulas share.
+fn kept_time(alloc: Global, pairs: &Pairs, literals: u64) -> Result<SharedList, Memory>
     ensures { IfOk result (λ known. literals ≤ 4000000 → known ≡ one_time pairs.now.clauses) }
 {
     if literals > MOST_LITERALS {
-        return Ok(ClauseList::new(alloc));
+        return Ok(SharedList::own(ClauseList::new(alloc)));
     }
     let known = one_time(alloc, pairs)?;
-    Ok(known)
+    SharedList::own(known).share(alloc)
 }
 
 /// The encoding whose chains go where `P` says. The chains are found once, and how many literals a step has, and the known
 /// pairs at one time, is counted once. The clauses of one step and of one time are made once, where some formula has them and
-/// is not too large; each formula has copies of them, however many steps it has.
+/// is not too large; all formulas have them in the same memory, however many there are and however many steps they have.
 #[derive(Debug, Drop)]
 pub struct Placed<'a, P: Placing> {
     task: &'a Task,
@@ -96,8 +97,8 @@ pub struct Placed<'a, P: Placing> {
     chains: Chains,
     step_size: u64,
     known_size: u64,
-    step: ClauseList,
-    known: ClauseList,
+    step: SharedList,
+    known: SharedList,
     placing: PhantomData<P>,
 }
 

@@ -1,4 +1,4 @@
-use Rattle.std.proofs.Common.{arith, ◌≡◌, ◌==◌, ℕ, ◌+◌, ◌*◌, ◌%◌, ◌<◌, List, [], ◌∷◌, ◌++◌, map, length, take, drop, get_or, Bool, true, false, ◌&&◌, if◌then◌else◌, count_by, not, refl, sym, ap, ◌∙◌, subst}
+use Rattle.std.proofs.Common.{arith, ◌≡◌, ◌==◌, ℕ, ◌+◌, ◌*◌, ◌%◌, ◌<◌, List, [], ◌∷◌, ◌++◌, map, length, take, drop, get_or, Bool, true, false, ◌&&◌, if◌then◌else◌, count_by, refl, sym, ap, ◌∙◌, subst}
 use Rattle.std.specs.List.{filter, cons_option, AllByRecursion}
 use Rattle.std.proofs.lemmas.List.{drop_more}
 use Rattle.gt_core.specs.Literal.{opposite}
@@ -139,7 +139,3 @@ effects_by m n xs ys e h a = subst (λ (k : ℕ). AllByRecursion (EffectWithin k
 pub effects_within : (task : Task) (facts a : ℕ) (es : List Effect) (x : Action) → facts ≡ task.facts → x ≡ action task a → es ≡ x.effects → is_task task ≡ true → a < length task.actions
     → AllByRecursion (EffectWithin facts) es
 effects_within task facts a es x same is e t lt = effects_by facts task.facts es (action task a).effects same (e ∙ ap (λ (y : Action). y.effects) is) (action_effects_within task a t lt)
-
--- an effect is conditional where its condition is not empty
-pub conditional_if : (e : Effect) (condition : List ℕ) (b : Bool) → condition ≡ e.condition → b ≡ (length condition == 0) → b ≡ false → is_conditional e ≡ true
-conditional_if e condition b h g t = ap not (ap (λ (ls : List ℕ). length ls == 0) (sym h) ∙ sym g ∙ t)

@@ -19,7 +19,7 @@ pub(crate) struct Adders {
 }
 
 /// The literal that adds the fact of an effect.
-fn add_of_fact(effect: &Eff) -> u32
+pub fn add_of_fact(effect: &Eff) -> u32
     ensures { result ≡ effect.now.literal - effect.now.literal % 2 }
 {
     effect.lit() - effect.lit() % 2

@@ -90,7 +90,7 @@ fn add_meaning(
     requires { IsPlaced layout.now place.action place.number effect.now }
     ensures { OnOk result (Appends clauses.old clauses.new (meaning_of layout.now (row_of place.action place.number effect.now))) }
 {
-    if effect.cond().is_empty() {
+    if !effect.is_conditional() {
         return Ok(());
     }
     let variable = effect_variable(layout, place, effect);

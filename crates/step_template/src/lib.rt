@@ -2,12 +2,12 @@
 //! moved. Each clause group has a file of its own, and is what the definition in `step_clauses` lists of it.
 #![tactic(auto)]
 
-mod adders;
+pub mod adders;
 mod effects;
 mod frames;
 pub mod index;
 pub mod known;
-mod literals;
+pub mod literals;
 mod numbers;
 mod preconditions;
 pub mod template;

@@ -1,10 +1,10 @@
 //! Literals of the first step, and clauses of them.
 
-ghost use Rattle.std.specs.Prelude.{◌≡◌, ◌/◌, ◌≤◌, ◌<◌, [], ◌++◌, OnOk};
+ghost use Rattle.std.specs.Prelude.{◌≡◌, ◌/◌, ◌≤◌, ◌<◌, [], ◌++◌, if◌then◌else◌, OnOk};
 ghost use Rattle.std.specs.List.{cons_option};
-ghost use Rattle.gt_core.specs.Layout.{action_at, conditional_at, fact_at};
+ghost use Rattle.gt_core.specs.Layout.{action_at, conditional_at, fact_at, variables};
 ghost use Rattle.clause_base.specs.Clause.{clause_of};
-ghost use Rattle.step_clauses.specs.Clause.{code};
+ghost use Rattle.step_clauses.specs.Clause.{Is, Not, code};
 ghost use Rattle.step_clauses.specs.Formula.{literal_over};
 
 use clause_base::clause_list::ClauseList;
@@ -34,15 +34,20 @@ pub(crate) fn conditional_variable(layout: &Layout, j: u32) -> u32
     layout.conditional(0, j)
 }
 
-/// The variable of a fact at a time.
-fn fact_variable(layout: &Layout, time: u32, f: u32) -> u32
+/// The literal that a fact has a value at a time.
+pub fn fact_lit(layout: &Layout, time: u32, fact: u32, value: bool) -> Lit
     requires time { time ≤ layout.now.horizon }
-    requires f { f < layout.now.facts }
-    ensures value { result ≡ fact_at layout.now time f }
-    ensures small { result ≤ 2147483647 }
+    requires fact { fact < layout.now.facts }
+    ensures code { result ≡ code (if value then Is (fact_at layout.now time fact) else Not (fact_at layout.now time fact)) }
+    ensures within { result / 2 < variables layout.now }
 {
     let _all = layout.variables();
-    layout.fact(time, f)
+    let variable = layout.fact(time, fact);
+    if value {
+        Lit::of(variable, true)
+    } else {
+        Lit::of(variable, false)
+    }
 }
 
 /// The literal that a fact literal is at a time.
@@ -51,12 +56,7 @@ pub(crate) fn literal_at(layout: &Layout, time: u32, lit: u32) -> Lit
     requires fact { lit / 2 < layout.now.facts }
     ensures { result ≡ code (literal_over (fact_at layout.now time) lit) }
 {
-    let variable = fact_variable(layout, time, lit / 2);
-    if lit % 2 == 0 {
-        Lit::of(variable, true)
-    } else {
-        Lit::of(variable, false)
-    }
+    fact_lit(layout, time, lit / 2, lit % 2 == 0)
 }
 
 /// Appends the clause of these literals, unless two of them are opposite.

@@ -21,10 +21,10 @@ pub(crate) fn number_after(number: u32, effect: &Eff) -> u32
     requires { number ≤ 65536 }
     ensures { result ≡ number_after number effect.now }
 {
-    if effect.cond().is_empty() {
-        number
-    } else {
+    if effect.is_conditional() {
         number + 1
+    } else {
+        number
     }
 }
 
@@ -36,9 +36,9 @@ pub(crate) fn effect_variable(layout: &Layout, place: Place, effect: &Eff) -> u3
     ensures value { result ≡ variable_at layout.now 0 (row_of place.action place.number effect.now) }
     ensures small { result ≤ 2147483647 }
 {
-    if effect.cond().is_empty() {
-        action_variable(layout, place.action)
-    } else {
+    if effect.is_conditional() {
         conditional_variable(layout, place.number)
+    } else {
+        action_variable(layout, place.action)
     }
 }

@@ -1,5 +1,5 @@
 //! The lines of a ground task and of a published order.
-ghost use Rattle.std.specs.Prelude.{◌≡◌, ◌++◌, ◌<◌, map, length, true, OnOk};
+ghost use Rattle.std.specs.Prelude.{◌≡◌, ◌++◌, ◌<◌, map, length, true, OnOk, decimal};
 ghost use Rattle.gt_core.specs.Literal.{is_in};
 ghost use Rattle.gt_core.specs.Published.{IsPublished, order_of};
 ghost use Rattle.grounding.specs.Grounded.{IsGrounded};
@@ -56,16 +56,22 @@ pub fn push_ground(p: &Pddl, g: &Grounded, text: &mut Vec<u8>) -> Result<(), Mem
     push_count("effects", task.conditional(), text)
 }
 
+/// Appends a number after what stands before it.
+fn push_after(before: &[u8], number: u64, text: &mut Vec<u8>) -> Result<(), Memory>
+    ensures { OnOk result (text.new.items ≡ (text.old.items ++ before.now) ++ decimal number) }
+{
+    text.extend_from_slice(before)?;
+    push_number(text, number)?;
+    Ok(())
+}
+
 /// Appends the counts of an order of actions.
 fn push_counts(actions: u64, components: u64, pairs: u64, text: &mut Vec<u8>) -> Result<(), Memory>
     ensures { OnOk result (text.new.items ≡ text.old.items ++ order_counts actions components pairs) }
 {
-    text.extend_from_slice(b"; actions ")?;
-    push_number(text, actions)?;
-    text.extend_from_slice(b" components ")?;
-    push_number(text, components)?;
-    text.extend_from_slice(b" pairs ")?;
-    push_number(text, pairs)?;
+    push_after(b"; actions ", actions, text)?;
+    push_after(b" components ", components, text)?;
+    push_after(b" pairs ", pairs, text)?;
     text.extend_from_slice(b"\n")?;
     Ok(())
 }

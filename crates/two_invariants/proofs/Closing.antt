@@ -108,73 +108,63 @@ module _ (V : ℕ → ℕ → Bool) (size : ℕ) (bound : (l m : ℕ) → V l m 
       pub follows_done : Follows V size R T R' T'
       follows_done = record { grown = grown_done; growing = growing_done; less = less_done }
 
-    -- ---- by its clauses
+  -- ---- all at once, by what their clauses tell
 
-    module _ (R' T' : ℕ → Bool)
-        (er : (m : ℕ) → R' m ≡ (R m || V (opposite x) m)) (et : (m : ℕ) → T' m ≡ ((not (x == m) && T m) || (V (opposite x) m && not (R m)))) where
-      from_old_2 : IsPart R R'
-      from_old_2 m h = er m ∙ or_left _ _ h
+  module _ (R T U R' T' : ℕ → Bool) (g : IsGrowing V size R T)
+      (all : (x y : ℕ) → T x ≡ true → V (opposite x) y ≡ true → U y ≡ true)
+      (only : (other : ℕ → Bool) → IsChained V other → IsPart T other → IsPart U other)
+      (er : (m : ℕ) → R' m ≡ (R m || U m)) (et : (m : ℕ) → T' m ≡ (U m && not (R m))) where
+    of_old : IsPart R R'
+    of_old m h = er m ∙ or_left _ _ h
 
-      grown_new : IsGrownFrom V R R'
-      grown_new = record {
-        more = from_old_2;
-        sound = λ other ch part m h. by other ch part m (or_split (R m) (V (opposite x) m) (sym (er m) ∙ h));
-      }
-        where
-          by : (other : ℕ → Bool) → IsChained V other → IsPart R other → (m : ℕ) → (R m ≡ true) ⊎ (V (opposite x) m ≡ true) → other m ≡ true
-          by other ch part m (inl r) = part m r
-          by other ch part m (inr v) = ch x m (part x (g.listed x t)) v
+    of_new : IsPart U R'
+    of_new m h = er m ∙ or_right (R m) _ h
 
-      growing_new : IsGrowing V size R' T'
-      growing_new = record {
-        within = λ m h. inside m (or_split (R m) (V (opposite x) m) (sym (er m) ∙ h));
-        listed = λ m h. on_list m (or_split (not (x == m) && T m) (V (opposite x) m && not (R m)) (sym (et m) ∙ h));
-        chained = λ free a y r off v. (let no_r : HasNoPair R = λ f p q. free f (from_old_2 _ p) (from_old_2 _ q) in
-            follow a y v no_r (was a r off (cases (R a))) (off_is (x == a) (T a) _ (sym (et a) ∙ off)));
-      }
-        where
-          inside : (m : ℕ) → (R m ≡ true) ⊎ (V (opposite x) m ≡ true) → m < size
-          inside m (inl r) = g.within m r
-          inside m (inr v) = bound (opposite x) m v
+    pub grown_all : IsGrownFrom V R R'
+    grown_all = record {
+      more = of_old;
+      sound = λ other ch part m h. by other ch part m (or_split (R m) (U m) (sym (er m) ∙ h));
+    }
+      where
+        by : (other : ℕ → Bool) → IsChained V other → IsPart R other → (m : ℕ) → (R m ≡ true) ⊎ (U m ≡ true) → other m ≡ true
+        by other ch part m (inl r) = part m r
+        by other ch part m (inr u) = only other ch (λ k t. part k (g.listed k t)) m u
 
-          on_list : (m : ℕ) → ((not (x == m) && T m) ≡ true) ⊎ ((V (opposite x) m && not (R m)) ≡ true) → R' m ≡ true
-          on_list m (inl h) = from_old_2 m (g.listed m (and_split _ _ h).1)
-          on_list m (inr h) = er m ∙ or_right (R m) _ (and_split _ _ h).0
+    pub growing_all : IsGrowing V size R' T'
+    growing_all = record {
+      within = λ m h. inside m (or_split (R m) (U m) (sym (er m) ∙ h));
+      listed = λ m h. of_new m (and_split _ _ (sym (et m) ∙ h)).0;
+      chained = λ free a y r off v. (let no_r : HasNoPair R = λ f p q. free f (of_old _ p) (of_old _ q) in
+          from a y v no_r (was a off (or_split (R a) (U a) (sym (er a) ∙ r)) (cases (R a))) (cases (T a)));
+    }
+      where
+        inside : (m : ℕ) → (R m ≡ true) ⊎ (U m ≡ true) → m < size
+        inside m (inl r) = g.within m r
+        inside m (inr u) = ltb-true m size (only (λ k. nat_lt k size) (λ x y i v. lt-ltb y size (bound (opposite x) y v)) (λ k t. lt-ltb k size (g.within k (g.listed k t))) m u)
 
-          off_is : (b t e : Bool) → ((not b && t) || e) ≡ false → (b ≡ true) ⊎ (t ≡ false)
-          off_is true t e f = inl refl
-          off_is false true e f = cc
-          off_is false false e f = inr refl
+        new_listed : (u r : Bool) → u ≡ true → r ≡ false → (u && not r) ≡ false → ⊥
+        new_listed u r p q z = grind arith
 
-          new_listed : (b t v r : Bool) → v ≡ true → r ≡ false → ((not b && t) || (v && not r)) ≡ false → ⊥
-          new_listed b t v r p q z = grind arith
+        was : (a : ℕ) → T' a ≡ false → (R a ≡ true) ⊎ (U a ≡ true) → (R a ≡ true) ⊎ (R a ≡ false) → R a ≡ true
+        was a off (inl r) c = r
+        was a off (inr u) (inl r) = r
+        was a off (inr u) (inr n) = absurd (new_listed (U a) (R a) u n (sym (et a) ∙ off))
 
-          was_by : (a : ℕ) → R a ≡ false → T' a ≡ false → (R a ≡ true) ⊎ (V (opposite x) a ≡ true) → R a ≡ true
-          was_by a n off (inl r) = r
-          was_by a n off (inr v) = absurd (new_listed (x == a) (T a) (V (opposite x) a) (R a) v n (sym (et a) ∙ off))
+        from : (a y : ℕ) → V (opposite a) y ≡ true → HasNoPair R → R a ≡ true → (T a ≡ true) ⊎ (T a ≡ false) → R' y ≡ true
+        from a y v no_r r (inl t) = of_new y (all a y t v)
+        from a y v no_r r (inr off) = of_old y (g.chained no_r a y r off v)
 
-          was : (a : ℕ) → R' a ≡ true → T' a ≡ false → (R a ≡ true) ⊎ (R a ≡ false) → R a ≡ true
-          was a r off (inl h) = h
-          was a r off (inr n) = was_by a n off (or_split (R a) (V (opposite x) a) (sym (er a) ∙ r))
+    weigh_all : (r s u : Bool) → (s ≡ true → r ≡ true) → weight (r || u) (u && not r) ≤ weight r s
+    weigh_all r s u h = grind arith
 
-          follow : (a y : ℕ) → V (opposite a) y ≡ true → HasNoPair R → R a ≡ true → ((x == a) ≡ true) ⊎ (T a ≡ false) → R' y ≡ true
-          follow a y v no_r r (inl e) = er y ∙ or_right (R y) _ (subst (λ (k : ℕ). V (opposite k) y ≡ true) (sym (test_same x a e)) v)
-          follow a y v no_r r (inr off) = from_old_2 y (g.chained no_r a y r off v)
+    light_all : (r s u : Bool) → s ≡ true → r ≡ true → weight (r || u) (u && not r) < weight r s
+    light_all r s u p q = grind arith
 
-      weigh_new : (b r s e : Bool) → (s ≡ true → r ≡ true) → weight (r || e) ((not b && s) || (e && not r)) ≤ weight r s
-      weigh_new b r s e h = grind arith
-
-      light_new : (b r s e : Bool) → b ≡ true → s ≡ true → r ≡ true → weight (r || e) ((not b && s) || (e && not r)) < weight r s
-      light_new b r s e p q z = grind arith
-
-      less_new : work size R' T' < work size R T
-      less_new = total_less (λ m. weight (R m) (T m)) (λ m. weight (R' m) (T' m)) size x
-          (λ m. subst (λ (k : ℕ). k ≤ weight (R m) (T m)) (λ i. weight (sym (er m) i) (sym (et m) i)) (weigh_new (x == m) (R m) (T m) (V (opposite x) m) (g.listed m)))
-          (g.within x (g.listed x t))
-          (subst (λ (k : ℕ). k < weight (R x) (T x)) (λ i. weight (sym (er x) i) (sym (et x) i)) (light_new (x == x) (R x) (T x) (V (opposite x) x) (same_test x x refl) t (g.listed x t)))
-
-      pub follows_new : Follows V size R T R' T'
-      follows_new = record { grown = grown_new; growing = growing_new; less = less_new }
+    pub less_all : (x : ℕ) → T x ≡ true → work size R' T' < work size R T
+    less_all x t = total_less (λ m. weight (R m) (T m)) (λ m. weight (R' m) (T' m)) size x
+        (λ m. subst (λ (k : ℕ). k ≤ weight (R m) (T m)) (λ i. weight (sym (er m) i) (sym (et m) i)) (weigh_all (R m) (T m) (U m) (g.listed m)))
+        (g.within x (g.listed x t))
+        (subst (λ (k : ℕ). k < weight (R x) (T x)) (λ i. weight (sym (er x) i) (sym (et x) i)) (light_all (R x) (T x) (U x) t (g.listed x t)))
 
   pub grown_twice : (a b c : ℕ → Bool) → IsGrownFrom V a b → IsGrownFrom V b c → IsGrownFrom V a c
   grown_twice a b c f g = record { more = λ m h. g.more m (f.more m h); sound = λ other ch part. g.sound other ch (f.sound other ch part) }

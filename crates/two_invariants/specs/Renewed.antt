@@ -7,7 +7,7 @@ use Rattle.two_invariants.specs.Rows.{row_at, clause_in, IsPart, IsChained, HasN
 use Rattle.two_invariants.specs.Tested.{IsSetOf, breaks_by}
 use Rattle.two_invariants.specs.declared.known.Known.{Known}
 use Rattle.two_invariants.specs.declared.again.Moved.{Moved}
-use Rattle.two_invariants.specs.declared.renew.Bound.{Bound}
+use Rattle.two_invariants.specs.declared.bound.Bound.{Bound}
 
 -- What is known after clauses were dropped, and which actions may break others than before.
 

@@ -7,8 +7,9 @@ ghost use Rattle.two_invariants.specs.Rows.{clause_in, AreRows};
 ghost use Rattle.two_invariants.specs.Tested.{IsSetOf, AreKnown, act_at};
 ghost use Rattle.two_invariants.specs.Renewed.{WereKnown, AreMoves, is_unmoved};
 
+use crate::bound::bound_literals;
 use crate::known::{Known, all_known};
-use crate::renew::{bound_literals, renew_none, renew_rows};
+use crate::renew::{renew_none, renew_rows};
 use bit_rows::row::BitRow;
 use gt_core::act::Act;
 use gt_core::eff::Eff;

@@ -28,8 +28,8 @@ use rayon::prelude::*;
 use std::alloc::{AllocError, Global};
 use std::thread::Threads;
 
-/// How many actions are worth a thread of their own.
-const LEAST_PIECE: usize = 512;
+/// How many actions are worth a thread of their own: to start one takes as long as testing some hundred.
+const LEAST_PIECE: usize = 2048;
 
 /// What each of some actions breaks, tested in parallel.
 fn all_losses(

@@ -4,8 +4,10 @@
 
 mod again;
 mod asked;
+mod bound;
 mod broken;
 mod by_literal;
+mod close;
 mod drop;
 mod first;
 mod givers;

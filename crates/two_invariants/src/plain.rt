@@ -83,6 +83,7 @@ pub fn plain_losses(
     ensures each { IfOk result (λ losses. AllByRecursion (IsLossOf (2 * facts) clauses.now) losses.items) }
 {
     let mut given = BitRow::new(alloc);
+    given.make_room(clauses.len())?;
     insert_literals(effects, &mut given)?;
     set.unite(&given)?;
     take_opposites(effects, &given, set);

@@ -8,46 +8,11 @@ ghost use Rattle.two_invariants.specs.Rows.{row_at, clause_in, AreRows, IsPart, 
 ghost use Rattle.two_invariants.specs.Tested.{IsSetOf};
 ghost use Rattle.two_invariants.specs.Renewed.{IsBound, WasClosed, WasTold};
 
-use crate::known::close;
+use crate::bound::{Bound, add_partners, add_told};
+use crate::close::close;
 use bit_rows::row::BitRow;
 use gt_core::lits::opposite;
 use std::alloc::{AllocError, Global};
-
-/// The literals that stand in a clause, and their opposites, which tell something.
-#[derive(Drop)]
-pub struct Bound {
-    pub literals: BitRow,
-    pub opposites: BitRow,
-}
-
-/// Notes a literal that stands in a clause of its row.
-fn note_bound(row: &BitRow, l: u32, bound: &mut Bound) -> Result<(), AllocError>
-    ensures literals { OnOk result (IsPart (row_has bound.old.literals) (row_has bound.new.literals)) }
-    ensures opposites { OnOk result (IsPart (row_has bound.old.opposites) (row_has bound.new.opposites)) }
-    ensures own { OnOk result ((m : ℕ) → row_has row.now m ≡ true → (row_has bound.new.literals l ≡ true) × (row_has bound.new.opposites (opposite l) ≡ true)) }
-{
-    if row.least(0).is_none() {
-        return Ok(());
-    }
-    bound.literals.insert(l)?;
-    bound.opposites.insert(opposite(l))?;
-    Ok(())
-}
-
-/// The literals that stand in a clause.
-pub fn bound_literals(alloc: Global, facts: u32, clauses: &[BitRow]) -> Result<Bound, AllocError>
-    requires { AreRows facts clauses.now }
-    ensures { IfOk result (IsBound (clause_in clauses.now)) }
-{
-    let mut bound = Bound {
-        literals: BitRow::new(alloc),
-        opposites: BitRow::new(alloc),
-    };
-    for l in 0..2 * facts {
-        note_bound(&clauses[l as usize], l, &mut bound)?;
-    }
-    Ok(bound)
-}
 
 /// Whether none of a set stands in a row with its opposite.
 fn is_apart(row: &BitRow, set: &BitRow) -> bool
@@ -58,52 +23,6 @@ fn is_apart(row: &BitRow, set: &BitRow) -> bool
     }
     if set.has_pair_across(row) {
         return false;
-    }
-    true
-}
-
-/// Whether none of some literals stands in a clause with the opposite of a literal.
-fn tells_none(clauses: &[BitRow], x: u32, lits: &BitRow) -> bool
-    requires { opposite x < length clauses.now }
-    ensures { OnTrue result ((y : ℕ) → row_has lits.now y ≡ true → clause_in clauses.now (opposite x) y ≡ true → ⊥) }
-{
-    lits.least_common(&clauses[opposite(x) as usize], 0)
-        .is_none()
-}
-
-/// Whether no literal of a set tells one of some literals.
-fn all_tell_none(clauses: &[BitRow], bound: &Bound, set: &BitRow, lits: &BitRow) -> bool
-    requires few { length clauses.now ≤ 4096 }
-    requires even { (l : ℕ) → l < length clauses.now → opposite l < length clauses.now }
-    requires either { (l m : ℕ) → clause_in clauses.now l m ≡ clause_in clauses.now m l }
-    requires bound { IsBound (clause_in clauses.now) bound.now }
-    requires set { IsSetOf (length clauses.now) (row_has set.now) }
-    ensures { OnTrue result ((x y : ℕ) → row_has set.now x ≡ true → row_has lits.now y ≡ true → clause_in clauses.now y (opposite x) ≡ true → ⊥) }
-{
-    let mut from = 0;
-    while let Some(x) = set.least_common(&bound.opposites, from) {
-        if !tells_none(clauses, x, lits) {
-            return false;
-        }
-        from = x + 1;
-    }
-    true
-}
-
-/// Whether none of some literals is told by a literal of a set.
-fn none_is_told(clauses: &[BitRow], bound: &Bound, set: &BitRow, lits: &BitRow) -> bool
-    requires few { length clauses.now ≤ 4096 }
-    requires either { (l m : ℕ) → clause_in clauses.now l m ≡ clause_in clauses.now m l }
-    requires bound { IsBound (clause_in clauses.now) bound.now }
-    requires lits { IsSetOf (length clauses.now) (row_has lits.now) }
-    ensures { OnTrue result ((x y : ℕ) → row_has set.now x ≡ true → row_has lits.now y ≡ true → clause_in clauses.now y (opposite x) ≡ true → ⊥) }
-{
-    let mut from = 0;
-    while let Some(y) = lits.least_common(&bound.literals, from) {
-        if !is_apart(&clauses[y as usize], set) {
-            return false;
-        }
-        from = y + 1;
     }
     true
 }
@@ -125,26 +44,49 @@ fn has_fewer(one: &BitRow, other: &BitRow, third: &BitRow, fourth: &BitRow) -> b
     true
 }
 
-/// Whether none of some literals stands in a clause with the opposite of one of a set. Looks at the fewer of those of the
-/// set that tell something and of the others that stand in a clause.
-fn none_follows(clauses: &[BitRow], bound: &Bound, set: &BitRow, lits: &BitRow) -> bool
+/// Whether none of some literals stands in a clause with the opposite of one of a set. Goes through the fewer of those of
+/// the set that tell something and of the others that stand in a clause. `room` is room for a row.
+fn none_follows(
+    clauses: &[BitRow],
+    bound: &Bound,
+    set: &BitRow,
+    lits: &BitRow,
+    room: &mut BitRow,
+) -> Result<bool, AllocError>
     requires few { length clauses.now ≤ 4096 }
     requires even { (l : ℕ) → l < length clauses.now → opposite l < length clauses.now }
     requires either { (l m : ℕ) → clause_in clauses.now l m ≡ clause_in clauses.now m l }
     requires bound { IsBound (clause_in clauses.now) bound.now }
     requires set { IsSetOf (length clauses.now) (row_has set.now) }
     requires lits { IsSetOf (length clauses.now) (row_has lits.now) }
-    ensures { OnTrue result ((x y : ℕ) → row_has set.now x ≡ true → row_has lits.now y ≡ true → clause_in clauses.now y (opposite x) ≡ true → ⊥) }
+    ensures { IfOk result (λ none. none ≡ true → (x y : ℕ) → row_has set.now x ≡ true → row_has lits.now y ≡ true → clause_in clauses.now y (opposite x) ≡ true → ⊥) }
 {
+    room.clear();
     if has_fewer(set, &bound.opposites, lits, &bound.literals) {
-        all_tell_none(clauses, bound, set, lits)
-    } else {
-        none_is_told(clauses, bound, set, lits)
+        add_told(clauses, bound, set, room)?;
+        return Ok(lits.least_common(room, 0).is_none());
+    }
+    add_partners(clauses, bound, lits, room)?;
+    Ok(is_apart(room, set))
+}
+
+/// Rows to work in.
+#[derive(Drop)]
+pub struct Spare {
+    pub rest: BitRow,
+    pub room: BitRow,
+}
+
+/// Rows without numbers.
+fn no_spare(alloc: Global) -> Spare {
+    Spare {
+        rest: BitRow::new(alloc),
+        room: BitRow::new(alloc),
     }
 }
 
 /// Makes `next`, which has what is known at once, the set of all that follows. Whether it is another than the old set,
-/// which is the same else. `rest` is room for a row.
+/// which is the same else.
 fn renew(
     facts: u32,
     clauses: &[BitRow],
@@ -154,7 +96,7 @@ fn renew(
     below: u32,
     old: &BitRow,
     next: &mut BitRow,
-    rest: &mut BitRow,
+    spare: &mut Spare,
 ) -> Result<bool, AllocError>
     requires clauses { AreRows facts clauses.now }
     requires either { (l m : ℕ) → clause_in clauses.now l m ≡ clause_in clauses.now m l }
@@ -172,13 +114,24 @@ fn renew(
         return Ok(true);
     }
     if !old.has_pair() {
+        let rest = &mut spare.rest;
         rest.make_same(old)?;
         rest.subtract(next);
-        if none_follows(clauses, bound, next, rest) {
+        if none_follows(clauses, bound, next, rest, &mut spare.room)? {
             return Ok(true);
         }
     }
-    close(facts, clauses, asked, done, below, next, rest)?;
+    close(
+        facts,
+        clauses,
+        bound,
+        asked,
+        done,
+        below,
+        next,
+        &mut spare.rest,
+        &mut spare.room,
+    )?;
     if next.is_same(old) {
         return Ok(false);
     }
@@ -214,7 +167,7 @@ fn renew_row(
     rows: &[BitRow],
     x: u32,
     next: &mut BitRow,
-    rest: &mut BitRow,
+    spare: &mut Spare,
 ) -> Result<bool, AllocError>
     requires clauses { AreRows facts clauses.now }
     requires either { (l m : ℕ) → clause_in clauses.now l m ≡ clause_in clauses.now m l }
@@ -230,7 +183,7 @@ fn renew_row(
         return Ok(false);
     }
     fill_first(clauses, x, next)?;
-    let anew = renew(facts, clauses, bound, asked, rows, x, old, next, rest)?;
+    let anew = renew(facts, clauses, bound, asked, rows, x, old, next, spare)?;
     Ok(anew)
 }
 
@@ -255,7 +208,7 @@ fn renew_at(
     rows: &mut Vec<BitRow>,
     x: u32,
     next: &mut BitRow,
-    rest: &mut BitRow,
+    spare: &mut Spare,
     moved: &mut BitRow,
 ) -> Result<(), AllocError>
     requires clauses { AreRows facts clauses.now }
@@ -280,7 +233,7 @@ fn renew_at(
         rows.as_slice(),
         x,
         next,
-        rest,
+        spare,
     )? {
         set_row(rows, x, next)?;
         moved.insert(x)?;
@@ -310,12 +263,12 @@ pub fn renew_rows(
     ensures same { IfOk result (λ moved. (k : ℕ) → row_has moved k ≡ false → row_at rows.new.items k ≡ row_at rows.old.items k) }
 {
     let mut next = BitRow::new(alloc);
-    let mut rest = BitRow::new(alloc);
+    let mut spare = no_spare(alloc);
     let mut moved = BitRow::new(alloc);
     let mut from = 0;
     while let Some(x) = asked.least(from) {
         renew_at(
-            facts, clauses, bound, stale, asked, rows, x, &mut next, &mut rest, &mut moved,
+            facts, clauses, bound, stale, asked, rows, x, &mut next, &mut spare, &mut moved,
         )?;
         from = x + 1;
     }
@@ -367,7 +320,7 @@ pub fn renew_none(
     ensures same { IfOk result (λ moved. (m : ℕ) → row_has moved m ≡ false → row_has none.new m ≡ row_has none.old m) }
 {
     let mut next = single_clauses(alloc, facts, clauses)?;
-    let mut rest = BitRow::new(alloc);
+    let mut spare = no_spare(alloc);
     if !renew(
         facts,
         clauses,
@@ -377,7 +330,7 @@ pub fn renew_none(
         2 * facts,
         none,
         &mut next,
-        &mut rest,
+        &mut spare,
     )? {
         return Ok(BitRow::new(alloc));
     }

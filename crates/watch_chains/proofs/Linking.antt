@@ -5,7 +5,7 @@ use Rattle.std.proofs.lemmas.Map.Keys.{IsDistinct-cons}
 use Rattle.std.proofs.lemmas.Map.Steps.{length-le_from_distinct_below}
 use Rattle.watch_chains.specs.declared.chains.Node.{Node}
 use Rattle.std.proofs.lemmas.List.{get_or_read, get_or_append_left}
-use Rattle.watch_chains.specs.Linked.{no_node, next_of, has, IsChain, IsOnce, IsLinked, IsPopped, placed, renamed, steps, chain_length}
+use Rattle.watch_chains.specs.Linked.{no_node, next_of, has, IsChain, HasNoneTwice, IsLinked, IsPopped, placed, renamed, steps, chain_length}
 
 or_false : (a b : Bool) → (a || b) ≡ false → (a ≡ false) × (b ≡ false)
 or_false true b h = cc
@@ -28,7 +28,7 @@ distinct_nil : IsDistinct eqb []
 unfolding IsDistinct
 distinct_nil = tt
 
-once_distinct : (xs : List ℕ) → IsOnce xs → IsDistinct eqb xs
+once_distinct : (xs : List ℕ) → HasNoneTwice xs → IsDistinct eqb xs
 once_distinct [] h = distinct_nil
 once_distinct (x ∷ xs) h = IsDistinct-cons eqb x xs (apart xs h.0) (once_distinct xs h.1)
   where
@@ -45,7 +45,7 @@ chain_below nodes a (x ∷ xs) h q e = by (q == x) refl (chain_below nodes (next
     by false f on = on (ap (λ (b : Bool). b || has xs q) (sym f) ∙ e)
 
 -- a chain is no longer than there are nodes
-chain_short : (nodes : List Node) (a : ℕ) (xs : List ℕ) → IsChain nodes a xs → IsOnce xs → length xs ≤ length nodes
+chain_short : (nodes : List Node) (a : ℕ) (xs : List ℕ) → IsChain nodes a xs → HasNoneTwice xs → length xs ≤ length nodes
 chain_short nodes a xs h o = length-le_from_distinct_below xs (length nodes) (once_distinct xs o) (chain_below nodes a xs h)
 
 steps_is : (nodes : List Node) (n a : ℕ) (xs : List ℕ) → length nodes ≤ 4294967295 → IsChain nodes a xs → length xs ≤ n → steps nodes n a ≡ length xs
@@ -59,7 +59,7 @@ steps_is nodes (suc n) a (x ∷ xs) f h l =
     let m : steps nodes n (next_of nodes a) ≡ length xs = ap (λ (y : ℕ). steps nodes n (next_of nodes y)) h.0 ∙ k in
     rw e (ap (λ (y : ℕ). suc y) m)
 
-length_by : (heads : List ℕ) (nodes : List Node) (l : ℕ) (xs : List ℕ) → length nodes ≤ 4294967295 → IsChain nodes (get_or heads l 0) xs → IsOnce xs → chain_length heads nodes l ≡ length xs
+length_by : (heads : List ℕ) (nodes : List Node) (l : ℕ) (xs : List ℕ) → length nodes ≤ 4294967295 → IsChain nodes (get_or heads l 0) xs → HasNoneTwice xs → chain_length heads nodes l ≡ length xs
 unfolding chain_length
 length_by heads nodes l xs f c o = steps_is nodes (length nodes) (get_or heads l 0) xs f c (chain_short nodes (get_or heads l 0) xs c o)
 
@@ -90,9 +90,9 @@ has_not heads nodes on m nd l o h = by (has (m.chain l) nd) refl
     by true f = let g : on nd ≡ Some l = m.only l nd h f in let z : None ≡ Some l = sym o ∙ g in cc
     by false f = refl
 
-pub linked_link : (heads : List ℕ) (nodes : List Node) (on : ℕ → Option ℕ) (nd l note : ℕ) → l < length heads → nd < length nodes → on nd ≡ None → IsLinked heads nodes on → IsLinked (set heads l nd) (set nodes nd (record { next = get_or heads l 0; note = note })) (placed nd (Some l) on)
-linked_link heads nodes on nd l note h k o m =
-    let v : Node = record { next = get_or heads l 0; note = note } in
+pub linked_link : (heads : List ℕ) (nodes : List Node) (on : ℕ → Option ℕ) (nd l blocking : ℕ) → l < length heads → nd < length nodes → on nd ≡ None → IsLinked heads nodes on → IsLinked (set heads l nd) (set nodes nd (record { next = get_or heads l 0; blocking = blocking })) (placed nd (Some l) on)
+linked_link heads nodes on nd l blocking h k o m =
+    let v : Node = record { next = get_or heads l 0; blocking = blocking } in
     let lh = length-set heads l nd in
     let ln = length-set nodes nd v in
     let own : get_or (set nodes nd v) nd no_node ≡ v = get_or-set_same nodes nd v no_node k in
@@ -108,7 +108,7 @@ linked_link heads nodes on nd l note h k o m =
           let b' : i < length heads = omega (arith, b, lh) in
           subst (λ (y : ℕ). IsChain (set nodes nd v) y (m.chain i)) (sym (get_or-set_other heads l i nd 0 ne)) (chain-set nodes nd v (get_or heads i 0) (m.chain i) (m.linked i b') (has_not heads nodes on m nd i o b')));
       once = λ i b. let b' : i < length heads = omega (arith, b, lh) in
-          chosen IsOnce (i == l) (nd ∷ m.chain l) (m.chain i) (λ t. (has_not heads nodes on m nd l o h, m.once l h)) (λ t. m.once i b');
+          chosen HasNoneTwice (i == l) (nd ∷ m.chain l) (m.chain i) (λ t. (has_not heads nodes on m nd l o h, m.once l h)) (λ t. m.once i b');
       only = λ i j b e. let b' : i < length heads = omega (arith, b, lh) in only_by i j b' (i == l) refl (j == nd) refl e;
       whole = λ i j e. whole_by i j (j == nd) refl e;
       few = omega (arith, m.few, ln);
@@ -144,7 +144,7 @@ linked_pop heads nodes on nd l h e ne m = by (m.chain l) refl
     by [] q = absurd (ne (sym e ∙ subst (λ (cs : List ℕ). IsChain nodes (get_or heads l 0) cs) q (m.linked l h)))
     by (x ∷ xs) q =
         let c = subst (λ (cs : List ℕ). IsChain nodes (get_or heads l 0) cs) q (m.linked l h) in
-        let o = subst IsOnce q (m.once l h) in
+        let o = subst HasNoneTwice q (m.once l h) in
         let t : x ≡ nd = sym c.0 ∙ e in
         let own : has (m.chain l) nd ≡ true = (let r : (nd == x) ≡ true = grind (arith, nat_tests) in rw (q, r)) in
         let lh = length-set heads l (next_of nodes nd) in
@@ -158,7 +158,7 @@ linked_pop heads nodes on nd l h e ne m = by (m.chain l) refl
                 subst (λ (y : ℕ). IsChain nodes y xs) (sym (ap (λ (j : ℕ). get_or (set heads l (next_of nodes nd)) j 0) g ∙ get_or-set_same heads l (next_of nodes nd) 0 h ∙ ap (next_of nodes) (sym t))) c.2)
                 (λ f. let g : i ≢ l = grind (arith, nat_tests) in
                 subst (λ (y : ℕ). IsChain nodes y (m.chain i)) (sym (get_or-set_other heads l i (next_of nodes nd) 0 g)) (m.linked i (omega (arith, b, lh))));
-            once = λ i b. chosen IsOnce (i == l) xs (m.chain i) (λ f. o.1) (λ f. m.once i (omega (arith, b, lh)));
+            once = λ i b. chosen HasNoneTwice (i == l) xs (m.chain i) (λ f. o.1) (λ f. m.once i (omega (arith, b, lh)));
             only = λ i j b g. let b' : i < length heads = omega (arith, b, lh) in only_by x xs q t o.0 on_nd i j b' (i == l) refl (j == nd) refl g;
             whole = λ i j g. whole_by x xs q t i j (j == nd) refl g;
             few = m.few;
@@ -206,7 +206,7 @@ linked_rename heads nodes on from to hf ht ne none m =
           (chosen (λ ys. IsChain nodes (get_or inner i 0) ys) (i == to) (m.chain from) (m.chain i)
           (λ g. let v : i ≡ to = grind (arith, nat_tests) in subst (λ (y : ℕ). IsChain nodes y (m.chain from)) (sym (ap (λ (j : ℕ). get_or inner j 0) v ∙ get_or-set_same heads to (get_or heads from 0) 0 ht)) (m.linked from hf))
           (λ g. let v : i ≢ to = grind (arith, nat_tests) in subst (λ (y : ℕ). IsChain nodes y (m.chain i)) (sym (get_or-set_other heads to i (get_or heads from 0) 0 v)) (m.linked i (omega (arith, b, l1, l2))))));
-      once = λ i b. chosen IsOnce (i == from) [] (with_chain to (m.chain from) m.chain i) (λ f. tt) (λ f. chosen IsOnce (i == to) (m.chain from) (m.chain i) (λ g. m.once from hf) (λ g. m.once i (omega (arith, b, l1, l2))));
+      once = λ i b. chosen HasNoneTwice (i == from) [] (with_chain to (m.chain from) m.chain i) (λ f. tt) (λ f. chosen HasNoneTwice (i == to) (m.chain from) (m.chain i) (λ g. m.once from hf) (λ g. m.once i (omega (arith, b, l1, l2))));
       only = λ i j b e. only_by i j (omega (arith, b, l1, l2)) (i == from) refl (i == to) refl e;
       whole = λ i j e. whole_by i j (on j) refl e;
       few = m.few;
@@ -264,7 +264,7 @@ popped heads nodes nd l v h e ne on0 m0 r =
     shorter [] q = absurd (ne (sym e ∙ subst (λ (cs : List ℕ). IsChain nodes (get_or heads l 0) cs) q (m0.linked l h)))
     shorter (x ∷ xs) q =
         let c = subst (λ (cs : List ℕ). IsChain nodes (get_or heads l 0) cs) q (m0.linked l h) in
-        let o = subst IsOnce q (m0.once l h) in
+        let o = subst HasNoneTwice q (m0.once l h) in
         let t : x ≡ nd = sym c.0 ∙ e in
         let n = same_next nodes nd v (omega (arith, c.1, t)) r in
         let c' = subst (λ (y : ℕ). IsChain nodes y xs) (sym (get_or-set_same heads l v.next 0 h ∙ n ∙ ap (next_of nodes) (sym t))) c.2 in

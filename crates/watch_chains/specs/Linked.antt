@@ -4,14 +4,14 @@ use Rattle.watch_chains.specs.declared.chains.Node.{Node}
 
 -- a node past the end of a table
 abbrev pub no_node : Node
-no_node = record { next = 4294967295; note = 0 }
+no_node = record { next = 4294967295; blocking = 0 }
 
--- the number after a node, and its note
+-- the number after a node, and its blocking literal
 abbrev pub next_of : List Node → ℕ → ℕ
 next_of nodes a = (slice_index_or nodes a no_node).next
 
-abbrev pub note_of : List Node → ℕ → ℕ
-note_of nodes a = (slice_index_or nodes a no_node).note
+abbrev pub blocking_of : List Node → ℕ → ℕ
+blocking_of nodes a = (slice_index_or nodes a no_node).blocking
 
 -- a number is in a list
 abbrev pub has : List ℕ → ℕ → Bool
@@ -23,15 +23,15 @@ IsChain nodes a [] = a ≡ 4294967295
 IsChain nodes a (x ∷ xs) = (a ≡ x) × (x < length nodes) × IsChain nodes (next_of nodes x) xs
 
 -- no number stands twice
-abbrev pub IsOnce : List ℕ → Type 0
-IsOnce [] = Unit {0}
-IsOnce (x ∷ xs) = (has xs x ≡ false) × IsOnce xs
+abbrev pub HasNoneTwice : List ℕ → Type 0
+HasNoneTwice [] = Unit {0}
+HasNoneTwice (x ∷ xs) = (has xs x ≡ false) × HasNoneTwice xs
 
 -- each code's chain has exactly the nodes that are on this code
 pub record IsLinked (heads : List ℕ) (nodes : List Node) (on : ℕ → Option ℕ) : Type 0 where
   pub chain : ℕ → List ℕ
   pub linked : (l : ℕ) → l < length heads → IsChain nodes (slice_index heads l) (chain l)
-  pub once : (l : ℕ) → l < length heads → IsOnce (chain l)
+  pub once : (l : ℕ) → l < length heads → HasNoneTwice (chain l)
   pub only : (l k : ℕ) → l < length heads → has (chain l) k ≡ true → on k ≡ Some l
   pub whole : (l k : ℕ) → on k ≡ Some l → (l < length heads) × (has (chain l) k ≡ true)
   pub few : length nodes ≤ 4294967295

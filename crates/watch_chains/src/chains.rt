@@ -1,16 +1,16 @@
 ghost use Rattle.std.specs.Prelude.{◌≡◌, ℕ, ◌<◌, ◌≤◌, ◌+◌, ◌++◌, ◌∷◌, [], Option, Some, None, length, IfOk, OnOk, OnErr, MatchOption, slice_index, vec_capacity};
-ghost use Rattle.watch_chains.specs.Linked.{IsLinked, IsLoose, ArePairLoose, IsPopped, IsAtEnd, placed, renamed, chain_length, note_of};
+ghost use Rattle.watch_chains.specs.Linked.{IsLinked, IsLoose, ArePairLoose, IsPopped, IsAtEnd, placed, renamed, chain_length, blocking_of};
 
 use std::alloc::{AllocError, Global};
 
 /// Where a chain ends.
 const END: u32 = 4_294_967_295;
 
-/// A node of a chain: the node after it, and a note.
+/// A node of a chain: the node after it, and a blocking literal: where that is true, nothing need be done for the node.
 #[derive(Clone, Copy, Debug)]
 pub struct Node {
     pub next: u32,
-    pub note: u32,
+    pub blocking: u32,
 }
 
 /// For each code the first node of its chain, and the nodes.
@@ -42,13 +42,19 @@ impl Chains {
         requires { length self.old.nodes.items ≤ 4294967293 }
         ensures linked { OnOk result ((on : ℕ → Option ℕ) → IsLinked self.old.heads.items self.old.nodes.items on → IsLinked self.new.heads.items self.new.nodes.items on) }
         ensures nodes { OnOk result (length self.new.nodes.items ≡ length self.old.nodes.items + 2) }
-        ensures notes { (k : ℕ) → k < length self.old.nodes.items → note_of self.new.nodes.items k ≡ note_of self.old.nodes.items k }
+        ensures blockings { (k : ℕ) → k < length self.old.nodes.items → blocking_of self.new.nodes.items k ≡ blocking_of self.old.nodes.items k }
         ensures heads { self.new.heads.items ≡ self.old.heads.items }
         ensures err { OnErr result (self.new.nodes.items ≡ self.old.nodes.items) }
     {
         self.nodes.reserve(2)?;
-        self.nodes.push(Node { next: END, note: 0 })?;
-        self.nodes.push(Node { next: END, note: 0 })?;
+        self.nodes.push(Node {
+            next: END,
+            blocking: 0,
+        })?;
+        self.nodes.push(Node {
+            next: END,
+            blocking: 0,
+        })?;
         Ok(())
     }
 
@@ -67,33 +73,33 @@ impl Chains {
     }
 
     /// Puts a node that is on no chain at the front of one.
-    pub fn link(&mut self, node: u32, code: u32, note: u32)
+    pub fn link(&mut self, node: u32, code: u32, blocking: u32)
         requires code { code < length self.old.heads.items }
         requires node { node < length self.old.nodes.items }
         requires off { IsLoose self.old.heads.items self.old.nodes.items node }
         ensures linked { (on : ℕ → Option ℕ) → IsLinked self.old.heads.items self.old.nodes.items on → on node ≡ None → IsLinked self.new.heads.items self.new.nodes.items (placed node (Some code) on) }
         ensures lengths { (l : ℕ) → l < length self.old.heads.items → (l ≡ code → ⊥) → chain_length self.new.heads.items self.new.nodes.items l ≡ chain_length self.old.heads.items self.old.nodes.items l }
-        ensures own { note_of self.new.nodes.items node ≡ note }
-        ensures others { (k : ℕ) → (k ≡ node → ⊥) → note_of self.new.nodes.items k ≡ note_of self.old.nodes.items k }
+        ensures own { blocking_of self.new.nodes.items node ≡ blocking }
+        ensures others { (k : ℕ) → (k ≡ node → ⊥) → blocking_of self.new.nodes.items k ≡ blocking_of self.old.nodes.items k }
         ensures codes { length self.new.heads.items ≡ length self.old.heads.items }
         ensures nodes { length self.new.nodes.items ≡ length self.old.nodes.items }
     {
         let next = self.heads[code as usize];
-        self.nodes[node as usize] = Node { next, note };
+        self.nodes[node as usize] = Node { next, blocking };
         self.heads[code as usize] = node;
     }
 
     /// Puts two nodes with successive numbers, which are on no chain, at the front of two, each with the other's code as its
-    /// note.
+    /// blocking literal.
     pub fn link_two(&mut self, node: u32, code: u32, beside: u32)
         requires code { code < length self.old.heads.items }
         requires beside { beside < length self.old.heads.items }
         requires node { node + 1 < length self.old.nodes.items }
         requires off { ArePairLoose self.old.heads.items self.old.nodes.items node }
         ensures linked { (on : ℕ → Option ℕ) → IsLinked self.old.heads.items self.old.nodes.items on → on node ≡ None → on (node + 1) ≡ None → IsLinked self.new.heads.items self.new.nodes.items (placed (node + 1) (Some beside) (placed node (Some code) on)) }
-        ensures first { note_of self.new.nodes.items node ≡ beside }
-        ensures second { note_of self.new.nodes.items (node + 1) ≡ code }
-        ensures others { (k : ℕ) → (k ≡ node → ⊥) → (k ≡ node + 1 → ⊥) → note_of self.new.nodes.items k ≡ note_of self.old.nodes.items k }
+        ensures first { blocking_of self.new.nodes.items node ≡ beside }
+        ensures second { blocking_of self.new.nodes.items (node + 1) ≡ code }
+        ensures others { (k : ℕ) → (k ≡ node → ⊥) → (k ≡ node + 1 → ⊥) → blocking_of self.new.nodes.items k ≡ blocking_of self.old.nodes.items k }
         ensures codes { length self.new.heads.items ≡ length self.old.heads.items }
         ensures nodes { length self.new.nodes.items ≡ length self.old.nodes.items }
     {
@@ -114,11 +120,11 @@ impl Chains {
         self.heads[from as usize] = END;
     }
 
-    /// The note of a node.
-    pub fn note(&self, node: u32) -> u32
+    /// The blocking literal of a node.
+    pub fn blocking(&self, node: u32) -> u32
         requires { node < length self.now.nodes.items }
-        ensures { result ≡ note_of self.now.nodes.items node }
+        ensures { result ≡ blocking_of self.now.nodes.items node }
     {
-        self.nodes[node as usize].note
+        self.nodes[node as usize].blocking
     }
 }

@@ -5,12 +5,12 @@ use Rattle.std.proofs.lemmas.Bool.Decides.{nat_tests}
 use Rattle.std.proofs.lemmas.List.{get_or_push, get_or_append_left, get_or_past, length_push}
 use Rattle.clause_base.specs.Clause.{has_literal, IsRising}
 use Rattle.watch_chains.specs.declared.chains.Node.{Node}
-use Rattle.watch_chains.specs.Linked.{IsLinked, note_of, placed}
+use Rattle.watch_chains.specs.Linked.{IsLinked, blocking_of, placed}
 use Rattle.watch_lists.specs.declared.visit.Watched.{Watched}
 use Rattle.watch_lists.specs.Pending.{is_free, has_two_free, is_pending_on}
 use Rattle.cdcl_rules.specs.Pending.{is_pending}
 use Rattle.cdcl_rules.specs.State.{clause_at}
-use Rattle.watch_lists.specs.Visit.{no_watches, place_in, place_of, literal_at, IsFit, IsPlaced, IsReal, IsListed, IsKept, NoWhy}
+use Rattle.watch_lists.specs.Visit.{no_watches, place_in, place_of, literal_at, IsFit, AreTwoPlaces, IsReal, IsListed, IsNodeKept, NoWhy}
 use Rattle.watch_lists.specs.Sound.{AreFree}
 use Rattle.watch_lists.specs.Added.{Outlasts}
 use Rattle.watch_lists.proofs.Filters.{clause_is, count_one, has_get, two_of, pending_at}
@@ -73,12 +73,12 @@ literal_own cl k wa w node second e s h =
     ∙ ap (λ (v : Watched). get_or k (place_in v (node % 2 == 1)) 0) (get_or-set_same wa (length cl) w no_watches h)
     ∙ ap (λ (b : Bool). get_or k (place_in w b) 0) s
 
-kept_other : (cl : List (List ℕ)) (kept : List Bool) (node : ℕ) → length kept ≡ length cl → (node / 2 ≡ length cl → ⊥) → IsKept (kept ++ true ∷ []) node → IsKept kept node
+kept_other : (cl : List (List ℕ)) (kept : List Bool) (node : ℕ) → length kept ≡ length cl → (node / 2 ≡ length cl → ⊥) → IsNodeKept (kept ++ true ∷ []) node → IsNodeKept kept node
 kept_other cl kept node l ne m =
     let n : node / 2 ≡ length kept → ⊥ = (λ (e : node / 2 ≡ length kept). ne (e ∙ l)) in
     sym (get_other kept true false (node / 2) n) ∙ m
 
-pub placed_add : (cl : List (List ℕ)) (k : List ℕ) (wa : List Watched) (w : Watched) → IsPlaced cl wa → length cl < length wa → w.first < length k → w.second < length k → (w.first ≡ w.second → ⊥) → IsPlaced (cl ++ k ∷ []) (set wa (length cl) w)
+pub placed_add : (cl : List (List ℕ)) (k : List ℕ) (wa : List Watched) (w : Watched) → AreTwoPlaces cl wa → length cl < length wa → w.first < length k → w.second < length k → (w.first ≡ w.second → ⊥) → AreTwoPlaces (cl ++ k ∷ []) (set wa (length cl) w)
 placed_add cl k wa w m lw fin sin ne = record {
   many = omega (arith, lw, length_push cl k, length-set wa (length cl) w);
   first_in = λ c h t. (chosen c h t (c == length cl) refl).0;
@@ -105,7 +105,7 @@ placed_add cl k wa w m lw fin sin ne = record {
         (omega (arith, l, a, m.first_in c below two), omega (arith, l, b, m.second_in c below two), λ q. m.apart c below two (sym a ∙ q ∙ b))
 
 -- with the two nodes of the new clause on the chains of its watched literals
-pub listed_add : (cl : List (List ℕ)) (k : List ℕ) (wa : List Watched) (w : Watched) (heads heads' : List ℕ) (nodes nodes' : List Node) (spare : ℕ) (kept : List Bool) (a b : ℕ) (r : IsListed cl wa heads nodes spare (IsKept kept) NoWhy) → length kept ≡ length cl → length cl < length wa → w.first < length k → w.second < length k → (w.first ≡ w.second → ⊥) → 2 ≤ length k → a ≡ get_or k w.first 0 → b ≡ get_or k w.second 0 → IsLinked heads' nodes' (placed (2 * length cl + 1) (Some b) (placed (2 * length cl) (Some a) r.on)) → length heads' ≡ length heads → 2 * (length cl + 1) ≤ length nodes' → note_of nodes' (2 * length cl) ≡ b → note_of nodes' (2 * length cl + 1) ≡ a → ((x : ℕ) → (x ≡ 2 * length cl → ⊥) → (x ≡ 2 * length cl + 1 → ⊥) → note_of nodes' x ≡ note_of nodes x) → IsListed (cl ++ k ∷ []) (set wa (length cl) w) heads' nodes' spare (IsKept (kept ++ true ∷ [])) NoWhy
+pub listed_add : (cl : List (List ℕ)) (k : List ℕ) (wa : List Watched) (w : Watched) (heads heads' : List ℕ) (nodes nodes' : List Node) (spare : ℕ) (kept : List Bool) (a b : ℕ) (r : IsListed cl wa heads nodes spare (IsNodeKept kept) NoWhy) → length kept ≡ length cl → length cl < length wa → w.first < length k → w.second < length k → (w.first ≡ w.second → ⊥) → 2 ≤ length k → a ≡ get_or k w.first 0 → b ≡ get_or k w.second 0 → IsLinked heads' nodes' (placed (2 * length cl + 1) (Some b) (placed (2 * length cl) (Some a) r.on)) → length heads' ≡ length heads → 2 * (length cl + 1) ≤ length nodes' → blocking_of nodes' (2 * length cl) ≡ b → blocking_of nodes' (2 * length cl + 1) ≡ a → ((x : ℕ) → (x ≡ 2 * length cl → ⊥) → (x ≡ 2 * length cl + 1 → ⊥) → blocking_of nodes' x ≡ blocking_of nodes x) → IsListed (cl ++ k ∷ []) (set wa (length cl) w) heads' nodes' spare (IsNodeKept (kept ++ true ∷ [])) NoWhy
 listed_add cl k wa w heads heads' nodes nodes' spare kept a b r lk lw fin sin ne two ae be link lh ln first second others = record {
   on = placed (2 * length cl + 1) (Some b) (placed (2 * length cl) (Some a) r.on);
   linked = link;
@@ -114,7 +114,7 @@ listed_add cl k wa w heads heads' nodes nodes' spare kept a b r lk lw fin sin ne
   many = omega (arith, ln, length_push cl k);
   real = λ x l e. real_by x l (x == 2 * length cl + 1) refl (x == 2 * length cl) refl e;
   there = λ x rx m. there_by x rx m (x == 2 * length cl + 1) refl (x == 2 * length cl) refl;
-  notes = λ x rx. notes_by x rx (x == 2 * length cl + 1) refl (x == 2 * length cl) refl;
+  blockings = λ x rx. notes_by x rx (x == 2 * length cl + 1) refl (x == 2 * length cl) refl;
 }
   where
     apart_from : (x : ℕ) → (x == 2 * length cl + 1) ≡ false → (x == 2 * length cl) ≡ false → x / 2 ≡ length cl → ⊥
@@ -140,7 +140,7 @@ listed_add cl k wa w heads heads' nodes nodes' spare kept a b r lk lw fin sin ne
     real_by x l false f true g e = real_own cl k x (even_half x g) two
     real_by x l false f false g e = real_more cl k x (r.real x l e)
 
-    there_by : (x : ℕ) → IsReal (cl ++ k ∷ []) x → IsKept (kept ++ true ∷ []) x → (p : Bool) → (x == 2 * length cl + 1) ≡ p → (q : Bool) → (x == 2 * length cl) ≡ q → ((if p then Some b else if q then Some a else r.on x) ≡ Some (literal_at (cl ++ k ∷ []) (set wa (length cl) w) x)) ⊎ (((if p then Some b else if q then Some a else r.on x) ≡ Some spare) × NoWhy x)
+    there_by : (x : ℕ) → IsReal (cl ++ k ∷ []) x → IsNodeKept (kept ++ true ∷ []) x → (p : Bool) → (x == 2 * length cl + 1) ≡ p → (q : Bool) → (x == 2 * length cl) ≡ q → ((if p then Some b else if q then Some a else r.on x) ≡ Some (literal_at (cl ++ k ∷ []) (set wa (length cl) w) x)) ⊎ (((if p then Some b else if q then Some a else r.on x) ≡ Some spare) × NoWhy x)
     there_by x rx m true f q g = inl (ap (λ (y : ℕ). Some y) (be ∙ sym (literal_own cl k wa w x true (odd_half x f) (odd x f) lw)))
     there_by x rx m false f true g = inl (ap (λ (y : ℕ). Some y) (ae ∙ sym (literal_own cl k wa w x false (even_half x g) (even x g) lw)))
     there_by x rx m false f false g = old (r.there x (real_other cl k x rx (apart_from x f g)) (kept_other cl kept x lk (apart_from x f g) m))
@@ -149,19 +149,19 @@ listed_add cl k wa w heads heads' nodes nodes' spare kept a b r lk lw fin sin ne
         old (inl e) = inl (e ∙ ap (λ (y : ℕ). Some y) (sym (literal_other cl k wa w x (apart_from x f g))))
         old (inr v) = absurd v.1
 
-    notes_by : (x : ℕ) → IsReal (cl ++ k ∷ []) x → (p : Bool) → (x == 2 * length cl + 1) ≡ p → (q : Bool) → (x == 2 * length cl) ≡ q → has_literal (clause_at (cl ++ k ∷ []) (x / 2)) (note_of nodes' x) ≡ true
+    notes_by : (x : ℕ) → IsReal (cl ++ k ∷ []) x → (p : Bool) → (x == 2 * length cl + 1) ≡ p → (q : Bool) → (x == 2 * length cl) ≡ q → has_literal (clause_at (cl ++ k ∷ []) (x / 2)) (blocking_of nodes' x) ≡ true
     notes_by x rx true f q g =
-        ap (λ (xs : List ℕ). has_literal xs (note_of nodes' x)) (at_own cl k (x / 2) (odd_half x f))
-        ∙ ap (λ (y : ℕ). has_literal k y) (ap (λ (y : ℕ). note_of nodes' y) (equal_of x (2 * length cl + 1) f) ∙ second ∙ ae)
+        ap (λ (xs : List ℕ). has_literal xs (blocking_of nodes' x)) (at_own cl k (x / 2) (odd_half x f))
+        ∙ ap (λ (y : ℕ). has_literal k y) (ap (λ (y : ℕ). blocking_of nodes' y) (equal_of x (2 * length cl + 1) f) ∙ second ∙ ae)
         ∙ has_get k w.first fin
     notes_by x rx false f true g =
-        ap (λ (xs : List ℕ). has_literal xs (note_of nodes' x)) (at_own cl k (x / 2) (even_half x g))
-        ∙ ap (λ (y : ℕ). has_literal k y) (ap (λ (y : ℕ). note_of nodes' y) (equal_of x (2 * length cl) g) ∙ first ∙ be)
+        ap (λ (xs : List ℕ). has_literal xs (blocking_of nodes' x)) (at_own cl k (x / 2) (even_half x g))
+        ∙ ap (λ (y : ℕ). has_literal k y) (ap (λ (y : ℕ). blocking_of nodes' y) (equal_of x (2 * length cl) g) ∙ first ∙ be)
         ∙ has_get k w.second sin
     notes_by x rx false f false g =
-        ap (λ (xs : List ℕ). has_literal xs (note_of nodes' x)) (at_other cl k (x / 2) (apart_from x f g))
+        ap (λ (xs : List ℕ). has_literal xs (blocking_of nodes' x)) (at_other cl k (x / 2) (apart_from x f g))
         ∙ ap (λ (y : ℕ). has_literal (clause_at cl (x / 2)) y) (others x (apart_of x (2 * length cl) g) (apart_of x (2 * length cl + 1) f))
-        ∙ r.notes x (real_other cl k x rx (apart_from x f g))
+        ∙ r.blockings x (real_other cl k x rx (apart_from x f g))
 
 -- the old clauses are as pending as they were
 pub pending_other : (cl : List (List ℕ)) (k : List ℕ) (kept : List Bool) (trail : List ℕ) (c : ℕ) → length kept ≡ length cl → (c ≡ length cl → ⊥) → is_pending_on (cl ++ k ∷ []) (kept ++ true ∷ []) trail c ≡ is_pending_on cl kept trail c

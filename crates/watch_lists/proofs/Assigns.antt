@@ -6,12 +6,12 @@ use Rattle.clause_base.specs.Literal.{opposite}
 use Rattle.clause_base.specs.Clause.{has_literal}
 use Rattle.std.specs.Option.{is_some}
 use Rattle.number_bits.specs.Bits.{IsLeast}
-use Rattle.watch_store.proofs.Mirrors.{has-snoc}
+use Rattle.cdcl_trail.proofs.Assignments.{has-snoc}
 use Rattle.watch_lists.specs.declared.visit.Watched.{Watched}
 use Rattle.watch_lists.specs.Pending.{is_free, has_two_free, is_pending_on}
 use Rattle.cdcl_rules.specs.Pending.{is_pending}
 use Rattle.cdcl_rules.specs.State.{clause_at}
-use Rattle.watch_lists.specs.Visit.{no_watches, place_in, place_of, literal_at, IsPlaced, IsReal, IsKept, MovesToFree, Grows, AllSettled}
+use Rattle.watch_lists.specs.Visit.{no_watches, place_in, place_of, literal_at, AreTwoPlaces, IsReal, IsNodeKept, MovesToFree, Grows, AllSettled}
 use Rattle.watch_lists.specs.Sound.{AreFree, IsFront}
 use Rattle.watch_lists.proofs.Filters.{count_two, count_weaker, any_weaker, two_of, tests_two, pending_at}
 
@@ -101,7 +101,7 @@ free_after trail x l f ne = ap (λ (b : Bool). not b) (has-snoc trail x (opposit
     by false e false g = refl
 
 -- after a visit a watched literal of a clause that was loose is free, or is the one that became false
-watch_after : (cl : List (List ℕ)) (wa wa' : List Watched) (kept : List Bool) (trail : List ℕ) (x node : ℕ) → AreFree cl wa kept trail → MovesToFree cl wa wa' (has_literal (trail ++ x ∷ [])) → IsReal cl node → IsKept kept node → list_any (has_literal trail) (clause_at cl (node / 2)) ≡ false → has_two_free (has_literal trail) (clause_at cl (node / 2)) ≡ true → (literal_at cl wa' node ≡ opposite x → ⊥) → is_free (has_literal (trail ++ x ∷ [])) (literal_at cl wa' node) ≡ true
+watch_after : (cl : List (List ℕ)) (wa wa' : List Watched) (kept : List Bool) (trail : List ℕ) (x node : ℕ) → AreFree cl wa kept trail → MovesToFree cl wa wa' (has_literal (trail ++ x ∷ [])) → IsReal cl node → IsNodeKept kept node → list_any (has_literal trail) (clause_at cl (node / 2)) ≡ false → has_two_free (has_literal trail) (clause_at cl (node / 2)) ≡ true → (literal_at cl wa' node ≡ opposite x → ⊥) → is_free (has_literal (trail ++ x ∷ [])) (literal_at cl wa' node) ≡ true
 watch_after cl wa wa' kept trail x node free moves real m none two ne = by (moves node real)
   where
     by : (literal_at cl wa' node ≡ literal_at cl wa node) ⊎ (is_free (has_literal (trail ++ x ∷ [])) (literal_at cl wa' node) ≡ true) → is_free (has_literal (trail ++ x ∷ [])) (literal_at cl wa' node) ≡ true
@@ -175,7 +175,7 @@ pending_earlier cl kept trail x k p f =
     pending_at cl kept trail k ∙ (let e : (get_or kept k false && (not (list_any (has_literal trail) xs) && leb (length (filter (is_free (has_literal trail)) xs)) 1)) ≡ true = rw (r.0, n, g) in e)
 
 -- every slot's clause that is pending on the longer trail is in the set
-pub assign_complete : (cl : List (List ℕ)) (wa wa' : List Watched) (kept : List Bool) (trail : List ℕ) (x : ℕ) (s s' : ℕ → Bool) → length kept ≡ length cl → IsPlaced cl wa' → AreFree cl wa kept trail → MovesToFree cl wa wa' (has_literal (trail ++ x ∷ [])) → AllSettled cl wa' (has_literal (trail ++ x ∷ [])) s' (opposite x) kept → Grows s s' → ((k : ℕ) → is_pending_on cl kept trail k ≡ true → s k ≡ true) → (k : ℕ) → is_pending_on cl kept (trail ++ x ∷ []) k ≡ true → s' k ≡ true
+pub assign_complete : (cl : List (List ℕ)) (wa wa' : List Watched) (kept : List Bool) (trail : List ℕ) (x : ℕ) (s s' : ℕ → Bool) → length kept ≡ length cl → AreTwoPlaces cl wa' → AreFree cl wa kept trail → MovesToFree cl wa wa' (has_literal (trail ++ x ∷ [])) → AllSettled cl wa' (has_literal (trail ++ x ∷ [])) s' (opposite x) kept → Grows s s' → ((k : ℕ) → is_pending_on cl kept trail k ≡ true → s k ≡ true) → (k : ℕ) → is_pending_on cl kept (trail ++ x ∷ []) k ≡ true → s' k ≡ true
 assign_complete cl wa wa' kept trail x s s' many place free moves settled grows old k p =
     let r = pending_parts cl kept (trail ++ x ∷ []) k p in
     by (has_two_free on xs) refl r.0 (and_true (get_or kept k false) (is_pending on' xs) (sym (pending_at cl kept (trail ++ x ∷ []) k) ∙ p)).1 r.1 r.2
@@ -209,7 +209,7 @@ assign_complete cl wa wa' kept trail x s s' many place free moves settled grows 
         real : (node : ℕ) → node / 2 ≡ k → 2 ≤ length (clause_at cl k) → k < length cl → IsReal cl node
         real node h t b = record { below = omega (arith, h, b); long = subst (λ (c : ℕ). 2 ≤ length (clause_at cl c)) (sym h) t }
 
-        keep : (node : ℕ) → node / 2 ≡ k → get_or kept k false ≡ true → IsKept kept node
+        keep : (node : ℕ) → node / 2 ≡ k → get_or kept k false ≡ true → IsNodeKept kept node
         keep node h e = ap (λ (c : ℕ). get_or kept c false) h ∙ e
 
         here : (node : ℕ) → node / 2 ≡ k → 2 ≤ length (clause_at cl k) → k < length cl → get_or kept k false ≡ true → is_pending (has_literal (trail ++ x ∷ [])) (clause_at cl k) ≡ true → literal_at cl wa' node ≡ opposite x → s' k ≡ true

@@ -10,10 +10,10 @@ use Rattle.watch_lists.specs.declared.visit.Watched.{Watched}
 use Rattle.watch_lists.specs.Pending.{is_pending_on}
 use Rattle.cdcl_rules.specs.State.{clause_at}
 use Rattle.watch_lists.specs.Visit.{slot_clauses, IsReal}
-use Rattle.watch_lists.specs.Sound.{IsSound}
+use Rattle.watch_lists.specs.Sound.{AreTablesSound}
 use Rattle.watch_lists.proofs.Filters.{clause_past, pending_at}
 
-pub sound_none : (v tv : ℕ) (cl : List (List ℕ)) (kept : List Bool) (trail slots : List ℕ) (wa : List Watched) (heads : List ℕ) (nodes : List Node) (words : List ℕ) (quiet : List Bool) → v ≤ 2147483647 → tv ≡ v → slots ≡ [] → cl ≡ [] → kept ≡ [] → trail ≡ [] → IsLinked heads nodes (λ k. None) → length heads ≡ 2 * v + 1 → ((k : ℕ) → words_have words k ≡ false) → length quiet ≡ v + 1 → IsSound v tv cl kept trail slots wa heads nodes words quiet
+pub sound_none : (v tv : ℕ) (cl : List (List ℕ)) (kept : List Bool) (trail slots : List ℕ) (wa : List Watched) (heads : List ℕ) (nodes : List Node) (words : List ℕ) (quiet : List Bool) → v ≤ 2147483647 → tv ≡ v → slots ≡ [] → cl ≡ [] → kept ≡ [] → trail ≡ [] → IsLinked heads nodes (λ k. None) → length heads ≡ 2 * v + 1 → ((k : ℕ) → words_have words k ≡ false) → length quiet ≡ v + 1 → AreTablesSound v tv cl kept trail slots wa heads nodes words quiet
 sound_none v tv cl kept trail slots wa heads nodes words quiet small same es ec ek et linked codes none size = record {
   small = small;
   same = same;
@@ -39,7 +39,7 @@ sound_none v tv cl kept trail slots wa heads nodes words quiet small same es ec 
     many = omega (arith, none_slotted);
     real = λ node l e. absurd (let w : ⊥ = cc in w);
     there = λ node real must. absurd (no_node node real);
-    notes = λ node real. absurd (no_node node real);
+    blockings = λ node real. absurd (no_node node real);
   };
   free = λ n h node real. absurd (no_node node real);
   front = record {

@@ -8,7 +8,7 @@ use Rattle.cdcl_rules.specs.Pending.{is_pending, is_pending_in, least_from}
 use Rattle.cdcl_rules.proofs.Pending.{first_is, none_is}
 use Rattle.number_bits.specs.Bits.{IsLeast}
 use Rattle.watch_chains.specs.declared.chains.Node.{Node}
-use Rattle.watch_chains.specs.Linked.{IsLinked, ArePairLoose, note_of, placed}
+use Rattle.watch_chains.specs.Linked.{IsLinked, ArePairLoose, blocking_of, placed}
 use Rattle.watch_lists.specs.declared.visit.Watched.{Watched}
 use Rattle.watch_lists.specs.Pending.{is_free, has_two_free, is_pending_on}
 use Rattle.cdcl_rules.specs.State.{clause_at}
@@ -33,9 +33,9 @@ pub record IsEntered (k : List ℕ) (number : ℕ) (trail : List ℕ) (wa : List
   pub linked : (on : ℕ → Option ℕ) → IsLinked heads nodes on → on (2 * number) ≡ None → on (2 * number + 1) ≡ None → IsLinked heads' nodes' (placed (2 * number + 1) (Some b) (placed (2 * number) (Some a) on))
   pub codes : length heads' ≡ length heads
   pub room : 2 * (number + 1) ≤ length nodes'
-  pub first_note : note_of nodes' (2 * number) ≡ b
-  pub second_note : note_of nodes' (2 * number + 1) ≡ a
-  pub others : (x : ℕ) → (x ≡ 2 * number → ⊥) → (x ≡ 2 * number + 1 → ⊥) → note_of nodes' x ≡ note_of nodes x
+  pub first_note : blocking_of nodes' (2 * number) ≡ b
+  pub second_note : blocking_of nodes' (2 * number + 1) ≡ a
+  pub others : (x : ℕ) → (x ≡ 2 * number → ⊥) → (x ≡ 2 * number + 1 → ⊥) → blocking_of nodes' x ≡ blocking_of nodes x
 
 -- a node of no clause is on no chain
 off_past : (cl : List (List ℕ)) (wa : List Watched) (heads : List ℕ) (nodes : List Node) (spare : ℕ) (kept : List Bool) (node : ℕ) (r : IsAtRest cl wa heads nodes spare kept) → 2 * length cl ≤ node → r.on node ≡ None

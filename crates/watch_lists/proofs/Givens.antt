@@ -13,24 +13,24 @@ use Rattle.pair_index.specs.Pairs.{IsIndex}
 use Rattle.watch_chains.specs.declared.chains.Node.{Node}
 use Rattle.watch_chains.specs.Linked.{IsLinked}
 use Rattle.watch_lists.specs.declared.visit.Watched.{Watched}
-use Rattle.watch_lists.specs.Asking.{IsAsking}
+use Rattle.watch_lists.specs.Units.{HasUnits}
 use Rattle.watch_lists.specs.Added.{IsWider, RestsWith}
 use Rattle.watch_lists.specs.Given.{AreGiven}
 use Rattle.watch_lists.specs.Pairs.{HasSlot, IsUnwatched, IsPaired}
 use Rattle.watch_lists.specs.Visit.{slot_clauses, slot_flags, AreSlotsBelow, IsFit, IsReal, IsAtRest}
-use Rattle.watch_lists.specs.Sound.{IsSound}
+use Rattle.watch_lists.specs.Sound.{AreTablesSound}
 use Rattle.watch_lists.proofs.Filters.{clause_is, clause_past, pending_off}
 use Rattle.watch_lists.proofs.Assigns.{equal_of, apart_of, at_most_of, past_of}
 use Rattle.watch_lists.proofs.Adds.{kept_in}
-use Rattle.watch_lists.proofs.Asks.{consistent_none, pending_kept}
-use Rattle.watch_lists.proofs.Asked.{distinct_add, slot_in}
+use Rattle.watch_lists.proofs.UnitsTell.{consistent_none, pending_kept}
+use Rattle.watch_lists.proofs.UnitsOfSlots.{distinct_add, slot_in}
 use Rattle.watch_lists.proofs.Enters.{below_by, short_by}
 use Rattle.watch_lists.proofs.Slotted.{slot_at, slots_long, below_more}
 use Rattle.watch_lists.proofs.Wider.{rest_wider}
 
 -- the tables of no clause
-pub given_none : (codes : ℕ) (cl : List (List ℕ)) (slots : List ℕ) (wa : List Watched) (heads : List ℕ) (nodes : List Node) (words asks : List ℕ) → slots ≡ [] → IsLinked heads nodes (λ k. None) → length heads ≡ codes + 1 → ((k : ℕ) → words_have words k ≡ false) → AreGiven codes cl 0 slots wa heads nodes words asks
-given_none codes cl slots wa heads nodes words asks e linked long none = record {
+pub given_none : (codes : ℕ) (cl : List (List ℕ)) (slots : List ℕ) (wa : List Watched) (heads : List ℕ) (nodes : List Node) (words units : List ℕ) → slots ≡ [] → IsLinked heads nodes (λ k. None) → length heads ≡ codes + 1 → ((k : ℕ) → words_have words k ≡ false) → length cl ≤ 64 * length words → AreGiven codes cl 0 slots wa heads nodes words units
+given_none codes cl slots wa heads nodes words units e linked long none wide = record {
   slotted = λ s h. absurd (omega (arith, h, no_slots));
   few = omega (arith, no_slots);
   rest = record {
@@ -46,12 +46,12 @@ given_none codes cl slots wa heads nodes words asks e linked long none = record 
     many = omega (arith, none_slotted);
     real = λ node l e. absurd (let w : ⊥ = cc in w);
     there = λ node real must. absurd (no_node node real);
-    notes = λ node real. absurd (no_node node real);
+    blockings = λ node real. absurd (no_node node real);
   };
   longs = λ c h. absurd (omega (arith, h));
   shorts = λ c h. absurd (omega (arith, h));
   only = λ c h. absurd (let z : true ≡ false = sym h ∙ none c in let w : ⊥ = cc in w);
-  room = omega arith;
+  room = wide;
   long = omega (arith, no_slots);
   distinct = λ s t a. absurd (omega (arith, a, no_slots));
 }
@@ -66,8 +66,8 @@ given_none codes cl slots wa heads nodes words asks e linked long none = record 
     no_node node real = absurd (omega (arith, real.below, none_slotted))
 
 -- with more room
-pub given_wider : (codes : ℕ) (cl : List (List ℕ)) (n : ℕ) (slots : List ℕ) (wa : List Watched) (heads : List ℕ) (nodes : List Node) (words asks : List ℕ) (wa' : List Watched) (heads' : List ℕ) (nodes' : List Node) (words' asks' : List ℕ) → AreGiven codes cl n slots wa heads nodes words asks → IsWider wa heads nodes words wa' heads' nodes' words' → length asks ≤ length asks' → AreGiven codes cl n slots wa' heads' nodes' words' asks'
-given_wider codes cl n slots wa heads nodes words asks wa' heads' nodes' words' asks' g w more = record {
+pub given_wider : (codes : ℕ) (cl : List (List ℕ)) (n : ℕ) (slots : List ℕ) (wa : List Watched) (heads : List ℕ) (nodes : List Node) (words units : List ℕ) (wa' : List Watched) (heads' : List ℕ) (nodes' : List Node) (words' units' : List ℕ) → AreGiven codes cl n slots wa heads nodes words units → IsWider wa heads nodes words wa' heads' nodes' words' → length units ≤ length units' → AreGiven codes cl n slots wa' heads' nodes' words' units'
+given_wider codes cl n slots wa heads nodes words units wa' heads' nodes' words' units' g w more = record {
   slotted = g.slotted;
   few = g.few;
   rest = rest_wider (slot_clauses cl slots) wa heads nodes words wa' heads' nodes' words' codes (replicate (length slots) true) g.rest w;
@@ -88,29 +88,29 @@ next_by P n old own c h = by (c == n) refl
     by false f = let ne : c ≢ n = apart_of c n f in old c (omega (arith, h, ne))
 
 -- the next clause has two literals
-pub given_two : (codes : ℕ) (cl : List (List ℕ)) (n : ℕ) (slots : List ℕ) (wa : List Watched) (heads : List ℕ) (nodes : List Node) (words asks : List ℕ) → AreGiven codes cl n slots wa heads nodes words asks → n < 64 * length words → length (clause_at cl n) ≡ 2 → AreGiven codes cl (n + 1) slots wa heads nodes words asks
-given_two codes cl n slots wa heads nodes words asks g room two = record {
+pub given_two : (codes : ℕ) (cl : List (List ℕ)) (n : ℕ) (slots : List ℕ) (wa : List Watched) (heads : List ℕ) (nodes : List Node) (words units : List ℕ) → AreGiven codes cl n slots wa heads nodes words units → length (clause_at cl n) ≡ 2 → AreGiven codes cl (n + 1) slots wa heads nodes words units
+given_two codes cl n slots wa heads nodes words units g two = record {
   slotted = λ s h. omega (arith, g.slotted s h);
   few = omega (arith, g.few);
   rest = g.rest;
   longs = next_by (λ c. 2 < length (clause_at cl c) → HasSlot slots c) n g.longs (λ h. absurd (omega (arith, h, two)));
   shorts = next_by (λ c. length (clause_at cl c) < 2 → words_have words c ≡ true) n g.shorts (λ h. absurd (omega (arith, h, two)));
   only = λ c h. let o = g.only c h in (omega (arith, o.0), o.1);
-  room = omega (arith, room);
+  room = g.room;
   long = g.long;
   distinct = g.distinct;
 }
 
 -- it has fewer
-pub given_short : (codes : ℕ) (cl : List (List ℕ)) (n : ℕ) (slots : List ℕ) (wa : List Watched) (heads : List ℕ) (nodes : List Node) (words asks words' : List ℕ) → AreGiven codes cl n slots wa heads nodes words asks → n < 64 * length words → length (clause_at cl n) < 2 → length words' ≡ length words → ((k : ℕ) → words_have words' k ≡ (k == n || words_have words k)) → AreGiven codes cl (n + 1) slots wa heads nodes words' asks
-given_short codes cl n slots wa heads nodes words asks words' g room short long has = record {
+pub given_short : (codes : ℕ) (cl : List (List ℕ)) (n : ℕ) (slots : List ℕ) (wa : List Watched) (heads : List ℕ) (nodes : List Node) (words units words' : List ℕ) → AreGiven codes cl n slots wa heads nodes words units → length (clause_at cl n) < 2 → length words' ≡ length words → ((k : ℕ) → words_have words' k ≡ (k == n || words_have words k)) → AreGiven codes cl (n + 1) slots wa heads nodes words' units
+given_short codes cl n slots wa heads nodes words units words' g short long has = record {
   slotted = λ s h. omega (arith, g.slotted s h);
   few = omega (arith, g.few);
   rest = g.rest;
   longs = next_by (λ c. 2 < length (clause_at cl c) → HasSlot slots c) n g.longs (λ h. absurd (omega (arith, h, short)));
   shorts = next_by (λ c. length (clause_at cl c) < 2 → words_have words' c ≡ true) n (λ c h t. has c ∙ stays (c == n) (g.shorts c h t)) (λ h. has n ∙ ap (λ (b : Bool). b || words_have words n) same);
   only = λ c h. by c (c == n) refl (sym (has c) ∙ h);
-  room = omega (arith, room, long);
+  room = omega (arith, g.room, long);
   long = g.long;
   distinct = g.distinct;
 }
@@ -128,9 +128,9 @@ given_short codes cl n slots wa heads nodes words asks words' g room short long 
     by c false f h = let o = g.only c h in (omega (arith, o.0), o.1)
 
 -- it has more, and the next slot
-pub given_long : (codes : ℕ) (cl : List (List ℕ)) (n : ℕ) (slots : List ℕ) (wa : List Watched) (heads : List ℕ) (nodes : List Node) (words asks : List ℕ) (slots' : List ℕ) (wa' : List Watched) (heads' : List ℕ) (nodes' : List Node) → AreGiven codes cl n slots wa heads nodes words asks → n < 64 * length words → length slots < length asks → 2 < length (clause_at cl n) → slots' ≡ slots ++ n ∷ [] → RestsWith (clause_at cl n) (length slots) codes wa heads nodes wa' heads' nodes' → AreGiven codes cl (n + 1) slots' wa' heads' nodes' words asks
-given_long codes cl n slots wa heads nodes words asks slots' wa' heads' nodes' g room wide long e rests =
-    subst (λ (ss : List ℕ). AreGiven codes cl (n + 1) ss wa' heads' nodes' words asks) (sym e) (record {
+pub given_long : (codes : ℕ) (cl : List (List ℕ)) (n : ℕ) (slots : List ℕ) (wa : List Watched) (heads : List ℕ) (nodes : List Node) (words units : List ℕ) (slots' : List ℕ) (wa' : List Watched) (heads' : List ℕ) (nodes' : List Node) → AreGiven codes cl n slots wa heads nodes words units → length slots < length units → 2 < length (clause_at cl n) → slots' ≡ slots ++ n ∷ [] → RestsWith (clause_at cl n) (length slots) codes wa heads nodes wa' heads' nodes' → AreGiven codes cl (n + 1) slots' wa' heads' nodes' words units
+given_long codes cl n slots wa heads nodes words units slots' wa' heads' nodes' g wide long e rests =
+    subst (λ (ss : List ℕ). AreGiven codes cl (n + 1) ss wa' heads' nodes' words units) (sym e) (record {
       slotted = below_more n slots n refl g.slotted;
       few = omega (arith, g.few, length_push slots n);
       rest =
@@ -144,7 +144,7 @@ given_long codes cl n slots wa heads nodes words asks slots' wa' heads' nodes' g
       });
       shorts = next_by (λ c. length (clause_at cl c) < 2 → words_have words c ≡ true) n g.shorts (λ h. absurd (omega (arith, h, long)));
       only = λ c h. let o = g.only c h in (omega (arith, o.0), o.1);
-      room = omega (arith, room);
+      room = g.room;
       long = omega (arith, wide, length_push slots n);
       distinct = distinct_add n slots (slots ++ n ∷ []) n refl g.slotted g.distinct (inr refl);
     })
@@ -190,10 +190,10 @@ take_none : (n l : ℕ) → has_literal (take n []) l ≡ false
 take_none zero l = refl
 take_none (suc n) l = refl
 
-pub sound_given : (v tv : ℕ) (cl : List (List ℕ)) (kept : List Bool) (trail slots : List ℕ) (wa : List Watched) (heads : List ℕ) (nodes : List Node) (words asks : List ℕ) (quiet : List Bool) → v ≤ 2147483647 → tv ≡ v → length cl ≤ 1073741824 → IsFit cl (2 * v) → kept ≡ replicate (length cl) true → trail ≡ [] → AreGiven (2 * v) cl (length cl) slots wa heads nodes words asks → length quiet ≡ v + 1 → IsSound v tv cl kept trail slots wa heads nodes words quiet
-sound_given v tv cl kept trail slots wa heads nodes words asks quiet small same few fit ek et g size =
-    subst (λ (ks : List Bool). IsSound v tv cl ks trail slots wa heads nodes words quiet) (sym ek)
-    (subst (λ (ys : List ℕ). IsSound v tv cl (replicate (length cl) true) ys slots wa heads nodes words quiet) (sym et) (record {
+pub sound_given : (v tv : ℕ) (cl : List (List ℕ)) (kept : List Bool) (trail slots : List ℕ) (wa : List Watched) (heads : List ℕ) (nodes : List Node) (words units : List ℕ) (quiet : List Bool) → v ≤ 2147483647 → tv ≡ v → length cl ≤ 1073741824 → IsFit cl (2 * v) → kept ≡ replicate (length cl) true → trail ≡ [] → AreGiven (2 * v) cl (length cl) slots wa heads nodes words units → length quiet ≡ v + 1 → AreTablesSound v tv cl kept trail slots wa heads nodes words quiet
+sound_given v tv cl kept trail slots wa heads nodes words units quiet small same few fit ek et g size =
+    subst (λ (ks : List Bool). AreTablesSound v tv cl ks trail slots wa heads nodes words quiet) (sym ek)
+    (subst (λ (ys : List ℕ). AreTablesSound v tv cl (replicate (length cl) true) ys slots wa heads nodes words quiet) (sym et) (record {
       small = small;
       same = same;
       many = long_flags (length cl);
@@ -220,8 +220,8 @@ sound_given v tv cl kept trail slots wa heads nodes words asks quiet small same 
     both : (a b : Bool) → a ≡ true → b ≡ true → (a && b) ≡ true
     both a b e f = ap (λ (x : Bool). x && b) e ∙ f
 
-pub paired_given : (v : ℕ) (cl : List (List ℕ)) (slots : List ℕ) (wa : List Watched) (heads : List ℕ) (nodes : List Node) (words asks : List ℕ) (ps : List (List Pair)) → AreGiven (2 * v) cl (length cl) slots wa heads nodes words asks → IsIndex v cl ps → IsPaired v cl slots ps
-paired_given v cl slots wa heads nodes words asks ps g i = record {
+pub paired_given : (v : ℕ) (cl : List (List ℕ)) (slots : List ℕ) (wa : List Watched) (heads : List ℕ) (nodes : List Node) (words units : List ℕ) (ps : List (List Pair)) → AreGiven (2 * v) cl (length cl) slots wa heads nodes words units → IsIndex v cl ps → IsPaired v cl slots ps
+paired_given v cl slots wa heads nodes words units ps g i = record {
   long = i.long;
   found = λ c h. by c h (leb 2 (length (clause_at cl c))) refl (length (clause_at cl c) == 2) refl;
   exact = i.exact;
@@ -234,10 +234,10 @@ paired_given v cl slots wa heads nodes words asks ps g i = record {
         let ne : length (clause_at cl c) ≢ 2 = apart_of (length (clause_at cl c)) 2 f in
         inr (g.longs c h (omega (arith, at_most_of 2 (length (clause_at cl c)) e, ne)))
 
-pub asking_given : (v : ℕ) (cl : List (List ℕ)) (trail slots : List ℕ) (wa : List Watched) (heads : List ℕ) (nodes : List Node) (words asks : List ℕ) → trail ≡ [] → AreGiven (2 * v) cl (length cl) slots wa heads nodes words asks → IsAsking cl trail slots words asks
-asking_given v cl trail slots wa heads nodes words asks et g = record {
+pub has_units_given : (v : ℕ) (cl : List (List ℕ)) (trail slots : List ℕ) (wa : List Watched) (heads : List ℕ) (nodes : List Node) (words units : List ℕ) → trail ≡ [] → AreGiven (2 * v) cl (length cl) slots wa heads nodes words units → HasUnits cl trail slots words units
+has_units_given v cl trail slots wa heads nodes words units et g = record {
   within = λ k h. (g.only k h).0;
-  asked = λ s h long. absurd (omega (arith, (g.only (get_or slots s 0) h).1, long, ap (λ (xs : List ℕ). length xs) (slot_at cl slots s (slot_in cl slots s long))));
+  units_are = λ s h long. absurd (omega (arith, (g.only (get_or slots s 0) h).1, long, ap (λ (xs : List ℕ). length xs) (slot_at cl slots s (slot_in cl slots s long))));
   long = g.long;
   distinct = g.distinct;
   consistent = consistent_none trail et;

@@ -12,7 +12,9 @@ pub mod Paired
 pub mod Slotted
 pub mod Sounds
 pub mod Founds
-pub mod Asks
+pub mod UnitsTell
 pub mod Lefts
-pub mod Asked
+pub mod UnitsOfSlots
 pub mod Givens
+pub mod Views
+pub mod Templates

@@ -1,4 +1,4 @@
--- A clause that is no longer kept: what was asked of kept clauses is asked of fewer.
+-- A clause that is no longer kept: what held of kept clauses holds of fewer.
 use Rattle.std.proofs.Common.{arith, ◌≡◌, ℕ, zero, suc, List, [], ◌∷◌, ◌*◌, length, take, set, get_or, Bool, true, false, ◌&&◌, Option, Some, None, refl, sym, ap, ◌∙◌, length-set}
 use Rattle.number_bits.specs.Bits.{IsLeast, words_have}
 use Rattle.watch_chains.specs.declared.chains.Node.{Node}
@@ -7,8 +7,8 @@ use Rattle.clause_base.specs.Clause.{has_literal}
 use Rattle.watch_lists.specs.Pending.{is_pending_on}
 use Rattle.cdcl_rules.specs.Pending.{is_pending}
 use Rattle.cdcl_rules.specs.State.{clause_at}
-use Rattle.watch_lists.specs.Visit.{slot_clauses, slot_flags, IsKept, NoWhy}
-use Rattle.watch_lists.specs.Sound.{IsFront, IsSound}
+use Rattle.watch_lists.specs.Visit.{slot_clauses, slot_flags, IsNodeKept, NoWhy}
+use Rattle.watch_lists.specs.Sound.{IsFront, AreTablesSound}
 use Rattle.watch_lists.proofs.Filters.{pending_at}
 use Rattle.watch_lists.proofs.Assigns.{none_pending}
 use Rattle.watch_lists.proofs.Visits.{relisted}
@@ -37,7 +37,7 @@ none_by : (a b : Bool) → (b ≡ true → a ≡ true) → a ≡ false → b ≡
 none_by a true h e = let t : a ≡ true = h refl in sym t ∙ e
 none_by a false h e = refl
 
-pub removed_sound : (v tv : ℕ) (cl : List (List ℕ)) (kept : List Bool) (trail slots : List ℕ) (wa : List Watched) (heads : List ℕ) (nodes : List Node) (words : List ℕ) (quiet : List Bool) (n : ℕ) (words' : List ℕ) → IsSound v tv cl kept trail slots wa heads nodes words quiet → length words' ≡ length words → IsFront (is_pending_on cl (set kept n false) trail) (words_have words') → IsSound v tv cl (set kept n false) trail slots wa heads nodes words' quiet
+pub removed_sound : (v tv : ℕ) (cl : List (List ℕ)) (kept : List Bool) (trail slots : List ℕ) (wa : List Watched) (heads : List ℕ) (nodes : List Node) (words : List ℕ) (quiet : List Bool) (n : ℕ) (words' : List ℕ) → AreTablesSound v tv cl kept trail slots wa heads nodes words quiet → length words' ≡ length words → IsFront (is_pending_on cl (set kept n false) trail) (words_have words') → AreTablesSound v tv cl (set kept n false) trail slots wa heads nodes words' quiet
 removed_sound v tv cl kept trail slots wa heads nodes words quiet n words' i w f = record {
   small = i.small;
   same = i.same;
@@ -47,7 +47,7 @@ removed_sound v tv cl kept trail slots wa heads nodes words quiet n words' i w f
   room = omega (arith, i.room, w);
   slotted = i.slotted;
   slots_few = i.slots_few;
-  rest = relisted (slot_clauses cl slots) wa heads nodes (2 * v) (IsKept (slot_flags kept slots)) NoWhy (IsKept (slot_flags (set kept n false) slots)) NoWhy i.rest (λ node real must. i.rest.there node real (flags_before kept slots n _ must));
+  rest = relisted (slot_clauses cl slots) wa heads nodes (2 * v) (IsNodeKept (slot_flags kept slots)) NoWhy (IsNodeKept (slot_flags (set kept n false) slots)) NoWhy i.rest (λ node real must. i.rest.there node real (flags_before kept slots n _ must));
   free = λ m h node real must. i.free m h node real (flags_before kept slots n _ must);
   front = f;
   quiet_size = i.quiet_size;

@@ -7,7 +7,7 @@ use Rattle.watch_chains.specs.declared.chains.Node.{Node}
 use Rattle.watch_lists.specs.declared.visit.Watched.{Watched}
 use Rattle.watch_lists.specs.Pending.{is_pending_on}
 use Rattle.watch_lists.specs.Visit.{slot_clauses, slot_flags, AreSlotsBelow, IsAtRest}
-use Rattle.watch_lists.specs.Sound.{IsFront, IsSound}
+use Rattle.watch_lists.specs.Sound.{IsFront, AreTablesSound}
 use Rattle.watch_lists.specs.Added.{IsTaken, IsQuietBelow}
 use Rattle.watch_lists.proofs.Assigns.{at_most_of, past_of}
 use Rattle.watch_lists.proofs.Adds.{fit_add, quiets_add}
@@ -23,7 +23,7 @@ quiet_off quiet quiet' low len n h q below off = by (leb low n) refl
     by false e = (sym (below n (past_of low n e)) ∙ q, past_of low n e)
 
 -- all that holds of the tables holds with the new clause
-pub sound_add : (v tv : ℕ) (cl : List (List ℕ)) (kept : List Bool) (trail slots : List ℕ) (wa : List Watched) (heads : List ℕ) (nodes : List Node) (words : List ℕ) (quiet : List Bool) (k : List ℕ) (number low : ℕ) (slots' : List ℕ) (wa' : List Watched) (heads' : List ℕ) (nodes' : List Node) (words' : List ℕ) (quiet' : List Bool) → IsSound v tv cl kept trail slots wa heads nodes words quiet → IsClause k → HasVariablesBelow v k → number ≡ length kept → number < 2147483647 → number < 64 * length words → IsTaken k number (2 * tv) trail slots wa heads nodes slots' wa' heads' nodes' → IsQuietBelow k trail low → length words' ≡ length words → IsFront (is_pending_on (cl ++ k ∷ []) (kept ++ true ∷ []) trail) (words_have words') → length quiet' ≡ length quiet → ((m : ℕ) → m < low → get_or quiet' m false ≡ get_or quiet m false) → ((m : ℕ) → low ≤ m → m < length trail → get_or quiet' m false ≡ false) → IsSound v tv (cl ++ k ∷ []) (kept ++ true ∷ []) trail slots' wa' heads' nodes' words' quiet'
+pub sound_add : (v tv : ℕ) (cl : List (List ℕ)) (kept : List Bool) (trail slots : List ℕ) (wa : List Watched) (heads : List ℕ) (nodes : List Node) (words : List ℕ) (quiet : List Bool) (k : List ℕ) (number low : ℕ) (slots' : List ℕ) (wa' : List Watched) (heads' : List ℕ) (nodes' : List Node) (words' : List ℕ) (quiet' : List Bool) → AreTablesSound v tv cl kept trail slots wa heads nodes words quiet → IsClause k → HasVariablesBelow v k → number ≡ length kept → number < 2147483647 → number < 64 * length words → IsTaken k number (2 * tv) trail slots wa heads nodes slots' wa' heads' nodes' → IsQuietBelow k trail low → length words' ≡ length words → IsFront (is_pending_on (cl ++ k ∷ []) (kept ++ true ∷ []) trail) (words_have words') → length quiet' ≡ length quiet → ((m : ℕ) → m < low → get_or quiet' m false ≡ get_or quiet m false) → ((m : ℕ) → low ≤ m → m < length trail → get_or quiet' m false ≡ false) → AreTablesSound v tv (cl ++ k ∷ []) (kept ++ true ∷ []) trail slots' wa' heads' nodes' words' quiet'
 sound_add v tv cl kept trail slots wa heads nodes words quiet k number low slots' wa' heads' nodes' words' quiet' i clause below e few room taken calm lw front lq same off = record {
   small = i.small;
   same = i.same;

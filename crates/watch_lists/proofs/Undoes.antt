@@ -5,10 +5,10 @@ use Rattle.watch_chains.specs.declared.chains.Node.{Node}
 use Rattle.watch_lists.specs.declared.visit.Watched.{Watched}
 use Rattle.watch_lists.specs.Pending.{is_pending_on}
 use Rattle.watch_lists.specs.Visit.{slot_clauses, slot_flags, IsAtRest}
-use Rattle.watch_lists.specs.Sound.{AreFree, IsFront, IsSound}
+use Rattle.watch_lists.specs.Sound.{AreFree, IsFront, AreTablesSound}
 
 -- the same clauses are watched on another trail
-pub sound_moved : (v tv : ℕ) (cl : List (List ℕ)) (kept : List Bool) (trail slots : List ℕ) (wa : List Watched) (heads : List ℕ) (nodes : List Node) (words : List ℕ) (quiet : List Bool) (tv' : ℕ) (trail' : List ℕ) (wa' : List Watched) (heads' : List ℕ) (nodes' : List Node) (words' : List ℕ) (quiet' : List Bool) → IsSound v tv cl kept trail slots wa heads nodes words quiet → tv' ≡ tv → length words' ≡ length words → IsAtRest (slot_clauses cl slots) wa' heads' nodes' (2 * v) (slot_flags kept slots) → ((n : ℕ) → n ≤ length trail' → AreFree (slot_clauses cl slots) wa' (slot_flags kept slots) (take n trail')) → IsFront (is_pending_on cl kept trail') (words_have words') → length quiet' ≡ length quiet → ((n : ℕ) → n < length trail' → get_or quiet' n false ≡ true → (k : ℕ) → is_pending_on cl kept (take n trail') k ≡ false) → IsSound v tv' cl kept trail' slots wa' heads' nodes' words' quiet'
+pub sound_moved : (v tv : ℕ) (cl : List (List ℕ)) (kept : List Bool) (trail slots : List ℕ) (wa : List Watched) (heads : List ℕ) (nodes : List Node) (words : List ℕ) (quiet : List Bool) (tv' : ℕ) (trail' : List ℕ) (wa' : List Watched) (heads' : List ℕ) (nodes' : List Node) (words' : List ℕ) (quiet' : List Bool) → AreTablesSound v tv cl kept trail slots wa heads nodes words quiet → tv' ≡ tv → length words' ≡ length words → IsAtRest (slot_clauses cl slots) wa' heads' nodes' (2 * v) (slot_flags kept slots) → ((n : ℕ) → n ≤ length trail' → AreFree (slot_clauses cl slots) wa' (slot_flags kept slots) (take n trail')) → IsFront (is_pending_on cl kept trail') (words_have words') → length quiet' ≡ length quiet → ((n : ℕ) → n < length trail' → get_or quiet' n false ≡ true → (k : ℕ) → is_pending_on cl kept (take n trail') k ≡ false) → AreTablesSound v tv' cl kept trail' slots wa' heads' nodes' words' quiet'
 sound_moved v tv cl kept trail slots wa heads nodes words quiet tv' trail' wa' heads' nodes' words' quiet' i e w rest free front lq quiets = record {
   small = i.small;
   same = e ∙ i.same;
@@ -26,7 +26,7 @@ sound_moved v tv cl kept trail slots wa heads nodes words quiet tv' trail' wa' h
 }
 
 -- on a shorter trail the watches are right with no work
-pub undo_sound : (v tv : ℕ) (cl : List (List ℕ)) (kept : List Bool) (trail slots : List ℕ) (wa : List Watched) (heads : List ℕ) (nodes : List Node) (words : List ℕ) (quiet : List Bool) (tv' m : ℕ) (trail' words' : List ℕ) → IsSound v tv cl kept trail slots wa heads nodes words quiet → tv' ≡ tv → trail' ≡ take m trail → m ≤ length trail → length words' ≡ length words → IsFront (is_pending_on cl kept trail') (words_have words') → IsSound v tv' cl kept trail' slots wa heads nodes words' quiet
+pub undo_sound : (v tv : ℕ) (cl : List (List ℕ)) (kept : List Bool) (trail slots : List ℕ) (wa : List Watched) (heads : List ℕ) (nodes : List Node) (words : List ℕ) (quiet : List Bool) (tv' m : ℕ) (trail' words' : List ℕ) → AreTablesSound v tv cl kept trail slots wa heads nodes words quiet → tv' ≡ tv → trail' ≡ take m trail → m ≤ length trail → length words' ≡ length words → IsFront (is_pending_on cl kept trail') (words_have words') → AreTablesSound v tv' cl kept trail' slots wa heads nodes words' quiet
 undo_sound v tv cl kept trail slots wa heads nodes words quiet tv' m trail' words' i e t h w f =
     let l : length trail' ≡ m = ap (λ (xs : List ℕ). length xs) t ∙ length-take-le m trail h in
     sound_moved v tv cl kept trail slots wa heads nodes words quiet tv' trail' wa heads nodes words' quiet i e w i.rest

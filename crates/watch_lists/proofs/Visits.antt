@@ -2,13 +2,13 @@ use Rattle.std.proofs.Common.{arith, ◌≡◌, ◌≢◌, ◌==◌, ℕ, suc, �
 use Rattle.std.proofs.lemmas.Bool.Decides.{nat_tests}
 use Rattle.clause_base.specs.Clause.{has_literal}
 use Rattle.watch_chains.specs.declared.chains.Node.{Node}
-use Rattle.watch_chains.specs.Linked.{IsLinked, IsAtEnd, note_of, placed, renamed}
+use Rattle.watch_chains.specs.Linked.{IsLinked, IsAtEnd, blocking_of, placed, renamed}
 use Rattle.watch_lists.specs.declared.visit.Watched.{Watched}
 use Rattle.std.proofs.lemmas.List.{get_or_read}
 use Rattle.watch_lists.proofs.Filters.{has_get, settled_true}
 use Rattle.watch_lists.specs.Pending.{is_free}
 use Rattle.cdcl_rules.specs.State.{clause_at}
-use Rattle.watch_lists.specs.Visit.{no_watches, place_in, place_of, literal_at, IsFit, IsPlaced, IsReal, IsListed, IsKept, IsOther, NoWhy, IsAtRest, IsSettled, Stays, MovesToFree, Grows, AllSettled}
+use Rattle.watch_lists.specs.Visit.{no_watches, place_in, place_of, literal_at, IsFit, AreTwoPlaces, IsReal, IsListed, IsNodeKept, IsOther, NoWhy, IsAtRest, IsSettled, Stays, MovesToFree, Grows, AllSettled}
 
 -- a literal of a clause is below the codes
 pub has_below : (xs : List ℕ) (codes l : ℕ) → ((p : ℕ) → p < length xs → get_or xs p 0 < codes) → has_literal xs l ≡ true → l < codes
@@ -20,8 +20,8 @@ has_below (x ∷ xs) codes l h e = by (x == l) refl e (has_below xs codes l (λ 
     by false f e on g = on e
 
 -- one node is linked, and the others stay
-pub listed_link : (cl : List (List ℕ)) (wa wa' : List Watched) (heads heads' : List ℕ) (nodes nodes' : List Node) (spare : ℕ) (kept : List Bool) (node code note : ℕ) (Why Why' : ℕ → Type 0) (r : IsListed cl wa heads nodes spare (IsOther kept node) Why) → r.on node ≡ None → IsLinked heads' nodes' (placed node (Some code) r.on) → IsPlaced cl wa' → length heads' ≡ length heads → length nodes' ≡ length nodes → note_of nodes' node ≡ note → ((k : ℕ) → (k ≡ node → ⊥) → note_of nodes' k ≡ note_of nodes k) → IsReal cl node → has_literal (clause_at cl (node / 2)) note ≡ true → ((k : ℕ) → IsReal cl k → (k ≡ node → ⊥) → literal_at cl wa' k ≡ literal_at cl wa k) → ((k : ℕ) → IsReal cl k → (k ≡ node → ⊥) → Why k → Why' k) → (IsKept kept node → (code ≡ literal_at cl wa' node) ⊎ ((code ≡ spare) × Why' node)) → IsListed cl wa' heads' nodes' spare (IsKept kept) Why'
-listed_link cl wa wa' heads heads' nodes nodes' spare kept node code note Why Why' r off link place lh ln own others real in_clause same why here = record {
+pub listed_link : (cl : List (List ℕ)) (wa wa' : List Watched) (heads heads' : List ℕ) (nodes nodes' : List Node) (spare : ℕ) (kept : List Bool) (node code blocking : ℕ) (Why Why' : ℕ → Type 0) (r : IsListed cl wa heads nodes spare (IsOther kept node) Why) → r.on node ≡ None → IsLinked heads' nodes' (placed node (Some code) r.on) → AreTwoPlaces cl wa' → length heads' ≡ length heads → length nodes' ≡ length nodes → blocking_of nodes' node ≡ blocking → ((k : ℕ) → (k ≡ node → ⊥) → blocking_of nodes' k ≡ blocking_of nodes k) → IsReal cl node → has_literal (clause_at cl (node / 2)) blocking ≡ true → ((k : ℕ) → IsReal cl k → (k ≡ node → ⊥) → literal_at cl wa' k ≡ literal_at cl wa k) → ((k : ℕ) → IsReal cl k → (k ≡ node → ⊥) → Why k → Why' k) → (IsNodeKept kept node → (code ≡ literal_at cl wa' node) ⊎ ((code ≡ spare) × Why' node)) → IsListed cl wa' heads' nodes' spare (IsNodeKept kept) Why'
+listed_link cl wa wa' heads heads' nodes nodes' spare kept node code blocking Why Why' r off link place lh ln own others real in_clause same why here = record {
   on = placed node (Some code) r.on;
   linked = link;
   placed = place;
@@ -29,7 +29,7 @@ listed_link cl wa wa' heads heads' nodes nodes' spare kept node code note Why Wh
   many = omega (arith, ln, r.many);
   real = λ k l e. real_by k l (k == node) refl e;
   there = λ k rk m. there_by k rk m (k == node) refl;
-  notes = λ k rk. notes_by k rk (k == node) refl;
+  blockings = λ k rk. notes_by k rk (k == node) refl;
 }
   where
     real_by : (k l : ℕ) (b : Bool) → (k == node) ≡ b → (if b then Some code else r.on k) ≡ Some l → IsReal cl k
@@ -40,10 +40,10 @@ listed_link cl wa wa' heads heads' nodes nodes' spare kept node code note Why Wh
     here_by (inl e) = inl (ap (λ (x : ℕ). Some x) e)
     here_by (inr w) = inr (ap (λ (x : ℕ). Some x) w.0, w.1)
 
-    there_by : (k : ℕ) → IsReal cl k → IsKept kept k → (b : Bool) → (k == node) ≡ b → ((if b then Some code else r.on k) ≡ Some (literal_at cl wa' k)) ⊎ (((if b then Some code else r.on k) ≡ Some spare) × Why' k)
+    there_by : (k : ℕ) → IsReal cl k → IsNodeKept kept k → (b : Bool) → (k == node) ≡ b → ((if b then Some code else r.on k) ≡ Some (literal_at cl wa' k)) ⊎ (((if b then Some code else r.on k) ≡ Some spare) × Why' k)
     there_by k rk m true f =
         let t : node ≡ k = grind (arith, nat_tests) in
-        subst (λ (x : ℕ). (Some code ≡ Some (literal_at cl wa' x)) ⊎ ((Some code ≡ Some spare) × Why' x)) t (here_by (here (subst (λ (x : ℕ). IsKept kept x) (sym t) m)))
+        subst (λ (x : ℕ). (Some code ≡ Some (literal_at cl wa' x)) ⊎ ((Some code ≡ Some spare) × Why' x)) t (here_by (here (subst (λ (x : ℕ). IsNodeKept kept x) (sym t) m)))
     there_by k rk m false f =
         let ne : k ≢ node = grind (arith, nat_tests) in old (r.there k rk (m, ne)) ne
       where
@@ -51,19 +51,19 @@ listed_link cl wa wa' heads heads' nodes nodes' spare kept node code note Why Wh
         old (inl e) ne = inl (e ∙ ap (λ (x : ℕ). Some x) (sym (same k rk ne)))
         old (inr w) ne = inr (w.0, why k rk ne w.1)
 
-    notes_by : (k : ℕ) → IsReal cl k → (b : Bool) → (k == node) ≡ b → has_literal (clause_at cl (k / 2)) (note_of nodes' k) ≡ true
+    notes_by : (k : ℕ) → IsReal cl k → (b : Bool) → (k == node) ≡ b → has_literal (clause_at cl (k / 2)) (blocking_of nodes' k) ≡ true
     notes_by k rk true f =
         let t : node ≡ k = grind (arith, nat_tests) in
-        subst (λ (x : ℕ). has_literal (clause_at cl (x / 2)) (note_of nodes' x) ≡ true) t (ap (λ (x : ℕ). has_literal (clause_at cl (node / 2)) x) own ∙ in_clause)
+        subst (λ (x : ℕ). has_literal (clause_at cl (x / 2)) (blocking_of nodes' x) ≡ true) t (ap (λ (x : ℕ). has_literal (clause_at cl (node / 2)) x) own ∙ in_clause)
     notes_by k rk false f =
         let ne : k ≢ node = grind (arith, nat_tests) in
-        ap (λ (x : ℕ). has_literal (clause_at cl (k / 2)) x) (others k ne) ∙ r.notes k rk
+        ap (λ (x : ℕ). has_literal (clause_at cl (k / 2)) x) (others k ne) ∙ r.blockings k rk
 
 -- a node goes back to the spare chain, where a literal of its clause is true
-pub listed_true : (cl : List (List ℕ)) (wa : List Watched) (heads heads' : List ℕ) (nodes nodes' : List Node) (spare : ℕ) (kept : List Bool) (node note code : ℕ) (on set : ℕ → Bool) (r : IsListed cl wa heads nodes spare (IsOther kept node) (Stays cl wa on set code)) → r.on node ≡ None → IsLinked heads' nodes' (placed node (Some spare) r.on) → length heads' ≡ length heads → length nodes' ≡ length nodes → note_of nodes' node ≡ note → ((k : ℕ) → (k ≡ node → ⊥) → note_of nodes' k ≡ note_of nodes k) → IsReal cl node → (IsKept kept node → literal_at cl wa node ≡ code) → has_literal (clause_at cl (node / 2)) note ≡ true → on note ≡ true → IsListed cl wa heads' nodes' spare (IsKept kept) (Stays cl wa on set code)
-listed_true cl wa heads heads' nodes nodes' spare kept node note code on set r off link lh ln own others real watches h t =
-    listed_link cl wa wa heads heads' nodes nodes' spare kept node spare note (Stays cl wa on set code) (Stays cl wa on set code) r off link r.placed lh ln own others real h (λ k q ne. refl) (λ k q ne w. w)
-    (λ m. inr (refl, (watches m, settled_true on set (clause_at cl (node / 2)) note (node / 2) h t)))
+pub listed_true : (cl : List (List ℕ)) (wa : List Watched) (heads heads' : List ℕ) (nodes nodes' : List Node) (spare : ℕ) (kept : List Bool) (node blocking code : ℕ) (on set : ℕ → Bool) (r : IsListed cl wa heads nodes spare (IsOther kept node) (Stays cl wa on set code)) → r.on node ≡ None → IsLinked heads' nodes' (placed node (Some spare) r.on) → length heads' ≡ length heads → length nodes' ≡ length nodes → blocking_of nodes' node ≡ blocking → ((k : ℕ) → (k ≡ node → ⊥) → blocking_of nodes' k ≡ blocking_of nodes k) → IsReal cl node → (IsNodeKept kept node → literal_at cl wa node ≡ code) → has_literal (clause_at cl (node / 2)) blocking ≡ true → on blocking ≡ true → IsListed cl wa heads' nodes' spare (IsNodeKept kept) (Stays cl wa on set code)
+listed_true cl wa heads heads' nodes nodes' spare kept node blocking code on set r off link lh ln own others real watches h t =
+    listed_link cl wa wa heads heads' nodes nodes' spare kept node spare blocking (Stays cl wa on set code) (Stays cl wa on set code) r off link r.placed lh ln own others real h (λ k q ne. refl) (λ k q ne w. w)
+    (λ m. inr (refl, (watches m, settled_true on set (clause_at cl (node / 2)) blocking (node / 2) h t)))
 
 -- a moved watch leaves the other nodes' literals
 pub others_stay : (cl : List (List ℕ)) (wa : List Watched) (w' : Watched) (node : ℕ) → node / 2 < length wa → place_in w' (not (node % 2 == 1)) ≡ place_in (get_or wa (node / 2) no_watches) (not (node % 2 == 1)) → (k : ℕ) → (k ≡ node → ⊥) → literal_at cl (set wa (node / 2) w') k ≡ literal_at cl wa k
@@ -101,7 +101,7 @@ moves_own cl wa w' node place on b other own free k rk = by (k == node) refl
         inr (ap (λ (x : ℕ). is_free on (literal_at cl (set wa (node / 2) w') x)) e ∙ ap (is_free on) (own_moved cl wa w' node place b own) ∙ free)
     by false f = let ne : k ≢ node = grind (arith, nat_tests) in inl (others_stay cl wa w' node b other k ne)
 
-pub placed_moved : (cl : List (List ℕ)) (wa : List Watched) (w' : Watched) (c place : ℕ) (second : Bool) → IsPlaced cl wa → c < length cl → 2 ≤ length (clause_at cl c) → place_in w' second ≡ place → place_in w' (not second) ≡ place_in (get_or wa c no_watches) (not second) → place < length (clause_at cl c) → (place ≡ place_in (get_or wa c no_watches) (not second) → ⊥) → IsPlaced cl (set wa c w')
+pub placed_moved : (cl : List (List ℕ)) (wa : List Watched) (w' : Watched) (c place : ℕ) (second : Bool) → AreTwoPlaces cl wa → c < length cl → 2 ≤ length (clause_at cl c) → place_in w' second ≡ place → place_in w' (not second) ≡ place_in (get_or wa c no_watches) (not second) → place < length (clause_at cl c) → (place ≡ place_in (get_or wa c no_watches) (not second) → ⊥) → AreTwoPlaces cl (set wa c w')
 placed_moved cl wa w' c place second m b two own other inside ne = record {
   many = omega (arith, m.many, length-set wa c w');
   first_in = λ k h t. subst (λ (w : Watched). w.first < length (clause_at cl k)) (sym (value k)) (chosen k h t (k == c) refl).0;
@@ -126,7 +126,7 @@ placed_moved cl wa w' c place second m b two own other inside ne = record {
         subst (λ (x : ℕ). (w'.first < length (clause_at cl x)) × (w'.second < length (clause_at cl x)) × (w'.first ≡ w'.second → ⊥)) e (here second own other ne)
     chosen k h t false f = (m.first_in k h t, m.second_in k h t, m.apart k h t)
 
-pub other_in : (cl : List (List ℕ)) (wa : List Watched) (c : ℕ) (second : Bool) → IsPlaced cl wa → c < length cl → 2 ≤ length (clause_at cl c) → place_in (get_or wa c no_watches) second < length (clause_at cl c)
+pub other_in : (cl : List (List ℕ)) (wa : List Watched) (c : ℕ) (second : Bool) → AreTwoPlaces cl wa → c < length cl → 2 ≤ length (clause_at cl c) → place_in (get_or wa c no_watches) second < length (clause_at cl c)
 other_in cl wa c true m b two = m.second_in c b two
 other_in cl wa c false m b two = m.first_in c b two
 
@@ -149,7 +149,7 @@ pub record Beside (cl : List (List ℕ)) (wa : List Watched) (node other beside 
   pub has : has_literal (clause_at cl (node / 2)) beside ≡ true
   pub inside : other < length (clause_at cl (node / 2))
 
-pub beside_of : (cl : List (List ℕ)) (wa : List Watched) (node other : ℕ) (w : Watched) (xs : List ℕ) (l beside : ℕ) → IsPlaced cl wa → IsReal cl node → w ≡ get_or wa (node / 2) w → other ≡ place_in w (not (node % 2 == 1)) → xs ≡ clause_at cl (node / 2) → l ≡ get_or xs other l → beside ≡ l → Beside cl wa node other beside
+pub beside_of : (cl : List (List ℕ)) (wa : List Watched) (node other : ℕ) (w : Watched) (xs : List ℕ) (l beside : ℕ) → AreTwoPlaces cl wa → IsReal cl node → w ≡ get_or wa (node / 2) w → other ≡ place_in w (not (node % 2 == 1)) → xs ≡ clause_at cl (node / 2) → l ≡ get_or xs other l → beside ≡ l → Beside cl wa node other beside
 beside_of cl wa node other w xs l beside m real rw0 ro rx rl rb =
     let v : w ≡ get_or wa (node / 2) no_watches = get_or_read wa (node / 2) w (omega (arith, real.below, m.many)) rw0 no_watches in
     let p : other ≡ place_in (get_or wa (node / 2) no_watches) (not (node % 2 == 1)) = ro ∙ ap (λ (x : Watched). place_in x (not (node % 2 == 1))) v in
@@ -164,7 +164,7 @@ some_same : (a b : ℕ) → Some a ≡ Some b → a ≡ b
 some_same a b e = cc
 
 -- without the node that was taken from its chain
-pub listed_pop : (cl : List (List ℕ)) (wa : List Watched) (heads heads' : List ℕ) (nodes nodes' : List Node) (spare : ℕ) (kept : List Bool) (node : ℕ) (Why : ℕ → Type 0) (r : IsListed cl wa heads nodes spare (IsKept kept) Why) → IsLinked heads' nodes' (placed node None r.on) → nodes' ≡ nodes → length heads' ≡ length heads → (x : IsListed cl wa heads' nodes' spare (IsOther kept node) Why) × (x.on node ≡ None)
+pub listed_pop : (cl : List (List ℕ)) (wa : List Watched) (heads heads' : List ℕ) (nodes nodes' : List Node) (spare : ℕ) (kept : List Bool) (node : ℕ) (Why : ℕ → Type 0) (r : IsListed cl wa heads nodes spare (IsNodeKept kept) Why) → IsLinked heads' nodes' (placed node None r.on) → nodes' ≡ nodes → length heads' ≡ length heads → (x : IsListed cl wa heads' nodes' spare (IsOther kept node) Why) × (x.on node ≡ None)
 listed_pop cl wa heads heads' nodes nodes' spare kept node Why r link e lh = (
   record {
     on = placed node None r.on;
@@ -174,7 +174,7 @@ listed_pop cl wa heads heads' nodes nodes' spare kept node Why r link e lh = (
     many = omega (arith, r.many, ap (λ (xs : List Node). length xs) e);
     real = λ k l f. real_by k l (k == node) f;
     there = λ k rk m. there_by k rk m.0 m.1 (k == node) refl;
-    notes = λ k rk. ap (λ (xs : List Node). has_literal (clause_at cl (k / 2)) (note_of xs k)) e ∙ r.notes k rk;
+    blockings = λ k rk. ap (λ (xs : List Node). has_literal (clause_at cl (k / 2)) (blocking_of xs k)) e ∙ r.blockings k rk;
   },
   (let t : (node == node) ≡ true = grind (arith, nat_tests) in ap (λ (b : Bool). if b then None else r.on node) t),
 )
@@ -183,23 +183,23 @@ listed_pop cl wa heads heads' nodes nodes' spare kept node Why r link e lh = (
     real_by k l true f = absurd (let w : ⊥ = cc in w)
     real_by k l false f = r.real k l f
 
-    there_by : (k : ℕ) → IsReal cl k → IsKept kept k → (k ≡ node → ⊥) → (b : Bool) → (k == node) ≡ b → ((if b then None else r.on k) ≡ Some (literal_at cl wa k)) ⊎ (((if b then None else r.on k) ≡ Some spare) × Why k)
+    there_by : (k : ℕ) → IsReal cl k → IsNodeKept kept k → (k ≡ node → ⊥) → (b : Bool) → (k == node) ≡ b → ((if b then None else r.on k) ≡ Some (literal_at cl wa k)) ⊎ (((if b then None else r.on k) ≡ Some spare) × Why k)
     there_by k rk m ne true f = let t : k ≡ node = grind (arith, nat_tests) in absurd (ne t)
     there_by k rk m ne false f = r.there k rk m
 
 -- which nodes have to be on a chain, and why one may be on the spare chain
 pub relisted : (cl : List (List ℕ)) (wa : List Watched) (heads : List ℕ) (nodes : List Node) (spare : ℕ) (Must Why Must' Why' : ℕ → Type 0) (r : IsListed cl wa heads nodes spare Must Why) → ((k : ℕ) → IsReal cl k → Must' k → (r.on k ≡ Some (literal_at cl wa k)) ⊎ ((r.on k ≡ Some spare) × Why' k)) → IsListed cl wa heads nodes spare Must' Why'
-relisted cl wa heads nodes spare Must Why Must' Why' r there = record { on = r.on; linked = r.linked; placed = r.placed; codes = r.codes; many = r.many; real = r.real; there = there; notes = r.notes }
+relisted cl wa heads nodes spare Must Why Must' Why' r there = record { on = r.on; linked = r.linked; placed = r.placed; codes = r.codes; many = r.many; real = r.real; there = there; blockings = r.blockings }
 
 -- a node of a clause that is not kept may be on no chain
-pub listed_drop : (cl : List (List ℕ)) (wa : List Watched) (heads : List ℕ) (nodes : List Node) (spare : ℕ) (kept : List Bool) (node : ℕ) (Why : ℕ → Type 0) → IsListed cl wa heads nodes spare (IsOther kept node) Why → get_or kept (node / 2) false ≡ false → IsListed cl wa heads nodes spare (IsKept kept) Why
-listed_drop cl wa heads nodes spare kept node Why r e = relisted cl wa heads nodes spare (IsOther kept node) Why (IsKept kept) Why r (λ k rk m. r.there k rk (m, λ (t : k ≡ node). not_kept k m t))
+pub listed_drop : (cl : List (List ℕ)) (wa : List Watched) (heads : List ℕ) (nodes : List Node) (spare : ℕ) (kept : List Bool) (node : ℕ) (Why : ℕ → Type 0) → IsListed cl wa heads nodes spare (IsOther kept node) Why → get_or kept (node / 2) false ≡ false → IsListed cl wa heads nodes spare (IsNodeKept kept) Why
+listed_drop cl wa heads nodes spare kept node Why r e = relisted cl wa heads nodes spare (IsOther kept node) Why (IsNodeKept kept) Why r (λ k rk m. r.there k rk (m, λ (t : k ≡ node). not_kept k m t))
   where
-    not_kept : (k : ℕ) → IsKept kept k → k ≡ node → ⊥
+    not_kept : (k : ℕ) → IsNodeKept kept k → k ≡ node → ⊥
     not_kept k m t = let z : true ≡ false = sym m ∙ ap (λ (x : ℕ). get_or kept (x / 2) false) t ∙ e in let w : ⊥ = cc in w
 
 -- a kept node on the visited chain watches its literal
-pub own_literal : (cl : List (List ℕ)) (wa : List Watched) (heads : List ℕ) (nodes : List Node) (spare code : ℕ) (kept : List Bool) (node : ℕ) (Why : ℕ → Type 0) (r : IsListed cl wa heads nodes spare (IsKept kept) Why) → code < spare → r.on node ≡ Some code → IsKept kept node → literal_at cl wa node ≡ code
+pub own_literal : (cl : List (List ℕ)) (wa : List Watched) (heads : List ℕ) (nodes : List Node) (spare code : ℕ) (kept : List Bool) (node : ℕ) (Why : ℕ → Type 0) (r : IsListed cl wa heads nodes spare (IsNodeKept kept) Why) → code < spare → r.on node ≡ Some code → IsNodeKept kept node → literal_at cl wa node ≡ code
 own_literal cl wa heads nodes spare code kept node Why r b e m = by (r.there node (r.real node code e) m)
   where
     by : (r.on node ≡ Some (literal_at cl wa node)) ⊎ ((r.on node ≡ Some spare) × Why node) → literal_at cl wa node ≡ code
@@ -215,15 +215,15 @@ moves_on cl a b c on f g k rk = by (f k rk) (g k rk)
     by p (inr q) = inr q
 
 -- before the visits
-pub listed_start : (cl : List (List ℕ)) (wa : List Watched) (heads : List ℕ) (nodes : List Node) (spare : ℕ) (kept : List Bool) (Why : ℕ → Type 0) → IsAtRest cl wa heads nodes spare kept → IsListed cl wa heads nodes spare (IsKept kept) Why
-listed_start cl wa heads nodes spare kept Why r = relisted cl wa heads nodes spare (IsKept kept) NoWhy (IsKept kept) Why r (λ k rk m. by k (r.there k rk m))
+pub listed_start : (cl : List (List ℕ)) (wa : List Watched) (heads : List ℕ) (nodes : List Node) (spare : ℕ) (kept : List Bool) (Why : ℕ → Type 0) → IsAtRest cl wa heads nodes spare kept → IsListed cl wa heads nodes spare (IsNodeKept kept) Why
+listed_start cl wa heads nodes spare kept Why r = relisted cl wa heads nodes spare (IsNodeKept kept) NoWhy (IsNodeKept kept) Why r (λ k rk m. by k (r.there k rk m))
   where
     by : (k : ℕ) → (r.on k ≡ Some (literal_at cl wa k)) ⊎ ((r.on k ≡ Some spare) × ⊥) → (r.on k ≡ Some (literal_at cl wa k)) ⊎ ((r.on k ≡ Some spare) × Why k)
     by k (inl e) = inl e
     by k (inr w) = absurd w.1
 
 -- after the visits, once the spare chain has the visited code
-pub listed_end : (cl : List (List ℕ)) (wa : List Watched) (heads heads' : List ℕ) (nodes nodes' : List Node) (spare code : ℕ) (kept : List Bool) (on set : ℕ → Bool) (r : IsListed cl wa heads nodes spare (IsKept kept) (Stays cl wa on set code)) → IsFit cl spare → IsLinked heads' nodes' (renamed spare code r.on) → nodes' ≡ nodes → length heads' ≡ length heads → IsAtRest cl wa heads' nodes' spare kept
+pub listed_end : (cl : List (List ℕ)) (wa : List Watched) (heads heads' : List ℕ) (nodes nodes' : List Node) (spare code : ℕ) (kept : List Bool) (on set : ℕ → Bool) (r : IsListed cl wa heads nodes spare (IsNodeKept kept) (Stays cl wa on set code)) → IsFit cl spare → IsLinked heads' nodes' (renamed spare code r.on) → nodes' ≡ nodes → length heads' ≡ length heads → IsAtRest cl wa heads' nodes' spare kept
 listed_end cl wa heads heads' nodes nodes' spare code kept on set r fit link e lh = record {
   on = renamed spare code r.on;
   linked = link;
@@ -232,7 +232,7 @@ listed_end cl wa heads heads' nodes nodes' spare code kept on set r fit link e l
   many = omega (arith, r.many, ap (λ (xs : List Node). length xs) e);
   real = λ k l f. real_by k l (r.on k) refl f;
   there = λ k rk m. inl (there_by k rk (r.there k rk m));
-  notes = λ k rk. ap (λ (xs : List Node). has_literal (clause_at cl (k / 2)) (note_of xs k)) e ∙ r.notes k rk;
+  blockings = λ k rk. ap (λ (xs : List Node). has_literal (clause_at cl (k / 2)) (blocking_of xs k)) e ∙ r.blockings k rk;
 }
   where
     real_by : (k l : ℕ) (o : Option ℕ) → r.on k ≡ o → elim o as (λ _. Option ℕ) [ None ↦ None | Some x ↦ if x == spare then Some code else Some x ] ≡ Some l → IsReal cl k
@@ -256,7 +256,7 @@ listed_end cl wa heads heads' nodes nodes' spare code kept on set r fit link e l
         at k spare w.0 true g ∙ ap (λ (x : ℕ). Some x) (sym w.1.0)
 
 -- where the visited chain is at its end all clauses are settled
-pub all_settled : (cl : List (List ℕ)) (wa : List Watched) (heads : List ℕ) (nodes : List Node) (spare code : ℕ) (kept : List Bool) (on set : ℕ → Bool) (r : IsListed cl wa heads nodes spare (IsKept kept) (Stays cl wa on set code)) → ((k : ℕ) → r.on k ≡ Some code → ⊥) → AllSettled cl wa on set code kept
+pub all_settled : (cl : List (List ℕ)) (wa : List Watched) (heads : List ℕ) (nodes : List Node) (spare code : ℕ) (kept : List Bool) (on set : ℕ → Bool) (r : IsListed cl wa heads nodes spare (IsNodeKept kept) (Stays cl wa on set code)) → ((k : ℕ) → r.on k ≡ Some code → ⊥) → AllSettled cl wa on set code kept
 all_settled cl wa heads nodes spare code kept on set r none k rk m e = by (r.there k rk m)
   where
     by : (r.on k ≡ Some (literal_at cl wa k)) ⊎ ((r.on k ≡ Some spare) × Stays cl wa on set code k) → IsSettled on set (clause_at cl (k / 2)) (k / 2)

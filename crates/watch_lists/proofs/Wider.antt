@@ -7,7 +7,7 @@ use Rattle.watch_lists.specs.declared.visit.Watched.{Watched}
 use Rattle.watch_lists.specs.Pending.{is_free}
 use Rattle.cdcl_rules.specs.State.{clause_at}
 use Rattle.watch_lists.specs.Visit.{no_watches, place_in, literal_at, slot_clauses, slot_flags, IsReal, NoWhy, IsAtRest}
-use Rattle.watch_lists.specs.Sound.{IsFront, IsSound}
+use Rattle.watch_lists.specs.Sound.{IsFront, AreTablesSound}
 use Rattle.watch_lists.specs.Added.{IsWider}
 
 literal_wider : (cl : List (List ℕ)) (wa : List Watched) (heads : List ℕ) (nodes : List Node) (words : List ℕ) (wa' : List Watched) (heads' : List ℕ) (nodes' : List Node) (words' : List ℕ) (node : ℕ) → IsWider wa heads nodes words wa' heads' nodes' words' → length cl ≤ length wa → IsReal cl node → literal_at cl wa' node ≡ literal_at cl wa node
@@ -28,7 +28,7 @@ rest_wider cl wa heads nodes words wa' heads' nodes' words' spare kept r w = rec
   many = omega (arith, r.many, w.more_nodes);
   real = r.real;
   there = λ node real must. by node real (r.there node real must);
-  notes = λ node real. ap (λ (x : ℕ). has_literal (clause_at cl (node / 2)) x) (w.notes node (omega (arith, real.below, r.many))) ∙ r.notes node real;
+  blockings = λ node real. ap (λ (x : ℕ). has_literal (clause_at cl (node / 2)) x) (w.blockings node (omega (arith, real.below, r.many))) ∙ r.blockings node real;
 }
   where
     at : (c : ℕ) → c < length cl → get_or wa' c no_watches ≡ get_or wa c no_watches
@@ -44,7 +44,7 @@ front_wider p s s' same f = record {
   first = λ k l. f.first k (sym (same k) ∙ l.0, λ j h. sym (same j) ∙ l.1 j h);
 }
 
-pub sound_wider : (v tv : ℕ) (cl : List (List ℕ)) (kept : List Bool) (trail slots : List ℕ) (wa : List Watched) (heads : List ℕ) (nodes : List Node) (words : List ℕ) (quiet : List Bool) (wa' : List Watched) (heads' : List ℕ) (nodes' : List Node) (words' : List ℕ) → IsSound v tv cl kept trail slots wa heads nodes words quiet → IsWider wa heads nodes words wa' heads' nodes' words' → IsSound v tv cl kept trail slots wa' heads' nodes' words' quiet
+pub sound_wider : (v tv : ℕ) (cl : List (List ℕ)) (kept : List Bool) (trail slots : List ℕ) (wa : List Watched) (heads : List ℕ) (nodes : List Node) (words : List ℕ) (quiet : List Bool) (wa' : List Watched) (heads' : List ℕ) (nodes' : List Node) (words' : List ℕ) → AreTablesSound v tv cl kept trail slots wa heads nodes words quiet → IsWider wa heads nodes words wa' heads' nodes' words' → AreTablesSound v tv cl kept trail slots wa' heads' nodes' words' quiet
 sound_wider v tv cl kept trail slots wa heads nodes words quiet wa' heads' nodes' words' i w = record {
   small = i.small;
   same = i.same;

@@ -4,7 +4,7 @@ use Rattle.clause_base.specs.Clause.{has_literal}
 use Rattle.cdcl_rules.specs.Pending.{is_pending}
 use Rattle.number_bits.specs.Bits.{words_have}
 use Rattle.watch_chains.specs.declared.chains.Node.{Node}
-use Rattle.watch_chains.specs.Linked.{IsLinked, note_of}
+use Rattle.watch_chains.specs.Linked.{IsLinked, blocking_of}
 use Rattle.watch_lists.specs.declared.visit.Watched.{Watched}
 use Rattle.watch_lists.specs.Pending.{is_free}
 use Rattle.watch_lists.specs.Visit.{no_watches, IsAtRest}
@@ -23,7 +23,7 @@ pub record HasRoom (number : ℕ) (watched : List Watched) (nodes : List Node) :
 pub record IsWider (watched : List Watched) (heads : List ℕ) (nodes : List Node) (words : List ℕ) (watched' : List Watched) (heads' : List ℕ) (nodes' : List Node) (words' : List ℕ) : Type 0 where
   pub linked : (on : ℕ → Option ℕ) → IsLinked heads nodes on → IsLinked heads' nodes' on
   pub codes : length heads' ≡ length heads
-  pub notes : (k : ℕ) → k < length nodes → note_of nodes' k ≡ note_of nodes k
+  pub blockings : (k : ℕ) → k < length nodes → blocking_of nodes' k ≡ blocking_of nodes k
   pub more_nodes : length nodes ≤ length nodes'
   pub watches : (c : ℕ) → c < length watched → slice_index_or watched' c no_watches ≡ slice_index_or watched c no_watches
   pub more_watches : length watched ≤ length watched'

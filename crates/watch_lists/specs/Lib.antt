@@ -1,6 +1,6 @@
 pub mod Pending
 pub mod Visit
-pub mod Asking
+pub mod Units
 pub mod Pairs
 pub mod Sound
 pub mod Added

@@ -1,6 +1,8 @@
 use Rattle.std.specs.Prelude.{ℕ, List, Bool, not, length, nat_le}
 use Rattle.clause_base.specs.Literal.{opposite}
 use Rattle.clause_base.specs.Clause.{has_literal}
+use Rattle.cdcl_rules.specs.declared.trail.Assigned.{Assigned}
+use Rattle.cdcl_trail.specs.Assignment.{literals}
 use Rattle.cdcl_rules.specs.Pending.{open_ones, is_pending_in}
 
 -- a literal is not false, where these are true
@@ -21,3 +23,14 @@ pub record WatchesView : Type 0 where
   pub clauses : List (List ℕ)
   pub kept : List Bool
   pub trail : List ℕ
+
+-- the same with the entries of the trail, oldest first
+pub record WatchingView : Type 0 where
+  pub variables : ℕ
+  pub clauses : List (List ℕ)
+  pub kept : List Bool
+  pub entries : List Assigned
+
+-- what is watched, where reasons do not matter
+abbrev pub without_reasons : WatchingView → WatchesView
+without_reasons w = record { variables = w.variables; clauses = w.clauses; kept = w.kept; trail = literals w.entries }

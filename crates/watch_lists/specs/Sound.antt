@@ -6,7 +6,7 @@ use Rattle.watch_chains.specs.declared.chains.Node.{Node}
 use Rattle.watch_lists.specs.declared.visit.Watched.{Watched}
 use Rattle.watch_lists.specs.Pending.{is_free, has_two_free, is_pending_on}
 use Rattle.cdcl_rules.specs.State.{clause_at}
-use Rattle.watch_lists.specs.Visit.{literal_at, slot_clauses, slot_flags, AreSlotsBelow, IsFit, IsReal, IsKept, IsAtRest}
+use Rattle.watch_lists.specs.Visit.{literal_at, slot_clauses, slot_flags, AreSlotsBelow, IsFit, IsReal, IsNodeKept, IsAtRest}
 
 -- a set has all numbers that pass, and the least that it has passes
 pub record IsFront (p set : ℕ → Bool) : Type 0 where
@@ -16,12 +16,12 @@ pub record IsFront (p set : ℕ → Bool) : Type 0 where
 -- where a clause has no true literal and two that are not false, its watched literals are not false
 abbrev pub AreFree : List (List ℕ) → List Watched → List Bool → List ℕ → Type 0
 AreFree clauses watched kept trail =
-    (node : ℕ) → IsReal clauses node → IsKept kept node → list_any (has_literal trail) (clause_at clauses (node / 2)) ≡ false → has_two_free (has_literal trail) (clause_at clauses (node / 2)) ≡ true → is_free (has_literal trail) (literal_at clauses watched node) ≡ true
+    (node : ℕ) → IsReal clauses node → IsNodeKept kept node → list_any (has_literal trail) (clause_at clauses (node / 2)) ≡ false → has_two_free (has_literal trail) (clause_at clauses (node / 2)) ≡ true → is_free (has_literal trail) (literal_at clauses watched node) ≡ true
 
 -- what holds of the tables
-pub record IsSound (variables truth_variables : ℕ) (clauses : List (List ℕ)) (kept : List Bool) (trail : List ℕ) (slots : List ℕ) (watched : List Watched) (heads : List ℕ) (nodes : List Node) (words : List ℕ) (quiet : List Bool) : Type 0 where
+pub record AreTablesSound (variables assigned_variables : ℕ) (clauses : List (List ℕ)) (kept : List Bool) (trail : List ℕ) (slots : List ℕ) (watched : List Watched) (heads : List ℕ) (nodes : List Node) (words : List ℕ) (quiet : List Bool) : Type 0 where
   pub small : variables ≤ 2147483647
-  pub same : truth_variables ≡ variables
+  pub same : assigned_variables ≡ variables
   pub many : length kept ≡ length clauses
   pub few : length clauses ≤ 2147483647
   pub fit : IsFit clauses (2 * variables)

@@ -3,7 +3,7 @@ use Rattle.std.specs.List.{list_any}
 use Rattle.clause_base.specs.Clause.{has_literal}
 use Rattle.cdcl_rules.specs.State.{clause_at}
 use Rattle.watch_chains.specs.declared.chains.Node.{Node}
-use Rattle.watch_chains.specs.Linked.{IsLinked, note_of}
+use Rattle.watch_chains.specs.Linked.{IsLinked, blocking_of}
 use Rattle.watch_lists.specs.declared.visit.Watched.{Watched}
 use Rattle.watch_lists.specs.Pending.{is_free, has_two_free}
 use Rattle.cdcl_rules.specs.Pending.{is_pending}
@@ -43,7 +43,7 @@ pub record IsFit (clauses : List (List ℕ)) (codes : ℕ) : Type 0 where
   pub short : (c : ℕ) → length (clause_at clauses c) ≤ 4294967295
 
 -- the watched places of a clause of two literals or more are two of its places
-pub record IsPlaced (clauses : List (List ℕ)) (watched : List Watched) : Type 0 where
+pub record AreTwoPlaces (clauses : List (List ℕ)) (watched : List Watched) : Type 0 where
   pub many : length clauses ≤ length watched
   pub first_in : (c : ℕ) → c < length clauses → 2 ≤ length (clause_at clauses c) → (slice_index_or watched c no_watches).first < length (clause_at clauses c)
   pub second_in : (c : ℕ) → c < length clauses → 2 ≤ length (clause_at clauses c) → (slice_index_or watched c no_watches).second < length (clause_at clauses c)
@@ -58,23 +58,23 @@ pub record IsReal (clauses : List (List ℕ)) (node : ℕ) : Type 0 where
 pub record IsListed (clauses : List (List ℕ)) (watched : List Watched) (heads : List ℕ) (nodes : List Node) (spare : ℕ) (Must Why : ℕ → Type 0) : Type 0 where
   pub on : ℕ → Option ℕ
   pub linked : IsLinked heads nodes on
-  pub placed : IsPlaced clauses watched
+  pub placed : AreTwoPlaces clauses watched
   pub codes : length heads ≡ spare + 1
   pub many : 2 * length clauses ≤ length nodes
   pub real : (node l : ℕ) → on node ≡ Some l → IsReal clauses node
   pub there : (node : ℕ) → IsReal clauses node → Must node → (on node ≡ Some (literal_at clauses watched node)) ⊎ ((on node ≡ Some spare) × Why node)
-  pub notes : (node : ℕ) → IsReal clauses node → has_literal (clause_at clauses (node / 2)) (note_of nodes node) ≡ true
+  pub blockings : (node : ℕ) → IsReal clauses node → has_literal (clause_at clauses (node / 2)) (blocking_of nodes node) ≡ true
 
 -- the clause with a number is kept
-abbrev pub IsKept : List Bool → ℕ → Type 0
-IsKept kept node = slice_index_or kept (node / 2) false ≡ true
+abbrev pub IsNodeKept : List Bool → ℕ → Type 0
+IsNodeKept kept node = slice_index_or kept (node / 2) false ≡ true
 
 abbrev pub NoWhy : ℕ → Type 0
 NoWhy node = ⊥
 
 -- between the visits
 abbrev pub IsAtRest : List (List ℕ) → List Watched → List ℕ → List Node → ℕ → List Bool → Type 0
-IsAtRest clauses watched heads nodes spare kept = IsListed clauses watched heads nodes spare (IsKept kept) NoWhy
+IsAtRest clauses watched heads nodes spare kept = IsListed clauses watched heads nodes spare (IsNodeKept kept) NoWhy
 
 -- a clause that may watch a false literal: it has no two that are not false, and where it is pending it is in the set
 pub record IsSettled (on : ℕ → Bool) (set : ℕ → Bool) (clause : List ℕ) (c : ℕ) : Type 0 where
@@ -97,9 +97,9 @@ Grows set set' = (k : ℕ) → set k ≡ true → set' k ≡ true
 
 -- the node whose turn it is, and which is on no chain
 abbrev pub IsOther : List Bool → ℕ → ℕ → Type 0
-IsOther kept node k = IsKept kept k × (k ≡ node → ⊥)
+IsOther kept node k = IsNodeKept kept k × (k ≡ node → ⊥)
 
 -- after a visit each kept clause that still watches the literal is settled
 abbrev pub AllSettled : List (List ℕ) → List Watched → (ℕ → Bool) → (ℕ → Bool) → ℕ → List Bool → Type 0
 AllSettled clauses watched on set code kept =
-    (node : ℕ) → IsReal clauses node → IsKept kept node → literal_at clauses watched node ≡ code → IsSettled on set (clause_at clauses (node / 2)) (node / 2)
+    (node : ℕ) → IsReal clauses node → IsNodeKept kept node → literal_at clauses watched node ≡ code → IsSettled on set (clause_at clauses (node / 2)) (node / 2)

@@ -3,31 +3,31 @@
 ghost use Rattle.std.specs.Prelude.{◌≡◌, ℕ, ◌+◌, ◌*◌, ◌<◌, ◌≤◌, Bool, length, slice_index};
 ghost use Rattle.clause_base.specs.Clause.{has_literal};
 ghost use Rattle.watch_chains.specs.Linked.{ArePairLoose};
-ghost use Rattle.watch_lists.specs.Asking.{IsAsked};
+ghost use Rattle.watch_lists.specs.Units.{IsUnit};
 ghost use Rattle.watch_lists.specs.Added.{HasRoom, Outlasts, RestsWith, FreeWith, IsQuietBelow};
 
 use crate::fall::{free_until, latest};
 use crate::visit::{Lists, Watched};
+use cdcl_trail::assignment::Assignment;
 use clause_base::literal::Lit;
 use clause_base::view::View;
-use watch_store::truth::Truth;
 
 /// No place of a clause.
 const NOWHERE: u32 = 4_294_967_295;
 
 /// The places of the two literals of a clause that are not false for longest along the trail.
-fn to_watch(truth: &Truth, clause: &[Lit]) -> Watched
-    requires below { (p : ℕ) → p < length clause.now → slice_index clause.now p < 2 * truth.now.variables }
+fn to_watch(assignment: &Assignment, clause: &[Lit]) -> Watched
+    requires below { (p : ℕ) → p < length clause.now → slice_index clause.now p < 2 * assignment.now.variables }
     requires short { length clause.now ≤ 4294967295 }
     requires two { 2 ≤ length clause.now }
     ensures first_in { result.first < length clause.now }
     ensures second_in { result.second < length clause.now }
     ensures apart { result.second ≡ result.first → ⊥ }
-    ensures most { (p : ℕ) → p < length clause.now → Outlasts truth.now.trail (slice_index clause.now result.first) (slice_index clause.now p) }
-    ensures next { (p : ℕ) → p < length clause.now → (p ≡ result.first → ⊥) → Outlasts truth.now.trail (slice_index clause.now result.second) (slice_index clause.now p) }
+    ensures most { (p : ℕ) → p < length clause.now → Outlasts assignment.now.trail (slice_index clause.now result.first) (slice_index clause.now p) }
+    ensures next { (p : ℕ) → p < length clause.now → (p ≡ result.first → ⊥) → Outlasts assignment.now.trail (slice_index clause.now result.second) (slice_index clause.now p) }
 {
-    let first = latest(truth, clause, NOWHERE);
-    let second = latest(truth, clause, first);
+    let first = latest(assignment, clause, NOWHERE);
+    let second = latest(assignment, clause, first);
     Watched {
         first,
         second,
@@ -37,30 +37,30 @@ fn to_watch(truth: &Truth, clause: &[Lit]) -> Watched
 
 impl Lists {
     /// Watches two literals of a new clause. In the prefixes of the trail below the result it is not pending.
-    pub fn enter(&mut self, truth: &Truth, clause: &[Lit], slot: u32) -> u32
-        requires small { truth.now.variables ≤ 2147483647 }
-        requires below { (p : ℕ) → p < length clause.now → slice_index clause.now p < 2 * truth.now.variables }
+    pub fn enter(&mut self, assignment: &Assignment, clause: &[Lit], slot: u32) -> u32
+        requires small { assignment.now.variables ≤ 2147483647 }
+        requires below { (p : ℕ) → p < length clause.now → slice_index clause.now p < 2 * assignment.now.variables }
         requires short { length clause.now ≤ 4294967295 }
         requires two { 2 ≤ length clause.now }
-        requires codes { length self.old.chains.heads.items ≡ 2 * truth.now.variables + 1 }
+        requires codes { length self.old.chains.heads.items ≡ 2 * assignment.now.variables + 1 }
         requires room { HasRoom slot self.old.watched.items self.old.chains.nodes.items }
-        requires asks { slot < length self.old.asks.items }
+        requires units { slot < length self.old.units.items }
         requires loose { ArePairLoose self.old.chains.heads.items self.old.chains.nodes.items (2 * slot) }
-        ensures rest { RestsWith clause.now slot (2 * truth.now.variables) self.old.watched.items self.old.chains.heads.items self.old.chains.nodes.items self.new.watched.items self.new.chains.heads.items self.new.chains.nodes.items }
-        ensures free { FreeWith clause.now slot truth.now.trail self.old.watched.items self.new.watched.items }
-        ensures quiet { IsQuietBelow clause.now truth.now.trail result }
-        ensures asked { result ≤ length truth.now.trail → 2 < length clause.now → IsAsked (has_literal truth.now.trail) clause.now (slice_index self.new.asks.items slot) }
-        ensures asks { (s : ℕ) → (s ≡ slot → ⊥) → slice_index self.new.asks.items s ≡ slice_index self.old.asks.items s }
-        ensures long { length self.new.asks.items ≡ length self.old.asks.items }
+        ensures rest { RestsWith clause.now slot (2 * assignment.now.variables) self.old.watched.items self.old.chains.heads.items self.old.chains.nodes.items self.new.watched.items self.new.chains.heads.items self.new.chains.nodes.items }
+        ensures free { FreeWith clause.now slot assignment.now.trail self.old.watched.items self.new.watched.items }
+        ensures quiet { IsQuietBelow clause.now assignment.now.trail result }
+        ensures units_are { result ≤ length assignment.now.trail → 2 < length clause.now → IsUnit (has_literal assignment.now.trail) clause.now (slice_index self.new.units.items slot) }
+        ensures units { (s : ℕ) → (s ≡ slot → ⊥) → slice_index self.new.units.items s ≡ slice_index self.old.units.items s }
+        ensures long { length self.new.units.items ≡ length self.old.units.items }
         ensures set { self.new.pending ≡ self.old.pending }
     {
-        let watched = to_watch(truth, clause);
+        let watched = to_watch(assignment, clause);
         self.watched[slot as usize] = watched;
         let a = clause[watched.first as usize];
         let b = clause[watched.second as usize];
         self.chains.link_two(2 * slot, a.0, b.0);
-        self.asks[slot as usize] = a.0;
-        free_until(truth, b.0) + 1
+        self.units[slot as usize] = a.0;
+        free_until(assignment, b.0) + 1
     }
 
     /// Watches the last two literals of a clause, where no literal is true yet: in a clause of a planning formula those stand
@@ -74,7 +74,7 @@ impl Lists {
         requires loose { ArePairLoose self.old.chains.heads.items self.old.chains.nodes.items (2 * slot) }
         ensures rest { RestsWith clause.now slot codes self.old.watched.items self.old.chains.heads.items self.old.chains.nodes.items self.new.watched.items self.new.chains.heads.items self.new.chains.nodes.items }
         ensures set { self.new.pending ≡ self.old.pending }
-        ensures asks { self.new.asks.items ≡ self.old.asks.items }
+        ensures units { self.new.units.items ≡ self.old.units.items }
     {
         let length = clause.len() as u32;
         let watched = Watched {

@@ -4,40 +4,40 @@ ghost use Rattle.clause_base.specs.Clause.{has_literal};
 ghost use Rattle.watch_lists.specs.Pending.{is_free};
 ghost use Rattle.watch_lists.specs.Added.{Outlasts};
 
+use cdcl_trail::assignment::Assignment;
 use clause_base::literal::Lit;
-use watch_store::truth::Truth;
 
 /// The length of the longest prefix of the trail in which a literal is not false.
-pub fn free_until(truth: &Truth, code: u32) -> u32
-    requires { code < 2 * truth.now.variables }
-    ensures lasts { (n : ℕ) → n ≤ length truth.now.trail → is_free (has_literal (take n truth.now.trail)) code ≡ nat_le n result }
-    ensures short { result ≤ truth.now.variables }
+pub fn free_until(assignment: &Assignment, code: u32) -> u32
+    requires { code < 2 * assignment.now.variables }
+    ensures lasts { (n : ℕ) → n ≤ length assignment.now.trail → is_free (has_literal (take n assignment.now.trail)) code ≡ nat_le n result }
+    ensures short { result ≤ assignment.now.variables }
 {
-    let length = truth.length();
-    if truth.is_false(code) {
-        truth.place(code)
+    let length = assignment.length();
+    if assignment.is_false(code) {
+        assignment.position(code)
     } else {
         length
     }
 }
 
 /// Of two places the one whose literal is not false for longer, but not the skipped one.
-fn longer(truth: &Truth, clause: &[Lit], skipped: u32, place: u32, best: u32) -> u32
-    requires below { (p : ℕ) → p < length clause.now → slice_index clause.now p < 2 * truth.now.variables }
+fn longer(assignment: &Assignment, clause: &[Lit], skipped: u32, place: u32, best: u32) -> u32
+    requires below { (p : ℕ) → p < length clause.now → slice_index clause.now p < 2 * assignment.now.variables }
     requires place { place < length clause.now }
     requires best { best < length clause.now }
     requires other { best ≡ skipped → ⊥ }
     ensures inside { result < length clause.now }
     ensures other { result ≡ skipped → ⊥ }
-    ensures keeps { Outlasts truth.now.trail (slice_index clause.now result) (slice_index clause.now best) }
-    ensures takes { (place ≡ skipped → ⊥) → Outlasts truth.now.trail (slice_index clause.now result) (slice_index clause.now place) }
+    ensures keeps { Outlasts assignment.now.trail (slice_index clause.now result) (slice_index clause.now best) }
+    ensures takes { (place ≡ skipped → ⊥) → Outlasts assignment.now.trail (slice_index clause.now result) (slice_index clause.now place) }
 {
     if place == skipped {
         return best;
     }
     let lit = clause[place as usize];
     let chosen = clause[best as usize];
-    if free_until(truth, chosen.0) < free_until(truth, lit.0) {
+    if free_until(assignment, chosen.0) < free_until(assignment, lit.0) {
         place
     } else {
         best
@@ -45,17 +45,17 @@ fn longer(truth: &Truth, clause: &[Lit], skipped: u32, place: u32, best: u32) ->
 }
 
 /// The place, but for a skipped one, of the literal that is not false for longest.
-pub fn latest(truth: &Truth, clause: &[Lit], skipped: u32) -> u32
-    requires below { (p : ℕ) → p < length clause.now → slice_index clause.now p < 2 * truth.now.variables }
+pub fn latest(assignment: &Assignment, clause: &[Lit], skipped: u32) -> u32
+    requires below { (p : ℕ) → p < length clause.now → slice_index clause.now p < 2 * assignment.now.variables }
     requires short { length clause.now ≤ 4294967295 }
     requires two { 2 ≤ length clause.now }
     ensures inside { result < length clause.now }
     ensures other { result ≡ skipped → ⊥ }
-    ensures most { (p : ℕ) → p < length clause.now → (p ≡ skipped → ⊥) → Outlasts truth.now.trail (slice_index clause.now result) (slice_index clause.now p) }
+    ensures most { (p : ℕ) → p < length clause.now → (p ≡ skipped → ⊥) → Outlasts assignment.now.trail (slice_index clause.now result) (slice_index clause.now p) }
 {
     let mut best = if skipped == 0 { 1 } else { 0 };
     for place in 0..clause.len() as u32 {
-        best = longer(truth, clause, skipped, place, best);
+        best = longer(assignment, clause, skipped, place, best);
     }
     best
 }

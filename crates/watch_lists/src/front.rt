@@ -3,7 +3,7 @@
 ghost use Rattle.std.specs.Prelude.{◌≡◌, ℕ, ◌*◌, ◌<◌, ◌≤◌, ◌==◌, ◌&&◌, not, length, true, false, slice_index};
 ghost use Rattle.clause_base.specs.Clause.{has_literal};
 ghost use Rattle.number_bits.specs.Bits.{words_have};
-ghost use Rattle.watch_lists.specs.Asking.{IsAsked, AreAsked, IsAskedAt, IsWithin, IsConsistent};
+ghost use Rattle.watch_lists.specs.Units.{IsUnit, AreUnits, IsUnitAt, IsWithin, IsConsistent};
 ghost use Rattle.watch_lists.specs.Pending.{is_pending_on};
 ghost use Rattle.cdcl_rules.specs.Pending.{is_pending};
 ghost use Rattle.cdcl_rules.specs.State.{clause_at};
@@ -12,14 +12,14 @@ ghost use Rattle.watch_lists.specs.Sound.{IsFront};
 
 use crate::left::is_left;
 use crate::pending::Pending;
-use crate::scan::{ask_of, is_pending};
+use crate::scan::{is_pending, unit_of};
 use crate::slots::slot_clause;
+use cdcl_trail::assignment::Assignment;
 use number_bits::first::First;
 use number_bits::flat::Flat;
 use number_bits::layer::Layer;
 use number_bits::set::NumberSet;
 use watch_store::store::Store;
-use watch_store::truth::Truth;
 
 /// Whether a clause is kept and pending.
 fn stands(
@@ -27,20 +27,20 @@ fn stands(
     kept: &[bool],
     slots: &[u32],
     blocks: &[u32],
-    truth: &Truth,
-    asks: &[u32],
+    assignment: &Assignment,
+    units: &[u32],
     number: u32,
 ) -> bool
-    requires fit { IsFit store.now (2 * truth.now.variables) }
+    requires fit { IsFit store.now (2 * assignment.now.variables) }
     requires kept { length kept.now ≡ length store.now }
     requires few { length slots.now ≤ 4294967295 }
-    requires long { length slots.now ≤ length asks.now }
-    requires consistent { IsConsistent truth.now.trail }
+    requires long { length slots.now ≤ length units.now }
+    requires consistent { IsConsistent assignment.now.trail }
     requires inside { number < length store.now }
-    requires asked { IsAskedAt store.now slots.now (has_literal truth.now.trail) asks.now number }
-    ensures { result ≡ is_pending_on store.now kept.now truth.now.trail number }
+    requires units_are { IsUnitAt store.now slots.now (has_literal assignment.now.trail) units.now number }
+    ensures { result ≡ is_pending_on store.now kept.now assignment.now.trail number }
 {
-    kept[number as usize] && is_left(store, slots, blocks, truth, asks, number)
+    kept[number as usize] && is_left(store, slots, blocks, assignment, units, number)
 }
 
 /// Takes numbers that are not pending from the front of the set.
@@ -49,20 +49,20 @@ pub fn clean(
     kept: &[bool],
     slots: &[u32],
     blocks: &[u32],
-    truth: &Truth,
-    asks: &[u32],
+    assignment: &Assignment,
+    units: &[u32],
     pending: &mut Pending,
 )
-    requires fit { IsFit store.now (2 * truth.now.variables) }
+    requires fit { IsFit store.now (2 * assignment.now.variables) }
     requires kept { length kept.now ≡ length store.now }
     requires few { length slots.now ≤ 4294967295 }
-    requires long { length slots.now ≤ length asks.now }
-    requires consistent { IsConsistent truth.now.trail }
+    requires long { length slots.now ≤ length units.now }
+    requires consistent { IsConsistent assignment.now.trail }
     requires room { length store.now ≤ 64 * length pending.old }
     requires within { IsWithin (length store.now) (words_have pending.old) }
-    requires asked { AreAsked (slot_clauses store.now slots.now) (has_literal truth.now.trail) (slot_set (words_have pending.old) slots.now) asks.now }
-    requires complete { (k : ℕ) → is_pending_on store.now kept.now truth.now.trail k ≡ true → words_have pending.old k ≡ true }
-    ensures front { IsFront (is_pending_on store.now kept.now truth.now.trail) (words_have pending.new) }
+    requires units_are { AreUnits (slot_clauses store.now slots.now) (has_literal assignment.now.trail) (slot_set (words_have pending.old) slots.now) units.now }
+    requires complete { (k : ℕ) → is_pending_on store.now kept.now assignment.now.trail k ≡ true → words_have pending.old k ≡ true }
+    ensures front { IsFront (is_pending_on store.now kept.now assignment.now.trail) (words_have pending.new) }
     ensures room { length pending.new ≡ length pending.old }
     ensures fewer { (k : ℕ) → words_have pending.new k ≡ true → words_have pending.old k ≡ true }
 {
@@ -71,7 +71,7 @@ pub fn clean(
         match pending.least() {
             None => return,
             Some(number) => {
-                if stands(store, kept, slots, blocks, truth, asks, number) {
+                if stands(store, kept, slots, blocks, assignment, units, number) {
                     return;
                 }
                 pending.remove(number);
@@ -99,73 +99,79 @@ pub fn clear(pending: &mut Pending)
 }
 
 /// Whether a number is that of a clause that is kept and pending, by its literals.
-fn is_kept_pending(store: &Store, kept: &[bool], truth: &Truth, number: u32) -> bool
-    requires fit { IsFit store.now (2 * truth.now.variables) }
+fn is_kept_pending(store: &Store, kept: &[bool], assignment: &Assignment, number: u32) -> bool
+    requires fit { IsFit store.now (2 * assignment.now.variables) }
     requires kept { length kept.now ≡ length store.now }
     requires inside { number < length store.now }
-    ensures { result ≡ is_pending_on store.now kept.now truth.now.trail number }
+    ensures { result ≡ is_pending_on store.now kept.now assignment.now.trail number }
 {
-    kept[number as usize] && is_pending(truth, &store.clause(number))
+    kept[number as usize] && is_pending(assignment, &store.clause(number))
 }
 
 /// Puts a clause into the set, if it is kept and pending.
-fn scan_one(store: &Store, kept: &[bool], truth: &Truth, pending: &mut Pending, number: u32)
-    requires fit { IsFit store.now (2 * truth.now.variables) }
+fn scan_one(
+    store: &Store,
+    kept: &[bool],
+    assignment: &Assignment,
+    pending: &mut Pending,
+    number: u32,
+)
+    requires fit { IsFit store.now (2 * assignment.now.variables) }
     requires kept { length kept.now ≡ length store.now }
     requires inside { number < length store.now }
     requires room { length store.now ≤ 64 * length pending.old }
     ensures others { (k : ℕ) → (k ≡ number → ⊥) → words_have pending.new k ≡ words_have pending.old k }
-    ensures own { is_pending_on store.now kept.now truth.now.trail number ≡ true → words_have pending.new number ≡ true }
-    ensures none { is_pending_on store.now kept.now truth.now.trail number ≡ false → words_have pending.new number ≡ words_have pending.old number }
+    ensures own { is_pending_on store.now kept.now assignment.now.trail number ≡ true → words_have pending.new number ≡ true }
+    ensures none { is_pending_on store.now kept.now assignment.now.trail number ≡ false → words_have pending.new number ≡ words_have pending.old number }
     ensures room { length pending.new ≡ length pending.old }
 {
-    if !is_kept_pending(store, kept, truth, number) {
+    if !is_kept_pending(store, kept, assignment, number) {
         return;
     }
     pending.insert(number);
 }
 
 /// Makes the set that of the pending clauses.
-pub fn rescan(store: &Store, kept: &[bool], truth: &Truth, pending: &mut Pending)
-    requires fit { IsFit store.now (2 * truth.now.variables) }
+pub fn rescan(store: &Store, kept: &[bool], assignment: &Assignment, pending: &mut Pending)
+    requires fit { IsFit store.now (2 * assignment.now.variables) }
     requires kept { length kept.now ≡ length store.now }
     requires few { length store.now ≤ 4294967295 }
     requires room { length store.now ≤ 64 * length pending.old }
-    ensures same { (k : ℕ) → words_have pending.new k ≡ is_pending_on store.now kept.now truth.now.trail k }
+    ensures same { (k : ℕ) → words_have pending.new k ≡ is_pending_on store.now kept.now assignment.now.trail k }
     ensures room { length pending.new ≡ length pending.old }
 {
     clear(pending);
     for number in 0..kept.len() as u32 {
-        scan_one(store, kept, truth, pending, number);
+        scan_one(store, kept, assignment, pending, number);
     }
 }
 
-/// Notes what the clause of a slot asks for, if it has literals and is pending.
-fn ask_one(store: &Store, slots: &[u32], truth: &Truth, asks: &mut Vec<u32>, slot: u32)
-    requires fit { IsFit store.now (2 * truth.now.variables) }
+/// Notes the unit literal of a slot, if its clause has literals and is pending.
+fn find_unit(store: &Store, slots: &[u32], assignment: &Assignment, units: &mut Vec<u32>, slot: u32)
+    requires fit { IsFit store.now (2 * assignment.now.variables) }
     requires slotted { AreSlotsBelow (length store.now) slots.now }
     requires inside { slot < length slots.now }
-    requires long { length slots.now ≤ length asks.old.items }
-    ensures own { is_pending (has_literal truth.now.trail) (clause_at (slot_clauses store.now slots.now) slot) ≡ true → 2 < length (clause_at (slot_clauses store.now slots.now) slot) → IsAsked (has_literal truth.now.trail) (clause_at (slot_clauses store.now slots.now) slot) (slice_index asks.new.items slot) }
-    ensures others { (s : ℕ) → (s ≡ slot → ⊥) → slice_index asks.new.items s ≡ slice_index asks.old.items s }
-    ensures size { length asks.new.items ≡ length asks.old.items }
+    requires long { length slots.now ≤ length units.old.items }
+    ensures own { is_pending (has_literal assignment.now.trail) (clause_at (slot_clauses store.now slots.now) slot) ≡ true → 2 < length (clause_at (slot_clauses store.now slots.now) slot) → IsUnit (has_literal assignment.now.trail) (clause_at (slot_clauses store.now slots.now) slot) (slice_index units.new.items slot) }
+    ensures others { (s : ℕ) → (s ≡ slot → ⊥) → slice_index units.new.items s ≡ slice_index units.old.items s }
+    ensures size { length units.new.items ≡ length units.old.items }
 {
     let clause = slot_clause(store, slots, slot);
-    if clause.len() != 0 && is_pending(truth, &clause) {
-        asks[slot as usize] = ask_of(truth, &clause);
+    if clause.len() != 0 && is_pending(assignment, &clause) {
+        units[slot as usize] = unit_of(assignment, &clause);
     }
 }
 
-/// Notes what the clause of each slot asks for that is pending.
-pub fn ask_all(store: &Store, slots: &[u32], truth: &Truth, asks: &mut Vec<u32>)
-    requires fit { IsFit store.now (2 * truth.now.variables) }
+/// Notes the unit literal of each slot whose clause is pending.
+pub fn find_units(store: &Store, slots: &[u32], assignment: &Assignment, units: &mut Vec<u32>)
+    requires fit { IsFit store.now (2 * assignment.now.variables) }
     requires slotted { AreSlotsBelow (length store.now) slots.now }
     requires few { length slots.now ≤ 4294967295 }
-    requires long { length slots.now ≤ length asks.old.items }
-    ensures asked { (s : ℕ) → s < length slots.now → is_pending (has_literal truth.now.trail) (clause_at (slot_clauses store.now slots.now) s) ≡ true → 2 < length (clause_at (slot_clauses store.now slots.now) s) → IsAsked (has_literal truth.now.trail) (clause_at (slot_clauses store.now slots.now) s) (slice_index asks.new.items s) }
-    ensures size { length asks.new.items ≡ length asks.old.items }
+    requires long { length slots.now ≤ length units.old.items }
+    ensures units_are { (s : ℕ) → s < length slots.now → is_pending (has_literal assignment.now.trail) (clause_at (slot_clauses store.now slots.now) s) ≡ true → 2 < length (clause_at (slot_clauses store.now slots.now) s) → IsUnit (has_literal assignment.now.trail) (clause_at (slot_clauses store.now slots.now) s) (slice_index units.new.items s) }
+    ensures size { length units.new.items ≡ length units.old.items }
 {
     for slot in 0..slots.len() as u32 {
-        ask_one(store, slots, truth, asks, slot);
+        find_unit(store, slots, assignment, units, slot);
     }
 }

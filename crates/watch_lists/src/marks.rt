@@ -1,12 +1,13 @@
-//! The clauses of two literals of a literal that became false: each whose other literal is not true asks for it.
+//! The clauses of two literals of a literal that became false: each whose other literal is not true has that for its unit literal.
 ghost use Rattle.std.specs.Prelude.{◌≡◌, ℕ, ◌*◌, ◌<◌, ◌≤◌, ◌++◌, length, false, true};
 ghost use Rattle.clause_base.specs.Clause.{has_literal};
 ghost use Rattle.number_bits.specs.Bits.{words_have};
 ghost use Rattle.pair_index.specs.Pairs.{IsPairOf, pairs_of, pair_in};
-ghost use Rattle.watch_lists.specs.Asking.{HasPairsMore};
+ghost use Rattle.watch_lists.specs.Units.{HasPairsMore};
 ghost use Rattle.watch_lists.specs.Visit.{Grows, IsFit};
 
 use crate::pending::Pending;
+use cdcl_trail::assignment::Assignment;
 use number_bits::first::First;
 use number_bits::flat::Flat;
 use number_bits::layer::Layer;
@@ -15,36 +16,41 @@ use pair_index::index::PairIndex;
 use pair_index::list::PairList;
 use pair_index::pair::Pair;
 use watch_store::store::Store;
-use watch_store::truth::Truth;
 
 /// Puts the clause of a pair of a false literal into the set, if its other literal is not true.
-fn mark(store: &Store, pair: Pair, truth: &Truth, fallen: u32, pending: &mut Pending)
-    requires fit { IsFit store.now (2 * truth.now.variables) }
-    requires exact { IsPairOf store.now fallen pair }
+fn mark(store: &Store, pair: Pair, assignment: &Assignment, falsified: u32, pending: &mut Pending)
+    requires fit { IsFit store.now (2 * assignment.now.variables) }
+    requires exact { IsPairOf store.now falsified pair }
     requires room { length store.now ≤ 64 * length pending.old }
-    ensures in_set { has_literal truth.now.trail pair.other ≡ false → words_have pending.new pair.number ≡ true }
+    ensures in_set { has_literal assignment.now.trail pair.other ≡ false → words_have pending.new pair.number ≡ true }
     ensures grows { Grows (words_have pending.old) (words_have pending.new) }
     ensures only { HasPairsMore store.now (words_have pending.old) (words_have pending.new) }
     ensures room { length pending.new ≡ length pending.old }
 {
-    if truth.is_true(pair.other) {
+    if assignment.is_true(pair.other) {
         return;
     }
     pending.insert(pair.number);
 }
 
 /// Puts the clauses of a list of pairs of a false literal into the set whose other literal is not true.
-fn mark_all(store: &Store, pairs: &PairList, truth: &Truth, fallen: u32, pending: &mut Pending)
-    requires fit { IsFit store.now (2 * truth.now.variables) }
-    requires exact { (i : ℕ) → i < length pairs.now → IsPairOf store.now fallen (pair_in pairs.now i) }
+fn mark_all(
+    store: &Store,
+    pairs: &PairList,
+    assignment: &Assignment,
+    falsified: u32,
+    pending: &mut Pending,
+)
+    requires fit { IsFit store.now (2 * assignment.now.variables) }
+    requires exact { (i : ℕ) → i < length pairs.now → IsPairOf store.now falsified (pair_in pairs.now i) }
     requires room { length store.now ≤ 64 * length pending.old }
-    ensures in_set { (i : ℕ) → i < length pairs.now → has_literal truth.now.trail (pair_in pairs.now i).other ≡ false → words_have pending.new (pair_in pairs.now i).number ≡ true }
+    ensures in_set { (i : ℕ) → i < length pairs.now → has_literal assignment.now.trail (pair_in pairs.now i).other ≡ false → words_have pending.new (pair_in pairs.now i).number ≡ true }
     ensures grows { Grows (words_have pending.old) (words_have pending.new) }
     ensures only { HasPairsMore store.now (words_have pending.old) (words_have pending.new) }
     ensures room { length pending.new ≡ length pending.old }
 {
     for place in 0..pairs.len() {
-        mark(store, pairs.at(place), truth, fallen, pending);
+        mark(store, pairs.at(place), assignment, falsified, pending);
     }
 }
 
@@ -52,23 +58,23 @@ fn mark_all(store: &Store, pairs: &PairList, truth: &Truth, fallen: u32, pending
 pub fn mark_pairs(
     store: &Store,
     index: &PairIndex,
-    truth: &Truth,
-    fallen: u32,
+    assignment: &Assignment,
+    falsified: u32,
     pending: &mut Pending,
 )
-    requires fit { IsFit store.now (2 * truth.now.variables) }
-    requires inside { fallen < length index.now }
-    requires exact { (i : ℕ) → i < length (pairs_of index.now fallen) → IsPairOf store.now fallen (pair_in (pairs_of index.now fallen) i) }
+    requires fit { IsFit store.now (2 * assignment.now.variables) }
+    requires inside { falsified < length index.now }
+    requires exact { (i : ℕ) → i < length (pairs_of index.now falsified) → IsPairOf store.now falsified (pair_in (pairs_of index.now falsified) i) }
     requires room { length store.now ≤ 64 * length pending.old }
-    ensures in_set { (i : ℕ) → i < length (pairs_of index.now fallen) → has_literal truth.now.trail (pair_in (pairs_of index.now fallen) i).other ≡ false → words_have pending.new (pair_in (pairs_of index.now fallen) i).number ≡ true }
+    ensures in_set { (i : ℕ) → i < length (pairs_of index.now falsified) → has_literal assignment.now.trail (pair_in (pairs_of index.now falsified) i).other ≡ false → words_have pending.new (pair_in (pairs_of index.now falsified) i).number ≡ true }
     ensures grows { Grows (words_have pending.old) (words_have pending.new) }
     ensures only { HasPairsMore store.now (words_have pending.old) (words_have pending.new) }
     ensures room { length pending.new ≡ length pending.old }
 {
-    let lists = index.lists(fallen);
-    mark_all(store, &lists.told, truth, fallen, pending);
-    mark_all(store, &lists.last, truth, fallen, pending);
-    mark_all(store, &lists.next, truth, fallen, pending);
-    mark_all(store, &lists.time, truth, fallen, pending);
-    mark_all(store, &lists.after, truth, fallen, pending);
+    let lists = index.lists(falsified);
+    mark_all(store, &lists.told, assignment, falsified, pending);
+    mark_all(store, &lists.last, assignment, falsified, pending);
+    mark_all(store, &lists.next, assignment, falsified, pending);
+    mark_all(store, &lists.time, assignment, falsified, pending);
+    mark_all(store, &lists.after, assignment, falsified, pending);
 }

@@ -36,9 +36,9 @@ pub fn blocks_of(numbers: u32) -> usize {
     numbers.div_ceil(BLOCK) as usize
 }
 
-/// Notes where the slots of a block begin, where the number is the first of one.
+/// Notes where the slots of the blocks up to that of a number begin, where that is not known yet.
 pub fn begin_block(blocks: &mut Vec<u32>, number: u32, slot: u32) -> Result<(), AllocError> {
-    if blocks.len() <= (number / BLOCK) as usize {
+    for _ in blocks.len()..(number / BLOCK) as usize + 1 {
         blocks.push(slot)?;
     }
     Ok(())

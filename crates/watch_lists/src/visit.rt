@@ -1,21 +1,25 @@
+//! Where a literal becomes false, each clause that watches it is visited. Its blocking literal is tried first (Eén and Sörensson,
+//! 2003): where that is true, the clause is not read. Else another literal that is not false is sought from the place on where
+//! the last search ended, and then from the front: of a long clause the literals that were found false are not read anew each
+//! time, so that all searches between two undos together take as many steps as the clause is long, or twice that (Gent, 2013).
 ghost use Rattle.std.specs.Prelude.{◌≡◌, ℕ, ◌+◌, ◌*◌, ◌/◌, ◌%◌, ◌<◌, ◌≤◌, ◌==◌, None, length, true, not};
 ghost use Rattle.clause_base.specs.Literal.{opposite};
 ghost use Rattle.clause_base.specs.Clause.{has_literal};
 ghost use Rattle.number_bits.specs.Bits.{words_have};
 ghost use Rattle.watch_chains.specs.Linked.{chain_length};
-ghost use Rattle.watch_lists.specs.Asking.{AreAsked, AreDistinct, IsWithin};
-ghost use Rattle.watch_lists.specs.Visit.{IsFit, IsListed, IsAtRest, IsReal, IsKept, IsOther, Stays, MovesToFree, Grows, AllSettled, AreSlotsBelow, literal_at, place_in, slot_clauses, slot_flags, slot_set};
+ghost use Rattle.watch_lists.specs.Units.{AreUnits, AreDistinct, IsWithin};
+ghost use Rattle.watch_lists.specs.Visit.{IsFit, IsListed, IsAtRest, IsReal, IsNodeKept, IsOther, Stays, MovesToFree, Grows, AllSettled, AreSlotsBelow, literal_at, place_in, slot_clauses, slot_flags, slot_set};
 
 use crate::pending::Pending;
 use crate::scan::find_other;
 use crate::slots::{is_slot_kept, slot_clause};
+use cdcl_trail::assignment::Assignment;
 use number_bits::first::First;
 use number_bits::flat::Flat;
 use number_bits::layer::Layer;
 use number_bits::set::NumberSet;
 use watch_chains::chains::Chains;
 use watch_store::store::Store;
-use watch_store::truth::Truth;
 
 /// The places of a clause's two watched literals, and the place where the search for another goes on.
 #[derive(Clone, Copy, Debug)]
@@ -26,14 +30,25 @@ pub struct Watched {
 }
 
 /// What changes where a literal becomes false.
-#[derive(Drop)]
 pub struct Lists {
     pub chains: Chains,
     pub watched: Vec<Watched>,
     /// The clauses that may be pending.
     pub pending: Pending,
-    /// For each slot the literal that its clause asks for, where that is in the set.
-    pub asks: Vec<u32>,
+    /// For each slot the unit literal of its clause, where that is in the set.
+    pub units: Vec<u32>,
+}
+
+/// Letting one go is one call, in which its parts go: whoever holds one proves one step.
+impl Drop for Lists {
+    fn drop(self) {
+        let Lists {
+            chains: _,
+            watched: _,
+            pending: _,
+            units: _,
+        } = self;
+    }
 }
 
 impl Watched {
@@ -70,37 +85,37 @@ impl Lists {
         store: &Store,
         kept: &[bool],
         slots: &[u32],
-        truth: &Truth,
+        assignment: &Assignment,
         spare: u32,
         code: u32,
         node: u32,
     )
-        requires spare { spare ≡ 2 * truth.now.variables }
+        requires spare { spare ≡ 2 * assignment.now.variables }
         requires code { code < spare }
-        requires fallen { has_literal truth.now.trail (opposite code) ≡ true }
+        requires falsified { has_literal assignment.now.trail (opposite code) ≡ true }
         requires fit { IsFit store.now spare }
         requires kept { length kept.now ≡ length store.now }
         requires slotted { AreSlotsBelow (length store.now) slots.now }
         requires room { length store.now ≤ 64 * length self.old.pending }
-        requires long { length slots.now ≤ length self.old.asks.items }
+        requires long { length slots.now ≤ length self.old.units.items }
         requires distinct { AreDistinct slots.now }
         requires within { IsWithin (length store.now) (words_have self.old.pending) }
-        requires asked { AreAsked (slot_clauses store.now slots.now) (has_literal truth.now.trail) (slot_set (words_have self.old.pending) slots.now) self.old.asks.items }
+        requires units_are { AreUnits (slot_clauses store.now slots.now) (has_literal assignment.now.trail) (slot_set (words_have self.old.pending) slots.now) self.old.units.items }
         requires real { IsReal (slot_clauses store.now slots.now) node }
-        requires own { IsKept (slot_flags kept.now slots.now) node → literal_at (slot_clauses store.now slots.now) self.old.watched.items node ≡ code }
-        requires listed { (r : IsListed (slot_clauses store.now slots.now) self.old.watched.items self.old.chains.heads.items self.old.chains.nodes.items spare (IsOther (slot_flags kept.now slots.now) node) (Stays (slot_clauses store.now slots.now) self.old.watched.items (has_literal truth.now.trail) (slot_set (words_have self.old.pending) slots.now) code)) × (r.on node ≡ None) }
-        ensures listed { IsListed (slot_clauses store.now slots.now) self.new.watched.items self.new.chains.heads.items self.new.chains.nodes.items spare (IsKept (slot_flags kept.now slots.now)) (Stays (slot_clauses store.now slots.now) self.new.watched.items (has_literal truth.now.trail) (slot_set (words_have self.new.pending) slots.now) code) }
-        ensures moves { MovesToFree (slot_clauses store.now slots.now) self.old.watched.items self.new.watched.items (has_literal truth.now.trail) }
+        requires own { IsNodeKept (slot_flags kept.now slots.now) node → literal_at (slot_clauses store.now slots.now) self.old.watched.items node ≡ code }
+        requires listed { (r : IsListed (slot_clauses store.now slots.now) self.old.watched.items self.old.chains.heads.items self.old.chains.nodes.items spare (IsOther (slot_flags kept.now slots.now) node) (Stays (slot_clauses store.now slots.now) self.old.watched.items (has_literal assignment.now.trail) (slot_set (words_have self.old.pending) slots.now) code)) × (r.on node ≡ None) }
+        ensures listed { IsListed (slot_clauses store.now slots.now) self.new.watched.items self.new.chains.heads.items self.new.chains.nodes.items spare (IsNodeKept (slot_flags kept.now slots.now)) (Stays (slot_clauses store.now slots.now) self.new.watched.items (has_literal assignment.now.trail) (slot_set (words_have self.new.pending) slots.now) code) }
+        ensures moves { MovesToFree (slot_clauses store.now slots.now) self.old.watched.items self.new.watched.items (has_literal assignment.now.trail) }
         ensures grows { Grows (words_have self.old.pending) (words_have self.new.pending) }
         ensures room { length self.new.pending ≡ length self.old.pending }
-        ensures long { length self.new.asks.items ≡ length self.old.asks.items }
+        ensures long { length self.new.units.items ≡ length self.old.units.items }
         ensures within { IsWithin (length store.now) (words_have self.new.pending) }
-        ensures asked { AreAsked (slot_clauses store.now slots.now) (has_literal truth.now.trail) (slot_set (words_have self.new.pending) slots.now) self.new.asks.items }
+        ensures units_are { AreUnits (slot_clauses store.now slots.now) (has_literal assignment.now.trail) (slot_set (words_have self.new.pending) slots.now) self.new.units.items }
         ensures lengths { chain_length self.new.chains.heads.items self.new.chains.nodes.items code ≡ chain_length self.old.chains.heads.items self.old.chains.nodes.items code }
     {
-        let note = self.chains.note(node);
-        if truth.is_true(note) {
-            self.chains.link(node, spare, note);
+        let blocking = self.chains.blocking(node);
+        if assignment.is_true(blocking) {
+            self.chains.link(node, spare, blocking);
             return;
         }
         let slot = node / 2;
@@ -113,11 +128,11 @@ impl Lists {
         let other = watched.at(!second);
         let lit = clause.get(other as usize);
         let beside = lit.0;
-        if truth.is_true(beside) {
+        if assignment.is_true(beside) {
             self.chains.link(node, spare, beside);
             return;
         }
-        match find_other(truth, &clause, other, watched.from) {
+        match find_other(assignment, &clause, other, watched.from) {
             Some(place) => {
                 self.watched[slot as usize] = watched.moved(second, place);
                 let found = clause.get(place as usize);
@@ -126,7 +141,7 @@ impl Lists {
             None => {
                 self.chains.link(node, spare, beside);
                 let number = slots[slot as usize];
-                self.asks[slot as usize] = beside;
+                self.units[slot as usize] = beside;
                 self.pending.insert(number);
             }
         }
@@ -138,30 +153,30 @@ impl Lists {
         store: &Store,
         kept: &[bool],
         slots: &[u32],
-        truth: &Truth,
+        assignment: &Assignment,
         spare: u32,
         code: u32,
     )
-        requires spare { spare ≡ 2 * truth.now.variables }
+        requires spare { spare ≡ 2 * assignment.now.variables }
         requires code { code < spare }
-        requires fallen { has_literal truth.now.trail (opposite code) ≡ true }
+        requires falsified { has_literal assignment.now.trail (opposite code) ≡ true }
         requires fit { IsFit store.now spare }
         requires kept { length kept.now ≡ length store.now }
         requires slotted { AreSlotsBelow (length store.now) slots.now }
         requires room { length store.now ≤ 64 * length self.old.pending }
-        requires long { length slots.now ≤ length self.old.asks.items }
+        requires long { length slots.now ≤ length self.old.units.items }
         requires distinct { AreDistinct slots.now }
         requires within { IsWithin (length store.now) (words_have self.old.pending) }
-        requires asked { AreAsked (slot_clauses store.now slots.now) (has_literal truth.now.trail) (slot_set (words_have self.old.pending) slots.now) self.old.asks.items }
+        requires units_are { AreUnits (slot_clauses store.now slots.now) (has_literal assignment.now.trail) (slot_set (words_have self.old.pending) slots.now) self.old.units.items }
         requires rest { IsAtRest (slot_clauses store.now slots.now) self.old.watched.items self.old.chains.heads.items self.old.chains.nodes.items spare (slot_flags kept.now slots.now) }
         ensures rest { IsAtRest (slot_clauses store.now slots.now) self.new.watched.items self.new.chains.heads.items self.new.chains.nodes.items spare (slot_flags kept.now slots.now) }
-        ensures settled { AllSettled (slot_clauses store.now slots.now) self.new.watched.items (has_literal truth.now.trail) (slot_set (words_have self.new.pending) slots.now) code (slot_flags kept.now slots.now) }
-        ensures moves { MovesToFree (slot_clauses store.now slots.now) self.old.watched.items self.new.watched.items (has_literal truth.now.trail) }
+        ensures settled { AllSettled (slot_clauses store.now slots.now) self.new.watched.items (has_literal assignment.now.trail) (slot_set (words_have self.new.pending) slots.now) code (slot_flags kept.now slots.now) }
+        ensures moves { MovesToFree (slot_clauses store.now slots.now) self.old.watched.items self.new.watched.items (has_literal assignment.now.trail) }
         ensures grows { Grows (words_have self.old.pending) (words_have self.new.pending) }
         ensures room { length self.new.pending ≡ length self.old.pending }
-        ensures long { length self.new.asks.items ≡ length self.old.asks.items }
+        ensures long { length self.new.units.items ≡ length self.old.units.items }
         ensures within { IsWithin (length store.now) (words_have self.new.pending) }
-        ensures asked { AreAsked (slot_clauses store.now slots.now) (has_literal truth.now.trail) (slot_set (words_have self.new.pending) slots.now) self.new.asks.items }
+        ensures units_are { AreUnits (slot_clauses store.now slots.now) (has_literal assignment.now.trail) (slot_set (words_have self.new.pending) slots.now) self.new.units.items }
     {
         'visits: loop {
             match self.chains.pop(code) {
@@ -170,7 +185,7 @@ impl Lists {
                     return;
                 }
                 Some(node) => {
-                    self.visit(store, kept, slots, truth, spare, code, node);
+                    self.visit(store, kept, slots, assignment, spare, code, node);
                 }
             }
         }

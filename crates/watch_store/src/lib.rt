@@ -1,6 +1,4 @@
-//! What watched literals stand on: clauses by number, and the literals that are true, oldest first, with the truth of each
-//! literal and the place of each variable.
+//! The clauses that are watched, by number.
 #![tactic(auto)]
 
 pub mod store;
-pub mod truth;

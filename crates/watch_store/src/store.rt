@@ -10,7 +10,6 @@ use std::alloc::Global;
 use std::marker::Model;
 
 /// Clauses by number, counted from 0: first those of a formula, which stand in it, then those that were added.
-#[derive(Drop)]
 pub struct Store {
     formula: Formula,
     given: u32,
@@ -26,6 +25,17 @@ impl Model for Store {
     ghost view = { λ s. s.formula.clauses ++ s.added };
 
     ghost invariant = { λ s. IsStored s.formula.clauses s.given s.added };
+}
+
+/// Letting one go is one call, in which its parts go: whoever holds one proves one step.
+impl Drop for Store {
+    fn drop(self) {
+        let Store {
+            formula: _,
+            given: _,
+            added: _,
+        } = self;
+    }
 }
 
 impl Store {

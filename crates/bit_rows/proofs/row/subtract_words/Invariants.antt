@@ -3,4 +3,4 @@ use Rattle.bit_rows.proofs.RowLaw.{IsJoinedTo}
 use Rattle.bit_rows.proofs.row.subtract_words.Given as goal
 
 abbrev pub invariant-loop-i : goal.invariant-loop-i
-invariant-loop-i l = IsJoinedTo (λ x y. x && not y) l.initial.words.items l.others l.i l.words.items
+invariant-loop-i l = IsJoinedTo (λ x y. x && not y) l.initial.words l.others l.i l.words

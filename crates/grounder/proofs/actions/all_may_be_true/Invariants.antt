@@ -6,5 +6,5 @@ use Rattle.grounder.proofs.actions.all_may_be_true.Given as goal
 
 abbrev pub invariant-loop-cond : goal.invariant-loop-cond
 invariant-loop-cond l =
-    list_all (may_be_true l.p l.known.facts) (literals_of l.objects (drop l.cond-index l.conds))
-    ≡ list_all (may_be_true l.p l.known.facts) (literals_of l.objects l.conds)
+    list_all (may_be_true l.known.domains.now l.known.facts) (literals_of l.objects (drop l.cond-index l.conds))
+    ≡ list_all (may_be_true l.known.domains.now l.known.facts) (literals_of l.objects l.conds)

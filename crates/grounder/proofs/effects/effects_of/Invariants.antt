@@ -5,4 +5,4 @@ use Rattle.grounder.specs.Putting.{effects_at, put_changes}
 use Rattle.grounder.proofs.effects.effects_of.Given as goal
 
 abbrev pub invariant-loop-i : goal.invariant-loop-i
-invariant-loop-i l = effects_at l.set.keys ≡ put_changes l.p l.known.facts (flat_map (changes_of l.p l.objects) (drop l.i l.effects)) []
+invariant-loop-i l = effects_at l.set.keys ≡ put_changes l.known.domains.now l.known.facts (flat_map (changes_of l.known.domains.now l.objects) (drop l.i l.effects)) []

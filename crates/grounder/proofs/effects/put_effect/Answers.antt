@@ -18,5 +18,5 @@ returns c =
     let never = rw c.as_slice-conds.ensures at (sym c.in_ok-any_never.ensures ∙ c.if-branch.false) in
     let condition = rw c.as_slice-conds.ensures at (c.into_vec-condition.ensures ∙ c.in_ok-simplified.ensures) in
     ap effects_at c.in_ok-insert.ensures.keys
-    ∙ left_put c.args.p.now facts change c.args.into.now.keys (record { literal = c.fact_literal-literal.result; condition = c.into_vec-condition.result })
+    ∙ left_put c.args.known.now.domains.now facts change c.args.into.now.keys (record { literal = c.fact_literal-literal.result; condition = c.into_vec-condition.result })
     at.has never condition (c.fact_literal-literal.ensures ∙ literal_is facts change.atom c.in-Some.place c.args.effect.now.adds at.at)

@@ -5,4 +5,4 @@ use Rattle.grounder.proofs.effects.put_instances.Given as goal
 
 abbrev pub invariant-loop-number : goal.invariant-loop-number
 invariant-loop-number l =
-    effects_at l.into.keys ≡ put_changes l.p l.known.facts (drop l.number (changes_of l.p l.objects l.effect)) (effects_at l.fn.into.keys)
+    effects_at l.into.keys ≡ put_changes l.known.domains.now l.known.facts (drop l.number (changes_of l.known.domains.now l.objects l.effect)) (effects_at l.fn.into.keys)

@@ -4,4 +4,4 @@ use Rattle.grounding.specs.Simplify.{action_of}
 use Rattle.grounder.proofs.grounded.acts_of.Given as goal
 
 abbrev pub invariant-loop-call : goal.invariant-loop-call
-invariant-loop-call l = l.acts.items ≡ map (λ c. action_of l.p l.known.facts (instance_of l.p c)) (take l.call-index l.calls)
+invariant-loop-call l = l.acts.items ≡ map (λ c. action_of l.known.domains.now l.known.facts (instance_of l.known.domains.now c)) (take l.call-index l.calls)

@@ -16,10 +16,11 @@ use Rattle.grounder.proofs.grounded.ground.Goals as goal
 
 pub returns-then-count-gt65536-clause-effects : goal.returns-then-count-gt65536-clause-effects
 returns-then-count-gt65536-clause-effects c =
+    let of_task : c.in_ok-known.known.domains.now ≡ c.args.p.now = c.in_ok-known.ensures.domains ∙ c.in_ok-domains.ensures in
     let found = c.in_ok-reached.ensures in
     let is = found_is c.laws.ensures.least_is_grounded c.args.p.now c.in_ok-domains.domains c.in_ok-reached.reached.atoms c.in_ok-reached.reached.calls c.in_ok-constant.constant c.in_ok-known.known.facts c.in_ok-calls.calls c.in_ok-domains.ensures
-    found.least found.atoms_sorted found.calls_sorted c.in_ok-constant.ensures (c.in_ok-known.ensures.facts ∙ c.in_ok-facts.ensures) c.in_ok-calls.ensures in
-    let acts = c.as_slice-4.ensures ∙ (rw c.as_slice-3.ensures at c.in_ok-acts.ensures) in
+    found.least found.atoms_sorted found.calls_sorted c.in_ok-constant.ensures (c.in_ok-known.ensures.facts ∙ c.in_ok-facts.ensures) (rw of_task at c.in_ok-calls.ensures) in
+    let acts = c.as_slice-4.ensures ∙ (rw (c.as_slice-3.ensures, of_task) at c.in_ok-acts.ensures) in
     let count : c.conditional_in-count.result ≡ saturated (conditional_in (task_of c.args.p.now c.in_ok-known.known.facts c.in_ok-calls.calls).actions) = c.conditional_in-count.ensures ∙ ap (λ (xs : List Action). saturated (conditional_in xs)) acts in
     λ n e. record {
       grounded = grounded_by c.args.p.now c.in_ok-known.known.facts c.in_ok-calls.calls;
@@ -33,12 +34,13 @@ returns-then-count-gt65536-clause-effects c =
 
 pub task_of-requires-clause-task : goal.task_of-requires-clause-task
 task_of-requires-clause-task c =
-    let acts = c.as_slice-4.ensures ∙ (rw c.as_slice-3.ensures at c.in_ok-acts.ensures) in
+    let of_task : c.in_ok-known.known.domains.now ≡ c.args.p.now = c.in_ok-known.ensures.domains ∙ c.in_ok-domains.ensures in
+    let acts = c.as_slice-4.ensures ∙ (rw (c.as_slice-3.ensures, of_task) at c.in_ok-acts.ensures) in
     let count : c.conditional_in-count.result ≡ saturated (conditional_in (task_of c.args.p.now c.in_ok-known.known.facts c.in_ok-calls.calls).actions) = c.conditional_in-count.ensures ∙ ap (λ (xs : List Action). saturated (conditional_in xs)) acts in
     let found = c.in_ok-reached.ensures in
     let is = found_is c.laws.ensures.least_is_grounded c.args.p.now c.in_ok-domains.domains c.in_ok-reached.reached.atoms c.in_ok-reached.reached.calls c.in_ok-constant.constant c.in_ok-known.known.facts c.in_ok-calls.calls c.in_ok-domains.ensures
-    found.least found.atoms_sorted found.calls_sorted c.in_ok-constant.ensures (c.in_ok-known.ensures.facts ∙ c.in_ok-facts.ensures) c.in_ok-calls.ensures in
-    rw c.as_slice-5.ensures (c.laws.ensures.grounded_is_task c.args.p.now (grounded_by c.args.p.now c.in_ok-known.known.facts c.in_ok-calls.calls) is (record {
+    found.least found.atoms_sorted found.calls_sorted c.in_ok-constant.ensures (c.in_ok-known.ensures.facts ∙ c.in_ok-facts.ensures) (rw of_task at c.in_ok-calls.ensures) in
+    rw (of_task, c.as_slice-5.ensures) (c.laws.ensures.grounded_is_task c.args.p.now (grounded_by c.args.p.now c.in_ok-known.known.facts c.in_ok-calls.calls) is (record {
       tuples = few_saturated 4000000 _ c.count_tuples-count.result (omega arith) c.count_tuples-count.ensures c.if-count-gt4000000.false;
       facts = omega (arith, ap length c.as_slice.ensures, ap length c.in_ok-known.ensures.facts);
       actions = omega (arith, ap length c.as_slice-2.ensures);
@@ -47,10 +49,11 @@ task_of-requires-clause-task c =
 
 pub returns-clause-grounded : goal.returns-clause-grounded
 returns-clause-grounded c =
+    let of_task : c.in_ok-known.known.domains.now ≡ c.args.p.now = c.in_ok-known.ensures.domains ∙ c.in_ok-domains.ensures in
     let found = c.in_ok-reached.ensures in
     let is = found_is c.laws.ensures.least_is_grounded c.args.p.now c.in_ok-domains.domains c.in_ok-reached.reached.atoms c.in_ok-reached.reached.calls c.in_ok-constant.constant c.in_ok-known.known.facts c.in_ok-calls.calls c.in_ok-domains.ensures
-    found.least found.atoms_sorted found.calls_sorted c.in_ok-constant.ensures (c.in_ok-known.ensures.facts ∙ c.in_ok-facts.ensures) c.in_ok-calls.ensures in
-    with_task c.args.p.now c.in_ok-known.known.facts c.in_ok-calls.calls c.in_ok-task.task is (rw c.as_slice-5.ensures at c.in_ok-task.ensures)
+    found.least found.atoms_sorted found.calls_sorted c.in_ok-constant.ensures (c.in_ok-known.ensures.facts ∙ c.in_ok-facts.ensures) (rw of_task at c.in_ok-calls.ensures) in
+    with_task c.args.p.now c.in_ok-known.known.facts c.in_ok-calls.calls c.in_ok-task.task is (rw (of_task, c.as_slice-5.ensures) at c.in_ok-task.ensures)
 
 pub constant_atoms-requires-clause-few : goal.constant_atoms-requires-clause-few
 constant_atoms-requires-clause-few c =
@@ -62,8 +65,9 @@ constant_atoms-requires-clause-few c =
 
 pub acts_of-requires-clause-few : goal.acts_of-requires-clause-few
 acts_of-requires-clause-few c =
+    let of_task : c.in_ok-known.known.domains.now ≡ c.args.p.now = c.in_ok-known.ensures.domains ∙ c.in_ok-domains.ensures in
     let p = c.args.p.now in
     let kept = c.in_ok-reached.reached.calls in
     let least = subst (λ (q : Parts). IsLeastPair q c.in_ok-reached.reached.atoms kept) c.in_ok-domains.ensures c.in_ok-reached.ensures.least in
     let few = kept_few p kept (few_saturated 4000000 _ c.count_tuples-count.result (omega arith) c.count_tuples-count.ensures c.if-count-gt4000000.false) (λ d h. (least.calls d).0 h) in
-    subst (HaveFew p) (sym (c.as_slice-3.ensures ∙ c.in_ok-calls.ensures)) (left_few p (λ d. list_all (may_be_true p c.in_ok-known.known.facts) (instance_of p d).precondition) kept few)
+    rw of_task (subst (HaveFew p) (sym (c.as_slice-3.ensures ∙ rw of_task at c.in_ok-calls.ensures)) (left_few p (λ d. list_all (may_be_true p c.in_ok-known.known.facts) (instance_of p d).precondition) kept few))

@@ -1,28 +1,34 @@
-use Rattle.std.proofs.Common.{arith, ◌≡◌, ◌<◌, ◌∙◌, ℕ, length, sym, ap}
+use Rattle.std.proofs.Common.{arith, ◌∙◌, length, sym, ap}
 use Rattle.gt_core.specs.Layout.{Layout}
 use Rattle.clause_base.specs.Repeats.{Repeats, repeated}
 use Rattle.clause_base.proofs.RepeatLemmas.{length_repeated}
-use Rattle.step_encoding.proofs.Joined.{repeats_of, repeated_is, new_is, new_fits, first_new, first_fits, first_long}
+use Rattle.step_encoding.proofs.Joined.{repeats_of, repeated_is, new_is, new_fits, first_new, first_fits, first_is, first_long}
 use Rattle.step_encoding.proofs.joining.repeated.Goals as goal
 
-pub new-requires-then-layout-eq0-clause-time_below : goal.new-requires-then-layout-eq0-clause-time_below
-new-requires-then-layout-eq0-clause-time_below c =
+pub sharing-requires-clause-time_below : goal.sharing-requires-clause-time_below
+sharing-requires-clause-time_below c =
     let read : Layout = record { horizon = c.layout.inside.horizon; actions = c.layout.inside.actions; conditional = c.layout.inside.conditional; chains = c.layout.inside.chains; facts = c.layout.inside.facts } in
-    (first_fits read c.args.layout.now c.args.step.now c.args.known.now c.new.result c.in_ok-time.time c.layout.view_is c.new.ensures c.in_ok-time.ensures c.requires.times_fit c.if-layout-eq0.true c.requires.few c.variables-all.ensures.lawful).time_below
+    (first_fits read c.args.layout.now c.args.step.now c.args.known.now c.own-none.result c.in_ok-time.time c.layout.view_is (c.own-none.ensures ∙ c.new.ensures) c.in_ok-time.ensures c.requires.times_fit c.if-layout-eq0.true c.requires.few c.variables-all.ensures.lawful).time_below
 
 pub returns-then-layout-eq0-clause-long : goal.returns-then-layout-eq0-clause-long
 returns-then-layout-eq0-clause-long c =
     let read : Layout = record { horizon = c.layout.inside.horizon; actions = c.layout.inside.actions; conditional = c.layout.inside.conditional; chains = c.layout.inside.chains; facts = c.layout.inside.facts } in
     first_long c.args.layout.now c.args.step.now c.args.known.now _ (ap (λ (z : Layout). z.horizon) (sym c.layout.view_is) ∙ c.if-layout-eq0.true)
-    (first_new read c.args.layout.now c.args.known.now c.new.result c.in_ok-time.time _ c.layout.view_is c.new.ensures c.in_ok-time.ensures c.new-then-layout-eq0.ensures)
+    (first_new read c.args.layout.now c.args.known.now c.own-none.result c.in_ok-time.time _ c.layout.view_is (c.own-none.ensures ∙ c.new.ensures) c.in_ok-time.ensures c.sharing.ensures)
 
-pub new-requires-2-clause-step_below : goal.new-requires-2-clause-step_below
-new-requires-2-clause-step_below c =
+pub returns-then-layout-eq0-clause-clauses : goal.returns-then-layout-eq0-clause-clauses
+returns-then-layout-eq0-clause-clauses c =
+    let read : Layout = record { horizon = c.layout.inside.horizon; actions = c.layout.inside.actions; conditional = c.layout.inside.conditional; chains = c.layout.inside.chains; facts = c.layout.inside.facts } in
+    first_is c.args.layout.now c.args.step.now c.args.known.now _ (ap (λ (z : Layout). z.horizon) (sym c.layout.view_is) ∙ c.if-layout-eq0.true)
+    (first_new read c.args.layout.now c.args.known.now c.own-none.result c.in_ok-time.time _ c.layout.view_is (c.own-none.ensures ∙ c.new.ensures) c.in_ok-time.ensures c.sharing.ensures)
+
+pub sharing-requires-2-clause-step_below : goal.sharing-requires-2-clause-step_below
+sharing-requires-2-clause-step_below c =
     let read : Layout = record { horizon = c.layout.inside.horizon; actions = c.layout.inside.actions; conditional = c.layout.inside.conditional; chains = c.layout.inside.chains; facts = c.layout.inside.facts } in
     (new_fits read c.args.layout.now c.args.step.now c.args.known.now c.in_ok-step.step c.in_ok-time.time c.layout.view_is c.in_ok-step.ensures c.in_ok-time.ensures c.requires.steps_fit c.requires.times_fit (omega arith) c.requires.few c.variables-all.ensures.lawful).step_below
 
-pub new-requires-2-clause-time_below : goal.new-requires-2-clause-time_below
-new-requires-2-clause-time_below c =
+pub sharing-requires-2-clause-time_below : goal.sharing-requires-2-clause-time_below
+sharing-requires-2-clause-time_below c =
     let read : Layout = record { horizon = c.layout.inside.horizon; actions = c.layout.inside.actions; conditional = c.layout.inside.conditional; chains = c.layout.inside.chains; facts = c.layout.inside.facts } in
     (new_fits read c.args.layout.now c.args.step.now c.args.known.now c.in_ok-step.step c.in_ok-time.time c.layout.view_is c.in_ok-step.ensures c.in_ok-time.ensures c.requires.steps_fit c.requires.times_fit (omega arith) c.requires.few c.variables-all.ensures.lawful).time_below
 
@@ -30,10 +36,10 @@ pub returns-clause-clauses : goal.returns-clause-clauses
 returns-clause-clauses c =
     let read : Layout = record { horizon = c.layout.inside.horizon; actions = c.layout.inside.actions; conditional = c.layout.inside.conditional; chains = c.layout.inside.chains; facts = c.layout.inside.facts } in
     repeated_is c.args.layout.now c.args.step.now c.args.known.now _
-    (new_is read c.args.layout.now c.args.step.now c.args.known.now c.in_ok-step.step c.in_ok-time.time _ c.layout.view_is c.in_ok-step.ensures c.in_ok-time.ensures c.new-2.ensures)
+    (new_is read c.args.layout.now c.args.step.now c.args.known.now c.in_ok-step.step c.in_ok-time.time _ c.layout.view_is c.in_ok-step.ensures c.in_ok-time.ensures c.sharing-2.ensures)
 
 pub returns-clause-long : goal.returns-clause-long
 returns-clause-long c =
     let read : Layout = record { horizon = c.layout.inside.horizon; actions = c.layout.inside.actions; conditional = c.layout.inside.conditional; chains = c.layout.inside.chains; facts = c.layout.inside.facts } in
-    ap (λ (x : Repeats). length (repeated x)) (new_is read c.args.layout.now c.args.step.now c.args.known.now c.in_ok-step.step c.in_ok-time.time _ c.layout.view_is c.in_ok-step.ensures c.in_ok-time.ensures c.new-2.ensures)
+    ap (λ (x : Repeats). length (repeated x)) (new_is read c.args.layout.now c.args.step.now c.args.known.now c.in_ok-step.step c.in_ok-time.time _ c.layout.view_is c.in_ok-step.ensures c.in_ok-time.ensures c.sharing-2.ensures)
     ∙ length_repeated (repeats_of c.args.layout.now c.args.step.now c.args.known.now)

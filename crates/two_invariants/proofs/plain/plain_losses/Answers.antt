@@ -10,7 +10,7 @@ returns-clause-lost c = λ l m.
     let effects = c.args.effects.now in
     let set = row_has c.args.set.now in
     let clause = clause_in c.args.clauses.now l m in
-    let given : row_has c.insert_literals.new.row ≡ adds_plainly effects = λ i k. (c.in_ok-insert_literals.ensures k ∙ ap (λ (b : Bool). b || adds_plainly effects k) (c.new-given.ensures.empty k)) i in
+    let given : row_has c.insert_literals.new.row ≡ adds_plainly effects = λ i k. (c.in_ok-insert_literals.ensures k ∙ ap (λ (b : Bool). b || adds_plainly effects k) (c.in_ok-make_room.ensures.has k ∙ c.new-given.ensures.empty k)) i in
     let sure : row_has c.take_opposites.new.sure m ≡ ((set m || adds_plainly effects m) && not (takes_plainly (adds_plainly effects) effects m)) =
     c.take_opposites.ensures m
     ∙ (λ i. c.in_ok-unite.ensures.has m i && not (takes_plainly (row_has c.insert_literals.new.row) effects m))

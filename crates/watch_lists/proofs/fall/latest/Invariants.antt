@@ -6,5 +6,5 @@ abbrev pub invariant-loop-place : goal.invariant-loop-place
 invariant-loop-place l = record {
   inside : l.best < length l.clause;
   other : l.best ≡ l.skipped → ⊥;
-  most : (p : ℕ) → p < l.place → (p ≡ l.skipped → ⊥) → Outlasts l.truth.trail (slice_index l.clause l.best) (slice_index l.clause p);
+  most : (p : ℕ) → p < l.place → (p ≡ l.skipped → ⊥) → Outlasts l.assignment.trail (slice_index l.clause l.best) (slice_index l.clause p);
 }

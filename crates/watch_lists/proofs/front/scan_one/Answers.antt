@@ -1,6 +1,6 @@
 use Rattle.std.proofs.Common.{sym, ◌∙◌}
 use Rattle.number_bits.specs.Bits.{words_have}
-use Rattle.watch_lists.proofs.Asks.{other_insert, clash}
+use Rattle.watch_lists.proofs.UnitsTell.{other_insert, clash}
 use Rattle.watch_lists.proofs.Visits.{own_insert}
 use Rattle.watch_lists.proofs.front.scan_one.Goals as goal
 

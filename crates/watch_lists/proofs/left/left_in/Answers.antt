@@ -5,10 +5,10 @@ use Rattle.watch_lists.proofs.Lefts.{left_by, none_left}
 use Rattle.watch_lists.proofs.left.left_in.Goals as goal
 
 pub returns-then-len-eq0 : goal.returns-then-len-eq0
-returns-then-len-eq0 c = none_left (is_free (has_literal c.args.truth.now.trail)) c.args.clause.now (λ i g. absurd (omega (arith, g, c.len.ensures, c.if-len-eq0.true)))
+returns-then-len-eq0 c = none_left (is_free (has_literal c.args.assignment.now.trail)) c.args.clause.now (λ i g. absurd (omega (arith, g, c.len.ensures, c.if-len-eq0.true)))
 
-pub left_asked-requires : goal.left_asked-requires
-left_asked-requires c = omega (arith, c.requires.below c.ask_of.ensures.place c.ask_of.ensures.inside, c.ask_of.ensures.own)
+pub left_unit-requires : goal.left_unit-requires
+left_unit-requires c = omega (arith, c.requires.below c.unit_of.ensures.place c.unit_of.ensures.inside, c.unit_of.ensures.own)
 
 pub returns : goal.returns
-returns c = left_by (has_literal c.args.truth.now.trail) c.args.clause.now c.ask_of.result c.left_asked.result c.ask_of.ensures c.left_asked.ensures
+returns c = left_by (has_literal c.args.assignment.now.trail) c.args.clause.now c.unit_of.result c.left_unit.result c.unit_of.ensures c.left_unit.ensures

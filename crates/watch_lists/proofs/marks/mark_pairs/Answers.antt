@@ -4,14 +4,14 @@ use Rattle.number_bits.specs.Bits.{words_have}
 use Rattle.pair_index.specs.declared.pair.Pair.{Pair}
 use Rattle.pair_index.specs.Pairs.{IsPairOf}
 use Rattle.pair_index.proofs.Five.{EachPair, AreFive, each_of_five, five_of_each}
-use Rattle.watch_lists.proofs.Asked.{pairs_then}
+use Rattle.watch_lists.proofs.UnitsOfSlots.{pairs_then}
 use Rattle.watch_lists.proofs.marks.mark_pairs.Goals as goal
 use Rattle.watch_lists.proofs.marks.mark_pairs.Goals.{After-lists-lists}
 
-parts : (c : After-lists-lists) → AreFive (IsPairOf c.args.store.now c.args.fallen) c.lists-lists.result.told c.lists-lists.result.last c.lists-lists.result.next c.lists-lists.result.time c.lists-lists.result.after
+parts : (c : After-lists-lists) → AreFive (IsPairOf c.args.store.now c.args.falsified) c.lists-lists.result.told c.lists-lists.result.last c.lists-lists.result.next c.lists-lists.result.time c.lists-lists.result.after
 parts c =
-    five_of_each (IsPairOf c.args.store.now c.args.fallen) c.lists-lists.result.told c.lists-lists.result.last c.lists-lists.result.next c.lists-lists.result.time c.lists-lists.result.after
-    (subst (λ (xs : List Pair). EachPair (IsPairOf c.args.store.now c.args.fallen) xs) c.lists-lists.ensures c.requires.exact)
+    five_of_each (IsPairOf c.args.store.now c.args.falsified) c.lists-lists.result.told c.lists-lists.result.last c.lists-lists.result.next c.lists-lists.result.time c.lists-lists.result.after
+    (subst (λ (xs : List Pair). EachPair (IsPairOf c.args.store.now c.args.falsified) xs) c.lists-lists.ensures c.requires.exact)
 
 pub mark_all-requires-clause-exact : goal.mark_all-requires-clause-exact
 mark_all-requires-clause-exact c = (parts (goal.at.mark_all-requires-clause-exact c).After-lists-lists).first
@@ -30,7 +30,7 @@ mark_all-requires-5-clause-exact c = (parts (goal.at.mark_all-requires-5-clause-
 
 pub returns-clause-in_set : goal.returns-clause-in_set
 returns-clause-in_set c =
-    let on = has_literal c.args.truth.now.trail in
+    let on = has_literal c.args.assignment.now.trail in
     let P : Pair → Type 0 = λ p. on p.other ≡ false → words_have c.mark_all-5.new.pending p.number ≡ true in
     let ls = c.lists-lists.result in
     subst (EachPair P) (sym c.lists-lists.ensures)

@@ -9,7 +9,7 @@ use Rattle.watch_lists.proofs.scan.is_pending.Goals as goal
 pub returns-then-free : goal.returns-then-free
 returns-then-free c =
     let xs = c.args.clause.now in
-    let on = has_literal c.args.truth.now.trail in
+    let on = has_literal c.args.assignment.now.trail in
     let i = c.loop-place.place in
     let h : i < length xs = omega (arith, c.loop-place-test.true) in
     let e = get_or_read xs i c.get-lit.result h c.get-lit.ensures.item 0 in

@@ -6,6 +6,6 @@ use Rattle.watch_lists.proofs.scan.is_pending.Given as goal
 
 abbrev pub invariant-loop-place : goal.invariant-loop-place
 invariant-loop-place l = record {
-  none : list_any (has_literal l.truth.trail) (take l.place l.clause) ≡ false;
-  free : length (filter (is_free (has_literal l.truth.trail)) (take l.place l.clause)) ≡ cond l.free 1 0;
+  none : list_any (has_literal l.assignment.trail) (take l.place l.clause) ≡ false;
+  free : length (filter (is_free (has_literal l.assignment.trail)) (take l.place l.clause)) ≡ cond l.free 1 0;
 }

@@ -7,7 +7,7 @@ use Rattle.cdcl_laws.specs.Sound.{IsSound}
 use Rattle.cdcl_rules.specs.Trail.{AllFalse}
 use Rattle.cdcl_core.specs.Search.{SearchView, IsNextEvent}
 use Rattle.cdcl_core.proofs.Keeps.{learned_same, learned_is_clause, learned_is_false, undropped_sound, next_sound, next_open}
-use Rattle.cdcl_core.proofs.Logs.{goes_same, goes_err, on_err}
+use Rattle.cdcl_core.proofs.Logs.{goes_same, goes_err}
 use Rattle.cdcl_core.proofs.search.Search.apply.Goals as goal
 
 pub enter-requires-clause-clause : goal.enter-requires-clause-clause
@@ -89,9 +89,3 @@ finish-requires-clause-sound c =
 
 pub returns-in_err-learned-in-Conflict-clause-log : goal.returns-in_err-learned-in-Conflict-clause-log
 returns-in_err-learned-in-Conflict-clause-log c = goes_err c.from_residual.result (goes_same c.args.self.now.state.log c.learned.new.self.state.log (ap (λ (v : SearchView). v.state.log) c.in_err-learned-in-Conflict.ensures.err))
-
-pub returns-in-Force-clause-log : goal.returns-in-Force-clause-log
-returns-in-Force-clause-log c = on_err c.assign.result (λ (e : c.assign.new.self ≡ record c.args.self.now { spoilt = true }). goes_same c.args.self.now.state.log c.assign.new.self.state.log (ap (λ (v : SearchView). v.state.log) e)) c.assign.ensures.err
-
-pub returns-in-Decide-clause-log : goal.returns-in-Decide-clause-log
-returns-in-Decide-clause-log c = on_err c.assign-in-Decide.result (λ (e : c.assign-in-Decide.new.self ≡ record c.args.self.now { spoilt = true }). goes_same c.args.self.now.state.log c.assign-in-Decide.new.self.state.log (ap (λ (v : SearchView). v.state.log) e)) c.assign-in-Decide.ensures.err

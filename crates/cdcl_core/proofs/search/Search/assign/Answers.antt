@@ -1,41 +1,35 @@
-use Rattle.std.proofs.Common.{arith, ◌≡◌, ◌<◌, ◌/◌, List, [], ◌∷◌, ◌++◌, true, false, None, ap, sym, ◌∙◌, subst}
+use Rattle.std.proofs.Common.{arith, ◌≡◌, ◌<◌, ◌*◌, ◌/◌, List, [], ◌∷◌, ◌++◌, true, false, None, ap, sym, ◌∙◌, subst}
 use Rattle.cdcl_rules.specs.declared.trail.Assigned.{Assigned}
 use Rattle.cdcl_rules.specs.State.{value_of}
 use Rattle.cdcl_rules.specs.Run.{is_going}
 use Rattle.cdcl_laws.specs.Sound.{IsSound}
-use Rattle.cdcl_trail.specs.Mirrored.{TrailView}
-use Rattle.watch_lists.specs.Pending.{WatchesView}
+use Rattle.watch_lists.specs.Pending.{WatchingView}
 use Rattle.cdcl_core.specs.Search.{SearchView, state_of, watched}
-use Rattle.cdcl_core.proofs.Watching.{off_watched, free_watched, watched_assign}
+use Rattle.cdcl_core.proofs.Watching.{watched_assign}
 use Rattle.cdcl_core.proofs.search.Search.assign.Goals as goal
 
 pub assign-requires : goal.assign-requires
 assign-requires c =
-    let t = c.self.inside in
-    let m = c.self.invariant.mirrored (ap (λ (v : SearchView). v.spoilt) c.self.view_is ∙ c.requires.sane) (ap (λ (v : SearchView). is_going v.state.standing) c.self.view_is ∙ c.requires.going) in
     let below = subst (λ (v : SearchView). c.args.entry.literal / 2 < v.formula.variables) (sym c.self.view_is) c.requires.below in
-    let variables = ap (λ (v : WatchesView). v.variables) m in
-    let opened = subst (λ (v : SearchView). value_of v.state.trail (c.args.entry.literal / 2) ≡ None) (sym c.self.view_is) c.requires.opened in
     record {
-      below = omega (arith, below, variables);
-      off = off_watched t.clauses t.trail.entries t.watches c.args.entry.literal m opened;
-      free = free_watched t.clauses t.trail.entries t.watches c.args.entry.literal m opened;
+      below = omega (arith, below, c.self.invariant.over);
+      opened = subst (λ (v : SearchView). value_of v.state.trail (c.args.entry.literal / 2) ≡ None) (sym c.self.view_is) c.requires.opened;
     }
 
-pub invariant_of-self-2 : goal.invariant_of-self-2
-invariant_of-self-2 c =
+pub invariant_of-self : goal.invariant_of-self
+invariant_of-self c =
     let t = c.self.inside in
     let i = c.self.invariant in
     let a = c.args.entry in
     let sane = ap (λ (v : SearchView). v.spoilt) c.self.view_is ∙ c.requires.sane in
     let m = i.mirrored sane (ap (λ (v : SearchView). is_going v.state.standing) c.self.view_is ∙ c.requires.going) in
-    let es = ap (λ (v : TrailView). v.entries) c.in_ok-push.ensures.ok in
+    let es = ap (λ (v : WatchingView). v.entries) c.assign.ensures in
     let s = subst (λ (v : SearchView). IsSound v.formula (record v.state { trail = v.state.trail ++ a ∷ [] })) (sym c.self.view_is) c.requires.sound in
     record {
-      over = ap (λ (v : TrailView). v.variables) c.in_ok-push.ensures.ok ∙ i.over;
+      over = ap (λ (v : WatchingView). v.variables) c.assign.ensures ∙ i.over;
       wide = i.wide;
-      empty = λ h. i.empty sane;
-      going = λ h. let z : false ≡ true = h in cc;
+      empty = i.empty;
+      going = i.going;
       sound = subst (λ (xs : List Assigned). IsSound t.clauses.formula (state_of t.clauses xs t.standing)) (sym es) s;
-      mirrored = λ h g. watched_assign t.clauses t.trail.entries t.watches c.assign.new.self a m c.assign.ensures ∙ ap (λ (xs : List Assigned). watched t.clauses xs) (sym es);
+      mirrored = λ h g. watched_assign t.clauses t.watching.entries t.watching c.assign.new.self a m c.assign.ensures ∙ ap (λ (xs : List Assigned). watched t.clauses xs) (sym es);
     }

@@ -6,7 +6,7 @@ use Rattle.cdcl_laws.proofs.Fuel.{all_below}
 use Rattle.clause_base.specs.Derivation.{clauses_of}
 use Rattle.conflict_walk.specs.Clauses.{ClausesView}
 use Rattle.conflict_walk.proofs.Placed.{learned_learn}
-use Rattle.cdcl_trail.specs.Mirrored.{TrailView}
+use Rattle.cdcl_rules.specs.Learn.{backtracked}
 use Rattle.cdcl_core.specs.Search.{SearchView, GoesOn}
 use Rattle.cdcl_core.proofs.Watching.{behind, last_below}
 use Rattle.cdcl_core.proofs.Logs.{goes_same, goes_then, goes_learned, goes_err}
@@ -31,7 +31,7 @@ follow-requires-clause-behind c =
     let all = all_below c.args.self.now.formula (after_conflict s (record { clause = k; hints = c.args.new.hints }) []) c.requires.undropped in
     let below = subst (λ (v : SearchView). HasVariablesBelow v.state.variables k) (sym c.self.view_is) (last_below s.variables s.clauses k all) in
     let learned = c.in_ok-learn.ensures.ok ∙ ap (λ (x : List ℕ). let v : ClausesView = record t.clauses { log = t.clauses.log ++ Learn x c.args.new.hints ∷ []; kept = t.clauses.kept ++ true ∷ [] } in v) c.of_sorted-clause.ensures in
-    behind t.clauses c.learn.new.self t.trail.entries c.backtrack.new.self.entries t.watches k c.args.new.hints c.level_after-level.result m learned (ap (λ (v : TrailView). v.entries) c.backtrack.ensures) c.requires.clause below
+    behind t.clauses c.learn.new.self t.watching.entries (backtracked c.level_after-level.result t.watching.entries) t.watching c.backtrack.new.self k c.args.new.hints m learned c.backtrack.ensures c.requires.clause below
 
 pub returns-in_err-learn-clause-log : goal.returns-in_err-learn-clause-log
 returns-in_err-learn-clause-log c =

@@ -21,7 +21,7 @@ on_ok (Err e) f p = tt
 opens : (g : given.Over) (c : After-conflicts-sound g) → Opens c.args.self.now.formula.variables (g.C.Chooser.choice c.args.self.now.chooser)
 opens g c values e =
     let v = c.args.self.now in
-    let fits = subst (λ (w : SolverView g.row.C.Denot). g.C.Chooser.fits w.chooser w.formula.variables) c.self.view_is c.self.invariant in
+    let fits = subst (λ (w : SolverView g.row.C.Denot). g.C.Chooser.fits w.chooser w.formula.variables) c.self.view_is c.self.invariant.0 in
     g.met.C.Chooser.opens v.chooser values (subst (g.C.Chooser.fits v.chooser) (sym e) fits)
 
 sound : (g : given.Over) (c : After-conflicts-sound g) → IsSound c.args.self.now.formula c.args.self.now.state

@@ -24,8 +24,8 @@ returns-then-has_opposite_neighbours-clause-ok c =
     let none = clause_by c.args.lits.now c.sort_into.new.sorted.items true c.in_ok-sort_into.ensures pair in
     rw none (c.self.view_is ∙ sym (append-nil c.args.self.now))
 
-pub push_piece-requires-clause-clause : goal.push_piece-requires-clause-clause
-push_piece-requires-clause-clause c =
+pub push_clause-requires-clause-clause : goal.push_clause-requires-clause-clause
+push_clause-requires-clause-clause c =
     let pair = ap has_opposite_pair (sym c.deref.ensures.value) ∙ sym c.has_opposite_neighbours.ensures ∙ c.if-has_opposite_neighbours.false in
     let none : has_opposite_pair c.args.lits.now ≡ false = sym (pair-fold c.args.lits.now) ∙ ap has_opposite_pair (sym c.in_ok-sort_into.ensures) ∙ pair in
     subst IsClause (sym (c.deref-2.ensures.value ∙ c.in_ok-sort_into.ensures)) (clause-fold c.args.lits.now none)
@@ -34,4 +34,4 @@ pub returns-clause-ok : goal.returns-clause-ok
 returns-clause-ok c =
     let pair = ap has_opposite_pair (sym c.deref.ensures.value) ∙ sym c.has_opposite_neighbours.ensures ∙ c.if-has_opposite_neighbours.false in
     let some = clause_by c.args.lits.now c.sort_into.new.sorted.items false c.in_ok-sort_into.ensures pair in
-    ok_by c.push_piece.result _ _ c.args.self.now c.deref-2.result.now _ c.self.view_is (some ∙ ap (λ (xs : List ℕ). Some xs) (sym c.deref-2.ensures.value)) c.push_piece.ensures.ok
+    ok_by c.push_clause.result _ _ c.args.self.now c.deref-2.result.now _ c.self.view_is (some ∙ ap (λ (xs : List ℕ). Some xs) (sym c.deref-2.ensures.value)) c.push_clause.ensures.ok

@@ -5,14 +5,14 @@ use Rattle.cdcl_rules.specs.State.{is_kept}
 use Rattle.cdcl_rules.specs.Reduce.{kept_without}
 use Rattle.conflict_walk.proofs.Placed.{placed_drops, learned_drops}
 use Rattle.conflict_walk.proofs.Longs.{long_drop, length_without}
-use Rattle.conflict_walk.specs.Clauses.{IsPlaced}
+use Rattle.conflict_walk.specs.Clauses.{IsLogged}
 use Rattle.conflict_walk.specs.Longs.{long_ones}
 use Rattle.conflict_walk.proofs.clauses.Clauses.drop_all.Goals as goal
 
 pub invariant_of-self : goal.invariant_of-self
 invariant_of-self c =
     let t = c.self.inside in
-    subst (λ (l : List Entry). IsPlaced t.formula l t.places.items t.kept.items × (t.longs.items ≡ long_ones (length t.formula.clauses) (t.formula.clauses ++ clauses_of l) t.kept.items)) (sym c.in_err-push_drops.ensures.err) c.self.invariant
+    subst (λ (l : List Entry). IsLogged t.formula l t.places.items t.kept.items × (t.longs.items ≡ long_ones (length t.formula.clauses) (t.formula.clauses ++ clauses_of l) t.kept.items)) (sym c.in_err-push_drops.ensures.err) c.self.invariant
 
 pub invariant_of-self-2 : goal.invariant_of-self-2
 invariant_of-self-2 c =
@@ -30,4 +30,4 @@ invariant_of-self-2 c =
     ∙ long_drop given (t.formula.clauses ++ clauses_of t.log) t.kept.items ns
     ∙ ap (λ (ks : List Bool). long_ones given (t.formula.clauses ++ clauses_of t.log) ks) (sym kept)
     ∙ ap (λ (cs : List (List ℕ)). long_ones given (t.formula.clauses ++ cs) c.take_flags.new.kept.items) (sym (ap clauses_of log ∙ learned_drops t.log ns)) in
-    (subst (λ (l : List Entry). IsPlaced t.formula l t.places.items c.take_flags.new.kept.items) (sym log) placed, longs)
+    (subst (λ (l : List Entry). IsLogged t.formula l t.places.items c.take_flags.new.kept.items) (sym log) placed, longs)

@@ -9,12 +9,12 @@ returns-clause-linked c on m o =
     let h = c.args.self.now.heads in
     let n = c.args.self.now.nodes.items in
     let e = get_or_read h.items c.args.code c.index-next.result.now c.requires.code c.index-next.ensures 0 in
-    subst (λ (y : ℕ). IsLinked (set h.items c.args.code c.args.node) (set n c.args.node (record { next = y; note = c.args.note })) (placed c.args.node (Some c.args.code) on)) (sym e)
-    (linked_link h.items n on c.args.node c.args.code c.args.note c.requires.code c.requires.node o m)
+    subst (λ (y : ℕ). IsLinked (set h.items c.args.code c.args.node) (set n c.args.node (record { next = y; blocking = c.args.blocking })) (placed c.args.node (Some c.args.code) on)) (sym e)
+    (linked_link h.items n on c.args.node c.args.code c.args.blocking c.requires.code c.requires.node o m)
 
 pub returns-clause-lengths : goal.returns-clause-lengths
 returns-clause-lengths c i b ne =
     let h = c.args.self.now.heads in
     let n = c.args.self.now.nodes.items in
     let e = get_or_read h.items c.args.code c.index-next.result.now c.requires.code c.index-next.ensures 0 in
-    lengths_link h.items n c.requires.off.on c.args.node c.args.code (record { next = c.index-next.result.now; note = c.args.note }) c.requires.code c.requires.node c.requires.off.off e c.requires.off.linked i b ne
+    lengths_link h.items n c.requires.off.on c.args.node c.args.code (record { next = c.index-next.result.now; blocking = c.args.blocking }) c.requires.code c.requires.node c.requires.off.off e c.requires.off.linked i b ne

@@ -3,7 +3,7 @@ use Rattle.cdcl_rules.specs.State.{clause_at}
 use Rattle.watch_lists.specs.Added.{RestsWith}
 use Rattle.watch_lists.specs.Given.{AreGiven}
 use Rattle.watch_lists.specs.Visit.{slot_clauses}
-use Rattle.watch_lists.proofs.Asks.{fit_read}
+use Rattle.watch_lists.proofs.UnitsTell.{fit_read}
 use Rattle.watch_lists.proofs.Enters.{pair_loose}
 use Rattle.watch_lists.proofs.Filters.{clause_is}
 use Rattle.watch_lists.proofs.Givens.{given_wider, given_two, given_short, given_long}
@@ -11,10 +11,10 @@ use Rattle.watch_lists.proofs.Slotted.{slots_long}
 use Rattle.watch_lists.proofs.given.Given.enter.Goals as goal
 use Rattle.watch_lists.proofs.given.Given.enter.Goals.{After-clause-clause}
 
-wide : (c : After-clause-clause) → AreGiven c.args.codes c.args.store.now c.args.number c.args.self.now.slots.items c.widen.new.self.watched.items c.widen.new.self.chains.heads.items c.widen.new.self.chains.nodes.items c.widen.new.self.pending c.widen.new.self.asks.items
+wide : (c : After-clause-clause) → AreGiven c.args.codes c.args.store.now c.args.number c.args.self.now.slots.items c.widen.new.self.watched.items c.widen.new.self.chains.heads.items c.widen.new.self.chains.nodes.items c.widen.new.self.pending c.widen.new.self.units.items
 wide c =
     let t = c.args.self.now in
-    given_wider c.args.codes c.args.store.now c.args.number t.slots.items t.lists.watched.items t.lists.chains.heads.items t.lists.chains.nodes.items t.lists.pending t.lists.asks.items c.widen.new.self.watched.items c.widen.new.self.chains.heads.items c.widen.new.self.chains.nodes.items c.widen.new.self.pending c.widen.new.self.asks.items c.requires.given c.widen.ensures.wider c.widen.ensures.more_asks
+    given_wider c.args.codes c.args.store.now c.args.number t.slots.items t.lists.watched.items t.lists.chains.heads.items t.lists.chains.nodes.items t.lists.pending t.lists.units.items c.widen.new.self.watched.items c.widen.new.self.chains.heads.items c.widen.new.self.chains.nodes.items c.widen.new.self.pending c.widen.new.self.units.items c.requires.given c.widen.ensures.wider c.widen.ensures.more_units
 
 read : (c : After-clause-clause) → c.clause-clause.result ≡ clause_at c.args.store.now c.args.number
 read c = c.clause-clause.ensures ∙ sym (clause_is c.args.store.now c.args.number)
@@ -22,14 +22,17 @@ read c = c.clause-clause.ensures ∙ sym (clause_is c.args.store.now c.args.numb
 pub returns-then-length-eq2 : goal.returns-then-length-eq2
 returns-then-length-eq2 c =
     let here = (goal.at.returns-then-length-eq2 c).After-clause-clause in
-    given_two c.args.codes c.args.store.now c.args.number c.args.self.now.slots.items c.widen.new.self.watched.items c.widen.new.self.chains.heads.items c.widen.new.self.chains.nodes.items c.widen.new.self.pending c.widen.new.self.asks.items (wide here) c.in_ok-widen.ensures.in_set
+    given_two c.args.codes c.args.store.now c.args.number c.args.self.now.slots.items c.widen.new.self.watched.items c.widen.new.self.chains.heads.items c.widen.new.self.chains.nodes.items c.widen.new.self.pending c.widen.new.self.units.items (wide here)
     (omega (arith, ap (λ (xs : List ℕ). length xs) (read here), c.len-length.ensures, c.if-length-eq2.true))
 
 pub returns-then-length-lt2 : goal.returns-then-length-lt2
 returns-then-length-lt2 c =
     let here = (goal.at.returns-then-length-lt2 c).After-clause-clause in
-    given_short c.args.codes c.args.store.now c.args.number c.args.self.now.slots.items c.widen.new.self.watched.items c.widen.new.self.chains.heads.items c.widen.new.self.chains.nodes.items c.widen.new.self.pending c.widen.new.self.asks.items c.insert.new.self (wide here) c.in_ok-widen.ensures.in_set
+    given_short c.args.codes c.args.store.now c.args.number c.args.self.now.slots.items c.widen.new.self.watched.items c.widen.new.self.chains.heads.items c.widen.new.self.chains.nodes.items c.widen.new.self.pending c.widen.new.self.units.items c.insert.new.self (wide here)
     (omega (arith, ap (λ (xs : List ℕ). length xs) (read here), c.len-length.ensures, c.if-length-lt2.true)) (omega (arith, c.insert.ensures.room)) c.insert.ensures.has
+
+pub widen-requires-clause-set : goal.widen-requires-clause-set
+widen-requires-clause-set c = omega (arith, c.requires.inside, c.requires.given.room)
 
 pub widen-requires-clause-nodes : goal.widen-requires-clause-nodes
 widen-requires-clause-nodes c = omega (arith, c.requires.given.rest.many, slots_long c.args.store.now c.args.self.now.slots.items, c.len-slot.ensures)
@@ -62,7 +65,7 @@ returns c =
     let e = c.enter_last.new.self in
     let rests = subst (λ (n : ℕ). RestsWith (clause_at store c.args.number) n c.args.codes w.watched.items w.chains.heads.items w.chains.nodes.items e.watched.items e.chains.heads.items e.chains.nodes.items) (omega (arith, c.len-slot.ensures))
     (subst (λ (xs : List ℕ). RestsWith xs c.len-slot.result c.args.codes w.watched.items w.chains.heads.items w.chains.nodes.items e.watched.items e.chains.heads.items e.chains.nodes.items) (read here) c.enter_last.ensures.rest) in
-    let done = given_long c.args.codes store c.args.number slots w.watched.items w.chains.heads.items w.chains.nodes.items w.pending w.asks.items c.push.new.self.items e.watched.items e.chains.heads.items e.chains.nodes.items (wide here) c.in_ok-widen.ensures.in_set
-    (omega (arith, c.in_ok-widen.ensures.in_asks, c.len-slot.ensures)) (omega (arith, ap (λ (xs : List ℕ). length xs) (read here), c.len-length.ensures, c.if-length-eq2.false, c.if-length-lt2.false)) c.in_ok-push.ensures.items rests in
-    subst (λ (ws : List ℕ). AreGiven c.args.codes store (c.args.number + 1) c.push.new.self.items e.watched.items e.chains.heads.items e.chains.nodes.items ws e.asks.items) (sym c.enter_last.ensures.set)
-    (subst (λ (xs : List ℕ). AreGiven c.args.codes store (c.args.number + 1) c.push.new.self.items e.watched.items e.chains.heads.items e.chains.nodes.items w.pending xs) (sym c.enter_last.ensures.asks) done)
+    let done = given_long c.args.codes store c.args.number slots w.watched.items w.chains.heads.items w.chains.nodes.items w.pending w.units.items c.push.new.self.items e.watched.items e.chains.heads.items e.chains.nodes.items (wide here)
+    (omega (arith, c.in_ok-widen.ensures.in_units, c.len-slot.ensures)) (omega (arith, ap (λ (xs : List ℕ). length xs) (read here), c.len-length.ensures, c.if-length-eq2.false, c.if-length-lt2.false)) c.in_ok-push.ensures.items rests in
+    subst (λ (ws : List ℕ). AreGiven c.args.codes store (c.args.number + 1) c.push.new.self.items e.watched.items e.chains.heads.items e.chains.nodes.items ws e.units.items) (sym c.enter_last.ensures.set)
+    (subst (λ (xs : List ℕ). AreGiven c.args.codes store (c.args.number + 1) c.push.new.self.items e.watched.items e.chains.heads.items e.chains.nodes.items w.pending xs) (sym c.enter_last.ensures.units) done)

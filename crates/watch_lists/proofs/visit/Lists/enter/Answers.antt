@@ -2,7 +2,7 @@ use Rattle.std.proofs.Common.{arith, ◌≡◌, ◌*◌, ◌∙◌, get_or, set,
 use Rattle.std.proofs.lemmas.List.{get_or_read}
 use Rattle.clause_base.specs.Clause.{has_literal}
 use Rattle.watch_lists.specs.Pending.{is_free}
-use Rattle.watch_lists.proofs.Asks.{false_past, false_after}
+use Rattle.watch_lists.proofs.UnitsTell.{false_past, false_after}
 use Rattle.watch_lists.proofs.Enters.{IsEntered, rests_long, free_long, quiet_long}
 use Rattle.watch_lists.proofs.visit.Lists.enter.Goals as goal
 use Rattle.watch_lists.proofs.visit.Lists.enter.Goals.{After-free_until}
@@ -10,7 +10,7 @@ use Rattle.watch_lists.proofs.visit.Lists.enter.Goals.{After-free_until}
 pub overflow_add-result : goal.overflow_add-result
 overflow_add-result c = let s = c.free_until.ensures.short in omega (arith, s, c.requires.small)
 
-entered : (c : After-free_until) → IsEntered c.args.clause.now c.args.slot c.args.truth.now.trail c.args.self.now.watched.items c.to_watch-watched.result c.args.self.now.chains.heads.items c.args.self.now.chains.nodes.items c.link_two.new.self.heads.items c.link_two.new.self.nodes.items c.a.inside.0 c.b.inside.0
+entered : (c : After-free_until) → IsEntered c.args.clause.now c.args.slot c.args.assignment.now.trail c.args.self.now.watched.items c.to_watch-watched.result c.args.self.now.chains.heads.items c.args.self.now.chains.nodes.items c.link_two.new.self.heads.items c.link_two.new.self.nodes.items c.a.inside.0 c.b.inside.0
 entered c = record {
   below = c.requires.room.in_watches;
   long = c.requires.two;
@@ -31,26 +31,26 @@ entered c = record {
 
 pub returns-clause-rest : goal.returns-clause-rest
 returns-clause-rest c =
-    rests_long c.args.clause.now c.args.slot c.args.truth.now.trail c.args.self.now.watched.items c.to_watch-watched.result c.args.self.now.chains.heads.items c.args.self.now.chains.nodes.items c.link_two.new.self.heads.items c.link_two.new.self.nodes.items c.a.inside.0 c.b.inside.0 (2 * c.args.truth.now.variables) (entered c)
+    rests_long c.args.clause.now c.args.slot c.args.assignment.now.trail c.args.self.now.watched.items c.to_watch-watched.result c.args.self.now.chains.heads.items c.args.self.now.chains.nodes.items c.link_two.new.self.heads.items c.link_two.new.self.nodes.items c.a.inside.0 c.b.inside.0 (2 * c.args.assignment.now.variables) (entered c)
 
 pub returns-clause-free : goal.returns-clause-free
 returns-clause-free c =
-    free_long c.args.clause.now c.args.slot c.args.truth.now.trail c.args.self.now.watched.items c.to_watch-watched.result c.args.self.now.chains.heads.items c.args.self.now.chains.nodes.items c.link_two.new.self.heads.items c.link_two.new.self.nodes.items c.a.inside.0 c.b.inside.0 (entered c)
+    free_long c.args.clause.now c.args.slot c.args.assignment.now.trail c.args.self.now.watched.items c.to_watch-watched.result c.args.self.now.chains.heads.items c.args.self.now.chains.nodes.items c.link_two.new.self.heads.items c.link_two.new.self.nodes.items c.a.inside.0 c.b.inside.0 (entered c)
 
 pub returns-clause-quiet : goal.returns-clause-quiet
 returns-clause-quiet c =
-    quiet_long c.args.clause.now c.args.slot c.args.truth.now.trail c.args.self.now.watched.items c.to_watch-watched.result c.args.self.now.chains.heads.items c.args.self.now.chains.nodes.items c.link_two.new.self.heads.items c.link_two.new.self.nodes.items c.a.inside.0 c.b.inside.0 c.free_until.result (entered c) c.free_until.ensures.lasts
+    quiet_long c.args.clause.now c.args.slot c.args.assignment.now.trail c.args.self.now.watched.items c.to_watch-watched.result c.args.self.now.chains.heads.items c.args.self.now.chains.nodes.items c.link_two.new.self.heads.items c.link_two.new.self.nodes.items c.a.inside.0 c.b.inside.0 c.free_until.result (entered c) c.free_until.ensures.lasts
 
-pub returns-clause-asked : goal.returns-clause-asked
-returns-clause-asked c h two =
-    let trail = c.args.truth.now.trail in
+pub returns-clause-units_are : goal.returns-clause-units_are
+returns-clause-units_are c h two =
+    let trail = c.args.assignment.now.trail in
     let e = entered c in
     let k = c.args.clause.now in
     let off : is_free (has_literal trail) (get_or k c.to_watch-watched.result.second 0) ≡ false = ap (is_free (has_literal trail)) (sym e.second_is) ∙ false_past trail c.b.inside.0 c.free_until.result c.free_until.ensures.lasts h in
-    let ask : get_or (set c.args.self.now.asks.items c.args.slot c.a.inside.0) c.args.slot 0 ≡ c.a.inside.0 = get_or-set_same c.args.self.now.asks.items c.args.slot c.a.inside.0 0 c.requires.asks in
+    let unit : get_or (set c.args.self.now.units.items c.args.slot c.a.inside.0) c.args.slot 0 ≡ c.a.inside.0 = get_or-set_same c.args.self.now.units.items c.args.slot c.a.inside.0 0 c.requires.units in
     record {
       place = c.to_watch-watched.result.first;
       inside = c.to_watch-watched.ensures.first_in;
-      own = sym (ask ∙ e.first_is);
+      own = sym (unit ∙ e.first_is);
       others = λ p g ne. false_after trail (get_or k c.to_watch-watched.result.second 0) (get_or k p 0) (c.to_watch-watched.ensures.next p g ne) off;
     }

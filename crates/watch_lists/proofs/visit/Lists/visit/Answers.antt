@@ -4,13 +4,13 @@ use Rattle.clause_base.specs.Clause.{has_literal}
 use Rattle.number_bits.specs.Bits.{words_have}
 use Rattle.watch_lists.specs.declared.visit.Watched.{Watched}
 use Rattle.watch_lists.specs.Pending.{is_free}
-use Rattle.watch_lists.specs.Asking.{IsAsked}
+use Rattle.watch_lists.specs.Units.{IsUnit}
 use Rattle.cdcl_rules.specs.State.{clause_at}
 use Rattle.watch_lists.specs.Visit.{no_watches, place_in, slot_clauses, slot_flags, slot_set, Grows, Stays}
 use Rattle.watch_lists.proofs.Filters.{settled_one}
 use Rattle.watch_lists.proofs.Visits.{has_below, listed_drop, listed_link, listed_true, moves_own, others_stay, own_moved, placed_moved, Beside, beside_of, settled_grows, grows_insert, own_insert}
 use Rattle.watch_lists.proofs.Slotted.{fit_slots, slots_long}
-use Rattle.watch_lists.proofs.Asked.{asked_insert, within_insert}
+use Rattle.watch_lists.proofs.UnitsOfSlots.{units_insert, within_insert}
 use Rattle.watch_lists.proofs.visit.Lists.visit.Goals as goal
 use Rattle.watch_lists.proofs.visit.Lists.visit.Goals.{After-lit}
 
@@ -21,9 +21,9 @@ pub is_true-requires : goal.is_true-requires
 is_true-requires c =
     let cl = slot_clauses c.args.store.now c.args.slots.now in
     let r = c.requires.listed.0 in
-    let n = c.note-note.ensures in
-    let h = ap (λ (x : ℕ). has_literal (clause_at cl (c.args.node / 2)) x) n ∙ r.notes c.args.node c.requires.real in
-    let b = has_below (clause_at cl (c.args.node / 2)) c.args.spare c.note-note.result (λ p g. (fit_slots c.args.store.now c.args.slots.now c.args.spare c.requires.fit).below (c.args.node / 2) p g) h in
+    let n = c.blocking-blocking.ensures in
+    let h = ap (λ (x : ℕ). has_literal (clause_at cl (c.args.node / 2)) x) n ∙ r.blockings c.args.node c.requires.real in
+    let b = has_below (clause_at cl (c.args.node / 2)) c.args.spare c.blocking-blocking.result (λ p g. (fit_slots c.args.store.now c.args.slots.now c.args.spare c.requires.fit).below (c.args.node / 2) p g) h in
     omega (arith, b, c.requires.spare)
 
 pub is_true-requires-2 : goal.is_true-requires-2
@@ -56,14 +56,14 @@ link-requires-in-Some-clause-code c =
 pub returns-then-is_true-clause-listed : goal.returns-then-is_true-clause-listed
 returns-then-is_true-clause-listed c =
     let r = c.requires.listed.0 in
-    listed_true (slot_clauses c.args.store.now c.args.slots.now) c.args.self.now.watched.items c.args.self.now.chains.heads.items c.link.new.self.heads.items c.args.self.now.chains.nodes.items c.link.new.self.nodes.items c.args.spare (slot_flags c.args.kept.now c.args.slots.now) c.args.node c.note-note.result c.args.code (has_literal c.args.truth.now.trail) (slot_set (words_have c.args.self.now.pending) c.args.slots.now) r c.requires.listed.1
-    (c.link.ensures.linked r.on r.linked c.requires.listed.1) c.link.ensures.codes c.link.ensures.nodes c.link.ensures.own c.link.ensures.others c.requires.real c.requires.own (ap (λ (x : ℕ). has_literal (clause_at (slot_clauses c.args.store.now c.args.slots.now) (c.args.node / 2)) x) c.note-note.ensures ∙ r.notes c.args.node c.requires.real) (sym c.is_true.ensures ∙ c.if-is_true.true)
+    listed_true (slot_clauses c.args.store.now c.args.slots.now) c.args.self.now.watched.items c.args.self.now.chains.heads.items c.link.new.self.heads.items c.args.self.now.chains.nodes.items c.link.new.self.nodes.items c.args.spare (slot_flags c.args.kept.now c.args.slots.now) c.args.node c.blocking-blocking.result c.args.code (has_literal c.args.assignment.now.trail) (slot_set (words_have c.args.self.now.pending) c.args.slots.now) r c.requires.listed.1
+    (c.link.ensures.linked r.on r.linked c.requires.listed.1) c.link.ensures.codes c.link.ensures.nodes c.link.ensures.own c.link.ensures.others c.requires.real c.requires.own (ap (λ (x : ℕ). has_literal (clause_at (slot_clauses c.args.store.now c.args.slots.now) (c.args.node / 2)) x) c.blocking-blocking.ensures ∙ r.blockings c.args.node c.requires.real) (sym c.is_true.ensures ∙ c.if-is_true.true)
 
 pub returns-then-is_true-2-clause-listed : goal.returns-then-is_true-2-clause-listed
 returns-then-is_true-2-clause-listed c =
     let r = c.requires.listed.0 in
     let b = beside (goal.at.returns-then-is_true-2-clause-listed c).After-lit in
-    listed_true (slot_clauses c.args.store.now c.args.slots.now) c.args.self.now.watched.items c.args.self.now.chains.heads.items c.link-then-is_true-2.new.self.heads.items c.args.self.now.chains.nodes.items c.link-then-is_true-2.new.self.nodes.items c.args.spare (slot_flags c.args.kept.now c.args.slots.now) c.args.node c.lit.inside.0 c.args.code (has_literal c.args.truth.now.trail) (slot_set (words_have c.args.self.now.pending) c.args.slots.now) r c.requires.listed.1
+    listed_true (slot_clauses c.args.store.now c.args.slots.now) c.args.self.now.watched.items c.args.self.now.chains.heads.items c.link-then-is_true-2.new.self.heads.items c.args.self.now.chains.nodes.items c.link-then-is_true-2.new.self.nodes.items c.args.spare (slot_flags c.args.kept.now c.args.slots.now) c.args.node c.lit.inside.0 c.args.code (has_literal c.args.assignment.now.trail) (slot_set (words_have c.args.self.now.pending) c.args.slots.now) r c.requires.listed.1
     (c.link-then-is_true-2.ensures.linked r.on r.linked c.requires.listed.1) c.link-then-is_true-2.ensures.codes c.link-then-is_true-2.ensures.nodes c.link-then-is_true-2.ensures.own c.link-then-is_true-2.ensures.others c.requires.real c.requires.own b.has (sym c.is_true-2.ensures ∙ c.if-is_true-2.true)
 
 pub returns-in-None-clause-listed : goal.returns-in-None-clause-listed
@@ -72,7 +72,7 @@ returns-in-None-clause-listed c =
     let own = own_insert (words_have c.args.self.now.pending) (words_have c.insert.new.self) (get_or c.args.slots.now (c.args.node / 2) 0) c.insert.ensures.has in
     let cl = slot_clauses c.args.store.now c.args.slots.now in
     let wa = c.args.self.now.watched.items in
-    let on = has_literal c.args.truth.now.trail in
+    let on = has_literal c.args.assignment.now.trail in
     let s = slot_set (words_have c.args.self.now.pending) c.args.slots.now in
     let s' = slot_set (words_have c.insert.new.self) c.args.slots.now in
     let r = c.requires.listed.0 in
@@ -91,7 +91,7 @@ returns-in-Some-clause-listed c =
     let wa = c.args.self.now.watched.items in
     let w' = c.moved.result in
     let wa' = set wa (c.args.node / 2) w' in
-    let on = has_literal c.args.truth.now.trail in
+    let on = has_literal c.args.assignment.now.trail in
     let s = slot_set (words_have c.args.self.now.pending) c.args.slots.now in
     let r = c.requires.listed.0 in
     let W = Stays cl wa on s c.args.code in
@@ -123,29 +123,29 @@ pub returns-in-None-clause-within : goal.returns-in-None-clause-within
 returns-in-None-clause-within c =
     within_insert (length c.args.store.now) (get_or c.args.slots.now (c.args.node / 2) 0) (words_have c.args.self.now.pending) (words_have c.insert.new.self) (number_in (goal.at.returns-in-None-clause-within c).After-lit) c.requires.within c.insert.ensures.has
 
-pub returns-in-None-clause-asked : goal.returns-in-None-clause-asked
-returns-in-None-clause-asked c =
+pub returns-in-None-clause-units_are : goal.returns-in-None-clause-units_are
+returns-in-None-clause-units_are c =
     let store = c.args.store.now in
     let slots = c.args.slots.now in
     let cl = slot_clauses store slots in
-    let on = has_literal c.args.truth.now.trail in
+    let on = has_literal c.args.assignment.now.trail in
     let slot = c.args.node / 2 in
     let inside : slot < length slots = omega (arith, c.requires.real.below, slots_long store slots) in
-    let b = beside (goal.at.returns-in-None-clause-asked c).After-lit in
-    let own : IsAsked on (clause_at cl slot) c.lit.inside.0 = subst (λ (xs : List ℕ). IsAsked on xs c.lit.inside.0) c.slot_clause-clause.ensures (record {
+    let b = beside (goal.at.returns-in-None-clause-units_are c).After-lit in
+    let own : IsUnit on (clause_at cl slot) c.lit.inside.0 = subst (λ (xs : List ℕ). IsUnit on xs c.lit.inside.0) c.slot_clause-clause.ensures (record {
       place = c.at-other.result;
       inside = omega (arith, b.inside, ap (λ (xs : List ℕ). length xs) c.slot_clause-clause.ensures);
       own = sym (c.lit.view_is ∙ get_or_read c.slot_clause-clause.result c.at-other.result c.get-lit.result (omega (arith, b.inside, ap (λ (xs : List ℕ). length xs) c.slot_clause-clause.ensures)) c.get-lit.ensures.item 0);
       others = c.in-None.ensures.none;
     }) in
-    asked_insert store on (words_have c.args.self.now.pending) (words_have c.insert.new.self) slots c.args.self.now.asks.items (set c.args.self.now.asks.items slot c.lit.inside.0) slot c.lit.inside.0 c.requires.distinct c.requires.asked inside (omega (arith, inside, c.requires.long)) own c.insert.ensures.has refl
+    units_insert store on (words_have c.args.self.now.pending) (words_have c.insert.new.self) slots c.args.self.now.units.items (set c.args.self.now.units.items slot c.lit.inside.0) slot c.lit.inside.0 c.requires.distinct c.requires.units_are inside (omega (arith, inside, c.requires.long)) own c.insert.ensures.has refl
 
 pub returns-in-Some-clause-moves : goal.returns-in-Some-clause-moves
 returns-in-Some-clause-moves c =
     let cl = slot_clauses c.args.store.now c.args.slots.now in
     let wa = c.args.self.now.watched.items in
     let w' = c.moved.result in
-    let on = has_literal c.args.truth.now.trail in
+    let on = has_literal c.args.assignment.now.trail in
     let r = c.requires.listed.0 in
     let below : c.args.node / 2 < length wa = omega (arith, c.requires.real.below, r.placed.many) in
     let v : c.index.result.now ≡ get_or wa (c.args.node / 2) no_watches = get_or_read wa (c.args.node / 2) c.index.result.now below c.index.ensures no_watches in
@@ -160,12 +160,12 @@ is_slot_kept-requires-clause-inside c = omega (arith, c.requires.real.below, slo
 pub returns-then-not-is_slot_kept-clause-listed : goal.returns-then-not-is_slot_kept-clause-listed
 returns-then-not-is_slot_kept-clause-listed c =
     let cl = slot_clauses c.args.store.now c.args.slots.now in
-    listed_drop cl c.args.self.now.watched.items c.args.self.now.chains.heads.items c.args.self.now.chains.nodes.items c.args.spare (slot_flags c.args.kept.now c.args.slots.now) c.args.node (Stays cl c.args.self.now.watched.items (has_literal c.args.truth.now.trail) (slot_set (words_have c.args.self.now.pending) c.args.slots.now) c.args.code) c.requires.listed.0 (sym c.is_slot_kept.ensures ∙ c.if-not-is_slot_kept.true)
+    listed_drop cl c.args.self.now.watched.items c.args.self.now.chains.heads.items c.args.self.now.chains.nodes.items c.args.spare (slot_flags c.args.kept.now c.args.slots.now) c.args.node (Stays cl c.args.self.now.watched.items (has_literal c.args.assignment.now.trail) (slot_set (words_have c.args.self.now.pending) c.args.slots.now) c.args.code) c.requires.listed.0 (sym c.is_slot_kept.ensures ∙ c.if-not-is_slot_kept.true)
 
 pub returns-in-Some-clause-lengths : goal.returns-in-Some-clause-lengths
 returns-in-Some-clause-lengths c =
-    let on = has_literal c.args.truth.now.trail in
+    let on = has_literal c.args.assignment.now.trail in
     let place = c.in-Some.place in
     let found : c.found.inside.0 ≡ get_or c.slot_clause-clause.result place 0 = c.found.view_is ∙ get_or_read c.slot_clause-clause.result place c.get-found.result c.in-Some.ensures.inside c.get-found.ensures.item 0 in
     let free : is_free on c.found.inside.0 ≡ true = ap (is_free on) found ∙ c.in-Some.ensures.none in
-    c.link-in-Some.ensures.lengths c.args.code (omega (arith, c.requires.code, c.requires.listed.0.codes)) (λ (e : c.args.code ≡ c.found.inside.0). let z : false ≡ true = sym (ap (λ (b : Bool). not b) c.requires.fallen) ∙ ap (is_free on) e ∙ free in let w : ⊥ = cc in w)
+    c.link-in-Some.ensures.lengths c.args.code (omega (arith, c.requires.code, c.requires.listed.0.codes)) (λ (e : c.args.code ≡ c.found.inside.0). let z : false ≡ true = sym (ap (λ (b : Bool). not b) c.requires.falsified) ∙ ap (is_free on) e ∙ free in let w : ⊥ = cc in w)

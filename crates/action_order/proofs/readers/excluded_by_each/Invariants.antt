@@ -1,0 +1,7 @@
+use Rattle.std.proofs.Common.{◌≡◌, ℕ}
+use Rattle.bit_rows.specs.Bits.{row_has}
+use Rattle.action_order.specs.Readers.{is_excluded}
+use Rattle.action_order.proofs.readers.excluded_by_each.Given as goal
+
+abbrev pub invariant-loop-q : goal.invariant-loop-q
+invariant-loop-q l = (b : ℕ) → row_has l.row b ≡ is_excluded l.pairs.clauses l.needing l.p l.q b

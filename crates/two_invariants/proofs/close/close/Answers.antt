@@ -1,0 +1,10 @@
+use Rattle.std.proofs.Common.{◌*◌}
+use Rattle.two_invariants.specs.Rows.{clause_in}
+use Rattle.two_invariants.proofs.Closing.{grown_twice}
+use Rattle.two_invariants.proofs.close.close.Goals as goal
+
+pub follow-preserved : goal.follow-preserved
+follow-preserved c = record {
+  grown = grown_twice (clause_in c.args.clauses.now) (2 * c.args.facts) c.requires.clauses.within _ _ _ c.follow.invariant.grown c.in_ok-follow-in-Some.ensures.grown;
+  growing = c.in_ok-follow-in-Some.ensures.growing;
+}

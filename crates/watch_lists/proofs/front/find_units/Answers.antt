@@ -1,0 +1,22 @@
+use Rattle.std.proofs.Common.{arith, ◌≡◌, ◌≢◌, ◌==◌, ◌<◌, ◌+◌, ℕ, Bool, true, false, refl, sym, ◌∙◌, subst, length, get_or}
+use Rattle.clause_base.specs.Clause.{has_literal}
+use Rattle.cdcl_rules.specs.Pending.{is_pending}
+use Rattle.cdcl_rules.specs.State.{clause_at}
+use Rattle.watch_lists.specs.Units.{IsUnit}
+use Rattle.watch_lists.specs.Visit.{slot_clauses}
+use Rattle.watch_lists.proofs.Assigns.{equal_of, apart_of}
+use Rattle.watch_lists.proofs.front.find_units.Goals as goal
+
+pub loop-slot-preserved : goal.loop-slot-preserved
+loop-slot-preserved c = record {
+  units_are = λ s h. at s h (s == c.loop-slot.slot) refl;
+  size = c.find_unit.ensures.size ∙ c.loop-slot.invariant.size;
+}
+  where
+    at : (s : ℕ) → s < c.loop-slot.slot + 1 → (b : Bool) → (s == c.loop-slot.slot) ≡ b → is_pending (has_literal c.args.assignment.now.trail) (clause_at (slot_clauses c.args.store.now c.args.slots.now) s) ≡ true → 2 < length (clause_at (slot_clauses c.args.store.now c.args.slots.now) s) → IsUnit (has_literal c.args.assignment.now.trail) (clause_at (slot_clauses c.args.store.now c.args.slots.now) s) (get_or c.find_unit.new.units.items s 0)
+    at s h true f =
+        let P : ℕ → Type 0 = λ n. is_pending (has_literal c.args.assignment.now.trail) (clause_at (slot_clauses c.args.store.now c.args.slots.now) n) ≡ true → 2 < length (clause_at (slot_clauses c.args.store.now c.args.slots.now) n) → IsUnit (has_literal c.args.assignment.now.trail) (clause_at (slot_clauses c.args.store.now c.args.slots.now) n) (get_or c.find_unit.new.units.items n 0) in
+        subst P (sym (equal_of s c.loop-slot.slot f)) c.find_unit.ensures.own
+    at s h false f = λ p long.
+        (let ne = apart_of s c.loop-slot.slot f in
+        subst (λ (x : ℕ). IsUnit (has_literal c.args.assignment.now.trail) (clause_at (slot_clauses c.args.store.now c.args.slots.now) s) x) (sym (c.find_unit.ensures.others s ne)) (c.loop-slot.invariant.units_are s (let n : s ≢ c.loop-slot.slot = ne in omega (arith, h, n)) p long))

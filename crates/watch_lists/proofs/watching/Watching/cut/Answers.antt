@@ -1,0 +1,65 @@
+use Rattle.std.proofs.Common.{arith, subst, ◌≡◌, ◌<◌, ◌≤◌, ◌*◌, ℕ, List, ◌∙◌, ap, Bool, true, false, get_or, length, take, sym}
+use Rattle.std.proofs.lemmas.List.{take-map, length-take-le, length-map}
+use Rattle.clause_base.specs.Clause.{has_literal}
+use Rattle.number_bits.specs.Bits.{words_have}
+use Rattle.cdcl_rules.specs.declared.trail.Assigned.{Assigned}
+use Rattle.cdcl_trail.specs.Assignment.{AssignmentView, literals}
+use Rattle.cdcl_trail.specs.Mirrored.{TrailView}
+use Rattle.watch_lists.specs.Pending.{is_pending_on}
+use Rattle.watch_lists.specs.Visit.{IsFit, slot_clauses, slot_set}
+use Rattle.watch_lists.specs.Units.{AreUnits, HasUnits}
+use Rattle.watch_lists.specs.Sound.{IsFront, AreTablesSound}
+use Rattle.watch_lists.proofs.UnitsOfSlots.{has_units_shorter}
+use Rattle.watch_lists.proofs.Undoes.{undo_sound}
+use Rattle.watch_lists.proofs.watching.Watching.cut.Goals as goal
+use Rattle.watch_lists.proofs.watching.Watching.cut.Goals.{After-assignment-assignment}
+
+-- the trail is shorter
+less : (c : After-assignment-assignment) → c.args.length < length (literals c.self.inside.trail.entries)
+less c = omega (arith, c.if-length.false, c.length.ensures.is, length-map c.self.inside.trail.entries (λ (a : Assigned). a.literal))
+
+taken : (c : After-assignment-assignment) → literals c.cut.new.self.entries ≡ take c.args.length (literals c.self.inside.trail.entries)
+taken c =
+    ap (λ (t : TrailView). literals t.entries) c.cut.ensures ∙ sym (take-map (λ (a : Assigned). a.literal) c.args.length c.self.inside.trail.entries)
+
+told : (c : After-assignment-assignment) → c.assignment-assignment.result.trail ≡ literals c.cut.new.self.entries
+told c = ap (λ (t : AssignmentView). t.trail) c.assignment-assignment.ensures
+
+long_is : (c : After-assignment-assignment) → length c.assignment-assignment.result.trail ≡ c.args.length
+long_is c =
+    let e = ap (λ (xs : List ℕ). length xs) (told c ∙ taken c) in
+    omega (arith, e, length-take-le c.args.length (literals c.self.inside.trail.entries) (omega (arith, less c)))
+
+pub refresh-requires-clause-fit : goal.refresh-requires-clause-fit
+refresh-requires-clause-fit c =
+    let w = c.self.inside in
+    let i = c.self.invariant.0 in
+    subst (λ (n : ℕ). IsFit w.store (2 * n)) (sym (ap (λ (t : AssignmentView). t.variables) c.assignment-assignment.ensures ∙ ap (λ (t : TrailView). t.variables) c.cut.ensures ∙ i.same)) i.fit
+
+pub refresh-requires-clause-flags : goal.refresh-requires-clause-flags
+refresh-requires-clause-flags c =
+    let at = (goal.at.refresh-requires-clause-flags c).After-assignment-assignment in
+    omega (arith, long_is at, less at, c.length.ensures.short, length-map c.self.inside.trail.entries (λ (a : Assigned). a.literal), c.self.invariant.0.same, c.self.invariant.0.quiet_size, ap (λ (qs : List Bool). length qs) c.as_slice-3.ensures.value)
+
+pub refresh-requires-clause-quiet : goal.refresh-requires-clause-quiet
+refresh-requires-clause-quiet c q k =
+    let w = c.self.inside in
+    let at = (goal.at.refresh-requires-clause-quiet c).After-assignment-assignment in
+    let flag = ap (λ (n : ℕ). get_or w.quiet.items n false) (sym (long_is at)) ∙ ap (λ (qs : List Bool). get_or qs (length c.assignment-assignment.result.trail) false) (sym c.as_slice-3.ensures.value) ∙ q in
+    ap (λ (ks : List Bool). is_pending_on w.store ks c.assignment-assignment.result.trail k) c.as_slice.ensures.value
+    ∙ ap (λ (xs : List ℕ). is_pending_on w.store w.kept.items xs k) (told at ∙ taken at)
+    ∙ c.self.invariant.0.quiets c.args.length (less at) flag k
+
+pub invariant_of-self : goal.invariant_of-self
+invariant_of-self c =
+    let w = c.self.inside in
+    let at = (goal.at.invariant_of-self c).After-assignment-assignment in
+    let new = literals c.cut.new.self.entries in
+    let front = subst (λ (xs : List ℕ). IsFront (is_pending_on w.store w.kept.items xs) (words_have c.refresh.new.pending)) (told at)
+    (subst (λ (ks : List Bool). IsFront (is_pending_on w.store ks c.assignment-assignment.result.trail) (words_have c.refresh.new.pending)) c.as_slice.ensures.value c.refresh.ensures.front) in
+    let units_are = subst (λ (xs : List ℕ). AreUnits (slot_clauses w.store w.slots.items) (has_literal xs) (slot_set (words_have c.refresh.new.pending) w.slots.items) c.refresh.new.units.items) (told at)
+    (subst (λ (ss : List ℕ). AreUnits (slot_clauses w.store ss) (has_literal c.assignment-assignment.result.trail) (slot_set (words_have c.refresh.new.pending) ss) c.refresh.new.units.items) c.as_slice-2.ensures.value c.refresh.ensures.units_are) in (
+      undo_sound w.variables w.trail.variables w.store w.kept.items (literals w.trail.entries) w.slots.items w.lists.watched.items w.lists.chains.heads.items w.lists.chains.nodes.items w.lists.pending w.quiet.items c.cut.new.self.variables c.args.length new c.refresh.new.pending c.self.invariant.0 (ap (λ (t : TrailView). t.variables) c.cut.ensures) (taken at) (omega (arith, less at)) c.refresh.ensures.room front,
+      c.self.invariant.1,
+      has_units_shorter w.store (literals w.trail.entries) w.slots.items w.lists.pending w.lists.units.items c.args.length new c.refresh.new.pending c.refresh.new.units.items c.self.invariant.2 (taken at) c.refresh.ensures.within units_are c.refresh.ensures.long,
+    )

@@ -1,0 +1,36 @@
+use Rattle.std.proofs.Common.{arith, ◌≡◌, ◌*◌, ◌≤◌, ℕ, List, true, length, replicate, ap, sym, ◌∙◌, subst}
+use Rattle.cdcl_trail.specs.Assignment.{literals}
+use Rattle.cdcl_trail.specs.Mirrored.{TrailView}
+use Rattle.pair_index.specs.Pairs.{IsIndex}
+use Rattle.watch_lists.specs.Given.{AreGiven}
+use Rattle.watch_lists.specs.Visit.{IsFit}
+use Rattle.watch_lists.proofs.Givens.{fit_given, sound_given, paired_given, has_units_given}
+use Rattle.watch_lists.proofs.watching.Watching.new.Goals as goal
+use Rattle.watch_lists.proofs.watching.Watching.new.Goals.{After-count-count}
+
+fit : (c : After-count-count) → IsFit c.args.formula.now.clauses (2 * c.args.formula.now.variables)
+fit c = fit_given c.args.formula.now.variables c.args.formula.now.clauses c.variables-variables.ensures.small c.count-count.ensures.lawful c.variables-variables.ensures.below
+
+pub new-requires-4-clause-fit : goal.new-requires-4-clause-fit
+new-requires-4-clause-fit c =
+    subst (λ (n : ℕ). IsFit c.in_ok-store.store (2 * n)) (sym c.variables-variables.ensures.value)
+    (subst (λ (cs : List (List ℕ)). IsFit cs (2 * c.args.formula.now.variables)) (sym c.in_ok-store.ensures) (fit (goal.at.new-requires-4-clause-fit c).After-count-count))
+
+pub invariant_of-result : goal.invariant_of-result
+invariant_of-result c =
+    let v = c.variables-variables.result in
+    let store = c.in_ok-store.store in
+    let g = c.in_ok-given.given in
+    let l = g.lists in
+    let all : length store ≡ c.count-count.result = (let e = ap (λ (cs : List (List ℕ)). length cs) c.in_ok-store.ensures in omega (arith, e, c.count-count.ensures.value)) in
+    let f = subst (λ (n : ℕ). IsFit store (2 * n)) (sym c.variables-variables.ensures.value)
+    (subst (λ (cs : List (List ℕ)). IsFit cs (2 * c.args.formula.now.variables)) (sym c.in_ok-store.ensures) (fit (goal.at.invariant_of-result c).After-count-count)) in
+    let small : v ≤ 2147483647 = omega (arith, c.variables-variables.ensures.small, c.variables-variables.ensures.value) in
+    let made = c.in_ok-given.ensures in
+    let trail = ap (λ (t : TrailView). literals t.entries) c.in_ok-trail.ensures in
+    let kept : c.in_ok-kept.kept.items ≡ replicate (length store) true = c.in_ok-kept.ensures.items_if_clones_equal (λ y h. h) ∙ ap (λ (n : ℕ). replicate n true) (sym all) in
+    let index = subst (λ (n : ℕ). IsIndex n store c.in_ok-pairs.pairs) (sym c.variables-variables.ensures.value) (subst (λ (cs : List (List ℕ)). IsIndex c.args.formula.now.variables cs c.in_ok-pairs.pairs) (sym c.in_ok-store.ensures) c.in_ok-pairs.ensures) in (
+      sound_given v c.in_ok-trail.trail.variables store c.in_ok-kept.kept.items (literals c.in_ok-trail.trail.entries) g.slots.items l.watched.items l.chains.heads.items l.chains.nodes.items l.pending l.units.items c.in_ok-quiet.quiet.items small (ap (λ (t : TrailView). t.variables) c.in_ok-trail.ensures) (omega (arith, all, c.count-count.ensures.few, c.count-count.ensures.value)) f kept trail made c.in_ok-quiet.ensures,
+      paired_given v store g.slots.items l.watched.items l.chains.heads.items l.chains.nodes.items l.pending l.units.items c.in_ok-pairs.pairs made index,
+      has_units_given v store (literals c.in_ok-trail.trail.entries) g.slots.items l.watched.items l.chains.heads.items l.chains.nodes.items l.pending l.units.items trail made,
+    )

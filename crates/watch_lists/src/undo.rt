@@ -1,0 +1,50 @@
+//! What is pending where the trail was taken back.
+ghost use Rattle.std.specs.Prelude.{◌≡◌, ℕ, ◌*◌, ◌<◌, ◌≤◌, length, true, false, slice_index_or};
+ghost use Rattle.clause_base.specs.Clause.{has_literal};
+ghost use Rattle.number_bits.specs.Bits.{words_have};
+ghost use Rattle.watch_lists.specs.Units.{AreUnits, IsWithin};
+ghost use Rattle.watch_lists.specs.Pending.{is_pending_on};
+ghost use Rattle.watch_lists.specs.Sound.{IsFront};
+ghost use Rattle.watch_lists.specs.Visit.{IsFit, slot_clauses, slot_set, AreSlotsBelow};
+
+use crate::front::{clear, find_units, rescan};
+use crate::pending::Pending;
+use cdcl_trail::assignment::Assignment;
+use number_bits::first::First;
+use number_bits::flat::Flat;
+use number_bits::layer::Layer;
+use watch_store::store::Store;
+
+/// Finds which clauses are pending on a trail that was taken back. Where nothing is pending at its length, as the flags tell, no
+/// clause is looked at.
+pub fn refresh(
+    store: &Store,
+    kept: &[bool],
+    slots: &[u32],
+    quiet: &[bool],
+    assignment: &Assignment,
+    pending: &mut Pending,
+    units: &mut Vec<u32>,
+)
+    requires fit { IsFit store.now (2 * assignment.now.variables) }
+    requires kept { length kept.now ≡ length store.now }
+    requires few { length store.now ≤ 4294967295 }
+    requires slotted { AreSlotsBelow (length store.now) slots.now }
+    requires few_slots { length slots.now ≤ 4294967295 }
+    requires room { length store.now ≤ 64 * length pending.old }
+    requires long { length slots.now ≤ length units.old.items }
+    requires flags { length assignment.now.trail < length quiet.now }
+    requires quiet { slice_index_or quiet.now (length assignment.now.trail) false ≡ true → (k : ℕ) → is_pending_on store.now kept.now assignment.now.trail k ≡ false }
+    ensures front { IsFront (is_pending_on store.now kept.now assignment.now.trail) (words_have pending.new) }
+    ensures within { IsWithin (length store.now) (words_have pending.new) }
+    ensures units_are { AreUnits (slot_clauses store.now slots.now) (has_literal assignment.now.trail) (slot_set (words_have pending.new) slots.now) units.new.items }
+    ensures room { length pending.new ≡ length pending.old }
+    ensures long { length units.new.items ≡ length units.old.items }
+{
+    if quiet[assignment.length() as usize] {
+        clear(pending);
+    } else {
+        rescan(store, kept, assignment, pending);
+        find_units(store, slots, assignment, units);
+    }
+}

@@ -1,0 +1,294 @@
+//! The clauses that are watched on a trail, and which of them is the first that is kept and pending, as literals become true and
+//! are taken back and clauses come and go.
+ghost use Rattle.std.specs.Prelude.{◌≡◌, ℕ, ◌*◌, ◌/◌, ◌<◌, ◌++◌, ◌∷◌, [], None, take, length, replicate, true, false, slice_set, slice_index_or, IfOk, OnOk, OnErr, MatchOption};
+ghost use Rattle.clause_base.specs.Clause.{IsClause, has_literal, HasVariablesBelow};
+ghost use Rattle.cdcl_rules.specs.State.{clause_at, value_of};
+ghost use Rattle.cdcl_rules.specs.Pending.{is_pending_in, least_from, open_ones};
+ghost use Rattle.cdcl_rules.specs.Learn.{backtracked};
+ghost use Rattle.cdcl_trail.specs.Assignment.{literals};
+ghost use Rattle.watch_lists.specs.Pending.{WatchingView};
+
+use crate::front::clean;
+use crate::given::{Given, count_longs};
+use crate::left::left_of;
+use crate::marks::mark_pairs;
+use crate::pending::{Pending, no_pending};
+use crate::quiet::{no_quiet, raise};
+use crate::slots::{begin_block, blocks_of};
+use crate::take_slot::take_slot;
+use crate::undo::refresh;
+use crate::visit::Lists;
+use cdcl_rules::trail::Assigned;
+use cdcl_trail::trail::Trail;
+use clause_base::formula::Formula;
+use clause_base::literal::Lit;
+use clause_base::memory::Memory;
+use number_bits::first::First;
+use number_bits::flat::Flat;
+use number_bits::layer::Layer;
+use number_bits::set::NumberSet;
+use pair_index::index::PairIndex;
+use std::alloc::Global;
+use std::marker::Model;
+use watch_chains::chains::Chains;
+use watch_store::store::Store;
+
+/// How many clauses there may be.
+const MOST_CLAUSES: u32 = 2_147_483_647;
+
+/// Clauses by number, which of them are kept, and the trail that they are watched on. A clause of two literals is in the lists of
+/// both, and of each other clause two literals are watched.
+pub struct Watching {
+    variables: u32,
+    store: Store,
+    kept: Vec<bool>,
+    trail: Trail,
+    pairs: PairIndex,
+    slots: Vec<u32>,
+    blocks: Vec<u32>,
+    lists: Lists,
+    quiet: Vec<bool>,
+}
+
+impl Model for Watching {
+    ghost use Rattle.std.specs.Prelude.{List, ℕ};
+    ghost use Rattle.cdcl_trail.specs.Assignment.{literals};
+    ghost use Rattle.watch_lists.specs.Pending.{WatchingView};
+    ghost use Rattle.watch_lists.specs.Pairs.{IsPaired};
+    ghost use Rattle.watch_lists.specs.Units.{HasUnits};
+    ghost use Rattle.number_bits.specs.Bits.{words_have};
+    ghost use Rattle.watch_lists.specs.Sound.{AreTablesSound};
+
+    ghost Value = { WatchingView };
+
+    ghost view = { λ w. record { variables = w.variables; clauses = w.store; kept = w.kept.items; entries = w.trail.entries } };
+
+    ghost invariant = { λ w. AreTablesSound w.variables w.trail.variables w.store w.kept.items (literals w.trail.entries) w.slots.items w.lists.watched.items w.lists.chains.heads.items w.lists.chains.nodes.items w.lists.pending w.quiet.items × IsPaired w.variables w.store w.slots.items w.pairs × HasUnits w.store (literals w.trail.entries) w.slots.items w.lists.pending w.lists.units.items };
+}
+
+/// Letting one go is one call, in which its parts go: whoever holds one proves one step.
+impl Drop for Watching {
+    fn drop(self) {
+        let Watching {
+            variables: _,
+            store: _,
+            kept: _,
+            trail: _,
+            pairs: _,
+            slots: _,
+            blocks: _,
+            lists: _,
+            quiet: _,
+        } = self;
+    }
+}
+
+impl Watching {
+    /// The clauses of a formula, all kept, where no variable has a value.
+    pub fn new(alloc: Global, formula: &Formula) -> Result<Watching, Memory>
+        ensures { IfOk result (λ w. w ≡ record { variables = formula.now.variables; clauses = formula.now.clauses; kept = replicate (length formula.now.clauses) true; entries = [] }) }
+    {
+        let variables = formula.variables();
+        let count = formula.count();
+        let store = Store::new(alloc, formula)?;
+        let kept = vec![in alloc; true; count as usize]?;
+        let trail = Trail::new(alloc, variables)?;
+        let pairs = PairIndex::new(alloc, formula)?;
+        let quiet = no_quiet(alloc, variables)?;
+        let longs = count_longs(formula);
+        let given = Given::new(alloc, &store, formula, longs, 2 * variables)?;
+        Ok(Watching {
+            variables,
+            store,
+            kept,
+            trail,
+            pairs,
+            slots: given.slots,
+            blocks: given.blocks,
+            lists: given.lists,
+            quiet,
+        })
+    }
+
+    /// The trail.
+    pub fn trail(&self) -> &Trail
+        ensures { result.now ≡ record { variables = self.now.variables; entries = self.now.entries } }
+    {
+        &self.trail
+    }
+
+    /// Lets a chooser's search for the least variable without a value begin where it should.
+    pub fn pass_given(&mut self)
+        ensures { self.new ≡ self.old }
+    {
+        self.trail.pass_given();
+    }
+
+    /// Adds the clause of literals that are in a clause's form already, with the next number, kept. After want of memory, or
+    /// where there would be more than 2,147,483,647 clauses, nothing has changed.
+    pub fn add_sorted(&mut self, clause: &[Lit]) -> Result<(), Memory>
+        requires lawful { IsClause clause.now }
+        requires below { HasVariablesBelow self.old.variables clause.now }
+        ensures ok { OnOk result (self.new ≡ record self.old { clauses = self.old.clauses ++ clause.now ∷ []; kept = self.old.kept ++ true ∷ [] }) }
+        ensures err { OnErr result (self.new ≡ self.old) }
+    {
+        let count = self.store.count();
+        if count >= MOST_CLAUSES {
+            return Err(Memory);
+        }
+        let number = count;
+        let slot = self.slots.len() as u32;
+        self.kept.reserve(1)?;
+        self.slots.reserve(1)?;
+        begin_block(&mut self.blocks, number, slot)?;
+        self.lists.widen(number, slot)?;
+        self.store.push(clause)?;
+        self.kept.push(true)?;
+        let assignment = self.trail.assignment();
+        let low = take_slot(
+            &mut self.slots,
+            &mut self.lists,
+            &assignment,
+            clause,
+            number,
+        )?;
+        raise(
+            &assignment,
+            &mut self.lists.pending,
+            &mut self.quiet,
+            number,
+            low,
+        );
+        clean(
+            &self.store,
+            self.kept.as_slice(),
+            self.slots.as_slice(),
+            self.blocks.as_slice(),
+            &assignment,
+            self.lists.units.as_slice(),
+            &mut self.lists.pending,
+        );
+        Ok(())
+    }
+
+    /// Makes a literal true whose variable has no value. It takes no memory.
+    pub fn assign(&mut self, entry: Assigned)
+        requires below { entry.literal < 2 * self.old.variables }
+        requires opened { value_of self.old.entries (entry.literal / 2) ≡ None }
+        ensures { self.new ≡ record self.old { entries = self.old.entries ++ entry ∷ [] } }
+    {
+        let falsified = entry.literal.opposite();
+        let length = self.trail.length();
+        let least = self.lists.pending.least();
+        self.quiet[length as usize] = least.is_none();
+        self.trail.push(entry);
+        let assignment = self.trail.assignment();
+        mark_pairs(
+            &self.store,
+            &self.pairs,
+            &assignment,
+            falsified.0,
+            &mut self.lists.pending,
+        );
+        let spare = 2 * self.variables;
+        self.lists.visit_all(
+            &self.store,
+            self.kept.as_slice(),
+            self.slots.as_slice(),
+            &assignment,
+            spare,
+            falsified.0,
+        );
+        clean(
+            &self.store,
+            self.kept.as_slice(),
+            self.slots.as_slice(),
+            self.blocks.as_slice(),
+            &assignment,
+            self.lists.units.as_slice(),
+            &mut self.lists.pending,
+        );
+    }
+
+    /// Takes back what stands above a length of the trail. It takes no memory.
+    pub fn cut(&mut self, length: u32)
+        ensures { self.new ≡ record self.old { entries = take length self.old.entries } }
+    {
+        if length >= self.trail.length() {
+            return;
+        }
+        self.trail.cut(length);
+        let assignment = self.trail.assignment();
+        refresh(
+            &self.store,
+            self.kept.as_slice(),
+            self.slots.as_slice(),
+            self.quiet.as_slice(),
+            &assignment,
+            &mut self.lists.pending,
+            &mut self.lists.units,
+        );
+    }
+
+    /// Takes back what stands above a level of the trail. It takes no memory.
+    pub fn backtrack(&mut self, level: u32)
+        ensures { self.new ≡ record self.old { entries = backtracked level self.old.entries } }
+    {
+        let before = self.trail.length();
+        self.trail.backtrack(level);
+        if self.trail.length() == before {
+            return;
+        }
+        let assignment = self.trail.assignment();
+        refresh(
+            &self.store,
+            self.kept.as_slice(),
+            self.slots.as_slice(),
+            self.quiet.as_slice(),
+            &assignment,
+            &mut self.lists.pending,
+            &mut self.lists.units,
+        );
+    }
+
+    /// Stops keeping a clause. It takes no memory.
+    pub fn remove(&mut self, number: u32)
+        requires { slice_index_or self.old.kept number false ≡ true }
+        ensures { self.new ≡ record self.old { kept = slice_set self.old.kept number false } }
+    {
+        self.kept[number as usize] = false;
+        let assignment = self.trail.assignment();
+        clean(
+            &self.store,
+            self.kept.as_slice(),
+            self.slots.as_slice(),
+            self.blocks.as_slice(),
+            &assignment,
+            self.lists.units.as_slice(),
+            &mut self.lists.pending,
+        );
+    }
+
+    /// What a clause that is kept and pending leaves: its only literal that is not false, if there is one. It takes no memory.
+    pub fn left(&self, number: u32) -> Option<Lit>
+        requires { is_pending_in self.now.clauses self.now.kept (has_literal (literals self.now.entries)) number ≡ true }
+        ensures { MatchOption result (open_ones (has_literal (literals self.now.entries)) (clause_at self.now.clauses number) ≡ []) (λ lit. open_ones (has_literal (literals self.now.entries)) (clause_at self.now.clauses number) ≡ lit ∷ []) }
+    {
+        let assignment = self.trail.assignment();
+        left_of(
+            &self.store,
+            self.slots.as_slice(),
+            self.blocks.as_slice(),
+            &assignment,
+            self.lists.units.as_slice(),
+            number,
+        )
+    }
+
+    /// The least number of a kept clause that has no true literal and at most one that is not false. It takes no memory.
+    pub fn least_pending(&self) -> Option<u32>
+        ensures { result ≡ least_from (is_pending_in self.now.clauses self.now.kept (has_literal (literals self.now.entries))) 0 (length self.now.clauses) }
+    {
+        self.lists.pending.least()
+    }
+}
