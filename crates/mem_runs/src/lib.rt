@@ -6,6 +6,7 @@ ghost use Rattle.pl_io.specs.Outside.{Rose};
 
 use pl_io::{Bytes, Files, MemShelf, MemSink, Memory, NamedFile, Numbers};
 use plan_top::{Status, run};
+use poll_run::{Driver, NoDriver};
 use solver_pool::{Gate, OpenGate};
 use std::alloc::{AllocError, Global};
 use std::sync::Wait;
@@ -26,26 +27,27 @@ pub fn ample_sink(alloc: Global) -> Result<MemSink, Memory> {
 }
 
 /// Runs these words, which stand in one text with a blank between each two, on a shelf, and writes into the sink; the
-/// workers of a race tell the gate of each turn. `Memory` where there is no room for the words; what the run itself
+/// workers of a race tell the gate of each turn, and the driver drives a batch. `Memory` where there is no room for the words; what the run itself
 /// answers for want of memory is status 8.
-pub fn run_into<H: Threads + Wait + Sync, G: Gate>(
+pub fn run_into<H: Threads + Wait + Sync, G: Gate, D: Driver>(
     rt: &H,
     alloc: Global,
     words: &str,
     shelf: &mut MemShelf,
     sink: &mut MemSink,
     gate: &G,
+    driver: &mut D,
 ) -> Result<Status, Memory>
     ensures write_fault { IfOk result (λ status. status.0 ≡ 6 → Rose sink.old.faults sink.new.faults) }
     ensures nothing { IfOk result (λ status. status.0 ≡ 8 → sink.new ≡ sink.old) }
     ensures err { OnErr result (sink.new ≡ sink.old) }
 {
     let words = split(alloc, words)?;
-    Ok(run(rt, alloc, &words, shelf, sink, gate))
+    Ok(run(rt, alloc, &words, shelf, sink, gate, driver))
 }
 
 /// Runs these words on a shelf of these files, whose calls with the numbers of `failing` fail, and answers the status
-/// and the text.
+/// and the text. A batch is driven by a driver that fails.
 pub fn run_once<H: Threads + Wait + Sync>(
     rt: &H,
     alloc: Global,
@@ -53,9 +55,22 @@ pub fn run_once<H: Threads + Wait + Sync>(
     files: &[Named],
     failing: &[u32],
 ) -> Result<(Status, Vec<u8>), Memory> {
+    let mut driver = NoDriver::new();
+    run_with(rt, alloc, words, files, failing, &mut driver)
+}
+
+/// The same, where this driver drives a batch.
+pub fn run_with<H: Threads + Wait + Sync, D: Driver>(
+    rt: &H,
+    alloc: Global,
+    words: &str,
+    files: &[Named],
+    failing: &[u32],
+    driver: &mut D,
+) -> Result<(Status, Vec<u8>), Memory> {
     let mut shelf = shelf_of(alloc, files, failing)?;
     let mut sink = ample_sink(alloc)?;
-    let status = run_into(rt, alloc, words, &mut shelf, &mut sink, &OpenGate)?;
+    let status = run_into(rt, alloc, words, &mut shelf, &mut sink, &OpenGate, driver)?;
     Ok((status, Vec::from_slice(alloc, sink.taken())?))
 }
 

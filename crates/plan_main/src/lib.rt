@@ -7,11 +7,13 @@ ghost use Rattle.std.specs.Process.{exit_status};
 
 use pl_io::{FileShelf, OutSink};
 use plan_top::run;
+use poll_run::BlockOn;
 use solver_pool::OpenGate;
-use std::alloc::Global;
+use std::alloc::{AllocGlobal, Global};
 use std::env::Args;
 use std::io;
 use std::process::ExitCode;
+use std::random::RandomSource;
 use std::rt::Files;
 use std::sync::Wait;
 use std::thread::Threads;
@@ -21,7 +23,7 @@ use std::thread::Threads;
 const NO_WORDS: u8 = 9;
 
 /// Runs the planner on the words that the system gives, of which the first names the program.
-pub fn run_program<H: Files + Print + Threads + Wait + Sync>(
+pub fn run_program<H: Files + Print + Threads + Wait + Sync + RandomSource + AllocGlobal>(
     rt: &H,
     alloc: Global,
     given: io::Result<Args<Global>>,
@@ -36,6 +38,15 @@ pub fn run_program<H: Files + Print + Threads + Wait + Sync>(
     };
     let mut shelf = FileShelf::new(rt, alloc);
     let mut sink = OutSink::new(rt);
-    let status = run(rt, alloc, &words, &mut shelf, &mut sink, &OpenGate);
+    let mut driver = BlockOn::new(rt);
+    let status = run(
+        rt,
+        alloc,
+        &words,
+        &mut shelf,
+        &mut sink,
+        &OpenGate,
+        &mut driver,
+    );
     ExitCode::from(status.0)
 }

@@ -8,6 +8,7 @@
 //! %long|NAME|HEAD|END|LENGTH|          the same, with HEAD and then the byte END up to a length
 //! %kept|NAME|WORDS|                    the same, with what these words print
 //! %run|SHOWS|WORDS|MORE|..|            a run: what it shows, and its words, with a blank between each two
+//! %driven|SHOWS|WORDS|MORE|..|         the same, where a batch is driven to its end and not run anew after a driver's fault
 //! %words|WORDS|                        what these words ask for
 //! ```
 //!
@@ -19,21 +20,24 @@ mod words;
 
 use crate::files::{Given, add_file, named};
 use crate::words::asked;
-use mem_runs::run_once;
-use std::alloc::Global;
+use mem_runs::{run_once, run_with};
+use poll_run::{BlockOn, Driver, NoDriver};
+use std::alloc::{AllocGlobal, Global};
 use std::io::{self, BufWriter, Read, Write};
+use std::random::RandomSource;
 use std::sync::Wait;
 use std::thread::Threads;
 
 /// The report of a run, and a line with its status.
-fn report<H: Threads + Wait + Sync>(
+fn report<H: Threads + Wait + Sync, D: Driver>(
     rt: &H,
     alloc: Global,
     words: &str,
     files: &[Given],
+    driver: &mut D,
 ) -> io::Result<Vec<u8>> {
     let files = named(alloc, files)?;
-    let Ok((status, mut text)) = run_once(rt, alloc, words, files.as_slice(), &[]) else {
+    let Ok((status, mut text)) = run_with(rt, alloc, words, files.as_slice(), &[], driver) else {
         return Ok(Vec::from_slice(alloc, b"want of memory\n")?);
     };
     writeln!(&mut text, "status {}", status.0)?;
@@ -41,17 +45,18 @@ fn report<H: Threads + Wait + Sync>(
 }
 
 /// Writes what a row shows and its report, and for each field of more words whether these come to the same.
-fn write_row<H: Threads + Wait + Sync>(
+fn write_row<H: Threads + Wait + Sync, D: Driver>(
     rt: &H,
     alloc: Global,
     row: &str,
     files: &[Given],
+    driver: &mut D,
     out: &mut (impl Write + Drop),
 ) -> io::Result<()> {
     let mut fields = row.split('|').skip(1);
     let shows = fields.next().unwrap_or("");
     let words = fields.next().unwrap_or("");
-    let first = report(rt, alloc, words, files)?;
+    let first = report(rt, alloc, words, files, driver)?;
     writeln!(out, "\n{shows}: {words}")?;
     out.write_all(first.as_slice())?;
     for more in fields {
@@ -59,7 +64,7 @@ fn write_row<H: Threads + Wait + Sync>(
             return Ok(());
         }
         let added = format!(in alloc; "{words} {more}")?;
-        let other = report(rt, alloc, added.as_str(), files)?;
+        let other = report(rt, alloc, added.as_str(), files, driver)?;
         if other.as_slice() == first.as_slice() {
             writeln!(out, "with {more}: the same")?;
         } else {
@@ -68,6 +73,18 @@ fn write_row<H: Threads + Wait + Sync>(
         }
     }
     Ok(())
+}
+
+/// The same, where a batch is driven to its end.
+fn write_driven<H: Threads + Wait + Sync + RandomSource + AllocGlobal>(
+    rt: &H,
+    alloc: Global,
+    row: &str,
+    files: &[Given],
+    out: &mut (impl Write + Drop),
+) -> io::Result<()> {
+    let mut driver = BlockOn::new(rt);
+    write_row(rt, alloc, row, files, &mut driver, out)
 }
 
 /// What a run prints; nothing where there was no memory for it.
@@ -113,7 +130,16 @@ fn main(rt: HostRuntime) -> io::Result<()> {
     let mut files = Vec::new(alloc);
     for part in input.split('%').skip(1) {
         if part.starts_with("run|") {
-            write_row(&rt, alloc, part, files.as_slice(), &mut out)?;
+            write_row(
+                &rt,
+                alloc,
+                part,
+                files.as_slice(),
+                &mut NoDriver::new(),
+                &mut out,
+            )?;
+        } else if part.starts_with("driven|") {
+            write_driven(&rt, alloc, part, files.as_slice(), &mut out)?;
         } else if part.starts_with("kept|") {
             keep(&rt, alloc, part, &mut files)?;
         } else if part.starts_with("words|") {

@@ -2,6 +2,7 @@
 use crate::gate::{CountGate, PairGate, SequenceGate};
 use crate::tasks::{BLOCKS, DARK, LAMP, LAMP_PLAN, TOWER, TOWER_PLAN};
 use mem_runs::{Named, ample_sink, run_into, run_once, shelf_of};
+use poll_run::NoDriver;
 use solver_pool::Gate;
 use std::alloc::Global;
 use std::process::Abort;
@@ -49,7 +50,15 @@ fn run_at<G: Gate, H: Threads + Wait + Sync + Abort>(
 ) -> Result<(), Fail> {
     let mut shelf = shelf_of(alloc, files, &[])?;
     let mut sink = ample_sink(alloc)?;
-    let status = run_into(rt, alloc, words, &mut shelf, &mut sink, gate)?;
+    let status = run_into(
+        rt,
+        alloc,
+        words,
+        &mut shelf,
+        &mut sink,
+        gate,
+        &mut NoDriver::new(),
+    )?;
     assert_eq!(rt; status.0, 0, "{words}");
     assert_eq!(rt; sink.taken(), report.as_bytes(), "{words}");
     Ok(())

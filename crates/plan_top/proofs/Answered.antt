@@ -13,8 +13,8 @@ use Rattle.race_end.specs.Ends.{end_view, lines_in, conflicts_in}
 use Rattle.race.specs.Ends.{WherePlanned, AreActions, SumsWithin}
 use Rattle.plan_report.specs.Laws.{HasActionsBelow}
 use Rattle.plan_top.specs.declared.stop.Stop.{Stop}
-use Rattle.plan_top.specs.declared.ending.Ending.{Ending}
-use Rattle.plan_top.specs.declared.ending.File.{File}
+use Rattle.plan_endings.specs.declared.ending.Ending.{Ending}
+use Rattle.plan_endings.specs.declared.ending.File.{File}
 use Rattle.plan_top.specs.Files.{AreShort, most_of}
 use Rattle.plan_top.specs.Ends.{EndsBy, EndsAs}
 use Rattle.plan_top.specs.Tasks.{AreTask, IsReady, StopsTask, RefusesTask, OnceRead, not_read, OnceGrounded, not_grounded, grounded}

@@ -1,5 +1,5 @@
 -- Words and files that are in order are answered.
-use Rattle.std.proofs.Common.{◌≡◌, ◌<◌, ◌≤◌, ℕ, ◌+◌, Bool, List, [], ◌∷◌, ◌++◌, length, Option, Some, None, Ok, Err, refl, sym, subst, ap, ◌∙◌, arith, inl, inr}
+use Rattle.std.proofs.Common.{◌≡◌, ◌<◌, ◌≤◌, ℕ, ◌+◌, ◌==◌, Bool, true, false, if◌then◌else◌, List, [], ◌∷◌, ◌++◌, length, Option, Some, None, Ok, Err, refl, sym, subst, ap, ◌∙◌, arith, inl, inr}
 use Rattle.std.specs.Prelude.{Contains}
 use Rattle.std.specs.List.{AllZip, AllByRecursion}
 use Rattle.pd_sexp.specs.Tree.{Tree}
@@ -15,18 +15,20 @@ use Rattle.plan_report.specs.Report.{report_of, summary_of}
 use Rattle.pd_model.specs.declared.parts.Parts.{Parts}
 use Rattle.plan_gen.specs.declared.Kind.{Kind as Generated}
 use Rattle.plan_gen.specs.Task.{domain_of, problem_of}
-use Rattle.plan_words.specs.Seen.{Seen, plans_by, checks, grounds, orders, generates, proves, verifies, batches, files_of}
+use Rattle.plan_words.specs.Seen.{Seen, Numbers, plans, plans_by, checks, grounds, orders, generates, proves, verifies, batches, files_of}
 use Rattle.plan_words.specs.declared.request.Stepping.{Stepping}
+use Rattle.plan_words.specs.declared.request.Turns.{Turns}
 use Rattle.plan_words.specs.declared.request.Show.{Show}
 use Rattle.plan_words.specs.declared.request.Show.TheVariants as shows
-use Rattle.plan_top.specs.declared.ending.Kind.{Kind}
-use Rattle.plan_top.specs.declared.ending.Kind.TheVariants as kinds
-use Rattle.plan_top.specs.declared.ending.Limit.{Limit}
-use Rattle.plan_top.specs.declared.ending.Limit.TheVariants as limits
-use Rattle.plan_top.specs.declared.ending.Ending.{Ending}
-use Rattle.plan_top.specs.declared.ending.Ending.TheVariants.{Report, TooLarge}
-use Rattle.plan_top.specs.declared.ending.File.{File}
-use Rattle.plan_top.specs.Files.{StopsFrom, RoseAmong, AreShort, file_at, most_of}
+use Rattle.plan_endings.specs.declared.ending.Kind.{Kind}
+use Rattle.plan_endings.specs.declared.ending.Kind.TheVariants as kinds
+use Rattle.plan_endings.specs.declared.ending.Limit.{Limit}
+use Rattle.plan_endings.specs.declared.ending.Limit.TheVariants as limits
+use Rattle.plan_endings.specs.declared.ending.Ending.{Ending}
+use Rattle.plan_endings.specs.declared.ending.Ending.TheVariants.{Report, TooLarge}
+use Rattle.plan_endings.specs.declared.ending.File.{File}
+use Rattle.plan_endings.specs.declared.ending.File.TheVariants.{Domain, Problem}
+use Rattle.plan_top.specs.Files.{StopsFrom, FaultsFrom, most_bytes, RoseAmong, AreShort, file_at, most_of}
 use Rattle.gt_core.specs.Step.{IsStepPlan}
 use Rattle.step_clauses.specs.Variables.{chain_places}
 use Rattle.clause_base.specs.declared.log.Entry.{Entry}
@@ -40,25 +42,25 @@ use Rattle.certificates.specs.declared.verify.Judged.TheVariants as judged
 use Rattle.plan_top.specs.Tasks.{AreTask, RefusesTask, IsTreeFault, domain_tree, problem_tree, no_task, OnceRead, not_read, read, refused, past, OnceGrounded, not_grounded, grounded, IsOver}
 use Rattle.plan_top.specs.Raced.{OnceRaced, too_large, ended, outcome_of}
 use Rattle.plan_top.specs.Generated.{AnswersGenerated, TellsGenerated, generated_line}
-use Rattle.plan_top.specs.Causes.{OfTwo, OfThree, Decides, AnswersPlan, AnswersGround, AnswersOrder, AnswersCheck, AnswersProve, not_run, run, AnswersVerify, unfit, beyond, spelled, not_checked, checked, ending_of_run, ending_of_check, ending_of, Comes}
-use Rattle.plan_top.specs.Complete.{GoesWell, AreWithin, AreChecked, AreSpelled, AreInOrder, IsGood}
-use Rattle.plan_top.specs.Ending.{status_of}
+use Rattle.plan_top.specs.Causes.{OfTwo, OfThree, Decides, AnswersPlan, AnswersGround, AnswersOrder, AnswersCheck, AnswersProve, not_run, run, AnswersVerify, unfit, beyond, spelled, not_checked, checked, ending_of_run, ending_of_check, ending_of, ComesFor, stopped, decided, ArePartsOf, ComesForBatch, unread, in_parts, ComesOf, Comes}
+use Rattle.plan_top.specs.Complete.{GoesWell, AreWithin, AreChecked, AreSpelled, AreInOrder, IsGoodAlone, IsGood}
+use Rattle.plan_endings.specs.Ending.{status_of}
 use Rattle.gt_core.specs.Lawful.{conditional_in}
 use Rattle.grounding.specs.Grounded.{Grounded, IsGrounded}
 use Rattle.grounding.specs.Limits.{IsWithin}
 use Rattle.grounding.proofs.Unique.{one_result}
-use Rattle.plan_top.proofs.Told.{at_some, of_told_at, IsOfRequest, asked_comes}
+use Rattle.plan_top.proofs.Told.{at_some, of_told_at, asked_comes}
 
-good_zero : (request : Seen) (end : Ending) → status_of end ≡ 0 → IsGood request end
+good_zero : (request : Seen) (end : Ending) → status_of end ≡ 0 → IsGoodAlone request end
 good_zero request end zero = inl (0, omega arith, sym zero)
 
-good_one : (request : Seen) (end : Ending) → status_of end ≡ 1 → IsGood request end
+good_one : (request : Seen) (end : Ending) → status_of end ≡ 1 → IsGoodAlone request end
 good_one request end one = inl (1, omega arith, sym one)
 
-good_two : (request : Seen) (end : Ending) → status_of end ≡ 2 → IsGood request end
+good_two : (request : Seen) (end : Ending) → status_of end ≡ 2 → IsGoodAlone request end
 good_two request end two = inl (2, omega arith, sym two)
 
-good_large : (request : Seen) (end : Ending) (horizon count : ℕ) → end ≡ TooLarge horizon count → IsGood request end
+good_large : (request : Seen) (end : Ending) (horizon count : ℕ) → end ≡ TooLarge horizon count → IsGoodAlone request end
 good_large request end horizon count e = inr (inl (horizon, count, e))
 
 -- ---- a task is refused for nothing
@@ -103,8 +105,8 @@ not_over task g limits.Effects count is fits over =
 -- ---- what is decided
 
 -- two texts that are a task within the limits
-within_good : (request : Seen) (domain problem : List ℕ) (answers : Parts → Grounded → Ending → Type 0) (end : Ending) → AreWithin domain problem → ((task : Parts) (g : Grounded) → answers task g end → IsGood request end)
-    → OnceGrounded domain problem answers end → IsGood request end
+within_good : (request : Seen) (domain problem : List ℕ) (answers : Parts → Grounded → Ending → Type 0) (end : Ending) → AreWithin domain problem → ((task : Parts) (g : Grounded) → answers task g end → IsGoodAlone request end)
+    → OnceGrounded domain problem answers end → IsGoodAlone request end
 within_good request domain problem answers end order good (not_grounded (refused r)) = absurd (not_refused domain problem order.0 end order.1 r)
 within_good request domain problem answers end order good (not_grounded (past task are over)) =
     let g = order.2 in
@@ -112,63 +114,63 @@ within_good request domain problem answers end order good (not_grounded (past ta
     absurd (not_over order.0 g.0 over.0 over.1 g.1 g.2 (subst (λ (t : Parts). IsOver over.0 t over.1) same over.3))
 within_good request domain problem answers end order good (grounded task g are ready h) = good task g h
 
-race_good : (request : Seen) (race : EndView) (text : List ℕ) (end : Ending) → end ≡ Report (outcome_of race) text → IsGood request end
+race_good : (request : Seen) (race : EndView) (text : List ℕ) (end : Ending) → end ≡ Report (outcome_of race) text → IsGoodAlone request end
 race_good request (Planned horizon steps lines) text end told = good_zero request end (ap status_of told)
 race_good request (Exhausted horizon lines) text end told = good_one request end (ap status_of told)
 race_good request (Unfinished lines) text end told = good_two request end (ap status_of told)
 
-plan_good : (request : Seen) (steps : Stepping) (settings : Settings) (task : Parts) (g : Grounded) (end : Ending) → AnswersPlan steps settings task g end → IsGood request end
+plan_good : (request : Seen) (steps : Stepping) (settings : Settings) (task : Parts) (g : Grounded) (end : Ending) → AnswersPlan steps settings task g end → IsGoodAlone request end
 plan_good request steps settings task g end (too_large over) = good_large request end over.0 over.1 over.2
 plan_good request steps settings task g end (ended race comes tells) = race_good request (end_view race) (report_of task g settings.budget (end_view race)) end tells.told
 
-generated_good : (request : Seen) (kind : Generated) (number : ℕ) (settings : Settings) (g : Grounded) (end : Ending) → OnceRaced chain_places IsStepPlan g.task settings (TellsGenerated kind number settings) end → IsGood request end
+generated_good : (request : Seen) (kind : Generated) (number : ℕ) (settings : Settings) (g : Grounded) (end : Ending) → OnceRaced chain_places IsStepPlan g.task settings (TellsGenerated kind number settings) end → IsGoodAlone request end
 generated_good request kind number settings g end (too_large over) = good_large request end over.0 over.1 over.2
 generated_good request kind number settings g end (ended race comes told) = race_good request (end_view race) (generated_line kind number ++ summary_of settings.budget (end_view race)) end told
 
-verdict_good : (request : Seen) (v : Verdict) → IsGood request (ending_of v)
+verdict_good : (request : Seen) (v : Verdict) → IsGoodAlone request (ending_of v)
 verdict_good request verdicts.Reaches = good_zero request (ending_of verdicts.Reaches) refl
 verdict_good request (verdicts.Blocked index) = good_one request (ending_of (verdicts.Blocked index)) refl
 verdict_good request verdicts.Short = good_one request (ending_of verdicts.Short) refl
 
-check_good : (request : Seen) (task : Parts) (bytes : List ℕ) (calls : List Call) (end : Ending) → plan_file task bytes ≡ Ok calls → AnswersCheck task bytes end → IsGood request end
-check_good request task bytes calls end is (inl h) = subst (IsGood request) (sym h.2) (verdict_good request (verdict task h.0))
+check_good : (request : Seen) (task : Parts) (bytes : List ℕ) (calls : List Call) (end : Ending) → plan_file task bytes ≡ Ok calls → AnswersCheck task bytes end → IsGoodAlone request end
+check_good request task bytes calls end is (inl h) = subst (IsGoodAlone request) (sym h.2) (verdict_good request (verdict task h.0))
 check_good request task bytes calls end is (inr h) = absurd (let never : Ok calls ≡ Err h.0 = sym is ∙ h.1 in cc)
 
-checked_good : (request : Seen) (domain problem bytes : List ℕ) (end : Ending) → AreChecked domain problem bytes → OnceRead domain problem (λ task. AnswersCheck task bytes) end → IsGood request end
+checked_good : (request : Seen) (domain problem bytes : List ℕ) (end : Ending) → AreChecked domain problem bytes → OnceRead domain problem (λ task. AnswersCheck task bytes) end → IsGoodAlone request end
 checked_good request domain problem bytes end order (not_read r) = absurd (not_refused domain problem order.0 end order.1 r)
 checked_good request domain problem bytes end order (read task are h) =
     let same : task ≡ order.0 = same_task domain problem order.0 task order.1 are in
     check_good request order.0 bytes order.2.0 end order.2.1 (subst (λ (t : Parts). AnswersCheck t bytes end) same h)
 
-shown_good : (request : Seen) (kind : Generated) (number : ℕ) (settings : Settings) (show : Show) (end : Ending) → AreWithin (domain_of kind) (problem_of kind number) → AnswersGenerated kind number settings show end → IsGood request end
+shown_good : (request : Seen) (kind : Generated) (number : ℕ) (settings : Settings) (show : Show) (end : Ending) → AreWithin (domain_of kind) (problem_of kind number) → AnswersGenerated kind number settings show end → IsGoodAlone request end
 shown_good request kind number settings shows.Domain end order h = good_zero request end (ap status_of h)
 shown_good request kind number settings shows.Problem end order h = good_zero request end (ap status_of h)
 shown_good request kind number settings shows.None end order h =
     within_good request (domain_of kind) (problem_of kind number) (λ task g. OnceRaced chain_places IsStepPlan g.task settings (TellsGenerated kind number settings)) end order (λ task g. generated_good request kind number settings g end) h
 
-prove_good : (d p : List ℕ) (h b : ℕ) (task : Parts) (g : Grounded) (end : Ending) → AnswersProve h b task g end → IsGood (proves d p h b) end
+prove_good : (d p : List ℕ) (h b : ℕ) (task : Parts) (g : Grounded) (end : Ending) → AnswersProve h b task g end → IsGoodAlone (proves d p h b) end
 prove_good d p h b task g end (not_run count many e) = good_large (proves d p h b) end h count e
 prove_good d p h b task g end (run r so e) = step r e
   where
-    step : (r : Proved) → end ≡ ending_of_run h r → IsGood (proves d p h b) end
+    step : (r : Proved) → end ≡ ending_of_run h r → IsGoodAlone (proves d p h b) end
     step (proved.Certificate text) told = good_zero (proves d p h b) end (ap status_of told)
     step proved.TooLong told = inr (inr (tt, told))
     step (proved.Plan conflicts) told = good_one (proves d p h b) end (ap status_of told)
     step (proved.Open conflicts) told = good_two (proves d p h b) end (ap status_of told)
 
-verify_good : (request : Seen) (task : Parts) (g : Grounded) (bytes : List ℕ) (end : Ending) → TextsAreFit → IsGrounded task g → IsWithin task g → (horizon : ℕ) (log : List Entry) → IsSpelled bytes horizon log → AnswersVerify task bytes end → IsGood request end
+verify_good : (request : Seen) (task : Parts) (g : Grounded) (bytes : List ℕ) (end : Ending) → TextsAreFit → IsGrounded task g → IsWithin task g → (horizon : ℕ) (log : List Entry) → IsSpelled bytes horizon log → AnswersVerify task bytes end → IsGoodAlone request end
 verify_good request task g bytes end no_fault is fits horizon log spells (unfit r) =
     absurd (no_fault horizon log r.0 spells.within spells.written (subst (λ (bs : List ℕ). IsUnfitAt bs r.0) spells.spelled r.1))
 verify_good request task g bytes end no_fault is fits horizon log spells (beyond h l so past_limit) = absurd (not_over task g past_limit.0 past_limit.1 is fits past_limit.3)
 verify_good request task g bytes end no_fault is fits horizon log spells (spelled h l k so ready (not_checked count many e)) = good_large request end h count e
 verify_good request task g bytes end no_fault is fits horizon log spells (spelled h l k so ready (checked j judges e)) = step j e
   where
-    step : (j : Judged) → end ≡ ending_of_check h j → IsGood request end
+    step : (j : Judged) → end ≡ ending_of_check h j → IsGoodAlone request end
     step (judged.Accepted entries) told = good_zero request end (ap status_of told)
     step (judged.Rejected entry) told = good_one request end (ap status_of told)
     step judged.NotEmpty told = good_one request end (ap status_of told)
 
-verified_good : (request : Seen) (domain problem bytes : List ℕ) (end : Ending) → TextsAreFit → AreSpelled domain problem bytes → OnceRead domain problem (λ task. AnswersVerify task bytes) end → IsGood request end
+verified_good : (request : Seen) (domain problem bytes : List ℕ) (end : Ending) → TextsAreFit → AreSpelled domain problem bytes → OnceRead domain problem (λ task. AnswersVerify task bytes) end → IsGoodAlone request end
 verified_good request domain problem bytes end no_fault order (not_read r) = absurd (not_refused domain problem order.0.0 end order.0.1 r)
 verified_good request domain problem bytes end no_fault order (read task are h) =
     let same : task ≡ order.0.0 = same_task domain problem order.0.0 task order.0.1 are in
@@ -189,7 +191,7 @@ three_good order answers (a ∷ (b ∷ [])) good is h = absurd h
 three_good order answers (a ∷ (b ∷ (c ∷ []))) good is h = good a b c is h
 three_good order answers (a ∷ (b ∷ (c ∷ (d ∷ others)))) good is h = absurd h
 
-files_good : TextsAreFit → (request : Seen) (files : List (List ℕ)) (end : Ending) → AreInOrder request files → Decides request files end → IsGood request end
+files_good : TextsAreFit → (request : Seen) (files : List (List ℕ)) (end : Ending) → AreInOrder request files → Decides request files end → IsGoodAlone request end
 files_good no_fault (plans_by steps d p n) files end order h =
     two_good AreWithin _ files (λ a b o k. within_good (plans_by steps d p n) a b (AnswersPlan steps k.0) end o (λ task g. plan_good (plans_by steps d p n) steps k.0 task g end) k.2) order h
 files_good no_fault (grounds d p) files end order h = two_good AreWithin _ files (λ a b o k. within_good (grounds d p) a b AnswersGround end o (λ task g e. good_zero (grounds d p) end (ap status_of e)) k) order h
@@ -202,6 +204,15 @@ files_good no_fault (batches d ps n t) files end order h = absurd h
 
 -- ---- what a run comes to
 
+-- a file of a batch is a domain or a problem
+pub batch_most : (domain : List ℕ) (problems : List (List ℕ)) (n : Numbers) (turns : Turns) (place : ℕ) → most_of (file_at (batches domain problems n turns) place) ≡ most_bytes
+batch_most domain problems n turns place = step (place == 0) (place == 1)
+  where
+    step : (a b : Bool) → most_of (if a then Domain else if b then Problem else Problem) ≡ most_bytes
+    step true b = refl
+    step false true = refl
+    step false false = refl
+
 module _ (told : List ℕ → Option (List ℕ)) (lacks : List ℕ → Bool) (old new : List (List ℕ)) where
   no_stop : (file : ℕ → File) (place : ℕ) (names files : List (List ℕ)) (end : Ending) → AllZip (λ name bytes. told name ≡ Some bytes) names files → AreShort file place files
       → (RoseAmong names old new → ⊥) → StopsFrom told lacks old new file place names end → ⊥
@@ -212,9 +223,60 @@ module _ (told : List ℕ → Option (List ℕ)) (lacks : List ℕ → Bool) (ol
       absurd (let past = at_some (λ (b : List ℕ). most_of (file place) < length b) (told n) f are.0 long.1.1 in let short = fit.0 in omega (arith, past, short))
   no_stop file place (n ∷ ns) (f ∷ fs) end are fit quiet (inr more) = no_stop file (place + 1) ns fs end are.1 fit.1 (λ rose. quiet (inr rose)) more.1
 
+  -- files of one task that are in order
+  alone : TextsAreFit → (request : Seen) (files : List (List ℕ)) → AllZip (λ name bytes. told name ≡ Some bytes) (files_of request) files → AreShort (file_at request) 0 files → AreInOrder request files
+      → (RoseAmong (files_of request) old new → ⊥) → (end : Ending) → ComesFor told lacks old new request end → IsGoodAlone request end
+  alone no_fault request files are fit order quiet end (stopped h) = absurd (no_stop (file_at request) 0 (files_of request) files end are fit quiet h)
+  alone no_fault request files are fit order quiet end (decided fits answer h) =
+      files_good no_fault request files end order (of_told_at told (files_of request) files (λ fs. Decides request fs end) are h)
+
+  no_unread : (file : ℕ → File) (place : ℕ) (names : List (List ℕ)) (end : Ending) → (RoseAmong names old new → ⊥) → FaultsFrom told lacks old new file place names end → ⊥
+  no_unread file place [] end quiet h = h
+  no_unread file place (n ∷ ns) end quiet (inl fault) = quiet (inl fault.1)
+  no_unread file place (n ∷ ns) end quiet (inr more) = no_unread file (place + 1) ns end (λ rose. quiet (inr rose)) more.1
+
+  -- the parts of a batch of a domain that fits
+  module _ (no_fault : TextsAreFit) (domain first : List ℕ) (n : Numbers) (all : List (List ℕ)) (turns : Turns) (is : told domain ≡ Some first) (fits : length first ≤ most_bytes) where
+    parts_good : (place : ℕ) (problems texts : List (List ℕ)) (parts : List Ending) → AllZip (λ name bytes. told name ≡ Some bytes) problems texts
+        → AreShort (file_at (batches domain all n turns)) place texts → AllByRecursion (AreWithin first) texts → (RoseAmong (domain ∷ problems) old new → ⊥)
+        → ArePartsOf told lacks old new domain n problems parts → AllZip (λ problem part. IsGoodAlone (plans domain problem n) part) problems parts
+    parts_good place [] texts [] are fit order quiet comes = tt
+    parts_good place [] texts (x ∷ xs) are fit order quiet comes = absurd comes
+    parts_good place (p ∷ ps) texts [] are fit order quiet comes = absurd comes
+    parts_good place (p ∷ ps) [] (x ∷ xs) are fit order quiet comes = absurd are
+    parts_good place (p ∷ ps) (t ∷ ts) (x ∷ xs) are fit order quiet comes = (
+      alone no_fault (plans domain p n) (first ∷ t ∷ []) (is, are.0, tt) (fits, rw (batch_most domain all n turns place) at fit.0, tt) order.0
+          (λ rose. quiet (first_two rose)) x comes.0.0,
+      parts_good (place + 1) ps ts xs are.1 fit.1 order.1 (λ rose. quiet (others rose)) comes.1,
+    )
+      where
+        first_two : RoseAmong (domain ∷ p ∷ []) old new → RoseAmong (domain ∷ p ∷ ps) old new
+        first_two (inl h) = inl h
+        first_two (inr (inl h)) = inr (inl h)
+        first_two (inr (inr h)) = absurd h
+
+        others : RoseAmong (domain ∷ ps) old new → RoseAmong (domain ∷ p ∷ ps) old new
+        others (inl h) = inl h
+        others (inr h) = inr (inr h)
+
+  batch_good : TextsAreFit → (domain : List ℕ) (problems : List (List ℕ)) (n : Numbers) (turns : Turns) (files : List (List ℕ)) → AllZip (λ name bytes. told name ≡ Some bytes) (domain ∷ problems) files
+      → AreShort (file_at (batches domain problems n turns)) 0 files → AreInOrder (batches domain problems n turns) files → (RoseAmong (domain ∷ problems) old new → ⊥)
+      → (end : Ending) → ComesForBatch told lacks old new domain problems n turns end → IsGood (batches domain problems n turns) end
+  batch_good no_fault domain problems n turns files are fit order quiet end (unread h) = absurd (no_unread (file_at (batches domain problems n turns)) 0 (domain ∷ problems) end quiet h)
+  batch_good no_fault domain problems n turns [] are fit order quiet end (in_parts parts comes e) = absurd are
+  batch_good no_fault domain problems n turns (first ∷ texts) are fit order quiet end (in_parts parts comes e) =
+      (parts, e, parts_good no_fault domain first n problems turns are.0 fit.0 1 problems texts parts are.1 fit.1 order quiet comes)
+
+  good_of : TextsAreFit → (request : Seen) (files : List (List ℕ)) → AllZip (λ name bytes. told name ≡ Some bytes) (files_of request) files → AreShort (file_at request) 0 files → AreInOrder request files
+      → (RoseAmong (files_of request) old new → ⊥) → (end : Ending) → ComesOf told lacks old new request end → IsGood request end
+  good_of no_fault (plans_by steps d p n) files are fit order quiet end h = alone no_fault (plans_by steps d p n) files are fit order quiet end h
+  good_of no_fault (checks d p l) files are fit order quiet end h = alone no_fault (checks d p l) files are fit order quiet end h
+  good_of no_fault (grounds d p) files are fit order quiet end h = alone no_fault (grounds d p) files are fit order quiet end h
+  good_of no_fault (orders d p) files are fit order quiet end h = alone no_fault (orders d p) files are fit order quiet end h
+  good_of no_fault (generates k m n s) files are fit order quiet end h = alone no_fault (generates k m n s) files are fit order quiet end h
+  good_of no_fault (proves d p k b) files are fit order quiet end h = alone no_fault (proves d p k b) files are fit order quiet end h
+  good_of no_fault (verifies d p c) files are fit order quiet end h = alone no_fault (verifies d p c) files are fit order quiet end h
+  good_of no_fault (batches d ps n t) files are fit order quiet end h = batch_good no_fault d ps n t files are fit order quiet end h
+
   pub complete : TextsAreFit → (words : List (List ℕ)) (w : GoesWell words told old new) (end : Ending) → Comes told lacks old new words end → IsGood w.request end
-  complete no_fault words w end comes = step (asked_comes told lacks old new words w.request w.asked end comes)
-    where
-      step : IsOfRequest told lacks old new words w.request w.asked end → IsGood w.request end
-      step (inl h) = absurd (no_stop (file_at w.request) 0 (files_of w.request) w.files end w.are_told w.fit w.quiet h)
-      step (inr (fit, answer, h)) = files_good no_fault w.request w.files end w.in_order (of_told_at told (files_of w.request) w.files (λ files. Decides w.request files end) w.are_told h)
+  complete no_fault words w end comes = good_of no_fault w.request w.files w.are_told w.fit w.in_order w.quiet end (asked_comes told lacks old new words w.request w.asked end comes)

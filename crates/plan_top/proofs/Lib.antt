@@ -8,4 +8,8 @@ pub mod Claims
 pub mod Complete
 mod OneTask
 mod OneReport
+pub mod Lists
+pub mod Raced
+pub mod Turns
+pub mod Parts
 pub mod Promises

@@ -1,6 +1,7 @@
 -- Runs on the same files by words that ask for one race have one ending.
-use Rattle.std.proofs.Common.{◌≡◌, ◌≤◌, ◌<◌, inl, inr, ℕ, List, [], ◌∷◌, ◌++◌, length, Bool, Option, Some, refl, sym, ap, ap₂, subst, ◌∙◌, arith}
-use Rattle.std.specs.Prelude.{IfSome, ◌⊎◌}
+use Rattle.std.proofs.Common.{◌≡◌, ◌≤◌, ◌<◌, inl, inr, ℕ, ◌+◌, zero, suc, List, [], ◌∷◌, ◌++◌, length, Bool, Option, Some, None, refl, sym, ap, ap₂, subst, ◌∙◌, arith}
+use Rattle.std.specs.Prelude.{IfSome, ◌⊎◌, slice_get}
+use Rattle.std.specs.List.{AllZip}
 use Rattle.gt_core.specs.Task.{Task}
 use Rattle.gt_core.specs.Laws.{PublishedIsUnique}
 use Rattle.two_invariants.specs.Laws.{OneListOfInvariants}
@@ -8,8 +9,8 @@ use Rattle.step_laws.specs.Form.{OrderedTask}
 use Rattle.step_encoding.specs.Numbers.{literals_of}
 use Rattle.horizon_rates.specs.declared.rates.Rates.{Rates}
 use Rattle.horizon_rates.specs.declared.settings.Settings.{Settings}
-use Rattle.plan_top.specs.declared.ending.File.{File}
-use Rattle.plan_top.specs.declared.ending.File.TheVariants.{Domain, Problem}
+use Rattle.plan_endings.specs.declared.ending.File.{File}
+use Rattle.plan_endings.specs.declared.ending.File.TheVariants.{Domain, Problem}
 use Rattle.pd_model.specs.declared.parts.Parts.{Parts}
 use Rattle.grounding.specs.Grounded.{Grounded}
 use Rattle.race_end.specs.Ends.{EndView, end_view}
@@ -19,26 +20,27 @@ use Rattle.plan_gen.specs.declared.Kind.{Kind as Generated}
 use Rattle.plan_gen.specs.Task.{domain_of, problem_of}
 use Rattle.plan_report.specs.Report.{report_of, summary_of}
 use Rattle.plan_words.specs.Requested.{requested}
-use Rattle.plan_words.specs.Seen.{Seen, Numbers, NumbersAreSettings, numbers, plans_by, generates, files_of}
+use Rattle.plan_words.specs.Seen.{Seen, Numbers, NumbersAreSettings, numbers, plans, plans_by, generates, batches, files_of}
 use Rattle.plan_words.specs.declared.request.Show.{Show}
 use Rattle.plan_words.specs.declared.request.Show.TheVariants as shows
-use Rattle.plan_top.specs.declared.ending.Ending.{Ending}
-use Rattle.plan_top.specs.declared.ending.Ending.TheVariants.{Report, TooLong, TooLarge, ReadFault}
-use Rattle.plan_top.specs.Files.{Fits, FitFrom, OfTold, Stops, StopsFrom, most_of, most_bytes, file_at}
+use Rattle.plan_endings.specs.declared.ending.Ending.{Ending}
+use Rattle.plan_endings.specs.declared.ending.Ending.TheVariants.{Report, TooLong, TooLarge, ReadFault}
+use Rattle.plan_top.specs.Files.{Fits, FitFrom, FaultsFrom, OfTold, Stops, StopsFrom, most_of, most_bytes, file_at}
 use Rattle.gt_core.specs.Published.{IsPublished}
 use Rattle.certificates.specs.Known.{IsOrdered, form_of, formula_at}
 use Rattle.plan_top.specs.Laws.{Laws}
 use Rattle.plan_words.specs.declared.request.Stepping.{Stepping}
+use Rattle.plan_words.specs.declared.request.Turns.{Turns}
 use Rattle.gt_core.specs.Step.{IsStepPlan}
 use Rattle.step_clauses.specs.Variables.{chain_places}
 use Rattle.plan_words.specs.declared.request.Stepping.TheVariants.{Exists}
 use Rattle.plan_top.specs.Stepping.{places_by, is_plan_by}
 use Rattle.plan_top.specs.Raced.{input_of, IsTooLarge, ComesTo, OnceRaced, too_large, ended, outcome_of}
 use Rattle.plan_top.specs.Generated.{TellsGenerated, generated_line}
-use Rattle.plan_top.specs.Causes.{Decides, TellsRace, AnswersPlan}
-use Rattle.plan_top.specs.Ending.{status_of}
-use Rattle.plan_top.specs.OneReport.{AreSameRace, one_plan, one_generated, HasRead, OneEnding}
-use Rattle.plan_top.proofs.Told.{IsOfRequest, asked_comes}
+use Rattle.plan_top.specs.Causes.{Decides, TellsRace, AnswersPlan, HasRead, ComesFor, stopped, decided, ArePartsOf, ComesForBatch, unread, in_parts, Comes}
+use Rattle.plan_endings.specs.Ending.{status_of, batch_of}
+use Rattle.plan_top.specs.OneReport.{AreSameRace, AreTold, one_plan, one_generated, one_batch, AskForOnePart, OneEnding}
+use Rattle.plan_top.proofs.Told.{asked_comes}
 use Rattle.plan_top.proofs.OneTask.{once_grounded}
 
 -- ---- settings
@@ -131,7 +133,7 @@ module _ (told : List ℕ → Option (List ℕ)) (lacks : List ℕ → Bool) (ol
   too_long file name bytes is end has (inl fault) = absurd (subst HasRead fault.0 has)
   too_long file name bytes is end has (inr long) = (long.0, subst (λ (o : Option (List ℕ)). IfSome o (λ bs. most_of file < length bs)) is long.1.1)
 
-  short : (file : File) (name bytes : List ℕ) → told name ≡ Some bytes → Fits told lacks old new file name → length bytes ≤ most_of file
+  short : (file : File) (name bytes : List ℕ) → told name ≡ Some bytes → Fits told lacks file name → length bytes ≤ most_of file
   short file name bytes is fits = subst (λ (o : Option (List ℕ)). IfSome o (λ bs. length bs ≤ most_of file)) is fits.1
 
   module _ (domain problem first second : List ℕ) (domain_told : told domain ≡ Some first) (problem_told : told problem ≡ Some second) where
@@ -147,12 +149,32 @@ module _ (told : List ℕ → Option (List ℕ)) (lacks : List ℕ → Bool) (ol
         let one = subst (λ (o : Option (List ℕ)). IfSome o (λ bytes. OfTold told (problem ∷ []) (λ others. Decides request (bytes ∷ others) end))) domain_told h in
         subst (λ (o : Option (List ℕ)). IfSome o (λ bytes. Decides request (first ∷ bytes ∷ []) end)) problem_told one
 
-    cause_of : (words : List (List ℕ)) (request : Seen) (asked : requested words ≡ Some request) → files_of request ≡ domain ∷ problem ∷ [] → (end : Ending) → HasRead end
-        → IsOfRequest told lacks old new words request asked end → IsCause request first second end
-    cause_of words request asked names end has (inl p) = inl (stop_of request end has (subst (λ (ns : List (List ℕ)). StopsFrom told lacks old new (file_at request) 0 ns end) names p))
-    cause_of words request asked names end has (inr (fit, answer, h)) =
-        let fits = subst (λ (ns : List (List ℕ)). FitFrom told lacks old new (file_at request) 0 ns) names fit in
+    cause_of : (request : Seen) → files_of request ≡ domain ∷ problem ∷ [] → (end : Ending) → HasRead end → ComesFor told lacks old new request end → IsCause request first second end
+    cause_of request names end has (stopped p) = inl (stop_of request end has (subst (λ (ns : List (List ℕ)). StopsFrom told lacks old new (file_at request) 0 ns end) names p))
+    cause_of request names end has (decided fit answer h) =
+        let fits = subst (λ (ns : List (List ℕ)). FitFrom told lacks (file_at request) 0 ns) names fit in
         inr (short Domain domain first domain_told fits.0, short Problem problem second problem_told fits.1.0, of_told request end (subst (λ (ns : List (List ℕ)). OfTold told ns (λ files. Decides request files end)) names h))
+
+-- a file that could not be read is told
+unread_file : (told : List ℕ → Option (List ℕ)) (lacks : List ℕ → Bool) (old new : List (List ℕ)) (file : ℕ → File) (place : ℕ) (names : List (List ℕ)) (end : Ending) → FaultsFrom told lacks old new file place names end
+    → HasRead end → ⊥
+unread_file told lacks old new file place [] end h has = h
+unread_file told lacks old new file place (name ∷ names) end (inl fault) has = subst HasRead fault.0 has
+unread_file told lacks old new file place (name ∷ names) end (inr more) has = unread_file told lacks old new file (place + 1) names end more.1 has
+
+-- the part of a batch, where it has one for each problem
+pub parts_of : (told : List ℕ → Option (List ℕ)) (lacks : List ℕ → Bool) (old new : List (List ℕ)) (domain : List ℕ) (problems : List (List ℕ)) (n : Numbers) (turns : Turns) (end : Ending) → HasRead end
+    → ComesForBatch told lacks old new domain problems n turns end → (parts : List Ending) × ArePartsOf told lacks old new domain n problems parts × (end ≡ batch_of parts)
+parts_of told lacks old new domain problems n turns end has (unread h) = absurd (unread_file told lacks old new (file_at (batches domain problems n turns)) 0 (domain ∷ problems) end h has)
+parts_of told lacks old new domain problems n turns end has (in_parts parts are e) = (parts, are, e)
+
+-- what stands at a place of one list, and at that place of another
+zip_at : {X Y : Type 0} (R : X → Y → Type 0) (xs : List X) (ys : List Y) (place : ℕ) (x : X) → AllZip R xs ys → slice_get xs place ≡ Some x → (y : Y) × (slice_get ys place ≡ Some y) × R x y
+zip_at R [] [] place x all at = absurd (let never : None ≡ Some x = at in cc)
+zip_at R [] (y ∷ ys) place x all at = absurd all
+zip_at R (w ∷ xs) [] place x all at = absurd all
+zip_at R (w ∷ xs) (y ∷ ys) zero x all at = (y, refl, subst (λ v. R v y) (let same : w ≡ x = cc in same) all.0)
+zip_at R (w ∷ xs) (y ∷ ys) (suc place) x all at = zip_at R xs ys place x all.1 at
 
 module _ (laws : Laws) where
   -- what the two files decide
@@ -185,26 +207,66 @@ module _ (laws : Laws) where
   one_cause r q first second x y one (inr a) (inl (inr b)) = absurd (omega (arith, a.1, b.2))
   one_cause r q first second x y one (inr a) (inr b) = one x y a.2 b.2
 
+  -- two files with the same bytes come to one ending
+  module _ (told elsewhere : List ℕ → Option (List ℕ)) (lacks lacking : List ℕ → Bool) (old new before after : List (List ℕ)) (domain other_domain first : List ℕ) (n m : Numbers) (same : AreSameRace n m)
+      (domain_told : told domain ≡ Some first) (other_domain_told : elsewhere other_domain ≡ Some first) where
+    one_pair : (how : Stepping) (problem other_problem second : List ℕ) → told problem ≡ Some second → elsewhere other_problem ≡ Some second → (x y : Ending) → HasRead x → HasRead y
+        → ComesFor told lacks old new (plans_by how domain problem n) x → ComesFor elsewhere lacking before after (plans_by how other_domain other_problem m) y → x ≡ y
+    one_pair how problem other_problem second problem_told other_problem_told x y hx hy p q =
+        let mine : Seen = plans_by how domain problem n in
+        let other : Seen = plans_by how other_domain other_problem m in
+        one_cause mine other first second x y (one_decision how first second domain problem other_domain other_problem n m same)
+        (cause_of told lacks old new domain problem first second domain_told problem_told mine refl x hx p)
+        (cause_of elsewhere lacking before after other_domain other_problem first second other_domain_told other_problem_told other refl y hy q)
+
+    one_by_one : (problems others texts : List (List ℕ)) (xs ys : List Ending) → AreTold told problems texts → AreTold elsewhere others texts → ArePartsOf told lacks old new domain n problems xs
+        → ArePartsOf elsewhere lacking before after other_domain m others ys → xs ≡ ys
+    one_by_one [] [] [] [] [] s u a b = refl
+    one_by_one [] [] [] [] (y ∷ ys) s u a b = absurd b
+    one_by_one [] [] [] (x ∷ xs) ys s u a b = absurd a
+    one_by_one [] (o ∷ os) [] xs ys s u a b = absurd u
+    one_by_one [] others (t ∷ ts) xs ys s u a b = absurd s
+    one_by_one (p ∷ ps) others [] xs ys s u a b = absurd s
+    one_by_one (p ∷ ps) [] (t ∷ ts) xs ys s u a b = absurd u
+    one_by_one (p ∷ ps) (o ∷ os) (t ∷ ts) [] ys s u a b = absurd a
+    one_by_one (p ∷ ps) (o ∷ os) (t ∷ ts) (x ∷ xs) [] s u a b = absurd b
+    one_by_one (p ∷ ps) (o ∷ os) (t ∷ ts) (x ∷ xs) (y ∷ ys) s u a b =
+        ap₂ (λ (e : Ending) (es : List Ending). e ∷ es) (one_pair Exists p o t s.0 u.0 x y a.0.1 b.0.1 a.0.0 b.0.0) (one_by_one ps os ts xs ys s.1 u.1 a.1 b.1)
+
   -- with no files, what is decided comes
-  made_of : (told : List ℕ → Option (List ℕ)) (lacks : List ℕ → Bool) (old new : List (List ℕ)) (words : List (List ℕ)) (kind : Generated) (number : ℕ) (n : Numbers) (show : Show)
-      (asked : requested words ≡ Some (generates kind number n show)) (end : Ending) → IsOfRequest told lacks old new words (generates kind number n show) asked end → Decides (generates kind number n show) [] end
-  made_of told lacks old new words kind number n show asked end (inl none) = absurd none
-  made_of told lacks old new words kind number n show asked end (inr h) = h.2
+  made_of : (told : List ℕ → Option (List ℕ)) (lacks : List ℕ → Bool) (old new : List (List ℕ)) (kind : Generated) (number : ℕ) (n : Numbers) (show : Show) (end : Ending)
+      → ComesFor told lacks old new (generates kind number n show) end → Decides (generates kind number n show) [] end
+  made_of told lacks old new kind number n show end (stopped none) = absurd none
+  made_of told lacks old new kind number n show end (decided fit answer h) = h
 
   pub one_ending : OneEnding
   one_ending told elsewhere lacks lacking old new before after words others x y (one_plan ask) p q hx hy =
-      let mine : Seen = plans_by ask.steps ask.domain ask.problem ask.numbers in
-      let other : Seen = plans_by ask.steps ask.other_domain ask.other_problem ask.other_numbers in
-      one_cause mine other ask.first ask.second x y (one_decision ask.steps ask.first ask.second ask.domain ask.problem ask.other_domain ask.other_problem ask.numbers ask.other_numbers ask.same)
-      (cause_of told lacks old new ask.domain ask.problem ask.first ask.second ask.domain_told ask.problem_told words mine ask.asked refl x hx
-      (asked_comes told lacks old new words mine ask.asked x p))
-      (cause_of elsewhere lacking before after ask.other_domain ask.other_problem ask.first ask.second ask.other_domain_told ask.other_problem_told others other ask.others_asked refl y hy
-      (asked_comes elsewhere lacking before after others other ask.others_asked y q))
+      one_pair told elsewhere lacks lacking old new before after ask.domain ask.other_domain ask.first ask.numbers ask.other_numbers ask.same ask.domain_told ask.other_domain_told ask.steps ask.problem ask.other_problem ask.second
+      ask.problem_told ask.other_problem_told x y hx hy (asked_comes told lacks old new words (plans_by ask.steps ask.domain ask.problem ask.numbers) ask.asked x p)
+      (asked_comes elsewhere lacking before after others (plans_by ask.steps ask.other_domain ask.other_problem ask.other_numbers) ask.others_asked y q)
   one_ending told elsewhere lacks lacking old new before after words others x y (one_generated ask) p q hx hy =
       one_generation ask.kind ask.number ask.show ask.numbers ask.other_numbers ask.same x y
-      (made_of told lacks old new words ask.kind ask.number ask.numbers ask.show ask.asked x (asked_comes told lacks old new words (generates ask.kind ask.number ask.numbers ask.show) ask.asked x p))
-      (made_of elsewhere lacking before after others ask.kind ask.number ask.other_numbers ask.show ask.others_asked y
+      (made_of told lacks old new ask.kind ask.number ask.numbers ask.show x (asked_comes told lacks old new words (generates ask.kind ask.number ask.numbers ask.show) ask.asked x p))
+      (made_of elsewhere lacking before after ask.kind ask.number ask.other_numbers ask.show y
       (asked_comes elsewhere lacking before after others (generates ask.kind ask.number ask.other_numbers ask.show) ask.others_asked y q))
+  one_ending told elsewhere lacks lacking old new before after words others x y (one_batch ask) p q hx hy =
+      let mine = parts_of told lacks old new ask.domain ask.problems ask.numbers ask.turns x hx (asked_comes told lacks old new words (batches ask.domain ask.problems ask.numbers ask.turns) ask.asked x p) in
+      let other = parts_of elsewhere lacking before after ask.other_domain ask.other_problems ask.other_numbers ask.other_turns y hy
+      (asked_comes elsewhere lacking before after others (batches ask.other_domain ask.other_problems ask.other_numbers ask.other_turns) ask.others_asked y q) in
+      let parts : mine.0 ≡ other.0 = one_by_one told elsewhere lacks lacking old new before after ask.domain ask.other_domain ask.first ask.numbers ask.other_numbers ask.same ask.domain_told ask.other_domain_told
+      ask.problems ask.other_problems ask.texts mine.0 other.0 ask.problems_told ask.other_problems_told mine.1 other.1 in
+      mine.2 ∙ (ap batch_of parts ∙ sym other.2)
+
+  -- the part of a problem is the ending of `plan` on it
+  pub one_part : (told elsewhere : List ℕ → Option (List ℕ)) (lacks lacking : List ℕ → Bool) (old new before after words others : List (List ℕ)) (place : ℕ) (x y : Ending) → AskForOnePart told elsewhere words place others
+      → Comes told lacks old new words x → Comes elsewhere lacking before after others y → HasRead x → HasRead y → (parts : List Ending) × (slice_get parts place ≡ Some y) × (x ≡ batch_of parts)
+  one_part told elsewhere lacks lacking old new before after words others place x y ask p q hx hy =
+      let mine = parts_of told lacks old new ask.domain ask.problems ask.numbers ask.turns x hx (asked_comes told lacks old new words (batches ask.domain ask.problems ask.numbers ask.turns) ask.asked x p) in
+      let here = zip_at (λ problem part. ComesFor told lacks old new (plans ask.domain problem ask.numbers) part × HasRead part) ask.problems mine.0 place ask.problem mine.1 ask.at_place in
+      let same : here.0 ≡ y = one_pair told elsewhere lacks lacking old new before after ask.domain ask.other_domain ask.first ask.numbers ask.other_numbers ask.same ask.domain_told ask.other_domain_told
+      Exists ask.problem ask.other_problem ask.second ask.problem_told ask.other_problem_told here.0 y here.2.1 hy here.2.0
+      (asked_comes elsewhere lacking before after others (plans ask.other_domain ask.other_problem ask.other_numbers) ask.others_asked y q) in
+      (mine.0, here.1 ∙ ap (λ (e : Ending). Some e) same, mine.2)
 
 pub has_read : (end : Ending) → (status_of end ≡ 5 → ⊥) → HasRead end
 has_read (ReadFault file) off = off refl

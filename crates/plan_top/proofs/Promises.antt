@@ -1,6 +1,6 @@
 -- The promises of the top call, each from what it needs alone: mostly that its ending has a cause and that its text is written.
 use Rattle.std.proofs.Common.{◌≡◌, ◌≤◌, ◌+◌, ℕ, Bool, true, false, List, [], ◌∷◌, ◌++◌, Option, Some, None, Ok, refl, sym, ap, subst, ◌∙◌, arith, inl, inr, codes, map}
-use Rattle.std.specs.Prelude.{IsTrue, Contains, ◌⊎◌}
+use Rattle.std.specs.Prelude.{IsTrue, Contains, ◌⊎◌, slice_get}
 use Rattle.std.proofs.lemmas.Bool.Decides.{eqb_tells}
 use Rattle.pl_io.specs.Outside.{appended, TakesFront}
 use Rattle.report_lines.specs.Lines.{lines_of}
@@ -11,7 +11,7 @@ use Rattle.pd_model.specs.declared.calls.Call.{Call}
 use Rattle.pd_model.specs.declared.calls.Verdict.{Verdict}
 use Rattle.pd_model.specs.declared.calls.Verdict.TheVariants as verdicts
 use Rattle.pd_model.specs.declared.parts.Parts.{Parts}
-use Rattle.plan_top.specs.declared.ending.File.{File}
+use Rattle.plan_endings.specs.declared.ending.File.{File}
 use Rattle.pd_plan.specs.PlanFile.{plan_file}
 use Rattle.pd_plan.specs.Fault as plan
 use Rattle.grounding.specs.Grounded.{Grounded}
@@ -20,18 +20,20 @@ use Rattle.race_end.specs.declared.end.RaceEnd.TheVariants as races
 use Rattle.race_end.specs.Ends.{end_view, lines_in}
 use Rattle.plan_report.specs.Report.{report_of, plan_line}
 use Rattle.plan_report.specs.Laws.{IsSmall as IsSmallReport, HasCalls, Tells}
-use Rattle.plan_words.specs.Seen.{Seen, Numbers, numbers, plans_by, checks, grounds, orders, generates, proves, verifies, batches, files_of}
+use Rattle.plan_words.specs.Seen.{Seen, Numbers, numbers, plans, plans_by, checks, grounds, orders, generates, proves, verifies, batches, files_of}
 use Rattle.plan_words.specs.declared.request.Stepping.{Stepping}
+use Rattle.plan_words.specs.declared.request.Turns.{Turns}
+use Rattle.plan_words.specs.OneTask.{IsOfOne}
 use Rattle.plan_words.specs.Requested.{requested}
-use Rattle.plan_top.specs.declared.ending.Outcome.{Outcome}
-use Rattle.plan_top.specs.declared.ending.Outcome.TheVariants as outcomes
-use Rattle.plan_top.specs.declared.ending.Ending.{Ending}
-use Rattle.plan_top.specs.declared.ending.Ending.TheVariants.{Report, Listing, Reaches, Blocked, Short, Refused, TooLong, TooMany, TooLarge, ReadFault, Usage, Found, Open, Accepted, Rejected, NotEmpty}
-use Rattle.plan_top.specs.Files.{StopsFrom, OfTold, RoseAmong, file_at}
+use Rattle.plan_endings.specs.declared.ending.Outcome.{Outcome}
+use Rattle.plan_endings.specs.declared.ending.Outcome.TheVariants as outcomes
+use Rattle.plan_endings.specs.declared.ending.Ending.{Ending}
+use Rattle.plan_endings.specs.declared.ending.Ending.TheVariants.{Report, Listing, Reaches, Blocked, Short, Refused, TooLong, TooMany, TooLarge, ReadFault, Usage, Found, Open, Accepted, Rejected, NotEmpty, Parts}
+use Rattle.plan_top.specs.Files.{StopsFrom, FaultsFrom, OfTold, RoseAmong, file_at}
 use Rattle.plan_top.specs.Stepping.{places_by, is_plan_by}
 use Rattle.plan_top.specs.Tasks.{AreTask, RefusesTask, IsReady, StopsTask, refused, past, OnceRead, not_read, read, OnceGrounded, not_grounded, grounded}
 use Rattle.plan_top.specs.Raced.{ComesTo, too_large, ended, outcome_of}
-use Rattle.plan_top.specs.Causes.{Decides, TellsRace, AnswersPlan, AnswersGround, AnswersOrder, AnswersCheck, AnswersProve, not_run, run, AnswersVerify, unfit, beyond, spelled, not_checked, checked, ending_of_run, ending_of_check, refusal_of_plan, ending_of, is_answer, Comes, no_request, stopped, decided, names_in, FaultOf}
+use Rattle.plan_top.specs.Causes.{Decides, TellsRace, AnswersPlan, AnswersGround, AnswersOrder, AnswersCheck, AnswersProve, not_run, run, AnswersVerify, unfit, beyond, spelled, not_checked, checked, ending_of_run, ending_of_check, refusal_of_plan, ending_of, is_answer, HasRead, ComesFor, stopped, decided, ArePartsOf, ComesForBatch, unread, in_parts, ComesOf, Comes, no_request, of_request, names_in, FaultOf}
 use Rattle.step_clauses.specs.Variables.{chain_places}
 use Rattle.clause_base.specs.Formula.{Cnf}
 use Rattle.clause_base.specs.Derivation.{IsRefutation}
@@ -47,16 +49,16 @@ use Rattle.certificates.specs.declared.verify.Judged.{Judged}
 use Rattle.certificates.specs.declared.verify.Judged.TheVariants as judged
 use Rattle.plan_words.specs.declared.request.Stepping.TheVariants.{Exists}
 use Rattle.plan_top.specs.Complete.{GoesWell, IsGood}
-use Rattle.plan_top.specs.OneReport.{AskForOneRace, HasRead}
-use Rattle.plan_top.specs.Ending.{status_of, status_of_race, text_of, IsSmall}
+use Rattle.plan_top.specs.OneReport.{AskForOneRace, AskForOnePart}
+use Rattle.plan_endings.specs.Ending.{status_of, status_of_race, text_of, greatest, parts_text, batch_of, IsSmall}
 use Rattle.plan_top.specs.Headline.{Printed, OfFiles, OfPlans, PlanRuns, HasAtLeast, NoStepPlan, NoPlan, LineIsSo, SpendsAll, Certifies, OfProof, ProvesNone, TellsGround, TellsOrder, CallsRun}
 use Rattle.plan_top.specs.Laws.{Laws}
 use Rattle.plan_top.proofs.Claims as claims
-use Rattle.plan_top.proofs.Told.{task_refusal, two_weaker, three_weaker, IsOfRequest, asked_comes, not_asked_comes}
+use Rattle.plan_top.proofs.Told.{task_refusal, two_weaker, three_weaker, comes_for, asked_comes, not_asked_comes}
 use Rattle.plan_top.proofs.Reports.{is_stop, stop_status, stop_says_nothing, printed_is, printed_front, nothing_said}
 use Rattle.plan_top.proofs.Verdicts.{reaches_is_plan}
 use Rattle.plan_top.proofs.Complete.{complete as goes_well}
-use Rattle.plan_top.proofs.OneReport.{one_ending, has_read}
+use Rattle.plan_top.proofs.OneReport.{one_ending, one_part, parts_of, has_read}
 
 -- ---- endings that stop a run
 
@@ -184,42 +186,6 @@ race_status outcomes.Planned = omega arith
 race_status outcomes.Exhausted = omega arith
 race_status outcomes.Unfinished = omega arith
 
-seven_only : (end : Ending) → status_of end ≡ 7 → end ≡ Usage
-seven_only (Report outcome text) seven = absurd (let low = race_status outcome in omega (arith, low))
-seven_only (Listing text) seven = absurd (omega arith)
-seven_only Reaches seven = absurd (omega arith)
-seven_only (Blocked index) seven = absurd (omega arith)
-seven_only Short seven = absurd (omega arith)
-seven_only (Refused kind file at) seven = absurd (omega arith)
-seven_only (TooLong file) seven = absurd (omega arith)
-seven_only (TooMany what count) seven = absurd (omega arith)
-seven_only (TooLarge horizon count) seven = absurd (omega arith)
-seven_only (ReadFault file) seven = absurd (omega arith)
-seven_only Usage seven = refl
-seven_only (Found horizon conflicts) seven = absurd (omega arith)
-seven_only (Open horizon conflicts) seven = absurd (omega arith)
-seven_only (Accepted horizon entries) seven = absurd (omega arith)
-seven_only (Rejected entry) seven = absurd (omega arith)
-seven_only NotEmpty seven = absurd (omega arith)
-
-five_only : (end : Ending) → status_of end ≡ 5 → (file : File) × (end ≡ ReadFault file)
-five_only (Report outcome text) five = absurd (let low = race_status outcome in omega (arith, low))
-five_only (Listing text) five = absurd (omega arith)
-five_only Reaches five = absurd (omega arith)
-five_only (Blocked index) five = absurd (omega arith)
-five_only Short five = absurd (omega arith)
-five_only (Refused kind file at) five = absurd (omega arith)
-five_only (TooLong file) five = absurd (omega arith)
-five_only (TooMany what count) five = absurd (omega arith)
-five_only (TooLarge horizon count) five = absurd (omega arith)
-five_only (ReadFault file) five = (file, refl)
-five_only Usage five = absurd (omega arith)
-five_only (Found horizon conflicts) five = absurd (omega arith)
-five_only (Open horizon conflicts) five = absurd (omega arith)
-five_only (Accepted horizon entries) five = absurd (omega arith)
-five_only (Rejected entry) five = absurd (omega arith)
-five_only NotEmpty five = absurd (omega arith)
-
 fault_answers : (request : Seen) (file : File) → is_answer request (ReadFault file) ≡ true → ⊥
 fault_answers (plans_by steps d p n) file h = let never : false ≡ true = h in cc
 fault_answers (checks d p l) file h = let never : false ≡ true = h in cc
@@ -229,6 +195,92 @@ fault_answers (generates k m n s) file h = let never : false ≡ true = h in cc
 fault_answers (proves d p h b) file k = let never : false ≡ true = k in cc
 fault_answers (verifies d p c) file h = let never : false ≡ true = h in cc
 fault_answers (batches d ps n t) file h = let never : false ≡ true = h in cc
+
+parts_answers : (request : Seen) (status : ℕ) (text : List ℕ) → is_answer request (Parts status text) ≡ true → ⊥
+parts_answers (plans_by steps d p n) status text h = let never : false ≡ true = h in cc
+parts_answers (checks d p l) status text h = let never : false ≡ true = h in cc
+parts_answers (grounds d p) status text h = let never : false ≡ true = h in cc
+parts_answers (orders d p) status text h = let never : false ≡ true = h in cc
+parts_answers (generates k m n s) status text h = let never : false ≡ true = h in cc
+parts_answers (proves d p h b) status text k = let never : false ≡ true = k in cc
+parts_answers (verifies d p c) status text h = let never : false ≡ true = h in cc
+parts_answers (batches d ps n t) status text h = let never : false ≡ true = h in cc
+
+-- ---- statuses of what comes of requests
+
+answer_low : (request : Seen) (end : Ending) → is_answer request end ≡ true → status_of end ≤ 4
+answer_low request (Report outcome text) h = let low = race_status outcome in omega (arith, low)
+answer_low request (Listing text) h = omega arith
+answer_low request Reaches h = omega arith
+answer_low request (Blocked index) h = omega arith
+answer_low request Short h = omega arith
+answer_low request (Refused kind file at) h = omega arith
+answer_low request (TooLong file) h = omega arith
+answer_low request (TooMany what count) h = omega arith
+answer_low request (TooLarge horizon count) h = omega arith
+answer_low request (ReadFault file) h = absurd (fault_answers request file h)
+answer_low request Usage h = absurd (usage_answers request h)
+answer_low request (Found horizon conflicts) h = omega arith
+answer_low request (Open horizon conflicts) h = omega arith
+answer_low request (Accepted horizon entries) h = omega arith
+answer_low request (Rejected entry) h = omega arith
+answer_low request NotEmpty h = omega arith
+answer_low request (Parts status text) h = absurd (parts_answers request status text h)
+
+module _ (told : List ℕ → Option (List ℕ)) (lacks : List ℕ → Bool) (old new : List (List ℕ)) where
+  -- a file that stops a run: it could not be read, or is too long
+  stop_low : (files : ℕ → File) (place : ℕ) (names : List (List ℕ)) (end : Ending) → StopsFrom told lacks old new files place names end → ((status_of end ≡ 5) × RoseAmong names old new × (HasRead end → ⊥)) ⊎ (status_of end ≡ 4)
+  stop_low files place [] end h = absurd h
+  stop_low files place (name ∷ names) end (inl (inl fault)) = inl (ap status_of fault.0, inl fault.1, λ has. subst HasRead fault.0 has)
+  stop_low files place (name ∷ names) end (inl (inr long)) = inr (ap status_of long.0)
+  stop_low files place (name ∷ names) end (inr more) = elim (stop_low files (place + 1) names end more.1) [
+    | inl h ↦ inl (h.0, inr h.1, h.2)
+    | inr h ↦ inr h
+  ]
+
+  part_low : (request : Seen) (end : Ending) → ComesFor told lacks old new request end → HasRead end → status_of end ≤ 4
+  part_low request end (stopped h) has = elim (stop_low (file_at request) 0 (files_of request) end h) [
+    | inl k ↦ absurd (k.2 has)
+    | inr four ↦ omega (arith, four)
+  ]
+  part_low request end (decided fit answer h) has = answer_low request end answer
+
+  parts_low : (domain : List ℕ) (n : Numbers) (problems : List (List ℕ)) (parts : List Ending) → ArePartsOf told lacks old new domain n problems parts → greatest (map status_of parts) ≤ 4
+  parts_low domain n problems [] h = omega arith
+  parts_low domain n [] (x ∷ xs) h = absurd h
+  parts_low domain n (p ∷ ps) (x ∷ xs) h =
+      let here = part_low (plans domain p n) x h.0.0 h.0.1 in
+      let rest = parts_low domain n ps xs h.1 in
+      omega (arith, here, rest)
+
+  -- the count of faults of a file rose where one could not be read
+  unread_rose : (files : ℕ → File) (place : ℕ) (names : List (List ℕ)) (end : Ending) → FaultsFrom told lacks old new files place names end → (status_of end ≡ 5) × RoseAmong names old new
+  unread_rose files place [] end h = absurd h
+  unread_rose files place (name ∷ names) end (inl fault) = (ap status_of fault.0, inl fault.1)
+  unread_rose files place (name ∷ names) end (inr more) = let rest = unread_rose files (place + 1) names end more.1 in (rest.0, inr rest.1)
+
+  batch_low : (domain : List ℕ) (problems : List (List ℕ)) (n : Numbers) (turns : Turns) (end : Ending) → ComesForBatch told lacks old new domain problems n turns end
+      → ((status_of end ≡ 5) × RoseAmong (domain ∷ problems) old new) ⊎ (status_of end ≤ 4)
+  batch_low domain problems n turns end (unread h) = inl (unread_rose (file_at (batches domain problems n turns)) 0 (domain ∷ problems) end h)
+  batch_low domain problems n turns end (in_parts parts are e) = inr (let low = parts_low domain n problems parts are in let is = ap status_of e in omega (arith, low, is))
+
+  one_low : (request : Seen) (end : Ending) → ComesFor told lacks old new request end → ((status_of end ≡ 5) × RoseAmong (files_of request) old new) ⊎ (status_of end ≤ 4)
+  one_low request end (stopped h) = elim (stop_low (file_at request) 0 (files_of request) end h) [
+    | inl k ↦ inl (k.0, k.1)
+    | inr four ↦ inr (omega (arith, four))
+  ]
+  one_low request end (decided fit answer h) = inr (answer_low request end answer)
+
+  -- the status of what comes of a request: 5 where a file could not be read alone
+  request_low : (request : Seen) (end : Ending) → ComesOf told lacks old new request end → ((status_of end ≡ 5) × RoseAmong (files_of request) old new) ⊎ (status_of end ≤ 4)
+  request_low (plans_by steps d p n) end h = one_low (plans_by steps d p n) end h
+  request_low (checks d p l) end h = one_low (checks d p l) end h
+  request_low (grounds d p) end h = one_low (grounds d p) end h
+  request_low (orders d p) end h = one_low (orders d p) end h
+  request_low (generates k m n s) end h = one_low (generates k m n s) end h
+  request_low (proves d p k b) end h = one_low (proves d p k b) end h
+  request_low (verifies d p c) end h = one_low (verifies d p c) end h
+  request_low (batches d ps n t) end h = batch_low d ps n t end h
 
 -- ---- certificates
 
@@ -327,13 +379,13 @@ module _ (told : List ℕ → Option (List ℕ)) (lacks : List ℕ → Bool) (ol
       let d = due (λ six. absurd (omega arith)) (λ eight. absurd (omega arith)) in
       (d.0, sym d.1 ∙ is, d.2, d.3)
 
-  -- what was decided for a request by an ending that does not stop
-  decided_for : (end : Ending) → Comes told lacks old new words end → (request : Seen) → requested words ≡ Some request → (is_stop end ≡ true → ⊥) → OfTold told (files_of request) (λ files. Decides request files end)
-  decided_for end comes request asked on = step (asked_comes told lacks old new words request asked end comes)
+  -- what was decided for a request of one task by an ending that does not stop
+  decided_for : (end : Ending) → Comes told lacks old new words end → (request : Seen) → IsOfOne request → requested words ≡ Some request → (is_stop end ≡ true → ⊥) → OfTold told (files_of request) (λ files. Decides request files end)
+  decided_for end comes request one asked on = step (comes_for told lacks old new request one end (asked_comes told lacks old new words request asked end comes))
     where
-      step : IsOfRequest told lacks old new words request asked end → OfTold told (files_of request) (λ files. Decides request files end)
-      step (inl h) = absurd (on (files_stop told lacks old new (file_at request) 0 (files_of request) end h))
-      step (inr h) = h.2
+      step : ComesFor told lacks old new request end → OfTold told (files_of request) (λ files. Decides request files end)
+      step (stopped h) = absurd (on (files_stop told lacks old new (file_at request) 0 (files_of request) end h))
+      step (decided fit answer h) = h
 
   -- a claim on the task of a race that came to an end
   of_race : (end : Ending) → Comes told lacks old new words end → (how : Stepping) (domain problem : List ℕ) (n : Numbers) (claim : Parts → Type 0) → requested words ≡ Some (plans_by how domain problem n) → (is_stop end ≡ true → ⊥)
@@ -341,7 +393,7 @@ module _ (told : List ℕ → Option (List ℕ)) (lacks : List ℕ → Bool) (ol
   of_race end comes how domain problem n claim asked on from =
       two_weaker (λ first second. Decides (plans_by how domain problem n) (first ∷ second ∷ []) end) (λ first second. (task : Parts) × AreTask first second task × claim task) (told domain) (told problem)
       (λ first second h. let r = raced how h.0 first second end on h.2 in (r.task, r.are, from h.0 h.1 first second r))
-      (decided_for end comes (plans_by how domain problem n) asked on)
+      (decided_for end comes (plans_by how domain problem n) tt asked on)
 
   pub plan_runs : Laws → IsDue → OfPlans words told before after (λ how text n of_files. status ≡ 0 → of_files (PlanRuns how text))
   plan_runs laws due how text domain problem n printed asked zero =
@@ -358,23 +410,23 @@ module _ (told : List ℕ → Option (List ℕ)) (lacks : List ℕ → Bool) (ol
       (λ settings same first second r. subst (SpendsAll text) (ap (λ (x : Numbers). x.budget) same) (subst (λ (xs : List ℕ). SpendsAll xs settings.budget) (sym is) (spent_of laws how settings first second d.0 r d.1)))
 
   -- a claim on the task of a listing
-  of_listing : (text : List ℕ) → Printed before after text → IsDue → (request : Seen) (domain problem : List ℕ) (claim : List ℕ → Parts → Type 0) → files_of request ≡ domain ∷ problem ∷ [] → requested words ≡ Some request → status ≡ 0
+  of_listing : (text : List ℕ) → Printed before after text → IsDue → (request : Seen) (domain problem : List ℕ) (claim : List ℕ → Parts → Type 0) → files_of request ≡ domain ∷ problem ∷ [] → IsOfOne request → requested words ≡ Some request → status ≡ 0
       → ((end : Ending) (first second : List ℕ) → status_of end ≡ 0 → (is_stop end ≡ true → ⊥) → Decides request (first ∷ second ∷ []) end → (task : Parts) × AreTask first second task × claim (text_of end) task) → OfFiles told domain problem (claim text)
-  of_listing text printed due request domain problem claim names asked zero from =
+  of_listing text printed due request domain problem claim names one asked zero from =
       let d = due_at 0 due zero (omega arith) in
       let is : text ≡ text_of d.0 = printed_is before after text (text_of d.0) printed d.3 in
       let on : is_stop d.0 ≡ true → ⊥ = λ stop. let low : status_of d.0 ≤ 2 = omega (arith, d.1) in not_low d.0 stop low in
       two_weaker (λ first second. Decides request (first ∷ second ∷ []) d.0) (λ first second. (task : Parts) × AreTask first second task × claim text task) (told domain) (told problem)
       (λ first second h. subst (λ (xs : List ℕ). (task : Parts) × AreTask first second task × claim xs task) (sym is) (from d.0 first second d.1 on h))
-      (subst (λ (ns : List (List ℕ)). OfTold told ns (λ files. Decides request files d.0)) names (decided_for d.0 d.2 request asked on))
+      (subst (λ (ns : List (List ℕ)). OfTold told ns (λ files. Decides request files d.0)) names (decided_for d.0 d.2 request one asked on))
 
   pub ground_told : IsDue → (text domain problem : List ℕ) → status ≡ 0 → Printed before after text → requested words ≡ Some (grounds domain problem) → OfFiles told domain problem (TellsGround text)
   ground_told due text domain problem zero printed asked =
-      of_listing text printed due (grounds domain problem) domain problem TellsGround refl asked zero (λ end first second at on h. ground_listed first second end on h)
+      of_listing text printed due (grounds domain problem) domain problem TellsGround refl tt asked zero (λ end first second at on h. ground_listed first second end on h)
 
   pub order_told : IsDue → (text domain problem : List ℕ) → status ≡ 0 → Printed before after text → requested words ≡ Some (orders domain problem) → OfFiles told domain problem (TellsOrder text)
   order_told due text domain problem zero printed asked =
-      of_listing text printed due (orders domain problem) domain problem TellsOrder refl asked zero (λ end first second at on h. order_listed first second end on h)
+      of_listing text printed due (orders domain problem) domain problem TellsOrder refl tt asked zero (λ end first second at on h. order_listed first second end on h)
 
   pub reached : IsDue → (domain problem plan_name : List ℕ) → status ≡ 0 → requested words ≡ Some (checks domain problem plan_name) → CallsRun told domain problem plan_name
   reached due domain problem plan_name zero asked =
@@ -382,13 +434,13 @@ module _ (told : List ℕ → Option (List ℕ)) (lacks : List ℕ → Bool) (ol
       three_weaker (λ first second third. Decides (checks domain problem plan_name) (first ∷ second ∷ third ∷ []) d.0)
       (λ first second third. (task : Parts) × (calls : List Call) × AreTask first second task × (plan_file task third ≡ Ok calls) × IsPlan task calls)
       (told domain) (told problem) (told plan_name) (λ first second third h. check_reached first second third d.0 d.1 h)
-      (decided_for d.0 d.2 (checks domain problem plan_name) asked (λ stop. let low : status_of d.0 ≤ 2 = omega (arith, d.1) in not_low d.0 stop low))
+      (decided_for d.0 d.2 (checks domain problem plan_name) tt asked (λ stop. let low : status_of d.0 ≤ 2 = omega (arith, d.1) in not_low d.0 stop low))
 
   -- ---- certificates
 
   pub certified : Laws → IsDue → (text domain problem : List ℕ) (horizon budget : ℕ) → status ≡ 0 → Printed before after text → requested words ≡ Some (proves domain problem horizon budget) → OfFiles told domain problem (Certifies text horizon)
   certified laws due text domain problem horizon budget zero printed asked =
-      of_listing text printed due (proves domain problem horizon budget) domain problem (λ xs task. Certifies xs horizon task) refl asked zero
+      of_listing text printed due (proves domain problem horizon budget) domain problem (λ xs task. Certifies xs horizon task) refl tt asked zero
       (λ end first second at on h. let r = goes_on first second (AnswersProve horizon budget) end on h in (r.0, r.2, proves_so laws r.0 r.1 horizon budget end at r.3 r.4))
 
   -- what a certificate file came to that was answered so
@@ -398,7 +450,7 @@ module _ (told : List ℕ → Option (List ℕ)) (lacks : List ℕ → Bool) (ol
       let d = due_at k due is (omega arith) in
       three_weaker (λ first second third. Decides (verifies domain problem proof) (first ∷ second ∷ third ∷ []) d.0) (λ first second third. (task : Parts) × AreTask first second task × claim third task)
       (told domain) (told problem) (told proof) (λ first second third h. step d.0 d.1 first second third h)
-      (decided_for d.0 d.2 (verifies domain problem proof) asked (λ stop. let small : status_of d.0 ≤ 2 = omega (arith, d.1, low) in not_low d.0 stop small))
+      (decided_for d.0 d.2 (verifies domain problem proof) tt asked (λ stop. let small : status_of d.0 ≤ 2 = omega (arith, d.1, low) in not_low d.0 stop small))
     where
       step : (end : Ending) → status_of end ≡ k → (first second third : List ℕ) → OnceRead first second (λ task. AnswersVerify task third) end → (task : Parts) × AreTask first second task × claim third task
       step end at first second third (not_read r) = not_low end (refused_stops first second end r) (omega (arith, at, low))
@@ -457,31 +509,28 @@ module _ (told : List ℕ → Option (List ℕ)) (lacks : List ℕ → Bool) (ol
 
   -- ---- words and faults
 
-  usage_only : (end : Ending) → end ≡ Usage → Comes told lacks old new words end → requested words ≡ None
-  usage_only end is (no_request none e) = none
-  usage_only end is (stopped request asked h) = absurd (let never : false ≡ true = sym (ap is_stop is) ∙ files_stop told lacks old new (file_at request) 0 (files_of request) end h in cc)
-  usage_only end is (decided request asked fit answer h) = absurd (usage_answers request (subst (λ (e : Ending). is_answer request e ≡ true) is answer))
+  usage_only : (end : Ending) → status_of end ≡ 7 → Comes told lacks old new words end → requested words ≡ None
+  usage_only end seven (no_request none e) = none
+  usage_only end seven (of_request request asked h) = elim (request_low told lacks old new request end h) [
+    | inl k ↦ absurd (let five = k.0 in omega (arith, five, seven))
+    | inr low ↦ absurd (omega (arith, low, seven))
+  ]
 
   pub usage : IsDue → status ≡ 7 → requested words ≡ None
-  usage due seven = let d = due (λ six. absurd (omega arith)) (λ eight. absurd (omega arith)) in usage_only d.0 (seven_only d.0 (sym d.1 ∙ seven)) d.2
-
-  fault_among : (files : ℕ → File) (place : ℕ) (names : List (List ℕ)) (end : Ending) (file : File) → end ≡ ReadFault file → StopsFrom told lacks old new files place names end → RoseAmong names old new
-  fault_among files place [] end file is h = h
-  fault_among files place (name ∷ names) end file is (inl (inl fault)) = inl fault.1
-  fault_among files place (name ∷ names) end file is (inl (inr long)) = absurd (let never : ReadFault file ≡ TooLong (files place) = sym is ∙ long.0 in cc)
-  fault_among files place (name ∷ names) end file is (inr more) = inr (fault_among files (place + 1) names end file is more.1)
+  usage due seven = let d = due (λ six. absurd (omega arith)) (λ eight. absurd (omega arith)) in usage_only d.0 (sym d.1 ∙ seven) d.2
 
   names_of : (others : List (List ℕ)) (request : Seen) → requested others ≡ Some request → names_in others ≡ files_of request
   names_of others request asked = ap (λ (o : Option Seen). elim o as (λ _. List (List ℕ)) [ None ↦ [] | Some r ↦ files_of r ]) asked
 
-  fault_of : (end : Ending) (file : File) → end ≡ ReadFault file → Comes told lacks old new words end → FaultOf old new words
-  fault_of end file is (no_request none e) = absurd (let never : ReadFault file ≡ Usage = sym is ∙ e in cc)
-  fault_of end file is (stopped request asked h) =
-      subst (λ (ns : List (List ℕ)). RoseAmong ns old new) (sym (names_of words request asked)) (fault_among (file_at request) 0 (files_of request) end file is h)
-  fault_of end file is (decided request asked fit answer h) = absurd (fault_answers request file (subst (λ (e : Ending). is_answer request e ≡ true) is answer))
+  fault_of : (end : Ending) → status_of end ≡ 5 → Comes told lacks old new words end → FaultOf old new words
+  fault_of end five (no_request none e) = absurd (let seven = ap status_of e in omega (arith, five, seven))
+  fault_of end five (of_request request asked h) = elim (request_low told lacks old new request end h) [
+    | inl k ↦ subst (λ (ns : List (List ℕ)). RoseAmong ns old new) (sym (names_of words request asked)) k.1
+    | inr low ↦ absurd (omega (arith, low, five))
+  ]
 
   pub read_fault : IsDue → status ≡ 5 → FaultOf old new words
-  read_fault due five = let d = due_at 5 due five (omega arith) in let f = five_only d.0 d.1 in fault_of d.0 f.0 f.1 d.2
+  read_fault due five = let d = due_at 5 due five (omega arith) in fault_of d.0 d.1 d.2
 
   pub not_taken : IsDue → requested words ≡ None → Contains (6 ∷ 7 ∷ 8 ∷ []) status
   not_taken due none = elim (eqb_tells status 6) [
@@ -510,6 +559,32 @@ module _ (told : List ℕ → Option (List ℕ)) (lacks : List ℕ → Bool) (ol
       let d = due not_six not_eight in
       let one : d.0 ≡ end = one_ending laws told elsewhere lacks lacking old new was is words others d.0 end ask d.2 comes (has_read d.0 (λ five. not_five (d.1 ∙ five))) reads in
       (d.1 ∙ ap status_of one, d.3 ∙ ap (λ (e : Ending). appended before (text_of e)) one)
+
+  -- ---- batches
+
+  -- the status and the text of a batch with these parts
+  abbrev IsBatchOf : List Ending → Type 0
+  IsBatchOf parts = (status ≡ greatest (map status_of parts)) × (after ≡ appended before (parts_text 1 parts))
+
+  batch_due : (end : Ending) (parts : List Ending) → end ≡ batch_of parts → status ≡ status_of end → after ≡ appended before (text_of end) → IsBatchOf parts
+  batch_due end parts is status_is text_is = (status_is ∙ ap status_of is, text_is ∙ ap (λ (e : Ending). appended before (text_of e)) is)
+
+  pub batch : IsDue → (domain : List ℕ) (problems : List (List ℕ)) (n : Numbers) (turns : Turns) → requested words ≡ Some (batches domain problems n turns) → (status ≡ 5 → ⊥) → (status ≡ 6 → ⊥) → (status ≡ 8 → ⊥)
+      → (parts : List Ending) × ArePartsOf told lacks old new domain n problems parts × (status ≡ greatest (map status_of parts)) × (after ≡ appended before (parts_text 1 parts))
+  batch due domain problems n turns asked not_five not_six not_eight =
+      let d = due not_six not_eight in
+      let p = parts_of told lacks old new domain problems n turns d.0 (has_read d.0 (λ five. not_five (d.1 ∙ five))) (asked_comes told lacks old new words (batches domain problems n turns) asked d.0 d.2) in
+      let is = batch_due d.0 p.0 p.2 d.1 d.3 in
+      (p.0, p.1, is.0, is.1)
+
+  pub as_alone : Laws → IsDue → (elsewhere : List ℕ → Option (List ℕ)) (lacking : List ℕ → Bool) (others was is : List (List ℕ)) (end : Ending) (place : ℕ) → AskForOnePart told elsewhere words place others
+      → Comes elsewhere lacking was is others end → HasRead end → (status ≡ 5 → ⊥) → (status ≡ 6 → ⊥) → (status ≡ 8 → ⊥)
+      → (parts : List Ending) × (slice_get parts place ≡ Some end) × (status ≡ greatest (map status_of parts)) × (after ≡ appended before (parts_text 1 parts))
+  as_alone laws due elsewhere lacking others was is end place ask comes reads not_five not_six not_eight =
+      let d = due not_six not_eight in
+      let p = one_part laws told elsewhere lacks lacking old new was is words others place d.0 end ask d.2 comes (has_read d.0 (λ five. not_five (d.1 ∙ five))) reads in
+      let so = batch_due d.0 p.0 p.2 d.1 d.3 in
+      (p.0, p.1, so.0, so.1)
 
   pub complete : Laws → IsDue → (status ≡ 6 → ⊥) → (well : GoesWell words told old new) → (status ≡ 8) ⊎ ((end : Ending) × (status ≡ status_of end) × IsGood well.request end × (after ≡ appended before (text_of end)))
   complete laws due not_six well = elim (eqb_tells status 8) [

@@ -9,15 +9,15 @@ use Rattle.report_lines.specs.Lines.{is_line, joined}
 use Rattle.report_lines.specs.Horizons.{Says, IsEntry, is_word, is_remark}
 use Rattle.report_lines.specs.Laws.{ReportsSayEntries}
 use Rattle.report_lines.proofs.Entries.{line-append, word_line, decimal_word}
-use Rattle.plan_top.specs.declared.ending.File.{File}
-use Rattle.plan_top.specs.declared.ending.File.TheVariants.{Domain, Problem, Plan, Proof}
-use Rattle.plan_top.specs.declared.ending.Kind.{Kind}
-use Rattle.plan_top.specs.declared.ending.Kind.TheVariants as kinds
-use Rattle.plan_top.specs.declared.ending.Limit.{Limit}
-use Rattle.plan_top.specs.declared.ending.Limit.TheVariants as limits
-use Rattle.plan_top.specs.declared.ending.Ending.{Ending}
-use Rattle.plan_top.specs.declared.ending.Ending.TheVariants.{Report, Listing, Reaches, Blocked, Short, Refused, TooLong, TooMany, TooLarge, ReadFault, Usage, Found, Open, Accepted, Rejected, NotEmpty}
-use Rattle.plan_top.specs.Ending.{status_of, text_of, line_of, kind_word, limit_word, word_of, IsSmall}
+use Rattle.plan_endings.specs.declared.ending.File.{File}
+use Rattle.plan_endings.specs.declared.ending.File.TheVariants.{Domain, Problem, Plan, Proof}
+use Rattle.plan_endings.specs.declared.ending.Kind.{Kind}
+use Rattle.plan_endings.specs.declared.ending.Kind.TheVariants as kinds
+use Rattle.plan_endings.specs.declared.ending.Limit.{Limit}
+use Rattle.plan_endings.specs.declared.ending.Limit.TheVariants as limits
+use Rattle.plan_endings.specs.declared.ending.Ending.{Ending}
+use Rattle.plan_endings.specs.declared.ending.Ending.TheVariants.{Report, Listing, Reaches, Blocked, Short, Refused, TooLong, TooMany, TooLarge, ReadFault, Usage, Found, Open, Accepted, Rejected, NotEmpty, Parts}
+use Rattle.plan_endings.specs.Ending.{status_of, text_of, line_of, kind_word, limit_word, word_of, IsSmall}
 use Rattle.plan_top.specs.Headline.{Printed}
 
 -- ---- endings that stop a run
@@ -48,6 +48,7 @@ stop_status (Open horizon conflicts) h = absurd (let never : false ≡ true = h 
 stop_status (Accepted horizon entries) h = absurd (let never : false ≡ true = h in cc)
 stop_status (Rejected entry) h = absurd (let never : false ≡ true = h in cc)
 stop_status NotEmpty h = absurd (let never : false ≡ true = h in cc)
+stop_status (Parts status text) h = absurd (let never : false ≡ true = h in cc)
 
 decimal_line : (n : ℕ) → n < 2 ^ 64 → is_line (decimal n) ≡ true
 decimal_line n small = word_line (decimal n) (decimal_word n small)
@@ -102,6 +103,7 @@ stop_remark (Open horizon conflicts) h small = absurd (let never : false ≡ tru
 stop_remark (Accepted horizon entries) h small = absurd (let never : false ≡ true = h in cc)
 stop_remark (Rejected entry) h small = absurd (let never : false ≡ true = h in cc)
 stop_remark NotEmpty h small = absurd (let never : false ≡ true = h in cc)
+stop_remark (Parts status text) h small = absurd (let never : false ≡ true = h in cc)
 
 pub stop_says_nothing : ReportsSayEntries → (end : Ending) → is_stop end ≡ true → IsSmall end → (horizon : ℕ) (word : List ℕ) (conflicts : ℕ) → IsTrue (is_word word) → Says (text_of end) horizon word conflicts → ⊥
 stop_says_nothing say end stop small horizon word conflicts one says =

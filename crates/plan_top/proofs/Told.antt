@@ -3,8 +3,8 @@ use Rattle.std.proofs.Common.{◌≡◌, ℕ, ◌+◌, Bool, true, List, [], ◌
 use Rattle.std.specs.Prelude.{IfSome, ◌⊎◌}
 use Rattle.std.specs.List.{AllZip}
 use Rattle.horizon_rates.specs.declared.settings.Settings.{Settings}
-use Rattle.plan_top.specs.declared.ending.File.{File}
-use Rattle.plan_top.specs.declared.ending.File.TheVariants.{Domain, Problem, Proof}
+use Rattle.plan_endings.specs.declared.ending.File.{File}
+use Rattle.plan_endings.specs.declared.ending.File.TheVariants.{Domain, Problem, Proof}
 use Rattle.pd_model.specs.declared.calls.Verdict.{Verdict}
 use Rattle.pd_model.specs.declared.calls.Verdict.TheVariants as verdicts
 use Rattle.pd_model.specs.Plan.{verdict}
@@ -16,14 +16,15 @@ use Rattle.grounding.specs.Grounded.{Grounded}
 use Rattle.plan_gen.specs.declared.Kind.{Kind as Generated}
 use Rattle.plan_gen.specs.Task.{domain_of, problem_of}
 use Rattle.plan_words.specs.Seen.{Seen, Numbers, plans_by, checks, grounds, orders, generates, proves, verifies, batches, files_of}
+use Rattle.plan_words.specs.OneTask.{IsOfOne}
 use Rattle.plan_words.specs.Requested.{requested}
 use Rattle.plan_words.specs.declared.request.Show.{Show}
 use Rattle.plan_words.specs.declared.request.Show.TheVariants as shows
-use Rattle.plan_top.specs.declared.ending.Kind.{Kind}
-use Rattle.plan_top.specs.declared.ending.Kind.TheVariants as kinds
-use Rattle.plan_top.specs.declared.ending.Ending.{Ending}
-use Rattle.plan_top.specs.declared.ending.Ending.TheVariants.{Refused, TooMany, Usage}
-use Rattle.plan_top.specs.declared.ending.Limit.{Limit}
+use Rattle.plan_endings.specs.declared.ending.Kind.{Kind}
+use Rattle.plan_endings.specs.declared.ending.Kind.TheVariants as kinds
+use Rattle.plan_endings.specs.declared.ending.Ending.{Ending}
+use Rattle.plan_endings.specs.declared.ending.Ending.TheVariants.{Refused, TooMany, Usage}
+use Rattle.plan_endings.specs.declared.ending.Limit.{Limit}
 use Rattle.plan_top.specs.Files.{AreTaken, OfTold, FitFrom, StopsFrom, file_at}
 use Rattle.gt_core.specs.Step.{IsStepPlan}
 use Rattle.step_clauses.specs.Variables.{chain_places}
@@ -35,7 +36,7 @@ use Rattle.certificates.specs.declared.verify.Judged.TheVariants as judged
 use Rattle.plan_top.specs.Tasks.{RefusesTask, domain_tree, problem_tree, no_task, input_of, refusal_of, OnceRead, not_read, read, refused, past, OnceGrounded, not_grounded, grounded}
 use Rattle.plan_top.specs.Raced.{OnceRaced, too_large, ended}
 use Rattle.plan_top.specs.Generated.{AnswersGenerated, TellsGenerated}
-use Rattle.plan_top.specs.Causes.{OfTwo, OfThree, Decides, AnswersPlan, AnswersGround, AnswersOrder, AnswersCheck, AnswersProve, not_run, run, AnswersVerify, unfit, beyond, spelled, not_checked, checked, ending_of_run, ending_of_check, is_answer, refusal_of_plan, ending_of, Comes, no_request, stopped, decided}
+use Rattle.plan_top.specs.Causes.{OfTwo, OfThree, Decides, AnswersPlan, AnswersGround, AnswersOrder, AnswersCheck, AnswersProve, not_run, run, AnswersVerify, unfit, beyond, spelled, not_checked, checked, ending_of_run, ending_of_check, is_answer, refusal_of_plan, ending_of, ComesFor, stopped, decided, ComesOf, Comes, no_request, of_request}
 use Rattle.plan_top.proofs.Taking.{all_fit}
 
 -- ---- endings that tell of a file
@@ -150,7 +151,7 @@ in_three claim (a ∷ (b ∷ [])) from h = absurd h
 in_three claim (a ∷ (b ∷ (c ∷ []))) from h = from a b c h
 in_three claim (a ∷ (b ∷ (c ∷ (d ∷ others)))) from h = absurd h
 
-decides_answer : (request : Seen) (files : List (List ℕ)) (end : Ending) → Decides request files end → is_answer request end ≡ true
+pub decides_answer : (request : Seen) (files : List (List ℕ)) (end : Ending) → Decides request files end → is_answer request end ≡ true
 decides_answer (plans_by steps d p n) files end h =
     in_two _ files (λ a b k. grounded_answer (plans_by steps d p n) a b (AnswersPlan steps k.0) end (λ what count. refl) (λ task g. plan_answer steps d p n k.0 task g end) k.2) h
 decides_answer (grounds d p) files end h = in_two _ files (λ a b k. grounded_answer (grounds d p) a b AnswersGround end (λ what count. refl) (λ task g e. rw e refl) k) h
@@ -202,29 +203,42 @@ of_told_at told (n ∷ ns) (f ∷ fs) P are h =
 
 -- ---- what a run comes to
 
-module _ (told : List ℕ → Option (List ℕ)) (lacks : List ℕ → Bool) (old new : List (List ℕ)) (words : List (List ℕ)) (request : Seen) (asked : requested words ≡ Some request) where
-  -- of files that were taken, what their bytes decide comes of the words
-  pub taken_comes : (files : List (List ℕ)) → AreTaken told lacks (file_at request) 0 (files_of request) files → (end : Ending) → Decides request files end → Comes told lacks old new words end
-  taken_comes files are end h =
-      decided request asked (all_fit told lacks old new (file_at request) 0 (files_of request) files are) (decides_answer request files end h) (of_taken told lacks (file_at request) 0 (files_of request) files (λ fs. Decides request fs end) are h)
+module _ (told : List ℕ → Option (List ℕ)) (lacks : List ℕ → Bool) (old new : List (List ℕ)) where
+  -- of files that were taken, what their bytes decide comes of a request of one task
+  pub taken_comes : (request : Seen) (files : List (List ℕ)) → AreTaken told lacks (file_at request) 0 (files_of request) files → (end : Ending) → Decides request files end → ComesFor told lacks old new request end
+  taken_comes request files are end h =
+      decided (all_fit told lacks (file_at request) 0 (files_of request) files are) (decides_answer request files end h) (of_taken told lacks (file_at request) 0 (files_of request) files (λ fs. Decides request fs end) are h)
 
-  -- an ending of words that ask for a request: a file stops it, or the files' bytes decide it
-  abbrev pub IsOfRequest : Ending → Type 0
-  IsOfRequest end = StopsFrom told lacks old new (file_at request) 0 (files_of request) end
-      ⊎ (FitFrom told lacks old new (file_at request) 0 (files_of request) × (is_answer request end ≡ true) × OfTold told (files_of request) (λ files. Decides request files end))
+  -- what comes of a request of one task comes of the request
+  pub one_comes : (request : Seen) → IsOfOne request → (end : Ending) → ComesFor told lacks old new request end → ComesOf told lacks old new request end
+  one_comes (plans_by steps d p n) one end h = h
+  one_comes (checks d p l) one end h = h
+  one_comes (grounds d p) one end h = h
+  one_comes (orders d p) one end h = h
+  one_comes (generates k m n s) one end h = h
+  one_comes (proves d p k b) one end h = h
+  one_comes (verifies d p c) one end h = h
+  one_comes (batches d ps n t) one end h = absurd one
 
-  pub asked_comes : (end : Ending) → Comes told lacks old new words end → IsOfRequest end
-  asked_comes end (no_request none e) = absurd (let never : Some request ≡ None = sym asked ∙ none in cc)
-  asked_comes end (stopped other other_asked h) =
-      let same : Some other ≡ Some request = sym other_asked ∙ asked in
-      let is : other ≡ request = cc in
-      inl (subst (λ (r : Seen). StopsFrom told lacks old new (file_at r) 0 (files_of r) end) is h)
-  asked_comes end (decided other other_asked fit answer h) =
-      let same : Some other ≡ Some request = sym other_asked ∙ asked in
-      let is : other ≡ request = cc in
-      inr (subst (λ (r : Seen). FitFrom told lacks old new (file_at r) 0 (files_of r) × (is_answer r end ≡ true) × OfTold told (files_of r) (λ files. Decides r files end)) is (fit, answer, h))
+  pub comes_for : (request : Seen) → IsOfOne request → (end : Ending) → ComesOf told lacks old new request end → ComesFor told lacks old new request end
+  comes_for (plans_by steps d p n) one end h = h
+  comes_for (checks d p l) one end h = h
+  comes_for (grounds d p) one end h = h
+  comes_for (orders d p) one end h = h
+  comes_for (generates k m n s) one end h = h
+  comes_for (proves d p k b) one end h = h
+  comes_for (verifies d p c) one end h = h
+  comes_for (batches d ps n t) one end h = absurd one
 
-pub not_asked_comes : (told : List ℕ → Option (List ℕ)) (lacks : List ℕ → Bool) (old new : List (List ℕ)) (words : List (List ℕ)) → requested words ≡ None → (end : Ending) → Comes told lacks old new words end → end ≡ Usage
-not_asked_comes told lacks old new words none end (no_request n e) = e
-not_asked_comes told lacks old new words none end (stopped request asked h) = absurd (let never : Some request ≡ None = sym asked ∙ none in cc)
-not_asked_comes told lacks old new words none end (decided request asked fit answer h) = absurd (let never : Some request ≡ None = sym asked ∙ none in cc)
+  module _ (words : List (List ℕ)) where
+    -- an ending of words that ask for a request comes of it
+    pub asked_comes : (request : Seen) → requested words ≡ Some request → (end : Ending) → Comes told lacks old new words end → ComesOf told lacks old new request end
+    asked_comes request asked end (no_request none e) = absurd (let never : Some request ≡ None = sym asked ∙ none in cc)
+    asked_comes request asked end (of_request other other_asked h) =
+        let same : Some other ≡ Some request = sym other_asked ∙ asked in
+        let is : other ≡ request = cc in
+        subst (λ (r : Seen). ComesOf told lacks old new r end) is h
+
+    pub not_asked_comes : requested words ≡ None → (end : Ending) → Comes told lacks old new words end → end ≡ Usage
+    not_asked_comes none end (no_request n e) = e
+    not_asked_comes none end (of_request request asked h) = absurd (let never : Some request ≡ None = sym asked ∙ none in cc)

@@ -1,4 +1,5 @@
 -- When each ending of a run comes.
+use Rattle.std.specs.List.{AllZip}
 use Rattle.std.specs.Prelude.{◌≡◌, ◌⊎◌, ℕ, List, [], ◌∷◌, length, Bool, true, false, IsTrue, Option, Some, None, Ok, Err}
 use Rattle.horizon_rates.specs.declared.settings.Settings.{Settings}
 use Rattle.pd_model.specs.Plan.{verdict}
@@ -14,8 +15,9 @@ use Rattle.race_end.specs.Ends.{end_view}
 use Rattle.race_end.specs.declared.end.RaceEnd.{RaceEnd}
 use Rattle.plan_report.specs.Report.{report_of}
 use Rattle.plan_report.specs.Laws.{IsSmall}
-use Rattle.plan_words.specs.Seen.{Seen, Numbers, numbers, plans_by, checks, grounds, orders, generates, proves, verifies, batches, files_of}
+use Rattle.plan_words.specs.Seen.{Seen, Numbers, numbers, plans, plans_by, checks, grounds, orders, generates, proves, verifies, batches, files_of}
 use Rattle.plan_words.specs.declared.request.Stepping.{Stepping}
+use Rattle.plan_words.specs.declared.request.Turns.{Turns}
 use Rattle.plan_words.specs.Requested.{requested}
 use Rattle.certificates.specs.Known.{IsOrdered, HasTooMany}
 use Rattle.certificates.specs.Certificate.{IsSpelled}
@@ -27,15 +29,16 @@ use Rattle.certificates.specs.declared.verify.Judged.{Judged}
 use Rattle.certificates.specs.declared.verify.Judged.TheVariants as judged
 use Rattle.clause_base.specs.declared.log.Entry.{Entry}
 use Rattle.proof_text.specs.Place.{IsUnfitAt}
-use Rattle.plan_top.specs.Files.{FitFrom, StopsFrom, OfTold, RoseAmong, file_at}
+use Rattle.plan_endings.specs.Ending.{batch_of}
+use Rattle.plan_top.specs.Files.{FitFrom, StopsFrom, FaultsFrom, OfTold, RoseAmong, file_at}
 use Rattle.plan_top.specs.Stepping.{places_by, is_plan_by}
 use Rattle.plan_top.specs.Tasks.{OnceRead, OnceGrounded, TellsOver, IsReady}
-use Rattle.plan_top.specs.declared.ending.File.TheVariants.{Plan, Proof}
+use Rattle.plan_endings.specs.declared.ending.File.TheVariants.{Plan, Proof}
 use Rattle.plan_top.specs.Raced.{OnceRaced, outcome_of}
 use Rattle.plan_top.specs.Generated.{AnswersGenerated}
-use Rattle.plan_top.specs.declared.ending.Kind.TheVariants.{Syntax, Unknown, Arity, Mistyped}
-use Rattle.plan_top.specs.declared.ending.Ending.{Ending}
-use Rattle.plan_top.specs.declared.ending.Ending.TheVariants.{Report, Listing, Reaches, Blocked, Short, Refused, TooLong, TooMany, TooLarge, Usage, Found, Open, Accepted, Rejected, NotEmpty}
+use Rattle.plan_endings.specs.declared.ending.Kind.TheVariants.{Syntax, Unknown, Arity, Mistyped}
+use Rattle.plan_endings.specs.declared.ending.Ending.{Ending}
+use Rattle.plan_endings.specs.declared.ending.Ending.TheVariants.{Report, Listing, Reaches, Blocked, Short, Refused, TooLong, TooMany, TooLarge, ReadFault, Usage, Found, Open, Accepted, Rejected, NotEmpty}
 
 -- ---- what the bytes of its files decide for a request
 
@@ -163,15 +166,37 @@ is_answer request end = false
 
 -- ---- what a run comes to
 
+-- the ending tells of no file that could not be read
+abbrev pub HasRead : Ending → Type 0
+HasRead (ReadFault file) = ⊥
+HasRead end = Unit {0}
+
 -- What a shelf tells: the bytes of names, and of which names there is no file. Then its faults before and after.
 module _ (told : List ℕ → Option (List ℕ)) (lacks : List ℕ → Bool) (old new : List (List ℕ)) where
-  -- When an ending comes for the words of a command line: they ask for nothing, a file of what they ask for stops it, or all files
-  -- are taken and their bytes decide it.
+  -- When an ending comes for a request of one task: a file of it stops it, or all files are taken and their bytes decide it.
+  pub data ComesFor (request : Seen) (end : Ending) : Type 0 where
+    stopped : StopsFrom told lacks old new (file_at request) 0 (files_of request) end → ComesFor request end
+    decided : FitFrom told lacks (file_at request) 0 (files_of request) → IsTrue (is_answer request end)
+        → OfTold told (files_of request) (λ files. Decides request files end) → ComesFor request end
+
+  -- Each problem of a batch, with the domain alone, comes to the part at its place as `plan` comes to its ending.
+  abbrev pub ArePartsOf : List ℕ → Numbers → List (List ℕ) → List Ending → Type 0
+  ArePartsOf domain numbers problems parts = AllZip (λ problem part. ComesFor (plans domain problem numbers) part × HasRead part) problems parts
+
+  -- When an ending comes for a batch: a file of it could not be read, or it has a part for each problem.
+  pub data ComesForBatch (domain : List ℕ) (problems : List (List ℕ)) (numbers : Numbers) (turns : Turns) (end : Ending) : Type 0 where
+    unread : FaultsFrom told lacks old new (file_at (batches domain problems numbers turns)) 0 (domain ∷ problems) end → ComesForBatch domain problems numbers turns end
+    in_parts : (parts : List Ending) → ArePartsOf domain numbers problems parts → end ≡ batch_of parts → ComesForBatch domain problems numbers turns end
+
+  -- when an ending comes for a request
+  abbrev pub ComesOf : Seen → Ending → Type 0
+  ComesOf (batches domain problems numbers turns) end = ComesForBatch domain problems numbers turns end
+  ComesOf request end = ComesFor request end
+
+  -- When an ending comes for the words of a command line: they ask for nothing, or it comes for what they ask for.
   pub data Comes (words : List (List ℕ)) (end : Ending) : Type 0 where
     no_request : requested words ≡ None → end ≡ Usage → Comes words end
-    stopped : (request : Seen) → requested words ≡ Some request → StopsFrom told lacks old new (file_at request) 0 (files_of request) end → Comes words end
-    decided : (request : Seen) → requested words ≡ Some request → FitFrom told lacks old new (file_at request) 0 (files_of request) → IsTrue (is_answer request end)
-        → OfTold told (files_of request) (λ files. Decides request files end) → Comes words end
+    of_request : (request : Seen) → requested words ≡ Some request → ComesOf request end → Comes words end
 
 -- the names of the files that words ask for
 abbrev pub names_in : List (List ℕ) → List (List ℕ)

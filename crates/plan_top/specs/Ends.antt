@@ -1,6 +1,6 @@
 -- What is known of a call that ends the run, or goes on.
 use Rattle.std.specs.Prelude.{Result, Ok, Err, Option, Some, None}
-use Rattle.plan_top.specs.declared.ending.Ending.{Ending}
+use Rattle.plan_endings.specs.declared.ending.Ending.{Ending}
 use Rattle.plan_top.specs.declared.stop.Stop.{Stop}
 use Rattle.plan_top.specs.declared.stop.Stop.TheVariants.{Ends, Memory}
 
@@ -13,6 +13,10 @@ EndsBy claim Memory = Unit {0}
 abbrev pub StopsBy : {A : Type 0} → (Ending → Type 0) → Result A Stop → Type 0
 StopsBy claim (Ok x) = Unit {0}
 StopsBy claim (Err stop) = EndsBy claim stop
+
+-- a call stops for want of memory alone
+abbrev pub OnlyMemory : {A : Type 0} → Result A Stop → Type 0
+OnlyMemory result = StopsBy (λ end. ⊥) result
 
 -- the ending, answered or handed on, is of this kind
 abbrev pub EndsAs : (Ending → Type 0) → Result Ending Stop → Type 0

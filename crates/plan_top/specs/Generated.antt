@@ -13,8 +13,8 @@ use Rattle.plan_top.specs.Tasks.{OnceGrounded}
 use Rattle.gt_core.specs.Step.{IsStepPlan}
 use Rattle.step_clauses.specs.Variables.{chain_places}
 use Rattle.plan_top.specs.Raced.{OnceRaced, outcome_of}
-use Rattle.plan_top.specs.declared.ending.Ending.{Ending}
-use Rattle.plan_top.specs.declared.ending.Ending.TheVariants.{Report, Listing}
+use Rattle.plan_endings.specs.declared.ending.Ending.{Ending}
+use Rattle.plan_endings.specs.declared.ending.Ending.TheVariants.{Report, Listing}
 
 -- the word for a kind of task
 abbrev pub kind_text : Kind → List ℕ

@@ -1,4 +1,3 @@
-pub mod Ending
 pub mod Ends
 pub mod Stepping
 pub mod Files
@@ -6,6 +5,7 @@ pub mod Tasks
 pub mod Raced
 pub mod Generated
 pub mod Causes
+pub mod Parts
 pub mod Complete
 pub mod Headline
 pub mod Laws

@@ -3,6 +3,7 @@ use Rattle.std.specs.Prelude.{◌≡◌, ℕ, List, Bool}
 use Rattle.clause_base.specs.Formula.{assignment_of}
 use Rattle.gt_core.specs.Task.{Task}
 use Rattle.gt_core.specs.Published.{order_of}
+use Rattle.gt_core.specs.Reached.{HoldsWherever}
 use Rattle.step_laws.specs.Form.{OrderedTask, AreSets, steps_at}
 use Rattle.step_encoding.specs.Numbers.{literals_of}
 use Rattle.horizon_rates.specs.declared.settings.Settings.{Settings}
@@ -13,10 +14,18 @@ use Rattle.race.specs.Race as stage
 use Rattle.race.specs.Lines.{AreLines, EachRefuted}
 use Rattle.race.specs.Ends.{WherePlanned, AreStepsOf, AreActions, SumsWithin}
 use Rattle.certificates.specs.Known.{IsOrdered, form_of, choice_at, formula_at}
-use Rattle.plan_top.specs.declared.ending.Outcome.{Outcome}
-use Rattle.plan_top.specs.declared.ending.Outcome.TheVariants as outcomes
-use Rattle.plan_top.specs.declared.ending.Ending.{Ending}
-use Rattle.plan_top.specs.declared.ending.Ending.TheVariants.{TooLarge}
+use Rattle.plan_top.specs.declared.raced.Known.{Known}
+use Rattle.plan_endings.specs.declared.ending.Outcome.{Outcome}
+use Rattle.plan_endings.specs.declared.ending.Outcome.TheVariants as outcomes
+use Rattle.plan_endings.specs.declared.ending.Ending.{Ending}
+use Rattle.plan_endings.specs.declared.ending.Ending.TheVariants.{TooLarge}
+
+-- what is known of a task: the greatest set of clauses of one or two literals, which hold wherever the task may go, and the published
+-- order of its actions under them
+pub record IsKnown (task : Task) (known : Known) : Type 0 where
+  pub facts : known.pairs.facts ≡ task.facts
+  pub hold : HoldsWherever task known.pairs.clauses
+  pub ordered : IsOrdered task known.pairs.clauses known.order
 
 -- how an end is told
 abbrev pub outcome_of : EndView → Outcome

@@ -1,7 +1,9 @@
 -- The task that two files are, and why they are none that can be answered.
-use Rattle.std.specs.Prelude.{◌≡◌, ℕ, List, Option, Some, None, Ok, Err}
+use Rattle.std.specs.Prelude.{◌≡◌, ℕ, List, Option, Some, None, Ok, Err, IsTrue}
 use Rattle.pd_sexp.specs.Tree.{Tree}
 use Rattle.pd_sexp.specs.Fault.{syntax, deep, IsFault, Reads}
+use Rattle.pd_sexp.specs.View.{view}
+use Rattle.pd_sexp.specs.Word.{has_words}
 use Rattle.pd_model.specs.WellFormed.{IsWellFormed}
 use Rattle.pd_model.specs.declared.memory.Which.{Which}
 use Rattle.pd_model.specs.declared.memory.Which.TheVariants as which
@@ -11,14 +13,16 @@ use Rattle.pd_task.specs.declared.error.PddlError.{PddlError}
 use Rattle.pd_task.specs.declared.error.PddlError.TheVariants as errors
 use Rattle.grounding.specs.Grounded.{Grounded, IsGrounded}
 use Rattle.grounding.specs.Limits.{IsWithin, IsOverTuples, IsOverFacts, IsOverActions, IsOverEffects}
-use Rattle.plan_top.specs.declared.ending.File.{File}
-use Rattle.plan_top.specs.declared.ending.File.TheVariants.{Domain, Problem, Plan}
-use Rattle.plan_top.specs.declared.ending.Limit.{Limit}
-use Rattle.plan_top.specs.declared.ending.Limit.TheVariants as limits
-use Rattle.plan_top.specs.declared.ending.Kind.{Kind}
-use Rattle.plan_top.specs.declared.ending.Kind.TheVariants.{Syntax, Deep, Shape, Unknown, Arity, Duplicate, Unsupported}
-use Rattle.plan_top.specs.declared.ending.Ending.{Ending}
-use Rattle.plan_top.specs.declared.ending.Ending.TheVariants.{Refused, TooMany}
+use Rattle.plan_endings.specs.declared.ending.File.{File}
+use Rattle.plan_endings.specs.declared.ending.File.TheVariants.{Domain, Problem, Plan}
+use Rattle.plan_endings.specs.declared.ending.Limit.{Limit}
+use Rattle.plan_endings.specs.declared.ending.Limit.TheVariants as limits
+use Rattle.plan_endings.specs.declared.ending.Kind.{Kind}
+use Rattle.plan_endings.specs.declared.ending.Kind.TheVariants.{Syntax, Deep, Shape, Unknown, Arity, Duplicate, Unsupported}
+use Rattle.plan_endings.specs.declared.ending.Ending.{Ending}
+use Rattle.plan_endings.specs.declared.ending.Ending.TheVariants.{Refused, TooMany}
+use Rattle.plan_top.specs.declared.task.Reading.{Reading}
+use Rattle.plan_top.specs.declared.task.Reading.TheVariants as readings
 
 -- two files are a task
 abbrev pub AreTask : List ℕ → List ℕ → Parts → Type 0
@@ -29,6 +33,11 @@ abbrev pub IsTreeFault : List ℕ → Kind → ℕ → Type 0
 IsTreeFault bytes Syntax at = IsFault bytes (syntax at)
 IsTreeFault bytes Deep at = IsFault bytes (deep at)
 IsTreeFault bytes _ at = ⊥
+
+-- what bytes are read as: a tree, or a fault
+abbrev pub IsReading : List ℕ → Reading → Type 0
+IsReading bytes (readings.Tree tree) = Reads bytes (view tree) × IsTrue (has_words (view tree))
+IsReading bytes (readings.Fault kind at) = IsTreeFault bytes kind at
 
 -- a file of a task, as an input
 abbrev pub input_of : Which → File

@@ -12,8 +12,9 @@ ghost use Rattle.plan_top.specs.Ends.{EndsAs, StopsBy};
 
 use crate::certify::{answer_prove, answer_verify};
 use crate::generated::answer_gen;
-use crate::raced::{outcome, raced};
+use crate::raced::raced;
 use crate::ready::read_ready;
+use crate::reported::reported;
 use crate::stop::{Stop, refuse};
 use crate::task::read_task;
 use crate::{Ending, File, Kind};
@@ -22,7 +23,6 @@ use horizon_rates::Settings;
 use pd_model::{Calls, Pddl, Verdict};
 use pd_plan::{PlanFault, read_plan};
 use pl_io::Bytes;
-use plan_report::report_text;
 use plan_words::{Request, Stepping};
 use solver_pool::Gate;
 use std::alloc::Global;
@@ -114,11 +114,7 @@ fn answer_plan<H: Threads + Wait + Sync, G: Gate>(
 {
     let ready = read_ready(alloc, domain, problem)?;
     let end = raced(rt, alloc, steps, ready.grounded.task(), settings, gate)?;
-    let text = report_text(alloc, &ready.task, &ready.grounded, &end, settings.budget)?;
-    Ok(Ending::Report {
-        outcome: outcome(&end),
-        text: Bytes::of(text.into_vec()),
-    })
+    reported(alloc, &ready, &end, settings)
 }
 
 // What a domain and a problem come to for the command `ground`.

@@ -1,30 +1,37 @@
 //! How a run ends, before anything is written.
 ghost use Rattle.std.specs.Prelude.{◌≡◌, ◌≤◌, ℕ, List, map, string_bytes, None, Ok};
 ghost use Rattle.pl_io.specs.Outside.{fault_count};
+ghost use Rattle.plan_words.specs.OneTask.{IsOfOne};
 ghost use Rattle.plan_words.specs.Requested.{requested, command_named};
+ghost use Rattle.plan_words.specs.Seen.{IsSized, files_of, seen};
 ghost use Rattle.plan_top.specs.Files.{NotesAmong};
-ghost use Rattle.plan_top.specs.Causes.{Comes, names_in};
+ghost use Rattle.plan_top.specs.Causes.{Comes, ComesFor, ComesOf, names_in};
+ghost use Rattle.plan_top.specs.Parts.{IsBatch};
 ghost use Rattle.plan_top.specs.Ends.{EndsAs};
 
 use crate::Ending;
 use crate::answer::answer;
+use crate::batch::answer_batch;
+use crate::first::take_first;
 use crate::stop::Stop;
-use crate::take::take_files;
+use crate::take::{take_each, take_files};
+use horizon_rates::Settings;
 use pl_io::Shelf;
-use plan_words::laws::laws;
-use plan_words::read_words;
+use plan_words::{Request, Turns, read_words};
+use poll_batch::Driver;
 use solver_pool::Gate;
 use std::alloc::Global;
 use std::sync::Wait;
 use std::thread::Threads;
 
 /// How the run ends, by the words and the files that they name.
-pub fn decide<H: Threads + Wait + Sync, S: Shelf, G: Gate>(
+pub fn decide<H: Threads + Wait + Sync, S: Shelf, G: Gate, D: Driver>(
     rt: &H,
     alloc: Global,
     words: &[String],
     shelf: &mut S,
     gate: &G,
+    driver: &mut D,
 ) -> Result<Ending, Stop>
     ensures cause { EndsAs (Comes (S.told shelf.old) (S.lacks shelf.old) (S.failed shelf.old) (S.failed shelf.new) (map string_bytes words.now)) result }
     ensures no_command { command_named (map string_bytes words.now) ≡ None → result ≡ Ok Ending.Usage }
@@ -33,11 +40,85 @@ pub fn decide<H: Threads + Wait + Sync, S: Shelf, G: Gate>(
     ensures lacks { S.lacks shelf.new ≡ S.lacks shelf.old }
     ensures noted { NotesAmong (names_in (map string_bytes words.now)) (S.failed shelf.old) (S.failed shelf.new) }
     ensures never_falls { (name : List ℕ) → fault_count name (S.failed shelf.old) ≤ fault_count name (S.failed shelf.new) }
+    ensures drives { D.faults driver.old ≤ D.faults driver.new }
 {
     let Some(request) = read_words(alloc, words)? else {
         return Ok(Ending::Usage);
     };
-    let files = take_files(alloc, &request, shelf)?;
-    laws();
-    answer(rt, alloc, &request, &files, gate)
+    decide_request(rt, alloc, &request, shelf, gate, driver)
+}
+
+// How a run ends by what is asked for.
+fn decide_request<H: Threads + Wait + Sync, S: Shelf, G: Gate, D: Driver>(
+    rt: &H,
+    alloc: Global,
+    request: &Request<'_>,
+    shelf: &mut S,
+    gate: &G,
+    driver: &mut D,
+) -> Result<Ending, Stop>
+    requires { IsSized (seen request.now) }
+    ensures cause { EndsAs (ComesOf (S.told shelf.old) (S.lacks shelf.old) (S.failed shelf.old) (S.failed shelf.new) (seen request.now)) result }
+    ensures told { S.told shelf.new ≡ S.told shelf.old }
+    ensures lacks { S.lacks shelf.new ≡ S.lacks shelf.old }
+    ensures noted { NotesAmong (files_of (seen request.now)) (S.failed shelf.old) (S.failed shelf.new) }
+    ensures drives { D.faults driver.old ≤ D.faults driver.new }
+{
+    match request {
+        Request::Batch {
+            settings,
+            turns,
+            ..
+        } => decide_batch(rt, alloc, request, settings, *turns, shelf, driver),
+        _ => decide_one(rt, alloc, request, shelf, gate),
+    }
+}
+
+// The same where one task is asked for.
+fn decide_one<H: Threads + Wait + Sync, S: Shelf, G: Gate>(
+    rt: &H,
+    alloc: Global,
+    request: &Request<'_>,
+    shelf: &mut S,
+    gate: &G,
+) -> Result<Ending, Stop>
+    requires sized { IsSized (seen request.now) }
+    requires of_one { IsOfOne (seen request.now) }
+    ensures cause { EndsAs (ComesFor (S.told shelf.old) (S.lacks shelf.old) (S.failed shelf.old) (S.failed shelf.new) (seen request.now)) result }
+    ensures told { S.told shelf.new ≡ S.told shelf.old }
+    ensures lacks { S.lacks shelf.new ≡ S.lacks shelf.old }
+    ensures noted { NotesAmong (files_of (seen request.now)) (S.failed shelf.old) (S.failed shelf.new) }
+{
+    let files = take_files(alloc, request, shelf)?;
+    answer(rt, alloc, request, &files, gate)
+}
+
+// The same of a batch with these settings.
+fn decide_batch<H: Threads + Wait + Sync, S: Shelf, D: Driver>(
+    rt: &H,
+    alloc: Global,
+    request: &Request<'_>,
+    settings: &Settings,
+    turns: Turns,
+    shelf: &mut S,
+    driver: &mut D,
+) -> Result<Ending, Stop>
+    requires { IsBatch settings.now turns (seen request.now) }
+    ensures cause { EndsAs (ComesOf (S.told shelf.old) (S.lacks shelf.old) (S.failed shelf.old) (S.failed shelf.new) (seen request.now)) result }
+    ensures told { S.told shelf.new ≡ S.told shelf.old }
+    ensures lacks { S.lacks shelf.new ≡ S.lacks shelf.old }
+    ensures noted { NotesAmong (files_of (seen request.now)) (S.failed shelf.old) (S.failed shelf.new) }
+    ensures drives { D.faults driver.old ≤ D.faults driver.new }
+{
+    let mut files = take_each(alloc, request, shelf)?;
+    let domain = take_first(&mut files);
+    answer_batch(
+        rt,
+        alloc,
+        driver,
+        &domain,
+        files.as_slice(),
+        settings,
+        turns,
+    )
 }

@@ -3,14 +3,18 @@
 #![tactic(auto)]
 
 mod answer;
+mod batch;
 mod certify;
 mod decide;
-mod ending;
+mod first;
 mod generated;
 mod ground;
 mod laws;
+mod parts;
 mod raced;
+mod races;
 mod ready;
+mod reported;
 mod status;
 mod stop;
 mod take;
@@ -18,6 +22,6 @@ mod task;
 mod top;
 mod written;
 
-pub use ending::{Ending, File, Kind, Limit, Outcome};
+pub use plan_endings::{Ending, File, Kind, Limit, Outcome};
 pub use status::Status;
 pub use top::run;

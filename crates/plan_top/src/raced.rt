@@ -2,13 +2,15 @@
 ghost use Rattle.std.specs.Prelude.{◌≡◌, IfOk};
 ghost use Rattle.race_end.specs.Ends.{end_view};
 ghost use Rattle.plan_top.specs.Stepping.{places_by, is_plan_by};
-ghost use Rattle.plan_top.specs.Raced.{ComesTo, TellsTooLarge, outcome_of};
-ghost use Rattle.plan_top.specs.Ends.{StopsBy};
+ghost use Rattle.plan_top.specs.Raced.{IsKnown, ComesTo, TellsTooLarge, outcome_of};
+ghost use Rattle.plan_top.specs.Ends.{StopsBy, OnlyMemory};
 
 use crate::stop::Stop;
 use crate::{Ending, Outcome};
+use action_order::order::Order;
 use action_order::publish::publish;
 use all_steps::form::BothWays;
+use gt_core::pairs::Pairs;
 use gt_core::task::Task;
 use horizon_rates::Settings;
 use plan_words::Stepping;
@@ -40,6 +42,23 @@ pub fn raced<H: Threads + Wait + Sync, G: Gate>(
     }
 }
 
+/// What is known of a ground task: its invariants of one or two literals, and its actions in published order.
+#[derive(Debug, Drop)]
+pub struct Known {
+    pub pairs: Pairs,
+    pub order: Order,
+}
+
+/// What is known of a ground task.
+pub fn known_of<H: Threads + Sync>(rt: &H, alloc: Global, task: &Task) -> Result<Known, Stop>
+    ensures known { IfOk result (IsKnown task.now) }
+    ensures memory { OnlyMemory result }
+{
+    let pairs = find(rt, alloc, task)?;
+    let order = publish(alloc, task, &pairs)?;
+    Ok(Known { pairs, order })
+}
+
 // The same, for the places of the chains of one form.
 fn raced_in<P: Placing + Sync, H: Threads + Wait + Sync, G: Gate>(
     rt: &H,
@@ -51,9 +70,8 @@ fn raced_in<P: Placing + Sync, H: Threads + Wait + Sync, G: Gate>(
     ensures ended { IfOk result (ComesTo P.places P.are_plan task.now settings.now) }
     ensures stops { StopsBy (TellsTooLarge P.places task.now settings.now) result }
 {
-    let pairs = find(rt, alloc, task)?;
-    let order = publish(alloc, task, &pairs)?;
-    let form = Placed::<P>::new(alloc, task, &pairs, &order)?;
+    let known = known_of(rt, alloc, task)?;
+    let form = Placed::<P>::new(alloc, task, &known.pairs, &known.order)?;
     match race(rt, alloc, task, &form, settings, gate) {
         Ok(end) => Ok(end),
         Err(RaceError::Literals { horizon, count }) => {

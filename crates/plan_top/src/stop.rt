@@ -4,7 +4,7 @@ ghost use Rattle.plan_top.specs.declared.stop.Stop.TheVariants as stop;
 
 use crate::{Ending, File, Kind};
 use pd_model::Memory;
-use std::alloc::AllocError;
+use std::alloc::{AllocError, AllocFailed};
 
 /// The run ends, or memory is wanting.
 #[derive(Debug, Drop)]
@@ -39,6 +39,14 @@ impl From<clause_base::memory::Memory> for Stop {
     }
 }
 
+impl From<pl_io::Memory> for Stop {
+    ghost from_gives = { λ _ e. e ≡ stop.Memory };
+
+    fn from(_: pl_io::Memory) -> Self {
+        Stop::Memory
+    }
+}
+
 impl From<plan_words::Memory> for Stop {
     ghost from_gives = { λ _ e. e ≡ stop.Memory };
 
@@ -59,6 +67,14 @@ impl From<AllocError> for Stop {
     ghost from_gives = { λ _ e. e ≡ stop.Memory };
 
     fn from(_: AllocError) -> Self {
+        Stop::Memory
+    }
+}
+
+impl<T: Drop> From<AllocFailed<T>> for Stop {
+    ghost from_gives = { λ _ e. e ≡ stop.Memory };
+
+    fn from(_: AllocFailed<T>) -> Self {
         Stop::Memory
     }
 }

@@ -1,8 +1,8 @@
 //! Taking files from the shelf.
 ghost use Rattle.std.specs.Prelude.{◌≡◌, ◌≤◌, ℕ, List, [], ◌∷◌, ◌++◌, length, IsTrue, OnOk, IfOk, IfSome};
-ghost use Rattle.pl_io.specs.Outside.{Notes};
+ghost use Rattle.pl_io.specs.Outside.{Notes, FaultRose};
 ghost use Rattle.plan_words.specs.Seen.{seen, files_of};
-ghost use Rattle.plan_top.specs.Files.{Stops, StopsFrom, AreTaken, NotesAmong, file_at, third_of, most_of};
+ghost use Rattle.plan_top.specs.Files.{Stops, StopsFrom, FaultsFrom, IsTakenOrLong, AreTaken, AreTakenOrLong, NotesAmong, file_at, third_of, most_of};
 ghost use Rattle.plan_top.specs.Ends.{StopsBy};
 
 use crate::stop::Stop;
@@ -27,6 +27,27 @@ pub fn take_files<S: Shelf>(
     'taking: while let Some(name) = request.file(files.len()) {
         let bytes = take_file(alloc, file_of(request, files.len()), name, shelf)?;
         keep(&mut files, bytes)?;
+    }
+    Ok(files)
+}
+
+/// Takes the files of a request, in the order of the words, each at most once: the bytes of each, or nothing where it has more than it
+/// may have.
+pub fn take_each<S: Shelf>(
+    alloc: Global,
+    request: &Request<'_>,
+    shelf: &mut S,
+) -> Result<Vec<Option<Bytes>>, Stop>
+    ensures told { S.told shelf.new ≡ S.told shelf.old }
+    ensures lacks { S.lacks shelf.new ≡ S.lacks shelf.old }
+    ensures noted { NotesAmong (files_of (seen request.now)) (S.failed shelf.old) (S.failed shelf.new) }
+    ensures taken { IfOk result (λ files. AreTakenOrLong (S.told shelf.old) (S.lacks shelf.old) (file_at (seen request.now)) 0 (files_of (seen request.now)) files.items) }
+    ensures stops { StopsBy (FaultsFrom (S.told shelf.old) (S.lacks shelf.old) (S.failed shelf.old) (S.failed shelf.new) (file_at (seen request.now)) 0 (files_of (seen request.now))) result }
+{
+    let mut files = Vec::new(alloc);
+    'taking: while let Some(name) = request.file(files.len()) {
+        let bytes = take_short(alloc, file_of(request, files.len()), name, shelf)?;
+        files.push(bytes)?;
     }
     Ok(files)
 }
@@ -93,5 +114,25 @@ fn take_file<S: Shelf>(
         Ok(Taken::Longer) => Err(Stop::Ends(Ending::TooLong(file))),
         Err(TakeError::Failed) => Err(Stop::Ends(Ending::ReadFault(file))),
         Err(TakeError::Memory) => Err(Stop::Memory),
+    }
+}
+
+// The bytes of a file, or nothing where it has more than it may have.
+fn take_short<S: Shelf>(
+    alloc: Global,
+    file: File,
+    name: &str,
+    shelf: &mut S,
+) -> Result<Option<Bytes>, Stop>
+    ensures told { S.told shelf.new ≡ S.told shelf.old }
+    ensures lacks { S.lacks shelf.new ≡ S.lacks shelf.old }
+    ensures notes { Notes (S.failed shelf.old) (S.failed shelf.new) name.now }
+    ensures taken { IfOk result (IsTakenOrLong (S.told shelf.old) (S.lacks shelf.old) file name.now) }
+    ensures stops { StopsBy (λ end. (end ≡ Ending.ReadFault file) × FaultRose name.now (S.failed shelf.old) (S.failed shelf.new)) result }
+{
+    match take_file(alloc, file, name, shelf) {
+        Ok(bytes) => Ok(Some(Bytes::of(bytes))),
+        Err(Stop::Ends(Ending::TooLong(_))) => Ok(None),
+        Err(stop) => Err(stop),
     }
 }

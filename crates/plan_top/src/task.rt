@@ -1,9 +1,9 @@
 //! Reading the task that two files say.
-ghost use Rattle.std.specs.Prelude.{◌≡◌, ◌≤◌, length, IsTrue, IfOk};
+ghost use Rattle.std.specs.Prelude.{◌≡◌, ◌≤◌, ℕ, List, length, IsTrue, IfOk};
 ghost use Rattle.pd_sexp.specs.{Fault.Reads, View.view, Word.has_words};
 ghost use Rattle.pd_model.specs.WellFormed.{IsWellFormed};
 ghost use Rattle.pd_task.specs.Reading.{reading};
-ghost use Rattle.plan_top.specs.{Files.most_bytes, Tasks.AreTask, Tasks.input_of, Tasks.RefusesTask, Tasks.RefusesTree, Tasks.RefusesTrees, Ends.StopsBy};
+ghost use Rattle.plan_top.specs.{Files.most_bytes, Tasks.AreTask, Tasks.input_of, Tasks.RefusesTask, Tasks.RefusesTree, Tasks.RefusesTrees, Tasks.IsReading, Ends.StopsBy, Ends.OnlyMemory};
 
 use crate::stop::{Stop, refuse};
 use crate::{File, Kind};
@@ -23,6 +23,35 @@ fn input(file: Which) -> File
     }
 }
 
+/// What the bytes of a file are read as.
+#[derive(Debug, Drop)]
+pub enum Reading {
+    /// A tree.
+    Tree(Tree),
+    /// None: a fault of this kind stands at the offset of a byte.
+    Fault { kind: Kind, at: u32 },
+}
+
+/// What bytes are read as.
+pub fn reading_of(alloc: Global, bytes: &[u8]) -> Result<Reading, Stop>
+    requires { length bytes.now ≤ most_bytes }
+    ensures reading { IfOk result (IsReading bytes.now) }
+    ensures memory { OnlyMemory result }
+{
+    match read_tree(alloc, bytes) {
+        Ok(tree) => Ok(Reading::Tree(tree)),
+        Err(TreeError::Syntax { at }) => Ok(fault(Kind::Syntax, at)),
+        Err(TreeError::Deep { at }) => Ok(fault(Kind::Deep, at)),
+        Err(TreeError::Memory) => Err(Stop::Memory),
+    }
+}
+
+fn fault(kind: Kind, at: u32) -> Reading
+    ensures { result ≡ Reading.Fault kind at }
+{
+    Reading::Fault { kind, at }
+}
+
 /// The tree of a file.
 pub fn tree_of(alloc: Global, file: File, bytes: &[u8]) -> Result<Tree, Stop>
     requires { length bytes.now ≤ most_bytes }
@@ -30,11 +59,9 @@ pub fn tree_of(alloc: Global, file: File, bytes: &[u8]) -> Result<Tree, Stop>
     ensures words { IfOk result (λ tree. IsTrue (has_words (view tree))) }
     ensures stops { StopsBy (RefusesTree bytes.now file) result }
 {
-    match read_tree(alloc, bytes) {
-        Ok(tree) => Ok(tree),
-        Err(TreeError::Syntax { at }) => Err(refuse(Kind::Syntax, file, at)),
-        Err(TreeError::Deep { at }) => Err(refuse(Kind::Deep, file, at)),
-        Err(TreeError::Memory) => Err(Stop::Memory),
+    match reading_of(alloc, bytes)? {
+        Reading::Tree(tree) => Ok(tree),
+        Reading::Fault { kind, at } => Err(refuse(kind, file, at)),
     }
 }
 
@@ -60,6 +87,18 @@ pub fn task_of(alloc: Global, domain: &Tree, problem: &Tree) -> Result<Pddl, Sto
     }
 }
 
+/// The task that a tree and the bytes of a problem say.
+pub fn task_with(alloc: Global, first: &Tree, problem: &[u8]) -> Result<Pddl, Stop>
+    requires first_words { IsTrue (has_words (view first.now)) }
+    requires problem_fits { length problem.now ≤ most_bytes }
+    ensures task { IfOk result (λ task. (domain : List ℕ) → Reads domain (view first.now) → AreTask domain problem.now task) }
+    ensures well_formed { IfOk result IsWellFormed }
+    ensures stops { (domain : List ℕ) → Reads domain (view first.now) → StopsBy (RefusesTask domain problem.now) result }
+{
+    let second = tree_of(alloc, File::Problem, problem)?;
+    task_of(alloc, first, &second)
+}
+
 /// The task that the bytes of two files say.
 pub fn read_task(alloc: Global, domain: &[u8], problem: &[u8]) -> Result<Pddl, Stop>
     requires domain_fits { length domain.now ≤ most_bytes }
@@ -69,6 +108,5 @@ pub fn read_task(alloc: Global, domain: &[u8], problem: &[u8]) -> Result<Pddl, S
     ensures stops { StopsBy (RefusesTask domain.now problem.now) result }
 {
     let first = tree_of(alloc, File::Domain, domain)?;
-    let second = tree_of(alloc, File::Problem, problem)?;
-    task_of(alloc, &first, &second)
+    task_with(alloc, &first, problem)
 }

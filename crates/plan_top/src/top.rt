@@ -1,27 +1,29 @@
 //! The top call.
-ghost use Rattle.std.specs.Prelude.{◌≡◌, ◌≢◌, ◌≤◌, ◌⊎◌, ℕ, ◌+◌, List, [], ◌∷◌, map, string_bytes, codes, Some, None, IsTrue, Contains, Bool, Option};
+ghost use Rattle.std.specs.Prelude.{◌≡◌, ◌≢◌, ◌≤◌, ◌⊎◌, ℕ, ◌+◌, List, [], ◌∷◌, map, string_bytes, codes, Some, None, IsTrue, Contains, Bool, Option, slice_get};
 ghost use Rattle.pl_io.specs.Outside.{appended, TakesFront, Rose, fault_count};
 ghost use Rattle.report_lines.specs.Lines.{lines_of};
 ghost use Rattle.report_lines.specs.Horizons.{Says, is_word};
 ghost use Rattle.plan_report.specs.Report.{plan_line};
-ghost use Rattle.plan_words.specs.Seen.{checks, grounds, orders, proves, verifies};
+ghost use Rattle.plan_words.specs.Seen.{Numbers, checks, grounds, orders, proves, verifies, batches};
+ghost use Rattle.plan_words.specs.declared.request.Turns.{Turns};
 ghost use Rattle.plan_words.specs.Requested.{requested, command_named};
 ghost use Rattle.plan_top.specs.Files.{NotesAmong};
-ghost use Rattle.plan_top.specs.Causes.{Comes, FaultOf, names_in};
+ghost use Rattle.plan_top.specs.Causes.{Comes, ArePartsOf, HasRead, FaultOf, names_in};
 ghost use Rattle.plan_top.specs.Complete.{GoesWell, IsGood};
-ghost use Rattle.plan_top.specs.Ending.{status_of, text_of, IsSmall};
+ghost use Rattle.plan_endings.specs.Ending.{status_of, text_of, greatest, parts_text, IsSmall};
 ghost use Rattle.plan_top.specs.Headline.{Printed, OfFiles, OfPlans, PlanRuns, HasAtLeast, NoStepPlan, NoPlan, LineIsSo, SpendsAll, Certifies, OfProof, ProvesNone, TellsGround, TellsOrder, CallsRun};
-ghost use Rattle.plan_top.specs.OneReport.{AskForOneRace, HasRead};
+ghost use Rattle.plan_top.specs.OneReport.{AskForOneRace, AskForOnePart};
 ghost use Rattle.plan_top.specs.Ends.{ending_in};
-ghost use Rattle.plan_top.specs.declared.ending.Ending.{Ending};
+ghost use Rattle.plan_endings.specs.declared.ending.Ending.{Ending};
 
+use crate::Ending;
 use crate::decide::decide;
-use crate::ending::Ending;
 use crate::laws::laws;
 use crate::status::Status;
 use crate::stop::Stop;
 use crate::written::written;
 use pl_io::{Shelf, Sink};
+use poll_batch::Driver;
 use solver_pool::Gate;
 use std::alloc::Global;
 use std::sync::Wait;
@@ -30,15 +32,17 @@ use std::thread::Threads;
 /// Reads the words, takes the files from the shelf, decides, and writes the text due into the sink.
 ///
 /// The words are those after the program's name: a command (`plan`, `plan-all`, `check`, `ground`, `order`, `gen`,
-/// `prove` or `verify`), and what it takes.
-/// The workers of a race tell the gate of each turn; the report is the same for any number of them.
-pub fn run<H: Threads + Wait + Sync, S: Shelf, K: Sink, G: Gate>(
+/// `prove`, `verify` or `batch`), and what it takes.
+/// The workers of a race tell the gate of each turn; the report is the same for any number of them. The races of a batch are polled in
+/// turn by the driver; the report is the same for each driver.
+pub fn run<H: Threads + Wait + Sync, S: Shelf, K: Sink, G: Gate, D: Driver>(
     rt: &H,
     alloc: Global,
     words: &[String],
     shelf: &mut S,
     sink: &mut K,
     gate: &G,
+    driver: &mut D,
 ) -> Status
     // A printed plan leads from the initial state to the goal, and its steps are a step plan.
     ensures plan_runs { OfPlans (map string_bytes words.now) (S.told shelf.old) (K.taken sink.old) (K.taken sink.new) (λ how text numbers of_files.
@@ -124,22 +128,41 @@ pub fn run<H: Threads + Wait + Sync, S: Shelf, K: Sink, G: Gate>(
         → HasRead end → result.0 ≢ 5 → result.0 ≢ 6 → result.0 ≢ 8
         → (result.0 ≡ status_of end) × (K.taken sink.new ≡ appended (K.taken sink.old) (text_of end)) }
 
+    // Each part of a batch is what `plan` has due on the domain and that problem, by the same numbers; the text is the parts' texts under
+    // their lines, the status the greatest.
+    ensures batch { (domain : List ℕ) (problems : List (List ℕ)) (numbers : Numbers) (turns : Turns)
+        → requested (map string_bytes words.now) ≡ Some (batches domain problems numbers turns) → result.0 ≢ 5 → result.0 ≢ 6 → result.0 ≢ 8
+        → (parts : List Ending) × ArePartsOf (S.told shelf.old) (S.lacks shelf.old) (S.failed shelf.old) (S.failed shelf.new) domain numbers problems parts
+        × (result.0 ≡ greatest (map status_of parts)) × (K.taken sink.new ≡ appended (K.taken sink.old) (parts_text 1 parts)) }
+
+    // The part of a problem is what each run of `plan` prints, on whatever shelf, on files with the same bytes, by the same numbers but
+    // for the slice and the workers.
+    ensures as_alone { (elsewhere : List ℕ → Option (List ℕ)) (lacking : List ℕ → Bool) (others before after : List (List ℕ)) (end : Ending) (place : ℕ)
+        → AskForOnePart (S.told shelf.old) elsewhere (map string_bytes words.now) place others → Comes elsewhere lacking before after others end
+        → HasRead end → result.0 ≢ 5 → result.0 ≢ 6 → result.0 ≢ 8
+        → (parts : List Ending) × (slice_get parts place ≡ Some end) × (result.0 ≡ greatest (map status_of parts))
+        × (K.taken sink.new ≡ appended (K.taken sink.old) (parts_text 1 parts)) }
+
+    // No count of the driver's faults falls.
+    ensures drives { D.faults driver.old ≤ D.faults driver.new }
+
     // Words that are taken and files in order give an answer, where no fault comes from outside.
     ensures complete { (well : GoesWell (map string_bytes words.now) (S.told shelf.old) (S.failed shelf.old) (S.failed shelf.new))
         → (Rose (K.faults sink.old) (K.faults sink.new) → ⊥) → (result.0 ≡ 8) ⊎ ((end : Ending) × (result.0 ≡ status_of end) × IsGood well.request end × (K.taken sink.new ≡ appended (K.taken sink.old) (text_of end))) }
 {
     laws();
-    answered(rt, alloc, words, shelf, sink, gate)
+    answered(rt, alloc, words, shelf, sink, gate, driver)
 }
 
 // Decides how the run ends, and writes the text of that.
-fn answered<H: Threads + Wait + Sync, S: Shelf, K: Sink, G: Gate>(
+fn answered<H: Threads + Wait + Sync, S: Shelf, K: Sink, G: Gate, D: Driver>(
     rt: &H,
     alloc: Global,
     words: &[String],
     shelf: &mut S,
     sink: &mut K,
     gate: &G,
+    driver: &mut D,
 ) -> Status
     ensures due { result.0 ≢ 6 → result.0 ≢ 8 → (end : Ending) × (result.0 ≡ status_of end)
         × Comes (S.told shelf.old) (S.lacks shelf.old) (S.failed shelf.old) (S.failed shelf.new) (map string_bytes words.now) end
@@ -156,8 +179,9 @@ fn answered<H: Threads + Wait + Sync, S: Shelf, K: Sink, G: Gate>(
     ensures lacks { S.lacks shelf.new ≡ S.lacks shelf.old }
     ensures never_falls { (name : List ℕ) → fault_count name (S.failed shelf.old) ≤ fault_count name (S.failed shelf.new) }
     ensures faults { K.faults sink.old ≤ K.faults sink.new }
+    ensures drives { D.faults driver.old ≤ D.faults driver.new }
 {
-    let Some(ending) = ended(decide(rt, alloc, words, shelf, gate)) else {
+    let Some(ending) = ended(decide(rt, alloc, words, shelf, gate, driver)) else {
         return Status(8);
     };
     written(alloc, ending, sink)

@@ -1,10 +1,10 @@
 //! Writing the text of an ending.
 ghost use Rattle.std.specs.Prelude.{◌≡◌, ◌≢◌, ◌≤◌};
 ghost use Rattle.pl_io.specs.Outside.{appended, TakesFront, Rose};
-ghost use Rattle.plan_top.specs.Ending.{status_of, text_of, IsSmall};
-ghost use Rattle.plan_top.specs.declared.ending.Ending.{Ending};
+ghost use Rattle.plan_endings.specs.Ending.{status_of, text_of, IsSmall};
+ghost use Rattle.plan_endings.specs.declared.ending.Ending.{Ending};
 
-use crate::ending::Ending;
+use crate::Ending;
 use crate::status::Status;
 use pl_io::{Sink, put_all};
 use std::alloc::Global;

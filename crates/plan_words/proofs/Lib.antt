@@ -2,4 +2,3 @@ mod Chain
 mod Fit
 mod SameReaders
 mod Numbers
-mod Single

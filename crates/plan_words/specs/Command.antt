@@ -147,4 +147,5 @@ named text = if bytes_eq text (codes "plan") then Some (Plan Exists)
     else if bytes_eq text (codes "gen") then Some Gen
     else if bytes_eq text (codes "prove") then Some Prove
     else if bytes_eq text (codes "verify") then Some Verify
+    else if bytes_eq text (codes "batch") then Some Batch
     else None

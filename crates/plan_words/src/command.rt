@@ -53,6 +53,7 @@ pub(crate) fn name_of(word: &str) -> Option<Name>
         "gen" => Some(Name::Gen),
         "prove" => Some(Name::Prove),
         "verify" => Some(Name::Verify),
+        "batch" => Some(Name::Batch),
         _ => None,
     }
 }

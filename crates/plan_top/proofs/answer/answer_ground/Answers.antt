@@ -1,6 +1,6 @@
 use Rattle.std.proofs.Common.{◌≡◌, ◌∙◌, ◌++◌, ℕ, List, ap}
 use Rattle.task_text.specs.Text.{ground_text}
-use Rattle.plan_top.specs.declared.ending.Ending.TheVariants.{Listing}
+use Rattle.plan_endings.specs.declared.ending.Ending.TheVariants.{Listing}
 use Rattle.plan_top.specs.Tasks.{grounded}
 use Rattle.plan_top.specs.Causes.{AnswersGround}
 use Rattle.plan_top.proofs.Answered.{stop_handed}

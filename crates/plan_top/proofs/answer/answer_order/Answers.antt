@@ -2,7 +2,7 @@ use Rattle.std.proofs.Common.{◌≡◌, ◌∙◌, ◌++◌, ℕ, List, length,
 use Rattle.gt_core.specs.Task.{Task}
 use Rattle.two_invariants.specs.Closed.{AreInvariants}
 use Rattle.task_text.specs.Text.{order_text}
-use Rattle.plan_top.specs.declared.ending.Ending.TheVariants.{Listing}
+use Rattle.plan_endings.specs.declared.ending.Ending.TheVariants.{Listing}
 use Rattle.plan_top.specs.Causes.{AnswersOrder}
 use Rattle.plan_top.specs.Tasks.{OnceGrounded, grounded}
 use Rattle.plan_top.proofs.Stopped.{memory_handed}

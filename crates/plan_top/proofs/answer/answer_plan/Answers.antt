@@ -2,8 +2,8 @@ use Rattle.std.proofs.Common.{◌≡◌, ◌∙◌, ap, subst}
 use Rattle.gt_core.specs.Task.{Task}
 use Rattle.race_end.specs.Ends.{end_view}
 use Rattle.plan_report.specs.Report.{report_of}
-use Rattle.plan_top.specs.declared.ending.Outcome.{Outcome}
-use Rattle.plan_top.specs.declared.ending.Ending.TheVariants.{Report}
+use Rattle.plan_endings.specs.declared.ending.Outcome.{Outcome}
+use Rattle.plan_endings.specs.declared.ending.Ending.TheVariants.{Report}
 use Rattle.plan_top.specs.Stepping.{places_by, is_plan_by}
 use Rattle.plan_top.specs.Tasks.{grounded}
 use Rattle.plan_top.specs.Raced.{ComesTo, ended, outcome_of}

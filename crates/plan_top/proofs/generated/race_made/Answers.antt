@@ -1,8 +1,8 @@
 use Rattle.std.proofs.Common.{◌∙◌, ap, subst}
 use Rattle.gt_core.specs.Task.{Task}
 use Rattle.race_end.specs.Ends.{end_view}
-use Rattle.plan_top.specs.declared.ending.Outcome.{Outcome}
-use Rattle.plan_top.specs.declared.ending.Ending.TheVariants.{Report}
+use Rattle.plan_endings.specs.declared.ending.Outcome.{Outcome}
+use Rattle.plan_endings.specs.declared.ending.Ending.TheVariants.{Report}
 use Rattle.gt_core.specs.Step.{IsStepPlan}
 use Rattle.step_clauses.specs.Variables.{chain_places}
 use Rattle.plan_top.specs.Tasks.{grounded}

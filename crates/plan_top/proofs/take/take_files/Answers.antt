@@ -1,20 +1,17 @@
-use Rattle.std.proofs.Common.{◌≡◌, ℕ, List, sym, length, Some, None, arith}
+use Rattle.std.proofs.Common.{◌≡◌, ◌+◌, sym, length, Some, None, arith}
 use Rattle.std.specs.Prelude.{slice_get}
 use Rattle.plan_words.specs.Seen.{seen, files_of}
 use Rattle.plan_top.specs.Files.{StopsFrom, IsTaken, file_at}
 use Rattle.plan_top.proofs.Stopped.{Stops-handed}
-use Rattle.plan_top.proofs.Taking.{noted_at_last, noted_so_far, stops_here, one_more, all_taken}
+use Rattle.plan_top.proofs.Taking.{name_at, noted_at, noted_at_last, stops_here, one_more, all_taken}
 use Rattle.plan_top.proofs.take.take_files.Goals as goal
-
--- the name after those whose files were taken
-name_at : {A : Type 0} (names : List A) (n m : ℕ) (name : A) → n ≡ m → Some name ≡ slice_get names n → slice_get names m ≡ Some name
-name_at names n m name e h = rw e at (sym h)
 
 pub returns-in_err-bytes-clause-noted : goal.returns-in_err-bytes-clause-noted
 returns-in_err-bytes-clause-noted g c =
     let names = files_of (seen c.args.request.now) in
-    noted_at_last (g.S.Shelf.told c.args.shelf.now) (g.S.Shelf.lacks c.args.shelf.now) (file_at (seen c.args.request.now)) names (g.S.Shelf.failed c.args.shelf.now) (g.S.Shelf.failed c.taking.shelf) (g.S.Shelf.failed c.take_file.new.shelf) c.taking.files.items c.in-Some.name.now c.taking.invariant.so
-    (name_at names c.len.result (length c.taking.files.items) c.in-Some.name.now (omega (arith, c.taking.files.ok)) c.in-Some.ensures) c.in_err-bytes.ensures.notes
+    noted_at names (g.S.Shelf.failed c.args.shelf.now) (g.S.Shelf.failed c.take_file.new.shelf) (length c.taking.files.items + 1)
+    (noted_at_last (g.S.Shelf.told c.args.shelf.now) (g.S.Shelf.lacks c.args.shelf.now) (file_at (seen c.args.request.now)) names (g.S.Shelf.failed c.args.shelf.now) (g.S.Shelf.failed c.taking.shelf) (g.S.Shelf.failed c.take_file.new.shelf) c.taking.files.items c.in-Some.name.now c.taking.invariant.so
+    (name_at names c.len.result (length c.taking.files.items) c.in-Some.name.now (omega (arith, c.taking.files.ok)) c.in-Some.ensures) c.in_err-bytes.ensures.notes)
 
 pub returns-in_err-bytes-clause-stops : goal.returns-in_err-bytes-clause-stops
 returns-in_err-bytes-clause-stops g c =
@@ -50,8 +47,7 @@ taking-preserved g c =
 
 pub returns-clause-noted : goal.returns-clause-noted
 returns-clause-noted g c =
-    noted_so_far (g.S.Shelf.told c.args.shelf.now) (g.S.Shelf.lacks c.args.shelf.now) (file_at (seen c.args.request.now)) (files_of (seen c.args.request.now)) (g.S.Shelf.failed c.args.shelf.now) (g.S.Shelf.failed c.taking.shelf)
-    c.taking.files.items c.taking.invariant.so
+    noted_at (files_of (seen c.args.request.now)) (g.S.Shelf.failed c.args.shelf.now) (g.S.Shelf.failed c.taking.shelf) (length c.taking.files.items) c.taking.invariant.so.noted
 
 pub returns-clause-taken : goal.returns-clause-taken
 returns-clause-taken g c =
@@ -63,5 +59,6 @@ returns-clause-taken g c =
 pub returns-in_err-keep-clause-noted : goal.returns-in_err-keep-clause-noted
 returns-in_err-keep-clause-noted g c =
     let names = files_of (seen c.args.request.now) in
-    noted_at_last (g.S.Shelf.told c.args.shelf.now) (g.S.Shelf.lacks c.args.shelf.now) (file_at (seen c.args.request.now)) names (g.S.Shelf.failed c.args.shelf.now) (g.S.Shelf.failed c.taking.shelf) (g.S.Shelf.failed c.take_file.new.shelf) c.taking.files.items c.in-Some.name.now c.taking.invariant.so
-    (name_at names c.len.result (length c.taking.files.items) c.in-Some.name.now (omega (arith, c.taking.files.ok)) c.in-Some.ensures) c.in_ok-bytes.ensures.notes
+    noted_at names (g.S.Shelf.failed c.args.shelf.now) (g.S.Shelf.failed c.take_file.new.shelf) (length c.taking.files.items + 1)
+    (noted_at_last (g.S.Shelf.told c.args.shelf.now) (g.S.Shelf.lacks c.args.shelf.now) (file_at (seen c.args.request.now)) names (g.S.Shelf.failed c.args.shelf.now) (g.S.Shelf.failed c.taking.shelf) (g.S.Shelf.failed c.take_file.new.shelf) c.taking.files.items c.in-Some.name.now c.taking.invariant.so
+    (name_at names c.len.result (length c.taking.files.items) c.in-Some.name.now (omega (arith, c.taking.files.ok)) c.in-Some.ensures) c.in_ok-bytes.ensures.notes)

@@ -1,5 +1,5 @@
 use Rattle.pd_sexp.specs.View.{view}
-use Rattle.plan_top.specs.declared.ending.File.TheVariants.{Problem}
+use Rattle.plan_endings.specs.declared.ending.File.TheVariants.{Problem}
 use Rattle.plan_top.specs.Tasks.{RefusesTree, RefusesTrees, RefusesTask, problem_tree, no_task}
 use Rattle.plan_top.proofs.Stopped.{Stops-handed, StopsBy-weaker}
 use Rattle.plan_top.proofs.task.read_task.Goals as goal

@@ -1,5 +1,5 @@
 use Rattle.std.proofs.Common.{ap, refl, Err}
-use Rattle.plan_top.specs.declared.ending.Kind.TheVariants.{Deep}
+use Rattle.plan_endings.specs.declared.ending.Kind.TheVariants.{Deep}
 use Rattle.plan_top.proofs.task.tree_of.Goals as goal
 
 pub returns-in-Err-Deep-clause-stops : goal.returns-in-Err-Deep-clause-stops

@@ -1,6 +1,6 @@
 use Rattle.std.proofs.Common.{◌≡◌, Some, ap, ◌∙◌}
 use Rattle.plan_top.specs.Ends.{ending_in}
-use Rattle.plan_top.specs.declared.ending.Ending.TheVariants.{Usage}
+use Rattle.plan_endings.specs.declared.ending.Ending.TheVariants.{Usage}
 use Rattle.plan_top.proofs.Stopped.{ending_answers}
 use Rattle.plan_top.proofs.top.answered.Goals as goal
 

@@ -1,5 +1,5 @@
 use Rattle.std.proofs.Common.{ap, refl, arith}
-use Rattle.plan_top.proofs.Promises.{plan_runs, refuted_steps, refuted_plans, least, unfinished, lines, ground_told, order_told, reached, read_fault, usage, not_taken, no_command, same_report, complete, certified, verified, accepted, rejected}
+use Rattle.plan_top.proofs.Promises.{plan_runs, refuted_steps, refuted_plans, least, unfinished, lines, ground_told, order_told, reached, read_fault, usage, not_taken, no_command, same_report, complete, certified, verified, accepted, rejected, batch, as_alone}
 use Rattle.plan_top.proofs.top.run.Goals as goal
 
 pub returns-clause-plan_runs : goal.returns-clause-plan_runs
@@ -61,3 +61,9 @@ returns-clause-accepted g c = accepted (g.S.Shelf.told c.args.shelf.now) (g.S.Sh
 
 pub returns-clause-rejected : goal.returns-clause-rejected
 returns-clause-rejected g c = rejected (g.S.Shelf.told c.args.shelf.now) (g.S.Shelf.lacks c.args.shelf.now) (g.S.Shelf.failed c.args.shelf.now) (g.S.Shelf.failed c.answered.new.shelf) _ (g.K.Sink.taken c.args.sink.now) (g.K.Sink.taken c.answered.new.sink) _ c.laws.ensures c.answered.ensures.due
+
+pub returns-clause-batch : goal.returns-clause-batch
+returns-clause-batch g c = batch (g.S.Shelf.told c.args.shelf.now) (g.S.Shelf.lacks c.args.shelf.now) (g.S.Shelf.failed c.args.shelf.now) (g.S.Shelf.failed c.answered.new.shelf) _ (g.K.Sink.taken c.args.sink.now) (g.K.Sink.taken c.answered.new.sink) _ c.answered.ensures.due
+
+pub returns-clause-as_alone : goal.returns-clause-as_alone
+returns-clause-as_alone g c = as_alone (g.S.Shelf.told c.args.shelf.now) (g.S.Shelf.lacks c.args.shelf.now) (g.S.Shelf.failed c.args.shelf.now) (g.S.Shelf.failed c.answered.new.shelf) _ (g.K.Sink.taken c.args.sink.now) (g.K.Sink.taken c.answered.new.sink) _ c.laws.ensures c.answered.ensures.due

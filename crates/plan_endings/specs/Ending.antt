@@ -1,19 +1,19 @@
 -- The exit status and the text of each ending of a run.
-use Rattle.std.specs.Prelude.{ℕ, ◌+◌, ◌<◌, ◌^◌, List, [], ◌∷◌, ◌++◌, codes, decimal}
+use Rattle.std.specs.Prelude.{ℕ, ◌+◌, ◌<◌, ◌^◌, List, [], ◌∷◌, ◌++◌, codes, decimal, map, max}
 use Rattle.report_lines.specs.Lines.{joined}
 use Rattle.report_lines.specs.Horizons.{entry_line}
-use Rattle.plan_top.specs.declared.ending.File.{File}
-use Rattle.plan_top.specs.declared.ending.File.TheVariants.{Domain, Problem, Plan, Proof}
-use Rattle.plan_top.specs.declared.ending.Kind.{Kind}
-use Rattle.plan_top.specs.declared.ending.Kind.TheVariants as kinds
-use Rattle.plan_top.specs.declared.ending.Limit.{Limit}
-use Rattle.plan_top.specs.declared.ending.Limit.TheVariants as limits
-use Rattle.plan_top.specs.declared.ending.Outcome.{Outcome}
-use Rattle.plan_top.specs.declared.ending.Outcome.TheVariants as outcomes
-use Rattle.plan_top.specs.declared.ending.Ending.{Ending}
-use Rattle.plan_top.specs.declared.ending.Ending.TheVariants.{Report, Listing, Reaches, Blocked, Short, Refused, TooLong, TooMany, TooLarge, ReadFault, Usage, Found, Open, Accepted, Rejected, NotEmpty}
-use Rattle.plan_top.specs.declared.ending.Due.{Due}
-use Rattle.plan_top.specs.declared.ending.Due.TheVariants.{Made, Fixed}
+use Rattle.plan_endings.specs.declared.ending.File.{File}
+use Rattle.plan_endings.specs.declared.ending.File.TheVariants.{Domain, Problem, Plan, Proof}
+use Rattle.plan_endings.specs.declared.ending.Kind.{Kind}
+use Rattle.plan_endings.specs.declared.ending.Kind.TheVariants as kinds
+use Rattle.plan_endings.specs.declared.ending.Limit.{Limit}
+use Rattle.plan_endings.specs.declared.ending.Limit.TheVariants as limits
+use Rattle.plan_endings.specs.declared.ending.Outcome.{Outcome}
+use Rattle.plan_endings.specs.declared.ending.Outcome.TheVariants as outcomes
+use Rattle.plan_endings.specs.declared.ending.Ending.{Ending}
+use Rattle.plan_endings.specs.declared.ending.Ending.TheVariants.{Report, Listing, Reaches, Blocked, Short, Refused, TooLong, TooMany, TooLarge, ReadFault, Usage, Found, Open, Accepted, Rejected, NotEmpty, Parts}
+use Rattle.plan_endings.specs.declared.ending.Due.{Due}
+use Rattle.plan_endings.specs.declared.ending.Due.TheVariants.{Made, Fixed}
 
 -- the exit status
 abbrev pub status_of_race : Outcome → ℕ
@@ -38,6 +38,7 @@ status_of (Open horizon conflicts) = 2
 status_of (Accepted horizon entries) = 0
 status_of (Rejected entry) = 1
 status_of NotEmpty = 1
+status_of (Parts status text) = status
 
 -- the word for a file
 abbrev pub word_of : File → List ℕ
@@ -82,11 +83,13 @@ line_of (Open horizon conflicts) = entry_line (record { horizon = horizon; word 
 line_of (Accepted horizon entries) = codes "; accepted horizon " ++ (decimal horizon ++ (codes " entries " ++ decimal entries))
 line_of (Rejected entry) = codes "; rejected entry " ++ decimal entry
 line_of NotEmpty = codes "; not empty"
+line_of (Parts status text) = []
 
--- the text due: that of a report or a listing, or one line
+-- the text due: that of a report, a listing or a batch, or one line
 abbrev pub text_of : Ending → List ℕ
 text_of (Report outcome text) = text
 text_of (Listing text) = text
+text_of (Parts status text) = text
 text_of end = joined (line_of end ∷ [])
 
 -- a place, an index or a count of a line is a number of the program
@@ -105,3 +108,23 @@ IsSmall _ = Unit {0}
 abbrev pub bytes_of : Due → List ℕ
 bytes_of (Made bytes) = bytes
 bytes_of (Fixed text) = text.now
+
+-- ---- the parts of a batch
+
+-- the greatest of statuses
+abbrev pub greatest : List ℕ → ℕ
+greatest [] = 0
+greatest (status ∷ statuses) = max status (greatest statuses)
+
+-- the line before the part of a problem, which is counted from 1
+abbrev pub problem_line : ℕ → List ℕ
+problem_line number = codes "; problem " ++ decimal number
+
+-- the parts of problems from this number on, each under its line
+abbrev pub parts_text : ℕ → List Ending → List ℕ
+parts_text number [] = []
+parts_text number (part ∷ parts) = joined (problem_line number ∷ []) ++ (text_of part ++ parts_text (number + 1) parts)
+
+-- how a batch ends with these parts
+abbrev pub batch_of : List Ending → Ending
+batch_of parts = Parts (greatest (map status_of parts)) (parts_text 1 parts)

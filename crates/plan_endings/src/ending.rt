@@ -2,7 +2,7 @@
 ghost use Rattle.std.specs.Prelude.{◌≡◌, ◌<◌, ◌^◌, ◌∷◌, ◌++◌, [], OnOk, IfOk, IsOk, codes, decimal};
 ghost use Rattle.report_lines.specs.Lines.{joined};
 ghost use Rattle.report_lines.specs.Horizons.{entry_line};
-ghost use Rattle.plan_top.specs.Ending.{status_of_race, status_of, text_of, bytes_of, word_of, kind_word, limit_word, IsSmall};
+ghost use Rattle.plan_endings.specs.Ending.{status_of_race, status_of, text_of, bytes_of, word_of, kind_word, limit_word, IsSmall};
 
 use pl_io::{Bytes, Memory};
 use report_lines::push_number;
@@ -101,6 +101,8 @@ pub enum Ending {
     Rejected { entry: u32 },
     /// The last entry of a certificate is not the empty clause, or there is none.
     NotEmpty,
+    /// The parts of a batch, with the greatest of their statuses.
+    Parts { status: u8, text: Bytes },
 }
 
 impl Outcome {
@@ -131,6 +133,7 @@ impl Ending {
             Ending::TooLong(_) | Ending::TooMany { .. } | Ending::TooLarge { .. } => 4,
             Ending::ReadFault(_) => 5,
             Ending::Usage => 7,
+            Ending::Parts { status, .. } => *status,
         }
     }
 
@@ -143,6 +146,7 @@ impl Ending {
         match self {
             Ending::Report { text, .. } => Ok(Due::Made(text)),
             Ending::Listing(text) => Ok(Due::Made(text)),
+            Ending::Parts { text, .. } => Ok(Due::Made(text)),
             Ending::Reaches => Ok(Due::Fixed("; reaches the goal\n")),
             Ending::Blocked { index } => Ok(Due::Made(blocked(alloc, index)?)),
             Ending::Short => Ok(Due::Fixed("; goal not reached\n")),

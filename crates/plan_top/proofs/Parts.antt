@@ -1,0 +1,175 @@
+-- The parts of a batch: from its files to an ending for each problem.
+use Rattle.std.proofs.Common.{◌≡◌, ◌∙◌, ◌≤◌, ◌<◌, ℕ, ◌+◌, Bool, true, false, List, [], ◌∷◌, ◌++◌, length, Option, Some, None, refl, sym, ap, subst, arith, inl, inr}
+use Rattle.std.specs.List.{AllByRecursion, AllZip}
+use Rattle.horizon_rates.specs.declared.settings.Settings.{Settings}
+use Rattle.plan_words.specs.Seen.{Seen, Numbers, numbers, plans, plans_by, batches, files_of}
+use Rattle.plan_words.specs.declared.request.Stepping.TheVariants.{Exists}
+use Rattle.plan_words.specs.declared.request.Turns.{Turns}
+use Rattle.plan_endings.specs.declared.ending.Ending.{Ending}
+use Rattle.plan_endings.specs.declared.ending.Ending.TheVariants.{ReadFault}
+use Rattle.plan_endings.specs.declared.ending.File.{File}
+use Rattle.plan_endings.specs.declared.ending.File.TheVariants.{Domain, Problem}
+use Rattle.plan_top.specs.Files.{FaultsFrom, IsTaken, IsTooLong, IsTakenOrLong, AreTakenOrLong, most_of, most_bytes, file_at}
+use Rattle.plan_top.specs.Tasks.{OnceGrounded, grounded}
+use Rattle.plan_top.specs.Causes.{AnswersPlan, HasRead, ComesFor, stopped, decided, ArePartsOf, ComesForBatch, unread, in_parts, ComesOf, is_answer}
+use Rattle.plan_top.specs.Parts.{IsBatch, IsShort, AnswersPart, AnswersBatch, EndsAlone, IsRunOf, IsSound, ArePrepared, AnswersRun, open_in, woven}
+use Rattle.plan_top.specs.declared.parts.Run.{Run}
+use Rattle.plan_top.proofs.Complete.{batch_most}
+use Rattle.plan_top.proofs.Taking.{taken_fits}
+use Rattle.plan_top.proofs.Told.{decides_answer, taken_comes}
+
+-- ---- files
+
+answered_read : (domain problem : List ℕ) (n : Numbers) (end : Ending) → is_answer (plans domain problem n) end ≡ true → HasRead end
+answered_read domain problem n (ReadFault file) h = let never : false ≡ true = h in cc
+answered_read domain problem n end h = tt
+
+-- of a file with the same limit
+taken_as : (told : List ℕ → Option (List ℕ)) (lacks : List ℕ → Bool) (f g : File) (name bytes : List ℕ) → most_of f ≡ most_of g → IsTaken told lacks f name bytes → IsTaken told lacks g name bytes
+taken_as told lacks f g name bytes same is = record { there = is.there; whole = is.whole; fits = rw same at is.fits }
+
+long_as : (told : List ℕ → Option (List ℕ)) (lacks : List ℕ → Bool) (f g : File) (name : List ℕ) → most_of f ≡ most_of g → IsTooLong told lacks f name → IsTooLong told lacks g name
+long_as told lacks f g name same is = rw same at is
+
+met_short : (told : List ℕ → Option (List ℕ)) (lacks : List ℕ → Bool) (f : File) (name : List ℕ) (x : Option (List ℕ)) → most_of f ≡ most_bytes → IsTakenOrLong told lacks f name x → IsShort x
+met_short told lacks f name (Some bytes) same is = rw same at is.fits
+met_short told lacks f name None same is = tt
+
+met_count : (told : List ℕ → Option (List ℕ)) (lacks : List ℕ → Bool) (file : ℕ → File) (place : ℕ) (names : List (List ℕ)) (files : List (Option (List ℕ))) → AreTakenOrLong told lacks file place names files → length files ≡ length names
+met_count told lacks file place [] [] are = refl
+met_count told lacks file place [] (x ∷ xs) are = absurd are
+met_count told lacks file place (n ∷ ns) [] are = absurd are
+met_count told lacks file place (n ∷ ns) (x ∷ xs) are = let rest = met_count told lacks file (place + 1) ns xs are.1 in omega (arith, rest)
+
+-- what two files come to that were taken, or have more bytes than they may have
+part_comes : (told : List ℕ → Option (List ℕ)) (lacks : List ℕ → Bool) (old new : List (List ℕ)) (domain problem : List ℕ) (settings : Settings) (f g : File) → most_of f ≡ most_bytes → most_of g ≡ most_bytes
+    → (first second : Option (List ℕ)) → IsTakenOrLong told lacks f domain first → IsTakenOrLong told lacks g problem second → (end : Ending) → AnswersPart settings first second end
+    → ComesFor told lacks old new (plans domain problem (numbers settings)) end × HasRead end
+part_comes told lacks old new domain problem settings f g one other None second first_is second_is end h =
+    (stopped (inl (inr (h, long_as told lacks f Domain domain one first_is))), subst HasRead (sym h) tt)
+part_comes told lacks old new domain problem settings f g one other (Some a) None first_is second_is end h = (
+  stopped (inr (taken_fits told lacks Domain domain a (taken_as told lacks f Domain domain a one first_is), inl (inr (h, long_as told lacks g Problem problem other second_is)))),
+  subst HasRead (sym h) tt,
+)
+part_comes told lacks old new domain problem settings f g one other (Some a) (Some b) first_is second_is end h =
+    let n = numbers settings in (
+      taken_comes told lacks old new (plans domain problem n) (a ∷ b ∷ []) (taken_as told lacks f Domain domain a one first_is, taken_as told lacks g Problem problem b other second_is, tt) end (settings, refl, h),
+      answered_read domain problem n end (decides_answer (plans domain problem n) (a ∷ b ∷ []) end (settings, refl, h)),
+    )
+
+module _ (told : List ℕ → Option (List ℕ)) (lacks : List ℕ → Bool) (old new : List (List ℕ)) (domain : List ℕ) (all : List (List ℕ)) (settings : Settings) (turns : Turns) where
+  -- the limit of each file
+  limit_at : (place : ℕ) → most_of (file_at (batches domain all (numbers settings) turns) place) ≡ most_bytes
+  limit_at place = batch_most domain all (numbers settings) turns place
+
+  pub all_short : (place : ℕ) (names : List (List ℕ)) (files : List (Option (List ℕ))) → AreTakenOrLong told lacks (file_at (batches domain all (numbers settings) turns)) place names files → AllByRecursion IsShort files
+  all_short place [] [] are = tt
+  all_short place [] (x ∷ xs) are = absurd are
+  all_short place (n ∷ ns) [] are = tt
+  all_short place (n ∷ ns) (x ∷ xs) are = (met_short told lacks (file_at (batches domain all (numbers settings) turns) place) n x (limit_at place) are.0, all_short (place + 1) ns xs are.1)
+
+  parts_come : (first : Option (List ℕ)) → IsTakenOrLong told lacks Domain domain first → (place : ℕ) (problems : List (List ℕ)) (files : List (Option (List ℕ))) (parts : List Ending)
+      → AreTakenOrLong told lacks (file_at (batches domain all (numbers settings) turns)) place problems files → AllZip (AnswersPart settings first) files parts → ArePartsOf told lacks old new domain (numbers settings) problems parts
+  parts_come first is place [] [] [] are h = tt
+  parts_come first is place [] [] (e ∷ es) are h = absurd h
+  parts_come first is place [] (x ∷ xs) parts are h = absurd are
+  parts_come first is place (p ∷ ps) [] parts are h = absurd are
+  parts_come first is place (p ∷ ps) (x ∷ xs) [] are h = absurd h
+  parts_come first is place (p ∷ ps) (x ∷ xs) (e ∷ es) are h = (
+    part_comes told lacks old new domain p settings Domain (file_at (batches domain all (numbers settings) turns) place) refl (limit_at place) first x is are.0 e h.0,
+    parts_come first is (place + 1) ps xs es are.1 h.1,
+  )
+
+  -- what the files come to comes of the batch
+  pub batch_comes : (first : Option (List ℕ)) (files : List (Option (List ℕ))) → AreTakenOrLong told lacks (file_at (batches domain all (numbers settings) turns)) 0 (domain ∷ all) (first ∷ files) → (end : Ending)
+      → AnswersBatch settings first files end → ComesForBatch told lacks old new domain all (numbers settings) turns end
+  batch_comes first files are end (parts, h, e) = in_parts parts (parts_come first are.0 1 all files parts are.1 h) e
+
+-- the same of a request for a batch
+module _ (told : List ℕ → Option (List ℕ)) (lacks : List ℕ → Bool) (old new : List (List ℕ)) (settings : Settings) (turns : Turns) (request : Seen) (is : IsBatch settings turns request) where
+  -- its files were taken, or have more bytes than they may have
+  abbrev AreMet : List (Option (List ℕ)) → Type 0
+  AreMet files = AreTakenOrLong told lacks (file_at request) 0 (files_of request) files
+
+  met_batch : (files : List (Option (List ℕ))) → AreMet files → AreTakenOrLong told lacks (file_at (batches is.0 is.1 (numbers settings) turns)) 0 (is.0 ∷ is.1) files
+  met_batch files are = subst (λ (r : Seen). AreTakenOrLong told lacks (file_at r) 0 (files_of r) files) is.2 are
+
+  pub some_files : (files : List (Option (List ℕ))) → AreMet files → 0 < length files
+  some_files files are = let count = met_count told lacks (file_at (batches is.0 is.1 (numbers settings) turns)) 0 (is.0 ∷ is.1) files (met_batch files are) in omega (arith, count)
+
+  pub files_short : (files : List (Option (List ℕ))) → AreMet files → AllByRecursion IsShort files
+  files_short files are = all_short told lacks old new is.0 is.1 settings turns 0 (is.0 ∷ is.1) files (met_batch files are)
+
+  pub files_few : (files : List (Option (List ℕ))) → AreMet files → length files ≤ 17
+  files_few files are = let count = met_count told lacks (file_at (batches is.0 is.1 (numbers settings) turns)) 0 (is.0 ∷ is.1) files (met_batch files are) in let few = is.3 in omega (arith, count, few)
+
+  pub request_comes : (first : Option (List ℕ)) (files : List (Option (List ℕ))) → AreMet (first ∷ files) → (end : Ending) → AnswersBatch settings first files end → ComesOf told lacks old new request end
+  request_comes first files are end h = subst (λ (r : Seen). ComesOf told lacks old new r end) (sym is.2) (batch_comes told lacks old new is.0 is.1 settings turns first files (met_batch (first ∷ files) are) end h)
+
+  pub request_unread : (end : Ending) → FaultsFrom told lacks old new (file_at request) 0 (files_of request) end → ComesOf told lacks old new request end
+  request_unread end h = subst (λ (r : Seen). FaultsFrom told lacks old new (file_at r) 0 (files_of r) end → ComesOf told lacks old new r end) (sym is.2) (λ k. unread k) h
+
+-- ---- before the races
+
+pub more_ended : (domain : Option (List ℕ)) (problems : List (Option (List ℕ))) (ended : List (Option Ending)) (runs : List Run) (problem : Option (List ℕ)) (end : Ending) → ArePrepared domain problems ended runs
+    → EndsAlone domain problem end → ArePrepared domain (problems ++ problem ∷ []) (ended ++ Some end ∷ []) runs
+more_ended domain [] [] [] problem end are h = (h, tt)
+more_ended domain [] [] (r ∷ rs) problem end are h = absurd are
+more_ended domain [] (x ∷ xs) runs problem end are h = absurd are
+more_ended domain (p ∷ ps) [] runs problem end are h = absurd are
+more_ended domain (p ∷ ps) (Some e ∷ es) runs problem end are h = (are.0, more_ended domain ps es runs problem end are.1 h)
+more_ended domain (p ∷ ps) (None ∷ es) [] problem end are h = absurd are
+more_ended domain (p ∷ ps) (None ∷ es) (r ∷ rs) problem end are h = (are.0, more_ended domain ps es rs problem end are.1 h)
+
+pub more_runs : (domain : Option (List ℕ)) (problems : List (Option (List ℕ))) (ended : List (Option Ending)) (runs : List Run) (problem : Option (List ℕ)) (run : Run) → ArePrepared domain problems ended runs
+    → IsRunOf domain problem run → ArePrepared domain (problems ++ problem ∷ []) (ended ++ None ∷ []) (runs ++ run ∷ [])
+more_runs domain [] [] [] problem run are h = (h, tt)
+more_runs domain [] [] (r ∷ rs) problem run are h = absurd are
+more_runs domain [] (x ∷ xs) runs problem run are h = absurd are
+more_runs domain (p ∷ ps) [] runs problem run are h = absurd are
+more_runs domain (p ∷ ps) (Some e ∷ es) runs problem run are h = (are.0, more_runs domain ps es runs problem run are.1 h)
+more_runs domain (p ∷ ps) (None ∷ es) [] problem run are h = absurd are
+more_runs domain (p ∷ ps) (None ∷ es) (r ∷ rs) problem run are h = (are.0, more_runs domain ps es rs problem run are.1 h)
+
+run_sound : (domain problem : Option (List ℕ)) (run : Run) → IsRunOf domain problem run → IsSound run
+run_sound None problem run h = absurd h
+run_sound (Some a) None run h = absurd h
+run_sound (Some a) (Some b) run h = (h.1, h.2)
+
+pub runs_sound : (domain : Option (List ℕ)) (problems : List (Option (List ℕ))) (ended : List (Option Ending)) (runs : List Run) → ArePrepared domain problems ended runs → AllByRecursion IsSound runs
+runs_sound domain [] [] [] are = tt
+runs_sound domain [] [] (r ∷ rs) are = absurd are
+runs_sound domain [] (x ∷ xs) runs are = absurd are
+runs_sound domain (p ∷ ps) [] runs are = absurd are
+runs_sound domain (p ∷ ps) (Some e ∷ es) runs are = runs_sound domain ps es runs are.1
+runs_sound domain (p ∷ ps) (None ∷ es) [] are = absurd are
+runs_sound domain (p ∷ ps) (None ∷ es) (r ∷ rs) are = (run_sound domain p r are.0, runs_sound domain ps es rs are.1)
+
+-- as many runs as problems without an ending, and not more than there are problems
+pub runs_open : (domain : Option (List ℕ)) (problems : List (Option (List ℕ))) (ended : List (Option Ending)) (runs : List Run) → ArePrepared domain problems ended runs
+    → (open_in ended ≡ length runs) × (length ended ≡ length problems) × (length runs ≤ length problems)
+runs_open domain [] [] [] are = (refl, refl, omega arith)
+runs_open domain [] [] (r ∷ rs) are = absurd are
+runs_open domain [] (x ∷ xs) runs are = absurd are
+runs_open domain (p ∷ ps) [] runs are = absurd are
+runs_open domain (p ∷ ps) (Some e ∷ es) runs are = let rest = runs_open domain ps es runs are.1 in (rest.0, omega (arith, rest.1), omega (arith, rest.2))
+runs_open domain (p ∷ ps) (None ∷ es) [] are = absurd are
+runs_open domain (p ∷ ps) (None ∷ es) (r ∷ rs) are = let rest = runs_open domain ps es rs are.1 in (omega (arith, rest.0), omega (arith, rest.1), omega (arith, rest.2))
+
+-- ---- after them
+
+run_answers : (settings : Settings) (domain problem : Option (List ℕ)) (run : Run) (end : Ending) → IsRunOf domain problem run → AnswersRun settings run end → AnswersPart settings domain problem end
+run_answers settings None problem run end is h = absurd is
+run_answers settings (Some a) None run end is h = absurd is
+run_answers settings (Some a) (Some b) run end is h = grounded run.ready.task run.ready.grounded is.0 is.1 h
+
+-- each problem has its ending, or that of its run
+pub woven_answers : (settings : Settings) (domain : Option (List ℕ)) (problems : List (Option (List ℕ))) (ended : List (Option Ending)) (runs : List Run) (others : List Ending) → ArePrepared domain problems ended runs
+    → AllZip (AnswersRun settings) runs others → AllZip (AnswersPart settings domain) problems (woven ended others)
+woven_answers settings domain [] [] runs others are h = tt
+woven_answers settings domain [] (x ∷ xs) runs others are h = absurd are
+woven_answers settings domain (p ∷ ps) [] runs others are h = absurd are
+woven_answers settings domain (p ∷ ps) (Some e ∷ es) runs others are h = (are.0 settings, woven_answers settings domain ps es runs others are.1 h)
+woven_answers settings domain (p ∷ ps) (None ∷ es) [] others are h = absurd are
+woven_answers settings domain (p ∷ ps) (None ∷ es) (r ∷ rs) [] are h = absurd h
+woven_answers settings domain (p ∷ ps) (None ∷ es) (r ∷ rs) (o ∷ os) are h = (run_answers settings domain p r o are.0 h.0, woven_answers settings domain ps es rs os are.1 h.1)
