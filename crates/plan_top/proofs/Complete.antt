@@ -1,6 +1,5 @@
 -- Words and files that are in order are answered.
-use Rattle.std.proofs.Common.{◌≡◌, ◌<◌, ◌≤◌, ℕ, ◌+◌, ◌==◌, Bool, true, false, if◌then◌else◌, List, [], ◌∷◌, ◌++◌, length, Option, Some, None, Ok, Err, refl, sym, subst, ap, ◌∙◌, arith, inl, inr}
-use Rattle.std.specs.Prelude.{Contains}
+use Rattle.std.proofs.Common.{◌≡◌, ◌<◌, ◌≤◌, ℕ, ◌+◌, ◌==◌, Bool, true, false, if◌then◌else◌, List, [], ◌∷◌, ◌++◌, length, Option, Some, Ok, Err, refl, sym, subst, ap, ◌∙◌, arith, inl, inr}
 use Rattle.std.specs.List.{AllZip, AllByRecursion}
 use Rattle.pd_sexp.specs.Tree.{Tree}
 use Rattle.pd_sexp.specs.Fault.{Reads}
@@ -245,7 +244,7 @@ module _ (told : List ℕ → Option (List ℕ)) (lacks : List ℕ → Bool) (ol
     parts_good place (p ∷ ps) texts [] are fit order quiet comes = absurd comes
     parts_good place (p ∷ ps) [] (x ∷ xs) are fit order quiet comes = absurd are
     parts_good place (p ∷ ps) (t ∷ ts) (x ∷ xs) are fit order quiet comes = (
-      alone no_fault (plans domain p n) (first ∷ t ∷ []) (is, are.0, tt) (fits, rw (batch_most domain all n turns place) at fit.0, tt) order.0
+      alone no_fault (plans domain p n) (first ∷ t ∷ []) (is, (are.0, tt)) (fits, (rw (batch_most domain all n turns place) at fit.0, tt)) order.0
           (λ rose. quiet (first_two rose)) x comes.0.0,
       parts_good (place + 1) ps ts xs are.1 fit.1 order.1 (λ rose. quiet (others rose)) comes.1,
     )

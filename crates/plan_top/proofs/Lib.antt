@@ -9,7 +9,7 @@ pub mod Complete
 mod OneTask
 mod OneReport
 pub mod Lists
-pub mod Raced
+pub mod RaceEnds
 pub mod Turns
-pub mod Parts
+pub mod Batches
 pub mod Promises

@@ -1,5 +1,5 @@
 -- Lists place by place.
-use Rattle.std.proofs.Common.{◌≡◌, ◌<◌, ℕ, ◌+◌, zero, suc, List, [], ◌∷◌, ◌++◌, length, take, slice_index_or, subst, sym, add-one, refl, ap, arith}
+use Rattle.std.proofs.Common.{◌≡◌, ◌<◌, ℕ, zero, suc, List, [], ◌∷◌, ◌++◌, length, take, slice_index_or, subst, sym, refl, ap, arith}
 use Rattle.std.specs.List.{AllByRecursion, AllZip}
 
 -- what stands at a place of both lists
@@ -32,3 +32,14 @@ zip_right R P from [] [] r = tt
 zip_right R P from [] (y ∷ ys) r = absurd r
 zip_right R P from (x ∷ xs) [] r = absurd r
 zip_right R P from (x ∷ xs) (y ∷ ys) r = (from x y r.0, zip_right R P from xs ys r.1)
+
+-- what was read at a place of each
+pub zip_here : {X Y : Type 0} (R : X → Y → Type 0) (xs : List X) (ys : List Y) (place : ℕ) (x : X) (y : Y) → AllZip R xs ys → place < length xs → x ≡ slice_index_or xs place x → y ≡ slice_index_or ys place y → R x y
+zip_here R xs ys place x y all within one other =
+    subst (λ v. R v y) (sym one) (subst (λ w. R (slice_index_or xs place x) w) (sym other) (zip_read R xs ys place x y all within))
+
+-- one item more of a list
+pub take_more : {X : Type 0} (xs : List X) (place : ℕ) (x : X) → place < length xs → x ≡ slice_index_or xs place x → take (suc place) xs ≡ take place xs ++ x ∷ []
+take_more [] place x within is = absurd (omega (arith, within))
+take_more (y ∷ ys) zero x within is = ap (λ z. z ∷ []) (sym is)
+take_more (y ∷ ys) (suc place) x within is = ap (λ zs. y ∷ zs) (take_more ys place x (omega (arith, within)) is)

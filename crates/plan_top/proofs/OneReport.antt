@@ -19,7 +19,6 @@ use Rattle.race.specs.Race as stage
 use Rattle.plan_gen.specs.declared.Kind.{Kind as Generated}
 use Rattle.plan_gen.specs.Task.{domain_of, problem_of}
 use Rattle.plan_report.specs.Report.{report_of, summary_of}
-use Rattle.plan_words.specs.Requested.{requested}
 use Rattle.plan_words.specs.Seen.{Seen, Numbers, NumbersAreSettings, numbers, plans, plans_by, generates, batches, files_of}
 use Rattle.plan_words.specs.declared.request.Show.{Show}
 use Rattle.plan_words.specs.declared.request.Show.TheVariants as shows

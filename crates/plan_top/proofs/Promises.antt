@@ -1,5 +1,5 @@
 -- The promises of the top call, each from what it needs alone: mostly that its ending has a cause and that its text is written.
-use Rattle.std.proofs.Common.{◌≡◌, ◌≤◌, ◌+◌, ℕ, Bool, true, false, List, [], ◌∷◌, ◌++◌, Option, Some, None, Ok, refl, sym, ap, subst, ◌∙◌, arith, inl, inr, codes, map}
+use Rattle.std.proofs.Common.{◌≡◌, ◌≤◌, ◌+◌, ℕ, Bool, true, false, List, [], ◌∷◌, Option, Some, None, Ok, refl, sym, ap, subst, ◌∙◌, arith, inl, inr, codes, map}
 use Rattle.std.specs.Prelude.{IsTrue, Contains, ◌⊎◌, slice_get}
 use Rattle.std.proofs.lemmas.Bool.Decides.{eqb_tells}
 use Rattle.pl_io.specs.Outside.{appended, TakesFront}
@@ -28,7 +28,7 @@ use Rattle.plan_words.specs.Requested.{requested}
 use Rattle.plan_endings.specs.declared.ending.Outcome.{Outcome}
 use Rattle.plan_endings.specs.declared.ending.Outcome.TheVariants as outcomes
 use Rattle.plan_endings.specs.declared.ending.Ending.{Ending}
-use Rattle.plan_endings.specs.declared.ending.Ending.TheVariants.{Report, Listing, Reaches, Blocked, Short, Refused, TooLong, TooMany, TooLarge, ReadFault, Usage, Found, Open, Accepted, Rejected, NotEmpty, Parts}
+use Rattle.plan_endings.specs.declared.ending.Ending.TheVariants.{Report, Listing, Reaches, Blocked, Short, Refused, TooLong, TooMany, TooLarge, ReadFault, Usage, Found, Open, Accepted, Rejected, NotEmpty, Parts as Batched}
 use Rattle.plan_top.specs.Files.{StopsFrom, FaultsFrom, OfTold, RoseAmong, file_at}
 use Rattle.plan_top.specs.Stepping.{places_by, is_plan_by}
 use Rattle.plan_top.specs.Tasks.{AreTask, RefusesTask, IsReady, StopsTask, refused, past, OnceRead, not_read, read, OnceGrounded, not_grounded, grounded}
@@ -196,7 +196,7 @@ fault_answers (proves d p h b) file k = let never : false ≡ true = k in cc
 fault_answers (verifies d p c) file h = let never : false ≡ true = h in cc
 fault_answers (batches d ps n t) file h = let never : false ≡ true = h in cc
 
-parts_answers : (request : Seen) (status : ℕ) (text : List ℕ) → is_answer request (Parts status text) ≡ true → ⊥
+parts_answers : (request : Seen) (status : ℕ) (text : List ℕ) → is_answer request (Batched status text) ≡ true → ⊥
 parts_answers (plans_by steps d p n) status text h = let never : false ≡ true = h in cc
 parts_answers (checks d p l) status text h = let never : false ≡ true = h in cc
 parts_answers (grounds d p) status text h = let never : false ≡ true = h in cc
@@ -225,7 +225,7 @@ answer_low request (Open horizon conflicts) h = omega arith
 answer_low request (Accepted horizon entries) h = omega arith
 answer_low request (Rejected entry) h = omega arith
 answer_low request NotEmpty h = omega arith
-answer_low request (Parts status text) h = absurd (parts_answers request status text h)
+answer_low request (Batched status text) h = absurd (parts_answers request status text h)
 
 module _ (told : List ℕ → Option (List ℕ)) (lacks : List ℕ → Bool) (old new : List (List ℕ)) where
   -- a file that stops a run: it could not be read, or is too long
@@ -281,6 +281,14 @@ module _ (told : List ℕ → Option (List ℕ)) (lacks : List ℕ → Bool) (ol
   request_low (proves d p k b) end h = one_low (proves d p k b) end h
   request_low (verifies d p c) end h = one_low (verifies d p c) end h
   request_low (batches d ps n t) end h = batch_low d ps n t end h
+
+  -- no ending that comes has a status of its own for a write fault or for want of memory
+  pub status_apart : (words : List (List ℕ)) (end : Ending) → Comes told lacks old new words end → (status_of end ≡ 6 → ⊥) × (status_of end ≡ 8 → ⊥)
+  status_apart words end (no_request none e) = let seven = ap status_of e in (λ six. omega (arith, seven, six), λ eight. omega (arith, seven, eight))
+  status_apart words end (of_request request asked h) = elim (request_low request end h) [
+    | inl k ↦ (let five = k.0 in (λ six. omega (arith, five, six), λ eight. omega (arith, five, eight)))
+    | inr low ↦ (λ six. omega (arith, low, six), λ eight. omega (arith, low, eight))
+  ]
 
 -- ---- certificates
 

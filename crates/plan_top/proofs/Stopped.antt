@@ -1,11 +1,11 @@
 -- What is known of a call that ends the run is handed on.
 use Rattle.std.proofs.Common.{◌≡◌, Result, Ok, Err, Some, None, subst}
-use Rattle.std.specs.Prelude.{IsErrAnd}
+use Rattle.std.specs.Prelude.{IfOk, IsErrAnd}
 use Rattle.std.proofs.lemmas.Result.{err_from_is_err_and}
 use Rattle.plan_endings.specs.declared.ending.Ending.{Ending}
 use Rattle.plan_top.specs.declared.stop.Stop.{Stop}
 use Rattle.plan_top.specs.declared.stop.Stop.TheVariants.{Ends, Memory}
-use Rattle.plan_top.specs.Ends.{EndsBy, StopsBy, EndsAs, ending_in}
+use Rattle.plan_top.specs.Ends.{EndsBy, StopsBy, OnlyMemory, EndsAs, ending_in}
 
 pub EndsBy-weaker : (claim other : Ending → Type 0) → ((end : Ending) → claim end → other end) → (stop : Stop) → EndsBy claim stop → EndsBy other stop
 EndsBy-weaker claim other weaker (Ends end) h = weaker end h
@@ -35,3 +35,9 @@ ending_answers claim (Err Memory) end h is = absurd (let never : Some end ≡ No
 -- of want of memory nothing is said
 pub memory_handed : (claim : Ending → Type 0) (r : Result Ending Stop) → IsErrAnd r (λ told. told ≡ Memory) → EndsAs claim r
 memory_handed claim r handed = let p = err_from_is_err_and r handed in rw (p.1, p.2) tt
+
+-- what was made, or want of memory
+pub EndsAs-made : (claim other : Ending → Type 0) → ((end : Ending) → claim end → other end) → (r : Result Ending Stop) → IfOk r claim → OnlyMemory r → EndsAs other r
+EndsAs-made claim other weaker (Ok end) made only = weaker end made
+EndsAs-made claim other weaker (Err (Ends end)) made only = absurd only
+EndsAs-made claim other weaker (Err Memory) made only = tt

@@ -1,10 +1,10 @@
 -- What the bytes of files decide, the files of a shelf decide; and which answers they give.
 use Rattle.std.proofs.Common.{◌≡◌, ℕ, ◌+◌, Bool, true, List, [], ◌∷◌, Option, Some, None, subst, refl, ◌∙◌, sym, inl, inr}
-use Rattle.std.specs.Prelude.{IfSome, ◌⊎◌}
+use Rattle.std.specs.Prelude.{IfSome}
 use Rattle.std.specs.List.{AllZip}
 use Rattle.horizon_rates.specs.declared.settings.Settings.{Settings}
 use Rattle.plan_endings.specs.declared.ending.File.{File}
-use Rattle.plan_endings.specs.declared.ending.File.TheVariants.{Domain, Problem, Proof}
+use Rattle.plan_endings.specs.declared.ending.File.TheVariants.{Domain, Problem}
 use Rattle.pd_model.specs.declared.calls.Verdict.{Verdict}
 use Rattle.pd_model.specs.declared.calls.Verdict.TheVariants as verdicts
 use Rattle.pd_model.specs.Plan.{verdict}
@@ -25,7 +25,7 @@ use Rattle.plan_endings.specs.declared.ending.Kind.TheVariants as kinds
 use Rattle.plan_endings.specs.declared.ending.Ending.{Ending}
 use Rattle.plan_endings.specs.declared.ending.Ending.TheVariants.{Refused, TooMany, Usage}
 use Rattle.plan_endings.specs.declared.ending.Limit.{Limit}
-use Rattle.plan_top.specs.Files.{AreTaken, OfTold, FitFrom, StopsFrom, file_at}
+use Rattle.plan_top.specs.Files.{AreTaken, OfTold, file_at}
 use Rattle.gt_core.specs.Step.{IsStepPlan}
 use Rattle.step_clauses.specs.Variables.{chain_places}
 use Rattle.plan_words.specs.declared.request.Stepping.{Stepping}
@@ -36,7 +36,7 @@ use Rattle.certificates.specs.declared.verify.Judged.TheVariants as judged
 use Rattle.plan_top.specs.Tasks.{RefusesTask, domain_tree, problem_tree, no_task, input_of, refusal_of, OnceRead, not_read, read, refused, past, OnceGrounded, not_grounded, grounded}
 use Rattle.plan_top.specs.Raced.{OnceRaced, too_large, ended}
 use Rattle.plan_top.specs.Generated.{AnswersGenerated, TellsGenerated}
-use Rattle.plan_top.specs.Causes.{OfTwo, OfThree, Decides, AnswersPlan, AnswersGround, AnswersOrder, AnswersCheck, AnswersProve, not_run, run, AnswersVerify, unfit, beyond, spelled, not_checked, checked, ending_of_run, ending_of_check, is_answer, refusal_of_plan, ending_of, ComesFor, stopped, decided, ComesOf, Comes, no_request, of_request}
+use Rattle.plan_top.specs.Causes.{OfTwo, OfThree, Decides, AnswersPlan, AnswersGround, AnswersOrder, AnswersCheck, AnswersProve, not_run, run, AnswersVerify, unfit, beyond, spelled, not_checked, checked, ending_of_run, ending_of_check, is_answer, refusal_of_plan, ending_of, ComesFor, decided, ComesOf, Comes, no_request, of_request}
 use Rattle.plan_top.proofs.Taking.{all_fit}
 
 -- ---- endings that tell of a file

@@ -1,5 +1,5 @@
 -- Each of the first turns is polled once.
-use Rattle.std.proofs.Common.{◌≡◌, ◌∙◌, ◌<◌, ◌≤◌, ℕ, ◌+◌, ◌-◌, zero, suc, add-one, Bool, true, false, List, [], ◌∷◌, ◌++◌, length, nat_eq, count_by, refl, sym, ap, arith, inl, inr}
+use Rattle.std.proofs.Common.{◌≡◌, ◌∙◌, ◌<◌, ◌≤◌, ℕ, ◌+◌, zero, suc, false, List, [], ◌∷◌, ◌++◌, nat_eq, count_by, refl, sym, ap, arith, inl, inr}
 use Rattle.std.specs.List.{AllByRecursion}
 use Rattle.std.proofs.Math.Dec.{eqb}
 use Rattle.std.proofs.lemmas.Bool.{eq-eqb}

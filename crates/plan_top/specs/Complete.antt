@@ -1,5 +1,5 @@
 -- Words and files that are in order, so that they are answered.
-use Rattle.std.specs.Prelude.{◌≡◌, ◌⊎◌, ◌≤◌, Contains, ℕ, List, [], ◌∷◌, length, Option, Some, Ok}
+use Rattle.std.specs.Prelude.{◌≡◌, ◌⊎◌, Contains, ℕ, List, [], ◌∷◌, Option, Some, Ok}
 use Rattle.std.specs.List.{AllByRecursion, AllZip}
 use Rattle.pd_model.specs.declared.calls.Call.{Call}
 use Rattle.pd_model.specs.declared.parts.Parts.{Parts}

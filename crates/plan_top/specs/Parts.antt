@@ -1,5 +1,5 @@
 -- What each part of a batch comes to.
-use Rattle.std.specs.Prelude.{◌≡◌, ◌+◌, ◌≤◌, ℕ, List, [], ◌∷◌, length, Option, Some, None, Result, Ok, Err, IfSome, ◌-◌, false}
+use Rattle.std.specs.Prelude.{◌≡◌, ◌+◌, ◌≤◌, ℕ, List, [], ◌∷◌, length, Option, Some, None, Result, Ok, Err, IfSome, ◌-◌, false, IsTrue}
 use Rattle.std.specs.List.{AllZip}
 use Rattle.horizon_rates.specs.declared.settings.Settings.{Settings}
 use Rattle.race_end.specs.declared.end.RaceEnd.{RaceEnd}
@@ -26,6 +26,9 @@ use Rattle.plan_top.specs.declared.parts.Part.{Part}
 use Rattle.plan_top.specs.declared.parts.Part.TheVariants as parts
 use Rattle.plan_top.specs.declared.parts.Run.{Run}
 use Rattle.plan_top.specs.declared.task.Reading.{Reading}
+use Rattle.plan_top.specs.declared.task.Reading.TheVariants as readings
+use Rattle.pd_sexp.specs.View.{view}
+use Rattle.pd_sexp.specs.Word.{has_words}
 
 -- at most 16 problems of a domain, with these settings, in these turns
 abbrev pub IsBatch : Settings → Turns → Seen → Type 0
@@ -52,6 +55,11 @@ abbrev pub IsFirst : Option (List ℕ) → Option Reading → Type 0
 IsFirst None None = Unit {0}
 IsFirst (Some bytes) (Some reading) = IsReading bytes reading
 IsFirst _ _ = ⊥
+
+-- a tree has its words
+abbrev pub HasWords : Option Reading → Type 0
+HasWords (Some (readings.Tree tree)) = IsTrue (has_words (view tree))
+HasWords _ = Unit {0}
 
 -- the problem has this ending, whatever the settings
 abbrev pub EndsAlone : (domain problem : Option (List ℕ)) → Ending → Type 0

@@ -8,7 +8,7 @@ ghost use Rattle.plan_top.specs.Ends.{EndsAs, OnlyMemory};
 
 use crate::Ending;
 use crate::first::take_first;
-use crate::parts::{Prepared, Run, parts_of};
+use crate::parts::{Run, parts_of};
 use crate::races::raced_all;
 use crate::reported::reported;
 use crate::stop::Stop;
@@ -39,10 +39,11 @@ pub fn answer_batch<H: Threads + Wait + Sync, D: Driver>(
     ensures batch { EndsAs (AnswersBatch settings.now domain.now problems.now) result }
     ensures drives { D.faults driver.old ≤ D.faults driver.new }
 {
-    let Prepared { ended, runs } = parts_of(rt, alloc, domain, problems)?;
-    let ends = raced_all(rt, alloc, driver, runs.as_slice(), settings, turns)?;
-    let reports = reports_of(alloc, runs.as_slice(), ends.as_slice(), settings)?;
-    joined(alloc, ended, reports)
+    let prepared = parts_of(rt, alloc, domain, problems)?;
+    let runs = prepared.runs.as_slice();
+    let ends = raced_all(rt, alloc, driver, runs, settings, turns)?;
+    let reports = reports_of(alloc, runs, ends.as_slice(), settings)?;
+    joined(alloc, prepared.ended, reports)
 }
 
 // How each run ends, by what its race came to.

@@ -57,7 +57,7 @@ fn decide_request<H: Threads + Wait + Sync, S: Shelf, G: Gate, D: Driver>(
     gate: &G,
     driver: &mut D,
 ) -> Result<Ending, Stop>
-    requires { IsSized (seen request.now) }
+    requires sized { IsSized (seen request.now) }
     ensures cause { EndsAs (ComesOf (S.told shelf.old) (S.lacks shelf.old) (S.failed shelf.old) (S.failed shelf.new) (seen request.now)) result }
     ensures told { S.told shelf.new ≡ S.told shelf.old }
     ensures lacks { S.lacks shelf.new ≡ S.lacks shelf.old }

@@ -4,7 +4,7 @@ ghost use Rattle.std.specs.List.{AllByRecursion};
 ghost use Rattle.pd_sexp.specs.{Fault.Reads, View.view, Word.has_words};
 ghost use Rattle.plan_top.specs.Files.{most_bytes};
 ghost use Rattle.plan_top.specs.Tasks.{IsReading};
-ghost use Rattle.plan_top.specs.Parts.{IsShort, IsFirst, IsPart, ArePrepared};
+ghost use Rattle.plan_top.specs.Parts.{IsShort, IsFirst, HasWords, EndsAlone, IsRunOf, IsPart, ArePrepared};
 ghost use Rattle.plan_top.specs.Ends.{OnlyMemory};
 ghost use Rattle.plan_endings.specs.declared.ending.Ending.{Ending};
 
@@ -47,6 +47,7 @@ pub struct Prepared {
 fn first_of(alloc: Global, domain: &Option<Bytes>) -> Result<Option<Reading>, Stop>
     requires { IsShort domain.now }
     ensures first { IfOk result (IsFirst domain.now) }
+    ensures words { IfOk result HasWords }
     ensures memory { OnlyMemory result }
 {
     match domain {
@@ -84,7 +85,8 @@ fn part_of<H: Threads + Sync>(
     domain: &Option<Reading>,
     problem: &Option<Bytes>,
 ) -> Result<Part, Stop>
-    requires { IsShort problem.now }
+    requires words { HasWords domain.now }
+    requires short { IsShort problem.now }
     ensures part { IfOk result (λ part. (bytes : Option (List ℕ)) → IsFirst bytes domain.now → IsPart bytes problem.now part) }
     ensures memory { OnlyMemory result }
 {
@@ -101,6 +103,27 @@ fn part_of<H: Threads + Sync>(
 }
 
 impl Prepared {
+    // Adds the ending of the next problem.
+    fn push_end(&mut self, end: Ending) -> Result<(), Stop>
+        ensures part { OnOk result ((domain : _) (problems : _) (problem : _) → ArePrepared domain problems self.old.ended.items self.old.runs.items → EndsAlone domain problem end
+            → ArePrepared domain (problems ++ problem ∷ []) self.new.ended.items self.new.runs.items) }
+        ensures memory { OnlyMemory result }
+    {
+        self.ended.push(Some(end))?;
+        Ok(())
+    }
+
+    // Adds the run of the next problem.
+    fn push_run(&mut self, run: Run) -> Result<(), Stop>
+        ensures part { OnOk result ((domain : _) (problems : _) (problem : _) → ArePrepared domain problems self.old.ended.items self.old.runs.items → IsRunOf domain problem run
+            → ArePrepared domain (problems ++ problem ∷ []) self.new.ended.items self.new.runs.items) }
+        ensures memory { OnlyMemory result }
+    {
+        self.ended.push(None)?;
+        self.runs.push(run)?;
+        Ok(())
+    }
+
     // Adds the part of the next problem.
     fn push(&mut self, part: Part) -> Result<(), Stop>
         ensures part { OnOk result ((domain : _) (problems : _) (problem : _) → ArePrepared domain problems self.old.ended.items self.old.runs.items → IsPart domain problem part
@@ -108,13 +131,9 @@ impl Prepared {
         ensures memory { OnlyMemory result }
     {
         match part {
-            Part::Ends(end) => self.ended.push(Some(end))?,
-            Part::Runs(run) => {
-                self.ended.push(None)?;
-                self.runs.push(run)?;
-            }
+            Part::Ends(end) => self.push_end(end),
+            Part::Runs(run) => self.push_run(run),
         }
-        Ok(())
     }
 }
 

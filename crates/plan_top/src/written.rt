@@ -11,6 +11,8 @@ use std::alloc::Global;
 
 /// Makes the text of an ending whole and writes it: the ending's status, 6 where the sink failed, or 8 for want of memory.
 pub fn written<K: Sink>(alloc: Global, ending: Ending, sink: &mut K) -> Status
+    requires not_six { status_of ending ≢ 6 }
+    requires not_eight { status_of ending ≢ 8 }
     ensures due { result.0 ≢ 6 → result.0 ≢ 8 → (result.0 ≡ status_of ending) × (K.taken sink.new ≡ appended (K.taken sink.old) (text_of ending)) }
     ensures write_fault { result.0 ≡ 6 → Rose (K.faults sink.old) (K.faults sink.new) }
     ensures front { result.0 ≢ 8 → IsSmall ending × TakesFront (K.taken sink.old) (K.taken sink.new) (text_of ending) }

@@ -1,7 +1,6 @@
 use Rattle.std.proofs.Common.{◌≡◌, ℕ, List, length, refl, arith}
 use Rattle.plan_top.specs.Files.{file_at}
 use Rattle.plan_words.specs.Seen.{seen, numbers}
-use Rattle.plan_endings.specs.declared.ending.Ending.{Ending}
 use Rattle.plan_top.specs.Tasks.{OnceRead, OnceGrounded}
 use Rattle.plan_top.specs.Generated.{AnswersGenerated}
 use Rattle.plan_top.specs.Causes.{OfSettings, Decides, AnswersPlan, AnswersGround, AnswersOrder, AnswersCheck, AnswersProve, AnswersVerify}

@@ -1,13 +1,10 @@
-use Rattle.std.proofs.Common.{◌≡◌, ◌∙◌, ap, subst}
+use Rattle.std.proofs.Common.{subst}
 use Rattle.gt_core.specs.Task.{Task}
-use Rattle.race_end.specs.Ends.{end_view}
-use Rattle.plan_report.specs.Report.{report_of}
-use Rattle.plan_endings.specs.declared.ending.Outcome.{Outcome}
-use Rattle.plan_endings.specs.declared.ending.Ending.TheVariants.{Report}
 use Rattle.plan_top.specs.Stepping.{places_by, is_plan_by}
-use Rattle.plan_top.specs.Tasks.{grounded}
-use Rattle.plan_top.specs.Raced.{ComesTo, ended, outcome_of}
+use Rattle.plan_top.specs.Tasks.{OnceGrounded, grounded}
+use Rattle.plan_top.specs.Raced.{ComesTo, ended}
 use Rattle.plan_top.specs.Causes.{TellsRace, AnswersPlan}
+use Rattle.plan_top.proofs.Stopped.{EndsAs-made}
 use Rattle.plan_top.proofs.Answered.{stop_handed, race_handed, actions_below}
 use Rattle.plan_top.proofs.answer.answer_plan.Goals as goal
 
@@ -20,8 +17,8 @@ returns-in_err-end g c =
     race_handed (places_by c.args.steps) (is_plan_by c.args.steps) c.args.domain.now c.args.problem.now c.in_ok-ready.ready.task c.in_ok-ready.ready.grounded c.in_ok-ready.ensures.task c.in_ok-ready.ensures.ready c.args.settings.now
     (TellsRace c.args.settings.now) c.in_err-end.field-0.0 c.from_residual-in_err-end.result c.from_residual-in_err-end.ensures.1 (rw c.task.ensures at c.in_err-end.ensures.stops)
 
-pub report_text-requires-clause-actions : goal.report_text-requires-clause-actions
-report_text-requires-clause-actions g c =
+pub reported-requires-clause-actions : goal.reported-requires-clause-actions
+reported-requires-clause-actions g c =
     let ready = c.in_ok-ready.ready in
     let comes = subst (λ (t : Task). ComesTo (places_by c.args.steps) (is_plan_by c.args.steps) t c.args.settings.now c.in_ok-end.end) c.task.ensures c.in_ok-end.ensures.ended in
     actions_below ready.task ready.grounded c.in_ok-ready.ensures.ready.grounded c.in_ok-end.end comes.members
@@ -32,6 +29,5 @@ returns g c =
     let ready = c.in_ok-ready.ready in
     let end = c.in_ok-end.end in
     let comes = subst (λ (t : Task). ComesTo (places_by c.args.steps) (is_plan_by c.args.steps) t settings end) c.task.ensures c.in_ok-end.ensures.ended in
-    let text : c.of.result ≡ report_of ready.task ready.grounded settings.budget (end_view end) = c.of.ensures ∙ c.into_vec.ensures ∙ c.in_ok-text.ensures.text in
-    grounded ready.task ready.grounded c.in_ok-ready.ensures.task c.in_ok-ready.ensures.ready
-    (ended end comes (record { small = c.in_ok-text.ensures.small; told = ap (λ (o : Outcome). Report o c.of.result) c.outcome.ensures ∙ ap (Report (outcome_of (end_view end))) text }))
+    EndsAs-made (TellsRace settings ready.task ready.grounded end) (OnceGrounded c.args.domain.now c.args.problem.now (AnswersPlan c.args.steps settings))
+    (λ e told. grounded ready.task ready.grounded c.in_ok-ready.ensures.task c.in_ok-ready.ensures.ready (ended end comes told)) c.reported.result c.reported.ensures.told c.reported.ensures.memory

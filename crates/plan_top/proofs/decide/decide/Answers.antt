@@ -15,5 +15,5 @@ returns-clause-cause g c =
     EndsAs-weaker (ComesOf told lacks old new request) (Comes told lacks old new words) (λ end h. of_request request (sym (rw c.in-Some.is at c.in_ok-request.ensures.request)) h)
     c.decide_request.result c.decide_request.ensures.cause
 
-pub decide_request-requires : goal.decide_request-requires
-decide_request-requires g c κs within = rw c.in-Some.is at c.in_ok-request.ensures.sized
+pub decide_request-requires-clause-sized : goal.decide_request-requires-clause-sized
+decide_request-requires-clause-sized g c κs within = rw c.in-Some.is at c.in_ok-request.ensures.sized

@@ -1,7 +1,7 @@
 use Rattle.std.proofs.Common.{◌≡◌, ◌∙◌, ℕ, Err, refl, ap}
 use Rattle.step_laws.specs.Form.{OrderedTask}
 use Rattle.certificates.specs.Known.{form_of}
-use Rattle.plan_top.proofs.Raced.{comes_to, too_large_to}
+use Rattle.plan_top.proofs.RaceEnds.{comes_to, too_large_to}
 use Rattle.plan_top.proofs.raced.raced_in.Goals as goal
 
 pub returns-in-Ok-clause-ended : goal.returns-in-Ok-clause-ended

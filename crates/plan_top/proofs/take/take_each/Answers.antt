@@ -1,4 +1,4 @@
-use Rattle.std.proofs.Common.{◌≡◌, ◌+◌, sym, length, Some, None, arith}
+use Rattle.std.proofs.Common.{◌≡◌, ◌+◌, sym, length, None, arith}
 use Rattle.std.specs.Prelude.{slice_get}
 use Rattle.plan_words.specs.Seen.{seen, files_of}
 use Rattle.plan_top.specs.Files.{FaultsFrom, IsTakenOrLong, file_at}

@@ -1,8 +1,19 @@
-use Rattle.std.proofs.Common.{◌≡◌, Some, ap, ◌∙◌}
+use Rattle.std.proofs.Common.{◌≡◌, Some, ap, ◌∙◌, map, string_bytes}
 use Rattle.plan_top.specs.Ends.{ending_in}
 use Rattle.plan_endings.specs.declared.ending.Ending.TheVariants.{Usage}
+use Rattle.plan_top.proofs.Promises.{status_apart}
 use Rattle.plan_top.proofs.Stopped.{ending_answers}
 use Rattle.plan_top.proofs.top.answered.Goals as goal
+
+pub written-requires-clause-not_six : goal.written-requires-clause-not_six
+written-requires-clause-not_six g c =
+    let comes = ending_answers _ c.decide.result c.in-Some.ending c.decide.ensures.cause c.in-Some.ensures in
+    (status_apart (g.S.Shelf.told c.args.shelf.now) (g.S.Shelf.lacks c.args.shelf.now) (g.S.Shelf.failed c.args.shelf.now) (g.S.Shelf.failed c.decide.new.shelf) (map string_bytes c.args.words.now) c.in-Some.ending comes).0
+
+pub written-requires-clause-not_eight : goal.written-requires-clause-not_eight
+written-requires-clause-not_eight g c =
+    let comes = ending_answers _ c.decide.result c.in-Some.ending c.decide.ensures.cause c.in-Some.ensures in
+    (status_apart (g.S.Shelf.told c.args.shelf.now) (g.S.Shelf.lacks c.args.shelf.now) (g.S.Shelf.failed c.args.shelf.now) (g.S.Shelf.failed c.decide.new.shelf) (map string_bytes c.args.words.now) c.in-Some.ending comes).1
 
 pub returns-clause-due : goal.returns-clause-due
 returns-clause-due g c not_six not_eight =

@@ -1,17 +1,17 @@
 -- The parts of a batch: from its files to an ending for each problem.
-use Rattle.std.proofs.Common.{◌≡◌, ◌∙◌, ◌≤◌, ◌<◌, ℕ, ◌+◌, Bool, true, false, List, [], ◌∷◌, ◌++◌, length, Option, Some, None, refl, sym, ap, subst, arith, inl, inr}
+use Rattle.std.proofs.Common.{◌≡◌, ◌≤◌, ◌<◌, ℕ, ◌+◌, Bool, true, false, List, [], ◌∷◌, ◌++◌, length, Option, Some, None, refl, sym, subst, arith, inl, inr}
+use Rattle.std.specs.Prelude.{IsTrue, IfSome}
 use Rattle.std.specs.List.{AllByRecursion, AllZip}
 use Rattle.horizon_rates.specs.declared.settings.Settings.{Settings}
-use Rattle.plan_words.specs.Seen.{Seen, Numbers, numbers, plans, plans_by, batches, files_of}
-use Rattle.plan_words.specs.declared.request.Stepping.TheVariants.{Exists}
+use Rattle.plan_words.specs.Seen.{Seen, Numbers, numbers, plans, batches, files_of}
 use Rattle.plan_words.specs.declared.request.Turns.{Turns}
 use Rattle.plan_endings.specs.declared.ending.Ending.{Ending}
 use Rattle.plan_endings.specs.declared.ending.Ending.TheVariants.{ReadFault}
 use Rattle.plan_endings.specs.declared.ending.File.{File}
 use Rattle.plan_endings.specs.declared.ending.File.TheVariants.{Domain, Problem}
 use Rattle.plan_top.specs.Files.{FaultsFrom, IsTaken, IsTooLong, IsTakenOrLong, AreTakenOrLong, most_of, most_bytes, file_at}
-use Rattle.plan_top.specs.Tasks.{OnceGrounded, grounded}
-use Rattle.plan_top.specs.Causes.{AnswersPlan, HasRead, ComesFor, stopped, decided, ArePartsOf, ComesForBatch, unread, in_parts, ComesOf, is_answer}
+use Rattle.plan_top.specs.Tasks.{grounded}
+use Rattle.plan_top.specs.Causes.{HasRead, ComesFor, stopped, ArePartsOf, ComesForBatch, unread, in_parts, ComesOf, is_answer}
 use Rattle.plan_top.specs.Parts.{IsBatch, IsShort, AnswersPart, AnswersBatch, EndsAlone, IsRunOf, IsSound, ArePrepared, AnswersRun, open_in, woven}
 use Rattle.plan_top.specs.declared.parts.Run.{Run}
 use Rattle.plan_top.proofs.Complete.{batch_most}
@@ -29,7 +29,7 @@ taken_as : (told : List ℕ → Option (List ℕ)) (lacks : List ℕ → Bool) (
 taken_as told lacks f g name bytes same is = record { there = is.there; whole = is.whole; fits = rw same at is.fits }
 
 long_as : (told : List ℕ → Option (List ℕ)) (lacks : List ℕ → Bool) (f g : File) (name : List ℕ) → most_of f ≡ most_of g → IsTooLong told lacks f name → IsTooLong told lacks g name
-long_as told lacks f g name same is = rw same at is
+long_as told lacks f g name same is = subst (λ (most : ℕ). (IsTrue (lacks name) → ⊥) × IfSome (told name) (λ bytes. most < length bytes)) same is
 
 met_short : (told : List ℕ → Option (List ℕ)) (lacks : List ℕ → Bool) (f : File) (name : List ℕ) (x : Option (List ℕ)) → most_of f ≡ most_bytes → IsTakenOrLong told lacks f name x → IsShort x
 met_short told lacks f name (Some bytes) same is = rw same at is.fits
@@ -53,7 +53,7 @@ part_comes told lacks old new domain problem settings f g one other (Some a) Non
 )
 part_comes told lacks old new domain problem settings f g one other (Some a) (Some b) first_is second_is end h =
     let n = numbers settings in (
-      taken_comes told lacks old new (plans domain problem n) (a ∷ b ∷ []) (taken_as told lacks f Domain domain a one first_is, taken_as told lacks g Problem problem b other second_is, tt) end (settings, refl, h),
+      taken_comes told lacks old new (plans domain problem n) (a ∷ b ∷ []) (taken_as told lacks f Domain domain a one first_is, (taken_as told lacks g Problem problem b other second_is, tt)) end (settings, refl, h),
       answered_read domain problem n end (decides_answer (plans domain problem n) (a ∷ b ∷ []) end (settings, refl, h)),
     )
 

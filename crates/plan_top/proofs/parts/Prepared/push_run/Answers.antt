@@ -1,0 +1,6 @@
+use Rattle.plan_top.proofs.Batches.{more_runs}
+use Rattle.plan_top.proofs.parts.Prepared.push_run.Goals as goal
+
+pub returns-clause-part : goal.returns-clause-part
+returns-clause-part c domain problems problem are is =
+    rw (c.in_ok-push.ensures.items, c.in_ok-push-2.ensures.items) (more_runs domain problems c.args.self.now.ended.items c.args.self.now.runs.items problem c.args.run are is)
