@@ -1,4 +1,4 @@
-use Rattle.std.proofs.Common.{arith, ◌≡◌, ◌==◌, ℕ, ◌<◌, List, length, Bool, true, ◌&&◌, refl, sym, ◌⊎◌, inl, inr, subst}
+use Rattle.std.proofs.Common.{arith, ◌≡◌, ◌==◌, ℕ, ◌*◌, ◌<◌, List, length, Bool, true, ◌&&◌, refl, sym, ◌⊎◌, inl, inr, subst}
 use Rattle.bit_rows.specs.Bits.{row_has}
 use Rattle.gt_core.specs.Literal.{opposite, range}
 use Rattle.gt_core.specs.Interference.{has_clause, exclusive}
@@ -6,9 +6,14 @@ use Rattle.gt_core.proofs.Basics.{passing, any_at, and_split, and_both, or_split
 use Rattle.gt_core.proofs.Literals.{opposite_twice, among_range, below_range}
 use Rattle.action_order.specs.Graph.{row_at}
 use Rattle.action_order.specs.Readers.{is_excluded}
+use Rattle.action_order.proofs.ReadersLaw.{opposite_below}
 
 -- Which actions have a precondition that a literal excludes: by its opposite, by a clause with its opposite, or by a
 -- clause of one literal.
+
+-- the opposite of a literal of so many facts is one too
+pub opposite_within : (n facts : ℕ) → n ≡ 2 * facts → (l : ℕ) → l < n → opposite l < n
+opposite_within n facts is l lt = subst (λ (k : ℕ). opposite l < k) (sym is) (opposite_below l facts (subst (λ (k : ℕ). l < k) is lt))
 
 module _ (clauses : List (ℕ × ℕ)) (needing : List (List ℕ)) (p b : ℕ) where
   abbrev test : ℕ → Bool

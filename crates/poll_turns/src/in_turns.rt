@@ -10,7 +10,7 @@ use futures::Future;
 use futures::future::MaybeDone;
 use futures::task::{Context, Poll};
 use poll_run::Driver;
-use std::alloc::{AllocError, AllocFailed, Global};
+use std::alloc::{AllocError, Global};
 use std::mem;
 
 /// Why futures were not brought to their ends.
@@ -20,22 +20,6 @@ pub enum TurnsError {
     Driver,
     /// Want of memory.
     Memory,
-}
-
-/// Want of memory.
-#[derive(Clone, Copy)]
-struct Memory;
-
-impl From<AllocError> for Memory {
-    fn from(_: AllocError) -> Memory {
-        Memory
-    }
-}
-
-impl<T: Drop> From<AllocFailed<T>> for Memory {
-    fn from(_: AllocFailed<T>) -> Memory {
-        Memory
-    }
 }
 
 /// Futures of one type, or what they gave. Each poll goes through `turns`, which are places of the list, and polls each future
@@ -53,7 +37,7 @@ impl<'t, A: Future<Output: Drop>> InTurns<'t, A, A::Output> {
         alloc: Global,
         futures: Vec<A>,
         turns: &'t [u32],
-    ) -> Result<InTurns<'t, A, A::Output>, Memory>
+    ) -> Result<InTurns<'t, A, A::Output>, AllocError>
         requires live { AllByRecursion A.can_poll futures.items }
         requires within { All (λ t. t < length futures.items) turns.now }
         ensures live { IfOk result (λ all. AreLive A.can_poll all) }
@@ -102,7 +86,10 @@ fn are_done<A, T>(slots: &[MaybeDone<A, T>]) -> bool
 }
 
 /// What each future gave, where all are ready.
-fn take_all<A: Drop, T: Drop>(alloc: Global, slots: Vec<MaybeDone<A, T>>) -> Result<Vec<T>, Memory>
+fn take_all<A: Drop, T: Drop>(
+    alloc: Global,
+    slots: Vec<MaybeDone<A, T>>,
+) -> Result<Vec<T>, AllocError>
     requires { AllByRecursion IsDone slots.items }
     ensures { IfOk result (λ ends. slots.items ≡ map MaybeDone.Done ends.items) }
 {
@@ -120,7 +107,7 @@ impl<'t, A: Future<Output: Drop>> Future for InTurns<'t, A, A::Output> {
     ghost use Rattle.std.specs.Prelude.{IfOk};
     ghost use Rattle.poll_turns.specs.Turns.{AreLive, GivesAll};
 
-    type Output = Result<Vec<A::Output>, Memory>;
+    type Output = Result<Vec<A::Output>, AllocError>;
 
     ghost can_poll = { AreLive A.can_poll };
 

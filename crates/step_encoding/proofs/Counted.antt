@@ -24,6 +24,12 @@ smallest : (n f g s k size : ℕ) → size ≡ f + g + n * s + (n + 1) * k → s
 smallest zero f g s k size e le lt = absurd (omega arith)
 smallest (suc m) f g s k size e le lt = omega arith
 
+-- the clauses of one step and of one time are those of a task's formula of a horizon
+pub record HasParts (places : Task → List (List ℕ) → List (List ℕ × ℕ)) (now : OrderedTask) (n : ℕ) (step known : List (List ℕ)) : Type 0 where
+  pub within : IsInRange now.task now.known.clauses (places now.task now.components)
+  pub step_is : 0 < n → step ≡ one_step now.task (places now.task now.components)
+  pub known_is : known ≡ one_time now.known.clauses
+
 module _ (places : Task → List (List ℕ) → List (List ℕ × ℕ)) where
   abbrev at : OrderedTask → List (List ℕ × ℕ)
   at form = places form.task form.components
@@ -45,17 +51,24 @@ module _ (places : Task → List (List ℕ) → List (List ℕ × ℕ)) where
     whole_at form now n e is = ap (λ (f : OrderedTask). formula_at f n) (sym e) ∙ size_law form.task form.known.clauses (at form) n (in_range form is)
 
     -- the clauses that a form keeps are those of its formulas that are not too large
-    pub step_kept : (form now : OrderedTask) (n effects per_step per_time : ℕ) (linked : LinkedChains) (step known : List (List ℕ)) → form ≡ now → AreKept places form effects linked per_step per_time step known → literals_of (formula_of now.task now.known.clauses (at now) n) ≤ 4000000 → 0 < n → step ≡ one_step now.task (at now)
+    step_kept : (form now : OrderedTask) (n effects per_step per_time : ℕ) (linked : LinkedChains) (step known : List (List ℕ)) → form ≡ now → AreKept places form effects linked per_step per_time step known → literals_of (formula_of now.task now.known.clauses (at now) n) ≤ 4000000 → 0 < n → step ≡ one_step now.task (at now)
     step_kept form now n effects per_step per_time linked step known e is small some =
         let w = whole_at form now n e is.ordered in
         is.step_is (smallest n form.task.facts (length form.task.goal) per_step per_time _ (w ∙ rw (is.step_size, is.known_size)) small some)
         ∙ ap (λ (f : OrderedTask). one_step f.task (at f)) e
 
-    pub time_kept : (form now : OrderedTask) (n effects per_step per_time : ℕ) (linked : LinkedChains) (step known : List (List ℕ)) → form ≡ now → AreKept places form effects linked per_step per_time step known → literals_of (formula_of now.task now.known.clauses (at now) n) ≤ 4000000 → known ≡ one_time now.known.clauses
+    time_kept : (form now : OrderedTask) (n effects per_step per_time : ℕ) (linked : LinkedChains) (step known : List (List ℕ)) → form ≡ now → AreKept places form effects linked per_step per_time step known → literals_of (formula_of now.task now.known.clauses (at now) n) ≤ 4000000 → known ≡ one_time now.known.clauses
     time_kept form now n effects per_step per_time linked step known e is small =
         let w = whole_at form now n e is.ordered in
         is.known_is (least n form.task.facts (length form.task.goal) per_step per_time _ (w ∙ rw (is.step_size, is.known_size)) small)
         ∙ ap (λ (f : OrderedTask). one_time f.known.clauses) e
+
+    pub has_parts : (form now : OrderedTask) (n effects per_step per_time : ℕ) (linked : LinkedChains) (step known : List (List ℕ)) → form ≡ now → AreKept places form effects linked per_step per_time step known → literals_of (formula_of now.task now.known.clauses (at now) n) ≤ 4000000 → HasParts places now n step known
+    has_parts form now n effects per_step per_time linked step known e is small = record {
+      within = in_range now (subst IsOrderedTask e is.ordered);
+      step_is = λ some. step_kept form now n effects per_step per_time linked step known e is small some;
+      known_is = time_kept form now n effects per_step per_time linked step known e is small;
+    }
 
 map_more : (g : ℕ → List ℕ) (xs : List ℕ) (y : ℕ) → map g (xs ++ y ∷ []) ≡ map g xs ++ g y ∷ []
 map_more g [] y = refl

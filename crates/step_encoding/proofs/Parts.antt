@@ -1,6 +1,5 @@
-use Rattle.std.proofs.Common.{arith, ◌≡◌, ℕ, zero, suc, ◌+◌, ◌*◌, ◌/◌, ◌<◌, ◌≤◌, List, [], ◌∷◌, ◌++◌, map, length, Bool, true, false, refl, sym, ap, ◌∙◌, if◌then◌else◌}
+use Rattle.std.proofs.Common.{arith, ◌≡◌, ℕ, zero, suc, ◌+◌, ◌/◌, ◌<◌, List, [], ◌∷◌, ◌++◌, map, length, Bool, true, false, refl, sym, ap, ◌∙◌, if◌then◌else◌}
 use Rattle.std.specs.List.{flat_map}
-use Rattle.std.proofs.lemmas.Nat.{row_fits}
 use Rattle.std.proofs.lemmas.List.{length-append}
 use Rattle.gt_core.specs.Literal.{range, range_from}
 use Rattle.gt_core.specs.Task.{Task, initial_state}
@@ -79,16 +78,6 @@ goal_parts z task =
 -- a literal by itself is a clause
 pub single_is_clause : (l : ℕ) → IsClause (l ∷ [])
 single_is_clause l = record { rising = tt; no_pair = rw (not_opposite l) refl }
-
--- the variable of a fact is one of the layout's
-pub fact_within : (z : Layout) (t f : ℕ) → t ≤ z.horizon → f < z.facts → fact_at z t f < variables z
-fact_within z t f le lf = let h = row_fits t z.facts (z.horizon + 1) z.facts (omega arith) (omega arith) in omega arith
-
-pub literal_within : (k v l n : ℕ) → k < n → (l ≡ 2 * k + v) → v ≤ 1 → l / 2 < n
-literal_within k v l n lt e le = omega arith
-
-pub small_variable : (x a v : ℕ) → x ≡ a → a < v → v ≤ 2147483647 → x ≤ 2147483647
-small_variable x a v e lt le = omega arith
 
 -- the literals of a lawful goal are of the task's facts
 pub goal_in_range : (task : Task) → is_task task ≡ true → (items : List ℕ) (k n : ℕ) → items ≡ task.goal → n ≡ task.facts → k < length items → slice_index_or items k 0 / 2 < n

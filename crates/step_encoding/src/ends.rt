@@ -13,22 +13,7 @@ use clause_base::literal::Lit;
 use clause_base::memory::Memory;
 use gt_core::layout::Layout;
 use gt_core::task::Task;
-
-/// The literal that a fact has a value at a time.
-fn fact_lit(layout: &Layout, time: u32, fact: u32, value: bool) -> Lit
-    requires time { time ≤ layout.now.horizon }
-    requires fact { fact < layout.now.facts }
-    ensures code { result ≡ code (if value then Is (fact_at layout.now time fact) else Not (fact_at layout.now time fact)) }
-    ensures within { result / 2 < variables layout.now }
-{
-    let _all = layout.variables();
-    let variable = layout.fact(time, fact);
-    if value {
-        Lit::of(variable, true)
-    } else {
-        Lit::of(variable, false)
-    }
-}
+use step_template::literals::fact_lit;
 
 /// Adds the clause of one literal.
 fn add_single(formula: &mut Formula, lit: Lit) -> Result<(), Memory>

@@ -9,8 +9,7 @@ ghost use Rattle.step_clauses.specs.Variables.{layout_of};
 ghost use Rattle.step_clauses.specs.Coded.{formula_of};
 ghost use Rattle.step_clauses.specs.Shift.{one_step, one_time};
 ghost use Rattle.step_chains.specs.Chains.{AreChains};
-ghost use Rattle.step_laws.specs.Form.{IsOrderedTask, AreSets, steps_at};
-ghost use Rattle.step_laws.specs.Stepping.{IsStepping};
+ghost use Rattle.step_laws.specs.{Form.IsOrderedTask, Form.AreSets, Form.steps_at, Stepping.IsStepping};
 ghost use Rattle.step_encoding.specs.Numbers.{literals_of};
 ghost use Rattle.step_encoding.specs.Laws.{numbers_of, plans_of, refutes_of, sets_of, members_of};
 

@@ -6,6 +6,7 @@ ghost use Rattle.gt_core.specs.Task.{Effect};
 ghost use Rattle.gt_core.specs.Lawful.{is_conditional};
 
 use gt_core::eff::Eff;
+use step_template::adders::add_of_fact;
 
 /// The effects that were passed with the literal `lit`, an add: how many there are, and whether one has no condition.
 #[derive(Clone, Copy, Debug)]
@@ -15,18 +16,11 @@ pub(crate) struct Adds {
     pub(crate) sure: bool,
 }
 
-/// The literal that adds the fact of an effect.
-fn add_of_fact(effect: &Eff) -> u32
-    ensures { result ≡ effect.now.literal - effect.now.literal % 2 }
-{
-    effect.lit() - effect.lit() % 2
-}
-
 /// Whether an effect, where it is an add, has no condition.
 fn is_sure(effect: &Eff, adds: bool) -> bool
     ensures { result ≡ (adds && not (is_conditional effect.now)) }
 {
-    adds && effect.cond().is_empty()
+    adds && !effect.is_conditional()
 }
 
 /// One where something is so, else none.
@@ -82,7 +76,7 @@ impl Adds {
         if lit % 2 == 0 || self.lit != lit - 1 {
             return 2;
         }
-        if self.sure && effect.cond().is_empty() {
+        if self.sure && !effect.is_conditional() {
             return 0;
         }
         2 + u64::from(self.count)

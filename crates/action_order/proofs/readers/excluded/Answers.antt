@@ -8,8 +8,7 @@ use Rattle.gt_core.proofs.Basics.{apart, and_split, and_both, or_right, or_split
 use Rattle.gt_core.proofs.Literals.{opposite_twice}
 use Rattle.action_order.specs.Graph.{row_at}
 use Rattle.action_order.specs.Readers.{is_excluded}
-use Rattle.action_order.proofs.ReadersLaw.{opposite_below}
-use Rattle.action_order.proofs.ExclusionLaw.{by_opposite, by_clause, by_lone, Excluder, excluder}
+use Rattle.action_order.proofs.ExclusionLaw.{opposite_within, by_opposite, by_clause, by_lone, Excluder, excluder}
 use Rattle.action_order.proofs.readers.excluded.Goals as goal
 
 pub returns : goal.returns
@@ -28,7 +27,7 @@ returns c = λ b. same_if _ _ (found b) (λ e. all b (excluder clauses needing c
     row = row_has c.add_opposed-2.new.row
 
     even : (l : ℕ) → l < length needing → opposite l < length needing
-    even l lt = subst (λ (n : ℕ). opposite l < n) (sym c.requires.long) (opposite_below l c.args.pairs.now.facts (subst (λ (n : ℕ). l < n) c.requires.long lt))
+    even = opposite_within (length needing) c.args.pairs.now.facts c.requires.long
 
     other_below : opposite c.args.p < length needing
     other_below = even c.args.p c.requires.p
@@ -75,7 +74,7 @@ returns c = λ b. same_if _ _ (found b) (λ e. all b (excluder clauses needing c
     ]
 
 pub add_opposed-requires-clause-even : goal.add_opposed-requires-clause-even
-add_opposed-requires-clause-even c = λ l lt. subst (λ (n : ℕ). opposite l < n) (sym c.requires.long) (opposite_below l c.args.pairs.now.facts (subst (λ (n : ℕ). l < n) c.requires.long lt))
+add_opposed-requires-clause-even c = opposite_within (length c.args.needing.now) c.args.pairs.now.facts c.requires.long
 
 pub add_opposed-requires-2-clause-even : goal.add_opposed-requires-2-clause-even
-add_opposed-requires-2-clause-even c = λ l lt. subst (λ (n : ℕ). opposite l < n) (sym c.requires.long) (opposite_below l c.args.pairs.now.facts (subst (λ (n : ℕ). l < n) c.requires.long lt))
+add_opposed-requires-2-clause-even c = opposite_within (length c.args.needing.now) c.args.pairs.now.facts c.requires.long
