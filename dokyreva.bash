@@ -4,6 +4,7 @@ _dokyreva_values() {
     case $1 in
     --alg) echo a b c ;;
     --show) echo none domain problem ;;
+    --turns) echo forward backward ;;
     --width) echo 1 2 4 8 16 ;;
     --workers) echo 1 2 4 8 16 ;;
     --max-horizon) echo 8 16 32 64 128 255 ;;
@@ -15,6 +16,7 @@ _dokyreva_options() {
     local race='--alg --width --quota --percent --growth --start --max-horizon --budget --slice'
     case $1 in
     plan | plan-all) echo "$race --workers" ;;
+    batch) echo "$race --turns" ;;
     gen) echo "$race --workers --show" ;;
     prove) echo --budget ;;
     esac
@@ -25,7 +27,7 @@ _dokyreva() {
     if [ "${COMP_WORDS[0]##*/}" = plan ]; then
         command=plan place=$((place + 1))
     elif [ "$place" = 1 ]; then
-        mapfile -t COMPREPLY < <(compgen -W 'plan plan-all check ground order gen prove verify help' -- "$word")
+        mapfile -t COMPREPLY < <(compgen -W 'plan plan-all batch check ground order gen prove verify help' -- "$word")
         return
     fi
     if [ "$command" = gen ] && [ "$place" = 2 ]; then

@@ -1,13 +1,14 @@
 # The words that the planner takes, for those who ask and for those who miss one. To be read by scripts that have set root.
 
-commands='plan plan-all check ground order gen prove verify'
-options='--alg --width --quota --percent --growth --start --max-horizon --budget --slice --workers --show'
+commands='plan plan-all batch check ground order gen prove verify'
+options='--alg --width --quota --percent --growth --start --max-horizon --budget --slice --workers --show --turns'
 
 # options_of COMMAND: the options that it takes; all that there are where it is no command.
 options_of() {
     local race=${options%% --workers*}
     case $1 in
     plan | plan-all) echo "$race --workers" ;;
+    batch) echo "$race --turns" ;;
     gen) echo "$race --workers --show" ;;
     prove) echo --budget ;;
     check | ground | order | verify) ;;
@@ -20,6 +21,7 @@ tell_words() {
 ./dokyreva COMMAND WORD..
   plan DOMAIN PROBLEM [OPTION..]       a plan, or that there is none up to a horizon
   plan-all DOMAIN PROBLEM [OPTION..]   the same with steps whose actions may be executed in every order
+  batch DOMAIN PROBLEM.. [OPTION..]    what plan prints, for each of 1 to 16 problems of a domain
   check DOMAIN PROBLEM PLAN            what the calls of a plan file come to
   prove DOMAIN PROBLEM HORIZON [--budget K]   a certificate that there is no plan of so many steps (0 to 255)
   verify DOMAIN PROBLEM CERTIFICATE    whether such a certificate is right
@@ -31,9 +33,10 @@ Options, with what may stand for each and its default
   --width 1 to 16 (4) live horizons                          --quota 1 to 10000 (50) conflicts a round
   --percent 1 to 99 (50) with b: of the quota before it      --growth 101 to 400 (150) percent with c
   --start 0 to 255 (0) with c: the first horizon             --slice 1 to 10000 (10) conflicts a turn
-  --workers 1 to 16 (4)
+  --workers 1 to 16 (4), not of batch                        --turns forward|backward (forward), of batch alone
 Statuses: 0 a plan, or the answer is yes; 1 there is none, or no; 2 the budget is spent; 3 an input is refused; 4 a limit;
 5 a file was not read; 6 the report was not written; 7 other words; 8 want of memory; 9 no words; 70 no program to run.
+Of batch the greatest of the statuses that plan has on each problem.
 END
 }
 
