@@ -249,19 +249,19 @@ time_numbers r now number count first v is lt e f =
     (p.1, omega arith)
 
 -- what is added to the codes, by the number of variables of all steps
-module _ (r now : Repeats) (number count first : ℕ) (lits : List ℕ) (f : first ≡ r.horizon * r.width) where
+module _ (r : Repeats) (number count first : ℕ) (lits : List ℕ) (f : first ≡ r.horizon * r.width) where
   pub step_stays_by : IsRepeatable r → number / count < r.horizon → HasVariablesBelow (r.width + 2 * r.facts) lits → All (StaysCode (2 * r.width) (number / count * (2 * r.width)) (2 * (first + number / count * r.facts) - 2 * r.width)) lits
   step_stays_by is lt h = subst (λ (b : ℕ). All (StaysCode (2 * r.width) (number / count * (2 * r.width)) (2 * (b + number / count * r.facts) - 2 * r.width)) lits) (sym f) (step_stays r number count lits is lt h)
 
   pub time_stays_by : IsRepeatable r → number / count < r.horizon + 1 → HasVariablesBelow r.facts lits → All (StaysCode 0 0 (2 * (first + number / count * r.facts))) lits
   time_stays_by is lt h = subst (λ (b : ℕ). All (StaysCode 0 0 (2 * (b + number / count * r.facts))) lits) (sym f) (time_stays r number count lits is lt h)
 
-  pub step_clause_is : (moved : List ℕ) → r ≡ now → count ≡ length r.step → number < now.horizon * length now.step → slice_get r.step (number % count) ≡ Some lits → moved ≡ map (shifted (2 * r.width) (number / count * (2 * r.width)) (2 * (first + number / count * r.facts) - 2 * r.width)) lits → slice_get (all_steps now) number ≡ Some moved
-  step_clause_is moved v e lt at is =
+  pub step_clause_is : (now : Repeats) (moved : List ℕ) → r ≡ now → count ≡ length r.step → number < now.horizon * length now.step → slice_get r.step (number % count) ≡ Some lits → moved ≡ map (shifted (2 * r.width) (number / count * (2 * r.width)) (2 * (first + number / count * r.facts) - 2 * r.width)) lits → slice_get (all_steps now) number ≡ Some moved
+  step_clause_is now moved v e lt at is =
       let moved_is = subst (λ (b : ℕ). moved ≡ map (shifted (2 * r.width) (number / count * (2 * r.width)) (2 * (b + number / count * r.facts) - 2 * r.width)) lits) f is in
       subst (λ (x : Repeats). slice_get (all_steps x) number ≡ Some moved) v (step_read r number count lits moved e (subst (λ (x : Repeats). number < x.horizon * length x.step) (sym v) lt) at moved_is)
 
-  pub time_clause_is : (moved : List ℕ) → r ≡ now → count ≡ length r.time → number < (now.horizon + 1) * length now.time → slice_get r.time (number % count) ≡ Some lits → moved ≡ map (shifted 0 0 (2 * (first + number / count * r.facts))) lits → slice_get (all_times now) number ≡ Some moved
-  time_clause_is moved v e lt at is =
+  pub time_clause_is : (now : Repeats) (moved : List ℕ) → r ≡ now → count ≡ length r.time → number < (now.horizon + 1) * length now.time → slice_get r.time (number % count) ≡ Some lits → moved ≡ map (shifted 0 0 (2 * (first + number / count * r.facts))) lits → slice_get (all_times now) number ≡ Some moved
+  time_clause_is now moved v e lt at is =
       let moved_is = subst (λ (b : ℕ). moved ≡ map (shifted 0 0 (2 * (b + number / count * r.facts))) lits) f is in
       subst (λ (x : Repeats). slice_get (all_times x) number ≡ Some moved) v (time_read r number count lits moved e (subst (λ (x : Repeats). number < (x.horizon + 1) * length x.time) (sym v) lt) at moved_is)

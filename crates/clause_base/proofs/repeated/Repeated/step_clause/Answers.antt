@@ -16,8 +16,8 @@ overflow_mul-high-2 c = let n = step_numbers _ _ c.args.number c.self.inside.siz
 pub moved-requires : goal.moved-requires
 moved-requires c =
     let n = step_numbers _ _ c.args.number c.self.inside.sizes.per_step _ c.self.view_is c.self.invariant.is c.requires c.self.invariant.per_step_is c.self.invariant.first_is in
-    step_stays_by (record { horizon = c.self.inside.horizon; width = c.self.inside.width; facts = c.self.inside.facts; step = c.self.inside.step; time = c.self.inside.time }) _ c.args.number c.self.inside.sizes.per_step _ c.clause.result.now c.self.invariant.first_is c.self.invariant.is n.0
+    step_stays_by (record { horizon = c.self.inside.horizon; width = c.self.inside.width; facts = c.self.inside.facts; step = c.self.inside.step; time = c.self.inside.time }) c.args.number c.self.inside.sizes.per_step _ c.clause.result.now c.self.invariant.first_is c.self.invariant.is n.0
     (holds_at (HasVariablesBelow _) _ _ _ c.self.invariant.is.step_below c.clause.ensures.value)
 
 pub returns : goal.returns
-returns c = step_clause_is _ _ c.args.number c.self.inside.sizes.per_step _ _ c.self.invariant.first_is _ c.self.view_is c.self.invariant.per_step_is c.requires c.clause.ensures.value c.moved.ensures
+returns c = step_clause_is _ c.args.number c.self.inside.sizes.per_step _ _ c.self.invariant.first_is _ _ c.self.view_is c.self.invariant.per_step_is c.requires c.clause.ensures.value c.moved.ensures
