@@ -50,24 +50,7 @@ impl Drop for Repeated {
 
 impl Repeated {
     /// The clauses of one step and of one time, repeated for so many steps, each with so many variables of its own, over so many
-    /// facts. It takes no memory.
-    pub fn new(horizon: u32, width: u32, facts: u32, step: ClauseList, time: ClauseList) -> Repeated
-        requires few { horizon * length step + (horizon + 1) * length time ≤ 1073741824 }
-        requires small { horizon * width + (horizon + 1) * facts ≤ 2147483647 }
-        requires step_below { All (HasVariablesBelow (width + 2 * facts)) step }
-        requires time_below { All (HasVariablesBelow facts) time }
-        ensures { result ≡ record { horizon = horizon; width = width; facts = facts; step = step; time = time } }
-    {
-        Repeated::sharing(
-            horizon,
-            width,
-            facts,
-            SharedList::own(step),
-            SharedList::own(time),
-        )
-    }
-
-    /// The same of lists that may stand in memory that others share.
+    /// facts. The lists may stand in memory that others share. It takes no memory.
     pub fn sharing(
         horizon: u32,
         width: u32,
@@ -96,7 +79,9 @@ impl Repeated {
     pub fn none(alloc: Global) -> Repeated
         ensures { result ≡ record { horizon = 0; width = 0; facts = 0; step = []; time = [] } }
     {
-        Repeated::new(0, 0, 0, ClauseList::new(alloc), ClauseList::new(alloc))
+        let step = SharedList::own(ClauseList::new(alloc));
+        let time = SharedList::own(ClauseList::new(alloc));
+        Repeated::sharing(0, 0, 0, step, time)
     }
 
     /// How many steps there are.
