@@ -33,4 +33,11 @@ invariant_of-result c =
       sound_given v c.in_ok-trail.trail.variables store c.in_ok-kept.kept.items (literals c.in_ok-trail.trail.entries) g.slots.items l.watched.items l.chains.heads.items l.chains.nodes.items l.pending l.units.items c.in_ok-quiet.quiet.items small (ap (λ (t : TrailView). t.variables) c.in_ok-trail.ensures) (omega (arith, all, c.count-count.ensures.few, c.count-count.ensures.value)) f kept trail made c.in_ok-quiet.ensures,
       paired_given v store g.slots.items l.watched.items l.chains.heads.items l.chains.nodes.items l.pending l.units.items c.in_ok-pairs.pairs made index,
       has_units_given v store (literals c.in_ok-trail.trail.entries) g.slots.items l.watched.items l.chains.heads.items l.chains.nodes.items l.pending l.units.items trail made,
+      ?,
     )
+
+pub left_least-front_left-requires-clause-fit : goal.left_least-front_left-requires-clause-fit
+left_least-front_left-requires-clause-fit c = ?
+
+pub left_least-front_left-requires-clause-front : goal.left_least-front_left-requires-clause-front
+left_least-front_left-requires-clause-front c = ?
