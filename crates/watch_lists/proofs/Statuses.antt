@@ -30,44 +30,10 @@ pub record IsRead (on : ℕ → Bool) (xs : List ℕ) (i : ℕ) (left : Option �
   pub none : list_any on (take i xs) ≡ false
   pub left_is : filter (is_free on) (take i xs) ≡ list_of left
 
--- one literal more, which is false
-pub read_false : (on : ℕ → Bool) (xs : List ℕ) (i x : ℕ) (left : Option ℕ) → i < length xs → x ≡ get_or xs i 0 → IsRead on xs i left → on x ≡ false → is_free on x ≡ false → IsRead on xs (i + 1) left
-read_false on xs i x left h e r off f = record {
-  none = list_any_more on xs i 0 h ∙ ap (λ (b : Bool). b || on (get_or xs i 0)) r.none ∙ ap on (sym e) ∙ off;
-  left_is = filter_more (is_free on) xs i 0 h ∙ ap (λ (b : Bool). filter (is_free on) (take i xs) ++ cond b (get_or xs i 0 ∷ []) []) (ap (is_free on) (sym e) ∙ f) ∙ ap (λ (ys : List ℕ). ys ++ []) r.left_is ∙ by left;
-}
-  where
-    by : (o : Option ℕ) → list_of o ++ [] ≡ list_of o
-    by None = refl
-    by (Some l) = refl
-
--- the first that is not false
-pub read_free : (on : ℕ → Bool) (xs : List ℕ) (i x : ℕ) (left : Option ℕ) → i < length xs → x ≡ get_or xs i 0 → IsRead on xs i left → left ≡ None → on x ≡ false → is_free on x ≡ true → IsRead on xs (i + 1) (Some x)
-read_free on xs i x left h e r none off f = record {
-  none = list_any_more on xs i 0 h ∙ ap (λ (b : Bool). b || on (get_or xs i 0)) r.none ∙ ap on (sym e) ∙ off;
-  left_is = filter_more (is_free on) xs i 0 h ∙ ap (λ (b : Bool). filter (is_free on) (take i xs) ++ cond b (get_or xs i 0 ∷ []) []) (ap (is_free on) (sym e) ∙ f) ∙ ap (λ (ys : List ℕ). ys ++ get_or xs i 0 ∷ []) (r.left_is ∙ ap list_of none) ∙ ap (λ (l : ℕ). l ∷ []) (sym e);
-}
-
--- a true literal, or a second one that is not false
-pub read_true : (on : ℕ → Bool) (xs : List ℕ) (i x : ℕ) → i < length xs → x ≡ get_or xs i 0 → on x ≡ true → is_pending on xs ≡ false
-read_true on xs i x h e t =
-    ap (λ (b : Bool). not b && leb (length (filter (is_free on) xs)) 1) (any_from_has on xs x (ap (has_literal xs) e ∙ has_get xs i h) t)
-
+-- a second literal that is not false
 pub read_second : (on : ℕ → Bool) (xs : List ℕ) (i x : ℕ) (left : Option ℕ) → i < length xs → x ≡ get_or xs i 0 → IsRead on xs i left → is_some left ≡ true → is_free on x ≡ true → is_pending on xs ≡ false
 read_second on xs i x None h e r some f = absurd (let w : ⊥ = cc in w)
 read_second on xs i x (Some y) h e r some f = sym (two_by_here on xs i x h e (ap (λ (ys : List ℕ). length ys) r.left_is) f)
-
--- all are read
-pub read_all : (on : ℕ → Bool) (xs : List ℕ) (i : ℕ) (left : Option ℕ) → length xs ≤ i → IsRead on xs i left → (is_pending on xs ≡ true) × (filter (is_free on) xs ≡ list_of left)
-read_all on xs i left h r =
-    let whole = take_all i xs h in
-    let f : filter (is_free on) xs ≡ list_of left = ap (filter (is_free on)) (sym whole) ∙ r.left_is in
-    let n : list_any on xs ≡ false = ap (list_any on) (sym whole) ∙ r.none in
-    (ap (λ (b : Bool). not b && leb (length (filter (is_free on) xs)) 1) n ∙ tests_one (length (filter (is_free on) xs)) (omega (arith, ap (λ (ys : List ℕ). length ys) f, few left)), f)
-  where
-    few : (o : Option ℕ) → length (list_of o) ≤ 1
-    few None = omega arith
-    few (Some l) = omega arith
 
 -- by the unit literal
 pub status_unit : (trail clause : List ℕ) (unit : ℕ) (s : Status) → IsConsistent trail → IsUnit (has_literal trail) clause unit → IsStatus (not (has_literal trail unit)) (if is_free (has_literal trail) unit then unit ∷ [] else []) s → IsStatus (is_pending (has_literal trail) clause) (filter (is_free (has_literal trail)) clause) s

@@ -1,9 +1,10 @@
-use Rattle.std.proofs.Common.{◌≡◌, ◌*◌, ◌∷◌, ◌∙◌, [], ℕ, List, Bool, Option, true, sym, ap, subst, MatchOption}
+use Rattle.std.proofs.Common.{◌≡◌, ◌*◌, ◌∷◌, ◌∙◌, [], ℕ, List, Bool, Option, Some, true, sym, ap, subst, MatchOption}
 use Rattle.cdcl_trail.specs.Assignment.{AssignmentView, literals}
 use Rattle.clause_base.specs.Clause.{has_literal}
 use Rattle.cdcl_rules.specs.State.{clause_at}
 use Rattle.cdcl_rules.specs.Pending.{is_pending, is_pending_in, open_ones}
-use Rattle.number_bits.specs.Bits.{words_have}
+use Rattle.number_bits.specs.Bits.{IsLeast, words_have}
+use Rattle.number_bits.proofs.Firsts.{is_least}
 use Rattle.watch_lists.specs.Pending.{WatchingView, is_pending_on}
 use Rattle.watch_lists.specs.Units.{IsUnitAt, IsConsistent}
 use Rattle.watch_lists.specs.Visit.{IsFit}
@@ -53,4 +54,9 @@ returns c =
     subst (λ (v : WatchingView). leaves c.left.result (has_literal (literals v.entries)) (clause_at v.clauses n)) c.self.view_is here
 
 pub returns-then-eq : goal.returns-then-eq
-returns-then-eq c = ?
+returns-then-eq c =
+    let w = c.self.inside in
+    let n = c.args.number in
+    let is : c.least.result ≡ Some n = is_least c.least.result n (sym c.if-eq.true ∙ c.eq.ensures) in
+    subst (λ (v : WatchingView). leaves w.front_left (has_literal (literals v.entries)) (clause_at v.clauses n)) c.self.view_is
+    (c.self.invariant.3 n (subst (IsLeast (words_have w.lists.pending)) is c.least.ensures))
