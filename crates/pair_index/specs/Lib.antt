@@ -2,3 +2,4 @@ pub mod Pairs
 pub mod Rows
 pub mod Moved
 pub mod Lists
+pub mod Origin

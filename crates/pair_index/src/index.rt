@@ -3,8 +3,7 @@ ghost use Rattle.std.specs.Prelude.{◌≡◌, ℕ, ◌+◌, ◌*◌, ◌<◌, �
 ghost use Rattle.pair_index.specs.Pairs.{pairs_of, pairs_from, IsIndex};
 ghost use Rattle.pair_index.specs.Lists.{AreParts, AreWithin, IsShape, clauses_of};
 
-use crate::list::PairList;
-use crate::place::{place_of, plain_list};
+use crate::lists::Lists;
 use crate::shape::{Shape, shape_of};
 use crate::table::Table;
 use clause_base::clause_list::ClauseList;
@@ -49,21 +48,6 @@ impl Drop for PairIndex {
             after: _,
         } = self;
     }
-}
-
-/// The pairs of a literal, in five lists that stand one after another.
-#[derive(Debug, Drop)]
-pub struct Lists<'a> {
-    /// Those of the clauses before all steps.
-    pub told: PairList<'a>,
-    /// Those of the step that ends where a fact is.
-    pub last: PairList<'a>,
-    /// Those of the step that begins where a fact is, or of which a literal is.
-    pub next: PairList<'a>,
-    /// Those of the time at which a fact is.
-    pub time: PairList<'a>,
-    /// Those of the clauses after all times.
-    pub after: PairList<'a>,
 }
 
 /// The table of one step, which has no pairs where there is no step.
@@ -135,13 +119,13 @@ impl PairIndex {
         requires { code < length self.now }
         ensures { pairs_of self.now code ≡ result.told ++ (result.last ++ (result.next ++ (result.time ++ result.after))) }
     {
-        let placed = place_of(&self.shape, &self.step, &self.time, code);
-        Lists {
-            told: plain_list(&self.told, code, 0),
-            last: placed.last,
-            next: placed.next,
-            time: placed.time,
-            after: plain_list(&self.after, code, self.shape.before),
-        }
+        Lists::of(
+            &self.shape,
+            &self.told,
+            &self.step,
+            &self.time,
+            &self.after,
+            code,
+        )
     }
 }

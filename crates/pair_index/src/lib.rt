@@ -5,7 +5,8 @@
 mod build;
 pub mod index;
 pub mod list;
+pub mod lists;
+mod origin;
 pub mod pair;
-mod place;
 mod shape;
 mod table;

@@ -1,5 +1,5 @@
 -- The tables of a formula's clauses, as they are made and once they are.
-use Rattle.std.proofs.Common.{arith, ◌≡◌, ◌≢◌, ◌==◌, ℕ, zero, suc, ◌+◌, ◌*◌, ◌<◌, ◌≤◌, List, [], ◌∷◌, ◌++◌, length, take, replicate, get_or, leb, ltb, Bool, true, false, not, ◌||◌, ◌&&◌, All, None, refl, sym, ap, ◌∙◌, subst, ◌⊎◌, inl, inr}
+use Rattle.std.proofs.Common.{arith, ◌≡◌, ◌≢◌, ◌==◌, ℕ, zero, suc, ◌+◌, ◌*◌, ◌<◌, ◌≤◌, List, [], ◌∷◌, ◌++◌, length, take, replicate, get_or, leb, ltb, Bool, true, false, not, ◌||◌, ◌&&◌, All, None, Some, refl, sym, ap, ◌∙◌, subst, ◌⊎◌, inl, inr}
 use Rattle.std.proofs.lemmas.Bool.Decides.{nat_tests}
 use Rattle.std.proofs.lemmas.List.{map-append, length_push, get_or_push, get_or_append_left}
 use Rattle.std.proofs.lemmas.List.Elements.{All-get_or}
@@ -7,7 +7,7 @@ use Rattle.std.proofs.lemmas.Grind.{replicate_next}
 use Rattle.clause_base.specs.Clause.{IsClause, HasVariablesBelow, has_literal}
 use Rattle.cdcl_rules.specs.Pending.{is_pending}
 use Rattle.cdcl_rules.specs.State.{clause_at}
-use Rattle.number_bits.specs.Bits.{words_have}
+use Rattle.number_bits.specs.Bits.{IsLeast, words_have}
 use Rattle.pair_index.specs.declared.pair.Pair.{Pair}
 use Rattle.pair_index.specs.Pairs.{IsIndex}
 use Rattle.watch_chains.specs.declared.chains.Node.{Node}
@@ -219,6 +219,10 @@ sound_given v tv cl kept trail slots wa heads nodes words units quiet small same
 
     both : (a b : Bool) → a ≡ true → b ≡ true → (a && b) ≡ true
     both a b e f = ap (λ (x : Bool). x && b) e ∙ f
+
+pub front_given : (codes : ℕ) (cl : List (List ℕ)) (trail slots : List ℕ) (wa : List Watched) (heads : List ℕ) (nodes : List Node) (words units : List ℕ) → trail ≡ [] → AreGiven codes cl (length cl) slots wa heads nodes words units → (k : ℕ) → IsLeast (words_have words) (Some k) → is_pending (has_literal trail) (clause_at cl k) ≡ true
+front_given codes cl trail slots wa heads nodes words units et g k l =
+    ap (λ (ys : List ℕ). is_pending (has_literal ys) (clause_at cl k)) et ∙ pending_short (clause_at cl k) (g.only k l.0).1
 
 pub paired_given : (v : ℕ) (cl : List (List ℕ)) (slots : List ℕ) (wa : List Watched) (heads : List ℕ) (nodes : List Node) (words units : List ℕ) (ps : List (List Pair)) → AreGiven (2 * v) cl (length cl) slots wa heads nodes words units → IsIndex v cl ps → IsPaired v cl slots ps
 paired_given v cl slots wa heads nodes words units ps g i = record {

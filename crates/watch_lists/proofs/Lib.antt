@@ -1,5 +1,4 @@
 pub mod Filters
-pub mod Empties
 pub mod Visits
 pub mod Assigns
 pub mod Undoes
@@ -13,6 +12,7 @@ pub mod Slotted
 pub mod Sounds
 pub mod Founds
 pub mod UnitsTell
+pub mod Statuses
 pub mod Lefts
 pub mod UnitsOfSlots
 pub mod Givens

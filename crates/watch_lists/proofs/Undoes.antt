@@ -1,8 +1,14 @@
-use Rattle.std.proofs.Common.{arith, ◌≡◌, ℕ, ◌<◌, ◌≤◌, ◌*◌, List, length, take, get_or, Bool, true, false, refl, sym, ap, ◌∙◌, subst}
-use Rattle.std.proofs.lemmas.List.{take-take, length-take-le}
+use Rattle.std.proofs.Common.{arith, ◌≡◌, ℕ, zero, suc, [], ◌∷◌, ◌<◌, ◌≤◌, ◌*◌, List, length, take, get_or, Bool, true, false, refl, sym, ap, ◌∙◌, subst}
+use Rattle.std.proofs.lemmas.List.{take-take, take-map, length-take-le, length-map}
+use Rattle.cdcl_rules.specs.declared.trail.Assigned.{Assigned}
+use Rattle.cdcl_trail.specs.Assignment.{literals}
+use Rattle.cdcl_trail.proofs.Assignments.{literals_back, back_le}
 use Rattle.number_bits.specs.Bits.{words_have}
 use Rattle.watch_chains.specs.declared.chains.Node.{Node}
 use Rattle.watch_lists.specs.declared.visit.Watched.{Watched}
+use Rattle.watch_lists.specs.declared.undo.Back.{Back}
+use Rattle.watch_lists.specs.declared.undo.Back.TheVariants.{Length, Level}
+use Rattle.watch_lists.specs.Back.{taken_back}
 use Rattle.watch_lists.specs.Pending.{is_pending_on}
 use Rattle.watch_lists.specs.Visit.{slot_clauses, slot_flags, IsAtRest}
 use Rattle.watch_lists.specs.Sound.{AreFree, IsFront, AreTablesSound}
@@ -24,6 +30,29 @@ sound_moved v tv cl kept trail slots wa heads nodes words quiet tv' trail' wa' h
   quiet_size = lq ∙ i.quiet_size;
   quiets = quiets;
 }
+
+-- a trail that is taken back is a prefix
+take_taken : (n : ℕ) (xs : List ℕ) → take (length (take n xs)) xs ≡ take n xs
+take_taken zero xs = refl
+take_taken (suc n) [] = refl
+take_taken (suc n) (x ∷ xs) = ap (λ (ys : List ℕ). x ∷ ys) (take_taken n xs)
+
+pub short_of : (to : Back) (old new : List Assigned) → new ≡ taken_back to old → literals new ≡ take (length new) (literals old)
+short_of (Length n) old new e =
+    let t : literals new ≡ take n (literals old) = ap literals e ∙ sym (take-map (λ (a : Assigned). a.literal) n old) in
+    let l : length new ≡ length (take n (literals old)) = (let m = ap (λ (xs : List ℕ). length xs) t in omega (arith, m, length-map new (λ (a : Assigned). a.literal))) in
+    t ∙ sym (take_taken n (literals old)) ∙ ap (λ (i : ℕ). take i (literals old)) (sym l)
+short_of (Level level) old new e =
+    ap literals e ∙ sym (literals_back level old) ∙ ap (λ (es : List Assigned). take (length es) (literals old)) (sym e)
+
+take_le : (n : ℕ) (entries : List Assigned) → length (take n entries) ≤ length entries
+take_le zero entries = omega arith
+take_le (suc n) [] = omega arith
+take_le (suc n) (a ∷ entries) = omega (arith, take_le n entries)
+
+pub taken_le : (to : Back) (entries : List Assigned) → length (taken_back to entries) ≤ length entries
+taken_le (Length n) entries = take_le n entries
+taken_le (Level level) entries = back_le level entries
 
 -- on a shorter trail the watches are right with no work
 pub undo_sound : (v tv : ℕ) (cl : List (List ℕ)) (kept : List Bool) (trail slots : List ℕ) (wa : List Watched) (heads : List ℕ) (nodes : List Node) (words : List ℕ) (quiet : List Bool) (tv' m : ℕ) (trail' words' : List ℕ) → AreTablesSound v tv cl kept trail slots wa heads nodes words quiet → tv' ≡ tv → trail' ≡ take m trail → m ≤ length trail → length words' ≡ length words → IsFront (is_pending_on cl kept trail') (words_have words') → AreTablesSound v tv' cl kept trail' slots wa heads nodes words' quiet

@@ -1,6 +1,8 @@
 pub mod Pending
 pub mod Visit
 pub mod Units
+pub mod Status
+pub mod Back
 pub mod Pairs
 pub mod Sound
 pub mod Added

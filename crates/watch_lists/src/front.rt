@@ -5,24 +5,27 @@ ghost use Rattle.clause_base.specs.Clause.{has_literal};
 ghost use Rattle.number_bits.specs.Bits.{words_have};
 ghost use Rattle.watch_lists.specs.Units.{IsUnit, AreUnits, IsUnitAt, IsWithin, IsConsistent};
 ghost use Rattle.watch_lists.specs.Pending.{is_pending_on};
-ghost use Rattle.cdcl_rules.specs.Pending.{is_pending};
+ghost use Rattle.watch_lists.specs.Status.{IsStatus, IsFrontLeft};
+ghost use Rattle.cdcl_rules.specs.Pending.{is_pending, open_ones};
 ghost use Rattle.cdcl_rules.specs.State.{clause_at};
 ghost use Rattle.watch_lists.specs.Visit.{IsFit, slot_clauses, slot_set, AreSlotsBelow};
 ghost use Rattle.watch_lists.specs.Sound.{IsFront};
 
-use crate::left::is_left;
+use crate::left::status_at;
 use crate::pending::Pending;
 use crate::scan::{is_pending, unit_of};
 use crate::slots::slot_clause;
+use crate::status::Status;
 use cdcl_trail::assignment::Assignment;
+use clause_base::literal::Lit;
 use number_bits::first::First;
 use number_bits::flat::Flat;
 use number_bits::layer::Layer;
 use number_bits::set::NumberSet;
 use watch_store::store::Store;
 
-/// Whether a clause is kept and pending.
-fn stands(
+/// How a clause stands, where one that is not kept is not pending.
+fn kept_status(
     store: &Store,
     kept: &[bool],
     slots: &[u32],
@@ -30,20 +33,24 @@ fn stands(
     assignment: &Assignment,
     units: &[u32],
     number: u32,
-) -> bool
+) -> Status
     requires fit { IsFit store.now (2 * assignment.now.variables) }
-    requires kept { length kept.now ≡ length store.now }
     requires few { length slots.now ≤ 4294967295 }
     requires long { length slots.now ≤ length units.now }
     requires consistent { IsConsistent assignment.now.trail }
-    requires inside { number < length store.now }
     requires units_are { IsUnitAt store.now slots.now (has_literal assignment.now.trail) units.now number }
-    ensures { result ≡ is_pending_on store.now kept.now assignment.now.trail number }
+    requires kept { length kept.now ≡ length store.now }
+    requires inside { number < length store.now }
+    ensures { IsStatus (is_pending_on store.now kept.now assignment.now.trail number) (open_ones (has_literal assignment.now.trail) (clause_at store.now number)) result }
 {
-    kept[number as usize] && is_left(store, slots, blocks, assignment, units, number)
+    if kept[number as usize] {
+        status_at(store, slots, blocks, assignment, units, number)
+    } else {
+        Status::Open
+    }
 }
 
-/// Takes numbers that are not pending from the front of the set.
+/// Takes numbers that are not pending from the front of the set. What the clause leaves that is then the least is the result.
 pub fn clean(
     store: &Store,
     kept: &[bool],
@@ -52,7 +59,7 @@ pub fn clean(
     assignment: &Assignment,
     units: &[u32],
     pending: &mut Pending,
-)
+) -> Option<Lit>
     requires fit { IsFit store.now (2 * assignment.now.variables) }
     requires kept { length kept.now ≡ length store.now }
     requires few { length slots.now ≤ 4294967295 }
@@ -65,14 +72,16 @@ pub fn clean(
     ensures front { IsFront (is_pending_on store.now kept.now assignment.now.trail) (words_have pending.new) }
     ensures room { length pending.new ≡ length pending.old }
     ensures fewer { (k : ℕ) → words_have pending.new k ≡ true → words_have pending.old k ≡ true }
+    ensures left { IsFrontLeft store.now (has_literal assignment.now.trail) (words_have pending.new) result }
 {
     let mut low: u64 = 0;
     'cleaning: loop {
         match pending.least() {
-            None => return,
+            None => return None,
             Some(number) => {
-                if stands(store, kept, slots, blocks, assignment, units, number) {
-                    return;
+                let status = kept_status(store, kept, slots, blocks, assignment, units, number);
+                if status.is_pending() {
+                    return status.left();
                 }
                 pending.remove(number);
                 low = number as u64 + 1;

@@ -1,18 +1,25 @@
-//! What a pending clause leaves: its only literal that is not false. Of a clause of more than two literals the slot tells the one
-//! literal beside those that are false; one of fewer is read.
-ghost use Rattle.std.specs.Prelude.{◌≡◌, ℕ, ◌*◌, ◌<◌, ◌≤◌, ◌∷◌, [], List, Bool, true, false, length, slice_index, MatchOption, IfSome};
+//! How a clause stands, and so what it leaves if it is pending: its only literal that is not false. Of a clause of more than two
+//! literals the slot tells the one literal beside those that are false; one of fewer is read.
+ghost use Rattle.std.specs.Prelude.{◌≡◌, ℕ, ◌*◌, ◌<◌, ◌≤◌, ◌∷◌, [], List, Bool, true, not, Some, length, if◌then◌else◌, IfSome};
 ghost use Rattle.clause_base.specs.Clause.{has_literal};
 ghost use Rattle.cdcl_rules.specs.Pending.{open_ones, is_pending};
 ghost use Rattle.cdcl_rules.specs.State.{clause_at};
-ghost use Rattle.watch_lists.specs.Units.{IsUnit, IsUnitAt, IsConsistent};
+ghost use Rattle.number_bits.specs.Bits.{IsLeast, words_have};
+ghost use Rattle.watch_lists.specs.Units.{IsUnit, IsUnitAt, IsConsistent, IsWithin};
+ghost use Rattle.watch_lists.specs.Status.{IsStatus, IsFrontLeft};
 ghost use Rattle.watch_lists.specs.Pending.{is_free};
 ghost use Rattle.watch_lists.specs.Visit.{IsFit};
 
-use crate::scan::{is_pending, unit_of};
+use crate::pending::Pending;
+use crate::scan::status_of;
 use crate::slots::find_slot;
+use crate::status::Status;
 use cdcl_trail::assignment::Assignment;
 use clause_base::literal::Lit;
-use clause_base::view::View;
+use number_bits::first::First;
+use number_bits::flat::Flat;
+use number_bits::layer::Layer;
+use number_bits::set::NumberSet;
 use watch_store::store::Store;
 
 /// A clause with no more literals than these is read.
@@ -39,74 +46,53 @@ fn unit_by_slot(
     }
 }
 
-/// The unit literal of a clause, if it is not false.
-fn left_unit(assignment: &Assignment, unit: u32) -> Option<Lit>
+/// How a clause stands whose unit literal is known, all other literals of which are false.
+fn status_by(assignment: &Assignment, unit: u32) -> Status
     requires { unit < 2 * assignment.now.variables }
-    ensures { MatchOption result (is_free (has_literal assignment.now.trail) unit ≡ false) (λ lit. (lit ≡ unit) × (is_free (has_literal assignment.now.trail) unit ≡ true)) }
+    ensures { IsStatus (not (has_literal assignment.now.trail unit)) (if is_free (has_literal assignment.now.trail) unit then unit ∷ [] else []) result }
 {
-    if assignment.is_false(unit) {
-        None
+    if assignment.is_true(unit) {
+        Status::Open
+    } else if assignment.is_false(unit) {
+        Status::Falsified
     } else {
-        Some(Lit(unit))
+        Status::Unit(Lit(unit))
     }
 }
 
-/// The literal of a pending clause that is not false, if there is one, by its literals.
-fn left_in(assignment: &Assignment, clause: &View) -> Option<Lit>
-    requires below { (p : ℕ) → p < length clause.now → slice_index clause.now p < 2 * assignment.now.variables }
-    requires pending { is_pending (has_literal assignment.now.trail) clause.now ≡ true }
-    ensures { MatchOption result (open_ones (has_literal assignment.now.trail) clause.now ≡ []) (λ lit. open_ones (has_literal assignment.now.trail) clause.now ≡ lit ∷ []) }
-{
-    if clause.len() == 0 {
-        return None;
-    }
-    left_unit(assignment, unit_of(assignment, clause))
-}
-
-/// The literal of a pending clause that is not false, if there is one.
-pub fn left_of(
+/// How a clause stands.
+pub fn status_at(
     store: &Store,
     slots: &[u32],
     blocks: &[u32],
     assignment: &Assignment,
     units: &[u32],
     number: u32,
-) -> Option<Lit>
-    requires fit { IsFit store.now (2 * assignment.now.variables) }
-    requires few { length slots.now ≤ 4294967295 }
-    requires long { length slots.now ≤ length units.now }
-    requires inside { number < length store.now }
-    requires pending { is_pending (has_literal assignment.now.trail) (clause_at store.now number) ≡ true }
-    requires units_are { IsUnitAt store.now slots.now (has_literal assignment.now.trail) units.now number }
-    ensures { MatchOption result (open_ones (has_literal assignment.now.trail) (clause_at store.now number) ≡ []) (λ lit. open_ones (has_literal assignment.now.trail) (clause_at store.now number) ≡ lit ∷ []) }
-{
-    let clause = store.clause(number);
-    match unit_by_slot(clause.len(), slots, blocks, units, number) {
-        Some(unit) => left_unit(assignment, unit),
-        None => left_in(assignment, &clause),
-    }
-}
-
-/// Whether a clause is pending.
-pub fn is_left(
-    store: &Store,
-    slots: &[u32],
-    blocks: &[u32],
-    assignment: &Assignment,
-    units: &[u32],
-    number: u32,
-) -> bool
+) -> Status
     requires fit { IsFit store.now (2 * assignment.now.variables) }
     requires few { length slots.now ≤ 4294967295 }
     requires long { length slots.now ≤ length units.now }
     requires consistent { IsConsistent assignment.now.trail }
-    requires inside { number < length store.now }
     requires units_are { IsUnitAt store.now slots.now (has_literal assignment.now.trail) units.now number }
-    ensures { result ≡ is_pending (has_literal assignment.now.trail) (clause_at store.now number) }
+    requires inside { number < length store.now }
+    ensures { IsStatus (is_pending (has_literal assignment.now.trail) (clause_at store.now number)) (open_ones (has_literal assignment.now.trail) (clause_at store.now number)) result }
 {
     let clause = store.clause(number);
     match unit_by_slot(clause.len(), slots, blocks, units, number) {
-        Some(unit) => !assignment.is_true(unit),
-        None => is_pending(assignment, &clause),
+        Some(unit) => status_by(assignment, unit),
+        None => status_of(assignment, &clause),
+    }
+}
+
+/// What the clause leaves that is the least of a set, if it is pending.
+pub fn left_least(store: &Store, assignment: &Assignment, pending: &Pending) -> Option<Lit>
+    requires fit { IsFit store.now (2 * assignment.now.variables) }
+    requires within { IsWithin (length store.now) (words_have pending.now) }
+    requires front { (k : ℕ) → IsLeast (words_have pending.now) (Some k) → is_pending (has_literal assignment.now.trail) (clause_at store.now k) ≡ true }
+    ensures { IsFrontLeft store.now (has_literal assignment.now.trail) (words_have pending.now) result }
+{
+    match pending.least() {
+        None => None,
+        Some(number) => status_of(assignment, &store.clause(number)).left(),
     }
 }

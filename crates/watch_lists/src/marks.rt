@@ -1,5 +1,5 @@
 //! The clauses of two literals of a literal that became false: each whose other literal is not true has that for its unit literal.
-ghost use Rattle.std.specs.Prelude.{◌≡◌, ℕ, ◌*◌, ◌<◌, ◌≤◌, ◌++◌, length, false, true};
+ghost use Rattle.std.specs.Prelude.{◌≡◌, ℕ, ◌*◌, ◌<◌, ◌≤◌, [], length, false, true, unwrap_or};
 ghost use Rattle.clause_base.specs.Clause.{has_literal};
 ghost use Rattle.number_bits.specs.Bits.{words_have};
 ghost use Rattle.pair_index.specs.Pairs.{IsPairOf, pairs_of, pair_in};
@@ -54,6 +54,28 @@ fn mark_all(
     }
 }
 
+/// Puts the clauses of a list of pairs of a false literal, if there is one, into the set whose other literal is not true.
+#[inline]
+fn mark_list(
+    store: &Store,
+    pairs: Option<PairList>,
+    assignment: &Assignment,
+    falsified: u32,
+    pending: &mut Pending,
+)
+    requires fit { IsFit store.now (2 * assignment.now.variables) }
+    requires exact { (i : ℕ) → i < length (unwrap_or pairs []) → IsPairOf store.now falsified (pair_in (unwrap_or pairs []) i) }
+    requires room { length store.now ≤ 64 * length pending.old }
+    ensures in_set { (i : ℕ) → i < length (unwrap_or pairs.entry []) → has_literal assignment.now.trail (pair_in (unwrap_or pairs.entry []) i).other ≡ false → words_have pending.new (pair_in (unwrap_or pairs.entry []) i).number ≡ true }
+    ensures grows { Grows (words_have pending.old) (words_have pending.new) }
+    ensures only { HasPairsMore store.now (words_have pending.old) (words_have pending.new) }
+    ensures room { length pending.new ≡ length pending.old }
+{
+    if let Some(pairs) = pairs {
+        mark_all(store, &pairs, assignment, falsified, pending);
+    }
+}
+
 /// Puts the clauses of two literals of a false literal into the set whose other literal is not true.
 pub fn mark_pairs(
     store: &Store,
@@ -72,9 +94,9 @@ pub fn mark_pairs(
     ensures room { length pending.new ≡ length pending.old }
 {
     let lists = index.lists(falsified);
-    mark_all(store, &lists.told, assignment, falsified, pending);
-    mark_all(store, &lists.last, assignment, falsified, pending);
-    mark_all(store, &lists.next, assignment, falsified, pending);
-    mark_all(store, &lists.time, assignment, falsified, pending);
-    mark_all(store, &lists.after, assignment, falsified, pending);
+    mark_list(store, lists.told(), assignment, falsified, pending);
+    mark_list(store, lists.last(), assignment, falsified, pending);
+    mark_list(store, lists.next(), assignment, falsified, pending);
+    mark_list(store, lists.time(), assignment, falsified, pending);
+    mark_list(store, lists.after(), assignment, falsified, pending);
 }

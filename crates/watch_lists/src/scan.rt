@@ -1,34 +1,47 @@
-//! What is found by reading the literals of a clause: whether it is pending, its unit literal, and another one to watch.
+//! What is found by reading the literals of a clause: how it stands, its unit literal, and another one to watch.
 ghost use Rattle.std.specs.Prelude.{◌≡◌, ℕ, ◌*◌, ◌<◌, ◌≤◌, length, true, false, slice_index, MatchOption, IfSome};
 ghost use Rattle.clause_base.specs.Literal.{opposite};
 ghost use Rattle.clause_base.specs.Clause.{has_literal};
 ghost use Rattle.watch_lists.specs.Units.{IsUnit};
 ghost use Rattle.watch_lists.specs.Pending.{is_free};
-ghost use Rattle.cdcl_rules.specs.Pending.{is_pending};
+ghost use Rattle.watch_lists.specs.Status.{IsStatus};
+ghost use Rattle.cdcl_rules.specs.Pending.{is_pending, open_ones};
 
+use crate::status::Status;
 use cdcl_trail::assignment::Assignment;
 use clause_base::literal::Lit;
 use clause_base::view::View;
+
+/// How a clause stands, by its literals, each of which is read once.
+pub fn status_of(assignment: &Assignment, clause: &View) -> Status
+    requires { (p : ℕ) → p < length clause.now → slice_index clause.now p < 2 * assignment.now.variables }
+    ensures { IsStatus (is_pending (has_literal assignment.now.trail) clause.now) (open_ones (has_literal assignment.now.trail) clause.now) result }
+{
+    let mut left: Option<Lit> = None;
+    for place in 0..clause.len() {
+        let lit = clause.get(place);
+        if assignment.is_true(lit.0) {
+            return Status::Open;
+        }
+        if !assignment.is_false(lit.0) {
+            if left.is_some() {
+                return Status::Open;
+            }
+            left = Some(lit);
+        }
+    }
+    match left {
+        Some(lit) => Status::Unit(lit),
+        None => Status::Falsified,
+    }
+}
 
 /// Whether a clause has no true literal and at most one that is not false.
 pub fn is_pending(assignment: &Assignment, clause: &View) -> bool
     requires { (p : ℕ) → p < length clause.now → slice_index clause.now p < 2 * assignment.now.variables }
     ensures { result ≡ is_pending (has_literal assignment.now.trail) clause.now }
 {
-    let mut free = false;
-    for place in 0..clause.len() {
-        let lit = clause.get(place);
-        if assignment.is_true(lit.0) {
-            return false;
-        }
-        if !assignment.is_false(lit.0) {
-            if free {
-                return false;
-            }
-            free = true;
-        }
-    }
-    true
+    status_of(assignment, clause).is_pending()
 }
 
 /// The unit literal of a pending clause that has literals: the one that is not false, or its first one where all are false.

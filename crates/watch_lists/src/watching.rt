@@ -6,17 +6,18 @@ ghost use Rattle.cdcl_rules.specs.State.{clause_at, value_of};
 ghost use Rattle.cdcl_rules.specs.Pending.{is_pending_in, least_from, open_ones};
 ghost use Rattle.cdcl_rules.specs.Learn.{backtracked};
 ghost use Rattle.cdcl_trail.specs.Assignment.{literals};
+ghost use Rattle.watch_lists.specs.Back.{taken_back};
 ghost use Rattle.watch_lists.specs.Pending.{WatchingView};
 
 use crate::front::clean;
 use crate::given::{Given, count_longs};
-use crate::left::left_of;
+use crate::left::{left_least, status_at};
 use crate::marks::mark_pairs;
 use crate::pending::{Pending, no_pending};
 use crate::quiet::{no_quiet, raise};
 use crate::slots::{begin_block, blocks_of};
 use crate::take_slot::take_slot;
-use crate::undo::refresh;
+use crate::undo::{Back, refresh, take_back};
 use crate::visit::Lists;
 use cdcl_rules::trail::Assigned;
 use cdcl_trail::trail::Trail;
@@ -48,6 +49,7 @@ pub struct Watching {
     blocks: Vec<u32>,
     lists: Lists,
     quiet: Vec<bool>,
+    front_left: Option<Lit>,
 }
 
 impl Model for Watching {
@@ -58,12 +60,14 @@ impl Model for Watching {
     ghost use Rattle.watch_lists.specs.Units.{HasUnits};
     ghost use Rattle.number_bits.specs.Bits.{words_have};
     ghost use Rattle.watch_lists.specs.Sound.{AreTablesSound};
+    ghost use Rattle.watch_lists.specs.Status.{IsFrontLeft};
+    ghost use Rattle.clause_base.specs.Clause.{has_literal};
 
     ghost Value = { WatchingView };
 
     ghost view = { λ w. record { variables = w.variables; clauses = w.store; kept = w.kept.items; entries = w.trail.entries } };
 
-    ghost invariant = { λ w. AreTablesSound w.variables w.trail.variables w.store w.kept.items (literals w.trail.entries) w.slots.items w.lists.watched.items w.lists.chains.heads.items w.lists.chains.nodes.items w.lists.pending w.quiet.items × IsPaired w.variables w.store w.slots.items w.pairs × HasUnits w.store (literals w.trail.entries) w.slots.items w.lists.pending w.lists.units.items };
+    ghost invariant = { λ w. AreTablesSound w.variables w.trail.variables w.store w.kept.items (literals w.trail.entries) w.slots.items w.lists.watched.items w.lists.chains.heads.items w.lists.chains.nodes.items w.lists.pending w.quiet.items × IsPaired w.variables w.store w.slots.items w.pairs × HasUnits w.store (literals w.trail.entries) w.slots.items w.lists.pending w.lists.units.items × IsFrontLeft w.store (has_literal (literals w.trail.entries)) (words_have w.lists.pending) w.front_left };
 }
 
 /// Letting one go is one call, in which its parts go: whoever holds one proves one step.
@@ -79,6 +83,7 @@ impl Drop for Watching {
             blocks: _,
             lists: _,
             quiet: _,
+            front_left: _,
         } = self;
     }
 }
@@ -97,6 +102,7 @@ impl Watching {
         let quiet = no_quiet(alloc, variables)?;
         let longs = count_longs(formula);
         let given = Given::new(alloc, &store, formula, longs, 2 * variables)?;
+        let front_left = left_least(&store, &trail.assignment(), &given.lists.pending);
         Ok(Watching {
             variables,
             store,
@@ -107,6 +113,7 @@ impl Watching {
             blocks: given.blocks,
             lists: given.lists,
             quiet,
+            front_left,
         })
     }
 
@@ -159,7 +166,7 @@ impl Watching {
             number,
             low,
         );
-        clean(
+        self.front_left = clean(
             &self.store,
             self.kept.as_slice(),
             self.slots.as_slice(),
@@ -199,7 +206,7 @@ impl Watching {
             spare,
             falsified.0,
         );
-        clean(
+        self.front_left = clean(
             &self.store,
             self.kept.as_slice(),
             self.slots.as_slice(),
@@ -210,16 +217,17 @@ impl Watching {
         );
     }
 
-    /// Takes back what stands above a length of the trail. It takes no memory.
-    pub fn cut(&mut self, length: u32)
-        ensures { self.new ≡ record self.old { entries = take length self.old.entries } }
+    /// Takes back what stands above a length or a level of the trail.
+    fn go_back(&mut self, to: Back)
+        ensures { self.new ≡ record self.old { entries = taken_back to self.old.entries } }
     {
-        if length >= self.trail.length() {
+        let before = self.trail.length();
+        take_back(&mut self.trail, to);
+        if self.trail.length() == before {
             return;
         }
-        self.trail.cut(length);
         let assignment = self.trail.assignment();
-        refresh(
+        self.front_left = refresh(
             &self.store,
             self.kept.as_slice(),
             self.slots.as_slice(),
@@ -230,25 +238,18 @@ impl Watching {
         );
     }
 
+    /// Takes back what stands above a length of the trail. It takes no memory.
+    pub fn cut(&mut self, length: u32)
+        ensures { self.new ≡ record self.old { entries = take length self.old.entries } }
+    {
+        self.go_back(Back::Length(length));
+    }
+
     /// Takes back what stands above a level of the trail. It takes no memory.
     pub fn backtrack(&mut self, level: u32)
         ensures { self.new ≡ record self.old { entries = backtracked level self.old.entries } }
     {
-        let before = self.trail.length();
-        self.trail.backtrack(level);
-        if self.trail.length() == before {
-            return;
-        }
-        let assignment = self.trail.assignment();
-        refresh(
-            &self.store,
-            self.kept.as_slice(),
-            self.slots.as_slice(),
-            self.quiet.as_slice(),
-            &assignment,
-            &mut self.lists.pending,
-            &mut self.lists.units,
-        );
+        self.go_back(Back::Level(level));
     }
 
     /// Stops keeping a clause. It takes no memory.
@@ -258,7 +259,7 @@ impl Watching {
     {
         self.kept[number as usize] = false;
         let assignment = self.trail.assignment();
-        clean(
+        self.front_left = clean(
             &self.store,
             self.kept.as_slice(),
             self.slots.as_slice(),
@@ -274,8 +275,11 @@ impl Watching {
         requires { is_pending_in self.now.clauses self.now.kept (has_literal (literals self.now.entries)) number ≡ true }
         ensures { MatchOption result (open_ones (has_literal (literals self.now.entries)) (clause_at self.now.clauses number) ≡ []) (λ lit. open_ones (has_literal (literals self.now.entries)) (clause_at self.now.clauses number) ≡ lit ∷ []) }
     {
+        if self.lists.pending.least() == Some(number) {
+            return self.front_left;
+        }
         let assignment = self.trail.assignment();
-        left_of(
+        status_at(
             &self.store,
             self.slots.as_slice(),
             self.blocks.as_slice(),
@@ -283,6 +287,7 @@ impl Watching {
             self.lists.units.as_slice(),
             number,
         )
+        .left()
     }
 
     /// The least number of a kept clause that has no true literal and at most one that is not false. It takes no memory.

@@ -1,4 +1,4 @@
-use Rattle.std.proofs.Common.{◌≡◌, List, true, false, sym, subst}
+use Rattle.std.proofs.Common.{◌≡◌, ℕ, List, true, false, sym, subst}
 use Rattle.clause_base.specs.Clause.{has_literal}
 use Rattle.number_bits.specs.Bits.{words_have}
 use Rattle.pair_index.specs.declared.pair.Pair.{Pair}
@@ -13,44 +13,47 @@ parts c =
     five_of_each (IsPairOf c.args.store.now c.args.falsified) c.lists-lists.result.told c.lists-lists.result.last c.lists-lists.result.next c.lists-lists.result.time c.lists-lists.result.after
     (subst (λ (xs : List Pair). EachPair (IsPairOf c.args.store.now c.args.falsified) xs) c.lists-lists.ensures c.requires.exact)
 
-pub mark_all-requires-clause-exact : goal.mark_all-requires-clause-exact
-mark_all-requires-clause-exact c = (parts (goal.at.mark_all-requires-clause-exact c).After-lists-lists).first
+-- a list that is read
+at_list : (store : List (List ℕ)) (falsified : ℕ) {xs ys : List Pair} → xs ≡ ys → EachPair (IsPairOf store falsified) ys → EachPair (IsPairOf store falsified) xs
+at_list store falsified e h = subst (λ (ps : List Pair). EachPair (IsPairOf store falsified) ps) (sym e) h
 
-pub mark_all-requires-2-clause-exact : goal.mark_all-requires-2-clause-exact
-mark_all-requires-2-clause-exact c = (parts (goal.at.mark_all-requires-2-clause-exact c).After-lists-lists).second
+pub mark_list-requires-clause-exact : goal.mark_list-requires-clause-exact
+mark_list-requires-clause-exact c = at_list c.args.store.now c.args.falsified c.told.ensures (parts (goal.at.mark_list-requires-clause-exact c).After-lists-lists).first
 
-pub mark_all-requires-3-clause-exact : goal.mark_all-requires-3-clause-exact
-mark_all-requires-3-clause-exact c = (parts (goal.at.mark_all-requires-3-clause-exact c).After-lists-lists).third
+pub mark_list-requires-2-clause-exact : goal.mark_list-requires-2-clause-exact
+mark_list-requires-2-clause-exact c = at_list c.args.store.now c.args.falsified c.last.ensures (parts (goal.at.mark_list-requires-2-clause-exact c).After-lists-lists).second
 
-pub mark_all-requires-4-clause-exact : goal.mark_all-requires-4-clause-exact
-mark_all-requires-4-clause-exact c = (parts (goal.at.mark_all-requires-4-clause-exact c).After-lists-lists).fourth
+pub mark_list-requires-3-clause-exact : goal.mark_list-requires-3-clause-exact
+mark_list-requires-3-clause-exact c = at_list c.args.store.now c.args.falsified c.next.ensures (parts (goal.at.mark_list-requires-3-clause-exact c).After-lists-lists).third
 
-pub mark_all-requires-5-clause-exact : goal.mark_all-requires-5-clause-exact
-mark_all-requires-5-clause-exact c = (parts (goal.at.mark_all-requires-5-clause-exact c).After-lists-lists).fifth
+pub mark_list-requires-4-clause-exact : goal.mark_list-requires-4-clause-exact
+mark_list-requires-4-clause-exact c = at_list c.args.store.now c.args.falsified c.time.ensures (parts (goal.at.mark_list-requires-4-clause-exact c).After-lists-lists).fourth
+
+pub mark_list-requires-5-clause-exact : goal.mark_list-requires-5-clause-exact
+mark_list-requires-5-clause-exact c = at_list c.args.store.now c.args.falsified c.after.ensures (parts (goal.at.mark_list-requires-5-clause-exact c).After-lists-lists).fifth
 
 pub returns-clause-in_set : goal.returns-clause-in_set
 returns-clause-in_set c =
     let on = has_literal c.args.assignment.now.trail in
-    let P : Pair → Type 0 = λ p. on p.other ≡ false → words_have c.mark_all-5.new.pending p.number ≡ true in
+    let P : Pair → Type 0 = λ p. on p.other ≡ false → words_have c.mark_list-5.new.pending p.number ≡ true in
     let ls = c.lists-lists.result in
-    subst (EachPair P) (sym c.lists-lists.ensures)
-    (each_of_five P ls.told ls.last ls.next ls.time ls.after
-    (λ i h f. c.mark_all-5.ensures.grows _ (c.mark_all-4.ensures.grows _ (c.mark_all-3.ensures.grows _ (c.mark_all-2.ensures.grows _ (c.mark_all.ensures.in_set i h f)))))
-    (λ i h f. c.mark_all-5.ensures.grows _ (c.mark_all-4.ensures.grows _ (c.mark_all-3.ensures.grows _ (c.mark_all-2.ensures.in_set i h f))))
-    (λ i h f. c.mark_all-5.ensures.grows _ (c.mark_all-4.ensures.grows _ (c.mark_all-3.ensures.in_set i h f)))
-    (λ i h f. c.mark_all-5.ensures.grows _ (c.mark_all-4.ensures.in_set i h f))
-    c.mark_all-5.ensures.in_set)
+    let told : EachPair P ls.told = subst (EachPair P) c.told.ensures (λ i h f. c.mark_list-5.ensures.grows _ (c.mark_list-4.ensures.grows _ (c.mark_list-3.ensures.grows _ (c.mark_list-2.ensures.grows _ (c.mark_list.ensures.in_set i h f))))) in
+    let last : EachPair P ls.last = subst (EachPair P) c.last.ensures (λ i h f. c.mark_list-5.ensures.grows _ (c.mark_list-4.ensures.grows _ (c.mark_list-3.ensures.grows _ (c.mark_list-2.ensures.in_set i h f)))) in
+    let next : EachPair P ls.next = subst (EachPair P) c.next.ensures (λ i h f. c.mark_list-5.ensures.grows _ (c.mark_list-4.ensures.grows _ (c.mark_list-3.ensures.in_set i h f))) in
+    let time : EachPair P ls.time = subst (EachPair P) c.time.ensures (λ i h f. c.mark_list-5.ensures.grows _ (c.mark_list-4.ensures.in_set i h f)) in
+    let after : EachPair P ls.after = subst (EachPair P) c.after.ensures c.mark_list-5.ensures.in_set in
+    subst (EachPair P) (sym c.lists-lists.ensures) (each_of_five P ls.told ls.last ls.next ls.time ls.after told last next time after)
 
 pub returns-clause-grows : goal.returns-clause-grows
-returns-clause-grows c k h = c.mark_all-5.ensures.grows k (c.mark_all-4.ensures.grows k (c.mark_all-3.ensures.grows k (c.mark_all-2.ensures.grows k (c.mark_all.ensures.grows k h))))
+returns-clause-grows c k h = c.mark_list-5.ensures.grows k (c.mark_list-4.ensures.grows k (c.mark_list-3.ensures.grows k (c.mark_list-2.ensures.grows k (c.mark_list.ensures.grows k h))))
 
 pub returns-clause-only : goal.returns-clause-only
 returns-clause-only c =
     let store = c.args.store.now in
     let s0 = words_have c.args.pending.now in
-    let s1 = words_have c.mark_all.new.pending in
-    let s2 = words_have c.mark_all-2.new.pending in
-    let s3 = words_have c.mark_all-3.new.pending in
-    let s4 = words_have c.mark_all-4.new.pending in
-    let s5 = words_have c.mark_all-5.new.pending in
-    pairs_then store s0 s4 s5 (pairs_then store s0 s3 s4 (pairs_then store s0 s2 s3 (pairs_then store s0 s1 s2 c.mark_all.ensures.only c.mark_all-2.ensures.only) c.mark_all-3.ensures.only) c.mark_all-4.ensures.only) c.mark_all-5.ensures.only
+    let s1 = words_have c.mark_list.new.pending in
+    let s2 = words_have c.mark_list-2.new.pending in
+    let s3 = words_have c.mark_list-3.new.pending in
+    let s4 = words_have c.mark_list-4.new.pending in
+    let s5 = words_have c.mark_list-5.new.pending in
+    pairs_then store s0 s4 s5 (pairs_then store s0 s3 s4 (pairs_then store s0 s2 s3 (pairs_then store s0 s1 s2 c.mark_list.ensures.only c.mark_list-2.ensures.only) c.mark_list-3.ensures.only) c.mark_list-4.ensures.only) c.mark_list-5.ensures.only

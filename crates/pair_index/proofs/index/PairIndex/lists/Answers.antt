@@ -10,4 +10,4 @@ returns c =
     let long = ap (λ (v : List (List Pair)). length v) c.self.view_is in
     let inside : c.args.code < length (index_of c.self.inside.shape c.self.inside.told c.self.inside.step c.self.inside.time c.self.inside.after) = omega (arith, long, c.requires) in
     sym (ap (λ (v : List (List Pair)). pairs_of v c.args.code) c.self.view_is)
-    ∙ lists_read c.self.inside.shape c.self.inside.told c.self.inside.step c.self.inside.time c.self.inside.after c.args.code _ _ _ _ _ c.self.invariant.0 inside c.plain_list.ensures c.place_of-placed.ensures.last c.place_of-placed.ensures.next c.place_of-placed.ensures.time c.plain_list-2.ensures
+    ∙ lists_read c.self.inside.shape c.self.inside.told c.self.inside.step c.self.inside.time c.self.inside.after c.args.code _ _ _ _ _ c.self.invariant.0 inside c.of.ensures.told c.of.ensures.last c.of.ensures.next c.of.ensures.time c.of.ensures.after

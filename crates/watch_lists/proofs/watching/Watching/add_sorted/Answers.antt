@@ -6,6 +6,7 @@ use Rattle.watch_lists.specs.Pending.{WatchingView, is_pending_on}
 use Rattle.watch_lists.specs.Visit.{IsFit, Grows, slot_clauses, slot_flags, slot_set}
 use Rattle.watch_lists.specs.Pairs.{IsPaired}
 use Rattle.watch_lists.specs.Sound.{IsFront, AreTablesSound}
+use Rattle.watch_lists.specs.Status.{IsFrontLeft}
 use Rattle.watch_lists.specs.Units.{IsUnit, AreUnits, IsWithin, IsConsistent, HasUnits}
 use Rattle.watch_lists.proofs.UnitsOfSlots.{units_add, within_add, distinct_add, has_units_wider, has_units_fewer}
 use Rattle.watch_lists.proofs.Adds.{fit_add}
@@ -14,6 +15,7 @@ use Rattle.watch_lists.proofs.Slotted.{slots_long, taken_few, taken_slots}
 use Rattle.watch_lists.proofs.Wider.{sound_wider, rest_wider}
 use Rattle.watch_lists.proofs.Enters.{pair_loose, below_by, short_by, complete_add}
 use Rattle.watch_lists.proofs.Sounds.{sound_add}
+use Rattle.watch_lists.proofs.Statuses.{front_left_same}
 use Rattle.watch_lists.proofs.watching.Watching.add_sorted.Goals as goal
 use Rattle.watch_lists.proofs.watching.Watching.add_sorted.Goals.{After-assignment-assignment, After-raise}
 
@@ -25,6 +27,7 @@ invariant_of-self-in_err-widen c =
           (sound_wider w.variables w.trail.variables w.store w.kept.items (literals w.trail.entries) w.slots.items w.lists.watched.items w.lists.chains.heads.items w.lists.chains.nodes.items w.lists.pending w.quiet.items c.widen.new.self.watched.items c.widen.new.self.chains.heads.items c.widen.new.self.chains.nodes.items c.widen.new.self.pending c.self.invariant.0 c.widen.ensures.wider)),
       subst (λ (ss : List ℕ). IsPaired w.variables w.store ss w.pairs) (sym c.reserve-2.ensures.items) c.self.invariant.1,
       subst (λ (ss : List ℕ). HasUnits w.store (literals w.trail.entries) ss c.widen.new.self.pending c.widen.new.self.units.items) (sym c.reserve-2.ensures.items) (has_units_wider w.store (literals w.trail.entries) w.slots.items w.lists.pending w.lists.units.items c.widen.new.self.pending c.widen.new.self.units.items c.self.invariant.2 c.widen.ensures.wider.set c.widen.ensures.same_units c.widen.ensures.more_units),
+      front_left_same w.store (has_literal (literals w.trail.entries)) (words_have w.lists.pending) (words_have c.widen.new.self.pending) w.front_left c.self.invariant.3 c.widen.ensures.wider.set,
     )
 
 pub invariant_of-self-in_err-push : goal.invariant_of-self-in_err-push
@@ -36,6 +39,7 @@ invariant_of-self-in_err-push c =
           (sound_wider w.variables w.trail.variables w.store w.kept.items (literals w.trail.entries) w.slots.items w.lists.watched.items w.lists.chains.heads.items w.lists.chains.nodes.items w.lists.pending w.quiet.items c.widen.new.self.watched.items c.widen.new.self.chains.heads.items c.widen.new.self.chains.nodes.items c.widen.new.self.pending c.self.invariant.0 c.widen.ensures.wider))),
       subst (λ (cs : List (List ℕ)). IsPaired w.variables cs c.reserve-2.new.self.items w.pairs) (sym c.in_err-push.ensures.err) (subst (λ (ss : List ℕ). IsPaired w.variables w.store ss w.pairs) (sym c.reserve-2.ensures.items) c.self.invariant.1),
       subst (λ (cs : List (List ℕ)). HasUnits cs (literals w.trail.entries) c.reserve-2.new.self.items c.widen.new.self.pending c.widen.new.self.units.items) (sym c.in_err-push.ensures.err) (subst (λ (ss : List ℕ). HasUnits w.store (literals w.trail.entries) ss c.widen.new.self.pending c.widen.new.self.units.items) (sym c.reserve-2.ensures.items) (has_units_wider w.store (literals w.trail.entries) w.slots.items w.lists.pending w.lists.units.items c.widen.new.self.pending c.widen.new.self.units.items c.self.invariant.2 c.widen.ensures.wider.set c.widen.ensures.same_units c.widen.ensures.more_units)),
+      subst (λ (cs : List (List ℕ)). IsFrontLeft cs (has_literal (literals w.trail.entries)) (words_have c.widen.new.self.pending) w.front_left) (sym c.in_err-push.ensures.err) (front_left_same w.store (has_literal (literals w.trail.entries)) (words_have w.lists.pending) (words_have c.widen.new.self.pending) w.front_left c.self.invariant.3 c.widen.ensures.wider.set),
     )
 
 -- what held, of what the trail says
@@ -59,8 +63,8 @@ raise-requires-clause-long c =
     let i = sound (goal.at.raise-requires-clause-long c).After-assignment-assignment in
     omega (arith, i.same, i.quiet_size)
 
-pub clean-requires-clause-consistent : goal.clean-requires-clause-consistent
-clean-requires-clause-consistent c =
+pub clean-self-inside-requires-clause-consistent : goal.clean-self-inside-requires-clause-consistent
+clean-self-inside-requires-clause-consistent c =
     subst (λ (v : AssignmentView). IsConsistent v.trail) (sym c.assignment-assignment.ensures) c.self.invariant.2.consistent
 
 pub take_slot-requires-clause-below : goal.take_slot-requires-clause-below
@@ -81,10 +85,10 @@ take_slot-requires-clause-loose c =
     (rest_wider (slot_clauses w.store w.slots.items) w.lists.watched.items w.lists.chains.heads.items w.lists.chains.nodes.items w.lists.pending c.widen.new.self.watched.items c.widen.new.self.chains.heads.items c.widen.new.self.chains.nodes.items c.widen.new.self.pending (2 * w.variables) (slot_flags w.kept.items w.slots.items) i.rest c.widen.ensures.wider)
     (ap (λ (ss : List ℕ). length ss) c.reserve-2.ensures.items ∙ sym (slots_long w.store w.slots.items))
 
-pub clean-requires-clause-fit : goal.clean-requires-clause-fit
-clean-requires-clause-fit c =
+pub clean-self-inside-requires-clause-fit : goal.clean-self-inside-requires-clause-fit
+clean-self-inside-requires-clause-fit c =
     let w = c.self.inside in
-    let i = sound (goal.at.clean-requires-clause-fit c).After-assignment-assignment in
+    let i = sound (goal.at.clean-self-inside-requires-clause-fit c).After-assignment-assignment in
     let k = c.args.clause.now in
     let below = subst (λ (v : WatchingView). HasVariablesBelow v.variables c.args.clause.now) (sym c.self.view_is) c.requires.below in
     subst (λ (t : ℕ). IsFit c.push.new.self (2 * t)) (sym i.same)
@@ -122,32 +126,32 @@ has_units c =
       consistent = old.consistent;
     }
 
-pub clean-requires-clause-few : goal.clean-requires-clause-few
-clean-requires-clause-few c =
-    omega (arith, fewer_slots (goal.at.clean-requires-clause-few c).After-raise, c.self.invariant.0.slots_few, c.self.invariant.0.few, ap (λ (ss : List ℕ). length ss) c.as_slice-2.ensures.value)
+pub clean-self-inside-requires-clause-few : goal.clean-self-inside-requires-clause-few
+clean-self-inside-requires-clause-few c =
+    omega (arith, fewer_slots (goal.at.clean-self-inside-requires-clause-few c).After-raise, c.self.invariant.0.slots_few, c.self.invariant.0.few, ap (λ (ss : List ℕ). length ss) c.as_slice-2.ensures.value)
 
-pub clean-requires-clause-long : goal.clean-requires-clause-long
-clean-requires-clause-long c =
-    omega (arith, (has_units (goal.at.clean-requires-clause-long c).After-raise).long, ap (λ (ss : List ℕ). length ss) c.as_slice-2.ensures.value, ap (λ (ss : List ℕ). length ss) c.as_slice-4.ensures.value)
+pub clean-self-inside-requires-clause-long : goal.clean-self-inside-requires-clause-long
+clean-self-inside-requires-clause-long c =
+    omega (arith, (has_units (goal.at.clean-self-inside-requires-clause-long c).After-raise).long, ap (λ (ss : List ℕ). length ss) c.as_slice-2.ensures.value, ap (λ (ss : List ℕ). length ss) c.as_slice-4.ensures.value)
 
-pub clean-requires-clause-within : goal.clean-requires-clause-within
-clean-requires-clause-within c =
-    subst (λ (cs : List (List ℕ)). IsWithin (length cs) (words_have c.raise.new.pending)) (sym c.in_ok-push.ensures.ok) (has_units (goal.at.clean-requires-clause-within c).After-raise).within
+pub clean-self-inside-requires-clause-within : goal.clean-self-inside-requires-clause-within
+clean-self-inside-requires-clause-within c =
+    subst (λ (cs : List (List ℕ)). IsWithin (length cs) (words_have c.raise.new.pending)) (sym c.in_ok-push.ensures.ok) (has_units (goal.at.clean-self-inside-requires-clause-within c).After-raise).within
 
-pub clean-requires-clause-units_are : goal.clean-requires-clause-units_are
-clean-requires-clause-units_are c =
+pub clean-self-inside-requires-clause-units_are : goal.clean-self-inside-requires-clause-units_are
+clean-self-inside-requires-clause-units_are c =
     let w = c.self.inside in
     let on = has_literal c.assignment-assignment.result.trail in
     let set = words_have c.raise.new.pending in
     subst (λ (cs : List (List ℕ)). AreUnits (slot_clauses cs c.as_slice-2.result.now) on (slot_set set c.as_slice-2.result.now) c.as_slice-4.result.now) (sym c.in_ok-push.ensures.ok)
     (subst (λ (ss : List ℕ). AreUnits (slot_clauses (w.store ++ c.args.clause.now ∷ []) ss) on (slot_set set ss) c.as_slice-4.result.now) (sym c.as_slice-2.ensures.value)
     (subst (λ (xs : List ℕ). AreUnits (slot_clauses (w.store ++ c.args.clause.now ∷ []) c.take_slot.new.slots.items) on (slot_set set c.take_slot.new.slots.items) xs) (sym c.as_slice-4.ensures.value)
-    (has_units (goal.at.clean-requires-clause-units_are c).After-raise).units_are))
+    (has_units (goal.at.clean-self-inside-requires-clause-units_are c).After-raise).units_are))
 
-pub clean-requires-clause-complete : goal.clean-requires-clause-complete
-clean-requires-clause-complete c k p =
+pub clean-self-inside-requires-clause-complete : goal.clean-self-inside-requires-clause-complete
+clean-self-inside-requires-clause-complete c k p =
     let w = c.self.inside in
-    let i = sound_wider w.variables c.assignment-assignment.result.variables w.store w.kept.items c.assignment-assignment.result.trail w.slots.items w.lists.watched.items w.lists.chains.heads.items w.lists.chains.nodes.items w.lists.pending w.quiet.items c.widen.new.self.watched.items c.widen.new.self.chains.heads.items c.widen.new.self.chains.nodes.items c.widen.new.self.pending (sound (goal.at.clean-requires-clause-complete c).After-assignment-assignment) c.widen.ensures.wider in
+    let i = sound_wider w.variables c.assignment-assignment.result.variables w.store w.kept.items c.assignment-assignment.result.trail w.slots.items w.lists.watched.items w.lists.chains.heads.items w.lists.chains.nodes.items w.lists.pending w.quiet.items c.widen.new.self.watched.items c.widen.new.self.chains.heads.items c.widen.new.self.chains.nodes.items c.widen.new.self.pending (sound (goal.at.clean-self-inside-requires-clause-complete c).After-assignment-assignment) c.widen.ensures.wider in
     let flags = c.as_slice.ensures.value ∙ c.in_ok-push-2.ensures.items ∙ ap (λ (ks : List Bool). ks ++ true ∷ []) c.reserve.ensures.items in
     let grows : Grows (words_have c.widen.new.self.pending) (words_have c.raise.new.pending) = (λ n h. c.raise.ensures.grows n (ap (λ (ws : List ℕ). words_have ws n) c.take_slot.ensures.set ∙ h)) in
     complete_add w.store c.args.clause.now w.kept.items c.assignment-assignment.result.trail c.count-count.result c.in_ok-low.low (words_have c.widen.new.self.pending) (words_have c.raise.new.pending) i.many c.count-count.ensures.value i.front.complete
@@ -162,18 +166,19 @@ invariant_of-self-2 c =
     let k = c.args.clause.now in
     let below = subst (λ (v : WatchingView). HasVariablesBelow v.variables c.args.clause.now) (sym c.self.view_is) c.requires.below in
     let kept = c.in_ok-push-2.ensures.items ∙ ap (λ (ks : List Bool). ks ++ true ∷ []) c.reserve.ensures.items in
-    let front = subst (λ (cs : List (List ℕ)). IsFront (is_pending_on cs (w.kept.items ++ true ∷ []) c.assignment-assignment.result.trail) (words_have c.clean.new.pending)) c.in_ok-push.ensures.ok
-    (subst (λ (ks : List Bool). IsFront (is_pending_on c.push.new.self ks c.assignment-assignment.result.trail) (words_have c.clean.new.pending)) (c.as_slice.ensures.value ∙ kept) c.clean.ensures.front) in
-    let words : length c.clean.new.pending ≡ length c.widen.new.self.pending = (let a = ap (λ (ws : List ℕ). length ws) c.take_slot.ensures.set in omega (arith, c.clean.ensures.room, c.raise.ensures.room, a)) in
-    let done = sound_add w.variables c.assignment-assignment.result.variables w.store w.kept.items c.assignment-assignment.result.trail c.reserve-2.new.self.items c.widen.new.self.watched.items c.widen.new.self.chains.heads.items c.widen.new.self.chains.nodes.items c.widen.new.self.pending w.quiet.items k c.count-count.result c.in_ok-low.low c.take_slot.new.slots.items c.take_slot.new.lists.watched.items c.take_slot.new.lists.chains.heads.items c.take_slot.new.lists.chains.nodes.items c.clean.new.pending c.raise.new.quiet.items
+    let front = subst (λ (cs : List (List ℕ)). IsFront (is_pending_on cs (w.kept.items ++ true ∷ []) c.assignment-assignment.result.trail) (words_have c.clean-self-inside.new.pending)) c.in_ok-push.ensures.ok
+    (subst (λ (ks : List Bool). IsFront (is_pending_on c.push.new.self ks c.assignment-assignment.result.trail) (words_have c.clean-self-inside.new.pending)) (c.as_slice.ensures.value ∙ kept) c.clean-self-inside.ensures.front) in
+    let words : length c.clean-self-inside.new.pending ≡ length c.widen.new.self.pending = (let a = ap (λ (ws : List ℕ). length ws) c.take_slot.ensures.set in omega (arith, c.clean-self-inside.ensures.room, c.raise.ensures.room, a)) in
+    let done = sound_add w.variables c.assignment-assignment.result.variables w.store w.kept.items c.assignment-assignment.result.trail c.reserve-2.new.self.items c.widen.new.self.watched.items c.widen.new.self.chains.heads.items c.widen.new.self.chains.nodes.items c.widen.new.self.pending w.quiet.items k c.count-count.result c.in_ok-low.low c.take_slot.new.slots.items c.take_slot.new.lists.watched.items c.take_slot.new.lists.chains.heads.items c.take_slot.new.lists.chains.nodes.items c.clean-self-inside.new.pending c.raise.new.quiet.items
     slotted c.requires.lawful below (c.count-count.ensures.value ∙ sym i.many) (omega (arith, c.if-count-ge-MOST_CLAUSES.false)) c.in_ok-widen.ensures.in_set c.take_slot.ensures.taken c.in_ok-low.ensures.quiet words front c.raise.ensures.size c.raise.ensures.below c.raise.ensures.off in
     let pairs = paired_add w.variables c.count-count.result (2 * c.assignment-assignment.result.variables) w.store k c.assignment-assignment.result.trail w.pairs c.reserve-2.new.self.items c.widen.new.self.watched.items c.widen.new.self.chains.heads.items c.widen.new.self.chains.nodes.items c.take_slot.new.slots.items c.take_slot.new.lists.watched.items c.take_slot.new.lists.chains.heads.items c.take_slot.new.lists.chains.nodes.items
     (subst (λ (ss : List ℕ). IsPaired w.variables w.store ss w.pairs) (sym c.reserve-2.ensures.items) c.self.invariant.1) c.count-count.ensures.value c.take_slot.ensures.taken in (
-      subst (λ (v : AssignmentView). AreTablesSound w.variables v.variables c.push.new.self c.push-2.new.self.items v.trail c.take_slot.new.slots.items c.take_slot.new.lists.watched.items c.take_slot.new.lists.chains.heads.items c.take_slot.new.lists.chains.nodes.items c.clean.new.pending c.raise.new.quiet.items) c.assignment-assignment.ensures
-          (subst (λ (cs : List (List ℕ)). AreTablesSound w.variables c.assignment-assignment.result.variables cs c.push-2.new.self.items c.assignment-assignment.result.trail c.take_slot.new.slots.items c.take_slot.new.lists.watched.items c.take_slot.new.lists.chains.heads.items c.take_slot.new.lists.chains.nodes.items c.clean.new.pending c.raise.new.quiet.items) (sym c.in_ok-push.ensures.ok)
-          (subst (λ (ks : List Bool). AreTablesSound w.variables c.assignment-assignment.result.variables (w.store ++ k ∷ []) ks c.assignment-assignment.result.trail c.take_slot.new.slots.items c.take_slot.new.lists.watched.items c.take_slot.new.lists.chains.heads.items c.take_slot.new.lists.chains.nodes.items c.clean.new.pending c.raise.new.quiet.items) (sym kept) done)),
+      subst (λ (v : AssignmentView). AreTablesSound w.variables v.variables c.push.new.self c.push-2.new.self.items v.trail c.take_slot.new.slots.items c.take_slot.new.lists.watched.items c.take_slot.new.lists.chains.heads.items c.take_slot.new.lists.chains.nodes.items c.clean-self-inside.new.pending c.raise.new.quiet.items) c.assignment-assignment.ensures
+          (subst (λ (cs : List (List ℕ)). AreTablesSound w.variables c.assignment-assignment.result.variables cs c.push-2.new.self.items c.assignment-assignment.result.trail c.take_slot.new.slots.items c.take_slot.new.lists.watched.items c.take_slot.new.lists.chains.heads.items c.take_slot.new.lists.chains.nodes.items c.clean-self-inside.new.pending c.raise.new.quiet.items) (sym c.in_ok-push.ensures.ok)
+          (subst (λ (ks : List Bool). AreTablesSound w.variables c.assignment-assignment.result.variables (w.store ++ k ∷ []) ks c.assignment-assignment.result.trail c.take_slot.new.slots.items c.take_slot.new.lists.watched.items c.take_slot.new.lists.chains.heads.items c.take_slot.new.lists.chains.nodes.items c.clean-self-inside.new.pending c.raise.new.quiet.items) (sym kept) done)),
       subst (λ (cs : List (List ℕ)). IsPaired w.variables cs c.take_slot.new.slots.items w.pairs) (sym c.in_ok-push.ensures.ok) pairs,
-      subst (λ (v : AssignmentView). HasUnits c.push.new.self v.trail c.take_slot.new.slots.items c.clean.new.pending c.take_slot.new.lists.units.items) c.assignment-assignment.ensures
-          (subst (λ (cs : List (List ℕ)). HasUnits cs c.assignment-assignment.result.trail c.take_slot.new.slots.items c.clean.new.pending c.take_slot.new.lists.units.items) (sym c.in_ok-push.ensures.ok)
-          (has_units_fewer (w.store ++ k ∷ []) c.assignment-assignment.result.trail c.take_slot.new.slots.items c.raise.new.pending c.clean.new.pending c.take_slot.new.lists.units.items (has_units (goal.at.invariant_of-self-2 c).After-raise) c.clean.ensures.fewer)),
+      subst (λ (v : AssignmentView). HasUnits c.push.new.self v.trail c.take_slot.new.slots.items c.clean-self-inside.new.pending c.take_slot.new.lists.units.items) c.assignment-assignment.ensures
+          (subst (λ (cs : List (List ℕ)). HasUnits cs c.assignment-assignment.result.trail c.take_slot.new.slots.items c.clean-self-inside.new.pending c.take_slot.new.lists.units.items) (sym c.in_ok-push.ensures.ok)
+          (has_units_fewer (w.store ++ k ∷ []) c.assignment-assignment.result.trail c.take_slot.new.slots.items c.raise.new.pending c.clean-self-inside.new.pending c.take_slot.new.lists.units.items (has_units (goal.at.invariant_of-self-2 c).After-raise) c.clean-self-inside.ensures.fewer)),
+      subst (λ (v : AssignmentView). IsFrontLeft c.push.new.self (has_literal v.trail) (words_have c.clean-self-inside.new.pending) c.clean-self-inside.result) c.assignment-assignment.ensures c.clean-self-inside.ensures.left,
     )

@@ -14,6 +14,7 @@ use Rattle.watch_lists.specs.Visit.{slot_clauses, slot_flags, slot_set, IsFit, A
 use Rattle.pair_index.specs.Pairs.{pairs_of, pair_in}
 use Rattle.watch_lists.specs.Units.{AreUnits, IsConsistent}
 use Rattle.watch_lists.specs.Sound.{IsFront, AreFree}
+use Rattle.watch_lists.specs.Status.{IsFrontLeft}
 use Rattle.watch_lists.proofs.Assigns.{opposite_twice, assign_complete, assign_free, assign_quiets, whole_free}
 use Rattle.watch_lists.proofs.UnitsTell.{all_longer, consistent_push, last_true}
 use Rattle.watch_lists.proofs.UnitsOfSlots.{units_pairs, within_pairs}
@@ -109,25 +110,25 @@ visit_all-requires-clause-units_are c =
     (all_longer (slot_clauses w.store w.slots.items) (literals w.trail.entries) c.args.entry.literal (slot_set (words_have c.mark_pairs.new.pending) w.slots.items) w.lists.units.items
     (units_pairs w.store (has_literal (literals w.trail.entries)) (words_have w.lists.pending) (words_have c.mark_pairs.new.pending) w.slots.items w.lists.units.items c.mark_pairs.ensures.only c.self.invariant.2.units_are)))
 
-pub clean-requires-clause-fit : goal.clean-requires-clause-fit
-clean-requires-clause-fit c =
+pub clean-self-inside-requires-clause-fit : goal.clean-self-inside-requires-clause-fit
+clean-self-inside-requires-clause-fit c =
     let w = c.self.inside in
     let i = c.self.invariant.0 in
     subst (λ (n : ℕ). IsFit w.store (2 * n)) (sym (ap (λ (t : AssignmentView). t.variables) c.assignment-assignment.ensures ∙ ap (λ (t : TrailView). t.variables) c.push.ensures ∙ i.same)) i.fit
 
-pub clean-requires-clause-consistent : goal.clean-requires-clause-consistent
-clean-requires-clause-consistent c =
+pub clean-self-inside-requires-clause-consistent : goal.clean-self-inside-requires-clause-consistent
+clean-self-inside-requires-clause-consistent c =
     let w = c.self.inside in
-    consistent (goal.at.clean-requires-clause-consistent c).After-assignment-assignment
+    consistent (goal.at.clean-self-inside-requires-clause-consistent c).After-assignment-assignment
 
-pub clean-requires-clause-complete : goal.clean-requires-clause-complete
-clean-requires-clause-complete c =
+pub clean-self-inside-requires-clause-complete : goal.clean-self-inside-requires-clause-complete
+clean-self-inside-requires-clause-complete c =
     let w = c.self.inside in
     let i = c.self.invariant.0 in
-    let tr = trail_is (goal.at.clean-requires-clause-complete c).After-assignment-assignment in
-    let op = falsified_is (goal.at.clean-requires-clause-complete c).After-falsified in
+    let tr = trail_is (goal.at.clean-self-inside-requires-clause-complete c).After-assignment-assignment in
+    let op = falsified_is (goal.at.clean-self-inside-requires-clause-complete c).After-falsified in
     let e = c.visit_all.ensures in
-    let visited = (goal.at.clean-requires-clause-complete c).After-visit_all in
+    let visited = (goal.at.clean-self-inside-requires-clause-complete c).After-visit_all in
     let slotted = assign_complete (slot_clauses w.store w.slots.items) w.lists.watched.items c.visit_all.new.self.watched.items (slot_flags w.kept.items w.slots.items) (literals w.trail.entries) c.args.entry.literal (slot_set (words_have w.lists.pending) w.slots.items) (slot_set (words_have c.visit_all.new.self.pending) w.slots.items) (flags_long w.kept.items w.slots.items ∙ sym (slots_long w.store w.slots.items)) (rest visited).placed
     (whole_free (slot_clauses w.store w.slots.items) w.lists.watched.items (slot_flags w.kept.items w.slots.items) (literals w.trail.entries) i.free) (moves visited) (settled visited)
     (λ k h. e.grows (get_or w.slots.items k 0) (c.mark_pairs.ensures.grows (get_or w.slots.items k 0) h))
@@ -149,18 +150,19 @@ invariant_of-self c =
     let e = c.visit_all.ensures in
     let visited = (goal.at.invariant_of-self c).After-visit_all in
     let free = assign_free (slot_clauses w.store w.slots.items) w.lists.watched.items c.visit_all.new.self.watched.items (slot_flags w.kept.items w.slots.items) (literals w.trail.entries) c.args.entry.literal (slot_set (words_have c.visit_all.new.self.pending) w.slots.items) i.free (moves visited) (settled visited) in (
-      sound_moved w.variables w.trail.variables w.store w.kept.items (literals w.trail.entries) w.slots.items w.lists.watched.items w.lists.chains.heads.items w.lists.chains.nodes.items w.lists.pending w.quiet.items c.push.new.self.variables (literals c.push.new.self.entries) c.visit_all.new.self.watched.items c.visit_all.new.self.chains.heads.items c.visit_all.new.self.chains.nodes.items c.clean.new.pending (set w.quiet.items c.length-length.result c.is_none.result) i
-          (ap (λ (t : TrailView). t.variables) c.push.ensures) (omega (arith, c.mark_pairs.ensures.room, e.room, c.clean.ensures.room)) (rest visited)
+      sound_moved w.variables w.trail.variables w.store w.kept.items (literals w.trail.entries) w.slots.items w.lists.watched.items w.lists.chains.heads.items w.lists.chains.nodes.items w.lists.pending w.quiet.items c.push.new.self.variables (literals c.push.new.self.entries) c.visit_all.new.self.watched.items c.visit_all.new.self.chains.heads.items c.visit_all.new.self.chains.nodes.items c.clean-self-inside.new.pending (set w.quiet.items c.length-length.result c.is_none.result) i
+          (ap (λ (t : TrailView). t.variables) c.push.ensures) (omega (arith, c.mark_pairs.ensures.room, e.room, c.clean-self-inside.ensures.room)) (rest visited)
           (subst (λ (ys : List ℕ). (n : ℕ) → n ≤ length ys → AreFree (slot_clauses w.store w.slots.items) c.visit_all.new.self.watched.items (slot_flags w.kept.items w.slots.items) (take n ys)) (sym tr) free)
-          (subst (λ (ys : List ℕ). IsFront (is_pending_on w.store w.kept.items ys) (words_have c.clean.new.pending)) seen (subst (λ (ks : List Bool). IsFront (is_pending_on w.store ks c.assignment-assignment.result.trail) (words_have c.clean.new.pending)) c.as_slice-3.ensures.value c.clean.ensures.front))
+          (subst (λ (ys : List ℕ). IsFront (is_pending_on w.store w.kept.items ys) (words_have c.clean-self-inside.new.pending)) seen (subst (λ (ks : List Bool). IsFront (is_pending_on w.store ks c.assignment-assignment.result.trail) (words_have c.clean-self-inside.new.pending)) c.as_slice-3.ensures.value c.clean-self-inside.ensures.front))
           (length-set w.quiet.items c.length-length.result c.is_none.result)
           (subst (λ (ys : List ℕ). (n : ℕ) → n < length ys → get_or (set w.quiet.items c.length-length.result c.is_none.result) n false ≡ true → (k : ℕ) → is_pending_on w.store w.kept.items (take n ys) k ≡ false) (sym tr) (assign_quiets w.store w.kept.items (literals w.trail.entries) c.args.entry.literal w.quiet.items c.length-length.result c.least-least.result c.is_none.result (words_have w.lists.pending) (c.length-length.ensures.is ∙ sym (length-map w.trail.entries (λ (a : Assigned). a.literal))) (omega (arith, c.length-length.ensures.short, i.same, i.quiet_size)) c.least-least.ensures c.is_none.ensures i.front i.quiets)),
       c.self.invariant.1,
       record {
-        within = λ k h. e.within k (c.clean.ensures.fewer k h);
-        units_are = subst (λ (ys : List ℕ). AreUnits (slot_clauses w.store w.slots.items) (has_literal ys) (slot_set (words_have c.clean.new.pending) w.slots.items) c.visit_all.new.self.units.items) seen (λ n h long. units_of_slots visited n (c.clean.ensures.fewer (get_or w.slots.items n 0) h) long);
+        within = λ k h. e.within k (c.clean-self-inside.ensures.fewer k h);
+        units_are = subst (λ (ys : List ℕ). AreUnits (slot_clauses w.store w.slots.items) (has_literal ys) (slot_set (words_have c.clean-self-inside.new.pending) w.slots.items) c.visit_all.new.self.units.items) seen (λ n h long. units_of_slots visited n (c.clean-self-inside.ensures.fewer (get_or w.slots.items n 0) h) long);
         long = omega (arith, c.self.invariant.2.long, e.long);
         distinct = c.self.invariant.2.distinct;
         consistent = subst IsConsistent seen (consistent here);
       },
+      subst (λ (ys : List ℕ). IsFrontLeft w.store (has_literal ys) (words_have c.clean-self-inside.new.pending) c.clean-self-inside.result) seen c.clean-self-inside.ensures.left,
     )
