@@ -1,4 +1,5 @@
-use Rattle.std.specs.Prelude.{◌≡◌, ℕ, ◌+◌, ◌*◌, ◌<◌, ◌==◌, List, ◌∷◌, [], ◌++◌, true, ◌&&◌, if◌then◌else◌, map, length, slice_index_or}
+use Rattle.std.specs.Prelude.{◌≡◌, ℕ, ◌+◌, ◌*◌, ◌<◌, ◌≤◌, ◌==◌, List, ◌∷◌, [], ◌++◌, true, ◌&&◌, if◌then◌else◌, map, length, count_by, slice_index_or}
+use Rattle.std.specs.List.{AllByRecursion}
 use Rattle.gt_core.specs.Task.{Task, Effect, owned}
 use Rattle.gt_core.specs.Active.{EffectWithin}
 use Rattle.gt_core.specs.Lawful.{is_conditional}
@@ -25,6 +26,14 @@ pub record IsPlaced (z : Layout) (a j : ℕ) (e : Effect) : Type 0 where
   pub action : a < z.actions
   pub number : is_conditional e ≡ true → j < z.conditional
   pub within : EffectWithin z.facts e
+
+-- and so has each effect of an action, of which the first conditional one has a number
+pub record ArePlaced (z : Layout) (a first : ℕ) (es : List Effect) : Type 0 where
+  pub horizon : 0 < z.horizon
+  pub action : a < z.actions
+  pub numbers : first + count_by is_conditional es ≤ z.conditional
+  pub few : z.conditional ≤ 65536
+  pub within : AllByRecursion (EffectWithin z.facts) es
 
 -- the codes of the variables in the first step of an action's effects with a literal
 abbrev pub made_by : Layout → ℕ → ℕ → List Row → List ℕ

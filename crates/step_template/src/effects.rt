@@ -1,16 +1,15 @@
 //! What an effect's variable means, and what an effect makes true.
 
-ghost use Rattle.std.specs.Prelude.{◌≡◌, ◌+◌, ◌/◌, ◌%◌, ◌≤◌, ◌<◌, ◌==◌, [], ◌∷◌, ◌++◌, List, true, map, length, count_by, if◌then◌else◌, None, OnOk};
+ghost use Rattle.std.specs.Prelude.{◌≡◌, ◌+◌, ◌/◌, ◌%◌, ◌≤◌, ◌<◌, ◌==◌, [], ◌∷◌, ◌++◌, List, true, map, length, if◌then◌else◌, None, OnOk};
 ghost use Rattle.std.specs.List.{AllByRecursion};
 ghost use Rattle.gt_core.specs.Literal.{opposite};
-ghost use Rattle.gt_core.specs.Active.{EffectWithin};
-ghost use Rattle.gt_core.specs.Lawful.{is_conditional, conditional_in, are_effects};
+ghost use Rattle.gt_core.specs.Lawful.{conditional_in, are_effects};
 ghost use Rattle.gt_core.specs.Layout.{action_at, fact_at};
 ghost use Rattle.step_clauses.specs.Clause.{Is, Not, code};
 ghost use Rattle.step_clauses.specs.Variables.{Row, rows};
 ghost use Rattle.step_clauses.specs.Formula.{literal_over};
 ghost use Rattle.step_clauses.specs.Coded.{Appends};
-ghost use Rattle.step_template.specs.Rows.{row_of, rows_of, IsPlaced, meaning_of, result_of, effect_of, effects_of};
+ghost use Rattle.step_template.specs.Rows.{row_of, rows_of, IsPlaced, ArePlaced, meaning_of, effect_of, effects_of};
 ghost use Rattle.step_template.specs.Adders.{AreOverruling};
 
 use crate::adders::Adders;
@@ -119,28 +118,8 @@ fn push_overruling(adders: &Adders, lit: u32, lits: &mut Vec<Lit>) -> Result<(),
     Ok(())
 }
 
-/// Appends what an effect makes true: an add always, a delete unless its action adds the fact.
-fn add_result(
-    alloc: Global,
-    layout: &Layout,
-    place: Place,
-    effect: &Eff,
-    adders: &Adders,
-    clauses: &mut ClauseList,
-) -> Result<(), Memory>
-    requires { IsPlaced layout.now place.action place.number effect.now }
-    ensures { OnOk result ((all : List Row) → AreOverruling layout.now place.action all adders.now.lit adders.now.vars.items effect.now → Appends clauses.old clauses.new (result_of layout.now all (row_of place.action place.number effect.now) ∷ [])) }
-{
-    let mut lits = vec![in alloc;
-        Lit::of(effect_variable(layout, place, effect), false),
-        literal_at(layout, 1, effect.lit()),
-    ]?;
-    push_overruling(adders, effect.lit(), &mut lits)?;
-    add_clause(clauses, lits.as_slice())?;
-    Ok(())
-}
-
-/// Appends the clauses of one effect.
+/// Appends the clauses of one effect: what its variable means, and what it makes true, an add always, a delete unless its
+/// action adds the fact.
 fn add_effect(
     alloc: Global,
     layout: &Layout,
@@ -153,7 +132,12 @@ fn add_effect(
     ensures { OnOk result ((all : List Row) → AreOverruling layout.now place.action all adders.now.lit adders.now.vars.items effect.now → Appends clauses.old clauses.new (effect_of layout.now all (row_of place.action place.number effect.now))) }
 {
     add_meaning(alloc, layout, place, effect, clauses)?;
-    add_result(alloc, layout, place, effect, adders, clauses)?;
+    let mut lits = vec![in alloc;
+        Lit::of(effect_variable(layout, place, effect), false),
+        literal_at(layout, 1, effect.lit()),
+    ]?;
+    push_overruling(adders, effect.lit(), &mut lits)?;
+    add_clause(clauses, lits.as_slice())?;
     Ok(())
 }
 
@@ -166,11 +150,7 @@ fn add_effects_of(
     effects: &[Eff],
     clauses: &mut ClauseList,
 ) -> Result<(), Memory>
-    requires horizon { 0 < layout.now.horizon }
-    requires action { action < layout.now.actions }
-    requires numbers { first + count_by is_conditional effects.now ≤ layout.now.conditional }
-    requires few { layout.now.conditional ≤ 65536 }
-    requires within { AllByRecursion (EffectWithin layout.now.facts) effects.now }
+    requires placed { ArePlaced layout.now action first effects.now }
     requires sorted { are_effects layout.now.facts None effects.now ≡ true }
     ensures { OnOk result (Appends clauses.old clauses.new (effects_of layout.now (rows_of action first effects.now) (rows_of action first effects.now))) }
 {

@@ -1,10 +1,8 @@
 //! The effects of a task by the literal that they make true.
 
-ghost use Rattle.std.specs.Prelude.{◌≡◌, ℕ, ◌+◌, ◌*◌, ◌≤◌, ◌<◌, [], ◌∷◌, ◌++◌, true, length, count_by, replicate, slice_index_or, OnOk, IfOk};
-ghost use Rattle.std.specs.List.{AllByRecursion};
-ghost use Rattle.gt_core.specs.Active.{EffectWithin};
+ghost use Rattle.std.specs.Prelude.{◌≡◌, ℕ, ◌+◌, ◌*◌, ◌≤◌, ◌<◌, [], ◌∷◌, ◌++◌, true, length, replicate, slice_index_or, OnOk, IfOk};
 ghost use Rattle.gt_core.specs.Lawful.{is_conditional, conditional_in};
-ghost use Rattle.step_template.specs.Rows.{row_of, rows_of, made, IsIndex};
+ghost use Rattle.step_template.specs.Rows.{row_of, rows_of, made, ArePlaced, IsIndex};
 
 use crate::numbers::{Place, effect_variable, number_after};
 use clause_base::literal::Lit;
@@ -46,11 +44,7 @@ fn index_effects_of(
     effects: &[Eff],
     index: &mut Vec<Makers>,
 ) -> Result<(), Memory>
-    requires horizon { 0 < layout.now.horizon }
-    requires action { action < layout.now.actions }
-    requires numbers { first + count_by is_conditional effects.now ≤ layout.now.conditional }
-    requires few { layout.now.conditional ≤ 65536 }
-    requires within { AllByRecursion (EffectWithin layout.now.facts) effects.now }
+    requires placed { ArePlaced layout.now action first effects.now }
     requires long { length index.old.items ≡ 2 * layout.now.facts }
     ensures long { length index.new.items ≡ length index.old.items }
     ensures each { OnOk result ((l : ℕ) → slice_index_or index.new.items l [] ≡ slice_index_or index.old.items l [] ++ made layout.now l (rows_of action first effects.now)) }

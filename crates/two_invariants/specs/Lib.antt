@@ -8,6 +8,7 @@ pub mod Groups
 pub mod Numbers
 pub mod Plain
 pub mod Index
+pub mod Before
 pub mod First
 pub mod Renewed
 pub mod Rounds

@@ -1,13 +1,15 @@
-use Rattle.std.specs.Prelude.{◌≡◌, ℕ, ◌<◌, ◌==◌, ◌⊎◌, List, Bool, true, false, not, ◌&&◌, ◌||◌, length}
+use Rattle.std.specs.Prelude.{◌≡◌, ℕ, ◌*◌, ◌<◌, ◌==◌, ◌⊎◌, List, Bool, true, false, not, ◌&&◌, ◌||◌, length}
 use Rattle.std.specs.List.{list_any, list_all}
 use Rattle.bit_rows.specs.Bits.{row_has}
 use Rattle.gt_core.specs.Literal.{opposite}
 use Rattle.gt_core.specs.Task.{Action}
-use Rattle.two_invariants.specs.Rows.{row_at, clause_in, IsPart, IsChained, HasNoPair, IsClosure}
+use Rattle.two_invariants.specs.Rows.{row_at, clause_in, AreRows, IsPart, IsChained, HasNoPair, IsClosure}
 use Rattle.two_invariants.specs.Tested.{IsSetOf, breaks_by}
 use Rattle.two_invariants.specs.declared.known.Known.{Known}
 use Rattle.two_invariants.specs.declared.again.Moved.{Moved}
 use Rattle.two_invariants.specs.declared.bound.Bound.{Bound}
+use Rattle.two_invariants.specs.declared.close.Rules.{Rules}
+use Rattle.two_invariants.specs.declared.close.Done.{Done}
 
 -- What is known after clauses were dropped, and which actions may break others than before.
 
@@ -49,6 +51,18 @@ pub record AreMoves (asked : ℕ → Bool) (old new : Known) (moved : Moved) : T
 pub record IsBound (V : ℕ → ℕ → Bool) (bound : Bound) : Type 0 where
   pub literals : (l m : ℕ) → V l m ≡ true → row_has bound.literals l ≡ true
   pub opposites : (l m : ℕ) → V (opposite l) m ≡ true → row_has bound.opposites l ≡ true
+
+-- literals tell by clauses on both sides, and which stand in one is listed
+pub record AreRules (rules : Rules) : Type 0 where
+  pub clauses : AreRows rules.facts rules.clauses.now
+  pub either : (l m : ℕ) → clause_in rules.clauses.now l m ≡ clause_in rules.clauses.now m l
+  pub bound : IsBound (clause_in rules.clauses.now) rules.bound.now
+
+-- there is a row for each literal, and that of each literal that is asked for and below one has all that it tells
+pub record AreDone (done : Done) : Type 0 where
+  pub rules : AreRules done.rules.now
+  pub long : length done.rows.now ≡ 2 * done.rules.now.facts
+  pub each : (k : ℕ) → row_has done.rules.now.asked.now k ≡ true → k < done.below → IsClosure (clause_in done.rules.now.clauses.now) (λ m. k == m) (row_has (row_at done.rows.now k))
 
 -- Actions.
 

@@ -8,6 +8,7 @@ ghost use Rattle.two_invariants.specs.Tested.{IsSetOf, AreKnown, act_at};
 ghost use Rattle.two_invariants.specs.Renewed.{WereKnown, AreMoves, is_unmoved};
 
 use crate::bound::bound_literals;
+use crate::close::{Done, Rules};
 use crate::known::{Known, all_known};
 use crate::renew::{renew_none, renew_rows};
 use bit_rows::row::BitRow;
@@ -47,12 +48,12 @@ fn find_lacking(
 }
 
 /// Works out what is known after clauses were dropped, and what of it is another than before.
-pub fn renew_known(
+pub fn renew_known<'a>(
     alloc: Global,
     facts: u32,
-    clauses: &[BitRow],
+    clauses: &'a [BitRow],
     stale: &BitRow,
-    asked: &BitRow,
+    asked: &'a BitRow,
     known: &mut Known,
 ) -> Result<Moved, AllocError>
     requires clauses { AreRows facts clauses.now }
@@ -63,9 +64,19 @@ pub fn renew_known(
     ensures moved { IfOk result (λ moved. AreMoves (row_has asked.now) known.old known.new moved) }
 {
     let bound = bound_literals(alloc, facts, clauses)?;
-    let rows = renew_rows(alloc, facts, clauses, &bound, stale, asked, &mut known.rows)?;
-    let done = known.rows.as_slice();
-    let lits = renew_none(alloc, facts, clauses, &bound, asked, done, &mut known.none)?;
+    let rules = Rules {
+        facts,
+        clauses,
+        bound: &bound,
+        asked,
+    };
+    let rows = renew_rows(alloc, &rules, stale, &mut known.rows)?;
+    let done = Done {
+        rules: &rules,
+        rows: known.rows.as_slice(),
+        below: 2 * facts,
+    };
+    let lits = renew_none(alloc, &done, &mut known.none)?;
     let lacking = find_lacking(alloc, asked, known.rows.as_slice(), &lits)?;
     Ok(Moved {
         rows,

@@ -11,12 +11,13 @@ ghost use Rattle.two_invariants.specs.Breaks.{is_add};
 ghost use Rattle.two_invariants.specs.Tested.{with_more, is_lost, are_lost, IsLossOf, AreLossesOf, ActionFits, IsSetOf, AreRowsOf};
 ghost use Rattle.two_invariants.specs.Groups.{group_with, breaks_under, GroupFits};
 ghost use Rattle.two_invariants.specs.Index.{IsGroupOf, AreGivers, AreTakers};
+ghost use Rattle.two_invariants.specs.Before.{IsBefore};
 
 use crate::givers::{Givers, fill_given, givers_of};
 use crate::groups::{Group, group_effects};
 use crate::known::{Known, copy, with_more};
 use crate::plain::{are_plain, plain_losses};
-use crate::takers::{Room, Takers, is_taken, take_all_lost, takers_of};
+use crate::takers::{Before, Here, Room, Takers, is_taken, take_all_lost, takers_of};
 use bit_rows::row::BitRow;
 use gt_core::act::Act;
 use std::alloc::{AllocError, Global};
@@ -77,44 +78,44 @@ fn push_losses(
 }
 
 /// Appends the clauses that the effects of a group break where a set is known before the action.
-fn push_group_losses(
+fn push_group_losses<'a>(
     alloc: Global,
-    facts: u32,
-    rows: &[BitRow],
+    before: &'a Before<'a>,
     clauses: &[BitRow],
-    set: &BitRow,
-    groups: &[Group],
-    givers: &Givers,
-    takers: &Takers,
+    givers: &'a Givers,
+    takers: &'a Takers,
     group: &Group,
     losses: &mut Vec<Loss>,
     room: &mut Room,
 ) -> Result<(), AllocError>
-    requires rows { AreRowsOf (2 * facts) rows.now }
-    requires clauses { AreRows facts clauses.now }
-    requires set { IsSetOf (2 * facts) (row_has set.now) }
-    requires groups { AllByRecursion (GroupFits (2 * facts)) groups.now }
-    requires group { GroupFits (2 * facts) group.now }
-    requires one { IsGroupOf groups.now group.now }
-    requires givers { AreGivers (row_has set.now) groups.now (length groups.now) givers.now }
-    requires takers { AreTakers facts rows.now (row_has set.now) groups.now (length groups.now) takers.now }
-    ensures lost { OnOk result ((l m : ℕ) → are_lost losses.new.items l m ≡ (are_lost losses.old.items l m || (clause_in clauses.now l m && (row_has group.now.literals (opposite l) && breaks_under facts rows.now (group_with groups.now) (row_has set.now) l m group.now.condition.items)))) }
-    ensures each { OnOk result (AllByRecursion (IsLossOf (2 * facts) clauses.now) losses.old.items → AllByRecursion (IsLossOf (2 * facts) clauses.now) losses.new.items) }
+    requires before { IsBefore before.now }
+    requires clauses { AreRows before.now.facts clauses.now }
+    requires group { GroupFits (2 * before.now.facts) group.now }
+    requires one { IsGroupOf before.now.groups.now group.now }
+    requires givers { AreGivers (row_has before.now.set.now) before.now.groups.now (length before.now.groups.now) givers.now }
+    requires takers { AreTakers before.now.facts before.now.rows.now (row_has before.now.set.now) before.now.groups.now (length before.now.groups.now) takers.now }
+    ensures lost { OnOk result ((l m : ℕ) → are_lost losses.new.items l m ≡ (are_lost losses.old.items l m || (clause_in clauses.now l m && (row_has group.now.literals (opposite l) && breaks_under before.now.facts before.now.rows.now (group_with before.now.groups.now) (row_has before.now.set.now) l m group.now.condition.items)))) }
+    ensures each { OnOk result (AllByRecursion (IsLossOf (2 * before.now.facts) clauses.now) losses.old.items → AllByRecursion (IsLossOf (2 * before.now.facts) clauses.now) losses.new.items) }
 {
-    let here = with_more(alloc, rows, set, group.condition.as_slice())?;
-    if here.has_pair() {
+    let known = with_more(alloc, before.rows, before.set, group.condition.as_slice())?;
+    if known.has_pair() {
         return Ok(());
     }
     let mut given = BitRow::new(alloc);
-    fill_given(groups, givers, &here, &mut given)?;
-    let mut sure = copy(alloc, &here)?;
+    fill_given(before.groups, givers, &known, &mut given)?;
+    let mut sure = copy(alloc, &known)?;
     sure.unite(&given)?;
-    take_all_lost(
-        facts, rows, groups, givers, takers, &here, group, &given, &mut sure, room,
-    )?;
+    let here = Here {
+        before: &*before,
+        givers,
+        takers,
+        set: &known,
+        given: &given,
+    };
+    take_all_lost(&here, group, &mut sure, room)?;
     push_losses(
         alloc,
-        facts,
+        before.facts,
         clauses,
         &group.opposites,
         &given,
@@ -125,23 +126,15 @@ fn push_group_losses(
 }
 
 /// The clauses that groups of effects break where a set is known before the action.
-fn group_losses(
-    alloc: Global,
-    facts: u32,
-    rows: &[BitRow],
-    clauses: &[BitRow],
-    set: &BitRow,
-    groups: &[Group],
-) -> Result<Vec<Loss>, AllocError>
-    requires rows { AreRowsOf (2 * facts) rows.now }
-    requires clauses { AreRows facts clauses.now }
-    requires set { IsSetOf (2 * facts) (row_has set.now) }
-    requires groups { AllByRecursion (GroupFits (2 * facts)) groups.now }
-    ensures lost { IfOk result (λ losses. (l m : ℕ) → are_lost losses.items l m ≡ (clause_in clauses.now l m && group_with groups.now (opposite l) (breaks_under facts rows.now (group_with groups.now) (row_has set.now) l m))) }
-    ensures each { IfOk result (λ losses. AllByRecursion (IsLossOf (2 * facts) clauses.now) losses.items) }
+fn group_losses(alloc: Global, before: &Before, clauses: &[BitRow]) -> Result<Vec<Loss>, AllocError>
+    requires before { IsBefore before.now }
+    requires clauses { AreRows before.now.facts clauses.now }
+    ensures lost { IfOk result (λ losses. (l m : ℕ) → are_lost losses.items l m ≡ (clause_in clauses.now l m && group_with before.now.groups.now (opposite l) (breaks_under before.now.facts before.now.rows.now (group_with before.now.groups.now) (row_has before.now.set.now) l m))) }
+    ensures each { IfOk result (λ losses. AllByRecursion (IsLossOf (2 * before.now.facts) clauses.now) losses.items) }
 {
-    let givers = givers_of(alloc, set, groups)?;
-    let takers = takers_of(alloc, facts, rows, set, groups)?;
+    let groups = before.groups;
+    let givers = givers_of(alloc, before.set, groups)?;
+    let takers = takers_of(alloc, before)?;
     let mut room = Room {
         there: BitRow::new(alloc),
         given: BitRow::new(alloc),
@@ -150,11 +143,8 @@ fn group_losses(
     for group in groups {
         push_group_losses(
             alloc,
-            facts,
-            rows,
+            &*before,
             clauses,
-            set,
-            groups,
             &givers,
             &takers,
             group,
@@ -190,6 +180,12 @@ pub fn losses_of(
         return Ok(plain);
     }
     let groups = group_effects(alloc, effects)?;
-    let losses = group_losses(alloc, facts, rows, clauses, &set, groups.as_slice())?;
+    let before = Before {
+        facts,
+        rows,
+        set: &set,
+        groups: groups.as_slice(),
+    };
+    let losses = group_losses(alloc, &before, clauses)?;
     Ok(losses)
 }

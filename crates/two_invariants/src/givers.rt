@@ -4,10 +4,7 @@
 ghost use Rattle.std.specs.Prelude.{◌≡◌, ℕ, ◌<◌, ◌==◌, ◌&&◌, ◌||◌, ◌⊎◌, true, None, length, IfOk, IfSome, OnOk};
 ghost use Rattle.std.specs.List.{list_any, list_all};
 ghost use Rattle.bit_rows.specs.Bits.{row_has};
-ghost use Rattle.two_invariants.specs.Rows.{IsPart};
-ghost use Rattle.two_invariants.specs.Tested.{IsSetOf};
-ghost use Rattle.two_invariants.specs.Groups.{group_with};
-ghost use Rattle.two_invariants.specs.Numbers.{FindsMore};
+ghost use Rattle.two_invariants.specs.{Rows.IsPart, Tested.IsSetOf, Groups.group_with, Numbers.FindsMore};
 ghost use Rattle.two_invariants.specs.Index.{IsNumbered, gives_in, IsGiver, AreGivers};
 
 use crate::by_literal::{ByLiteral, add_number, list_of, no_numbers};

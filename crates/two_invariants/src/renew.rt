@@ -6,10 +6,10 @@ ghost use Rattle.bit_rows.specs.Bits.{row_has};
 ghost use Rattle.gt_core.specs.Literal.{opposite};
 ghost use Rattle.two_invariants.specs.Rows.{row_at, clause_in, AreRows, IsPart, IsClosure};
 ghost use Rattle.two_invariants.specs.Tested.{IsSetOf};
-ghost use Rattle.two_invariants.specs.Renewed.{IsBound, WasClosed, WasTold};
+ghost use Rattle.two_invariants.specs.Renewed.{IsBound, AreRules, AreDone, WasClosed, WasTold};
 
 use crate::bound::{Bound, add_partners, add_told};
-use crate::close::close;
+use crate::close::{Done, Rules, close};
 use bit_rows::row::BitRow;
 use gt_core::lits::opposite;
 use std::alloc::{AllocError, Global};
@@ -88,24 +88,15 @@ fn no_spare(alloc: Global) -> Spare {
 /// Makes `next`, which has what is known at once, the set of all that follows. Whether it is another than the old set,
 /// which is the same else.
 fn renew(
-    facts: u32,
-    clauses: &[BitRow],
-    bound: &Bound,
-    asked: &BitRow,
-    done: &[BitRow],
-    below: u32,
+    done: &Done,
     old: &BitRow,
     next: &mut BitRow,
     spare: &mut Spare,
 ) -> Result<bool, AllocError>
-    requires clauses { AreRows facts clauses.now }
-    requires either { (l m : ℕ) → clause_in clauses.now l m ≡ clause_in clauses.now m l }
-    requires bound { IsBound (clause_in clauses.now) bound.now }
-    requires long { length done.now ≡ 2 * facts }
-    requires done { (k : ℕ) → row_has asked.now k ≡ true → k < below → IsClosure (clause_in clauses.now) (λ m. k == m) (row_has (row_at done.now k)) }
-    requires within { IsSetOf (2 * facts) (row_has next.old) }
-    requires was { WasClosed (clause_in clauses.now) (2 * facts) (row_has next.old) (row_has old.now) }
-    ensures { IfOk result (λ anew. IsClosure (clause_in clauses.now) (row_has next.old) (row_has (if anew then next.new else old.now))) }
+    requires done { AreDone done.now }
+    requires within { IsSetOf (2 * done.now.rules.now.facts) (row_has next.old) }
+    requires was { WasClosed (clause_in done.now.rules.now.clauses.now) (2 * done.now.rules.now.facts) (row_has next.old) (row_has old.now) }
+    ensures { IfOk result (λ anew. IsClosure (clause_in done.now.rules.now.clauses.now) (row_has next.old) (row_has (if anew then next.new else old.now))) }
 {
     if next.is_same(old) {
         return Ok(false);
@@ -117,21 +108,12 @@ fn renew(
         let rest = &mut spare.rest;
         rest.make_same(old)?;
         rest.subtract(next);
-        if none_follows(clauses, bound, next, rest, &mut spare.room)? {
+        let rules = done.rules;
+        if none_follows(rules.clauses, rules.bound, next, rest, &mut spare.room)? {
             return Ok(true);
         }
     }
-    close(
-        facts,
-        clauses,
-        bound,
-        asked,
-        done,
-        below,
-        next,
-        &mut spare.rest,
-        &mut spare.room,
-    )?;
+    close(done, next, &mut spare.rest, &mut spare.room)?;
     if next.is_same(old) {
         return Ok(false);
     }
@@ -157,33 +139,24 @@ fn is_untouched(set: &BitRow, stale: &BitRow) -> bool
     !set.has_pair() && set.least_common(stale, 0).is_none()
 }
 
-/// Works out what a literal tells. Whether it is another set than the old one, and in `next`.
+/// Works out what the first literal that is not done tells. Whether it is another set than the old one, and in `next`.
 fn renew_row(
-    facts: u32,
-    clauses: &[BitRow],
-    bound: &Bound,
+    done: &Done,
     stale: &BitRow,
-    asked: &BitRow,
-    rows: &[BitRow],
-    x: u32,
     next: &mut BitRow,
     spare: &mut Spare,
 ) -> Result<bool, AllocError>
-    requires clauses { AreRows facts clauses.now }
-    requires either { (l m : ℕ) → clause_in clauses.now l m ≡ clause_in clauses.now m l }
-    requires bound { IsBound (clause_in clauses.now) bound.now }
-    requires x { x < 2 * facts }
-    requires long { length rows.now ≡ 2 * facts }
-    requires done { (k : ℕ) → row_has asked.now k ≡ true → k < x → IsClosure (clause_in clauses.now) (λ m. k == m) (row_has (row_at rows.now k)) }
-    requires was { WasTold (clause_in clauses.now) (row_has stale.now) (2 * facts) x (row_has (row_at rows.now x)) }
-    ensures { IfOk result (λ anew. IsClosure (clause_in clauses.now) (λ m. x == m) (row_has (if anew then next.new else row_at rows.now x))) }
+    requires done { AreDone done.now }
+    requires below { done.now.below < 2 * done.now.rules.now.facts }
+    requires was { WasTold (clause_in done.now.rules.now.clauses.now) (row_has stale.now) (2 * done.now.rules.now.facts) done.now.below (row_has (row_at done.now.rows.now done.now.below)) }
+    ensures { IfOk result (λ anew. IsClosure (clause_in done.now.rules.now.clauses.now) (λ m. done.now.below == m) (row_has (if anew then next.new else row_at done.now.rows.now done.now.below))) }
 {
-    let old = &rows[x as usize];
+    let old = &done.rows[done.below as usize];
     if is_untouched(old, stale) {
         return Ok(false);
     }
-    fill_first(clauses, x, next)?;
-    let anew = renew(facts, clauses, bound, asked, rows, x, old, next, spare)?;
+    fill_first(done.rules.clauses, done.below, next)?;
+    let anew = renew(done, old, next, spare)?;
     Ok(anew)
 }
 
@@ -199,42 +172,32 @@ fn set_row(rows: &mut Vec<BitRow>, x: u32, row: &BitRow) -> Result<(), AllocErro
 }
 
 /// Renews the row of a literal, and puts the literal into `moved` where the row is another than before.
-fn renew_at(
-    facts: u32,
-    clauses: &[BitRow],
-    bound: &Bound,
+fn renew_at<'a>(
+    rules: &'a Rules<'a>,
     stale: &BitRow,
-    asked: &BitRow,
     rows: &mut Vec<BitRow>,
     x: u32,
     next: &mut BitRow,
     spare: &mut Spare,
     moved: &mut BitRow,
 ) -> Result<(), AllocError>
-    requires clauses { AreRows facts clauses.now }
-    requires either { (l m : ℕ) → clause_in clauses.now l m ≡ clause_in clauses.now m l }
-    requires bound { IsBound (clause_in clauses.now) bound.now }
-    requires x { x < 2 * facts }
-    requires long { length rows.old.items ≡ 2 * facts }
-    requires done { (k : ℕ) → row_has asked.now k ≡ true → k < x → IsClosure (clause_in clauses.now) (λ m. k == m) (row_has (row_at rows.old.items k)) }
-    requires was { WasTold (clause_in clauses.now) (row_has stale.now) (2 * facts) x (row_has (row_at rows.old.items x)) }
+    requires rules { AreRules rules.now }
+    requires x { x < 2 * rules.now.facts }
+    requires long { length rows.old.items ≡ 2 * rules.now.facts }
+    requires done { (k : ℕ) → row_has rules.now.asked.now k ≡ true → k < x → IsClosure (clause_in rules.now.clauses.now) (λ m. k == m) (row_has (row_at rows.old.items k)) }
+    requires was { WasTold (clause_in rules.now.clauses.now) (row_has stale.now) (2 * rules.now.facts) x (row_has (row_at rows.old.items x)) }
     ensures long { OnOk result (length rows.new.items ≡ length rows.old.items) }
     ensures others { OnOk result ((k : ℕ) → (k ≡ x → ⊥) → row_at rows.new.items k ≡ row_at rows.old.items k) }
-    ensures closure { OnOk result (IsClosure (clause_in clauses.now) (λ m. x == m) (row_has (row_at rows.new.items x))) }
+    ensures closure { OnOk result (IsClosure (clause_in rules.now.clauses.now) (λ m. x == m) (row_has (row_at rows.new.items x))) }
     ensures more { OnOk result ((k : ℕ) → row_has moved.new k ≡ false → row_has moved.old k ≡ false) }
     ensures same { OnOk result (row_has moved.new x ≡ false → row_at rows.new.items x ≡ row_at rows.old.items x) }
 {
-    if renew_row(
-        facts,
-        clauses,
-        bound,
-        stale,
-        asked,
-        rows.as_slice(),
-        x,
-        next,
-        spare,
-    )? {
+    let done = Done {
+        rules,
+        rows: rows.as_slice(),
+        below: x,
+    };
+    if renew_row(&done, stale, next, spare)? {
         set_row(rows, x, next)?;
         moved.insert(x)?;
     }
@@ -244,35 +207,36 @@ fn renew_at(
 /// Renews the row of each literal that is asked for. The literals whose rows are others than before.
 pub fn renew_rows(
     alloc: Global,
-    facts: u32,
-    clauses: &[BitRow],
-    bound: &Bound,
+    rules: &Rules,
     stale: &BitRow,
-    asked: &BitRow,
     rows: &mut Vec<BitRow>,
 ) -> Result<BitRow, AllocError>
-    requires clauses { AreRows facts clauses.now }
-    requires either { (l m : ℕ) → clause_in clauses.now l m ≡ clause_in clauses.now m l }
-    requires bound { IsBound (clause_in clauses.now) bound.now }
-    requires asked { IsSetOf (2 * facts) (row_has asked.now) }
-    requires long { length rows.old.items ≡ 2 * facts }
-    requires were { (k : ℕ) → row_has asked.now k ≡ true → WasTold (clause_in clauses.now) (row_has stale.now) (2 * facts) k (row_has (row_at rows.old.items k)) }
-    ensures long { IfOk result (λ moved. length rows.new.items ≡ 2 * facts) }
-    ensures each { IfOk result (λ moved. (k : ℕ) → row_has asked.now k ≡ true → IsClosure (clause_in clauses.now) (λ m. k == m) (row_has (row_at rows.new.items k))) }
-    ensures others { IfOk result (λ moved. (k : ℕ) → row_has asked.now k ≡ false → row_at rows.new.items k ≡ row_at rows.old.items k) }
+    requires rules { AreRules rules.now }
+    requires asked { IsSetOf (2 * rules.now.facts) (row_has rules.now.asked.now) }
+    requires long { length rows.old.items ≡ 2 * rules.now.facts }
+    requires were { (k : ℕ) → row_has rules.now.asked.now k ≡ true → WasTold (clause_in rules.now.clauses.now) (row_has stale.now) (2 * rules.now.facts) k (row_has (row_at rows.old.items k)) }
+    ensures long { IfOk result (λ moved. length rows.new.items ≡ 2 * rules.now.facts) }
+    ensures each { IfOk result (λ moved. (k : ℕ) → row_has rules.now.asked.now k ≡ true → IsClosure (clause_in rules.now.clauses.now) (λ m. k == m) (row_has (row_at rows.new.items k))) }
+    ensures others { IfOk result (λ moved. (k : ℕ) → row_has rules.now.asked.now k ≡ false → row_at rows.new.items k ≡ row_at rows.old.items k) }
     ensures same { IfOk result (λ moved. (k : ℕ) → row_has moved k ≡ false → row_at rows.new.items k ≡ row_at rows.old.items k) }
 {
     let mut next = BitRow::new(alloc);
     let mut spare = no_spare(alloc);
     let mut moved = BitRow::new(alloc);
     let mut from = 0;
-    while let Some(x) = asked.least(from) {
-        renew_at(
-            facts, clauses, bound, stale, asked, rows, x, &mut next, &mut spare, &mut moved,
-        )?;
+    while let Some(x) = rules.asked.least(from) {
+        renew_at(&*rules, stale, rows, x, &mut next, &mut spare, &mut moved)?;
         from = x + 1;
     }
     Ok(moved)
+}
+
+/// Whether a literal is a clause by itself.
+fn is_single(clauses: &[BitRow], l: u32) -> bool
+    requires { l < length clauses.now }
+    ensures { result ≡ clause_in clauses.now l l }
+{
+    clauses[l as usize].contains(l)
 }
 
 /// The literals that are clauses by themselves.
@@ -282,7 +246,7 @@ fn single_clauses(alloc: Global, facts: u32, clauses: &[BitRow]) -> Result<BitRo
 {
     let mut row = BitRow::new(alloc);
     for l in 0..2 * facts {
-        if clauses[l as usize].contains(l) {
+        if is_single(clauses, l) {
             row.insert(l)?;
         }
     }
@@ -299,39 +263,16 @@ fn difference(alloc: Global, one: &BitRow, other: &BitRow) -> Result<BitRow, All
     Ok(row)
 }
 
-/// Works out anew what is known from no literal, where what each literal that is asked for tells is done. The literals
-/// that were known before and are not now, or the other way round.
-pub fn renew_none(
-    alloc: Global,
-    facts: u32,
-    clauses: &[BitRow],
-    bound: &Bound,
-    asked: &BitRow,
-    rows: &[BitRow],
-    none: &mut BitRow,
-) -> Result<BitRow, AllocError>
-    requires clauses { AreRows facts clauses.now }
-    requires either { (l m : ℕ) → clause_in clauses.now l m ≡ clause_in clauses.now m l }
-    requires bound { IsBound (clause_in clauses.now) bound.now }
-    requires long { length rows.now ≡ 2 * facts }
-    requires done { (k : ℕ) → row_has asked.now k ≡ true → k < 2 * facts → IsClosure (clause_in clauses.now) (λ m. k == m) (row_has (row_at rows.now k)) }
-    requires was { WasClosed (clause_in clauses.now) (2 * facts) (λ l. clause_in clauses.now l l) (row_has none.old) }
-    ensures closure { IfOk result (λ moved. IsClosure (clause_in clauses.now) (λ l. clause_in clauses.now l l) (row_has none.new)) }
+/// Works out anew what is known from no literal, where what literals tell is done. The literals that were known before and are not now, or the other way round.
+pub fn renew_none(alloc: Global, done: &Done, none: &mut BitRow) -> Result<BitRow, AllocError>
+    requires done { AreDone done.now }
+    requires was { WasClosed (clause_in done.now.rules.now.clauses.now) (2 * done.now.rules.now.facts) (λ l. clause_in done.now.rules.now.clauses.now l l) (row_has none.old) }
+    ensures closure { IfOk result (λ moved. IsClosure (clause_in done.now.rules.now.clauses.now) (λ l. clause_in done.now.rules.now.clauses.now l l) (row_has none.new)) }
     ensures same { IfOk result (λ moved. (m : ℕ) → row_has moved m ≡ false → row_has none.new m ≡ row_has none.old m) }
 {
-    let mut next = single_clauses(alloc, facts, clauses)?;
+    let mut next = single_clauses(alloc, done.rules.facts, done.rules.clauses)?;
     let mut spare = no_spare(alloc);
-    if !renew(
-        facts,
-        clauses,
-        bound,
-        asked,
-        rows,
-        2 * facts,
-        none,
-        &mut next,
-        &mut spare,
-    )? {
+    if !renew(done, none, &mut next, &mut spare)? {
         return Ok(BitRow::new(alloc));
     }
     let moved = difference(alloc, &next, none)?;

@@ -1,15 +1,16 @@
 //! What effects may take where literals are known: each by itself, but for an add that overrules a delete.
 
 ghost use Rattle.std.specs.Prelude.{◌≡◌, ℕ, ◌*◌, ◌<◌, ◌≤◌, ◌==◌, ◌&&◌, ◌⊎◌, not, true, false, length, IfOk, OnOk};
-ghost use Rattle.std.specs.List.{AllByRecursion, list_any, list_all};
+ghost use Rattle.std.specs.List.{list_any};
 ghost use Rattle.bit_rows.specs.Bits.{row_has};
 ghost use Rattle.gt_core.specs.Literal.{opposite};
 ghost use Rattle.two_invariants.specs.Breaks.{is_add};
 ghost use Rattle.two_invariants.specs.Rows.{IsPart};
-ghost use Rattle.two_invariants.specs.Tested.{with_more, has_no_pair, IsSetOf, AreRowsOf};
-ghost use Rattle.two_invariants.specs.Groups.{group_with, may_lose, GroupFits};
+ghost use Rattle.two_invariants.specs.Tested.{with_more, has_no_pair, IsSetOf};
+ghost use Rattle.two_invariants.specs.Groups.{GroupFits};
 ghost use Rattle.two_invariants.specs.Numbers.{has_number, finds, FindsMore};
-ghost use Rattle.two_invariants.specs.Index.{IsNumbered, IsGroupOf, AreGivers, takes_in, IsTaker, AreTakers};
+ghost use Rattle.two_invariants.specs.Index.{IsNumbered, IsGroupOf, IsTaker, AreTakers};
+ghost use Rattle.two_invariants.specs.Before.{IsBefore, IsHere, takes_here, loses_here};
 
 use crate::by_literal::{ByLiteral, add_to_all, list_of, no_numbers};
 use crate::givers::{Givers, fill_given};
@@ -18,12 +19,32 @@ use crate::known::fill_with;
 use bit_rows::row::BitRow;
 use std::alloc::{AllocError, Global};
 
+/// The effects of an action in groups, and what is known before it: a set, and the rows of what literals tell.
+#[derive(Drop)]
+pub struct Before<'a> {
+    pub facts: u32,
+    pub rows: &'a [BitRow],
+    pub set: &'a BitRow,
+    pub groups: &'a [Group],
+}
+
 /// What groups of effects may take where a set is known: the opposites of the literals of those without condition
 /// (`plain`), and the numbers of the others whose condition may hold, by the opposites of their literals.
 #[derive(Drop)]
 pub struct Takers {
     pub plain: BitRow,
     pub by: ByLiteral,
+}
+
+/// What is known where the condition of a group holds besides: a set, and what the groups give there. They are found by
+/// what is known without the condition.
+#[derive(Drop)]
+pub struct Here<'a> {
+    pub before: &'a Before<'a>,
+    pub givers: &'a Givers,
+    pub takers: &'a Takers,
+    pub set: &'a BitRow,
+    pub given: &'a BitRow,
 }
 
 /// Rows to work in.
@@ -35,30 +56,26 @@ pub struct Room {
 
 /// Notes what a group may take. `there` is room for a row.
 fn add_taker(
-    facts: u32,
-    rows: &[BitRow],
-    set: &BitRow,
+    before: &Before,
     group: &Group,
     number: usize,
     takers: &mut Takers,
     there: &mut BitRow,
 ) -> Result<(), AllocError>
-    requires few { facts ≤ 2048 }
-    requires rows { AreRowsOf (2 * facts) rows.now }
-    requires set { IsSetOf (2 * facts) (row_has set.now) }
-    requires group { GroupFits (2 * facts) group.now }
+    requires before { IsBefore before.now }
+    requires group { GroupFits (2 * before.now.facts) group.now }
     requires lists { 0 < length takers.old.by.lists.items }
     ensures long { length takers.new.by.lists.items ≡ length takers.old.by.lists.items }
     ensures plain { OnOk result ((m : ℕ) → row_has takers.new.plain m ≡ true → (row_has takers.old.plain m ≡ true) ⊎ ((row_has group.now.opposites m && (length group.now.condition.items == 0)) ≡ true)) }
     ensures more { OnOk result (IsPart (row_has takers.old.plain) (row_has takers.new.plain)) }
     ensures finds { OnOk result (FindsMore takers.old.by takers.new.by) }
-    ensures own { OnOk result (IsTaker facts rows.now (row_has set.now) group.now number takers.new) }
+    ensures own { OnOk result (IsTaker before.now.facts before.now.rows.now (row_has before.now.set.now) group.now number takers.new) }
 {
     if group.condition.is_empty() {
         takers.plain.unite(&group.opposites)?;
         return Ok(());
     }
-    fill_with(rows, set, group.condition.as_slice(), there)?;
+    fill_with(before.rows, before.set, group.condition.as_slice(), there)?;
     if there.has_pair() {
         return Ok(());
     }
@@ -66,34 +83,18 @@ fn add_taker(
 }
 
 /// What groups of effects may take where a set is known.
-pub fn takers_of(
-    alloc: Global,
-    facts: u32,
-    rows: &[BitRow],
-    set: &BitRow,
-    groups: &[Group],
-) -> Result<Takers, AllocError>
-    requires few { facts ≤ 2048 }
-    requires rows { AreRowsOf (2 * facts) rows.now }
-    requires set { IsSetOf (2 * facts) (row_has set.now) }
-    requires groups { AllByRecursion (GroupFits (2 * facts)) groups.now }
-    ensures { IfOk result (AreTakers facts rows.now (row_has set.now) groups.now (length groups.now)) }
+pub fn takers_of(alloc: Global, before: &Before) -> Result<Takers, AllocError>
+    requires { IsBefore before.now }
+    ensures { IfOk result (AreTakers before.now.facts before.now.rows.now (row_has before.now.set.now) before.now.groups.now (length before.now.groups.now)) }
 {
+    let groups = before.groups;
     let mut takers = Takers {
         plain: BitRow::new(alloc),
         by: no_numbers(alloc, groups.len())?,
     };
     let mut there = BitRow::new(alloc);
     for number in 0..groups.len() {
-        add_taker(
-            facts,
-            rows,
-            set,
-            &groups[number],
-            number,
-            &mut takers,
-            &mut there,
-        )?;
+        add_taker(before, &groups[number], number, &mut takers, &mut there)?;
     }
     Ok(takers)
 }
@@ -127,85 +128,48 @@ fn take_out(lits: &BitRow, given: &BitRow, sure: &mut BitRow)
 }
 
 /// Whether a group may take a literal where a set is known.
-fn takes(
-    facts: u32,
-    rows: &[BitRow],
-    groups: &[Group],
-    givers: &Givers,
-    here: &BitRow,
-    group: &Group,
-    l: u32,
-    room: &mut Room,
-) -> Result<bool, AllocError>
-    requires few { facts ≤ 2048 }
-    requires rows { AreRowsOf (2 * facts) rows.now }
-    requires groups { AllByRecursion (GroupFits (2 * facts)) groups.now }
-    requires here { IsSetOf (2 * facts) (row_has here.now) }
-    requires givers { AreGivers (row_has here.now) groups.now (length groups.now) givers.now }
-    requires group { GroupFits (2 * facts) group.now }
-    ensures { IfOk result (λ taken. taken ≡ takes_in facts rows.now groups.now (row_has here.now) group.now l) }
+fn takes(here: &Here, group: &Group, l: u32, room: &mut Room) -> Result<bool, AllocError>
+    requires here { IsHere here.now }
+    requires group { GroupFits (2 * here.now.before.now.facts) group.now }
+    ensures { IfOk result (λ taken. taken ≡ takes_here here.now group.now l) }
 {
     if !group.opposites.contains(l) {
         return Ok(false);
     }
-    fill_with(rows, here, group.condition.as_slice(), &mut room.there)?;
-    if room.there.has_pair() {
+    let before = here.before;
+    let there = &mut room.there;
+    fill_with(before.rows, here.set, group.condition.as_slice(), there)?;
+    if there.has_pair() {
         return Ok(false);
     }
     if l % 2 == 1 {
         return Ok(true);
     }
-    fill_given(groups, givers, &room.there, &mut room.given)?;
+    fill_given(before.groups, here.givers, there, &mut room.given)?;
     Ok(is_taken(&room.given, l))
 }
 
 /// Whether the group of a number may take a literal where a set is known.
-fn takes_at(
-    facts: u32,
-    rows: &[BitRow],
-    groups: &[Group],
-    givers: &Givers,
-    here: &BitRow,
-    number: usize,
-    l: u32,
-    room: &mut Room,
-) -> Result<bool, AllocError>
-    requires few { facts ≤ 2048 }
-    requires rows { AreRowsOf (2 * facts) rows.now }
-    requires groups { AllByRecursion (GroupFits (2 * facts)) groups.now }
-    requires here { IsSetOf (2 * facts) (row_has here.now) }
-    requires givers { AreGivers (row_has here.now) groups.now (length groups.now) givers.now }
-    ensures some { IfOk result (λ taken. taken ≡ true → may_lose facts rows.now (group_with groups.now) (row_has here.now) l ≡ true) }
-    ensures none { IfOk result (λ taken. taken ≡ false → (g : Group) → IsNumbered groups.now number g → takes_in facts rows.now groups.now (row_has here.now) g l ≡ false) }
+fn takes_at(here: &Here, number: usize, l: u32, room: &mut Room) -> Result<bool, AllocError>
+    requires here { IsHere here.now }
+    ensures some { IfOk result (λ taken. taken ≡ true → loses_here here.now l ≡ true) }
+    ensures none { IfOk result (λ taken. taken ≡ false → (g : Group) → IsNumbered here.now.before.now.groups.now number g → takes_here here.now g l ≡ false) }
 {
-    let Some(group) = groups.get(number) else {
+    let Some(group) = here.before.groups.get(number) else {
         return Ok(false);
     };
-    let taken = takes(facts, rows, groups, givers, here, group, l, room)?;
+    let taken = takes(here, group, l, room)?;
     Ok(taken)
 }
 
 /// Whether one of some groups may take a literal where a set is known.
-fn some_takes(
-    facts: u32,
-    rows: &[BitRow],
-    groups: &[Group],
-    givers: &Givers,
-    here: &BitRow,
-    numbers: &[usize],
-    l: u32,
-    room: &mut Room,
-) -> Result<bool, AllocError>
-    requires few { facts ≤ 2048 }
-    requires rows { AreRowsOf (2 * facts) rows.now }
-    requires groups { AllByRecursion (GroupFits (2 * facts)) groups.now }
-    requires here { IsSetOf (2 * facts) (row_has here.now) }
-    requires givers { AreGivers (row_has here.now) groups.now (length groups.now) givers.now }
-    ensures some { IfOk result (λ taken. taken ≡ true → may_lose facts rows.now (group_with groups.now) (row_has here.now) l ≡ true) }
-    ensures none { IfOk result (λ taken. taken ≡ false → (n : ℕ) (g : Group) → list_any (λ k. k == n) numbers.now ≡ true → IsNumbered groups.now n g → takes_in facts rows.now groups.now (row_has here.now) g l ≡ false) }
+fn some_takes(here: &Here, numbers: &[usize], l: u32, room: &mut Room) -> Result<bool, AllocError>
+    requires here { IsHere here.now }
+    ensures some { IfOk result (λ taken. taken ≡ true → loses_here here.now l ≡ true) }
+    ensures none { IfOk result (λ taken. taken ≡ false → (n : ℕ) (g : Group) → list_any (λ k. k == n) numbers.now ≡ true → IsNumbered here.now.before.now.groups.now n g → takes_here here.now g l ≡ false) }
 {
     for number in numbers {
-        if takes_at(facts, rows, groups, givers, here, *number, l, room)? {
+        if takes_at(here, *number, l, room)? {
             return Ok(true);
         }
     }
@@ -213,68 +177,33 @@ fn some_takes(
 }
 
 /// Takes a literal out of a set where a listed group may take it.
-fn take_by_listed(
-    facts: u32,
-    rows: &[BitRow],
-    groups: &[Group],
-    givers: &Givers,
-    takers: &Takers,
-    here: &BitRow,
-    given: &BitRow,
-    l: u32,
-    sure: &mut BitRow,
-    room: &mut Room,
-) -> Result<(), AllocError>
-    requires few { facts ≤ 2048 }
-    requires rows { AreRowsOf (2 * facts) rows.now }
-    requires groups { AllByRecursion (GroupFits (2 * facts)) groups.now }
-    requires here { IsSetOf (2 * facts) (row_has here.now) }
-    requires givers { AreGivers (row_has here.now) groups.now (length groups.now) givers.now }
-    requires given { (m : ℕ) → row_has given.now m ≡ group_with groups.now m (list_all (row_has here.now)) }
-    requires lists { 0 < length takers.now.by.lists.items }
+fn take_by_listed(here: &Here, l: u32, sure: &mut BitRow, room: &mut Room) -> Result<(), AllocError>
+    requires here { IsHere here.now }
     ensures less { OnOk result (IsPart (row_has sure.new) (row_has sure.old)) }
-    ensures lost { OnOk result ((m : ℕ) → row_has sure.old m ≡ true → row_has sure.new m ≡ false → may_lose facts rows.now (group_with groups.now) (row_has here.now) m ≡ true) }
-    ensures own { OnOk result (row_has sure.new l ≡ true → (n : ℕ) (g : Group) → has_number takers.now.by.lists.items l n ≡ true → IsNumbered groups.now n g → takes_in facts rows.now groups.now (row_has here.now) g l ≡ false) }
+    ensures lost { OnOk result ((m : ℕ) → row_has sure.old m ≡ true → row_has sure.new m ≡ false → loses_here here.now m ≡ true) }
+    ensures own { OnOk result (row_has sure.new l ≡ true → (n : ℕ) (g : Group) → has_number here.now.takers.now.by.lists.items l n ≡ true → IsNumbered here.now.before.now.groups.now n g → takes_here here.now g l ≡ false) }
 {
-    if !is_taken(given, l) {
+    if !is_taken(here.given, l) {
         return Ok(());
     }
-    let numbers = list_of(&takers.by.lists, l);
-    if some_takes(facts, rows, groups, givers, here, numbers, l, room)? {
+    let numbers = list_of(&here.takers.by.lists, l);
+    if some_takes(here, numbers, l, room)? {
         sure.remove(l);
     }
     Ok(())
 }
 
 /// Takes out of a set what listed groups may take where a set is known.
-fn take_all_listed(
-    facts: u32,
-    rows: &[BitRow],
-    groups: &[Group],
-    givers: &Givers,
-    takers: &Takers,
-    here: &BitRow,
-    given: &BitRow,
-    sure: &mut BitRow,
-    room: &mut Room,
-) -> Result<(), AllocError>
-    requires few { facts ≤ 2048 }
-    requires rows { AreRowsOf (2 * facts) rows.now }
-    requires groups { AllByRecursion (GroupFits (2 * facts)) groups.now }
-    requires here { IsSetOf (2 * facts) (row_has here.now) }
-    requires givers { AreGivers (row_has here.now) groups.now (length groups.now) givers.now }
-    requires given { (m : ℕ) → row_has given.now m ≡ group_with groups.now m (list_all (row_has here.now)) }
-    requires lists { 0 < length takers.now.by.lists.items }
-    requires sure { IsSetOf (2 * facts) (row_has sure.old) }
+fn take_all_listed(here: &Here, sure: &mut BitRow, room: &mut Room) -> Result<(), AllocError>
+    requires here { IsHere here.now }
+    requires sure { IsSetOf (2 * here.now.before.now.facts) (row_has sure.old) }
     ensures less { OnOk result (IsPart (row_has sure.new) (row_has sure.old)) }
-    ensures lost { OnOk result ((m : ℕ) → row_has sure.old m ≡ true → row_has sure.new m ≡ false → may_lose facts rows.now (group_with groups.now) (row_has here.now) m ≡ true) }
-    ensures done { OnOk result ((m n : ℕ) (g : Group) → row_has sure.new m ≡ true → finds takers.now.by m n ≡ true → IsNumbered groups.now n g → takes_in facts rows.now groups.now (row_has here.now) g m ≡ false) }
+    ensures lost { OnOk result ((m : ℕ) → row_has sure.old m ≡ true → row_has sure.new m ≡ false → loses_here here.now m ≡ true) }
+    ensures done { OnOk result ((m n : ℕ) (g : Group) → row_has sure.new m ≡ true → finds here.now.takers.now.by m n ≡ true → IsNumbered here.now.before.now.groups.now n g → takes_here here.now g m ≡ false) }
 {
     let mut from = 0;
-    while let Some(l) = takers.by.literals.least_common(sure, from) {
-        take_by_listed(
-            facts, rows, groups, givers, takers, here, given, l, sure, room,
-        )?;
+    while let Some(l) = here.takers.by.literals.least_common(sure, from) {
+        take_by_listed(here, l, sure, room)?;
         from = l + 1;
     }
     Ok(())
@@ -283,33 +212,22 @@ fn take_all_listed(
 /// Takes out of a set what effects may take where the condition of a group is known: those without a condition, those
 /// of this group, and the others.
 pub fn take_all_lost(
-    facts: u32,
-    rows: &[BitRow],
-    groups: &[Group],
-    givers: &Givers,
-    takers: &Takers,
-    here: &BitRow,
+    here: &Here,
     group: &Group,
-    given: &BitRow,
     sure: &mut BitRow,
     room: &mut Room,
 ) -> Result<(), AllocError>
-    requires few { facts ≤ 2048 }
-    requires rows { AreRowsOf (2 * facts) rows.now }
-    requires groups { AllByRecursion (GroupFits (2 * facts)) groups.now }
-    requires here { IsSetOf (2 * facts) (row_has here.now) }
-    requires givers { AreGivers (row_has here.now) groups.now (length groups.now) givers.now }
-    requires given { (m : ℕ) → row_has given.now m ≡ group_with groups.now m (list_all (row_has here.now)) }
-    requires takers { AreTakers facts rows.now (row_has here.now) groups.now (length groups.now) takers.now }
-    requires sure { IsSetOf (2 * facts) (row_has sure.old) }
-    requires consistent { has_no_pair facts (row_has here.now) ≡ true }
-    requires group { IsGroupOf groups.now group.now }
-    requires fits { GroupFits (2 * facts) group.now }
-    requires own { (m : ℕ) → with_more rows.now (row_has here.now) group.now.condition.items m ≡ row_has here.now m }
-    ensures { OnOk result ((m : ℕ) → row_has sure.new m ≡ (row_has sure.old m && not (may_lose facts rows.now (group_with groups.now) (row_has here.now) m))) }
+    requires here { IsHere here.now }
+    requires takers { AreTakers here.now.before.now.facts here.now.before.now.rows.now (row_has here.now.set.now) here.now.before.now.groups.now (length here.now.before.now.groups.now) here.now.takers.now }
+    requires sure { IsSetOf (2 * here.now.before.now.facts) (row_has sure.old) }
+    requires consistent { has_no_pair here.now.before.now.facts (row_has here.now.set.now) ≡ true }
+    requires group { IsGroupOf here.now.before.now.groups.now group.now }
+    requires fits { GroupFits (2 * here.now.before.now.facts) group.now }
+    requires own { (m : ℕ) → with_more here.now.before.now.rows.now (row_has here.now.set.now) group.now.condition.items m ≡ row_has here.now.set.now m }
+    ensures { OnOk result ((m : ℕ) → row_has sure.new m ≡ (row_has sure.old m && not (loses_here here.now m))) }
 {
-    take_out(&takers.plain, given, sure);
-    take_out(&group.opposites, given, sure);
-    take_all_listed(facts, rows, groups, givers, takers, here, given, sure, room)?;
+    take_out(&here.takers.plain, here.given, sure);
+    take_out(&group.opposites, here.given, sure);
+    take_all_listed(here, sure, room)?;
     Ok(())
 }

@@ -30,7 +30,7 @@ loop-effect-preserved c =
 
 pub loop-effect-init : goal.loop-effect-init
 loop-effect-init c = (
-  c.requires.numbers,
+  c.requires.placed.numbers,
   refl,
   omega arith,
   no_adders c.args.layout.now c.args.action c.args.first c.none-adders.result.lit c.none-adders.result.vars.items c.none-adders.ensures,
@@ -44,8 +44,8 @@ add_effect-requires c =
     let e = c.effect-item.result in
     let lt = c.loop-effect-test.true in
     record {
-      horizon = c.requires.horizon;
-      action = c.requires.action;
+      horizon = c.requires.placed.horizon;
+      action = c.requires.placed.action;
       number = number_fits c.loop-effect.number z.conditional es i e e c.loop-effect.invariant.0 lt c.effect-item.is;
-      within = subst (EffectWithin z.facts) (sym c.effect-item.is) (each_place (EffectWithin z.facts) es i e c.requires.within lt);
+      within = subst (EffectWithin z.facts) (sym c.effect-item.is) (each_place (EffectWithin z.facts) es i e c.requires.placed.within lt);
     }

@@ -2,7 +2,8 @@ use Rattle.std.proofs.Common.{arith, ◌<◌, ◌+◌, ℕ, length, count_by, ap
 use Rattle.gt_core.specs.Layout.{Layout}
 use Rattle.gt_core.specs.Task.{Action}
 use Rattle.gt_core.specs.Lawful.{is_conditional}
-use Rattle.step_template.proofs.RowLaw.{first_more}
+use Rattle.gt_core.proofs.Within.{lawful}
+use Rattle.step_template.proofs.RowLaw.{first_more, taken_and_left}
 use Rattle.step_template.proofs.EffectLaw.{effects_within}
 use Rattle.step_template.proofs.IndexLaw.{made_more}
 use Rattle.step_template.proofs.index.index_of.Goals as goal
@@ -20,8 +21,16 @@ loop-a-preserved c =
           (ap (λ (k : ℕ). c.loop-a.first + k) (c.conditional.ensures ∙ ap (count_by is_conditional) (sym c.effects.ensures))) (c.loop-a.invariant.each m) (c.in_ok-index_effects_of.ensures.each m);
     }
 
-pub index_effects_of-requires-clause-within : goal.index_effects_of-requires-clause-within
-index_effects_of-requires-clause-within c =
+pub index_effects_of-requires-clause-placed : goal.index_effects_of-requires-clause-placed
+index_effects_of-requires-clause-placed c =
     let e = ap (λ (z : Layout). z.actions) c.layout.view_is in
     let lt : c.loop-a.a < length c.args.task.now.actions = let r = c.requires.actions in let t = c.loop-a-test.true in omega (arith, e, r, t) in
-    effects_within c.args.task.now c.args.layout.now.facts c.loop-a.a c.effects.result.now c.act-act.result.now c.requires.facts c.act-act.ensures.act c.effects.ensures c.act-act.ensures.lawful lt
+    let more = first_more c.args.task.now c.loop-a.a c.loop-a.first (count_by is_conditional c.effects.result.now) c.act-act.result.now c.act-act.ensures.act (ap (count_by is_conditional) c.effects.ensures) lt c.loop-a.invariant.first in
+    let all = taken_and_left c.args.task.now.actions (c.loop-a.a + 1) in
+    record {
+      horizon = c.requires.horizon;
+      action = omega (arith, lt, c.requires.actions);
+      numbers = omega (arith, more, all, c.requires.conditional);
+      few = omega (arith, c.requires.conditional, (lawful c.args.task.now c.act-act.ensures.lawful).conditional);
+      within = effects_within c.args.task.now c.args.layout.now.facts c.loop-a.a c.effects.result.now c.act-act.result.now c.requires.facts c.act-act.ensures.act c.effects.ensures c.act-act.ensures.lawful lt;
+    }

@@ -17,7 +17,7 @@ returns-clause-moved c = record {
   rows = λ k m f. ap (λ (r : List ℕ). row_has r m) (c.in_ok-rows.ensures.same k f);
   none = λ f m. c.in_ok-lits.ensures.same m (nothing_in (row_has c.in_ok-lits.lits) c.least.result c.least.ensures (c.is_none.ensures ∙ f) m);
   lacking = λ k m a f. elim (cases (row_has c.in_ok-lits.lits m)) [
-    | inl t ↦ inr (subst (λ (rows : List (List ℕ)). clause_in rows k m ≡ true) c.as_slice.ensures.value (c.in_ok-lacking.ensures k m a f t))
+    | inl t ↦ inr (subst (λ (rows : List (List ℕ)). clause_in rows k m ≡ true) c.as_slice-2.ensures.value (c.in_ok-lacking.ensures k m a f t))
     | inr n ↦ inl (c.in_ok-lits.ensures.same m n)
   ];
 }

@@ -13,14 +13,14 @@ use Rattle.two_invariants.proofs.broken.group_losses.Goals as goal
 
 pub push_group_losses-requires-clause-one : goal.push_group_losses-requires-clause-one
 push_group_losses-requires-clause-one c = λ l test e.
-    from_place (λ (g : Group). row_has g.literals l && test g.condition.items) c.args.groups.now c.loop-group.group-index c.group-item.result
-    (slice_get_read c.args.groups.now (length c.args.groups.now) c.loop-group.group-index c.group-item.result refl c.loop-group-test.true c.group-item.is) e
+    from_place (λ (g : Group). row_has g.literals l && test g.condition.items) c.args.before.now.groups.now c.loop-group.group-index c.group-item.result
+    (slice_get_read c.args.before.now.groups.now (length c.args.before.now.groups.now) c.loop-group.group-index c.group-item.result refl c.loop-group-test.true c.group-item.is) e
 
 pub loop-group-preserved : goal.loop-group-preserved
 loop-group-preserved c = record {
   lost = λ a m.
-      groups_more (λ (g : Group). row_has g.literals (opposite a) && breaks_under c.args.facts c.args.rows.now (group_with c.args.groups.now) (row_has c.args.set.now) a m g.condition.items)
-      c.args.groups.now c.loop-group.group-index c.group-item.result (clause_in c.args.clauses.now a m) (are_lost c.loop-group.losses.items a m) (are_lost c.push_group_losses.new.losses.items a m)
+      groups_more (λ (g : Group). row_has g.literals (opposite a) && breaks_under c.args.before.now.facts c.args.before.now.rows.now (group_with c.args.before.now.groups.now) (row_has c.args.before.now.set.now) a m g.condition.items)
+      c.args.before.now.groups.now c.loop-group.group-index c.group-item.result (clause_in c.args.clauses.now a m) (are_lost c.loop-group.losses.items a m) (are_lost c.push_group_losses.new.losses.items a m)
       c.loop-group-test.true c.group-item.is (c.in_ok-push_group_losses.ensures.lost a m)
       ∙ c.loop-group.invariant.lost a m;
   each = c.in_ok-push_group_losses.ensures.each c.loop-group.invariant.each;
@@ -28,10 +28,10 @@ loop-group-preserved c = record {
 
 pub returns-clause-lost : goal.returns-clause-lost
 returns-clause-lost c = λ l m.
-    let groups = c.args.groups.now in
+    let groups = c.args.before.now.groups.now in
     let lost = are_lost c.loop-group.losses.items l m in
     let clause = clause_in c.args.clauses.now l m in
-    let breaks = breaks_under c.args.facts c.args.rows.now (group_with groups) (row_has c.args.set.now) l m in
+    let breaks = breaks_under c.args.before.now.facts c.args.before.now.rows.now (group_with groups) (row_has c.args.before.now.set.now) l m in
     let none : drop c.loop-group.group-index groups ≡ [] = drop_of_length-le groups c.loop-group-test.false in
     ends lost clause ∙ (λ i. lost || (clause && group_with (sym none i) (opposite l) breaks)) ∙ c.loop-group.invariant.lost l m
   where

@@ -9,7 +9,7 @@ use Rattle.two_invariants.proofs.broken.group_losses.Given as goal
 
 abbrev pub invariant-loop-group : goal.invariant-loop-group
 invariant-loop-group l = record {
-  lost : (a m : ℕ) → (are_lost l.losses.items a m || (clause_in l.clauses a m && group_with (drop l.group-index l.groups) (opposite a) (breaks_under l.facts l.rows (group_with l.groups) (row_has l.set) a m)))
-      ≡ (clause_in l.clauses a m && group_with l.groups (opposite a) (breaks_under l.facts l.rows (group_with l.groups) (row_has l.set) a m));
-  each : AllByRecursion (IsLossOf (2 * l.facts) l.clauses) l.losses.items;
+  lost : (a m : ℕ) → (are_lost l.losses.items a m || (clause_in l.clauses a m && group_with (drop l.group-index l.before.groups.now) (opposite a) (breaks_under l.before.facts l.before.rows.now (group_with l.before.groups.now) (row_has l.before.set.now) a m)))
+      ≡ (clause_in l.clauses a m && group_with l.before.groups.now (opposite a) (breaks_under l.before.facts l.before.rows.now (group_with l.before.groups.now) (row_has l.before.set.now) a m));
+  each : AllByRecursion (IsLossOf (2 * l.before.facts) l.clauses) l.losses.items;
 }

@@ -4,7 +4,7 @@ use Rattle.bit_rows.specs.Bits.{row_has, IsPairAcross}
 use Rattle.gt_core.specs.Literal.{opposite}
 use Rattle.gt_core.specs.Task.{Effect}
 use Rattle.two_invariants.specs.Rows.{clause_in}
-use Rattle.two_invariants.specs.Tested.{EffectFits, AreLossesOf, with_more, has_no_pair, breaks_by}
+use Rattle.two_invariants.specs.Tested.{EffectFits, AreRowsOf, AreLossesOf, with_more, has_no_pair, breaks_by}
 use Rattle.two_invariants.specs.Plain.{breaks_plainly}
 use Rattle.two_invariants.specs.declared.broken.Loss.{Loss}
 use Rattle.two_invariants.specs.Groups.{effect_with, group_with, breaks_under, GroupFits}
@@ -15,15 +15,20 @@ use Rattle.two_invariants.proofs.Exact.{pair_test_is}
 use Rattle.two_invariants.proofs.PlainEffects.{breaks_the_same}
 use Rattle.two_invariants.proofs.broken.losses_of.Goals as goal
 
-pub group_losses-requires-clause-set : goal.group_losses-requires-clause-set
-group_losses-requires-clause-set c m t =
-    more_within (2 * c.args.facts) c.args.known.now.rows.items (row_has c.args.known.now.none) c.pre.result.now c.requires.rows c.requires.none m
-    (ap (λ (rs : List (List ℕ)). with_more rs (row_has c.args.known.now.none) c.pre.result.now m) (sym c.as_slice-rows.ensures.value) ∙ sym (c.in_ok-set.ensures m) ∙ t)
-
-pub group_losses-requires-clause-groups : goal.group_losses-requires-clause-groups
-group_losses-requires-clause-groups c =
-    subst (λ (gs : List Group). AllByRecursion (GroupFits (2 * c.args.facts)) gs) (sym c.as_slice.ensures.value)
-    (c.in_ok-groups.ensures.fit (2 * c.args.facts) (subst (λ (es : List Effect). AllByRecursion (EffectFits (2 * c.args.facts)) es) (sym c.effects-effects.ensures) c.requires.act.effects))
+pub group_losses-requires-clause-before : goal.group_losses-requires-clause-before
+group_losses-requires-clause-before c =
+    let known = c.args.known.now in
+    let value = c.as_slice-rows.ensures.value in
+    record {
+      few = c.requires.clauses.few;
+      rows = subst (λ (rs : List (List ℕ)). AreRowsOf (2 * c.args.facts) rs) (sym value) c.requires.rows;
+      set = λ m t.
+          more_within (2 * c.args.facts) known.rows.items (row_has known.none) c.pre.result.now c.requires.rows c.requires.none m
+          (ap (λ (rs : List (List ℕ)). with_more rs (row_has known.none) c.pre.result.now m) (sym value) ∙ sym (c.in_ok-set.ensures m) ∙ t);
+      groups =
+          subst (λ (gs : List Group). AllByRecursion (GroupFits (2 * c.args.facts)) gs) (sym c.as_slice.ensures.value)
+          (c.in_ok-groups.ensures.fit (2 * c.args.facts) (subst (λ (es : List Effect). AllByRecursion (EffectFits (2 * c.args.facts)) es) (sym c.effects-effects.ensures) c.requires.act.effects));
+    }
 
 pub returns-then-has_pair : goal.returns-then-has_pair
 returns-then-has_pair c =

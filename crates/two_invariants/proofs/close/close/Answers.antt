@@ -5,6 +5,6 @@ use Rattle.two_invariants.proofs.close.close.Goals as goal
 
 pub follow-preserved : goal.follow-preserved
 follow-preserved c = record {
-  grown = grown_twice (clause_in c.args.clauses.now) (2 * c.args.facts) c.requires.clauses.within _ _ _ c.follow.invariant.grown c.in_ok-follow-in-Some.ensures.grown;
+  grown = grown_twice (clause_in c.args.done.now.rules.now.clauses.now) (2 * c.args.done.now.rules.now.facts) c.requires.done.rules.clauses.within _ _ _ c.follow.invariant.grown c.in_ok-follow-in-Some.ensures.grown;
   growing = c.in_ok-follow-in-Some.ensures.growing;
 }

@@ -7,7 +7,7 @@ use Rattle.two_invariants.proofs.close.follow_all.Goals as goal
 
 pub returns : goal.returns
 returns c =
-    let V = clause_in c.args.clauses.now in
+    let V = clause_in c.args.rules.now.clauses.now in
     let R = row_has c.args.row.now in
     let T = row_has c.args.todo.now in
     let U = row_has c.add_told.new.told in
@@ -16,7 +16,7 @@ returns c =
     let er : (m : ℕ) → row_has c.unite.new.self m ≡ (R m || U m) = c.in_ok-unite.ensures.has in
     let et : (m : ℕ) → row_has c.subtract.new.self m ≡ (U m && not (R m)) = λ m. c.subtract.ensures.has m ∙ ap (λ (r : List ℕ). row_has r m && not (R m)) c.in_ok-make_same.ensures in
     record {
-      grown = grown_all V (2 * c.args.facts) c.requires.clauses.within R T U _ _ c.requires.growing all only er et;
-      growing = growing_all V (2 * c.args.facts) c.requires.clauses.within R T U _ _ c.requires.growing all only er et;
-      less = less_all V (2 * c.args.facts) c.requires.clauses.within R T U _ _ c.requires.growing all only er et;
+      grown = grown_all V (2 * c.args.rules.now.facts) c.requires.rules.clauses.within R T U _ _ c.requires.growing all only er et;
+      growing = growing_all V (2 * c.args.rules.now.facts) c.requires.rules.clauses.within R T U _ _ c.requires.growing all only er et;
+      less = less_all V (2 * c.args.rules.now.facts) c.requires.rules.clauses.within R T U _ _ c.requires.growing all only er et;
     }

@@ -7,12 +7,12 @@ use Rattle.two_invariants.proofs.Renewing.{same_closed, pair_closed}
 use Rattle.two_invariants.proofs.renew.renew.Goals as goal
 
 pub returns-then-is_same : goal.returns-then-is_same
-returns-then-is_same c = same_closed (clause_in c.args.clauses.now) (2 * c.args.facts) (row_has c.args.next.now) (row_has c.args.old.now) c.requires.was (ap row_has c.if-is_same.ensures)
+returns-then-is_same c = same_closed (clause_in c.args.done.now.rules.now.clauses.now) (2 * c.args.done.now.rules.now.facts) (row_has c.args.next.now) (row_has c.args.old.now) c.requires.was (ap row_has c.if-is_same.ensures)
 
 pub returns-then-has_pair : goal.returns-then-has_pair
-returns-then-has_pair c = pair_closed (clause_in c.args.clauses.now) (row_has c.args.next.now) c.if-has_pair.ensures
+returns-then-has_pair c = pair_closed (clause_in c.args.done.now.rules.now.clauses.now) (row_has c.args.next.now) c.if-has_pair.ensures
 
 pub none_follows-requires-clause-even : goal.none_follows-requires-clause-even
 none_follows-requires-clause-even c = λ l lt.
-    let long = c.requires.clauses.long in
-    subst (λ (n : ℕ). opposite l < n) (sym long) (opposite_below l c.args.facts (subst (λ (n : ℕ). l < n) long lt))
+    let long = c.requires.done.rules.clauses.long in
+    subst (λ (n : ℕ). opposite l < n) (sym long) (opposite_below l c.args.done.now.rules.now.facts (subst (λ (n : ℕ). l < n) long lt))

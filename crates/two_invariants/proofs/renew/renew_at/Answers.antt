@@ -6,12 +6,12 @@ use Rattle.two_invariants.proofs.renew.renew_at.Goals as goal
 
 pub returns-in_ok-insert-clause-closure : goal.returns-in_ok-insert-clause-closure
 returns-in_ok-insert-clause-closure c =
-    let Closed : List ℕ → Type 0 = λ r. IsClosure (clause_in c.args.clauses.now) (λ m. c.args.x == m) (row_has r) in
+    let Closed : List ℕ → Type 0 = λ r. IsClosure (clause_in c.args.rules.now.clauses.now) (λ m. c.args.x == m) (row_has r) in
     subst Closed (sym c.in_ok-set_row.ensures.same)
     (subst (λ (b : Bool). Closed (if b then c.renew_row.new.next else row_at c.as_slice.result.now c.args.x)) c.if-branch.true c.in_ok-renew_row.ensures)
 
 pub returns-else-branch-clause-closure : goal.returns-else-branch-clause-closure
 returns-else-branch-clause-closure c =
-    let Closed : List ℕ → Type 0 = λ r. IsClosure (clause_in c.args.clauses.now) (λ m. c.args.x == m) (row_has r) in
+    let Closed : List ℕ → Type 0 = λ r. IsClosure (clause_in c.args.rules.now.clauses.now) (λ m. c.args.x == m) (row_has r) in
     subst (λ (rows : List (List ℕ)). Closed (row_at rows c.args.x)) c.as_slice.ensures.value
     (subst (λ (b : Bool). Closed (if b then c.renew_row.new.next else row_at c.as_slice.result.now c.args.x)) c.if-branch.false c.in_ok-renew_row.ensures)

@@ -9,23 +9,23 @@ use Rattle.two_invariants.proofs.renew.renew_rows.Goals as goal
 pub renew_at-requires-clause-done : goal.renew_at-requires-clause-done
 renew_at-requires-clause-done c = λ k a lt. elim (cases_lt k c.loop-x.from) [
   | inl l ↦ c.loop-x.invariant.done k a l
-  | inr g ↦ absurd (apart (row_has c.args.asked.now k) a (c.in-Some.ensures.2 k g lt))
+  | inr g ↦ absurd (apart (row_has c.args.rules.now.asked.now k) a (c.in-Some.ensures.2 k g lt))
 ]
 
 pub loop-x-preserved : goal.loop-x-preserved
 loop-x-preserved c =
     let i = c.loop-x.invariant in
     let h = c.in-Some.ensures in
-    let asked = row_has c.args.asked.now in
+    let asked = row_has c.args.rules.now.asked.now in
     let x = c.in-Some.x in
     let one = c.in_ok-renew_at.ensures in
-    let below : (k : ℕ) → asked k ≡ true → k < x → IsClosure (clause_in c.args.clauses.now) (λ m. k == m) (row_has (row_at c.loop-x.rows.items k)) = λ k a lt. elim (cases_lt k c.loop-x.from) [
+    let below : (k : ℕ) → asked k ≡ true → k < x → IsClosure (clause_in c.args.rules.now.clauses.now) (λ m. k == m) (row_has (row_at c.loop-x.rows.items k)) = λ k a lt. elim (cases_lt k c.loop-x.from) [
       | inl l ↦ i.done k a l
       | inr g ↦ absurd (apart (asked k) a (h.2 k g lt))
     ] in
     record {
       long = one.long ∙ i.long;
-      done = λ k a lt. one_more_closed (clause_in c.args.clauses.now) c.loop-x.rows.items c.renew_at.new.rows.items x one.others one.closure k lt (below k a);
+      done = λ k a lt. one_more_closed (clause_in c.args.rules.now.clauses.now) c.loop-x.rows.items c.renew_at.new.rows.items x one.others one.closure k lt (below k a);
       left = λ k le. one.others k (λ e. let lo = h.0 in omega arith) ∙ i.left k (let lo = h.0 in omega arith);
       others = λ k n. one.others k (λ e. apart (asked k) (subst (λ (j : ℕ). asked j ≡ true) (sym e) h.1) n) ∙ i.others k n;
       same = λ k f. same_next c.loop-x.rows.items c.renew_at.new.rows.items x one.others (row_has c.renew_at.new.moved) one.same k f ∙ i.same k (one.more k f);
@@ -44,5 +44,5 @@ loop-x-preserved c =
 pub returns-clause-each : goal.returns-clause-each
 returns-clause-each c = λ k a. elim (cases_lt k c.loop-x.from) [
   | inl l ↦ c.loop-x.invariant.done k a l
-  | inr g ↦ absurd (apart (row_has c.args.asked.now k) a (c.in_default.ensures k g))
+  | inr g ↦ absurd (apart (row_has c.args.rules.now.asked.now k) a (c.in_default.ensures k g))
 ]

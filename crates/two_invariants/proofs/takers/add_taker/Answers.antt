@@ -25,14 +25,14 @@ returns-then-is_empty-clause-own c = λ m o. inl (c.in_ok-unite.ensures.has m �
 
 pub fill_with-requires : goal.fill_with-requires
 fill_with-requires c =
-    subst (λ (ls : List ℕ). AllByRecursion (λ l. l < length c.args.rows.now) ls) (sym c.as_slice.ensures.value)
-    (subst (λ (n : ℕ). AllByRecursion (λ l. l < n) c.args.group.now.condition.items) (sym c.requires.rows.long) c.requires.group.condition)
+    subst (λ (ls : List ℕ). AllByRecursion (λ l. l < length c.args.before.now.rows.now) ls) (sym c.as_slice.ensures.value)
+    (subst (λ (n : ℕ). AllByRecursion (λ l. l < n) c.args.group.now.condition.items) (sym c.requires.before.rows.long) c.requires.group.condition)
 
 pub returns-then-has_pair-clause-own : goal.returns-then-has_pair-clause-own
 returns-then-has_pair-clause-own c = λ m o.
-    let facts = c.args.facts in
-    let rows = c.args.rows.now in
-    let set = row_has c.args.set.now in
+    let facts = c.args.before.now.facts in
+    let rows = c.args.before.now.rows.now in
+    let set = row_has c.args.before.now.set.now in
     let there : row_has c.fill_with.new.row ≡ with_more rows set c.args.group.now.condition.items = (λ i k. c.in_ok-fill_with.ensures k i) ∙ (λ i. with_more rows set (c.as_slice.ensures.value i)) in
-    let within : (k : ℕ) → row_has c.fill_with.new.row k ≡ true → k < 2 * facts = λ k t. more_within (2 * facts) rows set c.as_slice.result.now c.requires.rows c.requires.set k (sym (c.in_ok-fill_with.ensures k) ∙ t) in
+    let within : (k : ℕ) → row_has c.fill_with.new.row k ≡ true → k < 2 * facts = λ k t. more_within (2 * facts) rows set c.as_slice.result.now c.requires.before.rows c.requires.before.set k (sym (c.in_ok-fill_with.ensures k) ∙ t) in
     inr (inl (ap (has_no_pair facts) (sym there) ∙ sym (pair_test_is facts (row_has c.fill_with.new.row) c.has_pair.result within c.has_pair.ensures) ∙ ap not c.if-has_pair.true))

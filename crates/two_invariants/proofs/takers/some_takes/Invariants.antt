@@ -7,4 +7,4 @@ use Rattle.two_invariants.proofs.takers.some_takes.Given as goal
 
 abbrev pub invariant-loop-number : goal.invariant-loop-number
 invariant-loop-number l =
-    (n : ℕ) (g : Group) → list_any (λ k. k == n) (take l.number-index l.numbers) ≡ true → IsNumbered l.groups n g → takes_in l.facts l.rows l.groups (row_has l.here) g l.l ≡ false
+    (n : ℕ) (g : Group) → list_any (λ k. k == n) (take l.number-index l.numbers) ≡ true → IsNumbered l.here.before.now.groups.now n g → takes_in l.here.before.now.facts l.here.before.now.rows.now l.here.before.now.groups.now (row_has l.here.set.now) g l.l ≡ false

@@ -21,10 +21,10 @@ loop-l-preserved c =
       ];
     }
   where
-    rest : (m n : ℕ) (g : Group) → m < c.in-Some.l + 1 → c.loop-l.from ≤ m → row_has c.take_by_listed.new.sure m ≡ true → finds c.args.takers.now.by m n ≡ true → IsNumbered c.args.groups.now n g
-        → (m < c.in-Some.l) ⊎ (c.in-Some.l ≤ m) → takes_in c.args.facts c.args.rows.now c.args.groups.now (row_has c.args.here.now) g m ≡ false
+    rest : (m n : ℕ) (g : Group) → m < c.in-Some.l + 1 → c.loop-l.from ≤ m → row_has c.take_by_listed.new.sure m ≡ true → finds c.args.here.now.takers.now.by m n ≡ true → IsNumbered c.args.here.now.before.now.groups.now n g
+        → (m < c.in-Some.l) ⊎ (c.in-Some.l ≤ m) → takes_in c.args.here.now.before.now.facts c.args.here.now.before.now.rows.now c.args.here.now.before.now.groups.now (row_has c.args.here.now.set.now) g m ≡ false
     rest m n g lt ge s found at (inl l) =
-        absurd (apart (row_has c.args.takers.now.by.literals m && row_has c.loop-l.sure m) (and_both _ _ (and_split _ _ found).0 (c.in_ok-take_by_listed.ensures.less m s)) (c.in-Some.ensures.2 m ge l))
+        absurd (apart (row_has c.args.here.now.takers.now.by.literals m && row_has c.loop-l.sure m) (and_both _ _ (and_split _ _ found).0 (c.in_ok-take_by_listed.ensures.less m s)) (c.in-Some.ensures.2 m ge l))
     rest m n g lt ge s found at (inr h) =
         let e : c.in-Some.l ≡ m = omega arith in
-        subst (λ (k : ℕ). row_has c.take_by_listed.new.sure k ≡ true → finds c.args.takers.now.by k n ≡ true → IsNumbered c.args.groups.now n g → takes_in c.args.facts c.args.rows.now c.args.groups.now (row_has c.args.here.now) g k ≡ false) e (λ s f a. c.in_ok-take_by_listed.ensures.own s n g (and_split _ _ f).1 a) s found at
+        subst (λ (k : ℕ). row_has c.take_by_listed.new.sure k ≡ true → finds c.args.here.now.takers.now.by k n ≡ true → IsNumbered c.args.here.now.before.now.groups.now n g → takes_in c.args.here.now.before.now.facts c.args.here.now.before.now.rows.now c.args.here.now.before.now.groups.now (row_has c.args.here.now.set.now) g k ≡ false) e (λ s f a. c.in_ok-take_by_listed.ensures.own s n g (and_split _ _ f).1 a) s found at

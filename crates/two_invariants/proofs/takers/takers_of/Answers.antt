@@ -10,7 +10,7 @@ pub loop-number-preserved : goal.loop-number-preserved
 loop-number-preserved c =
     let one = c.in_ok-add_taker.ensures in
     let g = c.index-groups-number.result in
-    let here = slice_get_read c.args.groups.now (length c.args.groups.now) c.loop-number.number g refl c.loop-number-test.true c.index-groups-number.is in
-    let fits = all_read (GroupFits (2 * c.args.facts)) c.args.groups.now c.loop-number.number g c.requires.groups c.loop-number-test.true c.index-groups-number.is in
-    more_takers (row_has c.args.set.now) c.args.groups.now c.loop-number.number g here c.args.facts c.args.rows.now fits c.loop-number.takers c.add_taker.new.takers
+    let here = slice_get_read c.args.before.now.groups.now (length c.args.before.now.groups.now) c.loop-number.number g refl c.loop-number-test.true c.index-groups-number.is in
+    let fits = all_read (GroupFits (2 * c.args.before.now.facts)) c.args.before.now.groups.now c.loop-number.number g c.requires.groups c.loop-number-test.true c.index-groups-number.is in
+    more_takers (row_has c.args.before.now.set.now) c.args.before.now.groups.now c.loop-number.number g here c.args.before.now.facts c.args.before.now.rows.now fits c.loop-number.takers c.add_taker.new.takers
     one.long one.plain one.more one.finds one.own c.loop-number.invariant

@@ -3,4 +3,4 @@ use Rattle.two_invariants.specs.Index.{AreTakers}
 use Rattle.two_invariants.proofs.takers.takers_of.Given as goal
 
 abbrev pub invariant-loop-number : goal.invariant-loop-number
-invariant-loop-number l = AreTakers l.facts l.rows (row_has l.set) l.groups l.number l.takers
+invariant-loop-number l = AreTakers l.before.facts l.before.rows.now (row_has l.before.set.now) l.before.groups.now l.number l.takers
