@@ -10,7 +10,8 @@ use Rattle.plan_words.specs.Among.{AreAmong}
 use Rattle.plan_endings.specs.declared.ending.Ending.{Ending}
 use Rattle.plan_endings.specs.declared.ending.File.{File}
 use Rattle.plan_endings.specs.declared.ending.Ending.TheVariants.{ReadFault}
-use Rattle.plan_top.specs.Files.{Stops, StopsFrom, FaultsFrom, Fits, FitFrom, IsTaken, IsTakenOrLong, AreTaken, AreTakenOrLong, AreShort, NotesAmong, most_of}
+use Rattle.plan_answers.specs.Limits.{AreShort, most_of}
+use Rattle.plan_top.specs.Files.{Stops, StopsFrom, FaultsFrom, Fits, FitFrom, IsTaken, IsTakenOrLong, AreTaken, AreTakenOrLong, NotesAmong}
 
 -- ---- what is left of a list
 

@@ -8,25 +8,6 @@ use Rattle.plan_endings.specs.declared.ending.File.TheVariants.{Domain, Problem,
 use Rattle.plan_endings.specs.declared.ending.Ending.{Ending}
 use Rattle.plan_endings.specs.declared.ending.Ending.TheVariants.{TooLong, ReadFault}
 
--- how many bytes a domain, a problem or a plan may have
-abbrev pub most_bytes : ℕ
-most_bytes = 1048576
-
--- how many bytes a file may have
-abbrev pub most_of : File → ℕ
-most_of Proof = 16777216
-most_of file = most_bytes
-
--- what the files after the first two of a request are
-abbrev pub third_of : Seen → File
-third_of (verifies d p c) = Proof
-third_of (batches d ps n t) = Problem
-third_of request = Plan
-
--- what the file at a place among those of a request is
-abbrev pub file_at : Seen → ℕ → File
-file_at request place = if place == 0 then Domain else if place == 1 then Problem else third_of request
-
 -- The names at which a shelf failed are the old ones, followed by names among these, at most one for each.
 abbrev pub NotesAmong : List (List ℕ) → List (List ℕ) → List (List ℕ) → Type 0
 NotesAmong names old new = (noted : List (List ℕ)) × (new ≡ old ++ noted) × AreAmong names noted
@@ -106,8 +87,3 @@ AreTaken told lacks file place [] [] = Unit {0}
 AreTaken told lacks file place [] (bytes ∷ others) = ⊥
 AreTaken told lacks file place (name ∷ names) [] = ⊥
 AreTaken told lacks file place (name ∷ names) (bytes ∷ others) = IsTaken told lacks (file place) name bytes × AreTaken told lacks file (place + 1) names others
-
--- files from a place on have no more bytes than they may have
-abbrev pub AreShort : (ℕ → File) → ℕ → List (List ℕ) → Type 0
-AreShort file place [] = Unit {0}
-AreShort file place (bytes ∷ others) = (length bytes ≤ most_of (file place)) × AreShort file (place + 1) others

@@ -2,12 +2,13 @@
 ghost use Rattle.std.specs.Prelude.{◌≡◌, ◌≤◌, ℕ, List, [], ◌∷◌, ◌++◌, length, IsTrue, OnOk, IfOk, IfSome};
 ghost use Rattle.pl_io.specs.Outside.{Notes, FaultRose};
 ghost use Rattle.plan_words.specs.Seen.{seen, files_of};
-ghost use Rattle.plan_top.specs.Files.{Stops, StopsFrom, FaultsFrom, IsTakenOrLong, AreTaken, AreTakenOrLong, NotesAmong, file_at, third_of, most_of};
-ghost use Rattle.plan_top.specs.Ends.{StopsBy};
+ghost use Rattle.plan_answers.specs.Limits.{file_at, third_of, most_of};
+ghost use Rattle.plan_top.specs.Files.{Stops, StopsFrom, FaultsFrom, IsTakenOrLong, AreTaken, AreTakenOrLong, NotesAmong};
+ghost use Rattle.plan_answers.specs.Ends.{StopsBy};
 
-use crate::stop::Stop;
 use crate::{Ending, File};
 use pl_io::{Bytes, Shelf, TakeError, Taken};
+use plan_answers::stop::Stop;
 use plan_words::Request;
 use std::alloc::{AllocError, Global};
 

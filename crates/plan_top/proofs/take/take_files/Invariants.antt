@@ -1,6 +1,6 @@
 use Rattle.std.proofs.Common.{◌≡◌, ◌-◌, length}
 use Rattle.plan_words.specs.Seen.{seen, files_of}
-use Rattle.plan_top.specs.Files.{file_at}
+use Rattle.plan_answers.specs.Limits.{file_at}
 use Rattle.plan_top.proofs.Taking.{TakenSoFar}
 use Rattle.plan_top.proofs.take.take_files.Given as goal
 
