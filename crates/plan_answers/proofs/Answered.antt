@@ -1,4 +1,4 @@
--- What is answered of two files, or of three, is what the files decide; and what is handed on.
+-- The files of a request, and what is handed on.
 use Rattle.std.proofs.Common.{◌≡◌, ◌≤◌, ◌<◌, ◌∙◌, ℕ, Bool, List, [], ◌∷◌, length, get_or, Result, refl, sym, subst, ap, arith}
 use Rattle.std.specs.Prelude.{IsErrAnd}
 use Rattle.std.specs.List.{AllByRecursion}
@@ -14,50 +14,29 @@ use Rattle.race.specs.Ends.{WherePlanned, AreActions, SumsWithin}
 use Rattle.plan_report.specs.Laws.{HasActionsBelow}
 use Rattle.plan_answers.specs.declared.stop.Stop.{Stop}
 use Rattle.plan_endings.specs.declared.ending.Ending.{Ending}
-use Rattle.plan_endings.specs.declared.ending.File.{File}
-use Rattle.plan_answers.specs.Limits.{AreShort, most_of}
 use Rattle.plan_answers.specs.Ends.{EndsBy, EndsAs}
 use Rattle.plan_answers.specs.Tasks.{AreTask, IsReady, StopsTask, RefusesTask, OnceRead, not_read, OnceGrounded, not_grounded, grounded}
 use Rattle.plan_answers.specs.Raced.{OnceRaced, too_large, TellsTooLarge}
-use Rattle.plan_answers.specs.Answers.{OfTwo, OfThree}
 use Rattle.plan_answers.proofs.Stopped.{EndsAs-handed}
 
-pub of_two : (claim : List ℕ → List ℕ → Type 0) (files : List (List ℕ)) (first second : List ℕ) → length files ≡ 2 → first ≡ get_or files 0 first → second ≡ get_or files 1 second
-    → claim first second → OfTwo files claim
-of_two claim [] first second two one next h = absurd (omega arith)
-of_two claim (a ∷ []) first second two one next h = absurd (omega arith)
-of_two claim (a ∷ (b ∷ [])) first second two one next h = subst (λ (x : List ℕ). claim x b) one (subst (λ (y : List ℕ). claim first y) next h)
-of_two claim (a ∷ (b ∷ (c ∷ others))) first second two one next h = absurd (omega arith)
+-- ---- lists of so many files
 
-pub of_three : (claim : List ℕ → List ℕ → List ℕ → Type 0) (files : List (List ℕ)) (first second third : List ℕ) → length files ≡ 3 → first ≡ get_or files 0 first → second ≡ get_or files 1 second
-    → third ≡ get_or files 2 third → claim first second third → OfThree files claim
-of_three claim [] first second third three one next last h = absurd (omega arith)
-of_three claim (a ∷ []) first second third three one next last h = absurd (omega arith)
-of_three claim (a ∷ (b ∷ [])) first second third three one next last h = absurd (omega arith)
-of_three claim (a ∷ (b ∷ (c ∷ []))) first second third three one next last h =
-    subst (λ (x : List ℕ). claim x b c) one (subst (λ (y : List ℕ). claim first y c) next (subst (λ (z : List ℕ). claim first second z) last h))
-of_three claim (a ∷ (b ∷ (c ∷ (d ∷ others)))) first second third three one next last h = absurd (omega arith)
+pub two_are : (files : List (List ℕ)) (first second : List ℕ) → length files ≡ 2 → first ≡ get_or files 0 first → second ≡ get_or files 1 second → files ≡ first ∷ second ∷ []
+two_are [] first second two one next = absurd (omega arith)
+two_are (a ∷ []) first second two one next = absurd (omega arith)
+two_are (a ∷ (b ∷ [])) first second two one next = let e : first ≡ a = one in let f : second ≡ b = next in rw (e, f) refl
+two_are (a ∷ (b ∷ (c ∷ others))) first second two one next = absurd (omega arith)
 
--- with no files
-pub of_none : (files : List (List ℕ)) → length files ≡ 0 → files ≡ []
-of_none [] none = refl
-of_none (f ∷ fs) none = absurd (omega arith)
+pub three_are : (files : List (List ℕ)) (first second third : List ℕ) → length files ≡ 3 → first ≡ get_or files 0 first → second ≡ get_or files 1 second → third ≡ get_or files 2 third → files ≡ first ∷ second ∷ third ∷ []
+three_are [] first second third three one next last = absurd (omega arith)
+three_are (a ∷ []) first second third three one next last = absurd (omega arith)
+three_are (a ∷ (b ∷ [])) first second third three one next last = absurd (omega arith)
+three_are (a ∷ (b ∷ (c ∷ []))) first second third three one next last = let e : first ≡ a = one in let f : second ≡ b = next in let g : third ≡ c = last in rw (e, f, g) refl
+three_are (a ∷ (b ∷ (c ∷ (d ∷ others)))) first second third three one next last = absurd (omega arith)
 
--- the first two files and the third have no more bytes than they may have
-pub first_short : (file : ℕ → File) (files : List (List ℕ)) (first : List ℕ) → AreShort file 0 files → 1 ≤ length files → first ≡ get_or files 0 first → length first ≤ most_of (file 0)
-first_short file [] first short some is = absurd (omega arith)
-first_short file (a ∷ others) first short some is = subst (λ (x : List ℕ). length x ≤ most_of (file 0)) (sym is) short.0
-
-pub second_short : (file : ℕ → File) (files : List (List ℕ)) (second : List ℕ) → AreShort file 0 files → 2 ≤ length files → second ≡ get_or files 1 second → length second ≤ most_of (file 1)
-second_short file [] second short some is = absurd (omega arith)
-second_short file (a ∷ []) second short some is = absurd (omega arith)
-second_short file (a ∷ (b ∷ others)) second short some is = subst (λ (x : List ℕ). length x ≤ most_of (file 1)) (sym is) short.1.0
-
-pub third_short : (file : ℕ → File) (files : List (List ℕ)) (third : List ℕ) → AreShort file 0 files → 3 ≤ length files → third ≡ get_or files 2 third → length third ≤ most_of (file 2)
-third_short file [] third short some is = absurd (omega arith)
-third_short file (a ∷ []) third short some is = absurd (omega arith)
-third_short file (a ∷ (b ∷ [])) third short some is = absurd (omega arith)
-third_short file (a ∷ (b ∷ (c ∷ others))) third short some is = subst (λ (x : List ℕ). length x ≤ most_of (file 2)) (sym is) short.1.1.0
+pub none_are : (files : List (List ℕ)) → length files ≡ 0 → files ≡ []
+none_are [] none = refl
+none_are (f ∷ fs) none = absurd (omega arith)
 
 -- ---- what is handed on
 

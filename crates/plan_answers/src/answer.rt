@@ -1,11 +1,11 @@
 //! What the bytes of its files decide for a request.
-ghost use Rattle.std.specs.Prelude.{◌≡◌, ◌≤◌, ◌<◌, ◌^◌, length, IsTrue, IfOk, Ok};
+ghost use Rattle.std.specs.Prelude.{◌≡◌, ◌≤◌, ◌<◌, ◌^◌, ◌∷◌, [], length, IsTrue, IfOk, Ok};
 ghost use Rattle.std.specs.List.{list_all};
 ghost use Rattle.pd_model.specs.Fits.{is_call};
 ghost use Rattle.pd_plan.specs.PlanFile.{plan_file};
 ghost use Rattle.plan_words.specs.Seen.{seen, files_of, IsSized};
 ghost use Rattle.plan_words.specs.OneTask.{IsOfOne};
-ghost use Rattle.plan_answers.specs.Limits.{most_bytes, AreShort, file_at};
+ghost use Rattle.plan_answers.specs.Limits.{most_bytes, most_of, third_of, file_at, AreShort};
 ghost use Rattle.plan_answers.specs.Tasks.{OnceRead, OnceGrounded};
 ghost use Rattle.plan_answers.specs.Answers.{Decides, AnswersPlan, AnswersGround, AnswersOrder, AnswersCheck, RefusesCalls, ending_of};
 ghost use Rattle.plan_answers.specs.Ends.{EndsAs, StopsBy};
@@ -51,24 +51,21 @@ pub fn answer<H: Threads + Wait + Sync, G: Gate>(
             settings,
             ..
         } => {
-            answer_plan(
-                rt,
-                alloc,
-                *stepping,
-                files[0].as_slice(),
-                files[1].as_slice(),
-                settings,
-                gate,
-            )
+            let (domain, problem) = two_of(request, files);
+            answer_plan(rt, alloc, *stepping, domain, problem, settings, gate)
         }
-        Request::Ground { .. } => answer_ground(alloc, files[0].as_slice(), files[1].as_slice()),
-        Request::Order { .. } => answer_order(rt, alloc, files[0].as_slice(), files[1].as_slice()),
-        Request::Check { .. } => answer_check(
-            alloc,
-            files[0].as_slice(),
-            files[1].as_slice(),
-            files[2].as_slice(),
-        ),
+        Request::Ground { .. } => {
+            let (domain, problem) = two_of(request, files);
+            answer_ground(alloc, domain, problem)
+        }
+        Request::Order { .. } => {
+            let (domain, problem) = two_of(request, files);
+            answer_order(rt, alloc, domain, problem)
+        }
+        Request::Check { .. } => {
+            let (domain, problem, plan) = three_of(request, files);
+            answer_check(alloc, domain, problem, plan)
+        }
         Request::Gen {
             kind,
             number,
@@ -79,23 +76,43 @@ pub fn answer<H: Threads + Wait + Sync, G: Gate>(
             horizon,
             budget,
             ..
-        } => answer_prove(
-            rt,
-            alloc,
-            files[0].as_slice(),
-            files[1].as_slice(),
-            *horizon,
-            *budget,
-        ),
-        Request::Verify { .. } => answer_verify(
-            rt,
-            alloc,
-            files[0].as_slice(),
-            files[1].as_slice(),
-            files[2].as_slice(),
-        ),
+        } => {
+            let (domain, problem) = two_of(request, files);
+            answer_prove(rt, alloc, domain, problem, *horizon, *budget)
+        }
+        Request::Verify { .. } => {
+            let (domain, problem, proof) = three_of(request, files);
+            answer_verify(rt, alloc, domain, problem, proof)
+        }
         Request::Batch { .. } => unreachable!(),
     }
+}
+
+// The bytes of the two files of a request.
+fn two_of<'a>(_request: &Request<'_>, files: &'a [Bytes]) -> (&'a [u8], &'a [u8])
+    requires fit { AreShort (file_at (seen _request.now)) 0 files.now }
+    requires count { length files.now ≡ 2 }
+    ensures files { files.now ≡ result.0.now ∷ result.1.now ∷ [] }
+    ensures domain { length result.0.now ≤ most_bytes }
+    ensures problem { length result.1.now ≤ most_bytes }
+{
+    (files[0].as_slice(), files[1].as_slice())
+}
+
+// The bytes of the three files of a request.
+fn three_of<'a>(_request: &Request<'_>, files: &'a [Bytes]) -> (&'a [u8], &'a [u8], &'a [u8])
+    requires fit { AreShort (file_at (seen _request.now)) 0 files.now }
+    requires count { length files.now ≡ 3 }
+    ensures files { files.now ≡ result.0.now ∷ result.1.now ∷ result.2.now ∷ [] }
+    ensures domain { length result.0.now ≤ most_bytes }
+    ensures problem { length result.1.now ≤ most_bytes }
+    ensures third { length result.2.now ≤ most_of (third_of (seen _request.now)) }
+{
+    (
+        files[0].as_slice(),
+        files[1].as_slice(),
+        files[2].as_slice(),
+    )
 }
 
 // What a domain and a problem come to for the commands `plan` and `plan-all`.
