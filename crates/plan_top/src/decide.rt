@@ -12,9 +12,9 @@ ghost use Rattle.plan_answers.specs.Ends.{EndsAs};
 use crate::Ending;
 use crate::batch::answer_batch;
 use crate::first::take_first;
-use crate::take::{take_each, take_files};
+use crate::take::take_all;
 use horizon_rates::Settings;
-use pl_io::Shelf;
+use pl_io::{Bytes, Shelf};
 use plan_answers::answer::answer;
 use plan_answers::stop::Stop;
 use plan_words::{Request, Turns, read_words};
@@ -89,7 +89,7 @@ fn decide_one<H: Threads + Wait + Sync, S: Shelf, G: Gate>(
     ensures lacks { S.lacks shelf.new ≡ S.lacks shelf.old }
     ensures noted { NotesAmong (files_of (seen request.now)) (S.failed shelf.old) (S.failed shelf.new) }
 {
-    let files = take_files(alloc, request, shelf)?;
+    let files = take_all::<Bytes, S>(alloc, request, shelf)?;
     answer(rt, alloc, request, &files, gate)
 }
 
@@ -110,7 +110,7 @@ fn decide_batch<H: Threads + Wait + Sync, S: Shelf, D: Driver>(
     ensures noted { NotesAmong (files_of (seen request.now)) (S.failed shelf.old) (S.failed shelf.new) }
     ensures drives { D.faults driver.old ≤ D.faults driver.new }
 {
-    let mut files = take_each(alloc, request, shelf)?;
+    let mut files = take_all::<Option<Bytes>, S>(alloc, request, shelf)?;
     let domain = take_first(&mut files);
     answer_batch(
         rt,

@@ -14,7 +14,7 @@ answer_batch-requires-clause-problems g c κs within =
     let lacks = g.S.Shelf.lacks c.args.shelf.now in
     let request = seen c.args.request.now in
     let met = subst (λ (fs : List (Option (List ℕ))). AreTakenOrLong told lacks (file_at request) 0 (files_of request) fs) c.take_first-domain.ensures c.in_ok-files.ensures.taken in
-    rw c.as_slice.ensures.value (files_short told lacks (g.S.Shelf.failed c.args.shelf.now) (g.S.Shelf.failed c.take_each.new.shelf) c.args.settings.now c.args.turns request c.requires
+    rw c.as_slice.ensures.value (files_short told lacks (g.S.Shelf.failed c.args.shelf.now) (g.S.Shelf.failed c.take_all.new.shelf) c.args.settings.now c.args.turns request c.requires
     (c.take_first-domain.result ∷ c.take_first-domain.new.items.items) met).1
 
 pub answer_batch-requires-clause-few : goal.answer_batch-requires-clause-few
@@ -23,7 +23,7 @@ answer_batch-requires-clause-few g c κs within =
     let lacks = g.S.Shelf.lacks c.args.shelf.now in
     let request = seen c.args.request.now in
     let met = subst (λ (fs : List (Option (List ℕ))). AreTakenOrLong told lacks (file_at request) 0 (files_of request) fs) c.take_first-domain.ensures c.in_ok-files.ensures.taken in
-    let few = files_few told lacks (g.S.Shelf.failed c.args.shelf.now) (g.S.Shelf.failed c.take_each.new.shelf) c.args.settings.now c.args.turns request c.requires
+    let few = files_few told lacks (g.S.Shelf.failed c.args.shelf.now) (g.S.Shelf.failed c.take_all.new.shelf) c.args.settings.now c.args.turns request c.requires
     (c.take_first-domain.result ∷ c.take_first-domain.new.items.items) met in
     rw c.as_slice.ensures.value (omega (arith, few))
 
@@ -32,7 +32,7 @@ returns-in_err-files-clause-cause g c words asked =
     let told = g.S.Shelf.told c.args.shelf.now in
     let lacks = g.S.Shelf.lacks c.args.shelf.now in
     let old = g.S.Shelf.failed c.args.shelf.now in
-    let new = g.S.Shelf.failed c.take_each.new.shelf in
+    let new = g.S.Shelf.failed c.take_all.new.shelf in
     let request = seen c.args.request.now in
     EndsAs-handed (FaultsFrom told lacks old new (file_at request) 0 (files_of request)) (Comes told lacks old new words)
     (λ end h. request_unread told lacks old new c.args.settings.now c.args.turns request c.requires words asked end h) c.in_err-files.field-0.0 c.from_residual.result c.from_residual.ensures.1 c.in_err-files.ensures.stops
@@ -42,7 +42,7 @@ returns-clause-cause g c words asked =
     let told = g.S.Shelf.told c.args.shelf.now in
     let lacks = g.S.Shelf.lacks c.args.shelf.now in
     let old = g.S.Shelf.failed c.args.shelf.now in
-    let new = g.S.Shelf.failed c.take_each.new.shelf in
+    let new = g.S.Shelf.failed c.take_all.new.shelf in
     let request = seen c.args.request.now in
     let first = c.take_first-domain.result in
     let others = c.take_first-domain.new.items.items in

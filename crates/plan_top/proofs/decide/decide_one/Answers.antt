@@ -13,7 +13,7 @@ returns-in_err-files-clause-cause g c words asked =
     let told = g.S.Shelf.told c.args.shelf.now in
     let lacks = g.S.Shelf.lacks c.args.shelf.now in
     let old = g.S.Shelf.failed c.args.shelf.now in
-    let new = g.S.Shelf.failed c.take_files.new.shelf in
+    let new = g.S.Shelf.failed c.take_all.new.shelf in
     let request = seen c.args.request.now in
     EndsAs-handed (StopsFrom told lacks old new (file_at request) 0 (files_of request)) (Comes told lacks old new words) (λ end h. of_one request asked c.requires.of_one (stopped h))
     c.in_err-files.field-0.0 c.from_residual.result c.from_residual.ensures.1 c.in_err-files.ensures.stops
@@ -23,7 +23,7 @@ returns-clause-cause g c words asked =
     let told = g.S.Shelf.told c.args.shelf.now in
     let lacks = g.S.Shelf.lacks c.args.shelf.now in
     let old = g.S.Shelf.failed c.args.shelf.now in
-    let new = g.S.Shelf.failed c.take_files.new.shelf in
+    let new = g.S.Shelf.failed c.take_all.new.shelf in
     let request = seen c.args.request.now in
     EndsAs-weaker (Decides request c.in_ok-files.files.items) (Comes told lacks old new words)
     (λ end h. of_one request asked c.requires.of_one (taken_comes told lacks old new request c.in_ok-files.files.items c.in_ok-files.ensures.taken end h))
