@@ -43,10 +43,17 @@ pub(crate) fn raced<H: Threads + Wait + Sync, G: Gate>(
 }
 
 /// What is known of a ground task: its invariants of one or two literals, and its actions in published order.
-#[derive(Debug, Drop)]
+#[derive(Debug)]
 pub struct Known {
     pub pairs: Pairs,
     pub order: Order,
+}
+
+/// Letting one go is one call, in which its parts go: whoever holds one proves one step.
+impl Drop for Known {
+    fn drop(self) {
+        let Known { pairs: _, order: _ } = self;
+    }
 }
 
 /// What is known of a ground task.

@@ -15,12 +15,22 @@ use plan_endings::File;
 use std::alloc::Global;
 
 /// A task, and what it is grounded to.
-#[derive(Debug, Drop)]
+#[derive(Debug)]
 pub struct Ready {
     /// The task.
     pub task: Pddl,
     /// Its facts and actions.
     pub grounded: Grounded,
+}
+
+/// Letting one go is one call, in which its parts go: whoever holds one proves one step.
+impl Drop for Ready {
+    fn drop(self) {
+        let Ready {
+            task: _,
+            grounded: _,
+        } = self;
+    }
 }
 
 /// The task that a tree and the bytes of a problem say, grounded within the limits.

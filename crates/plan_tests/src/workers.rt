@@ -1,8 +1,7 @@
 // Runs with several workers.
 use crate::tasks::{BLOCKS, DARK, LAMP, LAMP_PLAN, TOWER, TOWER_PLAN};
-use mem_runs::{Named, ample_sink, run_into, run_once, shelf_of};
+use mem_runs::{Named, ample_sink, run_once, run_undriven, shelf_of};
 use noting_gates::{CountGate, Notes, PairGate};
-use poll_run::NoDriver;
 use solver_pool::Gate;
 use std::alloc::Global;
 use std::process::Abort;
@@ -50,15 +49,7 @@ fn run_at<G: Gate, H: Threads + Wait + Sync + Abort>(
 ) -> Result<(), Fail> {
     let mut shelf = shelf_of(alloc, files, &[])?;
     let mut sink = ample_sink(alloc)?;
-    let status = run_into(
-        rt,
-        alloc,
-        words,
-        &mut shelf,
-        &mut sink,
-        gate,
-        &mut NoDriver::new(),
-    )?;
+    let status = run_undriven(rt, alloc, words, &mut shelf, &mut sink, gate)?;
     assert_eq!(rt; status.0, 0, "{words}");
     assert_eq!(rt; sink.taken(), report.as_bytes(), "{words}");
     Ok(())

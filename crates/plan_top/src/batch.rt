@@ -43,7 +43,7 @@ pub fn answer_batch<H: Threads + Wait + Sync, D: Driver>(
     let runs = prepared.runs.as_slice();
     let ends = raced_all(rt, alloc, driver, runs, settings, turns)?;
     let reports = reports_of(alloc, runs, ends.as_slice(), settings)?;
-    joined(alloc, prepared.ended, reports)
+    joined(alloc, prepared.into_ended(), reports)
 }
 
 // How each run ends, by what its race came to.

@@ -19,10 +19,17 @@ use std::alloc::Global;
 use std::thread::Threads;
 
 /// A task, with what it is grounded to and what is known of that.
-#[derive(Debug, Drop)]
+#[derive(Debug)]
 pub struct Run {
     pub ready: Ready,
     pub known: Known,
+}
+
+/// Letting one go is one call, in which its parts go: whoever holds one proves one step.
+impl Drop for Run {
+    fn drop(self) {
+        let Run { ready: _, known: _ } = self;
+    }
 }
 
 /// A problem of a batch before its race.
@@ -35,12 +42,19 @@ pub enum Part {
 }
 
 /// The problems of a batch before their races.
-#[derive(Debug, Drop)]
+#[derive(Debug)]
 pub struct Prepared {
     /// For each problem its ending, or nothing where the next of the runs decides.
     pub ended: Vec<Option<Ending>>,
     /// The runs, in the order of their problems.
     pub runs: Vec<Run>,
+}
+
+/// Letting one go is one call, in which its parts go: whoever holds one proves one step.
+impl Drop for Prepared {
+    fn drop(self) {
+        let Prepared { ended: _, runs: _ } = self;
+    }
 }
 
 // What the domain is read as, or nothing where it has more bytes than it may have.
@@ -103,6 +117,14 @@ fn part_of<H: Threads + Sync>(
 }
 
 impl Prepared {
+    /// The endings alone.
+    pub fn into_ended(self) -> Vec<Option<Ending>>
+        ensures { result ≡ self.ended }
+    {
+        let Prepared { ended, runs: _ } = self;
+        ended
+    }
+
     // Adds the ending of the next problem.
     fn push_end(&mut self, end: Ending) -> Result<(), Stop>
         ensures part { OnOk result ((domain : _) (problems : _) (problem : _) → ArePrepared domain problems self.old.ended.items self.old.runs.items → EndsAlone domain problem end

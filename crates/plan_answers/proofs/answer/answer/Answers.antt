@@ -16,16 +16,16 @@ returns-in-Plan g c =
     EndsAs-weaker (OnceGrounded c.two_of.result.0.now c.two_of.result.1.now (AnswersPlan c.in-Plan.stepping settings)) (Decides (seen c.args.request.now) c.args.files.now)
     (λ end h. rw (c.in-Plan.is, c.two_of.ensures.files) (settings, refl, h)) c.answer_plan.result c.answer_plan.ensures
 
-pub two_of-in-Ground-requires-clause-count : goal.two_of-in-Ground-requires-clause-count
-two_of-in-Ground-requires-clause-count g c = rw c.in-Ground.is at c.requires.count
+pub two_of-requires-in-Ground-clause-count : goal.two_of-requires-in-Ground-clause-count
+two_of-requires-in-Ground-clause-count g c = rw c.in-Ground.is at c.requires.count
 
 pub returns-in-Ground : goal.returns-in-Ground
 returns-in-Ground g c =
     EndsAs-weaker (OnceGrounded c.two_of-in-Ground.result.0.now c.two_of-in-Ground.result.1.now AnswersGround) (Decides (seen c.args.request.now) c.args.files.now)
     (λ end h. rw (c.in-Ground.is, c.two_of-in-Ground.ensures.files) h) c.answer_ground.result c.answer_ground.ensures
 
-pub two_of-in-Order-requires-clause-count : goal.two_of-in-Order-requires-clause-count
-two_of-in-Order-requires-clause-count g c = rw c.in-Order.is at c.requires.count
+pub two_of-requires-in-Order-clause-count : goal.two_of-requires-in-Order-clause-count
+two_of-requires-in-Order-clause-count g c = rw c.in-Order.is at c.requires.count
 
 pub returns-in-Order : goal.returns-in-Order
 returns-in-Order g c =
@@ -50,16 +50,16 @@ returns-in-Gen g c =
     EndsAs-weaker (AnswersGenerated c.in-Gen.kind c.in-Gen.number settings c.in-Gen.show) (Decides (seen c.args.request.now) c.args.files.now)
     (λ end h. rw c.in-Gen.is (none_are c.args.files.now (rw c.in-Gen.is at c.requires.count), (settings, refl, h))) c.answer_gen.result c.answer_gen.ensures
 
-pub two_of-in-Prove-requires-clause-count : goal.two_of-in-Prove-requires-clause-count
-two_of-in-Prove-requires-clause-count g c = rw c.in-Prove.is at c.requires.count
+pub two_of-requires-in-Prove-clause-count : goal.two_of-requires-in-Prove-clause-count
+two_of-requires-in-Prove-clause-count g c = rw c.in-Prove.is at c.requires.count
 
 pub returns-in-Prove : goal.returns-in-Prove
 returns-in-Prove g c =
     EndsAs-weaker (OnceGrounded c.two_of-in-Prove.result.0.now c.two_of-in-Prove.result.1.now (AnswersProve c.in-Prove.horizon c.in-Prove.budget)) (Decides (seen c.args.request.now) c.args.files.now)
     (λ end h. rw (c.in-Prove.is, c.two_of-in-Prove.ensures.files) h) c.answer_prove.result c.answer_prove.ensures
 
-pub three_of-in-Verify-requires-clause-count : goal.three_of-in-Verify-requires-clause-count
-three_of-in-Verify-requires-clause-count g c = rw c.in-Verify.is at c.requires.count
+pub three_of-requires-in-Verify-clause-count : goal.three_of-requires-in-Verify-clause-count
+three_of-requires-in-Verify-clause-count g c = rw c.in-Verify.is at c.requires.count
 
 pub answer_verify-requires-clause-proof_fits : goal.answer_verify-requires-clause-proof_fits
 answer_verify-requires-clause-proof_fits g c κs within = rw c.in-Verify.is at c.three_of-in-Verify.ensures.third
