@@ -4,14 +4,16 @@ use Rattle.std.specs.Prelude.{IsTrue, IfSome}
 use Rattle.std.specs.List.{AllByRecursion, AllZip}
 use Rattle.horizon_rates.specs.declared.settings.Settings.{Settings}
 use Rattle.plan_words.specs.Seen.{Seen, Numbers, numbers, plans, batches, files_of}
+use Rattle.plan_words.specs.Requested.{requested}
 use Rattle.plan_words.specs.declared.request.Turns.{Turns}
 use Rattle.plan_endings.specs.declared.ending.Ending.{Ending}
 use Rattle.plan_endings.specs.declared.ending.Ending.TheVariants.{ReadFault}
 use Rattle.plan_endings.specs.declared.ending.File.{File}
 use Rattle.plan_endings.specs.declared.ending.File.TheVariants.{Domain, Problem}
-use Rattle.plan_top.specs.Files.{FaultsFrom, IsTaken, IsTooLong, IsTakenOrLong, AreTakenOrLong, most_of, most_bytes, file_at}
-use Rattle.plan_top.specs.Tasks.{grounded}
-use Rattle.plan_top.specs.Causes.{HasRead, ComesFor, stopped, ArePartsOf, ComesForBatch, unread, in_parts, ComesOf, is_answer}
+use Rattle.plan_answers.specs.Limits.{most_of, most_bytes, file_at}
+use Rattle.plan_top.specs.Files.{FaultsFrom, IsTaken, IsTooLong, IsTakenOrLong, AreTakenOrLong}
+use Rattle.plan_answers.specs.Tasks.{grounded}
+use Rattle.plan_top.specs.Causes.{HasRead, ComesFor, stopped, ArePartsOf, Comes, unread, in_parts, is_answer}
 use Rattle.plan_top.specs.Parts.{IsBatch, IsShort, AnswersPart, AnswersBatch, EndsAlone, IsRunOf, IsSound, ArePrepared, AnswersRun, open_in, woven}
 use Rattle.plan_top.specs.declared.parts.Run.{Run}
 use Rattle.plan_top.proofs.Complete.{batch_most}
@@ -80,10 +82,10 @@ module _ (told : List ℕ → Option (List ℕ)) (lacks : List ℕ → Bool) (ol
     parts_come first is (place + 1) ps xs es are.1 h.1,
   )
 
-  -- what the files come to comes of the batch
-  pub batch_comes : (first : Option (List ℕ)) (files : List (Option (List ℕ))) → AreTakenOrLong told lacks (file_at (batches domain all (numbers settings) turns)) 0 (domain ∷ all) (first ∷ files) → (end : Ending)
-      → AnswersBatch settings first files end → ComesForBatch told lacks old new domain all (numbers settings) turns end
-  batch_comes first files are end (parts, h, e) = in_parts parts (parts_come first are.0 1 all files parts are.1 h) e
+  -- what the files come to comes of words that ask for the batch
+  pub batch_comes : (words : List (List ℕ)) → requested words ≡ Some (batches domain all (numbers settings) turns) → (first : Option (List ℕ)) (files : List (Option (List ℕ)))
+      → AreTakenOrLong told lacks (file_at (batches domain all (numbers settings) turns)) 0 (domain ∷ all) (first ∷ files) → (end : Ending) → AnswersBatch settings first files end → Comes told lacks old new words end
+  batch_comes words asked first files are end (parts, h, e) = in_parts domain all (numbers settings) turns asked parts (parts_come first are.0 1 all files parts are.1 h) e
 
 -- the same of a request for a batch
 module _ (told : List ℕ → Option (List ℕ)) (lacks : List ℕ → Bool) (old new : List (List ℕ)) (settings : Settings) (turns : Turns) (request : Seen) (is : IsBatch settings turns request) where
@@ -103,11 +105,16 @@ module _ (told : List ℕ → Option (List ℕ)) (lacks : List ℕ → Bool) (ol
   pub files_few : (files : List (Option (List ℕ))) → AreMet files → length files ≤ 17
   files_few files are = let count = met_count told lacks (file_at (batches is.0 is.1 (numbers settings) turns)) 0 (is.0 ∷ is.1) files (met_batch files are) in let few = is.3 in omega (arith, count, few)
 
-  pub request_comes : (first : Option (List ℕ)) (files : List (Option (List ℕ))) → AreMet (first ∷ files) → (end : Ending) → AnswersBatch settings first files end → ComesOf told lacks old new request end
-  request_comes first files are end h = subst (λ (r : Seen). ComesOf told lacks old new r end) (sym is.2) (batch_comes told lacks old new is.0 is.1 settings turns first files (met_batch (first ∷ files) are) end h)
+  -- words that ask for it
+  module _ (words : List (List ℕ)) (asked : requested words ≡ Some request) where
+    asked_batch : requested words ≡ Some (batches is.0 is.1 (numbers settings) turns)
+    asked_batch = subst (λ (r : Seen). requested words ≡ Some r) is.2 asked
 
-  pub request_unread : (end : Ending) → FaultsFrom told lacks old new (file_at request) 0 (files_of request) end → ComesOf told lacks old new request end
-  request_unread end h = subst (λ (r : Seen). FaultsFrom told lacks old new (file_at r) 0 (files_of r) end → ComesOf told lacks old new r end) (sym is.2) (λ k. unread k) h
+    pub request_comes : (first : Option (List ℕ)) (files : List (Option (List ℕ))) → AreMet (first ∷ files) → (end : Ending) → AnswersBatch settings first files end → Comes told lacks old new words end
+    request_comes first files are end h = batch_comes told lacks old new is.0 is.1 settings turns words asked_batch first files (met_batch (first ∷ files) are) end h
+
+    pub request_unread : (end : Ending) → FaultsFrom told lacks old new (file_at request) 0 (files_of request) end → Comes told lacks old new words end
+    request_unread end h = unread is.0 is.1 (numbers settings) turns asked_batch (subst (λ (r : Seen). FaultsFrom told lacks old new (file_at r) 0 (files_of r) end) is.2 h)
 
 -- ---- before the races
 
