@@ -1,6 +1,6 @@
 -- The task of a corridor: rooms in a row, and a walk from the first to the last.
 use Rattle.std.specs.Prelude.{ℕ, ◌+◌, List, [], ◌++◌, codes, decimal, zero, suc}
-use Rattle.plan_gen.specs.Numbered.{numbered}
+use Rattle.plan_gen.specs.Head.{head}
 
 -- The domain, the same for every number.
 abbrev pub corridor_domain : List ℕ
@@ -22,10 +22,7 @@ doors (suc count) = doors count ++ door count (count + 1) ++ door (count + 1) co
 
 -- The problem's head: its name, the domain's, and the objects, rooms 0 to number.
 abbrev pub corridor_head : (number : ℕ) → List ℕ
-corridor_head number =
-    codes "(define (problem corridor-" ++ decimal number ++ codes ")\n"
-    ++ codes "(:domain corridor)\n"
-    ++ codes "(:objects r0" ++ numbered (codes " r") [] number ++ codes ")\n"
+corridor_head number = head (codes "corridor") (codes "r0") (codes " r") [] number
 
 -- The initial state: the walker is in room 0, and each room has doors to its neighbours.
 abbrev pub corridor_init : (number : ℕ) → List ℕ

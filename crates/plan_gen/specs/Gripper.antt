@@ -1,6 +1,7 @@
 -- The task of a gripper: a robot with two grippers that carries balls from one room to another.
-use Rattle.std.specs.Prelude.{ℕ, List, [], ◌++◌, codes, decimal}
+use Rattle.std.specs.Prelude.{ℕ, List, ◌++◌, codes}
 use Rattle.plan_gen.specs.Numbered.{numbered}
+use Rattle.plan_gen.specs.Head.{head}
 
 -- The domain, the same for every number.
 abbrev pub gripper_domain : List ℕ
@@ -19,10 +20,7 @@ gripper_domain =
 
 -- The problem's head: its name, the domain's, and the objects: two rooms, balls 1 to number, two grippers.
 abbrev pub gripper_head : (number : ℕ) → List ℕ
-gripper_head number =
-    codes "(define (problem gripper-" ++ decimal number ++ codes ")\n"
-    ++ codes "(:domain gripper)\n"
-    ++ codes "(:objects rooma roomb" ++ numbered (codes " ball") [] number ++ codes " left right)\n"
+gripper_head number = head (codes "gripper") (codes "rooma roomb") (codes " ball") (codes " left right") number
 
 -- The initial state: every ball is in room a with the robot, and both grippers are free.
 abbrev pub gripper_init : (number : ℕ) → List ℕ

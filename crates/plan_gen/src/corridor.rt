@@ -1,6 +1,7 @@
 ghost use Rattle.std.specs.Prelude.{◌≡◌, ◌++◌, IfOk, OnOk};
-ghost use Rattle.plan_gen.specs.Corridor.{corridor_head, corridor_init, corridor_goal, corridor_problem, door, doors};
+ghost use Rattle.plan_gen.specs.Corridor.{corridor_problem, door, doors};
 
+use crate::head::put_head;
 use crate::{Memory, Text};
 use std::alloc::Global;
 
@@ -17,42 +18,14 @@ pub(crate) fn problem(alloc: Global, number: u32) -> Result<Text, Memory>
     ensures { IfOk result (λ text. text ≡ corridor_problem number) }
 {
     let mut text = Text::new(alloc);
-    put_head(&mut text, number)?;
-    put_init(&mut text, number)?;
-    put_goal(&mut text, number)?;
-    Ok(text)
-}
-
-// Puts the problem's head.
-fn put_head(text: &mut Text, number: u32) -> Result<(), Memory>
-    ensures { OnOk result (text.new ≡ text.old ++ corridor_head number) }
-{
-    text.put("(define (problem corridor-")?;
-    text.put_number(number)?;
-    text.put(")\n(:domain corridor)\n(:objects r0")?;
-    text.put_numbered(" r", "", number)?;
-    text.put(")\n")?;
-    Ok(())
-}
-
-// Puts the initial state.
-fn put_init(text: &mut Text, number: u32) -> Result<(), Memory>
-    ensures { OnOk result (text.new ≡ text.old ++ corridor_init number) }
-{
+    put_head(&mut text, "corridor", "r0", " r", "", number)?;
     text.put("(:init (in r0)")?;
-    put_doors(text, number)?;
+    put_doors(&mut text, number)?;
     text.put(")\n")?;
-    Ok(())
-}
-
-// Puts the goal and the end of the problem.
-fn put_goal(text: &mut Text, number: u32) -> Result<(), Memory>
-    ensures { OnOk result (text.new ≡ text.old ++ corridor_goal number) }
-{
     text.put("(:goal (in r")?;
     text.put_number(number)?;
     text.put(")))\n")?;
-    Ok(())
+    Ok(text)
 }
 
 // Puts the doors between each of the first `count` rooms and the next room.

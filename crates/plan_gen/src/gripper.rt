@@ -1,6 +1,7 @@
 ghost use Rattle.std.specs.Prelude.{◌≡◌, ◌++◌, IfOk, OnOk};
-ghost use Rattle.plan_gen.specs.Gripper.{gripper_head, gripper_init, gripper_goal, gripper_problem};
+ghost use Rattle.plan_gen.specs.Gripper.{gripper_init, gripper_goal, gripper_problem};
 
+use crate::head::put_head;
 use crate::{Memory, Text};
 use std::alloc::Global;
 
@@ -23,22 +24,17 @@ pub(crate) fn problem(alloc: Global, number: u32) -> Result<Text, Memory>
     ensures { IfOk result (λ text. text ≡ gripper_problem number) }
 {
     let mut text = Text::new(alloc);
-    put_head(&mut text, number)?;
+    put_head(
+        &mut text,
+        "gripper",
+        "rooma roomb",
+        " ball",
+        " left right",
+        number,
+    )?;
     put_init(&mut text, number)?;
     put_goal(&mut text, number)?;
     Ok(text)
-}
-
-// Puts the problem's head.
-fn put_head(text: &mut Text, number: u32) -> Result<(), Memory>
-    ensures { OnOk result (text.new ≡ text.old ++ gripper_head number) }
-{
-    text.put("(define (problem gripper-")?;
-    text.put_number(number)?;
-    text.put(")\n(:domain gripper)\n(:objects rooma roomb")?;
-    text.put_numbered(" ball", "", number)?;
-    text.put(" left right)\n")?;
-    Ok(())
 }
 
 // Puts the initial state.

@@ -12,6 +12,7 @@ ghost use Rattle.plan_gen.specs.Task.{domain_of, problem_of};
 
 mod corridor;
 mod gripper;
+mod head;
 mod text;
 
 use std::alloc::Global;

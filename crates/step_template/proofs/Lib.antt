@@ -2,6 +2,7 @@ pub mod Bounds
 pub mod Groups
 pub mod RowLaw
 pub mod EffectLaw
+pub mod Placing
 pub mod IndexLaw
 pub mod FrameLaw
 pub mod KnownLaw

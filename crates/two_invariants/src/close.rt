@@ -36,50 +36,46 @@ fn is_done(asked: &BitRow, below: u32, x: u32) -> bool
     x < below && asked.contains(x)
 }
 
-/// Follows all literals of `todo` at once. `told` is room for a row.
-fn follow_all(
-    rules: &Rules,
-    row: &mut BitRow,
-    todo: &mut BitRow,
-    told: &mut BitRow,
-) -> Result<(), AllocError>
+/// Rows to work in: the literals that were not followed yet, and room for a row.
+#[derive(Drop)]
+pub struct Spare {
+    pub rest: BitRow,
+    pub room: BitRow,
+}
+
+/// Follows all literals that are left at once.
+fn follow_all(rules: &Rules, row: &mut BitRow, spare: &mut Spare) -> Result<(), AllocError>
     requires rules { AreRules rules.now }
-    requires growing { IsGrowing (clause_in rules.now.clauses.now) (2 * rules.now.facts) (row_has row.old) (row_has todo.old) }
+    requires growing { IsGrowing (clause_in rules.now.clauses.now) (2 * rules.now.facts) (row_has row.old) (row_has spare.old.rest) }
     ensures grown { OnOk result (IsGrownFrom (clause_in rules.now.clauses.now) (row_has row.old) (row_has row.new)) }
-    ensures growing { OnOk result (IsGrowing (clause_in rules.now.clauses.now) (2 * rules.now.facts) (row_has row.new) (row_has todo.new)) }
-    ensures less { OnOk result ((x : ℕ) → row_has todo.old x ≡ true → work (2 * rules.now.facts) (row_has row.new) (row_has todo.new) < work (2 * rules.now.facts) (row_has row.old) (row_has todo.old)) }
+    ensures growing { OnOk result (IsGrowing (clause_in rules.now.clauses.now) (2 * rules.now.facts) (row_has row.new) (row_has spare.new.rest)) }
+    ensures less { OnOk result ((x : ℕ) → row_has spare.old.rest x ≡ true → work (2 * rules.now.facts) (row_has row.new) (row_has spare.new.rest) < work (2 * rules.now.facts) (row_has row.old) (row_has spare.old.rest)) }
 {
-    told.clear();
-    add_told(rules.clauses, rules.bound, todo, told)?;
-    todo.make_same(told)?;
-    todo.subtract(row);
-    row.unite(told)?;
+    spare.room.clear();
+    add_told(rules.clauses, rules.bound, &spare.rest, &mut spare.room)?;
+    spare.rest.make_same(&spare.room)?;
+    spare.rest.subtract(row);
+    row.unite(&spare.room)?;
     Ok(())
 }
 
-/// Follows a literal of `todo` where what it tells is done, with all that follows; else all literals of `todo`.
-fn follow(
-    done: &Done,
-    x: u32,
-    row: &mut BitRow,
-    todo: &mut BitRow,
-    told: &mut BitRow,
-) -> Result<(), AllocError>
+/// Follows a literal that is left where what it tells is done, with all that follows; else all that are left.
+fn follow(done: &Done, x: u32, row: &mut BitRow, spare: &mut Spare) -> Result<(), AllocError>
     requires done { AreDone done.now }
-    requires growing { IsGrowing (clause_in done.now.rules.now.clauses.now) (2 * done.now.rules.now.facts) (row_has row.old) (row_has todo.old) }
-    requires todo { row_has todo.old x ≡ true }
+    requires growing { IsGrowing (clause_in done.now.rules.now.clauses.now) (2 * done.now.rules.now.facts) (row_has row.old) (row_has spare.old.rest) }
+    requires todo { row_has spare.old.rest x ≡ true }
     ensures grown { OnOk result (IsGrownFrom (clause_in done.now.rules.now.clauses.now) (row_has row.old) (row_has row.new)) }
-    ensures growing { OnOk result (IsGrowing (clause_in done.now.rules.now.clauses.now) (2 * done.now.rules.now.facts) (row_has row.new) (row_has todo.new)) }
-    ensures less { OnOk result (work (2 * done.now.rules.now.facts) (row_has row.new) (row_has todo.new) < work (2 * done.now.rules.now.facts) (row_has row.old) (row_has todo.old)) }
+    ensures growing { OnOk result (IsGrowing (clause_in done.now.rules.now.clauses.now) (2 * done.now.rules.now.facts) (row_has row.new) (row_has spare.new.rest)) }
+    ensures less { OnOk result (work (2 * done.now.rules.now.facts) (row_has row.new) (row_has spare.new.rest) < work (2 * done.now.rules.now.facts) (row_has row.old) (row_has spare.old.rest)) }
 {
     if is_done(done.rules.asked, done.below, x) {
         let known = &done.rows[x as usize];
         row.unite(known)?;
-        todo.remove(x);
-        todo.subtract(known);
+        spare.rest.remove(x);
+        spare.rest.subtract(known);
         return Ok(());
     }
-    follow_all(done.rules, row, todo, told)?;
+    follow_all(done.rules, row, spare)?;
     Ok(())
 }
 
@@ -95,25 +91,19 @@ fn to_follow(asked: &BitRow, below: u32, todo: &BitRow) -> Option<u32>
 }
 
 /// Makes a row the least set with its literals that has, with a literal, each other one of a clause with its opposite.
-/// `todo` and `told` are room for a row each.
-pub fn close(
-    done: &Done,
-    row: &mut BitRow,
-    todo: &mut BitRow,
-    told: &mut BitRow,
-) -> Result<(), AllocError>
+pub fn close(done: &Done, row: &mut BitRow, spare: &mut Spare) -> Result<(), AllocError>
     requires done { AreDone done.now }
     requires within { IsSetOf (2 * done.now.rules.now.facts) (row_has row.old) }
     ensures { OnOk result (IsClosure (clause_in done.now.rules.now.clauses.now) (row_has row.old) (row_has row.new)) }
 {
-    todo.make_same(row)?;
+    spare.rest.make_same(row)?;
     'follow: loop {
         if row.has_pair() {
             return Ok(());
         }
-        match to_follow(done.rules.asked, done.below, todo) {
+        match to_follow(done.rules.asked, done.below, &spare.rest) {
             None => return Ok(()),
-            Some(x) => follow(done, x, row, todo, told)?,
+            Some(x) => follow(done, x, row, spare)?,
         }
     }
 }

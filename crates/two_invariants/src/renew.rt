@@ -9,7 +9,7 @@ ghost use Rattle.two_invariants.specs.Tested.{IsSetOf};
 ghost use Rattle.two_invariants.specs.Renewed.{IsBound, AreRules, AreDone, WasClosed, WasTold};
 
 use crate::bound::{Bound, add_partners, add_told};
-use crate::close::{Done, Rules, close};
+use crate::close::{Done, Rules, Spare, close};
 use bit_rows::row::BitRow;
 use gt_core::lits::opposite;
 use std::alloc::{AllocError, Global};
@@ -70,13 +70,6 @@ fn none_follows(
     Ok(is_apart(room, set))
 }
 
-/// Rows to work in.
-#[derive(Drop)]
-pub struct Spare {
-    pub rest: BitRow,
-    pub room: BitRow,
-}
-
 /// Rows without numbers.
 fn no_spare(alloc: Global) -> Spare {
     Spare {
@@ -113,7 +106,7 @@ fn renew(
             return Ok(true);
         }
     }
-    close(done, next, &mut spare.rest, &mut spare.room)?;
+    close(done, next, spare)?;
     if next.is_same(old) {
         return Ok(false);
     }

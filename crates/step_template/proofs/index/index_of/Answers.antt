@@ -2,9 +2,8 @@ use Rattle.std.proofs.Common.{arith, ◌<◌, ◌+◌, ℕ, length, count_by, ap
 use Rattle.gt_core.specs.Layout.{Layout}
 use Rattle.gt_core.specs.Task.{Action}
 use Rattle.gt_core.specs.Lawful.{is_conditional}
-use Rattle.gt_core.proofs.Within.{lawful}
-use Rattle.step_template.proofs.RowLaw.{first_more, taken_and_left}
-use Rattle.step_template.proofs.EffectLaw.{effects_within}
+use Rattle.step_template.proofs.Placing.{placed}
+use Rattle.step_template.proofs.RowLaw.{first_more}
 use Rattle.step_template.proofs.IndexLaw.{made_more}
 use Rattle.step_template.proofs.index.index_of.Goals as goal
 
@@ -25,12 +24,5 @@ pub index_effects_of-requires-clause-placed : goal.index_effects_of-requires-cla
 index_effects_of-requires-clause-placed c =
     let e = ap (λ (z : Layout). z.actions) c.layout.view_is in
     let lt : c.loop-a.a < length c.args.task.now.actions = let r = c.requires.actions in let t = c.loop-a-test.true in omega (arith, e, r, t) in
-    let more = first_more c.args.task.now c.loop-a.a c.loop-a.first (count_by is_conditional c.effects.result.now) c.act-act.result.now c.act-act.ensures.act (ap (count_by is_conditional) c.effects.ensures) lt c.loop-a.invariant.first in
-    let all = taken_and_left c.args.task.now.actions (c.loop-a.a + 1) in
-    record {
-      horizon = c.requires.horizon;
-      action = omega (arith, lt, c.requires.actions);
-      numbers = omega (arith, more, all, c.requires.conditional);
-      few = omega (arith, c.requires.conditional, (lawful c.args.task.now c.act-act.ensures.lawful).conditional);
-      within = effects_within c.args.task.now c.args.layout.now.facts c.loop-a.a c.effects.result.now c.act-act.result.now c.requires.facts c.act-act.ensures.act c.effects.ensures c.act-act.ensures.lawful lt;
-    }
+    placed c.args.task.now c.args.layout.now c.loop-a.a c.loop-a.first c.act-act.result.now c.effects.result.now c.requires.horizon c.requires.actions c.requires.conditional c.requires.facts
+    c.act-act.ensures.act c.effects.ensures c.act-act.ensures.lawful lt c.loop-a.invariant.first

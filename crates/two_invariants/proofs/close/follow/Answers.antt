@@ -9,7 +9,7 @@ pub returns-then-is_done : goal.returns-then-is_done
 returns-then-is_done c =
     let V = clause_in c.args.done.now.rules.now.clauses.now in
     let R = row_has c.args.row.now in
-    let T = row_has c.args.todo.now in
+    let T = row_has c.args.spare.now.rest in
     let is = c.is_done.ensures c.if-is_done.true in
     let within = c.requires.growing.within c.args.x (c.requires.growing.listed c.args.x c.requires.todo) in
     let lt : c.args.x < length c.args.done.now.rows.now = let n = c.requires.done.long in omega arith in

@@ -9,7 +9,7 @@ pub returns : goal.returns
 returns c =
     let V = clause_in c.args.rules.now.clauses.now in
     let R = row_has c.args.row.now in
-    let T = row_has c.args.todo.now in
+    let T = row_has c.args.spare.now.rest in
     let U = row_has c.add_told.new.told in
     let all = c.in_ok-add_told.ensures.all in
     let only : (other : ℕ → Bool) → IsChained V other → IsPart T other → IsPart U other = λ other ch part. c.in_ok-add_told.ensures.only other ch part (λ m t. absurd (apart (row_has c.clear.new.self m) t (c.clear.ensures m))) in
