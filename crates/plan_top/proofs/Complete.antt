@@ -280,14 +280,14 @@ module _ (told : List ℕ → Option (List ℕ)) (lacks : List ℕ → Bool) (ol
   pub complete : TextsAreFit → (words : List (List ℕ)) (w : GoesWell words told old new) (end : Ending) → Comes told lacks old new words end → IsGood w.request end
   complete no_fault words w end (no_request none e) = absurd (let never : Some w.request ≡ None = sym w.asked ∙ none in cc)
   complete no_fault words w end (of_one request asked one h) =
-      let is : request ≡ w.request = one_request request w.request asked w.asked in
+      let is : request ≡ w.request = one_request words request w.request asked w.asked in
       subst (λ (r : Seen). IsGood r end) is
       (good_alone request end one (subst (λ (r : Seen). ComesFor told lacks old new r end → IsGoodAlone r end) (sym is) (alone no_fault w.request w.files w.are_told w.fit w.in_order w.quiet end) h))
   complete no_fault words w end (unread d ps n turns asked h) =
-      let is : w.request ≡ batches d ps n turns = one_request w.request (batches d ps n turns) w.asked asked in
+      let is : w.request ≡ batches d ps n turns = one_request words w.request (batches d ps n turns) w.asked asked in
       absurd (no_unread (file_at (batches d ps n turns)) 0 (d ∷ ps) end (subst (λ (r : Seen). RoseAmong (files_of r) old new → ⊥) is w.quiet) h)
   complete no_fault words w end (in_parts d ps n turns asked parts are e) =
-      let is : w.request ≡ batches d ps n turns = one_request w.request (batches d ps n turns) w.asked asked in
+      let is : w.request ≡ batches d ps n turns = one_request words w.request (batches d ps n turns) w.asked asked in
       subst (λ (r : Seen). IsGood r end) (sym is) (
         parts,
         e,

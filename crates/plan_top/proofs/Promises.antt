@@ -375,7 +375,7 @@ rejects laws task bytes end one h horizon certifies =
 -- ---- what is told
 
 -- What a shelf told, its faults, the words, what the sink had taken, and the status of a run.
-module _ {told : List ℕ → Option (List ℕ)} {lacks : List ℕ → Bool} {old new : List (List ℕ)} {words : List (List ℕ)} {before after : Option (List ℕ)} {status : ℕ} where
+module _ (told : List ℕ → Option (List ℕ)) (lacks : List ℕ → Bool) (old new : List (List ℕ)) (words : List (List ℕ)) (before after : Option (List ℕ)) (status : ℕ) where
   -- the status of an ending that comes, and its text, but for a write fault and want of memory
   abbrev pub IsDue : Type 0
   IsDue = (status ≡ 6 → ⊥) → (status ≡ 8 → ⊥) → (end : Ending) × (status ≡ status_of end) × Comes told lacks old new words end × (after ≡ appended before (text_of end))

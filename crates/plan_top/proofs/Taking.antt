@@ -8,9 +8,13 @@ use Rattle.std.proofs.lemmas.List.Sums.{sum_by-append}
 use Rattle.pl_io.specs.Outside.{Notes, FaultRose, fault_count}
 use Rattle.plan_words.specs.Among.{AreAmong}
 use Rattle.plan_endings.specs.declared.ending.Ending.{Ending}
+use Rattle.plan_endings.specs.declared.ending.Ending.TheVariants.{TooLong, ReadFault}
 use Rattle.plan_endings.specs.declared.ending.File.{File}
+use Rattle.plan_answers.specs.Ends.{EndsBy}
+use Rattle.plan_answers.specs.declared.stop.Stop.{Stop}
+use Rattle.plan_answers.specs.declared.stop.Stop.TheVariants.{Ends}
 use Rattle.plan_answers.specs.Limits.{AreShort, most_of}
-use Rattle.plan_top.specs.Files.{Fits, FitFrom, IsTaken, AreTaken, AreKept, OneEnds, Rises, NotesAmong}
+use Rattle.plan_top.specs.Files.{Fits, FitFrom, Stops, IsTooLong, IsTaken, AreTaken, AreKept, OneEnds, Rises, NotesAmong}
 
 -- ---- what is left of a list
 
@@ -75,6 +79,17 @@ module _ (told : List ℕ → Option (List ℕ)) (lacks : List ℕ → Bool) whe
   taken_count file place [] (f ∷ fs) h = absurd h
   taken_count file place (n ∷ ns) [] h = absurd h
   taken_count file place (n ∷ ns) (f ∷ fs) h = let e = taken_count file (place + 1) ns fs h.1 in omega arith
+
+-- ---- a file that is too long
+
+-- a stop that tells so
+pub ended_long : (told : List ℕ → Option (List ℕ)) (lacks : List ℕ → Bool) (old new : List (List ℕ)) (file : File) (name : List ℕ) (stop : Stop) (end : Ending) (other : File) → stop ≡ Ends end → end ≡ TooLong other
+    → EndsBy (Stops told lacks old new file name) stop → IsTooLong told lacks file name
+ended_long told lacks old new file name stop end other is long h = step (subst (Stops told lacks old new file name) long (subst (EndsBy (Stops told lacks old new file name)) is h))
+  where
+    step : Stops told lacks old new file name (TooLong other) → IsTooLong told lacks file name
+    step (inl fault) = absurd (let never : TooLong other ≡ ReadFault file = fault.0 in cc)
+    step (inr more) = more.1
 
 -- ---- the faults that were noted so far
 

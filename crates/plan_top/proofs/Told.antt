@@ -206,8 +206,8 @@ of_told_at told (n ∷ ns) (f ∷ fs) P are h =
 -- ---- what a run comes to
 
 -- words ask for one thing
-pub one_request : {words : List (List ℕ)} (request other : Seen) → requested words ≡ Some request → requested words ≡ Some other → request ≡ other
-one_request {words = words} request other asked also = let same : Some request ≡ Some other = sym asked ∙ also in cc
+pub one_request : (words : List (List ℕ)) (request other : Seen) → requested words ≡ Some request → requested words ≡ Some other → request ≡ other
+one_request words request other asked also = let same : Some request ≡ Some other = sym asked ∙ also in cc
 
 module _ (told : List ℕ → Option (List ℕ)) (lacks : List ℕ → Bool) (old new : List (List ℕ)) where
   -- of files that were taken, what their bytes decide comes of a request of one task
@@ -234,18 +234,18 @@ module _ (told : List ℕ → Option (List ℕ)) (lacks : List ℕ → Bool) (ol
     -- an ending of words that ask for one task comes of that
     pub asked_comes : (request : Seen) → IsOfOne request → requested words ≡ Some request → (end : Ending) → Comes told lacks old new words end → ComesFor told lacks old new request end
     asked_comes request one asked end (no_request none e) = absurd (let never : Some request ≡ None = sym asked ∙ none in cc)
-    asked_comes request one asked end (of_one other other_asked other_one h) = subst (λ (r : Seen). ComesFor told lacks old new r end) (one_request other request other_asked asked) h
-    asked_comes request one asked end (unread d ps n turns batch h) = absurd (subst IsOfOne (one_request request (batches d ps n turns) asked batch) one)
-    asked_comes request one asked end (in_parts d ps n turns batch parts are e) = absurd (subst IsOfOne (one_request request (batches d ps n turns) asked batch) one)
+    asked_comes request one asked end (of_one other other_asked other_one h) = subst (λ (r : Seen). ComesFor told lacks old new r end) (one_request words other request other_asked asked) h
+    asked_comes request one asked end (unread d ps n turns batch h) = absurd (subst IsOfOne (one_request words request (batches d ps n turns) asked batch) one)
+    asked_comes request one asked end (in_parts d ps n turns batch parts are e) = absurd (subst IsOfOne (one_request words request (batches d ps n turns) asked batch) one)
 
     -- one of words that ask for a batch comes of that
     pub asked_parts : (domain : List ℕ) (problems : List (List ℕ)) (n : Numbers) (turns : Turns) → requested words ≡ Some (batches domain problems n turns) → (end : Ending) → HasRead end → Comes told lacks old new words end
         → (parts : List Ending) × ArePartsOf told lacks old new domain n problems parts × (end ≡ batch_of parts)
     asked_parts domain problems n turns asked end has (no_request none e) = absurd (let never : Some (batches domain problems n turns) ≡ None = sym asked ∙ none in cc)
-    asked_parts domain problems n turns asked end has (of_one other other_asked one h) = absurd (subst IsOfOne (one_request other (batches domain problems n turns) other_asked asked) one)
+    asked_parts domain problems n turns asked end has (of_one other other_asked one h) = absurd (subst IsOfOne (one_request words other (batches domain problems n turns) other_asked asked) one)
     asked_parts domain problems n turns asked end has (unread d ps m also batch h) = absurd (unread_file (file_at (batches d ps m also)) 0 (d ∷ ps) end h has)
     asked_parts domain problems n turns asked end has (in_parts d ps m also batch parts are e) =
-        let same : batches d ps m also ≡ batches domain problems n turns = one_request (batches d ps m also) (batches domain problems n turns) batch asked in
+        let same : batches d ps m also ≡ batches domain problems n turns = one_request words (batches d ps m also) (batches domain problems n turns) batch asked in
         (parts, same_parts d domain ps problems m n also turns parts same are, e)
 
     pub not_asked_comes : requested words ≡ None → (end : Ending) → Comes told lacks old new words end → end ≡ Usage
