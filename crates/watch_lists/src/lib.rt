@@ -20,6 +20,7 @@ mod left;
 mod marks;
 mod pending;
 mod quiet;
+mod recent;
 mod room;
 mod scan;
 mod slots;

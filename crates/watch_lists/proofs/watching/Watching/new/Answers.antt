@@ -39,6 +39,7 @@ invariant_of-result c =
       paired_given v store g.slots.items l.watched.items l.chains.heads.items l.chains.nodes.items l.pending l.units.items c.in_ok-pairs.pairs made index,
       has_units_given v store (literals c.in_ok-trail.trail.entries) g.slots.items l.watched.items l.chains.heads.items l.chains.nodes.items l.pending l.units.items trail made,
       subst (λ (t : AssignmentView). IsFrontLeft store (has_literal t.trail) (words_have l.pending) c.left_least-front_left.result) c.assignment.ensures c.left_least-front_left.ensures,
+      c.in_ok-recent.ensures store,
     )
 
 pub left_least-front_left-requires-clause-fit : goal.left_least-front_left-requires-clause-fit
