@@ -1,6 +1,5 @@
 -- Clauses of two literals that are kept with their numbers.
-use Rattle.std.proofs.Common.{arith, ◌≡◌, ◌==◌, ℕ, ◌*◌, ◌<◌, ◌≤◌, List, [], ◌∷◌, ◌++◌, length, set, get_or, Bool, true, false, sym, ap, ◌∙◌, subst, ◌⊎◌, inl, inr, get_or-set_same, get_or-set_other, length-set}
-use Rattle.clause_base.specs.Clause.{has_literal}
+use Rattle.std.proofs.Common.{arith, ◌≡◌, ℕ, ◌<◌, ◌≤◌, List, [], ◌∷◌, ◌++◌, length, get_or, sym, ap, ◌∙◌, subst, ◌⊎◌, inl, inr}
 use Rattle.cdcl_rules.specs.Pending.{is_pending, open_ones}
 use Rattle.cdcl_rules.specs.State.{clause_at}
 use Rattle.pair_index.specs.declared.pair.Pair.{Pair}
@@ -11,24 +10,8 @@ use Rattle.watch_lists.specs.Recent.{no_entry, IsRecent}
 use Rattle.watch_lists.specs.Status.{IsStatus}
 use Rattle.watch_lists.specs.Visit.{IsFit}
 use Rattle.watch_lists.proofs.Filters.{clause_past}
-use Rattle.watch_lists.proofs.Assigns.{equal_of, apart_of}
 use Rattle.watch_lists.proofs.Adds.{at_other}
 use Rattle.watch_lists.proofs.Paired.{pair_long}
-
--- one more is kept
-pub recent_kept : (cl : List (List ℕ)) (recent : List Entry) (place : ℕ) (entry : Entry) → IsPairOf cl entry.one entry.pair → IsRecent cl recent → IsRecent cl (set recent place entry)
-recent_kept cl recent place entry own h i inside = by (i == place) refl
-  where
-    IsHeld : Entry → Type 0
-    IsHeld e = (e.pair.number ≡ 4294967295) ⊎ IsPairOf cl e.one e.pair
-
-    by : (b : Bool) → (i == place) ≡ b → IsHeld (get_or (set recent place entry) i no_entry)
-    by true f =
-        let q : i ≡ place = equal_of i place f in
-        let room : place < length recent = omega (arith, q, inside, length-set recent place entry) in
-        subst IsHeld (sym (ap (λ (j : ℕ). get_or (set recent place entry) j no_entry) q ∙ get_or-set_same recent place entry no_entry room)) (inr own)
-    by false f =
-        subst IsHeld (sym (get_or-set_other recent place i entry no_entry (apart_of i place f))) (h i (omega (arith, inside, length-set recent place entry)))
 
 -- they are of longer lists of clauses
 pub recent_more : (cl : List (List ℕ)) (k : List ℕ) (recent : List Entry) → IsRecent cl recent → IsRecent (cl ++ k ∷ []) recent
@@ -44,17 +27,6 @@ recent_more cl k recent h i inside = by (h i inside)
     by (inl e) = inl e
     by (inr (inl e)) = inr (inl (stays (inl e) ∙ e))
     by (inr (inr e)) = inr (inr (stays (inr e) ∙ e))
-
--- the clause that is found
-pub recent_found : (cl : List (List ℕ)) (recent : List Entry) (place number : ℕ) (entry : Entry) → IsRecent cl recent → place < length recent → entry ≡ get_or recent place no_entry → entry.pair.number ≡ number → number < 4294967295 → IsPairOf cl entry.one entry.pair
-recent_found cl recent place number entry h inside e is below = by (h place inside)
-  where
-    IsHere : Entry → Type 0
-    IsHere x = IsPairOf cl x.one x.pair
-
-    by : ((get_or recent place no_entry).pair.number ≡ 4294967295) ⊎ IsHere (get_or recent place no_entry) → IsHere entry
-    by (inl q) = absurd (omega (arith, is, below, q, ap (λ (x : Entry). x.pair.number) e))
-    by (inr o) = subst IsHere (sym e) o
 
 -- both literals are of the formula
 pub one_below : (cl : List (List ℕ)) (codes one : ℕ) (p : Pair) → IsFit cl codes → IsPairOf cl one p → one < codes

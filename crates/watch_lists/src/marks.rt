@@ -126,7 +126,9 @@ pub fn mark_pairs(
     mark_list(store, lists.last(), assignment, falsified, recent, pending);
     mark_list(store, lists.next(), assignment, falsified, recent, pending);
     mark_list(store, lists.time(), assignment, falsified, recent, pending);
-    if let Some(pairs) = lists.after() {
-        mark_all(store, &pairs, assignment, falsified, recent, pending);
+    // With a second caller the loop stays a function of its own, and so the test before it goes into this one.
+    match lists.after() {
+        None => {}
+        Some(pairs) => mark_all(store, &pairs, assignment, falsified, recent, pending),
     }
 }

@@ -28,7 +28,7 @@ pub struct Recent {
 }
 
 impl Model for Recent {
-    ghost use Rattle.std.specs.Prelude.{List, length};
+    ghost use Rattle.std.specs.Prelude.{◌≡◌, List, length};
     ghost use Rattle.watch_lists.specs.declared.recent.Entry.{Entry};
 
     ghost Value = { List Entry };

@@ -19,8 +19,8 @@ fit c = fit_given c.args.formula.now.variables c.args.formula.now.clauses c.vari
 fit_store : (c : After-count-count) (store : List (List ℕ)) → store ≡ c.args.formula.now.clauses → IsFit store (2 * c.variables-variables.result)
 fit_store c store e = subst (λ (n : ℕ). IsFit store (2 * n)) (sym c.variables-variables.ensures.value) (subst (λ (cs : List (List ℕ)). IsFit cs (2 * c.args.formula.now.variables)) (sym e) (fit c))
 
-pub new-requires-4-clause-fit : goal.new-requires-4-clause-fit
-new-requires-4-clause-fit c = fit_store (goal.at.new-requires-4-clause-fit c).After-count-count c.in_ok-store.store c.in_ok-store.ensures
+pub new-requires-5-clause-fit : goal.new-requires-5-clause-fit
+new-requires-5-clause-fit c = fit_store (goal.at.new-requires-5-clause-fit c).After-count-count c.in_ok-store.store c.in_ok-store.ensures
 
 pub invariant_of-result : goal.invariant_of-result
 invariant_of-result c =
