@@ -13,6 +13,7 @@ pub mod Sounds
 pub mod Founds
 pub mod UnitsTell
 pub mod Statuses
+pub mod Recents
 pub mod Lefts
 pub mod UnitsOfSlots
 pub mod Givens

@@ -3,6 +3,7 @@ pub mod Visit
 pub mod Units
 pub mod Status
 pub mod Back
+pub mod Recent
 pub mod Pairs
 pub mod Sound
 pub mod Added

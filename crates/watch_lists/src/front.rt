@@ -5,6 +5,7 @@ ghost use Rattle.clause_base.specs.Clause.{has_literal};
 ghost use Rattle.number_bits.specs.Bits.{words_have};
 ghost use Rattle.watch_lists.specs.Units.{IsUnit, AreUnits, IsUnitAt, IsWithin, IsConsistent};
 ghost use Rattle.watch_lists.specs.Pending.{is_pending_on};
+ghost use Rattle.watch_lists.specs.Recent.{IsRecent};
 ghost use Rattle.watch_lists.specs.Status.{IsStatus, IsFrontLeft};
 ghost use Rattle.cdcl_rules.specs.Pending.{is_pending, open_ones};
 ghost use Rattle.cdcl_rules.specs.State.{clause_at};
@@ -13,6 +14,7 @@ ghost use Rattle.watch_lists.specs.Sound.{IsFront};
 
 use crate::left::status_at;
 use crate::pending::Pending;
+use crate::recent::Recent;
 use crate::scan::{is_pending, unit_of};
 use crate::slots::slot_clause;
 use crate::status::Status;
@@ -28,6 +30,7 @@ use watch_store::store::Store;
 fn kept_status(
     store: &Store,
     kept: &[bool],
+    recent: &Recent,
     slots: &[u32],
     blocks: &[u32],
     assignment: &Assignment,
@@ -35,6 +38,8 @@ fn kept_status(
     number: u32,
 ) -> Status
     requires fit { IsFit store.now (2 * assignment.now.variables) }
+    requires small { length store.now ≤ 4294967295 }
+    requires recent { IsRecent store.now recent.now }
     requires few { length slots.now ≤ 4294967295 }
     requires long { length slots.now ≤ length units.now }
     requires consistent { IsConsistent assignment.now.trail }
@@ -44,7 +49,7 @@ fn kept_status(
     ensures { IsStatus (is_pending_on store.now kept.now assignment.now.trail number) (open_ones (has_literal assignment.now.trail) (clause_at store.now number)) result }
 {
     if kept[number as usize] {
-        status_at(store, slots, blocks, assignment, units, number)
+        status_at(store, recent, slots, blocks, assignment, units, number)
     } else {
         Status::Open
     }
@@ -54,6 +59,7 @@ fn kept_status(
 pub fn clean(
     store: &Store,
     kept: &[bool],
+    recent: &Recent,
     slots: &[u32],
     blocks: &[u32],
     assignment: &Assignment,
@@ -61,6 +67,8 @@ pub fn clean(
     pending: &mut Pending,
 ) -> Option<Lit>
     requires fit { IsFit store.now (2 * assignment.now.variables) }
+    requires small { length store.now ≤ 4294967295 }
+    requires recent { IsRecent store.now recent.now }
     requires kept { length kept.now ≡ length store.now }
     requires few { length slots.now ≤ 4294967295 }
     requires long { length slots.now ≤ length units.now }
@@ -79,7 +87,9 @@ pub fn clean(
         match pending.least() {
             None => return None,
             Some(number) => {
-                let status = kept_status(store, kept, slots, blocks, assignment, units, number);
+                let status = kept_status(
+                    store, kept, recent, slots, blocks, assignment, units, number,
+                );
                 if status.is_pending() {
                     return status.left();
                 }

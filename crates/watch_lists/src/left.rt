@@ -6,11 +6,13 @@ ghost use Rattle.cdcl_rules.specs.Pending.{open_ones, is_pending};
 ghost use Rattle.cdcl_rules.specs.State.{clause_at};
 ghost use Rattle.number_bits.specs.Bits.{IsLeast, words_have};
 ghost use Rattle.watch_lists.specs.Units.{IsUnit, IsUnitAt, IsConsistent, IsWithin};
+ghost use Rattle.watch_lists.specs.Recent.{IsRecent};
 ghost use Rattle.watch_lists.specs.Status.{IsStatus, IsFrontLeft};
 ghost use Rattle.watch_lists.specs.Pending.{is_free};
 ghost use Rattle.watch_lists.specs.Visit.{IsFit};
 
 use crate::pending::Pending;
+use crate::recent::Recent;
 use crate::scan::status_of;
 use crate::slots::find_slot;
 use crate::status::Status;
@@ -60,8 +62,32 @@ fn status_by(assignment: &Assignment, unit: u32) -> Status
     }
 }
 
-/// How a clause stands.
-pub fn status_at(
+/// How a clause of two literals stands.
+#[inline]
+fn status_two(assignment: &Assignment, one: u32, other: u32) -> Status
+    requires one { one < 2 * assignment.now.variables }
+    requires other { other < 2 * assignment.now.variables }
+    ensures as_is { IsStatus (is_pending (has_literal assignment.now.trail) (one ∷ other ∷ [])) (open_ones (has_literal assignment.now.trail) (one ∷ other ∷ [])) result }
+    ensures turned { IsStatus (is_pending (has_literal assignment.now.trail) (other ∷ one ∷ [])) (open_ones (has_literal assignment.now.trail) (other ∷ one ∷ [])) result }
+{
+    if assignment.is_true(one) || assignment.is_true(other) {
+        return Status::Open;
+    }
+    let one_false = assignment.is_false(one);
+    let other_false = assignment.is_false(other);
+    if one_false && other_false {
+        Status::Falsified
+    } else if one_false {
+        Status::Unit(Lit(other))
+    } else if other_false {
+        Status::Unit(Lit(one))
+    } else {
+        Status::Open
+    }
+}
+
+/// How a clause stands that is read, unless its slot tells its unit literal.
+fn status_read(
     store: &Store,
     slots: &[u32],
     blocks: &[u32],
@@ -81,6 +107,32 @@ pub fn status_at(
     match unit_by_slot(clause.len(), slots, blocks, units, number) {
         Some(unit) => status_by(assignment, unit),
         None => status_of(assignment, &clause),
+    }
+}
+
+/// How a clause stands.
+pub fn status_at(
+    store: &Store,
+    recent: &Recent,
+    slots: &[u32],
+    blocks: &[u32],
+    assignment: &Assignment,
+    units: &[u32],
+    number: u32,
+) -> Status
+    requires fit { IsFit store.now (2 * assignment.now.variables) }
+    requires small { length store.now ≤ 4294967295 }
+    requires recent { IsRecent store.now recent.now }
+    requires few { length slots.now ≤ 4294967295 }
+    requires long { length slots.now ≤ length units.now }
+    requires consistent { IsConsistent assignment.now.trail }
+    requires units_are { IsUnitAt store.now slots.now (has_literal assignment.now.trail) units.now number }
+    requires inside { number < length store.now }
+    ensures { IsStatus (is_pending (has_literal assignment.now.trail) (clause_at store.now number)) (open_ones (has_literal assignment.now.trail) (clause_at store.now number)) result }
+{
+    match recent.find(number) {
+        Some(entry) => status_two(assignment, entry.one, entry.pair.other),
+        None => status_read(store, slots, blocks, assignment, units, number),
     }
 }
 

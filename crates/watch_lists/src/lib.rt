@@ -9,7 +9,8 @@
 //! What is asked for is the least clause that is pending, since the next event is that of the first clause in order of number,
 //! and not that of the literal that became true first. So the clauses that may be pending are kept as a set of their numbers,
 //! with its least one beside it, in place of a queue of literals: one that enters may be less than all the others, and one that
-//! is no longer pending stays until it is the least.
+//! is no longer pending stays until it is the least. What the least leaves is kept beside them, since it was seen when it became
+//! the least, and of the clauses of two literals that were put in last both literals are.
 #![tactic(auto)]
 
 mod enter;
@@ -20,6 +21,7 @@ mod left;
 mod marks;
 mod pending;
 mod quiet;
+mod recent;
 mod room;
 mod scan;
 mod slots;

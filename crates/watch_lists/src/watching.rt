@@ -15,6 +15,7 @@ use crate::left::{left_least, status_at};
 use crate::marks::mark_pairs;
 use crate::pending::{Pending, no_pending};
 use crate::quiet::{no_quiet, raise};
+use crate::recent::Recent;
 use crate::slots::{begin_block, blocks_of};
 use crate::take_slot::take_slot;
 use crate::undo::{Back, refresh, take_back};
@@ -50,6 +51,7 @@ pub struct Watching {
     lists: Lists,
     quiet: Vec<bool>,
     front_left: Option<Lit>,
+    recent: Recent,
 }
 
 impl Model for Watching {
@@ -61,13 +63,14 @@ impl Model for Watching {
     ghost use Rattle.number_bits.specs.Bits.{words_have};
     ghost use Rattle.watch_lists.specs.Sound.{AreTablesSound};
     ghost use Rattle.watch_lists.specs.Status.{IsFrontLeft};
+    ghost use Rattle.watch_lists.specs.Recent.{IsRecent};
     ghost use Rattle.clause_base.specs.Clause.{has_literal};
 
     ghost Value = { WatchingView };
 
     ghost view = { λ w. record { variables = w.variables; clauses = w.store; kept = w.kept.items; entries = w.trail.entries } };
 
-    ghost invariant = { λ w. AreTablesSound w.variables w.trail.variables w.store w.kept.items (literals w.trail.entries) w.slots.items w.lists.watched.items w.lists.chains.heads.items w.lists.chains.nodes.items w.lists.pending w.quiet.items × IsPaired w.variables w.store w.slots.items w.pairs × HasUnits w.store (literals w.trail.entries) w.slots.items w.lists.pending w.lists.units.items × IsFrontLeft w.store (has_literal (literals w.trail.entries)) (words_have w.lists.pending) w.front_left };
+    ghost invariant = { λ w. AreTablesSound w.variables w.trail.variables w.store w.kept.items (literals w.trail.entries) w.slots.items w.lists.watched.items w.lists.chains.heads.items w.lists.chains.nodes.items w.lists.pending w.quiet.items × IsPaired w.variables w.store w.slots.items w.pairs × HasUnits w.store (literals w.trail.entries) w.slots.items w.lists.pending w.lists.units.items × IsFrontLeft w.store (has_literal (literals w.trail.entries)) (words_have w.lists.pending) w.front_left × IsRecent w.store w.recent };
 }
 
 /// Letting one go is one call, in which its parts go: whoever holds one proves one step.
@@ -84,6 +87,7 @@ impl Drop for Watching {
             lists: _,
             quiet: _,
             front_left: _,
+            recent: _,
         } = self;
     }
 }
@@ -100,6 +104,7 @@ impl Watching {
         let trail = Trail::new(alloc, variables)?;
         let pairs = PairIndex::new(alloc, formula)?;
         let quiet = no_quiet(alloc, variables)?;
+        let recent = Recent::new(alloc)?;
         let longs = count_longs(formula);
         let given = Given::new(alloc, &store, formula, longs, 2 * variables)?;
         let front_left = left_least(&store, &trail.assignment(), &given.lists.pending);
@@ -114,6 +119,7 @@ impl Watching {
             lists: given.lists,
             quiet,
             front_left,
+            recent,
         })
     }
 
@@ -169,6 +175,7 @@ impl Watching {
         self.front_left = clean(
             &self.store,
             self.kept.as_slice(),
+            &self.recent,
             self.slots.as_slice(),
             self.blocks.as_slice(),
             &assignment,
@@ -195,6 +202,7 @@ impl Watching {
             &self.pairs,
             &assignment,
             falsified.0,
+            &mut self.recent,
             &mut self.lists.pending,
         );
         let spare = 2 * self.variables;
@@ -209,6 +217,7 @@ impl Watching {
         self.front_left = clean(
             &self.store,
             self.kept.as_slice(),
+            &self.recent,
             self.slots.as_slice(),
             self.blocks.as_slice(),
             &assignment,
@@ -262,6 +271,7 @@ impl Watching {
         self.front_left = clean(
             &self.store,
             self.kept.as_slice(),
+            &self.recent,
             self.slots.as_slice(),
             self.blocks.as_slice(),
             &assignment,
@@ -281,6 +291,7 @@ impl Watching {
         let assignment = self.trail.assignment();
         status_at(
             &self.store,
+            &self.recent,
             self.slots.as_slice(),
             self.blocks.as_slice(),
             &assignment,

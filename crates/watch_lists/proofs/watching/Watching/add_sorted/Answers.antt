@@ -1,4 +1,5 @@
 use Rattle.std.proofs.Common.{arith, get_or, ◌≡◌, ◌*◌, ◌+◌, ◌<◌, ◌≤◌, ◌++◌, ◌∷◌, [], ℕ, List, ◌⊎◌, ◌∙◌, ap, Bool, true, length, sym, subst}
+use Rattle.std.proofs.lemmas.List.{length_push}
 use Rattle.clause_base.specs.Clause.{HasVariablesBelow, has_literal}
 use Rattle.number_bits.specs.Bits.{words_have}
 use Rattle.cdcl_trail.specs.Assignment.{AssignmentView, literals}
@@ -6,6 +7,7 @@ use Rattle.watch_lists.specs.Pending.{WatchingView, is_pending_on}
 use Rattle.watch_lists.specs.Visit.{IsFit, Grows, slot_clauses, slot_flags, slot_set}
 use Rattle.watch_lists.specs.Pairs.{IsPaired}
 use Rattle.watch_lists.specs.Sound.{IsFront, AreTablesSound}
+use Rattle.watch_lists.specs.Recent.{IsRecent}
 use Rattle.watch_lists.specs.Status.{IsFrontLeft}
 use Rattle.watch_lists.specs.Units.{IsUnit, AreUnits, IsWithin, IsConsistent, HasUnits}
 use Rattle.watch_lists.proofs.UnitsOfSlots.{units_add, within_add, distinct_add, has_units_wider, has_units_fewer}
@@ -16,6 +18,7 @@ use Rattle.watch_lists.proofs.Wider.{sound_wider, rest_wider}
 use Rattle.watch_lists.proofs.Enters.{pair_loose, below_by, short_by, complete_add}
 use Rattle.watch_lists.proofs.Sounds.{sound_add}
 use Rattle.watch_lists.proofs.Statuses.{front_left_same}
+use Rattle.watch_lists.proofs.Recents.{recent_more}
 use Rattle.watch_lists.proofs.watching.Watching.add_sorted.Goals as goal
 use Rattle.watch_lists.proofs.watching.Watching.add_sorted.Goals.{After-assignment-assignment, After-raise}
 
@@ -28,6 +31,7 @@ invariant_of-self-in_err-widen c =
       subst (λ (ss : List ℕ). IsPaired w.variables w.store ss w.pairs) (sym c.reserve-2.ensures.items) c.self.invariant.1,
       subst (λ (ss : List ℕ). HasUnits w.store (literals w.trail.entries) ss c.widen.new.self.pending c.widen.new.self.units.items) (sym c.reserve-2.ensures.items) (has_units_wider w.store (literals w.trail.entries) w.slots.items w.lists.pending w.lists.units.items c.widen.new.self.pending c.widen.new.self.units.items c.self.invariant.2 c.widen.ensures.wider.set c.widen.ensures.same_units c.widen.ensures.more_units),
       front_left_same w.store (has_literal (literals w.trail.entries)) (words_have w.lists.pending) (words_have c.widen.new.self.pending) w.front_left c.self.invariant.3 c.widen.ensures.wider.set,
+      c.self.invariant.4,
     )
 
 pub invariant_of-self-in_err-push : goal.invariant_of-self-in_err-push
@@ -40,6 +44,7 @@ invariant_of-self-in_err-push c =
       subst (λ (cs : List (List ℕ)). IsPaired w.variables cs c.reserve-2.new.self.items w.pairs) (sym c.in_err-push.ensures.err) (subst (λ (ss : List ℕ). IsPaired w.variables w.store ss w.pairs) (sym c.reserve-2.ensures.items) c.self.invariant.1),
       subst (λ (cs : List (List ℕ)). HasUnits cs (literals w.trail.entries) c.reserve-2.new.self.items c.widen.new.self.pending c.widen.new.self.units.items) (sym c.in_err-push.ensures.err) (subst (λ (ss : List ℕ). HasUnits w.store (literals w.trail.entries) ss c.widen.new.self.pending c.widen.new.self.units.items) (sym c.reserve-2.ensures.items) (has_units_wider w.store (literals w.trail.entries) w.slots.items w.lists.pending w.lists.units.items c.widen.new.self.pending c.widen.new.self.units.items c.self.invariant.2 c.widen.ensures.wider.set c.widen.ensures.same_units c.widen.ensures.more_units)),
       subst (λ (cs : List (List ℕ)). IsFrontLeft cs (has_literal (literals w.trail.entries)) (words_have c.widen.new.self.pending) w.front_left) (sym c.in_err-push.ensures.err) (front_left_same w.store (has_literal (literals w.trail.entries)) (words_have w.lists.pending) (words_have c.widen.new.self.pending) w.front_left c.self.invariant.3 c.widen.ensures.wider.set),
+      subst (λ (cs : List (List ℕ)). IsRecent cs w.recent) (sym c.in_err-push.ensures.err) c.self.invariant.4,
     )
 
 -- what held, of what the trail says
@@ -126,6 +131,19 @@ has_units c =
       consistent = old.consistent;
     }
 
+-- what is kept of clauses of two literals
+recent_added : (c : After-raise) → IsRecent c.push.new.self c.self.inside.recent
+recent_added c =
+    let w = c.self.inside in
+    subst (λ (cs : List (List ℕ)). IsRecent cs w.recent) (sym c.in_ok-push.ensures.ok) (recent_more w.store c.args.clause.now w.recent c.self.invariant.4)
+
+pub clean-self-inside-requires-clause-recent : goal.clean-self-inside-requires-clause-recent
+clean-self-inside-requires-clause-recent c = recent_added (goal.at.clean-self-inside-requires-clause-recent c).After-raise
+
+pub clean-self-inside-requires-clause-small : goal.clean-self-inside-requires-clause-small
+clean-self-inside-requires-clause-small c =
+    omega (arith, ap (λ (cs : List (List ℕ)). length cs) c.in_ok-push.ensures.ok, length_push c.self.inside.store c.args.clause.now, c.self.invariant.0.few)
+
 pub clean-self-inside-requires-clause-few : goal.clean-self-inside-requires-clause-few
 clean-self-inside-requires-clause-few c =
     omega (arith, fewer_slots (goal.at.clean-self-inside-requires-clause-few c).After-raise, c.self.invariant.0.slots_few, c.self.invariant.0.few, ap (λ (ss : List ℕ). length ss) c.as_slice-2.ensures.value)
@@ -181,4 +199,5 @@ invariant_of-self-2 c =
           (subst (λ (cs : List (List ℕ)). HasUnits cs c.assignment-assignment.result.trail c.take_slot.new.slots.items c.clean-self-inside.new.pending c.take_slot.new.lists.units.items) (sym c.in_ok-push.ensures.ok)
           (has_units_fewer (w.store ++ k ∷ []) c.assignment-assignment.result.trail c.take_slot.new.slots.items c.raise.new.pending c.clean-self-inside.new.pending c.take_slot.new.lists.units.items (has_units (goal.at.invariant_of-self-2 c).After-raise) c.clean-self-inside.ensures.fewer)),
       subst (λ (v : AssignmentView). IsFrontLeft c.push.new.self (has_literal v.trail) (words_have c.clean-self-inside.new.pending) c.clean-self-inside.result) c.assignment-assignment.ensures c.clean-self-inside.ensures.left,
+      recent_added (goal.at.invariant_of-self-2 c).After-raise,
     )

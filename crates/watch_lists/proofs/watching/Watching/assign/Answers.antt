@@ -165,4 +165,5 @@ invariant_of-self c =
         consistent = subst IsConsistent seen (consistent here);
       },
       subst (λ (ys : List ℕ). IsFrontLeft w.store (has_literal ys) (words_have c.clean-self-inside.new.pending) c.clean-self-inside.result) seen c.clean-self-inside.ensures.left,
+      c.mark_pairs.ensures.recent,
     )

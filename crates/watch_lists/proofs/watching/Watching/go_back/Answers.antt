@@ -48,6 +48,7 @@ invariant_of-self c =
       c.self.invariant.1,
       subst (λ (xs : List ℕ). HasUnits w.store xs w.slots.items w.lists.pending w.lists.units.items) (sym same) c.self.invariant.2,
       subst (λ (xs : List ℕ). IsFrontLeft w.store (has_literal xs) (words_have w.lists.pending) w.front_left) (sym same) c.self.invariant.3,
+      c.self.invariant.4,
     )
 
 pub refresh-self-inside-requires-clause-fit : goal.refresh-self-inside-requires-clause-fit
@@ -83,4 +84,5 @@ invariant_of-self-2 c =
       c.self.invariant.1,
       has_units_shorter w.store (literals w.trail.entries) w.slots.items w.lists.pending w.lists.units.items (length c.take_back.new.trail.entries) new c.refresh-self-inside.new.pending c.refresh-self-inside.new.units.items c.self.invariant.2 (taken at) c.refresh-self-inside.ensures.within units_are c.refresh-self-inside.ensures.long,
       subst (λ (xs : List ℕ). IsFrontLeft w.store (has_literal xs) (words_have c.refresh-self-inside.new.pending) c.refresh-self-inside.result) (told at) c.refresh-self-inside.ensures.left,
+      c.self.invariant.4,
     )

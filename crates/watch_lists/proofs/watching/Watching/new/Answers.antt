@@ -19,8 +19,8 @@ fit c = fit_given c.args.formula.now.variables c.args.formula.now.clauses c.vari
 fit_store : (c : After-count-count) (store : List (List ℕ)) → store ≡ c.args.formula.now.clauses → IsFit store (2 * c.variables-variables.result)
 fit_store c store e = subst (λ (n : ℕ). IsFit store (2 * n)) (sym c.variables-variables.ensures.value) (subst (λ (cs : List (List ℕ)). IsFit cs (2 * c.args.formula.now.variables)) (sym e) (fit c))
 
-pub new-requires-4-clause-fit : goal.new-requires-4-clause-fit
-new-requires-4-clause-fit c = fit_store (goal.at.new-requires-4-clause-fit c).After-count-count c.in_ok-store.store c.in_ok-store.ensures
+pub new-requires-5-clause-fit : goal.new-requires-5-clause-fit
+new-requires-5-clause-fit c = fit_store (goal.at.new-requires-5-clause-fit c).After-count-count c.in_ok-store.store c.in_ok-store.ensures
 
 pub invariant_of-result : goal.invariant_of-result
 invariant_of-result c =
@@ -39,6 +39,7 @@ invariant_of-result c =
       paired_given v store g.slots.items l.watched.items l.chains.heads.items l.chains.nodes.items l.pending l.units.items c.in_ok-pairs.pairs made index,
       has_units_given v store (literals c.in_ok-trail.trail.entries) g.slots.items l.watched.items l.chains.heads.items l.chains.nodes.items l.pending l.units.items trail made,
       subst (λ (t : AssignmentView). IsFrontLeft store (has_literal t.trail) (words_have l.pending) c.left_least-front_left.result) c.assignment.ensures c.left_least-front_left.ensures,
+      c.in_ok-recent.ensures store,
     )
 
 pub left_least-front_left-requires-clause-fit : goal.left_least-front_left-requires-clause-fit

@@ -51,4 +51,5 @@ invariant_of-self c =
         consistent = c.self.invariant.2.consistent;
       },
       subst (λ (t : AssignmentView). IsFrontLeft w.store (has_literal t.trail) (words_have c.clean-self-inside.new.pending) c.clean-self-inside.result) c.assignment-assignment.ensures c.clean-self-inside.ensures.left,
+      c.self.invariant.4,
     )
