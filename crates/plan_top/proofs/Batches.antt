@@ -14,7 +14,9 @@ use Rattle.plan_answers.specs.Limits.{most_of, most_bytes, file_at}
 use Rattle.plan_top.specs.Files.{FaultsFrom, IsTaken, IsTooLong, IsTakenOrLong, AreTakenOrLong}
 use Rattle.plan_answers.specs.Tasks.{grounded}
 use Rattle.plan_top.specs.Causes.{HasRead, ComesFor, stopped, ArePartsOf, Comes, unread, in_parts, is_answer}
-use Rattle.plan_top.specs.Parts.{IsBatch, IsShort, AnswersPart, AnswersBatch, EndsAlone, IsRunOf, IsSound, ArePrepared, AnswersRun, open_in, woven}
+use Rattle.plan_top.specs.Parts.{IsBatch, IsShort, AnswersPart, AnswersBatch, IsRunOf, IsPart, IsSound, ArePrepared, AnswersRun, open_in, woven}
+use Rattle.plan_top.specs.declared.parts.Part.{Part}
+use Rattle.plan_top.specs.declared.parts.Part.TheVariants as parts
 use Rattle.plan_top.specs.declared.parts.Run.{Run}
 use Rattle.plan_top.proofs.Complete.{batch_most}
 use Rattle.plan_top.proofs.Taking.{taken_fits}
@@ -118,25 +120,26 @@ module _ (told : List ℕ → Option (List ℕ)) (lacks : List ℕ → Bool) (ol
 
 -- ---- before the races
 
-pub more_ended : (domain : Option (List ℕ)) (problems : List (Option (List ℕ))) (ended : List (Option Ending)) (runs : List Run) (problem : Option (List ℕ)) (end : Ending) → ArePrepared domain problems ended runs
-    → EndsAlone domain problem end → ArePrepared domain (problems ++ problem ∷ []) (ended ++ Some end ∷ []) runs
-more_ended domain [] [] [] problem end are h = (h, tt)
-more_ended domain [] [] (r ∷ rs) problem end are h = absurd are
-more_ended domain [] (x ∷ xs) runs problem end are h = absurd are
-more_ended domain (p ∷ ps) [] runs problem end are h = absurd are
-more_ended domain (p ∷ ps) (Some e ∷ es) runs problem end are h = (are.0, more_ended domain ps es runs problem end are.1 h)
-more_ended domain (p ∷ ps) (None ∷ es) [] problem end are h = absurd are
-more_ended domain (p ∷ ps) (None ∷ es) (r ∷ rs) problem end are h = (are.0, more_ended domain ps es rs problem end are.1 h)
+-- the ending of a part, and its run
+abbrev pub ended_of : Part → Option Ending
+ended_of (parts.Ends end) = Some end
+ended_of (parts.Runs run) = None
 
-pub more_runs : (domain : Option (List ℕ)) (problems : List (Option (List ℕ))) (ended : List (Option Ending)) (runs : List Run) (problem : Option (List ℕ)) (run : Run) → ArePrepared domain problems ended runs
-    → IsRunOf domain problem run → ArePrepared domain (problems ++ problem ∷ []) (ended ++ None ∷ []) (runs ++ run ∷ [])
-more_runs domain [] [] [] problem run are h = (h, tt)
-more_runs domain [] [] (r ∷ rs) problem run are h = absurd are
-more_runs domain [] (x ∷ xs) runs problem run are h = absurd are
-more_runs domain (p ∷ ps) [] runs problem run are h = absurd are
-more_runs domain (p ∷ ps) (Some e ∷ es) runs problem run are h = (are.0, more_runs domain ps es runs problem run are.1 h)
-more_runs domain (p ∷ ps) (None ∷ es) [] problem run are h = absurd are
-more_runs domain (p ∷ ps) (None ∷ es) (r ∷ rs) problem run are h = (are.0, more_runs domain ps es rs problem run are.1 h)
+abbrev pub runs_of : Part → List Run
+runs_of (parts.Ends end) = []
+runs_of (parts.Runs run) = run ∷ []
+
+-- with the part of one more problem
+pub more_prepared : (domain : Option (List ℕ)) (problems : List (Option (List ℕ))) (ended : List (Option Ending)) (runs : List Run) (problem : Option (List ℕ)) (part : Part) → ArePrepared domain problems ended runs
+    → IsPart domain problem part → ArePrepared domain (problems ++ problem ∷ []) (ended ++ ended_of part ∷ []) (runs ++ runs_of part)
+more_prepared domain [] [] [] problem (parts.Ends end) are h = (h, tt)
+more_prepared domain [] [] [] problem (parts.Runs run) are h = (h, tt)
+more_prepared domain [] [] (r ∷ rs) problem part are h = absurd are
+more_prepared domain [] (x ∷ xs) runs problem part are h = absurd are
+more_prepared domain (p ∷ ps) [] runs problem part are h = absurd are
+more_prepared domain (p ∷ ps) (Some e ∷ es) runs problem part are h = (are.0, more_prepared domain ps es runs problem part are.1 h)
+more_prepared domain (p ∷ ps) (None ∷ es) [] problem part are h = absurd are
+more_prepared domain (p ∷ ps) (None ∷ es) (r ∷ rs) problem part are h = (are.0, more_prepared domain ps es rs problem part are.1 h)
 
 run_sound : (domain problem : Option (List ℕ)) (run : Run) → IsRunOf domain problem run → IsSound run
 run_sound None problem run h = absurd h

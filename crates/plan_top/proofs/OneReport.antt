@@ -1,5 +1,5 @@
 -- Runs on the same files by words that ask for one race have one ending.
-use Rattle.std.proofs.Common.{◌≡◌, ◌≤◌, ◌<◌, inl, inr, ℕ, ◌+◌, zero, suc, List, [], ◌∷◌, ◌++◌, length, Bool, Option, Some, None, refl, sym, ap, ap₂, subst, ◌∙◌, arith}
+use Rattle.std.proofs.Common.{◌≡◌, ◌≤◌, ◌<◌, inl, inr, ℕ, zero, suc, List, [], ◌∷◌, ◌++◌, length, Bool, Option, Some, None, refl, sym, ap, ap₂, subst, ◌∙◌, arith}
 use Rattle.std.specs.Prelude.{IfSome, ◌⊎◌, slice_get}
 use Rattle.std.specs.List.{AllZip}
 use Rattle.gt_core.specs.Task.{Task}
@@ -11,8 +11,6 @@ use Rattle.horizon_rates.specs.declared.rates.Rates.{Rates}
 use Rattle.horizon_rates.specs.declared.settings.Settings.{Settings}
 use Rattle.plan_endings.specs.declared.ending.File.{File}
 use Rattle.plan_endings.specs.declared.ending.File.TheVariants.{Domain, Problem}
-use Rattle.pd_model.specs.declared.parts.Parts.{Parts}
-use Rattle.grounding.specs.Grounded.{Grounded}
 use Rattle.race_end.specs.Ends.{EndView, end_view}
 use Rattle.race_end.specs.declared.end.RaceEnd.{RaceEnd}
 use Rattle.race.specs.Race as stage
@@ -20,7 +18,7 @@ use Rattle.plan_gen.specs.declared.Kind.{Kind as Generated}
 use Rattle.plan_gen.specs.Task.{domain_of, problem_of}
 use Rattle.plan_report.specs.Report.{report_of, summary_of}
 use Rattle.plan_report.specs.Laws.{IsSmall}
-use Rattle.plan_words.specs.Seen.{Seen, Numbers, NumbersAreSettings, numbers, plans, plans_by, generates, batches, files_of}
+use Rattle.plan_words.specs.Seen.{Seen, Numbers, NumbersAreSettings, numbers, plans, plans_by, generates, files_of}
 use Rattle.plan_words.specs.declared.request.Show.{Show}
 use Rattle.plan_words.specs.declared.request.Show.TheVariants as shows
 use Rattle.plan_endings.specs.declared.ending.Ending.{Ending}
@@ -31,7 +29,6 @@ use Rattle.gt_core.specs.Published.{IsPublished}
 use Rattle.certificates.specs.Known.{IsOrdered, form_of, formula_at}
 use Rattle.plan_top.specs.Laws.{Laws}
 use Rattle.plan_words.specs.declared.request.Stepping.{Stepping}
-use Rattle.plan_words.specs.declared.request.Turns.{Turns}
 use Rattle.plan_words.specs.declared.request.Stepping.TheVariants.{Exists}
 use Rattle.plan_answers.specs.Stepping.{places_by, is_plan_by}
 use Rattle.plan_answers.specs.Raced.{input_of, IsTooLarge, ComesTo, OnceRaced, too_large, ended, outcome_of}

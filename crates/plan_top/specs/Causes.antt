@@ -1,6 +1,6 @@
 -- When each ending of a run comes.
 use Rattle.std.specs.List.{AllZip}
-use Rattle.std.specs.Prelude.{◌≡◌, ◌⊎◌, ℕ, List, [], ◌∷◌, Bool, true, false, IsTrue, Option, Some, None}
+use Rattle.std.specs.Prelude.{◌≡◌, ℕ, List, [], ◌∷◌, Bool, true, false, IsTrue, Option, Some, None}
 use Rattle.plan_words.specs.Seen.{Seen, Numbers, numbers, plans, plans_by, checks, grounds, orders, generates, proves, verifies, batches, files_of}
 use Rattle.plan_words.specs.declared.request.Turns.{Turns}
 use Rattle.plan_words.specs.Requested.{requested}

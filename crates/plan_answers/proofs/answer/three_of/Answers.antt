@@ -1,4 +1,3 @@
-use Rattle.std.proofs.Common.{◌≡◌, ◌∷◌, []}
 use Rattle.plan_answers.proofs.Answered.{three_are}
 use Rattle.plan_answers.proofs.answer.three_of.Goals as goal
 

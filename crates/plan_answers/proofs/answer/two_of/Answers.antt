@@ -1,4 +1,3 @@
-use Rattle.std.proofs.Common.{◌≡◌, ◌∷◌, []}
 use Rattle.plan_answers.proofs.Answered.{two_are}
 use Rattle.plan_answers.proofs.answer.two_of.Goals as goal
 
