@@ -70,3 +70,12 @@ number_back n rest h = (back_of n rest h).number
 
 pub after_back : (n : ℕ) (rest : List ℕ) → n < 2 ^ 64 → after_number (bytes_of n ++ rest) ≡ rest
 after_back n rest h = (back_of n rest h).after
+
+-- a number takes a byte at least
+pub some_bytes : (n : ℕ) → 1 ≤ length (bytes_of n)
+unfolding bytes_of
+some_bytes n = by (nat_lt n 128)
+  where
+    by : (b : Bool) → 1 ≤ length (if b then n ∷ [] else (n % 128 + 128) ∷ bytes_by 8 (n / 128))
+    by true = omega arith
+    by false = omega arith

@@ -1,6 +1,7 @@
 -- The bytes of numbers, and the numbers back from them.
-use Rattle.std.proofs.Common.{arith, ◌≡◌, ℕ, zero, suc, ◌+◌, ◌-◌, ◌*◌, ◌/◌, ◌%◌, ◌^◌, ◌<◌, ◌≤◌, ◌==◌, List, [], ◌∷◌, ◌++◌, length, append_assoc, All, Bool, true, false, if◌then◌else◌, refl, ap, sym, subst, ◌∙◌, inl, inr}
+use Rattle.std.proofs.Common.{arith, ◌≡◌, ℕ, zero, suc, ◌+◌, ◌-◌, ◌*◌, ◌/◌, ◌%◌, ◌^◌, ◌<◌, ◌≤◌, ◌==◌, List, [], ◌∷◌, ◌++◌, length, take, append_assoc, All, Bool, true, false, if◌then◌else◌, refl, ap, sym, subst, ◌∙◌, inl, inr}
 use Rattle.std.specs.Prelude.{nat_le}
+use Rattle.std.proofs.lemmas.List.{take-take, length-take}
 use Rattle.std.proofs.lemmas.Bool.Decides.{nat_tests}
 use Rattle.number_bytes.specs.Number.{bytes_of, number_of, after_number}
 use Rattle.number_bytes.specs.Numbers.{step_to, step_from, steps_of, numbers_of, after_numbers}
@@ -45,3 +46,10 @@ after_numbers_back last (n ∷ numbers) rest l a =
     ap (after_numbers (suc (length numbers))) (append_assoc (bytes_of (step_to last n)) (steps_of n numbers) rest)
     ∙ ap (after_numbers (length numbers)) (after_back (step_to last n) more (step_fits last n l here))
     ∙ after_numbers_back n numbers rest here (All_rest n numbers a)
+
+-- what stood first still does, after more was written
+pub first_still : (old now pushed : List ℕ) → take (length old) now ≡ old → take (length now) pushed ≡ now → take (length old) pushed ≡ old
+first_still old now pushed n p =
+    let long = ap length n in
+    let fewer : length old ≤ length now = omega (arith, long, length-take (length old) now) in
+    sym (take-take (length old) (length now) pushed fewer) ∙ ap (take (length old)) p ∙ n

@@ -35,6 +35,17 @@ impl<'a> Numbers<'a> {
         }
     }
 
+    /// The same numbers, to be taken out on their own.
+    pub fn copy(&self) -> Numbers<'a>
+        ensures { result ≡ self.now }
+    {
+        Numbers {
+            bytes: self.bytes,
+            left: self.left,
+            last: self.last,
+        }
+    }
+
     /// How many numbers are left.
     pub fn len(&self) -> usize
         ensures { result ≡ length self.now }

@@ -1,16 +1,10 @@
 use Rattle.std.proofs.Common.{arith, ◌≡◌, ◌∙◌, ◌++◌, ◌<◌, ◌≤◌, ◌^◌, ◌+◌, ap, sym, List, ℕ, All, length, take, drop, get_or, append_assoc}
-use Rattle.std.proofs.lemmas.List.{take-take, length-take, drop_more}
+use Rattle.std.proofs.lemmas.List.{drop_more}
 use Rattle.std.proofs.lemmas.List.Elements.{All-more}
 use Rattle.number_bytes.specs.Number.{bytes_of}
 use Rattle.number_bytes.specs.Numbers.{step_to, steps_of}
+use Rattle.number_bytes.proofs.NumbersLaws.{first_still}
 use Rattle.number_bytes.proofs.numbers.put_numbers.Goals as goal
-
--- what stood first still does
-first_still : (old now pushed : List ℕ) → take (length old) now ≡ old → take (length now) pushed ≡ now → take (length old) pushed ≡ old
-first_still old now pushed n p =
-    let long = ap length n in
-    let fewer : length old ≤ length now = omega (arith, long, length-take (length old) now) in
-    sym (take-take (length old) (length now) pushed fewer) ∙ ap (take (length old)) p ∙ n
 
 pub loop-number-preserved : goal.loop-number-preserved
 loop-number-preserved c =
