@@ -26,7 +26,7 @@ last_of before entry (next ∷ log) =
 
 -- it says whether a log ends with the empty clause
 pub ends_is : (log : List Entry) → IsTrue (ends_by false log) ↔ EndsEmpty log
-ends_is [] = (λ h. h, λ h. h)
+ends_is [] = (λ h. cc, λ h. absurd h)
 ends_is (entry ∷ log) =
     let r = last_of false entry log in (
       λ h. subst (λ (o : Option Entry). IsSomeAnd o (λ last. IsTrue (learns_empty last))) (sym r.at) (subst (λ (b : Bool). IsTrue b) r.tells h),
