@@ -12,7 +12,9 @@ fn row_is_small(row: &Row<'_>)
     ensures { AreSmall (row_numbers row.now) }
 {
     let mut rest = row.copy();
-    while let Some(_number) = rest.next() {}
+    while let Some(number) = rest.next() {
+        let _number = number;
+    }
 }
 
 // An entry has a line.

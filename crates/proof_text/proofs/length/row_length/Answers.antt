@@ -9,7 +9,9 @@ pub overflow_add-digits : goal.overflow_add-digits
 overflow_add-digits c = record { fits = omega (arith, c.digits.ensures.few) }
 
 pub loop-number-init : goal.loop-number-init
-loop-number-init c = record { total = ap (λ ns. saturated (length (numbered ns []))) c.copy-rest.ensures; small = omega arith }
+loop-number-init c =
+    let long = ap (λ ns. length (numbered ns [])) c.copy-rest.ensures in
+    record { total = omega (arith, long); small = omega arith }
 
 pub loop-number-preserved : goal.loop-number-preserved
 loop-number-preserved c = record {

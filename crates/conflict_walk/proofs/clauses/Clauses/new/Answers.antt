@@ -1,4 +1,4 @@
-use Rattle.std.proofs.Common.{arith, ◌≡◌, ◌∙◌, ◌+◌, ◌++◌, [], List, ap, sym, subst, length}
+use Rattle.std.proofs.Common.{arith, ◌≡◌, ◌∙◌, ◌+◌, ◌++◌, [], List, ap, sym, subst, length, replicate, true, rules}
 use Rattle.std.proofs.lemmas.List.{length-replicate}
 use Rattle.clause_base.specs.Derivation.{clauses_of}
 use Rattle.clause_base.specs.declared.log.Entry.{Entry}
@@ -11,8 +11,9 @@ pub invariant_of-result : goal.invariant_of-result
 invariant_of-result c =
     let f = c.args.formula in
     let kept = c.in_ok-kept.kept.items in
-    let flags = ap length c.in_ok-kept.ensures.items ∙ length-replicate c.count.result _ ∙ c.count.ensures.value in
-    let none : IsLogged f [] kept = record { flags = omega (arith, flags); few = omega arith } in (
+    let flags : kept ≡ replicate c.count.result true = search rules in
+    let long = ap length flags ∙ length-replicate c.count.result true ∙ c.count.ensures.value in
+    let none : IsLogged f [] kept = record { flags = omega (arith, long); few = omega arith } in (
       subst (λ (l : List Entry). IsLogged f l kept) (sym c.new.ensures) none,
       c.new-2.ensures.items ∙ sym (long_none (length f.clauses) f.clauses kept (omega arith)) ∙ ap (λ (l : List Entry). long_ones (length f.clauses) (f.clauses ++ clauses_of l) kept) (sym c.new.ensures),
     )
