@@ -16,7 +16,8 @@ use Rattle.cdcl_rules.specs.Run.{apply, trail_after, is_restart}
 use Rattle.cdcl_rules.specs.Trail.{IsTrail}
 use Rattle.cdcl_rules.proofs.Trails.{trail_apart, is_on-reverse, backtracked_is}
 use Rattle.cdcl_core.specs.Search.{SearchView}
-use Rattle.cdcl_core.specs.Told.{literals_on, IsToldUpTo}
+use Rattle.cdcl_trail.specs.Assignment.{literals}
+use Rattle.cdcl_core.specs.Told.{IsToldUpTo}
 
 -- no literal of a variable is on a trail together with its opposite
 abbrev IsApart : List Assigned → ℕ → Type 0
@@ -28,7 +29,7 @@ later true false e = refl
 later false c e = e
 
 -- what the first literal of a variable says is what the trail says of it
-value_same : (trail : List Assigned) (v : ℕ) → IsApart trail v → told_value (literals_on trail) v ≡ value_of trail v
+value_same : (trail : List Assigned) (v : ℕ) → IsApart trail v → told_value (literals trail) v ≡ value_of trail v
 value_same [] v h = refl
 value_same (a ∷ trail) v h =
     by (cases_eq (a.literal / 2) v) (cases_eq (a.literal % 2) 0) (value_same trail v (λ e f. h (later (a.literal == 2 * v) (is_on trail (2 * v)) e) (later (a.literal == 2 * v + 1) (is_on trail (2 * v + 1)) f)))
@@ -37,7 +38,7 @@ value_same (a ∷ trail) v h =
     odd true e q = let f : (a.literal == 2 * v + 1) ≡ true = grind (arith, nat_tests) in absurd (h (later (a.literal == 2 * v) (is_on trail (2 * v)) e) (rw f refl))
     odd false e q = e
 
-    by : (a.literal / 2 ≡ v) ⊎ (a.literal / 2 ≡ v → ⊥) → (a.literal % 2 ≡ 0) ⊎ (a.literal % 2 ≡ 0 → ⊥) → told_value (literals_on trail) v ≡ value_of trail v → told_value (literals_on (a ∷ trail)) v ≡ value_of (a ∷ trail) v
+    by : (a.literal / 2 ≡ v) ⊎ (a.literal / 2 ≡ v → ⊥) → (a.literal % 2 ≡ 0) ⊎ (a.literal % 2 ≡ 0 → ⊥) → told_value (literals trail) v ≡ value_of trail v → told_value (literals (a ∷ trail)) v ≡ value_of (a ∷ trail) v
     by (inl q) (inl e) r =
         let x : a.literal ≡ 2 * v = omega (arith, q, e) in
         let s : (a.literal / 2 == v) ≡ true = grind (arith, nat_tests) in
@@ -58,12 +59,12 @@ value_same (a ∷ trail) v h =
         let w : (a.literal == 2 * v + 1) ≡ false = grind (arith, nat_tests) in
         rw (s, u, w) r
 
-from_same : (trail : List Assigned) (v n : ℕ) → ((w : ℕ) → told_value (literals_on trail) w ≡ value_of trail w) → told_from (literals_on trail) v n ≡ values_from trail v n
+from_same : (trail : List Assigned) (v n : ℕ) → ((w : ℕ) → told_value (literals trail) w ≡ value_of trail w) → told_from (literals trail) v n ≡ values_from trail v n
 from_same trail v zero h = refl
 from_same trail v (suc n) h = let here = h v in let rest = from_same trail (v + 1) n h in cc
 
 -- so are the values of all variables
-pub told_are_values : (named : ℕ → Option (List ℕ)) (n : ℕ) (trail : List Assigned) → IsTrail named (reverse trail) → told_values n (literals_on trail) ≡ values_of n trail
+pub told_are_values : (named : ℕ → Option (List ℕ)) (n : ℕ) (trail : List Assigned) → IsTrail named (reverse trail) → told_values n (literals trail) ≡ values_of n trail
 told_are_values named n trail t = from_same trail 0 n (λ v. value_same trail v (apart v))
   where
     apart : (v : ℕ) → IsApart trail v
@@ -81,7 +82,7 @@ grown knows kept trail rest i =
       told = i.told;
       known = i.known;
       within = omega (arith, w, long);
-      same = i.same ∙ sym (ap (take kept) (map-append (λ (a : Assigned). a.literal) trail rest) ∙ take-append-le kept (literals_on trail) (literals_on rest) (let l = length-map trail (λ (a : Assigned). a.literal) in omega (arith, l, w)));
+      same = i.same ∙ sym (ap (take kept) (map-append (λ (a : Assigned). a.literal) trail rest) ∙ take-append-le kept (literals trail) (literals rest) (let l = length-map trail (λ (a : Assigned). a.literal) in omega (arith, l, w)));
     })
 
 -- and as it goes back
@@ -95,9 +96,9 @@ shrunk knows kept trail rest i =
       same =
           sym (take-take (min kept (length trail)) kept i.told (omega arith))
           ∙ ap (take (min kept (length trail))) i.same
-          ∙ take-take (min kept (length trail)) kept (literals_on (trail ++ rest)) (omega arith)
+          ∙ take-take (min kept (length trail)) kept (literals (trail ++ rest)) (omega arith)
           ∙ ap (take (min kept (length trail))) (map-append (λ (a : Assigned). a.literal) trail rest)
-          ∙ take-append-le (min kept (length trail)) (literals_on trail) (literals_on rest) (let l = length-map trail (λ (a : Assigned). a.literal) in omega (arith, l));
+          ∙ take-append-le (min kept (length trail)) (literals trail) (literals rest) (let l = length-map trail (λ (a : Assigned). a.literal) in omega (arith, l));
     }
 
 same_length : (knows : List ℕ → Type 0) (kept : ℕ) (trail : List Assigned) → IsToldUpTo knows kept trail → IsToldUpTo knows (min kept (length trail)) trail
@@ -126,23 +127,23 @@ told_on knows kept now e old new (Ok x) ok err m h sane =
 told_on knows kept now e old new (Err x) ok err m h sane = let z : true ≡ false = sym err ∙ sane in cc
 
 -- one more literal on a trail
-pub next_told : (trail : List Assigned) (i : ℕ) (a : Assigned) → i < length trail → a ≡ get_or trail i a → take (i + 1) (literals_on trail) ≡ take i (literals_on trail) ++ a.literal ∷ []
+pub next_told : (trail : List Assigned) (i : ℕ) (a : Assigned) → i < length trail → a ≡ get_or trail i a → take (i + 1) (literals trail) ≡ take i (literals trail) ++ a.literal ∷ []
 next_told trail i a h e =
     let s : i + 1 ≡ suc i = omega arith in
     let long = length-map trail (λ (b : Assigned). b.literal) in
-    let at : get_or (literals_on trail) i a.literal ≡ a.literal = get_or-map (λ (b : Assigned). b.literal) trail i a a.literal h ∙ ap (λ (b : Assigned). b.literal) (sym e) in
-    ap (λ (k : ℕ). take k (literals_on trail)) s ∙ take-suc (literals_on trail) i a.literal (omega (arith, long, h)) ∙ ap (λ (x : ℕ). take i (literals_on trail) ++ x ∷ []) at
+    let at : get_or (literals trail) i a.literal ≡ a.literal = get_or-map (λ (b : Assigned). b.literal) trail i a a.literal h ∙ ap (λ (b : Assigned). b.literal) (sym e) in
+    ap (λ (k : ℕ). take k (literals trail)) s ∙ take-suc (literals trail) i a.literal (omega (arith, long, h)) ∙ ap (λ (x : ℕ). take i (literals trail) ++ x ∷ []) at
 
 -- all of them were told
-pub told_all : (knows : List ℕ → Type 0) (n i : ℕ) (trail : List Assigned) → n ≡ length trail → n ≤ i → knows (take i (literals_on trail)) → knows (literals_on trail)
-told_all knows n i trail e h k = let long = length-map trail (λ (b : Assigned). b.literal) in subst knows (take_all i (literals_on trail) (omega (arith, long, e, h))) k
+pub told_all : (knows : List ℕ → Type 0) (n i : ℕ) (trail : List Assigned) → n ≡ length trail → n ≤ i → knows (take i (literals trail)) → knows (literals trail)
+told_all knows n i trail e h k = let long = length-map trail (λ (b : Assigned). b.literal) in subst knows (take_all i (literals trail) (omega (arith, long, e, h))) k
 
-pub told_now : (knows : List ℕ → Type 0) (kept : ℕ) (trail : List Assigned) → knows (literals_on trail) → kept ≡ length trail → IsToldUpTo knows kept trail
-told_now knows kept trail k e = record { told = literals_on trail; known = k; within = omega (arith, e); same = refl }
+pub told_now : (knows : List ℕ → Type 0) (kept : ℕ) (trail : List Assigned) → knows (literals trail) → kept ≡ length trail → IsToldUpTo knows kept trail
+told_now knows kept trail k e = record { told = literals trail; known = k; within = omega (arith, e); same = refl }
 
 -- a literal on a trail is of one of the variables, and before it fewer were told than there are
 pub below_at : (n i : ℕ) (trail : List Assigned) (a : Assigned) → i < length trail → a ≡ get_or trail i a → All (λ b. b.literal / 2 < n) trail → a.literal / 2 < n
 below_at n i trail a h e all = subst (λ (b : Assigned). b.literal / 2 < n) (sym e) (All-get_or (λ (b : Assigned). b.literal / 2 < n) trail i a h all)
 
-pub few_told : (n i : ℕ) (trail : List Assigned) → i < length trail → length trail ≤ n → length (take i (literals_on trail)) < n
-few_told n i trail h few = let long = length-map trail (λ (b : Assigned). b.literal) in let front = length-take i (literals_on trail) in omega (arith, long, front, h, few)
+pub few_told : (n i : ℕ) (trail : List Assigned) → i < length trail → length trail ≤ n → length (take i (literals trail)) < n
+few_told n i trail h few = let long = length-map trail (λ (b : Assigned). b.literal) in let front = length-take i (literals trail) in omega (arith, long, front, h, few)

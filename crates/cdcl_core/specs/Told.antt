@@ -1,14 +1,11 @@
 -- What the chooser of a solver was told.
-use Rattle.std.specs.Prelude.{◌≡◌, ℕ, ◌≤◌, List, length, take, map}
+use Rattle.std.specs.Prelude.{◌≡◌, ℕ, ◌≤◌, List, length, take}
 use Rattle.cdcl_rules.specs.declared.trail.Assigned.{Assigned}
-
--- the literals on a trail, oldest first
-abbrev pub literals_on : List Assigned → List ℕ
-literals_on trail = map (λ a. a.literal) trail
+use Rattle.cdcl_trail.specs.Assignment.{literals}
 
 -- up to a length the literals that were told are those on a trail
 pub record IsToldUpTo (knows : List ℕ → Type 0) (kept : ℕ) (trail : List Assigned) : Type 0 where
   pub told : List ℕ
   pub known : knows told
   pub within : kept ≤ length trail
-  pub same : take kept told ≡ take kept (literals_on trail)
+  pub same : take kept told ≡ take kept (literals trail)

@@ -22,8 +22,7 @@ use clause_base::values::Values;
 use clause_log::log::Log;
 use conflict_walk::backjump::backjump_level;
 use conflict_walk::clauses::Clauses;
-use conflict_walk::learn::{LearnedClause, learn};
-use conflict_walk::resolvent::Resolvent;
+use conflict_walk::learn::{Analysis, LearnedClause};
 use std::alloc::Global;
 use std::marker::Model;
 use watch_lists::watching::Watching;
@@ -36,7 +35,7 @@ pub struct Search {
     alloc: Global,
     clauses: Clauses,
     watching: Watching,
-    resolvent: Resolvent,
+    analysis: Analysis,
     standing: Standing,
     spoilt: bool,
 }
@@ -48,7 +47,7 @@ impl Model for Search {
 
     ghost view = { λ s. record { formula = s.clauses.formula; state = state_of s.clauses s.watching.entries s.standing; spoilt = s.spoilt } };
 
-    ghost invariant = { λ s. IsKept s.clauses s.watching s.resolvent s.standing s.spoilt };
+    ghost invariant = { λ s. IsKept s.clauses s.watching s.analysis s.standing s.spoilt };
 }
 
 /// Letting one go is one call, in which its parts go: whoever holds one proves one step.
@@ -58,7 +57,7 @@ impl Drop for Search {
             alloc: _,
             clauses: _,
             watching: _,
-            resolvent: _,
+            analysis: _,
             standing: _,
             spoilt: _,
         } = self;
@@ -75,7 +74,7 @@ impl Search {
         Ok(Search {
             alloc,
             watching: Watching::new(alloc, &formula)?,
-            resolvent: Resolvent::new(alloc, variables)?,
+            analysis: Analysis::new(alloc, variables)?,
             standing: Standing::Going,
             spoilt: false,
             clauses: Clauses::new(alloc, formula)?,
@@ -175,13 +174,9 @@ impl Search {
         ensures err { OnErr result (self.new ≡ record self.old { spoilt = true }) }
     {
         self.spoilt = true;
-        let learned = learn(
-            self.alloc,
-            &mut self.resolvent,
-            &self.clauses,
-            self.watching.trail(),
-            number,
-        )?;
+        let learned = self
+            .analysis
+            .learn(self.alloc, &self.clauses, self.watching.trail(), number)?;
         self.spoilt = false;
         Ok(learned)
     }

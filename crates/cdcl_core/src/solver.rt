@@ -9,7 +9,8 @@ ghost use Rattle.cdcl_laws.specs.Sound.{IsSound, IsSolution, made_true};
 ghost use Rattle.cdcl_laws.specs.Laws.{AddsUp, SettledStays, ComesToRestAlways, Grants};
 ghost use Rattle.cdcl_core.specs.Search.{SolverView, IsNextEvent, GoesOn};
 ghost use Rattle.cdcl_core.specs.Between.{IsShortBetween};
-ghost use Rattle.cdcl_core.specs.Told.{IsToldUpTo, literals_on};
+ghost use Rattle.cdcl_trail.specs.Assignment.{literals};
+ghost use Rattle.cdcl_core.specs.Told.{IsToldUpTo};
 
 use crate::search::Search;
 use cdcl_laws::law::runs_are_sound;
@@ -50,7 +51,7 @@ impl<C: Chooser> Model for Solver<C> {
 fn tell<C: Chooser>(chooser: &C, told: &mut C::Told, kept: usize, search: &Search)
     requires fits { C.fits chooser.now search.now.formula.variables }
     requires told { IsToldUpTo (C.knows chooser.now told.old) kept search.now.state.trail }
-    ensures { C.knows chooser.now told.new (literals_on search.now.state.trail) }
+    ensures { C.knows chooser.now told.new (literals search.now.state.trail) }
 {
     chooser.untell(told, kept);
     let entries = search.entries();

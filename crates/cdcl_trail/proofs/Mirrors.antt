@@ -3,7 +3,7 @@ use Rattle.std.specs.List.{slice_get, AllByRecursion}
 use Rattle.std.proofs.Math.Nat.{eq-or-lt_of_le}
 use Rattle.std.proofs.lemmas.List.{reverse-append, length-reverse, get_or_default, length-map, length_push, map_push}
 use Rattle.std.proofs.lemmas.List.Elements.{All-push, All-from_recursion, recursion_from_All}
-use Rattle.std.proofs.lemmas.Bool.{or_left}
+use Rattle.std.proofs.lemmas.Bool.{or_left, cases_lt}
 use Rattle.std.proofs.lemmas.Bool.Decides.{nat_tests}
 use Rattle.cdcl_rules.specs.declared.trail.Assigned.{Assigned}
 use Rattle.clause_base.specs.Choice.{Known}
@@ -59,7 +59,7 @@ off_past n es b l h = by (is_on es l) refl
     by true e = let k = on_below n es b l e in absurd (omega (arith, k, h))
     by false e = e
 
-pub none_past : (n : ℕ) (es : List Assigned) (vs : Known) (ls : List ℕ) (level v : ℕ) → IsMirrored n es vs ls level → n ≤ v → value_of es v ≡ None
+none_past : (n : ℕ) (es : List Assigned) (vs : Known) (ls : List ℕ) (level v : ℕ) → IsMirrored n es vs ls level → n ≤ v → value_of es v ≡ None
 none_past n es vs ls level v m h =
     ap (λ (s : Bool). if s then Some true else if is_on es (2 * v + 1) then Some false else None) (off_past n es m.below (2 * v) (omega (arith, h)))
     ∙ ap (λ (s : Bool). if s then Some false else None) (off_past n es m.below (2 * v + 1) (omega (arith, h)))
@@ -294,9 +294,17 @@ last_fits n xs a vs ls level m =
     omega (arith, h, values_len n (xs ++ a ∷ []) vs ls level m)
 
 -- what the table of values has is what the trail says
-pub value_got : (n : ℕ) (es : List Assigned) (vs : Known) (ls : List ℕ) (level v : ℕ) (o : Option Bool) → IsMirrored n es vs ls level → slice_get vs v ≡ Some o → value_of es v ≡ o
+value_got : (n : ℕ) (es : List Assigned) (vs : Known) (ls : List ℕ) (level v : ℕ) (o : Option Bool) → IsMirrored n es vs ls level → slice_get vs v ≡ Some o → value_of es v ≡ o
 value_got n es vs ls level v o m e =
     let h = values_from-at es 0 n v o (ap (λ (xs : Known). slice_get xs v) (sym m.values_are) ∙ e) in rw zero-add at h.1
+
+-- of any number, past the variables too
+pub value_read : (n : ℕ) (es : List Assigned) (vs : Known) (ls : List ℕ) (level v : ℕ) (o : Option Bool) → IsMirrored n es vs ls level → (v < length vs → slice_get vs v ≡ Some o) → (length vs ≤ v → o ≡ None) → o ≡ value_of es v
+value_read n es vs ls level v o m within past = by (cases_lt v (length vs))
+  where
+    by : (v < length vs) ⊎ (length vs ≤ v) → o ≡ value_of es v
+    by (inl h) = sym (value_got n es vs ls level v o m (within h))
+    by (inr h) = past h ∙ sym (none_past n es vs ls level v m (omega (arith, values_len n es vs ls level m, h)))
 
 abbrev pub no_value : Option Bool
 no_value = None

@@ -100,9 +100,6 @@ impl Trail {
         ensures value { result ≡ value_of self.now.entries v }
         ensures past { self.now.variables ≤ v → result ≡ None }
     {
-        if v >= self.variables {
-            return None;
-        }
         self.values.get(v)
     }
 

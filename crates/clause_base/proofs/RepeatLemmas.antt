@@ -216,11 +216,11 @@ module _ (r : Repeats) (number count : ℕ) where
 
 -- What the calls show of a value by its fields.
 
-pub steps_value : (r now : Repeats) (k : ℕ) → r ≡ now → k ≡ length r.step → r.horizon * k ≡ length (all_steps now)
-steps_value r now k v e = ap (λ (x : ℕ). r.horizon * x) e ∙ sym (length_steps r) ∙ ap (λ (x : Repeats). length (all_steps x)) v
+pub steps_value : (r now : Repeats) (k : ℕ) → r ≡ now → k ≡ r.horizon * length r.step → k ≡ length (all_steps now)
+steps_value r now k v e = e ∙ sym (length_steps r) ∙ ap (λ (x : Repeats). length (all_steps x)) v
 
-pub count_value : (r now : Repeats) (a b : ℕ) → r ≡ now → a ≡ length r.step → b ≡ length r.time → r.horizon * a + (r.horizon + 1) * b ≡ length (repeated now)
-count_value r now a b v e f = rw (e, f) (sym (length_repeated r) ∙ ap (λ (x : Repeats). length (repeated x)) v)
+pub count_value : (r now : Repeats) (k : ℕ) → r ≡ now → k ≡ r.horizon * length r.step + (r.horizon + 1) * length r.time → k ≡ length (repeated now)
+count_value r now k v e = e ∙ sym (length_repeated r) ∙ ap (λ (x : Repeats). length (repeated x)) v
 
 pub lawful_now : (r now : Repeats) → r ≡ now → IsRepeatable r → All IsClause r.step → All IsClause r.time → All IsClause (repeated now)
 lawful_now r now v is a b = subst (λ (x : Repeats). All IsClause (repeated x)) v (repeated_lawful r is a b)
@@ -229,8 +229,8 @@ pub below_now : (r now : Repeats) → r ≡ now → IsRepeatable r → All IsCla
 below_now r now v is a b = subst (λ (x : Repeats). All (HasVariablesBelow (variables_of x)) (repeated x)) v (repeated_below r is a b)
 
 -- the numbers of a step fit
-pub step_numbers : (r now : Repeats) (number count : ℕ) → r ≡ now → IsRepeatable r → number < now.horizon * length now.step → count ≡ length r.step → (number / count < r.horizon) × (number / count * (2 * r.width) ≤ 4294967294) × (r.horizon * r.width + number / count * r.facts ≤ 2147483647)
-step_numbers r now number count v is lt e =
+pub step_numbers : (r now : Repeats) (number count first : ℕ) → r ≡ now → IsRepeatable r → number < now.horizon * length now.step → count ≡ length r.step → first ≡ r.horizon * r.width → (number / count < r.horizon) × (number / count * (2 * r.width) ≤ 4294967294) × (first + number / count * r.facts ≤ 2147483647)
+step_numbers r now number count first v is lt e f =
     let here : number < r.horizon * length r.step = subst (λ (x : Repeats). number < x.horizon * length x.step) (sym v) lt in
     let p = part_of number r.horizon count (subst (λ (s : ℕ). number < r.horizon * s) (sym e) here) in
     let small = is.small in
@@ -239,8 +239,8 @@ step_numbers r now number count v is lt e =
     let b = mul-le-mul_right r.facts q in
     (p.1, omega arith, omega arith)
 
-pub time_numbers : (r now : Repeats) (number count : ℕ) → r ≡ now → IsRepeatable r → number < (now.horizon + 1) * length now.time → count ≡ length r.time → (number / count < r.horizon + 1) × (r.horizon * r.width + number / count * r.facts ≤ 2147483647)
-time_numbers r now number count v is lt e =
+pub time_numbers : (r now : Repeats) (number count first : ℕ) → r ≡ now → IsRepeatable r → number < (now.horizon + 1) * length now.time → count ≡ length r.time → first ≡ r.horizon * r.width → (number / count < r.horizon + 1) × (first + number / count * r.facts ≤ 2147483647)
+time_numbers r now number count first v is lt e f =
     let here : number < (r.horizon + 1) * length r.time = subst (λ (x : Repeats). number < (x.horizon + 1) * length x.time) (sym v) lt in
     let p = part_of number (r.horizon + 1) count (subst (λ (s : ℕ). number < (r.horizon + 1) * s) (sym e) here) in
     let small = is.small in
@@ -248,10 +248,20 @@ time_numbers r now number count v is lt e =
     let b = mul-le-mul_right r.facts q in
     (p.1, omega arith)
 
-pub step_clause_is : (r now : Repeats) (number count : ℕ) (lits moved : List ℕ) → r ≡ now → count ≡ length r.step → number < now.horizon * length now.step → slice_get r.step (number % count) ≡ Some lits → moved ≡ map (shifted (2 * r.width) (number / count * (2 * r.width)) (2 * (r.horizon * r.width + number / count * r.facts) - 2 * r.width)) lits → slice_get (all_steps now) number ≡ Some moved
-step_clause_is r now number count lits moved v e lt at is =
-    subst (λ (x : Repeats). slice_get (all_steps x) number ≡ Some moved) v (step_read r number count lits moved e (subst (λ (x : Repeats). number < x.horizon * length x.step) (sym v) lt) at is)
+-- what is added to the codes, by the number of variables of all steps
+module _ (r : Repeats) (number count first : ℕ) (lits : List ℕ) (f : first ≡ r.horizon * r.width) where
+  pub step_stays_by : IsRepeatable r → number / count < r.horizon → HasVariablesBelow (r.width + 2 * r.facts) lits → All (StaysCode (2 * r.width) (number / count * (2 * r.width)) (2 * (first + number / count * r.facts) - 2 * r.width)) lits
+  step_stays_by is lt h = subst (λ (b : ℕ). All (StaysCode (2 * r.width) (number / count * (2 * r.width)) (2 * (b + number / count * r.facts) - 2 * r.width)) lits) (sym f) (step_stays r number count lits is lt h)
 
-pub time_clause_is : (r now : Repeats) (number count : ℕ) (lits moved : List ℕ) → r ≡ now → count ≡ length r.time → number < (now.horizon + 1) * length now.time → slice_get r.time (number % count) ≡ Some lits → moved ≡ map (shifted 0 0 (2 * (r.horizon * r.width + number / count * r.facts))) lits → slice_get (all_times now) number ≡ Some moved
-time_clause_is r now number count lits moved v e lt at is =
-    subst (λ (x : Repeats). slice_get (all_times x) number ≡ Some moved) v (time_read r number count lits moved e (subst (λ (x : Repeats). number < (x.horizon + 1) * length x.time) (sym v) lt) at is)
+  pub time_stays_by : IsRepeatable r → number / count < r.horizon + 1 → HasVariablesBelow r.facts lits → All (StaysCode 0 0 (2 * (first + number / count * r.facts))) lits
+  time_stays_by is lt h = subst (λ (b : ℕ). All (StaysCode 0 0 (2 * (b + number / count * r.facts))) lits) (sym f) (time_stays r number count lits is lt h)
+
+  pub step_clause_is : (now : Repeats) (moved : List ℕ) → r ≡ now → count ≡ length r.step → number < now.horizon * length now.step → slice_get r.step (number % count) ≡ Some lits → moved ≡ map (shifted (2 * r.width) (number / count * (2 * r.width)) (2 * (first + number / count * r.facts) - 2 * r.width)) lits → slice_get (all_steps now) number ≡ Some moved
+  step_clause_is now moved v e lt at is =
+      let moved_is = subst (λ (b : ℕ). moved ≡ map (shifted (2 * r.width) (number / count * (2 * r.width)) (2 * (b + number / count * r.facts) - 2 * r.width)) lits) f is in
+      subst (λ (x : Repeats). slice_get (all_steps x) number ≡ Some moved) v (step_read r number count lits moved e (subst (λ (x : Repeats). number < x.horizon * length x.step) (sym v) lt) at moved_is)
+
+  pub time_clause_is : (now : Repeats) (moved : List ℕ) → r ≡ now → count ≡ length r.time → number < (now.horizon + 1) * length now.time → slice_get r.time (number % count) ≡ Some lits → moved ≡ map (shifted 0 0 (2 * (first + number / count * r.facts))) lits → slice_get (all_times now) number ≡ Some moved
+  time_clause_is now moved v e lt at is =
+      let moved_is = subst (λ (b : ℕ). moved ≡ map (shifted 0 0 (2 * (b + number / count * r.facts))) lits) f is in
+      subst (λ (x : Repeats). slice_get (all_times x) number ≡ Some moved) v (time_read r number count lits moved e (subst (λ (x : Repeats). number < (x.horizon + 1) * length x.time) (sym v) lt) at moved_is)

@@ -1,18 +1,17 @@
 -- Values of variables kept as bits.
-use Rattle.std.proofs.Common.{arith, ◌≡◌, ◌≢◌, ◌==◌, ℕ, zero, suc, ◌+◌, ◌-◌, ◌*◌, ◌/◌, ◌%◌, ◌<◌, ◌≤◌, List, [], ◌∷◌, length, drop, map, get_or, Bool, true, false, not, ◌&&◌, ◌||◌, Option, Some, None, refl, sym, ap, ◌∙◌, subst, ◌⊎◌, inl, inr, if◌then◌else◌, replicate, slice_set, length-drop}
-use Rattle.std.specs.Prelude.{nat_le, IfSome, IfNone}
+use Rattle.std.proofs.Common.{arith, ◌≡◌, ◌≢◌, ◌==◌, ℕ, zero, suc, ◌+◌, ◌*◌, ◌/◌, ◌%◌, ◌<◌, ◌≤◌, List, [], ◌∷◌, length, map, get_or, Bool, true, false, not, ◌&&◌, ◌||◌, Option, Some, None, refl, sym, ap, ◌∙◌, subst, ◌⊎◌, inl, inr, if◌then◌else◌, replicate, slice_set}
+use Rattle.std.specs.Prelude.{IfSome, IfNone}
 use Rattle.std.specs.Option.{option_map}
 use Rattle.std.specs.List.{range_with_len, slice_get}
-use Rattle.std.proofs.lemmas.List.{get_or-drop, get_or_past, get_or-replicate}
+use Rattle.std.proofs.lemmas.List.{get_or_past, get_or-replicate}
 use Rattle.std.proofs.lemmas.List.FromFn.{length-map-range_with_len, get_or-map-range_with_len}
 use Rattle.std.proofs.lemmas.Option.{slice_get-get_or}
-use Rattle.std.proofs.lemmas.Bool.{and_parts, not-true}
 use Rattle.std.proofs.lemmas.Bool.Decides.{nat_tests}
 use Rattle.word_bits.proofs.WordLaw.{zero_has}
-use Rattle.number_bits.specs.Bits.{word_has, words_have, IsLeast}
-use Rattle.clause_base.specs.Choice.{Known, least_open_from, least_open, same_value, first_difference, plain_choice_from}
+use Rattle.number_bits.specs.Bits.{word_has, words_have}
+use Rattle.clause_base.specs.Choice.{Known, least_open_from, least_open, plain_choice_from}
 use Rattle.clause_base.specs.Literal.{literal_of}
-use Rattle.clause_base.specs.ValueBits.{value_at, values_of, AreGivenBelow, AreRows, differs}
+use Rattle.clause_base.specs.ValueBits.{value_at, values_of, AreGivenBelow, AreRows}
 
 -- the plain choice is the least open variable's
 pub plain_choice-least : (v : ℕ) (values : Known) → plain_choice_from v values ≡ option_map (λ w. literal_of w false) (least_open_from v values)
@@ -38,14 +37,6 @@ variable_room n low v given trues now rows is within =
     let long = length-view n given trues now is in
     let room = rows.room in
     omega (arith, long, room, within)
-
--- and so have 64 at once
-pub word_room : (n low place : ℕ) (given trues : List ℕ) (now : Known) → AreRows n low given trues → values_of n given trues ≡ now → 64 * place < length now → (place < length given) × (place < length trues)
-word_room n low place given trues now rows is within =
-    let long = length-view n given trues now is in
-    let room = rows.room in
-    let same = rows.same in
-    (omega (arith, long, room, within), omega (arith, long, room, same, within))
 
 zero_plus : (v : ℕ) → 0 + v ≡ v
 zero_plus v = omega arith
@@ -260,65 +251,6 @@ least_open-some n low v given trues r h below e =
 pub least_open-none : (n low : ℕ) (given trues : List ℕ) → AreRows n low given trues → AreGivenBelow n given → least_open (values_of n given trues) ≡ None
 least_open-none n low given trues r all =
     none_open 0 (values_of n given trues) (λ j l z. not_none given trues j (all j (omega (arith, l, length-values n given trues))) (sym (values-at n low j given trues r) ∙ z))
-
--- The first difference.
-
-pub not_false : (b : Bool) → not b ≡ false → b ≡ true
-not_false true e = refl
-not_false false e = cc
-
-reached : (from j : ℕ) → nat_le from (from + j) ≡ true
-reached from j = grind (arith, nat_tests)
-
-differs_at : (v k : ℕ) (xs ys : Known) → length ys ≡ length xs → differs xs ys k ≡ true → ((j : ℕ) → j < k → differs xs ys j ≡ false) → first_difference v xs ys ≡ Some (v + k)
-differs_at v k [] [] l e d = cc
-differs_at v k [] (y ∷ ys) l e d = absurd (omega (arith, l))
-differs_at v k (x ∷ xs) [] l e d = absurd (omega (arith, l))
-differs_at v zero (x ∷ xs) (y ∷ ys) l e d =
-    let same : v ≡ v + 0 = omega arith in
-    ap (λ (b : Bool). if b then first_difference (v + 1) xs ys else Some v) (not-true _ e) ∙ ap (λ (w : ℕ). Some w) same
-differs_at v (suc k) (x ∷ xs) (y ∷ ys) l e d =
-    let same : v + 1 + k ≡ v + suc k = omega arith in
-    ap (λ (b : Bool). if b then first_difference (v + 1) xs ys else Some v) (not_false _ (d 0 (omega arith)))
-    ∙ differs_at (v + 1) k xs ys (omega (arith, l)) e (λ j m. d (suc j) (omega arith))
-    ∙ ap (λ (w : ℕ). Some w) same
-
-none_differs : (v : ℕ) (xs ys : Known) → ((j : ℕ) → differs xs ys j ≡ false) → first_difference v xs ys ≡ None
-none_differs v [] ys d = refl
-none_differs v (x ∷ xs) [] d = refl
-none_differs v (x ∷ xs) (y ∷ ys) d = ap (λ (b : Bool). if b then first_difference (v + 1) xs ys else Some v) (not_false _ (d 0)) ∙ none_differs (v + 1) xs ys (λ j. d (suc j))
-
-differs-drop : (from k : ℕ) (xs ys : Known) → differs (drop from xs) (drop from ys) k ≡ differs xs ys (from + k)
-differs-drop from k xs ys =
-    ap (λ (x : Option Bool). not (same_value x (get_or (drop from ys) k None))) (get_or-drop from xs k None)
-    ∙ ap (λ (y : Option Bool). not (same_value (get_or xs (from + k) None) y)) (get_or-drop from ys k None)
-
--- from a place on they differ first where they do at all
-pub first_difference-least : (from : ℕ) (xs ys : Known) (o : Option ℕ) → length ys ≡ length xs → IsLeast (λ v. nat_le from v && differs xs ys v) o → o ≡ first_difference from (drop from xs) (drop from ys)
-first_difference-least from xs ys None l h = sym (none_differs from (drop from xs) (drop from ys) (λ j. differs-drop from j xs ys ∙ ap (λ (b : Bool). b && differs xs ys (from + j)) (sym (reached from j)) ∙ h (from + j)))
-first_difference-least from xs ys (Some v) l h =
-    let p = and_parts (nat_le from v) (differs xs ys v) h.0 in
-    let reach : from ≤ v = grind (arith, nat_tests, p.0) in
-    let same : from + (v - from) ≡ v = omega arith in
-    sym (
-    differs_at from (v - from) (drop from xs) (drop from ys) (dropped l)
-    (differs-drop from (v - from) xs ys ∙ ap (differs xs ys) same ∙ p.1)
-    (λ j m. differs-drop from j xs ys ∙ ap (λ (b : Bool). b && differs xs ys (from + j)) (sym (reached from j)) ∙ h.1 (from + j) (omega arith))
-    ∙ ap (λ (w : ℕ). Some w) same
-    )
-  where
-    dropped : length ys ≡ length xs → length (drop from ys) ≡ length (drop from xs)
-    dropped l = omega (arith, length-drop from xs, length-drop from ys, l)
-
--- past the last variable they do not differ
-pub same_past : (xs ys : Known) (from upto : ℕ) → length ys ≡ length xs → length xs ≤ upto → ((j : ℕ) → from ≤ j → j < upto → differs xs ys j ≡ false) → (j : ℕ) → from ≤ j → differs xs ys j ≡ false
-same_past xs ys from upto l h d j f = by (below_or j upto)
-  where
-    by : (j < upto) ⊎ (upto ≤ j) → differs xs ys j ≡ false
-    by (inl a) = d j f a
-    by (inr a) =
-        ap (λ (x : Option Bool). not (same_value x (get_or ys j None))) (get_or_past xs j None (omega (arith, h, a)))
-        ∙ ap (λ (y : Option Bool). not (same_value None y)) (get_or_past ys j None (omega (arith, h, a, l)))
 
 -- the least variable without a value, as it is found
 pub least_open-by : (n low : ℕ) (given trues words : List ℕ) (now : Known) (o : Option ℕ) → AreRows n low given trues → values_of n given trues ≡ now → words ≡ given → IfSome o (λ v. v < n) → IfSome o (λ v. AreGivenBelow v words) → IfSome o (λ v. words_have words v ≡ false) → IfNone o (AreGivenBelow n words) → o ≡ least_open now

@@ -1,4 +1,4 @@
-use Rattle.std.specs.Prelude.{◌≡◌, ℕ, ◌+◌, ◌/◌, List, [], ◌∷◌, Bool, true, false, All, Option, Some, None, slice_get, IsSome, if◌then◌else◌}
+use Rattle.std.specs.Prelude.{◌≡◌, ℕ, ◌+◌, ◌/◌, List, [], ◌∷◌, Bool, true, false, All, Option, Some, None, slice_get, IsSome}
 use Rattle.std.specs.Bool.{beq}
 use Rattle.clause_base.specs.Literal.{literal_of}
 
@@ -26,12 +26,6 @@ abbrev pub same_value : Option Bool → Option Bool → Bool
 same_value None None = true
 same_value (Some a) (Some b) = beq a b
 same_value a b = false
-
--- the least variable at which two lists of values differ, where the first of these variables has number v
-abbrev pub first_difference : ℕ → Known → Known → Option ℕ
-first_difference v [] others = None
-first_difference v (value ∷ values) [] = None
-first_difference v (value ∷ values) (other ∷ others) = if same_value value other then first_difference (v + 1) values others else Some v
 
 -- the least variable without a value, made false; the first of these variables has number v
 abbrev pub plain_choice_from : ℕ → Known → Option ℕ

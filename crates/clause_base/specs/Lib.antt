@@ -2,6 +2,7 @@ pub mod Literal
 pub mod Clause
 pub mod Formula
 pub mod Repeats
+pub mod Sizes
 pub mod View
 pub mod Joined
 pub mod Shared

@@ -1,12 +1,8 @@
 -- How values of variables are kept as bits: 64 variables to a word.
-use Rattle.std.specs.Prelude.{◌≡◌, ℕ, ◌+◌, ◌*◌, ◌<◌, ◌≤◌, List, Bool, true, not, Option, Some, None, length, map, slice_index_or, if◌then◌else◌}
+use Rattle.std.specs.Prelude.{◌≡◌, ℕ, ◌+◌, ◌*◌, ◌<◌, ◌≤◌, List, Bool, true, Option, Some, None, length, map, if◌then◌else◌}
 use Rattle.std.specs.List.{range_with_len}
-use Rattle.number_bits.specs.Bits.{word_has, words_have}
-use Rattle.clause_base.specs.Choice.{Known, same_value}
-
--- the value of a variable by its bit in a word of the variables that have one and in a word of those that are true
-abbrev pub value_in : ℕ → ℕ → ℕ → Option Bool
-value_in given trues k = if word_has given k then Some (word_has trues k) else None
+use Rattle.number_bits.specs.Bits.{words_have}
+use Rattle.clause_base.specs.Choice.{Known}
 
 -- the value of a variable by the words of the variables that have one and of those that are true
 abbrev pub value_at : List ℕ → List ℕ → ℕ → Option Bool
@@ -29,7 +25,3 @@ pub record AreRows (n low : ℕ) (given trues : List ℕ) : Type 0 where
   pub below : (v : ℕ) → words_have given v ≡ true → v < n
   pub begins : low ≤ n
   pub passed : AreGivenBelow low given
-
--- two lists of values differ at a variable
-abbrev pub differs : Known → Known → ℕ → Bool
-differs values others v = not (same_value (slice_index_or values v None) (slice_index_or others v None))

@@ -15,5 +15,6 @@ pub mod log;
 pub mod memory;
 pub mod repeated;
 pub mod shared_list;
+mod sizes;
 pub mod values;
 pub mod view;

@@ -5,6 +5,7 @@ ghost use Rattle.clause_base.specs.Repeats.{IsRepeatable, all_steps, all_times, 
 use crate::clause_list::ClauseList;
 use crate::memory::Memory;
 use crate::shared_list::SharedList;
+use crate::sizes::{Sizes, sizes_of};
 use crate::view::View;
 use std::alloc::Global;
 use std::marker::Model;
@@ -17,18 +18,20 @@ pub struct Repeated {
     horizon: u32,
     width: u32,
     facts: u32,
+    sizes: Sizes,
     step: SharedList,
     time: SharedList,
 }
 
 impl Model for Repeated {
-    ghost use Rattle.clause_base.specs.Repeats.{Repeats, IsRepeatable};
+    ghost use Rattle.clause_base.specs.Repeats.{Repeats};
+    ghost use Rattle.clause_base.specs.Sizes.{IsSized};
 
     ghost Value = { Repeats };
 
     ghost view = { λ r. record { horizon = r.horizon; width = r.width; facts = r.facts; step = r.step; time = r.time } };
 
-    ghost invariant = { λ r. IsRepeatable (record { horizon = r.horizon; width = r.width; facts = r.facts; step = r.step; time = r.time }) };
+    ghost invariant = { λ r. IsSized (record { horizon = r.horizon; width = r.width; facts = r.facts; step = r.step; time = r.time }) r.sizes.first r.sizes.per_step r.sizes.per_time r.sizes.steps r.sizes.all };
 }
 
 /// Letting one go is one call, in which its parts go: whoever holds one proves one step.
@@ -38,6 +41,7 @@ impl Drop for Repeated {
             horizon: _,
             width: _,
             facts: _,
+            sizes: _,
             step: _,
             time: _,
         } = self;
@@ -46,24 +50,7 @@ impl Drop for Repeated {
 
 impl Repeated {
     /// The clauses of one step and of one time, repeated for so many steps, each with so many variables of its own, over so many
-    /// facts. It takes no memory.
-    pub fn new(horizon: u32, width: u32, facts: u32, step: ClauseList, time: ClauseList) -> Repeated
-        requires few { horizon * length step + (horizon + 1) * length time ≤ 1073741824 }
-        requires small { horizon * width + (horizon + 1) * facts ≤ 2147483647 }
-        requires step_below { All (HasVariablesBelow (width + 2 * facts)) step }
-        requires time_below { All (HasVariablesBelow facts) time }
-        ensures { result ≡ record { horizon = horizon; width = width; facts = facts; step = step; time = time } }
-    {
-        Repeated::sharing(
-            horizon,
-            width,
-            facts,
-            SharedList::own(step),
-            SharedList::own(time),
-        )
-    }
-
-    /// The same of lists that may stand in memory that others share.
+    /// facts. The lists may stand in memory that others share. It takes no memory.
     pub fn sharing(
         horizon: u32,
         width: u32,
@@ -77,10 +64,12 @@ impl Repeated {
         requires time_below { All (HasVariablesBelow facts) time }
         ensures { result ≡ record { horizon = horizon; width = width; facts = facts; step = step; time = time } }
     {
+        let sizes = sizes_of(horizon, width, &step, &time);
         Repeated {
             horizon,
             width,
             facts,
+            sizes,
             step,
             time,
         }
@@ -90,13 +79,9 @@ impl Repeated {
     pub fn none(alloc: Global) -> Repeated
         ensures { result ≡ record { horizon = 0; width = 0; facts = 0; step = []; time = [] } }
     {
-        Repeated {
-            horizon: 0,
-            width: 0,
-            facts: 0,
-            step: SharedList::own(ClauseList::new(alloc)),
-            time: SharedList::own(ClauseList::new(alloc)),
-        }
+        let step = SharedList::own(ClauseList::new(alloc));
+        let time = SharedList::own(ClauseList::new(alloc));
+        Repeated::sharing(0, 0, 0, step, time)
     }
 
     /// How many steps there are.
@@ -148,6 +133,7 @@ impl Repeated {
             horizon,
             width,
             facts,
+            sizes,
             step,
             time,
         } = self;
@@ -155,6 +141,7 @@ impl Repeated {
             horizon,
             width,
             facts,
+            sizes,
             step: step.share(alloc)?,
             time: time.share(alloc)?,
         })
@@ -170,6 +157,7 @@ impl Repeated {
             horizon: self.horizon,
             width: self.width,
             facts: self.facts,
+            sizes: self.sizes,
             step,
             time,
         })
@@ -181,7 +169,7 @@ impl Repeated {
         ensures value { result ≡ length (all_steps self.now) }
         ensures product { result ≡ self.now.horizon * length self.now.step }
     {
-        (self.horizon as usize * self.step.count()) as u32
+        self.sizes.steps
     }
 
     /// How many clauses all steps and all times have.
@@ -192,9 +180,7 @@ impl Repeated {
         ensures lawful { All IsClause (repeated self.now) }
         ensures below { All (HasVariablesBelow (variables_of self.now)) (repeated self.now) }
     {
-        let steps = self.horizon as usize * self.step.count();
-        let times = (self.horizon as usize + 1) * self.time.count();
-        (steps + times) as u32
+        self.sizes.all
     }
 
     /// The clause of a step.
@@ -203,11 +189,11 @@ impl Repeated {
         requires { number < self.now.horizon * length self.now.step }
         ensures { slice_get (all_steps self.now) number ≡ Some result }
     {
-        let count = self.step.count() as u32;
+        let count = self.sizes.per_step as u32;
         let t = number / count;
         let limit = 2 * self.width;
         let low = t * limit;
-        let high = 2 * (self.horizon * self.width + t * self.facts) - limit;
+        let high = 2 * (self.sizes.first + t * self.facts) - limit;
         View::moved(
             self.step.clause((number % count) as usize),
             limit,
@@ -222,9 +208,9 @@ impl Repeated {
         requires { number < (self.now.horizon + 1) * length self.now.time }
         ensures { slice_get (all_times self.now) number ≡ Some result }
     {
-        let count = self.time.count() as u32;
+        let count = self.sizes.per_time as u32;
         let t = number / count;
-        let high = 2 * (self.horizon * self.width + t * self.facts);
+        let high = 2 * (self.sizes.first + t * self.facts);
         View::moved(self.time.clause((number % count) as usize), 0, 0, high)
     }
 

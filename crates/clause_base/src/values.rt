@@ -1,7 +1,7 @@
-ghost use Rattle.std.specs.Prelude.{◌≡◌, ◌<◌, ◌≤◌, ◌+◌, ◌*◌, ◌&&◌, ℕ, Option, Bool, List, None, false, not, nat_le, length, slice_get, slice_set, replicate, drop, IfOk, IfSome, IfNone};
-ghost use Rattle.number_bits.specs.Bits.{word_has, words_have, IsLeast};
-ghost use Rattle.clause_base.specs.Choice.{least_open, first_difference, same_value};
-ghost use Rattle.clause_base.specs.ValueBits.{value_in, AreGivenBelow, differs};
+ghost use Rattle.std.specs.Prelude.{◌≡◌, ◌<◌, ◌≤◌, ◌*◌, Some, None, false, length, slice_get, slice_set, replicate, IfOk, IfSome, IfNone};
+ghost use Rattle.number_bits.specs.Bits.{words_have};
+ghost use Rattle.clause_base.specs.Choice.{least_open};
+ghost use Rattle.clause_base.specs.ValueBits.{AreGivenBelow};
 
 use crate::memory::Memory;
 use number_bits::flat::{clear_bit, set_bit};
@@ -42,9 +42,6 @@ impl Drop for Values {
     }
 }
 
-/// How many words are compared at a time.
-const WORDS: usize = 8;
-
 /// Whether a bit is set.
 fn has_bit(words: &[u64], number: u32) -> bool
     requires { number < 64 * length words.now }
@@ -74,17 +71,7 @@ fn first_clear(words: &[u64], low: u32, bound: u32) -> Option<u32>
     None
 }
 
-/// Of 64 variables those at which two lists of values differ: by the words of those that have a value, and of those that are
-/// true.
-fn differing(given: u64, trues: u64, others_given: u64, others_trues: u64) -> u64
-    ensures { (k : ℕ) → word_has result k ≡ not (same_value (value_in given trues k) (value_in others_given others_trues k)) }
-{
-    (given ^ others_given) | ((trues ^ others_trues) & given)
-}
-
 impl Values {
-    ghost use Rattle.std.specs.Bool.{OnFalse};
-
     /// Values of so many variables, none of them given.
     pub fn new(alloc: Global, variables: u32) -> Result<Values, Memory>
         requires { variables ≤ 2147483647 }
@@ -109,11 +96,14 @@ impl Values {
         self.variables
     }
 
-    /// The value of a variable, if it is given.
+    /// The value of a variable, if it is given; none past the last variable.
     pub fn get(&self, v: u32) -> Option<bool>
-        requires { v < length self.now }
-        ensures { slice_get self.now v ≡ Some result }
+        ensures value { v < length self.now → slice_get self.now v ≡ Some result }
+        ensures past { length self.now ≤ v → result ≡ None }
     {
+        if v >= self.variables {
+            return None;
+        }
         if has_bit(&self.given, v) {
             Some(has_bit(&self.trues, v))
         } else {
@@ -160,80 +150,5 @@ impl Values {
             Some(v) => v,
             None => self.variables,
         };
-    }
-
-    /// Of the 64 variables of a word those at which these values and others differ.
-    fn differing_at(&self, others: &Values, place: usize) -> u64
-        requires same { length others.now ≡ length self.now }
-        requires within { 64 * place < length self.now }
-        ensures { (k : ℕ) → k < 64 → word_has result k ≡ differs self.now others.now (64 * place + k) }
-    {
-        differing(
-            self.given[place],
-            self.trues[place],
-            others.given[place],
-            others.trues[place],
-        )
-    }
-
-    /// Whether these values and others differ at a variable of some words.
-    fn differ_in(&self, others: &Values, place: usize) -> bool
-        requires same { length others.now ≡ length self.now }
-        requires within { 64 * (place + 7) < length self.now }
-        ensures { OnFalse result ((v : ℕ) → 64 * place ≤ v → v < 64 * (place + 8) → differs self.now others.now v ≡ false) }
-    {
-        let _small = self.variables();
-        let mut all = 0;
-        for i in 0..WORDS {
-            all |= self.differing_at(others, place + i);
-        }
-        all != 0
-    }
-
-    /// A place, from a given one on, up to which these values and others are the same.
-    fn pass_same(&self, others: &Values, place: usize) -> usize
-        requires same { length others.now ≡ length self.now }
-        ensures behind { place ≤ result }
-        ensures passed { (v : ℕ) → 64 * place ≤ v → v < 64 * result → differs self.now others.now v ≡ false }
-    {
-        let mut near = place;
-        'passing: while near < self.given.len()
-            && WORDS <= self.given.len() - near
-            && !self.differ_in(others, near)
-        {
-            near += WORDS;
-        }
-        near
-    }
-
-    /// The least variable, from the first one of a word on, at which these values and others differ.
-    fn difference_from(&self, others: &Values, place: usize) -> Option<u32>
-        requires same { length others.now ≡ length self.now }
-        ensures { IsLeast (λ v. nat_le (64 * place) v && differs self.now others.now v) result }
-    {
-        let near = self.pass_same(others, place);
-        for i in near..self.given.len() {
-            let word = self.differing_at(others, i);
-            if word != 0 {
-                return Some(64 * (i as u32) + least_bit(word));
-            }
-        }
-        None
-    }
-
-    /// The least variable, from a given one on, at which these values and others differ. It compares 512 at a time.
-    pub fn first_difference(&self, others: &Values, from: u32) -> Option<u32>
-        requires { length others.now ≡ length self.now }
-        ensures { result ≡ first_difference from (drop from self.now) (drop from others.now) }
-    {
-        if from >= self.variables {
-            return None;
-        }
-        let place = (from / 64) as usize;
-        let near = self.differing_at(others, place) >> (from % 64);
-        if near != 0 {
-            return Some(from + least_bit(near));
-        }
-        self.difference_from(others, place + 1)
     }
 }

@@ -88,7 +88,7 @@ impl<'a> View<'a> {
     }
 
     /// Makes a vector hold these literals.
-    pub fn copy_into(&self, lits: &mut Vec<Lit>) -> Result<(), Memory>
+    pub(crate) fn copy_into(&self, lits: &mut Vec<Lit>) -> Result<(), Memory>
         ensures { OnOk result (lits.new.items ≡ self.now) }
     {
         lits.clear();

@@ -142,13 +142,13 @@ impl Resolvent {
         self.put_others(trail, reason, forced)
     }
 
-    /// Takes all literals out, in order of their codes.
-    pub fn take(&mut self, alloc: Global) -> Result<Vec<Lit>, Memory>
-        ensures taken { IfOk result (λ lits. lits.items ≡ literals self.old) }
+    /// Takes all literals out, in order of their codes, into a vector that is written over.
+    pub fn take(&mut self, lits: &mut Vec<Lit>) -> Result<(), Memory>
+        ensures taken { OnOk result (lits.new.items ≡ literals self.old) }
         ensures emptied { OnOk result (IsEmptied self.new) }
         ensures len { length self.new.on ≡ length self.old.on }
     {
         self.count = 0;
-        self.draft.take(alloc)
+        self.draft.take(lits)
     }
 }

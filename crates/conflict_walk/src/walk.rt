@@ -1,5 +1,5 @@
 //! The walk along the trail, from its end to the first unique implication point (Marques-Silva and Sakallah, 1999).
-ghost use Rattle.std.specs.Prelude.{◌≡◌, [], reverse, length, IfOk};
+ghost use Rattle.std.specs.Prelude.{◌≡◌, [], reverse, length, OnOk};
 ghost use Rattle.cdcl_rules.specs.Learn.{walk};
 ghost use Rattle.conflict_walk.specs.Clauses.{all_clauses};
 ghost use Rattle.conflict_walk.specs.Resolvent.{literals, IsOver};
@@ -9,7 +9,6 @@ use crate::clauses::Clauses;
 use crate::resolvent::Resolvent;
 use cdcl_trail::trail::Trail;
 use clause_base::memory::Memory;
-use std::alloc::Global;
 
 /// Whether the walk stops at an entry whose negation is in the clause.
 fn stops(level: u32, count: u32) -> bool
@@ -18,31 +17,32 @@ fn stops(level: u32, count: u32) -> bool
     level != 0 && count == 1
 }
 
-/// Walks the trail from its end, and gives the clauses that were resolved with, the latest entry's first.
-pub fn walk_back(
-    alloc: Global,
+/// Walks the trail from its end, and notes the clauses that are resolved with, the latest entry's first, in a vector that is written
+/// over.
+pub(crate) fn walk_back(
+    hints: &mut Vec<u32>,
     resolvent: &mut Resolvent,
     clauses: &Clauses,
     trail: &Trail,
-) -> Result<Vec<u32>, Memory>
+) -> Result<(), Memory>
     requires over { IsOver trail.now resolvent.old }
     requires reasoned { IsReasoned (all_clauses clauses.now) trail.now.entries }
-    ensures walked { IfOk result (λ hints. walk (all_clauses clauses.now) trail.now.entries (reverse trail.now.entries) (record { clause = literals resolvent.old; hints = [] }) ≡ record { clause = literals resolvent.new; hints = reverse hints.items }) }
+    ensures walked { OnOk result (walk (all_clauses clauses.now) trail.now.entries (reverse trail.now.entries) (record { clause = literals resolvent.old; hints = [] }) ≡ record { clause = literals resolvent.new; hints = reverse hints.new.items }) }
     ensures len { length resolvent.new.on ≡ length resolvent.old.on }
 {
     let entries = trail.entries();
     let level = trail.level();
-    let mut hints = Vec::new(alloc);
+    hints.clear();
     let mut index = entries.len();
     'walking: while index > 0 {
         index -= 1;
         let entry = entries[index];
         if resolvent.has_opposite(trail, entry.literal) {
             if stops(level, resolvent.count()) {
-                return Ok(hints);
+                return Ok(());
             }
             match entry.reason {
-                None => return Ok(hints),
+                None => return Ok(()),
                 Some(reason) => {
                     resolvent.resolve(trail, entry.literal, &clauses.clause(reason))?;
                     hints.push(reason)?;
@@ -50,5 +50,5 @@ pub fn walk_back(
             }
         }
     }
-    Ok(hints)
+    Ok(())
 }

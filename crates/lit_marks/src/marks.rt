@@ -67,13 +67,13 @@ impl Marks {
         self.on[lit.0 as usize] = false;
     }
 
-    /// Takes all literals out, in order of their codes.
-    pub fn take(&mut self, alloc: Global) -> Result<Vec<Lit>, Memory>
-        ensures taken { IfOk result (λ lits. lits.items ≡ places 0 self.old) }
+    /// Takes all literals out, in order of their codes, into a vector that is written over.
+    pub fn take(&mut self, lits: &mut Vec<Lit>) -> Result<(), Memory>
+        ensures taken { OnOk result (lits.new.items ≡ places 0 self.old) }
         ensures emptied { OnOk result (places 0 self.new ≡ []) }
         ensures len { length self.new ≡ length self.old }
     {
-        let mut lits = Vec::new(alloc);
+        lits.clear();
         while let Some(lit) = self.touched.pop() {
             if self.on[lit.0 as usize] {
                 self.on[lit.0 as usize] = false;
@@ -81,7 +81,7 @@ impl Marks {
             }
         }
         lits.sort_unstable();
-        Ok(lits)
+        Ok(())
     }
 
     /// Takes all literals out.

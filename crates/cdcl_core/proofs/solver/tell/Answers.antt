@@ -1,6 +1,6 @@
 use Rattle.std.proofs.Common.{arith, ◌≡◌, ◌<◌, ◌∙◌, List, take, length, get_or, refl, sym, ap, subst}
 use Rattle.cdcl_rules.specs.declared.trail.Assigned.{Assigned}
-use Rattle.cdcl_core.specs.Told.{literals_on}
+use Rattle.cdcl_trail.specs.Assignment.{literals}
 use Rattle.cdcl_core.proofs.Told.{next_told, told_all, below_at, few_told}
 use Rattle.cdcl_core.proofs.solver.tell.Goals as goal
 
@@ -17,7 +17,7 @@ tell-requires g c =
     let is : a ≡ get_or trail i a = c.index-entries-i.is ∙ ap (λ (ts : List Assigned). get_or ts i a) c.entries-entries.ensures.value in
     let long : length c.entries-entries.result.now ≡ length trail = ap (λ (ts : List Assigned). length ts) c.entries-entries.ensures.value in
     let lt : i < length trail = omega (arith, long) in
-    record { room = (take i (literals_on trail), n, c.loop-i.invariant, c.requires.fits, few_told n i trail lt c.entries-entries.ensures.short, below_at n i trail a lt is c.entries-entries.ensures.below) }
+    record { room = (take i (literals trail), n, c.loop-i.invariant, c.requires.fits, few_told n i trail lt c.entries-entries.ensures.short, below_at n i trail a lt is c.entries-entries.ensures.below) }
 
 pub loop-i-preserved : goal.loop-i-preserved
 loop-i-preserved g c =
@@ -27,7 +27,7 @@ loop-i-preserved g c =
     let is : a ≡ get_or trail i a = c.index-entries-i.is ∙ ap (λ (ts : List Assigned). get_or ts i a) c.entries-entries.ensures.value in
     let long : length c.entries-entries.result.now ≡ length trail = ap (λ (ts : List Assigned). length ts) c.entries-entries.ensures.value in
     let lt : i < length trail = omega (arith, long) in
-    subst (g.C.Chooser.knows c.args.chooser.now c.tell.new.told) (sym (next_told trail i a lt is)) (c.tell.ensures (take i (literals_on trail)) c.loop-i.invariant)
+    subst (g.C.Chooser.knows c.args.chooser.now c.tell.new.told) (sym (next_told trail i a lt is)) (c.tell.ensures (take i (literals trail)) c.loop-i.invariant)
 
 pub returns : goal.returns
 returns g c =

@@ -6,7 +6,8 @@ use Rattle.cdcl_rules.specs.declared.trail.Assigned.{Assigned}
 use Rattle.cdcl_rules.proofs.Measure.{length-values_from}
 use Rattle.cdcl_laws.specs.Sound.{IsSound}
 use Rattle.cdcl_core.specs.Search.{SearchView, SolverView}
-use Rattle.cdcl_core.specs.Told.{literals_on, IsToldUpTo}
+use Rattle.cdcl_trail.specs.Assignment.{literals}
+use Rattle.cdcl_core.specs.Told.{IsToldUpTo}
 use Rattle.cdcl_core.proofs.Told.{told_are_values, told_now}
 use Rattle.cdcl_core.proofs.solver.Solver.choice.Goals as goal
 
@@ -31,9 +32,9 @@ choose_told-requires-clause-told g c =
     let long : length c.values.result.now ≡ t.formula.variables = ap (λ (v : Known). length v) c.values.ensures ∙ length-values_from t.state.trail 0 t.formula.variables in
     let inside = subst (λ (w : SolverView g.row.C.Denot). IsSound w.formula w.state) (sym c.self.view_is) c.requires.sound in
     let sound = subst (λ (w : SearchView). IsSound w.formula w.state) (sym c.pass_given.ensures) inside in (
-      literals_on t.state.trail,
+      literals t.state.trail,
       c.tell.ensures,
-      c.values.ensures ∙ sym (told_are_values (clause_kept t.formula.clauses t.state.log) t.formula.variables t.state.trail sound.trail) ∙ ap (λ (n : ℕ). told_values n (literals_on t.state.trail)) (sym long),
+      c.values.ensures ∙ sym (told_are_values (clause_kept t.formula.clauses t.state.log) t.formula.variables t.state.trail sound.trail) ∙ ap (λ (n : ℕ). told_values n (literals t.state.trail)) (sym long),
     )
 
 pub invariant_of-self : goal.invariant_of-self
@@ -42,7 +43,7 @@ invariant_of-self g c =
     let new = c.choose_told.new.self in
     let long = ap (λ (ts : List Assigned). length ts) c.entries.ensures.value in
     let fits = subst (λ (w : SearchView). g.C.Chooser.fits c.self.inside.chooser w.formula.variables) (sym c.pass_given.ensures) c.self.invariant.0 in
-    let known = c.choose_told.ensures.told (literals_on t.state.trail) c.tell.ensures in (
+    let known = c.choose_told.ensures.told (literals t.state.trail) c.tell.ensures in (
       subst (λ (k : g.row.C.Denot). g.C.Chooser.fits k t.formula.variables) (sym c.choose_told.ensures.kept) fits,
-      λ _. told_now (g.C.Chooser.knows new c.choose_told.new.told) _ t.state.trail (subst (λ (k : g.row.C.Denot). g.C.Chooser.knows k c.choose_told.new.told (literals_on t.state.trail)) (sym c.choose_told.ensures.kept) known) (omega (arith, long)),
+      λ _. told_now (g.C.Chooser.knows new c.choose_told.new.told) _ t.state.trail (subst (λ (k : g.row.C.Denot). g.C.Chooser.knows k c.choose_told.new.told (literals t.state.trail)) (sym c.choose_told.ensures.kept) known) (omega (arith, long)),
     )

@@ -1,5 +1,6 @@
 use Rattle.std.proofs.Common.{List, ℕ, ap, sym, ◌∙◌, subst}
-use Rattle.clause_base.specs.Repeats.{Repeats, IsRepeatable}
+use Rattle.clause_base.specs.Repeats.{Repeats}
+use Rattle.clause_base.specs.Sizes.{IsSized}
 use Rattle.clause_base.proofs.repeated.Repeated.copy.Goals as goal
 
 pub returns : goal.returns
@@ -12,5 +13,5 @@ returns c =
 pub invariant_of-result : goal.invariant_of-result
 invariant_of-result c =
     let i = c.self.inside in
-    subst (λ (xs : List (List ℕ)). IsRepeatable (record { horizon = i.horizon; width = i.width; facts = i.facts; step = xs; time = c.in_ok-time.time })) (sym c.in_ok-step.ensures)
-    (subst (λ (xs : List (List ℕ)). IsRepeatable (record { horizon = i.horizon; width = i.width; facts = i.facts; step = i.step; time = xs })) (sym c.in_ok-time.ensures) c.self.invariant)
+    subst (λ (xs : List (List ℕ)). IsSized (record { horizon = i.horizon; width = i.width; facts = i.facts; step = xs; time = c.in_ok-time.time }) i.sizes.first i.sizes.per_step i.sizes.per_time i.sizes.steps i.sizes.all) (sym c.in_ok-step.ensures)
+    (subst (λ (xs : List (List ℕ)). IsSized (record { horizon = i.horizon; width = i.width; facts = i.facts; step = i.step; time = xs }) i.sizes.first i.sizes.per_step i.sizes.per_time i.sizes.steps i.sizes.all) (sym c.in_ok-time.ensures) c.self.invariant)
