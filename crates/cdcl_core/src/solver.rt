@@ -20,8 +20,8 @@ use cdcl_rules::trail::Assigned;
 use clause_base::chooser::Chooser;
 use clause_base::formula::Formula;
 use clause_base::literal::Lit;
-use clause_base::log::Log;
 use clause_base::memory::Memory;
+use clause_log::log::Log;
 use std::alloc::Global;
 use std::marker::Model;
 

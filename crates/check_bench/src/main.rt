@@ -7,8 +7,9 @@
 use clause_base::clause::Clause;
 use clause_base::formula::Formula;
 use clause_base::literal::Lit;
-use clause_base::log::{Entry, Hints, Log};
+use clause_base::log::{Entry, Hints};
 use clause_base::memory::Memory;
+use clause_log::log::Log;
 use rup_check::check::{CheckError, check};
 use std::alloc::Global;
 use std::io;
@@ -84,7 +85,7 @@ fn refutation(alloc: Global) -> Result<Log, Memory> {
 fn accepted(alloc: Global) -> Result<u32, CheckError> {
     let formula = chain(alloc)?;
     let log = refutation(alloc)?;
-    if formula.count() > 1000 || log.as_slice().len() > 1_000_000 {
+    if formula.count() > 1000 || log.len() > 1_000_000 {
         return Err(CheckError::NotEmpty);
     }
     let checked = check(alloc, &formula, &log)?;

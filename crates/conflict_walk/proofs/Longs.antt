@@ -1,5 +1,5 @@
 -- The learned clauses that are kept and long, where one more is learned and where some are dropped.
-use Rattle.std.proofs.Common.{arith, ◌≡◌, ◌≢◌, ◌==◌, ℕ, zero, suc, ◌+◌, ◌-◌, ◌<◌, ◌≤◌, List, [], ◌∷◌, ◌++◌, length, get_or, set, Bool, true, false, ◌&&◌, nat_lt, if◌then◌else◌, refl, sym, ap, ◌∙◌, filter, length-set, get_or-set_other}
+use Rattle.std.proofs.Common.{arith, ◌≡◌, ◌≢◌, ◌==◌, ℕ, zero, suc, ◌+◌, ◌-◌, ◌<◌, ◌≤◌, List, [], ◌∷◌, ◌++◌, length, get_or, set, Bool, true, false, ◌&&◌, nat_lt, if◌then◌else◌, refl, sym, ap, ◌∙◌, filter, length-append, length-set, get_or-set_other}
 use Rattle.std.specs.List.{range_with_len}
 use Rattle.std.proofs.lemmas.List.{append-nil, get_or_append_left, get_or_push, length_push, get_or-set_same, set_past}
 use Rattle.std.proofs.lemmas.Bool.Decides.{nat_tests}
@@ -27,6 +27,12 @@ range_more a (suc n) =
 taken : (xs : List ℕ) (k : ℕ) (b : Bool) → xs ++ (if b then k ∷ [] else []) ≡ (if b then xs ++ k ∷ [] else xs)
 taken xs k true = refl
 taken xs k false = append-nil xs
+
+-- none is learned
+pub long_none : (given : ℕ) (clauses : List (List ℕ)) (kept : List Bool) → given ≡ length clauses → long_ones given (clauses ++ []) kept ≡ []
+long_none given clauses kept e =
+    let none : length (clauses ++ []) - given ≡ 0 = omega (arith, length-append clauses [], e) in
+    ap (λ (n : ℕ). filter (is_long (clauses ++ []) kept) (range_with_len given n)) none
 
 -- a further clause is learned
 pub long_learn : (given : ℕ) (clauses : List (List ℕ)) (kept : List Bool) (c : List ℕ) → given ≤ length clauses → length kept ≡ length clauses → long_ones given (clauses ++ c ∷ []) (kept ++ true ∷ []) ≡ (if nat_lt 8 (length c) then long_ones given clauses kept ++ length clauses ∷ [] else long_ones given clauses kept)

@@ -1,18 +1,19 @@
 //! A solver's clauses by number: first come the formula's, then those that the log learns. A learned clause stands in the log
-//! alone, and is found by the place of its entry, since an entry that drops a clause takes no number.
-ghost use Rattle.std.specs.Prelude.{◌≡◌, ℕ, ◌+◌, ◌<◌, ◌≤◌, ◌∷◌, [], ◌++◌, true, false, map, filter, length, replicate, vec_capacity, slice_set, if◌then◌else◌, IsOk, IsSome, Some, IfOk, OnOk, OnErr};
+//! alone.
+ghost use Rattle.std.specs.Prelude.{◌≡◌, ℕ, ◌+◌, ◌<◌, ◌≤◌, ◌∷◌, [], ◌++◌, true, false, map, filter, length, replicate, vec_capacity, slice_set, if◌then◌else◌, IsOk, IfOk, OnOk, OnErr};
 ghost use Rattle.clause_base.specs.Derivation.{clauses_of};
 ghost use Rattle.cdcl_rules.specs.State.{clause_at, is_kept};
 ghost use Rattle.cdcl_rules.specs.Reduce.{kept_without};
-ghost use Rattle.conflict_walk.specs.Clauses.{all_clauses, learned_at};
+ghost use Rattle.conflict_walk.specs.Clauses.{all_clauses};
 ghost use Rattle.conflict_walk.specs.Longs.{long_ones};
 
 use clause_base::clause::Clause;
 use clause_base::formula::Formula;
 use clause_base::literal::Lit;
-use clause_base::log::{Entry, Hints, Log};
+use clause_base::log::{Entry, Hints};
 use clause_base::memory::Memory;
 use clause_base::view::View;
+use clause_log::log::Log;
 use std::alloc::{AllocError, Global};
 use std::marker::Model;
 
@@ -23,7 +24,6 @@ const SHORT: usize = 8;
 pub struct Clauses {
     formula: Formula,
     log: Log,
-    places: Vec<usize>,
     kept: Vec<bool>,
     longs: Vec<u32>,
 }
@@ -38,7 +38,7 @@ impl Model for Clauses {
 
     ghost view = { λ c. record { formula = c.formula; log = c.log; kept = c.kept.items } };
 
-    ghost invariant = { λ c. IsLogged c.formula c.log c.places.items c.kept.items × (c.longs.items ≡ long_ones (length c.formula.clauses) (c.formula.clauses ++ clauses_of c.log) c.kept.items) };
+    ghost invariant = { λ c. IsLogged c.formula c.log c.kept.items × (c.longs.items ≡ long_ones (length c.formula.clauses) (c.formula.clauses ++ clauses_of c.log) c.kept.items) };
 }
 
 /// Letting one go is one call, in which its parts go: whoever holds one proves one step.
@@ -47,21 +47,9 @@ impl Drop for Clauses {
         let Clauses {
             formula: _,
             log: _,
-            places: _,
             kept: _,
             longs: _,
         } = self;
-    }
-}
-
-/// The clause that the entry at a place learns.
-fn learned_at(log: &Log, place: usize) -> &[Lit]
-    requires { IsSome (learned_at log.now place) }
-    ensures { learned_at log.now place ≡ Some result.now }
-{
-    match &log.as_slice()[place] {
-        Entry::Learn { clause, .. } => clause.as_slice(),
-        Entry::Drop { .. } => &[],
     }
 }
 
@@ -114,7 +102,6 @@ impl Clauses {
         Ok(Clauses {
             formula,
             log: Log::new(alloc),
-            places: Vec::new(alloc),
             kept,
             longs: Vec::new(alloc),
         })
@@ -139,7 +126,7 @@ impl Clauses {
         ensures value { result ≡ length (clauses_of self.now.log) }
         ensures few { result ≤ 1073741824 }
     {
-        self.places.len() as u32
+        self.log.learned_count() as u32
     }
 
     /// How many clauses there are, dropped ones too.
@@ -171,7 +158,7 @@ impl Clauses {
         ensures { result.now ≡ clause_at (all_clauses self.now) number }
     {
         let given = self.formula.count();
-        learned_at(&self.log, self.places[(number - given) as usize])
+        self.log.learned((number - given) as usize)
     }
 
     /// Whether the clause with a number is kept.
@@ -195,14 +182,11 @@ impl Clauses {
         ensures ok { OnOk result (self.new ≡ record self.old { log = self.old.log ++ Entry.Learn clause hints ∷ []; kept = self.old.kept ++ true ∷ [] }) }
         ensures err { OnErr result (self.new ≡ self.old) }
     {
-        let place = self.log.as_slice().len();
         let number = self.count();
         let is_long = clause.as_slice().len() > SHORT;
-        self.places.reserve(1)?;
         self.kept.reserve(1)?;
         self.longs.reserve(1)?;
         self.log.push(Entry::Learn { clause, hints })?;
-        self.places.push(place)?;
         self.kept.push(true)?;
         add_long(&mut self.longs, number, is_long)?;
         Ok(())

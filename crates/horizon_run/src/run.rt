@@ -12,8 +12,8 @@ ghost use Rattle.horizon_run.specs.Run.{choice_in, choice_of, moved_to, truths_o
 use cdcl_core::solver::Solver;
 use cdcl_laws::law::runs_are_sound;
 use cdcl_rules::standing::Standing;
-use clause_base::log::Log;
 use clause_base::memory::Memory;
+use clause_log::log::Log;
 use goal_choice::{GoalChooser, Supporters};
 use gt_core::task::Task;
 use rup_check::check::{CheckError, Checked, check};

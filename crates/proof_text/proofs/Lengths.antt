@@ -1,15 +1,13 @@
 -- What a number, a row and an entry add to a text, and to its length.
-use Rattle.std.proofs.Common.{◌≡◌, ◌∙◌, ◌≤◌, ◌<◌, ◌+◌, ◌/◌, ◌%◌, ℕ, List, [], ◌∷◌, ◌++◌, length, take, get_or, min, codes, refl, sym, ap, subst, arith, append_assoc, append-nil, length-append}
+use Rattle.std.proofs.Common.{◌≡◌, ◌∙◌, ◌≤◌, ◌<◌, ◌+◌, ◌/◌, ◌%◌, ℕ, List, [], ◌∷◌, ◌++◌, length, min, codes, refl, sym, ap, subst, arith, append_assoc, append-nil, length-append}
 use Rattle.std.specs.Prelude.{decimal}
 use Rattle.std.proofs.lemmas.Fmt.{decimal_digit, decimal_step, length-decimal-le}
-use Rattle.std.proofs.lemmas.List.{take_more}
 use Rattle.clause_base.specs.declared.log.Entry.{Entry}
 use Rattle.clause_base.specs.declared.log.Entry.TheVariants.{Learn, Drop}
 use Rattle.proof_text.specs.Length.{saturated}
-use Rattle.proof_text.specs.Text.{AreSmall, AreWritten, IsWritten}
+use Rattle.proof_text.specs.Text.{AreSmall, AreWritten, IsWritten, proof_text}
 use Rattle.proof_text.specs.Reading.{entry_then, numbered}
-use Rattle.proof_text.proofs.Cuts.{numbered-push, small-push}
-use Rattle.proof_text.proofs.Spelling.{entries-push, entries_then, first_then, written-push}
+use Rattle.proof_text.proofs.Spelling.{entries_then, first_then, whole_text}
 
 -- ---- digits
 
@@ -28,13 +26,6 @@ numbered_on : (ns rest : List ℕ) → numbered ns rest ≡ numbered ns [] ++ re
 numbered_on [] rest = refl
 numbered_on (n ∷ ns) rest = ap (λ (l : List ℕ). 32 ∷ l) (ap (λ (l : List ℕ). decimal n ++ l) (numbered_on ns rest) ∙ sym (append_assoc (decimal n) (numbered ns []) rest))
 
-row_push : (ns : List ℕ) (n : ℕ) → numbered (ns ++ n ∷ []) [] ≡ numbered ns [] ++ 32 ∷ decimal n
-row_push ns n =
-    numbered-push ns n [] ∙ (numbered_on ns (numbered (n ∷ []) []) ∙ ap (λ (l : List ℕ). numbered ns [] ++ 32 ∷ l) (append-nil (decimal n)))
-
-row_next : (ns : List ℕ) (place : ℕ) → place < length ns → numbered (take (place + 1) ns) [] ≡ numbered (take place ns) [] ++ 32 ∷ decimal (get_or ns place 0)
-row_next ns place within = ap (λ (l : List ℕ). numbered l []) (take_more ns place 0 within) ∙ row_push (take place ns) (get_or ns place 0)
-
 entry_on : (e : Entry) (rest : List ℕ) → entry_then e rest ≡ entry_then e [] ++ rest
 entry_on (Learn clause hints) rest =
     let last = numbered_on hints (10 ∷ rest) ∙ (sym (append_assoc (numbered hints []) (10 ∷ []) rest) ∙ ap (λ (l : List ℕ). l ++ rest) (sym (numbered_on hints (10 ∷ [])))) in
@@ -44,32 +35,23 @@ entry_on (Learn clause hints) rest =
     ap (λ (l : List ℕ). codes "learn" ++ l) all
 entry_on (Drop number) rest = ap (λ (l : List ℕ). codes "drop " ++ l) (sym (append_assoc (decimal number) (10 ∷ []) rest))
 
-entries_on : (es : List Entry) (rest : List ℕ) → entries_then es rest ≡ entries_then es [] ++ rest
-entries_on [] rest = refl
-entries_on (e ∷ es) rest =
-    ap (entry_then e) (entries_on es rest) ∙ (entry_on e (entries_then es [] ++ rest) ∙ (sym (append_assoc (entry_then e []) (entries_then es []) rest) ∙ ap (λ (l : List ℕ). l ++ rest) (sym (entry_on e (entries_then es [])))))
-
 first_on : (horizon : ℕ) (rest : List ℕ) → first_then horizon rest ≡ first_then horizon [] ++ rest
 first_on horizon rest = ap (λ (l : List ℕ). codes "horizon " ++ l) (sym (append_assoc (decimal horizon) (10 ∷ []) rest))
 
--- the text of one entry more
-pub text_next : (horizon : ℕ) (log : List Entry) (i : ℕ) (e d : Entry) → i < length log → e ≡ get_or log i d
-    → first_then horizon (entries_then (take (i + 1) log) []) ≡ first_then horizon (entries_then (take i log) []) ++ entry_then e []
-text_next horizon log i e d within is =
-    let here = take_more log i d within ∙ ap (λ (x : Entry). take i log ++ x ∷ []) (sym is) in
-    let added = ap (λ (es : List Entry). entries_then es []) here ∙ (entries-push (take i log) e [] ∙ entries_on (take i log) (entry_then e [])) in
-    ap (first_then horizon) added
-    ∙ (first_on horizon (entries_then (take i log) [] ++ entry_then e [])
-    ∙ (sym (append_assoc (first_then horizon []) (entries_then (take i log) []) (entry_then e [])) ∙ ap (λ (l : List ℕ). l ++ entry_then e []) (sym (first_on horizon (entries_then (take i log) [])))))
-
 -- ---- what is written
 
-pub row_written : (ns old text blank next : List ℕ) (place : ℕ) → place < length ns → text ≡ old ++ numbered (take place ns) [] → blank ≡ text ++ 32 ∷ []
-    → next ≡ blank ++ decimal (get_or ns place 0) → next ≡ old ++ numbered (take (place + 1) ns) []
-row_written ns old text blank next place within so_far e f =
-    let number = decimal (get_or ns place 0) in
-    f ∙ (ap (λ (l : List ℕ). l ++ number) e ∙ (append_assoc text (32 ∷ []) number
-    ∙ (ap (λ (l : List ℕ). l ++ 32 ∷ number) so_far ∙ (append_assoc old (numbered (take place ns) []) (32 ∷ number) ∙ ap (λ (l : List ℕ). old ++ l) (sym (row_next ns place within))))))
+-- a number more of a row
+pub row_written : (ns rest text blank next old : List ℕ) (n : ℕ) → ns ≡ n ∷ rest → text ++ numbered ns [] ≡ old → blank ≡ text ++ 32 ∷ [] → next ≡ blank ++ decimal n → next ++ numbered rest [] ≡ old
+row_written ns rest text blank next old n h so_far e f =
+    let more = numbered rest [] in
+    ap (λ (l : List ℕ). l ++ more) f
+    ∙ (append_assoc blank (decimal n) more
+    ∙ (ap (λ (l : List ℕ). l ++ (decimal n ++ more)) e
+    ∙ (append_assoc text (32 ∷ []) (decimal n ++ more) ∙ (sym (ap (λ (l : List ℕ). text ++ numbered l []) h) ∙ so_far))))
+
+-- and where none is left
+pub row_done : (ns text old : List ℕ) → ns ≡ [] → text ++ numbered ns [] ≡ old → text ≡ old
+row_done ns text old h so_far = sym (append-nil text) ∙ (sym (ap (λ (l : List ℕ). text ++ numbered l []) h) ∙ so_far)
 
 pub learn_written : (clause hints old first codes_in by_in hints_in whole : List ℕ) → first ≡ old ++ codes "learn" → codes_in ≡ first ++ numbered clause [] → by_in ≡ codes_in ++ codes " by"
     → hints_in ≡ by_in ++ numbered hints [] → whole ≡ hints_in ++ 10 ∷ [] → whole ≡ old ++ entry_then (Learn clause hints) []
@@ -95,18 +77,37 @@ first_written horizon none first digits whole z a b c =
     c ∙ (ap (λ (l : List ℕ). l ++ 10 ∷ []) b ∙ (append_assoc first (decimal horizon) (10 ∷ [])
     ∙ (ap (λ (l : List ℕ). l ++ (decimal horizon ++ 10 ∷ [])) a ∙ (append_assoc none (codes "horizon ") (decimal horizon ++ 10 ∷ []) ∙ ap (λ (l : List ℕ). l ++ (codes "horizon " ++ (decimal horizon ++ 10 ∷ []))) z))))
 
-pub entry_written : (horizon : ℕ) (log : List Entry) (i : ℕ) (e d : Entry) (text next : List ℕ) → i < length log → e ≡ get_or log i d
-    → text ≡ first_then horizon (entries_then (take i log) []) → next ≡ text ++ entry_then e [] → next ≡ first_then horizon (entries_then (take (i + 1) log) [])
-entry_written horizon log i e d text next within is so_far added =
-    added ∙ (ap (λ (l : List ℕ). l ++ entry_then e []) so_far ∙ sym (text_next horizon log i e d within is))
+-- the first line, and what the entries are to add
+pub first_then_all : (horizon : ℕ) (log es : List Entry) (text : List ℕ) → text ≡ first_then horizon [] → es ≡ log → text ++ entries_then es [] ≡ first_then horizon (entries_then log [])
+first_then_all horizon log es text t e =
+    ap (λ (l : List ℕ). l ++ entries_then es []) t ∙ (sym (first_on horizon (entries_then es [])) ∙ ap (λ (x : List Entry). first_then horizon (entries_then x [])) e)
+
+-- an entry more
+pub entry_written : (es rest : List Entry) (e : Entry) (text next old : List ℕ) → es ≡ e ∷ rest → text ++ entries_then es [] ≡ old → next ≡ text ++ entry_then e [] → next ++ entries_then rest [] ≡ old
+entry_written es rest e text next old h so_far added =
+    ap (λ (l : List ℕ). l ++ entries_then rest []) added
+    ∙ (append_assoc text (entry_then e []) (entries_then rest [])
+    ∙ (ap (λ (l : List ℕ). text ++ l) (sym (entry_on e (entries_then rest []))) ∙ (sym (ap (λ (x : List Entry). text ++ entries_then x []) h) ∙ so_far)))
+
+-- and where none is left
+pub entries_done : (horizon : ℕ) (es log : List Entry) (text : List ℕ) → es ≡ [] → text ++ entries_then es [] ≡ first_then horizon (entries_then log []) → text ≡ proof_text horizon log
+entries_done horizon es log text h so_far =
+    sym (append-nil text) ∙ (sym (ap (λ (x : List Entry). text ++ entries_then x []) h) ∙ (so_far ∙ sym (whole_text horizon log)))
 
 -- ---- lengths
 
-pub row_counted : (ns : List ℕ) (place sum d next : ℕ) → place < length ns → sum ≡ saturated (length (numbered (take place ns) [])) → d ≡ length (decimal (get_or ns place 0))
-    → next ≡ min (sum + (1 + d)) 18446744073709551615 → next ≡ saturated (length (numbered (take (place + 1) ns) []))
-row_counted ns place sum d next within so_far is added =
-    let long = ap length (row_next ns place within) ∙ length-append (numbered (take place ns) []) (32 ∷ decimal (get_or ns place 0)) in
-    omega (arith, long, so_far, is, added)
+-- a number more of a row
+pub row_counted : (ns rest : List ℕ) (n sum d next total : ℕ) → ns ≡ n ∷ rest → saturated (sum + length (numbered ns [])) ≡ total → d ≡ length (decimal n) → next ≡ min (sum + (1 + d)) 18446744073709551615 → saturated (next + length (numbered rest [])) ≡ total
+row_counted ns rest n sum d next total h so_far is added =
+    let long = ap (λ (l : List ℕ). length (numbered l [])) h in
+    let parts = length-append (decimal n) (numbered rest []) in
+    omega (arith, long, parts, so_far, is, added)
+
+-- and where none is left
+pub row_all_counted : (ns : List ℕ) (sum total : ℕ) → ns ≡ [] → saturated (sum + length (numbered ns [])) ≡ total → sum ≤ 18446744073709551615 → sum ≡ total
+row_all_counted ns sum total h so_far small =
+    let long = ap (λ (l : List ℕ). length (numbered l [])) h in
+    omega (arith, long, so_far, small)
 
 learn_length : (clause hints : List ℕ) → length (entry_then (Learn clause hints) []) ≡ length (numbered clause []) + length (numbered hints []) + 9
 learn_length clause hints =
@@ -123,23 +124,30 @@ drop_counted number d few is =
     let long = length-append (decimal number) (10 ∷ []) in
     omega (arith, long, is, few)
 
-pub first_counted : (horizon d : ℕ) → d ≤ 10 → d ≡ length (decimal horizon) → 9 + d ≡ saturated (length (first_then horizon []))
-first_counted horizon d few is =
-    let long = length-append (decimal horizon) (10 ∷ []) in
-    omega (arith, long, is, few)
+pub first_counted : (horizon d : ℕ) (log es : List Entry) → d ≤ 10 → d ≡ length (decimal horizon) → es ≡ log → saturated (9 + d + length (entries_then es [])) ≡ saturated (length (first_then horizon (entries_then log [])))
+first_counted horizon d log es few is e =
+    let line = length-append (decimal horizon) (10 ∷ []) in
+    let whole = ap length (first_on horizon (entries_then log [])) ∙ length-append (first_then horizon []) (entries_then log []) in
+    let same = ap (λ (x : List Entry). length (entries_then x [])) e in
+    omega (arith, line, whole, same, is, few)
 
-pub entry_counted : (horizon : ℕ) (log : List Entry) (i : ℕ) (e d : Entry) (sum one next : ℕ) → i < length log → e ≡ get_or log i d
-    → sum ≡ saturated (length (first_then horizon (entries_then (take i log) []))) → one ≡ saturated (length (entry_then e [])) → next ≡ min (sum + one) 18446744073709551615
-    → next ≡ saturated (length (first_then horizon (entries_then (take (i + 1) log) [])))
-entry_counted horizon log i e d sum one next within is so_far own added =
-    let long = ap length (text_next horizon log i e d within is) ∙ length-append (first_then horizon (entries_then (take i log) [])) (entry_then e []) in
+-- an entry more
+pub entry_counted : (es rest : List Entry) (e : Entry) (sum one next total : ℕ) → es ≡ e ∷ rest → saturated (sum + length (entries_then es [])) ≡ total → one ≡ saturated (length (entry_then e [])) → next ≡ min (sum + one) 18446744073709551615 → saturated (next + length (entries_then rest [])) ≡ total
+entry_counted es rest e sum one next total h so_far own added =
+    let long = ap (λ (x : List Entry). length (entries_then x [])) h ∙ (ap length (entry_on e (entries_then rest [])) ∙ length-append (entry_then e []) (entries_then rest [])) in
     omega (arith, long, so_far, own, added)
+
+-- and where none is left
+pub all_counted : (horizon : ℕ) (es log : List Entry) (sum : ℕ) → es ≡ [] → saturated (sum + length (entries_then es [])) ≡ saturated (length (first_then horizon (entries_then log []))) → sum ≤ 18446744073709551615 → sum ≡ saturated (length (proof_text horizon log))
+all_counted horizon es log sum h so_far small =
+    let long = ap (λ (x : List Entry). length (entries_then x [])) h in
+    let text = ap length (whole_text horizon log) in
+    omega (arith, long, text, so_far, small)
 
 -- ---- what holds of every log
 
-pub small_next : (ns : List ℕ) (place : ℕ) → place < length ns → AreSmall (take place ns) → get_or ns place 0 ≤ 4294967295 → AreSmall (take (place + 1) ns)
-small_next ns place within are small = subst AreSmall (sym (take_more ns place 0 within)) (small-push (take place ns) (get_or ns place 0) are small)
+pub small_by : (ns rest all : List ℕ) (n : ℕ) → ns ≡ n ∷ rest → n ≤ 4294967295 → (AreSmall ns → AreSmall all) → AreSmall rest → AreSmall all
+small_by ns rest all n h small so_far r = so_far (subst AreSmall (sym h) (small, r))
 
-pub written_next : (log : List Entry) (i : ℕ) (e d : Entry) → i < length log → e ≡ get_or log i d → AreWritten (take i log) → IsWritten e → AreWritten (take (i + 1) log)
-written_next log i e d within is are one =
-    subst AreWritten (sym (take_more log i d within ∙ ap (λ (x : Entry). take i log ++ x ∷ []) (sym is))) (written-push (take i log) e are one)
+pub written_by : (es rest log : List Entry) (e : Entry) → es ≡ e ∷ rest → IsWritten e → (AreWritten es → AreWritten log) → AreWritten rest → AreWritten log
+written_by es rest log e h one so_far r = so_far (subst AreWritten (sym h) (one, r))

@@ -6,6 +6,7 @@ use crate::clause::clause_of;
 use crate::numbers::{read_numbers_to, read_one};
 use clause_base::log::{Entry, Hints};
 use clause_base::memory::Memory;
+use clause_log::log::Log;
 use std::alloc::Global;
 
 // Adds the entry that is told by what follows `learn`, and gives what follows its line.
@@ -13,9 +14,9 @@ fn read_learn<'a>(
     alloc: Global,
     bytes: &'a [u8],
     numbers: &mut Vec<u32>,
-    entries: &mut Vec<Entry>,
+    entries: &mut Log,
 ) -> Result<Option<&'a [u8]>, Memory>
-    ensures some { IfOk result (λ o. IfSome o (λ rest. AddsLearn entries.old.items entries.new.items bytes.now rest.now)) }
+    ensures some { IfOk result (λ o. IfSome o (λ rest. AddsLearn entries.old entries.new bytes.now rest.now)) }
     ensures none { IfOk result (λ o. o ≡ None → HasNoLearn bytes.now) }
 {
     let Some(rest) = read_numbers_to(bytes, b" by".as_slice(), numbers)? else {
@@ -37,9 +38,9 @@ pub fn read_entry<'a>(
     alloc: Global,
     bytes: &'a [u8],
     numbers: &mut Vec<u32>,
-    entries: &mut Vec<Entry>,
+    entries: &mut Log,
 ) -> Result<Option<&'a [u8]>, Memory>
-    ensures some { IfOk result (λ o. IfSome o (λ rest. AddsEntry entries.old.items entries.new.items bytes.now rest.now)) }
+    ensures some { IfOk result (λ o. IfSome o (λ rest. AddsEntry entries.old entries.new bytes.now rest.now)) }
     ensures none { IfOk result (λ o. o ≡ None → HasNoEntry bytes.now) }
 {
     if let Some(told) = bytes.strip_prefix(b"learn".as_slice()) {

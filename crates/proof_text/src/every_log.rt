@@ -1,29 +1,33 @@
 //! What holds of every log.
 ghost use Rattle.proof_text.specs.Text.{AreSmall, AreWritten, IsWritten};
 ghost use Rattle.proof_text.specs.Row.{row_numbers};
+ghost use Rattle.clause_log.specs.Step.{told, IsLawful};
 
 use crate::row::Row;
-use clause_base::log::{Entry, Log};
+use clause_log::log::Log;
+use clause_log::reader::Step;
 
 // The numbers of a row can be written.
 fn row_is_small(row: &Row<'_>)
     ensures { AreSmall (row_numbers row.now) }
 {
-    for place in 0..row.len() {
-        let _number = row.number(place);
+    let mut rest = row.copy();
+    while let Some(number) = rest.next() {
+        let _number = number;
     }
 }
 
 // An entry has a line.
-fn entry_is_written(entry: &Entry)
-    ensures { IsWritten entry.now }
+fn entry_is_written(step: &Step<'_>)
+    requires { IsLawful step.now }
+    ensures { IsWritten (told step.now) }
 {
-    match entry {
-        Entry::Learn { clause, hints } => {
-            row_is_small(&Row::Codes(clause.as_slice()));
-            row_is_small(&Row::Hints(hints.as_slice()));
+    match step {
+        Step::Learn { clause, hints } => {
+            row_is_small(&Row::of_codes(clause));
+            row_is_small(&Row::of_hints(hints));
         }
-        Entry::Drop { number } => {
+        Step::Drop { number } => {
             let _number = *number;
         }
     }
@@ -33,7 +37,8 @@ fn entry_is_written(entry: &Entry)
 pub fn written(log: &Log)
     ensures { AreWritten log.now }
 {
-    for entry in log.as_slice() {
-        entry_is_written(entry);
+    let mut reader = log.entries();
+    while let Some(step) = reader.next() {
+        entry_is_written(&step);
     }
 }

@@ -3,10 +3,12 @@ ghost use Rattle.std.specs.Prelude.{◌≡◌, ◌≤◌, ◌+◌, [], decimal, 
 ghost use Rattle.proof_text.specs.Text.{AreWritten, IsWritten, proof_text};
 ghost use Rattle.proof_text.specs.Reading.{numbered, entry_then};
 ghost use Rattle.proof_text.specs.Row.{row_numbers};
+ghost use Rattle.clause_log.specs.Step.{told};
 ghost use Rattle.proof_text.specs.Length.{saturated};
 
 use crate::row::Row;
-use clause_base::log::{Entry, Log};
+use clause_log::log::Log;
+use clause_log::reader::Step;
 
 // How many digits a number has.
 fn digits(number: u32) -> u64
@@ -27,21 +29,22 @@ fn row_length(row: &Row<'_>) -> u64
     ensures { result ≡ saturated (length (numbered (row_numbers row.now) [])) }
 {
     let mut sum = 0u64;
-    for place in 0..row.len() {
-        sum = sum.saturating_add(1 + digits(row.number(place)));
+    let mut rest = row.copy();
+    while let Some(number) = rest.next() {
+        sum = sum.saturating_add(1 + digits(number));
     }
     sum
 }
 
 // How many bytes the line of an entry takes, with its LF.
-fn entry_length(entry: &Entry) -> u64
-    ensures { result ≡ saturated (length (entry_then entry.now [])) }
+fn entry_length(step: &Step<'_>) -> u64
+    ensures { result ≡ saturated (length (entry_then (told step.now) [])) }
 {
-    match entry {
-        Entry::Learn { clause, hints } => row_length(&Row::Codes(clause.as_slice()))
-            .saturating_add(row_length(&Row::Hints(hints.as_slice())))
+    match step {
+        Step::Learn { clause, hints } => row_length(&Row::of_codes(clause))
+            .saturating_add(row_length(&Row::of_hints(hints)))
             .saturating_add(9),
-        Entry::Drop { number } => 6 + digits(*number),
+        Step::Drop { number } => 6 + digits(*number),
     }
 }
 
@@ -50,8 +53,9 @@ pub fn proof_length(horizon: u32, log: &Log) -> u64
     ensures { result ≡ saturated (length (proof_text horizon log.now)) }
 {
     let mut sum = 9 + digits(horizon);
-    for entry in log.as_slice() {
-        sum = sum.saturating_add(entry_length(entry));
+    let mut reader = log.entries();
+    while let Some(step) = reader.next() {
+        sum = sum.saturating_add(entry_length(&step));
     }
     sum
 }

@@ -2,8 +2,8 @@
 ghost use Rattle.std.specs.Prelude.{◌≡◌};
 ghost use Rattle.proof_text.specs.declared.proof.ProofFault.TheVariants as error;
 
-use clause_base::log::Log;
 use clause_base::memory::Memory;
+use clause_log::log::Log;
 use list_of::ListOf;
 use std::alloc::{AllocError, AllocFailed};
 

@@ -7,7 +7,7 @@ ghost use Rattle.proof_text.specs.Place.{TellsPlace};
 use crate::entry::read_entry;
 use crate::numbers::read_one;
 use crate::proof::{Proof, ProofFault};
-use clause_base::log::Log;
+use clause_log::log::Log;
 use std::alloc::Global;
 
 // The horizon that the first line names, and what follows the line.
@@ -40,7 +40,7 @@ pub fn read_proof(alloc: Global, bytes: &[u8]) -> Result<Proof, ProofFault>
         return Err(ProofFault::Syntax { at: 0 });
     };
     let mut numbers = Vec::new(alloc);
-    let mut entries = Vec::new(alloc);
+    let mut entries = Log::new(alloc);
     let mut rest = first;
     while !rest.is_empty() {
         let Some(others) = read_entry(alloc, rest, &mut numbers, &mut entries)? else {
@@ -51,6 +51,6 @@ pub fn read_proof(alloc: Global, bytes: &[u8]) -> Result<Proof, ProofFault>
     }
     Ok(Proof {
         horizon,
-        log: Log::of(entries),
+        log: entries,
     })
 }

@@ -1,40 +1,59 @@
-//! The numbers of an entry, by their places. All reading of an entry for its text goes through here.
-ghost use Rattle.std.specs.Prelude.{◌≡◌, length, get_or};
+//! The numbers of an entry, one after another. All reading of an entry for its text goes through here.
+ghost use Rattle.std.specs.Prelude.{◌≡◌, ◌∷◌, [], IfSome, IfNone};
 ghost use Rattle.proof_text.specs.Row.{row_numbers};
 
 use clause_base::literal::Lit;
+use number_bytes::numbers::Numbers;
 
-/// The codes of a clause, or the numbers of hints.
-#[derive(Clone, Copy, Debug)]
-pub enum Row<'a> {
-    Codes(&'a [Lit]),
-    Hints(&'a [u32]),
+/// The codes of a clause, or the numbers of hints, from the next one on.
+#[derive(Debug, Drop)]
+pub struct Row<'a> {
+    codes: &'a [Lit],
+    hints: Numbers<'a>,
 }
 
 impl<'a> Row<'a> {
-    /// How many numbers there are.
-    pub fn len(&self) -> usize
-        ensures { result ≡ length (row_numbers self.now) }
+    /// The codes of a clause.
+    pub fn of_codes(codes: &'a [Lit]) -> Row<'a>
+        ensures { row_numbers result ≡ codes.now }
     {
-        match self {
-            Row::Codes(lits) => lits.len(),
-            Row::Hints(numbers) => numbers.len(),
+        Row {
+            codes,
+            hints: Numbers::of(&[], 0),
         }
     }
 
-    /// The number at this place, counted from 0; 0 past the end.
-    pub fn number(&self, place: usize) -> u32
-        ensures { result ≡ get_or (row_numbers self.now) place 0 }
+    /// The numbers of hints.
+    pub fn of_hints(hints: &Numbers<'a>) -> Row<'a>
+        ensures { row_numbers result ≡ hints.now }
     {
-        match self {
-            Row::Codes(lits) => match lits.get(place) {
-                Some(lit) => lit.0,
-                None => 0,
-            },
-            Row::Hints(numbers) => match numbers.get(place) {
-                Some(number) => *number,
-                None => 0,
-            },
+        Row {
+            codes: &[],
+            hints: hints.copy(),
+        }
+    }
+
+    /// The same numbers, to be taken out on their own.
+    pub fn copy(&self) -> Row<'a>
+        ensures { row_numbers result ≡ row_numbers self.now }
+    {
+        Row {
+            codes: self.codes,
+            hints: self.hints.copy(),
+        }
+    }
+
+    /// Takes the next number out.
+    pub fn next(&mut self) -> Option<u32>
+        ensures some { IfSome result (λ n. row_numbers self.old ≡ n ∷ row_numbers self.new) }
+        ensures none { IfNone result (row_numbers self.old ≡ []) }
+    {
+        match self.codes.split_first() {
+            Some((lit, rest)) => {
+                self.codes = rest;
+                Some(lit.0)
+            }
+            None => self.hints.next(),
         }
     }
 }

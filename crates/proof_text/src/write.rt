@@ -3,13 +3,15 @@ ghost use Rattle.std.specs.Prelude.{◌≡◌, ◌≤◌, ◌++◌, [], OnOk, If
 ghost use Rattle.proof_text.specs.Text.{proof_text};
 ghost use Rattle.proof_text.specs.Reading.{numbered, entry_then};
 ghost use Rattle.proof_text.specs.Row.{row_numbers};
+ghost use Rattle.clause_log.specs.Step.{told};
 ghost use Rattle.clause_base.specs.declared.log.Entry.TheVariants.{Learn, Drop};
 
 use crate::length::proof_length;
 use crate::proof::Text;
 use crate::row::Row;
-use clause_base::log::{Entry, Log};
 use clause_base::memory::Memory;
+use clause_log::log::Log;
+use clause_log::reader::Step;
 use report_lines::push_number;
 use std::alloc::{AllocError, Global};
 
@@ -17,9 +19,10 @@ use std::alloc::{AllocError, Global};
 fn push_row(text: &mut Vec<u8>, row: &Row<'_>) -> Result<(), AllocError>
     ensures { OnOk result (text.new.items ≡ text.old.items ++ numbered (row_numbers row.now) []) }
 {
-    for place in 0..row.len() {
+    let mut rest = row.copy();
+    while let Some(number) = rest.next() {
         text.push(32)?;
-        push_number(text, u64::from(row.number(place)))?;
+        push_number(text, u64::from(number))?;
     }
     Ok(())
 }
@@ -47,16 +50,14 @@ fn push_drop(text: &mut Vec<u8>, number: u32) -> Result<(), AllocError>
 }
 
 // Appends the line of an entry.
-fn push_entry(text: &mut Vec<u8>, entry: &Entry) -> Result<(), AllocError>
-    ensures { OnOk result (text.new.items ≡ text.old.items ++ entry_then entry.now []) }
+fn push_entry(text: &mut Vec<u8>, step: &Step<'_>) -> Result<(), AllocError>
+    ensures { OnOk result (text.new.items ≡ text.old.items ++ entry_then (told step.now) []) }
 {
-    match entry {
-        Entry::Learn { clause, hints } => push_learn(
-            text,
-            &Row::Codes(clause.as_slice()),
-            &Row::Hints(hints.as_slice()),
-        ),
-        Entry::Drop { number } => push_drop(text, *number),
+    match step {
+        Step::Learn { clause, hints } => {
+            push_learn(text, &Row::of_codes(clause), &Row::of_hints(hints))
+        }
+        Step::Drop { number } => push_drop(text, *number),
     }
 }
 
@@ -70,8 +71,9 @@ pub fn write_proof(alloc: Global, horizon: u32, log: &Log) -> Result<Text, Memor
     text.extend_from_slice(b"horizon ".as_slice())?;
     push_number(&mut text, u64::from(horizon))?;
     text.push(10)?;
-    for entry in log.as_slice() {
-        push_entry(&mut text, entry)?;
+    let mut reader = log.entries();
+    while let Some(step) = reader.next() {
+        push_entry(&mut text, &step)?;
     }
     Ok(Text::of(text))
 }

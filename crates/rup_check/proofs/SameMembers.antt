@@ -55,16 +55,15 @@ fold_leads : (named : ℕ → Option (List ℕ)) (clause hints : List ℕ) → l
 fold_leads named clause hints = leads_same named (fold put [] clause) clause (λ m. list_any-fold (λ k. k == m) [] clause) hints
 
 -- one hint on: where its clause forces a literal, the negation is taken as false
-pub forced_on : (named : ℕ → Option (List ℕ)) (was now hints clause : List ℕ) (i d lit opp : ℕ) → i < length hints → Some clause ≡ named (get_or hints i d) → Forces lit ≡ effect_of_open was (open_literals was clause) → opp ≡ opposite lit → now ≡ put was opp → leads_to_conflict named now (drop (i + 1) hints) ≡ leads_to_conflict named was (drop i hints)
-forced_on named was now hints clause i d lit opp h s f o p =
-    let rest : List ℕ = drop (i + 1) hints in
+pub forced_on : (named : ℕ → Option (List ℕ)) (was now hints rest clause : List ℕ) (hint lit opp : ℕ) → hints ≡ hint ∷ rest → Some clause ≡ named hint → Forces lit ≡ effect_of_open was (open_literals was clause) → opp ≡ opposite lit → now ≡ put was opp → leads_to_conflict named now rest ≡ leads_to_conflict named was hints
+forced_on named was now hints rest clause hint lit opp h s f o p =
     let next : ℕ → Bool = λ l. leads_to_conflict named (was ++ opposite l ∷ []) rest in
     ap (λ (xs : List ℕ). leads_to_conflict named xs rest) p
     ∙ sym (put_leads named was rest opp)
     ∙ ap (λ (l : ℕ). leads_to_conflict named (was ++ l ∷ []) rest) o
     ∙ ap (goes_on next (length rest == 0)) f
     ∙ ap (λ (c : Option (List ℕ)). goes_on next (length rest == 0) (effect_of was c)) s
-    ∙ ap (leads_to_conflict named was) (sym (drop_more hints i d h))
+    ∙ ap (leads_to_conflict named was) (sym h)
 
 -- what a clause's hints lead to, its literals taken as false one after another
 pub falsified_leads : (named : ℕ → Option (List ℕ)) (was now clause hints : List ℕ) (b : Bool) → was ≡ [] → now ≡ fold put was clause → b ≡ leads_to_conflict named now hints → b ≡ leads_to_conflict named clause hints

@@ -1,14 +1,17 @@
 ghost use Rattle.std.specs.Prelude.{◌≡◌, ℕ, ◌+◌, ◌<◌, ◌^◌, length, IfOk, IfSome, IfNone, OnOk, IsOkUnless, IsTrue, ◌↔◌};
 ghost use Rattle.clause_base.specs.Formula.{IsUnsatisfiable};
 ghost use Rattle.clause_base.specs.Derivation.{IsDerivation, EndsEmpty, IsFirstUnderived, IsRefutation, learns_empty};
+ghost use Rattle.clause_log.specs.Step.{told};
 ghost use Rattle.rup_check.specs.Certificate.{Certifies};
+ghost use Rattle.rup_check.specs.Ends.{ends_by};
 
 use crate::entry::is_derived;
 use crate::falsified::Falsified;
 use crate::kept::Kept;
 use clause_base::formula::Formula;
-use clause_base::log::{Entry, Log};
 use clause_base::memory::Memory;
+use clause_log::log::Log;
+use clause_log::reader::Step;
 use std::alloc::Global;
 use std::marker::Model;
 
@@ -70,43 +73,42 @@ impl From<Memory> for CheckError {
 }
 
 /// Whether there is a last entry and it learns the empty clause.
-fn ends_empty(entries: &[Entry]) -> bool
-    ensures { IsTrue result ↔ EndsEmpty entries.now }
+fn ends_empty(log: &Log) -> bool
+    ensures { IsTrue result ↔ EndsEmpty log.now }
 {
-    match entries.last() {
-        None => false,
-        Some(last) => learns_empty(last),
+    let mut empty = false;
+    let mut reader = log.entries();
+    while let Some(step) = reader.next() {
+        empty = learns_empty(&step);
     }
+    empty
 }
 
 /// Whether an entry learns the empty clause.
-fn learns_empty(entry: &Entry) -> bool
-    ensures { result ≡ learns_empty entry.now }
+fn learns_empty(step: &Step<'_>) -> bool
+    ensures { result ≡ learns_empty (told step.now) }
 {
-    match entry {
-        Entry::Learn { clause, hints: _ } => clause.as_slice().is_empty(),
-        Entry::Drop { number: _ } => false,
+    match step {
+        Step::Learn { clause, hints: _ } => clause.is_empty(),
+        Step::Drop { number: _ } => false,
     }
 }
 
 /// The first of the entries that is not derived.
-fn first_underived(
-    alloc: Global,
-    formula: &Formula,
-    entries: &[Entry],
-) -> Result<Option<u32>, Memory>
-    requires { length formula.now.clauses + length entries.now < 2 ^ 32 }
-    ensures found { IfOk result (λ first. IfSome first (IsFirstUnderived formula.now.variables formula.now.clauses entries.now)) }
-    ensures none { IfOk result (λ first. IfNone first (IsDerivation formula.now.variables formula.now.clauses entries.now)) }
+fn first_underived(alloc: Global, formula: &Formula, log: &Log) -> Result<Option<u32>, Memory>
+    requires { length formula.now.clauses + length log.now < 2 ^ 32 }
+    ensures found { IfOk result (λ first. IfSome first (IsFirstUnderived formula.now.variables formula.now.clauses log.now)) }
+    ensures none { IfOk result (λ first. IfNone first (IsDerivation formula.now.variables formula.now.clauses log.now)) }
 {
     let mut marks = Falsified::new(alloc, formula.variables())?;
     let mut kept = Kept::new(alloc, formula.count())?;
-    for number in 0..entries.len() {
-        let entry = &entries[number];
-        if !is_derived(&mut marks, formula, &kept, entry)? {
+    let mut reader = log.entries();
+    for number in 0..log.len() {
+        let step = reader.take();
+        if !is_derived(&mut marks, formula, &kept, &step)? {
             return Ok(Some(number as u32));
         }
-        kept.record(entry)?;
+        kept.record(&step)?;
     }
     Ok(None)
 }
@@ -124,15 +126,14 @@ pub fn check(alloc: Global, formula: &Formula, log: &Log) -> Result<Checked, Che
     ensures rejected { (e : ℕ) → result ≡ Err (CheckError.Rejected e) → IsFirstUnderived formula.now.variables formula.now.clauses log.now e }
     ensures not_empty { result ≡ Err CheckError.NotEmpty → IsDerivation formula.now.variables formula.now.clauses log.now × (EndsEmpty log.now → ⊥) }
 {
-    let entries = log.as_slice();
-    if let Some(entry) = first_underived(alloc, formula, entries)? {
+    if let Some(entry) = first_underived(alloc, formula, log)? {
         return Err(CheckError::Rejected { entry });
     }
-    if !ends_empty(entries) {
+    if !ends_empty(log) {
         return Err(CheckError::NotEmpty);
     }
     Ok(Checked {
         name: formula.name(),
-        entries: entries.len() as u32,
+        entries: log.len() as u32,
     })
 }

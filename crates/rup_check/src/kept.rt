@@ -1,12 +1,13 @@
 ghost use Rattle.std.specs.Prelude.{◌≡◌, ◌∷◌, [], ◌+◌, ◌++◌, ◌<◌, ◌||◌, ℕ, Bool, false, length, replicate, slice_get, IfOk, OnOk};
 ghost use Rattle.clause_base.specs.Derivation.{clauses_of, drops};
+ghost use Rattle.clause_log.specs.Step.{told, IsLawful};
 ghost use Rattle.rup_check.specs.Kept.{kept_named, is_dropped, IsDropBelow};
 
 use clause_base::clause_list::ClauseList;
 use clause_base::formula::Formula;
-use clause_base::log::Entry;
 use clause_base::memory::Memory;
 use clause_base::view::View;
+use clause_log::reader::Step;
 use std::alloc::Global;
 
 /// What is known after some entries: the clauses that they learned, and for each number so far whether it was dropped.
@@ -63,18 +64,19 @@ impl Kept {
     }
 
     /// Takes an entry as the next one. The number that it drops is one so far.
-    pub fn record(&mut self, entry: &Entry) -> Result<(), Memory>
-        requires in_range { IsDropBelow (length self.old.dropped.items) entry.now }
-        ensures learned { OnOk result (self.new.learned ≡ self.old.learned ++ clauses_of (entry.now ∷ [])) }
-        ensures dropped { OnOk result ((number : ℕ) → is_dropped self.new.dropped.items number ≡ (is_dropped self.old.dropped.items number || drops number entry.now)) }
-        ensures long { OnOk result (length self.new.dropped.items ≡ length self.old.dropped.items + length (clauses_of (entry.now ∷ []))) }
+    pub fn record(&mut self, step: &Step<'_>) -> Result<(), Memory>
+        requires in_range { IsDropBelow (length self.old.dropped.items) (told step.now) }
+        requires lawful { IsLawful step.now }
+        ensures learned { OnOk result (self.new.learned ≡ self.old.learned ++ clauses_of (told step.now ∷ [])) }
+        ensures dropped { OnOk result ((number : ℕ) → is_dropped self.new.dropped.items number ≡ (is_dropped self.old.dropped.items number || drops number (told step.now))) }
+        ensures long { OnOk result (length self.new.dropped.items ≡ length self.old.dropped.items + length (clauses_of (told step.now ∷ []))) }
     {
-        match entry {
-            Entry::Learn { clause, hints: _ } => {
-                self.learned.add_sorted(clause.as_slice())?;
+        match step {
+            Step::Learn { clause, hints: _ } => {
+                self.learned.add_sorted(clause)?;
                 self.dropped.push(false)?;
             }
-            Entry::Drop { number } => {
+            Step::Drop { number } => {
                 self.dropped[*number as usize] = true;
             }
         }

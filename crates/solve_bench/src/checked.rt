@@ -4,8 +4,9 @@ use crate::{MOST, write_number};
 use clause_base::clause::Clause;
 use clause_base::formula::Formula;
 use clause_base::literal::Lit;
-use clause_base::log::{Entry, Hints, Log};
+use clause_base::log::{Entry, Hints};
 use clause_base::memory::Memory;
+use clause_log::log::Log;
 use rup_check::check::{CheckError, check};
 use std::alloc::Global;
 use std::io::{self, Write};
@@ -17,7 +18,7 @@ pub fn write_answer(
     formula: &Formula,
     log: &Log,
 ) -> io::Result<()> {
-    if formula.count() > MOST || log.as_slice().len() > MOST as usize {
+    if formula.count() > MOST || log.len() > MOST as usize {
         return writeln!(out, "check: too long");
     }
     match check(alloc, formula, log) {

@@ -19,11 +19,13 @@ use crate::propagations::count_propagations;
 use cdcl_core::Standing;
 use cdcl_core::solver::Solver;
 use clause_base::chooser::PlainChooser;
-use clause_base::clause::Clause;
 use clause_base::formula::Formula;
-use clause_base::log::{Entry, Hints, Log};
+use clause_base::literal::Lit;
 use clause_base::memory::Memory;
+use clause_log::log::Log;
+use clause_log::reader::Step;
 use itoa::Buffer;
+use number_bytes::numbers::Numbers;
 use std::alloc::Global;
 use std::io::{BufWriter, Write};
 use std::{env, fs, io};
@@ -43,24 +45,26 @@ fn write_number(out: &mut Vec<u8>, number: u32) -> io::Result<()> {
 }
 
 /// Writes the line of a learned clause.
-fn write_learned(out: &mut Vec<u8>, clause: &Clause, hints: &Hints) -> io::Result<()> {
+fn write_learned(out: &mut Vec<u8>, clause: &[Lit], hints: Numbers<'_>) -> io::Result<()> {
     write!(out, "learn")?;
-    for lit in clause.as_slice() {
+    for lit in clause {
         write_number(out, lit.0)?;
     }
     write!(out, " by")?;
-    for hint in hints.as_slice() {
-        write_number(out, *hint)?;
+    let mut left = hints;
+    while let Some(hint) = left.next() {
+        write_number(out, hint)?;
     }
     writeln!(out)
 }
 
 /// Writes a log, an entry a line.
 fn write_log(out: &mut Vec<u8>, log: &Log) -> io::Result<()> {
-    for entry in log.as_slice() {
-        match entry {
-            Entry::Learn { clause, hints } => write_learned(out, clause, hints)?,
-            Entry::Drop { number } => writeln!(out, "drop {number}")?,
+    let mut reader = log.entries();
+    while let Some(step) = reader.next() {
+        match step {
+            Step::Learn { clause, hints } => write_learned(out, clause, hints)?,
+            Step::Drop { number } => writeln!(out, "drop {number}")?,
         }
     }
     Ok(())

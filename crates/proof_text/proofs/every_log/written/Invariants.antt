@@ -1,6 +1,9 @@
-use Rattle.std.proofs.Common.{take}
+use Rattle.std.proofs.Common.{length}
 use Rattle.proof_text.specs.Text.{AreWritten}
 use Rattle.proof_text.proofs.every_log.written.Given as goal
 
-abbrev pub invariant-loop-entry : goal.invariant-loop-entry
-invariant-loop-entry l = AreWritten (take l.entry-index l.log)
+abbrev pub invariant-loop-step : goal.invariant-loop-step
+invariant-loop-step l = AreWritten l.reader → AreWritten l.log
+
+abbrev pub decreases-loop-step : goal.decreases-loop-step
+decreases-loop-step l = length l.reader

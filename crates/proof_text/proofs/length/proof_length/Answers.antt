@@ -1,25 +1,24 @@
-use Rattle.std.proofs.Common.{◌≡◌, ◌∙◌, ◌<◌, [], ap, arith, get_or, length, rules, sym}
-use Rattle.proof_text.specs.Length.{saturated}
-use Rattle.std.proofs.lemmas.List.{take_all}
-use Rattle.proof_text.proofs.Lengths.{entry_counted, first_counted}
-use Rattle.proof_text.proofs.Spelling.{entries_then, first_then, whole_text}
+use Rattle.std.proofs.Common.{◌≡◌, [], arith, rules}
+use Rattle.clause_log.specs.Step.{told}
+use Rattle.proof_text.proofs.Lengths.{all_counted, entry_counted, first_counted}
 use Rattle.proof_text.proofs.length.proof_length.Goals as goal
 
 pub overflow_add-sum : goal.overflow_add-sum
 overflow_add-sum c = record { fits = omega (arith, c.digits-sum.ensures.few) }
 
-pub loop-entry-init : goal.loop-entry-init
-loop-entry-init c = first_counted c.args.horizon c.digits-sum.result c.digits-sum.ensures.few c.digits-sum.ensures.value
+pub loop-step-init : goal.loop-step-init
+loop-step-init c = record {
+  total = first_counted c.args.horizon c.digits-sum.result c.args.log.now c.entries-reader.result c.digits-sum.ensures.few c.digits-sum.ensures.value c.entries-reader.ensures;
+  small = omega (arith, c.digits-sum.ensures.few);
+}
 
-pub loop-entry-preserved : goal.loop-entry-preserved
-loop-entry-preserved c =
-    let within : c.loop-entry.entry-index < length c.args.log.now = search rules in
-    let is : c.entry-item.result ≡ get_or c.args.log.now c.loop-entry.entry-index c.entry-item.result = search rules in
-    entry_counted c.args.horizon c.args.log.now c.loop-entry.entry-index c.entry-item.result c.entry-item.result c.loop-entry.sum c.entry_length.result c.saturating_add-sum.result within is
-    c.loop-entry.invariant c.entry_length.ensures c.saturating_add-sum.ensures
+pub loop-step-preserved : goal.loop-step-preserved
+loop-step-preserved c = record {
+  total = entry_counted c.loop-step.reader c.next.new.self (told c.in-Some.step) c.loop-step.sum c.entry_length.result c.saturating_add-sum.result _ c.in-Some.ensures.some c.loop-step.invariant.total c.entry_length.ensures c.saturating_add-sum.ensures;
+  small = omega (arith, c.saturating_add-sum.ensures);
+}
 
 pub returns : goal.returns
 returns c =
-    let long = ap length c.as_slice-entry-items.ensures in
-    let all = take_all c.loop-entry.entry-index c.args.log.now (omega (arith, long, c.loop-entry-test.false)) in
-    c.loop-entry.invariant ∙ ap (λ n. saturated n) (ap (λ es. length (first_then c.args.horizon (entries_then es []))) all ∙ ap length (sym (whole_text c.args.horizon c.args.log.now)))
+    let none : c.loop-step.reader ≡ [] = search rules in
+    all_counted c.args.horizon c.loop-step.reader c.args.log.now c.loop-step.sum none c.loop-step.invariant.total c.loop-step.invariant.small

@@ -1,11 +1,19 @@
-use Rattle.std.proofs.Common.{◌≡◌, ◌<◌, ◌∷◌, ◌++◌, [], arith, decimal, get_or, length, rules}
+use Rattle.std.proofs.Common.{◌≡◌, ◌∷◌, ◌++◌, [], ap, decimal, rules}
+use Rattle.proof_text.specs.Reading.{numbered}
 use Rattle.proof_text.specs.Row.{row_numbers}
-use Rattle.proof_text.proofs.Lengths.{row_written}
+use Rattle.proof_text.proofs.Lengths.{row_written, row_done}
 use Rattle.proof_text.proofs.write.push_row.Goals as goal
 
-pub loop-place-preserved : goal.loop-place-preserved
-loop-place-preserved c =
-    let within : c.loop-place.place < length (row_numbers c.args.row.now) = omega (arith, c.loop-place-test.true, c.len-place-end.ensures) in
-    let blank : c.push.new.self.items ≡ c.loop-place.text.items ++ 32 ∷ [] = search rules in
-    let next : c.push_number.new.text.items ≡ c.push.new.self.items ++ decimal (get_or (row_numbers c.args.row.now) c.loop-place.place 0) = search rules in
-    row_written (row_numbers c.args.row.now) c.args.text.now.items c.loop-place.text.items c.push.new.self.items c.push_number.new.text.items c.loop-place.place within c.loop-place.invariant blank next
+pub loop-number-init : goal.loop-number-init
+loop-number-init c = ap (λ ns. c.args.text.now.items ++ numbered ns []) c.copy-rest.ensures
+
+pub loop-number-preserved : goal.loop-number-preserved
+loop-number-preserved c =
+    let blank : c.push.new.self.items ≡ c.loop-number.text.items ++ 32 ∷ [] = search rules in
+    let next : c.push_number.new.text.items ≡ c.push.new.self.items ++ decimal c.in-Some.number = search rules in
+    row_written (row_numbers c.loop-number.rest) (row_numbers c.next.new.self) c.loop-number.text.items c.push.new.self.items c.push_number.new.text.items _ c.in-Some.number c.in-Some.ensures.some c.loop-number.invariant blank next
+
+pub returns : goal.returns
+returns c =
+    let none : row_numbers c.loop-number.rest ≡ [] = search rules in
+    row_done (row_numbers c.loop-number.rest) c.loop-number.text.items _ none c.loop-number.invariant

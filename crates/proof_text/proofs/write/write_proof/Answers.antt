@@ -1,17 +1,21 @@
-use Rattle.std.proofs.Common.{◌≡◌, ◌∙◌, ◌<◌, [], ap, arith, get_or, length, rules, sym}
-use Rattle.std.proofs.lemmas.List.{take_all}
-use Rattle.proof_text.proofs.Lengths.{entry_written}
-use Rattle.proof_text.proofs.Spelling.{entries_then, first_then, whole_text}
+use Rattle.std.proofs.Common.{◌≡◌, ◌∙◌, ◌∷◌, ◌++◌, [], codes, decimal, refl, rules}
+use Rattle.clause_log.specs.Step.{told}
+use Rattle.proof_text.proofs.Lengths.{entries_done, entry_written, first_then_all, first_written}
 use Rattle.proof_text.proofs.write.write_proof.Goals as goal
 
-pub loop-entry-preserved : goal.loop-entry-preserved
-loop-entry-preserved c =
-    let within : c.loop-entry.entry-index < length c.args.log.now = search rules in
-    let is : c.entry-item.result ≡ get_or c.args.log.now c.loop-entry.entry-index c.entry-item.result = search rules in
-    entry_written c.args.horizon c.args.log.now c.loop-entry.entry-index c.entry-item.result c.entry-item.result c.loop-entry.text.items c.push_entry.new.text.items within is c.loop-entry.invariant c.in_ok-push_entry.ensures
+pub loop-step-init : goal.loop-step-init
+loop-step-init c =
+    let first : c.extend_from_slice.new.self.items ≡ codes "horizon " = search rules in
+    let digits : c.push_number.new.text.items ≡ c.extend_from_slice.new.self.items ++ decimal c.args.horizon = search rules in
+    let whole : c.push.new.self.items ≡ c.push_number.new.text.items ++ 10 ∷ [] = search rules in
+    let line = first_written c.args.horizon [] c.extend_from_slice.new.self.items c.push_number.new.text.items c.push.new.self.items refl first digits whole in
+    first_then_all c.args.horizon c.args.log.now c.entries-reader.result c.push.new.self.items line c.entries-reader.ensures
+
+pub loop-step-preserved : goal.loop-step-preserved
+loop-step-preserved c =
+    entry_written c.loop-step.reader c.next.new.self (told c.in-Some.step) c.loop-step.text.items c.push_entry.new.text.items _ c.in-Some.ensures.some c.loop-step.invariant c.in_ok-push_entry.ensures
 
 pub returns : goal.returns
 returns c =
-    let long = ap length c.as_slice-entry-items.ensures in
-    let all = take_all c.loop-entry.entry-index c.args.log.now (omega (arith, long, c.loop-entry-test.false)) in
-    c.of.ensures ∙ (c.loop-entry.invariant ∙ (ap (λ es. first_then c.args.horizon (entries_then es [])) all ∙ sym (whole_text c.args.horizon c.args.log.now)))
+    let none : c.loop-step.reader ≡ [] = search rules in
+    c.of.ensures ∙ entries_done c.args.horizon c.loop-step.reader c.args.log.now c.loop-step.text.items none c.loop-step.invariant

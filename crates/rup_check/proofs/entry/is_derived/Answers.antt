@@ -1,10 +1,10 @@
-use Rattle.std.proofs.Common.{◌≡◌, ◌∙◌, ◌&&◌, ℕ, List, Bool, true, Result, Ok, Err, IfOk, refl, sym, ap, subst}
+use Rattle.std.proofs.Common.{◌≡◌, ◌∙◌, ◌&&◌, ℕ, List, Bool, true, Result, Ok, Err, IfOk, refl, sym, ap, rules}
 use Rattle.clause_base.specs.Clause.{has_variables_below}
 use Rattle.clause_base.specs.Derivation.{leads_to_conflict}
 use Rattle.clause_base.specs.declared.log.Entry.{Entry}
 use Rattle.clause_base.specs.declared.log.Entry.TheVariants.{Learn}
 use Rattle.clause_base.specs.declared.memory.Memory.{Memory}
-use Rattle.clause_base.proofs.ClauseLemmas.{below_test}
+use Rattle.clause_log.specs.Step.{told}
 use Rattle.rup_check.specs.Kept.{kept_named, is_derived_by}
 use Rattle.rup_check.proofs.entry.is_derived.Goals as goal
 
@@ -19,6 +19,5 @@ learn_by (Err m) variables clauses learned dropped clause hints xs ys entry e f 
 
 pub returns-else-not-fits-clause-answer : goal.returns-else-not-fits-clause-answer
 returns-else-not-fits-clause-answer c =
-    let below = below_test c.variables.result c.in-Learn.clause (c.if-not-fits.ensures.0 refl) in
-    let test : has_variables_below c.args.formula.now.variables c.in-Learn.clause ≡ true = subst (λ (n : ℕ). has_variables_below n c.in-Learn.clause ≡ true) c.variables.ensures.value below in
-    learn_by c.follows.result c.args.formula.now.variables c.args.formula.now.clauses c.args.kept.now.learned c.args.kept.now.dropped.items c.in-Learn.clause c.in-Learn.hints _ _ c.args.entry.now c.in-Learn.is c.as_slice.ensures.value c.as_slice-in-Learn.ensures test c.follows.ensures.answer
+    let test : has_variables_below c.args.formula.now.variables c.in-Learn.clause.now ≡ true = search rules in
+    learn_by c.follows.result c.args.formula.now.variables c.args.formula.now.clauses c.args.kept.now.learned c.args.kept.now.dropped.items c.in-Learn.clause.now c.in-Learn.hints _ _ (told c.args.step.now) (ap told c.in-Learn.is) refl refl test c.follows.ensures.answer

@@ -1,9 +1,12 @@
 use Rattle.std.proofs.Common.{◌∙◌}
+use Rattle.rup_check.specs.Kept.{kept_named}
 use Rattle.rup_check.proofs.SameMembers.{forced_on}
 use Rattle.rup_check.proofs.entry.leads_to_conflict.Goals as goal
 
-pub loop-i-preserved : goal.loop-i-preserved
-loop-i-preserved c = record {
-  answer = forced_on _ _ _ _ _ c.loop-i.i _ _ _ c.loop-i-test.true c.in-Some.ensures c.in-Forces.ensures.effect c.opposite.ensures c.in_ok-falsify-in-Forces.ensures.falsified ∙ c.loop-i.invariant.answer;
-  variables = c.in_ok-falsify-in-Forces.ensures.variables ∙ c.loop-i.invariant.variables;
-}
+pub loop-hint-preserved : goal.loop-hint-preserved
+loop-hint-preserved c =
+    let named = kept_named c.args.formula.now.clauses c.args.kept.now.learned c.args.kept.now.dropped.items in
+    record {
+      answer = forced_on named _ _ _ _ _ _ _ _ c.in-Some.ensures.some c.in-Some-clause.ensures c.in-Forces.ensures.effect c.opposite.ensures c.in_ok-falsify-in-Forces.ensures.falsified ∙ c.loop-hint.invariant.answer;
+      variables = c.in_ok-falsify-in-Forces.ensures.variables ∙ c.loop-hint.invariant.variables;
+    }

@@ -1,0 +1,148 @@
+ghost use Rattle.std.specs.Prelude.{◌≡◌, ◌∷◌, [], ◌++◌, ◌<◌, Some, length, map, slice_get, OnOk, OnErr};
+ghost use Rattle.clause_base.specs.Clause.{IsClause};
+ghost use Rattle.clause_base.specs.Derivation.{clauses_of};
+ghost use Rattle.clause_log.specs.Held.{entry_bytes, IsSmall};
+
+use crate::reader::Reader;
+use crate::steps::{add_drops, add_hints};
+use clause_base::clause_list::ClauseList;
+use clause_base::literal::Lit;
+use clause_base::log::Entry;
+use clause_base::memory::Memory;
+use std::alloc::Global;
+use std::marker::Model;
+
+/// A list of entries: clauses that are learned from a formula and the entries before, and clauses that are dropped.
+#[derive(Debug)]
+pub struct Log {
+    count: usize,
+    learned: ClauseList,
+    steps: Vec<u8>,
+}
+
+impl Model for Log {
+    ghost use Rattle.std.specs.Prelude.{List};
+    ghost use Rattle.clause_base.specs.declared.log.Entry.{Entry};
+    ghost use Rattle.clause_log.specs.Held.{entries_of, IsHeld};
+
+    ghost Value = { List Entry };
+
+    ghost view = { λ l. entries_of l.count l.learned l.steps.items };
+
+    ghost invariant = { λ l. IsHeld (entries_of l.count l.learned l.steps.items) l.count l.learned l.steps.items };
+}
+
+/// Letting one go is one call, in which its parts go: whoever holds one proves one step.
+impl Drop for Log {
+    fn drop(self) {
+        let Log {
+            count: _,
+            learned: _,
+            steps: _,
+        } = self;
+    }
+}
+
+/// Adds a learned clause to both blocks. After want of memory they are unchanged.
+fn add_learned(
+    learned: &mut ClauseList,
+    steps: &mut Vec<u8>,
+    clause: &[Lit],
+    hints: &[u32],
+) -> Result<(), Memory>
+    requires { IsClause clause.now }
+    ensures steps { OnOk result (steps.new.items ≡ steps.old.items ++ entry_bytes (Entry.Learn clause.now hints.now)) }
+    ensures learned { OnOk result (learned.new ≡ learned.old ++ clause.now ∷ []) }
+    ensures small { OnOk result (IsSmall (Entry.Learn clause.now hints.now)) }
+    ensures err_steps { OnErr result (steps.new.items ≡ steps.old.items) }
+    ensures err_learned { OnErr result (learned.new ≡ learned.old) }
+{
+    let start = steps.len();
+    add_hints(steps, hints)?;
+    match learned.add_sorted(clause) {
+        Ok(()) => Ok(()),
+        Err(error) => {
+            steps.truncate(start);
+            Err(error)
+        }
+    }
+}
+
+impl Log {
+    /// The log without entries. It takes no memory, and keeps the allocator for the entries to come.
+    pub fn new(alloc: Global) -> Log
+        ensures { result ≡ [] }
+    {
+        Log {
+            count: 0,
+            learned: ClauseList::new(alloc),
+            steps: Vec::new(alloc),
+        }
+    }
+
+    /// How many entries there are.
+    pub fn len(&self) -> usize
+        ensures { result ≡ length self.now }
+    {
+        self.count
+    }
+
+    /// The entries, from the first on.
+    pub fn entries(&self) -> Reader<'_>
+        ensures { result ≡ self.now }
+    {
+        Reader::of(self.count, &self.learned, &self.steps)
+    }
+
+    /// How many clauses are learned.
+    pub fn learned_count(&self) -> usize
+        ensures { result ≡ length (clauses_of self.now) }
+    {
+        self.learned.count()
+    }
+
+    /// The literals of the learned clause with this number, counted from 0.
+    #[inline]
+    pub fn learned(&self, number: usize) -> &[Lit]
+        requires { number < length (clauses_of self.now) }
+        ensures value { slice_get (clauses_of self.now) number ≡ Some result.now }
+        ensures lawful { IsClause result.now }
+    {
+        self.learned.clause(number)
+    }
+
+    /// Adds an entry that learns a clause by these hints. After want of memory the log is unchanged.
+    pub fn push_learned(&mut self, clause: &[Lit], hints: &[u32]) -> Result<(), Memory>
+        requires { IsClause clause.now }
+        ensures ok { OnOk result (self.new ≡ self.old ++ Entry.Learn clause.now hints.now ∷ []) }
+        ensures err { OnErr result (self.new ≡ self.old) }
+    {
+        add_learned(&mut self.learned, &mut self.steps, clause, hints)?;
+        self.count += 1;
+        Ok(())
+    }
+
+    /// Adds entries that drop the clauses with these numbers, in this order. After want of memory the log is unchanged.
+    pub fn push_drops(&mut self, numbers: &[u32]) -> Result<(), Memory>
+        ensures ok { OnOk result (self.new ≡ self.old ++ map (λ n. Entry.Drop n) numbers.now) }
+        ensures err { OnErr result (self.new ≡ self.old) }
+    {
+        add_drops(&mut self.steps, numbers)?;
+        self.count += numbers.len();
+        Ok(())
+    }
+
+    /// Adds an entry at the end. After want of memory the log is unchanged.
+    pub fn push(&mut self, entry: Entry) -> Result<(), Memory>
+        ensures ok { OnOk result (self.new ≡ self.old ++ entry ∷ []) }
+        ensures err { OnErr result (self.new ≡ self.old) }
+    {
+        match entry {
+            Entry::Learn { clause, hints } => self.push_learned(
+                clause.as_slice(),
+                hints.as_slice(),
+            ),
+            Entry::Drop { number } => self.push_drops(&[number]),
+        }
+    }
+}

@@ -1,0 +1,67 @@
+//! The bytes of entries.
+ghost use Rattle.std.specs.Prelude.{◌≡◌, ◌++◌, ◌<◌, ◌*◌, ◌^◌, length, map, take, All, OnOk, OnErr};
+ghost use Rattle.number_bytes.specs.Number.{bytes_of};
+ghost use Rattle.number_bytes.specs.Numbers.{steps_of};
+ghost use Rattle.clause_base.specs.declared.log.Entry.TheVariants.{Drop};
+ghost use Rattle.clause_log.specs.Held.{log_bytes, AreSmall};
+
+use clause_base::memory::Memory;
+use number_bytes::number::put_number;
+use number_bytes::numbers::put_numbers;
+use std::alloc::AllocError;
+
+/// Adds how many hints there are, and the hints. After want of memory the bytes that stood before still stand first.
+fn put_hints(steps: &mut Vec<u8>, hints: &[u32]) -> Result<(), AllocError>
+    ensures ok { OnOk result (steps.new.items ≡ steps.old.items ++ (bytes_of (2 * length hints.now) ++ steps_of 0 hints.now)) }
+    ensures small { OnOk result (All (λ n. n < 2 ^ 32) hints.now) }
+    ensures few { length hints.now < 2 ^ 62 }
+    ensures before { take (length steps.old.items) steps.new.items ≡ steps.old.items }
+{
+    put_number(steps, 2 * hints.len() as u64)?;
+    put_numbers(steps, hints)
+}
+
+/// Adds the numbers that entries drop. After want of memory the bytes that stood before still stand first.
+fn put_drops(steps: &mut Vec<u8>, numbers: &[u32]) -> Result<(), AllocError>
+    ensures ok { OnOk result (steps.new.items ≡ steps.old.items ++ log_bytes (map (λ n. Drop n) numbers.now)) }
+    ensures small { OnOk result (AreSmall (map (λ n. Drop n) numbers.now)) }
+    ensures before { take (length steps.old.items) steps.new.items ≡ steps.old.items }
+{
+    for number in numbers {
+        put_number(steps, 2 * (*number as u64) + 1)?;
+    }
+    Ok(())
+}
+
+/// Adds how many hints there are, and the hints. After want of memory the bytes are unchanged.
+pub fn add_hints(steps: &mut Vec<u8>, hints: &[u32]) -> Result<(), Memory>
+    ensures ok { OnOk result (steps.new.items ≡ steps.old.items ++ (bytes_of (2 * length hints.now) ++ steps_of 0 hints.now)) }
+    ensures small { OnOk result (All (λ n. n < 2 ^ 32) hints.now) }
+    ensures few { length hints.now < 2 ^ 62 }
+    ensures err { OnErr result (steps.new.items ≡ steps.old.items) }
+{
+    let start = steps.len();
+    match put_hints(steps, hints) {
+        Ok(()) => Ok(()),
+        Err(error) => {
+            steps.truncate(start);
+            Err(Memory::from(error))
+        }
+    }
+}
+
+/// Adds the numbers that entries drop. After want of memory the bytes are unchanged.
+pub fn add_drops(steps: &mut Vec<u8>, numbers: &[u32]) -> Result<(), Memory>
+    ensures ok { OnOk result (steps.new.items ≡ steps.old.items ++ log_bytes (map (λ n. Drop n) numbers.now)) }
+    ensures small { OnOk result (AreSmall (map (λ n. Drop n) numbers.now)) }
+    ensures err { OnErr result (steps.new.items ≡ steps.old.items) }
+{
+    let start = steps.len();
+    match put_drops(steps, numbers) {
+        Ok(()) => Ok(()),
+        Err(error) => {
+            steps.truncate(start);
+            Err(Memory::from(error))
+        }
+    }
+}

@@ -1,0 +1,10 @@
+use Rattle.std.proofs.Common.{◌≡◌, ◌++◌, ◌<◌, ◌^◌, length, take, drop, All}
+use Rattle.number_bytes.specs.Numbers.{steps_of}
+use Rattle.number_bytes.proofs.numbers.put_numbers.Given as goal
+
+abbrev pub invariant-loop-number : goal.invariant-loop-number
+invariant-loop-number l = record {
+  told : l.bytes.items ++ steps_of l.last (drop l.number-index l.numbers) ≡ l.initial.bytes.items ++ steps_of 0 l.numbers;
+  small : All (λ n. n < 2 ^ 32) (take l.number-index l.numbers);
+  before : take (length l.initial.bytes.items) l.bytes.items ≡ l.initial.bytes.items;
+}

@@ -1,0 +1,10 @@
+//! Numbers as bytes: small ones take one byte, and those of a list stand as differences.
+//!
+//! A number stands seven bits a byte, the lowest first, and each byte but its last has the highest bit set (LEB128, as DWARF has
+//! it). A list of numbers stands as how far each is from the one before it, upwards in even numbers and downwards in odd ones
+//! ("zigzag", as Protocol Buffers have it). `put` and `put_all` write them, `take` and `Numbers` read them where they stand.
+#![tactic(auto)]
+
+pub mod number;
+pub mod numbers;
+mod step;

@@ -1,0 +1,53 @@
+ghost use Rattle.std.specs.Prelude.{◌≡◌, ◌++◌, length, take, OnOk};
+ghost use Rattle.number_bytes.specs.Number.{number_of, after_number, bytes_of, bytes_by};
+
+use std::alloc::AllocError;
+
+/// The number that some bytes begin with, and the bytes after it.
+#[derive(Clone, Copy, Debug)]
+pub struct Taken<'a> {
+    pub number: u64,
+    pub rest: &'a [u8],
+}
+
+/// Reads the number that the bytes begin with: 0 where there are none.
+pub fn take_number(bytes: &[u8]) -> Taken<'_>
+    ensures number { result.number ≡ number_of bytes.now }
+    ensures rest { result.rest.now ≡ after_number bytes.now }
+{
+    match bytes.split_first() {
+        None => Taken {
+            number: 0,
+            rest: bytes,
+        },
+        Some((byte, rest)) => {
+            if *byte < 128 {
+                return Taken {
+                    number: u64::from(*byte),
+                    rest,
+                };
+            }
+            let high = take_number(rest);
+            Taken {
+                number: high
+                    .number
+                    .wrapping_mul(128)
+                    .wrapping_add(u64::from(*byte - 128)),
+                rest: high.rest,
+            }
+        }
+    }
+}
+
+/// Adds a number. After want of memory the bytes that stood before still stand first.
+pub fn put_number(bytes: &mut Vec<u8>, number: u64) -> Result<(), AllocError>
+    ensures ok { OnOk result (bytes.new.items ≡ bytes.old.items ++ bytes_of number) }
+    ensures before { take (length bytes.old.items) bytes.new.items ≡ bytes.old.items }
+{
+    if number < 128 {
+        bytes.push(number as u8)?;
+        return Ok(());
+    }
+    bytes.push((number % 128 + 128) as u8)?;
+    put_number(bytes, number / 128)
+}

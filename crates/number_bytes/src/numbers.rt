@@ -1,0 +1,95 @@
+ghost use Rattle.std.specs.Prelude.{◌≡◌, ◌∷◌, [], ◌++◌, ◌<◌, ◌^◌, length, take, All, OnOk, IfSome, IfNone, IsTrue, ◌↔◌};
+ghost use Rattle.number_bytes.specs.Numbers.{numbers_of, after_numbers, steps_of};
+
+use crate::number::{put_number, take_number};
+use crate::step::{step_from, step_to};
+use std::alloc::AllocError;
+use std::marker::Model;
+
+/// Numbers that stand in bytes, from the next one on. Contracts see the list of them.
+#[derive(Debug, Drop)]
+pub struct Numbers<'a> {
+    bytes: &'a [u8],
+    left: usize,
+    last: u32,
+}
+
+impl<'a> Model for Numbers<'a> {
+    ghost use Rattle.std.specs.Prelude.{List, ℕ};
+    ghost use Rattle.number_bytes.specs.Numbers.{numbers_of};
+
+    ghost Value = { List ℕ };
+
+    ghost view = { λ n. numbers_of n.left n.last n.bytes.now };
+}
+
+impl<'a> Numbers<'a> {
+    /// So many numbers, with which the bytes begin.
+    pub fn of(bytes: &'a [u8], count: usize) -> Numbers<'a>
+        ensures { result ≡ numbers_of count 0 bytes.now }
+    {
+        Numbers {
+            bytes,
+            left: count,
+            last: 0,
+        }
+    }
+
+    /// The same numbers, to be taken out on their own.
+    pub fn copy(&self) -> Numbers<'a>
+        ensures { result ≡ self.now }
+    {
+        Numbers {
+            bytes: self.bytes,
+            left: self.left,
+            last: self.last,
+        }
+    }
+
+    /// How many numbers are left.
+    pub fn len(&self) -> usize
+        ensures { result ≡ length self.now }
+    {
+        self.left
+    }
+
+    /// Takes the next number out.
+    pub fn next(&mut self) -> Option<u32>
+        ensures some { IfSome result (λ n. self.old ≡ n ∷ self.new) }
+        ensures none { IfNone result (self.old ≡ []) }
+    {
+        if self.left == 0 {
+            return None;
+        }
+        let taken = take_number(self.bytes);
+        self.bytes = taken.rest;
+        self.left -= 1;
+        self.last = step_from(self.last, taken.number);
+        Some(self.last)
+    }
+}
+
+/// The bytes after so many numbers.
+pub fn after_numbers(bytes: &[u8], count: usize) -> &[u8]
+    ensures { result.now ≡ after_numbers count bytes.now }
+{
+    let mut rest = bytes;
+    for _ in 0..count {
+        rest = take_number(rest).rest;
+    }
+    rest
+}
+
+/// Adds numbers. After want of memory the bytes that stood before still stand first.
+pub fn put_numbers(bytes: &mut Vec<u8>, numbers: &[u32]) -> Result<(), AllocError>
+    ensures ok { OnOk result (bytes.new.items ≡ bytes.old.items ++ steps_of 0 numbers.now) }
+    ensures small { OnOk result (All (λ n. n < 2 ^ 32) numbers.now) }
+    ensures before { take (length bytes.old.items) bytes.new.items ≡ bytes.old.items }
+{
+    let mut last = 0;
+    for number in numbers {
+        put_number(bytes, step_to(last, *number))?;
+        last = *number;
+    }
+    Ok(())
+}
