@@ -1,5 +1,5 @@
 -- Clauses of two literals that are kept with their numbers.
-use Rattle.std.proofs.Common.{arith, ◌≡◌, ℕ, ◌<◌, ◌≤◌, List, Bool, [], ◌∷◌, ◌++◌, length, get_or, sym, ap, ◌∙◌, subst, ◌⊎◌, inl, inr}
+use Rattle.std.proofs.Common.{arith, ◌≡◌, ℕ, ◌<◌, List, Bool, [], ◌∷◌, ◌++◌, length, get_or, sym, ap, ◌∙◌, subst, ◌⊎◌, inl, inr}
 use Rattle.cdcl_rules.specs.Pending.{is_pending, open_ones}
 use Rattle.cdcl_rules.specs.State.{clause_at}
 use Rattle.pair_index.specs.declared.pair.Pair.{Pair}

@@ -1,23 +1,18 @@
 -- How a clause stands, as its literals are read and by its unit literal.
-use Rattle.std.proofs.Common.{arith, ◌≡◌, ◌==◌, ℕ, ◌+◌, ◌<◌, ◌≤◌, List, [], ◌∷◌, ◌++◌, length, take, get_or, leb, Bool, true, false, not, ◌||◌, ◌&&◌, cond, if◌then◌else◌, refl, sym, ap, ◌∙◌, subst, Option, Some, None, is_some, MatchOption}
+use Rattle.std.proofs.Common.{arith, ◌≡◌, ℕ, ◌<◌, ◌≤◌, List, [], ◌∷◌, length, take, get_or, leb, Bool, true, false, not, if◌then◌else◌, refl, sym, ap, ◌∙◌, subst, Option, Some, None, is_some, MatchOption}
 use Rattle.std.specs.List.{list_any, filter}
 use Rattle.std.proofs.lemmas.Bool.Decides.{nat_tests}
-use Rattle.std.proofs.lemmas.List.{take_all}
-use Rattle.std.proofs.lemmas.List.Elements.{filter_more}
-use Rattle.std.proofs.lemmas.List.Folds.{list_any_more}
 use Rattle.clause_base.specs.Clause.{has_literal}
 use Rattle.cdcl_rules.specs.Pending.{is_pending}
 use Rattle.cdcl_rules.specs.State.{clause_at}
 use Rattle.number_bits.specs.Bits.{IsLeast}
 use Rattle.watch_lists.specs.declared.status.Status.{Status}
-use Rattle.watch_lists.specs.declared.status.Status.TheVariants.{Open, Falsified, Unit}
 use Rattle.watch_lists.specs.Pending.{is_free}
 use Rattle.watch_lists.specs.Units.{IsUnit, IsConsistent}
 use Rattle.watch_lists.specs.Status.{IsStatus, IsFrontLeft}
 use Rattle.watch_lists.specs.Sound.{IsFront}
-use Rattle.watch_lists.proofs.Filters.{tests_one, any_from_has, has_get, two_by_here}
+use Rattle.watch_lists.proofs.Filters.{two_by_here}
 use Rattle.watch_lists.proofs.Lefts.{left_one, left_none}
-use Rattle.watch_lists.proofs.Assigns.{equal_of, apart_of}
 use Rattle.watch_lists.proofs.UnitsTell.{pending_by_unit}
 
 -- a literal or none as a list

@@ -6,8 +6,8 @@ use Rattle.std.specs.Option.{option_map}
 use Rattle.std.proofs.Math.Nat.{mul-le-mul_right}
 use Rattle.std.proofs.lemmas.List.{length-map, length_push, get_or_push, get_or_append_left}
 use Rattle.std.proofs.lemmas.Option.{slice_get-map}
-use Rattle.clause_base.specs.Repeats.{Repeats, moved_code, step_part, time_part, all_steps, all_times, repeated}
-use Rattle.clause_base.proofs.RepeatLemmas.{get_left, get_right, length_steps, length_times, length_repeated, step_at, time_at}
+use Rattle.clause_base.specs.Repeats.{Repeats, moved_code, all_steps, all_times, repeated}
+use Rattle.clause_base.proofs.RepeatLemmas.{get_left, get_right, length_steps, length_repeated, step_at, time_at}
 use Rattle.cdcl_rules.specs.State.{clause_at}
 use Rattle.watch_lists.proofs.Adds.{kept_in}
 use Rattle.watch_lists.proofs.Assigns.{equal_of, apart_of, at_most_of, past_of}

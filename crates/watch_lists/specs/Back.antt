@@ -1,5 +1,5 @@
 -- To where a trail is taken back.
-use Rattle.std.specs.Prelude.{ℕ, List, take}
+use Rattle.std.specs.Prelude.{List, take}
 use Rattle.cdcl_rules.specs.Learn.{backtracked}
 use Rattle.cdcl_rules.specs.declared.trail.Assigned.{Assigned}
 use Rattle.watch_lists.specs.declared.undo.Back.{Back}

@@ -1,4 +1,4 @@
-use Rattle.std.proofs.Common.{arith, ◌≡◌, ◌==◌, ◌∙◌, ℕ, length, true, false, get_or, ap, sym, Bool, List}
+use Rattle.std.proofs.Common.{arith, ◌∙◌, ℕ, length, ap, sym, Bool, List}
 use Rattle.std.proofs.lemmas.List.{length_push}
 use Rattle.cdcl_rules.specs.State.{clause_at}
 use Rattle.watch_lists.proofs.Assigns.{equal_of}

@@ -1,6 +1,5 @@
-use Rattle.std.proofs.Common.{arith, ◌≡◌, ◌<◌, ℕ, ◌∙◌, ap, not, Bool, true, is_some, length, get_or, sym, Option, Some, None}
+use Rattle.std.proofs.Common.{arith, ◌≡◌, ◌<◌, ◌∙◌, ap, not, Bool, true, length, get_or, sym}
 use Rattle.std.proofs.lemmas.List.{get_or_read}
-use Rattle.clause_base.specs.Literal.{opposite}
 use Rattle.clause_base.specs.Clause.{has_literal}
 use Rattle.watch_lists.specs.Pending.{is_free}
 use Rattle.watch_lists.proofs.Statuses.{read_second}

@@ -1,4 +1,4 @@
-use Rattle.std.proofs.Common.{arith, subst, ◌≡◌, ◌<◌, ◌≤◌, ◌*◌, ℕ, List, ◌∙◌, ap, Bool, true, false, get_or, length, take, sym}
+use Rattle.std.proofs.Common.{arith, subst, ◌≡◌, ◌<◌, ◌*◌, ℕ, List, ◌∙◌, ap, Bool, false, get_or, length, take, sym}
 use Rattle.std.proofs.lemmas.List.{take_all, length-take-le, length-map}
 use Rattle.clause_base.specs.Clause.{has_literal}
 use Rattle.number_bits.specs.Bits.{words_have}

@@ -6,7 +6,6 @@ use Rattle.cdcl_rules.specs.Pending.{is_pending}
 use Rattle.cdcl_rules.specs.State.{clause_at}
 use Rattle.number_bits.specs.Bits.{words_have}
 use Rattle.pair_index.specs.Pairs.{IsIndex}
-use Rattle.watch_lists.specs.Given.{AreGiven}
 use Rattle.watch_lists.specs.Status.{IsFrontLeft}
 use Rattle.watch_lists.specs.Visit.{IsFit}
 use Rattle.watch_lists.proofs.Givens.{fit_given, sound_given, paired_given, front_given, has_units_given}
