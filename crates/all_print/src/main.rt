@@ -3,18 +3,12 @@
 //! definition of the clauses wrote it.
 #![tactic(auto)]
 
-ghost use Rattle.std.specs.Prelude.{◌≡◌};
-ghost use Rattle.gt_core.specs.Published.{IsPublished};
-ghost use Rattle.gt_core.specs.Reached.{HoldsWherever};
-
-use action_order::order::Order;
 use action_order::publish::publish;
 use all_steps::form::AllForm;
 use clause_base::literal::Lit;
 use clause_base::view::View;
 use gt_core::act::Acts;
 use gt_core::lits::{Bits, Lits};
-use gt_core::pairs::Pairs;
 use gt_core::task::Task;
 use sample_tasks::actions::plain;
 use sample_tasks::worked;
@@ -92,25 +86,7 @@ fn print_chains(rt: &(impl Print + AllocGlobal), form: &AllForm) -> io::Result<(
     Ok(())
 }
 
-/// Prints what there is to print of a task under known pairs.
-fn print_ordered(
-    rt: &(impl Print + AllocGlobal),
-    task: &Task,
-    pairs: &Pairs,
-    order: &Order,
-) -> io::Result<()>
-    requires facts { pairs.now.facts ≡ task.now.facts }
-    requires hold { HoldsWherever task.now pairs.now.clauses }
-    requires published { IsPublished task.now pairs.now.clauses order.now }
-{
-    let Ok(form) = AllForm::new(rt.alloc(), task, pairs, order) else {
-        return println!(rt; "no memory");
-    };
-    print_sizes(rt, &form)?;
-    print_chains(rt, &form)
-}
-
-/// Prints what there is to print of a task.
+/// Prints what there is to print of a task under its invariants.
 fn print_task(rt: &(impl Print + AllocGlobal + Threads + Sync), task: &Task) -> io::Result<()> {
     let Ok(pairs) = find(rt, rt.alloc(), task) else {
         return println!(rt; "no memory");
@@ -118,7 +94,11 @@ fn print_task(rt: &(impl Print + AllocGlobal + Threads + Sync), task: &Task) -> 
     let Ok(order) = publish(rt.alloc(), task, &pairs) else {
         return println!(rt; "no memory");
     };
-    print_ordered(rt, task, &pairs, &order)
+    let Ok(form) = AllForm::new(rt.alloc(), task, &pairs, &order) else {
+        return println!(rt; "no memory");
+    };
+    print_sizes(rt, &form)?;
+    print_chains(rt, &form)
 }
 
 /// Prints what there is to print of a task that was made, under its name.

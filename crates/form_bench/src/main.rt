@@ -10,10 +10,7 @@
 #![tactic(auto)]
 
 ghost use Rattle.std.specs.Prelude.{◌≡◌, ◌<◌, IfOk};
-ghost use Rattle.gt_core.specs.Published.{IsPublished};
-ghost use Rattle.gt_core.specs.Reached.{HoldsWherever};
 
-use action_order::order::Order;
 use action_order::publish::publish;
 use clause_base::formula::Formula;
 use clause_base::view::View;
@@ -112,26 +109,6 @@ fn print_form(rt: &(impl Print + AllocGlobal), form: &ExistsForm, asked: Asked) 
     Ok(())
 }
 
-/// Makes the form, and does what was asked.
-fn print_ordered(
-    rt: &(impl Print + AllocGlobal),
-    task: &Task,
-    pairs: &Pairs,
-    order: &Order,
-    asked: Asked,
-) -> io::Result<()>
-    requires facts { pairs.now.facts ≡ task.now.facts }
-    requires hold { HoldsWherever task.now pairs.now.clauses }
-    requires published { IsPublished task.now pairs.now.clauses order.now }
-{
-    let (components, count) = (order.components(), pairs.count());
-    println!(rt; "{components} components, {count} known pairs")?;
-    match ExistsForm::new(rt.alloc(), task, pairs, order) {
-        Ok(form) => print_form(rt, &form, asked),
-        Err(_) => println!(rt; "no memory for the form"),
-    }
-}
-
 /// Makes the published order and the form, and does what was asked.
 fn print_task(
     rt: &(impl Print + AllocGlobal),
@@ -144,9 +121,14 @@ fn print_task(
     if !are_kept(task, pairs) {
         return println!(rt; "a pair that is not kept");
     }
-    match publish(rt.alloc(), task, pairs) {
-        Ok(order) => print_ordered(rt, task, pairs, &order, asked),
-        Err(Memory) => println!(rt; "no memory for the order"),
+    let Ok(order) = publish(rt.alloc(), task, pairs) else {
+        return println!(rt; "no memory for the order");
+    };
+    let (components, count) = (order.components(), pairs.count());
+    println!(rt; "{components} components, {count} known pairs")?;
+    match ExistsForm::new(rt.alloc(), task, pairs, &order) {
+        Ok(form) => print_form(rt, &form, asked),
+        Err(_) => println!(rt; "no memory for the form"),
     }
 }
 

@@ -1,7 +1,7 @@
-use Rattle.std.proofs.Common.{◌≡◌, ◌∙◌, ◌*◌, inl, inr, ap, subst, true, ℕ, List}
+use Rattle.std.proofs.Common.{◌≡◌, ◌∙◌, ◌==◌, ◌*◌, inl, inr, ap, sym, subst, true, length, ℕ, List}
 use Rattle.bit_rows.specs.Bits.{row_has}
 use Rattle.gt_core.proofs.Basics.{cases}
-use Rattle.two_invariants.specs.Rows.{clause_in}
+use Rattle.two_invariants.specs.Rows.{row_at, clause_in, IsClosure}
 use Rattle.two_invariants.proofs.Renewing.{row_was, none_was}
 use Rattle.two_invariants.proofs.Grouping.{nothing_in}
 use Rattle.two_invariants.proofs.again.renew_known.Goals as goal
@@ -20,4 +20,23 @@ returns-clause-moved c = record {
     | inl t ↦ inr (subst (λ (rows : List (List ℕ)). clause_in rows k m ≡ true) c.as_slice-2.ensures.value (c.in_ok-lacking.ensures k m a f t))
     | inr n ↦ inl (c.in_ok-lits.ensures.same m n)
   ];
+}
+
+pub renew_rows-requires-clause-rules : goal.renew_rows-requires-clause-rules
+renew_rows-requires-clause-rules c = record { clauses = c.requires.clauses; either = c.requires.either; bound = c.in_ok-bound.ensures }
+
+pub renew_none-requires-clause-done : goal.renew_none-requires-clause-done
+renew_none-requires-clause-done c = record {
+  rules = record { clauses = c.requires.clauses; either = c.requires.either; bound = c.in_ok-bound.ensures };
+  long = ap length c.as_slice.ensures.value ∙ c.in_ok-rows.ensures.long;
+  each = λ k a lt. subst (λ (rows : List (List ℕ)). IsClosure (clause_in c.args.clauses.now) (λ m. k == m) (row_has (row_at rows k))) (sym c.as_slice.ensures.value) (c.in_ok-rows.ensures.each k a);
+}
+
+pub returns-clause-known : goal.returns-clause-known
+returns-clause-known c = record {
+  none = c.in_ok-lits.ensures.closure;
+  long = c.in_ok-rows.ensures.long;
+  inside = c.requires.asked;
+  each = c.in_ok-rows.ensures.each;
+  other = λ k m f. ap (λ (r : List ℕ). row_has r m) (c.in_ok-rows.ensures.others k f) ∙ c.requires.were.other k m f;
 }

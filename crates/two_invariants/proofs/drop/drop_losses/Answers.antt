@@ -1,6 +1,9 @@
-use Rattle.std.proofs.Common.{◌∙◌}
+use Rattle.std.proofs.Common.{◌≡◌, ◌∙◌, ◌≤◌, ◌<◌, ◌&&◌, ◌||◌, not, drop, refl, subst, sym, length, Bool, true, false, ℕ, []}
+use Rattle.std.proofs.Math.ListN.{drop_of_length-le}
+use Rattle.gt_core.specs.Literal.{opposite}
 use Rattle.two_invariants.specs.Rows.{clause_in}
-use Rattle.two_invariants.specs.Tested.{is_lost}
+use Rattle.two_invariants.specs.Tested.{is_lost, are_lost, LossFits}
+use Rattle.two_invariants.proofs.Grouping.{all_read}
 use Rattle.two_invariants.proofs.Dropping.{still_either, dropped_twice}
 use Rattle.two_invariants.proofs.Steps.{drops_more}
 use Rattle.two_invariants.proofs.drop.drop_losses.Goals as goal
@@ -14,3 +17,24 @@ loop-loss-preserved c = record {
       ∙ c.loop-loss.invariant.has a b;
   dropped = dropped_twice _ _ _ _ _ _ c.loop-loss.invariant.dropped c.drop_loss.ensures.dropped;
 }
+
+pub drop_loss-requires-clause-few : goal.drop_loss-requires-clause-few
+drop_loss-requires-clause-few c = subst (λ (n : ℕ). n ≤ 4096) (sym c.loop-loss.invariant.long) c.requires.few
+
+pub drop_loss-requires-clause-even : goal.drop_loss-requires-clause-even
+drop_loss-requires-clause-even c = λ l lt. subst (λ (n : ℕ). opposite l < n) (sym c.loop-loss.invariant.room) (c.requires.even l (subst (λ (n : ℕ). l < n) c.loop-loss.invariant.long lt))
+
+pub drop_loss-requires-clause-fits : goal.drop_loss-requires-clause-fits
+drop_loss-requires-clause-fits c =
+    subst (λ (n : ℕ). LossFits n c.loss-item.result) (sym c.loop-loss.invariant.long)
+    (all_read (LossFits (length c.args.rows.now.items)) c.args.losses.now c.loop-loss.loss-index c.loss-item.result c.requires.fit c.loop-loss-test.true c.loss-item.is)
+
+pub returns-clause-has : goal.returns-clause-has
+returns-clause-has c = λ a b.
+    let clause = clause_in c.loop-loss.rows.items a b in
+    let none : drop c.loop-loss.loss-index c.args.losses.now ≡ [] = drop_of_length-le c.args.losses.now c.loop-loss-test.false in
+    ends clause ∙ (λ i. clause && not (are_lost (sym none i) a b || are_lost (sym none i) b a)) ∙ c.loop-loss.invariant.has a b
+  where
+    ends : (clause : Bool) → clause ≡ (clause && not (false || false))
+    ends true = refl
+    ends false = refl

@@ -1,8 +1,9 @@
-use Rattle.std.proofs.Common.{arith, ◌≡◌, ◌∙◌, ◌==◌, ◌<◌, ◌⊎◌, inl, inr, subst, sym, true, false, Bool, ℕ, List}
+use Rattle.std.proofs.Common.{arith, ◌≡◌, ◌∙◌, ◌==◌, ◌*◌, ◌<◌, ◌⊎◌, inl, inr, subst, sym, true, false, Bool, ℕ, List}
 use Rattle.std.proofs.lemmas.Bool.{cases_lt}
 use Rattle.bit_rows.specs.Bits.{row_has}
 use Rattle.gt_core.proofs.Basics.{apart}
 use Rattle.two_invariants.specs.Rows.{row_at, clause_in, IsClosure}
+use Rattle.two_invariants.specs.Renewed.{WasTold}
 use Rattle.two_invariants.proofs.Renewing.{one_more_closed}
 use Rattle.two_invariants.proofs.renew.renew_rows.Goals as goal
 
@@ -46,3 +47,8 @@ returns-clause-each c = λ k a. elim (cases_lt k c.loop-x.from) [
   | inl l ↦ c.loop-x.invariant.done k a l
   | inr g ↦ absurd (apart (row_has c.args.rules.now.asked.now k) a (c.in_default.ensures k g))
 ]
+
+pub renew_at-requires-clause-was : goal.renew_at-requires-clause-was
+renew_at-requires-clause-was c =
+    let h = c.in-Some.ensures in
+    subst (λ (r : List ℕ). WasTold (clause_in c.args.rules.now.clauses.now) (row_has c.args.stale.now) (2 * c.args.rules.now.facts) c.in-Some.x (row_has r)) (sym (c.loop-x.invariant.left c.in-Some.x h.0)) (c.requires.were c.in-Some.x h.1)
