@@ -3,15 +3,14 @@ ghost use Rattle.std.specs.Prelude.{◌≡◌, ◌≤◌, IfOk};
 ghost use Rattle.crossbeam_queue.specs.Passes.{view};
 ghost use Rattle.solver_pool.specs.Ring.{IsOwnerPass, IsRingPass, IsSlice};
 
+use noting_gates::{CountGate, PairGate};
 use solver_pool::{
     CountRun, Gate, Job, Jobs, Memory, OpenGate, Opened, Pass, Resume, Ring, Served, round,
     serve_one,
 };
 use std::alloc::Global;
 use std::sync::Wait;
-use std::sync::atomic::{AtomicU64, Ordering};
 use std::test::Fail;
-use std::thread;
 use std::thread::Threads;
 
 /// A job of a run that counts: its horizon, the units that it needs, and its target.
@@ -147,23 +146,6 @@ fn a_ring_serves_and_is_drained(rt: HostRuntime) -> Result<(), Fail> {
     Ok(())
 }
 
-/// Counts how often a run entered and left.
-#[derive(Drop)]
-struct CountGate {
-    entered: AtomicU64,
-    left: AtomicU64,
-}
-
-impl Gate for CountGate {
-    fn enter(&self, _horizon: u32) {
-        self.entered.fetch_add(1, Ordering::SeqCst);
-    }
-
-    fn leave(&self, _horizon: u32) {
-        self.left.fetch_add(1, Ordering::SeqCst);
-    }
-}
-
 /// A round of these jobs.
 fn round_of<G: Gate, H: Threads + Wait + Sync>(
     rt: &H,
@@ -194,10 +176,7 @@ fn report<H: Threads + Wait + Sync>(
     requires workers { (1 ≤ workers) × (workers ≤ 16) }
     requires slice { IsSlice slice }
 {
-    let gate = CountGate {
-        entered: AtomicU64::new(0),
-        left: AtomicU64::new(0),
-    };
+    let gate = CountGate::new();
     let jobs = round_of(rt, alloc, rows, workers, slice, &gate)?;
     let mut text = String::new(alloc);
     for job in jobs.as_slice() {
@@ -208,8 +187,7 @@ fn report<H: Threads + Wait + Sync>(
         };
         text.push_str(line.as_str())?;
     }
-    let entered = gate.entered.load(Ordering::SeqCst);
-    let left = gate.left.load(Ordering::SeqCst);
+    let (entered, left) = gate.counts();
     text.push_str(format!(in alloc; "{entered} {left}")?.as_str())?;
     Ok(text)
 }
@@ -239,58 +217,6 @@ fn jobs_come_back_in_order_at_their_targets(rt: HostRuntime) -> Result<(), Fail>
         assert_eq!(rt; text.as_str(), *wanted);
     }
     Ok(())
-}
-
-/// Lets two horizons wait at their entry until the other has entered.
-#[derive(Drop)]
-struct PairGate {
-    one: u32,
-    two: u32,
-    one_entered: AtomicU64,
-    two_entered: AtomicU64,
-    failed: AtomicU64,
-}
-
-impl PairGate {
-    fn new(one: u32, two: u32) -> PairGate {
-        PairGate {
-            one,
-            two,
-            one_entered: AtomicU64::new(0),
-            two_entered: AtomicU64::new(0),
-            failed: AtomicU64::new(0),
-        }
-    }
-
-    fn wait_for(&self, entered: &AtomicU64) {
-        for _ in 0..1_000_000u32 {
-            if entered.load(Ordering::SeqCst) != 0 {
-                return;
-            }
-            thread::yield_now();
-        }
-        self.failed.store(1, Ordering::SeqCst);
-    }
-
-    fn met(&self) -> bool {
-        self.failed.load(Ordering::SeqCst) == 0
-            && self.one_entered.load(Ordering::SeqCst) == 1
-            && self.two_entered.load(Ordering::SeqCst) == 1
-    }
-}
-
-impl Gate for PairGate {
-    fn enter(&self, horizon: u32) {
-        if horizon == self.one {
-            self.one_entered.store(1, Ordering::SeqCst);
-            self.wait_for(&self.two_entered);
-        } else if horizon == self.two {
-            self.two_entered.store(1, Ordering::SeqCst);
-            self.wait_for(&self.one_entered);
-        }
-    }
-
-    fn leave(&self, _horizon: u32) {}
 }
 
 /// Whether two horizons are at work at once in a round of these jobs.

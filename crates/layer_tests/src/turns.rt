@@ -1,77 +1,19 @@
 //! The gate is told before and after each turn, and of its horizon.
-ghost use Rattle.std.specs.Prelude.{◌≡◌, ◌≤◌, false, nat_lt};
+ghost use Rattle.std.specs.Prelude.{◌≡◌, false, nat_lt};
 ghost use Rattle.solver_pool.specs.CountRun.{count_moved, count_state, count_state-unsettled};
 
-use solver_pool::{CountRun, Gate, Job, Jobs, Memory, Resume, round};
+use noting_gates::Notes;
+use solver_pool::{CountRun, Job, Jobs, Memory, Resume, round};
 use std::alloc::Global;
 use std::sync::Wait;
-use std::sync::atomic::{AtomicU64, Ordering};
 use std::test::Fail;
 use std::thread::Threads;
-
-/// How many steps are told.
-const STEPS: usize = 9;
-
-/// The steps of a round, each with its horizon h: `3h` that a run enters, `3h + 1` that it is advanced, `3h + 2` that it leaves.
-#[derive(Drop)]
-struct Told {
-    next: AtomicU64,
-    steps: [AtomicU64; STEPS],
-}
-
-impl Told {
-    fn new() -> Told {
-        Told {
-            next: AtomicU64::new(0),
-            steps: [
-                AtomicU64::new(0),
-                AtomicU64::new(0),
-                AtomicU64::new(0),
-                AtomicU64::new(0),
-                AtomicU64::new(0),
-                AtomicU64::new(0),
-                AtomicU64::new(0),
-                AtomicU64::new(0),
-                AtomicU64::new(0),
-            ],
-        }
-    }
-
-    fn note(&self, horizon: u32, kind: u64)
-        requires { kind ≤ 2 }
-    {
-        let place = self.next.fetch_add(1, Ordering::SeqCst);
-        if place < STEPS as u64 {
-            let step = 3 * u64::from(horizon) + kind;
-            self.steps[place as usize].store(step, Ordering::SeqCst);
-        }
-    }
-
-    /// Whether there are nine steps, and these.
-    fn are(&self, wanted: &[u64]) -> bool {
-        let mut same = self.next.load(Ordering::SeqCst) == 9;
-        for (step, wanted) in self.steps.iter().zip(wanted) {
-            same &= step.load(Ordering::SeqCst) == *wanted;
-        }
-        same
-    }
-}
-
-impl Gate for Told {
-    fn enter(&self, horizon: u32) {
-        self.note(horizon, 0);
-    }
-
-    fn leave(&self, horizon: u32) {
-        self.note(horizon, 2);
-    }
-}
 
 /// A run that counts, and tells of each time that it is advanced.
 #[derive(Drop)]
 struct ToldRun<'a> {
     run: CountRun,
-    told: &'a Told,
+    told: &'a Notes,
 }
 
 impl Resume for ToldRun<'_> {
@@ -90,7 +32,7 @@ impl Resume for ToldRun<'_> {
     ghost spoilt_at = { λ r. false };
 
     fn advance(&mut self, conflicts: u32) -> Result<(), Memory> {
-        self.told.note(self.run.horizon, 1);
+        self.told.advance(self.run.horizon);
         self.run.granted += u64::from(conflicts);
         Ok(())
     }
@@ -115,7 +57,7 @@ impl Resume for ToldRun<'_> {
 }
 
 /// A round of one worker in turns of one unit, of two runs: that of horizon 4 needs two units, that of horizon 7 one.
-fn round_told<H: Threads + Wait + Sync>(rt: &H, alloc: Global, told: &Told) -> Result<(), Memory> {
+fn round_told<H: Threads + Wait + Sync>(rt: &H, alloc: Global, told: &Notes) -> Result<(), Memory> {
     let mut jobs = Vec::new(alloc);
     for (horizon, target) in [(4, 2), (7, 1)] {
         let run = ToldRun {
@@ -136,7 +78,7 @@ fn round_told<H: Threads + Wait + Sync>(rt: &H, alloc: Global, told: &Told) -> R
 
 #[test]
 fn a_run_enters_before_its_turn_and_leaves_after(rt: HostRuntime) -> Result<(), Fail> {
-    let told = Told::new();
+    let told = Notes::new();
     round_told(&rt, rt.alloc(), &told)?;
     assert!(rt; told.are(&[12, 13, 14, 21, 22, 23, 12, 13, 14]));
     Ok(())

@@ -46,6 +46,19 @@ pub fn run_into<H: Threads + Wait + Sync, G: Gate, D: Driver>(
     Ok(run(rt, alloc, &words, shelf, sink, gate, driver))
 }
 
+/// The same, where a driver that fails drives a batch.
+pub fn run_undriven<H: Threads + Wait + Sync, G: Gate>(
+    rt: &H,
+    alloc: Global,
+    words: &str,
+    shelf: &mut MemShelf,
+    sink: &mut MemSink,
+    gate: &G,
+) -> Result<Status, Memory> {
+    let mut driver = NoDriver::new();
+    run_into(rt, alloc, words, shelf, sink, gate, &mut driver)
+}
+
 /// Runs these words on a shelf of these files, whose calls with the numbers of `failing` fail, and answers the status
 /// and the text. A batch is driven by a driver that fails.
 pub fn run_once<H: Threads + Wait + Sync>(

@@ -1,7 +1,6 @@
 //! How a run ends, with the exit status and the text due.
 ghost use Rattle.std.specs.Prelude.{◌≡◌, ◌<◌, ◌^◌, ◌∷◌, ◌++◌, [], OnOk, IfOk, IsOk, codes, decimal};
 ghost use Rattle.report_lines.specs.Lines.{joined};
-ghost use Rattle.report_lines.specs.Horizons.{entry_line};
 ghost use Rattle.plan_endings.specs.Ending.{status_of_race, status_of, text_of, bytes_of, word_of, kind_word, limit_word, IsSmall};
 
 use pl_io::{Bytes, Memory};
@@ -148,24 +147,30 @@ impl Ending {
             Ending::Listing(text) => Ok(Due::Made(text)),
             Ending::Parts { text, .. } => Ok(Due::Made(text)),
             Ending::Reaches => Ok(Due::Fixed("; reaches the goal\n")),
-            Ending::Blocked { index } => Ok(Due::Made(blocked(alloc, index)?)),
+            Ending::Blocked { index } => blocked(alloc, index),
             Ending::Short => Ok(Due::Fixed("; goal not reached\n")),
-            Ending::Refused { kind, file, at } => Ok(Due::Made(refusal(alloc, kind, file, at)?)),
-            Ending::TooLong(file) => Ok(Due::Made(of_file(alloc, "; limit file ", file)?)),
-            Ending::TooMany { what, count } => Ok(Due::Made(too_many(alloc, what, count)?)),
-            Ending::TooLarge { horizon, count } => Ok(Due::Made(too_large(alloc, horizon, count)?)),
-            Ending::ReadFault(file) => Ok(Due::Made(of_file(alloc, "; read fault ", file)?)),
+            Ending::Refused { kind, file, at } => refusal(alloc, kind, file, at),
+            Ending::TooLong(file) => of_file(alloc, "; limit file ", file),
+            Ending::TooMany { what, count } => too_many(alloc, what, count),
+            Ending::TooLarge { horizon, count } => {
+                let horizon = u64::from(horizon);
+                of_numbers(alloc, "; limit literals ", count, " horizon ", horizon)
+            }
+            Ending::ReadFault(file) => of_file(alloc, "; read fault ", file),
             Ending::Usage => Ok(Due::Fixed("; usage: plan, check, ground, order or gen\n")),
             Ending::Found { horizon, conflicts } => {
-                Ok(Due::Made(of_horizon(alloc, horizon, "plan", conflicts)?))
+                let horizon = u64::from(horizon);
+                of_numbers(alloc, "; horizon ", horizon, " plan conflicts ", conflicts)
             }
             Ending::Open { horizon, conflicts } => {
-                Ok(Due::Made(of_horizon(alloc, horizon, "open", conflicts)?))
+                let horizon = u64::from(horizon);
+                of_numbers(alloc, "; horizon ", horizon, " open conflicts ", conflicts)
             }
             Ending::Accepted { horizon, entries } => {
-                Ok(Due::Made(accepted(alloc, horizon, entries)?))
+                let (horizon, entries) = (u64::from(horizon), u64::from(entries));
+                of_numbers(alloc, "; accepted horizon ", horizon, " entries ", entries)
             }
-            Ending::Rejected { entry } => Ok(Due::Made(rejected(alloc, entry)?)),
+            Ending::Rejected { entry } => of_number(alloc, "; rejected entry ", u64::from(entry)),
             Ending::NotEmpty => Ok(Due::Fixed("; not empty\n")),
         }
     }
@@ -229,17 +234,49 @@ fn word_of_limit(what: Limit) -> &'static str
     }
 }
 
-fn of_file(alloc: Global, front: &str, file: File) -> Result<Bytes, Memory>
-    ensures { IfOk result (λ t. t ≡ front.now ++ (word_of file ++ codes "\n")) }
+// The line of a text and a file.
+fn of_file(alloc: Global, front: &str, file: File) -> Result<Due, Memory>
+    ensures { IfOk result (λ due. bytes_of due ≡ joined ((front.now ++ word_of file) ∷ [])) }
 {
     let mut text = Vec::from_slice(alloc, front.as_bytes())?;
     text.extend_from_slice(file_word(file).as_bytes())?;
     text.extend_from_slice(b"\n")?;
-    Ok(Bytes::of(text))
+    Ok(Due::Made(Bytes::of(text)))
 }
 
-fn too_many(alloc: Global, what: Limit, count: u64) -> Result<Bytes, Memory>
-    ensures text { IfOk result (λ t. t ≡ text_of (Ending.TooMany what count)) }
+// The line of a text and a number.
+fn of_number(alloc: Global, front: &str, number: u64) -> Result<Due, Memory>
+    ensures text { IfOk result (λ due. bytes_of due ≡ joined ((front.now ++ decimal number) ∷ [])) }
+    ensures small { OnOk result (number < 2 ^ 64) }
+{
+    let mut text = Vec::from_slice(alloc, front.as_bytes())?;
+    push_number(&mut text, number)?;
+    text.extend_from_slice(b"\n")?;
+    Ok(Due::Made(Bytes::of(text)))
+}
+
+// The line of two texts, each before a number.
+fn of_numbers(alloc: Global, front: &str, one: u64, middle: &str, two: u64) -> Result<Due, Memory>
+    ensures text { IfOk result (λ due. bytes_of due ≡ joined ((front.now ++ (decimal one ++ (middle.now ++ decimal two))) ∷ [])) }
+    ensures small { OnOk result ((one < 2 ^ 64) × (two < 2 ^ 64)) }
+{
+    let mut text = Vec::from_slice(alloc, front.as_bytes())?;
+    push_number(&mut text, one)?;
+    text.extend_from_slice(middle.as_bytes())?;
+    push_number(&mut text, two)?;
+    text.extend_from_slice(b"\n")?;
+    Ok(Due::Made(Bytes::of(text)))
+}
+
+fn blocked(alloc: Global, index: u32) -> Result<Due, Memory>
+    ensures text { IfOk result (λ due. bytes_of due ≡ text_of (Ending.Blocked index)) }
+    ensures small { OnOk result (index < 2 ^ 32) }
+{
+    of_number(alloc, "; blocked at action ", u64::from(index) + 1)
+}
+
+fn too_many(alloc: Global, what: Limit, count: u64) -> Result<Due, Memory>
+    ensures text { IfOk result (λ due. bytes_of due ≡ text_of (Ending.TooMany what count)) }
     ensures small { OnOk result (count < 2 ^ 64) }
 {
     let mut text = Vec::from_slice(alloc, b"; limit ")?;
@@ -247,40 +284,18 @@ fn too_many(alloc: Global, what: Limit, count: u64) -> Result<Bytes, Memory>
     text.extend_from_slice(b" ")?;
     push_number(&mut text, count)?;
     text.extend_from_slice(b"\n")?;
-    Ok(Bytes::of(text))
+    Ok(Due::Made(Bytes::of(text)))
 }
 
-fn too_large(alloc: Global, horizon: u32, count: u64) -> Result<Bytes, Memory>
-    ensures text { IfOk result (λ t. t ≡ text_of (Ending.TooLarge horizon count)) }
-    ensures small { OnOk result ((horizon < 2 ^ 64) × (count < 2 ^ 64)) }
-{
-    let mut text = Vec::from_slice(alloc, b"; limit literals ")?;
-    push_number(&mut text, count)?;
-    text.extend_from_slice(b" horizon ")?;
-    push_number(&mut text, u64::from(horizon))?;
-    text.extend_from_slice(b"\n")?;
-    Ok(Bytes::of(text))
-}
-
-fn blocked(alloc: Global, index: u32) -> Result<Bytes, Memory>
-    ensures text { IfOk result (λ t. t ≡ text_of (Ending.Blocked index)) }
-    ensures small { OnOk result (index < 2 ^ 32) }
-{
-    let mut text = Vec::from_slice(alloc, b"; blocked at action ")?;
-    push_number(&mut text, u64::from(index) + 1)?;
-    text.extend_from_slice(b"\n")?;
-    Ok(Bytes::of(text))
-}
-
-fn refusal(alloc: Global, kind: Kind, file: File, at: u32) -> Result<Bytes, Memory>
-    ensures text { IfOk result (λ t. t ≡ text_of (Ending.Refused kind file at)) }
+fn refusal(alloc: Global, kind: Kind, file: File, at: u32) -> Result<Due, Memory>
+    ensures text { IfOk result (λ due. bytes_of due ≡ text_of (Ending.Refused kind file at)) }
     ensures small { OnOk result (at < 2 ^ 32) }
 {
     let mut text = Vec::from_slice(alloc, b"; refused ")?;
     text.extend_from_slice(word_of_kind(kind).as_bytes())?;
     text.extend_from_slice(b" ")?;
     push_place(&mut text, file, at)?;
-    Ok(Bytes::of(text))
+    Ok(Due::Made(Bytes::of(text)))
 }
 
 fn push_place(text: &mut Vec<u8>, file: File, at: u32) -> Result<(), Memory>
@@ -291,40 +306,4 @@ fn push_place(text: &mut Vec<u8>, file: File, at: u32) -> Result<(), Memory>
     push_number(text, u64::from(at))?;
     text.extend_from_slice(b"\n")?;
     Ok(())
-}
-
-fn of_horizon(alloc: Global, horizon: u32, word: &str, conflicts: u64) -> Result<Bytes, Memory>
-    ensures text { IfOk result (λ t. t ≡ joined (entry_line (record { horizon = horizon; word = word.now; conflicts = conflicts }) ∷ [])) }
-    ensures small { OnOk result ((horizon < 2 ^ 64) × (conflicts < 2 ^ 64)) }
-{
-    let mut text = Vec::from_slice(alloc, b"; horizon ")?;
-    push_number(&mut text, u64::from(horizon))?;
-    text.extend_from_slice(b" ")?;
-    text.extend_from_slice(word.as_bytes())?;
-    text.extend_from_slice(b" conflicts ")?;
-    push_number(&mut text, conflicts)?;
-    text.extend_from_slice(b"\n")?;
-    Ok(Bytes::of(text))
-}
-
-fn accepted(alloc: Global, horizon: u32, entries: u32) -> Result<Bytes, Memory>
-    ensures text { IfOk result (λ t. t ≡ text_of (Ending.Accepted horizon entries)) }
-    ensures small { OnOk result ((horizon < 2 ^ 64) × (entries < 2 ^ 64)) }
-{
-    let mut text = Vec::from_slice(alloc, b"; accepted horizon ")?;
-    push_number(&mut text, u64::from(horizon))?;
-    text.extend_from_slice(b" entries ")?;
-    push_number(&mut text, u64::from(entries))?;
-    text.extend_from_slice(b"\n")?;
-    Ok(Bytes::of(text))
-}
-
-fn rejected(alloc: Global, entry: u32) -> Result<Bytes, Memory>
-    ensures text { IfOk result (λ t. t ≡ text_of (Ending.Rejected entry)) }
-    ensures small { OnOk result (entry < 2 ^ 64) }
-{
-    let mut text = Vec::from_slice(alloc, b"; rejected entry ")?;
-    push_number(&mut text, u64::from(entry))?;
-    text.extend_from_slice(b"\n")?;
-    Ok(Bytes::of(text))
 }

@@ -1,8 +1,7 @@
 // Shelves and sinks that fail.
 use crate::tasks::{DARK, LAMP, LAMP_PLAN, MARKED, MARKS};
-use mem_runs::{Named, ample_sink, run_into, run_once, shelf_of};
+use mem_runs::{Named, ample_sink, run_once, run_undriven, shelf_of};
 use pl_io::{MemSink, Numbers};
-use poll_run::NoDriver;
 use solver_pool::OpenGate;
 use std::alloc::Global;
 use std::process::Abort;
@@ -54,15 +53,7 @@ fn files_are_taken_once(rt: HostRuntime) -> Result<(), Fail> {
     for (words, call) in rows {
         let mut shelf = shelf_of(rt.alloc(), &FILES, &[call])?;
         let mut sink = ample_sink(rt.alloc())?;
-        let status = run_into(
-            &rt,
-            rt.alloc(),
-            words,
-            &mut shelf,
-            &mut sink,
-            &OpenGate,
-            &mut NoDriver::new(),
-        )?;
+        let status = run_undriven(&rt, rt.alloc(), words, &mut shelf, &mut sink, &OpenGate)?;
         assert_eq!(rt; status.0, 0, "{words}");
         assert!(rt; shelf.failed().is_empty(), "{words}");
     }
@@ -82,15 +73,7 @@ fn fails_at<H: Threads + Wait + Sync + Abort>(
     assert!(rt; 0 < most);
     let mut sink = MemSink::new(alloc, most, Numbers::of(vec![in alloc; call]?), 1000)?;
     let mut shelf = shelf_of(alloc, files, &[])?;
-    let status = run_into(
-        rt,
-        alloc,
-        words,
-        &mut shelf,
-        &mut sink,
-        &OpenGate,
-        &mut NoDriver::new(),
-    )?;
+    let status = run_undriven(rt, alloc, words, &mut shelf, &mut sink, &OpenGate)?;
     assert_eq!(rt; status.0, 6, "{words}, call {call}");
     assert_eq!(rt; sink.taken(), front, "{words}, call {call}");
     assert_eq!(rt; sink.faults(), 1, "{words}, call {call}");

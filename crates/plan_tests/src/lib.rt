@@ -6,8 +6,6 @@ mod devices;
 #[cfg(test)]
 mod files;
 #[cfg(test)]
-mod gate;
-#[cfg(test)]
 mod orders;
 #[cfg(test)]
 mod read_tasks;

@@ -1,8 +1,7 @@
 // Runs with several workers.
-use crate::gate::{CountGate, PairGate, SequenceGate};
 use crate::tasks::{BLOCKS, DARK, LAMP, LAMP_PLAN, TOWER, TOWER_PLAN};
-use mem_runs::{Named, ample_sink, run_into, run_once, shelf_of};
-use poll_run::NoDriver;
+use mem_runs::{Named, ample_sink, run_once, run_undriven, shelf_of};
+use noting_gates::{CountGate, Notes, PairGate};
 use solver_pool::Gate;
 use std::alloc::Global;
 use std::process::Abort;
@@ -50,15 +49,7 @@ fn run_at<G: Gate, H: Threads + Wait + Sync + Abort>(
 ) -> Result<(), Fail> {
     let mut shelf = shelf_of(alloc, files, &[])?;
     let mut sink = ample_sink(alloc)?;
-    let status = run_into(
-        rt,
-        alloc,
-        words,
-        &mut shelf,
-        &mut sink,
-        gate,
-        &mut NoDriver::new(),
-    )?;
+    let status = run_undriven(rt, alloc, words, &mut shelf, &mut sink, gate)?;
     assert_eq!(rt; status.0, 0, "{words}");
     assert_eq!(rt; sink.taken(), report.as_bytes(), "{words}");
     Ok(())
@@ -71,7 +62,7 @@ const IN_THE_DARK: [Named<'static>; 2] = [("d", LAMP), ("p", DARK)];
 fn two_horizons_are_at_work_at_once(rt: HostRuntime) -> Result<(), Fail> {
     let alloc = rt.alloc();
     for (words, meets) in [("plan d p", true), ("plan d p --workers 1", false)] {
-        let gate = PairGate::new();
+        let gate = PairGate::new(0, 1);
         run_at(&rt, alloc, words, &IN_THE_DARK, &gate, LAMP_PLAN)?;
         assert_eq!(rt; gate.met(), meets, "{words}");
     }
@@ -81,10 +72,10 @@ fn two_horizons_are_at_work_at_once(rt: HostRuntime) -> Result<(), Fail> {
 // One worker takes the horizons of a round in turn, and the gate is told of each.
 #[test]
 fn one_worker_takes_one_after_another(rt: HostRuntime) -> Result<(), Fail> {
-    let gate = SequenceGate::new();
+    let gate = Notes::new();
     let words = "plan d p --workers 1";
     run_at(&rt, rt.alloc(), words, &IN_THE_DARK, &gate, LAMP_PLAN)?;
-    assert!(rt; gate.told_turns_of(&[0, 1, 2, 3]));
+    assert!(rt; gate.are(&[0, 2, 3, 5, 6, 8, 9, 11]));
     Ok(())
 }
 

@@ -4,15 +4,19 @@ use Rattle.std.specs.Prelude.{IsTrue, IfSome}
 use Rattle.std.specs.List.{AllByRecursion, AllZip}
 use Rattle.horizon_rates.specs.declared.settings.Settings.{Settings}
 use Rattle.plan_words.specs.Seen.{Seen, Numbers, numbers, plans, batches, files_of}
+use Rattle.plan_words.specs.Requested.{requested}
 use Rattle.plan_words.specs.declared.request.Turns.{Turns}
 use Rattle.plan_endings.specs.declared.ending.Ending.{Ending}
 use Rattle.plan_endings.specs.declared.ending.Ending.TheVariants.{ReadFault}
 use Rattle.plan_endings.specs.declared.ending.File.{File}
 use Rattle.plan_endings.specs.declared.ending.File.TheVariants.{Domain, Problem}
-use Rattle.plan_top.specs.Files.{FaultsFrom, IsTaken, IsTooLong, IsTakenOrLong, AreTakenOrLong, most_of, most_bytes, file_at}
-use Rattle.plan_top.specs.Tasks.{grounded}
-use Rattle.plan_top.specs.Causes.{HasRead, ComesFor, stopped, ArePartsOf, ComesForBatch, unread, in_parts, ComesOf, is_answer}
-use Rattle.plan_top.specs.Parts.{IsBatch, IsShort, AnswersPart, AnswersBatch, EndsAlone, IsRunOf, IsSound, ArePrepared, AnswersRun, open_in, woven}
+use Rattle.plan_answers.specs.Limits.{most_of, most_bytes, file_at}
+use Rattle.plan_top.specs.Files.{FaultsFrom, IsTaken, IsTooLong, IsTakenOrLong, AreTakenOrLong}
+use Rattle.plan_answers.specs.Tasks.{grounded}
+use Rattle.plan_top.specs.Causes.{HasRead, ComesFor, stopped, ArePartsOf, Comes, unread, in_parts, is_answer}
+use Rattle.plan_top.specs.Parts.{IsBatch, IsShort, AnswersPart, AnswersBatch, IsRunOf, IsPart, IsSound, ArePrepared, AnswersRun, open_in, woven}
+use Rattle.plan_top.specs.declared.parts.Part.{Part}
+use Rattle.plan_top.specs.declared.parts.Part.TheVariants as parts
 use Rattle.plan_top.specs.declared.parts.Run.{Run}
 use Rattle.plan_top.proofs.Complete.{batch_most}
 use Rattle.plan_top.proofs.Taking.{taken_fits}
@@ -80,10 +84,10 @@ module _ (told : List ℕ → Option (List ℕ)) (lacks : List ℕ → Bool) (ol
     parts_come first is (place + 1) ps xs es are.1 h.1,
   )
 
-  -- what the files come to comes of the batch
-  pub batch_comes : (first : Option (List ℕ)) (files : List (Option (List ℕ))) → AreTakenOrLong told lacks (file_at (batches domain all (numbers settings) turns)) 0 (domain ∷ all) (first ∷ files) → (end : Ending)
-      → AnswersBatch settings first files end → ComesForBatch told lacks old new domain all (numbers settings) turns end
-  batch_comes first files are end (parts, h, e) = in_parts parts (parts_come first are.0 1 all files parts are.1 h) e
+  -- what the files come to comes of words that ask for the batch
+  pub batch_comes : (words : List (List ℕ)) → requested words ≡ Some (batches domain all (numbers settings) turns) → (first : Option (List ℕ)) (files : List (Option (List ℕ)))
+      → AreTakenOrLong told lacks (file_at (batches domain all (numbers settings) turns)) 0 (domain ∷ all) (first ∷ files) → (end : Ending) → AnswersBatch settings first files end → Comes told lacks old new words end
+  batch_comes words asked first files are end (parts, h, e) = in_parts domain all (numbers settings) turns asked parts (parts_come first are.0 1 all files parts are.1 h) e
 
 -- the same of a request for a batch
 module _ (told : List ℕ → Option (List ℕ)) (lacks : List ℕ → Bool) (old new : List (List ℕ)) (settings : Settings) (turns : Turns) (request : Seen) (is : IsBatch settings turns request) where
@@ -103,33 +107,39 @@ module _ (told : List ℕ → Option (List ℕ)) (lacks : List ℕ → Bool) (ol
   pub files_few : (files : List (Option (List ℕ))) → AreMet files → length files ≤ 17
   files_few files are = let count = met_count told lacks (file_at (batches is.0 is.1 (numbers settings) turns)) 0 (is.0 ∷ is.1) files (met_batch files are) in let few = is.3 in omega (arith, count, few)
 
-  pub request_comes : (first : Option (List ℕ)) (files : List (Option (List ℕ))) → AreMet (first ∷ files) → (end : Ending) → AnswersBatch settings first files end → ComesOf told lacks old new request end
-  request_comes first files are end h = subst (λ (r : Seen). ComesOf told lacks old new r end) (sym is.2) (batch_comes told lacks old new is.0 is.1 settings turns first files (met_batch (first ∷ files) are) end h)
+  -- words that ask for it
+  module _ (words : List (List ℕ)) (asked : requested words ≡ Some request) where
+    asked_batch : requested words ≡ Some (batches is.0 is.1 (numbers settings) turns)
+    asked_batch = subst (λ (r : Seen). requested words ≡ Some r) is.2 asked
 
-  pub request_unread : (end : Ending) → FaultsFrom told lacks old new (file_at request) 0 (files_of request) end → ComesOf told lacks old new request end
-  request_unread end h = subst (λ (r : Seen). FaultsFrom told lacks old new (file_at r) 0 (files_of r) end → ComesOf told lacks old new r end) (sym is.2) (λ k. unread k) h
+    pub request_comes : (first : Option (List ℕ)) (files : List (Option (List ℕ))) → AreMet (first ∷ files) → (end : Ending) → AnswersBatch settings first files end → Comes told lacks old new words end
+    request_comes first files are end h = batch_comes told lacks old new is.0 is.1 settings turns words asked_batch first files (met_batch (first ∷ files) are) end h
+
+    pub request_unread : (end : Ending) → FaultsFrom told lacks old new (file_at request) 0 (files_of request) end → Comes told lacks old new words end
+    request_unread end h = unread is.0 is.1 (numbers settings) turns asked_batch (subst (λ (r : Seen). FaultsFrom told lacks old new (file_at r) 0 (files_of r) end) is.2 h)
 
 -- ---- before the races
 
-pub more_ended : (domain : Option (List ℕ)) (problems : List (Option (List ℕ))) (ended : List (Option Ending)) (runs : List Run) (problem : Option (List ℕ)) (end : Ending) → ArePrepared domain problems ended runs
-    → EndsAlone domain problem end → ArePrepared domain (problems ++ problem ∷ []) (ended ++ Some end ∷ []) runs
-more_ended domain [] [] [] problem end are h = (h, tt)
-more_ended domain [] [] (r ∷ rs) problem end are h = absurd are
-more_ended domain [] (x ∷ xs) runs problem end are h = absurd are
-more_ended domain (p ∷ ps) [] runs problem end are h = absurd are
-more_ended domain (p ∷ ps) (Some e ∷ es) runs problem end are h = (are.0, more_ended domain ps es runs problem end are.1 h)
-more_ended domain (p ∷ ps) (None ∷ es) [] problem end are h = absurd are
-more_ended domain (p ∷ ps) (None ∷ es) (r ∷ rs) problem end are h = (are.0, more_ended domain ps es rs problem end are.1 h)
+-- the ending of a part, and its run
+abbrev pub ended_of : Part → Option Ending
+ended_of (parts.Ends end) = Some end
+ended_of (parts.Runs run) = None
 
-pub more_runs : (domain : Option (List ℕ)) (problems : List (Option (List ℕ))) (ended : List (Option Ending)) (runs : List Run) (problem : Option (List ℕ)) (run : Run) → ArePrepared domain problems ended runs
-    → IsRunOf domain problem run → ArePrepared domain (problems ++ problem ∷ []) (ended ++ None ∷ []) (runs ++ run ∷ [])
-more_runs domain [] [] [] problem run are h = (h, tt)
-more_runs domain [] [] (r ∷ rs) problem run are h = absurd are
-more_runs domain [] (x ∷ xs) runs problem run are h = absurd are
-more_runs domain (p ∷ ps) [] runs problem run are h = absurd are
-more_runs domain (p ∷ ps) (Some e ∷ es) runs problem run are h = (are.0, more_runs domain ps es runs problem run are.1 h)
-more_runs domain (p ∷ ps) (None ∷ es) [] problem run are h = absurd are
-more_runs domain (p ∷ ps) (None ∷ es) (r ∷ rs) problem run are h = (are.0, more_runs domain ps es rs problem run are.1 h)
+abbrev pub runs_of : Part → List Run
+runs_of (parts.Ends end) = []
+runs_of (parts.Runs run) = run ∷ []
+
+-- with the part of one more problem
+pub more_prepared : (domain : Option (List ℕ)) (problems : List (Option (List ℕ))) (ended : List (Option Ending)) (runs : List Run) (problem : Option (List ℕ)) (part : Part) → ArePrepared domain problems ended runs
+    → IsPart domain problem part → ArePrepared domain (problems ++ problem ∷ []) (ended ++ ended_of part ∷ []) (runs ++ runs_of part)
+more_prepared domain [] [] [] problem (parts.Ends end) are h = (h, tt)
+more_prepared domain [] [] [] problem (parts.Runs run) are h = (h, tt)
+more_prepared domain [] [] (r ∷ rs) problem part are h = absurd are
+more_prepared domain [] (x ∷ xs) runs problem part are h = absurd are
+more_prepared domain (p ∷ ps) [] runs problem part are h = absurd are
+more_prepared domain (p ∷ ps) (Some e ∷ es) runs problem part are h = (are.0, more_prepared domain ps es runs problem part are.1 h)
+more_prepared domain (p ∷ ps) (None ∷ es) [] problem part are h = absurd are
+more_prepared domain (p ∷ ps) (None ∷ es) (r ∷ rs) problem part are h = (are.0, more_prepared domain ps es rs problem part are.1 h)
 
 run_sound : (domain problem : Option (List ℕ)) (run : Run) → IsRunOf domain problem run → IsSound run
 run_sound None problem run h = absurd h

@@ -1,5 +1,5 @@
 -- Words and files that are in order are answered.
-use Rattle.std.proofs.Common.{◌≡◌, ◌<◌, ◌≤◌, ℕ, ◌+◌, ◌==◌, Bool, true, false, if◌then◌else◌, List, [], ◌∷◌, ◌++◌, length, Option, Some, Ok, Err, refl, sym, subst, ap, ◌∙◌, arith, inl, inr}
+use Rattle.std.proofs.Common.{◌≡◌, ◌<◌, ◌≤◌, ℕ, ◌+◌, ◌==◌, Bool, true, false, if◌then◌else◌, List, [], ◌∷◌, length, Option, Some, None, Ok, Err, refl, sym, subst, ap, ◌∙◌, arith, inl, inr}
 use Rattle.std.specs.List.{AllZip, AllByRecursion}
 use Rattle.pd_sexp.specs.Tree.{Tree}
 use Rattle.pd_sexp.specs.Fault.{Reads}
@@ -10,11 +10,12 @@ use Rattle.pd_model.specs.declared.calls.Call.{Call}
 use Rattle.pd_plan.specs.PlanFile.{plan_file}
 use Rattle.horizon_rates.specs.declared.settings.Settings.{Settings}
 use Rattle.race_end.specs.Ends.{EndView, Planned, Exhausted, Unfinished, end_view}
-use Rattle.plan_report.specs.Report.{report_of, summary_of}
+use Rattle.plan_report.specs.Report.{report_of}
 use Rattle.pd_model.specs.declared.parts.Parts.{Parts}
 use Rattle.plan_gen.specs.declared.Kind.{Kind as Generated}
 use Rattle.plan_gen.specs.Task.{domain_of, problem_of}
 use Rattle.plan_words.specs.Seen.{Seen, Numbers, plans, plans_by, checks, grounds, orders, generates, proves, verifies, batches, files_of}
+use Rattle.plan_words.specs.OneTask.{IsOfOne}
 use Rattle.plan_words.specs.declared.request.Stepping.{Stepping}
 use Rattle.plan_words.specs.declared.request.Turns.{Turns}
 use Rattle.plan_words.specs.declared.request.Show.{Show}
@@ -27,9 +28,8 @@ use Rattle.plan_endings.specs.declared.ending.Ending.{Ending}
 use Rattle.plan_endings.specs.declared.ending.Ending.TheVariants.{Report, TooLarge}
 use Rattle.plan_endings.specs.declared.ending.File.{File}
 use Rattle.plan_endings.specs.declared.ending.File.TheVariants.{Domain, Problem}
-use Rattle.plan_top.specs.Files.{StopsFrom, FaultsFrom, most_bytes, RoseAmong, AreShort, file_at, most_of}
-use Rattle.gt_core.specs.Step.{IsStepPlan}
-use Rattle.step_clauses.specs.Variables.{chain_places}
+use Rattle.plan_answers.specs.Limits.{most_bytes, AreShort, file_at, most_of}
+use Rattle.plan_top.specs.Files.{StopsFrom, FaultsFrom, RoseAmong}
 use Rattle.clause_base.specs.declared.log.Entry.{Entry}
 use Rattle.proof_text.specs.Place.{IsUnfitAt}
 use Rattle.proof_text.specs.Laws.{TextsAreFit}
@@ -38,17 +38,18 @@ use Rattle.certificates.specs.declared.prove.Proved.{Proved}
 use Rattle.certificates.specs.declared.prove.Proved.TheVariants as proved
 use Rattle.certificates.specs.declared.verify.Judged.{Judged}
 use Rattle.certificates.specs.declared.verify.Judged.TheVariants as judged
-use Rattle.plan_top.specs.Tasks.{AreTask, RefusesTask, IsTreeFault, domain_tree, problem_tree, no_task, OnceRead, not_read, read, refused, past, OnceGrounded, not_grounded, grounded, IsOver}
-use Rattle.plan_top.specs.Raced.{OnceRaced, too_large, ended, outcome_of}
-use Rattle.plan_top.specs.Generated.{AnswersGenerated, TellsGenerated, generated_line}
-use Rattle.plan_top.specs.Causes.{OfTwo, OfThree, Decides, AnswersPlan, AnswersGround, AnswersOrder, AnswersCheck, AnswersProve, not_run, run, AnswersVerify, unfit, beyond, spelled, not_checked, checked, ending_of_run, ending_of_check, ending_of, ComesFor, stopped, decided, ArePartsOf, ComesForBatch, unread, in_parts, ComesOf, Comes}
+use Rattle.plan_answers.specs.Tasks.{AreTask, RefusesTask, IsTreeFault, domain_tree, problem_tree, no_task, OnceRead, not_read, read, refused, past, OnceGrounded, not_grounded, grounded, IsOver}
+use Rattle.plan_answers.specs.Raced.{too_large, ended, outcome_of}
+use Rattle.plan_answers.specs.Generated.{AnswersGenerated, RacesGenerated, generated_report}
+use Rattle.plan_answers.specs.Answers.{OfTwo, OfThree, Decides, AnswersPlan, AnswersGround, AnswersOrder, AnswersCheck, AnswersProve, not_run, run, AnswersVerify, unfit, beyond, spelled, not_checked, checked, ending_of_run, ending_of_check, ending_of}
+use Rattle.plan_top.specs.Causes.{ComesFor, stopped, decided, ArePartsOf, Comes, no_request, of_one, unread, in_parts}
 use Rattle.plan_top.specs.Complete.{GoesWell, AreWithin, AreChecked, AreSpelled, AreInOrder, IsGoodAlone, IsGood}
 use Rattle.plan_endings.specs.Ending.{status_of}
 use Rattle.gt_core.specs.Lawful.{conditional_in}
 use Rattle.grounding.specs.Grounded.{Grounded, IsGrounded}
 use Rattle.grounding.specs.Limits.{IsWithin}
 use Rattle.grounding.proofs.Unique.{one_result}
-use Rattle.plan_top.proofs.Told.{at_some, of_told_at, asked_comes}
+use Rattle.plan_top.proofs.Told.{at_some, of_told_at, one_request}
 
 good_zero : (request : Seen) (end : Ending) → status_of end ≡ 0 → IsGoodAlone request end
 good_zero request end zero = inl (0, omega arith, sym zero)
@@ -120,11 +121,11 @@ race_good request (Unfinished lines) text end told = good_two request end (ap st
 
 plan_good : (request : Seen) (steps : Stepping) (settings : Settings) (task : Parts) (g : Grounded) (end : Ending) → AnswersPlan steps settings task g end → IsGoodAlone request end
 plan_good request steps settings task g end (too_large over) = good_large request end over.0 over.1 over.2
-plan_good request steps settings task g end (ended race comes tells) = race_good request (end_view race) (report_of task g settings.budget (end_view race)) end tells.told
+plan_good request steps settings task g end (ended race comes small told) = race_good request (end_view race) (report_of task g settings.budget (end_view race)) end told
 
-generated_good : (request : Seen) (kind : Generated) (number : ℕ) (settings : Settings) (g : Grounded) (end : Ending) → OnceRaced chain_places IsStepPlan g.task settings (TellsGenerated kind number settings) end → IsGoodAlone request end
-generated_good request kind number settings g end (too_large over) = good_large request end over.0 over.1 over.2
-generated_good request kind number settings g end (ended race comes told) = race_good request (end_view race) (generated_line kind number ++ summary_of settings.budget (end_view race)) end told
+generated_good : (request : Seen) (kind : Generated) (number : ℕ) (settings : Settings) (task : Parts) (g : Grounded) (end : Ending) → RacesGenerated kind number settings task g end → IsGoodAlone request end
+generated_good request kind number settings task g end (too_large over) = good_large request end over.0 over.1 over.2
+generated_good request kind number settings task g end (ended race comes so told) = race_good request (end_view race) (generated_report kind number settings (end_view race)) end told
 
 verdict_good : (request : Seen) (v : Verdict) → IsGoodAlone request (ending_of v)
 verdict_good request verdicts.Reaches = good_zero request (ending_of verdicts.Reaches) refl
@@ -145,7 +146,7 @@ shown_good : (request : Seen) (kind : Generated) (number : ℕ) (settings : Sett
 shown_good request kind number settings shows.Domain end order h = good_zero request end (ap status_of h)
 shown_good request kind number settings shows.Problem end order h = good_zero request end (ap status_of h)
 shown_good request kind number settings shows.None end order h =
-    within_good request (domain_of kind) (problem_of kind number) (λ task g. OnceRaced chain_places IsStepPlan g.task settings (TellsGenerated kind number settings)) end order (λ task g. generated_good request kind number settings g end) h
+    within_good request (domain_of kind) (problem_of kind number) (RacesGenerated kind number settings) end order (λ task g. generated_good request kind number settings task g end) h
 
 prove_good : (d p : List ℕ) (h b : ℕ) (task : Parts) (g : Grounded) (end : Ending) → AnswersProve h b task g end → IsGoodAlone (proves d p h b) end
 prove_good d p h b task g end (not_run count many e) = good_large (proves d p h b) end h count e
@@ -212,6 +213,17 @@ batch_most domain problems n turns place = step (place == 0) (place == 1)
     step false true = refl
     step false false = refl
 
+-- a request of one task
+good_alone : (request : Seen) (end : Ending) → IsOfOne request → IsGoodAlone request end → IsGood request end
+good_alone (plans_by steps d p n) end one h = h
+good_alone (checks d p l) end one h = h
+good_alone (grounds d p) end one h = h
+good_alone (orders d p) end one h = h
+good_alone (generates k m n s) end one h = h
+good_alone (proves d p k b) end one h = h
+good_alone (verifies d p c) end one h = h
+good_alone (batches d ps n t) end one h = absurd one
+
 module _ (told : List ℕ → Option (List ℕ)) (lacks : List ℕ → Bool) (old new : List (List ℕ)) where
   no_stop : (file : ℕ → File) (place : ℕ) (names files : List (List ℕ)) (end : Ending) → AllZip (λ name bytes. told name ≡ Some bytes) names files → AreShort file place files
       → (RoseAmong names old new → ⊥) → StopsFrom told lacks old new file place names end → ⊥
@@ -260,22 +272,25 @@ module _ (told : List ℕ → Option (List ℕ)) (lacks : List ℕ → Bool) (ol
 
   batch_good : TextsAreFit → (domain : List ℕ) (problems : List (List ℕ)) (n : Numbers) (turns : Turns) (files : List (List ℕ)) → AllZip (λ name bytes. told name ≡ Some bytes) (domain ∷ problems) files
       → AreShort (file_at (batches domain problems n turns)) 0 files → AreInOrder (batches domain problems n turns) files → (RoseAmong (domain ∷ problems) old new → ⊥)
-      → (end : Ending) → ComesForBatch told lacks old new domain problems n turns end → IsGood (batches domain problems n turns) end
-  batch_good no_fault domain problems n turns files are fit order quiet end (unread h) = absurd (no_unread (file_at (batches domain problems n turns)) 0 (domain ∷ problems) end quiet h)
-  batch_good no_fault domain problems n turns [] are fit order quiet end (in_parts parts comes e) = absurd are
-  batch_good no_fault domain problems n turns (first ∷ texts) are fit order quiet end (in_parts parts comes e) =
-      (parts, e, parts_good no_fault domain first n problems turns are.0 fit.0 1 problems texts parts are.1 fit.1 order quiet comes)
-
-  good_of : TextsAreFit → (request : Seen) (files : List (List ℕ)) → AllZip (λ name bytes. told name ≡ Some bytes) (files_of request) files → AreShort (file_at request) 0 files → AreInOrder request files
-      → (RoseAmong (files_of request) old new → ⊥) → (end : Ending) → ComesOf told lacks old new request end → IsGood request end
-  good_of no_fault (plans_by steps d p n) files are fit order quiet end h = alone no_fault (plans_by steps d p n) files are fit order quiet end h
-  good_of no_fault (checks d p l) files are fit order quiet end h = alone no_fault (checks d p l) files are fit order quiet end h
-  good_of no_fault (grounds d p) files are fit order quiet end h = alone no_fault (grounds d p) files are fit order quiet end h
-  good_of no_fault (orders d p) files are fit order quiet end h = alone no_fault (orders d p) files are fit order quiet end h
-  good_of no_fault (generates k m n s) files are fit order quiet end h = alone no_fault (generates k m n s) files are fit order quiet end h
-  good_of no_fault (proves d p k b) files are fit order quiet end h = alone no_fault (proves d p k b) files are fit order quiet end h
-  good_of no_fault (verifies d p c) files are fit order quiet end h = alone no_fault (verifies d p c) files are fit order quiet end h
-  good_of no_fault (batches d ps n t) files are fit order quiet end h = batch_good no_fault d ps n t files are fit order quiet end h
+      → (parts : List Ending) → ArePartsOf told lacks old new domain n problems parts → AllZip (λ problem part. IsGoodAlone (plans domain problem n) part) problems parts
+  batch_good no_fault domain problems n turns [] are fit order quiet parts comes = absurd are
+  batch_good no_fault domain problems n turns (first ∷ texts) are fit order quiet parts comes =
+      parts_good no_fault domain first n problems turns are.0 fit.0 1 problems texts parts are.1 fit.1 order quiet comes
 
   pub complete : TextsAreFit → (words : List (List ℕ)) (w : GoesWell words told old new) (end : Ending) → Comes told lacks old new words end → IsGood w.request end
-  complete no_fault words w end comes = good_of no_fault w.request w.files w.are_told w.fit w.in_order w.quiet end (asked_comes told lacks old new words w.request w.asked end comes)
+  complete no_fault words w end (no_request none e) = absurd (let never : Some w.request ≡ None = sym w.asked ∙ none in cc)
+  complete no_fault words w end (of_one request asked one h) =
+      let is : request ≡ w.request = one_request words request w.request asked w.asked in
+      subst (λ (r : Seen). IsGood r end) is
+      (good_alone request end one (subst (λ (r : Seen). ComesFor told lacks old new r end → IsGoodAlone r end) (sym is) (alone no_fault w.request w.files w.are_told w.fit w.in_order w.quiet end) h))
+  complete no_fault words w end (unread d ps n turns asked h) =
+      let is : w.request ≡ batches d ps n turns = one_request words w.request (batches d ps n turns) w.asked asked in
+      absurd (no_unread (file_at (batches d ps n turns)) 0 (d ∷ ps) end (subst (λ (r : Seen). RoseAmong (files_of r) old new → ⊥) is w.quiet) h)
+  complete no_fault words w end (in_parts d ps n turns asked parts are e) =
+      let is : w.request ≡ batches d ps n turns = one_request words w.request (batches d ps n turns) w.asked asked in
+      subst (λ (r : Seen). IsGood r end) (sym is) (
+        parts,
+        e,
+        batch_good no_fault d ps n turns w.files (subst (λ (r : Seen). AllZip (λ name bytes. told name ≡ Some bytes) (files_of r) w.files) is w.are_told) (subst (λ (r : Seen). AreShort (file_at r) 0 w.files) is w.fit)
+            (subst (λ (r : Seen). AreInOrder r w.files) is w.in_order) (subst (λ (r : Seen). RoseAmong (files_of r) old new → ⊥) is w.quiet) parts are,
+      )

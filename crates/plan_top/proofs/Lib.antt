@@ -1,8 +1,6 @@
-pub mod Stopped
 pub mod Taking
 pub mod Verdicts
 pub mod Told
-pub mod Answered
 pub mod Reports
 pub mod Claims
 pub mod Complete

@@ -1,5 +1,5 @@
 -- Runs on the same files by words that ask for one race have one ending.
-use Rattle.std.proofs.Common.{◌≡◌, ◌≤◌, ◌<◌, inl, inr, ℕ, ◌+◌, zero, suc, List, [], ◌∷◌, ◌++◌, length, Bool, Option, Some, None, refl, sym, ap, ap₂, subst, ◌∙◌, arith}
+use Rattle.std.proofs.Common.{◌≡◌, ◌≤◌, ◌<◌, inl, inr, ℕ, zero, suc, List, [], ◌∷◌, ◌++◌, length, Bool, Option, Some, None, refl, sym, ap, ap₂, subst, ◌∙◌, arith}
 use Rattle.std.specs.Prelude.{IfSome, ◌⊎◌, slice_get}
 use Rattle.std.specs.List.{AllZip}
 use Rattle.gt_core.specs.Task.{Task}
@@ -11,35 +11,33 @@ use Rattle.horizon_rates.specs.declared.rates.Rates.{Rates}
 use Rattle.horizon_rates.specs.declared.settings.Settings.{Settings}
 use Rattle.plan_endings.specs.declared.ending.File.{File}
 use Rattle.plan_endings.specs.declared.ending.File.TheVariants.{Domain, Problem}
-use Rattle.pd_model.specs.declared.parts.Parts.{Parts}
-use Rattle.grounding.specs.Grounded.{Grounded}
 use Rattle.race_end.specs.Ends.{EndView, end_view}
 use Rattle.race_end.specs.declared.end.RaceEnd.{RaceEnd}
 use Rattle.race.specs.Race as stage
 use Rattle.plan_gen.specs.declared.Kind.{Kind as Generated}
 use Rattle.plan_gen.specs.Task.{domain_of, problem_of}
 use Rattle.plan_report.specs.Report.{report_of, summary_of}
-use Rattle.plan_words.specs.Seen.{Seen, Numbers, NumbersAreSettings, numbers, plans, plans_by, generates, batches, files_of}
+use Rattle.plan_report.specs.Laws.{IsSmall}
+use Rattle.plan_words.specs.Seen.{Seen, Numbers, NumbersAreSettings, numbers, plans, plans_by, generates, files_of}
 use Rattle.plan_words.specs.declared.request.Show.{Show}
 use Rattle.plan_words.specs.declared.request.Show.TheVariants as shows
 use Rattle.plan_endings.specs.declared.ending.Ending.{Ending}
 use Rattle.plan_endings.specs.declared.ending.Ending.TheVariants.{Report, TooLong, TooLarge, ReadFault}
-use Rattle.plan_top.specs.Files.{Fits, FitFrom, FaultsFrom, OfTold, Stops, StopsFrom, most_of, most_bytes, file_at}
+use Rattle.plan_answers.specs.Limits.{most_of, most_bytes, file_at}
+use Rattle.plan_top.specs.Files.{Fits, FitFrom, OfTold, Stops, StopsFrom}
 use Rattle.gt_core.specs.Published.{IsPublished}
 use Rattle.certificates.specs.Known.{IsOrdered, form_of, formula_at}
 use Rattle.plan_top.specs.Laws.{Laws}
 use Rattle.plan_words.specs.declared.request.Stepping.{Stepping}
-use Rattle.plan_words.specs.declared.request.Turns.{Turns}
-use Rattle.gt_core.specs.Step.{IsStepPlan}
-use Rattle.step_clauses.specs.Variables.{chain_places}
 use Rattle.plan_words.specs.declared.request.Stepping.TheVariants.{Exists}
-use Rattle.plan_top.specs.Stepping.{places_by, is_plan_by}
-use Rattle.plan_top.specs.Raced.{input_of, IsTooLarge, ComesTo, OnceRaced, too_large, ended, outcome_of}
-use Rattle.plan_top.specs.Generated.{TellsGenerated, generated_line}
-use Rattle.plan_top.specs.Causes.{Decides, TellsRace, AnswersPlan, HasRead, ComesFor, stopped, decided, ArePartsOf, ComesForBatch, unread, in_parts, Comes}
+use Rattle.plan_answers.specs.Stepping.{places_by, is_plan_by}
+use Rattle.plan_answers.specs.Raced.{input_of, IsTooLarge, ComesTo, OnceRaced, too_large, ended, outcome_of}
+use Rattle.plan_answers.specs.Generated.{RacesGenerated, generated_line, generated_report}
+use Rattle.plan_answers.specs.Answers.{Decides, AnswersPlan}
+use Rattle.plan_top.specs.Causes.{HasRead, ComesFor, stopped, decided, ArePartsOf, Comes}
 use Rattle.plan_endings.specs.Ending.{status_of, batch_of}
 use Rattle.plan_top.specs.OneReport.{AreSameRace, AreTold, one_plan, one_generated, one_batch, AskForOnePart, OneEnding}
-use Rattle.plan_top.proofs.Told.{asked_comes}
+use Rattle.plan_top.proofs.Told.{asked_comes, asked_parts}
 use Rattle.plan_top.proofs.OneTask.{once_grounded}
 
 -- ---- settings
@@ -92,28 +90,18 @@ module _ (invariants : OneListOfInvariants) (unique : PublishedIsUnique) (how : 
         sym p.ended ∙ (one_stage (form_of task p.clauses p.components) (form_of task q.clauses q.components) form ∙ q.ended) in
         cc
 
--- what a race comes to is one ending, where it is for each end
-once_raced : OneListOfInvariants → PublishedIsUnique → (how : Stepping) (s t : Settings) → s.rates ≡ t.rates → s.budget ≡ t.budget → (task : Task) (A B : RaceEnd → Ending → Type 0) (x y : Ending)
-    → ((race other : RaceEnd) → end_view race ≡ end_view other → A race x → B other y → x ≡ y)
-    → OnceRaced (places_by how) (is_plan_by how) task s A x → OnceRaced (places_by how) (is_plan_by how) task t B y → x ≡ y
-once_raced invariants unique how s t rates budget task A B x y same (too_large (h, m, e, a)) (too_large (k, n, f, b)) =
-    e ∙ (one_horizon invariants unique how task s t rates budget h k m n a b ∙ sym f)
-once_raced invariants unique how s t rates budget task A B x y same (too_large (h, m, e, a)) (ended race comes tells) =
-    absurd (not_both invariants unique how task s t rates budget h m race a comes)
-once_raced invariants unique how s t rates budget task A B x y same (ended race comes tells) (too_large (k, n, f, b)) =
-    absurd (not_both invariants unique how task t s (sym rates) (sym budget) k n race b comes)
-once_raced invariants unique how s t rates budget task A B x y same (ended race comes tells) (ended other too also) =
-    same race other (one_end invariants unique how task s t rates budget race other comes too) tells also
-
--- the report on a task, and on a generated one
-one_told : (s t : Settings) → s.budget ≡ t.budget → (p : Parts) (g : Grounded) (x y : Ending) (race other : RaceEnd) → end_view race ≡ end_view other → TellsRace s p g race x → TellsRace t p g other y → x ≡ y
-one_told s t budget p g x y race other same tells also =
-    tells.told ∙ (ap₂ (λ (b : ℕ) (v : EndView). Report (outcome_of v) (report_of p g b v)) budget same ∙ sym also.told)
-
-one_summary : (kind : Generated) (number : ℕ) (s t : Settings) → s.budget ≡ t.budget → (x y : Ending) (race other : RaceEnd) → end_view race ≡ end_view other
-    → TellsGenerated kind number s race x → TellsGenerated kind number t other y → x ≡ y
-one_summary kind number s t budget x y race other same tells also =
-    tells ∙ (ap₂ (λ (b : ℕ) (v : EndView). Report (outcome_of v) (generated_line kind number ++ summary_of b v)) budget same ∙ sym also)
+-- what a race comes to is one ending, where its end has one text
+once_raced : OneListOfInvariants → PublishedIsUnique → (how : Stepping) (s t : Settings) → s.rates ≡ t.rates → s.budget ≡ t.budget → (task : Task) (P Q : EndView → Type 0) (f h : EndView → List ℕ)
+    → ((race : EndView) → f race ≡ h race) → (x y : Ending) → OnceRaced (places_by how) (is_plan_by how) task s P f x → OnceRaced (places_by how) (is_plan_by how) task t Q h y → x ≡ y
+once_raced invariants unique how s t rates budget task P Q f h same x y (too_large (k, m, e, a)) (too_large (l, n, d, b)) =
+    e ∙ (one_horizon invariants unique how task s t rates budget k l m n a b ∙ sym d)
+once_raced invariants unique how s t rates budget task P Q f h same x y (too_large (k, m, e, a)) (ended race comes so told) =
+    absurd (not_both invariants unique how task s t rates budget k m race a comes)
+once_raced invariants unique how s t rates budget task P Q f h same x y (ended race comes so told) (too_large (l, n, d, b)) =
+    absurd (not_both invariants unique how task t s (sym rates) (sym budget) l n race b comes)
+once_raced invariants unique how s t rates budget task P Q f h same x y (ended race comes so told) (ended other too also there) =
+    let ends = one_end invariants unique how task s t rates budget race other comes too in
+    told ∙ (ap (λ (v : EndView). Report (outcome_of v) (f v)) ends ∙ (ap (Report (outcome_of (end_view other))) (same (end_view other)) ∙ sym there))
 
 -- ---- the files
 
@@ -154,19 +142,6 @@ module _ (told : List ℕ → Option (List ℕ)) (lacks : List ℕ → Bool) (ol
         let fits = subst (λ (ns : List (List ℕ)). FitFrom told lacks (file_at request) 0 ns) names fit in
         inr (short Domain domain first domain_told fits.0, short Problem problem second problem_told fits.1.0, of_told request end (subst (λ (ns : List (List ℕ)). OfTold told ns (λ files. Decides request files end)) names h))
 
--- a file that could not be read is told
-unread_file : (told : List ℕ → Option (List ℕ)) (lacks : List ℕ → Bool) (old new : List (List ℕ)) (file : ℕ → File) (place : ℕ) (names : List (List ℕ)) (end : Ending) → FaultsFrom told lacks old new file place names end
-    → HasRead end → ⊥
-unread_file told lacks old new file place [] end h has = h
-unread_file told lacks old new file place (name ∷ names) end (inl fault) has = subst HasRead fault.0 has
-unread_file told lacks old new file place (name ∷ names) end (inr more) has = unread_file told lacks old new file (place + 1) names end more.1 has
-
--- the part of a batch, where it has one for each problem
-pub parts_of : (told : List ℕ → Option (List ℕ)) (lacks : List ℕ → Bool) (old new : List (List ℕ)) (domain : List ℕ) (problems : List (List ℕ)) (n : Numbers) (turns : Turns) (end : Ending) → HasRead end
-    → ComesForBatch told lacks old new domain problems n turns end → (parts : List Ending) × ArePartsOf told lacks old new domain n problems parts × (end ≡ batch_of parts)
-parts_of told lacks old new domain problems n turns end has (unread h) = absurd (unread_file told lacks old new (file_at (batches domain problems n turns)) 0 (domain ∷ problems) end h has)
-parts_of told lacks old new domain problems n turns end has (in_parts parts are e) = (parts, are, e)
-
 -- what stands at a place of one list, and at that place of another
 zip_at : {X Y : Type 0} (R : X → Y → Type 0) (xs : List X) (ys : List Y) (place : ℕ) (x : X) → AllZip R xs ys → slice_get xs place ≡ Some x → (y : Y) × (slice_get ys place ≡ Some y) × R x y
 zip_at R [] [] place x all at = absurd (let never : None ≡ Some x = at in cc)
@@ -182,7 +157,7 @@ module _ (laws : Laws) where
   one_decision how first second domain problem other_domain other_problem n m same x y (s, is, p) (t, too, q) =
       let race = same_race laws.settings s t (subst (λ (z : Numbers). AreSameRace z (numbers t)) (sym is) (subst (λ (z : Numbers). AreSameRace n z) (sym too) same)) in
       once_grounded laws.one_result first second (AnswersPlan how s) (AnswersPlan how t) x y
-      (λ task g. once_raced laws.invariants laws.unique how s t race.0 race.1 g.task (TellsRace s task g) (TellsRace t task g) x y (one_told s t race.1 task g x y)) p q
+      (λ task g. once_raced laws.invariants laws.unique how s t race.0 race.1 g.task (IsSmall s.budget) (IsSmall t.budget) (report_of task g s.budget) (report_of task g t.budget) (λ v. ap (λ (b : ℕ). report_of task g b v) race.1) x y) p q
 
   one_generation : (kind : Generated) (number : ℕ) (show : Show) (n m : Numbers) → AreSameRace n m → (x y : Ending) → Decides (generates kind number n show) [] x → Decides (generates kind number m show) [] y → x ≡ y
   one_generation kind number shows.Domain n m same x y p q = p.1.2 ∙ sym q.1.2
@@ -191,9 +166,8 @@ module _ (laws : Laws) where
       let s = p.1.0 in
       let t = q.1.0 in
       let race = same_race laws.settings s t (subst (λ (z : Numbers). AreSameRace z (numbers t)) (sym p.1.1) (subst (λ (z : Numbers). AreSameRace n z) (sym q.1.1) same)) in
-      let answers : Settings → Parts → Grounded → Ending → Type 0 = λ z task g. OnceRaced chain_places IsStepPlan g.task z (TellsGenerated kind number z) in
-      once_grounded laws.one_result (domain_of kind) (problem_of kind number) (answers s) (answers t) x y
-      (λ task g. once_raced laws.invariants laws.unique Exists s t race.0 race.1 g.task (TellsGenerated kind number s) (TellsGenerated kind number t) x y (one_summary kind number s t race.1 x y)) p.1.2 q.1.2
+      once_grounded laws.one_result (domain_of kind) (problem_of kind number) (RacesGenerated kind number s) (RacesGenerated kind number t) x y
+      (λ task g. once_raced laws.invariants laws.unique Exists s t race.0 race.1 g.task (λ v. Unit {0}) (λ v. Unit {0}) (generated_report kind number s) (generated_report kind number t) (λ v. ap (λ (b : ℕ). generated_line kind number ++ summary_of b v) race.1) x y) p.1.2 q.1.2
 
   one_cause : (r q : Seen) (first second : List ℕ) (x y : Ending) → ((x y : Ending) → Decides r (first ∷ second ∷ []) x → Decides q (first ∷ second ∷ []) y → x ≡ y) → IsCause r first second x → IsCause q first second y → x ≡ y
   one_cause r q first second x y one (inl (inl a)) (inl (inl b)) = a.0 ∙ sym b.0
@@ -241,17 +215,16 @@ module _ (laws : Laws) where
   pub one_ending : OneEnding
   one_ending told elsewhere lacks lacking old new before after words others x y (one_plan ask) p q hx hy =
       one_pair told elsewhere lacks lacking old new before after ask.domain ask.other_domain ask.first ask.numbers ask.other_numbers ask.same ask.domain_told ask.other_domain_told ask.steps ask.problem ask.other_problem ask.second
-      ask.problem_told ask.other_problem_told x y hx hy (asked_comes told lacks old new words (plans_by ask.steps ask.domain ask.problem ask.numbers) ask.asked x p)
-      (asked_comes elsewhere lacking before after others (plans_by ask.steps ask.other_domain ask.other_problem ask.other_numbers) ask.others_asked y q)
+      ask.problem_told ask.other_problem_told x y hx hy (asked_comes told lacks old new words (plans_by ask.steps ask.domain ask.problem ask.numbers) tt ask.asked x p)
+      (asked_comes elsewhere lacking before after others (plans_by ask.steps ask.other_domain ask.other_problem ask.other_numbers) tt ask.others_asked y q)
   one_ending told elsewhere lacks lacking old new before after words others x y (one_generated ask) p q hx hy =
       one_generation ask.kind ask.number ask.show ask.numbers ask.other_numbers ask.same x y
-      (made_of told lacks old new ask.kind ask.number ask.numbers ask.show x (asked_comes told lacks old new words (generates ask.kind ask.number ask.numbers ask.show) ask.asked x p))
+      (made_of told lacks old new ask.kind ask.number ask.numbers ask.show x (asked_comes told lacks old new words (generates ask.kind ask.number ask.numbers ask.show) tt ask.asked x p))
       (made_of elsewhere lacking before after ask.kind ask.number ask.other_numbers ask.show y
-      (asked_comes elsewhere lacking before after others (generates ask.kind ask.number ask.other_numbers ask.show) ask.others_asked y q))
+      (asked_comes elsewhere lacking before after others (generates ask.kind ask.number ask.other_numbers ask.show) tt ask.others_asked y q))
   one_ending told elsewhere lacks lacking old new before after words others x y (one_batch ask) p q hx hy =
-      let mine = parts_of told lacks old new ask.domain ask.problems ask.numbers ask.turns x hx (asked_comes told lacks old new words (batches ask.domain ask.problems ask.numbers ask.turns) ask.asked x p) in
-      let other = parts_of elsewhere lacking before after ask.other_domain ask.other_problems ask.other_numbers ask.other_turns y hy
-      (asked_comes elsewhere lacking before after others (batches ask.other_domain ask.other_problems ask.other_numbers ask.other_turns) ask.others_asked y q) in
+      let mine = asked_parts told lacks old new words ask.domain ask.problems ask.numbers ask.turns ask.asked x hx p in
+      let other = asked_parts elsewhere lacking before after others ask.other_domain ask.other_problems ask.other_numbers ask.other_turns ask.others_asked y hy q in
       let parts : mine.0 ≡ other.0 = one_by_one told elsewhere lacks lacking old new before after ask.domain ask.other_domain ask.first ask.numbers ask.other_numbers ask.same ask.domain_told ask.other_domain_told
       ask.problems ask.other_problems ask.texts mine.0 other.0 ask.problems_told ask.other_problems_told mine.1 other.1 in
       mine.2 ∙ (ap batch_of parts ∙ sym other.2)
@@ -260,11 +233,11 @@ module _ (laws : Laws) where
   pub one_part : (told elsewhere : List ℕ → Option (List ℕ)) (lacks lacking : List ℕ → Bool) (old new before after words others : List (List ℕ)) (place : ℕ) (x y : Ending) → AskForOnePart told elsewhere words place others
       → Comes told lacks old new words x → Comes elsewhere lacking before after others y → HasRead x → HasRead y → (parts : List Ending) × (slice_get parts place ≡ Some y) × (x ≡ batch_of parts)
   one_part told elsewhere lacks lacking old new before after words others place x y ask p q hx hy =
-      let mine = parts_of told lacks old new ask.domain ask.problems ask.numbers ask.turns x hx (asked_comes told lacks old new words (batches ask.domain ask.problems ask.numbers ask.turns) ask.asked x p) in
+      let mine = asked_parts told lacks old new words ask.domain ask.problems ask.numbers ask.turns ask.asked x hx p in
       let here = zip_at (λ problem part. ComesFor told lacks old new (plans ask.domain problem ask.numbers) part × HasRead part) ask.problems mine.0 place ask.problem mine.1 ask.at_place in
       let same : here.0 ≡ y = one_pair told elsewhere lacks lacking old new before after ask.domain ask.other_domain ask.first ask.numbers ask.other_numbers ask.same ask.domain_told ask.other_domain_told
       Exists ask.problem ask.other_problem ask.second ask.problem_told ask.other_problem_told here.0 y here.2.1 hy here.2.0
-      (asked_comes elsewhere lacking before after others (plans ask.other_domain ask.other_problem ask.other_numbers) ask.others_asked y q) in
+      (asked_comes elsewhere lacking before after others (plans ask.other_domain ask.other_problem ask.other_numbers) tt ask.others_asked y q) in
       (mine.0, here.1 ∙ ap (λ (e : Ending). Some e) same, mine.2)
 
 pub has_read : (end : Ending) → (status_of end ≡ 5 → ⊥) → HasRead end

@@ -18,7 +18,7 @@ use Rattle.plan_endings.specs.declared.ending.Kind.{Kind}
 use Rattle.plan_endings.specs.declared.ending.Kind.TheVariants.{Syntax, Deep}
 use Rattle.plan_endings.specs.declared.ending.Ending.{Ending}
 use Rattle.plan_endings.specs.declared.ending.Ending.TheVariants.{Refused, TooMany}
-use Rattle.plan_top.specs.Tasks.{AreTask, IsTreeFault, RefusesTree, RefusesTrees, RefusesTask, domain_tree, problem_tree, no_task, IsOver, TellsOver, IsReady, StopsTask, refused, past, OnceGrounded, not_grounded, grounded, refusal_of}
+use Rattle.plan_answers.specs.Tasks.{AreTask, IsTreeFault, RefusesTree, RefusesTrees, RefusesTask, domain_tree, problem_tree, no_task, IsOver, TellsOver, IsReady, StopsTask, refused, past, OnceGrounded, not_grounded, grounded, refusal_of}
 
 -- ---- trees and their faults
 

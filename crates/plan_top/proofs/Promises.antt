@@ -29,11 +29,13 @@ use Rattle.plan_endings.specs.declared.ending.Outcome.{Outcome}
 use Rattle.plan_endings.specs.declared.ending.Outcome.TheVariants as outcomes
 use Rattle.plan_endings.specs.declared.ending.Ending.{Ending}
 use Rattle.plan_endings.specs.declared.ending.Ending.TheVariants.{Report, Listing, Reaches, Blocked, Short, Refused, TooLong, TooMany, TooLarge, ReadFault, Usage, Found, Open, Accepted, Rejected, NotEmpty, Parts as Batched}
-use Rattle.plan_top.specs.Files.{StopsFrom, FaultsFrom, OfTold, RoseAmong, file_at}
-use Rattle.plan_top.specs.Stepping.{places_by, is_plan_by}
-use Rattle.plan_top.specs.Tasks.{AreTask, RefusesTask, IsReady, StopsTask, refused, past, OnceRead, not_read, read, OnceGrounded, not_grounded, grounded}
-use Rattle.plan_top.specs.Raced.{ComesTo, too_large, ended, outcome_of}
-use Rattle.plan_top.specs.Causes.{Decides, TellsRace, AnswersPlan, AnswersGround, AnswersOrder, AnswersCheck, AnswersProve, not_run, run, AnswersVerify, unfit, beyond, spelled, not_checked, checked, ending_of_run, ending_of_check, refusal_of_plan, ending_of, is_answer, HasRead, ComesFor, stopped, decided, ArePartsOf, ComesForBatch, unread, in_parts, ComesOf, Comes, no_request, of_request, names_in, FaultOf}
+use Rattle.plan_answers.specs.Limits.{file_at}
+use Rattle.plan_top.specs.Files.{StopsFrom, FaultsFrom, OfTold, RoseAmong}
+use Rattle.plan_answers.specs.Stepping.{places_by, is_plan_by}
+use Rattle.plan_answers.specs.Tasks.{AreTask, RefusesTask, IsReady, StopsTask, refused, past, OnceRead, not_read, read, OnceGrounded, not_grounded, grounded}
+use Rattle.plan_answers.specs.Raced.{ComesTo, too_large, ended, outcome_of}
+use Rattle.plan_answers.specs.Answers.{Decides, AnswersPlan, AnswersGround, AnswersOrder, AnswersCheck, AnswersProve, not_run, run, AnswersVerify, unfit, beyond, spelled, not_checked, checked, ending_of_run, ending_of_check, refusal_of_plan, ending_of}
+use Rattle.plan_top.specs.Causes.{is_answer, HasRead, ComesFor, stopped, decided, ArePartsOf, Comes, no_request, of_one, unread, in_parts, names_in, FaultOf}
 use Rattle.step_clauses.specs.Variables.{chain_places}
 use Rattle.clause_base.specs.Formula.{Cnf}
 use Rattle.clause_base.specs.Derivation.{IsRefutation}
@@ -54,11 +56,11 @@ use Rattle.plan_endings.specs.Ending.{status_of, status_of_race, text_of, greate
 use Rattle.plan_top.specs.Headline.{Printed, OfFiles, OfPlans, PlanRuns, HasAtLeast, NoStepPlan, NoPlan, LineIsSo, SpendsAll, Certifies, OfProof, ProvesNone, TellsGround, TellsOrder, CallsRun}
 use Rattle.plan_top.specs.Laws.{Laws}
 use Rattle.plan_top.proofs.Claims as claims
-use Rattle.plan_top.proofs.Told.{task_refusal, two_weaker, three_weaker, comes_for, asked_comes, not_asked_comes}
+use Rattle.plan_top.proofs.Told.{task_refusal, two_weaker, three_weaker, asked_comes, asked_parts, not_asked_comes}
 use Rattle.plan_top.proofs.Reports.{is_stop, stop_status, stop_says_nothing, printed_is, printed_front, nothing_said}
 use Rattle.plan_top.proofs.Verdicts.{reaches_is_plan}
 use Rattle.plan_top.proofs.Complete.{complete as goes_well}
-use Rattle.plan_top.proofs.OneReport.{one_ending, one_part, parts_of, has_read}
+use Rattle.plan_top.proofs.OneReport.{one_ending, one_part, has_read}
 
 -- ---- endings that stop a run
 
@@ -100,19 +102,20 @@ pub record Raced (how : Stepping) (settings : Settings) (domain problem : List �
   pub ready : IsReady task g
   pub race : RaceEnd
   pub comes : ComesTo (places_by how) (is_plan_by how) g.task settings race
-  pub tells : TellsRace settings task g race end
+  pub small : IsSmallReport settings.budget (end_view race)
+  pub told : end ≡ Report (outcome_of (end_view race)) (report_of task g settings.budget (end_view race))
 
 raced : (how : Stepping) (settings : Settings) (domain problem : List ℕ) (end : Ending) → (is_stop end ≡ true → ⊥) → OnceGrounded domain problem (AnswersPlan how settings) end → Raced how settings domain problem end
 raced how settings domain problem end on h = let r = goes_on domain problem (AnswersPlan how settings) end on h in step r.0 r.1 r.2 r.3 r.4
   where
     step : (task : Parts) (g : Grounded) → AreTask domain problem task → IsReady task g → AnswersPlan how settings task g end → Raced how settings domain problem end
     step task g are ready (too_large over) = absurd (on (ap is_stop over.2))
-    step task g are ready (ended race comes tells) = record { task = task; g = g; are = are; ready = ready; race = race; comes = comes; tells = tells }
+    step task g are ready (ended race comes small told) = record { task = task; g = g; are = are; ready = ready; race = race; comes = comes; small = small; told = told }
 
 module _ (laws : Laws) (how : Stepping) (settings : Settings) (domain problem : List ℕ) (end : Ending) (r : Raced how settings domain problem end) where
   -- a report of status 0 is that of a plan, and one of status 2 that the budget is spent
   plan_of : status_of end ≡ 0 → PlanRuns how (text_of end) r.task
-  plan_of zero = subst (λ (e : Ending). PlanRuns how (text_of e) r.task) (sym r.tells.told) (step r.race r.comes r.tells.small (sym (ap status_of r.tells.told) ∙ zero))
+  plan_of zero = subst (λ (e : Ending). PlanRuns how (text_of e) r.task) (sym r.told) (step r.race r.comes r.small (sym (ap status_of r.told) ∙ zero))
     where
       step : (race : RaceEnd) → ComesTo (places_by how) (is_plan_by how) r.g.task settings race → IsSmallReport settings.budget (end_view race) → status_of_race (outcome_of (end_view race)) ≡ 0
           → PlanRuns how (report_of r.task r.g settings.budget (end_view race)) r.task
@@ -121,7 +124,7 @@ module _ (laws : Laws) (how : Stepping) (settings : Settings) (domain problem : 
       step (races.Unfinished lines) comes small zero = absurd (omega arith)
 
   spent_of : status_of end ≡ 2 → SpendsAll (text_of end) settings.budget
-  spent_of two = subst (λ (e : Ending). SpendsAll (text_of e) settings.budget) (sym r.tells.told) (step r.race r.comes r.tells.small (sym (ap status_of r.tells.told) ∙ two))
+  spent_of two = subst (λ (e : Ending). SpendsAll (text_of e) settings.budget) (sym r.told) (step r.race r.comes r.small (sym (ap status_of r.told) ∙ two))
     where
       step : (race : RaceEnd) → ComesTo (places_by how) (is_plan_by how) r.g.task settings race → IsSmallReport settings.budget (end_view race) → status_of_race (outcome_of (end_view race)) ≡ 2
           → SpendsAll (report_of r.task r.g settings.budget (end_view race)) settings.budget
@@ -140,8 +143,8 @@ module _ (laws : Laws) (how : Stepping) (settings : Settings) (domain problem : 
   -- what the report says of a horizon its end tells
   said_of : (horizon : ℕ) (word : List ℕ) (conflicts : ℕ) → IsTrue (is_word word) → Says (text_of end) horizon word conflicts → Tells (lines_in (end_view r.race)) horizon word conflicts
   said_of horizon word conflicts one says =
-      laws.horizons r.task r.g settings.budget (end_view r.race) horizon word conflicts r.ready.well r.tells.small its_calls one
-      (subst (λ (e : Ending). Says (text_of e) horizon word conflicts) r.tells.told says)
+      laws.horizons r.task r.g settings.budget (end_view r.race) horizon word conflicts r.ready.well r.small its_calls one
+      (subst (λ (e : Ending). Says (text_of e) horizon word conflicts) r.told says)
 
 -- ---- the other commands
 
@@ -259,11 +262,6 @@ module _ (told : List ℕ → Option (List ℕ)) (lacks : List ℕ → Bool) (ol
   unread_rose files place (name ∷ names) end (inl fault) = (ap status_of fault.0, inl fault.1)
   unread_rose files place (name ∷ names) end (inr more) = let rest = unread_rose files (place + 1) names end more.1 in (rest.0, inr rest.1)
 
-  batch_low : (domain : List ℕ) (problems : List (List ℕ)) (n : Numbers) (turns : Turns) (end : Ending) → ComesForBatch told lacks old new domain problems n turns end
-      → ((status_of end ≡ 5) × RoseAmong (domain ∷ problems) old new) ⊎ (status_of end ≤ 4)
-  batch_low domain problems n turns end (unread h) = inl (unread_rose (file_at (batches domain problems n turns)) 0 (domain ∷ problems) end h)
-  batch_low domain problems n turns end (in_parts parts are e) = inr (let low = parts_low domain n problems parts are in let is = ap status_of e in omega (arith, low, is))
-
   one_low : (request : Seen) (end : Ending) → ComesFor told lacks old new request end → ((status_of end ≡ 5) × RoseAmong (files_of request) old new) ⊎ (status_of end ≤ 4)
   one_low request end (stopped h) = elim (stop_low (file_at request) 0 (files_of request) end h) [
     | inl k ↦ inl (k.0, k.1)
@@ -271,23 +269,27 @@ module _ (told : List ℕ → Option (List ℕ)) (lacks : List ℕ → Bool) (ol
   ]
   one_low request end (decided fit answer h) = inr (answer_low request end answer)
 
-  -- the status of what comes of a request: 5 where a file could not be read alone
-  request_low : (request : Seen) (end : Ending) → ComesOf told lacks old new request end → ((status_of end ≡ 5) × RoseAmong (files_of request) old new) ⊎ (status_of end ≤ 4)
-  request_low (plans_by steps d p n) end h = one_low (plans_by steps d p n) end h
-  request_low (checks d p l) end h = one_low (checks d p l) end h
-  request_low (grounds d p) end h = one_low (grounds d p) end h
-  request_low (orders d p) end h = one_low (orders d p) end h
-  request_low (generates k m n s) end h = one_low (generates k m n s) end h
-  request_low (proves d p k b) end h = one_low (proves d p k b) end h
-  request_low (verifies d p c) end h = one_low (verifies d p c) end h
-  request_low (batches d ps n t) end h = batch_low d ps n t end h
+  names_of : (words : List (List ℕ)) (request : Seen) → requested words ≡ Some request → files_of request ≡ names_in words
+  names_of words request asked = sym (ap (λ (o : Option Seen). elim o as (λ _. List (List ℕ)) [ None ↦ [] | Some r ↦ files_of r ]) asked)
+
+  -- the status of what comes of words: 7 where they ask for nothing, 5 where a file could not be read alone
+  words_low : (words : List (List ℕ)) (end : Ending) → Comes told lacks old new words end → ((status_of end ≡ 7) × (requested words ≡ None)) ⊎ (((status_of end ≡ 5) × FaultOf old new words) ⊎ (status_of end ≤ 4))
+  words_low words end (no_request none e) = inl (ap status_of e, none)
+  words_low words end (of_one request asked one h) = elim (one_low request end h) [
+    | inl k ↦ inr (inl (k.0, subst (λ (ns : List (List ℕ)). RoseAmong ns old new) (names_of words request asked) k.1))
+    | inr low ↦ inr (inr low)
+  ]
+  words_low words end (unread domain problems n turns asked h) =
+      let rose = unread_rose (file_at (batches domain problems n turns)) 0 (domain ∷ problems) end h in
+      inr (inl (rose.0, subst (λ (ns : List (List ℕ)). RoseAmong ns old new) (names_of words (batches domain problems n turns) asked) rose.1))
+  words_low words end (in_parts domain problems n turns asked parts are e) = inr (inr (let low = parts_low domain n problems parts are in let is = ap status_of e in omega (arith, low, is)))
 
   -- no ending that comes has a status of its own for a write fault or for want of memory
   pub status_apart : (words : List (List ℕ)) (end : Ending) → Comes told lacks old new words end → (status_of end ≡ 6 → ⊥) × (status_of end ≡ 8 → ⊥)
-  status_apart words end (no_request none e) = let seven = ap status_of e in (λ six. omega (arith, seven, six), λ eight. omega (arith, seven, eight))
-  status_apart words end (of_request request asked h) = elim (request_low request end h) [
-    | inl k ↦ (let five = k.0 in (λ six. omega (arith, five, six), λ eight. omega (arith, five, eight)))
-    | inr low ↦ (λ six. omega (arith, low, six), λ eight. omega (arith, low, eight))
+  status_apart words end h = elim (words_low words end h) [
+    | inl k ↦ (let seven = k.0 in (λ six. omega (arith, seven, six), λ eight. omega (arith, seven, eight)))
+    | inr (inl k) ↦ (let five = k.0 in (λ six. omega (arith, five, six), λ eight. omega (arith, five, eight)))
+    | inr (inr low) ↦ (λ six. omega (arith, low, six), λ eight. omega (arith, low, eight))
   ]
 
 -- ---- certificates
@@ -389,7 +391,7 @@ module _ (told : List ℕ → Option (List ℕ)) (lacks : List ℕ → Bool) (ol
 
   -- what was decided for a request of one task by an ending that does not stop
   decided_for : (end : Ending) → Comes told lacks old new words end → (request : Seen) → IsOfOne request → requested words ≡ Some request → (is_stop end ≡ true → ⊥) → OfTold told (files_of request) (λ files. Decides request files end)
-  decided_for end comes request one asked on = step (comes_for told lacks old new request one end (asked_comes told lacks old new words request asked end comes))
+  decided_for end comes request one asked on = step (asked_comes told lacks old new words request one asked end comes)
     where
       step : ComesFor told lacks old new request end → OfTold told (files_of request) (λ files. Decides request files end)
       step (stopped h) = absurd (on (files_stop told lacks old new (file_at request) 0 (files_of request) end h))
@@ -518,23 +520,20 @@ module _ (told : List ℕ → Option (List ℕ)) (lacks : List ℕ → Bool) (ol
   -- ---- words and faults
 
   usage_only : (end : Ending) → status_of end ≡ 7 → Comes told lacks old new words end → requested words ≡ None
-  usage_only end seven (no_request none e) = none
-  usage_only end seven (of_request request asked h) = elim (request_low told lacks old new request end h) [
-    | inl k ↦ absurd (let five = k.0 in omega (arith, five, seven))
-    | inr low ↦ absurd (omega (arith, low, seven))
+  usage_only end seven h = elim (words_low told lacks old new words end h) [
+    | inl k ↦ k.1
+    | inr (inl k) ↦ absurd (let five = k.0 in omega (arith, five, seven))
+    | inr (inr low) ↦ absurd (omega (arith, low, seven))
   ]
 
   pub usage : IsDue → status ≡ 7 → requested words ≡ None
   usage due seven = let d = due (λ six. absurd (omega arith)) (λ eight. absurd (omega arith)) in usage_only d.0 (sym d.1 ∙ seven) d.2
 
-  names_of : (others : List (List ℕ)) (request : Seen) → requested others ≡ Some request → names_in others ≡ files_of request
-  names_of others request asked = ap (λ (o : Option Seen). elim o as (λ _. List (List ℕ)) [ None ↦ [] | Some r ↦ files_of r ]) asked
-
   fault_of : (end : Ending) → status_of end ≡ 5 → Comes told lacks old new words end → FaultOf old new words
-  fault_of end five (no_request none e) = absurd (let seven = ap status_of e in omega (arith, five, seven))
-  fault_of end five (of_request request asked h) = elim (request_low told lacks old new request end h) [
-    | inl k ↦ subst (λ (ns : List (List ℕ)). RoseAmong ns old new) (sym (names_of words request asked)) k.1
-    | inr low ↦ absurd (omega (arith, low, five))
+  fault_of end five h = elim (words_low told lacks old new words end h) [
+    | inl k ↦ absurd (let seven = k.0 in omega (arith, five, seven))
+    | inr (inl k) ↦ k.1
+    | inr (inr low) ↦ absurd (omega (arith, low, five))
   ]
 
   pub read_fault : IsDue → status ≡ 5 → FaultOf old new words
@@ -581,7 +580,7 @@ module _ (told : List ℕ → Option (List ℕ)) (lacks : List ℕ → Bool) (ol
       → (parts : List Ending) × ArePartsOf told lacks old new domain n problems parts × (status ≡ greatest (map status_of parts)) × (after ≡ appended before (parts_text 1 parts))
   batch due domain problems n turns asked not_five not_six not_eight =
       let d = due not_six not_eight in
-      let p = parts_of told lacks old new domain problems n turns d.0 (has_read d.0 (λ five. not_five (d.1 ∙ five))) (asked_comes told lacks old new words (batches domain problems n turns) asked d.0 d.2) in
+      let p = asked_parts told lacks old new words domain problems n turns asked d.0 (has_read d.0 (λ five. not_five (d.1 ∙ five))) d.2 in
       let is = batch_due d.0 p.0 p.2 d.1 d.3 in
       (p.0, p.1, is.0, is.1)
 

@@ -1,16 +1,20 @@
 -- What is known while the files of a request are taken, in order: what holds of the rest of them holds of all.
 use Rattle.std.proofs.Common.{◌≡◌, ◌<◌, ◌≤◌, ℕ, ◌+◌, Bool, List, [], ◌∷◌, ◌++◌, length, drop, Option, Some, None, refl, sym, ap, subst, ◌∙◌, arith, inl, inr, append_assoc, append-nil, length-append, add-one, suc}
-use Rattle.std.specs.Prelude.{IfSome, IsTrue, slice_get}
+use Rattle.std.specs.Prelude.{IfSome, slice_get}
 use Rattle.std.proofs.Math.Seq.{drop-cons}
 use Rattle.std.proofs.Math.ListN.{drop_of_length-le}
 use Rattle.std.proofs.lemmas.Option.{slice_get_within, slice_get_cases, get_or_from_slice_get}
 use Rattle.std.proofs.lemmas.List.Sums.{sum_by-append}
-use Rattle.pl_io.specs.Outside.{Notes, FaultRose, fault_count}
+use Rattle.pl_io.specs.Outside.{Notes, fault_count}
 use Rattle.plan_words.specs.Among.{AreAmong}
 use Rattle.plan_endings.specs.declared.ending.Ending.{Ending}
+use Rattle.plan_endings.specs.declared.ending.Ending.TheVariants.{TooLong, ReadFault}
 use Rattle.plan_endings.specs.declared.ending.File.{File}
-use Rattle.plan_endings.specs.declared.ending.Ending.TheVariants.{ReadFault}
-use Rattle.plan_top.specs.Files.{Stops, StopsFrom, FaultsFrom, Fits, FitFrom, IsTaken, IsTakenOrLong, AreTaken, AreTakenOrLong, AreShort, NotesAmong, most_of}
+use Rattle.plan_answers.specs.Ends.{EndsBy}
+use Rattle.plan_answers.specs.declared.stop.Stop.{Stop}
+use Rattle.plan_answers.specs.declared.stop.Stop.TheVariants.{Ends}
+use Rattle.plan_answers.specs.Limits.{AreShort, most_of}
+use Rattle.plan_top.specs.Files.{Fits, FitFrom, Stops, IsTooLong, IsTaken, AreTaken, AreKept, OneEnds, Rises, NotesAmong}
 
 -- ---- what is left of a list
 
@@ -44,7 +48,7 @@ more_count name old more new e = rw e (longer name old more)
     longer : (n : List ℕ) (xs ys : List (List ℕ)) → fault_count n xs ≤ fault_count n (xs ++ ys)
     longer n xs ys = rw sum_by-append (omega arith)
 
--- no count of faults falls
+-- no count of faults falls where names are noted
 pub never_falls : (names old new : List (List ℕ)) (name : List ℕ) → NotesAmong names old new → fault_count name old ≤ fault_count name new
 never_falls names old new name notes = more_count name old notes.0 new notes.1
 
@@ -76,28 +80,16 @@ module _ (told : List ℕ → Option (List ℕ)) (lacks : List ℕ → Bool) whe
   taken_count file place (n ∷ ns) [] h = absurd h
   taken_count file place (n ∷ ns) (f ∷ fs) h = let e = taken_count file (place + 1) ns fs h.1 in omega arith
 
--- ---- stops that are told with the faults of later
+-- ---- a file that is too long
 
--- the names at which the shelf failed are these and a few more
-abbrev Rises : List (List ℕ) → List (List ℕ) → Type 0
-Rises old now = (name : List ℕ) → fault_count name old ≤ fault_count name now
-
-earlier : (told : List ℕ → Option (List ℕ)) (lacks : List ℕ → Bool) (old now new : List (List ℕ)) → Rises old now → (file : ℕ → File) (place : ℕ) (names : List (List ℕ)) (end : Ending)
-    → StopsFrom told lacks now new file place names end → StopsFrom told lacks old new file place names end
-earlier told lacks old now new rises file place [] end h = absurd h
-earlier told lacks old now new rises file place (name ∷ names) end (inl (inl fault)) = let before = rises name in let after = fault.1 in inl (inl (fault.0, omega arith))
-earlier told lacks old now new rises file place (name ∷ names) end (inl (inr long)) = inl (inr long)
-earlier told lacks old now new rises file place (name ∷ names) end (inr more) = inr (more.0, earlier told lacks old now new rises file (place + 1) names end more.1)
-
-earlier_fault : (told : List ℕ → Option (List ℕ)) (lacks : List ℕ → Bool) (old now new : List (List ℕ)) → Rises old now → (file : ℕ → File) (place : ℕ) (names : List (List ℕ)) (end : Ending)
-    → FaultsFrom told lacks now new file place names end → FaultsFrom told lacks old new file place names end
-earlier_fault told lacks old now new rises file place [] end h = absurd h
-earlier_fault told lacks old now new rises file place (name ∷ names) end (inl fault) = let before = rises name in let after = fault.1 in inl (fault.0, omega arith)
-earlier_fault told lacks old now new rises file place (name ∷ names) end (inr more) = inr (more.0, earlier_fault told lacks old now new rises file (place + 1) names end more.1)
-
-notes_rise : (old now : List (List ℕ)) (name : List ℕ) → Notes old now name → Rises old now
-notes_rise old now name (inl same) other = rw same (omega arith)
-notes_rise old now name (inr more) other = more_count other old (name ∷ []) now more
+-- a stop that tells so
+pub ended_long : (told : List ℕ → Option (List ℕ)) (lacks : List ℕ → Bool) (old new : List (List ℕ)) (file : File) (name : List ℕ) (stop : Stop) (end : Ending) (other : File) → stop ≡ Ends end → end ≡ TooLong other
+    → EndsBy (Stops told lacks old new file name) stop → IsTooLong told lacks file name
+ended_long told lacks old new file name stop end other is long h = step (subst (Stops told lacks old new file name) long (subst (EndsBy (Stops told lacks old new file name)) is h))
+  where
+    step : Stops told lacks old new file name (TooLong other) → IsTooLong told lacks file name
+    step (inl fault) = absurd (let never : TooLong other ≡ ReadFault file = fault.0 in cc)
+    step (inr more) = more.1
 
 -- ---- the faults that were noted so far
 
@@ -121,66 +113,40 @@ noted_next names old now next done name at notes so more among = step notes
 
 -- ---- the files that were taken so far
 
--- these files were taken, and so many faults were noted
-pub record TakenSoFar (told : List ℕ → Option (List ℕ)) (lacks : List ℕ → Bool) (file : ℕ → File) (names old now files : List (List ℕ)) : Type 0 where
-  pub noted : NotedSoFar names old now (length files)
-  pub taken : (others : List (List ℕ)) → AreTaken told lacks file (length files) (drop (length files) names) others → AreTaken told lacks file 0 names (files ++ others)
-  pub stops : (new : List (List ℕ)) (end : Ending) → StopsFrom told lacks now new file (length files) (drop (length files) names) end → StopsFrom told lacks old new file 0 names end
+module _ {X : Type 0} (is : File → List ℕ → X → Type 0) (goes : File → List ℕ → Type 0) (ends : List (List ℕ) → File → List ℕ → Ending → Type 0) (file : ℕ → File) (names old : List (List ℕ)) where
+  -- this was kept of so many files, and so many faults were noted
+  pub record SoFar (now : List (List ℕ)) (files : List X) : Type 0 where
+    pub noted : NotedSoFar names old now (length files)
+    pub taken : (others : List X) → AreKept is file (length files) (drop (length files) names) others → AreKept is file 0 names (files ++ others)
+    pub on : (new : List (List ℕ)) (end : Ending) → OneEnds (ends new) goes file (length files) (drop (length files) names) end → OneEnds (ends new) goes file 0 names end
 
--- these files were taken, or have more bytes than they may have
-pub record EachSoFar (told : List ℕ → Option (List ℕ)) (lacks : List ℕ → Bool) (file : ℕ → File) (names old now : List (List ℕ)) (files : List (Option (List ℕ))) : Type 0 where
-  pub noted : NotedSoFar names old now (length files)
-  pub taken : (others : List (Option (List ℕ))) → AreTakenOrLong told lacks file (length files) (drop (length files) names) others → AreTakenOrLong told lacks file 0 names (files ++ others)
-  pub stops : (new : List (List ℕ)) (end : Ending) → FaultsFrom told lacks now new file (length files) (drop (length files) names) end → FaultsFrom told lacks old new file 0 names end
+  pub none_taken : SoFar old []
+  none_taken = record { noted = none_noted names old; taken = λ others h. h; on = λ new end h. h }
 
-module _ (told : List ℕ → Option (List ℕ)) (lacks : List ℕ → Bool) (file : ℕ → File) (names old : List (List ℕ)) where
-  pub none_taken : TakenSoFar told lacks file names old old []
-  none_taken = record { noted = none_noted names old; taken = λ others h. h; stops = λ new end h. h }
+  module _ (now : List (List ℕ)) (files : List X) (so : SoFar now files) where
+    pub noted_so : NotesAmong names old now
+    noted_so = noted_at names old now (length files) so.noted
 
-  pub none_met : EachSoFar told lacks file names old old []
-  none_met = record { noted = none_noted names old; taken = λ others h. h; stops = λ new end h. h }
+    pub rises_so : Rises old now
+    rises_so name = never_falls names old now name noted_so
 
-  module _ (now next files : List (List ℕ)) (name : List ℕ) (so : TakenSoFar told lacks file names old now files) (at : slice_get names (length files) ≡ Some name) (notes : Notes now next name) where
-    pub noted_at_last : NotedSoFar names old next (length files + 1)
-    noted_at_last = noted_next names old now next (length files) name at notes so.noted
-
-    pub stops_here : (end : Ending) → Stops told lacks now next (file (length files)) name end → StopsFrom told lacks old next file 0 names end
-    stops_here end stops = so.stops next end (rw (drop_at names (length files) name at) (inl stops))
-
-    pub one_more : (bytes : List ℕ) → IsTaken told lacks (file (length files)) name bytes → TakenSoFar told lacks file names old next (files ++ bytes ∷ [])
-    one_more bytes is = record {
-      noted = rw (length_push files bytes) noted_at_last;
-      taken = λ others h. rw append_assoc (so.taken (bytes ∷ others) (rw (drop_at names (length files) name at) (is, rw (length_push files bytes) at h)));
-      stops = λ new end h. so.stops new end (rw (drop_at names (length files) name at) (inr (
-        taken_fits told lacks (file (length files)) name bytes is,
-        earlier told lacks now next new (notes_rise now next name notes) file (length files + 1) (drop (length files + 1) names) end (rw (length_push files bytes) at h),
-      )));
-    }
-
-  module _ (now files : List (List ℕ)) (so : TakenSoFar told lacks file names old now files) where
-    pub all_taken : slice_get names (length files) ≡ None → AreTaken told lacks file 0 names files
+    pub all_taken : slice_get names (length files) ≡ None → AreKept is file 0 names files
     all_taken none = rw append-nil at (so.taken [] (rw (drop_none names (length files) none) tt))
 
-  there_or_long : (file : File) (name : List ℕ) (x : Option (List ℕ)) → IsTakenOrLong told lacks file name x → IsTrue (lacks name) → ⊥
-  there_or_long file name (Some bytes) is = is.there
-  there_or_long file name None is = is.0
+    -- with the next file
+    module _ (next : List (List ℕ)) (name : List ℕ) (at : slice_get names (length files) ≡ Some name) (notes : Notes now next name) where
+      noted_more : NotedSoFar names old next (length files + 1)
+      noted_more = noted_next names old now next (length files) name at notes so.noted
 
-  module _ (now next : List (List ℕ)) (files : List (Option (List ℕ))) (name : List ℕ) (so : EachSoFar told lacks file names old now files) (at : slice_get names (length files) ≡ Some name) (notes : Notes now next name) where
-    pub noted_at_each : NotedSoFar names old next (length files + 1)
-    noted_at_each = noted_next names old now next (length files) name at notes so.noted
+      pub noted_here : NotesAmong names old next
+      noted_here = noted_at names old next (length files + 1) noted_more
 
-    pub fails_here : (end : Ending) → (end ≡ ReadFault (file (length files))) × FaultRose name now next → FaultsFrom told lacks old next file 0 names end
-    fails_here end fault = so.stops next end (rw (drop_at names (length files) name at) (inl fault))
+      pub ends_here : (end : Ending) → ends next (file (length files)) name end → OneEnds (ends next) goes file 0 names end
+      ends_here end h = so.on next end (rw (drop_at names (length files) name at) (inl h))
 
-    pub one_met : (x : Option (List ℕ)) → IsTakenOrLong told lacks (file (length files)) name x → EachSoFar told lacks file names old next (files ++ x ∷ [])
-    one_met x is = record {
-      noted = rw (length_push files x) noted_at_each;
-      taken = λ others h. rw append_assoc (so.taken (x ∷ others) (rw (drop_at names (length files) name at) (is, rw (length_push files x) at h)));
-      stops = λ new end h. so.stops new end (rw (drop_at names (length files) name at) (inr (
-        there_or_long (file (length files)) name x is,
-        earlier_fault told lacks now next new (notes_rise now next name notes) file (length files + 1) (drop (length files + 1) names) end (rw (length_push files x) at h),
-      )));
-    }
-
-  pub all_met : (files : List (Option (List ℕ))) (now : List (List ℕ)) → EachSoFar told lacks file names old now files → slice_get names (length files) ≡ None → AreTakenOrLong told lacks file 0 names files
-  all_met files now so none = rw append-nil at (so.taken [] (rw (drop_none names (length files) none) tt))
+      pub one_more : (x : X) → is (file (length files)) name x → goes (file (length files)) name → SoFar next (files ++ x ∷ [])
+      one_more x here on = record {
+        noted = rw (length_push files x) noted_more;
+        taken = λ others h. rw append_assoc (so.taken (x ∷ others) (rw (drop_at names (length files) name at) (here, rw (length_push files x) at h)));
+        on = λ new end h. so.on new end (rw (drop_at names (length files) name at) (inr (on, rw (length_push files x) at h)));
+      }

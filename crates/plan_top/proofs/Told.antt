@@ -19,24 +19,26 @@ use Rattle.plan_words.specs.Seen.{Seen, Numbers, plans_by, checks, grounds, orde
 use Rattle.plan_words.specs.OneTask.{IsOfOne}
 use Rattle.plan_words.specs.Requested.{requested}
 use Rattle.plan_words.specs.declared.request.Show.{Show}
+use Rattle.plan_words.specs.declared.request.Turns.{Turns}
 use Rattle.plan_words.specs.declared.request.Show.TheVariants as shows
 use Rattle.plan_endings.specs.declared.ending.Kind.{Kind}
 use Rattle.plan_endings.specs.declared.ending.Kind.TheVariants as kinds
 use Rattle.plan_endings.specs.declared.ending.Ending.{Ending}
 use Rattle.plan_endings.specs.declared.ending.Ending.TheVariants.{Refused, TooMany, Usage}
 use Rattle.plan_endings.specs.declared.ending.Limit.{Limit}
-use Rattle.plan_top.specs.Files.{AreTaken, OfTold, file_at}
-use Rattle.gt_core.specs.Step.{IsStepPlan}
-use Rattle.step_clauses.specs.Variables.{chain_places}
+use Rattle.plan_endings.specs.Ending.{batch_of}
+use Rattle.plan_answers.specs.Limits.{file_at}
+use Rattle.plan_top.specs.Files.{AreTaken, FaultsFrom, OfTold}
 use Rattle.plan_words.specs.declared.request.Stepping.{Stepping}
 use Rattle.certificates.specs.declared.prove.Proved.{Proved}
 use Rattle.certificates.specs.declared.prove.Proved.TheVariants as proved
 use Rattle.certificates.specs.declared.verify.Judged.{Judged}
 use Rattle.certificates.specs.declared.verify.Judged.TheVariants as judged
-use Rattle.plan_top.specs.Tasks.{RefusesTask, domain_tree, problem_tree, no_task, input_of, refusal_of, OnceRead, not_read, read, refused, past, OnceGrounded, not_grounded, grounded}
-use Rattle.plan_top.specs.Raced.{OnceRaced, too_large, ended}
-use Rattle.plan_top.specs.Generated.{AnswersGenerated, TellsGenerated}
-use Rattle.plan_top.specs.Causes.{OfTwo, OfThree, Decides, AnswersPlan, AnswersGround, AnswersOrder, AnswersCheck, AnswersProve, not_run, run, AnswersVerify, unfit, beyond, spelled, not_checked, checked, ending_of_run, ending_of_check, is_answer, refusal_of_plan, ending_of, ComesFor, decided, ComesOf, Comes, no_request, of_request}
+use Rattle.plan_answers.specs.Tasks.{RefusesTask, domain_tree, problem_tree, no_task, input_of, refusal_of, OnceRead, not_read, read, refused, past, OnceGrounded, not_grounded, grounded}
+use Rattle.plan_answers.specs.Raced.{too_large, ended}
+use Rattle.plan_answers.specs.Generated.{AnswersGenerated, RacesGenerated}
+use Rattle.plan_answers.specs.Answers.{OfTwo, OfThree, Decides, AnswersPlan, AnswersGround, AnswersOrder, AnswersCheck, AnswersProve, not_run, run, AnswersVerify, unfit, beyond, spelled, not_checked, checked, ending_of_run, ending_of_check, refusal_of_plan, ending_of}
+use Rattle.plan_top.specs.Causes.{is_answer, HasRead, ComesFor, decided, ArePartsOf, Comes, no_request, of_one, unread, in_parts}
 use Rattle.plan_top.proofs.Taking.{all_fit}
 
 -- ---- endings that tell of a file
@@ -103,18 +105,18 @@ check_answer d p l task bytes end (inr h) = rw h.2 (fault_answer d p l h.0)
 
 plan_answer : (steps : Stepping) (d p : List ℕ) (n : Numbers) (settings : Settings) (task : Parts) (g : Grounded) (end : Ending) → AnswersPlan steps settings task g end → is_answer (plans_by steps d p n) end ≡ true
 plan_answer steps d p n settings task g end (too_large over) = rw over.2 refl
-plan_answer steps d p n settings task g end (ended race comes tells) = rw tells.told refl
+plan_answer steps d p n settings task g end (ended race comes small told) = rw told refl
 
 generated_answer : (kind : Generated) (number : ℕ) (n : Numbers) (settings : Settings) (show : Show) (end : Ending) → AnswersGenerated kind number settings show end → is_answer (generates kind number n show) end ≡ true
 generated_answer kind number n settings shows.Domain end h = rw h refl
 generated_answer kind number n settings shows.Problem end h = rw h refl
 generated_answer kind number n settings shows.None end h =
-    grounded_answer (generates kind number n shows.None) (domain_of kind) (problem_of kind number) (λ task g. OnceRaced chain_places IsStepPlan g.task settings (TellsGenerated kind number settings)) end
+    grounded_answer (generates kind number n shows.None) (domain_of kind) (problem_of kind number) (RacesGenerated kind number settings) end
     (λ what count. refl) step h
   where
-    step : (task : Parts) (g : Grounded) → OnceRaced chain_places IsStepPlan g.task settings (TellsGenerated kind number settings) end → is_answer (generates kind number n shows.None) end ≡ true
+    step : (task : Parts) (g : Grounded) → RacesGenerated kind number settings task g end → is_answer (generates kind number n shows.None) end ≡ true
     step task g (too_large over) = rw over.2 refl
-    step task g (ended race comes told) = rw told refl
+    step task g (ended race comes so told) = rw told refl
 
 run_answer : (d q : List ℕ) (h b : ℕ) (p : Proved) → is_answer (proves d q h b) (ending_of_run h p) ≡ true
 run_answer d q h b (proved.Certificate text) = refl
@@ -203,42 +205,51 @@ of_told_at told (n ∷ ns) (f ∷ fs) P are h =
 
 -- ---- what a run comes to
 
+-- words ask for one thing
+pub one_request : (words : List (List ℕ)) (request other : Seen) → requested words ≡ Some request → requested words ≡ Some other → request ≡ other
+one_request words request other asked also = let same : Some request ≡ Some other = sym asked ∙ also in cc
+
 module _ (told : List ℕ → Option (List ℕ)) (lacks : List ℕ → Bool) (old new : List (List ℕ)) where
   -- of files that were taken, what their bytes decide comes of a request of one task
   pub taken_comes : (request : Seen) (files : List (List ℕ)) → AreTaken told lacks (file_at request) 0 (files_of request) files → (end : Ending) → Decides request files end → ComesFor told lacks old new request end
   taken_comes request files are end h =
       decided (all_fit told lacks (file_at request) 0 (files_of request) files are) (decides_answer request files end h) (of_taken told lacks (file_at request) 0 (files_of request) files (λ fs. Decides request fs end) are h)
 
-  -- what comes of a request of one task comes of the request
-  pub one_comes : (request : Seen) → IsOfOne request → (end : Ending) → ComesFor told lacks old new request end → ComesOf told lacks old new request end
-  one_comes (plans_by steps d p n) one end h = h
-  one_comes (checks d p l) one end h = h
-  one_comes (grounds d p) one end h = h
-  one_comes (orders d p) one end h = h
-  one_comes (generates k m n s) one end h = h
-  one_comes (proves d p k b) one end h = h
-  one_comes (verifies d p c) one end h = h
-  one_comes (batches d ps n t) one end h = absurd one
+  -- a file that could not be read is told
+  unread_file : (file : ℕ → File) (place : ℕ) (names : List (List ℕ)) (end : Ending) → FaultsFrom told lacks old new file place names end → HasRead end → ⊥
+  unread_file file place [] end h has = h
+  unread_file file place (name ∷ names) end (inl fault) has = subst HasRead fault.0 has
+  unread_file file place (name ∷ names) end (inr more) has = unread_file file (place + 1) names end more.1 has
 
-  pub comes_for : (request : Seen) → IsOfOne request → (end : Ending) → ComesOf told lacks old new request end → ComesFor told lacks old new request end
-  comes_for (plans_by steps d p n) one end h = h
-  comes_for (checks d p l) one end h = h
-  comes_for (grounds d p) one end h = h
-  comes_for (orders d p) one end h = h
-  comes_for (generates k m n s) one end h = h
-  comes_for (proves d p k b) one end h = h
-  comes_for (verifies d p c) one end h = h
-  comes_for (batches d ps n t) one end h = absurd one
+  same_parts : (d domain : List ℕ) (ps problems : List (List ℕ)) (m n : Numbers) (also turns : Turns) (parts : List Ending) → batches d ps m also ≡ batches domain problems n turns
+      → ArePartsOf told lacks old new d m ps parts → ArePartsOf told lacks old new domain n problems parts
+  same_parts d domain ps problems m n also turns parts same are =
+      let one : d ≡ domain = cc in
+      let two : ps ≡ problems = cc in
+      let three : m ≡ n = cc in
+      subst (λ (x : List ℕ). ArePartsOf told lacks old new x n problems parts) one
+      (subst (λ (x : List (List ℕ)). ArePartsOf told lacks old new d n x parts) two (subst (λ (x : Numbers). ArePartsOf told lacks old new d x ps parts) three are))
 
   module _ (words : List (List ℕ)) where
-    -- an ending of words that ask for a request comes of it
-    pub asked_comes : (request : Seen) → requested words ≡ Some request → (end : Ending) → Comes told lacks old new words end → ComesOf told lacks old new request end
-    asked_comes request asked end (no_request none e) = absurd (let never : Some request ≡ None = sym asked ∙ none in cc)
-    asked_comes request asked end (of_request other other_asked h) =
-        let same : Some other ≡ Some request = sym other_asked ∙ asked in
-        let is : other ≡ request = cc in
-        subst (λ (r : Seen). ComesOf told lacks old new r end) is h
+    -- an ending of words that ask for one task comes of that
+    pub asked_comes : (request : Seen) → IsOfOne request → requested words ≡ Some request → (end : Ending) → Comes told lacks old new words end → ComesFor told lacks old new request end
+    asked_comes request one asked end (no_request none e) = absurd (let never : Some request ≡ None = sym asked ∙ none in cc)
+    asked_comes request one asked end (of_one other other_asked other_one h) = subst (λ (r : Seen). ComesFor told lacks old new r end) (one_request words other request other_asked asked) h
+    asked_comes request one asked end (unread d ps n turns batch h) = absurd (subst IsOfOne (one_request words request (batches d ps n turns) asked batch) one)
+    asked_comes request one asked end (in_parts d ps n turns batch parts are e) = absurd (subst IsOfOne (one_request words request (batches d ps n turns) asked batch) one)
+
+    -- one of words that ask for a batch comes of that
+    pub asked_parts : (domain : List ℕ) (problems : List (List ℕ)) (n : Numbers) (turns : Turns) → requested words ≡ Some (batches domain problems n turns) → (end : Ending) → HasRead end → Comes told lacks old new words end
+        → (parts : List Ending) × ArePartsOf told lacks old new domain n problems parts × (end ≡ batch_of parts)
+    asked_parts domain problems n turns asked end has (no_request none e) = absurd (let never : Some (batches domain problems n turns) ≡ None = sym asked ∙ none in cc)
+    asked_parts domain problems n turns asked end has (of_one other other_asked one h) = absurd (subst IsOfOne (one_request words other (batches domain problems n turns) other_asked asked) one)
+    asked_parts domain problems n turns asked end has (unread d ps m also batch h) = absurd (unread_file (file_at (batches d ps m also)) 0 (d ∷ ps) end h has)
+    asked_parts domain problems n turns asked end has (in_parts d ps m also batch parts are e) =
+        let same : batches d ps m also ≡ batches domain problems n turns = one_request words (batches d ps m also) (batches domain problems n turns) batch asked in
+        (parts, same_parts d domain ps problems m n also turns parts same are, e)
 
     pub not_asked_comes : requested words ≡ None → (end : Ending) → Comes told lacks old new words end → end ≡ Usage
     not_asked_comes none end (no_request n e) = e
-    not_asked_comes none end (of_request request asked h) = absurd (let never : Some request ≡ None = sym asked ∙ none in cc)
+    not_asked_comes none end (of_one request asked one h) = absurd (let never : Some request ≡ None = sym asked ∙ none in cc)
+    not_asked_comes none end (unread d ps n turns asked h) = absurd (let never : Some (batches d ps n turns) ≡ None = sym asked ∙ none in cc)
+    not_asked_comes none end (in_parts d ps n turns asked parts are e) = absurd (let never : Some (batches d ps n turns) ≡ None = sym asked ∙ none in cc)

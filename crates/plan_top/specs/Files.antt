@@ -1,31 +1,11 @@
 -- Taking the files of a request from a shelf.
-use Rattle.std.specs.Prelude.{◌≡◌, ◌⊎◌, ◌<◌, ◌≤◌, ℕ, ◌+◌, ◌==◌, List, [], ◌∷◌, ◌++◌, length, Bool, IsTrue, if◌then◌else◌, Option, Some, None, IfSome}
-use Rattle.pl_io.specs.Outside.{FaultRose}
+use Rattle.std.specs.Prelude.{◌≡◌, ◌⊎◌, ◌<◌, ◌≤◌, ℕ, ◌+◌, List, [], ◌∷◌, ◌++◌, length, Bool, IsTrue, Option, Some, None, IfSome}
+use Rattle.pl_io.specs.Outside.{FaultRose, fault_count}
 use Rattle.plan_words.specs.Among.{AreAmong}
-use Rattle.plan_words.specs.Seen.{Seen, verifies, batches}
+use Rattle.plan_answers.specs.Limits.{most_of}
 use Rattle.plan_endings.specs.declared.ending.File.{File}
-use Rattle.plan_endings.specs.declared.ending.File.TheVariants.{Domain, Problem, Plan, Proof}
 use Rattle.plan_endings.specs.declared.ending.Ending.{Ending}
 use Rattle.plan_endings.specs.declared.ending.Ending.TheVariants.{TooLong, ReadFault}
-
--- how many bytes a domain, a problem or a plan may have
-abbrev pub most_bytes : ℕ
-most_bytes = 1048576
-
--- how many bytes a file may have
-abbrev pub most_of : File → ℕ
-most_of Proof = 16777216
-most_of file = most_bytes
-
--- what the files after the first two of a request are
-abbrev pub third_of : Seen → File
-third_of (verifies d p c) = Proof
-third_of (batches d ps n t) = Problem
-third_of request = Plan
-
--- what the file at a place among those of a request is
-abbrev pub file_at : Seen → ℕ → File
-file_at request place = if place == 0 then Domain else if place == 1 then Problem else third_of request
 
 -- The names at which a shelf failed are the old ones, followed by names among these, at most one for each.
 abbrev pub NotesAmong : List (List ℕ) → List (List ℕ) → List (List ℕ) → Type 0
@@ -47,6 +27,22 @@ abbrev pub OfTold : (List ℕ → Option (List ℕ)) → List (List ℕ) → (Li
 OfTold told [] claim = claim []
 OfTold told (name ∷ names) claim = IfSome (told name) (λ bytes. OfTold told names (λ others. claim (bytes ∷ others)))
 
+-- no count of faults falls
+abbrev pub Rises : List (List ℕ) → List (List ℕ) → Type 0
+Rises old now = (name : List ℕ) → fault_count name old ≤ fault_count name now
+
+-- the files of these names from a place on are such, each with what was kept of it
+abbrev pub AreKept : {X : Type 0} → (File → List ℕ → X → Type 0) → (ℕ → File) → ℕ → List (List ℕ) → List X → Type 0
+AreKept is file place [] [] = Unit {0}
+AreKept is file place [] (x ∷ others) = ⊥
+AreKept is file place (name ∷ names) [] = ⊥
+AreKept is file place (name ∷ names) (x ∷ others) = is (file place) name x × AreKept is file (place + 1) names others
+
+-- one of the files of these names from a place on, which are taken in order, ends the run so, and those before it let it go on
+abbrev pub OneEnds : (File → List ℕ → Ending → Type 0) → (File → List ℕ → Type 0) → (ℕ → File) → ℕ → List (List ℕ) → Ending → Type 0
+OneEnds ends goes file place [] end = ⊥
+OneEnds ends goes file place (name ∷ names) end = ends (file place) name end ⊎ (goes (file place) name × OneEnds ends goes file (place + 1) names end)
+
 -- What a shelf tells: the bytes of names, and of which names there is no file.
 module _ (told : List ℕ → Option (List ℕ)) (lacks : List ℕ → Bool) where
   -- the file is not told to be missing, and what is told of its bytes meets the claim
@@ -66,48 +62,37 @@ module _ (told : List ℕ → Option (List ℕ)) (lacks : List ℕ → Bool) whe
   IsTakenOrLong file name (Some bytes) = IsTaken told lacks file name bytes
   IsTakenOrLong file name None = IsTooLong file name
 
-  -- what the file at each place is
-  module _ (file : ℕ → File) where
-    -- each of the files from this place on fits
-    abbrev pub FitFrom : ℕ → List (List ℕ) → Type 0
-    FitFrom place [] = Unit {0}
-    FitFrom place (name ∷ names) = Fits (file place) name × FitFrom (place + 1) names
+  -- the file is not told to be missing
+  abbrev pub IsNotMissing : File → List ℕ → Type 0
+  IsNotMissing file name = IsTrue (lacks name) → ⊥
 
-    -- each of the files of these names from this place on was taken, or has more bytes than it may have
-    abbrev pub AreTakenOrLong : ℕ → List (List ℕ) → List (Option (List ℕ)) → Type 0
-    AreTakenOrLong place [] [] = Unit {0}
-    AreTakenOrLong place [] (bytes ∷ others) = ⊥
-    AreTakenOrLong place (name ∷ names) [] = ⊥
-    AreTakenOrLong place (name ∷ names) (bytes ∷ others) = IsTakenOrLong (file place) name bytes × AreTakenOrLong (place + 1) names others
+  -- each of the files from this place on fits
+  abbrev pub FitFrom : (ℕ → File) → ℕ → List (List ℕ) → Type 0
+  FitFrom file place [] = Unit {0}
+  FitFrom file place (name ∷ names) = Fits (file place) name × FitFrom file (place + 1) names
+
+  -- the files of these names from a place on were taken
+  abbrev pub AreTaken : (ℕ → File) → ℕ → List (List ℕ) → List (List ℕ) → Type 0
+  AreTaken file place names files = AreKept (IsTaken told lacks) file place names files
+
+  -- each of them was taken, or has more bytes than it may have
+  abbrev pub AreTakenOrLong : (ℕ → File) → ℕ → List (List ℕ) → List (Option (List ℕ)) → Type 0
+  AreTakenOrLong file place names files = AreKept IsTakenOrLong file place names files
 
 -- The same, with its faults before and after.
 module _ (told : List ℕ → Option (List ℕ)) (lacks : List ℕ → Bool) (old new : List (List ℕ)) where
+  -- this file could not be read
+  abbrev pub IsFault : File → List ℕ → Ending → Type 0
+  IsFault file name end = (end ≡ ReadFault file) × FaultRose name old new
+
   -- this file was not taken whole
   abbrev pub Stops : File → List ℕ → Ending → Type 0
-  Stops file name end = ((end ≡ ReadFault file) × FaultRose name old new) ⊎ ((end ≡ TooLong file) × IsTooLong told lacks file name)
+  Stops file name end = IsFault file name end ⊎ ((end ≡ TooLong file) × IsTooLong told lacks file name)
 
-  -- what the file at each place is
-  module _ (file : ℕ → File) where
-    -- one of the files from this place on, which are taken in order, was not taken whole, and those before it were
-    abbrev pub StopsFrom : ℕ → List (List ℕ) → Ending → Type 0
-    StopsFrom place [] end = ⊥
-    StopsFrom place (name ∷ names) end = Stops (file place) name end ⊎ (Fits told lacks (file place) name × StopsFrom (place + 1) names end)
+  -- one of the files from a place on, which are taken in order, was not taken whole, and those before it were
+  abbrev pub StopsFrom : (ℕ → File) → ℕ → List (List ℕ) → Ending → Type 0
+  StopsFrom file place names end = OneEnds Stops (Fits told lacks) file place names end
 
-    -- one of the files from this place on, which are taken in order, could not be read; those before it are there, whatever their
-    -- lengths
-    abbrev pub FaultsFrom : ℕ → List (List ℕ) → Ending → Type 0
-    FaultsFrom place [] end = ⊥
-    FaultsFrom place (name ∷ names) end =
-        ((end ≡ ReadFault (file place)) × FaultRose name old new) ⊎ ((IsTrue (lacks name) → ⊥) × FaultsFrom (place + 1) names end)
-
--- the files of these names from a place on were taken
-abbrev pub AreTaken : (List ℕ → Option (List ℕ)) → (List ℕ → Bool) → (ℕ → File) → ℕ → List (List ℕ) → List (List ℕ) → Type 0
-AreTaken told lacks file place [] [] = Unit {0}
-AreTaken told lacks file place [] (bytes ∷ others) = ⊥
-AreTaken told lacks file place (name ∷ names) [] = ⊥
-AreTaken told lacks file place (name ∷ names) (bytes ∷ others) = IsTaken told lacks (file place) name bytes × AreTaken told lacks file (place + 1) names others
-
--- files from a place on have no more bytes than they may have
-abbrev pub AreShort : (ℕ → File) → ℕ → List (List ℕ) → Type 0
-AreShort file place [] = Unit {0}
-AreShort file place (bytes ∷ others) = (length bytes ≤ most_of (file place)) × AreShort file (place + 1) others
+  -- one of the files from a place on, which are taken in order, could not be read; those before it are there, whatever their lengths
+  abbrev pub FaultsFrom : (ℕ → File) → ℕ → List (List ℕ) → Ending → Type 0
+  FaultsFrom file place names end = OneEnds IsFault (IsNotMissing told lacks) file place names end

@@ -1,9 +1,4 @@
-pub mod Ends
-pub mod Stepping
 pub mod Files
-pub mod Tasks
-pub mod Raced
-pub mod Generated
 pub mod Causes
 pub mod Parts
 pub mod Complete

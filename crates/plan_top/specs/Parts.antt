@@ -18,15 +18,15 @@ use Rattle.plan_endings.specs.Ending.{batch_of}
 use Rattle.plan_endings.specs.declared.ending.Ending.{Ending}
 use Rattle.plan_endings.specs.declared.ending.Ending.TheVariants.{TooLong}
 use Rattle.plan_endings.specs.declared.ending.File.TheVariants.{Domain, Problem}
-use Rattle.plan_top.specs.Files.{most_bytes}
-use Rattle.plan_top.specs.Tasks.{AreTask, IsReady, IsReading, OnceGrounded}
-use Rattle.plan_top.specs.Raced.{IsKnown, ComesTo, IsTooLarge}
-use Rattle.plan_top.specs.Causes.{AnswersPlan}
+use Rattle.plan_answers.specs.Limits.{most_bytes}
+use Rattle.plan_answers.specs.Tasks.{AreTask, IsReady, IsReading, OnceGrounded}
+use Rattle.plan_answers.specs.Raced.{IsKnown, ComesTo, IsTooLarge}
+use Rattle.plan_answers.specs.Answers.{AnswersPlan}
 use Rattle.plan_top.specs.declared.parts.Part.{Part}
 use Rattle.plan_top.specs.declared.parts.Part.TheVariants as parts
 use Rattle.plan_top.specs.declared.parts.Run.{Run}
-use Rattle.plan_top.specs.declared.task.Reading.{Reading}
-use Rattle.plan_top.specs.declared.task.Reading.TheVariants as readings
+use Rattle.plan_answers.specs.declared.task.Reading.{Reading}
+use Rattle.plan_answers.specs.declared.task.Reading.TheVariants as readings
 use Rattle.pd_sexp.specs.View.{view}
 use Rattle.pd_sexp.specs.Word.{has_words}
 

@@ -4,16 +4,16 @@ ghost use Rattle.std.specs.List.{AllByRecursion, AllZip};
 ghost use Rattle.plan_endings.specs.Ending.{batch_of};
 ghost use Rattle.plan_endings.specs.declared.ending.Ending.{Ending};
 ghost use Rattle.plan_top.specs.Parts.{IsShort, IsSound, CameTo, AnswersRun, AnswersBatch, open_in, woven};
-ghost use Rattle.plan_top.specs.Ends.{EndsAs, OnlyMemory};
+ghost use Rattle.plan_answers.specs.Ends.{EndsAs, OnlyMemory};
 
 use crate::Ending;
 use crate::first::take_first;
 use crate::parts::{Run, parts_of};
 use crate::races::raced_all;
-use crate::reported::reported;
-use crate::stop::Stop;
 use horizon_rates::Settings;
 use pl_io::Bytes;
+use plan_answers::reported::reported;
+use plan_answers::stop::Stop;
 use plan_endings::Growing;
 use plan_words::Turns;
 use poll_batch::Driver;
@@ -43,7 +43,7 @@ pub fn answer_batch<H: Threads + Wait + Sync, D: Driver>(
     let runs = prepared.runs.as_slice();
     let ends = raced_all(rt, alloc, driver, runs, settings, turns)?;
     let reports = reports_of(alloc, runs, ends.as_slice(), settings)?;
-    joined(alloc, prepared.ended, reports)
+    joined(alloc, prepared.into_ended(), reports)
 }
 
 // How each run ends, by what its race came to.

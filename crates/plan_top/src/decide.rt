@@ -1,22 +1,22 @@
 //! How a run ends, before anything is written.
-ghost use Rattle.std.specs.Prelude.{◌≡◌, ◌≤◌, ℕ, List, map, string_bytes, None, Ok};
+ghost use Rattle.std.specs.Prelude.{◌≡◌, ◌≤◌, ℕ, List, map, string_bytes, Some, None, Ok};
 ghost use Rattle.pl_io.specs.Outside.{fault_count};
 ghost use Rattle.plan_words.specs.OneTask.{IsOfOne};
 ghost use Rattle.plan_words.specs.Requested.{requested, command_named};
 ghost use Rattle.plan_words.specs.Seen.{IsSized, files_of, seen};
 ghost use Rattle.plan_top.specs.Files.{NotesAmong};
-ghost use Rattle.plan_top.specs.Causes.{Comes, ComesFor, ComesOf, names_in};
+ghost use Rattle.plan_top.specs.Causes.{Comes, names_in};
 ghost use Rattle.plan_top.specs.Parts.{IsBatch};
-ghost use Rattle.plan_top.specs.Ends.{EndsAs};
+ghost use Rattle.plan_answers.specs.Ends.{EndsAs};
 
 use crate::Ending;
-use crate::answer::answer;
 use crate::batch::answer_batch;
 use crate::first::take_first;
-use crate::stop::Stop;
-use crate::take::{take_each, take_files};
+use crate::take::take_all;
 use horizon_rates::Settings;
-use pl_io::Shelf;
+use pl_io::{Bytes, Shelf};
+use plan_answers::answer::answer;
+use plan_answers::stop::Stop;
 use plan_words::{Request, Turns, read_words};
 use poll_batch::Driver;
 use solver_pool::Gate;
@@ -58,7 +58,7 @@ fn decide_request<H: Threads + Wait + Sync, S: Shelf, G: Gate, D: Driver>(
     driver: &mut D,
 ) -> Result<Ending, Stop>
     requires sized { IsSized (seen request.now) }
-    ensures cause { EndsAs (ComesOf (S.told shelf.old) (S.lacks shelf.old) (S.failed shelf.old) (S.failed shelf.new) (seen request.now)) result }
+    ensures cause { (words : List (List ℕ)) → requested words ≡ Some (seen request.now) → EndsAs (Comes (S.told shelf.old) (S.lacks shelf.old) (S.failed shelf.old) (S.failed shelf.new) words) result }
     ensures told { S.told shelf.new ≡ S.told shelf.old }
     ensures lacks { S.lacks shelf.new ≡ S.lacks shelf.old }
     ensures noted { NotesAmong (files_of (seen request.now)) (S.failed shelf.old) (S.failed shelf.new) }
@@ -84,12 +84,12 @@ fn decide_one<H: Threads + Wait + Sync, S: Shelf, G: Gate>(
 ) -> Result<Ending, Stop>
     requires sized { IsSized (seen request.now) }
     requires of_one { IsOfOne (seen request.now) }
-    ensures cause { EndsAs (ComesFor (S.told shelf.old) (S.lacks shelf.old) (S.failed shelf.old) (S.failed shelf.new) (seen request.now)) result }
+    ensures cause { (words : List (List ℕ)) → requested words ≡ Some (seen request.now) → EndsAs (Comes (S.told shelf.old) (S.lacks shelf.old) (S.failed shelf.old) (S.failed shelf.new) words) result }
     ensures told { S.told shelf.new ≡ S.told shelf.old }
     ensures lacks { S.lacks shelf.new ≡ S.lacks shelf.old }
     ensures noted { NotesAmong (files_of (seen request.now)) (S.failed shelf.old) (S.failed shelf.new) }
 {
-    let files = take_files(alloc, request, shelf)?;
+    let files = take_all::<Bytes, S>(alloc, request, shelf)?;
     answer(rt, alloc, request, &files, gate)
 }
 
@@ -104,13 +104,13 @@ fn decide_batch<H: Threads + Wait + Sync, S: Shelf, D: Driver>(
     driver: &mut D,
 ) -> Result<Ending, Stop>
     requires { IsBatch settings.now turns (seen request.now) }
-    ensures cause { EndsAs (ComesOf (S.told shelf.old) (S.lacks shelf.old) (S.failed shelf.old) (S.failed shelf.new) (seen request.now)) result }
+    ensures cause { (words : List (List ℕ)) → requested words ≡ Some (seen request.now) → EndsAs (Comes (S.told shelf.old) (S.lacks shelf.old) (S.failed shelf.old) (S.failed shelf.new) words) result }
     ensures told { S.told shelf.new ≡ S.told shelf.old }
     ensures lacks { S.lacks shelf.new ≡ S.lacks shelf.old }
     ensures noted { NotesAmong (files_of (seen request.now)) (S.failed shelf.old) (S.failed shelf.new) }
     ensures drives { D.faults driver.old ≤ D.faults driver.new }
 {
-    let mut files = take_each(alloc, request, shelf)?;
+    let mut files = take_all::<Option<Bytes>, S>(alloc, request, shelf)?;
     let domain = take_first(&mut files);
     answer_batch(
         rt,

@@ -2,23 +2,14 @@
 //! exit status.
 #![tactic(auto)]
 
-mod answer;
 mod batch;
-mod certify;
 mod decide;
 mod first;
-mod generated;
-mod ground;
 mod laws;
 mod parts;
-mod raced;
 mod races;
-mod ready;
-mod reported;
 mod status;
-mod stop;
 mod take;
-mod task;
 mod top;
 mod written;
 

@@ -2,27 +2,34 @@
 ghost use Rattle.std.specs.Prelude.{◌≡◌, ◌≤◌, ◌++◌, ◌∷◌, ℕ, List, Option, [], length, IsTrue, OnOk, IfOk};
 ghost use Rattle.std.specs.List.{AllByRecursion};
 ghost use Rattle.pd_sexp.specs.{Fault.Reads, View.view, Word.has_words};
-ghost use Rattle.plan_top.specs.Files.{most_bytes};
-ghost use Rattle.plan_top.specs.Tasks.{IsReading};
+ghost use Rattle.plan_answers.specs.Limits.{most_bytes};
+ghost use Rattle.plan_answers.specs.Tasks.{IsReading};
 ghost use Rattle.plan_top.specs.Parts.{IsShort, IsFirst, HasWords, EndsAlone, IsRunOf, IsPart, ArePrepared};
-ghost use Rattle.plan_top.specs.Ends.{OnlyMemory};
+ghost use Rattle.plan_answers.specs.Ends.{OnlyMemory};
 ghost use Rattle.plan_endings.specs.declared.ending.Ending.{Ending};
 
-use crate::raced::{Known, known_of};
-use crate::ready::{Ready, ready_with};
-use crate::stop::Stop;
-use crate::task::{Reading, reading_of};
 use crate::{Ending, File};
 use pd_sexp::Tree;
 use pl_io::Bytes;
+use plan_answers::raced::{Known, known_of};
+use plan_answers::ready::{Ready, ready_with};
+use plan_answers::stop::Stop;
+use plan_answers::task::{Reading, reading_of};
 use std::alloc::Global;
 use std::thread::Threads;
 
 /// A task, with what it is grounded to and what is known of that.
-#[derive(Debug, Drop)]
+#[derive(Debug)]
 pub struct Run {
     pub ready: Ready,
     pub known: Known,
+}
+
+/// Letting one go is one call, in which its parts go: whoever holds one proves one step.
+impl Drop for Run {
+    fn drop(self) {
+        let Run { ready: _, known: _ } = self;
+    }
 }
 
 /// A problem of a batch before its race.
@@ -35,12 +42,19 @@ pub enum Part {
 }
 
 /// The problems of a batch before their races.
-#[derive(Debug, Drop)]
+#[derive(Debug)]
 pub struct Prepared {
     /// For each problem its ending, or nothing where the next of the runs decides.
     pub ended: Vec<Option<Ending>>,
     /// The runs, in the order of their problems.
     pub runs: Vec<Run>,
+}
+
+/// Letting one go is one call, in which its parts go: whoever holds one proves one step.
+impl Drop for Prepared {
+    fn drop(self) {
+        let Prepared { ended: _, runs: _ } = self;
+    }
 }
 
 // What the domain is read as, or nothing where it has more bytes than it may have.
@@ -103,6 +117,14 @@ fn part_of<H: Threads + Sync>(
 }
 
 impl Prepared {
+    /// The endings alone.
+    pub fn into_ended(self) -> Vec<Option<Ending>>
+        ensures { result ≡ self.ended }
+    {
+        let Prepared { ended, runs: _ } = self;
+        ended
+    }
+
     // Adds the ending of the next problem.
     fn push_end(&mut self, end: Ending) -> Result<(), Stop>
         ensures part { OnOk result ((domain : _) (problems : _) (problem : _) → ArePrepared domain problems self.old.ended.items self.old.runs.items → EndsAlone domain problem end

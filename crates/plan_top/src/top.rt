@@ -13,16 +13,16 @@ ghost use Rattle.plan_top.specs.Complete.{GoesWell, IsGood};
 ghost use Rattle.plan_endings.specs.Ending.{status_of, text_of, greatest, parts_text, IsSmall};
 ghost use Rattle.plan_top.specs.Headline.{Printed, OfFiles, OfPlans, PlanRuns, HasAtLeast, NoStepPlan, NoPlan, LineIsSo, SpendsAll, Certifies, OfProof, ProvesNone, TellsGround, TellsOrder, CallsRun};
 ghost use Rattle.plan_top.specs.OneReport.{AskForOneRace, AskForOnePart};
-ghost use Rattle.plan_top.specs.Ends.{ending_in};
+ghost use Rattle.plan_answers.specs.Ends.{ending_in};
 ghost use Rattle.plan_endings.specs.declared.ending.Ending.{Ending};
 
 use crate::Ending;
 use crate::decide::decide;
 use crate::laws::laws;
 use crate::status::Status;
-use crate::stop::Stop;
 use crate::written::written;
 use pl_io::{Shelf, Sink};
+use plan_answers::stop::Stop;
 use poll_batch::Driver;
 use solver_pool::Gate;
 use std::alloc::Global;

@@ -1,30 +1,18 @@
 use Rattle.plan_words.specs.Seen.{seen, files_of}
-use Rattle.plan_top.specs.Files.{StopsFrom, file_at}
-use Rattle.plan_top.specs.Causes.{ComesFor, Decides, stopped}
-use Rattle.plan_top.proofs.Stopped.{EndsAs-handed, EndsAs-weaker}
+use Rattle.plan_answers.specs.Limits.{file_at}
+use Rattle.plan_top.specs.Causes.{of_one, stopped}
+use Rattle.plan_answers.proofs.Stopped.{EndsAs-handed, EndsAs-weaker}
 use Rattle.plan_top.proofs.Taking.{taken_short, taken_count}
 use Rattle.plan_top.proofs.Told.{taken_comes}
 use Rattle.plan_top.proofs.decide.decide_one.Goals as goal
 
 pub returns-in_err-files-clause-cause : goal.returns-in_err-files-clause-cause
-returns-in_err-files-clause-cause g c =
-    let told = g.S.Shelf.told c.args.shelf.now in
-    let lacks = g.S.Shelf.lacks c.args.shelf.now in
-    let old = g.S.Shelf.failed c.args.shelf.now in
-    let new = g.S.Shelf.failed c.take_files.new.shelf in
-    let request = seen c.args.request.now in
-    EndsAs-handed (StopsFrom told lacks old new (file_at request) 0 (files_of request)) (ComesFor told lacks old new request) (λ end h. stopped h)
-    c.in_err-files.field-0.0 c.from_residual.result c.from_residual.ensures.1 c.in_err-files.ensures.stops
+returns-in_err-files-clause-cause g c words asked =
+    EndsAs-handed _ _ (λ end h. of_one (seen c.args.request.now) asked c.requires.of_one (stopped h)) c.in_err-files.field-0.0 c.from_residual.result c.from_residual.ensures.1 c.in_err-files.ensures.stops
 
 pub returns-clause-cause : goal.returns-clause-cause
-returns-clause-cause g c =
-    let told = g.S.Shelf.told c.args.shelf.now in
-    let lacks = g.S.Shelf.lacks c.args.shelf.now in
-    let old = g.S.Shelf.failed c.args.shelf.now in
-    let new = g.S.Shelf.failed c.take_files.new.shelf in
-    let request = seen c.args.request.now in
-    EndsAs-weaker (Decides request c.in_ok-files.files.items) (ComesFor told lacks old new request)
-    (λ end h. taken_comes told lacks old new request c.in_ok-files.files.items c.in_ok-files.ensures.taken end h)
+returns-clause-cause g c words asked =
+    EndsAs-weaker _ _ (λ end h. of_one (seen c.args.request.now) asked c.requires.of_one (taken_comes _ _ _ _ (seen c.args.request.now) c.in_ok-files.files.items c.in_ok-files.ensures.taken end h))
     c.answer.result (rw c.deref.ensures.value at c.answer.ensures)
 
 pub answer-requires-clause-fit : goal.answer-requires-clause-fit

@@ -1,0 +1,73 @@
+-- The files of a request, and what is handed on.
+use Rattle.std.proofs.Common.{◌≡◌, ◌≤◌, ◌<◌, ◌∙◌, ℕ, Bool, List, [], ◌∷◌, length, get_or, Result, refl, subst, ap, arith}
+use Rattle.std.specs.Prelude.{IsErrAnd}
+use Rattle.std.specs.List.{AllByRecursion}
+use Rattle.std.proofs.lemmas.List.{length-map}
+use Rattle.gt_core.specs.Task.{Task}
+use Rattle.horizon_rates.specs.declared.settings.Settings.{Settings}
+use Rattle.pd_model.specs.declared.parts.Parts.{Parts}
+use Rattle.grounding.specs.Grounded.{Grounded, IsGrounded}
+use Rattle.race_end.specs.declared.end.RaceEnd.{RaceEnd}
+use Rattle.race_end.specs.declared.end.RaceEnd.TheVariants as races
+use Rattle.race_end.specs.Ends.{EndView, end_view, lines_in, conflicts_in}
+use Rattle.race.specs.Ends.{WherePlanned, AreActions, SumsWithin}
+use Rattle.plan_report.specs.Laws.{HasActionsBelow}
+use Rattle.plan_answers.specs.declared.stop.Stop.{Stop}
+use Rattle.plan_endings.specs.declared.ending.Ending.{Ending}
+use Rattle.plan_answers.specs.Ends.{EndsBy, EndsAs}
+use Rattle.plan_answers.specs.Tasks.{AreTask, IsReady, StopsTask, RefusesTask, OnceRead, not_read, OnceGrounded, not_grounded, grounded}
+use Rattle.plan_answers.specs.Raced.{OnceRaced, too_large, TellsTooLarge}
+use Rattle.plan_answers.proofs.Stopped.{EndsAs-handed}
+
+-- ---- lists of so many files
+
+pub two_are : (files : List (List ℕ)) (first second : List ℕ) → length files ≡ 2 → first ≡ get_or files 0 first → second ≡ get_or files 1 second → files ≡ first ∷ second ∷ []
+two_are [] first second two one next = absurd (omega arith)
+two_are (a ∷ []) first second two one next = absurd (omega arith)
+two_are (a ∷ (b ∷ [])) first second two one next = let e : first ≡ a = one in let f : second ≡ b = next in rw (e, f) refl
+two_are (a ∷ (b ∷ (c ∷ others))) first second two one next = absurd (omega arith)
+
+pub three_are : (files : List (List ℕ)) (first second third : List ℕ) → length files ≡ 3 → first ≡ get_or files 0 first → second ≡ get_or files 1 second → third ≡ get_or files 2 third → files ≡ first ∷ second ∷ third ∷ []
+three_are [] first second third three one next last = absurd (omega arith)
+three_are (a ∷ []) first second third three one next last = absurd (omega arith)
+three_are (a ∷ (b ∷ [])) first second third three one next last = absurd (omega arith)
+three_are (a ∷ (b ∷ (c ∷ []))) first second third three one next last = let e : first ≡ a = one in let f : second ≡ b = next in let g : third ≡ c = last in rw (e, f, g) refl
+three_are (a ∷ (b ∷ (c ∷ (d ∷ others)))) first second third three one next last = absurd (omega arith)
+
+pub none_are : (files : List (List ℕ)) → length files ≡ 0 → files ≡ []
+none_are [] none = refl
+none_are (f ∷ fs) none = absurd (omega arith)
+
+-- ---- what is handed on
+
+pub refused_handed :
+    (domain problem : List ℕ) (answers : Parts → Ending → Type 0) (stop : Stop) (r : Result Ending Stop) → IsErrAnd r (λ told. told ≡ stop) → EndsBy (RefusesTask domain problem) stop
+    → EndsAs (OnceRead domain problem answers) r
+refused_handed domain problem answers stop r handed h = EndsAs-handed (RefusesTask domain problem) (OnceRead domain problem answers) (λ end k. not_read k) stop r handed h
+
+pub stop_handed :
+    (domain problem : List ℕ) (answers : Parts → Grounded → Ending → Type 0) (stop : Stop) (r : Result Ending Stop) → IsErrAnd r (λ told. told ≡ stop) → EndsBy (StopsTask domain problem) stop
+    → EndsAs (OnceGrounded domain problem answers) r
+stop_handed domain problem answers stop r handed h = EndsAs-handed (StopsTask domain problem) (OnceGrounded domain problem answers) (λ end k. not_grounded k) stop r handed h
+
+module _ (places : Task → List (List ℕ) → List (List ℕ × ℕ)) (is_plan : Task → List ℕ → (ℕ → ℕ → Bool) → ℕ → Type 0) where
+  pub race_handed :
+      (domain problem : List ℕ) (task : Parts) (g : Grounded) → AreTask domain problem task → IsReady task g → (settings : Settings) (is_known : EndView → Type 0) (text : Parts → Grounded → EndView → List ℕ) (stop : Stop) (r : Result Ending Stop)
+      → IsErrAnd r (λ told. told ≡ stop) → EndsBy (TellsTooLarge places g.task settings) stop
+      → EndsAs (OnceGrounded domain problem (λ task g. OnceRaced places is_plan g.task settings is_known (text task g))) r
+  race_handed domain problem task g are ready settings is_known text stop r handed h =
+      EndsAs-handed (TellsTooLarge places g.task settings) (OnceGrounded domain problem (λ p o. OnceRaced places is_plan o.task settings is_known (text p o))) (λ end k. grounded task g are ready (too_large k)) stop r handed h
+
+-- ---- what the report of a race asks for
+
+pub actions_below : (task : Parts) (g : Grounded) → IsGrounded task g → (race : RaceEnd) → WherePlanned race (λ h steps. AreActions g.task steps) → HasActionsBelow (length g.calls) (end_view race)
+actions_below task g is (races.Plan horizon steps lines) members =
+    let long : length g.task.actions ≡ length g.calls = ap (λ (t : Task). length t.actions) is.task ∙ length-map g.calls _ in
+    subst (λ (n : ℕ). AllByRecursion (λ (set : List ℕ). AllByRecursion (λ (a : ℕ). a < n) set) steps) long members
+actions_below task g is (races.Exhausted horizon lines) members = tt
+actions_below task g is (races.Unfinished lines) members = tt
+
+pub sums_small : (budget : ℕ) (race : RaceEnd) → SumsWithin budget race → conflicts_in (lines_in (end_view race)) ≤ budget
+sums_small budget (races.Plan horizon steps lines) sums = sums
+sums_small budget (races.Exhausted horizon lines) sums = sums
+sums_small budget (races.Unfinished lines) sums = let e : conflicts_in (lines_in (end_view (races.Unfinished lines))) ≡ budget = sums in omega arith

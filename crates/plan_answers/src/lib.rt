@@ -1,0 +1,22 @@
+//! What the bytes of files come to for a request of one task: they are read as a task and grounded, and a race on it, a listing, a
+//! checked plan or a certificate has its ending.
+//!
+//! `specs/Answers.antt` says which: `Decides` has what the files of each request decide.
+//!
+//! ```text
+//! let ending = answer(rt, alloc, &request, &files, &OpenGate)?;    // for `plan`: the report of the race on the task
+//! ```
+//!
+//! A caller that runs several races side by side reads and grounds each task by [`ready::ready_with`], finds what is known of it by
+//! [`raced::known_of`], and tells of its race by [`reported::reported`].
+#![tactic(auto)]
+
+pub mod answer;
+mod certify;
+mod generated;
+mod ground;
+pub mod raced;
+pub mod ready;
+pub mod reported;
+pub mod stop;
+pub mod task;
