@@ -23,6 +23,7 @@ use clause_log::log::Log;
 use conflict_walk::backjump::backjump_level;
 use conflict_walk::clauses::Clauses;
 use conflict_walk::learn::{Analysis, LearnedClause};
+use let_go::let_go;
 use std::alloc::Global;
 use std::marker::Model;
 use watch_lists::watching::Watching;
@@ -53,14 +54,7 @@ impl Model for Search {
 /// Letting one go is one call, in which its parts go: whoever holds one proves one step.
 impl Drop for Search {
     fn drop(self) {
-        let Search {
-            alloc: _,
-            clauses: _,
-            watching: _,
-            analysis: _,
-            standing: _,
-            spoilt: _,
-        } = self;
+        let_go!(self: Search { alloc, clauses, watching, analysis, standing, spoilt });
     }
 }
 

@@ -22,6 +22,7 @@ use clause_base::formula::Formula;
 use clause_base::literal::Lit;
 use clause_base::memory::Memory;
 use clause_log::log::Log;
+use let_go::let_go;
 use std::alloc::Global;
 use std::marker::Model;
 
@@ -64,12 +65,7 @@ fn tell<C: Chooser>(chooser: &C, told: &mut C::Told, kept: usize, search: &Searc
 /// Letting one go is one call, in which its parts go: whoever holds one proves one step.
 impl<C: Chooser + Drop> Drop for Solver<C> {
     fn drop(self) {
-        let Solver {
-            search: _,
-            chooser: _,
-            told: _,
-            kept: _,
-        } = self;
+        let_go!(self: Solver { search, chooser, told, kept });
     }
 }
 

@@ -16,6 +16,7 @@ use clause_base::memory::Memory;
 use clause_log::log::Log;
 use goal_choice::{GoalChooser, Supporters};
 use gt_core::task::Task;
+use let_go::let_go;
 use rup_check::check::{CheckError, Checked, check};
 use std::alloc::Global;
 use std::marker::Model;
@@ -47,10 +48,7 @@ impl Model for HorizonRun {
 /// Letting one go is one call, in which its parts go: whoever holds one proves one step.
 impl Drop for HorizonRun {
     fn drop(self) {
-        let HorizonRun {
-            solver: _,
-            granted: _,
-        } = self;
+        let_go!(self: HorizonRun { solver, granted });
     }
 }
 

@@ -9,6 +9,7 @@ use crate::ground::ground_task;
 use crate::stop::Stop;
 use crate::task::{task_with, tree_of};
 use grounder::Grounded;
+use let_go::let_go;
 use pd_model::Pddl;
 use pd_sexp::Tree;
 use plan_endings::File;
@@ -26,10 +27,7 @@ pub struct Ready {
 /// Letting one go is one call, in which its parts go: whoever holds one proves one step.
 impl Drop for Ready {
     fn drop(self) {
-        let Ready {
-            task: _,
-            grounded: _,
-        } = self;
+        let_go!(self: Ready { task, grounded });
     }
 }
 
