@@ -1,8 +1,6 @@
 ghost use Rattle.std.specs.Prelude.{◌≡◌, ℕ, ◌+◌, ◌≤◌, ◌<◌, true, false, IfOk, OnOk, OnErr};
-ghost use Rattle.clause_base.specs.Formula.{IsModel};
-ghost use Rattle.clause_base.specs.Derivation.{IsRefutation, IsDerivation};
-ghost use Rattle.cdcl_rules.specs.State.{value_of};
-ghost use Rattle.cdcl_rules.specs.Run.{after};
+ghost use Rattle.clause_base.specs.{Formula.IsModel, Derivation.IsRefutation, Derivation.IsDerivation};
+ghost use Rattle.cdcl_rules.specs.{State.value_of, Run.after};
 ghost use Rattle.cdcl_laws.specs.Sound.{made_true};
 ghost use Rattle.goal_choice.specs.Means.{gathered_of};
 ghost use Rattle.rup_check.specs.Certificate.{Certifies};
