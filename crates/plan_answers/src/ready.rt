@@ -1,9 +1,7 @@
 //! Reading and grounding the task that two files say.
 ghost use Rattle.std.specs.Prelude.{◌≤◌, ℕ, List, length, IsTrue, IfOk};
 ghost use Rattle.pd_sexp.specs.{Fault.Reads, View.view, Word.has_words};
-ghost use Rattle.plan_answers.specs.Limits.{most_bytes};
-ghost use Rattle.plan_answers.specs.Tasks.{AreTask, IsReady, StopsTask};
-ghost use Rattle.plan_answers.specs.Ends.{StopsBy};
+ghost use Rattle.plan_answers.specs.{Limits.most_bytes, Tasks.AreTask, Tasks.IsReady, Tasks.StopsTask, Ends.StopsBy};
 
 use crate::ground::ground_task;
 use crate::stop::Stop;
