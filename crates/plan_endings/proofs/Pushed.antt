@@ -1,5 +1,5 @@
 -- One more part.
-use Rattle.std.proofs.Common.{◌≡◌, ◌∙◌, ℕ, ◌+◌, List, [], ◌∷◌, ◌++◌, length, map, max, refl, sym, ap, arith, append_assoc, append-nil}
+use Rattle.std.proofs.Common.{◌≡◌, ◌∙◌, ℕ, ◌+◌, List, [], ◌∷◌, ◌++◌, length, map, max, sym, ap, arith, append_assoc, append-nil}
 use Rattle.std.proofs.lemmas.List.{map-append}
 use Rattle.report_lines.specs.Lines.{joined}
 use Rattle.plan_endings.specs.Ending.{greatest, problem_line, parts_text, status_of, text_of}

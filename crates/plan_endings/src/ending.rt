@@ -153,43 +153,22 @@ impl Ending {
             Ending::TooLong(file) => of_file(alloc, "; limit file ", file),
             Ending::TooMany { what, count } => too_many(alloc, what, count),
             Ending::TooLarge { horizon, count } => {
-                of_numbers(
-                    alloc,
-                    "; limit literals ",
-                    count,
-                    " horizon ",
-                    u64::from(horizon),
-                )
+                let horizon = u64::from(horizon);
+                of_numbers(alloc, "; limit literals ", count, " horizon ", horizon)
             }
             Ending::ReadFault(file) => of_file(alloc, "; read fault ", file),
             Ending::Usage => Ok(Due::Fixed("; usage: plan, check, ground, order or gen\n")),
             Ending::Found { horizon, conflicts } => {
-                of_numbers(
-                    alloc,
-                    "; horizon ",
-                    u64::from(horizon),
-                    " plan conflicts ",
-                    conflicts,
-                )
+                let horizon = u64::from(horizon);
+                of_numbers(alloc, "; horizon ", horizon, " plan conflicts ", conflicts)
             }
             Ending::Open { horizon, conflicts } => {
-                of_numbers(
-                    alloc,
-                    "; horizon ",
-                    u64::from(horizon),
-                    " open conflicts ",
-                    conflicts,
-                )
+                let horizon = u64::from(horizon);
+                of_numbers(alloc, "; horizon ", horizon, " open conflicts ", conflicts)
             }
             Ending::Accepted { horizon, entries } => {
-                let entries = u64::from(entries);
-                of_numbers(
-                    alloc,
-                    "; accepted horizon ",
-                    u64::from(horizon),
-                    " entries ",
-                    entries,
-                )
+                let (horizon, entries) = (u64::from(horizon), u64::from(entries));
+                of_numbers(alloc, "; accepted horizon ", horizon, " entries ", entries)
             }
             Ending::Rejected { entry } => of_number(alloc, "; rejected entry ", u64::from(entry)),
             Ending::NotEmpty => Ok(Due::Fixed("; not empty\n")),

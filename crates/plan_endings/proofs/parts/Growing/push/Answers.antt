@@ -1,4 +1,4 @@
-use Rattle.std.proofs.Common.{◌≡◌, ◌∙◌, ◌++◌, ◌+◌, ℕ, List, [], ◌∷◌, length, max, sym, ap, ap₂, arith, append_assoc, length-append}
+use Rattle.std.proofs.Common.{◌≡◌, ◌∙◌, ◌++◌, ◌+◌, ℕ, List, [], ◌∷◌, length, max, sym, ap₂, arith, append_assoc, length-append}
 use Rattle.report_lines.specs.Lines.{joined}
 use Rattle.plan_endings.specs.Ending.{parts_text, problem_line, text_of}
 use Rattle.plan_endings.proofs.Pushed.{one-status, one-text}
