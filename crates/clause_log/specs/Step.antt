@@ -1,5 +1,4 @@
 -- An entry of a log where it stands.
-use Rattle.std.specs.Prelude.{ℕ, ◌^◌, ◌<◌}
 use Rattle.clause_base.specs.Clause.{IsClause}
 use Rattle.clause_base.specs.declared.log.Entry.{Entry}
 use Rattle.clause_base.specs.declared.log.Entry.TheVariants as entry

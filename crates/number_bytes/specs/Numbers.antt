@@ -1,5 +1,5 @@
 -- A list of numbers below 2 ^ 32 as bytes: how far each is from the one before it.
-use Rattle.std.specs.Prelude.{ℕ, zero, suc, ◌+◌, ◌-◌, ◌*◌, ◌/◌, ◌%◌, ◌^◌, ◌==◌, List, [], ◌∷◌, ◌++◌, nat_le, if◌then◌else◌}
+use Rattle.std.specs.Prelude.{ℕ, zero, suc, ◌+◌, ◌-◌, ◌*◌, ◌/◌, ◌%◌, ◌==◌, List, [], ◌∷◌, ◌++◌, nat_le, if◌then◌else◌}
 use Rattle.number_bytes.specs.Number.{bytes_of, number_of, after_number}
 
 -- the step from one number to another: upwards an even number, downwards an odd one

@@ -1,4 +1,4 @@
-use Rattle.std.proofs.Common.{arith, ◌≡◌, ◌∙◌, ◌++◌, ◌<◌, ◌+◌, ap, sym, subst, List, ℕ, map, length, take, drop, get_or}
+use Rattle.std.proofs.Common.{◌∙◌, ◌++◌, ◌<◌, ◌+◌, ap, sym, subst, List, ℕ, map, length, take, drop, get_or}
 use Rattle.std.proofs.lemmas.List.{drop_more, take_more}
 use Rattle.clause_base.specs.declared.log.Entry.TheVariants.{Drop}
 use Rattle.number_bytes.proofs.NumbersLaws.{first_still}

@@ -1,7 +1,6 @@
-use Rattle.std.proofs.Common.{arith, rules, ◌≡◌, ◌∙◌, ◌++◌, ◌*◌, ap, sym, List, ℕ, length, Result, Ok, Err, OnOk, append_assoc}
+use Rattle.std.proofs.Common.{◌≡◌, ◌∙◌, ◌++◌, ◌*◌, ap, List, ℕ, length, Result, Ok, Err, OnOk, append_assoc}
 use Rattle.std.specs.declared.alloc.AllocError.{AllocError}
 use Rattle.number_bytes.specs.Number.{bytes_of}
-use Rattle.number_bytes.specs.Numbers.{steps_of}
 use Rattle.number_bytes.proofs.NumbersLaws.{first_still}
 use Rattle.clause_log.proofs.steps.put_hints.Goals as goal
 

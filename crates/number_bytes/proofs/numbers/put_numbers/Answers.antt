@@ -1,8 +1,8 @@
-use Rattle.std.proofs.Common.{arith, ◌≡◌, ◌∙◌, ◌++◌, ◌<◌, ◌≤◌, ◌^◌, ◌+◌, ap, sym, List, ℕ, All, length, take, drop, get_or, append_assoc}
+use Rattle.std.proofs.Common.{◌∙◌, ◌++◌, ◌<◌, ◌^◌, ◌+◌, ap, sym, List, ℕ, length, drop, get_or, append_assoc}
 use Rattle.std.proofs.lemmas.List.{drop_more}
 use Rattle.std.proofs.lemmas.List.Elements.{All-more}
 use Rattle.number_bytes.specs.Number.{bytes_of}
-use Rattle.number_bytes.specs.Numbers.{step_to, steps_of}
+use Rattle.number_bytes.specs.Numbers.{steps_of}
 use Rattle.number_bytes.proofs.NumbersLaws.{first_still}
 use Rattle.number_bytes.proofs.numbers.put_numbers.Goals as goal
 

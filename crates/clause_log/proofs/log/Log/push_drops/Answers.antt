@@ -1,4 +1,4 @@
-use Rattle.std.proofs.Common.{arith, ◌≡◌, ◌∙◌, ◌++◌, ◌+◌, ◌≤◌, ap, List, map, length}
+use Rattle.std.proofs.Common.{arith, ◌∙◌, ◌++◌, ◌+◌, ◌≤◌, ap, List, map, length}
 use Rattle.clause_base.specs.declared.log.Entry.{Entry}
 use Rattle.clause_base.specs.declared.log.Entry.TheVariants.{Drop}
 use Rattle.clause_log.specs.Held.{IsHeld, entries_of}
