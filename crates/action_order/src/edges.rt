@@ -15,6 +15,7 @@ use gt_core::act::Act;
 use gt_core::eff::Eff;
 use gt_core::lits::{Lits, opposite};
 use gt_core::pairs::Pairs;
+use let_go::let_go;
 use std::alloc::{AllocError, Global};
 
 /// Rows of actions: for each literal those that need it, for each fact those that have it in an effect condition, for
@@ -31,13 +32,7 @@ pub struct Rows {
 /// Letting one go is one call, in which its parts go: whoever holds one proves one step.
 impl Drop for Rows {
     fn drop(self) {
-        let Rows {
-            needing: _,
-            asking: _,
-            sure: _,
-            making: _,
-            excluding: _,
-        } = self;
+        let_go!(self: Rows { needing, asking, sure, making, excluding });
     }
 }
 

@@ -1,6 +1,7 @@
 //! The published order and its look-ups.
 
 use crate::numbers::ActNumbers;
+use let_go::let_go;
 use std::marker::Model;
 
 /// An order of a task's actions, as its components one after the other. Actions are numbered as in the task, places
@@ -27,12 +28,7 @@ impl Model for Order {
 /// Letting one go is one call, in which its parts go: whoever holds one proves one step.
 impl Drop for Order {
     fn drop(self) {
-        let Order {
-            components: _,
-            order: _,
-            places: _,
-            names: _,
-        } = self;
+        let_go!(self: Order { components, order, places, names });
     }
 }
 

@@ -7,6 +7,7 @@ use action_order::publish::publish;
 use all_steps::form::AllForm;
 use clause_base::literal::Lit;
 use clause_base::view::View;
+use clause_print::print_clause;
 use gt_core::act::Acts;
 use gt_core::lits::{Bits, Lits};
 use gt_core::task::Task;
@@ -42,16 +43,6 @@ fn touches(clause: &View, first: u64, end: u64) -> bool {
         }
     }
     false
-}
-
-/// Prints the codes of a clause.
-fn print_clause(rt: &impl Print, clause: &View) -> io::Result<()> {
-    print!(rt; "clause")?;
-    for place in 0..clause.len() {
-        let code = clause.get(place).0;
-        print!(rt; " {code}")?;
-    }
-    println!(rt; "")
 }
 
 /// Prints how large the formulas are.

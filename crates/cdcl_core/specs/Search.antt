@@ -1,4 +1,4 @@
-use Rattle.std.specs.Prelude.{◌≡◌, ℕ, ◌*◌, List, [], ◌∷◌, ◌++◌, length, map, slice_set, if◌then◌else◌, Bool, true, false, Option, Some, None}
+use Rattle.std.specs.Prelude.{◌≡◌, ℕ, ◌*◌, ◌<◌, List, [], ◌∷◌, ◌++◌, length, map, slice_set, if◌then◌else◌, Bool, true, false, Option, Some, None}
 use Rattle.clause_base.specs.Formula.{Cnf}
 use Rattle.clause_base.specs.Clause.{IsClause, HasVariablesBelow}
 use Rattle.clause_base.specs.Choice.{Known}
@@ -12,7 +12,7 @@ use Rattle.cdcl_rules.specs.State.{State, clause_at, is_kept, is_on}
 use Rattle.cdcl_rules.specs.Pending.{open_ones, first_pending}
 use Rattle.cdcl_rules.specs.Event.{asked, event_of}
 use Rattle.cdcl_rules.specs.Learn.{backjump_level}
-use Rattle.cdcl_rules.specs.Run.{is_restart, is_going}
+use Rattle.cdcl_rules.specs.Run.{is_restart, is_going, is_conflict}
 use Rattle.cdcl_rules.specs.Open.{Opens}
 use Rattle.cdcl_laws.specs.Sound.{IsSound}
 use Rattle.conflict_walk.specs.Clauses.{ClausesView, all_clauses}
@@ -90,6 +90,14 @@ GoesOn old new = (rest : List Entry) × (new ≡ old ++ rest)
 -- an event is the next one of a state, for some chooser whose choices are open
 abbrev pub IsNextEvent : Cnf → State → Event → Type 0
 IsNextEvent f s e = (choose : Known → Option ℕ) × (Opens f.variables choose) × (e ≡ event_of choose s)
+
+-- an event may be applied to a search: it is the next one, and there is room to count its conflict
+pub record MayApply (f : Cnf) (s : State) (spoilt : Bool) (e : Event) : Type 0 where
+  pub sane : spoilt ≡ false
+  pub going : is_going s.standing ≡ true
+  pub sound : IsSound f s
+  pub room : is_conflict e ≡ true → s.conflicts < 1073741824
+  pub next : IsNextEvent f s e
 
 -- the level to backtrack to after a conflict that teaches a clause
 abbrev pub level_after : State → List ℕ → ℕ

@@ -3,11 +3,8 @@
 //! know, which own the trail: a literal becomes true by `Search::assign`, a clause is learned and literals are taken back by
 //! `Search::enter`, and clauses are dropped by `reduce`.
 ghost use Rattle.std.specs.Prelude.{◌≡◌, ◌<◌, length, true, OnOk, OnErr};
-ghost use Rattle.clause_base.specs.Clause.{has_literal};
-ghost use Rattle.clause_base.specs.Derivation.{clauses_of};
-ghost use Rattle.cdcl_rules.specs.State.{clause_at};
-ghost use Rattle.cdcl_rules.specs.Pending.{is_pending_in, open_ones};
-ghost use Rattle.cdcl_rules.specs.Event.{asked};
+ghost use Rattle.clause_base.specs.{Clause.has_literal, Derivation.clauses_of};
+ghost use Rattle.cdcl_rules.specs.{State.clause_at, Pending.is_pending_in, Pending.open_ones, Event.asked};
 ghost use Rattle.cdcl_trail.specs.Assignment.{literals};
 ghost use Rattle.cdcl_core.specs.Search.{IsBehind, watched};
 

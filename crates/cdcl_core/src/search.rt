@@ -5,9 +5,9 @@ ghost use Rattle.clause_base.specs.Derivation.{clauses_of};
 ghost use Rattle.cdcl_rules.specs.State.{values_of, value_of};
 ghost use Rattle.cdcl_rules.specs.Trail.{AllFalse};
 ghost use Rattle.cdcl_rules.specs.Learn.{learned};
-ghost use Rattle.cdcl_rules.specs.Run.{start_of, apply, with_learned, after_conflict, is_restart, is_going, is_conflict};
+ghost use Rattle.cdcl_rules.specs.Run.{start_of, apply, with_learned, after_conflict, is_restart, is_going};
 ghost use Rattle.cdcl_laws.specs.Sound.{IsSound};
-ghost use Rattle.cdcl_core.specs.Search.{SearchView, IsNextEvent, GoesOn, asked_first, level_after};
+ghost use Rattle.cdcl_core.specs.Search.{SearchView, IsNextEvent, MayApply, GoesOn, asked_first, level_after};
 
 use crate::pending::{asked, follow};
 use crate::reduce::reduce;
@@ -23,6 +23,7 @@ use clause_log::log::Log;
 use conflict_walk::backjump::backjump_level;
 use conflict_walk::clauses::Clauses;
 use conflict_walk::learn::{Analysis, LearnedClause};
+use let_go::let_go;
 use std::alloc::Global;
 use std::marker::Model;
 use watch_lists::watching::Watching;
@@ -53,14 +54,7 @@ impl Model for Search {
 /// Letting one go is one call, in which its parts go: whoever holds one proves one step.
 impl Drop for Search {
     fn drop(self) {
-        let Search {
-            alloc: _,
-            clauses: _,
-            watching: _,
-            analysis: _,
-            standing: _,
-            spoilt: _,
-        } = self;
+        let_go!(self: Search { alloc, clauses, watching, analysis, standing, spoilt });
     }
 }
 
@@ -262,11 +256,7 @@ impl Search {
 
     /// Applies the next event. After want of memory the search is spoilt.
     pub fn apply(&mut self, event: Event) -> Result<(), Memory>
-        requires sane { self.old.spoilt ≡ false }
-        requires going { is_going self.old.state.standing ≡ true }
-        requires sound { IsSound self.old.formula self.old.state }
-        requires room { is_conflict event ≡ true → self.old.state.conflicts < 1073741824 }
-        requires next { IsNextEvent self.old.formula self.old.state event }
+        requires { MayApply self.old.formula self.old.state self.old.spoilt event }
         ensures ok { OnOk result (self.new ≡ record self.old { state = apply self.old.state event }) }
         ensures log { OnErr result (GoesOn self.old.state.log self.new.state.log) }
         ensures formula { self.new.formula ≡ self.old.formula }

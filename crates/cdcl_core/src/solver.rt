@@ -7,7 +7,7 @@ ghost use Rattle.cdcl_rules.specs.Open.{Opens};
 ghost use Rattle.cdcl_rules.specs.Run.{start_of, apply, after, is_going, is_conflict, IsAfter};
 ghost use Rattle.cdcl_laws.specs.Sound.{IsSound, IsSolution, made_true};
 ghost use Rattle.cdcl_laws.specs.Laws.{AddsUp, SettledStays, ComesToRestAlways, Grants};
-ghost use Rattle.cdcl_core.specs.Search.{SolverView, IsNextEvent, GoesOn};
+ghost use Rattle.cdcl_core.specs.Search.{SolverView, MayApply, GoesOn};
 ghost use Rattle.cdcl_core.specs.Between.{IsShortBetween};
 ghost use Rattle.cdcl_trail.specs.Assignment.{literals};
 ghost use Rattle.cdcl_core.specs.Told.{IsToldUpTo};
@@ -22,6 +22,7 @@ use clause_base::formula::Formula;
 use clause_base::literal::Lit;
 use clause_base::memory::Memory;
 use clause_log::log::Log;
+use let_go::let_go;
 use std::alloc::Global;
 use std::marker::Model;
 
@@ -64,12 +65,7 @@ fn tell<C: Chooser>(chooser: &C, told: &mut C::Told, kept: usize, search: &Searc
 /// Letting one go is one call, in which its parts go: whoever holds one proves one step.
 impl<C: Chooser + Drop> Drop for Solver<C> {
     fn drop(self) {
-        let Solver {
-            search: _,
-            chooser: _,
-            told: _,
-            kept: _,
-        } = self;
+        let_go!(self: Solver { search, chooser, told, kept });
     }
 }
 
@@ -202,11 +198,7 @@ impl<C: Chooser> Solver<C> {
 
     /// Applies the next event.
     fn apply(&mut self, event: Event) -> Result<(), Memory>
-        requires sane { self.old.spoilt ≡ false }
-        requires going { is_going self.old.state.standing ≡ true }
-        requires sound { IsSound self.old.formula self.old.state }
-        requires room { is_conflict event ≡ true → self.old.state.conflicts < 1073741824 }
-        requires next { IsNextEvent self.old.formula self.old.state event }
+        requires { MayApply self.old.formula self.old.state self.old.spoilt event }
         ensures ok { OnOk result (self.new ≡ record self.old { state = apply self.old.state event }) }
         ensures log { OnErr result (GoesOn self.old.state.log self.new.state.log) }
         ensures formula { self.new.formula ≡ self.old.formula }

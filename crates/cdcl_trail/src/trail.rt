@@ -10,6 +10,7 @@ use cdcl_rules::trail::Assigned;
 use clause_base::literal::Lit;
 use clause_base::memory::Memory;
 use clause_base::values::Values;
+use let_go::let_go;
 use std::alloc::Global;
 use std::marker::Model;
 
@@ -40,15 +41,7 @@ impl Model for Trail {
 /// Letting one go is one call, in which its parts go: whoever holds one proves one step.
 impl Drop for Trail {
     fn drop(self) {
-        let Trail {
-            variables: _,
-            entries: _,
-            values: _,
-            levels: _,
-            level: _,
-            on: _,
-            positions: _,
-        } = self;
+        let_go!(self: Trail { variables, entries, values, levels, level, on, positions });
     }
 }
 

@@ -5,6 +5,7 @@ ghost use Rattle.clause_base.specs.Clause.{IsClause, clause_of};
 use crate::clause::{Clause, has_opposite_neighbours, sort_into};
 use crate::literal::Lit;
 use crate::memory::Memory;
+use let_go::let_go;
 use list_of::FlatLists;
 use std::alloc::Global;
 use std::marker::Model;
@@ -31,10 +32,7 @@ impl Model for ClauseList {
 /// Letting one go is one call, in which its parts go: whoever holds one proves one step.
 impl Drop for ClauseList {
     fn drop(self) {
-        let ClauseList {
-            lists: _,
-            sorted: _,
-        } = self;
+        let_go!(self: ClauseList { lists, sorted });
     }
 }
 

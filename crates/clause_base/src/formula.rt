@@ -9,6 +9,7 @@ use crate::literal::Lit;
 use crate::memory::Memory;
 use crate::repeated::Repeated;
 use crate::view::View;
+use let_go::let_go;
 use std::alloc::Global;
 use std::marker::Model;
 
@@ -30,13 +31,7 @@ pub struct Formula {
 /// Letting one go is one call, in which its parts go: whoever holds one proves one step.
 impl Drop for Formula {
     fn drop(self) {
-        let Formula {
-            name: _,
-            variables: _,
-            told: _,
-            repeated: _,
-            after: _,
-        } = self;
+        let_go!(self: Formula { name, variables, told, repeated, after });
     }
 }
 

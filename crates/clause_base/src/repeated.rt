@@ -7,6 +7,7 @@ use crate::memory::Memory;
 use crate::shared_list::SharedList;
 use crate::sizes::{Sizes, sizes_of};
 use crate::view::View;
+use let_go::let_go;
 use std::alloc::Global;
 use std::marker::Model;
 
@@ -37,14 +38,7 @@ impl Model for Repeated {
 /// Letting one go is one call, in which its parts go: whoever holds one proves one step.
 impl Drop for Repeated {
     fn drop(self) {
-        let Repeated {
-            horizon: _,
-            width: _,
-            facts: _,
-            sizes: _,
-            step: _,
-            time: _,
-        } = self;
+        let_go!(self: Repeated { horizon, width, facts, sizes, step, time });
     }
 }
 

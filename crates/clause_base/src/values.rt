@@ -4,6 +4,7 @@ ghost use Rattle.clause_base.specs.Choice.{least_open};
 ghost use Rattle.clause_base.specs.ValueBits.{AreGivenBelow};
 
 use crate::memory::Memory;
+use let_go::let_go;
 use number_bits::flat::{clear_bit, set_bit};
 use std::alloc::Global;
 use std::marker::Model;
@@ -33,12 +34,7 @@ impl Model for Values {
 /// Letting one go is one call, in which its parts go: whoever holds one proves one step.
 impl Drop for Values {
     fn drop(self) {
-        let Values {
-            variables: _,
-            given: _,
-            trues: _,
-            low: _,
-        } = self;
+        let_go!(self: Values { variables, given, trues, low });
     }
 }
 

@@ -9,6 +9,7 @@ use clause_base::clause_list::ClauseList;
 use clause_base::literal::Lit;
 use clause_base::log::Entry;
 use clause_base::memory::Memory;
+use let_go::let_go;
 use std::alloc::Global;
 use std::marker::Model;
 
@@ -35,11 +36,7 @@ impl Model for Log {
 /// Letting one go is one call, in which its parts go: whoever holds one proves one step.
 impl Drop for Log {
     fn drop(self) {
-        let Log {
-            count: _,
-            learned: _,
-            steps: _,
-        } = self;
+        let_go!(self: Log { count, learned, steps });
     }
 }
 

@@ -14,6 +14,7 @@ use clause_base::log::{Entry, Hints};
 use clause_base::memory::Memory;
 use clause_base::view::View;
 use clause_log::log::Log;
+use let_go::let_go;
 use std::alloc::{AllocError, Global};
 use std::marker::Model;
 
@@ -44,12 +45,7 @@ impl Model for Clauses {
 /// Letting one go is one call, in which its parts go: whoever holds one proves one step.
 impl Drop for Clauses {
     fn drop(self) {
-        let Clauses {
-            formula: _,
-            log: _,
-            kept: _,
-            longs: _,
-        } = self;
+        let_go!(self: Clauses { formula, log, kept, longs });
     }
 }
 

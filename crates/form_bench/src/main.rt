@@ -10,6 +10,7 @@
 #![tactic(auto)]
 
 ghost use Rattle.std.specs.Prelude.{◌≡◌, ◌<◌, IfOk};
+ghost use Rattle.gt_core.specs.Reached.{HoldsWherever};
 
 use action_order::publish::publish;
 use clause_base::formula::Formula;
@@ -116,11 +117,9 @@ fn print_task(
     pairs: &Pairs,
     asked: Asked,
 ) -> io::Result<()>
-    requires { pairs.now.facts ≡ task.now.facts }
+    requires facts { pairs.now.facts ≡ task.now.facts }
+    requires hold { HoldsWherever task.now pairs.now.clauses }
 {
-    if !are_kept(task, pairs) {
-        return println!(rt; "a pair that is not kept");
-    }
     let Ok(order) = publish(rt.alloc(), task, pairs) else {
         return println!(rt; "no memory for the order");
     };
@@ -151,10 +150,13 @@ fn print_made(
     let Ok(Some(task)) = made else {
         return println!(rt; "no task");
     };
-    match lamp_pairs(rt.alloc(), &task, rooms) {
-        Ok(pairs) => print_task(rt, &task, &pairs, asked),
-        Err(Memory) => println!(rt; "no memory for the pairs"),
+    let Ok(pairs) = lamp_pairs(rt.alloc(), &task, rooms) else {
+        return println!(rt; "no memory for the pairs");
+    };
+    if !are_kept(&task, &pairs) {
+        return println!(rt; "a pair that is not kept");
     }
+    print_task(rt, &task, &pairs, asked)
 }
 
 /// The number that a word of the command line spells, or another one.

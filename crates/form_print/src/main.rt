@@ -14,7 +14,7 @@ use action_order::order::Order;
 use action_order::publish::publish;
 use all_steps::form::AllForm;
 use clause_base::formula::Formula;
-use clause_base::view::View;
+use clause_print::print_clause;
 use gt_core::pairs::Pairs;
 use gt_core::task::Task;
 use sample_tasks::dice::Dice;
@@ -49,16 +49,6 @@ fn print_order(rt: &impl Print, order: &Order) -> io::Result<()> {
     for group in order.groups() {
         print!(rt; " |")?;
         print_numbers(rt, group.as_slice())?;
-    }
-    println!(rt; "")
-}
-
-/// Prints the codes of a clause.
-fn print_clause(rt: &impl Print, clause: &View) -> io::Result<()> {
-    print!(rt; "clause")?;
-    for place in 0..clause.len() {
-        let code = clause.get(place).0;
-        print!(rt; " {code}")?;
     }
     println!(rt; "")
 }

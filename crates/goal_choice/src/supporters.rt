@@ -12,6 +12,7 @@ use clause_base::memory::Memory;
 use clause_base::values::Values;
 use gt_core::layout::Layout;
 use gt_core::task::Task;
+use let_go::let_go;
 use list_of::FlatLists;
 use std::alloc::Global;
 use std::marker::Model;
@@ -32,12 +33,7 @@ struct Blocks {
 /// Letting one go is one call, in which its parts go: whoever holds one proves one step.
 impl Drop for Blocks {
     fn drop(self) {
-        let Blocks {
-            goal: _,
-            variables: _,
-            rising: _,
-            needs: _,
-        } = self;
+        let_go!(self: Blocks { goal, variables, rising, needs });
     }
 }
 

@@ -23,6 +23,7 @@ use gt_core::act::{Act, Acts};
 use gt_core::eff::Effs;
 use gt_core::lits::{Bits, Lits};
 use gt_core::task::Task;
+use let_go::let_go;
 use pd_model::{Atom, Atoms, Call, Calls, Memory, Pddl, State};
 use reachability::reach;
 use std::alloc::Global;
@@ -47,11 +48,7 @@ impl Model for Grounded {
 /// Letting one go is one call, in which its parts go: whoever holds one proves one step.
 impl Drop for Grounded {
     fn drop(self) {
-        let Grounded {
-            facts: _,
-            calls: _,
-            task: _,
-        } = self;
+        let_go!(self: Grounded { facts, calls, task });
     }
 }
 

@@ -3,6 +3,7 @@
 use crate::clause_list::{in_order, make_room, mark, put_in};
 use crate::memory::Memory;
 use bit_rows::row::{BitRow, empty_rows};
+use let_go::let_go;
 use std::alloc::Global;
 use std::marker::Model;
 
@@ -29,11 +30,7 @@ impl Model for Pairs {
 /// Letting one go is one call, in which its parts go: whoever holds one proves one step.
 impl Drop for Pairs {
     fn drop(self) {
-        let Pairs {
-            facts: _,
-            clauses: _,
-            rows: _,
-        } = self;
+        let_go!(self: Pairs { facts, clauses, rows });
     }
 }
 

@@ -9,6 +9,7 @@ use crate::act::{Act, Acts};
 use crate::eff::Eff;
 use crate::lawful::{are_actions, are_rising, conditional_in, has_few_conditional};
 use crate::lits::{Bits, Lits};
+use let_go::let_go;
 use std::marker::Model;
 
 /// A grounded task: numbered facts, the truth value of each in the initial state, the literals of the goal, and
@@ -39,13 +40,7 @@ impl Model for Task {
 /// Letting one go is one call, in which its parts go: whoever holds one proves one step.
 impl Drop for Task {
     fn drop(self) {
-        let Task {
-            facts: _,
-            init: _,
-            goal: _,
-            hopeless: _,
-            acts: _,
-        } = self;
+        let_go!(self: Task { facts, init, goal, hopeless, acts });
     }
 }
 

@@ -1,8 +1,6 @@
 ghost use Rattle.std.specs.Prelude.{◌≡◌, ℕ, ◌+◌, ◌≤◌, ◌<◌, true, false, IfOk, OnOk, OnErr};
-ghost use Rattle.clause_base.specs.Formula.{IsModel};
-ghost use Rattle.clause_base.specs.Derivation.{IsRefutation, IsDerivation};
-ghost use Rattle.cdcl_rules.specs.State.{value_of};
-ghost use Rattle.cdcl_rules.specs.Run.{after};
+ghost use Rattle.clause_base.specs.{Formula.IsModel, Derivation.IsRefutation, Derivation.IsDerivation};
+ghost use Rattle.cdcl_rules.specs.{State.value_of, Run.after};
 ghost use Rattle.cdcl_laws.specs.Sound.{made_true};
 ghost use Rattle.goal_choice.specs.Means.{gathered_of};
 ghost use Rattle.rup_check.specs.Certificate.{Certifies};
@@ -16,6 +14,7 @@ use clause_base::memory::Memory;
 use clause_log::log::Log;
 use goal_choice::{GoalChooser, Supporters};
 use gt_core::task::Task;
+use let_go::let_go;
 use rup_check::check::{CheckError, Checked, check};
 use std::alloc::Global;
 use std::marker::Model;
@@ -47,10 +46,7 @@ impl Model for HorizonRun {
 /// Letting one go is one call, in which its parts go: whoever holds one proves one step.
 impl Drop for HorizonRun {
     fn drop(self) {
-        let HorizonRun {
-            solver: _,
-            granted: _,
-        } = self;
+        let_go!(self: HorizonRun { solver, granted });
     }
 }
 

@@ -9,6 +9,7 @@ use crate::table::Table;
 use clause_base::clause_list::ClauseList;
 use clause_base::formula::Formula;
 use clause_base::memory::Memory;
+use let_go::let_go;
 use std::alloc::Global;
 use std::marker::Model;
 
@@ -40,13 +41,7 @@ impl Model for PairIndex {
 /// Letting one go is one call, in which its parts go: whoever holds one proves one step.
 impl Drop for PairIndex {
     fn drop(self) {
-        let PairIndex {
-            shape: _,
-            told: _,
-            step: _,
-            time: _,
-            after: _,
-        } = self;
+        let_go!(self: PairIndex { shape, told, step, time, after });
     }
 }
 

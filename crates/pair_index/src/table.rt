@@ -6,6 +6,7 @@ use crate::build::{counted, ends_of, fill, has_pairs};
 use crate::pair::Pair;
 use clause_base::clause_list::ClauseList;
 use clause_base::memory::Memory;
+use let_go::let_go;
 use std::alloc::Global;
 use std::marker::Model;
 
@@ -32,10 +33,7 @@ impl Model for Table {
 /// Letting one go is one call, in which its parts go: whoever holds one proves one step.
 impl Drop for Table {
     fn drop(self) {
-        let Table {
-            offsets: _,
-            items: _,
-        } = self;
+        let_go!(self: Table { offsets, items });
     }
 }
 

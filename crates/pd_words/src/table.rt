@@ -7,6 +7,7 @@ ghost use Rattle.pd_words.specs.Names.{number_of, is_among};
 ghost use Rattle.pd_words.specs.declared.fault.ReadError.TheVariants as errors;
 
 use crate::fault::ReadError;
+use let_go::let_go;
 use pd_sexp::Name;
 use std::alloc::Global;
 use std::collections::BTreeMap;
@@ -30,10 +31,7 @@ impl Model for Table {
 /// Letting one go is one call, in which its parts go: whoever holds one proves one step.
 impl Drop for Table {
     fn drop(self) {
-        let Table {
-            names: _,
-            numbers: _,
-        } = self;
+        let_go!(self: Table { names, numbers });
     }
 }
 

@@ -5,6 +5,7 @@ ghost use Rattle.pl_io.specs.Calls.{next_call, NextFails};
 ghost use Rattle.pl_io.specs.MemShelf.{bytes_at, has_none};
 
 use crate::{Bytes, Files, NamedFile, Names, Numbers, Shelf, TakeError, Taken};
+use let_go::let_go;
 use std::alloc::{AllocError, Global};
 use std::marker::Model;
 
@@ -28,13 +29,7 @@ impl Model for MemShelf {
 /// Letting one go is one call, in which its parts go: whoever holds one proves one step.
 impl Drop for MemShelf {
     fn drop(self) {
-        let MemShelf {
-            alloc: _,
-            files: _,
-            failing: _,
-            calls: _,
-            failed: _,
-        } = self;
+        let_go!(self: MemShelf { alloc, files, failing, calls, failed });
     }
 }
 

@@ -1,14 +1,13 @@
 //! Reading and grounding the task that two files say.
 ghost use Rattle.std.specs.Prelude.{◌≤◌, ℕ, List, length, IsTrue, IfOk};
 ghost use Rattle.pd_sexp.specs.{Fault.Reads, View.view, Word.has_words};
-ghost use Rattle.plan_answers.specs.Limits.{most_bytes};
-ghost use Rattle.plan_answers.specs.Tasks.{AreTask, IsReady, StopsTask};
-ghost use Rattle.plan_answers.specs.Ends.{StopsBy};
+ghost use Rattle.plan_answers.specs.{Limits.most_bytes, Tasks.AreTask, Tasks.IsReady, Tasks.StopsTask, Ends.StopsBy};
 
 use crate::ground::ground_task;
 use crate::stop::Stop;
 use crate::task::{task_with, tree_of};
 use grounder::Grounded;
+use let_go::let_go;
 use pd_model::Pddl;
 use pd_sexp::Tree;
 use plan_endings::File;
@@ -26,10 +25,7 @@ pub struct Ready {
 /// Letting one go is one call, in which its parts go: whoever holds one proves one step.
 impl Drop for Ready {
     fn drop(self) {
-        let Ready {
-            task: _,
-            grounded: _,
-        } = self;
+        let_go!(self: Ready { task, grounded });
     }
 }
 

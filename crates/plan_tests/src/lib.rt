@@ -2,16 +2,4 @@
 #![tactic(auto)]
 
 #[cfg(test)]
-mod devices;
-#[cfg(test)]
-mod files;
-#[cfg(test)]
-mod orders;
-#[cfg(test)]
-mod read_tasks;
-#[cfg(test)]
-mod tasks;
-#[cfg(test)]
-mod words;
-#[cfg(test)]
-mod workers;
+mod tests;

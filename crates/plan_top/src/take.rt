@@ -26,12 +26,7 @@ pub trait Kept: Sized + Drop {
     ghost ends_run: { (List ℕ → Option (List ℕ)) → (List ℕ → Bool) → List (List ℕ) → List (List ℕ) → FileValue → List ℕ → EndingValue → Type 0 };
 
     /// Takes the file of a name.
-    fn take_from<S: Shelf>(
-        alloc: Global,
-        file: File,
-        name: &str,
-        shelf: &mut S,
-    ) -> Result<Self, Stop>
+    fn take<S: Shelf>(alloc: Global, file: File, name: &str, shelf: &mut S) -> Result<Self, Stop>
         ensures told { S.told shelf.new ≡ S.told shelf.old }
         ensures lacks { S.lacks shelf.new ≡ S.lacks shelf.old }
         ensures notes { Notes (S.failed shelf.old) (S.failed shelf.new) name.now }
@@ -47,12 +42,7 @@ impl Kept for Bytes {
 
     ghost ends_run = { Stops };
 
-    fn take_from<S: Shelf>(
-        alloc: Global,
-        file: File,
-        name: &str,
-        shelf: &mut S,
-    ) -> Result<Self, Stop> {
+    fn take<S: Shelf>(alloc: Global, file: File, name: &str, shelf: &mut S) -> Result<Self, Stop> {
         let mut bytes = Vec::new(alloc);
         match shelf.take(name, most_of(file), &mut bytes) {
             Ok(Taken::Whole) => Ok(Bytes::of(bytes)),
@@ -70,13 +60,8 @@ impl Kept for Option<Bytes> {
 
     ghost ends_run = { IsFault };
 
-    fn take_from<S: Shelf>(
-        alloc: Global,
-        file: File,
-        name: &str,
-        shelf: &mut S,
-    ) -> Result<Self, Stop> {
-        match Bytes::take_from(alloc, file, name, shelf) {
+    fn take<S: Shelf>(alloc: Global, file: File, name: &str, shelf: &mut S) -> Result<Self, Stop> {
+        match Bytes::take(alloc, file, name, shelf) {
             Ok(bytes) => Ok(Some(bytes)),
             Err(Stop::Ends(Ending::TooLong(_))) => Ok(None),
             Err(stop) => Err(stop),
@@ -98,7 +83,7 @@ pub fn take_all<K: Kept, S: Shelf>(
 {
     let mut files = Vec::new(alloc);
     'taking: while let Some(name) = request.file(files.len()) {
-        let file = K::take_from(alloc, file_of(request, files.len()), name, shelf)?;
+        let file = K::take(alloc, file_of(request, files.len()), name, shelf)?;
         files.push(file)?;
     }
     Ok(files)

@@ -5,20 +5,18 @@ ghost use Rattle.gt_core.specs.Published.{IsPublished};
 use action_order::order::Order;
 use action_order::publish::publish;
 use clause_base::memory::Memory;
-use gt_core::act::{Act, Acts};
-use gt_core::eff::{Eff, Effs};
+use gt_core::act::Acts;
 use gt_core::lits::{Bits, Lits};
 use gt_core::pairs::Pairs;
 use gt_core::task::Task;
+use sample_tasks::actions::plain;
 use std::alloc::Global;
 use std::test::Fail;
 use step_encoding::exists::ExistsForm;
 
 /// A lamp, with an action that turns it on, and the goal that it is on.
 fn lamp(alloc: Global, on: bool) -> Result<Task, Fail> {
-    let pre = Lits::of(vec![in alloc; 1]?);
-    let effs = Effs::of(vec![in alloc; Eff::new(Lits::of(Vec::new(alloc)), 0)]?);
-    let acts = Acts::of(vec![in alloc; Act::new(pre, effs)]?);
+    let acts = Acts::of(vec![in alloc; plain(alloc, &[1], &[0])?]?);
     let init = Bits::of(vec![in alloc; on]?);
     let goal = Lits::of(vec![in alloc; 0]?);
     Ok(Task::try_new(1, init, goal, false, acts).ok_or("no task")?)

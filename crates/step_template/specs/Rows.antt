@@ -2,7 +2,7 @@ use Rattle.std.specs.Prelude.{◌≡◌, ℕ, ◌+◌, ◌*◌, ◌<◌, ◌≤�
 use Rattle.std.specs.List.{AllByRecursion}
 use Rattle.gt_core.specs.Task.{Task, Effect, owned}
 use Rattle.gt_core.specs.Active.{EffectWithin}
-use Rattle.gt_core.specs.Lawful.{is_conditional}
+use Rattle.gt_core.specs.Lawful.{is_conditional, conditional_in}
 use Rattle.gt_core.specs.Layout.{Layout, action_at, fact_at}
 use Rattle.step_clauses.specs.Clause.{Literal, code}
 use Rattle.step_clauses.specs.Variables.{Row, rows, rows_from, variable_at}
@@ -19,6 +19,13 @@ rows_of a j es = rows_from j (owned a es)
 -- the number after an effect
 abbrev pub number_after : ℕ → Effect → ℕ
 number_after j e = if is_conditional e then j + 1 else j
+
+-- a layout has a place for each action, conditional effect and fact of a task, and a step
+pub record IsLaidOut (z : Layout) (task : Task) : Type 0 where
+  pub horizon : 0 < z.horizon
+  pub actions : z.actions ≡ length task.actions
+  pub conditional : z.conditional ≡ conditional_in task.actions
+  pub facts : z.facts ≡ task.facts
 
 -- an effect has its place in a layout: there is a step, and its action, its number and its facts are the layout's
 pub record IsPlaced (z : Layout) (a j : ℕ) (e : Effect) : Type 0 where

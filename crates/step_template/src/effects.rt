@@ -1,15 +1,15 @@
 //! What an effect's variable means, and what an effect makes true.
 
-ghost use Rattle.std.specs.Prelude.{◌≡◌, ◌+◌, ◌/◌, ◌%◌, ◌≤◌, ◌<◌, ◌==◌, [], ◌∷◌, ◌++◌, List, true, map, length, if◌then◌else◌, None, OnOk};
+ghost use Rattle.std.specs.Prelude.{◌≡◌, ◌+◌, ◌/◌, ◌%◌, ◌≤◌, ◌<◌, ◌==◌, [], ◌∷◌, ◌++◌, List, true, map, if◌then◌else◌, None, OnOk};
 ghost use Rattle.std.specs.List.{AllByRecursion};
 ghost use Rattle.gt_core.specs.Literal.{opposite};
-ghost use Rattle.gt_core.specs.Lawful.{conditional_in, are_effects};
+ghost use Rattle.gt_core.specs.Lawful.{are_effects};
 ghost use Rattle.gt_core.specs.Layout.{action_at, fact_at};
 ghost use Rattle.step_clauses.specs.Clause.{Is, Not, code};
 ghost use Rattle.step_clauses.specs.Variables.{Row, rows};
 ghost use Rattle.step_clauses.specs.Formula.{literal_over};
 ghost use Rattle.step_clauses.specs.Coded.{Appends};
-ghost use Rattle.step_template.specs.Rows.{row_of, rows_of, IsPlaced, ArePlaced, meaning_of, effect_of, effects_of};
+ghost use Rattle.step_template.specs.Rows.{row_of, rows_of, IsLaidOut, IsPlaced, ArePlaced, meaning_of, effect_of, effects_of};
 ghost use Rattle.step_template.specs.Adders.{AreOverruling};
 
 use crate::adders::Adders;
@@ -172,10 +172,7 @@ pub(crate) fn add_effects(
     task: &Task,
     clauses: &mut ClauseList,
 ) -> Result<(), Memory>
-    requires horizon { 0 < layout.now.horizon }
-    requires actions { layout.now.actions ≡ length task.now.actions }
-    requires conditional { layout.now.conditional ≡ conditional_in task.now.actions }
-    requires facts { layout.now.facts ≡ task.now.facts }
+    requires { IsLaidOut layout.now task.now }
     ensures { OnOk result (Appends clauses.old clauses.new (effects_of layout.now (rows task.now) (rows task.now))) }
 {
     let mut first = 0;

@@ -1,9 +1,10 @@
 //! An action in a step has each literal of its precondition.
 
-ghost use Rattle.std.specs.Prelude.{◌≡◌, ◌/◌, ◌<◌, [], ◌∷◌, ◌++◌, map, length, OnOk};
+ghost use Rattle.std.specs.Prelude.{◌≡◌, ◌/◌, ◌<◌, [], ◌∷◌, ◌++◌, map, OnOk};
 ghost use Rattle.std.specs.List.{AllByRecursion};
 ghost use Rattle.gt_core.specs.Layout.{action_at, fact_at};
 ghost use Rattle.step_clauses.specs.{Clause.Not, Coded.coded, Formula.literal_over, Formula.precondition_clauses};
+ghost use Rattle.step_template.specs.Rows.{IsLaidOut};
 
 use crate::literals::{action_variable, add_clause, literal_at};
 use clause_base::clause_list::ClauseList;
@@ -37,9 +38,7 @@ pub(crate) fn add_preconditions(
     task: &Task,
     clauses: &mut ClauseList,
 ) -> Result<(), Memory>
-    requires horizon { 0 < layout.now.horizon }
-    requires actions { layout.now.actions ≡ length task.now.actions }
-    requires facts { layout.now.facts ≡ task.now.facts }
+    requires { IsLaidOut layout.now task.now }
     ensures { OnOk result (clauses.new ≡ clauses.old ++ coded (precondition_clauses (action_at layout.now 0) (fact_at layout.now 0) 0 task.now.actions)) }
 {
     for a in 0..layout.actions {

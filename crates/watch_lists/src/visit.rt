@@ -14,6 +14,7 @@ use crate::pending::Pending;
 use crate::scan::find_other;
 use crate::slots::{is_slot_kept, slot_clause};
 use cdcl_trail::assignment::Assignment;
+use let_go::let_go;
 use number_bits::first::First;
 use number_bits::flat::Flat;
 use number_bits::layer::Layer;
@@ -42,12 +43,7 @@ pub struct Lists {
 /// Letting one go is one call, in which its parts go: whoever holds one proves one step.
 impl Drop for Lists {
     fn drop(self) {
-        let Lists {
-            chains: _,
-            watched: _,
-            pending: _,
-            units: _,
-        } = self;
+        let_go!(self: Lists { chains, watched, pending, units });
     }
 }
 

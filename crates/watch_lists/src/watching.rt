@@ -25,6 +25,7 @@ use cdcl_trail::trail::Trail;
 use clause_base::formula::Formula;
 use clause_base::literal::Lit;
 use clause_base::memory::Memory;
+use let_go::let_go;
 use number_bits::first::First;
 use number_bits::flat::Flat;
 use number_bits::layer::Layer;
@@ -76,19 +77,10 @@ impl Model for Watching {
 /// Letting one go is one call, in which its parts go: whoever holds one proves one step.
 impl Drop for Watching {
     fn drop(self) {
-        let Watching {
-            variables: _,
-            store: _,
-            kept: _,
-            trail: _,
-            pairs: _,
-            slots: _,
-            blocks: _,
-            lists: _,
-            quiet: _,
-            front_left: _,
-            recent: _,
-        } = self;
+        let_go!(self: Watching {
+            variables, store, kept, trail, pairs, slots,
+            blocks, lists, quiet, front_left, recent
+        });
     }
 }
 

@@ -6,6 +6,7 @@ use clause_base::formula::Formula;
 use clause_base::literal::Lit;
 use clause_base::memory::Memory;
 use clause_base::view::View;
+use let_go::let_go;
 use std::alloc::Global;
 use std::marker::Model;
 
@@ -30,11 +31,7 @@ impl Model for Store {
 /// Letting one go is one call, in which its parts go: whoever holds one proves one step.
 impl Drop for Store {
     fn drop(self) {
-        let Store {
-            formula: _,
-            given: _,
-            added: _,
-        } = self;
+        let_go!(self: Store { formula, given, added });
     }
 }
 

@@ -15,8 +15,7 @@ tell-requires g c =
     let i = c.loop-i.i in
     let a = c.index-entries-i.result in
     let is : a ≡ get_or trail i a = c.index-entries-i.is ∙ ap (λ (ts : List Assigned). get_or ts i a) c.entries-entries.ensures.value in
-    let long : length c.entries-entries.result.now ≡ length trail = ap (λ (ts : List Assigned). length ts) c.entries-entries.ensures.value in
-    let lt : i < length trail = omega (arith, long) in
+    let lt : i < length trail = omega (arith, ap (λ (ts : List Assigned). length ts) c.entries-entries.ensures.value) in
     record { room = (take i (literals trail), n, c.loop-i.invariant, c.requires.fits, few_told n i trail lt c.entries-entries.ensures.short, below_at n i trail a lt is c.entries-entries.ensures.below) }
 
 pub loop-i-preserved : goal.loop-i-preserved
@@ -25,8 +24,7 @@ loop-i-preserved g c =
     let i = c.loop-i.i in
     let a = c.index-entries-i.result in
     let is : a ≡ get_or trail i a = c.index-entries-i.is ∙ ap (λ (ts : List Assigned). get_or ts i a) c.entries-entries.ensures.value in
-    let long : length c.entries-entries.result.now ≡ length trail = ap (λ (ts : List Assigned). length ts) c.entries-entries.ensures.value in
-    let lt : i < length trail = omega (arith, long) in
+    let lt : i < length trail = omega (arith, ap (λ (ts : List Assigned). length ts) c.entries-entries.ensures.value) in
     subst (g.C.Chooser.knows c.args.chooser.now c.tell.new.told) (sym (next_told trail i a lt is)) (c.tell.ensures (take i (literals trail)) c.loop-i.invariant)
 
 pub returns : goal.returns

@@ -8,13 +8,13 @@ use Rattle.plan_top.proofs.take.take_all.Goals as goal
 
 pub returns-in_err-file-clause-noted : goal.returns-in_err-file-clause-noted
 returns-in_err-file-clause-noted g c =
-    noted_here _ _ _ (file_at (seen c.args.request.now)) _ _ _ _ c.taking.invariant.so (g.S.Shelf.failed c.take_from.new.shelf) c.in-Some.name.now
+    noted_here _ _ _ (file_at (seen c.args.request.now)) _ _ _ _ c.taking.invariant.so (g.S.Shelf.failed c.take.new.shelf) c.in-Some.name.now
     (name_at (files_of (seen c.args.request.now)) c.len.result (length c.taking.files.items) c.in-Some.name.now (omega (arith, c.taking.files.ok)) c.in-Some.ensures) c.in_err-file.ensures.notes
 
 pub returns-in_err-file-clause-stops : goal.returns-in_err-file-clause-stops
 returns-in_err-file-clause-stops g c =
     let names = files_of (seen c.args.request.now) in
-    let next = g.S.Shelf.failed c.take_from.new.shelf in
+    let next = g.S.Shelf.failed c.take.new.shelf in
     let at = name_at names c.len.result (length c.taking.files.items) c.in-Some.name.now (omega (arith, c.taking.files.ok)) c.in-Some.ensures in
     let same : c.len-in-Some.result ≡ length c.taking.files.items = omega (arith, c.taking.files.ok) in
     let rises = rises_so _ _ _ (file_at (seen c.args.request.now)) _ _ _ _ c.taking.invariant.so in
@@ -32,7 +32,7 @@ taking-preserved g c =
     record {
       told = cc (c.in_ok-file.ensures.told, c.taking.invariant.told);
       lacks = cc (c.in_ok-file.ensures.lacks, c.taking.invariant.lacks);
-      so = rw c.in_ok-push.ensures.items (one_more _ _ _ (file_at (seen c.args.request.now)) _ _ _ _ c.taking.invariant.so (g.S.Shelf.failed c.take_from.new.shelf) c.in-Some.name.now at c.in_ok-file.ensures.notes c.in_ok-file.file is goes);
+      so = rw c.in_ok-push.ensures.items (one_more _ _ _ (file_at (seen c.args.request.now)) _ _ _ _ c.taking.invariant.so (g.S.Shelf.failed c.take.new.shelf) c.in-Some.name.now at c.in_ok-file.ensures.notes c.in_ok-file.file is goes);
     }
 
 pub returns-clause-noted : goal.returns-clause-noted
@@ -47,5 +47,5 @@ returns-clause-taken g c =
 
 pub returns-in_err-push-clause-noted : goal.returns-in_err-push-clause-noted
 returns-in_err-push-clause-noted g c =
-    noted_here _ _ _ (file_at (seen c.args.request.now)) _ _ _ _ c.taking.invariant.so (g.S.Shelf.failed c.take_from.new.shelf) c.in-Some.name.now
+    noted_here _ _ _ (file_at (seen c.args.request.now)) _ _ _ _ c.taking.invariant.so (g.S.Shelf.failed c.take.new.shelf) c.in-Some.name.now
     (name_at (files_of (seen c.args.request.now)) c.len.result (length c.taking.files.items) c.in-Some.name.now (omega (arith, c.taking.files.ok)) c.in-Some.ensures) c.in_ok-file.ensures.notes

@@ -38,16 +38,12 @@ learn-requires-clause-all_false c =
 
 pub returns-clause-clause : goal.returns-clause-clause
 returns-clause-clause c =
-    let t = c.self.inside in
-    let n = c.args.number in
     c.in_ok-learned.ensures.clause
-    ∙ ap (λ (v : TrailView). (learned (all_clauses t.clauses) v.entries n).clause) c.trail.ensures
-    ∙ ap (λ (v : SearchView). (learned v.state.clauses v.state.trail n).clause) c.self.view_is
+    ∙ ap (λ (v : TrailView). (learned (all_clauses c.self.inside.clauses) v.entries c.args.number).clause) c.trail.ensures
+    ∙ ap (λ (v : SearchView). (learned v.state.clauses v.state.trail c.args.number).clause) c.self.view_is
 
 pub returns-clause-hints : goal.returns-clause-hints
 returns-clause-hints c =
-    let t = c.self.inside in
-    let n = c.args.number in
     c.in_ok-learned.ensures.hints
-    ∙ ap (λ (v : TrailView). (learned (all_clauses t.clauses) v.entries n).hints) c.trail.ensures
-    ∙ ap (λ (v : SearchView). (learned v.state.clauses v.state.trail n).hints) c.self.view_is
+    ∙ ap (λ (v : TrailView). (learned (all_clauses c.self.inside.clauses) v.entries c.args.number).hints) c.trail.ensures
+    ∙ ap (λ (v : SearchView). (learned v.state.clauses v.state.trail c.args.number).hints) c.self.view_is

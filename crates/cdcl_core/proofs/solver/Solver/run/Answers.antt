@@ -1,19 +1,31 @@
-use Rattle.std.proofs.Common.{◌≡◌, ℕ, ◌+◌, ◌&&◌, nat_le, sym, ◌∙◌, ap, subst, false, true}
+use Rattle.std.proofs.Common.{arith, ◌≡◌, ℕ, ◌+◌, ◌&&◌, nat_le, sym, ◌∙◌, ap, subst, false, true}
 use Rattle.cdcl_rules.specs.Machine.{ComesToRest}
 use Rattle.cdcl_rules.specs.Event.{event_of}
 use Rattle.cdcl_rules.specs.Run.{next, rests, apply, is_going, is_conflict}
 use Rattle.cdcl_rules.proofs.Advance.{one_on, rests_here, rests_settled, conflicts_stay, conflict_below}
 use Rattle.cdcl_laws.proofs.Fuel.{left_falls}
-use Rattle.cdcl_core.specs.Search.{SolverView, IsNextEvent, GoesOn}
+use Rattle.cdcl_core.specs.Search.{SolverView, IsNextEvent, MayApply, GoesOn}
 use Rattle.cdcl_core.proofs.Keeps.{next_open}
 use Rattle.cdcl_core.proofs.Logs.{goes_then, goes_reached, goes_err}
 use Rattle.cdcl_core.proofs.solver.Solver.run.Goals as goal
 
-pub apply-requires-clause-next : goal.apply-requires-clause-next
-apply-requires-clause-next g c =
+pub apply-requires : goal.apply-requires
+apply-requires g c =
+    let limit = c.conflicts.result + c.args.conflicts in
     let v = c.loop-self.self in
-    let n : IsNextEvent v.formula v.state c.event-event.result = (g.C.Chooser.choice v.chooser, c.event-event.ensures.opens, c.event-event.ensures.event) in
-    subst (λ (w : SolverView g.row.C.Denot). IsNextEvent w.formula w.state c.event-event.result) (sym c.event-event.ensures.kept) n
+    let s = v.state in
+    let e = c.event-event.result in
+    let kept = c.event-event.ensures.kept in
+    let wait : (is_conflict e && nat_le limit s.conflicts) ≡ false =
+    ap (λ (w : SolverView g.row.C.Denot). is_conflict e && nat_le limit w.state.conflicts) (sym kept) ∙ sym c.waits.ensures ∙ c.if-waits.false in
+    let may : MayApply v.formula s v.spoilt e = record {
+      sane = c.loop-self.invariant.sane;
+      going = sym c.is_going.ensures ∙ c.loop-self-test.true;
+      sound = c.event-event.ensures.sound;
+      room = λ h. let below = conflict_below e limit s.conflicts wait h in omega (arith, below, c.conflicts.ensures.value, c.requires.room);
+      next = (g.C.Chooser.choice v.chooser, c.event-event.ensures.opens, c.event-event.ensures.event);
+    } in
+    subst (λ (w : SolverView g.row.C.Denot). MayApply w.formula w.state w.spoilt e) (sym kept) may
 
 pub returns-then-waits-clause-after : goal.returns-then-waits-clause-after
 returns-then-waits-clause-after g c =

@@ -1,5 +1,5 @@
 // Runs with several workers.
-use crate::tasks::{BLOCKS, DARK, LAMP, LAMP_PLAN, TOWER, TOWER_PLAN};
+use super::tasks::{BLOCKS, DARK, LAMP, LAMP_PLAN, TOWER, TOWER_PLAN};
 use mem_runs::{Named, ample_sink, run_once, run_undriven, shelf_of};
 use noting_gates::{CountGate, Notes, PairGate};
 use solver_pool::Gate;

@@ -1,5 +1,5 @@
 // Files that are broken.
-use crate::tasks::{DARK, LAMP, LIT};
+use super::tasks::{DARK, LAMP, LIT};
 use mem_runs::run_once;
 use std::test::Fail;
 

@@ -1,5 +1,5 @@
 // Shelves and sinks that fail.
-use crate::tasks::{DARK, LAMP, LAMP_PLAN, MARKED, MARKS};
+use super::tasks::{DARK, LAMP, LAMP_PLAN, MARKED, MARKS};
 use mem_runs::{Named, ample_sink, run_once, run_undriven, shelf_of};
 use pl_io::{MemSink, Numbers};
 use solver_pool::OpenGate;
