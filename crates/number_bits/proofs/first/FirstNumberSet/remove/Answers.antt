@@ -1,4 +1,4 @@
-use Rattle.std.proofs.Common.{arith, ap, sym, subst, ◌≡◌, ◌∙◌, ◌==◌, ◌&&◌, not, length, List, ℕ, Option, Some, None}
+use Rattle.std.proofs.Common.{arith, ap, sym, subst, ◌≡◌, ◌∙◌, ◌==◌, ◌&&◌, not, List, ℕ, Some}
 use Rattle.number_bits.specs.Bits.{words_have, words_with, IsFirst}
 use Rattle.number_bits.proofs.Firsts.{first_out, first_without, is_least, not_least}
 use Rattle.number_bits.proofs.first.FirstNumberSet.remove.Goals as goal
