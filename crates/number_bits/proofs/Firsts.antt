@@ -3,7 +3,7 @@ use Rattle.std.proofs.Common.{arith, ◌≡◌, ◌≢◌, ◌==◌, ℕ, ◌*�
 use Rattle.std.proofs.lemmas.Bool.Decides.{nat_tests}
 use Rattle.std.specs.Option.{option_eq}
 use Rattle.word_bits.proofs.WordLaw.{set_same, set_other}
-use Rattle.number_bits.specs.Bits.{word_has, word_with, words_have, words_with, bits_with, IsLeast, IsPast, IsInside, IsFirst, IsTakenLeast}
+use Rattle.number_bits.specs.Bits.{word_has, word_with, words_have, words_with, bits_with, IsLeast, IsInside, IsFirst, IsTakenLeast}
 
 equal_of : (a b : ℕ) → (a == b) ≡ true → a ≡ b
 equal_of a b h = grind (arith, nat_tests)

@@ -1,4 +1,4 @@
-use Rattle.std.specs.Prelude.{◌≡◌, ℕ, ◌*◌, ◌/◌, ◌%◌, ◌^◌, ◌<◌, ◌≤◌, ◌==◌, ◌&&◌, ◌||◌, List, length, slice_index, slice_set, Bool, true, false, not, Option, Some, None, bit_or}
+use Rattle.std.specs.Prelude.{◌≡◌, ℕ, ◌*◌, ◌/◌, ◌%◌, ◌^◌, ◌<◌, ◌≤◌, ◌==◌, ◌&&◌, ◌||◌, List, length, slice_index, slice_set, Bool, false, not, Option, Some, None, bit_or}
 pub use Rattle.word_bits.specs.Words.{word_has, IsLeast}
 
 -- whether a list of words has a bit
@@ -12,6 +12,11 @@ pub record LayerView (S : Type 0) : Type 0 where
 
 abbrev pub IsAbove : List ℕ → (ℕ → Bool) → Type 0
 IsAbove words p = (j : ℕ) → p j ≡ not (slice_index words j == 0)
+
+-- a number is the least in the word at a place
+pub record IsLeastIn (words : List ℕ) (place number : ℕ) : Type 0 where
+  pub place_is : number / 64 ≡ place
+  pub least : IsLeast (word_has (slice_index words place)) (Some (number % 64))
 
 -- words with one more bit
 abbrev pub word_with : ℕ → ℕ → ℕ

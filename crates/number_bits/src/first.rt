@@ -41,6 +41,24 @@ fn take_least<S: NumberSet>(set: &mut Layer<S>) -> Option<u32>
     }
 }
 
+/// Takes the least number out of a set all of whose numbers are past one, if it has one. Mostly the two stand in the same word.
+#[inline(always)]
+fn take_next<S: NumberSet>(set: &mut Layer<S>, past: u32) -> Option<u32>
+    requires inside { past < 64 * length set.old.words }
+    requires past { IsPast (words_have set.old.words) (Some past) }
+    ensures taken { IsTakenLeast (words_have set.old.words) (words_have set.new.words) result }
+    ensures inside { IsInside set.new.words result }
+    ensures room { length set.new.words ≡ length set.old.words }
+{
+    match set.least_in(past / 64) {
+        None => take_least(set),
+        Some(number) => {
+            set.remove(number);
+            Some(number)
+        }
+    }
+}
+
 /// Puts a number into a set beside its least member, which is kept apart. The result is the least of both.
 fn put_beside<S: NumberSet>(least: u32, others: &mut Layer<S>, number: u32) -> u32
     requires number { number < 64 * length others.old.words }
@@ -75,7 +93,7 @@ impl<S: NumberSet> NumberSet for First<S> {
 
     fn remove(&mut self, number: u32) {
         if self.least == Some(number) {
-            self.least = take_least(&mut self.others);
+            self.least = take_next(&mut self.others, number);
         } else {
             self.others.remove(number);
         }

@@ -1,5 +1,5 @@
-ghost use Rattle.std.specs.Prelude.{◌≡◌, ℕ, ◌<◌, ◌≤◌, ◌*◌, ◌/◌, ◌==◌, ◌||◌, ◌&&◌, ◌+◌, Bool, true, false, not, length, slice_index, All};
-ghost use Rattle.number_bits.specs.Bits.{IsLeast, words_have, LayerView, IsAbove};
+ghost use Rattle.std.specs.Prelude.{◌≡◌, ℕ, ◌<◌, ◌≤◌, ◌*◌, ◌/◌, ◌==◌, ◌||◌, ◌&&◌, ◌+◌, Bool, true, false, not, length, slice_index, All, IfSome};
+ghost use Rattle.number_bits.specs.Bits.{IsLeast, IsLeastIn, words_have, LayerView, IsAbove};
 
 use crate::flat::{clear_bit, set_bit};
 use crate::set::NumberSet;
@@ -75,5 +75,18 @@ impl<S: NumberSet> Layer<S> {
             words: Vec::new(alloc),
             above,
         }
+    }
+
+    /// The least number in the word at a place, if that has one. No other word is looked at.
+    #[inline(always)]
+    pub fn least_in(&self, place: u32) -> Option<u32>
+        requires { place < length self.now.words }
+        ensures { IfSome result (λ n. IsLeastIn self.now.words place n) }
+    {
+        let word = self.words[place as usize];
+        if word == 0 {
+            return None;
+        }
+        Some(64 * place + least_bit(word))
     }
 }

@@ -27,12 +27,8 @@ impl Chains {
         ensures codes { IfOk result (λ c. length c.heads.items ≡ codes) }
         ensures nodes { IfOk result (λ c. c.nodes.items ≡ []) }
     {
-        let mut heads = Vec::with_capacity(alloc, codes as usize)?;
-        for _ in 0..codes {
-            heads.push(END)?;
-        }
         Ok(Chains {
-            heads,
+            heads: vec![in alloc; END; codes as usize]?,
             nodes: Vec::with_capacity(alloc, nodes)?,
         })
     }

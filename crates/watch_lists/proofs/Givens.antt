@@ -1,5 +1,5 @@
 -- The tables of a formula's clauses, as they are made and once they are.
-use Rattle.std.proofs.Common.{arith, ◌≡◌, ◌≢◌, ◌==◌, ℕ, zero, suc, ◌+◌, ◌*◌, ◌<◌, ◌≤◌, List, [], ◌∷◌, ◌++◌, length, take, replicate, get_or, leb, ltb, Bool, true, false, not, ◌||◌, ◌&&◌, All, None, Some, refl, sym, ap, ◌∙◌, subst, ◌⊎◌, inl, inr}
+use Rattle.std.proofs.Common.{arith, ◌≡◌, ◌≢◌, ◌==◌, ℕ, zero, suc, ◌+◌, ◌-◌, ◌*◌, ◌<◌, ◌≤◌, List, [], ◌∷◌, ◌++◌, length, take, replicate, get_or, leb, ltb, Bool, true, false, not, ◌||◌, ◌&&◌, All, None, Some, refl, sym, ap, ◌∙◌, subst, ◌⊎◌, inl, inr}
 use Rattle.std.proofs.lemmas.Bool.Decides.{nat_tests}
 use Rattle.std.proofs.lemmas.List.{map-append, length_push, get_or_push, get_or_append_left}
 use Rattle.std.proofs.lemmas.List.Elements.{All-get_or}
@@ -15,7 +15,7 @@ use Rattle.watch_chains.specs.Linked.{IsLinked}
 use Rattle.watch_lists.specs.declared.visit.Watched.{Watched}
 use Rattle.watch_lists.specs.Units.{HasUnits}
 use Rattle.watch_lists.specs.Added.{IsWider, RestsWith}
-use Rattle.watch_lists.specs.Given.{AreGiven}
+use Rattle.watch_lists.specs.Given.{AreGiven, AreRising, IsBeside}
 use Rattle.watch_lists.specs.Pairs.{HasSlot, IsUnwatched, IsPaired}
 use Rattle.watch_lists.specs.Visit.{slot_clauses, slot_flags, AreSlotsBelow, IsFit, IsReal, IsAtRest}
 use Rattle.watch_lists.specs.Sound.{AreTablesSound}
@@ -100,6 +100,42 @@ given_two codes cl n slots wa heads nodes words units g two = record {
   long = g.long;
   distinct = g.distinct;
 }
+
+-- all up to a number have
+given_twos : (codes : ℕ) (cl : List (List ℕ)) (n k m : ℕ) (slots : List ℕ) (wa : List Watched) (heads : List ℕ) (nodes : List Node) (words units : List ℕ) → AreGiven codes cl n slots wa heads nodes words units → m ≡ n + k → ((c : ℕ) → n ≤ c → c < m → length (clause_at cl c) ≡ 2) → AreGiven codes cl m slots wa heads nodes words units
+given_twos codes cl n zero m slots wa heads nodes words units g e two = subst (λ (i : ℕ). AreGiven codes cl i slots wa heads nodes words units) (let f : n ≡ m = omega (arith, e) in f) g
+given_twos codes cl n (suc k) m slots wa heads nodes words units g e two =
+    given_twos codes cl (n + 1) k m slots wa heads nodes words units (given_two codes cl n slots wa heads nodes words units g (two n (omega arith) (omega (arith, e)))) (omega (arith, e)) (λ c h l. two c (omega (arith, h)) l)
+
+-- those of a part up to a place before which there is no other of the places that are not passed by
+pub given_passed : (codes : ℕ) (cl : List (List ℕ)) (first next to index count : ℕ) (places : List ℕ) (slots : List ℕ) (wa : List Watched) (heads : List ℕ) (nodes : List Node) (words units : List ℕ) → AreGiven codes cl (first + next) slots wa heads nodes words units → next ≤ to → to ≤ count → ((j : ℕ) → IsBeside places count j → length (clause_at cl (first + j)) ≡ 2) → ((i : ℕ) → i < index → get_or places i 0 < next) → ((i : ℕ) → index ≤ i → i < length places → to ≤ get_or places i 0) → AreGiven codes cl (first + to) slots wa heads nodes words units
+given_passed codes cl first next to index count places slots wa heads nodes words units g up within twos past ahead =
+    given_twos codes cl (first + next) (to - next) (first + to) slots wa heads nodes words units g (omega (arith, up)) (λ c h l. subst (λ (n : ℕ). length (clause_at cl n) ≡ 2) (let e : first + (c - first) ≡ c = omega (arith, h) in e) (twos (c - first) (between c h l)))
+  where
+    between : (c : ℕ) → first + next ≤ c → c < first + to → IsBeside places count (c - first)
+    between c h l = record {
+      below = omega (arith, h, l, within);
+      apart = λ s g e. by s g e (leb index s) refl;
+    }
+      where
+        by : (s : ℕ) → s < length places → get_or places s 0 ≡ c - first → (b : Bool) → leb index s ≡ b → ⊥
+        by s g e true f = absurd (omega (arith, h, l, e, ahead s (at_most_of index s f) g))
+        by s g e false f = absurd (omega (arith, h, l, e, past s (past_of index s f)))
+
+-- the places from one on, and those up to it, are in order
+pub ahead_of : (places : List ℕ) (index to : ℕ) → AreRising places → to ≡ get_or places index 0 → (i : ℕ) → index ≤ i → i < length places → to ≤ get_or places i 0
+ahead_of places index to rising e i h g = by (i == index) refl
+  where
+    by : (b : Bool) → (i == index) ≡ b → to ≤ get_or places i 0
+    by true f = omega (arith, e, ap (λ (k : ℕ). get_or places k 0) (equal_of i index f))
+    by false f = let ne : i ≢ index = apart_of i index f in omega (arith, e, rising index i (omega (arith, h, ne)) g)
+
+pub past_next : (places : List ℕ) (index to : ℕ) → AreRising places → index < length places → to ≡ get_or places index 0 → (i : ℕ) → i < index + 1 → get_or places i 0 < to + 1
+past_next places index to rising inside e i h = by (i == index) refl
+  where
+    by : (b : Bool) → (i == index) ≡ b → get_or places i 0 < to + 1
+    by true f = omega (arith, e, ap (λ (k : ℕ). get_or places k 0) (equal_of i index f))
+    by false f = let ne : i ≢ index = apart_of i index f in omega (arith, e, rising i index (omega (arith, h, ne)) inside)
 
 -- it has fewer
 pub given_short : (codes : ℕ) (cl : List (List ℕ)) (n : ℕ) (slots : List ℕ) (wa : List Watched) (heads : List ℕ) (nodes : List Node) (words units words' : List ℕ) → AreGiven codes cl n slots wa heads nodes words units → length (clause_at cl n) < 2 → length words' ≡ length words → ((k : ℕ) → words_have words' k ≡ (k == n || words_have words k)) → AreGiven codes cl (n + 1) slots wa heads nodes words' units

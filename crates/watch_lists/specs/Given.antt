@@ -1,5 +1,5 @@
 -- The tables of the first clauses of a formula, before any literal is true.
-use Rattle.std.specs.Prelude.{◌≡◌, ℕ, ◌*◌, ◌<◌, ◌≤◌, List, length, replicate, true}
+use Rattle.std.specs.Prelude.{◌≡◌, ℕ, ◌*◌, ◌<◌, ◌≤◌, List, length, replicate, slice_index, true}
 use Rattle.cdcl_rules.specs.State.{clause_at}
 use Rattle.number_bits.specs.Bits.{words_have}
 use Rattle.watch_chains.specs.declared.chains.Node.{Node}
@@ -20,3 +20,12 @@ pub record AreGiven (codes : ℕ) (clauses : List (List ℕ)) (number : ℕ) (sl
   pub room : length clauses ≤ 64 * length words
   pub long : length slots ≤ length units
   pub distinct : AreDistinct slots
+
+-- the places of a list, in order
+abbrev pub AreRising : List ℕ → Type 0
+AreRising places = (i j : ℕ) → i < j → j < length places → slice_index places i < slice_index places j
+
+-- a place below a number that is none of these
+pub record IsBeside (places : List ℕ) (count place : ℕ) : Type 0 where
+  pub below : place < count
+  pub apart : (s : ℕ) → s < length places → slice_index places s ≡ place → ⊥

@@ -27,6 +27,7 @@ use number_bits::set::NumberSet;
 use watch_store::store::Store;
 
 /// How a clause stands, where one that is not kept is not pending.
+#[inline(always)]
 fn kept_status(
     store: &Store,
     kept: &[bool],

@@ -1,12 +1,12 @@
 //! The tables of a formula's clauses, made at once before any literal is true. A clause of more than two literals has a slot and
 //! watches its last two; one of two literals is in the pair index alone; one of fewer is pending, and in the set from the
 //! beginning.
-ghost use Rattle.std.specs.Prelude.{◌≡◌, ℕ, ◌+◌, ◌*◌, ◌<◌, ◌≤◌, ◌==◌, [], None, true, false, length, slice_index_or, IfOk, OnOk};
+ghost use Rattle.std.specs.Prelude.{◌≡◌, ℕ, ◌+◌, ◌*◌, ◌<◌, ◌≤◌, ◌==◌, [], None, false, length, IfOk, OnOk};
 ghost use Rattle.cdcl_rules.specs.State.{clause_at};
 ghost use Rattle.number_bits.specs.Bits.{words_have};
 ghost use Rattle.watch_chains.specs.Linked.{IsLinked};
-ghost use Rattle.watch_lists.specs.Visit.{IsFit};
-ghost use Rattle.watch_lists.specs.Given.{AreGiven};
+ghost use Rattle.watch_lists.specs.Visit.{IsFit, AreSlotsBelow};
+ghost use Rattle.watch_lists.specs.Given.{AreGiven, AreRising, IsBeside};
 
 use crate::pending::no_pending;
 use crate::room::make_room;
@@ -31,27 +31,11 @@ pub struct Given {
     pub lists: Lists,
 }
 
-/// How many clauses of a list have more than two literals.
-fn longs_of(list: &ClauseList) -> usize {
-    let mut longs: usize = 0;
-    for number in 0..list.count() {
-        if list.clause(number).len() > 2 {
-            longs = longs.saturating_add(1);
-        }
-    }
-    longs
-}
-
-/// How many clauses of a formula have more than two literals, counted once for all steps and once for all times.
-pub fn count_longs(formula: &Formula) -> usize {
-    let parts = formula.parts();
-    let steps = parts.repeated.horizon() as usize;
-    let step = longs_of(parts.repeated.step());
-    let time = longs_of(parts.repeated.time());
-    longs_of(parts.told)
-        .saturating_add(longs_of(parts.after))
-        .saturating_add(steps.saturating_mul(step))
-        .saturating_add((steps + 1).saturating_mul(time))
+/// The places in a list of those clauses that have fewer than two literals, or more, in order, and how many clauses there are.
+#[derive(Drop)]
+struct Others {
+    places: Vec<usize>,
+    count: usize,
 }
 
 /// Whether the clause of a list with a number has two literals.
@@ -62,16 +46,28 @@ fn is_two(list: &ClauseList, number: usize) -> bool
     list.clause(number).len() == 2
 }
 
-/// For each clause of a list whether it has two literals.
-fn two_flags(alloc: Global, list: &ClauseList) -> Result<Vec<bool>, Memory>
-    ensures size { IfOk result (λ flags. length flags.items ≡ length list.now) }
-    ensures two { IfOk result (λ flags. (j : ℕ) → slice_index_or flags.items j false ≡ true → length (clause_at list.now j) ≡ 2) }
+/// The places of the clauses of a list that have not two literals.
+fn others_of(alloc: Global, list: &ClauseList) -> Result<Others, Memory>
+    ensures count { IfOk result (λ others. others.count ≡ length list.now) }
+    ensures below { IfOk result (λ others. AreSlotsBelow others.count others.places.items) }
+    ensures rising { IfOk result (λ others. AreRising others.places.items) }
+    ensures twos { IfOk result (λ others. (j : ℕ) → IsBeside others.places.items others.count j → length (clause_at list.now j) ≡ 2) }
 {
-    let mut flags = Vec::with_capacity(alloc, list.count())?;
-    for number in 0..list.count() {
-        flags.push(is_two(list, number))?;
+    let mut places = Vec::new(alloc);
+    let count = list.count();
+    for number in 0..count {
+        if !is_two(list, number) {
+            places.push(number)?;
+        }
     }
-    Ok(flags)
+    Ok(Others { places, count })
+}
+
+/// At least so many clauses of a formula have slots, if memory is to be had for them: those that have not two literals.
+fn room_for(horizon: u32, once: usize, step: &Others, time: &Others) -> usize {
+    let steps = horizon as usize;
+    once.saturating_add(steps.saturating_mul(step.places.len()))
+        .saturating_add((steps + 1).saturating_mul(time.places.len()))
 }
 
 impl Given {
@@ -131,82 +127,62 @@ impl Given {
         Ok(())
     }
 
-    /// Enters the next clause; if it is known to have two literals, it is not looked at.
-    fn enter_next(
-        &mut self,
-        store: &Store,
-        is_two: bool,
-        number: u32,
-        codes: u32,
-    ) -> Result<(), Memory>
-        requires fit { IsFit store.now codes }
-        requires inside { number < length store.now }
-        requires few { length store.now ≤ 1073741824 }
-        requires two { is_two ≡ true → length (clause_at store.now number) ≡ 2 }
-        requires given { AreGiven codes store.now number self.old.slots.items self.old.lists.watched.items self.old.lists.chains.heads.items self.old.lists.chains.nodes.items self.old.lists.pending self.old.lists.units.items }
-        ensures { OnOk result (AreGiven codes store.now (number + 1) self.new.slots.items self.new.lists.watched.items self.new.lists.chains.heads.items self.new.lists.chains.nodes.items self.new.lists.pending self.new.lists.units.items) }
-    {
-        if is_two {
-            return Ok(());
-        }
-        self.enter(store, number, codes)
-    }
-
-    /// Enters the clauses of a part from a number on, and gives the number after them.
+    /// Enters the clauses of a part from a number on, and gives the number after them. Those of two literals are not looked at.
     fn enter_part(
         &mut self,
         store: &Store,
-        twos: &[bool],
+        others: &Others,
         first: u32,
         codes: u32,
     ) -> Result<u32, Memory>
         requires fit { IsFit store.now codes }
-        requires inside { first + length twos.now ≤ length store.now }
+        requires inside { first + others.now.count ≤ length store.now }
         requires few { length store.now ≤ 1073741824 }
-        requires twos { (j : ℕ) → slice_index_or twos.now j false ≡ true → length (clause_at store.now (first + j)) ≡ 2 }
+        requires below { AreSlotsBelow others.now.count others.now.places.items }
+        requires rising { AreRising others.now.places.items }
+        requires twos { (j : ℕ) → IsBeside others.now.places.items others.now.count j → length (clause_at store.now (first + j)) ≡ 2 }
         requires given { AreGiven codes store.now first self.old.slots.items self.old.lists.watched.items self.old.lists.chains.heads.items self.old.lists.chains.nodes.items self.old.lists.pending self.old.lists.units.items }
-        ensures next { IfOk result (λ next. next ≡ first + length twos.now) }
+        ensures next { IfOk result (λ next. next ≡ first + others.now.count) }
         ensures given { IfOk result (λ next. AreGiven codes store.now next self.new.slots.items self.new.lists.watched.items self.new.lists.chains.heads.items self.new.lists.chains.nodes.items self.new.lists.pending self.new.lists.units.items) }
     {
-        for place in 0..twos.len() {
-            self.enter_next(store, twos[place], first + place as u32, codes)?;
+        let mut next: usize = 0;
+        for index in 0..others.places.len() {
+            let place = others.places[index];
+            self.enter(store, first + place as u32, codes)?;
+            next = place + 1;
         }
-        Ok(first + twos.len() as u32)
+        Ok(first + others.count as u32)
     }
 
     /// Enters the clauses of so many parts with the same numbers of literals, and gives the number after them.
     fn enter_parts(
         &mut self,
         store: &Store,
-        twos: &[bool],
+        others: &Others,
         parts: u32,
         first: u32,
         codes: u32,
     ) -> Result<u32, Memory>
         requires fit { IsFit store.now codes }
-        requires inside { first + parts * length twos.now ≤ length store.now }
+        requires inside { first + parts * others.now.count ≤ length store.now }
         requires few { length store.now ≤ 1073741824 }
-        requires twos { (t j : ℕ) → t < parts → slice_index_or twos.now j false ≡ true → length (clause_at store.now (first + (t * length twos.now + j))) ≡ 2 }
+        requires below { AreSlotsBelow others.now.count others.now.places.items }
+        requires rising { AreRising others.now.places.items }
+        requires twos { (t j : ℕ) → t < parts → IsBeside others.now.places.items others.now.count j → length (clause_at store.now (first + (t * others.now.count + j))) ≡ 2 }
         requires given { AreGiven codes store.now first self.old.slots.items self.old.lists.watched.items self.old.lists.chains.heads.items self.old.lists.chains.nodes.items self.old.lists.pending self.old.lists.units.items }
-        ensures next { IfOk result (λ next. next ≡ first + parts * length twos.now) }
+        ensures next { IfOk result (λ next. next ≡ first + parts * others.now.count) }
         ensures given { IfOk result (λ next. AreGiven codes store.now next self.new.slots.items self.new.lists.watched.items self.new.lists.chains.heads.items self.new.lists.chains.nodes.items self.new.lists.pending self.new.lists.units.items) }
     {
         let mut next = first;
         for _ in 0..parts {
-            next = self.enter_part(store, twos, next, codes)?;
+            next = self.enter_part(store, others, next, codes)?;
         }
         Ok(next)
     }
 
-    /// The tables of the clauses of a formula, of which a store has a copy, with room for so many of more than two literals.
-    /// Which clauses have two is found once for all steps and once for all times.
-    pub fn new(
-        alloc: Global,
-        store: &Store,
-        formula: &Formula,
-        longs: usize,
-        codes: u32,
-    ) -> Result<Given, Memory>
+    /// The tables of the clauses of a formula, of which a store has a copy. Which clauses have two literals is found once for all
+    /// steps and once for all times.
+    pub fn new(alloc: Global, store: &Store, formula: &Formula, codes: u32) -> Result<Given, Memory>
         requires same { store.now ≡ formula.now.clauses }
         requires fit { IsFit store.now codes }
         requires codes { codes ≤ 4294967294 }
@@ -214,16 +190,21 @@ impl Given {
     {
         let parts = formula.parts();
         let steps = parts.repeated.horizon();
-        let told_twos = two_flags(alloc, parts.told)?;
-        let step_twos = two_flags(alloc, parts.repeated.step())?;
-        let time_twos = two_flags(alloc, parts.repeated.time())?;
-        let after_twos = two_flags(alloc, parts.after)?;
+        let told_others = others_of(alloc, parts.told)?;
+        let step_others = others_of(alloc, parts.repeated.step())?;
+        let time_others = others_of(alloc, parts.repeated.time())?;
+        let after_others = others_of(alloc, parts.after)?;
+        let once = told_others
+            .places
+            .len()
+            .saturating_add(after_others.places.len());
+        let longs = room_for(steps, once, &step_others, &time_others);
         let mut given = Given::empty(alloc, formula.count(), longs, codes)?;
-        let told = given.enter_part(store, told_twos.as_slice(), 0, codes)?;
-        let stepped = given.enter_parts(store, step_twos.as_slice(), steps, told, codes)?;
-        let timed = given.enter_parts(store, time_twos.as_slice(), steps, stepped, codes)?;
-        let last = given.enter_part(store, time_twos.as_slice(), timed, codes)?;
-        given.enter_part(store, after_twos.as_slice(), last, codes)?;
+        let told = given.enter_part(store, &told_others, 0, codes)?;
+        let stepped = given.enter_parts(store, &step_others, steps, told, codes)?;
+        let timed = given.enter_parts(store, &time_others, steps, stepped, codes)?;
+        let last = given.enter_part(store, &time_others, timed, codes)?;
+        given.enter_part(store, &after_others, last, codes)?;
         Ok(given)
     }
 }

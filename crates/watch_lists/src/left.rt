@@ -63,7 +63,7 @@ fn status_by(assignment: &Assignment, unit: u32) -> Status
 }
 
 /// How a clause of two literals stands.
-#[inline]
+#[inline(always)]
 fn status_two(assignment: &Assignment, one: u32, other: u32) -> Status
     requires one { one < 2 * assignment.now.variables }
     requires other { other < 2 * assignment.now.variables }
@@ -87,6 +87,7 @@ fn status_two(assignment: &Assignment, one: u32, other: u32) -> Status
 }
 
 /// How a clause stands that is read, unless its slot tells its unit literal.
+#[inline(never)]
 fn status_read(
     store: &Store,
     slots: &[u32],
@@ -110,7 +111,8 @@ fn status_read(
     }
 }
 
-/// How a clause stands.
+/// How a clause stands. It is mostly known without a call.
+#[inline(always)]
 pub fn status_at(
     store: &Store,
     recent: &Recent,

@@ -71,7 +71,7 @@ impl Recent {
     }
 
     /// The clause with a number, if it is kept.
-    #[inline]
+    #[inline(always)]
     pub fn find(&self, number: u32) -> Option<Entry>
         requires { number < 4294967295 }
         ensures { IfSome result (λ entry. (entry.pair.number ≡ number) × ((clauses : List (List ℕ)) → IsRecent clauses self.now → IsPairOf clauses entry.one entry.pair)) }

@@ -12,7 +12,7 @@ use watch_store::store::Store;
 const BLOCK: u32 = 16;
 
 /// The literals of the clause of a slot.
-#[inline]
+#[inline(always)]
 pub fn slot_clause<'a>(store: &'a Store, slots: &[u32], slot: u32) -> View<'a>
     requires inside { slot < length slots.now }
     requires below { AreSlotsBelow (length store.now) slots.now }

@@ -10,7 +10,7 @@ ghost use Rattle.watch_lists.specs.Back.{taken_back};
 ghost use Rattle.watch_lists.specs.Pending.{WatchingView};
 
 use crate::front::clean;
-use crate::given::{Given, count_longs};
+use crate::given::Given;
 use crate::left::{left_least, status_at};
 use crate::marks::mark_pairs;
 use crate::pending::{Pending, no_pending};
@@ -97,8 +97,7 @@ impl Watching {
         let pairs = PairIndex::new(alloc, formula)?;
         let quiet = no_quiet(alloc, variables)?;
         let recent = Recent::new(alloc)?;
-        let longs = count_longs(formula);
-        let given = Given::new(alloc, &store, formula, longs, 2 * variables)?;
+        let given = Given::new(alloc, &store, formula, 2 * variables)?;
         let front_left = left_least(&store, &trail.assignment(), &given.lists.pending);
         Ok(Watching {
             variables,

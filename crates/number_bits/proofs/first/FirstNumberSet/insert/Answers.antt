@@ -1,5 +1,5 @@
-use Rattle.std.proofs.Common.{arith, ap, sym, subst, ◌≡◌, ◌∙◌, ◌==◌, ◌||◌, ◌*◌, ◌<◌, length, List, ℕ, Option, Some, None}
-use Rattle.number_bits.specs.Bits.{words_have, words_with, IsFirst, IsPast, IsInside}
+use Rattle.std.proofs.Common.{arith, ap, sym, subst, ◌≡◌, ◌∙◌, ◌==◌, ◌||◌, length, List, ℕ, Some}
+use Rattle.number_bits.specs.Bits.{words_have, words_with, IsPast, IsInside}
 use Rattle.number_bits.proofs.Firsts.{first_new, first_more}
 use Rattle.number_bits.proofs.first.FirstNumberSet.insert.Goals as goal
 

@@ -1,4 +1,4 @@
-use Rattle.std.proofs.Common.{arith, ap, sym, subst, ◌≡◌, ◌∙◌, ◌==◌, ◌&&◌, not, length, List, ℕ, Option, Some, None}
+use Rattle.std.proofs.Common.{arith, ap, sym, subst, ◌≡◌, ◌∙◌, ◌==◌, ◌&&◌, not, List, ℕ, Some}
 use Rattle.number_bits.specs.Bits.{words_have, words_with, IsFirst}
 use Rattle.number_bits.proofs.Firsts.{first_out, first_without, is_least, not_least}
 use Rattle.number_bits.proofs.first.FirstNumberSet.remove.Goals as goal
@@ -8,7 +8,7 @@ returns-then-eq-clause-has g c k =
     let words = c.self.inside.others.words in
     let is : c.self.inside.least ≡ Some c.args.number = is_least c.self.inside.least c.args.number (sym c.if-eq.true ∙ c.eq.ensures) in
     let view : words_with words (Some c.args.number) ≡ c.args.self.now = ap (words_with words) (sym is) ∙ c.self.view_is in
-    first_out words c.take_least-self-inside.new.set.words c.args.number c.take_least-self-inside.result (subst (IsFirst words) is c.self.invariant) c.take_least-self-inside.ensures.taken c.take_least-self-inside.ensures.inside k
+    first_out words c.take_next-self-inside.new.set.words c.args.number c.take_next-self-inside.result (subst (IsFirst words) is c.self.invariant) c.take_next-self-inside.ensures.taken c.take_next-self-inside.ensures.inside k
     ∙ ap (λ (ws : List ℕ). not (k == c.args.number) && words_have ws k) view
 
 pub returns-else-eq-clause-has : goal.returns-else-eq-clause-has
