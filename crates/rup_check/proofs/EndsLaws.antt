@@ -1,5 +1,5 @@
 -- The last entry, met one after another.
-use Rattle.std.proofs.Common.{arith, ◌≡◌, ℕ, zero, suc, ◌-◌, List, [], ◌∷◌, length, Bool, true, false, IsTrue, ◌↔◌, Option, Some, None, refl, ap, sym, subst, ◌∙◌}
+use Rattle.std.proofs.Common.{arith, ◌≡◌, suc, ◌-◌, List, [], ◌∷◌, length, Bool, false, IsTrue, ◌↔◌, Option, Some, refl, ap, sym, subst, ◌∙◌}
 use Rattle.std.specs.List.{slice_get}
 use Rattle.std.specs.Option.{IsSomeAnd}
 use Rattle.clause_base.specs.Derivation.{learns_empty, EndsEmpty}

@@ -1,5 +1,4 @@
 use Rattle.std.proofs.Common.{◌≡◌, [], ap, arith, length, rules}
-use Rattle.proof_text.specs.Length.{saturated}
 use Rattle.proof_text.specs.Reading.{numbered}
 use Rattle.proof_text.specs.Row.{row_numbers}
 use Rattle.proof_text.proofs.Lengths.{row_counted, row_all_counted}

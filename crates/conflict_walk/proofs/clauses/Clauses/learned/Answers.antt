@@ -1,4 +1,4 @@
-use Rattle.std.proofs.Common.{arith, ◌≡◌, ◌++◌, ◌<◌, ◌≤◌, ◌∙◌, length, ap, List, ℕ, sym, subst, length-append}
+use Rattle.std.proofs.Common.{arith, ◌≡◌, ◌<◌, ◌≤◌, ◌∙◌, length, ap, ℕ, sym, subst, length-append}
 use Rattle.clause_base.specs.Derivation.{clauses_of}
 use Rattle.cdcl_rules.specs.State.{clause_at}
 use Rattle.conflict_walk.specs.Clauses.{ClausesView, all_clauses}

@@ -1,4 +1,4 @@
-use Rattle.std.proofs.Common.{arith, ◌≡◌, ◌∙◌, length, ap}
+use Rattle.std.proofs.Common.{arith, ◌∙◌, length, ap}
 use Rattle.clause_base.specs.Derivation.{clauses_of}
 use Rattle.conflict_walk.specs.Clauses.{ClausesView}
 use Rattle.conflict_walk.proofs.clauses.Clauses.learned_count.Goals as goal
