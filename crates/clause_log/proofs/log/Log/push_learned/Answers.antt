@@ -1,4 +1,4 @@
-use Rattle.std.proofs.Common.{arith, ◌∙◌, ◌++◌, ◌∷◌, [], ◌+◌, ◌≤◌, ap, List, length}
+use Rattle.std.proofs.Common.{arith, ◌∙◌, ◌++◌, ◌∷◌, [], ◌+◌, ap, List}
 use Rattle.clause_base.specs.declared.log.Entry.{Entry}
 use Rattle.clause_base.specs.declared.log.Entry.TheVariants.{Learn}
 use Rattle.clause_log.specs.Held.{IsHeld, entries_of}
