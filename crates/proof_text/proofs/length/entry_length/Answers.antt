@@ -1,6 +1,4 @@
-use Rattle.std.proofs.Common.{◌∙◌, [], ap, arith, length}
-use Rattle.proof_text.specs.Length.{saturated}
-use Rattle.proof_text.specs.Reading.{numbered}
+use Rattle.std.proofs.Common.{arith}
 use Rattle.proof_text.proofs.Lengths.{drop_counted, learn_counted}
 use Rattle.proof_text.proofs.length.entry_length.Goals as goal
 
