@@ -1,20 +1,18 @@
 -- Clauses that are watched on a trail: their first pending clause is the state's, and they follow the trail and the drops.
-use Rattle.std.proofs.Common.{arith, ◌≡◌, ◌≢◌, ◌==◌, ℕ, zero, suc, ◌+◌, ◌-◌, ◌/◌, ◌<◌, ◌≤◌, List, [], ◌∷◌, ◌++◌, length, take, drop, set, get_or, map, Bool, true, false, not, ◌||◌, ◌&&◌, nat_le, nat_lt, if◌then◌else◌, refl, sym, ap, ◌∙◌, subst, Option, Some, None, filter, All, append_assoc, get_or-set_other}
+use Rattle.std.proofs.Common.{arith, ◌≡◌, ◌≢◌, ℕ, zero, suc, ◌+◌, ◌-◌, ◌/◌, ◌<◌, ◌≤◌, List, [], ◌∷◌, ◌++◌, length, take, drop, set, get_or, map, Bool, true, false, not, ◌||◌, ◌&&◌, nat_le, nat_lt, if◌then◌else◌, refl, sym, ap, ◌∙◌, subst, Option, Some, None, filter, All, append_assoc, get_or-set_other}
 use Rattle.std.specs.List.{list_any, range_with_len}
 use Rattle.std.proofs.Math.Seq.{drop-cons}
-use Rattle.std.proofs.lemmas.List.{map_push, get_or_push, length_push}
+use Rattle.std.proofs.lemmas.List.{get_or_push, length_push}
 use Rattle.std.proofs.lemmas.List.Elements.{All-get_or}
-use Rattle.std.proofs.lemmas.Option.{unwrap_or-slice_get}
 use Rattle.clause_base.specs.Literal.{opposite}
-use Rattle.clause_base.specs.Clause.{has_literal, IsClause, HasVariablesBelow}
+use Rattle.clause_base.specs.Clause.{has_literal, HasVariablesBelow}
 use Rattle.clause_base.specs.Derivation.{clauses_of}
 use Rattle.clause_base.specs.declared.log.Entry.TheVariants.{Learn, Drop}
 use Rattle.cdcl_rules.specs.declared.trail.Assigned.{Assigned}
 use Rattle.cdcl_rules.specs.declared.event.Event.{Event}
-use Rattle.cdcl_rules.specs.State.{State, clause_at, is_kept, is_on, value_of}
+use Rattle.cdcl_rules.specs.State.{State, clause_at, is_kept, is_on}
 use Rattle.cdcl_rules.specs.Pending.{open_ones, is_pending_in, least_from, first_pending}
 use Rattle.cdcl_rules.specs.Event.{asked}
-use Rattle.cdcl_rules.specs.Learn.{backtracked}
 use Rattle.cdcl_rules.specs.Reduce.{has_forced, is_candidate, candidates, first_half, kept_without}
 use Rattle.cdcl_rules.proofs.Tests.{and_split}
 use Rattle.cdcl_trail.specs.Assignment.{literals}

@@ -1,11 +1,8 @@
-use Rattle.std.proofs.Common.{arith, ◌≡◌, ◌<◌, length, length-append, ℕ, List, [], ◌∷◌, ◌++◌, true, ap, sym, ◌∙◌, subst}
+use Rattle.std.proofs.Common.{ℕ, [], ap, sym, ◌∙◌, subst}
 use Rattle.clause_base.specs.Clause.{HasVariablesBelow}
-use Rattle.clause_base.specs.declared.log.Entry.TheVariants.{Learn}
 use Rattle.cdcl_rules.specs.Run.{after_conflict, is_going}
 use Rattle.cdcl_laws.proofs.Fuel.{all_below}
-use Rattle.clause_base.specs.Derivation.{clauses_of}
 use Rattle.conflict_walk.specs.Clauses.{ClausesView}
-use Rattle.conflict_walk.proofs.Placed.{learned_learn}
 use Rattle.cdcl_rules.specs.Learn.{backtracked}
 use Rattle.cdcl_core.specs.Search.{SearchView, GoesOn}
 use Rattle.watch_lists.specs.Pending.{WatchingView}

@@ -1,4 +1,4 @@
-use Rattle.std.proofs.Common.{◌≡◌, ◌∙◌, ◌<◌, ℕ, List, length, ap, subst, sym}
+use Rattle.std.proofs.Common.{◌∙◌, ◌<◌, ℕ, List, length, ap, subst, sym}
 use Rattle.cdcl_rules.specs.declared.event.Event.TheVariants.{Conflict}
 use Rattle.clause_base.specs.Clause.{IsRising}
 use Rattle.cdcl_rules.specs.State.{clause_at}
