@@ -1,20 +1,18 @@
 -- Clauses that are watched on a trail: their first pending clause is the state's, and they follow the trail and the drops.
-use Rattle.std.proofs.Common.{arith, ◌≡◌, ◌≢◌, ◌==◌, ℕ, zero, suc, ◌+◌, ◌-◌, ◌/◌, ◌<◌, ◌≤◌, List, [], ◌∷◌, ◌++◌, length, take, drop, set, get_or, map, Bool, true, false, not, ◌||◌, ◌&&◌, nat_le, nat_lt, if◌then◌else◌, refl, sym, ap, ◌∙◌, subst, Option, Some, None, filter, All, append_assoc, get_or-set_other}
+use Rattle.std.proofs.Common.{arith, ◌≡◌, ◌≢◌, ℕ, zero, suc, ◌+◌, ◌-◌, ◌/◌, ◌<◌, ◌≤◌, List, [], ◌∷◌, ◌++◌, length, take, drop, set, get_or, map, Bool, true, false, not, ◌||◌, ◌&&◌, nat_le, nat_lt, if◌then◌else◌, refl, sym, ap, ◌∙◌, subst, Option, Some, None, filter, All, append_assoc, get_or-set_other}
 use Rattle.std.specs.List.{list_any, range_with_len}
 use Rattle.std.proofs.Math.Seq.{drop-cons}
-use Rattle.std.proofs.lemmas.List.{map_push, get_or_push, length_push}
+use Rattle.std.proofs.lemmas.List.{get_or_push, length_push}
 use Rattle.std.proofs.lemmas.List.Elements.{All-get_or}
-use Rattle.std.proofs.lemmas.Option.{unwrap_or-slice_get}
 use Rattle.clause_base.specs.Literal.{opposite}
-use Rattle.clause_base.specs.Clause.{has_literal, IsClause, HasVariablesBelow}
+use Rattle.clause_base.specs.Clause.{has_literal, HasVariablesBelow}
 use Rattle.clause_base.specs.Derivation.{clauses_of}
 use Rattle.clause_base.specs.declared.log.Entry.TheVariants.{Learn, Drop}
 use Rattle.cdcl_rules.specs.declared.trail.Assigned.{Assigned}
 use Rattle.cdcl_rules.specs.declared.event.Event.{Event}
-use Rattle.cdcl_rules.specs.State.{State, clause_at, is_kept, is_on, value_of}
+use Rattle.cdcl_rules.specs.State.{State, clause_at, is_kept, is_on}
 use Rattle.cdcl_rules.specs.Pending.{open_ones, is_pending_in, least_from, first_pending}
 use Rattle.cdcl_rules.specs.Event.{asked}
-use Rattle.cdcl_rules.specs.Learn.{backtracked}
 use Rattle.cdcl_rules.specs.Reduce.{has_forced, is_candidate, candidates, first_half, kept_without}
 use Rattle.cdcl_rules.proofs.Tests.{and_split}
 use Rattle.cdcl_trail.specs.Assignment.{literals}
@@ -22,7 +20,7 @@ use Rattle.cdcl_trail.proofs.Assignments.{has_is}
 use Rattle.conflict_walk.specs.Clauses.{ClausesView, all_clauses}
 use Rattle.conflict_walk.proofs.Placed.{learned_learn, learned_drops}
 use Rattle.watch_lists.specs.Pending.{WatchingView}
-use Rattle.cdcl_core.specs.Search.{watched, AreKept, IsBehind, asked_first}
+use Rattle.cdcl_core.specs.Search.{watched, AreKept, asked_first}
 
 -- what is told of literals by two tests that agree is the same
 open_same : (on on' : ℕ → Bool) → ((l : ℕ) → on l ≡ on' l) → (c : List ℕ) → open_ones on c ≡ open_ones on' c
@@ -75,41 +73,33 @@ some_asked s n e = sym (ap (asked_by s) e)
 pub watched_assign : (clauses : ClausesView) (trail : List Assigned) (w w' : WatchingView) (a : Assigned) → w ≡ watched clauses trail → w' ≡ record w { entries = w.entries ++ a ∷ [] } → w' ≡ watched clauses (trail ++ a ∷ [])
 watched_assign clauses trail w w' a m e = e ∙ ap (λ (v : WatchingView). record v { entries = v.entries ++ a ∷ [] }) m
 
--- what a search watches once it follows
+-- what a search watches, by its parts
 views_same : (n m : ℕ) (cs ds : List (List ℕ)) (ks ls : List Bool) (t : List Assigned) → n ≡ m → cs ≡ ds → ks ≡ ls → (let v : WatchingView = record { variables = n; clauses = cs; kept = ks; entries = t } in v) ≡ (let w : WatchingView = record { variables = m; clauses = ds; kept = ls; entries = t } in w)
 views_same n m cs ds ks ls t a b c = cc
-
-pub followed : (w w2 : WatchingView) (clauses : ClausesView) (k : List ℕ) (b : IsBehind w clauses) → k ≡ b.last → w2 ≡ record w { clauses = w.clauses ++ k ∷ []; kept = w.kept ++ true ∷ [] } → w2 ≡ watched clauses w.entries
-followed w w2 clauses k b f g =
-    g ∙ views_same w.variables clauses.formula.variables (w.clauses ++ k ∷ []) (all_clauses clauses) (w.kept ++ true ∷ []) clauses.kept w.entries
-    b.variables (ap (λ (x : List ℕ). w.clauses ++ x ∷ []) f ∙ b.clauses_are) b.kept_are
-
--- the last clause
-pub last_is : (cs all : List (List ℕ)) (k : List ℕ) (n : ℕ) → cs ++ k ∷ [] ≡ all → n ≡ length cs → clause_at all n ≡ k
-last_is cs all k n e h = unwrap_or-slice_get all n [] ∙ ap (λ (xs : List (List ℕ)). get_or xs n []) (sym e) ∙ get_or_push cs k [] n (sym h)
-
-pub count_behind : (w : WatchingView) (clauses : ClausesView) → IsBehind w clauses → length (all_clauses clauses) ≡ length w.clauses + 1
-count_behind w clauses b = ap (λ (xs : List (List ℕ)). length xs) (sym b.clauses_are) ∙ length_push w.clauses b.last
 
 pub last_below : (n : ℕ) (cs : List (List ℕ)) (k : List ℕ) → All (HasVariablesBelow n) (cs ++ k ∷ []) → HasVariablesBelow n k
 last_below n cs k a =
     subst (HasVariablesBelow n) (get_or_push cs k [] (length cs) refl) (All-get_or (HasVariablesBelow n) (cs ++ k ∷ []) (length cs) [] (omega (arith, length_push cs k)) a)
 
--- once a clause is learned and the trail goes back, what is watched is behind
-pub behind : (clauses clauses' : ClausesView) (trail trail' : List Assigned) (w w' : WatchingView) (k h : List ℕ) → w ≡ watched clauses trail → clauses' ≡ record clauses { log = clauses.log ++ Learn k h ∷ []; kept = clauses.kept ++ true ∷ [] } → w' ≡ record w { entries = trail' } → IsClause k → HasVariablesBelow clauses.formula.variables k → IsBehind w' clauses'
-behind clauses clauses' trail trail' w w' k h m e t lawful below =
+-- once a clause is learned, the trail goes back and the clause is watched
+pub watched_learned : (clauses clauses' : ClausesView) (trail trail' : List Assigned) (w w' w2 : WatchingView) (k h : List ℕ) → w ≡ watched clauses trail → clauses' ≡ record clauses { log = clauses.log ++ Learn k h ∷ []; kept = clauses.kept ++ true ∷ [] } → w' ≡ record w { entries = trail' } → w2 ≡ record w' { clauses = w'.clauses ++ k ∷ []; kept = w'.kept ++ true ∷ [] } → w2 ≡ watched clauses' trail'
+watched_learned clauses clauses' trail trail' w w' w2 k h m e t f =
     let g : w' ≡ watched clauses trail' = t ∙ ap (λ (v : WatchingView). record v { entries = trail' }) m in
-    record {
-      last = k;
-      lawful = lawful;
-      below = subst (λ (n : ℕ). HasVariablesBelow n k) (sym (ap (λ (v : WatchingView). v.variables) g)) below;
-      variables = ap (λ (v : WatchingView). v.variables) g ∙ sym (ap (λ (c : ClausesView). c.formula.variables) e);
-      clauses_are = ap (λ (v : WatchingView). v.clauses ++ k ∷ []) g
-          ∙ append_assoc clauses.formula.clauses (clauses_of clauses.log) (k ∷ [])
-          ∙ ap (λ (xs : List (List ℕ)). clauses.formula.clauses ++ xs) (sym (learned_learn clauses.log k h))
-          ∙ sym (ap all_clauses e);
-      kept_are = ap (λ (v : WatchingView). v.kept ++ true ∷ []) g ∙ sym (ap (λ (c : ClausesView). c.kept) e);
-    }
+    let all : all_clauses clauses ++ k ∷ [] ≡ all_clauses clauses' =
+    append_assoc clauses.formula.clauses (clauses_of clauses.log) (k ∷ [])
+    ∙ ap (λ (xs : List (List ℕ)). clauses.formula.clauses ++ xs) (sym (learned_learn clauses.log k h))
+    ∙ sym (ap all_clauses e) in
+    f
+    ∙ ap (λ (v : WatchingView). let r : WatchingView = record v { clauses = v.clauses ++ k ∷ []; kept = v.kept ++ true ∷ [] } in r) g
+    ∙ views_same clauses.formula.variables clauses'.formula.variables (all_clauses clauses ++ k ∷ []) (all_clauses clauses') (clauses.kept ++ true ∷ []) clauses'.kept trail'
+    (sym (ap (λ (c : ClausesView). c.formula.variables) e)) all (sym (ap (λ (c : ClausesView). c.kept) e))
+
+-- so what is watched are all clauses
+pub watched_all : (clauses : ClausesView) (w : WatchingView) (trail : List Assigned) → w ≡ watched clauses trail → w.clauses ≡ all_clauses clauses
+watched_all clauses w trail m = ap (λ (v : WatchingView). v.clauses) m
+
+pub watched_now : (clauses : ClausesView) (w : WatchingView) (trail : List Assigned) → w ≡ watched clauses trail → w ≡ watched clauses w.entries
+watched_now clauses w trail m = m ∙ ap (watched clauses) (sym (ap (λ (v : WatchingView). v.entries) m))
 
 -- clauses are dropped
 pub watched_drops : (clauses clauses' : ClausesView) (trail : List Assigned) (w w' : WatchingView) (ns : List ℕ) → w ≡ watched clauses trail → clauses' ≡ record clauses { log = clauses.log ++ map (λ n. Drop n) ns; kept = kept_without clauses.kept ns } → w' ≡ record w { kept = kept_without w.kept ns } → w' ≡ watched clauses' trail

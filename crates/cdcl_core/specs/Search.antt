@@ -1,6 +1,5 @@
 use Rattle.std.specs.Prelude.{◌≡◌, ℕ, ◌*◌, ◌<◌, List, [], ◌∷◌, ◌++◌, length, map, slice_set, if◌then◌else◌, Bool, true, false, Option, Some, None}
 use Rattle.clause_base.specs.Formula.{Cnf}
-use Rattle.clause_base.specs.Clause.{IsClause, HasVariablesBelow}
 use Rattle.clause_base.specs.Choice.{Known}
 use Rattle.clause_base.specs.Derivation.{clauses_of}
 use Rattle.clause_base.specs.declared.log.Entry.{Entry}
@@ -53,15 +52,6 @@ watched clauses trail = record {
   kept = clauses.kept;
   entries = trail;
 }
-
--- what is watched are all clauses but the last
-pub record IsBehind (watching : WatchingView) (clauses : ClausesView) : Type 0 where
-  pub last : List ℕ
-  pub lawful : IsClause last
-  pub below : HasVariablesBelow watching.variables last
-  pub variables : watching.variables ≡ clauses.formula.variables
-  pub clauses_are : watching.clauses ++ last ∷ [] ≡ all_clauses clauses
-  pub kept_are : watching.kept ++ true ∷ [] ≡ clauses.kept
 
 -- each of these clauses is kept when its turn comes to be dropped
 abbrev pub AreKept : List Bool → List ℕ → Type 0

@@ -2,15 +2,12 @@
 //! of those that are kept, the first one in order of number asks for the next event. Which one that is the watched literals
 //! know, which own the trail: a literal becomes true by `Search::assign`, a clause is learned and literals are taken back by
 //! `Search::enter`, and clauses are dropped by `reduce`.
-ghost use Rattle.std.specs.Prelude.{◌≡◌, ◌<◌, length, true, OnOk, OnErr};
-ghost use Rattle.clause_base.specs.{Clause.has_literal, Derivation.clauses_of};
+ghost use Rattle.std.specs.Prelude.{◌≡◌, true};
+ghost use Rattle.clause_base.specs.Clause.{has_literal};
 ghost use Rattle.cdcl_rules.specs.{State.clause_at, Pending.is_pending_in, Pending.open_ones, Event.asked};
 ghost use Rattle.cdcl_trail.specs.Assignment.{literals};
-ghost use Rattle.cdcl_core.specs.Search.{IsBehind, watched};
 
 use cdcl_rules::event::Event;
-use clause_base::memory::Memory;
-use conflict_walk::clauses::Clauses;
 use watch_lists::watching::Watching;
 
 /// What a clause asks for that is kept and pending: a conflict, or the one literal that is not false.
@@ -22,16 +19,4 @@ pub fn asked(watching: &Watching, number: u32) -> Event
         Some(lit) => Event::Force(lit, number),
         None => Event::Conflict(number),
     }
-}
-
-/// Lets the last clause, which is new, be watched. After want of memory nothing has changed.
-pub fn follow(watching: &mut Watching, clauses: &Clauses) -> Result<(), Memory>
-    requires behind { IsBehind watching.old clauses.now }
-    requires learned { 0 < length (clauses_of clauses.now.log) }
-    ensures ok { OnOk result (watching.new ≡ watched clauses.now watching.old.entries) }
-    ensures err { OnErr result (watching.new ≡ watching.old) }
-{
-    let last = clauses.count() - 1;
-    watching.add_sorted(clauses.learned(last))?;
-    Ok(())
 }

@@ -9,12 +9,11 @@ ghost use Rattle.cdcl_rules.specs.Run.{start_of, apply, with_learned, after_conf
 ghost use Rattle.cdcl_laws.specs.Sound.{IsSound};
 ghost use Rattle.cdcl_core.specs.Search.{SearchView, IsNextEvent, MayApply, GoesOn, asked_first, level_after};
 
-use crate::pending::{asked, follow};
+use crate::pending::asked;
 use crate::reduce::reduce;
 use cdcl_rules::event::Event;
 use cdcl_rules::standing::Standing;
 use cdcl_rules::trail::Assigned;
-use clause_base::clause::Clause;
 use clause_base::formula::Formula;
 use clause_base::literal::Lit;
 use clause_base::memory::Memory;
@@ -168,9 +167,12 @@ impl Search {
         ensures err { OnErr result (self.new ≡ record self.old { spoilt = true }) }
     {
         self.spoilt = true;
-        let learned = self
-            .analysis
-            .learn(self.alloc, &self.clauses, self.watching.trail(), number)?;
+        let learned = self.analysis.learn(
+            self.alloc,
+            self.watching.store(),
+            self.watching.trail(),
+            number,
+        )?;
         self.spoilt = false;
         Ok(learned)
     }
@@ -213,19 +215,19 @@ impl Search {
         ensures formula { self.new.formula ≡ self.old.formula }
         ensures spoilt { OnErr result (self.new.spoilt ≡ true) }
     {
-        let clause = Clause::of_sorted(new.lits);
-        let is_empty = clause.as_slice().is_empty();
+        let clause = new.lits.as_slice();
+        let is_empty = clause.is_empty();
         let is_restart = self.is_restart();
-        let level = self.level_after(clause.as_slice());
+        let level = self.level_after(clause);
         self.spoilt = true;
-        self.clauses.learn(clause, new.hints)?;
+        self.clauses.learn(clause, new.hints.as_slice())?;
         if is_empty {
             self.standing = Standing::Refuted;
             self.spoilt = false;
             return Ok(());
         }
         self.watching.backtrack(level);
-        follow(&mut self.watching, &self.clauses)?;
+        self.watching.add_sorted(clause)?;
         if is_restart {
             reduce(self.alloc, &mut self.clauses, &mut self.watching)?;
         }

@@ -1,6 +1,6 @@
--- Entries come back from their bytes and their clauses.
-use Rattle.std.proofs.Common.{arith, ◌≡◌, ℕ, zero, suc, ◌+◌, ◌*◌, ◌/◌, ◌%◌, ◌^◌, ◌<◌, ◌≤◌, ◌==◌, List, [], ◌∷◌, ◌++◌, length, append_assoc, append-nil, length-append, drop, map, true, false, refl, ap, sym, subst, ◌∙◌, Some}
-use Rattle.std.specs.List.{slice_get}
+-- Entries come back from their bytes.
+use Rattle.std.proofs.Common.{arith, ◌≡◌, ℕ, suc, ◌+◌, ◌*◌, ◌/◌, ◌%◌, ◌^◌, ◌<◌, ◌≤◌, ◌==◌, List, [], ◌∷◌, ◌++◌, length, append_assoc, append-nil, length-append, map, true, false, Result, Ok, Err, OnOk, refl, ap, sym, subst, ◌∙◌}
+use Rattle.std.specs.declared.alloc.AllocError.{AllocError}
 use Rattle.std.proofs.lemmas.Bool.Decides.{nat_tests}
 use Rattle.number_bytes.specs.Number.{bytes_of, number_of, after_number}
 use Rattle.number_bytes.specs.Numbers.{steps_of, numbers_of, after_numbers}
@@ -9,32 +9,53 @@ use Rattle.number_bytes.proofs.NumbersLaws.{numbers_back, after_numbers_back}
 use Rattle.clause_base.specs.Derivation.{clauses_of}
 use Rattle.clause_base.specs.declared.log.Entry.{Entry}
 use Rattle.clause_base.specs.declared.log.Entry.TheVariants.{Learn, Drop}
-use Rattle.clause_log.specs.Held.{entry_bytes, log_bytes, first_of, entry_of, after_entry, learned_after, entries_of, IsSmall, AreSmall, IsHeld}
+use Rattle.clause_log.specs.Held.{entry_bytes, log_bytes, after_hints, entry_of, after_entry, entries_of, AreFew, IsSmall, AreSmall, IsHeld}
 
--- the first entry, and what is left of the clauses and the bytes after it
-record IsFirst (entry : Entry) (learned more : List (List ℕ)) (bytes rest : List ℕ) : Type 0 where
-  is : entry_of learned bytes ≡ entry
-  clauses : learned_after learned bytes ≡ more
+-- numbers that are counted first come back, and so does what follows them
+record AreBack (bytes numbers rest : List ℕ) : Type 0 where
+  are : numbers_of (number_of bytes) 0 (after_number bytes) ≡ numbers
+  after : after_numbers (number_of bytes) (after_number bytes) ≡ rest
+
+counted_back : (numbers rest : List ℕ) → AreFew numbers → AreBack ((bytes_of (length numbers) ++ steps_of 0 numbers) ++ rest) numbers rest
+counted_back numbers rest s =
+    let bytes = (bytes_of (length numbers) ++ steps_of 0 numbers) ++ rest in
+    let tail = steps_of 0 numbers ++ rest in
+    let parts : bytes ≡ bytes_of (length numbers) ++ tail = append_assoc (bytes_of (length numbers)) (steps_of 0 numbers) rest in
+    let fits : length numbers < 2 ^ 64 = omega (arith, s.few) in
+    let size : number_of bytes ≡ length numbers = ap number_of parts ∙ number_back (length numbers) tail fits in
+    let left : after_number bytes ≡ tail = ap after_number parts ∙ after_back (length numbers) tail fits in
+    record {
+      are = (λ i. numbers_of (size i) 0 (left i)) ∙ numbers_back 0 numbers rest (omega arith) s.small;
+      after = (λ i. after_numbers (size i) (left i)) ∙ after_numbers_back 0 numbers rest (omega arith) s.small;
+    }
+
+-- the first entry, and what is left of the bytes after it
+record IsFirst (entry : Entry) (bytes rest : List ℕ) : Type 0 where
+  is : entry_of bytes ≡ entry
   after : after_entry bytes ≡ rest
 
-first_learn : (clause hints rest : List ℕ) (more : List (List ℕ)) → IsSmall (Learn clause hints) → IsFirst (Learn clause hints) (clause ∷ more) more (entry_bytes (Learn clause hints) ++ rest) rest
-first_learn clause hints rest more s =
-    let bytes = (bytes_of (2 * length hints) ++ steps_of 0 hints) ++ rest in
-    let tail = steps_of 0 hints ++ rest in
-    let parts : bytes ≡ bytes_of (2 * length hints) ++ tail = append_assoc (bytes_of (2 * length hints)) (steps_of 0 hints) rest in
-    let fits : 2 * length hints < 2 ^ 64 = omega (arith, s.1) in
+first_learn : (clause hints rest : List ℕ) → IsSmall (Learn clause hints) → IsFirst (Learn clause hints) (entry_bytes (Learn clause hints) ++ rest) rest
+first_learn clause hints rest s =
+    let bytes = entry_bytes (Learn clause hints) ++ rest in
+    let literals = (bytes_of (length clause) ++ steps_of 0 clause) ++ rest in
+    let tail = steps_of 0 hints ++ literals in
+    let parts : bytes ≡ bytes_of (2 * length hints) ++ tail = append_assoc (bytes_of (2 * length hints) ++ steps_of 0 hints) (bytes_of (length clause) ++ steps_of 0 clause) rest ∙ append_assoc (bytes_of (2 * length hints)) (steps_of 0 hints) literals in
+    let fits : 2 * length hints < 2 ^ 64 = omega (arith, s.2.few) in
     let head : number_of bytes ≡ 2 * length hints = ap number_of parts ∙ number_back (2 * length hints) tail fits in
     let half : number_of bytes / 2 ≡ length hints = omega (arith, head) in
     let even : (number_of bytes % 2 == 0) ≡ true = grind (arith, nat_tests, head) in
     let left : after_number bytes ≡ tail = ap after_number parts ∙ after_back (2 * length hints) tail fits in
+    let hints_are : numbers_of (number_of bytes / 2) 0 (after_number bytes) ≡ hints = (λ i. numbers_of (half i) 0 (left i)) ∙ numbers_back 0 hints literals (omega arith) s.2.small in
+    let then_is : after_hints bytes ≡ literals = (λ i. after_numbers (half i) (left i)) ∙ after_numbers_back 0 hints literals (omega arith) s.2.small in
+    let back = counted_back clause rest s.1 in
+    let clause_is : numbers_of (number_of (after_hints bytes)) 0 (after_number (after_hints bytes)) ≡ clause = ap (λ (bs : List ℕ). numbers_of (number_of bs) 0 (after_number bs)) then_is ∙ back.are in
     record {
-      is = rw even (ap (λ (hs : List ℕ). Learn clause hs) ((λ i. numbers_of (half i) 0 (left i)) ∙ numbers_back 0 hints rest (omega arith) s.0));
-      clauses = rw even refl;
-      after = rw even ((λ i. after_numbers (half i) (left i)) ∙ after_numbers_back 0 hints rest (omega arith) s.0);
+      is = rw even (λ i. Learn (clause_is i) (hints_are i));
+      after = rw even (ap (λ (bs : List ℕ). after_numbers (number_of bs) (after_number bs)) then_is ∙ back.after);
     }
 
-first_drop : (number : ℕ) (rest : List ℕ) (learned : List (List ℕ)) → IsSmall (Drop number) → IsFirst (Drop number) learned learned (entry_bytes (Drop number) ++ rest) rest
-first_drop number rest learned s =
+first_drop : (number : ℕ) (rest : List ℕ) → IsSmall (Drop number) → IsFirst (Drop number) (entry_bytes (Drop number) ++ rest) rest
+first_drop number rest s =
     let bytes = bytes_of (2 * number + 1) ++ rest in
     let fits : 2 * number + 1 < 2 ^ 64 = omega (arith, s) in
     let head : number_of bytes ≡ 2 * number + 1 = number_back (2 * number + 1) rest fits in
@@ -42,23 +63,22 @@ first_drop number rest learned s =
     let odd : (number_of bytes % 2 == 0) ≡ false = grind (arith, nat_tests, head) in
     record {
       is = rw odd (ap (λ (n : ℕ). Drop n) half);
-      clauses = rw odd refl;
       after = rw odd (after_back (2 * number + 1) rest fits);
     }
 
-first_step : (k : ℕ) (entry : Entry) (log : List Entry) (learned more : List (List ℕ)) (bytes rest : List ℕ) → IsFirst entry learned more bytes rest → entries_of k more rest ≡ log → entries_of (suc k) learned bytes ≡ entry ∷ log
-first_step k entry log learned more bytes rest f e = (λ i. f.is i ∷ entries_of k (f.clauses i) (f.after i)) ∙ ap (λ (l : List Entry). entry ∷ l) e
+first_of : (entry : Entry) (rest : List ℕ) → IsSmall entry → IsFirst entry (entry_bytes entry ++ rest) rest
+first_of (Learn clause hints) rest s = first_learn clause hints rest s
+first_of (Drop number) rest s = first_drop number rest s
 
 -- entries come back
-pub entries_back : (log : List Entry) → AreSmall log → entries_of (length log) (clauses_of log) (log_bytes log) ≡ log
+pub entries_back : (log : List Entry) → AreSmall log → entries_of (length log) (log_bytes log) ≡ log
 entries_back [] s = refl
-entries_back (Learn clause hints ∷ log) s =
-    first_step (length log) (Learn clause hints) log (clause ∷ clauses_of log) (clauses_of log) (log_bytes (Learn clause hints ∷ log)) (log_bytes log) (first_learn clause hints (log_bytes log) (clauses_of log) s.0) (entries_back log s.1)
-entries_back (Drop number ∷ log) s =
-    first_step (length log) (Drop number) log (clauses_of log) (clauses_of log) (log_bytes (Drop number ∷ log)) (log_bytes log) (first_drop number (log_bytes log) (clauses_of log) s.0) (entries_back log s.1)
+entries_back (entry ∷ log) s =
+    let f = first_of entry (log_bytes log) s.0 in
+    (λ i. f.is i ∷ entries_of (length log) (f.after i)) ∙ ap (λ (l : List Entry). entry ∷ l) (entries_back log s.1)
 
-pub shown : (log : List Entry) (count : ℕ) (learned : List (List ℕ)) (bytes : List ℕ) → IsHeld log count learned bytes → entries_of count learned bytes ≡ log
-shown log count learned bytes h = (λ i. entries_of (h.count_is i) (h.learned_are i) (h.bytes_are i)) ∙ entries_back log h.small
+pub shown : (log : List Entry) (count learned : ℕ) (bytes : List ℕ) → IsHeld log count learned bytes → entries_of count bytes ≡ log
+shown log count learned bytes h = (λ i. entries_of (h.count_is i) (h.bytes_are i)) ∙ entries_back log h.small
 
 -- with further entries at the end
 bytes-append : (log more : List Entry) → log_bytes (log ++ more) ≡ log_bytes log ++ log_bytes more
@@ -74,40 +94,50 @@ small-append : (log more : List Entry) → AreSmall log → AreSmall more → Ar
 small-append [] more s t = t
 small-append (entry ∷ log) more s t = (s.0, small-append log more s.1 t)
 
-held-append : (log more : List Entry) (count : ℕ) (learned : List (List ℕ)) (bytes : List ℕ) → IsHeld log count learned bytes → AreSmall more → IsHeld (log ++ more) (count + length more) (learned ++ clauses_of more) (bytes ++ log_bytes more)
+held-append : (log more : List Entry) (count learned : ℕ) (bytes : List ℕ) → IsHeld log count learned bytes → AreSmall more → IsHeld (log ++ more) (count + length more) (learned + length (clauses_of more)) (bytes ++ log_bytes more)
 held-append log more count learned bytes h s = record {
   count_is = ap (λ (n : ℕ). n + length more) h.count_is ∙ sym (length-append log more);
-  learned_are = ap (λ (cs : List (List ℕ)). cs ++ clauses_of more) h.learned_are ∙ sym (clauses-append log more);
+  learned_is = omega (arith, h.learned_is, ap (λ (cs : List (List ℕ)). length cs) (clauses-append log more), length-append (clauses_of log) (clauses_of more));
   bytes_are = ap (λ (bs : List ℕ). bs ++ log_bytes more) h.bytes_are ∙ sym (bytes-append log more);
   small = small-append log more h.small s;
 }
 
 -- the entries that are shown are those that are held
-pub held_shown : (log : List Entry) (count : ℕ) (learned : List (List ℕ)) (bytes : List ℕ) → IsHeld log count learned bytes → IsHeld (entries_of count learned bytes) count learned bytes
+pub held_shown : (log : List Entry) (count learned : ℕ) (bytes : List ℕ) → IsHeld log count learned bytes → IsHeld (entries_of count bytes) count learned bytes
 held_shown log count learned bytes h = subst (λ (es : List Entry). IsHeld es count learned bytes) (sym (shown log count learned bytes h)) h
 
 -- there are no more entries than bytes
+entry_long : (entry : Entry) → 1 ≤ length (entry_bytes entry)
+entry_long (Learn clause hints) =
+    let one = some_bytes (2 * length hints) in
+    omega (arith, one, length-append (bytes_of (2 * length hints)) (steps_of 0 hints), length-append (bytes_of (2 * length hints) ++ steps_of 0 hints) (bytes_of (length clause) ++ steps_of 0 clause))
+entry_long (Drop number) = some_bytes (2 * number + 1)
+
 bytes_long : (log : List Entry) → length log ≤ length (log_bytes log)
 bytes_long [] = omega arith
-bytes_long (Learn clause hints ∷ log) =
+bytes_long (entry ∷ log) =
     let r = bytes_long log in
-    let one = some_bytes (2 * length hints) in
-    omega (arith, r, one, length-append (bytes_of (2 * length hints)) (steps_of 0 hints), length-append (entry_bytes (Learn clause hints)) (log_bytes log))
-bytes_long (Drop number ∷ log) =
-    let r = bytes_long log in
-    let one = some_bytes (2 * number + 1) in
-    omega (arith, r, one, length-append (bytes_of (2 * number + 1)) (log_bytes log))
+    let one = entry_long entry in
+    omega (arith, r, one, length-append (entry_bytes entry) (log_bytes log))
 
-pub count_within : (log : List Entry) (count : ℕ) (learned : List (List ℕ)) (bytes : List ℕ) → IsHeld log count learned bytes → count ≤ length bytes
+clauses_few : (log : List Entry) → length (clauses_of log) ≤ length log
+clauses_few [] = omega arith
+clauses_few (Learn clause hints ∷ log) = let r = clauses_few log in omega (arith, r)
+clauses_few (Drop number ∷ log) = let r = clauses_few log in omega (arith, r)
+
+pub count_within : (log : List Entry) (count learned : ℕ) (bytes : List ℕ) → IsHeld log count learned bytes → count ≤ length bytes
 count_within log count learned bytes h = omega (arith, bytes_long log, h.count_is, ap length h.bytes_are)
 
+pub learned_within : (log : List Entry) (count learned : ℕ) (bytes : List ℕ) → IsHeld log count learned bytes → learned ≤ length bytes
+learned_within log count learned bytes h = let w = count_within log count learned bytes h in omega (arith, w, clauses_few log, h.learned_is, h.count_is)
+
 -- one more clause is learned
-pub held_learn : (log : List Entry) (count : ℕ) (learned now : List (List ℕ)) (bytes steps clause hints : List ℕ) → IsHeld log count learned bytes → now ≡ learned ++ clause ∷ [] → steps ≡ bytes ++ entry_bytes (Learn clause hints) → IsSmall (Learn clause hints) → IsHeld (log ++ Learn clause hints ∷ []) (count + 1) now steps
-held_learn log count learned now bytes steps clause hints h l b s =
+pub held_learn : (log : List Entry) (count learned : ℕ) (bytes steps clause hints : List ℕ) → IsHeld log count learned bytes → steps ≡ bytes ++ entry_bytes (Learn clause hints) → IsSmall (Learn clause hints) → IsHeld (log ++ Learn clause hints ∷ []) (count + 1) (learned + 1) steps
+held_learn log count learned bytes steps clause hints h b s =
     let r = held-append log (Learn clause hints ∷ []) count learned bytes h (s, tt) in
     record {
       count_is = r.count_is;
-      learned_are = l ∙ r.learned_are;
+      learned_is = r.learned_is;
       bytes_are = b ∙ ap (λ (bs : List ℕ). bytes ++ bs) (sym (append-nil (entry_bytes (Learn clause hints)))) ∙ r.bytes_are;
       small = r.small;
     }
@@ -121,12 +151,12 @@ length-drops [] = refl
 length-drops (n ∷ numbers) = ap (λ (k : ℕ). suc k) (length-drops numbers)
 
 -- clauses are dropped
-pub held_drops : (log : List Entry) (count : ℕ) (learned : List (List ℕ)) (bytes steps numbers : List ℕ) → IsHeld log count learned bytes → steps ≡ bytes ++ log_bytes (map (λ n. Drop n) numbers) → AreSmall (map (λ n. Drop n) numbers) → IsHeld (log ++ map (λ n. Drop n) numbers) (count + length numbers) learned steps
+pub held_drops : (log : List Entry) (count learned : ℕ) (bytes steps numbers : List ℕ) → IsHeld log count learned bytes → steps ≡ bytes ++ log_bytes (map (λ n. Drop n) numbers) → AreSmall (map (λ n. Drop n) numbers) → IsHeld (log ++ map (λ n. Drop n) numbers) (count + length numbers) learned steps
 held_drops log count learned bytes steps numbers h b s =
     let r = held-append log (map (λ n. Drop n) numbers) count learned bytes h s in
     record {
       count_is = ap (λ (n : ℕ). count + n) (sym (length-drops numbers)) ∙ r.count_is;
-      learned_are = sym (append-nil learned) ∙ ap (λ (cs : List (List ℕ)). learned ++ cs) (sym (drops_none numbers)) ∙ r.learned_are;
+      learned_is = omega (arith, r.learned_is, ap (λ (cs : List (List ℕ)). length cs) (drops_none numbers));
       bytes_are = b ∙ r.bytes_are;
       small = r.small;
     }
@@ -140,9 +170,7 @@ pub drops_small : (before : List ℕ) (n : ℕ) → AreSmall (map (λ n. Drop n)
 drops_small [] n s h = (h, tt)
 drops_small (m ∷ before) n s h = (s.0, drops_small before n s.1 h)
 
--- the clause with a number comes first after those before it
-pub first_at : (learned : List (List ℕ)) (n : ℕ) (clause : List ℕ) → slice_get learned n ≡ Some clause → clause ≡ first_of (drop n learned)
-first_at [] zero clause e = cc
-first_at [] (suc n) clause e = cc
-first_at (k ∷ learned) zero clause e = cc
-first_at (k ∷ learned) (suc n) clause e = first_at learned n clause e
+-- two parts, one after the other
+pub both_by : (r : Result (Unit {0}) AllocError) (last now old a b : List ℕ) → now ≡ old ++ a → OnOk r (last ≡ now ++ b) → OnOk r (last ≡ old ++ (a ++ b))
+both_by (Ok u) last now old a b n l = l ∙ ap (λ (xs : List ℕ). xs ++ b) n ∙ append_assoc old a b
+both_by (Err e) last now old a b n l = tt

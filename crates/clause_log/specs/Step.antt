@@ -7,10 +7,10 @@ use Rattle.clause_log.specs.declared.reader.Step.TheVariants.{Learn, Drop}
 
 -- the entry
 abbrev pub told : Step → Entry
-told (Learn clause hints) = entry.Learn clause.now hints
+told (Learn clause hints) = entry.Learn clause hints
 told (Drop number) = entry.Drop number
 
 -- its literals are a clause
 abbrev pub IsLawful : Step → Type 0
-IsLawful (Learn clause hints) = IsClause clause.now
+IsLawful (Learn clause hints) = IsClause clause
 IsLawful (Drop number) = Unit {0}

@@ -1,11 +1,9 @@
-ghost use Rattle.std.specs.Prelude.{◌≡◌, ◌∷◌, [], ◌++◌, ◌<◌, Some, length, map, slice_get, OnOk, OnErr};
+ghost use Rattle.std.specs.Prelude.{◌≡◌, ◌∷◌, [], ◌++◌, length, map, OnOk, OnErr};
 ghost use Rattle.clause_base.specs.Clause.{IsClause};
 ghost use Rattle.clause_base.specs.Derivation.{clauses_of};
-ghost use Rattle.clause_log.specs.Held.{entry_bytes, IsSmall};
 
 use crate::reader::Reader;
-use crate::steps::{add_drops, add_hints};
-use clause_base::clause_list::ClauseList;
+use crate::steps::{add_drops, add_learned};
 use clause_base::literal::Lit;
 use clause_base::log::Entry;
 use clause_base::memory::Memory;
@@ -17,7 +15,7 @@ use std::marker::Model;
 #[derive(Debug)]
 pub struct Log {
     count: usize,
-    learned: ClauseList,
+    learned: usize,
     steps: Vec<u8>,
 }
 
@@ -28,40 +26,15 @@ impl Model for Log {
 
     ghost Value = { List Entry };
 
-    ghost view = { λ l. entries_of l.count l.learned l.steps.items };
+    ghost view = { λ l. entries_of l.count l.steps.items };
 
-    ghost invariant = { λ l. IsHeld (entries_of l.count l.learned l.steps.items) l.count l.learned l.steps.items };
+    ghost invariant = { λ l. IsHeld (entries_of l.count l.steps.items) l.count l.learned l.steps.items };
 }
 
 /// Letting one go is one call, in which its parts go: whoever holds one proves one step.
 impl Drop for Log {
     fn drop(self) {
         let_go!(self: Log { count, learned, steps });
-    }
-}
-
-/// Adds a learned clause to both blocks. After want of memory they are unchanged.
-fn add_learned(
-    learned: &mut ClauseList,
-    steps: &mut Vec<u8>,
-    clause: &[Lit],
-    hints: &[u32],
-) -> Result<(), Memory>
-    requires { IsClause clause.now }
-    ensures steps { OnOk result (steps.new.items ≡ steps.old.items ++ entry_bytes (Entry.Learn clause.now hints.now)) }
-    ensures learned { OnOk result (learned.new ≡ learned.old ++ clause.now ∷ []) }
-    ensures small { OnOk result (IsSmall (Entry.Learn clause.now hints.now)) }
-    ensures err_steps { OnErr result (steps.new.items ≡ steps.old.items) }
-    ensures err_learned { OnErr result (learned.new ≡ learned.old) }
-{
-    let start = steps.len();
-    add_hints(steps, hints)?;
-    match learned.add_sorted(clause) {
-        Ok(()) => Ok(()),
-        Err(error) => {
-            steps.truncate(start);
-            Err(error)
-        }
     }
 }
 
@@ -72,7 +45,7 @@ impl Log {
     {
         Log {
             count: 0,
-            learned: ClauseList::new(alloc),
+            learned: 0,
             steps: Vec::new(alloc),
         }
     }
@@ -88,24 +61,14 @@ impl Log {
     pub fn entries(&self) -> Reader<'_>
         ensures { result ≡ self.now }
     {
-        Reader::of(self.count, &self.learned, &self.steps)
+        Reader::of(self.count, &self.steps)
     }
 
     /// How many clauses are learned.
     pub fn learned_count(&self) -> usize
         ensures { result ≡ length (clauses_of self.now) }
     {
-        self.learned.count()
-    }
-
-    /// The literals of the learned clause with this number, counted from 0.
-    #[inline]
-    pub fn learned(&self, number: usize) -> &[Lit]
-        requires { number < length (clauses_of self.now) }
-        ensures value { slice_get (clauses_of self.now) number ≡ Some result.now }
-        ensures lawful { IsClause result.now }
-    {
-        self.learned.clause(number)
+        self.learned
     }
 
     /// Adds an entry that learns a clause by these hints. After want of memory the log is unchanged.
@@ -114,7 +77,8 @@ impl Log {
         ensures ok { OnOk result (self.new ≡ self.old ++ Entry.Learn clause.now hints.now ∷ []) }
         ensures err { OnErr result (self.new ≡ self.old) }
     {
-        add_learned(&mut self.learned, &mut self.steps, clause, hints)?;
+        add_learned(&mut self.steps, clause, hints)?;
+        self.learned += 1;
         self.count += 1;
         Ok(())
     }

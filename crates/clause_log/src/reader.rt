@@ -1,11 +1,8 @@
-ghost use Rattle.std.specs.Prelude.{◌≡◌, ◌∷◌, [], ◌<◌, length, drop, IfSome, IfNone};
-ghost use Rattle.clause_base.specs.Clause.{IsClause};
+ghost use Rattle.std.specs.Prelude.{◌≡◌, ◌∷◌, [], ◌<◌, length, IfSome, IfNone};
 ghost use Rattle.number_bytes.specs.Numbers.{numbers_of, after_numbers};
-ghost use Rattle.clause_log.specs.Held.{entries_of, first_of};
+ghost use Rattle.clause_log.specs.Held.{entries_of, AreSmall};
 ghost use Rattle.clause_log.specs.Step.{told, IsLawful};
 
-use clause_base::clause_list::ClauseList;
-use clause_base::literal::Lit;
 use number_bytes::number::take_number;
 use number_bytes::numbers::{Numbers, after_numbers};
 use std::marker::Model;
@@ -13,9 +10,9 @@ use std::marker::Model;
 /// An entry of a log where it stands.
 #[derive(Debug, Drop)]
 pub enum Step<'a> {
-    /// A clause is learned from the clauses with these numbers.
+    /// A clause, by the codes of its literals, is learned from the clauses with these numbers.
     Learn {
-        clause: &'a [Lit],
+        clause: Numbers<'a>,
         hints: Numbers<'a>,
     },
     /// The clause with this number is dropped.
@@ -28,55 +25,28 @@ pub enum Step<'a> {
 #[derive(Debug, Drop)]
 pub struct Reader<'a> {
     left: usize,
-    learned: &'a ClauseList,
-    next: usize,
     steps: &'a [u8],
 }
 
 impl<'a> Model for Reader<'a> {
-    ghost use Rattle.std.specs.Prelude.{List, drop};
+    ghost use Rattle.std.specs.Prelude.{List};
     ghost use Rattle.clause_base.specs.declared.log.Entry.{Entry};
-    ghost use Rattle.clause_log.specs.Held.{entries_of};
+    ghost use Rattle.clause_log.specs.Held.{entries_of, AreSmall};
 
     ghost Value = { List Entry };
 
-    ghost view = { λ r. entries_of r.left (drop r.next r.learned.now) r.steps.now };
-}
+    ghost view = { λ r. entries_of r.left r.steps.now };
 
-/// The clause with a number, or the empty one where there is none.
-fn clause_or_empty(learned: &ClauseList, number: usize) -> &[Lit]
-    ensures value { result.now ≡ first_of (drop number learned.now) }
-    ensures lawful { IsClause result.now }
-{
-    if number < learned.count() {
-        learned.clause(number)
-    } else {
-        &[]
-    }
-}
-
-/// The number of the clause after the one with a number.
-fn after_clause(learned: &ClauseList, number: usize) -> usize
-    ensures { drop result learned.now ≡ drop 1 (drop number learned.now) }
-{
-    if number < learned.count() {
-        number + 1
-    } else {
-        number
-    }
+    ghost invariant = { λ r. AreSmall (entries_of r.left r.steps.now) };
 }
 
 impl<'a> Reader<'a> {
-    /// So many entries, with which the bytes begin, that learn the first of these clauses.
-    pub(crate) fn of(left: usize, learned: &'a ClauseList, steps: &'a [u8]) -> Reader<'a>
-        ensures { result ≡ entries_of left learned.now steps.now }
+    /// So many entries, with which the bytes begin.
+    pub(crate) fn of(left: usize, steps: &'a [u8]) -> Reader<'a>
+        requires { AreSmall (entries_of left steps.now) }
+        ensures { result ≡ entries_of left steps.now }
     {
-        Reader {
-            left,
-            learned,
-            next: 0,
-            steps,
-        }
+        Reader { left, steps }
     }
 
     /// Takes the next entry out, where one is left.
@@ -108,10 +78,10 @@ impl<'a> Reader<'a> {
             let number = (half % 4294967296) as u32;
             return Some(Step::Drop { number });
         }
-        self.steps = after_numbers(head.rest, half as usize);
-        let clause = clause_or_empty(self.learned, self.next);
-        self.next = after_clause(self.learned, self.next);
         let hints = Numbers::of(head.rest, half as usize);
+        let size = take_number(after_numbers(head.rest, half as usize));
+        self.steps = after_numbers(size.rest, size.number as usize);
+        let clause = Numbers::of(size.rest, size.number as usize);
         Some(Step::Learn { clause, hints })
     }
 }

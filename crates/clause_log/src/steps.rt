@@ -2,12 +2,14 @@
 ghost use Rattle.std.specs.Prelude.{◌≡◌, ◌++◌, ◌<◌, ◌*◌, ◌^◌, length, map, take, All, OnOk, OnErr};
 ghost use Rattle.number_bytes.specs.Number.{bytes_of};
 ghost use Rattle.number_bytes.specs.Numbers.{steps_of};
-ghost use Rattle.clause_base.specs.declared.log.Entry.TheVariants.{Drop};
-ghost use Rattle.clause_log.specs.Held.{log_bytes, AreSmall};
+ghost use Rattle.clause_base.specs.Clause.{IsClause};
+ghost use Rattle.clause_base.specs.declared.log.Entry.TheVariants.{Learn, Drop};
+ghost use Rattle.clause_log.specs.Held.{entry_bytes, log_bytes, AreFew, IsSmall, AreSmall};
 
+use clause_base::literal::Lit;
 use clause_base::memory::Memory;
 use number_bytes::number::put_number;
-use number_bytes::numbers::put_numbers;
+use number_bytes::numbers::{put_numbers, put_step};
 use std::alloc::AllocError;
 
 /// Adds how many hints there are, and the hints. After want of memory the bytes that stood before still stand first.
@@ -19,6 +21,42 @@ fn put_hints(steps: &mut Vec<u8>, hints: &[u32]) -> Result<(), AllocError>
 {
     put_number(steps, 2 * hints.len() as u64)?;
     put_numbers(steps, hints)
+}
+
+/// Adds literals. After want of memory the bytes that stood before still stand first.
+fn put_literals(steps: &mut Vec<u8>, clause: &[Lit]) -> Result<(), AllocError>
+    ensures ok { OnOk result (steps.new.items ≡ steps.old.items ++ steps_of 0 clause.now) }
+    ensures small { OnOk result (All (λ n. n < 2 ^ 32) clause.now) }
+    ensures before { take (length steps.old.items) steps.new.items ≡ steps.old.items }
+{
+    let mut last = 0;
+    for lit in clause {
+        put_step(steps, last, lit.0)?;
+        last = lit.0;
+    }
+    Ok(())
+}
+
+/// Adds how many literals there are, and the literals. After want of memory the bytes that stood before still stand first.
+fn put_clause(steps: &mut Vec<u8>, clause: &[Lit]) -> Result<(), AllocError>
+    ensures ok { OnOk result (steps.new.items ≡ steps.old.items ++ (bytes_of (length clause.now) ++ steps_of 0 clause.now)) }
+    ensures small { OnOk result (All (λ n. n < 2 ^ 32) clause.now) }
+    ensures few { length clause.now < 2 ^ 62 }
+    ensures before { take (length steps.old.items) steps.new.items ≡ steps.old.items }
+{
+    put_number(steps, clause.len() as u64)?;
+    put_literals(steps, clause)
+}
+
+/// Adds an entry that learns a clause. After want of memory the bytes that stood before still stand first.
+fn put_learned(steps: &mut Vec<u8>, clause: &[Lit], hints: &[u32]) -> Result<(), AllocError>
+    requires { IsClause clause.now }
+    ensures ok { OnOk result (steps.new.items ≡ steps.old.items ++ entry_bytes (Learn clause.now hints.now)) }
+    ensures small { OnOk result (IsSmall (Learn clause.now hints.now)) }
+    ensures before { take (length steps.old.items) steps.new.items ≡ steps.old.items }
+{
+    put_hints(steps, hints)?;
+    put_clause(steps, clause)
 }
 
 /// Adds the numbers that entries drop. After want of memory the bytes that stood before still stand first.
@@ -33,15 +71,15 @@ fn put_drops(steps: &mut Vec<u8>, numbers: &[u32]) -> Result<(), AllocError>
     Ok(())
 }
 
-/// Adds how many hints there are, and the hints. After want of memory the bytes are unchanged.
-pub fn add_hints(steps: &mut Vec<u8>, hints: &[u32]) -> Result<(), Memory>
-    ensures ok { OnOk result (steps.new.items ≡ steps.old.items ++ (bytes_of (2 * length hints.now) ++ steps_of 0 hints.now)) }
-    ensures small { OnOk result (All (λ n. n < 2 ^ 32) hints.now) }
-    ensures few { length hints.now < 2 ^ 62 }
+/// Adds an entry that learns a clause. After want of memory the bytes are unchanged.
+pub fn add_learned(steps: &mut Vec<u8>, clause: &[Lit], hints: &[u32]) -> Result<(), Memory>
+    requires { IsClause clause.now }
+    ensures ok { OnOk result (steps.new.items ≡ steps.old.items ++ entry_bytes (Learn clause.now hints.now)) }
+    ensures small { OnOk result (IsSmall (Learn clause.now hints.now)) }
     ensures err { OnErr result (steps.new.items ≡ steps.old.items) }
 {
     let start = steps.len();
-    match put_hints(steps, hints) {
+    match put_learned(steps, clause, hints) {
         Ok(()) => Ok(()),
         Err(error) => {
             steps.truncate(start);

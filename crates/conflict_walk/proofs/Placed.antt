@@ -1,6 +1,5 @@
 -- The clauses that a log learns, by their numbers.
-use Rattle.std.proofs.Common.{arith, ◌≡◌, ℕ, zero, suc, ◌+◌, ◌-◌, ◌<◌, ◌≤◌, List, [], ◌∷◌, ◌++◌, map, length, Bool, true, refl, sym, ap, ◌∙◌, Option, Some, length-append, unwrap_or}
-use Rattle.std.specs.List.{slice_get}
+use Rattle.std.proofs.Common.{arith, ◌≡◌, ℕ, zero, suc, ◌+◌, ◌-◌, ◌<◌, ◌≤◌, List, [], ◌∷◌, ◌++◌, map, length, Bool, true, refl, ap, ◌∙◌, length-append}
 use Rattle.clause_base.specs.Formula.{Cnf}
 use Rattle.clause_base.specs.declared.log.Entry.{Entry}
 use Rattle.clause_base.specs.declared.log.Entry.TheVariants.{Learn, Drop}
@@ -48,13 +47,3 @@ placed_drops f log kept flags ns p e = record {
   flags = omega (arith, e, p.flags, ap (λ (cs : List (List ℕ)). length cs) (learned_drops log ns));
   few = omega (arith, p.few, ap (λ (cs : List (List ℕ)). length cs) (learned_drops log ns));
 }
-
--- a learned clause, by its number
-pub clause_learned : (f : Cnf) (log : List Entry) (n given : ℕ) (k : List ℕ) → given ≡ length f.clauses → given ≤ n → slice_get (clauses_of log) (n - given) ≡ Some k → k ≡ clause_at (f.clauses ++ clauses_of log) n
-clause_learned f log n given k g l e =
-    let far : n - length f.clauses ≡ n - given = omega arith in
-    sym (clause_new f.clauses (clauses_of log) n (omega arith) ∙ ap (clause_at (clauses_of log)) far ∙ ap (λ (o : Option (List ℕ)). unwrap_or o []) e)
-
--- a clause of the formula, by its number
-pub clause_given : (f : Cnf) (log : List Entry) (n : ℕ) (k : List ℕ) → n < length f.clauses → slice_get f.clauses n ≡ Some k → k ≡ clause_at (f.clauses ++ clauses_of log) n
-clause_given f log n k h e = sym (clause_old f.clauses (clauses_of log) n h ∙ ap (λ (o : Option (List ℕ)). unwrap_or o []) e)

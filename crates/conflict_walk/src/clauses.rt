@@ -1,18 +1,17 @@
-//! A solver's clauses by number: first come the formula's, then those that the log learns. A learned clause stands in the log
-//! alone.
+//! A solver's clauses by number: first come the formula's, then those that the log learns. Whoever wants the literals of a
+//! learned clause reads them in the store of what is watched.
 ghost use Rattle.std.specs.Prelude.{◌≡◌, ℕ, ◌+◌, ◌<◌, ◌≤◌, ◌∷◌, [], ◌++◌, true, false, map, filter, length, replicate, vec_capacity, slice_set, if◌then◌else◌, IsOk, IfOk, OnOk, OnErr};
+ghost use Rattle.clause_base.specs.Clause.{IsClause};
 ghost use Rattle.clause_base.specs.Derivation.{clauses_of};
-ghost use Rattle.cdcl_rules.specs.State.{clause_at, is_kept};
+ghost use Rattle.clause_base.specs.declared.log.Entry.TheVariants.{Learn, Drop};
+ghost use Rattle.cdcl_rules.specs.State.{is_kept};
 ghost use Rattle.cdcl_rules.specs.Reduce.{kept_without};
 ghost use Rattle.conflict_walk.specs.Clauses.{all_clauses};
 ghost use Rattle.conflict_walk.specs.Longs.{long_ones};
 
-use clause_base::clause::Clause;
 use clause_base::formula::Formula;
 use clause_base::literal::Lit;
-use clause_base::log::{Entry, Hints};
 use clause_base::memory::Memory;
-use clause_base::view::View;
 use clause_log::log::Log;
 use let_go::let_go;
 use std::alloc::{AllocError, Global};
@@ -134,29 +133,6 @@ impl Clauses {
         self.formula.count() + self.learned_count()
     }
 
-    /// The literals of the clause with a number; it may have been dropped.
-    #[inline]
-    pub fn clause(&self, number: u32) -> View<'_>
-        requires { number < length (all_clauses self.now) }
-        ensures { result ≡ clause_at (all_clauses self.now) number }
-    {
-        if number < self.formula.count() {
-            return self.formula.clause(number);
-        }
-        View::of(self.learned(number))
-    }
-
-    /// The literals of the learned clause with a number among all clauses; it may have been dropped.
-    #[inline]
-    pub fn learned(&self, number: u32) -> &[Lit]
-        requires learned { length self.now.formula.clauses ≤ number }
-        requires in_range { number < length (all_clauses self.now) }
-        ensures { result.now ≡ clause_at (all_clauses self.now) number }
-    {
-        let given = self.formula.count();
-        self.log.learned((number - given) as usize)
-    }
-
     /// Whether the clause with a number is kept.
     pub fn is_kept(&self, number: u32) -> bool
         requires { number < length (all_clauses self.now) }
@@ -173,16 +149,17 @@ impl Clauses {
     }
 
     /// Learns a clause from those that the hints name. After want of memory nothing has changed.
-    pub fn learn(&mut self, clause: Clause, hints: Hints) -> Result<(), Memory>
-        requires { length (clauses_of self.old.log) < 1073741824 }
-        ensures ok { OnOk result (self.new ≡ record self.old { log = self.old.log ++ Entry.Learn clause hints ∷ []; kept = self.old.kept ++ true ∷ [] }) }
+    pub fn learn(&mut self, clause: &[Lit], hints: &[u32]) -> Result<(), Memory>
+        requires lawful { IsClause clause.now }
+        requires room { length (clauses_of self.old.log) < 1073741824 }
+        ensures ok { OnOk result (self.new ≡ record self.old { log = self.old.log ++ Learn clause.now hints.now ∷ []; kept = self.old.kept ++ true ∷ [] }) }
         ensures err { OnErr result (self.new ≡ self.old) }
     {
         let number = self.count();
-        let is_long = clause.as_slice().len() > SHORT;
+        let is_long = clause.len() > SHORT;
         self.kept.reserve(1)?;
         self.longs.reserve(1)?;
-        self.log.push(Entry::Learn { clause, hints })?;
+        self.log.push_learned(clause, hints)?;
         self.kept.push(true)?;
         add_long(&mut self.longs, number, is_long)?;
         Ok(())
@@ -190,7 +167,7 @@ impl Clauses {
 
     /// Drops the clauses with these numbers, in this order. After want of memory nothing has changed.
     pub fn drop_all(&mut self, numbers: &[u32]) -> Result<(), Memory>
-        ensures ok { OnOk result (self.new ≡ record self.old { log = self.old.log ++ map (λ n. Entry.Drop n) numbers.now; kept = kept_without self.old.kept numbers.now }) }
+        ensures ok { OnOk result (self.new ≡ record self.old { log = self.old.log ++ map (λ n. Drop n) numbers.now; kept = kept_without self.old.kept numbers.now }) }
         ensures err { OnErr result (self.new ≡ self.old) }
     {
         self.log.push_drops(numbers)?;

@@ -1,14 +1,13 @@
 //! The walk along the trail, from its end to the first unique implication point (Marques-Silva and Sakallah, 1999).
 ghost use Rattle.std.specs.Prelude.{◌≡◌, [], reverse, length, OnOk};
 ghost use Rattle.cdcl_rules.specs.Learn.{walk};
-ghost use Rattle.conflict_walk.specs.Clauses.{all_clauses};
 ghost use Rattle.conflict_walk.specs.Resolvent.{literals, IsOver};
 ghost use Rattle.conflict_walk.specs.Walk.{stops, IsReasoned};
 
-use crate::clauses::Clauses;
 use crate::resolvent::Resolvent;
 use cdcl_trail::trail::Trail;
 use clause_base::memory::Memory;
+use watch_store::store::Store;
 
 /// Whether the walk stops at an entry whose negation is in the clause.
 fn stops(level: u32, count: u32) -> bool
@@ -22,12 +21,12 @@ fn stops(level: u32, count: u32) -> bool
 pub(crate) fn walk_back(
     hints: &mut Vec<u32>,
     resolvent: &mut Resolvent,
-    clauses: &Clauses,
+    store: &Store,
     trail: &Trail,
 ) -> Result<(), Memory>
     requires over { IsOver trail.now resolvent.old }
-    requires reasoned { IsReasoned (all_clauses clauses.now) trail.now.entries }
-    ensures walked { OnOk result (walk (all_clauses clauses.now) trail.now.entries (reverse trail.now.entries) (record { clause = literals resolvent.old; hints = [] }) ≡ record { clause = literals resolvent.new; hints = reverse hints.new.items }) }
+    requires reasoned { IsReasoned store.now trail.now.entries }
+    ensures walked { OnOk result (walk store.now trail.now.entries (reverse trail.now.entries) (record { clause = literals resolvent.old; hints = [] }) ≡ record { clause = literals resolvent.new; hints = reverse hints.new.items }) }
     ensures len { length resolvent.new.on ≡ length resolvent.old.on }
 {
     let entries = trail.entries();
@@ -44,7 +43,7 @@ pub(crate) fn walk_back(
             match entry.reason {
                 None => return Ok(()),
                 Some(reason) => {
-                    resolvent.resolve(trail, entry.literal, &clauses.clause(reason))?;
+                    resolvent.resolve(trail, entry.literal, &store.clause(reason))?;
                     hints.push(reason)?;
                 }
             }

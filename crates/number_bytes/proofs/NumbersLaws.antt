@@ -1,6 +1,6 @@
 -- The bytes of numbers, and the numbers back from them.
-use Rattle.std.proofs.Common.{arith, ◌≡◌, ℕ, zero, suc, ◌^◌, ◌<◌, ◌≤◌, List, [], ◌∷◌, ◌++◌, length, take, append_assoc, All, refl, ap, sym, ◌∙◌}
-use Rattle.std.proofs.lemmas.List.{take-take, length-take}
+use Rattle.std.proofs.Common.{arith, ◌≡◌, ℕ, zero, suc, ◌+◌, ◌^◌, ◌<◌, ◌≤◌, List, [], ◌∷◌, ◌++◌, length, take, drop, get_or, append_assoc, All, refl, ap, sym, ◌∙◌}
+use Rattle.std.proofs.lemmas.List.{take-take, length-take, drop_more}
 use Rattle.std.proofs.lemmas.Bool.Decides.{nat_tests}
 use Rattle.number_bytes.specs.Number.{bytes_of, number_of, after_number}
 use Rattle.number_bytes.specs.Numbers.{step_to, step_from, steps_of, numbers_of, after_numbers}
@@ -52,3 +52,13 @@ first_still old now pushed n p =
     let long = ap length n in
     let fewer : length old ≤ length now = omega (arith, long, length-take (length old) now) in
     sym (take-take (length old) (length now) pushed fewer) ∙ ap (take (length old)) p ∙ n
+
+-- the bytes of one number more
+pub steps_next : (old now pushed numbers : List ℕ) (index last n : ℕ) → index < length numbers → n ≡ get_or numbers index 0 → pushed ≡ now ++ bytes_of (step_to last n) → now ++ steps_of last (drop index numbers) ≡ old → pushed ++ steps_of n (drop (index + 1) numbers) ≡ old
+steps_next old now pushed numbers index last n within g p e =
+    let rest = drop (index + 1) numbers in
+    ap (λ (xs : List ℕ). xs ++ steps_of n rest) p
+    ∙ append_assoc now (bytes_of (step_to last n)) (steps_of n rest)
+    ∙ ap (λ (m : ℕ). now ++ steps_of last (m ∷ rest)) g
+    ∙ sym (ap (λ (ns : List ℕ). now ++ steps_of last ns) (drop_more numbers index 0 within))
+    ∙ e

@@ -1,5 +1,6 @@
 ghost use Rattle.std.specs.Prelude.{◌≡◌, ◌∷◌, [], ◌++◌, ◌<◌, ◌^◌, length, take, All, OnOk, IfSome, IfNone, IsTrue, ◌↔◌};
-ghost use Rattle.number_bytes.specs.Numbers.{numbers_of, after_numbers, steps_of};
+ghost use Rattle.number_bytes.specs.Number.{bytes_of};
+ghost use Rattle.number_bytes.specs.Numbers.{numbers_of, after_numbers, step_to, steps_of};
 
 use crate::number::{put_number, take_number};
 use crate::step::{step_from, step_to};
@@ -80,6 +81,14 @@ pub fn after_numbers(bytes: &[u8], count: usize) -> &[u8]
     rest
 }
 
+/// Adds a number by its step from the one before it. After want of memory the bytes that stood before still stand first.
+pub fn put_step(bytes: &mut Vec<u8>, last: u32, number: u32) -> Result<(), AllocError>
+    ensures ok { OnOk result (bytes.new.items ≡ bytes.old.items ++ bytes_of (step_to last number)) }
+    ensures before { take (length bytes.old.items) bytes.new.items ≡ bytes.old.items }
+{
+    put_number(bytes, step_to(last, number))
+}
+
 /// Adds numbers. After want of memory the bytes that stood before still stand first.
 pub fn put_numbers(bytes: &mut Vec<u8>, numbers: &[u32]) -> Result<(), AllocError>
     ensures ok { OnOk result (bytes.new.items ≡ bytes.old.items ++ steps_of 0 numbers.now) }
@@ -88,7 +97,7 @@ pub fn put_numbers(bytes: &mut Vec<u8>, numbers: &[u32]) -> Result<(), AllocErro
 {
     let mut last = 0;
     for number in numbers {
-        put_number(bytes, step_to(last, *number))?;
+        put_step(bytes, last, *number)?;
         last = *number;
     }
     Ok(())

@@ -4,4 +4,3 @@ pub mod Place
 pub mod Laws
 pub mod Length
 pub mod Reading
-pub mod Row

@@ -1,17 +1,16 @@
 //! What holds of every log.
 ghost use Rattle.proof_text.specs.Text.{AreSmall, AreWritten, IsWritten};
-ghost use Rattle.proof_text.specs.Row.{row_numbers};
 ghost use Rattle.clause_log.specs.Step.{told, IsLawful};
 
-use crate::row::Row;
 use clause_log::log::Log;
 use clause_log::reader::Step;
+use number_bytes::numbers::Numbers;
 
-// The numbers of a row can be written.
-fn row_is_small(row: &Row<'_>)
-    ensures { AreSmall (row_numbers row.now) }
+// The numbers of a list can be written.
+fn row_is_small(numbers: &Numbers<'_>)
+    ensures { AreSmall numbers.now }
 {
-    let mut rest = row.copy();
+    let mut rest = numbers.copy();
     while let Some(number) = rest.next() {
         let _number = number;
     }
@@ -24,8 +23,8 @@ fn entry_is_written(step: &Step<'_>)
 {
     match step {
         Step::Learn { clause, hints } => {
-            row_is_small(&Row::of_codes(clause));
-            row_is_small(&Row::of_hints(hints));
+            row_is_small(clause);
+            row_is_small(hints);
         }
         Step::Drop { number } => {
             let _number = *number;

@@ -2,13 +2,12 @@
 ghost use Rattle.std.specs.Prelude.{◌≡◌, ◌≤◌, ◌+◌, [], decimal, length};
 ghost use Rattle.proof_text.specs.Text.{AreWritten, IsWritten, proof_text};
 ghost use Rattle.proof_text.specs.Reading.{numbered, entry_then};
-ghost use Rattle.proof_text.specs.Row.{row_numbers};
 ghost use Rattle.clause_log.specs.Step.{told};
 ghost use Rattle.proof_text.specs.Length.{saturated};
 
-use crate::row::Row;
 use clause_log::log::Log;
 use clause_log::reader::Step;
+use number_bytes::numbers::Numbers;
 
 // How many digits a number has.
 fn digits(number: u32) -> u64
@@ -24,12 +23,12 @@ fn digits(number: u32) -> u64
     count
 }
 
-// How many bytes the numbers of a row take, each after a blank.
-fn row_length(row: &Row<'_>) -> u64
-    ensures { result ≡ saturated (length (numbered (row_numbers row.now) [])) }
+// How many bytes numbers take, each after a blank.
+fn row_length(numbers: &Numbers<'_>) -> u64
+    ensures { result ≡ saturated (length (numbered numbers.now [])) }
 {
     let mut sum = 0u64;
-    let mut rest = row.copy();
+    let mut rest = numbers.copy();
     while let Some(number) = rest.next() {
         sum = sum.saturating_add(1 + digits(number));
     }
@@ -41,8 +40,8 @@ fn entry_length(step: &Step<'_>) -> u64
     ensures { result ≡ saturated (length (entry_then (told step.now) [])) }
 {
     match step {
-        Step::Learn { clause, hints } => row_length(&Row::of_codes(clause))
-            .saturating_add(row_length(&Row::of_hints(hints)))
+        Step::Learn { clause, hints } => row_length(clause)
+            .saturating_add(row_length(hints))
             .saturating_add(9),
         Step::Drop { number } => 6 + digits(*number),
     }

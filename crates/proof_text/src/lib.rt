@@ -18,7 +18,6 @@ mod number;
 mod numbers;
 mod proof;
 mod read;
-mod row;
 #[cfg(test)]
 mod tests;
 mod write;

@@ -2,24 +2,23 @@
 ghost use Rattle.std.specs.Prelude.{◌≡◌, ◌≤◌, ◌++◌, [], OnOk, IfOk};
 ghost use Rattle.proof_text.specs.Text.{proof_text};
 ghost use Rattle.proof_text.specs.Reading.{numbered, entry_then};
-ghost use Rattle.proof_text.specs.Row.{row_numbers};
 ghost use Rattle.clause_log.specs.Step.{told};
 ghost use Rattle.clause_base.specs.declared.log.Entry.TheVariants.{Learn, Drop};
 
 use crate::length::proof_length;
 use crate::proof::Text;
-use crate::row::Row;
 use clause_base::memory::Memory;
 use clause_log::log::Log;
 use clause_log::reader::Step;
+use number_bytes::numbers::Numbers;
 use report_lines::push_number;
 use std::alloc::{AllocError, Global};
 
-// Appends the numbers of a row, each after a blank.
-fn push_row(text: &mut Vec<u8>, row: &Row<'_>) -> Result<(), AllocError>
-    ensures { OnOk result (text.new.items ≡ text.old.items ++ numbered (row_numbers row.now) []) }
+// Appends numbers, each after a blank.
+fn push_row(text: &mut Vec<u8>, numbers: &Numbers<'_>) -> Result<(), AllocError>
+    ensures { OnOk result (text.new.items ≡ text.old.items ++ numbered numbers.now []) }
 {
-    let mut rest = row.copy();
+    let mut rest = numbers.copy();
     while let Some(number) = rest.next() {
         text.push(32)?;
         push_number(text, u64::from(number))?;
@@ -28,8 +27,12 @@ fn push_row(text: &mut Vec<u8>, row: &Row<'_>) -> Result<(), AllocError>
 }
 
 // Appends the line of a learned clause.
-fn push_learn(text: &mut Vec<u8>, clause: &Row<'_>, hints: &Row<'_>) -> Result<(), AllocError>
-    ensures { OnOk result (text.new.items ≡ text.old.items ++ entry_then (Learn (row_numbers clause.now) (row_numbers hints.now)) []) }
+fn push_learn(
+    text: &mut Vec<u8>,
+    clause: &Numbers<'_>,
+    hints: &Numbers<'_>,
+) -> Result<(), AllocError>
+    ensures { OnOk result (text.new.items ≡ text.old.items ++ entry_then (Learn clause.now hints.now) []) }
 {
     text.extend_from_slice(b"learn".as_slice())?;
     push_row(text, clause)?;
@@ -54,9 +57,7 @@ fn push_entry(text: &mut Vec<u8>, step: &Step<'_>) -> Result<(), AllocError>
     ensures { OnOk result (text.new.items ≡ text.old.items ++ entry_then (told step.now) []) }
 {
     match step {
-        Step::Learn { clause, hints } => {
-            push_learn(text, &Row::of_codes(clause), &Row::of_hints(hints))
-        }
+        Step::Learn { clause, hints } => { push_learn(text, clause, hints) }
         Step::Drop { number } => push_drop(text, *number),
     }
 }

@@ -89,7 +89,7 @@ fn learns_empty(step: &Step<'_>) -> bool
     ensures { result ≡ learns_empty (told step.now) }
 {
     match step {
-        Step::Learn { clause, hints: _ } => clause.is_empty(),
+        Step::Learn { clause, hints: _ } => clause.len() == 0,
         Step::Drop { number: _ } => false,
     }
 }

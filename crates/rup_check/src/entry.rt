@@ -44,7 +44,7 @@ fn follows(
     marks: &mut Falsified,
     formula: &Formula,
     kept: &Kept,
-    clause: &[Lit],
+    clause: &Numbers<'_>,
     hints: &Numbers<'_>,
 ) -> Result<bool, Memory>
     requires empty { marks.old.falsified ≡ [] }
@@ -60,11 +60,12 @@ fn follows(
 }
 
 /// Whether the variables of some literals are all below a number.
-fn fits(clause: &[Lit], variables: u32) -> bool
+fn fits(clause: &Numbers<'_>, variables: u32) -> bool
     ensures { result ≡ has_variables_below variables clause.now }
 {
-    for lit in clause {
-        if variables <= lit.variable() {
+    let mut left = clause.copy();
+    while let Some(code) = left.next() {
+        if variables <= Lit(code).variable() {
             return false;
         }
     }

@@ -4,6 +4,7 @@ ghost use Rattle.clause_base.specs.Clause.{has_literal, put, HasVariablesBelow};
 use clause_base::literal::Lit;
 use clause_base::memory::Memory;
 use lit_marks::marks::Marks;
+use number_bytes::numbers::Numbers;
 use std::alloc::Global;
 use std::marker::Model;
 
@@ -56,14 +57,15 @@ impl Falsified {
         self.marks.put(lit)
     }
 
-    /// Takes the literals of a clause as false.
-    pub fn falsify_all(&mut self, lits: &[Lit]) -> Result<(), Memory>
-        requires { HasVariablesBelow self.old.variables lits.now }
-        ensures falsified { OnOk result (self.new.falsified ≡ fold put self.old.falsified lits.now) }
+    /// Takes the literals of a clause, which are told by their codes, as false.
+    pub fn falsify_all(&mut self, clause: &Numbers<'_>) -> Result<(), Memory>
+        requires { HasVariablesBelow self.old.variables clause.now }
+        ensures falsified { OnOk result (self.new.falsified ≡ fold put self.old.falsified clause.now) }
         ensures variables { self.new.variables ≡ self.old.variables }
     {
-        for lit in lits {
-            self.falsify(*lit)?;
+        let mut left = clause.copy();
+        while let Some(code) = left.next() {
+            self.falsify(Lit(code))?;
         }
         Ok(())
     }

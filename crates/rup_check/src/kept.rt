@@ -5,16 +5,32 @@ ghost use Rattle.rup_check.specs.Kept.{kept_named, is_dropped, IsDropBelow};
 
 use clause_base::clause_list::ClauseList;
 use clause_base::formula::Formula;
+use clause_base::literal::Lit;
 use clause_base::memory::Memory;
 use clause_base::view::View;
 use clause_log::reader::Step;
+use number_bytes::numbers::Numbers;
 use std::alloc::Global;
 
-/// What is known after some entries: the clauses that they learned, and for each number so far whether it was dropped.
+/// What is known after some entries: the clauses that they learned, and for each number so far whether it was dropped. The third
+/// vector is room in which a clause is read.
 #[derive(Drop)]
 pub struct Kept {
     pub learned: ClauseList,
     pub dropped: Vec<bool>,
+    lits: Vec<Lit>,
+}
+
+/// Makes a vector hold the literals of a clause, which are told by their codes.
+fn read_into(lits: &mut Vec<Lit>, clause: &Numbers<'_>) -> Result<(), Memory>
+    ensures { OnOk result (lits.new.items ≡ clause.now) }
+{
+    lits.clear();
+    let mut left = clause.copy();
+    while let Some(code) = left.next() {
+        lits.push(Lit(code))?;
+    }
+    Ok(())
 }
 
 impl Kept {
@@ -26,6 +42,7 @@ impl Kept {
         Ok(Kept {
             learned: ClauseList::new(alloc),
             dropped: vec![in alloc; false; clauses as usize]?,
+            lits: Vec::new(alloc),
         })
     }
 
@@ -73,7 +90,8 @@ impl Kept {
     {
         match step {
             Step::Learn { clause, hints: _ } => {
-                self.learned.add_sorted(clause)?;
+                read_into(&mut self.lits, clause)?;
+                self.learned.add_sorted(&self.lits)?;
                 self.dropped.push(false)?;
             }
             Step::Drop { number } => {

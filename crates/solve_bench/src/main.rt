@@ -20,7 +20,6 @@ use cdcl_core::Standing;
 use cdcl_core::solver::Solver;
 use clause_base::chooser::PlainChooser;
 use clause_base::formula::Formula;
-use clause_base::literal::Lit;
 use clause_base::memory::Memory;
 use clause_log::log::Log;
 use clause_log::reader::Step;
@@ -44,17 +43,21 @@ fn write_number(out: &mut Vec<u8>, number: u32) -> io::Result<()> {
     Ok(())
 }
 
+/// Writes numbers, each after a space.
+fn write_numbers(out: &mut Vec<u8>, numbers: Numbers<'_>) -> io::Result<()> {
+    let mut left = numbers;
+    while let Some(number) = left.next() {
+        write_number(out, number)?;
+    }
+    Ok(())
+}
+
 /// Writes the line of a learned clause.
-fn write_learned(out: &mut Vec<u8>, clause: &[Lit], hints: Numbers<'_>) -> io::Result<()> {
+fn write_learned(out: &mut Vec<u8>, clause: Numbers<'_>, hints: Numbers<'_>) -> io::Result<()> {
     write!(out, "learn")?;
-    for lit in clause {
-        write_number(out, lit.0)?;
-    }
+    write_numbers(out, clause)?;
     write!(out, " by")?;
-    let mut left = hints;
-    while let Some(hint) = left.next() {
-        write_number(out, hint)?;
-    }
+    write_numbers(out, hints)?;
     writeln!(out)
 }
 

@@ -121,6 +121,13 @@ impl Watching {
         &self.trail
     }
 
+    /// The clauses by number; one that is kept no more still stands there.
+    pub fn store(&self) -> &Store
+        ensures { result.now ≡ self.now.clauses }
+    {
+        &self.store
+    }
+
     /// Lets a chooser's search for the least variable without a value begin where it should.
     pub fn pass_given(&mut self)
         ensures { self.new ≡ self.old }

@@ -1,4 +1,4 @@
-use Rattle.std.proofs.Common.{◌≡◌, ◌++◌, ℕ, List, Bool, length, map, ap, sym, ◌∙◌, subst}
+use Rattle.std.proofs.Common.{◌++◌, ℕ, List, Bool, length, map, ap, sym, ◌∙◌, subst}
 use Rattle.clause_base.specs.declared.log.Entry.TheVariants.{Drop}
 use Rattle.cdcl_rules.specs.Reduce.{candidates, first_half, kept_without}
 use Rattle.cdcl_trail.specs.Mirrored.{TrailView}

@@ -1,13 +1,8 @@
-use Rattle.std.proofs.Common.{◌≡◌, ◌∙◌, ◌++◌, ◌*◌, ap, List, ℕ, length, Result, Ok, Err, OnOk, append_assoc}
-use Rattle.std.specs.declared.alloc.AllocError.{AllocError}
+use Rattle.std.proofs.Common.{◌*◌, length}
 use Rattle.number_bytes.specs.Number.{bytes_of}
 use Rattle.number_bytes.proofs.NumbersLaws.{first_still}
+use Rattle.clause_log.proofs.HeldLaws.{both_by}
 use Rattle.clause_log.proofs.steps.put_hints.Goals as goal
-
--- two parts, one after the other
-both_by : (r : Result (Unit {0}) AllocError) (last now old a b : List ℕ) → now ≡ old ++ a → OnOk r (last ≡ now ++ b) → OnOk r (last ≡ old ++ (a ++ b))
-both_by (Ok u) last now old a b n l = l ∙ ap (λ (xs : List ℕ). xs ++ b) n ∙ append_assoc old a b
-both_by (Err e) last now old a b n l = tt
 
 pub returns-clause-ok : goal.returns-clause-ok
 returns-clause-ok c =

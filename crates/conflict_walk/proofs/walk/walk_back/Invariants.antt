@@ -1,6 +1,5 @@
 use Rattle.std.proofs.Common.{◌≡◌, ◌≤◌, [], reverse, take, length}
 use Rattle.cdcl_rules.specs.Learn.{walk}
-use Rattle.conflict_walk.specs.Clauses.{all_clauses}
 use Rattle.conflict_walk.specs.Resolvent.{literals, IsOver}
 use Rattle.conflict_walk.proofs.walk.walk_back.Given as goal
 
@@ -9,7 +8,7 @@ invariant-walking l = record {
   within : l.index ≤ length l.trail.entries;
   over : IsOver l.trail l.resolvent;
   size : length l.resolvent.on ≡ length l.initial.resolvent.on;
-  walked : walk (all_clauses l.clauses) l.trail.entries (reverse l.trail.entries) (record { clause = literals l.initial.resolvent; hints = [] }) ≡ walk (all_clauses l.clauses) l.trail.entries (reverse (take l.index l.trail.entries)) (record { clause = literals l.resolvent; hints = reverse l.hints.items });
+  walked : walk l.store l.trail.entries (reverse l.trail.entries) (record { clause = literals l.initial.resolvent; hints = [] }) ≡ walk l.store l.trail.entries (reverse (take l.index l.trail.entries)) (record { clause = literals l.resolvent; hints = reverse l.hints.items });
 }
 
 abbrev pub decreases-walking : goal.decreases-walking

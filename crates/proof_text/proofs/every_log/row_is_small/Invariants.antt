@@ -1,10 +1,9 @@
 use Rattle.std.proofs.Common.{length}
-use Rattle.proof_text.specs.Row.{row_numbers}
 use Rattle.proof_text.specs.Text.{AreSmall}
 use Rattle.proof_text.proofs.every_log.row_is_small.Given as goal
 
 abbrev pub invariant-loop-number : goal.invariant-loop-number
-invariant-loop-number l = AreSmall (row_numbers l.rest) → AreSmall (row_numbers l.row)
+invariant-loop-number l = AreSmall l.rest → AreSmall l.numbers
 
 abbrev pub decreases-loop-number : goal.decreases-loop-number
-decreases-loop-number l = length (row_numbers l.rest)
+decreases-loop-number l = length l.rest

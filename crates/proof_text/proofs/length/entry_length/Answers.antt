@@ -1,6 +1,4 @@
-use Rattle.std.proofs.Common.{◌∙◌, [], ap, arith, length}
-use Rattle.proof_text.specs.Length.{saturated}
-use Rattle.proof_text.specs.Reading.{numbered}
+use Rattle.std.proofs.Common.{arith}
 use Rattle.proof_text.proofs.Lengths.{drop_counted, learn_counted}
 use Rattle.proof_text.proofs.length.entry_length.Goals as goal
 
@@ -9,9 +7,7 @@ overflow_add-result c = record { fits = omega (arith, c.digits.ensures.few) }
 
 pub returns-in-Learn : goal.returns-in-Learn
 returns-in-Learn c =
-    let codes = c.row_length.ensures ∙ ap (λ ns. saturated (length (numbered ns []))) c.of_codes.ensures in
-    let hints = c.row_length-in-Learn.ensures ∙ ap (λ ns. saturated (length (numbered ns []))) c.of_hints.ensures in
-    rw c.in-Learn.is (learn_counted c.in-Learn.clause.now c.in-Learn.hints c.row_length.result c.row_length-in-Learn.result c.saturating_add.result c.saturating_add-in-Learn.result codes hints
+    rw c.in-Learn.is (learn_counted c.in-Learn.clause c.in-Learn.hints c.row_length.result c.row_length-in-Learn.result c.saturating_add.result c.saturating_add-in-Learn.result c.row_length.ensures c.row_length-in-Learn.ensures
     c.saturating_add.ensures c.saturating_add-in-Learn.ensures)
 
 pub returns-in-Drop : goal.returns-in-Drop

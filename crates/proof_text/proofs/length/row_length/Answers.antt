@@ -1,6 +1,5 @@
 use Rattle.std.proofs.Common.{◌≡◌, [], ap, arith, length, rules}
 use Rattle.proof_text.specs.Reading.{numbered}
-use Rattle.proof_text.specs.Row.{row_numbers}
 use Rattle.proof_text.proofs.Lengths.{row_counted, row_all_counted}
 use Rattle.proof_text.proofs.length.row_length.Goals as goal
 
@@ -14,11 +13,11 @@ loop-number-init c =
 
 pub loop-number-preserved : goal.loop-number-preserved
 loop-number-preserved c = record {
-  total = row_counted (row_numbers c.loop-number.rest) (row_numbers c.next.new.self) c.in-Some.number c.loop-number.sum c.digits.result c.saturating_add-sum.result _ c.in-Some.ensures.some c.loop-number.invariant.total c.digits.ensures.value c.saturating_add-sum.ensures;
+  total = row_counted c.loop-number.rest c.next.new.self c.in-Some.number c.loop-number.sum c.digits.result c.saturating_add-sum.result _ c.in-Some.ensures.some c.loop-number.invariant.total c.digits.ensures.value c.saturating_add-sum.ensures;
   small = omega (arith, c.saturating_add-sum.ensures);
 }
 
 pub returns : goal.returns
 returns c =
-    let none : row_numbers c.loop-number.rest ≡ [] = search rules in
-    row_all_counted (row_numbers c.loop-number.rest) c.loop-number.sum _ none c.loop-number.invariant.total c.loop-number.invariant.small
+    let none : c.loop-number.rest ≡ [] = search rules in
+    row_all_counted c.loop-number.rest c.loop-number.sum _ none c.loop-number.invariant.total c.loop-number.invariant.small

@@ -1,14 +1,13 @@
 use Rattle.std.proofs.Common.{◌≡◌, ◌≤◌, ◌+◌, [], length}
 use Rattle.proof_text.specs.Length.{saturated}
 use Rattle.proof_text.specs.Reading.{numbered}
-use Rattle.proof_text.specs.Row.{row_numbers}
 use Rattle.proof_text.proofs.length.row_length.Given as goal
 
 abbrev pub invariant-loop-number : goal.invariant-loop-number
 invariant-loop-number l = record {
-  total : saturated (l.sum + length (numbered (row_numbers l.rest) [])) ≡ saturated (length (numbered (row_numbers l.row) []));
+  total : saturated (l.sum + length (numbered l.rest [])) ≡ saturated (length (numbered l.numbers []));
   small : l.sum ≤ 18446744073709551615;
 }
 
 abbrev pub decreases-loop-number : goal.decreases-loop-number
-decreases-loop-number l = length (row_numbers l.rest)
+decreases-loop-number l = length l.rest

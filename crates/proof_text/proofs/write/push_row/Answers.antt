@@ -1,6 +1,5 @@
 use Rattle.std.proofs.Common.{◌≡◌, ◌∷◌, ◌++◌, [], ap, decimal, rules}
 use Rattle.proof_text.specs.Reading.{numbered}
-use Rattle.proof_text.specs.Row.{row_numbers}
 use Rattle.proof_text.proofs.Lengths.{row_written, row_done}
 use Rattle.proof_text.proofs.write.push_row.Goals as goal
 
@@ -11,9 +10,9 @@ pub loop-number-preserved : goal.loop-number-preserved
 loop-number-preserved c =
     let blank : c.push.new.self.items ≡ c.loop-number.text.items ++ 32 ∷ [] = search rules in
     let next : c.push_number.new.text.items ≡ c.push.new.self.items ++ decimal c.in-Some.number = search rules in
-    row_written (row_numbers c.loop-number.rest) (row_numbers c.next.new.self) c.loop-number.text.items c.push.new.self.items c.push_number.new.text.items _ c.in-Some.number c.in-Some.ensures.some c.loop-number.invariant blank next
+    row_written c.loop-number.rest c.next.new.self c.loop-number.text.items c.push.new.self.items c.push_number.new.text.items _ c.in-Some.number c.in-Some.ensures.some c.loop-number.invariant blank next
 
 pub returns : goal.returns
 returns c =
-    let none : row_numbers c.loop-number.rest ≡ [] = search rules in
-    row_done (row_numbers c.loop-number.rest) c.loop-number.text.items _ none c.loop-number.invariant
+    let none : c.loop-number.rest ≡ [] = search rules in
+    row_done c.loop-number.rest c.loop-number.text.items _ none c.loop-number.invariant

@@ -19,5 +19,5 @@ learn_by (Err m) variables clauses learned dropped clause hints xs ys entry e f 
 
 pub returns-else-not-fits-clause-answer : goal.returns-else-not-fits-clause-answer
 returns-else-not-fits-clause-answer c =
-    let test : has_variables_below c.args.formula.now.variables c.in-Learn.clause.now ≡ true = search rules in
-    learn_by c.follows.result c.args.formula.now.variables c.args.formula.now.clauses c.args.kept.now.learned c.args.kept.now.dropped.items c.in-Learn.clause.now c.in-Learn.hints _ _ (told c.args.step.now) (ap told c.in-Learn.is) refl refl test c.follows.ensures.answer
+    let test : has_variables_below c.args.formula.now.variables c.in-Learn.clause ≡ true = search rules in
+    learn_by c.follows.result c.args.formula.now.variables c.args.formula.now.clauses c.args.kept.now.learned c.args.kept.now.dropped.items c.in-Learn.clause c.in-Learn.hints _ _ (told c.args.step.now) (ap told c.in-Learn.is) refl refl test c.follows.ensures.answer

@@ -1,4 +1,4 @@
-use Rattle.std.proofs.Common.{◌≡◌, ◌<◌, ◌/◌, [], ℕ, true, ap, subst, sym}
+use Rattle.std.proofs.Common.{◌<◌, ◌/◌, [], ℕ, ap, subst, sym}
 use Rattle.clause_base.specs.Clause.{IsClause}
 use Rattle.cdcl_rules.specs.declared.event.Event.TheVariants.{Conflict, Force, Decide, Finish}
 use Rattle.cdcl_rules.specs.Learn.{learned, Learned}

@@ -1,4 +1,4 @@
-use Rattle.std.proofs.Common.{arith, ◌≡◌, ◌<◌, ◌*◌, ◌/◌, List, [], ◌∷◌, ◌++◌, true, false, None, ap, sym, ◌∙◌, subst}
+use Rattle.std.proofs.Common.{arith, ◌≡◌, ◌<◌, ◌/◌, List, [], ◌∷◌, ◌++◌, None, ap, sym, ◌∙◌, subst}
 use Rattle.cdcl_rules.specs.declared.trail.Assigned.{Assigned}
 use Rattle.cdcl_rules.specs.State.{value_of}
 use Rattle.cdcl_rules.specs.Run.{is_going}

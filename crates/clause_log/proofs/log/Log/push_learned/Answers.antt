@@ -1,18 +1,24 @@
-use Rattle.std.proofs.Common.{arith, ◌∙◌, ◌++◌, ◌∷◌, [], ◌+◌, ◌≤◌, ap, List, length}
+use Rattle.std.proofs.Common.{arith, ◌∙◌, ◌++◌, ◌∷◌, [], ◌+◌, ap, List}
 use Rattle.clause_base.specs.declared.log.Entry.{Entry}
 use Rattle.clause_base.specs.declared.log.Entry.TheVariants.{Learn}
 use Rattle.clause_log.specs.Held.{IsHeld, entries_of}
-use Rattle.clause_log.proofs.HeldLaws.{held_learn, held_shown, shown, count_within}
+use Rattle.clause_log.proofs.HeldLaws.{held_learn, held_shown, shown, count_within, learned_within}
 use Rattle.clause_log.proofs.log.Log.push_learned.Goals as goal
 
 -- what is held then
-held : (c : goal.After-self-1) → IsHeld (entries_of c.self.inside.count c.self.inside.learned c.self.inside.steps.items ++ Learn c.args.clause.now c.args.hints.now ∷ []) (c.self.inside.count + 1) c.add_learned.new.learned c.add_learned.new.steps.items
-held c = held_learn _ _ _ _ _ _ c.args.clause.now c.args.hints.now c.self.invariant c.in_ok-add_learned.ensures.learned c.in_ok-add_learned.ensures.steps c.in_ok-add_learned.ensures.small
+held : (c : goal.After-self-2-1) → IsHeld (entries_of c.self.inside.count c.self.inside.steps.items ++ Learn c.args.clause.now c.args.hints.now ∷ []) (c.self.inside.count + 1) (c.self.inside.learned + 1) c.add_learned.new.steps.items
+held c = held_learn _ _ _ _ _ c.args.clause.now c.args.hints.now c.self.invariant c.in_ok-add_learned.ensures.ok c.in_ok-add_learned.ensures.small
 
 pub overflow_add-self : goal.overflow_add-self
 overflow_add-self c =
-    let more = held_learn _ _ _ _ _ _ c.args.clause.now c.args.hints.now c.self.invariant c.in_ok-add_learned.ensures.learned c.in_ok-add_learned.ensures.steps c.in_ok-add_learned.ensures.small in
-    let within : c.self.inside.count + 1 ≤ length c.add_learned.new.steps.items = count_within _ _ _ _ more in
+    let more = held_learn _ _ _ _ _ c.args.clause.now c.args.hints.now c.self.invariant c.in_ok-add_learned.ensures.ok c.in_ok-add_learned.ensures.small in
+    let within = learned_within _ _ _ _ more in
+    omega (arith, within)
+
+pub overflow_add-self-2 : goal.overflow_add-self-2
+overflow_add-self-2 c =
+    let more = held_learn _ _ _ _ _ c.args.clause.now c.args.hints.now c.self.invariant c.in_ok-add_learned.ensures.ok c.in_ok-add_learned.ensures.small in
+    let within = count_within _ _ _ _ more in
     omega (arith, within)
 
 pub invariant_of-self-2 : goal.invariant_of-self-2
