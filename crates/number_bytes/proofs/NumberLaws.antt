@@ -1,7 +1,8 @@
 -- The bytes of a number, and the number back from them.
 use Rattle.std.proofs.Common.{arith, ◌≡◌, ℕ, zero, suc, ◌+◌, ◌-◌, ◌*◌, ◌/◌, ◌%◌, ◌^◌, ◌<◌, ◌≤◌, List, [], ◌∷◌, ◌++◌, length, Bool, true, false, if◌then◌else◌, refl, ap, sym, ◌∙◌, inl, inr}
 use Rattle.std.specs.Prelude.{nat_lt}
-use Rattle.std.proofs.Math.Nat.{pow-suc}
+use Rattle.std.proofs.Math.Nat.{pow-suc, add-mod-mod, add_comm, mul_assoc, mul_comm, mul-add}
+use Rattle.std.proofs.lemmas.Nat.{mul-mod_first, mul-mod_second}
 use Rattle.std.proofs.lemmas.Bool.{cases_lt}
 use Rattle.std.proofs.lemmas.Bool.Decides.{nat_tests}
 use Rattle.number_bytes.specs.Number.{bytes_by, bytes_of, number_of, after_number}
@@ -79,3 +80,42 @@ some_bytes n = by (nat_lt n 128)
     by : (b : Bool) → 1 ≤ length (if b then n ∷ [] else (n % 128 + 128) ∷ bytes_by 8 (n / 128))
     by true = omega arith
     by false = omega arith
+
+-- a number that bytes begin with fits in 64 bits
+pub number_fits : (bytes : List ℕ) → number_of bytes < 2 ^ 64
+number_fits [] = omega arith
+number_fits (b ∷ bytes) = by b (number_of bytes) (nat_lt b 128) refl
+  where
+    by : (b high : ℕ) (low : Bool) → nat_lt b 128 ≡ low → (if low then b else (high * 128 % 2 ^ 64 + (b - 128)) % 2 ^ 64) < 2 ^ 64
+    by b high true e = grind (arith, nat_tests, e)
+    by b high false e = omega arith
+
+-- numbers with the same rest leave the same rest when the same is added
+same_rest : (a x y m : ℕ) → x % m ≡ y % m → (a + x) % m ≡ (a + y) % m
+same_rest a x y m e = sym (add-mod-mod a x m) ∙ ap (λ (r : ℕ). (a + r) % m) e ∙ add-mod-mod a y m
+
+-- seven bits more, and the weight of those that follow
+pub weighed : (n w high d m : ℕ) → ((n + w * d % m) % m + w * 128 % m * high) % m ≡ (n + w * ((high * 128 % m + d) % m)) % m
+weighed n w high d m =
+    let one : w * 128 % m * high % m ≡ w * (high * 128 % m) % m =
+    mul-mod_first (w * 128) high m ∙ ap (λ (x : ℕ). x % m) (mul_assoc w 128 high ∙ ap (λ (x : ℕ). w * x) (mul_comm 128 high)) ∙ sym (mul-mod_second w (high * 128) m) in
+    let first : ((n + w * d % m) % m + w * 128 % m * high) % m ≡ (w * 128 % m * high + (n + w * d)) % m =
+    mod_first (n + w * d % m) (w * 128 % m * high) m ∙ same_rest (w * 128 % m * high) (n + w * d % m) (n + w * d) m (add-mod-mod n (w * d) m) in
+    first
+    ∙ ap (λ (x : ℕ). x % m) (add_comm (w * 128 % m * high) (n + w * d))
+    ∙ same_rest (n + w * d) (w * 128 % m * high) (w * (high * 128 % m)) m one
+    ∙ ap (λ (x : ℕ). x % m) (parts n (w * d) (w * (high * 128 % m)) ∙ ap (λ (x : ℕ). n + x) (sym (mul-add w (high * 128 % m) d)))
+    ∙ sym (same_rest n (w * ((high * 128 % m + d) % m)) (w * (high * 128 % m + d)) m (mul-mod_second w (high * 128 % m + d) m))
+  where
+    mod_first : (x y k : ℕ) → (x % k + y) % k ≡ (y + x) % k
+    mod_first x y k = ap (λ (z : ℕ). z % k) (add_comm (x % k) y) ∙ add-mod-mod y x k
+
+    parts : (x y z : ℕ) → x + y + z ≡ x + (z + y)
+    parts x y z = omega arith
+
+-- the number that begins with a byte of 128 or more
+pub number_more : (b : ℕ) (bytes : List ℕ) → 128 ≤ b → number_of (b ∷ bytes) ≡ (number_of bytes * 128 % 2 ^ 64 + (b - 128)) % 2 ^ 64
+number_more b bytes h = let e : nat_lt b 128 ≡ false = grind (arith, nat_tests) in rw e refl
+
+pub after_more : (b : ℕ) (bytes : List ℕ) → 128 ≤ b → after_number (b ∷ bytes) ≡ after_number bytes
+after_more b bytes h = let e : nat_lt b 128 ≡ false = grind (arith, nat_tests) in rw e refl

@@ -15,28 +15,19 @@ pub fn take_number(bytes: &[u8]) -> Taken<'_>
     ensures number { result.number ≡ number_of bytes.now }
     ensures rest { result.rest.now ≡ after_number bytes.now }
 {
-    match bytes.split_first() {
-        None => Taken {
-            number: 0,
-            rest: bytes,
-        },
-        Some((byte, rest)) => {
-            if *byte < 128 {
-                return Taken {
-                    number: u64::from(*byte),
-                    rest,
-                };
-            }
-            let high = take_number(rest);
-            Taken {
-                number: high
-                    .number
-                    .wrapping_mul(128)
-                    .wrapping_add(u64::from(*byte - 128)),
-                rest: high.rest,
-            }
+    let mut number = 0u64;
+    let mut weight = 1u64;
+    let mut rest = bytes;
+    while let Some((byte, more)) = rest.split_first() {
+        rest = more;
+        if *byte < 128 {
+            number = number.wrapping_add(weight.wrapping_mul(u64::from(*byte)));
+            break;
         }
+        number = number.wrapping_add(weight.wrapping_mul(u64::from(*byte - 128)));
+        weight = weight.wrapping_mul(128);
     }
+    Taken { number, rest }
 }
 
 /// Adds a number. After want of memory the bytes that stood before still stand first.
