@@ -13,14 +13,17 @@ use Rattle.cdcl_rules.specs.declared.event.Event.{Event}
 use Rattle.cdcl_rules.specs.State.{State, clause_at, is_kept, is_on}
 use Rattle.cdcl_rules.specs.Pending.{open_ones, is_pending_in, least_from, first_pending}
 use Rattle.cdcl_rules.specs.Event.{asked}
+use Rattle.cdcl_rules.specs.declared.standing.Standing.{Standing}
+use Rattle.cdcl_rules.specs.Run.{is_going}
 use Rattle.cdcl_rules.specs.Reduce.{has_forced, is_candidate, candidates, first_half, kept_without}
 use Rattle.cdcl_rules.proofs.Tests.{and_split}
 use Rattle.cdcl_trail.specs.Assignment.{literals}
 use Rattle.cdcl_trail.proofs.Assignments.{has_is}
 use Rattle.conflict_walk.specs.Clauses.{ClausesView, all_clauses}
+use Rattle.conflict_walk.specs.Resolvent.{ResolventView}
 use Rattle.conflict_walk.proofs.Placed.{learned_learn, learned_drops}
 use Rattle.watch_lists.specs.Pending.{WatchingView}
-use Rattle.cdcl_core.specs.Search.{watched, AreKept, asked_first}
+use Rattle.cdcl_core.specs.Search.{SearchView, IsKept, watched, AreKept, asked_first, state_of}
 
 -- what is told of literals by two tests that agree is the same
 open_same : (on on' : ℕ → Bool) → ((l : ℕ) → on l ≡ on' l) → (c : List ℕ) → open_ones on c ≡ open_ones on' c
@@ -94,9 +97,18 @@ watched_learned clauses clauses' trail trail' w w' w2 k h m e t f =
     ∙ views_same clauses.formula.variables clauses'.formula.variables (all_clauses clauses ++ k ∷ []) (all_clauses clauses') (clauses.kept ++ true ∷ []) clauses'.kept trail'
     (sym (ap (λ (c : ClausesView). c.formula.variables) e)) all (sym (ap (λ (c : ClausesView). c.kept) e))
 
--- so what is watched are all clauses
-pub watched_all : (clauses : ClausesView) (w : WatchingView) (trail : List Assigned) → w ≡ watched clauses trail → w.clauses ≡ all_clauses clauses
-watched_all clauses w trail m = ap (λ (v : WatchingView). v.clauses) m
+-- a search by its parts
+abbrev pub search_of : ClausesView → List Assigned → Standing → Bool → SearchView
+search_of clauses trail standing spoilt = record { formula = clauses.formula; state = state_of clauses trail standing; spoilt = spoilt }
+
+-- what a search watches that is going on, and not spoilt: all its clauses, on its trail
+pub watched_going : {clauses : ClausesView} {w : WatchingView} {r : ResolventView} {standing : Standing} {spoilt : Bool} {v : SearchView} → IsKept clauses w r standing spoilt
+    → search_of clauses w.entries standing spoilt ≡ v → v.spoilt ≡ false → is_going v.state.standing ≡ true → w ≡ watched clauses w.entries
+watched_going kept is sane going = kept.mirrored (ap (λ (s : SearchView). s.spoilt) is ∙ sane) (ap (λ (s : SearchView). is_going s.state.standing) is ∙ going)
+
+pub watched_all : {clauses : ClausesView} {w : WatchingView} {r : ResolventView} {standing : Standing} {spoilt : Bool} {v : SearchView} → IsKept clauses w r standing spoilt
+    → search_of clauses w.entries standing spoilt ≡ v → v.spoilt ≡ false → is_going v.state.standing ≡ true → w.clauses ≡ all_clauses clauses
+watched_all kept is sane going = ap (λ (w : WatchingView). w.clauses) (watched_going kept is sane going)
 
 pub watched_now : (clauses : ClausesView) (w : WatchingView) (trail : List Assigned) → w ≡ watched clauses trail → w ≡ watched clauses w.entries
 watched_now clauses w trail m = m ∙ ap (watched clauses) (sym (ap (λ (v : WatchingView). v.entries) m))

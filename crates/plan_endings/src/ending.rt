@@ -1,5 +1,5 @@
 //! How a run ends, with the exit status and the text due.
-ghost use Rattle.std.specs.Prelude.{◌≡◌, ◌<◌, ◌^◌, ◌∷◌, ◌++◌, [], OnOk, IfOk, IsOk, codes, decimal};
+ghost use Rattle.std.specs.Prelude.{◌≡◌, ◌<◌, ◌^◌, ◌∷◌, ◌++◌, [], OnOk, IfOk, IsOk, decimal};
 ghost use Rattle.report_lines.specs.Lines.{joined};
 ghost use Rattle.plan_endings.specs.Ending.{status_of_race, status_of, text_of, bytes_of, word_of, kind_word, limit_word, IsSmall};
 
@@ -244,15 +244,22 @@ fn of_file(alloc: Global, front: &str, file: File) -> Result<Due, Memory>
     Ok(Due::Made(Bytes::of(text)))
 }
 
+// The line of a text and a number, of which the text stands there.
+fn numbered(mut text: Vec<u8>, number: u64) -> Result<Due, Memory>
+    ensures text { IfOk result (λ due. bytes_of due ≡ joined ((text.items ++ decimal number) ∷ [])) }
+    ensures small { OnOk result (number < 2 ^ 64) }
+{
+    push_number(&mut text, number)?;
+    text.extend_from_slice(b"\n")?;
+    Ok(Due::Made(Bytes::of(text)))
+}
+
 // The line of a text and a number.
 fn of_number(alloc: Global, front: &str, number: u64) -> Result<Due, Memory>
     ensures text { IfOk result (λ due. bytes_of due ≡ joined ((front.now ++ decimal number) ∷ [])) }
     ensures small { OnOk result (number < 2 ^ 64) }
 {
-    let mut text = Vec::from_slice(alloc, front.as_bytes())?;
-    push_number(&mut text, number)?;
-    text.extend_from_slice(b"\n")?;
-    Ok(Due::Made(Bytes::of(text)))
+    numbered(Vec::from_slice(alloc, front.as_bytes())?, number)
 }
 
 // The line of two texts, each before a number.
@@ -263,9 +270,7 @@ fn of_numbers(alloc: Global, front: &str, one: u64, middle: &str, two: u64) -> R
     let mut text = Vec::from_slice(alloc, front.as_bytes())?;
     push_number(&mut text, one)?;
     text.extend_from_slice(middle.as_bytes())?;
-    push_number(&mut text, two)?;
-    text.extend_from_slice(b"\n")?;
-    Ok(Due::Made(Bytes::of(text)))
+    numbered(text, two)
 }
 
 fn blocked(alloc: Global, index: u32) -> Result<Due, Memory>
@@ -282,9 +287,7 @@ fn too_many(alloc: Global, what: Limit, count: u64) -> Result<Due, Memory>
     let mut text = Vec::from_slice(alloc, b"; limit ")?;
     text.extend_from_slice(word_of_limit(what).as_bytes())?;
     text.extend_from_slice(b" ")?;
-    push_number(&mut text, count)?;
-    text.extend_from_slice(b"\n")?;
-    Ok(Due::Made(Bytes::of(text)))
+    numbered(text, count)
 }
 
 fn refusal(alloc: Global, kind: Kind, file: File, at: u32) -> Result<Due, Memory>
@@ -294,16 +297,7 @@ fn refusal(alloc: Global, kind: Kind, file: File, at: u32) -> Result<Due, Memory
     let mut text = Vec::from_slice(alloc, b"; refused ")?;
     text.extend_from_slice(word_of_kind(kind).as_bytes())?;
     text.extend_from_slice(b" ")?;
-    push_place(&mut text, file, at)?;
-    Ok(Due::Made(Bytes::of(text)))
-}
-
-fn push_place(text: &mut Vec<u8>, file: File, at: u32) -> Result<(), Memory>
-    ensures { OnOk result (text.new.items ≡ text.old.items ++ (word_of file ++ (codes " " ++ (decimal at ++ codes "\n")))) }
-{
     text.extend_from_slice(file_word(file).as_bytes())?;
     text.extend_from_slice(b" ")?;
-    push_number(text, u64::from(at))?;
-    text.extend_from_slice(b"\n")?;
-    Ok(())
+    numbered(text, u64::from(at))
 }

@@ -3,11 +3,10 @@ use Rattle.clause_base.specs.Clause.{has_literal}
 use Rattle.cdcl_rules.specs.declared.event.Event.{Event}
 use Rattle.cdcl_rules.specs.Pending.{is_pending_in}
 use Rattle.cdcl_rules.specs.Event.{asked}
-use Rattle.cdcl_rules.specs.Run.{is_going}
 use Rattle.cdcl_rules.proofs.Pending.{least_some}
 use Rattle.cdcl_trail.specs.Assignment.{literals}
 use Rattle.cdcl_core.specs.Search.{SearchView, state_of, asked_first}
-use Rattle.cdcl_core.proofs.Watching.{first_watched, open_watched, none_asked, some_asked}
+use Rattle.cdcl_core.proofs.Watching.{watched_going, first_watched, open_watched, none_asked, some_asked}
 use Rattle.cdcl_core.proofs.search.Search.asked.Goals as goal
 
 pub asked-requires : goal.asked-requires
@@ -18,14 +17,14 @@ asked-requires c =
 pub returns-in-None-clause-event : goal.returns-in-None-clause-event
 returns-in-None-clause-event c =
     let t = c.self.inside in
-    let m = c.self.invariant.mirrored (ap (λ (v : SearchView). v.spoilt) c.self.view_is ∙ c.requires.sane) (ap (λ (v : SearchView). is_going v.state.standing) c.self.view_is ∙ c.requires.going) in
+    let m = watched_going c.self.invariant c.self.view_is c.requires.sane c.requires.going in
     let o = first_watched t.clauses t.watching.entries t.watching c.least_pending.result m c.least_pending.ensures in
     subst (λ (v : SearchView). None ≡ asked_first v.state) c.self.view_is (none_asked (state_of t.clauses t.watching.entries t.standing) (sym o ∙ c.in-None.is))
 
 pub returns-in-Some-clause-event : goal.returns-in-Some-clause-event
 returns-in-Some-clause-event c =
     let t = c.self.inside in
-    let m = c.self.invariant.mirrored (ap (λ (v : SearchView). v.spoilt) c.self.view_is ∙ c.requires.sane) (ap (λ (v : SearchView). is_going v.state.standing) c.self.view_is ∙ c.requires.going) in
+    let m = watched_going c.self.invariant c.self.view_is c.requires.sane c.requires.going in
     let o = first_watched t.clauses t.watching.entries t.watching c.least_pending.result m c.least_pending.ensures in
     let n = c.in-Some.number in
     let e = c.asked.ensures ∙ ap (λ (xs : List ℕ). asked n xs) (open_watched t.clauses t.watching.entries t.watching n m) in

@@ -1,12 +1,12 @@
 use Rattle.std.proofs.Common.{ℕ, [], ap, sym, ◌∙◌, subst}
 use Rattle.clause_base.specs.Clause.{HasVariablesBelow}
-use Rattle.cdcl_rules.specs.Run.{after_conflict, is_going}
+use Rattle.cdcl_rules.specs.Run.{after_conflict}
 use Rattle.cdcl_laws.proofs.Fuel.{all_below}
 use Rattle.conflict_walk.specs.Clauses.{ClausesView}
 use Rattle.cdcl_rules.specs.Learn.{backtracked}
 use Rattle.cdcl_core.specs.Search.{SearchView, GoesOn}
 use Rattle.watch_lists.specs.Pending.{WatchingView}
-use Rattle.cdcl_core.proofs.Watching.{watched_learned, watched_now, last_below}
+use Rattle.cdcl_core.proofs.Watching.{watched_going, watched_learned, watched_now, last_below}
 use Rattle.cdcl_core.proofs.Logs.{goes_same, goes_then, goes_learned, goes_err}
 use Rattle.cdcl_core.proofs.search.Search.enter.Goals as goal
 
@@ -25,7 +25,7 @@ pub reduce-requires : goal.reduce-requires
 reduce-requires c =
     let t = c.self.inside in
     let trail = backtracked c.level_after-level.result t.watching.entries in
-    let m = c.self.invariant.mirrored (ap (λ (v : SearchView). v.spoilt) c.self.view_is ∙ c.requires.sane) (ap (λ (v : SearchView). is_going v.state.standing) c.self.view_is ∙ c.requires.going) in
+    let m = watched_going c.self.invariant c.self.view_is c.requires.sane c.requires.going in
     watched_now c.learn.new.self c.add_sorted.new.self trail (watched_learned t.clauses c.learn.new.self t.watching.entries trail t.watching c.backtrack.new.self c.add_sorted.new.self c.as_slice-clause.result.now c.as_slice.result.now m c.in_ok-learn.ensures.ok c.backtrack.ensures c.in_ok-add_sorted.ensures.ok)
 
 pub returns-in_err-learn-clause-log : goal.returns-in_err-learn-clause-log

@@ -1,15 +1,14 @@
-use Rattle.std.proofs.Common.{◌∙◌, ◌<◌, ℕ, List, length, ap, subst, sym}
+use Rattle.std.proofs.Common.{◌∙◌, ◌<◌, ℕ, List, length, subst, sym}
 use Rattle.cdcl_rules.specs.declared.event.Event.TheVariants.{Conflict}
 use Rattle.clause_base.specs.Clause.{IsRising}
 use Rattle.cdcl_rules.specs.State.{clause_at}
 use Rattle.cdcl_rules.specs.Trail.{AllFalse}
-use Rattle.cdcl_rules.specs.Learn.{learned}
-use Rattle.cdcl_rules.specs.Run.{is_going}
+use Rattle.cdcl_rules.specs.Learn.{Learned}
 use Rattle.cdcl_trail.specs.Mirrored.{TrailView}
 use Rattle.conflict_walk.specs.Clauses.{all_clauses}
 use Rattle.conflict_walk.specs.Walk.{IsReasoned}
 use Rattle.cdcl_core.specs.Search.{SearchView, IsNextEvent, state_of}
-use Rattle.cdcl_core.proofs.Keeps.{conflict_is}
+use Rattle.cdcl_core.proofs.Keeps.{conflict_is, learned_is}
 use Rattle.cdcl_core.proofs.Watching.{watched_all}
 use Rattle.cdcl_core.proofs.Reasons.{sound_reasoned}
 use Rattle.cdcl_core.proofs.search.Search.learned.Goals as goal
@@ -17,8 +16,7 @@ use Rattle.cdcl_core.proofs.search.Search.learned.Goals as goal
 pub learn-requires-clause-reasoned : goal.learn-requires-clause-reasoned
 learn-requires-clause-reasoned c =
     let t = c.self.inside in
-    let m = c.self.invariant.mirrored (ap (λ (v : SearchView). v.spoilt) c.self.view_is ∙ c.requires.sane) (ap (λ (v : SearchView). is_going v.state.standing) c.self.view_is ∙ c.requires.going) in
-    let all = c.store.ensures ∙ watched_all t.clauses t.watching t.watching.entries m in
+    let all = c.store.ensures ∙ watched_all c.self.invariant c.self.view_is c.requires.sane c.requires.going in
     subst (λ (cs : List (List ℕ)). IsReasoned cs c.trail.result.now.entries) (sym all)
     (subst (λ (v : TrailView). IsReasoned (all_clauses t.clauses) v.entries) (sym c.trail.ensures)
     (sound_reasoned t.clauses.formula (state_of t.clauses t.watching.entries t.standing) c.self.invariant.sound))
@@ -26,46 +24,31 @@ learn-requires-clause-reasoned c =
 pub learn-requires-clause-number : goal.learn-requires-clause-number
 learn-requires-clause-number c =
     let t = c.self.inside in
-    let m = c.self.invariant.mirrored (ap (λ (v : SearchView). v.spoilt) c.self.view_is ∙ c.requires.sane) (ap (λ (v : SearchView). is_going v.state.standing) c.self.view_is ∙ c.requires.going) in
-    let all = c.store.ensures ∙ watched_all t.clauses t.watching t.watching.entries m in
+    let all = c.store.ensures ∙ watched_all c.self.invariant c.self.view_is c.requires.sane c.requires.going in
     let next = subst (λ (w : SearchView). IsNextEvent w.formula w.state (Conflict c.args.number)) (sym c.self.view_is) c.requires.next in
     subst (λ (cs : List (List ℕ)). c.args.number < length cs) (sym all) (conflict_is t.clauses.formula (state_of t.clauses t.watching.entries t.standing) c.args.number c.self.invariant.sound next).in_range
 
 pub learn-requires-clause-rising : goal.learn-requires-clause-rising
 learn-requires-clause-rising c =
     let t = c.self.inside in
-    let m = c.self.invariant.mirrored (ap (λ (v : SearchView). v.spoilt) c.self.view_is ∙ c.requires.sane) (ap (λ (v : SearchView). is_going v.state.standing) c.self.view_is ∙ c.requires.going) in
-    let all = c.store.ensures ∙ watched_all t.clauses t.watching t.watching.entries m in
+    let all = c.store.ensures ∙ watched_all c.self.invariant c.self.view_is c.requires.sane c.requires.going in
     let next = subst (λ (w : SearchView). IsNextEvent w.formula w.state (Conflict c.args.number)) (sym c.self.view_is) c.requires.next in
     subst (λ (cs : List (List ℕ)). IsRising (clause_at cs c.args.number)) (sym all) (conflict_is t.clauses.formula (state_of t.clauses t.watching.entries t.standing) c.args.number c.self.invariant.sound next).rising
 
 pub learn-requires-clause-all_false : goal.learn-requires-clause-all_false
 learn-requires-clause-all_false c =
     let t = c.self.inside in
-    let m = c.self.invariant.mirrored (ap (λ (v : SearchView). v.spoilt) c.self.view_is ∙ c.requires.sane) (ap (λ (v : SearchView). is_going v.state.standing) c.self.view_is ∙ c.requires.going) in
-    let all = c.store.ensures ∙ watched_all t.clauses t.watching t.watching.entries m in
+    let all = c.store.ensures ∙ watched_all c.self.invariant c.self.view_is c.requires.sane c.requires.going in
     let next = subst (λ (w : SearchView). IsNextEvent w.formula w.state (Conflict c.args.number)) (sym c.self.view_is) c.requires.next in
     subst (λ (cs : List (List ℕ)). AllFalse c.trail.result.now.entries (clause_at cs c.args.number)) (sym all)
     (subst (λ (v : TrailView). AllFalse v.entries (clause_at (all_clauses t.clauses) c.args.number)) (sym c.trail.ensures) (conflict_is t.clauses.formula (state_of t.clauses t.watching.entries t.standing) c.args.number c.self.invariant.sound next).all_false)
 
 pub returns-clause-clause : goal.returns-clause-clause
 returns-clause-clause c =
-    let t = c.self.inside in
-    let n = c.args.number in
-    let m = c.self.invariant.mirrored (ap (λ (v : SearchView). v.spoilt) c.self.view_is ∙ c.requires.sane) (ap (λ (v : SearchView). is_going v.state.standing) c.self.view_is ∙ c.requires.going) in
-    let all = c.store.ensures ∙ watched_all t.clauses t.watching t.watching.entries m in
-    c.in_ok-learned.ensures.clause
-    ∙ ap (λ (cs : List (List ℕ)). (learned cs c.trail.result.now.entries n).clause) all
-    ∙ ap (λ (v : TrailView). (learned (all_clauses t.clauses) v.entries n).clause) c.trail.ensures
-    ∙ ap (λ (v : SearchView). (learned v.state.clauses v.state.trail n).clause) c.self.view_is
+    let all = c.store.ensures ∙ watched_all c.self.invariant c.self.view_is c.requires.sane c.requires.going in
+    c.in_ok-learned.ensures.clause ∙ learned_is (λ (l : Learned). l.clause) c.args.number all c.trail.ensures c.self.view_is
 
 pub returns-clause-hints : goal.returns-clause-hints
 returns-clause-hints c =
-    let t = c.self.inside in
-    let n = c.args.number in
-    let m = c.self.invariant.mirrored (ap (λ (v : SearchView). v.spoilt) c.self.view_is ∙ c.requires.sane) (ap (λ (v : SearchView). is_going v.state.standing) c.self.view_is ∙ c.requires.going) in
-    let all = c.store.ensures ∙ watched_all t.clauses t.watching t.watching.entries m in
-    c.in_ok-learned.ensures.hints
-    ∙ ap (λ (cs : List (List ℕ)). (learned cs c.trail.result.now.entries n).hints) all
-    ∙ ap (λ (v : TrailView). (learned (all_clauses t.clauses) v.entries n).hints) c.trail.ensures
-    ∙ ap (λ (v : SearchView). (learned v.state.clauses v.state.trail n).hints) c.self.view_is
+    let all = c.store.ensures ∙ watched_all c.self.invariant c.self.view_is c.requires.sane c.requires.going in
+    c.in_ok-learned.ensures.hints ∙ learned_is (λ (l : Learned). l.hints) c.args.number all c.trail.ensures c.self.view_is
