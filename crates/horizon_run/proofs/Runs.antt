@@ -1,12 +1,10 @@
 -- What the laws of a solver's states say of the run of a horizon.
-use Rattle.std.proofs.Common.{arith, ◌≡◌, ℕ, suc, ◌+◌, ◌-◌, ◌<◌, ◌≤◌, Bool, true, false, refl, sym, ap, ◌∙◌, subst, List, [], ◌∷◌, sum, Option}
+use Rattle.std.proofs.Common.{arith, ◌≡◌, ℕ, suc, ◌+◌, ◌-◌, ◌<◌, ◌≤◌, Bool, false, refl, sym, ap, ◌∙◌, subst, List, [], ◌∷◌, sum, Option}
 use Rattle.clause_base.specs.Choice.{Known}
 use Rattle.goal_choice.specs.Means.{Means}
 use Rattle.goal_choice.specs.Choice.{choice_by}
 use Rattle.goal_choice.specs.ChoiceLaw.{choice-open}
 use Rattle.clause_base.specs.Formula.{Cnf}
-use Rattle.cdcl_rules.specs.declared.standing.Standing.{Standing}
-use Rattle.cdcl_rules.specs.declared.standing.Standing.TheVariants.{Going}
 use Rattle.cdcl_rules.specs.declared.trail.Assigned.{Assigned}
 use Rattle.cdcl_rules.specs.Run.{start_of, after, is_going}
 use Rattle.cdcl_rules.specs.Open.{Opens}

@@ -101,11 +101,15 @@ module _ (told : List ℕ → Option (List ℕ)) (lacks : List ℕ → Bool) (ol
   pub some_files : (files : List (Option (List ℕ))) → AreMet files → 0 < length files
   some_files files are = let count = met_count told lacks (file_at (batches is.0 is.1 (numbers settings) turns)) 0 (is.0 ∷ is.1) files (met_batch files are) in omega (arith, count)
 
-  pub files_short : (files : List (Option (List ℕ))) → AreMet files → AllByRecursion IsShort files
+  files_short : (files : List (Option (List ℕ))) → AreMet files → AllByRecursion IsShort files
   files_short files are = all_short told lacks old new is.0 is.1 settings turns 0 (is.0 ∷ is.1) files (met_batch files are)
 
-  pub files_few : (files : List (Option (List ℕ))) → AreMet files → length files ≤ 17
+  files_few : (files : List (Option (List ℕ))) → AreMet files → length files ≤ 17
   files_few files are = let count = met_count told lacks (file_at (batches is.0 is.1 (numbers settings) turns)) 0 (is.0 ∷ is.1) files (met_batch files are) in let few = is.3 in omega (arith, count, few)
+
+  -- however they are named
+  pub files_fit : (met files : List (Option (List ℕ))) → met ≡ files → AreMet met → AllByRecursion IsShort files × (length files ≤ 17)
+  files_fit met files is are = let here = subst (λ (fs : List (Option (List ℕ))). AreMet fs) is are in (files_short files here, files_few files here)
 
   -- words that ask for it
   module _ (words : List (List ℕ)) (asked : requested words ≡ Some request) where

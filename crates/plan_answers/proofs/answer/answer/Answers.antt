@@ -1,8 +1,4 @@
 use Rattle.std.proofs.Common.{refl}
-use Rattle.plan_words.specs.Seen.{seen}
-use Rattle.plan_answers.specs.Tasks.{OnceRead, OnceGrounded}
-use Rattle.plan_answers.specs.Generated.{AnswersGenerated}
-use Rattle.plan_answers.specs.Answers.{Decides, AnswersPlan, AnswersGround, AnswersOrder, AnswersCheck, AnswersProve, AnswersVerify}
 use Rattle.plan_answers.proofs.Stopped.{EndsAs-weaker}
 use Rattle.plan_answers.proofs.Answered.{none_are}
 use Rattle.plan_answers.proofs.answer.answer.Goals as goal
@@ -13,24 +9,19 @@ two_of-requires-clause-count g c = rw c.in-Plan.is at c.requires.count
 pub returns-in-Plan : goal.returns-in-Plan
 returns-in-Plan g c =
     let settings = c.in-Plan.settings in
-    EndsAs-weaker (OnceGrounded c.two_of.result.0.now c.two_of.result.1.now (AnswersPlan c.in-Plan.stepping settings)) (Decides (seen c.args.request.now) c.args.files.now)
-    (λ end h. rw (c.in-Plan.is, c.two_of.ensures.files) (settings, refl, h)) c.answer_plan.result c.answer_plan.ensures
+    EndsAs-weaker _ _ (λ end h. rw (c.in-Plan.is, c.two_of.ensures.files) (settings, refl, h)) c.answer_plan.result c.answer_plan.ensures
 
 pub two_of-requires-in-Ground-clause-count : goal.two_of-requires-in-Ground-clause-count
 two_of-requires-in-Ground-clause-count g c = rw c.in-Ground.is at c.requires.count
 
 pub returns-in-Ground : goal.returns-in-Ground
-returns-in-Ground g c =
-    EndsAs-weaker (OnceGrounded c.two_of-in-Ground.result.0.now c.two_of-in-Ground.result.1.now AnswersGround) (Decides (seen c.args.request.now) c.args.files.now)
-    (λ end h. rw (c.in-Ground.is, c.two_of-in-Ground.ensures.files) h) c.answer_ground.result c.answer_ground.ensures
+returns-in-Ground g c = EndsAs-weaker _ _ (λ end h. rw (c.in-Ground.is, c.two_of-in-Ground.ensures.files) h) c.answer_ground.result c.answer_ground.ensures
 
 pub two_of-requires-in-Order-clause-count : goal.two_of-requires-in-Order-clause-count
 two_of-requires-in-Order-clause-count g c = rw c.in-Order.is at c.requires.count
 
 pub returns-in-Order : goal.returns-in-Order
-returns-in-Order g c =
-    EndsAs-weaker (OnceGrounded c.two_of-in-Order.result.0.now c.two_of-in-Order.result.1.now AnswersOrder) (Decides (seen c.args.request.now) c.args.files.now)
-    (λ end h. rw (c.in-Order.is, c.two_of-in-Order.ensures.files) h) c.answer_order.result c.answer_order.ensures
+returns-in-Order g c = EndsAs-weaker _ _ (λ end h. rw (c.in-Order.is, c.two_of-in-Order.ensures.files) h) c.answer_order.result c.answer_order.ensures
 
 pub three_of-requires-clause-count : goal.three_of-requires-clause-count
 three_of-requires-clause-count g c = rw c.in-Check.is at c.requires.count
@@ -39,24 +30,18 @@ pub answer_check-requires-clause-plan_fits : goal.answer_check-requires-clause-p
 answer_check-requires-clause-plan_fits g c = rw c.in-Check.is at c.three_of.ensures.third
 
 pub returns-in-Check : goal.returns-in-Check
-returns-in-Check g c =
-    let plan = c.three_of.result.2.now in
-    EndsAs-weaker (OnceRead c.three_of.result.0.now c.three_of.result.1.now (λ task. AnswersCheck task plan)) (Decides (seen c.args.request.now) c.args.files.now)
-    (λ end h. rw (c.in-Check.is, c.three_of.ensures.files) h) c.answer_check.result c.answer_check.ensures
+returns-in-Check g c = EndsAs-weaker _ _ (λ end h. rw (c.in-Check.is, c.three_of.ensures.files) h) c.answer_check.result c.answer_check.ensures
 
 pub returns-in-Gen : goal.returns-in-Gen
 returns-in-Gen g c =
     let settings = c.in-Gen.settings in
-    EndsAs-weaker (AnswersGenerated c.in-Gen.kind c.in-Gen.number settings c.in-Gen.show) (Decides (seen c.args.request.now) c.args.files.now)
-    (λ end h. rw c.in-Gen.is (none_are c.args.files.now (rw c.in-Gen.is at c.requires.count), (settings, refl, h))) c.answer_gen.result c.answer_gen.ensures
+    EndsAs-weaker _ _ (λ end h. rw c.in-Gen.is (none_are c.args.files.now (rw c.in-Gen.is at c.requires.count), (settings, refl, h))) c.answer_gen.result c.answer_gen.ensures
 
 pub two_of-requires-in-Prove-clause-count : goal.two_of-requires-in-Prove-clause-count
 two_of-requires-in-Prove-clause-count g c = rw c.in-Prove.is at c.requires.count
 
 pub returns-in-Prove : goal.returns-in-Prove
-returns-in-Prove g c =
-    EndsAs-weaker (OnceGrounded c.two_of-in-Prove.result.0.now c.two_of-in-Prove.result.1.now (AnswersProve c.in-Prove.horizon c.in-Prove.budget)) (Decides (seen c.args.request.now) c.args.files.now)
-    (λ end h. rw (c.in-Prove.is, c.two_of-in-Prove.ensures.files) h) c.answer_prove.result c.answer_prove.ensures
+returns-in-Prove g c = EndsAs-weaker _ _ (λ end h. rw (c.in-Prove.is, c.two_of-in-Prove.ensures.files) h) c.answer_prove.result c.answer_prove.ensures
 
 pub three_of-requires-in-Verify-clause-count : goal.three_of-requires-in-Verify-clause-count
 three_of-requires-in-Verify-clause-count g c = rw c.in-Verify.is at c.requires.count
@@ -65,7 +50,4 @@ pub answer_verify-requires-clause-proof_fits : goal.answer_verify-requires-claus
 answer_verify-requires-clause-proof_fits g c κs within = rw c.in-Verify.is at c.three_of-in-Verify.ensures.third
 
 pub returns-in-Verify : goal.returns-in-Verify
-returns-in-Verify g c =
-    let proof = c.three_of-in-Verify.result.2.now in
-    EndsAs-weaker (OnceRead c.three_of-in-Verify.result.0.now c.three_of-in-Verify.result.1.now (λ task. AnswersVerify task proof)) (Decides (seen c.args.request.now) c.args.files.now)
-    (λ end h. rw (c.in-Verify.is, c.three_of-in-Verify.ensures.files) h) c.answer_verify.result c.answer_verify.ensures
+returns-in-Verify g c = EndsAs-weaker _ _ (λ end h. rw (c.in-Verify.is, c.three_of-in-Verify.ensures.files) h) c.answer_verify.result c.answer_verify.ensures

@@ -1,11 +1,9 @@
-use Rattle.std.proofs.Common.{arith, ◌≡◌, ◌+◌, ◌≤◌, false, sym, ap, ◌∙◌, subst}
+use Rattle.std.proofs.Common.{arith, ◌≡◌, ◌+◌, false, sym, ap, ◌∙◌, subst}
 use Rattle.clause_base.specs.Formula.{Cnf}
 use Rattle.goal_choice.specs.Means.{Means}
 use Rattle.goal_choice.specs.Choice.{choice_by}
-use Rattle.cdcl_rules.specs.Run.{start_of, after}
-use Rattle.cdcl_rules.specs.Open.{Opens}
-use Rattle.cdcl_laws.specs.Sound.{IsSound}
-use Rattle.horizon_run.specs.Run.{RunView, choice_in, moved_to, reached, IsMoved, IsRun, AddsUp}
+use Rattle.cdcl_rules.specs.Run.{after}
+use Rattle.horizon_run.specs.Run.{RunView, choice_in, reached, IsRun, AddsUp}
 use Rattle.horizon_run.proofs.Runs.{goes_on, seen}
 use Rattle.horizon_run.proofs.run.HorizonRun.go_on.Goals as goal
 

@@ -1,6 +1,6 @@
-use Rattle.std.proofs.Common.{◌≡◌, ℕ, false, subst}
+use Rattle.std.proofs.Common.{subst}
 use Rattle.goal_choice.specs.Choice.{choice_by}
-use Rattle.horizon_run.specs.Run.{RunView, choice_in, IsReached, AddsUp, Stays}
+use Rattle.horizon_run.specs.Run.{RunView, choice_in, IsReached, AddsUp}
 use Rattle.horizon_run.proofs.Runs.{adds_up, stays, is_reached}
 use Rattle.horizon_run.proofs.run.HorizonRun.keeps_laws.Goals as goal
 
