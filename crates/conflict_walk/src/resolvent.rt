@@ -66,7 +66,6 @@ impl Resolvent {
     }
 
     /// Puts a false literal in.
-    #[inline(always)]
     fn put(&mut self, trail: &Trail, lit: Lit) -> Result<(), Memory>
         requires over { IsOver trail.now self.old }
         requires is_false { is_on trail.now.entries (opposite lit) ≡ true }
