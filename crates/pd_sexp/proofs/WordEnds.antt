@@ -2,16 +2,27 @@
 use Rattle.std.proofs.Common.{◌≡◌, ◌==◌, ℕ, Bool, true, false, ◌||◌, not, if◌then◌else◌, List, refl, arith}
 use Rattle.pd_sexp.specs.Bytes.{semicolon, is_blank, is_letter}
 use Rattle.pd_sexp.specs.Lexer.{Standing, gap, comment, word, is_token, lexed}
+use Rattle.pd_sexp.proofs.Bytes.{blank-semicolon}
 use Rattle.pd_sexp.specs.declared.lexer.Lexed.TheVariants.{Nothing, Token, Ended}
 
--- a token is neither blank nor a semicolon
-pub token_parts : (b : ℕ) → is_token b ≡ true → (is_blank b ≡ false) × ((b == semicolon) ≡ false)
-token_parts b h = by_tests (is_blank b) (b == semicolon) h
+-- a byte outside comments and words that is a token
+pub by_token : {A : Type 0} (blank remark token : A) (b : ℕ) → is_token b ≡ true → (if is_blank b then blank else if b == semicolon then remark else token) ≡ token
+by_token blank remark token b h = by_tests (is_blank b) (b == semicolon) h
   where
-    by_tests : (p q : Bool) → not (p || q) ≡ true → (p ≡ false) × (q ≡ false)
+    by_tests : (p q : Bool) → not (p || q) ≡ true → (if p then blank else if q then remark else token) ≡ token
     by_tests true q e = absurd cc
     by_tests false true e = absurd cc
-    by_tests false false e = (refl, refl)
+    by_tests false false e = refl
+
+-- and one that is none
+pub by_none : {A : Type 0} (blank remark token : A) (b : ℕ) → is_token b ≡ false → (if is_blank b then blank else if b == semicolon then remark else token) ≡ (if b == semicolon then remark else blank)
+by_none blank remark token b h = by_tests (is_blank b) (b == semicolon) h (blank-semicolon b)
+  where
+    by_tests : (p q : Bool) → not (p || q) ≡ false → (p ≡ true → q ≡ false) → (if p then blank else if q then remark else token) ≡ (if q then remark else blank)
+    by_tests true true e apart = let never = apart refl in absurd cc
+    by_tests true false e apart = refl
+    by_tests false true e apart = refl
+    by_tests false false e apart = absurd cc
 
 -- a word ended: it stood there, and this byte is no letter
 pub ended : (s : Standing) (b start : ℕ) (text : List ℕ) (token : Bool) → Ended start text token ≡ lexed s b → (s ≡ word start text) × (is_letter b ≡ false) × (token ≡ is_token b)

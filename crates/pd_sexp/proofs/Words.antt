@@ -1,6 +1,6 @@
 -- A word that ended is an item of its list, and the byte after it is read outside words.
-use Rattle.std.proofs.Common.{◌≡◌, ◌==◌, ℕ, Bool, true, false, ◌||◌, not, if◌then◌else◌, List, [], ◌∷◌, ◌++◌, Some, Ok, Err, Result, refl, sym, ap, subst, ◌∙◌}
-use Rattle.pd_sexp.specs.Bytes.{is_blank, is_letter, lowered, semicolon}
+use Rattle.std.proofs.Common.{◌≡◌, ◌==◌, ℕ, Bool, true, false, if◌then◌else◌, List, [], ◌∷◌, ◌++◌, Some, Ok, Err, Result, refl, sym, ap, subst, ◌∙◌}
+use Rattle.pd_sexp.specs.Bytes.{is_letter, lowered, semicolon}
 use Rattle.pd_sexp.specs.Tree as defs
 use Rattle.pd_sexp.specs.Lexer as lexing
 use Rattle.pd_sexp.specs.Progress as at
@@ -9,8 +9,7 @@ use Rattle.pd_sexp.specs.declared.lexer.Lexed.TheVariants.{Ended}
 use Rattle.pd_sexp.specs.declared.reader.Place.{Place}
 use Rattle.pd_sexp.specs.declared.tree.TreeError.{TreeError}
 use Rattle.pd_sexp.specs.declared.tree.TreeError.TheVariants.{Syntax, Deep, Memory}
-use Rattle.pd_sexp.proofs.Bytes.{blank-semicolon}
-use Rattle.pd_sexp.proofs.WordEnds.{token_parts, ended}
+use Rattle.pd_sexp.proofs.WordEnds.{by_token, by_none, ended}
 
 module _ (frame : at.Frame) (outer : List at.Frame) (start : ℕ) (text : List ℕ) (o b : ℕ) where
   abbrev inside : at.Place
@@ -20,7 +19,7 @@ module _ (frame : at.Frame) (outer : List at.Frame) (start : ℕ) (text : List �
   leaves unlike = ap (λ t. if t then Some (at.word frame outer start (text ++ lowered b ∷ [])) else at.outside inside o b) unlike
 
   token_step : is_letter b ≡ false → lexing.is_token b ≡ true → at.step (at.word frame outer start text) o b ≡ at.token inside o b
-  token_step unlike is = let parts = token_parts b is in leaves unlike ∙ rw (parts.0, parts.1) refl
+  token_step unlike is = leaves unlike ∙ by_token (Some (at.gap inside)) (Some (at.comment inside)) (at.token inside o b) b is
 
   takes : (new : at.State) (result : Result (Unit {0}) TreeError) → at.step (at.word frame outer start text) o b ≡ at.token inside o b → TakesToken inside o b new result → Steps (at.word frame outer start text) o b new result
   takes new (Ok done) same h = (same ∙ h.0, h.1)
@@ -38,14 +37,11 @@ module _ (frame : at.Frame) (outer : List at.Frame) (start : ℕ) (text : List �
 
   none_step : (next : Place) (after : at.Frame) (round : List at.Frame) → is_letter b ≡ false → lexing.is_token b ≡ false → place_of next after round ≡ inside
       → at.step (at.word frame outer start text) o b ≡ Some (state_from (lexing.outside b) next after round)
-  none_step next after round unlike none same = leaves unlike ∙ by_tests (is_blank b) (b == semicolon) none (blank-semicolon b)
+  none_step next after round unlike none same = leaves unlike ∙ by_none (Some (at.gap inside)) (Some (at.comment inside)) (at.token inside o b) b none ∙ by_semicolon (b == semicolon)
     where
-      by_tests : (p q : Bool) → not (p || q) ≡ false → (p ≡ true → q ≡ false)
-          → (if p then Some (at.gap inside) else if q then Some (at.comment inside) else at.token inside o b) ≡ Some (state_from (if q then lexing.comment else lexing.gap) next after round)
-      by_tests true true none apart = let never = apart refl in absurd cc
-      by_tests true false none apart = ap (λ p. Some (at.gap p)) (sym same)
-      by_tests false true none apart = ap (λ p. Some (at.comment p)) (sym same)
-      by_tests false false none apart = absurd cc
+      by_semicolon : (t : Bool) → (if t then Some (at.comment inside) else Some (at.gap inside)) ≡ Some (state_from (if t then lexing.comment else lexing.gap) next after round)
+      by_semicolon true = ap (λ p. Some (at.comment p)) (sym same)
+      by_semicolon false = ap (λ p. Some (at.gap p)) (sym same)
 
   shallow : lexing.is_token b ≡ false → at.IsTooDeep (at.word frame outer start text) b → ⊥
   shallow none deep = let never : true ≡ false = subst (λ n. lexing.is_token n ≡ false) deep.1 none in cc

@@ -1,4 +1,4 @@
-use Rattle.std.proofs.Common.{arith, ap, sym, ◌∙◌}
+use Rattle.std.proofs.Common.{arith, ◌∙◌}
 use Rattle.pd_sexp.specs.Reader.{frame_of, outer_of}
 use Rattle.pd_sexp.proofs.Words.{then_token, then_none}
 use Rattle.pd_sexp.proofs.reader.Reader.step.Goals as goal
