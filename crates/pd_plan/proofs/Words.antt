@@ -1,5 +1,5 @@
 -- A word that ended is the next one of its list, and the byte after it is read outside words.
-use Rattle.std.proofs.Common.{◌≡◌, ◌==◌, ℕ, Bool, true, false, if◌then◌else◌, List, [], ◌∷◌, ◌++◌, Ok, Result, sym, ap, subst, ◌∙◌, refl}
+use Rattle.std.proofs.Common.{◌≡◌, ◌==◌, ℕ, Bool, true, false, if◌then◌else◌, List, [], ◌∷◌, ◌++◌, Ok, Result, sym, ap, ◌∙◌, refl}
 use Rattle.pd_sexp.specs.Bytes.{is_letter, lowered, semicolon}
 use Rattle.pd_sexp.specs.Lexer as lexing
 use Rattle.pd_sexp.specs.declared.lexer.Lexed.TheVariants.{Ended}

@@ -63,6 +63,8 @@ impl Lexer {
     }
 
     /// Reads one byte more, or answers `AllocError` where there is no memory for a letter or for the word that ends.
+    // Inlined: it is called for each byte of a file, and mostly comes to nothing.
+    #[inline(always)]
     pub fn step(&mut self, byte: u8) -> Result<Lexed, AllocError>
         ensures standing { OnOk result (self.new ≡ lexing.next self.old byte) }
         ensures lexed { IfOk result (λ came. came ≡ lexing.lexed self.old byte) }
