@@ -1,4 +1,5 @@
 pub mod Steps
+pub mod Words
 pub mod Lookups
 pub mod Kept
 pub mod Rows

@@ -1,7 +1,7 @@
 // The reader of lists: where it stands between two bytes.
 use crate::PlanFault;
 use crate::lists::{WordList, Words};
-use pd_sexp::{Name, is_blank, is_letter, lowered};
+use pd_sexp::{Lexed, Lexer, Name, is_letter};
 use pd_words::Named;
 use std::alloc::Global;
 use std::mem;
@@ -13,40 +13,28 @@ pub enum Place {
     Inside,
 }
 
-/// In a gap, in a comment, or in a word.
-#[derive(Clone, Copy, Debug, PartialEq, Eq)]
-pub enum Spot {
-    Gap(Place),
-    Comment(Place),
-    Word,
-}
-
 /// Where the reader stands after some bytes.
 #[derive(Drop)]
 pub struct Reader {
     alloc: Global,
-    spot: Spot,
+    lexer: Lexer,
+    place: Place,
     /// The lists that were closed.
     done: Vec<WordList>,
     /// Where the open list began.
     start: u32,
     /// Its words so far.
     words: Vec<Named>,
-    /// Where the word began that is being read.
-    first: u32,
-    /// Its letters so far.
-    letters: Vec<u8>,
 }
 
 impl Reader {
-    ghost use Rattle.std.specs.Prelude.{◌≡◌, ◌<◌, ◌++◌, [], ◌∷◌, Ok, Err, IfErr, OnOk};
-    ghost use Rattle.pd_sexp.specs.Bytes as bytes;
+    ghost use Rattle.std.specs.Prelude.{◌≡◌, ◌++◌, [], ◌∷◌, Ok, Err, IfErr, OnOk};
     ghost use Rattle.pd_words.specs.Typed.{named};
+    ghost use Rattle.pd_plan.specs.declared.fault.PlanFault.TheVariants.{Memory};
+    ghost use Rattle.pd_sexp.specs.Lexer as lexing;
     ghost use Rattle.pd_plan.specs.Answers.{GivesAs};
     ghost use Rattle.pd_plan.specs.Progress as reading;
     ghost use Rattle.pd_plan.specs.Reader.{state_of, place_of, Steps};
-    ghost use Rattle.pd_plan.specs.declared.fault.PlanFault.TheVariants.{Memory};
-    ghost use Rattle.pd_plan.specs.declared.reader.Spot.TheVariants.{Gap, Comment, Word};
     ghost use Rattle.pd_plan.specs.declared.reader.Place.TheVariants as places;
 
     /// Before the first byte.
@@ -55,12 +43,11 @@ impl Reader {
     {
         Reader {
             alloc,
-            spot: Spot::Gap(Place::Between),
+            lexer: Lexer::new(alloc),
+            place: Place::Between,
             done: Vec::new(alloc),
             start: 0,
             words: Vec::new(alloc),
-            first: 0,
-            letters: Vec::new(alloc),
         }
     }
 
@@ -68,89 +55,62 @@ impl Reader {
     pub fn step(&mut self, at: u32, byte: u8) -> Result<(), PlanFault>
         ensures { Steps (reading.step (state_of self.old) at byte) (state_of self.new) result }
     {
-        match self.spot {
-            Spot::Gap(place) => self.outside(place, at, byte),
-            Spot::Comment(place) => {
-                if byte == b'\n' {
-                    self.spot = Spot::Gap(place);
-                }
-                Ok(())
+        match self.lexer.step(byte)? {
+            Lexed::Nothing => Ok(()),
+            Lexed::Token => self.token(at, byte),
+            Lexed::Ended {
+                at: first,
+                text,
+                token,
+            } => {
+                self.add_word(first, text)?;
+                if token { self.token(at, byte) } else { Ok(()) }
             }
-            Spot::Word => self.in_word(at, byte),
         }
     }
 
-    fn in_word(&mut self, at: u32, byte: u8) -> Result<(), PlanFault>
-        requires { self.old.spot ≡ Word }
-        ensures { Steps (reading.step (state_of self.old) at byte) (state_of self.new) result }
-    {
-        if is_letter(byte) {
-            self.letters.push(lowered(byte))?;
-            return Ok(());
-        }
-        self.end_word()?;
-        self.outside(Place::Inside, at, byte)
-    }
-
-    fn end_word(&mut self) -> Result<(), PlanFault>
-        requires { self.old.spot ≡ Word }
-        ensures ended { OnOk result (state_of self.new ≡ reading.gap self.old.done.items (reading.inside self.old.start (self.old.words.items ++ named self.old.first self.old.letters.items ∷ []))) }
-        ensures kept { OnOk result (self.new.done.items ≡ self.old.done.items) }
-        ensures start { OnOk result (self.new.start ≡ self.old.start) }
-        ensures words { OnOk result (self.new.words.items ≡ self.old.words.items ++ named self.old.first self.old.letters.items ∷ []) }
-        ensures spot { OnOk result (self.new.spot ≡ Gap places.Inside) }
+    // The word that ended is the next one of the open list.
+    fn add_word(&mut self, first: u32, name: Name) -> Result<(), PlanFault>
+        ensures place { OnOk result (place_of self.new.place self.new.start self.new.words.items ≡ reading.inside self.old.start (self.old.words.items ++ named first name ∷ [])) }
+        ensures done { OnOk result (self.new.done.items ≡ self.old.done.items) }
+        ensures lexer { OnOk result (self.new.lexer ≡ self.old.lexer) }
         ensures memory { IfErr result (λ e. e ≡ Memory) }
     {
-        let name = Name::of(Vec::from_slice(self.alloc, self.letters.as_slice())?);
-        self.words.push(Named {
-            at: self.first,
-            name,
-        })?;
-        self.spot = Spot::Gap(Place::Inside);
+        self.words.push(Named { at: first, name })?;
+        self.place = Place::Inside;
         Ok(())
     }
 
-    fn outside(&mut self, place: Place, at: u32, byte: u8) -> Result<(), PlanFault>
-        requires { self.old.spot ≡ Gap place }
-        ensures { Steps (reading.outside self.old.done.items (place_of place self.old.start self.old.words.items) at byte) (state_of self.new) result }
+    // A byte outside comments and words that is neither blank nor a semicolon.
+    fn token(&mut self, at: u32, byte: u8) -> Result<(), PlanFault>
+        requires { self.old.lexer ≡ lexing.gap }
+        ensures { Steps (reading.token self.old.done.items (place_of self.old.place self.old.start self.old.words.items) at byte) (state_of self.new) result }
     {
-        if is_blank(byte) {
-            Ok(())
-        } else if byte == b';' {
-            self.spot = Spot::Comment(place);
-            Ok(())
-        } else {
-            self.token(place, at, byte)
-        }
-    }
-
-    // A byte that is neither blank nor a semicolon.
-    fn token(&mut self, place: Place, at: u32, byte: u8) -> Result<(), PlanFault>
-        requires { self.old.spot ≡ Gap place }
-        ensures { Steps (reading.token self.old.done.items (place_of place self.old.start self.old.words.items) at byte) (state_of self.new) result }
-    {
-        match place {
+        match self.place {
             Place::Between if byte == b'(' => {
                 self.open(at);
                 Ok(())
             }
             Place::Inside if byte == b')' => self.close(),
-            Place::Inside if is_letter(byte) => self.begin_word(at, byte),
+            Place::Inside if is_letter(byte) => {
+                self.lexer.begin(at, byte)?;
+                Ok(())
+            }
             _ => Err(PlanFault::Syntax { at }),
         }
     }
 
     fn open(&mut self, at: u32)
-        requires { self.old.spot ≡ Gap places.Between }
+        requires { self.old.lexer ≡ lexing.gap }
         ensures { state_of self.new ≡ reading.gap self.old.done.items (reading.inside at []) }
     {
         self.words = Vec::new(self.alloc);
         self.start = at;
-        self.spot = Spot::Gap(Place::Inside);
+        self.place = Place::Inside;
     }
 
     fn close(&mut self) -> Result<(), PlanFault>
-        requires { self.old.spot ≡ Gap places.Inside }
+        requires { self.old.lexer ≡ lexing.gap }
         ensures { Steps (reading.closed self.old.done.items self.old.start self.old.words.items) (state_of self.new) result }
     {
         if self.words.as_slice().is_empty() {
@@ -161,19 +121,7 @@ impl Reader {
             at: self.start,
             words: Words::of(words),
         })?;
-        self.spot = Spot::Gap(Place::Between);
-        Ok(())
-    }
-
-    fn begin_word(&mut self, at: u32, byte: u8) -> Result<(), PlanFault>
-        requires { self.old.spot ≡ Gap places.Inside }
-        ensures begun { OnOk result (state_of self.new ≡ reading.word self.old.done.items self.old.start self.old.words.items at (bytes.lowered byte ∷ [])) }
-        ensures memory { IfErr result (λ e. e ≡ Memory) }
-    {
-        self.letters.clear();
-        self.letters.push(lowered(byte))?;
-        self.first = at;
-        self.spot = Spot::Word;
+        self.place = Place::Between;
         Ok(())
     }
 
@@ -181,9 +129,9 @@ impl Reader {
     pub fn finish(self, length: u32) -> Result<Vec<WordList>, PlanFault>
         ensures { GivesAs (λ lists. lists.items) (reading.finished (state_of self) length) result }
     {
-        match self.spot {
-            Spot::Gap(Place::Between) | Spot::Comment(Place::Between) => Ok(self.done),
-            _ => Err(PlanFault::Syntax { at: length }),
+        if self.lexer.in_word() || self.place != Place::Between {
+            return Err(PlanFault::Syntax { at: length });
         }
+        Ok(self.done)
     }
 }

@@ -7,4 +7,6 @@ pub mod Levels
 pub mod Verdicts
 pub mod Frames
 pub mod Judged
+pub mod WordEnds
+pub mod Words
 pub mod WordLaw

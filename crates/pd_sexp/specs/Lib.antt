@@ -5,5 +5,6 @@ pub mod Fault
 pub mod Word
 pub mod View
 pub mod Progress
-pub mod Spot
+pub mod Lexer
+pub mod Place
 pub mod Reader

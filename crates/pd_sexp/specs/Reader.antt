@@ -9,8 +9,7 @@ use Rattle.pd_sexp.specs.declared.reader.Frame.{Frame}
 use Rattle.pd_sexp.specs.declared.reader.Reader.{Reader}
 use Rattle.pd_sexp.specs.declared.reader.Place.{Place}
 use Rattle.pd_sexp.specs.declared.reader.Place.TheVariants.{Before, Inside, After}
-use Rattle.pd_sexp.specs.declared.reader.Spot.{Spot}
-use Rattle.pd_sexp.specs.declared.reader.Spot.TheVariants.{Gap, Comment, Word}
+use Rattle.pd_sexp.specs.Lexer.{Standing, gap, comment, word}
 
 abbrev pub frame_of : Frame → at.Frame
 frame_of frame = record { at = frame.at; items = map view frame.items.items }
@@ -24,13 +23,13 @@ place_of Before frame outer = at.before
 place_of Inside frame outer = at.inside frame outer
 place_of After frame outer = at.after frame
 
-abbrev pub state_from : Spot → at.Frame → List at.Frame → ℕ → List ℕ → at.State
-state_from (Gap place) frame outer start letters = at.gap (place_of place frame outer)
-state_from (Comment place) frame outer start letters = at.comment (place_of place frame outer)
-state_from Word frame outer start letters = at.word frame outer start letters
+abbrev pub state_from : Standing → Place → at.Frame → List at.Frame → at.State
+state_from gap place frame outer = at.gap (place_of place frame outer)
+state_from comment place frame outer = at.comment (place_of place frame outer)
+state_from (word start letters) place frame outer = at.word frame outer start letters
 
 abbrev pub state_of : Reader → at.State
-state_of r = state_from r.spot (frame_of r.frame) (outer_of r.outer.items) r.start r.letters.items
+state_of r = state_from r.lexer r.place (frame_of r.frame) (outer_of r.outer.items)
 
 -- One byte more was read, or no file goes on so, or a list stands too deep; of want of memory nothing is said.
 abbrev pub Steps : at.State → ℕ → ℕ → at.State → Result (Unit {0}) TreeError → Type 0

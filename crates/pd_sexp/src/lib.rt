@@ -12,10 +12,12 @@ ghost use Rattle.pd_sexp.specs.View.{view};
 ghost use Rattle.pd_sexp.specs.Word.{has_words};
 
 mod kinds;
+mod lexer;
 mod reader;
 mod tree;
 
 pub use kinds::{is_blank, is_letter, lowered};
+pub use lexer::{Lexed, Lexer};
 use reader::Reader;
 use std::alloc::Global;
 pub use tree::{Name, Tree, TreeError, Trees};

@@ -1,9 +1,10 @@
 //! The reader: one pass over the bytes, with the open lists on a stack of its own, so that no file can
 //! exhaust the program's stack.
 ghost use Rattle.std.specs.Prelude.{◌≡◌, IsTrue, length};
-ghost use Rattle.pd_sexp.specs.Spot.{is_before};
+ghost use Rattle.pd_sexp.specs.Place.{is_before};
 
-use crate::kinds::{is_blank, is_letter, lowered};
+use crate::kinds::is_letter;
+use crate::lexer::{Lexed, Lexer};
 use crate::{Name, Tree, TreeError, Trees};
 use std::alloc::Global;
 use std::mem;
@@ -44,28 +45,17 @@ pub enum Place {
     After,
 }
 
-/// In a gap, in a comment, or in a word.
-#[derive(Clone, Copy, Debug, PartialEq, Eq)]
-pub enum Spot {
-    Gap(Place),
-    Comment(Place),
-    Word,
-}
-
 /// Where the reader stands after some bytes.
 #[derive(Drop)]
 pub struct Reader {
     alloc: Global,
-    spot: Spot,
+    lexer: Lexer,
+    place: Place,
     /// The innermost open list.
     frame: Frame,
     /// The lists round it, the innermost last.
     outer: Vec<Frame>,
-    /// Where the word began that is being read.
-    start: u32,
-    /// Its letters so far.
-    letters: Vec<u8>,
-    ghost none_open: { IsTrue (is_before spot) → length outer.items ≡ 0 },
+    ghost none_open: { IsTrue (is_before place) → length outer.items ≡ 0 },
 }
 
 impl Reader {
@@ -74,7 +64,7 @@ impl Reader {
     ghost use Rattle.pd_sexp.specs.Progress as reading;
     ghost use Rattle.pd_sexp.specs.Tree as defs;
     ghost use Rattle.pd_sexp.specs.Bytes as bytes;
-    ghost use Rattle.pd_sexp.specs.declared.reader.Spot.TheVariants.{Gap, Comment, Word};
+    ghost use Rattle.pd_sexp.specs.Lexer as lexing;
     ghost use Rattle.pd_sexp.specs.declared.reader.Place.TheVariants as places;
 
     /// Before the first byte.
@@ -83,14 +73,13 @@ impl Reader {
     {
         Reader {
             alloc,
-            spot: Spot::Gap(Place::Before),
+            lexer: Lexer::new(alloc),
+            place: Place::Before,
             frame: Frame {
                 at: 0,
                 items: Vec::new(alloc),
             },
             outer: Vec::new(alloc),
-            start: 0,
-            letters: Vec::new(alloc),
         }
     }
 
@@ -98,90 +87,67 @@ impl Reader {
     pub fn step(&mut self, at: u32, byte: u8) -> Result<(), TreeError>
         ensures { Steps (state_of self.old) at byte (state_of self.new) result }
     {
-        match self.spot {
-            Spot::Gap(place) => self.outside(place, at, byte),
-            Spot::Comment(place) => {
-                if byte == b'\n' {
-                    self.spot = Spot::Gap(place);
-                }
-                Ok(())
+        match self.lexer.step(byte)? {
+            Lexed::Nothing => Ok(()),
+            Lexed::Token => self.token(at, byte),
+            Lexed::Ended {
+                at: start,
+                text,
+                token,
+            } => {
+                self.add_word(start, text)?;
+                if token { self.token(at, byte) } else { Ok(()) }
             }
-            Spot::Word => self.in_word(at, byte),
         }
     }
 
-    fn in_word(&mut self, at: u32, byte: u8) -> Result<(), TreeError>
-        requires { self.old.spot ≡ Word }
-        ensures { Steps (state_of self.old) at byte (state_of self.new) result }
-    {
-        if is_letter(byte) {
-            self.letters.push(lowered(byte))?;
-            return Ok(());
-        }
-        self.end_word()?;
-        self.outside(Place::Inside, at, byte)
-    }
-
-    fn end_word(&mut self) -> Result<(), TreeError>
-        requires { self.old.spot ≡ Word }
-        ensures ended { OnOk result (state_of self.new ≡ reading.gap (reading.inside (reading.with_item (frame_of self.old.frame) (defs.word self.old.start self.old.letters.items)) (outer_of self.old.outer.items))) }
-        ensures spot { OnOk result (self.new.spot ≡ Gap places.Inside) }
+    // The word that ended is the next item of the innermost list.
+    fn add_word(&mut self, start: u32, text: Name) -> Result<(), TreeError>
+        ensures place { OnOk result (place_of self.new.place (frame_of self.new.frame) (outer_of self.new.outer.items) ≡ reading.inside (reading.with_item (frame_of self.old.frame) (defs.word start text)) (outer_of self.old.outer.items)) }
+        ensures lexer { OnOk result (self.new.lexer ≡ self.old.lexer) }
         ensures memory { IfErr result (λ e. e ≡ TreeError.Memory) }
     {
-        let text = Name::of(Vec::from_slice(self.alloc, self.letters.as_slice())?);
-        self.frame.items.push(Tree::Word {
-            at: self.start,
-            text,
-        })?;
-        self.spot = Spot::Gap(Place::Inside);
+        self.frame.items.push(Tree::Word { at: start, text })?;
+        self.place = Place::Inside;
         Ok(())
     }
 
-    fn outside(&mut self, place: Place, at: u32, byte: u8) -> Result<(), TreeError>
-        requires { self.old.spot ≡ Gap place }
-        ensures { Steps (state_of self.old) at byte (state_of self.new) result }
+    // A byte outside comments and words that is neither blank nor a semicolon.
+    fn token(&mut self, at: u32, byte: u8) -> Result<(), TreeError>
+        requires { self.old.lexer ≡ lexing.gap }
+        ensures { TakesToken (place_of self.old.place (frame_of self.old.frame) (outer_of self.old.outer.items)) at byte (state_of self.new) result }
     {
-        if is_blank(byte) {
-            Ok(())
-        } else if byte == b';' {
-            self.spot = Spot::Comment(place);
-            Ok(())
-        } else {
-            self.token(place, at, byte)
-        }
-    }
-
-    // A byte that is neither blank nor a semicolon.
-    fn token(&mut self, place: Place, at: u32, byte: u8) -> Result<(), TreeError>
-        requires { self.old.spot ≡ Gap place }
-        ensures { TakesToken (place_of place (frame_of self.old.frame) (outer_of self.old.outer.items)) at byte (state_of self.new) result }
-    {
-        match place {
+        match self.place {
             Place::Before if byte == b'(' => {
                 self.begin(at);
                 Ok(())
             }
             Place::Inside if byte == b'(' => self.open(at),
             Place::Inside if byte == b')' => self.close(),
-            Place::Inside if is_letter(byte) => self.begin_word(at, byte),
+            Place::Inside if is_letter(byte) => {
+                self.lexer.begin(at, byte)?;
+                Ok(())
+            }
             _ => Err(TreeError::Syntax { at }),
         }
     }
 
     fn begin(&mut self, at: u32)
-        requires { self.old.spot ≡ Gap places.Before }
+        requires gap { self.old.lexer ≡ lexing.gap }
+        requires before { self.old.place ≡ places.Before }
         ensures { state_of self.new ≡ reading.gap (reading.inside (reading.fresh at) []) }
     {
         self.frame = Frame {
             at,
             items: Vec::new(self.alloc),
         };
-        self.spot = Spot::Gap(Place::Inside);
+        self.place = Place::Inside;
     }
 
     #[tactic(auto, using(crate::proofs::Frames::last_frame))]
     fn open(&mut self, at: u32) -> Result<(), TreeError>
-        requires { self.old.spot ≡ Gap places.Inside }
+        requires gap { self.old.lexer ≡ lexing.gap }
+        requires inside { self.old.place ≡ places.Inside }
         ensures { TakesToken (reading.inside (frame_of self.old.frame) (outer_of self.old.outer.items)) at bytes.open_paren (state_of self.new) result }
     {
         if self.outer.len() + 1 == MAX_LEVELS {
@@ -198,13 +164,14 @@ impl Reader {
 
     #[tactic(auto, using(crate::proofs::Frames::last_frame))]
     fn close(&mut self) -> Result<(), TreeError>
-        requires { self.old.spot ≡ Gap places.Inside }
+        requires gap { self.old.lexer ≡ lexing.gap }
+        requires inside { self.old.place ≡ places.Inside }
         ensures closed { OnOk result (state_of self.new ≡ reading.gap (reading.closed (frame_of self.old.frame) (outer_of self.old.outer.items))) }
         ensures memory { IfErr result (λ e. e ≡ TreeError.Memory) }
     {
         match self.outer.pop() {
             None => {
-                self.spot = Spot::Gap(Place::After);
+                self.place = Place::After;
                 Ok(())
             }
             Some(parent) => {
@@ -215,25 +182,13 @@ impl Reader {
         }
     }
 
-    fn begin_word(&mut self, at: u32, byte: u8) -> Result<(), TreeError>
-        requires { self.old.spot ≡ Gap places.Inside }
-        ensures begun { OnOk result (state_of self.new ≡ reading.word (frame_of self.old.frame) (outer_of self.old.outer.items) at (bytes.lowered byte ∷ [])) }
-        ensures memory { IfErr result (λ e. e ≡ TreeError.Memory) }
-    {
-        self.letters.clear();
-        self.letters.push(lowered(byte))?;
-        self.start = at;
-        self.spot = Spot::Word;
-        Ok(())
-    }
-
     /// The tree that was read, at the end of so many bytes.
     pub fn finish(self, length: u32) -> Result<Tree, TreeError>
         ensures { Ends (state_of self) length result }
     {
-        match self.spot {
-            Spot::Gap(Place::After) | Spot::Comment(Place::After) => Ok(self.frame.into_tree()),
-            _ => Err(TreeError::Syntax { at: length }),
+        if self.lexer.in_word() || self.place != Place::After {
+            return Err(TreeError::Syntax { at: length });
         }
+        Ok(self.frame.into_tree())
     }
 }
