@@ -16,6 +16,7 @@ pub mod Statuses
 pub mod Recents
 pub mod Lefts
 pub mod UnitsOfSlots
+pub mod Tabled
 pub mod Givens
 pub mod Views
 pub mod Templates

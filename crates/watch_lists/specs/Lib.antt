@@ -6,5 +6,6 @@ pub mod Back
 pub mod Recent
 pub mod Pairs
 pub mod Sound
+pub mod Tables
 pub mod Added
 pub mod Given

@@ -5,17 +5,17 @@ ghost use Rattle.clause_base.specs.Clause.{has_literal};
 ghost use Rattle.cdcl_rules.specs.Pending.{open_ones, is_pending};
 ghost use Rattle.cdcl_rules.specs.State.{clause_at};
 ghost use Rattle.number_bits.specs.Bits.{IsLeast, words_have};
-ghost use Rattle.watch_lists.specs.Units.{IsUnit, IsUnitAt, IsConsistent, IsWithin};
-ghost use Rattle.watch_lists.specs.Recent.{IsRecent};
+ghost use Rattle.watch_lists.specs.Units.{IsUnit, IsUnitAt, IsWithin};
+ghost use Rattle.watch_lists.specs.Tables.{AreTables, HasUnitOf};
 ghost use Rattle.watch_lists.specs.Status.{IsStatus, IsFrontLeft};
 ghost use Rattle.watch_lists.specs.Pending.{is_free};
 ghost use Rattle.watch_lists.specs.Visit.{IsFit};
 
 use crate::pending::Pending;
-use crate::recent::Recent;
 use crate::scan::status_of;
 use crate::slots::find_slot;
 use crate::status::Status;
+use crate::tables::Tables;
 use cdcl_trail::assignment::Assignment;
 use clause_base::literal::Lit;
 use number_bits::first::First;
@@ -28,21 +28,15 @@ use watch_store::store::Store;
 const READ: usize = 2;
 
 /// The unit literal of the slot of the clause with a number and so many literals, if these are more than two and its slot is found.
-fn unit_by_slot(
-    count: usize,
-    slots: &[u32],
-    blocks: &[u32],
-    units: &[u32],
-    number: u32,
-) -> Option<u32>
-    requires few { length slots.now ≤ 4294967295 }
-    requires long { length slots.now ≤ length units.now }
-    ensures { (on : ℕ → Bool) (clauses : List (List ℕ)) → length (clause_at clauses number) ≡ count → IsUnitAt clauses slots.now on units.now number → IfSome result (λ unit. IsUnit on (clause_at clauses number) unit) }
+fn unit_by_slot(count: usize, tables: &Tables, units: &[u32], number: u32) -> Option<u32>
+    requires few { length tables.now.slots.items ≤ 4294967295 }
+    requires long { length tables.now.slots.items ≤ length units.now }
+    ensures { (on : ℕ → Bool) (clauses : List (List ℕ)) → length (clause_at clauses number) ≡ count → IsUnitAt clauses tables.now.slots.items on units.now number → IfSome result (λ unit. IsUnit on (clause_at clauses number) unit) }
 {
     if count <= READ {
         return None;
     }
-    match find_slot(slots, blocks, number) {
+    match find_slot(tables, number) {
         Some(slot) => Some(units[slot as usize]),
         None => None,
     }
@@ -88,24 +82,13 @@ fn status_two(assignment: &Assignment, one: u32, other: u32) -> Status
 
 /// How a clause stands that is read, unless its slot tells its unit literal.
 #[inline(never)]
-fn status_read(
-    store: &Store,
-    slots: &[u32],
-    blocks: &[u32],
-    assignment: &Assignment,
-    units: &[u32],
-    number: u32,
-) -> Status
-    requires fit { IsFit store.now (2 * assignment.now.variables) }
-    requires few { length slots.now ≤ 4294967295 }
-    requires long { length slots.now ≤ length units.now }
-    requires consistent { IsConsistent assignment.now.trail }
-    requires units_are { IsUnitAt store.now slots.now (has_literal assignment.now.trail) units.now number }
-    requires inside { number < length store.now }
-    ensures { IsStatus (is_pending (has_literal assignment.now.trail) (clause_at store.now number)) (open_ones (has_literal assignment.now.trail) (clause_at store.now number)) result }
+fn status_read(tables: &Tables, assignment: &Assignment, units: &[u32], number: u32) -> Status
+    requires tables { AreTables tables.now (2 * assignment.now.variables) }
+    requires unit { HasUnitOf tables.now assignment.now.trail units.now number }
+    ensures { IsStatus (is_pending (has_literal assignment.now.trail) (clause_at tables.now.store number)) (open_ones (has_literal assignment.now.trail) (clause_at tables.now.store number)) result }
 {
-    let clause = store.clause(number);
-    match unit_by_slot(clause.len(), slots, blocks, units, number) {
+    let clause = tables.store.clause(number);
+    match unit_by_slot(clause.len(), tables, units, number) {
         Some(unit) => status_by(assignment, unit),
         None => status_of(assignment, &clause),
     }
@@ -113,28 +96,14 @@ fn status_read(
 
 /// How a clause stands. It is mostly known without a call.
 #[inline(always)]
-pub fn status_at(
-    store: &Store,
-    recent: &Recent,
-    slots: &[u32],
-    blocks: &[u32],
-    assignment: &Assignment,
-    units: &[u32],
-    number: u32,
-) -> Status
-    requires fit { IsFit store.now (2 * assignment.now.variables) }
-    requires small { length store.now ≤ 4294967295 }
-    requires recent { IsRecent store.now recent.now }
-    requires few { length slots.now ≤ 4294967295 }
-    requires long { length slots.now ≤ length units.now }
-    requires consistent { IsConsistent assignment.now.trail }
-    requires units_are { IsUnitAt store.now slots.now (has_literal assignment.now.trail) units.now number }
-    requires inside { number < length store.now }
-    ensures { IsStatus (is_pending (has_literal assignment.now.trail) (clause_at store.now number)) (open_ones (has_literal assignment.now.trail) (clause_at store.now number)) result }
+pub fn status_at(tables: &Tables, assignment: &Assignment, units: &[u32], number: u32) -> Status
+    requires tables { AreTables tables.now (2 * assignment.now.variables) }
+    requires unit { HasUnitOf tables.now assignment.now.trail units.now number }
+    ensures { IsStatus (is_pending (has_literal assignment.now.trail) (clause_at tables.now.store number)) (open_ones (has_literal assignment.now.trail) (clause_at tables.now.store number)) result }
 {
-    match recent.find(number) {
+    match tables.recent.find(number) {
         Some(entry) => status_two(assignment, entry.one, entry.pair.other),
-        None => status_read(store, slots, blocks, assignment, units, number),
+        None => status_read(tables, assignment, units, number),
     }
 }
 

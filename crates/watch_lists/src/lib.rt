@@ -26,6 +26,7 @@ mod room;
 mod scan;
 mod slots;
 mod status;
+mod tables;
 mod take_slot;
 mod undo;
 mod visit;

@@ -7,12 +7,13 @@ ghost use Rattle.clause_base.specs.Literal.{opposite};
 ghost use Rattle.clause_base.specs.Clause.{has_literal};
 ghost use Rattle.number_bits.specs.Bits.{words_have};
 ghost use Rattle.watch_chains.specs.Linked.{chain_length};
-ghost use Rattle.watch_lists.specs.Units.{AreUnits, AreDistinct, IsWithin};
-ghost use Rattle.watch_lists.specs.Visit.{IsFit, IsListed, IsAtRest, IsReal, IsNodeKept, IsOther, Stays, MovesToFree, Grows, AllSettled, AreSlotsBelow, literal_at, place_in, slot_clauses, slot_flags, slot_set};
+ghost use Rattle.watch_lists.specs.Tables.{AreTables, IsUnitSet, clauses_in, flags_in};
+ghost use Rattle.watch_lists.specs.Visit.{IsListed, IsAtRest, IsReal, IsNodeKept, IsOther, Stays, MovesToFree, Grows, AllSettled, literal_at, place_in, slot_set};
 
 use crate::pending::Pending;
 use crate::scan::find_other;
 use crate::slots::{is_slot_kept, slot_clause};
+use crate::tables::Tables;
 use cdcl_trail::assignment::Assignment;
 use let_go::let_go;
 use number_bits::first::First;
@@ -20,7 +21,6 @@ use number_bits::flat::Flat;
 use number_bits::layer::Layer;
 use number_bits::set::NumberSet;
 use watch_chains::chains::Chains;
-use watch_store::store::Store;
 
 /// The places of a clause's two watched literals, and the place where the search for another goes on.
 #[derive(Clone, Copy, Debug)]
@@ -76,37 +76,21 @@ impl Watched {
 
 impl Lists {
     /// Visits a node that was taken from the chain of a literal that is false.
-    fn visit(
-        &mut self,
-        store: &Store,
-        kept: &[bool],
-        slots: &[u32],
-        assignment: &Assignment,
-        spare: u32,
-        code: u32,
-        node: u32,
-    )
+    fn visit(&mut self, tables: &Tables, assignment: &Assignment, spare: u32, code: u32, node: u32)
         requires spare { spare ≡ 2 * assignment.now.variables }
         requires code { code < spare }
         requires falsified { has_literal assignment.now.trail (opposite code) ≡ true }
-        requires fit { IsFit store.now spare }
-        requires kept { length kept.now ≡ length store.now }
-        requires slotted { AreSlotsBelow (length store.now) slots.now }
-        requires room { length store.now ≤ 64 * length self.old.pending }
-        requires long { length slots.now ≤ length self.old.units.items }
-        requires distinct { AreDistinct slots.now }
-        requires within { IsWithin (length store.now) (words_have self.old.pending) }
-        requires units_are { AreUnits (slot_clauses store.now slots.now) (has_literal assignment.now.trail) (slot_set (words_have self.old.pending) slots.now) self.old.units.items }
-        requires real { IsReal (slot_clauses store.now slots.now) node }
-        requires own { IsNodeKept (slot_flags kept.now slots.now) node → literal_at (slot_clauses store.now slots.now) self.old.watched.items node ≡ code }
-        requires listed { (r : IsListed (slot_clauses store.now slots.now) self.old.watched.items self.old.chains.heads.items self.old.chains.nodes.items spare (IsOther (slot_flags kept.now slots.now) node) (Stays (slot_clauses store.now slots.now) self.old.watched.items (has_literal assignment.now.trail) (slot_set (words_have self.old.pending) slots.now) code)) × (r.on node ≡ None) }
-        ensures listed { IsListed (slot_clauses store.now slots.now) self.new.watched.items self.new.chains.heads.items self.new.chains.nodes.items spare (IsNodeKept (slot_flags kept.now slots.now)) (Stays (slot_clauses store.now slots.now) self.new.watched.items (has_literal assignment.now.trail) (slot_set (words_have self.new.pending) slots.now) code) }
-        ensures moves { MovesToFree (slot_clauses store.now slots.now) self.old.watched.items self.new.watched.items (has_literal assignment.now.trail) }
+        requires tables { AreTables tables.now spare }
+        requires set { IsUnitSet tables.now assignment.now.trail self.old.pending self.old.units.items }
+        requires real { IsReal (clauses_in tables.now) node }
+        requires own { IsNodeKept (flags_in tables.now) node → literal_at (clauses_in tables.now) self.old.watched.items node ≡ code }
+        requires listed { (r : IsListed (clauses_in tables.now) self.old.watched.items self.old.chains.heads.items self.old.chains.nodes.items spare (IsOther (flags_in tables.now) node) (Stays (clauses_in tables.now) self.old.watched.items (has_literal assignment.now.trail) (slot_set (words_have self.old.pending) tables.now.slots.items) code)) × (r.on node ≡ None) }
+        ensures listed { IsListed (clauses_in tables.now) self.new.watched.items self.new.chains.heads.items self.new.chains.nodes.items spare (IsNodeKept (flags_in tables.now)) (Stays (clauses_in tables.now) self.new.watched.items (has_literal assignment.now.trail) (slot_set (words_have self.new.pending) tables.now.slots.items) code) }
+        ensures moves { MovesToFree (clauses_in tables.now) self.old.watched.items self.new.watched.items (has_literal assignment.now.trail) }
         ensures grows { Grows (words_have self.old.pending) (words_have self.new.pending) }
         ensures room { length self.new.pending ≡ length self.old.pending }
         ensures long { length self.new.units.items ≡ length self.old.units.items }
-        ensures within { IsWithin (length store.now) (words_have self.new.pending) }
-        ensures units_are { AreUnits (slot_clauses store.now slots.now) (has_literal assignment.now.trail) (slot_set (words_have self.new.pending) slots.now) self.new.units.items }
+        ensures set { IsUnitSet tables.now assignment.now.trail self.new.pending self.new.units.items }
         ensures lengths { chain_length self.new.chains.heads.items self.new.chains.nodes.items code ≡ chain_length self.old.chains.heads.items self.old.chains.nodes.items code }
     {
         let blocking = self.chains.blocking(node);
@@ -115,11 +99,11 @@ impl Lists {
             return;
         }
         let slot = node / 2;
-        if !is_slot_kept(kept, slots, slot) {
+        if !is_slot_kept(tables, slot) {
             return;
         }
         let watched = self.watched[slot as usize];
-        let clause = slot_clause(store, slots, slot);
+        let clause = slot_clause(tables, slot);
         let second = node % 2 == 1;
         let other = watched.at(!second);
         let lit = clause.get(other as usize);
@@ -136,7 +120,7 @@ impl Lists {
             }
             None => {
                 self.chains.link(node, spare, beside);
-                let number = slots[slot as usize];
+                let number = tables.number_at(slot);
                 self.units[slot as usize] = beside;
                 self.pending.insert(number);
             }
@@ -144,35 +128,20 @@ impl Lists {
     }
 
     /// Visits the clauses that watch a literal that is false.
-    pub fn visit_all(
-        &mut self,
-        store: &Store,
-        kept: &[bool],
-        slots: &[u32],
-        assignment: &Assignment,
-        spare: u32,
-        code: u32,
-    )
+    pub fn visit_all(&mut self, tables: &Tables, assignment: &Assignment, spare: u32, code: u32)
         requires spare { spare ≡ 2 * assignment.now.variables }
         requires code { code < spare }
         requires falsified { has_literal assignment.now.trail (opposite code) ≡ true }
-        requires fit { IsFit store.now spare }
-        requires kept { length kept.now ≡ length store.now }
-        requires slotted { AreSlotsBelow (length store.now) slots.now }
-        requires room { length store.now ≤ 64 * length self.old.pending }
-        requires long { length slots.now ≤ length self.old.units.items }
-        requires distinct { AreDistinct slots.now }
-        requires within { IsWithin (length store.now) (words_have self.old.pending) }
-        requires units_are { AreUnits (slot_clauses store.now slots.now) (has_literal assignment.now.trail) (slot_set (words_have self.old.pending) slots.now) self.old.units.items }
-        requires rest { IsAtRest (slot_clauses store.now slots.now) self.old.watched.items self.old.chains.heads.items self.old.chains.nodes.items spare (slot_flags kept.now slots.now) }
-        ensures rest { IsAtRest (slot_clauses store.now slots.now) self.new.watched.items self.new.chains.heads.items self.new.chains.nodes.items spare (slot_flags kept.now slots.now) }
-        ensures settled { AllSettled (slot_clauses store.now slots.now) self.new.watched.items (has_literal assignment.now.trail) (slot_set (words_have self.new.pending) slots.now) code (slot_flags kept.now slots.now) }
-        ensures moves { MovesToFree (slot_clauses store.now slots.now) self.old.watched.items self.new.watched.items (has_literal assignment.now.trail) }
+        requires tables { AreTables tables.now spare }
+        requires set { IsUnitSet tables.now assignment.now.trail self.old.pending self.old.units.items }
+        requires rest { IsAtRest (clauses_in tables.now) self.old.watched.items self.old.chains.heads.items self.old.chains.nodes.items spare (flags_in tables.now) }
+        ensures rest { IsAtRest (clauses_in tables.now) self.new.watched.items self.new.chains.heads.items self.new.chains.nodes.items spare (flags_in tables.now) }
+        ensures settled { AllSettled (clauses_in tables.now) self.new.watched.items (has_literal assignment.now.trail) (slot_set (words_have self.new.pending) tables.now.slots.items) code (flags_in tables.now) }
+        ensures moves { MovesToFree (clauses_in tables.now) self.old.watched.items self.new.watched.items (has_literal assignment.now.trail) }
         ensures grows { Grows (words_have self.old.pending) (words_have self.new.pending) }
         ensures room { length self.new.pending ≡ length self.old.pending }
         ensures long { length self.new.units.items ≡ length self.old.units.items }
-        ensures within { IsWithin (length store.now) (words_have self.new.pending) }
-        ensures units_are { AreUnits (slot_clauses store.now slots.now) (has_literal assignment.now.trail) (slot_set (words_have self.new.pending) slots.now) self.new.units.items }
+        ensures set { IsUnitSet tables.now assignment.now.trail self.new.pending self.new.units.items }
     {
         'visits: loop {
             match self.chains.pop(code) {
@@ -181,7 +150,7 @@ impl Lists {
                     return;
                 }
                 Some(node) => {
-                    self.visit(store, kept, slots, assignment, spare, code, node);
+                    self.visit(tables, assignment, spare, code, node);
                 }
             }
         }

@@ -16,7 +16,8 @@ use crate::marks::mark_pairs;
 use crate::pending::{Pending, no_pending};
 use crate::quiet::{no_quiet, raise};
 use crate::recent::Recent;
-use crate::slots::{begin_block, blocks_of};
+use crate::slots::begin_block;
+use crate::tables::Tables;
 use crate::take_slot::take_slot;
 use crate::undo::{Back, refresh, take_back};
 use crate::visit::Lists;
@@ -43,16 +44,12 @@ const MOST_CLAUSES: u32 = 2_147_483_647;
 /// both, and of each other clause two literals are watched.
 pub struct Watching {
     variables: u32,
-    store: Store,
-    kept: Vec<bool>,
+    tables: Tables,
     trail: Trail,
     pairs: PairIndex,
-    slots: Vec<u32>,
-    blocks: Vec<u32>,
     lists: Lists,
     quiet: Vec<bool>,
     front_left: Option<Lit>,
-    recent: Recent,
 }
 
 impl Model for Watching {
@@ -69,17 +66,16 @@ impl Model for Watching {
 
     ghost Value = { WatchingView };
 
-    ghost view = { λ w. record { variables = w.variables; clauses = w.store; kept = w.kept.items; entries = w.trail.entries } };
+    ghost view = { λ w. record { variables = w.variables; clauses = w.tables.store; kept = w.tables.kept.items; entries = w.trail.entries } };
 
-    ghost invariant = { λ w. AreTablesSound w.variables w.trail.variables w.store w.kept.items (literals w.trail.entries) w.slots.items w.lists.watched.items w.lists.chains.heads.items w.lists.chains.nodes.items w.lists.pending w.quiet.items × IsPaired w.variables w.store w.slots.items w.pairs × HasUnits w.store (literals w.trail.entries) w.slots.items w.lists.pending w.lists.units.items × IsFrontLeft w.store (has_literal (literals w.trail.entries)) (words_have w.lists.pending) w.front_left × IsRecent w.store w.recent };
+    ghost invariant = { λ w. AreTablesSound w.variables w.trail.variables w.tables.store w.tables.kept.items (literals w.trail.entries) w.tables.slots.items w.lists.watched.items w.lists.chains.heads.items w.lists.chains.nodes.items w.lists.pending w.quiet.items × IsPaired w.variables w.tables.store w.tables.slots.items w.pairs × HasUnits w.tables.store (literals w.trail.entries) w.tables.slots.items w.lists.pending w.lists.units.items × IsFrontLeft w.tables.store (has_literal (literals w.trail.entries)) (words_have w.lists.pending) w.front_left × IsRecent w.tables.store w.tables.recent };
 }
 
 /// Letting one go is one call, in which its parts go: whoever holds one proves one step.
 impl Drop for Watching {
     fn drop(self) {
         let_go!(self: Watching {
-            variables, store, kept, trail, pairs, slots,
-            blocks, lists, quiet, front_left, recent
+            variables, tables, trail, pairs, lists, quiet, front_left
         });
     }
 }
@@ -101,16 +97,18 @@ impl Watching {
         let front_left = left_least(&store, &trail.assignment(), &given.lists.pending);
         Ok(Watching {
             variables,
-            store,
-            kept,
+            tables: Tables {
+                store,
+                kept,
+                slots: given.slots,
+                blocks: given.blocks,
+                recent,
+            },
             trail,
             pairs,
-            slots: given.slots,
-            blocks: given.blocks,
             lists: given.lists,
             quiet,
             front_left,
-            recent,
         })
     }
 
@@ -125,7 +123,7 @@ impl Watching {
     pub fn store(&self) -> &Store
         ensures { result.now ≡ self.now.clauses }
     {
-        &self.store
+        &self.tables.store
     }
 
     /// Lets a chooser's search for the least variable without a value begin where it should.
@@ -143,21 +141,21 @@ impl Watching {
         ensures ok { OnOk result (self.new ≡ record self.old { clauses = self.old.clauses ++ clause.now ∷ []; kept = self.old.kept ++ true ∷ [] }) }
         ensures err { OnErr result (self.new ≡ self.old) }
     {
-        let count = self.store.count();
+        let count = self.tables.store.count();
         if count >= MOST_CLAUSES {
             return Err(Memory);
         }
         let number = count;
-        let slot = self.slots.len() as u32;
-        self.kept.reserve(1)?;
-        self.slots.reserve(1)?;
-        begin_block(&mut self.blocks, number, slot)?;
+        let slot = self.tables.slots.len() as u32;
+        self.tables.kept.reserve(1)?;
+        self.tables.slots.reserve(1)?;
+        begin_block(&mut self.tables.blocks, number, slot)?;
         self.lists.widen(number, slot)?;
-        self.store.push(clause)?;
-        self.kept.push(true)?;
+        self.tables.store.push(clause)?;
+        self.tables.kept.push(true)?;
         let assignment = self.trail.assignment();
         let low = take_slot(
-            &mut self.slots,
+            &mut self.tables.slots,
             &mut self.lists,
             &assignment,
             clause,
@@ -171,11 +169,7 @@ impl Watching {
             low,
         );
         self.front_left = clean(
-            &self.store,
-            self.kept.as_slice(),
-            &self.recent,
-            self.slots.as_slice(),
-            self.blocks.as_slice(),
+            &self.tables,
             &assignment,
             self.lists.units.as_slice(),
             &mut self.lists.pending,
@@ -196,28 +190,18 @@ impl Watching {
         self.trail.push(entry);
         let assignment = self.trail.assignment();
         mark_pairs(
-            &self.store,
+            &self.tables.store,
             &self.pairs,
             &assignment,
             falsified.0,
-            &mut self.recent,
+            &mut self.tables.recent,
             &mut self.lists.pending,
         );
         let spare = 2 * self.variables;
-        self.lists.visit_all(
-            &self.store,
-            self.kept.as_slice(),
-            self.slots.as_slice(),
-            &assignment,
-            spare,
-            falsified.0,
-        );
+        self.lists
+            .visit_all(&self.tables, &assignment, spare, falsified.0);
         self.front_left = clean(
-            &self.store,
-            self.kept.as_slice(),
-            &self.recent,
-            self.slots.as_slice(),
-            self.blocks.as_slice(),
+            &self.tables,
             &assignment,
             self.lists.units.as_slice(),
             &mut self.lists.pending,
@@ -235,9 +219,7 @@ impl Watching {
         }
         let assignment = self.trail.assignment();
         self.front_left = refresh(
-            &self.store,
-            self.kept.as_slice(),
-            self.slots.as_slice(),
+            &self.tables,
             self.quiet.as_slice(),
             &assignment,
             &mut self.lists.pending,
@@ -264,14 +246,10 @@ impl Watching {
         requires { slice_index_or self.old.kept number false ≡ true }
         ensures { self.new ≡ record self.old { kept = slice_set self.old.kept number false } }
     {
-        self.kept[number as usize] = false;
+        self.tables.kept[number as usize] = false;
         let assignment = self.trail.assignment();
         self.front_left = clean(
-            &self.store,
-            self.kept.as_slice(),
-            &self.recent,
-            self.slots.as_slice(),
-            self.blocks.as_slice(),
+            &self.tables,
             &assignment,
             self.lists.units.as_slice(),
             &mut self.lists.pending,
@@ -288,10 +266,7 @@ impl Watching {
         }
         let assignment = self.trail.assignment();
         status_at(
-            &self.store,
-            &self.recent,
-            self.slots.as_slice(),
-            self.blocks.as_slice(),
+            &self.tables,
             &assignment,
             self.lists.units.as_slice(),
             number,

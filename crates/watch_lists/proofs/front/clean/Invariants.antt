@@ -5,7 +5,7 @@ use Rattle.watch_lists.proofs.front.clean.Given as goal
 
 abbrev pub invariant-cleaning : goal.invariant-cleaning
 invariant-cleaning l = record {
-  complete : (k : ℕ) → is_pending_on l.store l.kept l.assignment.trail k ≡ true → words_have l.pending k ≡ true;
+  complete : (k : ℕ) → is_pending_on l.tables.store l.tables.kept.items l.assignment.trail k ≡ true → words_have l.pending k ≡ true;
   room : length l.pending ≡ length l.initial.pending;
   none : (k : ℕ) → k < l.low → words_have l.pending k ≡ false;
   fewer : (k : ℕ) → words_have l.pending k ≡ true → words_have l.initial.pending k ≡ true;

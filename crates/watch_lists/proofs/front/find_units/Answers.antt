@@ -13,10 +13,10 @@ loop-slot-preserved c = record {
   size = c.find_unit.ensures.size ∙ c.loop-slot.invariant.size;
 }
   where
-    at : (s : ℕ) → s < c.loop-slot.slot + 1 → (b : Bool) → (s == c.loop-slot.slot) ≡ b → is_pending (has_literal c.args.assignment.now.trail) (clause_at (slot_clauses c.args.store.now c.args.slots.now) s) ≡ true → 2 < length (clause_at (slot_clauses c.args.store.now c.args.slots.now) s) → IsUnit (has_literal c.args.assignment.now.trail) (clause_at (slot_clauses c.args.store.now c.args.slots.now) s) (get_or c.find_unit.new.units.items s 0)
+    at : (s : ℕ) → s < c.loop-slot.slot + 1 → (b : Bool) → (s == c.loop-slot.slot) ≡ b → is_pending (has_literal c.args.assignment.now.trail) (clause_at (slot_clauses c.args.tables.now.store c.args.tables.now.slots.items) s) ≡ true → 2 < length (clause_at (slot_clauses c.args.tables.now.store c.args.tables.now.slots.items) s) → IsUnit (has_literal c.args.assignment.now.trail) (clause_at (slot_clauses c.args.tables.now.store c.args.tables.now.slots.items) s) (get_or c.find_unit.new.units.items s 0)
     at s h true f =
-        let P : ℕ → Type 0 = λ n. is_pending (has_literal c.args.assignment.now.trail) (clause_at (slot_clauses c.args.store.now c.args.slots.now) n) ≡ true → 2 < length (clause_at (slot_clauses c.args.store.now c.args.slots.now) n) → IsUnit (has_literal c.args.assignment.now.trail) (clause_at (slot_clauses c.args.store.now c.args.slots.now) n) (get_or c.find_unit.new.units.items n 0) in
+        let P : ℕ → Type 0 = λ n. is_pending (has_literal c.args.assignment.now.trail) (clause_at (slot_clauses c.args.tables.now.store c.args.tables.now.slots.items) n) ≡ true → 2 < length (clause_at (slot_clauses c.args.tables.now.store c.args.tables.now.slots.items) n) → IsUnit (has_literal c.args.assignment.now.trail) (clause_at (slot_clauses c.args.tables.now.store c.args.tables.now.slots.items) n) (get_or c.find_unit.new.units.items n 0) in
         subst P (sym (equal_of s c.loop-slot.slot f)) c.find_unit.ensures.own
     at s h false f = λ p long.
         (let ne = apart_of s c.loop-slot.slot f in
-        subst (λ (x : ℕ). IsUnit (has_literal c.args.assignment.now.trail) (clause_at (slot_clauses c.args.store.now c.args.slots.now) s) x) (sym (c.find_unit.ensures.others s ne)) (c.loop-slot.invariant.units_are s (let n : s ≢ c.loop-slot.slot = ne in omega (arith, h, n)) p long))
+        subst (λ (x : ℕ). IsUnit (has_literal c.args.assignment.now.trail) (clause_at (slot_clauses c.args.tables.now.store c.args.tables.now.slots.items) s) x) (sym (c.find_unit.ensures.others s ne)) (c.loop-slot.invariant.units_are s (let n : s ≢ c.loop-slot.slot = ne in omega (arith, h, n)) p long))

@@ -8,6 +8,6 @@ use Rattle.watch_lists.proofs.front.find_units.Given as goal
 
 abbrev pub invariant-loop-slot : goal.invariant-loop-slot
 invariant-loop-slot l = record {
-  units_are : (s : ℕ) → s < l.slot → is_pending (has_literal l.assignment.trail) (clause_at (slot_clauses l.store l.slots) s) ≡ true → 2 < length (clause_at (slot_clauses l.store l.slots) s) → IsUnit (has_literal l.assignment.trail) (clause_at (slot_clauses l.store l.slots) s) (get_or l.units.items s 0);
+  units_are : (s : ℕ) → s < l.slot → is_pending (has_literal l.assignment.trail) (clause_at (slot_clauses l.tables.store l.tables.slots.items) s) ≡ true → 2 < length (clause_at (slot_clauses l.tables.store l.tables.slots.items) s) → IsUnit (has_literal l.assignment.trail) (clause_at (slot_clauses l.tables.store l.tables.slots.items) s) (get_or l.units.items s 0);
   size : length l.units.items ≡ length l.initial.units.items;
 }

@@ -10,6 +10,6 @@ loop-number-preserved c =
     let e = c.scan_one.ensures in
     record {
       room = e.room ∙ i.room;
-      before = scanned (is_pending_on c.args.store.now c.args.kept.now c.args.assignment.now.trail) (words_have c.loop-number.pending) (words_have c.scan_one.new.pending) c.loop-number.number i.before (i.after c.loop-number.number (omega arith)) e.others e.own e.none;
+      before = scanned (is_pending_on c.args.tables.now.store c.args.tables.now.kept.items c.args.assignment.now.trail) (words_have c.loop-number.pending) (words_have c.scan_one.new.pending) c.loop-number.number i.before (i.after c.loop-number.number (omega arith)) e.others e.own e.none;
       after = λ k h. e.others k (λ (q : k ≡ c.loop-number.number). absurd (omega (arith, q, h))) ∙ i.after k (omega (arith, h));
     }

@@ -6,6 +6,6 @@ use Rattle.watch_lists.proofs.front.rescan.Given as goal
 abbrev pub invariant-loop-number : goal.invariant-loop-number
 invariant-loop-number l = record {
   room : length l.pending ≡ length l.initial.pending;
-  before : (k : ℕ) → k < l.number → words_have l.pending k ≡ is_pending_on l.store l.kept l.assignment.trail k;
+  before : (k : ℕ) → k < l.number → words_have l.pending k ≡ is_pending_on l.tables.store l.tables.kept.items l.assignment.trail k;
   after : (k : ℕ) → l.number ≤ k → words_have l.pending k ≡ false;
 }

@@ -1,4 +1,4 @@
-use Rattle.std.proofs.Common.{arith, ◌≡◌, ◌<◌, ◌≤◌, ◌*◌, ◌/◌, ◌++◌, ◌∷◌, [], ℕ, List, ◌∙◌, ap, Bool, true, false, None, get_or, set, length, length-set, take, sym, subst}
+use Rattle.std.proofs.Common.{arith, ◌≡◌, ◌<◌, ◌≤◌, ◌*◌, ◌/◌, ◌++◌, ◌∷◌, [], ℕ, List, ◌∙◌, ap, true, false, None, get_or, set, length, length-set, take, refl, sym, subst}
 use Rattle.clause_base.specs.Literal.{opposite}
 use Rattle.clause_base.specs.Clause.{has_literal}
 use Rattle.number_bits.specs.Bits.{words_have}
@@ -10,14 +10,15 @@ use Rattle.cdcl_trail.specs.Mirrored.{TrailView}
 use Rattle.cdcl_trail.proofs.Assignments.{has_is}
 use Rattle.cdcl_trail.proofs.Mirrors.{off_of_none, half_opposite}
 use Rattle.watch_lists.specs.Pending.{WatchingView, is_pending_on}
-use Rattle.watch_lists.specs.Visit.{slot_clauses, slot_flags, slot_set, IsFit, AllSettled, MovesToFree, IsAtRest}
+use Rattle.watch_lists.specs.Visit.{slot_clauses, slot_flags, slot_set, IsFit, AllSettled, MovesToFree}
 use Rattle.pair_index.specs.Pairs.{pairs_of, pair_in}
-use Rattle.watch_lists.specs.Units.{AreUnits, IsConsistent}
+use Rattle.watch_lists.specs.Units.{AreUnits, IsConsistent, HasUnits}
 use Rattle.watch_lists.specs.Sound.{IsFront, AreFree}
 use Rattle.watch_lists.specs.Status.{IsFrontLeft}
 use Rattle.watch_lists.proofs.Assigns.{opposite_twice, assign_complete, assign_free, assign_quiets, whole_free}
 use Rattle.watch_lists.proofs.UnitsTell.{all_longer, consistent_push, last_true}
-use Rattle.watch_lists.proofs.UnitsOfSlots.{units_pairs, within_pairs}
+use Rattle.watch_lists.proofs.UnitsOfSlots.{units_pairs, within_pairs, has_units_fewer}
+use Rattle.watch_lists.proofs.Tabled.{tables_of}
 use Rattle.watch_lists.proofs.Slotted.{slots_long, flags_long, slots_complete}
 use Rattle.watch_lists.proofs.Founds.{found_complete}
 use Rattle.watch_lists.proofs.Undoes.{sound_moved}
@@ -52,39 +53,25 @@ trail_seen c =
     let w = c.self.inside in
     ap (λ (t : AssignmentView). t.trail) c.assignment-assignment.ensures ∙ ap (λ (t : TrailView). literals t.entries) c.push.ensures ∙ map_push (λ (a : Assigned). a.literal) w.trail.entries c.args.entry
 
-moves : (c : After-visit_all) → MovesToFree (slot_clauses c.self.inside.store c.self.inside.slots.items) c.self.inside.lists.watched.items c.visit_all.new.self.watched.items (has_literal (literals c.self.inside.trail.entries ++ c.args.entry.literal ∷ []))
+moves : (c : After-visit_all) → MovesToFree (slot_clauses c.self.inside.tables.store c.self.inside.tables.slots.items) c.self.inside.lists.watched.items c.visit_all.new.self.watched.items (has_literal (literals c.self.inside.trail.entries ++ c.args.entry.literal ∷ []))
 moves c =
     let w = c.self.inside in
-    subst (λ (ss : List ℕ). MovesToFree (slot_clauses w.store ss) w.lists.watched.items c.visit_all.new.self.watched.items (has_literal (literals w.trail.entries ++ c.args.entry.literal ∷ []))) c.as_slice-2.ensures.value
-    (subst (λ (ys : List ℕ). MovesToFree (slot_clauses w.store c.as_slice-2.result.now) w.lists.watched.items c.visit_all.new.self.watched.items (has_literal ys)) (trail_seen c) c.visit_all.ensures.moves)
+    subst (λ (ys : List ℕ). MovesToFree (slot_clauses w.tables.store w.tables.slots.items) w.lists.watched.items c.visit_all.new.self.watched.items (has_literal ys)) (trail_seen c) c.visit_all.ensures.moves
 
-settled : (c : After-visit_all) → AllSettled (slot_clauses c.self.inside.store c.self.inside.slots.items) c.visit_all.new.self.watched.items (has_literal (literals c.self.inside.trail.entries ++ c.args.entry.literal ∷ [])) (slot_set (words_have c.visit_all.new.self.pending) c.self.inside.slots.items) (opposite c.args.entry.literal) (slot_flags c.self.inside.kept.items c.self.inside.slots.items)
+settled : (c : After-visit_all) → AllSettled (slot_clauses c.self.inside.tables.store c.self.inside.tables.slots.items) c.visit_all.new.self.watched.items (has_literal (literals c.self.inside.trail.entries ++ c.args.entry.literal ∷ [])) (slot_set (words_have c.visit_all.new.self.pending) c.self.inside.tables.slots.items) (opposite c.args.entry.literal) (slot_flags c.self.inside.tables.kept.items c.self.inside.tables.slots.items)
 settled c =
     let w = c.self.inside in
     let wa = c.visit_all.new.self.watched.items in
     let set = words_have c.visit_all.new.self.pending in
     let op : c.falsified.inside.0 ≡ opposite c.args.entry.literal = c.falsified.view_is ∙ c.opposite-falsified.ensures in
-    subst (λ (ys : List ℕ). AllSettled (slot_clauses w.store w.slots.items) wa (has_literal ys) (slot_set set w.slots.items) (opposite c.args.entry.literal) (slot_flags w.kept.items w.slots.items)) (trail_seen c)
-    (subst (λ (l : ℕ). AllSettled (slot_clauses w.store w.slots.items) wa (has_literal c.assignment-assignment.result.trail) (slot_set set w.slots.items) l (slot_flags w.kept.items w.slots.items)) op
-    (subst (λ (ks : List Bool). AllSettled (slot_clauses w.store w.slots.items) wa (has_literal c.assignment-assignment.result.trail) (slot_set set w.slots.items) c.falsified.inside.0 (slot_flags ks w.slots.items)) c.as_slice.ensures.value
-    (subst (λ (ss : List ℕ). AllSettled (slot_clauses w.store ss) wa (has_literal c.assignment-assignment.result.trail) (slot_set set ss) c.falsified.inside.0 (slot_flags c.as_slice.result.now ss)) c.as_slice-2.ensures.value c.visit_all.ensures.settled)))
-
-rest : (c : After-visit_all) → IsAtRest (slot_clauses c.self.inside.store c.self.inside.slots.items) c.visit_all.new.self.watched.items c.visit_all.new.self.chains.heads.items c.visit_all.new.self.chains.nodes.items (2 * c.self.inside.variables) (slot_flags c.self.inside.kept.items c.self.inside.slots.items)
-rest c =
-    let w = c.self.inside in
-    subst (λ (ks : List Bool). IsAtRest (slot_clauses w.store w.slots.items) c.visit_all.new.self.watched.items c.visit_all.new.self.chains.heads.items c.visit_all.new.self.chains.nodes.items (2 * w.variables) (slot_flags ks w.slots.items)) c.as_slice.ensures.value
-    (subst (λ (ss : List ℕ). IsAtRest (slot_clauses w.store ss) c.visit_all.new.self.watched.items c.visit_all.new.self.chains.heads.items c.visit_all.new.self.chains.nodes.items (2 * w.variables) (slot_flags c.as_slice.result.now ss)) c.as_slice-2.ensures.value c.visit_all.ensures.rest)
-
-units_of_slots : (c : After-visit_all) → AreUnits (slot_clauses c.self.inside.store c.self.inside.slots.items) (has_literal c.assignment-assignment.result.trail) (slot_set (words_have c.visit_all.new.self.pending) c.self.inside.slots.items) c.visit_all.new.self.units.items
-units_of_slots c =
-    let w = c.self.inside in
-    subst (λ (ss : List ℕ). AreUnits (slot_clauses w.store ss) (has_literal c.assignment-assignment.result.trail) (slot_set (words_have c.visit_all.new.self.pending) ss) c.visit_all.new.self.units.items) c.as_slice-2.ensures.value c.visit_all.ensures.units_are
+    subst (λ (ys : List ℕ). AllSettled (slot_clauses w.tables.store w.tables.slots.items) wa (has_literal ys) (slot_set set w.tables.slots.items) (opposite c.args.entry.literal) (slot_flags w.tables.kept.items w.tables.slots.items)) (trail_seen c)
+    (subst (λ (l : ℕ). AllSettled (slot_clauses w.tables.store w.tables.slots.items) wa (has_literal c.assignment-assignment.result.trail) (slot_set set w.tables.slots.items) l (slot_flags w.tables.kept.items w.tables.slots.items)) op c.visit_all.ensures.settled)
 
 pub mark_pairs-requires-clause-fit : goal.mark_pairs-requires-clause-fit
 mark_pairs-requires-clause-fit c =
     let w = c.self.inside in
     let i = c.self.invariant.0 in
-    subst (λ (n : ℕ). IsFit w.store (2 * n)) (sym (ap (λ (t : AssignmentView). t.variables) c.assignment-assignment.ensures ∙ ap (λ (t : TrailView). t.variables) c.push.ensures ∙ i.same)) i.fit
+    subst (λ (n : ℕ). IsFit w.tables.store (2 * n)) (sym (ap (λ (t : AssignmentView). t.variables) c.assignment-assignment.ensures ∙ ap (λ (t : TrailView). t.variables) c.push.ensures ∙ i.same)) i.fit
 
 pub mark_pairs-requires-clause-exact : goal.mark_pairs-requires-clause-exact
 mark_pairs-requires-clause-exact c = c.self.invariant.1.exact c.falsified.inside.0
@@ -96,30 +83,33 @@ visit_all-requires-clause-falsified c =
     let op = falsified_is (goal.at.visit_all-requires-clause-falsified c).After-falsified in
     ap (λ (ys : List ℕ). has_literal ys (opposite c.falsified.inside.0)) tr ∙ ap (λ (l : ℕ). has_literal (literals w.trail.entries ++ c.args.entry.literal ∷ []) l) (ap opposite op ∙ opposite_twice c.args.entry.literal) ∙ last_true (literals w.trail.entries) c.args.entry.literal
 
-pub visit_all-requires-clause-within : goal.visit_all-requires-clause-within
-visit_all-requires-clause-within c =
+pub visit_all-requires-clause-set : goal.visit_all-requires-clause-set
+visit_all-requires-clause-set c =
     let w = c.self.inside in
-    within_pairs w.store (words_have w.lists.pending) (words_have c.mark_pairs.new.pending) c.mark_pairs.ensures.only c.self.invariant.2.within
+    let i = c.self.invariant.2 in
+    let here = (goal.at.visit_all-requires-clause-set c).After-assignment-assignment in
+    record {
+      room = omega (arith, c.self.invariant.0.room, c.mark_pairs.ensures.room);
+      members = record {
+        within = within_pairs w.tables.store (words_have w.lists.pending) (words_have c.mark_pairs.new.pending) c.mark_pairs.ensures.only i.within;
+        units_are = subst (λ (ys : List ℕ). AreUnits (slot_clauses w.tables.store w.tables.slots.items) (has_literal ys) (slot_set (words_have c.mark_pairs.new.pending) w.tables.slots.items) w.lists.units.items) (sym (trail_is here))
+            (all_longer (slot_clauses w.tables.store w.tables.slots.items) (literals w.trail.entries) c.args.entry.literal (slot_set (words_have c.mark_pairs.new.pending) w.tables.slots.items) w.lists.units.items
+            (units_pairs w.tables.store (has_literal (literals w.trail.entries)) (words_have w.lists.pending) (words_have c.mark_pairs.new.pending) w.tables.slots.items w.lists.units.items c.mark_pairs.ensures.only i.units_are));
+        long = i.long;
+        distinct = i.distinct;
+        consistent = consistent here;
+      };
+    }
 
-pub visit_all-requires-clause-units_are : goal.visit_all-requires-clause-units_are
-visit_all-requires-clause-units_are c =
+pub visit_all-requires-clause-tables : goal.visit_all-requires-clause-tables
+visit_all-requires-clause-tables c =
     let w = c.self.inside in
-    let tr = trail_is (goal.at.visit_all-requires-clause-units_are c).After-assignment-assignment in
-    subst (λ (ss : List ℕ). AreUnits (slot_clauses w.store ss) (has_literal c.assignment-assignment.result.trail) (slot_set (words_have c.mark_pairs.new.pending) ss) w.lists.units.items) (sym c.as_slice-2.ensures.value)
-    (subst (λ (ys : List ℕ). AreUnits (slot_clauses w.store w.slots.items) (has_literal ys) (slot_set (words_have c.mark_pairs.new.pending) w.slots.items) w.lists.units.items) (sym tr)
-    (all_longer (slot_clauses w.store w.slots.items) (literals w.trail.entries) c.args.entry.literal (slot_set (words_have c.mark_pairs.new.pending) w.slots.items) w.lists.units.items
-    (units_pairs w.store (has_literal (literals w.trail.entries)) (words_have w.lists.pending) (words_have c.mark_pairs.new.pending) w.slots.items w.lists.units.items c.mark_pairs.ensures.only c.self.invariant.2.units_are)))
+    tables_of (record w.tables { recent = c.mark_pairs.new.recent }) w.variables w.trail.variables (literals w.trail.entries) w.lists.watched.items w.lists.chains.heads.items w.lists.chains.nodes.items w.lists.pending w.quiet.items w.variables c.self.invariant.0 c.mark_pairs.ensures.recent refl
 
-pub clean-self-inside-requires-clause-fit : goal.clean-self-inside-requires-clause-fit
-clean-self-inside-requires-clause-fit c =
+pub clean-self-inside-requires-clause-tables : goal.clean-self-inside-requires-clause-tables
+clean-self-inside-requires-clause-tables c =
     let w = c.self.inside in
-    let i = c.self.invariant.0 in
-    subst (λ (n : ℕ). IsFit w.store (2 * n)) (sym (ap (λ (t : AssignmentView). t.variables) c.assignment-assignment.ensures ∙ ap (λ (t : TrailView). t.variables) c.push.ensures ∙ i.same)) i.fit
-
-pub clean-self-inside-requires-clause-consistent : goal.clean-self-inside-requires-clause-consistent
-clean-self-inside-requires-clause-consistent c =
-    let w = c.self.inside in
-    consistent (goal.at.clean-self-inside-requires-clause-consistent c).After-assignment-assignment
+    tables_of (record w.tables { recent = c.mark_pairs.new.recent }) w.variables w.trail.variables (literals w.trail.entries) w.lists.watched.items w.lists.chains.heads.items w.lists.chains.nodes.items w.lists.pending w.quiet.items c.assignment-assignment.result.variables c.self.invariant.0 c.mark_pairs.ensures.recent (ap (λ (t : AssignmentView). t.variables) c.assignment-assignment.ensures ∙ ap (λ (t : TrailView). t.variables) c.push.ensures ∙ c.self.invariant.0.same)
 
 pub clean-self-inside-requires-clause-complete : goal.clean-self-inside-requires-clause-complete
 clean-self-inside-requires-clause-complete c =
@@ -129,15 +119,15 @@ clean-self-inside-requires-clause-complete c =
     let op = falsified_is (goal.at.clean-self-inside-requires-clause-complete c).After-falsified in
     let e = c.visit_all.ensures in
     let visited = (goal.at.clean-self-inside-requires-clause-complete c).After-visit_all in
-    let slotted = assign_complete (slot_clauses w.store w.slots.items) w.lists.watched.items c.visit_all.new.self.watched.items (slot_flags w.kept.items w.slots.items) (literals w.trail.entries) c.args.entry.literal (slot_set (words_have w.lists.pending) w.slots.items) (slot_set (words_have c.visit_all.new.self.pending) w.slots.items) (flags_long w.kept.items w.slots.items ∙ sym (slots_long w.store w.slots.items)) (rest visited).placed
-    (whole_free (slot_clauses w.store w.slots.items) w.lists.watched.items (slot_flags w.kept.items w.slots.items) (literals w.trail.entries) i.free) (moves visited) (settled visited)
-    (λ k h. e.grows (get_or w.slots.items k 0) (c.mark_pairs.ensures.grows (get_or w.slots.items k 0) h))
-    (slots_complete w.store w.kept.items w.slots.items (literals w.trail.entries) (words_have w.lists.pending) i.front.complete) in
-    let done = found_complete w.variables w.store w.kept.items (literals w.trail.entries) w.slots.items c.args.entry.literal w.pairs (pairs_of w.pairs c.falsified.inside.0) (words_have w.lists.pending) (words_have c.visit_all.new.self.pending) i.many c.self.invariant.1
+    let slotted = assign_complete (slot_clauses w.tables.store w.tables.slots.items) w.lists.watched.items c.visit_all.new.self.watched.items (slot_flags w.tables.kept.items w.tables.slots.items) (literals w.trail.entries) c.args.entry.literal (slot_set (words_have w.lists.pending) w.tables.slots.items) (slot_set (words_have c.visit_all.new.self.pending) w.tables.slots.items) (flags_long w.tables.kept.items w.tables.slots.items ∙ sym (slots_long w.tables.store w.tables.slots.items)) e.rest.placed
+    (whole_free (slot_clauses w.tables.store w.tables.slots.items) w.lists.watched.items (slot_flags w.tables.kept.items w.tables.slots.items) (literals w.trail.entries) i.free) (moves visited) (settled visited)
+    (λ k h. e.grows (get_or w.tables.slots.items k 0) (c.mark_pairs.ensures.grows (get_or w.tables.slots.items k 0) h))
+    (slots_complete w.tables.store w.tables.kept.items w.tables.slots.items (literals w.trail.entries) (words_have w.lists.pending) i.front.complete) in
+    let done = found_complete w.variables w.tables.store w.tables.kept.items (literals w.trail.entries) w.tables.slots.items c.args.entry.literal w.pairs (pairs_of w.pairs c.falsified.inside.0) (words_have w.lists.pending) (words_have c.visit_all.new.self.pending) i.many c.self.invariant.1
     (ap (λ (l : ℕ). pairs_of w.pairs l) op)
     (λ k h none. e.grows _ (c.mark_pairs.ensures.in_set k h (ap (λ (ys : List ℕ). has_literal ys (pair_in (pairs_of w.pairs c.falsified.inside.0) k).other) tr ∙ none)))
     (λ k h. e.grows k (c.mark_pairs.ensures.grows k h)) i.front.complete slotted in
-    λ k p. done k (ap (λ (ys : List ℕ). is_pending_on w.store w.kept.items ys k) (sym tr) ∙ ap (λ (ks : List Bool). is_pending_on w.store ks c.assignment-assignment.result.trail k) (sym c.as_slice-3.ensures.value) ∙ p)
+    λ k p. done k (ap (λ (ys : List ℕ). is_pending_on w.tables.store w.tables.kept.items ys k) (sym tr) ∙ p)
 
 pub invariant_of-self : goal.invariant_of-self
 invariant_of-self c =
@@ -149,21 +139,15 @@ invariant_of-self c =
     let op = falsified_is (goal.at.invariant_of-self c).After-falsified in
     let e = c.visit_all.ensures in
     let visited = (goal.at.invariant_of-self c).After-visit_all in
-    let free = assign_free (slot_clauses w.store w.slots.items) w.lists.watched.items c.visit_all.new.self.watched.items (slot_flags w.kept.items w.slots.items) (literals w.trail.entries) c.args.entry.literal (slot_set (words_have c.visit_all.new.self.pending) w.slots.items) i.free (moves visited) (settled visited) in (
-      sound_moved w.variables w.trail.variables w.store w.kept.items (literals w.trail.entries) w.slots.items w.lists.watched.items w.lists.chains.heads.items w.lists.chains.nodes.items w.lists.pending w.quiet.items c.push.new.self.variables (literals c.push.new.self.entries) c.visit_all.new.self.watched.items c.visit_all.new.self.chains.heads.items c.visit_all.new.self.chains.nodes.items c.clean-self-inside.new.pending (set w.quiet.items c.length-length.result c.is_none.result) i
-          (ap (λ (t : TrailView). t.variables) c.push.ensures) (omega (arith, c.mark_pairs.ensures.room, e.room, c.clean-self-inside.ensures.room)) (rest visited)
-          (subst (λ (ys : List ℕ). (n : ℕ) → n ≤ length ys → AreFree (slot_clauses w.store w.slots.items) c.visit_all.new.self.watched.items (slot_flags w.kept.items w.slots.items) (take n ys)) (sym tr) free)
-          (subst (λ (ys : List ℕ). IsFront (is_pending_on w.store w.kept.items ys) (words_have c.clean-self-inside.new.pending)) seen (subst (λ (ks : List Bool). IsFront (is_pending_on w.store ks c.assignment-assignment.result.trail) (words_have c.clean-self-inside.new.pending)) c.as_slice-3.ensures.value c.clean-self-inside.ensures.front))
+    let free = assign_free (slot_clauses w.tables.store w.tables.slots.items) w.lists.watched.items c.visit_all.new.self.watched.items (slot_flags w.tables.kept.items w.tables.slots.items) (literals w.trail.entries) c.args.entry.literal (slot_set (words_have c.visit_all.new.self.pending) w.tables.slots.items) i.free (moves visited) (settled visited) in (
+      sound_moved w.variables w.trail.variables w.tables.store w.tables.kept.items (literals w.trail.entries) w.tables.slots.items w.lists.watched.items w.lists.chains.heads.items w.lists.chains.nodes.items w.lists.pending w.quiet.items c.push.new.self.variables (literals c.push.new.self.entries) c.visit_all.new.self.watched.items c.visit_all.new.self.chains.heads.items c.visit_all.new.self.chains.nodes.items c.clean-self-inside.new.pending (set w.quiet.items c.length-length.result c.is_none.result) i
+          (ap (λ (t : TrailView). t.variables) c.push.ensures) (omega (arith, c.mark_pairs.ensures.room, e.room, c.clean-self-inside.ensures.room)) e.rest
+          (subst (λ (ys : List ℕ). (n : ℕ) → n ≤ length ys → AreFree (slot_clauses w.tables.store w.tables.slots.items) c.visit_all.new.self.watched.items (slot_flags w.tables.kept.items w.tables.slots.items) (take n ys)) (sym tr) free)
+          (subst (λ (ys : List ℕ). IsFront (is_pending_on w.tables.store w.tables.kept.items ys) (words_have c.clean-self-inside.new.pending)) seen c.clean-self-inside.ensures.front)
           (length-set w.quiet.items c.length-length.result c.is_none.result)
-          (subst (λ (ys : List ℕ). (n : ℕ) → n < length ys → get_or (set w.quiet.items c.length-length.result c.is_none.result) n false ≡ true → (k : ℕ) → is_pending_on w.store w.kept.items (take n ys) k ≡ false) (sym tr) (assign_quiets w.store w.kept.items (literals w.trail.entries) c.args.entry.literal w.quiet.items c.length-length.result c.least-least.result c.is_none.result (words_have w.lists.pending) (c.length-length.ensures.is ∙ sym (length-map w.trail.entries (λ (a : Assigned). a.literal))) (omega (arith, c.length-length.ensures.short, i.same, i.quiet_size)) c.least-least.ensures c.is_none.ensures i.front i.quiets)),
+          (subst (λ (ys : List ℕ). (n : ℕ) → n < length ys → get_or (set w.quiet.items c.length-length.result c.is_none.result) n false ≡ true → (k : ℕ) → is_pending_on w.tables.store w.tables.kept.items (take n ys) k ≡ false) (sym tr) (assign_quiets w.tables.store w.tables.kept.items (literals w.trail.entries) c.args.entry.literal w.quiet.items c.length-length.result c.least-least.result c.is_none.result (words_have w.lists.pending) (c.length-length.ensures.is ∙ sym (length-map w.trail.entries (λ (a : Assigned). a.literal))) (omega (arith, c.length-length.ensures.short, i.same, i.quiet_size)) c.least-least.ensures c.is_none.ensures i.front i.quiets)),
       c.self.invariant.1,
-      record {
-        within = λ k h. e.within k (c.clean-self-inside.ensures.fewer k h);
-        units_are = subst (λ (ys : List ℕ). AreUnits (slot_clauses w.store w.slots.items) (has_literal ys) (slot_set (words_have c.clean-self-inside.new.pending) w.slots.items) c.visit_all.new.self.units.items) seen (λ n h long. units_of_slots visited n (c.clean-self-inside.ensures.fewer (get_or w.slots.items n 0) h) long);
-        long = omega (arith, c.self.invariant.2.long, e.long);
-        distinct = c.self.invariant.2.distinct;
-        consistent = subst IsConsistent seen (consistent here);
-      },
-      subst (λ (ys : List ℕ). IsFrontLeft w.store (has_literal ys) (words_have c.clean-self-inside.new.pending) c.clean-self-inside.result) seen c.clean-self-inside.ensures.left,
+      subst (λ (ys : List ℕ). HasUnits w.tables.store ys w.tables.slots.items c.clean-self-inside.new.pending c.visit_all.new.self.units.items) seen (has_units_fewer w.tables.store c.assignment-assignment.result.trail w.tables.slots.items c.visit_all.new.self.pending c.clean-self-inside.new.pending c.visit_all.new.self.units.items e.set.members c.clean-self-inside.ensures.fewer),
+      subst (λ (ys : List ℕ). IsFrontLeft w.tables.store (has_literal ys) (words_have c.clean-self-inside.new.pending) c.clean-self-inside.result) seen c.clean-self-inside.ensures.left,
       c.mark_pairs.ensures.recent,
     )

@@ -11,5 +11,5 @@ use Rattle.watch_lists.proofs.watching.Watching.least_pending.Goals as goal
 pub returns : goal.returns
 returns c =
     let w = c.self.inside in
-    let least = front_least (is_pending_on w.store w.kept.items (literals w.trail.entries)) (words_have w.lists.pending) c.least.result c.self.invariant.0.front c.least.ensures in
-    subst (λ (v : WatchingView). c.least.result ≡ least_from (is_pending_in v.clauses v.kept (has_literal (literals v.entries))) 0 (length v.clauses)) c.self.view_is (least_is w.store w.kept.items (literals w.trail.entries) c.least.result c.self.invariant.0.many least)
+    let least = front_least (is_pending_on w.tables.store w.tables.kept.items (literals w.trail.entries)) (words_have w.lists.pending) c.least.result c.self.invariant.0.front c.least.ensures in
+    subst (λ (v : WatchingView). c.least.result ≡ least_from (is_pending_in v.clauses v.kept (has_literal (literals v.entries))) 0 (length v.clauses)) c.self.view_is (least_is w.tables.store w.tables.kept.items (literals w.trail.entries) c.least.result c.self.invariant.0.many least)
