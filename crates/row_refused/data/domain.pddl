@@ -1,1 +1,0 @@
-(define (domain m) (:predicates (p ?x)))

@@ -1,1 +1,0 @@
-(define (problem x) (:objects a b) (:init (p a)) (:goal (p a)))
