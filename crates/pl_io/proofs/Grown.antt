@@ -1,8 +1,8 @@
 -- What is taken in two parts.
-use Rattle.std.proofs.Common.{◌≡◌, ℕ, ◌+◌, List, [], ◌++◌, Option, Some, None, take, drop, refl, ap, sym, ◌∙◌, append_assoc, length, ◌-◌, arith, length-drop}
-use Rattle.std.proofs.lemmas.List.{take_all, append-nil}
+use Rattle.std.proofs.Common.{◌≡◌, ◌≤◌, ℕ, ◌+◌, List, [], ◌++◌, Option, Some, None, take, drop, refl, ap, sym, ◌∙◌, append_assoc, length, ◌-◌, arith, length-drop}
+use Rattle.std.proofs.lemmas.List.{take_all, append-nil, length-append, length-take-le}
 use Rattle.std.proofs.Math.Seq.{take-add}
-use Rattle.pl_io.specs.Outside.{appended, Took}
+use Rattle.pl_io.specs.Outside.{appended, Took, TookWhole, TookFirst}
 
 -- a front, and then a front of what is left
 pub appended_front : (old : Option (List ℕ)) (xs : List ℕ) (i j : ℕ) → appended old (take (i + j) xs) ≡ appended (appended old (take i xs)) (take j (drop i xs))
@@ -14,10 +14,16 @@ pub range_rest : (xs : List ℕ) (i : ℕ) → take (length xs - i) (drop i xs) 
 range_rest xs i = take_all (length xs - i) (drop i xs) (omega (arith, length-drop i xs))
 
 -- bytes were appended, and then more
-pub Took-more : (old middle bytes : List ℕ) → Took old middle → Took old (middle ++ bytes)
-Took-more old middle bytes took = (took.0 ++ bytes, ap (λ xs. xs ++ bytes) took.1 ∙ append_assoc old took.0 bytes)
+pub Took-more : (old middle new bytes : List ℕ) → Took old middle → new ≡ middle ++ bytes → Took old new
+Took-more old middle new bytes took more = (took.0 ++ bytes, more ∙ (ap (λ xs. xs ++ bytes) took.1 ∙ append_assoc old took.0 bytes))
 
-pub Took-none : (old : List ℕ) → Took old old
-Took-none old = ([], sym (append-nil old))
+pub Took-none : (old new : List ℕ) → new ≡ old → Took old new
+Took-none old new same = ([], same ∙ sym (append-nil old))
 
-pub ruleset growing = (Took-more, Took-none)
+-- a file that was taken whole has at most so many bytes
+pub whole-fits : (most : ℕ) (old new file : List ℕ) → TookWhole most old new file → length new ≤ length old + most
+whole-fits most old new file took = omega (arith, took.0, ap length took.1, length-append old file)
+
+-- of a longer file so many bytes were taken
+pub first-fills : (most : ℕ) (old new file : List ℕ) → TookFirst most old new file → length new ≡ length old + most
+first-fills most old new file took = omega (arith, ap length took.1, length-append old (take most file), length-take-le most file (omega (arith, took.0)))

@@ -64,13 +64,25 @@ impl MemShelf {
         self.failing.as_slice().contains(&self.calls)
     }
 
-    /// Writes a fault down.
-    fn note(&mut self, name: &str) -> Result<(), AllocError>
+    /// Writes a fault down, if there is memory for it.
+    fn write_down(&mut self, name: &str) -> Result<(), AllocError>
         ensures ok { OnOk result (self.new ≡ record self.old { failed = self.old.failed ++ name.now ∷ [] }) }
         ensures err { OnErr result (self.new ≡ self.old) }
     {
         let entry = Bytes::copied_from(self.alloc, name.as_bytes())?;
         self.failed.push(entry)
+    }
+
+    /// Writes a fault down, and answers it; or want of memory, where there was none to write it down.
+    fn note(&mut self, name: &str) -> TakeError
+        ensures kept { self.new ≡ record self.old { failed = self.new.failed } }
+        ensures notes { Notes self.old.failed self.new.failed name.now }
+        ensures failed { result ≡ TakeError.Failed → self.new.failed ≡ self.old.failed ++ name.now ∷ [] }
+    {
+        match self.write_down(name) {
+            Ok(()) => TakeError::Failed,
+            Err(_) => TakeError::Memory,
+        }
     }
 }
 
@@ -86,10 +98,12 @@ fn find<'a>(files: &'a [NamedFile], name: &[u8]) -> Option<&'a Bytes>
     None
 }
 
-/// Appends these bytes, at most `most` of them.
-fn append_front(bytes: &[u8], most: usize, into: &mut Vec<u8>) -> Result<Taken, AllocError>
+/// Appends these bytes, at most `most` of them. It fails for want of memory alone.
+fn append_front(bytes: &[u8], most: usize, into: &mut Vec<u8>) -> Result<Taken, TakeError>
     ensures whole { result ≡ Ok Taken.Whole → TookWhole most into.old.items into.new.items bytes.now }
     ensures longer { result ≡ Ok Taken.Longer → TookFirst most into.old.items into.new.items bytes.now }
+    ensures appends { Took into.old.items into.new.items }
+    ensures memory { result ≢ Err TakeError.Failed }
     ensures err { OnErr result (into.new.items ≡ into.old.items) }
 {
     if bytes.len() <= most {
@@ -136,10 +150,9 @@ impl Shelf for MemShelf {
         if !self.next_fails()
             && let Some(bytes) = find(self.files.as_slice(), name.as_bytes())
         {
-            return Ok(append_front(bytes.as_slice(), most, into)?);
+            return append_front(bytes.as_slice(), most, into);
         }
-        self.note(name)?;
-        Err(TakeError::Failed)
+        Err(self.note(name))
     }
 }
 
