@@ -211,3 +211,11 @@ marked_more pairs n on s s' old grows own i h f = by (i == n) refl
         let q = equal_of i n e in
         ap (λ (j : ℕ). s' (pair_in pairs j).number) q ∙ own (ap (λ (j : ℕ). on (pair_in pairs j).other) (sym q) ∙ f)
     by false e = let ne : i ≢ n = apart_of i n e in grows _ (old i (omega (arith, h, ne)) f)
+
+-- what holds below a number, and of the number, holds below the next one
+pub below_more : (P : ℕ → Type 0) (i : ℕ) → ((p : ℕ) → p < i → P p) → P i → (p : ℕ) → p < i + 1 → P p
+below_more P i before here p h = by (p == i) refl
+  where
+    by : (b : Bool) → (p == i) ≡ b → P p
+    by true e = subst P (sym (equal_of p i e)) here
+    by false e = let ne : p ≢ i = apart_of p i e in before p (omega (arith, h, ne))

@@ -8,7 +8,7 @@ ghost use Rattle.watch_chains.specs.Linked.{IsLinked};
 ghost use Rattle.watch_lists.specs.Visit.{IsFit, AreSlotsBelow};
 ghost use Rattle.watch_lists.specs.Given.{AreGiven, AreRising, IsBeside};
 
-use crate::pending::no_pending;
+use crate::pending::{Pending, no_pending};
 use crate::room::make_room;
 use crate::slots::{begin_block, blocks_of};
 use crate::visit::Lists;
@@ -19,7 +19,7 @@ use number_bits::first::First;
 use number_bits::flat::Flat;
 use number_bits::layer::Layer;
 use number_bits::set::NumberSet;
-use std::alloc::Global;
+use std::alloc::{AllocError, Global};
 use watch_chains::chains::Chains;
 use watch_store::store::Store;
 
@@ -70,6 +70,36 @@ fn room_for(horizon: u32, once: usize, step: &Others, time: &Others) -> usize {
         .saturating_add((steps + 1).saturating_mul(time.places.len()))
 }
 
+/// An empty set with room for so many clauses.
+fn with_room(alloc: Global, count: u32) -> Result<Pending, AllocError>
+    requires few { count ≤ 1073741824 }
+    ensures empty { IfOk result (λ p. (k : ℕ) → words_have p k ≡ false) }
+    ensures room { IfOk result (λ p. count ≤ 64 * length p) }
+{
+    let mut pending = no_pending(alloc);
+    make_room(&mut pending, count)?;
+    Ok(pending)
+}
+
+/// The lists of no clauses, with room for so many, of which so many have slots.
+fn no_lists(alloc: Global, count: u32, longs: usize, codes: u32) -> Result<Lists, Memory>
+    requires codes { codes ≤ 4294967294 }
+    requires few { count ≤ 1073741824 }
+    ensures watched { IfOk result (λ l. l.watched.items ≡ []) }
+    ensures units { IfOk result (λ l. l.units.items ≡ []) }
+    ensures pending { IfOk result (λ l. (k : ℕ) → words_have l.pending k ≡ false) }
+    ensures linked { IfOk result (λ l. IsLinked l.chains.heads.items l.chains.nodes.items (λ k. None)) }
+    ensures codes { IfOk result (λ l. length l.chains.heads.items ≡ codes + 1) }
+    ensures room { IfOk result (λ l. count ≤ 64 * length l.pending) }
+{
+    Ok(Lists {
+        chains: Chains::new(alloc, codes + 1, longs.saturating_add(longs))?,
+        watched: Vec::with_capacity(alloc, longs)?,
+        units: Vec::with_capacity(alloc, longs)?,
+        pending: with_room(alloc, count)?,
+    })
+}
+
 impl Given {
     /// The tables of no clauses, with room for so many, of which so many have slots.
     fn empty(alloc: Global, count: u32, longs: usize, codes: u32) -> Result<Given, Memory>
@@ -83,22 +113,10 @@ impl Given {
         ensures codes { IfOk result (λ g. length g.lists.chains.heads.items ≡ codes + 1) }
         ensures room { IfOk result (λ g. count ≤ 64 * length g.lists.pending) }
     {
-        let slots = Vec::with_capacity(alloc, longs)?;
-        let blocks = Vec::with_capacity(alloc, blocks_of(count))?;
-        let chains = Chains::new(alloc, codes + 1, longs.saturating_add(longs))?;
-        let watched = Vec::with_capacity(alloc, longs)?;
-        let units = Vec::with_capacity(alloc, longs)?;
-        let mut pending = no_pending(alloc);
-        make_room(&mut pending, count)?;
         Ok(Given {
-            slots,
-            blocks,
-            lists: Lists {
-                chains,
-                watched,
-                pending,
-                units,
-            },
+            slots: Vec::with_capacity(alloc, longs)?,
+            blocks: Vec::with_capacity(alloc, blocks_of(count))?,
+            lists: no_lists(alloc, count, longs, codes)?,
         })
     }
 

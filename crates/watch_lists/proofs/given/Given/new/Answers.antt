@@ -1,4 +1,4 @@
-use Rattle.std.proofs.Common.{arith, ◌≡◌, ◌+◌, ◌*◌, ◌∙◌, ℕ, List, length, ap, refl, subst}
+use Rattle.std.proofs.Common.{arith, ◌≡◌, ◌≤◌, ◌+◌, ◌*◌, ◌∙◌, ℕ, List, length, ap, refl, sym, subst}
 use Rattle.cdcl_rules.specs.State.{clause_at}
 use Rattle.watch_lists.specs.Given.{AreGiven}
 use Rattle.watch_lists.proofs.Givens.{given_none}
@@ -9,6 +9,10 @@ use Rattle.watch_lists.proofs.given.Given.new.Goals.{In_ok-told, In_ok-stepped, 
 -- a list has so many clauses
 sized : {count : ℕ} {list own : List (List ℕ)} → count ≡ length list → list ≡ own → count ≡ length own
 sized n l = n ∙ ap (λ (cs : List (List ℕ)). length cs) l
+
+-- so many clauses are few
+few_clauses : {own list : List (List ℕ)} → length own ≤ 1073741824 → list ≡ own → length list ≤ 1073741824
+few_clauses few same = subst (λ (cs : List (List ℕ)). length cs ≤ 1073741824) (sym same) few
 
 -- where the parts begin
 told_end : (c : In_ok-told) → c.in_ok-told.told ≡ length c.parts-parts.result.told.now
@@ -110,3 +114,75 @@ returns c =
     let e = c.enter_part-3.new.self in
     let end : c.in_ok-enter_part.field-0 ≡ length c.args.store.now = omega (arith, whole_long p.told.now p.after.now c.args.store.now p.repeated.now (c.requires.same ∙ c.parts-parts.ensures.clauses), last_end a.In_ok-last (times_end a.In_ok-timed (steps_end a.In_ok-stepped (told_end a.In_ok-told))), sized c.in_ok-after_others.ensures.count refl, c.in_ok-enter_part.ensures.next) in
     subst (λ (n : ℕ). AreGiven c.args.codes c.args.store.now n e.slots.items e.lists.watched.items e.lists.chains.heads.items e.lists.chains.nodes.items e.lists.pending e.lists.units.items) end c.in_ok-enter_part.ensures.given
+
+pub enter_part-requires-clause-fit : goal.enter_part-requires-clause-fit
+enter_part-requires-clause-fit c = c.requires.fit
+
+pub enter_part-requires-clause-few : goal.enter_part-requires-clause-few
+enter_part-requires-clause-few c = few_clauses c.count.ensures.few c.requires.same
+
+pub enter_part-requires-clause-below : goal.enter_part-requires-clause-below
+enter_part-requires-clause-below c = c.in_ok-told_others.ensures.below
+
+pub enter_part-requires-clause-rising : goal.enter_part-requires-clause-rising
+enter_part-requires-clause-rising c = c.in_ok-told_others.ensures.rising
+
+pub enter_parts-requires-clause-fit : goal.enter_parts-requires-clause-fit
+enter_parts-requires-clause-fit c = c.requires.fit
+
+pub enter_parts-requires-clause-few : goal.enter_parts-requires-clause-few
+enter_parts-requires-clause-few c = few_clauses c.count.ensures.few c.requires.same
+
+pub enter_parts-requires-clause-below : goal.enter_parts-requires-clause-below
+enter_parts-requires-clause-below c = c.in_ok-step_others.ensures.below
+
+pub enter_parts-requires-clause-rising : goal.enter_parts-requires-clause-rising
+enter_parts-requires-clause-rising c = c.in_ok-step_others.ensures.rising
+
+pub enter_parts-requires-clause-given : goal.enter_parts-requires-clause-given
+enter_parts-requires-clause-given c = c.in_ok-told.ensures.given
+
+pub enter_parts-requires-2-clause-fit : goal.enter_parts-requires-2-clause-fit
+enter_parts-requires-2-clause-fit c = c.requires.fit
+
+pub enter_parts-requires-2-clause-few : goal.enter_parts-requires-2-clause-few
+enter_parts-requires-2-clause-few c = few_clauses c.count.ensures.few c.requires.same
+
+pub enter_parts-requires-2-clause-below : goal.enter_parts-requires-2-clause-below
+enter_parts-requires-2-clause-below c = c.in_ok-time_others.ensures.below
+
+pub enter_parts-requires-2-clause-rising : goal.enter_parts-requires-2-clause-rising
+enter_parts-requires-2-clause-rising c = c.in_ok-time_others.ensures.rising
+
+pub enter_parts-requires-2-clause-given : goal.enter_parts-requires-2-clause-given
+enter_parts-requires-2-clause-given c = c.in_ok-stepped.ensures.given
+
+pub enter_part-requires-2-clause-fit : goal.enter_part-requires-2-clause-fit
+enter_part-requires-2-clause-fit c = c.requires.fit
+
+pub enter_part-requires-2-clause-few : goal.enter_part-requires-2-clause-few
+enter_part-requires-2-clause-few c = few_clauses c.count.ensures.few c.requires.same
+
+pub enter_part-requires-2-clause-below : goal.enter_part-requires-2-clause-below
+enter_part-requires-2-clause-below c = c.in_ok-time_others.ensures.below
+
+pub enter_part-requires-2-clause-rising : goal.enter_part-requires-2-clause-rising
+enter_part-requires-2-clause-rising c = c.in_ok-time_others.ensures.rising
+
+pub enter_part-requires-2-clause-given : goal.enter_part-requires-2-clause-given
+enter_part-requires-2-clause-given c = c.in_ok-timed.ensures.given
+
+pub enter_part-requires-3-clause-fit : goal.enter_part-requires-3-clause-fit
+enter_part-requires-3-clause-fit c = c.requires.fit
+
+pub enter_part-requires-3-clause-few : goal.enter_part-requires-3-clause-few
+enter_part-requires-3-clause-few c = few_clauses c.count.ensures.few c.requires.same
+
+pub enter_part-requires-3-clause-below : goal.enter_part-requires-3-clause-below
+enter_part-requires-3-clause-below c = c.in_ok-after_others.ensures.below
+
+pub enter_part-requires-3-clause-rising : goal.enter_part-requires-3-clause-rising
+enter_part-requires-3-clause-rising c = c.in_ok-after_others.ensures.rising
+
+pub enter_part-requires-3-clause-given : goal.enter_part-requires-3-clause-given
+enter_part-requires-3-clause-given c = c.in_ok-last.ensures.given
