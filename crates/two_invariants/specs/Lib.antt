@@ -1,14 +1,4 @@
-pub mod Known
-pub mod Breaks
 pub mod Closed
 pub mod Laws
-pub mod Rows
-pub mod Tested
-pub mod Groups
-pub mod Numbers
-pub mod Plain
-pub mod Index
-pub mod Before
-pub mod First
-pub mod Renewed
-pub mod Rounds
+pub mod Listed
+pub mod Greatest

@@ -2,22 +2,8 @@
 //! a task and that no action breaks, as far as the set itself tells.
 #![tactic(auto)]
 
-mod again;
-mod asked;
-mod bound;
-mod broken;
-mod by_literal;
-mod close;
-mod drop;
-mod first;
-mod givers;
 mod greatest;
-mod groups;
-mod known;
 pub mod laws;
 mod list;
-mod plain;
-mod renew;
-mod takers;
 
 pub use greatest::find;

@@ -3,14 +3,14 @@ use Rattle.std.specs.List.{AllByRecursion}
 use Rattle.bit_rows.specs.Bits.{row_has}
 use Rattle.gt_core.specs.Literal.{opposite, state_of}
 use Rattle.gt_core.proofs.Within.{lawful, among_at}
-use Rattle.two_invariants.specs.Rows.{clause_in, AreRows}
-use Rattle.two_invariants.specs.Tested.{IsSetOf, AreKnown, act_at}
-use Rattle.two_invariants.specs.First.{is_first}
-use Rattle.two_invariants.specs.Renewed.{WereKnown, IsSettled}
-use Rattle.two_invariants.specs.Rounds.{IsTested}
-use Rattle.two_invariants.proofs.Steps.{surrounds_first, not_opposite}
-use Rattle.two_invariants.proofs.RoundLaw.{actions_fit, still_around, are_invariants, all_settled, were_known}
-use Rattle.two_invariants.proofs.Unmoved.{asked_among, asked_within}
+use Rattle.known_literals.specs.Rows.{clause_in, AreRows}
+use Rattle.known_literals.specs.Tested.{IsSetOf, AreKnown, act_at}
+use Rattle.invariant_rounds.specs.First.{is_first}
+use Rattle.known_literals.specs.Renewed.{WereKnown, IsSettled, IsTested}
+use Rattle.two_invariants.proofs.Surrounding.{surrounds_first, not_opposite}
+use Rattle.invariant_rounds.proofs.RoundLaw.{actions_fit, all_settled, were_known}
+use Rattle.two_invariants.proofs.GreatestLaw.{still_around, are_invariants}
+use Rattle.known_literals.proofs.Unmoved.{asked_among, asked_within}
 use Rattle.two_invariants.proofs.greatest.greatest_rows.Goals as goal
 
 pub first_known-requires-clause-clauses : goal.first_known-requires-clause-clauses

@@ -1,8 +1,10 @@
 use Rattle.std.proofs.Common.{◌*◌}
 use Rattle.bit_rows.specs.Bits.{row_has}
-use Rattle.two_invariants.specs.Rows.{clause_in, AreRows}
-use Rattle.two_invariants.specs.Tested.{AreKnown}
-use Rattle.two_invariants.specs.Rounds.{Surrounds, IsTested, clause_count}
+use Rattle.known_literals.specs.Rows.{clause_in, AreRows}
+use Rattle.known_literals.specs.Tested.{AreKnown}
+use Rattle.two_invariants.specs.Greatest.{Surrounds}
+use Rattle.known_literals.specs.Renewed.{IsTested}
+use Rattle.invariant_rounds.specs.Rounds.{clause_count}
 use Rattle.two_invariants.proofs.greatest.greatest_rows.Given as goal
 
 abbrev pub invariant-round : goal.invariant-round

@@ -1,0 +1,11 @@
+pub mod Steps
+pub mod Grouping
+pub mod Indexing
+pub mod Counting
+pub mod Taking
+pub mod Numbering
+pub mod PlainEffects
+pub mod Dropping
+pub mod Contradicted
+pub mod RoundLaw
+pub mod Oks

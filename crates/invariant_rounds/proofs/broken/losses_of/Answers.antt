@@ -1,0 +1,82 @@
+use Rattle.std.proofs.Common.{◌≡◌, ◌∙◌, ◌*◌, ◌<◌, ◌==◌, ◌&&◌, ap, sym, subst, refl, true, false, not, length, Bool, ℕ, List}
+use Rattle.std.specs.List.{AllByRecursion, list_all}
+use Rattle.bit_rows.specs.Bits.{row_has, IsPairAcross}
+use Rattle.gt_core.specs.Literal.{opposite}
+use Rattle.gt_core.specs.Task.{Effect}
+use Rattle.known_literals.specs.Rows.{clause_in}
+use Rattle.known_literals.specs.Tested.{EffectFits, AreRowsOf, with_more, has_no_pair, breaks_by}
+use Rattle.invariant_rounds.specs.Losses.{AreLossesOf}
+use Rattle.invariant_rounds.specs.Plain.{breaks_plainly}
+use Rattle.invariant_rounds.specs.declared.broken.Loss.{Loss}
+use Rattle.invariant_rounds.specs.Groups.{effect_with, group_with, breaks_under, GroupFits}
+use Rattle.invariant_rounds.specs.declared.groups.Group.{Group}
+use Rattle.invariant_rounds.proofs.Contradicted.{breaks_nothing}
+use Rattle.invariant_rounds.proofs.Steps.{more_within}
+use Rattle.known_literals.proofs.Exact.{pair_test_is}
+use Rattle.invariant_rounds.proofs.PlainEffects.{breaks_the_same}
+use Rattle.invariant_rounds.proofs.broken.losses_of.Goals as goal
+
+pub group_losses-requires-clause-before : goal.group_losses-requires-clause-before
+group_losses-requires-clause-before c =
+    let known = c.args.known.now in
+    let value = c.as_slice-rows.ensures.value in
+    record {
+      few = c.requires.clauses.few;
+      rows = subst (λ (rs : List (List ℕ)). AreRowsOf (2 * c.args.facts) rs) (sym value) c.requires.rows;
+      set = λ m t.
+          more_within (2 * c.args.facts) known.rows.items (row_has known.none) c.pre.result.now c.requires.rows c.requires.none m
+          (ap (λ (rs : List (List ℕ)). with_more rs (row_has known.none) c.pre.result.now m) (sym value) ∙ sym (c.in_ok-set.ensures m) ∙ t);
+      groups =
+          subst (λ (gs : List Group). AllByRecursion (GroupFits (2 * c.args.facts)) gs) (sym c.as_slice.ensures.value)
+          (c.in_ok-groups.ensures.fit (2 * c.args.facts) (subst (λ (es : List Effect). AllByRecursion (EffectFits (2 * c.args.facts)) es) (sym c.effects-effects.ensures) c.requires.act.effects));
+    }
+
+pub returns-then-has_pair : goal.returns-then-has_pair
+returns-then-has_pair c =
+    let known = c.args.known.now in
+    let x = c.args.act.now in
+    let none = row_has known.none in
+    let value = c.as_slice-rows.ensures.value in
+    let set : row_has c.in_ok-set.set ≡ with_more known.rows.items none x.precondition = (λ i m. c.in_ok-set.ensures m i) ∙ (λ i. with_more (value i) none (c.pre.ensures i)) in
+    let pair = subst (λ (s : ℕ → Bool). IsPairAcross s s true) set c.if-has_pair.ensures in
+    let nothing = breaks_nothing c.args.facts known x c.requires.rows c.requires.none pair in
+    subst (λ (losses : List Loss). AreLossesOf c.args.facts known c.args.clauses.now x losses) (sym c.new.ensures.items) (record {
+      lost = λ l m. and_off (clause_in c.args.clauses.now l m) (breaks_by c.args.facts known x l m) (nothing l m);
+      each = tt;
+    })
+  where
+    and_off : (a b : Bool) → b ≡ false → false ≡ (a && b)
+    and_off true b e = sym e
+    and_off false b e = refl
+
+pub returns : goal.returns
+returns c =
+    let none = row_has c.args.known.now.none in
+    let value = c.as_slice-rows.ensures.value in
+    let set : row_has c.in_ok-set.set ≡ with_more c.args.known.now.rows.items none c.args.act.now.precondition = (λ i m. c.in_ok-set.ensures m i) ∙ (λ i. with_more (value i) none (c.pre.ensures i)) in
+    let has : group_with c.as_slice.result.now ≡ effect_with c.args.act.now.effects = (λ i. group_with (c.as_slice.ensures.value i)) ∙ (λ i l test. c.in_ok-groups.ensures.same l test i) ∙ (λ i. effect_with (c.effects-effects.ensures i)) in
+    record {
+      lost = λ l m. c.in_ok-losses.ensures.lost l m ∙ (λ i. clause_in c.args.clauses.now l m && has i (opposite l) (breaks_under c.args.facts (value i) (has i) (set i) l m));
+      each = c.in_ok-losses.ensures.each;
+    }
+
+pub returns-then-are_plain : goal.returns-then-are_plain
+returns-then-are_plain c =
+    let facts = c.args.facts in
+    let known = c.args.known.now in
+    let x = c.args.act.now in
+    let rows = known.rows.items in
+    let none = row_has known.none in
+    let value = c.as_slice-rows.ensures.value in
+    let set : row_has c.in_ok-set.set ≡ with_more rows none x.precondition = (λ i m. c.in_ok-set.ensures m i) ∙ (λ i. with_more (value i) none (c.pre.ensures i)) in
+    let within : (k : ℕ) → row_has c.in_ok-set.set k ≡ true → k < 2 * facts = λ k t. more_within (2 * facts) rows none x.precondition c.requires.rows c.requires.none k (sym (λ i. set i k) ∙ t) in
+    let free : has_no_pair facts (with_more rows none x.precondition) ≡ true =
+    ap (has_no_pair facts) (sym set) ∙ sym (pair_test_is facts (row_has c.in_ok-set.set) c.has_pair.result within c.has_pair.ensures) ∙ ap not c.if-has_pair.false in
+    let plain : list_all (λ (e : Effect). length e.condition == 0) x.effects ≡ true = ap (list_all (λ (e : Effect). length e.condition == 0)) (sym c.effects-effects.ensures) ∙ sym c.are_plain.ensures ∙ c.if-are_plain.true in
+    record {
+      lost = λ l m.
+          c.in_ok-plain.ensures.lost l m
+          ∙ (λ i. clause_in c.args.clauses.now l m && breaks_plainly (set i) (c.effects-effects.ensures i) l m)
+          ∙ ap (λ (b : Bool). clause_in c.args.clauses.now l m && b) (breaks_the_same facts rows (with_more rows none x.precondition) x.effects plain free l m);
+      each = c.in_ok-plain.ensures.each;
+    }

@@ -1,0 +1,21 @@
+use Rattle.std.proofs.Common.{◌≡◌, ◌&&◌, not, ◌*◌, ap, Bool, ℕ, true, subst}
+use Rattle.bit_rows.specs.Bits.{row_has}
+use Rattle.known_literals.specs.Breaks.{is_add}
+use Rattle.known_literals.specs.Rows.{clause_in}
+use Rattle.invariant_rounds.specs.Losses.{are_lost}
+use Rattle.invariant_rounds.proofs.Grouping.{lost_next, own_part, part_none}
+use Rattle.invariant_rounds.proofs.broken.push_losses.Goals as goal
+
+pub loop-l-preserved : goal.loop-l-preserved
+loop-l-preserved c =
+    let h = c.in-Some.ensures in record {
+      lost = λ a m.
+          let clause : Bool = clause_in c.args.clauses.now a m in
+          let lits : Bool = row_has c.args.lits.now a in
+          let t : Bool = not (is_add a && row_has c.args.given.now a) && not (row_has c.args.sure.now m) in
+          lost_next c.loop-l.from c.in-Some.l a (clause && (lits && t)) (clause && t) (are_lost c.args.losses.now.items a m) (are_lost c.loop-l.losses.items a m) (are_lost c.push_loss.new.losses.items a m) h.0
+          (c.loop-l.invariant.lost a m) (c.in_ok-push_loss.ensures.lost a m)
+          (λ e. ap (λ (b : Bool). clause && b) (own_part lits t (subst (λ (k : ℕ). row_has c.args.lits.now k ≡ true) e h.1)))
+          (λ low lt. part_none clause lits t (h.2 a low lt));
+      each = λ all. c.in_ok-push_loss.ensures.each (2 * c.args.facts) (c.requires.lits c.in-Some.l h.1) (c.loop-l.invariant.each all);
+    }

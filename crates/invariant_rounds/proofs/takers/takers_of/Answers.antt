@@ -1,0 +1,16 @@
+use Rattle.std.proofs.Common.{◌*◌, length, refl}
+use Rattle.std.proofs.lemmas.Option.{slice_get_read}
+use Rattle.bit_rows.specs.Bits.{row_has}
+use Rattle.invariant_rounds.specs.Groups.{GroupFits}
+use Rattle.invariant_rounds.proofs.Grouping.{all_read}
+use Rattle.invariant_rounds.proofs.Counting.{more_takers}
+use Rattle.invariant_rounds.proofs.takers.takers_of.Goals as goal
+
+pub loop-number-preserved : goal.loop-number-preserved
+loop-number-preserved c =
+    let one = c.in_ok-add_taker.ensures in
+    let g = c.index-groups-number.result in
+    let here = slice_get_read c.args.before.now.groups.now (length c.args.before.now.groups.now) c.loop-number.number g refl c.loop-number-test.true c.index-groups-number.is in
+    let fits = all_read (GroupFits (2 * c.args.before.now.facts)) c.args.before.now.groups.now c.loop-number.number g c.requires.groups c.loop-number-test.true c.index-groups-number.is in
+    more_takers (row_has c.args.before.now.set.now) c.args.before.now.groups.now c.loop-number.number g here c.args.before.now.facts c.args.before.now.rows.now fits c.loop-number.takers c.add_taker.new.takers
+    one.long one.plain one.more one.finds one.own c.loop-number.invariant

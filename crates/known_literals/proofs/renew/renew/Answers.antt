@@ -1,0 +1,18 @@
+use Rattle.std.proofs.Common.{◌*◌, ◌<◌, ap, ℕ, subst, sym}
+use Rattle.bit_rows.specs.Bits.{row_has}
+use Rattle.gt_core.specs.Literal.{opposite}
+use Rattle.known_literals.specs.Rows.{clause_in}
+use Rattle.known_literals.proofs.Steps.{opposite_below}
+use Rattle.known_literals.proofs.Renewing.{same_closed, pair_closed}
+use Rattle.known_literals.proofs.renew.renew.Goals as goal
+
+pub returns-then-is_same : goal.returns-then-is_same
+returns-then-is_same c = same_closed (clause_in c.args.done.now.rules.now.clauses.now) (2 * c.args.done.now.rules.now.facts) (row_has c.args.next.now) (row_has c.args.old.now) c.requires.was (ap row_has c.if-is_same.ensures)
+
+pub returns-then-has_pair : goal.returns-then-has_pair
+returns-then-has_pair c = pair_closed (clause_in c.args.done.now.rules.now.clauses.now) (row_has c.args.next.now) c.if-has_pair.ensures
+
+pub none_follows-requires-clause-even : goal.none_follows-requires-clause-even
+none_follows-requires-clause-even c = λ l lt.
+    let long = c.requires.done.rules.clauses.long in
+    subst (λ (n : ℕ). opposite l < n) (sym long) (opposite_below l c.args.done.now.rules.now.facts (subst (λ (n : ℕ). l < n) long lt))
