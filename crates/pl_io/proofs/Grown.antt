@@ -27,3 +27,8 @@ whole-fits most old new file took = omega (arith, took.0, ap length took.1, leng
 -- of a longer file so many bytes were taken
 pub first-fills : (most : ℕ) (old new file : List ℕ) → TookFirst most old new file → length new ≡ length old + most
 first-fills most old new file took = omega (arith, ap length took.1, length-append old (take most file), length-take-le most file (omega (arith, took.0)))
+
+-- a part of what was read is kept, and counted off from what may still be kept
+pub still-left : (before new chunk : List ℕ) (left kept total : ℕ) → new ≡ before ++ take kept chunk → kept ≤ length chunk → kept ≤ left → length before + left ≡ total → length new + (left - kept) ≡ total
+still-left before new chunk left kept total more inside few is =
+    omega (arith, ap length more, length-append before (take kept chunk), length-take-le kept chunk inside, few, is)
