@@ -1,9 +1,9 @@
 -- Loops over objects, types and effects.
-use Rattle.std.proofs.Common.{◌≡◌, ℕ, zero, suc, ◌+◌, ◌-◌, ◌<◌, Bool, true, false, cond, List, [], ◌∷◌, ◌++◌, length, take, drop, get_or, map, refl, ap, ◌∙◌, append_assoc, arith}
+use Rattle.std.proofs.Common.{◌≡◌, ℕ, zero, suc, ◌+◌, ◌-◌, ◌<◌, Bool, true, false, cond, List, [], ◌∷◌, ◌++◌, length, take, drop, get_or, map, refl, sym, ap, ◌∙◌, append_assoc, arith}
 use Rattle.std.specs.Prelude.{slice_get}
 use Rattle.std.specs.List.{flat_map, filter}
 use Rattle.std.proofs.lemmas.Bool.{and_parts}
-use Rattle.std.proofs.lemmas.List.{append-nil, take_more, nil_from_length, take_at, length-append}
+use Rattle.std.proofs.lemmas.List.{append-nil, take_more, nil_from_length, take_at, length-append, map_more}
 use Rattle.std.proofs.lemmas.List.Concat.{flat_map-append, flat_map-cons}
 use Rattle.std.proofs.lemmas.List.Elements.{filter-append}
 use Rattle.pd_model.specs.Fits.{tuples, is_of, fits, all_fit}
@@ -44,9 +44,19 @@ chosen : {X A : Type 0} (g : X → List A) (b : Bool) (x : X) (front : List A) �
 chosen g true x front = ap (λ (ys : List _). front ++ ys) (append-nil (g x))
 chosen g false x front = refl
 
-pub signed_more : {X A : Type 0} (g : X → List A) (pick : X → Bool) (xs : List X) (i : ℕ) (x : X) → i < length xs → x ≡ get_or xs i x
+signed_more : {X A : Type 0} (g : X → List A) (pick : X → Bool) (xs : List X) (i : ℕ) (x : X) → i < length xs → x ≡ get_or xs i x
     → flat_map g (filter pick (take (i + 1) xs)) ≡ flat_map g (filter pick (take i xs)) ++ cond (pick x) (g x) []
 signed_more g pick xs i x lt at = rw (take_more xs i x lt, ← at, filter-append, flat_map-append) (chosen g (pick x) x (flat_map g (filter pick (take i xs))))
+
+-- a loop over what is picked, once more
+pub active_more : {X A : Type 0} (g : X → List A) (pick : X → Bool) (xs : List X) (i : ℕ) (x : X) (so_far next : List A) → i < length xs → x ≡ get_or xs i x → so_far ≡ flat_map g (filter pick (take i xs)) → next ≡ so_far ++ cond (pick x) (g x) [] → next ≡ flat_map g (filter pick (take (i + 1) xs))
+active_more g pick xs i x so_far next lt at before added =
+    added ∙ (ap (λ (ys : List _). ys ++ cond (pick x) (g x) []) before ∙ sym (signed_more g pick xs i x lt at))
+
+-- a loop that maps a list, once more
+pub mapped_more : {X A : Type 0} (g : X → A) (xs : List X) (i : ℕ) (x : X) (so_far next : List A) → i < length xs → x ≡ get_or xs i x → so_far ≡ map g (take i xs) → next ≡ so_far ++ g x ∷ [] → next ≡ map g (take (i + 1) xs)
+mapped_more {X} g xs i x so_far next lt at before added =
+    added ∙ (ap (λ (ys : List _). ys ++ g x ∷ []) before ∙ (ap (λ (y : X). map g (take i xs) ++ g y ∷ []) at ∙ sym (map_more g xs i x lt)))
 
 -- a type is left, and no object
 pub none_left : (p : Parts) (kinds : List ℕ) (i : ℕ) (rest : List ℕ) → i < length kinds → length rest ≡ 0 → all_fit p (drop i kinds) rest ≡ false

@@ -79,7 +79,6 @@ fn add_signed(
 }
 
 /// The atoms of the active adds, or of the active deletes.
-#[tactic(auto, using(crate::proofs::Walks::signed_more))]
 pub fn active_atoms(
     alloc: Global,
     p: &Pddl,

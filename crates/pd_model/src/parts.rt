@@ -1,8 +1,9 @@
 // The parts of a task.
 use crate::{Atoms, Conds, ObjectDecls, Predicates, Schemas, Types};
+use let_go::let_go;
 
 /// What a domain and a problem declare, before it is known to be a task.
-#[derive(Debug, Drop)]
+#[derive(Debug)]
 pub struct Parts {
     /// The types, `object` first.
     pub types: Types,
@@ -16,4 +17,11 @@ pub struct Parts {
     pub init: Atoms,
     /// The goal.
     pub goal: Conds,
+}
+
+/// Letting one go is one call, in which its parts go: whoever holds one proves one step.
+impl Drop for Parts {
+    fn drop(self) {
+        let_go!(self: Parts { types, predicates, objects, schemas, init, goal });
+    }
 }
