@@ -1,7 +1,7 @@
-use Rattle.std.proofs.Common.{◌≡◌, ◌==◌, ℕ, ◌+◌, ◌<◌, List, [], ◌∷◌, ◌++◌, length, take, Bool, ◌||◌, ap, ◌∙◌}
+use Rattle.std.proofs.Common.{◌≡◌, ◌==◌, ℕ, ◌+◌, ◌<◌, List, [], ◌∷◌, ◌++◌, length, take, drop, Bool, ◌||◌, ap, sym, ◌∙◌}
 use Rattle.std.specs.Prelude.{slice_index_or}
 use Rattle.std.specs.List.{list_any}
-use Rattle.std.proofs.lemmas.List.{take_more}
+use Rattle.std.proofs.lemmas.List.{take_more, at_drop_more}
 use Rattle.gt_core.specs.Literal.{is_in, range}
 use Rattle.action_order.proofs.Lists.{range_more}
 use Rattle.std.proofs.Math.Bool.{or-false, or_comm}
@@ -15,6 +15,10 @@ any_push p xs x = list_any-append p xs (x ∷ []) ∙ ap (λ (b : Bool). list_an
 -- a test of one more element
 pub any_more : {A : Type 0} (p : A → Bool) (xs : List A) (i : ℕ) (d : A) → i < length xs → list_any p (take (i + 1) xs) ≡ (p (slice_index_or xs i d) || list_any p (take i xs))
 any_more p xs i d lt = ap (list_any p) (take_more xs i d lt) ∙ any_push p (take i xs) (slice_index_or xs i d)
+
+-- a test of what is left of a list, with its first element apart
+pub any_left : {A : Type 0} (p : A → Bool) (xs : List A) (i : ℕ) (x : A) → i < length xs → x ≡ slice_index_or xs i x → list_any p (drop i xs) ≡ (p x || list_any p (drop (i + 1) xs))
+any_left p xs i x lt is = at_drop_more (list_any p) xs i x lt ∙ ap (λ y. p y || list_any p (drop (i + 1) xs)) (sym is)
 
 pub in_pushed : (xs : List ℕ) (x y : ℕ) → is_in (xs ++ x ∷ []) y ≡ ((x == y) || is_in xs y)
 in_pushed xs x y = any_push (λ z. z == y) xs x

@@ -16,6 +16,17 @@ use Rattle.action_order.proofs.WalkLaw.{common_in}
 
 -- What one move of the walk may rely on, and that the work that is left falls.
 
+none_in : (xs : List ℕ) → length xs ≡ 0 → is_in xs 0 ≡ true → ⊥
+none_in [] e i = let f : false ≡ true = i in cc
+none_in (x ∷ xs) e i = omega arith
+
+-- where no place has work, the stack is empty
+pub walked : (targets : List (List ℕ)) (marks : List Mark) (stack starts work roots : List ℕ) → IsWalk targets marks stack starts work roots → length work ≡ 0 → length stack ≡ 0
+walked targets marks stack starts work roots w none = elim (cases_lt 0 (length stack)) [
+  | inl h ↦ absurd (none_in work none (w.starts_in_work 0 (w.bottom h)))
+  | inr h ↦ omega arith
+]
+
 module _ (targets : List (List ℕ)) (marks : List Mark) (stack starts work roots : List ℕ) (w : IsWalk targets marks stack starts work roots) (place : ℕ) (last : IsLast work place) where
   abbrev edge : ℕ → ℕ → Bool
   edge = leads targets
@@ -41,12 +52,8 @@ module _ (targets : List (List ℕ)) (marks : List Mark) (stack starts work root
   some_start : 0 < length starts
   some_start = elim (cases_lt 0 (length starts)) [
     | inl h ↦ h
-    | inr h ↦ let lt = last_place in absurd (none starts (omega arith) (w.bottom (omega arith)))
+    | inr h ↦ let lt = last_place in absurd (none_in starts (omega arith) (w.bottom (omega arith)))
   ]
-    where
-      none : (xs : List ℕ) → length xs ≡ 0 → is_in xs 0 ≡ true → ⊥
-      none [] e i = let f : false ≡ true = i in cc
-      none (x ∷ xs) e i = omega arith
 
   abbrev top_start : ℕ
   top_start = item starts (length starts - 1)

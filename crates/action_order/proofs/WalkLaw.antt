@@ -1,14 +1,15 @@
-use Rattle.std.proofs.Common.{arith, ◌≡◌, ℕ, ◌+◌, ◌<◌, ◌≤◌, List, [], ◌∷◌, ◌++◌, length, Bool, true, false, ◌&&◌, refl, sym, ap, ◌∙◌, subst, ◌⊎◌, inl, inr, set}
+use Rattle.std.proofs.Common.{arith, ◌≡◌, ◌==◌, ℕ, ◌+◌, ◌<◌, ◌≤◌, List, [], ◌∷◌, ◌++◌, length, Bool, true, false, not, ◌&&◌, ◌||◌, refl, sym, ap, ◌∙◌, subst, ◌⊎◌, inl, inr, set}
 use Rattle.std.specs.Prelude.{nat_lt, Option, Some, None, if◌then◌else◌}
 use Rattle.std.proofs.lemmas.List.{length_push, length-set, get_or-set_same, get_or-set_other, get_or_past}
 use Rattle.std.proofs.lemmas.Bool.Decides.{nat_tests}
 use Rattle.bit_rows.specs.Bits.{row_has, IsLeastFrom}
-use Rattle.gt_core.proofs.Basics.{and_split, and_both, apart}
+use Rattle.std.proofs.Math.Bool.{and-false}
+use Rattle.gt_core.proofs.Basics.{and_split, and_both, apart, not_true, test_same, same_test}
 use Rattle.std.proofs.lemmas.Bool.{cases_lt, cases_eq}
 use Rattle.gt_core.specs.Literal.{is_in}
 use Rattle.gt_core.specs.Published.{Reaches, here, Pairwise}
 use Rattle.action_order.specs.Graph.{leads, item}
-use Rattle.action_order.specs.Walk.{mark_of, is_unseen, is_stacked, lower, place_of as place_in, IsSeen, IsOpen, IsSegmentStart, AreFinished, IsWalk, AllReach, KeepsSeen, IsLowest, IsLowestBelow}
+use Rattle.action_order.specs.Walk.{mark_of, is_unseen, is_stacked, lower, place_of as place_in, IsSeen, IsOpen, IsSegmentStart, AreFinished, IsWalk, AllReach, KeepsSeen, IsLowest, IsLowestBelow, AreSets, MarksFrom, TakesFrom}
 use Rattle.action_order.specs.declared.walk.Mark.{Mark}
 use Rattle.action_order.specs.declared.walk.Mark.TheVariants.{Unseen, At, Done}
 use Rattle.action_order.proofs.Lists.{push_old, push_new, place_cases, in_push, in_push_new, in_push_old, rising_push, rising_front, rising_last, reaches_more, reaches_edge}
@@ -364,3 +365,62 @@ lowest_place targets marks stack starts work roots w v to l =
     let below = marked_below marks l.0.0 (λ e. unseen_at (mark_of marks l.0.0) to e l.0.2) in
     let long = w.marks_long in
     w.on_stack l.0.0 to (omega arith) l.0.2
+
+-- a vertex that goes onto the stack goes from one row of bits to the other
+pub stacked_sets :
+    (marks : List Mark) (unseen stacked left on : List ℕ) (v p : ℕ) → AreSets marks unseen stacked → v < length marks
+    → ((k : ℕ) → row_has left k ≡ (not (v == k) && row_has unseen k)) → ((k : ℕ) → row_has on k ≡ ((v == k) || row_has stacked k))
+    → AreSets (set marks v (At p)) left on
+stacked_sets marks unseen stacked left on v p a lt takes puts = record { unseen = λ k. takes k ∙ left_is k (cases_eq k v); stacked = λ k. puts k ∙ on_is k (cases_eq k v) }
+  where
+    after : List Mark
+    after = set marks v (At p)
+
+    own : (k : ℕ) → k ≡ v → mark_of after k ≡ At p
+    own k s = ap (mark_of after) s ∙ own_mark marks v (At p) lt
+
+    other : (k : ℕ) → (k ≡ v → ⊥) → (v == k) ≡ false
+    other k n = not_true (v == k) (λ e. n (sym (test_same v k e)))
+
+    left_is : (k : ℕ) → (k ≡ v) ⊎ (k ≡ v → ⊥) → (not (v == k) && row_has unseen k) ≡ (nat_lt k (length after) && is_unseen (mark_of after k))
+    left_is k (inl s) = ap (λ (b : Bool). not b && row_has unseen k) (same_test v k (sym s)) ∙ sym (ap (λ (m : Mark). nat_lt k (length after) && is_unseen m) (own k s) ∙ and-false (nat_lt k (length after)))
+    left_is k (inr n) =
+        ap (λ (b : Bool). not b && row_has unseen k) (other k n) ∙ a.unseen k
+        ∙ ap (λ (n : ℕ). nat_lt k n && is_unseen (mark_of marks k)) (sym (length-set marks v (At p)))
+        ∙ ap (λ (m : Mark). nat_lt k (length after) && is_unseen m) (sym (other_mark marks v k (At p) n))
+
+    on_is : (k : ℕ) → (k ≡ v) ⊎ (k ≡ v → ⊥) → ((v == k) || row_has stacked k) ≡ is_stacked (mark_of after k)
+    on_is k (inl s) = ap (λ (b : Bool). b || row_has stacked k) (same_test v k (sym s)) ∙ sym (ap is_stacked (own k s))
+    on_is k (inr n) = ap (λ (b : Bool). b || row_has stacked k) (other k n) ∙ a.stacked k ∙ ap is_stacked (sym (other_mark marks v k (At p) n))
+
+-- a place up to another with a different vertex is below it
+before_last : (stack : List ℕ) (p i : ℕ) → p < i + 1 → (item stack p ≡ item stack i → ⊥) → p < i
+before_last stack p i l n = elim (cases_lt p i) [ inl h ↦ h | inr h ↦ let e : p ≡ i = omega arith in absurd (n (ap (item stack) e)) ]
+
+-- one more vertex of a stack gets a mark
+pub marks_more : (before now : List Mark) (stack : List ℕ) (place i : ℕ) (mark : Mark) → place ≤ i → item stack i < length before → MarksFrom before now stack place i mark → MarksFrom before (set now (item stack i) mark) stack place (i + 1) mark
+marks_more before now stack place i mark ge lt m = record {
+  long = length-set now (item stack i) mark ∙ m.long;
+  marked = λ p le l. by p le l (cases_eq (item stack p) (item stack i));
+  others = λ v n. other_mark now (item stack i) v mark (λ s. n i ge (omega arith) (sym s)) ∙ m.others v (λ p le l. n p le (omega arith));
+}
+  where
+    by : (p : ℕ) → place ≤ p → p < i + 1 → (item stack p ≡ item stack i) ⊎ (item stack p ≡ item stack i → ⊥) → mark_of (set now (item stack i) mark) (item stack p) ≡ mark
+    by p le l (inl s) = ap (mark_of (set now (item stack i) mark)) s ∙ own_mark now (item stack i) mark (omega (arith, m.long))
+    by p le l (inr n) = other_mark now (item stack i) (item stack p) mark n ∙ m.marked p le (before_last stack p i l n)
+
+-- one more vertex of a stack is taken out of a set
+pub takes_more :
+    (stack : List ℕ) (place i : ℕ) (before now after : List ℕ) → place ≤ i → TakesFrom stack place i before now
+    → ((k : ℕ) → row_has after k ≡ (not (item stack i == k) && row_has now k)) → TakesFrom stack place (i + 1) before after
+takes_more stack place i before now after ge t h = record {
+  taken = λ p le l. h (item stack p) ∙ by p le l (cases_eq (item stack p) (item stack i));
+  others = λ v n. h v ∙ left v (not_true (item stack i == v) (λ e. n i ge (omega arith) (test_same (item stack i) v e))) ∙ t.others v (λ p le l. n p le (omega arith));
+}
+  where
+    left : (v : ℕ) → (item stack i == v) ≡ false → (not (item stack i == v) && row_has now v) ≡ row_has now v
+    left v e = ap (λ (b : Bool). not b && row_has now v) e
+
+    by : (p : ℕ) → place ≤ p → p < i + 1 → (item stack p ≡ item stack i) ⊎ (item stack p ≡ item stack i → ⊥) → (not (item stack i == item stack p) && row_has now (item stack p)) ≡ false
+    by p le l (inl s) = ap (λ (b : Bool). not b && row_has now (item stack p)) (same_test (item stack i) (item stack p) (sym s))
+    by p le l (inr n) = left (item stack p) (not_true (item stack i == item stack p) (λ e. n (sym (test_same (item stack i) (item stack p) e)))) ∙ t.taken p le (before_last stack p i l n)
