@@ -54,9 +54,8 @@ active_more g pick xs i x so_far next lt at before added =
     added ∙ (ap (λ (ys : List _). ys ++ cond (pick x) (g x) []) before ∙ sym (signed_more g pick xs i x lt at))
 
 -- a loop that maps a list, once more
-pub mapped_more : {X A : Type 0} (g : X → A) (xs : List X) (i : ℕ) (x : X) (so_far next : List A) → i < length xs → x ≡ get_or xs i x → so_far ≡ map g (take i xs) → next ≡ so_far ++ g x ∷ [] → next ≡ map g (take (i + 1) xs)
-mapped_more {X} g xs i x so_far next lt at before added =
-    added ∙ (ap (λ (ys : List _). ys ++ g x ∷ []) before ∙ (ap (λ (y : X). map g (take i xs) ++ g y ∷ []) at ∙ sym (map_more g xs i x lt)))
+pub mapped_more : {X A : Type 0} (g : X → A) (xs : List X) (i : ℕ) (d : X) (so_far next : List A) → i < length xs → so_far ≡ map g (take i xs) → next ≡ so_far ++ g (get_or xs i d) ∷ [] → next ≡ map g (take (i + 1) xs)
+mapped_more g xs i d so_far next lt before added = added ∙ (ap (λ (ys : List _). ys ++ g (get_or xs i d) ∷ []) before ∙ sym (map_more g xs i d lt))
 
 -- a type is left, and no object
 pub none_left : (p : Parts) (kinds : List ℕ) (i : ℕ) (rest : List ℕ) → i < length kinds → length rest ≡ 0 → all_fit p (drop i kinds) rest ≡ false
