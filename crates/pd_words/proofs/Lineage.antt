@@ -1,7 +1,7 @@
 -- Where parents lead, by maps of all types at once.
-use Rattle.std.proofs.Common.{◌≡◌, ℕ, zero, suc, ◌+◌, ◌<◌, Bool, true, false, ◌==◌, ◌||◌, List, [], ◌∷◌, ◌++◌, length, map, get_or, slice_index, refl, ap, ◌∙◌, sym, arith}
+use Rattle.std.proofs.Common.{◌≡◌, ℕ, zero, suc, ◌+◌, ◌<◌, Bool, true, false, ◌==◌, ◌||◌, List, [], ◌∷◌, ◌++◌, length, map, take, get_or, slice_index, refl, ap, ◌∙◌, sym, arith}
 use Rattle.std.specs.List.{range_with_len}
-use Rattle.std.proofs.lemmas.List.{get_or-map, length-map}
+use Rattle.std.proofs.lemmas.List.{get_or-map, length-map, map-append, take_more}
 use Rattle.std.proofs.lemmas.List.FromFn.{get_or-map-range_with_len, length-map-range_with_len, fill_by_all, map-range_with_len_more}
 use Rattle.std.proofs.lemmas.Bool.{eqb-true}
 use Rattle.pd_model.specs.Types.{leads_to, is_under}
@@ -9,6 +9,11 @@ use Rattle.pd_words.specs.Types.{ancestor, ancestors, AreParents}
 
 pub numbers_more : (n : ℕ) → map (λ k. k) (range_with_len 0 (n + 1)) ≡ map (λ k. k) (range_with_len 0 n) ++ n ∷ []
 numbers_more n = map-range_with_len_more (λ k. k) 0 n n (omega arith)
+
+-- a list is mapped up to one place more
+pub map_more : {A : Type 0} (f : A → ℕ) (xs : List A) (i : ℕ) (d : A) (before after : List ℕ) → i < length xs → before ≡ map f (take i xs) → after ≡ before ++ f (get_or xs i d) ∷ [] → after ≡ map f (take (i + 1) xs)
+map_more f xs i d before after lt old new =
+    new ∙ ap (λ (ys : List ℕ). ys ++ f (get_or xs i d) ∷ []) old ∙ sym (ap (map f) (take_more xs i d lt) ∙ map-append f (take i xs) (get_or xs i d ∷ []))
 
 -- steps add up
 ancestor_sum : (parents : List ℕ) (m n kind : ℕ) → ancestor parents (m + n) kind ≡ ancestor parents m (ancestor parents n kind)

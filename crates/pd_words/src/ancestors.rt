@@ -32,7 +32,6 @@ fn composed(alloc: Global, outer: &[u32], inner: &[u32]) -> Result<Vec<u32>, Rea
 }
 
 // The numbers below a count.
-#[tactic(auto, using(crate::proofs::Lineage::numbers_more))]
 fn numbers_below(alloc: Global, count: usize) -> Result<Vec<u32>, ReadError>
     ensures numbers { IfOk result (λ v. v.items ≡ map (λ k. k) (range_with_len 0 count)) }
     ensures memory { IfErr result (λ e. e ≡ errors.Memory) }
