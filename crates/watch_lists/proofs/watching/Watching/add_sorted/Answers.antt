@@ -20,7 +20,33 @@ use Rattle.watch_lists.proofs.Sounds.{sound_add}
 use Rattle.watch_lists.proofs.Statuses.{front_left_same}
 use Rattle.watch_lists.proofs.Recents.{recent_more}
 use Rattle.watch_lists.proofs.watching.Watching.add_sorted.Goals as goal
-use Rattle.watch_lists.proofs.watching.Watching.add_sorted.Goals.{After-assignment-assignment, After-raise}
+use Rattle.watch_lists.proofs.watching.Watching.add_sorted.Goals.{After-assignment-assignment, After-raise, After-reserve-2}
+
+-- what holds where room was made and nothing is added
+reserved : (c : After-reserve-2) → AreTablesSound c.self.inside.variables c.self.inside.trail.variables c.self.inside.tables.store c.reserve.new.self.items (literals c.self.inside.trail.entries) c.reserve-2.new.self.items c.self.inside.lists.watched.items c.self.inside.lists.chains.heads.items c.self.inside.lists.chains.nodes.items c.self.inside.lists.pending c.self.inside.quiet.items × IsPaired c.self.inside.variables c.self.inside.tables.store c.reserve-2.new.self.items c.self.inside.pairs × HasUnits c.self.inside.tables.store (literals c.self.inside.trail.entries) c.reserve-2.new.self.items c.self.inside.lists.pending c.self.inside.lists.units.items
+reserved c =
+    let w = c.self.inside in (
+      subst (λ (ks : List Bool). AreTablesSound w.variables w.trail.variables w.tables.store ks (literals w.trail.entries) c.reserve-2.new.self.items w.lists.watched.items w.lists.chains.heads.items w.lists.chains.nodes.items w.lists.pending w.quiet.items) (sym c.reserve.ensures.items)
+          (subst (λ (ss : List ℕ). AreTablesSound w.variables w.trail.variables w.tables.store w.tables.kept.items (literals w.trail.entries) ss w.lists.watched.items w.lists.chains.heads.items w.lists.chains.nodes.items w.lists.pending w.quiet.items) (sym c.reserve-2.ensures.items) c.self.invariant.0),
+      subst (λ (ss : List ℕ). IsPaired w.variables w.tables.store ss w.pairs) (sym c.reserve-2.ensures.items) c.self.invariant.1,
+      subst (λ (ss : List ℕ). HasUnits w.tables.store (literals w.trail.entries) ss w.lists.pending w.lists.units.items) (sym c.reserve-2.ensures.items) c.self.invariant.2,
+    )
+
+pub invariant_of-self : goal.invariant_of-self
+invariant_of-self c =
+    let w = c.self.inside in (
+      subst (λ (ks : List Bool). AreTablesSound w.variables w.trail.variables w.tables.store ks (literals w.trail.entries) w.tables.slots.items w.lists.watched.items w.lists.chains.heads.items w.lists.chains.nodes.items w.lists.pending w.quiet.items) (sym c.reserve.ensures.items) c.self.invariant.0,
+      c.self.invariant.1,
+      c.self.invariant.2,
+      c.self.invariant.3,
+      c.self.invariant.4,
+    )
+
+pub invariant_of-self-in_err-reserve-2 : goal.invariant_of-self-in_err-reserve-2
+invariant_of-self-in_err-reserve-2 c = let r = reserved (goal.at.invariant_of-self-in_err-reserve-2 c).After-reserve-2 in (r.0, r.1, r.2, c.self.invariant.3, c.self.invariant.4)
+
+pub invariant_of-self-in_err-begin_block : goal.invariant_of-self-in_err-begin_block
+invariant_of-self-in_err-begin_block c = let r = reserved (goal.at.invariant_of-self-in_err-begin_block c).After-reserve-2 in (r.0, r.1, r.2, c.self.invariant.3, c.self.invariant.4)
 
 pub invariant_of-self-in_err-widen : goal.invariant_of-self-in_err-widen
 invariant_of-self-in_err-widen c =
