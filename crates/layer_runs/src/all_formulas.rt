@@ -23,14 +23,19 @@ use std::thread::Threads;
 use step_encoding::form::StepForm;
 use two_invariants::find;
 
-/// A match that is used while it is there, and burns: burn takes it away, and use needs it. Facts match 0, used 1, burnt 2.
+/// Burn takes the fact match away, and use needs it. Facts: match 0, used 1, burnt 2.
+fn burning_acts(alloc: Global) -> Result<Acts, AllocError> {
+    let mut acts = Vec::new(alloc);
+    acts.push(plain(alloc, &[], &[1, 4])?)?;
+    acts.push(plain(alloc, &[0], &[2])?)?;
+    Ok(Acts::of(acts))
+}
+
+/// A match that is used while it is there, and burns.
 fn burning(alloc: Global) -> Result<Option<Task>, AllocError> {
-    let burn = plain(alloc, &[], &[1, 4])?;
-    let used = plain(alloc, &[0], &[2])?;
     let init = Bits::of(vec![in alloc; true, false, false]?);
     let goal = Lits::of(vec![in alloc; 2, 4]?);
-    let acts = Acts::of(vec![in alloc; burn, used]?);
-    Ok(Task::try_new(3, init, goal, false, acts))
+    Ok(Task::try_new(3, init, goal, false, burning_acts(alloc)?))
 }
 
 /// Whether a literal has a variable from one on and below another.

@@ -72,6 +72,13 @@ fn print_layout<F: StepForm>(rt: &impl Print, form: &F, n: u32) -> io::Result<()
     println!(rt; "layout {n} {actions} {conditional} {chains} {facts}")
 }
 
+/// Prints the actions of a step.
+fn print_step(rt: &impl Print, actions: &[u32]) -> io::Result<()> {
+    print!(rt; "step")?;
+    print_numbers(rt, actions)?;
+    println!(rt; "")
+}
+
 /// Prints a horizon's formula, and the steps of an assignment where it satisfies it.
 fn print_horizon<F: StepForm>(
     rt: &(impl Print + AllocGlobal),
@@ -92,9 +99,7 @@ fn print_horizon<F: StepForm>(
         return println!(rt; "no memory");
     };
     for step in steps.as_slice() {
-        print!(rt; "step")?;
-        print_numbers(rt, step.as_slice())?;
-        println!(rt; "")?;
+        print_step(rt, step.as_slice())?;
     }
     Ok(())
 }

@@ -49,6 +49,12 @@ fn solve(rt: &(impl Input + Files + Print + AllocGlobal), words: &[String]) -> i
     solver::print_file(rt, path.as_str(), conflicts, words.len() > 2)
 }
 
+/// Sums up a formula of a robot in rooms.
+fn sum_up(rt: &(impl Print + AllocGlobal), words: &[String]) -> io::Result<()> {
+    let (rooms, horizon) = (number(words.get(0), 3), number(words.get(1), 1));
+    large_forms::print_rooms(rt, rooms, horizon, number(words.get(2), 0))
+}
+
 /// Publishes the order of the task for a word, finds its invariants, or tells how large its formulas are.
 fn run_on_task(
     rt: &(impl Print + AllocGlobal + Threads + Sync),
@@ -74,13 +80,7 @@ fn run_on_tasks(
     Ok(())
 }
 
-/// Sums up a formula of a robot in rooms.
-fn sum_up(rt: &(impl Print + AllocGlobal), words: &[String]) -> io::Result<()> {
-    let (rooms, horizon) = (number(words.get(0), 3), number(words.get(1), 1));
-    large_forms::print_rooms(rt, rooms, horizon, number(words.get(2), 0))
-}
-
-/// The runs on formulas and logs.
+/// The runs of the word `all` on formulas and logs.
 fn run_solving(rt: &(impl Input + Print + AllocGlobal)) -> io::Result<()> {
     println!(rt; "== solve")?;
     solver::print_input(rt)?;
@@ -90,8 +90,8 @@ fn run_solving(rt: &(impl Input + Print + AllocGlobal)) -> io::Result<()> {
     watched::print_sums(rt)
 }
 
-/// The runs on tasks.
-fn run_tasks(rt: &(impl Print + AllocGlobal + Threads + Sync)) -> io::Result<()> {
+/// Those on tasks.
+fn run_planning(rt: &(impl Print + AllocGlobal + Threads + Sync)) -> io::Result<()> {
     println!(rt; "== order")?;
     orders::print_order(rt, "none")?;
     orders::print_order(rt, "ring")?;
@@ -100,8 +100,8 @@ fn run_tasks(rt: &(impl Print + AllocGlobal + Threads + Sync)) -> io::Result<()>
     invariants::print_count(rt, "takers")
 }
 
-/// The runs on formulas of tasks.
-fn run_forms(rt: &(impl Print + AllocGlobal + Threads + Sync)) -> io::Result<()> {
+/// Those on formulas of tasks.
+fn run_encoding(rt: &(impl Print + AllocGlobal + Threads + Sync)) -> io::Result<()> {
     println!(rt; "== rooms")?;
     large_forms::print_rooms(rt, 1000, 95, 1)?;
     println!(rt; "== formulas")?;
@@ -110,22 +110,14 @@ fn run_forms(rt: &(impl Print + AllocGlobal + Threads + Sync)) -> io::Result<()>
     all_formulas::print_tasks(rt)
 }
 
-/// A run of each kind.
+/// Makes a run of each kind but `forms`.
 fn run_all(rt: &(impl Input + Print + AllocGlobal + Threads + Sync)) -> io::Result<()> {
     run_solving(rt)?;
-    run_tasks(rt)?;
-    run_forms(rt)
+    run_planning(rt)?;
+    run_encoding(rt)
 }
 
-/// Says which first words there are.
-fn say_words(rt: &impl Print) -> io::Result<()> {
-    println!(rt;
-        "solve, solve FILE [CONFLICTS [propagations]], check, watches, order WORD.., invariants WORD..,"
-    )?;
-    println!(rt; "forms WORD.., rooms ROOMS HORIZON SIZES, formulas, all-formulas, or all")
-}
-
-/// Does what the first word says.
+/// Does what a first word says.
 fn run(
     rt: &(impl Input + Files + Print + AllocGlobal + Threads + Sync),
     first: &str,
@@ -140,7 +132,9 @@ fn run(
         "formulas" => formulas::print_tasks(rt),
         "all-formulas" => all_formulas::print_tasks(rt),
         "all" => run_all(rt),
-        _ => say_words(rt),
+        _ => println!(rt;
+            "solve, check, watches, order, invariants, forms, rooms, formulas, all-formulas or all"
+        ),
     }
 }
 
@@ -150,6 +144,6 @@ fn main(rt: HostRuntime) -> io::Result<()> {
     };
     match words.split_first() {
         Some((first, others)) => run(&rt, first.as_str(), others),
-        None => say_words(&rt),
+        None => run(&rt, "", &[]),
     }
 }

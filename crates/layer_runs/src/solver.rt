@@ -200,6 +200,23 @@ fn write_report(report: &[u8], is_brief: bool, out: &mut (impl Write + Drop)) ->
     writeln!(out, "lines {lines}")
 }
 
+/// Runs a text's formula in pieces, and writes how that ends where it is otherwise than in one go.
+fn run_piece(
+    alloc: Global,
+    text: &[u8],
+    conflicts: u32,
+    piece: u32,
+    whole: &[u8],
+    out: &mut (impl Write + Drop),
+) -> io::Result<()> {
+    let cut = report(alloc, text, conflicts, Some(piece))?;
+    if cut.as_slice() == whole {
+        return writeln!(out, "in pieces of {piece}: the same");
+    }
+    writeln!(out, "in pieces of {piece}:")?;
+    out.write_all(cut.as_slice())
+}
+
 /// Runs a text's formula in one go and in pieces, and writes how the first ends, and the others where they end otherwise.
 fn run_in_pieces(
     alloc: Global,
@@ -210,13 +227,7 @@ fn run_in_pieces(
     let whole = report(alloc, text, conflicts, None)?;
     write_report(whole.as_slice(), has_line(b"c brief", text), out)?;
     for piece in [1, 7, 64] {
-        let cut = report(alloc, text, conflicts, Some(piece))?;
-        if cut.as_slice() == whole.as_slice() {
-            writeln!(out, "in pieces of {piece}: the same")?;
-        } else {
-            writeln!(out, "in pieces of {piece}:")?;
-            out.write_all(cut.as_slice())?;
-        }
+        run_piece(alloc, text, conflicts, piece, whole.as_slice(), out)?;
     }
     out.write_all(answer(alloc, text, conflicts)?.as_slice())
 }
@@ -229,17 +240,22 @@ fn write_title(text: &[u8], out: &mut (impl Write + Drop)) -> io::Result<()> {
     writeln!(out)
 }
 
+/// Runs or checks the formula of a text, where it has one.
+fn run_part(alloc: Global, part: &[u8], out: &mut (impl Write + Drop)) -> io::Result<()> {
+    if !has_line(b"p cnf", part) {
+        return Ok(());
+    }
+    write_title(part, out)?;
+    match conflicts_of(part) {
+        Some(conflicts) => run_in_pieces(alloc, part, conflicts, out),
+        None => out.write_all(answer_to_log(alloc, part)?.as_slice()),
+    }
+}
+
 /// Runs or checks each of the formulas of a text, each ended by a `%`.
 fn run_all(alloc: Global, text: &[u8], out: &mut (impl Write + Drop)) -> io::Result<()> {
     for part in text.split(|byte| *byte == b'%') {
-        if !has_line(b"p cnf", part) {
-            continue;
-        }
-        write_title(part, out)?;
-        match conflicts_of(part) {
-            Some(conflicts) => run_in_pieces(alloc, part, conflicts, out)?,
-            None => out.write_all(answer_to_log(alloc, part)?.as_slice())?,
-        }
+        run_part(alloc, part, out)?;
     }
     Ok(())
 }
