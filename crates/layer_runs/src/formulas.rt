@@ -12,6 +12,7 @@ use action_order::order::Order;
 use action_order::publish::publish;
 use all_steps::form::AllForm;
 use clause_base::formula::Formula;
+use clause_base::memory::Memory;
 use gt_core::pairs::Pairs;
 use gt_core::task::Task;
 use sample_tasks::dice::Dice;
@@ -131,39 +132,15 @@ fn print_pairs(rt: &impl Print, pairs: &Pairs) -> io::Result<()> {
     println!(rt; "")
 }
 
-/// Prints a task's formulas of exists-steps under known pairs.
-fn print_exists(
+/// Prints what was asked of a form that was made, under its name.
+fn print_built<F: StepForm + Drop>(
     rt: &(impl Print + AllocGlobal),
-    task: &Task,
-    pairs: &Pairs,
-    order: &Order,
+    name: &str,
+    built: Result<F, Memory>,
     asked: Asked,
-) -> io::Result<()>
-    requires facts { pairs.now.facts ≡ task.now.facts }
-    requires hold { HoldsWherever task.now pairs.now.clauses }
-    requires published { IsPublished task.now pairs.now.clauses order.now }
-{
-    println!(rt; "exists-steps")?;
-    match ExistsForm::new(rt.alloc(), task, pairs, order) {
-        Ok(form) => print_form(rt, &form, asked),
-        Err(_) => println!(rt; "no memory"),
-    }
-}
-
-/// Prints a task's formulas of all-steps under known pairs.
-fn print_all_steps(
-    rt: &(impl Print + AllocGlobal),
-    task: &Task,
-    pairs: &Pairs,
-    order: &Order,
-    asked: Asked,
-) -> io::Result<()>
-    requires facts { pairs.now.facts ≡ task.now.facts }
-    requires hold { HoldsWherever task.now pairs.now.clauses }
-    requires published { IsPublished task.now pairs.now.clauses order.now }
-{
-    println!(rt; "all-steps")?;
-    match AllForm::new(rt.alloc(), task, pairs, order) {
+) -> io::Result<()> {
+    println!(rt; "{name}")?;
+    match built {
         Ok(form) => print_form(rt, &form, asked),
         Err(_) => println!(rt; "no memory"),
     }
@@ -182,8 +159,10 @@ fn print_ordered(
     requires published { IsPublished task.now pairs.now.clauses order.now }
 {
     print_order(rt, order)?;
-    print_exists(rt, task, pairs, order, asked)?;
-    print_all_steps(rt, task, pairs, order, asked)
+    let exists = ExistsForm::new(rt.alloc(), task, pairs, order);
+    print_built(rt, "exists-steps", exists, asked)?;
+    let all = AllForm::new(rt.alloc(), task, pairs, order);
+    print_built(rt, "all-steps", all, asked)
 }
 
 /// Prints known pairs, and a task's published order and its formulas under them.
