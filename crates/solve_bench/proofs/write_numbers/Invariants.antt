@@ -1,5 +1,0 @@
-use Rattle.std.proofs.Common.{length}
-use Rattle.solve_bench.proofs.write_numbers.Given as goal
-
-abbrev pub decreases-loop-number : goal.decreases-loop-number
-decreases-loop-number l = length l.left

@@ -1,9 +1,0 @@
-use Rattle.std.proofs.Common.{◌≡◌, ◌+◌, [], length}
-use Rattle.watch_bench.proofs.added.Given as goal
-
-abbrev pub invariant-loop-v : goal.invariant-loop-v
-invariant-loop-v l = record {
-  many : l.watches.variables ≡ 100002;
-  none : l.watches.trail ≡ [];
-  count : length l.watches.kept ≡ l.first + l.v;
-}
