@@ -1,4 +1,4 @@
-//! Lamps, as ground tasks with nothing known of them.
+//! Lamps, as ground tasks with nothing known of them, and the runs of horizons of one.
 ghost use Rattle.std.specs.Prelude.{◌≡◌, [], IfOk};
 ghost use Rattle.gt_core.specs.Published.{IsPublished};
 
@@ -9,10 +9,12 @@ use gt_core::act::Acts;
 use gt_core::lits::{Bits, Lits};
 use gt_core::pairs::Pairs;
 use gt_core::task::Task;
+use horizon_run::HorizonRun;
 use sample_tasks::actions::plain;
 use std::alloc::Global;
 use std::test::Fail;
 use step_encoding::exists::ExistsForm;
+use step_encoding::form::StepForm;
 
 /// A lamp, with an action that turns it on, and the goal that it is on.
 fn lamp(alloc: Global, on: bool) -> Result<Task, Fail> {
@@ -48,4 +50,22 @@ pub(crate) fn form_of(alloc: Global, ground: &Ground) -> Result<ExistsForm<'_>, 
     ensures { IfOk result (λ form. form.task ≡ ground.now.task) }
 {
     ExistsForm::new(alloc, &ground.task, &ground.pairs, &ground.order)
+}
+
+/// The run of a horizon over a form of a small task.
+fn run_of<F: StepForm>(alloc: Global, task: &Task, form: &F, n: u8) -> Result<HorizonRun, Fail>
+    requires { F.task form.now ≡ task.now }
+{
+    let n = u32::from(n);
+    if form.size(n) > 4_000_000 {
+        return Err("too large")?;
+    }
+    Ok(HorizonRun::new(alloc, task, form, n)?)
+}
+
+/// The run of a horizon of the lamp that is off.
+pub(crate) fn lamp_run(alloc: Global, n: u8) -> Result<HorizonRun, Fail> {
+    let off = grounded(alloc, false)?;
+    let form = form_of(alloc, &off)?;
+    run_of(alloc, &off.task, &form, n)
 }

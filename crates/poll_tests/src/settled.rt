@@ -1,25 +1,15 @@
 //! The run of horizon 0 of a lamp that is off and is to be on, settled by polls of one conflict.
 ghost use Rattle.std.specs.Prelude.{◌≤◌};
 
-use crate::lamps::{form_of, grounded};
+use crate::lamps::lamp_run;
 use cdcl_rules::standing::Standing;
 use horizon_run::HorizonRun;
 use poll_run::{BlockOn, Driver, NoDriver, SettleError, settle};
 use solver_pool::Resume;
-use std::alloc::{AllocGlobal, Global};
+use std::alloc::AllocGlobal;
 use std::random::RandomSource;
 use std::sync::Wait;
 use std::test::Fail;
-use step_encoding::form::StepForm;
-
-fn lamp_run(alloc: Global) -> Result<HorizonRun, Fail> {
-    let off = grounded(alloc, false)?;
-    let form = form_of(alloc, &off)?;
-    if form.size(0) > 4_000_000 {
-        return Err("too large")?;
-    }
-    Ok(HorizonRun::new(alloc, &off.task, &form, 0)?)
-}
 
 /// A run that is told of.
 trait Told: Resume {
@@ -65,15 +55,15 @@ fn blocked<R: Told, H: Wait + RandomSource + AllocGlobal>(
 fn polls_settle_the_run_of_a_horizon(rt: HostRuntime) -> Result<(), Fail> {
     let alloc = rt.alloc();
     assert_eq!(rt;
-        blocked(&rt, lamp_run(alloc)?, 50)?,
+        blocked(&rt, lamp_run(alloc, 0)?, 50)?,
         Ok((Standing::Refuted, 1))
     );
     assert_eq!(rt;
-        blocked(&rt, lamp_run(alloc)?, 0)?,
+        blocked(&rt, lamp_run(alloc, 0)?, 0)?,
         Ok((Standing::Going, 0))
     );
     assert_eq!(rt;
-        settled(&mut NoDriver::new(), lamp_run(alloc)?, 50)?,
+        settled(&mut NoDriver::new(), lamp_run(alloc, 0)?, 50)?,
         Err(SettleError::Driver)
     );
     Ok(())

@@ -1,8 +1,8 @@
 //! Runs that are polled in turn.
 ghost use Rattle.std.specs.Prelude.{◌≡◌};
 
-use crate::{TurnsError, drive_in_turns};
 use poll_run::{BlockOn, Driver, NoDriver, PollRun};
+use poll_turns::{TurnsError, drive_in_turns};
 use solver_pool::{CountRun, Resume};
 use std::alloc::{AllocGlobal, Global};
 use std::random::RandomSource;

@@ -1,61 +1,13 @@
 //! The runs of two horizons of a lamp that is off, which one action turns on.
-
-ghost use Rattle.std.specs.Prelude.{◌≡◌, []};
-ghost use Rattle.gt_core.specs.Published.{IsPublished};
-
-use crate::HorizonRun;
-use action_order::order::Order;
-use action_order::publish::publish;
+use crate::lamps::lamp_run;
 use cdcl_rules::standing::Standing;
-use gt_core::act::{Act, Acts};
-use gt_core::eff::{Eff, Effs};
-use gt_core::lits::{Bits, Lits};
-use gt_core::pairs::Pairs;
-use gt_core::task::Task;
+use horizon_run::HorizonRun;
 use solver_pool::{Job, Jobs, OpenGate, Resume, round};
 use std::alloc::Global;
 use std::process::Abort;
 use std::sync::Wait;
 use std::test::Fail;
 use std::thread::Threads;
-use step_encoding::exists::ExistsForm;
-use step_encoding::form::StepForm;
-
-fn lamp(alloc: Global) -> Result<Task, Fail> {
-    let pre = Lits::of(vec![in alloc; 1]?);
-    let effs = Effs::of(vec![in alloc; Eff::new(Lits::of(Vec::new(alloc)), 0)]?);
-    let acts = Acts::of(vec![in alloc; Act::new(pre, effs)]?);
-    let init = Bits::of(vec![in alloc; false]?);
-    let goal = Lits::of(vec![in alloc; 0]?);
-    Ok(Task::try_new(1, init, goal, false, acts).ok_or("no task")?)
-}
-
-/// A run over the formula of a horizon of the lamp.
-fn run_of(
-    alloc: Global,
-    task: &Task,
-    pairs: &Pairs,
-    order: &Order,
-    n: u8,
-) -> Result<HorizonRun, Fail>
-    requires facts { pairs.now.facts ≡ task.now.facts }
-    requires none { pairs.now.clauses ≡ [] }
-    requires published { IsPublished task.now pairs.now.clauses order.now }
-{
-    let form = ExistsForm::new(alloc, task, pairs, order)?;
-    let n = u32::from(n);
-    if form.size(n) > 4_000_000 {
-        return Err("too large")?;
-    }
-    Ok(HorizonRun::new(alloc, task, &form, n)?)
-}
-
-fn lamp_run(alloc: Global, n: u8) -> Result<HorizonRun, Fail> {
-    let task = lamp(alloc)?;
-    let pairs = Pairs::empty(alloc, task.facts())?;
-    let order = publish(alloc, &task, &pairs)?;
-    run_of(alloc, &task, &pairs, &order, n)
-}
 
 /// Grants a run conflicts, as a worker does.
 fn grant<R: Resume>(rt: &impl Abort, run: &mut R, conflicts: u32) -> Result<(), Fail> {

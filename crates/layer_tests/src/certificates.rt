@@ -1,6 +1,6 @@
 //! Certificates, and texts that are none.
-use crate::laws::laws;
-use crate::{ProofFault, proof_length, read_proof, write_proof, written};
+use proof_text::laws::laws;
+use proof_text::{ProofFault, proof_length, read_proof, write_proof, written};
 use std::alloc::Global;
 use std::test::Fail;
 
