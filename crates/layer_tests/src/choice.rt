@@ -1,6 +1,6 @@
 //! Choices backwards from the goal in the task of a lamp that is flipped once, over two steps: flip in the steps 0 and 1 are the
 //! variables 0 and 1, and the lamp at the times 0, 1 and 2 the variables 2, 3 and 4.
-use crate::tasks::{action, task_of};
+use crate::tasks::{Sketch, task_of};
 use clause_base::chooser::Chooser;
 use clause_base::values::Values;
 use goal_choice::GoalChooser;
@@ -31,8 +31,8 @@ fn chosen(rt: &impl Abort, alloc: Global, task: &Task, given: &[(u32, bool)]) ->
 
 #[test]
 fn supporter_of_the_goal_is_chosen(rt: HostRuntime) -> Result<(), Fail> {
-    let flip = action(rt.alloc(), &[1], &[0])?;
-    let task = task_of(rt.alloc(), 1, &[false], vec![in rt.alloc(); flip]?)?;
+    let flip: Sketch = (&[1], &[(&[], 0)]);
+    let task = task_of(rt.alloc(), 1, &[false], &[flip])?;
     let all = [(0, true), (1, false), (2, false), (3, true), (4, true)];
     let cases: [(&[(u32, bool)], u32); 3] = [
         (&[(2, false), (4, true)], 0),

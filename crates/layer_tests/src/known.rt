@@ -1,5 +1,5 @@
 //! What an action makes of a state, and what is known of a task's states.
-use crate::tasks::{Sketch, action, sketched, task_of};
+use crate::tasks::{Sketch, task_of};
 use gt_core::pairs::Pairs;
 use std::alloc::Global;
 use std::test::Fail;
@@ -10,8 +10,8 @@ use two_invariants::laws::laws;
 /// An action that adds and deletes the one fact.
 #[test]
 fn add_wins_over_delete(rt: HostRuntime) -> Result<(), Fail> {
-    let both = action(rt.alloc(), &[], &[0, 1])?;
-    let task = task_of(rt.alloc(), 1, &[false], vec![in rt.alloc(); both]?)?;
+    let both: Sketch = (&[], &[(&[], 0), (&[], 1)]);
+    let task = task_of(rt.alloc(), 1, &[false], &[both])?;
     assert_eq!(rt; (task.facts(), task.acts().len()), (1, 1));
     let mut after = [false];
     assert!(rt; task.next(&[false], 0, &mut after));
@@ -35,10 +35,9 @@ fn clause_stays_once(rt: HostRuntime) -> Result<(), Fail> {
 /// p is true, q and r are false; `burn` adds r and deletes p, `use` needs p and adds q. So p or r holds, and not both.
 #[test]
 fn burnt_or_there(rt: HostRuntime) -> Result<(), Fail> {
-    let burn = action(rt.alloc(), &[], &[1, 4])?;
-    let uses = action(rt.alloc(), &[0], &[2])?;
-    let acts = vec![in rt.alloc(); burn, uses]?;
-    let task = task_of(rt.alloc(), 3, &[true, false, false], acts)?;
+    let burn: Sketch = (&[], &[(&[], 1), (&[], 4)]);
+    let uses: Sketch = (&[0], &[(&[], 2)]);
+    let task = task_of(rt.alloc(), 3, &[true, false, false], &[burn, uses])?;
     laws();
     let Ok(pairs) = find(&rt, rt.alloc(), &task) else {
         return Err("no memory".into());
@@ -54,8 +53,7 @@ fn count_known<H: Threads + Sync>(
     alloc: Global,
     sketches: &[Sketch],
 ) -> Result<usize, Fail> {
-    let acts = sketched(alloc, sketches)?;
-    let task = task_of(alloc, 4, &[false, true, false, false], acts)?;
+    let task = task_of(alloc, 4, &[false, true, false, false], sketches)?;
     let Ok(pairs) = find(rt, alloc, &task) else {
         return Err("no memory".into());
     };

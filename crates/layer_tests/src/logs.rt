@@ -4,7 +4,9 @@ use clause_base::literal::Lit;
 use clause_base::log::{Entry, Hints};
 use clause_log::log::Log;
 use clause_log::reader::Step;
+use number_bytes::numbers::Numbers;
 use std::alloc::Global;
+use std::process::Abort;
 use std::test::Fail;
 
 /// The log that learns two clauses and drops one of them between.
@@ -18,38 +20,40 @@ fn three_entries(alloc: Global) -> Result<Log, Fail> {
     Ok(log)
 }
 
+/// Whether numbers are these, and no more.
+fn are(numbers: &Numbers, wanted: &[u32]) -> bool {
+    let mut left = numbers.copy();
+    for number in wanted {
+        if left.next() != Some(*number) {
+            return false;
+        }
+    }
+    numbers.len() == wanted.len() && left.next().is_none()
+}
+
+/// Whether a step learns the clause of these literals by these hints.
+fn learns(step: Option<Step>, lits: &[u32], by: &[u32]) -> bool {
+    match step {
+        Some(Step::Learn { clause, hints }) => are(&clause, lits) && are(&hints, by),
+        _ => false,
+    }
+}
+
+/// The entries of the log, read one after another.
+fn are_read(rt: &impl Abort, log: &Log) {
+    let mut reader = log.entries();
+    let hints = [900, 3, 4_294_967_295, 0];
+    assert!(rt; learns(reader.next(), &[7, 300], &hints));
+    assert!(rt; matches!(reader.next(), Some(Step::Drop { number: 70_000 })));
+    assert!(rt; learns(reader.next(), &[], &[5]));
+    assert!(rt; reader.next().is_none());
+}
+
 #[test]
 fn entries_go_in_and_come_back(rt: HostRuntime) -> Result<(), Fail> {
     let log = three_entries(rt.alloc())?;
     assert_eq!(rt; log.len(), 3);
     assert_eq!(rt; log.learned_count(), 2);
-    let mut reader = log.entries();
-    match reader.next() {
-        Some(Step::Learn { clause, hints }) => {
-            let mut lits = clause.copy();
-            let mut left = hints.copy();
-            assert_eq!(rt; clause.len(), 2);
-            assert_eq!(rt; lits.next(), Some(7));
-            assert_eq!(rt; lits.next(), Some(300));
-            assert_eq!(rt; lits.next(), None);
-            assert_eq!(rt; hints.len(), 4);
-            assert_eq!(rt; left.next(), Some(900));
-            assert_eq!(rt; left.next(), Some(3));
-            assert_eq!(rt; left.next(), Some(4_294_967_295));
-            assert_eq!(rt; left.next(), Some(0));
-            assert_eq!(rt; left.next(), None);
-        }
-        _ => return Err(Fail::from("not learned")),
-    }
-    assert!(rt; matches!(reader.next(), Some(Step::Drop { number: 70_000 })));
-    match reader.next() {
-        Some(Step::Learn { clause, hints }) => {
-            let mut left = hints.copy();
-            assert_eq!(rt; clause.len(), 0);
-            assert_eq!(rt; left.next(), Some(5));
-        }
-        _ => return Err(Fail::from("not learned")),
-    }
-    assert!(rt; reader.next().is_none());
+    are_read(&rt, &log);
     Ok(())
 }

@@ -9,6 +9,7 @@ use solver_pool::{
     serve_one,
 };
 use std::alloc::Global;
+use std::process::Abort;
 use std::sync::Wait;
 use std::test::Fail;
 use std::thread::Threads;
@@ -39,13 +40,16 @@ fn ring_of<H: Wait>(rt: &H, alloc: Global, rows: &[Row]) -> Result<Opened<CountR
     Ring::open(rt, alloc, jobs)
 }
 
-/// What a turn came to, in words.
-fn word_of(alloc: Global, served: Served<CountRun>) -> Result<String, Fail> {
-    Ok(match served {
-        Served::Back => format!(in alloc; "back ")?,
-        Served::Done(job) => format!(in alloc; "done {} ", job.run.granted())?,
-        Served::Idle => format!(in alloc; "idle ")?,
-    })
+/// Writes what a turn came to.
+fn push_word(alloc: Global, served: Served<CountRun>, text: &mut String) -> Result<(), Fail> {
+    match served {
+        Served::Back => text.push_str("back ")?,
+        Served::Idle => text.push_str("idle ")?,
+        Served::Done(job) => {
+            text.push_str(format!(in alloc; "done {} ", job.run.granted())?.as_str())?
+        }
+    }
+    Ok(())
 }
 
 /// Makes so many turns with a pass, and writes what each came to.
@@ -64,8 +68,7 @@ fn serve<H: Wait>(
     ensures owner { (view pass.new.pass).owner ≡ (view pass.old.pass).owner }
 {
     for _ in 0..turns {
-        let served = serve_one(rt, ring, pass, slice, &OpenGate);
-        text.push_str(word_of(alloc, served)?.as_str())?;
+        push_word(alloc, serve_one(rt, ring, pass, slice, &OpenGate), text)?;
     }
     Ok(())
 }
@@ -93,6 +96,49 @@ fn drain<H: Wait>(
     Ok(())
 }
 
+/// Makes so many turns with a pass that is given out, and drains the ring while it is out.
+fn lend<H: Wait>(
+    rt: &H,
+    alloc: Global,
+    ring: &Ring<CountRun>,
+    owner: &mut Pass<CountRun>,
+    turns: u32,
+    slice: u32,
+    text: &mut String,
+) -> Result<(), Fail>
+    requires owner { IsOwnerPass ⟦<CountRun as Resume>⟧ ring.now owner.old }
+    requires slice { IsSlice slice }
+{
+    let mut pass = ring.give(rt, owner)?;
+    serve(rt, alloc, ring, &mut pass, turns, slice, text)?;
+    drain(rt, alloc, ring, owner, text)?;
+    ring.take_in(rt, owner, pass);
+    Ok(())
+}
+
+/// Makes so many turns, with a pass that is given out or with the owner's, and drains the ring.
+fn turn<H: Wait>(
+    rt: &H,
+    alloc: Global,
+    ring: &Ring<CountRun>,
+    owner: &mut Pass<CountRun>,
+    given: bool,
+    turns: u32,
+    slice: u32,
+) -> Result<String, Fail>
+    requires owner { IsOwnerPass ⟦<CountRun as Resume>⟧ ring.now owner.old }
+    requires slice { IsSlice slice }
+{
+    let mut text = String::new(alloc);
+    if given {
+        lend(rt, alloc, ring, owner, turns, slice, &mut text)?;
+    } else {
+        serve(rt, alloc, ring, owner, turns, slice, &mut text)?;
+        drain(rt, alloc, ring, owner, &mut text)?;
+    }
+    Ok(text)
+}
+
 /// Opens a ring, makes so many turns, with a pass that is given out or with the owner's, and drains it.
 fn story<H: Wait>(
     rt: &H,
@@ -105,45 +151,55 @@ fn story<H: Wait>(
     requires { IsSlice slice }
 {
     let Opened { ring, mut owner } = ring_of(rt, alloc, rows)?;
-    let mut text = String::new(alloc);
-    if given {
-        let mut pass = ring.give(rt, &mut owner)?;
-        serve(rt, alloc, &ring, &mut pass, turns, slice, &mut text)?;
-        drain(rt, alloc, &ring, &mut owner, &mut text)?;
-        ring.take_in(rt, &mut owner, pass);
-    } else {
-        serve(rt, alloc, &ring, &mut owner, turns, slice, &mut text)?;
-        drain(rt, alloc, &ring, &mut owner, &mut text)?;
-    }
-    Ok(text)
+    turn(rt, alloc, &ring, &mut owner, given, turns, slice)
 }
+
+/// What becomes of a ring.
+fn tells<H: Wait + Abort>(
+    rt: &H,
+    alloc: Global,
+    rows: &[Row],
+    given: bool,
+    turns: u32,
+    slice: u32,
+    wanted: &str,
+) -> Result<(), Fail>
+    requires { IsSlice slice }
+{
+    let text = story(rt, alloc, rows, given, turns, slice)?;
+    assert_eq!(rt; text.as_str(), wanted);
+    Ok(())
+}
+
+const SIXTEEN: [Row; 16] = [
+    (0, 5, 3),
+    (1, 5, 3),
+    (2, 5, 3),
+    (3, 5, 3),
+    (4, 5, 3),
+    (5, 5, 3),
+    (6, 5, 3),
+    (7, 5, 3),
+    (8, 5, 3),
+    (9, 5, 3),
+    (10, 5, 3),
+    (11, 5, 3),
+    (12, 5, 3),
+    (13, 5, 3),
+    (14, 5, 3),
+    (15, 5, 3),
+];
+
+const SIXTEEN_DRAINED: &str = "0 1 2 3 4 5 6 7 8 9 10 11 12 13 14 15 none";
 
 #[test]
 fn a_ring_serves_and_is_drained(rt: HostRuntime) -> Result<(), Fail> {
     let alloc = rt.alloc();
-    let mut sixteen = Vec::new(alloc);
-    for horizon in 0..16u32 {
-        sixteen.push((horizon, 5u64, 3u16))?;
-    }
-    let told = [
-        (story(&rt, alloc, &[], true, 1, 1)?, "idle none"),
-        (
-            story(&rt, alloc, sixteen.as_slice(), false, 0, 1)?,
-            "0 1 2 3 4 5 6 7 8 9 10 11 12 13 14 15 none",
-        ),
-        (
-            story(&rt, alloc, &[(0, 5, 3)], true, 3, 2)?,
-            "back done 3 idle none",
-        ),
-        (
-            story(&rt, alloc, &[(0, 1, 1)], false, 2, 1)?,
-            "done 1 idle none",
-        ),
-    ];
-    for (text, wanted) in &told {
-        assert_eq!(rt; text.as_str(), *wanted);
-    }
-    Ok(())
+    let (one, settled) = ([(0, 5, 3)], [(0, 1, 1)]);
+    tells(&rt, alloc, &[], true, 1, 1, "idle none")?;
+    tells(&rt, alloc, &SIXTEEN, false, 0, 1, SIXTEEN_DRAINED)?;
+    tells(&rt, alloc, &one, true, 3, 2, "back done 3 idle none")?;
+    tells(&rt, alloc, &settled, false, 2, 1, "done 1 idle none")
 }
 
 /// A round of these jobs.
@@ -165,19 +221,8 @@ fn round_of<G: Gate, H: Threads + Wait + Sync>(
     round(rt, alloc, jobs, workers, slice, gate)
 }
 
-/// What a round gives back, a job a line, with the number granted where the run is unsettled; and how many turns it took.
-fn report<H: Threads + Wait + Sync>(
-    rt: &H,
-    alloc: Global,
-    rows: &[Row],
-    workers: u32,
-    slice: u32,
-) -> Result<String, Fail>
-    requires workers { (1 ≤ workers) × (workers ≤ 16) }
-    requires slice { IsSlice slice }
-{
-    let gate = CountGate::new();
-    let jobs = round_of(rt, alloc, rows, workers, slice, &gate)?;
+/// The jobs of a round, a job a line, with the number granted where the run is unsettled.
+fn lines(alloc: Global, jobs: &Jobs<CountRun>) -> Result<String, Fail> {
     let mut text = String::new(alloc);
     for job in jobs.as_slice() {
         let line = if job.run.unsettled() {
@@ -187,36 +232,39 @@ fn report<H: Threads + Wait + Sync>(
         };
         text.push_str(line.as_str())?;
     }
-    let (entered, left) = gate.counts();
-    text.push_str(format!(in alloc; "{entered} {left}")?.as_str())?;
     Ok(text)
+}
+
+/// What a round gives back, and how many turns it took: how many began, and how many ended.
+fn reports<H: Threads + Wait + Sync + Abort>(
+    rt: &H,
+    alloc: Global,
+    rows: &[Row],
+    workers: u32,
+    slice: u32,
+    wanted: (&str, (u64, u64)),
+) -> Result<(), Fail>
+    requires workers { (1 ≤ workers) × (workers ≤ 16) }
+    requires slice { IsSlice slice }
+{
+    let gate = CountGate::new();
+    let jobs = round_of(rt, alloc, rows, workers, slice, &gate)?;
+    assert_eq!(rt; lines(alloc, &jobs)?.as_str(), wanted.0);
+    assert_eq!(rt; gate.counts(), wanted.1);
+    Ok(())
 }
 
 #[test]
 fn jobs_come_back_in_order_at_their_targets(rt: HostRuntime) -> Result<(), Fail> {
     let alloc = rt.alloc();
     let three = [(4, 5, 3), (7, 1, 3), (9, 100, 0)];
+    let stands = "4 unsettled 3; 7 settled; 9 unsettled 0; ";
+    reports(&rt, alloc, &three, 2, 1, (stands, (5, 5)))?;
+    reports(&rt, alloc, &three, 1, 2, (stands, (4, 4)))?;
+    reports(&rt, alloc, &three, 16, 10000, (stands, (3, 3)))?;
     let two = [(0, 1, 50), (1, 0, 50)];
-    let told = [
-        (
-            report(&rt, alloc, &three, 2, 1)?,
-            "4 unsettled 3; 7 settled; 9 unsettled 0; 5 5",
-        ),
-        (
-            report(&rt, alloc, &three, 1, 2)?,
-            "4 unsettled 3; 7 settled; 9 unsettled 0; 4 4",
-        ),
-        (
-            report(&rt, alloc, &three, 16, 10000)?,
-            "4 unsettled 3; 7 settled; 9 unsettled 0; 3 3",
-        ),
-        (report(&rt, alloc, &two, 2, 1)?, "0 settled; 1 settled; 2 2"),
-        (report(&rt, alloc, &[], 3, 1)?, "0 0"),
-    ];
-    for (text, wanted) in &told {
-        assert_eq!(rt; text.as_str(), *wanted);
-    }
-    Ok(())
+    reports(&rt, alloc, &two, 2, 1, ("0 settled; 1 settled; ", (2, 2)))?;
+    reports(&rt, alloc, &[], 3, 1, ("", (0, 0)))
 }
 
 /// Whether two horizons are at work at once in a round of these jobs.

@@ -3,6 +3,7 @@ mod devices;
 mod files;
 mod orders;
 mod read_tasks;
+mod runs;
 mod tasks;
 mod words;
 mod workers;

@@ -1,0 +1,41 @@
+// What a run comes to.
+use mem_runs::{Named, run_once, run_undriven, shelf_of};
+use pl_io::MemSink;
+use solver_pool::Gate;
+use std::alloc::Global;
+use std::process::Abort;
+use std::sync::Wait;
+use std::test::Fail;
+use std::thread::Threads;
+
+/// A run on files, of which the calls with some numbers fail, has this status and this text.
+pub(crate) fn comes_to<H: Threads + Wait + Sync + Abort>(
+    rt: &H,
+    alloc: Global,
+    words: &str,
+    files: &[Named],
+    failing: &[u32],
+    wanted: (u8, &[u8]),
+) -> Result<(), Fail> {
+    let (status, text) = run_once(rt, alloc, words, files, failing)?;
+    assert_eq!(rt; status.0, wanted.0, "{words}, failing {failing:?}");
+    assert_eq!(rt; text.as_slice(), wanted.1, "{words}, failing {failing:?}");
+    Ok(())
+}
+
+/// A run at a gate has this status, and its sink has taken these bytes.
+pub(crate) fn writes<G: Gate, H: Threads + Wait + Sync + Abort>(
+    rt: &H,
+    alloc: Global,
+    words: &str,
+    files: &[Named],
+    sink: &mut MemSink,
+    gate: &G,
+    wanted: (u8, &[u8]),
+) -> Result<(), Fail> {
+    let mut shelf = shelf_of(alloc, files, &[])?;
+    let status = run_undriven(rt, alloc, words, &mut shelf, sink, gate)?;
+    assert_eq!(rt; status.0, wanted.0, "{words}");
+    assert_eq!(rt; sink.taken(), wanted.1, "{words}");
+    Ok(())
+}
