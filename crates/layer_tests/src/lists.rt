@@ -1,38 +1,58 @@
 //! Items, and lists, that go in and come back.
 use list_of::{FlatLists, ListOf};
+use std::alloc::Global;
+use std::process::Abort;
 use std::test::Fail;
 
-#[test]
-fn items_go_in_and_come_back(rt: HostRuntime) -> Result<(), Fail> {
-    let alloc = rt.alloc();
-    let mut list = ListOf::<u32>::new(alloc);
+/// Two items go into a list, and the last one comes out and goes in again.
+fn go_in(rt: &impl Abort, list: &mut ListOf<u32>) -> Result<(), Fail> {
     list.reserve(1)?;
     list.push(7)?;
     list.push(9)?;
     assert_eq!(rt; list.as_slice(), [7, 9].as_slice());
     assert_eq!(rt; list.pop(), Some(9));
     list.push(9)?;
+    Ok(())
+}
+
+/// The copy of a list has its items.
+fn is_copied(rt: &impl Abort, alloc: Global, list: &ListOf<u32>) -> Result<(), Fail> {
+    let copy = ListOf::copied_from(alloc, list.as_slice())?;
+    assert_eq!(rt; copy.as_slice(), [7, 9].as_slice());
+    Ok(())
+}
+
+#[test]
+fn items_go_in_and_come_back(rt: HostRuntime) -> Result<(), Fail> {
+    let mut list = ListOf::<u32>::new(rt.alloc());
+    go_in(&rt, &mut list)?;
     let mut other = ListOf::of(list.into_vec());
-    assert_eq!(rt;
-        ListOf::copied_from(alloc, other.as_slice())?.as_slice(),
-        [7, 9].as_slice()
-    );
+    is_copied(&rt, rt.alloc(), &other)?;
     other.clear();
     assert_eq!(rt; other.pop(), None);
     Ok(())
 }
 
-#[test]
-fn lists_go_in_and_come_back(rt: HostRuntime) -> Result<(), Fail> {
-    let alloc = rt.alloc();
-    let mut lists = FlatLists::<u32>::with_room(alloc, 1, 2)?;
+/// Two lists go in.
+fn push_both(lists: &mut FlatLists<u32>) -> Result<(), Fail> {
     lists.push(&[7, 9])?;
     lists.reserve(1, 1)?;
     lists.push_joined(&[8], &[6, 5])?;
-    let same = lists.copy(alloc)?;
+    Ok(())
+}
+
+/// The two lists are there.
+fn are_both(rt: &impl Abort, same: &FlatLists<u32>) {
     assert_eq!(rt; same.len(), 2);
     assert_eq!(rt; same.at(0), [7, 9].as_slice());
     assert_eq!(rt; same.at(1), [8, 6, 5].as_slice());
-    assert_eq!(rt; FlatLists::<u32>::new(alloc).len(), 0);
+}
+
+#[test]
+fn lists_go_in_and_come_back(rt: HostRuntime) -> Result<(), Fail> {
+    let mut lists = FlatLists::<u32>::with_room(rt.alloc(), 1, 2)?;
+    push_both(&mut lists)?;
+    are_both(&rt, &lists.copy(rt.alloc())?);
+    assert_eq!(rt; FlatLists::<u32>::new(rt.alloc()).len(), 0);
     Ok(())
 }

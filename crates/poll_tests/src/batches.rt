@@ -8,9 +8,9 @@ use clause_base::memory::Memory;
 use horizon_rates::{Algorithm, Rates};
 use list_of::ListOf;
 use poll_batch::{BlockOn, Driver, Ends, NoDriver, PollRace, Races, batch_race};
-use race::RaceError;
 use race_end::{LineEnd, Lines, RaceEnd};
 use std::alloc::{AllocGlobal, Global};
+use std::process::Abort;
 use std::random::RandomSource;
 use std::sync::Wait;
 use std::test::Fail;
@@ -103,7 +103,36 @@ fn raced<F: StepForm + Sync, D: Driver, H: Threads + Wait + Sync>(
     batch_race(rt, alloc, driver, races, &[0, 1])
 }
 
-/// The ends of the races of the two lamps.
+/// The ends of the races over two forms.
+fn ends_over<D: Driver, H: Threads + Wait + Sync>(
+    rt: &H,
+    alloc: Global,
+    driver: &mut D,
+    forms: &Forms<'_>,
+    backward: bool,
+) -> Result<Ends, Memory>
+    requires off { forms.now.off.task ≡ forms.now.lamps.now.off.task }
+    requires on { forms.now.on.task ≡ forms.now.lamps.now.on.task }
+{
+    raced(rt, alloc, driver, races_of(alloc, forms)?, backward)
+}
+
+/// The ends of the races of two lamps.
+fn ends_for<D: Driver, H: Threads + Wait + Sync>(
+    rt: &H,
+    alloc: Global,
+    driver: &mut D,
+    lamps: &Lamps,
+    backward: bool,
+) -> Result<Ends, Memory>
+    requires off { IsPublished lamps.now.off.task lamps.now.off.pairs.clauses lamps.now.off.order }
+    requires on { IsPublished lamps.now.on.task lamps.now.on.pairs.clauses lamps.now.on.order }
+{
+    let forms = forms_of(alloc, lamps)?;
+    ends_over(rt, alloc, driver, &forms, backward)
+}
+
+/// The ends of the races of a lamp that is off and one that is on.
 fn ends_of<D: Driver, H: Threads + Wait + Sync>(
     rt: &H,
     alloc: Global,
@@ -111,8 +140,7 @@ fn ends_of<D: Driver, H: Threads + Wait + Sync>(
     backward: bool,
 ) -> Result<Ends, Fail> {
     let lamps = two_lamps(alloc)?;
-    let forms = forms_of(alloc, &lamps)?;
-    Ok(raced(rt, alloc, driver, races_of(alloc, &forms)?, backward)?)
+    Ok(ends_for(rt, alloc, driver, &lamps, backward)?)
 }
 
 fn blocked<H: Threads + Wait + Sync + RandomSource + AllocGlobal>(
@@ -122,6 +150,7 @@ fn blocked<H: Threads + Wait + Sync + RandomSource + AllocGlobal>(
     ends_of(rt, rt.alloc(), &mut BlockOn::new(rt), backward)
 }
 
+/// Writes what became of each horizon.
 fn push_lines(text: &mut String, alloc: Global, lines: &Lines) -> Result<(), Fail> {
     for line in lines.as_slice() {
         let word = match line.end {
@@ -138,37 +167,37 @@ fn push_lines(text: &mut String, alloc: Global, lines: &Lines) -> Result<(), Fai
     Ok(())
 }
 
-/// What became of each horizon, and how the race ended.
-fn end_text(alloc: Global, end: &Result<RaceEnd, RaceError>) -> Result<String, Fail> {
-    let mut text = String::new(alloc);
+/// Writes what became of each horizon, and how the race ended.
+fn push_end(text: &mut String, alloc: Global, end: &RaceEnd) -> Result<(), Fail> {
     match end {
-        Ok(
-            RaceEnd::Plan {
-                horizon,
-                steps: _,
-                lines,
-            },
-        ) => {
-            push_lines(&mut text, alloc, lines)?;
+        RaceEnd::Plan {
+            horizon,
+            steps: _,
+            lines,
+        } => {
+            push_lines(text, alloc, lines)?;
             text.push_str(format!(in alloc; "plan of {horizon} steps\n")?.as_str())?;
         }
-        Ok(RaceEnd::Exhausted { horizon, lines }) => {
-            push_lines(&mut text, alloc, lines)?;
+        RaceEnd::Exhausted { horizon, lines } => {
+            push_lines(text, alloc, lines)?;
             text.push_str(format!(in alloc; "exhausted at horizon {horizon}\n")?.as_str())?;
         }
-        Ok(RaceEnd::Unfinished { lines }) => {
-            push_lines(&mut text, alloc, lines)?;
+        RaceEnd::Unfinished { lines } => {
+            push_lines(text, alloc, lines)?;
             text.push_str("unfinished\n")?;
         }
-        Err(_) => text.push_str("no end\n")?,
     }
-    Ok(text)
+    Ok(())
 }
 
-fn text_of(alloc: Global, ends: Ends) -> Result<String, Fail> {
+/// The ends of races in words, one after the other.
+fn text_of(alloc: Global, ends: &Ends) -> Result<String, Fail> {
     let mut text = String::new(alloc);
     for end in ends.as_slice() {
-        text.push_str(end_text(alloc, end)?.as_str())?;
+        match end {
+            Ok(end) => push_end(&mut text, alloc, end)?,
+            Err(_) => text.push_str("no end\n")?,
+        }
     }
     Ok(text)
 }
@@ -176,14 +205,17 @@ fn text_of(alloc: Global, ends: Ends) -> Result<String, Fail> {
 const ENDS: &str =
     "horizon 0 refuted conflicts 1\nexhausted at horizon 0\nhorizon 0 plan conflicts 0\nplan of 0 steps\n";
 
+/// The races end as they do one by one.
+fn are_ended(rt: &impl Abort, alloc: Global, ends: Ends) -> Result<(), Fail> {
+    assert_eq!(rt; text_of(alloc, &ends)?.as_str(), ENDS);
+    Ok(())
+}
+
 #[test]
 fn ends_are_the_same_for_both_drivers_and_orders(rt: HostRuntime) -> Result<(), Fail> {
     let alloc = rt.alloc();
-    assert_eq!(rt; text_of(alloc, blocked(&rt, false)?)?.as_str(), ENDS);
-    assert_eq!(rt; text_of(alloc, blocked(&rt, true)?)?.as_str(), ENDS);
-    assert_eq!(rt;
-        text_of(alloc, ends_of(&rt, alloc, &mut NoDriver::new(), false)?)?.as_str(),
-        ENDS
-    );
-    Ok(())
+    are_ended(&rt, alloc, blocked(&rt, false)?)?;
+    are_ended(&rt, alloc, blocked(&rt, true)?)?;
+    let undriven = ends_of(&rt, alloc, &mut NoDriver::new(), false)?;
+    are_ended(&rt, alloc, undriven)
 }

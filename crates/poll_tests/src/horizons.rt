@@ -35,6 +35,9 @@ fn standing_text(alloc: Global, run: &HorizonRun) -> Result<String, Fail> {
 trait Told: Resume {
     /// Its conflicts, what it was granted, whether it goes on, and how it stands.
     fn line(&self, alloc: Global) -> Result<String, Fail>;
+
+    /// Its conflicts, and how it stands.
+    fn end(&self, alloc: Global) -> Result<String, Fail>;
 }
 
 impl Told for HorizonRun {
@@ -46,6 +49,12 @@ impl Told for HorizonRun {
             "{conflicts} of {granted}, {unsettled}: {}\n",
             standing_text(alloc, self)?.as_str()
         )?)
+    }
+
+    fn end(&self, alloc: Global) -> Result<String, Fail> {
+        let conflicts = self.conflicts();
+        let standing = standing_text(alloc, self)?;
+        Ok(format!(in alloc; "{conflicts}: {}, ", standing.as_str())?)
     }
 }
 
@@ -106,23 +115,31 @@ fn rounded<R: Resume + Send, H: Threads + Wait + Sync>(
 }
 
 /// How each run stands, after its conflicts.
-fn standings_text(alloc: Global, jobs: &Jobs<HorizonRun>) -> Result<String, Fail> {
+fn standings_text<R: Told>(alloc: Global, jobs: &Jobs<R>) -> Result<String, Fail> {
     let mut text = String::new(alloc);
     for job in jobs.as_slice() {
-        let conflicts = job.run.conflicts();
-        let standing = standing_text(alloc, &job.run)?;
-        text.push_str(format!(in alloc; "{conflicts}: {}, ", standing.as_str())?.as_str())?;
+        text.push_str(job.run.end(alloc)?.as_str())?;
     }
     Ok(text)
 }
 
+/// How two runs stand after a round.
+fn round_text<R: Told + Send, H: Threads + Wait + Sync>(
+    rt: &H,
+    alloc: Global,
+    first: R,
+    second: R,
+) -> Result<String, Fail> {
+    let back = rounded(rt, alloc, first, second)?;
+    standings_text(alloc, &back)
+}
+
+const ROUND: &str = "1: refuted by 1 of 0, 0: found [true, false, true], ";
+
 #[test]
 fn a_round_brings_runs_to_their_targets(rt: HostRuntime) -> Result<(), Fail> {
     let alloc = rt.alloc();
-    let back = rounded(&rt, alloc, lamp_run(alloc, 0)?, lamp_run(alloc, 1)?)?;
-    assert_eq!(rt;
-        standings_text(alloc, &back)?.as_str(),
-        "1: refuted by 1 of 0, 0: found [true, false, true], "
-    );
+    let text = round_text(&rt, alloc, lamp_run(alloc, 0)?, lamp_run(alloc, 1)?)?;
+    assert_eq!(rt; text.as_str(), ROUND);
     Ok(())
 }

@@ -18,9 +18,9 @@ use step_encoding::form::StepForm;
 
 /// A lamp, with an action that turns it on, and the goal that it is on.
 fn lamp(alloc: Global, on: bool) -> Result<Task, Fail> {
-    let acts = Acts::of(vec![in alloc; plain(alloc, &[1], &[0])?]?);
     let init = Bits::of(vec![in alloc; on]?);
     let goal = Lits::of(vec![in alloc; 0]?);
+    let acts = Acts::of(vec![in alloc; plain(alloc, &[1], &[0])?]?);
     Ok(Task::try_new(1, init, goal, false, acts).ok_or("no task")?)
 }
 
