@@ -51,10 +51,12 @@ fn clauses_over(
 {
     let mut pairs = Pairs::empty(alloc, facts)?;
     for (l, m) in clauses {
-        assert!(rt; *l / 2 < facts && *m / 2 < facts && *l / 2 != *m / 2);
+        let below = pairs.facts();
+        assert!(rt; *l / 2 < below && *m / 2 < below && *l / 2 != *m / 2);
         pairs.add(*l, *m)?;
     }
     assert_eq!(rt; pairs.count() as usize, clauses.len());
+    assert!(rt; pairs.facts() == facts);
     Ok(pairs)
 }
 
@@ -117,7 +119,8 @@ fn order_of(alloc: Global, task: &Task) -> Result<Order, Fail> {
 fn members_in_published_order(rt: HostRuntime) -> Result<(), Fail> {
     let alloc = rt.alloc();
     let order = order_of(alloc, &plain_task(alloc, 3, &BURN_AND_USE)?)?;
-    let steps = steps(alloc, &[&[0, 1], &[], &[0]])?;
+    let sets: [&[u32]; 3] = [&[0, 1], &[], &[0]];
+    let steps = steps(alloc, &sets)?;
     let actions = linearise(alloc, &order, &steps)?;
     assert_eq!(rt; actions.as_slice(), [1, 0, 0].as_slice());
     Ok(())
@@ -134,10 +137,16 @@ fn each_takes_the_other_s_need(rt: HostRuntime) -> Result<(), Fail> {
     is_told(&rt, rt.alloc(), &task, &[(1, 7)], &[2, 0, 0, 1, 1])
 }
 
+// The action that adds g where p holds.
+fn gain(alloc: Global) -> Result<Act, Fail> {
+    let effects = vec![in alloc; when(alloc, &[0], 4)?]?;
+    Ok(action(alloc, &[], effects)?)
+}
+
 // Facts p 0, q 1, g 2. Action 0 deletes p; action 1 adds g where p holds.
 fn delete_and_gain(alloc: Global) -> Result<Task, Fail> {
     let mut acts = plain_acts(alloc, &[(&[], &[1, 2])])?;
-    acts.push(action(alloc, &[], vec![in alloc; when(alloc, &[0], 4)?]?)?)?;
+    acts.push(gain(alloc)?)?;
     task(alloc, 3, acts)
 }
 
