@@ -1,21 +1,29 @@
 //! Small tasks.
 use gt_core::act::{Act, Acts};
+use gt_core::eff::{Eff, Effs};
 use gt_core::lits::{Bits, Lits};
 use gt_core::task::Task;
-use sample_tasks::actions::{action, when};
 use std::alloc::Global;
 use std::test::Fail;
 
 /// An action by its precondition and its effects, each by its condition and its literal.
 pub(crate) type Sketch<'a> = (&'a [u32], &'a [(&'a [u32], u32)]);
 
-/// The action of a sketch.
-fn drawn(alloc: Global, pre: &[u32], sketches: &[(&[u32], u32)]) -> Result<Act, Fail> {
+/// Effects, each by its condition and its literal.
+fn effects_of(alloc: Global, sketches: &[(&[u32], u32)]) -> Result<Vec<Eff>, Fail> {
     let mut effects = Vec::new(alloc);
     for (condition, lit) in sketches {
-        effects.push(when(alloc, condition, *lit)?)?;
+        let condition = Vec::from_slice(alloc, condition)?;
+        effects.push(Eff::new(Lits::of(condition), *lit))?;
     }
-    Ok(action(alloc, pre, effects)?)
+    Ok(effects)
+}
+
+/// The action of a sketch.
+fn drawn(alloc: Global, pre: &[u32], sketches: &[(&[u32], u32)]) -> Result<Act, Fail> {
+    let pre = Vec::from_slice(alloc, pre)?;
+    let effects = effects_of(alloc, sketches)?;
+    Ok(Act::new(Lits::of(pre), Effs::of(effects)))
 }
 
 /// The actions of sketches.
