@@ -12,7 +12,7 @@ use two_invariants::laws::laws;
 fn add_wins_over_delete(rt: HostRuntime) -> Result<(), Fail> {
     let both: Sketch = (&[], &[(&[], 0), (&[], 1)]);
     let task = task_of(rt.alloc(), 1, &[false], &[both])?;
-    assert_eq!(rt; (task.facts(), task.acts().len()), (1, 1));
+    assert!(rt; task.facts() == 1 && task.acts().len() == 1);
     let mut after = [false];
     assert!(rt; task.next(&[false], 0, &mut after));
     assert!(rt; after[0]);
@@ -24,11 +24,11 @@ fn clause_stays_once(rt: HostRuntime) -> Result<(), Fail> {
     let Ok(mut pairs) = Pairs::empty(rt.alloc(), 3) else {
         return Err("no memory".into());
     };
-    assert_eq!(rt; pairs.count(), 0);
+    assert!(rt; pairs.count() == 0);
     assert!(rt; pairs.add(4, 0).is_ok());
     assert!(rt; pairs.add(0, 4).is_ok());
-    assert_eq!(rt; pairs.count(), 1);
-    assert_eq!(rt; pairs.at(0), (0, 4));
+    assert!(rt; pairs.count() == 1);
+    assert!(rt; matches!(pairs.at(0), (0, 4)));
     Ok(())
 }
 
@@ -42,8 +42,8 @@ fn burnt_or_there(rt: HostRuntime) -> Result<(), Fail> {
     let Ok(pairs) = find(&rt, rt.alloc(), &task) else {
         return Err("no memory".into());
     };
-    assert_eq!(rt; pairs.count(), 2);
-    assert_eq!(rt; (pairs.at(0), pairs.at(1)), ((0, 4), (1, 5)));
+    assert!(rt; pairs.count() == 2);
+    assert!(rt; matches!(pairs.at(0), (0, 4)) && matches!(pairs.at(1), (1, 5)));
     Ok(())
 }
 
@@ -68,7 +68,7 @@ fn nine_with_conditions(rt: HostRuntime) -> Result<(), Fail> {
     let turn: Sketch = (&[], &[(&[5], 4)]);
     let moves: Sketch = (&[1], &[(&[2], 0), (&[7], 1), (&[2], 3)]);
     let back: Sketch = (&[], &[(&[], 5)]);
-    assert_eq!(rt; count_known(&rt, rt.alloc(), &[turn, moves, back])?, 9);
+    assert!(rt; count_known(&rt, rt.alloc(), &[turn, moves, back])? == 9);
     Ok(())
 }
 
@@ -78,6 +78,6 @@ fn thirteen_by_two_hops(rt: HostRuntime) -> Result<(), Fail> {
     let one: Sketch = (&[], &[(&[4], 0), (&[], 3)]);
     let two: Sketch = (&[2], &[(&[3], 4), (&[], 6)]);
     let three: Sketch = (&[5, 6], &[(&[], 1), (&[3], 1), (&[], 2)]);
-    assert_eq!(rt; count_known(&rt, rt.alloc(), &[one, two, three])?, 13);
+    assert!(rt; count_known(&rt, rt.alloc(), &[one, two, three])? == 13);
     Ok(())
 }

@@ -52,8 +52,8 @@ fn are_read(rt: &impl Abort, log: &Log) {
 #[test]
 fn entries_go_in_and_come_back(rt: HostRuntime) -> Result<(), Fail> {
     let log = three_entries(rt.alloc())?;
-    assert_eq!(rt; log.len(), 3);
-    assert_eq!(rt; log.learned_count(), 2);
+    assert!(rt; log.len() == 3);
+    assert!(rt; log.learned_count() == 2);
     are_read(&rt, &log);
     Ok(())
 }

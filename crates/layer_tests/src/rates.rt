@@ -25,9 +25,12 @@ fn assert_lists(rt: &impl Abort, rates: &Rates, horizons: &[u32])
     requires { length horizons.now ≤ 6 }
 {
     for (place, horizon) in horizons.iter().enumerate() {
-        assert_eq!(rt; rates.nth(place as u32), Some(*horizon), "at place {place}");
+        assert!(rt;
+            rates.nth(place as u32) == Some(*horizon),
+            "at place {place}"
+        );
     }
-    assert_eq!(rt; rates.nth(horizons.len() as u32), None);
+    assert!(rt; rates.nth(horizons.len() as u32) == None);
 }
 
 #[test]
@@ -77,8 +80,8 @@ fn grants_falling_quotas(rt: HostRuntime) {
     };
     let mut ledger = Ledger::new(11);
     for (place, (quota, granted)) in [(8, 8), (4, 3), (2, 0), (1, 0), (1, 0)].iter().enumerate() {
-        assert_eq!(rt; falling.quota(place as u32), *quota);
-        assert_eq!(rt; ledger.grant(*quota), *granted);
+        assert!(rt; falling.quota(place as u32) == *quota);
+        assert!(rt; ledger.grant(*quota) == *granted);
     }
-    assert_eq!(rt; ledger.left(), 0);
+    assert!(rt; ledger.left() == 0);
 }

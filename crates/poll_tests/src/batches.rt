@@ -207,7 +207,7 @@ const ENDS: &str =
 
 /// The races end as they do one by one.
 fn are_ended(rt: &impl Abort, alloc: Global, ends: Ends) -> Result<(), Fail> {
-    assert_eq!(rt; text_of(alloc, &ends)?.as_str(), ENDS);
+    assert!(rt; text_of(alloc, &ends)?.as_str() == ENDS);
     Ok(())
 }
 

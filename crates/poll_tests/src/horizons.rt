@@ -78,14 +78,8 @@ const ONE_STEP: &str =
 
 #[test]
 fn no_step_is_refuted_and_one_step_is_found(rt: HostRuntime) -> Result<(), Fail> {
-    assert_eq!(rt;
-        story(&rt, rt.alloc(), lamp_run(rt.alloc(), 0)?, &[0, 1, 5])?.as_str(),
-        NO_STEP
-    );
-    assert_eq!(rt;
-        story(&rt, rt.alloc(), lamp_run(rt.alloc(), 1)?, &[5])?.as_str(),
-        ONE_STEP
-    );
+    assert!(rt; story(&rt, rt.alloc(), lamp_run(rt.alloc(), 0)?, &[0, 1, 5])?.as_str() == NO_STEP);
+    assert!(rt; story(&rt, rt.alloc(), lamp_run(rt.alloc(), 1)?, &[5])?.as_str() == ONE_STEP);
     Ok(())
 }
 
@@ -140,6 +134,6 @@ const ROUND: &str = "1: refuted by 1 of 0, 0: found [true, false, true], ";
 fn a_round_brings_runs_to_their_targets(rt: HostRuntime) -> Result<(), Fail> {
     let alloc = rt.alloc();
     let text = round_text(&rt, alloc, lamp_run(alloc, 0)?, lamp_run(alloc, 1)?)?;
-    assert_eq!(rt; text.as_str(), ROUND);
+    assert!(rt; text.as_str() == ROUND);
     Ok(())
 }

@@ -37,10 +37,12 @@ fn blocked<H: Wait + RandomSource + AllocGlobal>(
 
 #[test]
 fn runs_in_turns_are_given_in_their_order(rt: HostRuntime) -> Result<(), Fail> {
-    assert_eq!(rt; blocked(&rt)?, Ok((4, 6, 3)));
-    assert_eq!(rt;
-        granted(rt.alloc(), &mut NoDriver::new())?,
-        Err(TurnsError::Driver)
+    assert!(rt; matches!(blocked(&rt)?, Ok((4, 6, 3))));
+    assert!(rt;
+        matches!(
+            granted(rt.alloc(), &mut NoDriver::new())?,
+            Err(TurnsError::Driver)
+        )
     );
     Ok(())
 }

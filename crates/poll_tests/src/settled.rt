@@ -54,17 +54,23 @@ fn blocked<R: Told, H: Wait + RandomSource + AllocGlobal>(
 #[test]
 fn polls_settle_the_run_of_a_horizon(rt: HostRuntime) -> Result<(), Fail> {
     let alloc = rt.alloc();
-    assert_eq!(rt;
-        blocked(&rt, lamp_run(alloc, 0)?, 50)?,
-        Ok((Standing::Refuted, 1))
+    assert!(rt;
+        matches!(
+            blocked(&rt, lamp_run(alloc, 0)?, 50)?,
+            Ok((Standing::Refuted, 1))
+        )
     );
-    assert_eq!(rt;
-        blocked(&rt, lamp_run(alloc, 0)?, 0)?,
-        Ok((Standing::Going, 0))
+    assert!(rt;
+        matches!(
+            blocked(&rt, lamp_run(alloc, 0)?, 0)?,
+            Ok((Standing::Going, 0))
+        )
     );
-    assert_eq!(rt;
-        settled(&mut NoDriver::new(), lamp_run(alloc, 0)?, 50)?,
-        Err(SettleError::Driver)
+    assert!(rt;
+        matches!(
+            settled(&mut NoDriver::new(), lamp_run(alloc, 0)?, 50)?,
+            Err(SettleError::Driver)
+        )
     );
     Ok(())
 }

@@ -48,7 +48,7 @@ fn stops_before<H: Threads + Wait + Sync + Abort>(
     let mut sink = ample_sink(alloc)?;
     let mut shelf = shelf_of(alloc, &FILES, &[call])?;
     let status = run_undriven(rt, alloc, words, &mut shelf, &mut sink, &OpenGate)?;
-    assert_eq!(rt; status.0, 0, "{words}");
+    assert!(rt; status.0 == 0, "{words}");
     assert!(rt; shelf.failed().is_empty(), "{words}");
     Ok(())
 }
@@ -83,7 +83,7 @@ fn fails_at<H: Threads + Wait + Sync + Abort>(
     assert!(rt; 0 < most);
     let mut sink = MemSink::new(alloc, most, Numbers::of(vec![in alloc; call]?), 1000)?;
     writes(rt, alloc, words, files, &mut sink, &OpenGate, (6, front))?;
-    assert_eq!(rt; sink.faults(), 1, "{words}, call {call}");
+    assert!(rt; sink.faults() == 1, "{words}, call {call}");
     Ok(())
 }
 

@@ -33,8 +33,8 @@ fn grounded(rt: &impl Abort, alloc: Global, domain: &[u8], problem: &[u8]) -> Gr
 
 // In the one state where its one fact is false, the one action of a task makes it true.
 fn turns_on(rt: &impl Abort, task: &Task) {
-    assert_eq!(rt; task.facts(), 1);
-    assert_eq!(rt; task.acts().len(), 1);
+    assert!(rt; task.facts() == 1);
+    assert!(rt; task.acts().len() == 1);
     let mut next = [false];
     assert!(rt; task.next(&[false], 0, &mut next));
     assert!(rt; next[0]);
@@ -54,7 +54,7 @@ fn calls_are_those_of_the_schemas(rt: HostRuntime) {
     let task = task(&rt, rt.alloc(), BOTH, NOTHING_AT_FIRST);
     for schema in 0..2 {
         let objects = Objects::of(Vec::new(rt.alloc()));
-        assert_eq!(rt; task.is_call(&Call { schema, objects }), schema == 0);
+        assert!(rt; task.is_call(&Call { schema, objects }) == (schema == 0));
     }
 }
 
@@ -62,21 +62,18 @@ fn calls_are_those_of_the_schemas(rt: HostRuntime) {
 fn has_parents(rt: &impl Abort, types: &Types, parents: &[u32]) {
     for (i, parent) in parents.iter().enumerate() {
         assert!(rt; i < types.as_slice().len());
-        assert_eq!(rt; types.as_slice()[i].parent, *parent);
+        assert!(rt; types.as_slice()[i].parent == *parent);
     }
 }
 
 // The one effect of a schema deletes an atom of the variable of its `forall` under one condition.
 fn hides(rt: &impl Abort, schema: &Schema) {
-    assert_eq!(rt; schema.effects.as_slice().len(), 1);
-    assert_eq!(rt; schema.parameters.as_slice(), [1].as_slice());
+    assert!(rt; schema.effects.as_slice().len() == 1);
+    assert!(rt; schema.parameters.as_slice() == [1].as_slice());
     for effect in schema.effects.as_slice() {
-        assert_eq!(rt; effect.over.as_slice(), [2].as_slice());
-        assert_eq!(rt; effect.cond.as_slice().len(), 1);
-        assert_eq!(rt;
-            effect.atom.terms.as_slice(),
-            [Term::Variable(1)].as_slice()
-        );
+        assert!(rt; effect.over.as_slice() == [2].as_slice());
+        assert!(rt; effect.cond.as_slice().len() == 1);
+        assert!(rt; effect.atom.terms.as_slice() == [Term::Variable(1)].as_slice());
         assert!(rt; !effect.adds);
     }
 }
@@ -86,7 +83,7 @@ fn hides(rt: &impl Abort, schema: &Schema) {
 fn hides_the_outer_variable(rt: HostRuntime) {
     let task = task(&rt, rt.alloc(), HIDING, NO_GOALS);
     has_parents(&rt, task.types(), &[0, 2, 0]);
-    assert_eq!(rt; task.schemas().as_slice().len(), 1);
+    assert!(rt; task.schemas().as_slice().len() == 1);
     for schema in task.schemas().as_slice() {
         hides(&rt, schema);
     }

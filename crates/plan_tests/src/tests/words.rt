@@ -13,9 +13,9 @@ fn lists_files(rt: HostRuntime) -> Result<(), Fail> {
         .ok()
         .ok_or("memory")?
         .ok_or("taken")?;
-    assert_eq!(rt; request.file(0), Some(""));
-    assert_eq!(rt; request.file(1), Some("-p"));
-    assert_eq!(rt; request.file(2), Some("l"));
-    assert_eq!(rt; request.file(3), None);
+    assert!(rt; request.file(0) == Some(""));
+    assert!(rt; request.file(1) == Some("-p"));
+    assert!(rt; request.file(2) == Some("l"));
+    assert!(rt; request.file(3) == None);
     Ok(())
 }
