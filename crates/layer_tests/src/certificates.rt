@@ -53,7 +53,10 @@ fn is_so(alloc: Global, row: &Row) -> Result<bool, Fail> {
             let long = proof_length(proof.horizon, &proof.log);
             Ok(place.is_none() && back.as_slice() == text.as_bytes() && long == text.len() as u64)
         }
-        Err(ProofFault::Syntax { at }) => Ok(place == Some(at)),
+        Err(ProofFault::Syntax { at }) => match place {
+            Some(place) => Ok(place == at),
+            None => Ok(false),
+        },
         Err(ProofFault::Memory) => Ok(false),
     }
 }

@@ -9,8 +9,8 @@ fn go_in(rt: &impl Abort, list: &mut ListOf<u32>) -> Result<(), Fail> {
     list.reserve(1)?;
     list.push(7)?;
     list.push(9)?;
-    assert!(rt; list.as_slice() == [7, 9].as_slice());
-    assert!(rt; list.pop() == Some(9));
+    assert!(rt; matches!(list.as_slice(), [7, 9]));
+    assert!(rt; matches!(list.pop(), Some(9)));
     list.push(9)?;
     Ok(())
 }
@@ -18,7 +18,7 @@ fn go_in(rt: &impl Abort, list: &mut ListOf<u32>) -> Result<(), Fail> {
 /// The copy of a list has its items.
 fn is_copied(rt: &impl Abort, alloc: Global, list: &ListOf<u32>) -> Result<(), Fail> {
     let copy = ListOf::copied_from(alloc, list.as_slice())?;
-    assert!(rt; copy.as_slice() == [7, 9].as_slice());
+    assert!(rt; matches!(copy.as_slice(), [7, 9]));
     Ok(())
 }
 
@@ -29,7 +29,7 @@ fn items_go_in_and_come_back(rt: HostRuntime) -> Result<(), Fail> {
     let mut other = ListOf::of(list.into_vec());
     is_copied(&rt, rt.alloc(), &other)?;
     other.clear();
-    assert!(rt; other.pop() == None);
+    assert!(rt; other.pop().is_none());
     Ok(())
 }
 
@@ -44,8 +44,8 @@ fn push_both(lists: &mut FlatLists<u32>) -> Result<(), Fail> {
 /// The two lists are there.
 fn are_both(rt: &impl Abort, same: &FlatLists<u32>) {
     assert!(rt; same.len() == 2);
-    assert!(rt; same.at(0) == [7, 9].as_slice());
-    assert!(rt; same.at(1) == [8, 6, 5].as_slice());
+    assert!(rt; matches!(same.at(0), [7, 9]));
+    assert!(rt; matches!(same.at(1), [8, 6, 5]));
 }
 
 #[test]

@@ -9,14 +9,26 @@ use std::alloc::Global;
 use std::process::Abort;
 use std::test::Fail;
 
-/// The log that learns two clauses and drops one of them between.
-fn three_entries(alloc: Global) -> Result<Log, Fail> {
-    let mut log = Log::new(alloc);
+/// Pushes a clause with its hints.
+fn push_learn(alloc: Global, log: &mut Log) -> Result<(), Fail> {
     let clause = Clause::of(alloc, &[Lit(300), Lit(7)])?.ok_or("no clause")?;
     let hints = Hints::copied_from(alloc, &[900, 3, 4_294_967_295, 0])?;
     log.push(Entry::Learn { clause, hints })?;
+    Ok(())
+}
+
+/// Pushes a drop, and a clause without literals.
+fn push_more(log: &mut Log) -> Result<(), Fail> {
     log.push_drops(&[70_000])?;
     log.push_learned(&[], &[5])?;
+    Ok(())
+}
+
+/// The log that learns two clauses and drops one of them between.
+fn three_entries(alloc: Global) -> Result<Log, Fail> {
+    let mut log = Log::new(alloc);
+    push_learn(alloc, &mut log)?;
+    push_more(&mut log)?;
     Ok(log)
 }
 
@@ -24,8 +36,9 @@ fn three_entries(alloc: Global) -> Result<Log, Fail> {
 fn are(numbers: &Numbers, wanted: &[u32]) -> bool {
     let mut left = numbers.copy();
     for number in wanted {
-        if left.next() != Some(*number) {
-            return false;
+        match left.next() {
+            Some(next) if next == *number => {}
+            _ => return false,
         }
     }
     numbers.len() == wanted.len() && left.next().is_none()

@@ -3,6 +3,7 @@ ghost use Rattle.std.specs.Prelude.{◌≡◌, ◌∷◌, [], false, length, IfO
 ghost use Rattle.std.specs.List.{AllByRecursion};
 ghost use Rattle.gt_core.specs.Published.{IsPublished};
 
+use crate::horizons::is_same;
 use crate::lamps::{Ground, form_of, grounded};
 use clause_base::memory::Memory;
 use horizon_rates::{Algorithm, Rates};
@@ -207,7 +208,8 @@ const ENDS: &str =
 
 /// The races end as they do one by one.
 fn are_ended(rt: &impl Abort, alloc: Global, ends: Ends) -> Result<(), Fail> {
-    assert!(rt; text_of(alloc, &ends)?.as_str() == ENDS);
+    let text = text_of(alloc, &ends)?;
+    assert!(rt; is_same(text.as_str(), ENDS));
     Ok(())
 }
 

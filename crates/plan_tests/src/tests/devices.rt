@@ -1,5 +1,5 @@
 // Shelves and sinks that fail.
-use super::runs::{comes_to, writes};
+use super::runs::{comes_to, holds, writes};
 use super::tasks::{DARK, LAMP, LAMP_PLAN, MARKED, MARKS};
 use mem_runs::{Named, ample_sink, run_undriven, shelf_of};
 use pl_io::{MemSink, Numbers};
@@ -48,8 +48,8 @@ fn stops_before<H: Threads + Wait + Sync + Abort>(
     let mut sink = ample_sink(alloc)?;
     let mut shelf = shelf_of(alloc, &FILES, &[call])?;
     let status = run_undriven(rt, alloc, words, &mut shelf, &mut sink, &OpenGate)?;
-    assert!(rt; status.0 == 0, "{words}");
-    assert!(rt; shelf.failed().is_empty(), "{words}");
+    holds(rt, status.0 == 0, words);
+    holds(rt, shelf.failed().is_empty(), words);
     Ok(())
 }
 
@@ -83,7 +83,7 @@ fn fails_at<H: Threads + Wait + Sync + Abort>(
     assert!(rt; 0 < most);
     let mut sink = MemSink::new(alloc, most, Numbers::of(vec![in alloc; call]?), 1000)?;
     writes(rt, alloc, words, files, &mut sink, &OpenGate, (6, front))?;
-    assert!(rt; sink.faults() == 1, "{words}, call {call}");
+    holds(rt, sink.faults() == 1, words);
     Ok(())
 }
 

@@ -69,11 +69,11 @@ fn has_parents(rt: &impl Abort, types: &Types, parents: &[u32]) {
 // The one effect of a schema deletes an atom of the variable of its `forall` under one condition.
 fn hides(rt: &impl Abort, schema: &Schema) {
     assert!(rt; schema.effects.as_slice().len() == 1);
-    assert!(rt; schema.parameters.as_slice() == [1].as_slice());
+    assert!(rt; matches!(schema.parameters.as_slice(), [1]));
     for effect in schema.effects.as_slice() {
-        assert!(rt; effect.over.as_slice() == [2].as_slice());
+        assert!(rt; matches!(effect.over.as_slice(), [2]));
         assert!(rt; effect.cond.as_slice().len() == 1);
-        assert!(rt; effect.atom.terms.as_slice() == [Term::Variable(1)].as_slice());
+        assert!(rt; matches!(effect.atom.terms.as_slice(), [Term::Variable(1)]));
         assert!(rt; !effect.adds);
     }
 }

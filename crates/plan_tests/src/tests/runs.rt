@@ -8,6 +8,16 @@ use std::sync::Wait;
 use std::test::Fail;
 use std::thread::Threads;
 
+/// That this is so, of these words.
+pub(crate) fn holds(rt: &impl Abort, is: bool, words: &str) {
+    assert!(rt; is, "{words}");
+}
+
+/// Whether two texts are the same.
+fn is_same(text: &[u8], wanted: &[u8]) -> bool {
+    text == wanted
+}
+
 /// A run on files, of which the calls with some numbers fail, has this status and this text.
 pub(crate) fn comes_to<H: Threads + Wait + Sync + Abort>(
     rt: &H,
@@ -18,8 +28,8 @@ pub(crate) fn comes_to<H: Threads + Wait + Sync + Abort>(
     wanted: (u8, &[u8]),
 ) -> Result<(), Fail> {
     let (status, text) = run_once(rt, alloc, words, files, failing)?;
-    assert!(rt; status.0 == wanted.0, "{words}, failing {failing:?}");
-    assert!(rt; text.as_slice() == wanted.1, "{words}, failing {failing:?}");
+    holds(rt, status.0 == wanted.0, words);
+    holds(rt, is_same(text.as_slice(), wanted.1), words);
     Ok(())
 }
 
@@ -35,7 +45,7 @@ pub(crate) fn writes<G: Gate, H: Threads + Wait + Sync + Abort>(
 ) -> Result<(), Fail> {
     let mut shelf = shelf_of(alloc, files, &[])?;
     let status = run_undriven(rt, alloc, words, &mut shelf, sink, gate)?;
-    assert!(rt; status.0 == wanted.0, "{words}");
-    assert!(rt; sink.taken() == wanted.1, "{words}");
+    holds(rt, status.0 == wanted.0, words);
+    holds(rt, is_same(sink.taken(), wanted.1), words);
     Ok(())
 }

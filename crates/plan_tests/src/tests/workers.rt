@@ -1,5 +1,5 @@
 // Runs with several workers.
-use super::runs::writes;
+use super::runs::{holds, writes};
 use super::tasks::{BLOCKS, DARK, LAMP, LAMP_PLAN, TOWER, TOWER_PLAN};
 use mem_runs::{Named, ample_sink};
 use noting_gates::{CountGate, Notes, PairGate};
@@ -33,7 +33,7 @@ fn two_horizons_are_at_work_at_once(rt: HostRuntime) -> Result<(), Fail> {
     for (words, meets) in [("plan d p", true), ("plan d p --workers 1", false)] {
         let gate = PairGate::new(0, 1);
         run_at(&rt, alloc, words, &IN_THE_DARK, &gate, LAMP_PLAN)?;
-        assert!(rt; gate.met() == meets, "{words}");
+        holds(&rt, gate.met() == meets, words);
     }
     Ok(())
 }
@@ -62,7 +62,8 @@ fn turns_are_no_longer_than_the_slice(rt: HostRuntime) -> Result<(), Fail> {
     for (words, turns) in rows {
         let gate = CountGate::new();
         run_at(&rt, alloc, words, &files, &gate, TOWER_PLAN)?;
-        assert!(rt; gate.counts() == (turns, turns), "{words}");
+        let (entered, left) = gate.counts();
+        holds(&rt, entered == turns && left == turns, words);
     }
     Ok(())
 }
