@@ -3,7 +3,6 @@ mod devices;
 mod files;
 mod orders;
 mod read_tasks;
-mod runs;
 mod tasks;
 mod words;
 mod workers;

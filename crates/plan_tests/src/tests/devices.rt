@@ -1,7 +1,6 @@
 // Shelves and sinks that fail.
-use super::runs::{comes_to, holds, writes};
 use super::tasks::{DARK, LAMP, LAMP_PLAN, MARKED, MARKS};
-use mem_runs::{Named, ample_sink, run_undriven, shelf_of};
+use mem_runs::{Named, ample_sink, run_once, run_undriven, shelf_of};
 use pl_io::{MemSink, Numbers};
 use solver_pool::OpenGate;
 use std::alloc::Global;
@@ -26,32 +25,19 @@ fn shelves_that_fail_at_a_call(rt: HostRuntime) -> Result<(), Fail> {
         ("order d p", 1, "; read fault domain\n"),
         ("order d p", 2, "; read fault problem\n"),
     ];
-    let missing = (5, b"; read fault problem\n".as_slice());
     let words = "plan d p --max-horizon 0";
-    comes_to(&rt, rt.alloc(), words, &[("d", MARKS)], &[], missing)?;
+    let (status, text) = run_once(&rt, rt.alloc(), words, &[("d", MARKS)], &[])?;
+    assert_eq!(rt; status.0, 5);
+    assert_eq!(rt; text.as_slice(), b"; read fault problem\n".as_slice());
     for (words, call, wanted) in rows {
-        let wanted = (5, wanted.as_bytes());
-        comes_to(&rt, rt.alloc(), words, &FILES, &[call], wanted)?;
+        let (status, text) = run_once(&rt, rt.alloc(), words, &FILES, &[call])?;
+        assert_eq!(rt; status.0, 5, "{words}, call {call}");
+        assert_eq!(rt; text.as_slice(), wanted.as_bytes(), "{words}, call {call}");
     }
     Ok(())
 }
 
 const MARKS_ALONE: [Named<'static>; 2] = [("d", MARKS), ("p", MARKED)];
-
-// A run that ends well, though a call of the shelf would fail, which is not made.
-fn stops_before<H: Threads + Wait + Sync + Abort>(
-    rt: &H,
-    alloc: Global,
-    words: &str,
-    call: u32,
-) -> Result<(), Fail> {
-    let mut sink = ample_sink(alloc)?;
-    let mut shelf = shelf_of(alloc, &FILES, &[call])?;
-    let status = run_undriven(rt, alloc, words, &mut shelf, &mut sink, &OpenGate)?;
-    holds(rt, status.0 == 0, words);
-    holds(rt, shelf.failed().is_empty(), words);
-    Ok(())
-}
 
 // Each file that the words name is taken once, and no other: a call more would fail, and the shelf note it.
 #[test]
@@ -65,7 +51,11 @@ fn files_are_taken_once(rt: HostRuntime) -> Result<(), Fail> {
         ("batch d p", 3),
     ];
     for (words, call) in rows {
-        stops_before(&rt, rt.alloc(), words, call)?;
+        let mut shelf = shelf_of(rt.alloc(), &FILES, &[call])?;
+        let mut sink = ample_sink(rt.alloc())?;
+        let status = run_undriven(&rt, rt.alloc(), words, &mut shelf, &mut sink, &OpenGate)?;
+        assert_eq!(rt; status.0, 0, "{words}");
+        assert!(rt; shelf.failed().is_empty(), "{words}");
     }
     Ok(())
 }
@@ -82,8 +72,11 @@ fn fails_at<H: Threads + Wait + Sync + Abort>(
 ) -> Result<(), Fail> {
     assert!(rt; 0 < most);
     let mut sink = MemSink::new(alloc, most, Numbers::of(vec![in alloc; call]?), 1000)?;
-    writes(rt, alloc, words, files, &mut sink, &OpenGate, (6, front))?;
-    holds(rt, sink.faults() == 1, words);
+    let mut shelf = shelf_of(alloc, files, &[])?;
+    let status = run_undriven(rt, alloc, words, &mut shelf, &mut sink, &OpenGate)?;
+    assert_eq!(rt; status.0, 6, "{words}, call {call}");
+    assert_eq!(rt; sink.taken(), front, "{words}, call {call}");
+    assert_eq!(rt; sink.faults(), 1, "{words}, call {call}");
     Ok(())
 }
 

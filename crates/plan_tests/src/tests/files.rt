@@ -1,6 +1,6 @@
 // Files that are broken.
-use super::runs::comes_to;
 use super::tasks::{DARK, LAMP, LIT};
+use mem_runs::run_once;
 use std::test::Fail;
 
 // A domain that is cut off is refused at its end.
@@ -9,8 +9,10 @@ fn domains_cut_off(rt: HostRuntime) -> Result<(), Fail> {
     let alloc = rt.alloc();
     for count in 0..LAMP.len() {
         let files = [("d", &LAMP[..count]), ("p", DARK)];
+        let (status, text) = run_once(&rt, alloc, "plan d p", &files, &[])?;
         let wanted = format!(in alloc; "; refused syntax domain {count}\n")?;
-        comes_to(&rt, alloc, "plan d p", &files, &[], (3, wanted.as_bytes()))?;
+        assert_eq!(rt; status.0, 3, "at {count}");
+        assert_eq!(rt; text.as_slice(), wanted.as_bytes(), "at {count}");
     }
     Ok(())
 }
@@ -40,7 +42,9 @@ fn bytes_of_no_text(rt: HostRuntime) -> Result<(), Fail> {
     ];
     for (words, domain, wanted, status) in rows {
         let files = [("d", domain), ("p", LIT), ("l", b"")];
-        comes_to(&rt, rt.alloc(), words, &files, &[], (status, wanted))?;
+        let (got, text) = run_once(&rt, rt.alloc(), words, &files, &[])?;
+        assert_eq!(rt; got.0, status, "{words}");
+        assert_eq!(rt; text.as_slice(), wanted, "{words}");
     }
     Ok(())
 }

@@ -1,16 +1,8 @@
 // The files that words name.
 use mem_runs::split;
 use plan_words::laws::laws;
-use plan_words::{Request, read_words};
+use plan_words::read_words;
 use std::test::Fail;
-
-// Whether a file is named, by this name.
-fn is_file(request: &Request<'_>, number: usize, name: &str) -> bool {
-    match request.file(number) {
-        Some(file) => file == name,
-        None => false,
-    }
-}
 
 #[test]
 fn lists_files(rt: HostRuntime) -> Result<(), Fail> {
@@ -21,9 +13,9 @@ fn lists_files(rt: HostRuntime) -> Result<(), Fail> {
         .ok()
         .ok_or("memory")?
         .ok_or("taken")?;
-    assert!(rt; is_file(&request, 0, ""));
-    assert!(rt; is_file(&request, 1, "-p"));
-    assert!(rt; is_file(&request, 2, "l"));
-    assert!(rt; request.file(3).is_none());
+    assert_eq!(rt; request.file(0), Some(""));
+    assert_eq!(rt; request.file(1), Some("-p"));
+    assert_eq!(rt; request.file(2), Some("l"));
+    assert_eq!(rt; request.file(3), None);
     Ok(())
 }

@@ -1,7 +1,6 @@
 // Runs with several workers.
-use super::runs::{holds, writes};
 use super::tasks::{BLOCKS, DARK, LAMP, LAMP_PLAN, TOWER, TOWER_PLAN};
-use mem_runs::{Named, ample_sink};
+use mem_runs::{Named, ample_sink, run_once, run_undriven, shelf_of};
 use noting_gates::{CountGate, Notes, PairGate};
 use solver_pool::Gate;
 use std::alloc::Global;
@@ -9,6 +8,35 @@ use std::process::Abort;
 use std::sync::Wait;
 use std::test::Fail;
 use std::thread::Threads;
+
+// The bytes are the same for every number of workers and every slice, and the calls are a plan.
+#[test]
+fn one_report_for_all_workers(rt: HostRuntime) -> Result<(), Fail> {
+    let alloc = rt.alloc();
+    let files = [("d", BLOCKS), ("p", TOWER)];
+    let rows = [
+        "plan d p",
+        "plan d p --workers 1 --slice 1",
+        "plan d p --workers 1 --slice 10",
+        "plan d p --workers 1 --slice 50",
+        "plan d p --workers 2 --slice 1",
+        "plan d p --workers 2 --slice 10",
+        "plan d p --workers 2 --slice 50",
+        "plan d p --workers 16 --slice 1",
+        "plan d p --workers 16 --slice 10",
+        "plan d p --workers 16 --slice 50",
+    ];
+    for words in rows {
+        let (status, text) = run_once(&rt, alloc, words, &files, &[])?;
+        assert_eq!(rt; status.0, 0, "{words}");
+        assert_eq!(rt; text.as_slice(), TOWER_PLAN.as_bytes(), "{words}");
+    }
+    let files = [("d", BLOCKS), ("p", TOWER), ("l", TOWER_PLAN.as_bytes())];
+    let (status, text) = run_once(&rt, alloc, "check d p l", &files, &[])?;
+    assert_eq!(rt; status.0, 0);
+    assert_eq!(rt; text.as_slice(), b"; reaches the goal\n".as_slice());
+    Ok(())
+}
 
 // A run on these files at a gate, which has to end with status 0 and this report.
 fn run_at<G: Gate, H: Threads + Wait + Sync + Abort>(
@@ -19,9 +47,12 @@ fn run_at<G: Gate, H: Threads + Wait + Sync + Abort>(
     gate: &G,
     report: &str,
 ) -> Result<(), Fail> {
+    let mut shelf = shelf_of(alloc, files, &[])?;
     let mut sink = ample_sink(alloc)?;
-    let wanted = (0, report.as_bytes());
-    writes(rt, alloc, words, files, &mut sink, gate, wanted)
+    let status = run_undriven(rt, alloc, words, &mut shelf, &mut sink, gate)?;
+    assert_eq!(rt; status.0, 0, "{words}");
+    assert_eq!(rt; sink.taken(), report.as_bytes(), "{words}");
+    Ok(())
 }
 
 const IN_THE_DARK: [Named<'static>; 2] = [("d", LAMP), ("p", DARK)];
@@ -33,7 +64,7 @@ fn two_horizons_are_at_work_at_once(rt: HostRuntime) -> Result<(), Fail> {
     for (words, meets) in [("plan d p", true), ("plan d p --workers 1", false)] {
         let gate = PairGate::new(0, 1);
         run_at(&rt, alloc, words, &IN_THE_DARK, &gate, LAMP_PLAN)?;
-        holds(&rt, gate.met() == meets, words);
+        assert_eq!(rt; gate.met(), meets, "{words}");
     }
     Ok(())
 }
@@ -62,8 +93,7 @@ fn turns_are_no_longer_than_the_slice(rt: HostRuntime) -> Result<(), Fail> {
     for (words, turns) in rows {
         let gate = CountGate::new();
         run_at(&rt, alloc, words, &files, &gate, TOWER_PLAN)?;
-        let (entered, left) = gate.counts();
-        holds(&rt, entered == turns && left == turns, words);
+        assert_eq!(rt; gate.counts(), (turns, turns), "{words}");
     }
     Ok(())
 }
