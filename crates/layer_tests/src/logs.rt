@@ -7,29 +7,26 @@ use clause_log::reader::Step;
 use number_bytes::numbers::Numbers;
 use std::alloc::Global;
 use std::process::Abort;
-use std::test::Fail;
 
 /// Pushes a clause with its hints.
-fn push_learn(alloc: Global, log: &mut Log) -> Result<(), Fail> {
-    let clause = Clause::of(alloc, &[Lit(300), Lit(7)])?.ok_or("no clause")?;
-    let hints = Hints::copied_from(alloc, &[900, 3, 4_294_967_295, 0])?;
-    log.push(Entry::Learn { clause, hints })?;
-    Ok(())
+fn push_learn(alloc: Global, log: &mut Log) -> Option<()> {
+    let clause = Clause::of(alloc, &[Lit(300), Lit(7)]).ok()??;
+    let hints = Hints::copied_from(alloc, &[900, 3, 4_294_967_295, 0]).ok()?;
+    log.push(Entry::Learn { clause, hints }).ok()
 }
 
 /// Pushes a drop, and a clause without literals.
-fn push_more(log: &mut Log) -> Result<(), Fail> {
-    log.push_drops(&[70_000])?;
-    log.push_learned(&[], &[5])?;
-    Ok(())
+fn push_more(log: &mut Log) -> Option<()> {
+    log.push_drops(&[70_000]).ok()?;
+    log.push_learned(&[], &[5]).ok()
 }
 
 /// The log that learns two clauses and drops one of them between.
-fn three_entries(alloc: Global) -> Result<Log, Fail> {
+fn three_entries(alloc: Global) -> Option<Log> {
     let mut log = Log::new(alloc);
     push_learn(alloc, &mut log)?;
     push_more(&mut log)?;
-    Ok(log)
+    Some(log)
 }
 
 /// Whether numbers are these, and no more.
@@ -63,10 +60,12 @@ fn are_read(rt: &impl Abort, log: &Log) {
 }
 
 #[test]
-fn entries_go_in_and_come_back(rt: HostRuntime) -> Result<(), Fail> {
-    let log = three_entries(rt.alloc())?;
-    assert!(rt; log.len() == 3);
-    assert!(rt; log.learned_count() == 2);
-    are_read(&rt, &log);
-    Ok(())
+fn entries_go_in_and_come_back(rt: HostRuntime) {
+    let log = three_entries(rt.alloc());
+    assert!(rt; log.is_some());
+    if let Some(log) = &log {
+        assert!(rt; log.len() == 3);
+        assert!(rt; log.learned_count() == 2);
+        are_read(&rt, log);
+    }
 }

@@ -8,10 +8,8 @@ use solver_pool::{
     CountRun, Gate, Job, Jobs, Memory, OpenGate, Opened, Pass, Resume, Ring, Served, round,
     serve_one,
 };
-use std::alloc::Global;
-use std::process::Abort;
+use std::alloc::{AllocError, Global};
 use std::sync::Wait;
-use std::test::Fail;
 use std::thread::Threads;
 
 /// A job of a run that counts: its horizon, the units that it needs, and its target.
@@ -41,15 +39,14 @@ fn ring_of<H: Wait>(rt: &H, alloc: Global, rows: &[Row]) -> Result<Opened<CountR
 }
 
 /// Writes what a turn came to.
-fn push_word(alloc: Global, served: Served<CountRun>, text: &mut String) -> Result<(), Fail> {
+fn push_word(alloc: Global, served: Served<CountRun>, text: &mut String) -> Result<(), AllocError> {
     match served {
-        Served::Back => text.push_str("back ")?,
-        Served::Idle => text.push_str("idle ")?,
+        Served::Back => text.push_str("back "),
+        Served::Idle => text.push_str("idle "),
         Served::Done(job) => {
-            text.push_str(format!(in alloc; "done {} ", job.run.granted())?.as_str())?
+            text.push_str(format!(in alloc; "done {} ", job.run.granted())?.as_str())
         }
     }
-    Ok(())
 }
 
 /// Makes so many turns with a pass, and writes what each came to.
@@ -61,7 +58,7 @@ fn serve<H: Wait>(
     turns: u32,
     slice: u32,
     text: &mut String,
-) -> Result<(), Fail>
+) -> Result<(), AllocError>
     requires pass { IsRingPass ⟦<CountRun as Resume>⟧ ring.now pass.old }
     requires slice { IsSlice slice }
     ensures pass { IsRingPass ⟦<CountRun as Resume>⟧ ring.now pass.new }
@@ -80,7 +77,7 @@ fn drain<H: Wait>(
     ring: &Ring<CountRun>,
     owner: &mut Pass<CountRun>,
     text: &mut String,
-) -> Result<(), Fail>
+) -> Result<(), AllocError>
     requires { IsOwnerPass ⟦<CountRun as Resume>⟧ ring.now owner.old }
     ensures { IsOwnerPass ⟦<CountRun as Resume>⟧ ring.now owner.new }
 {
@@ -105,7 +102,7 @@ fn lend<H: Wait>(
     turns: u32,
     slice: u32,
     text: &mut String,
-) -> Result<(), Fail>
+) -> Result<(), Memory>
     requires owner { IsOwnerPass ⟦<CountRun as Resume>⟧ ring.now owner.old }
     requires slice { IsSlice slice }
 {
@@ -125,7 +122,7 @@ fn turn<H: Wait>(
     given: bool,
     turns: u32,
     slice: u32,
-) -> Result<String, Fail>
+) -> Result<String, Memory>
     requires owner { IsOwnerPass ⟦<CountRun as Resume>⟧ ring.now owner.old }
     requires slice { IsSlice slice }
 {
@@ -147,7 +144,7 @@ fn story<H: Wait>(
     given: bool,
     turns: u32,
     slice: u32,
-) -> Result<String, Fail>
+) -> Result<String, Memory>
     requires { IsSlice slice }
 {
     let Opened { ring, mut owner } = ring_of(rt, alloc, rows)?;
@@ -159,8 +156,8 @@ fn is_same(text: &str, wanted: &str) -> bool {
     text == wanted
 }
 
-/// What becomes of a ring.
-fn tells<H: Wait + Abort>(
+/// Whether this becomes of a ring.
+fn tells<H: Wait>(
     rt: &H,
     alloc: Global,
     rows: &[Row],
@@ -168,12 +165,13 @@ fn tells<H: Wait + Abort>(
     turns: u32,
     slice: u32,
     wanted: &str,
-) -> Result<(), Fail>
+) -> bool
     requires { IsSlice slice }
 {
-    let text = story(rt, alloc, rows, given, turns, slice)?;
-    assert!(rt; is_same(text.as_str(), wanted));
-    Ok(())
+    match story(rt, alloc, rows, given, turns, slice) {
+        Ok(text) => is_same(text.as_str(), wanted),
+        Err(_) => false,
+    }
 }
 
 const SIXTEEN: [Row; 16] = [
@@ -198,13 +196,13 @@ const SIXTEEN: [Row; 16] = [
 const SIXTEEN_DRAINED: &str = "0 1 2 3 4 5 6 7 8 9 10 11 12 13 14 15 none";
 
 #[test]
-fn a_ring_serves_and_is_drained(rt: HostRuntime) -> Result<(), Fail> {
+fn a_ring_serves_and_is_drained(rt: HostRuntime) {
     let alloc = rt.alloc();
     let (one, settled) = ([(0, 5, 3)], [(0, 1, 1)]);
-    tells(&rt, alloc, &[], true, 1, 1, "idle none")?;
-    tells(&rt, alloc, &SIXTEEN, false, 0, 1, SIXTEEN_DRAINED)?;
-    tells(&rt, alloc, &one, true, 3, 2, "back done 3 idle none")?;
-    tells(&rt, alloc, &settled, false, 2, 1, "done 1 idle none")
+    assert!(rt; tells(&rt, alloc, &[], true, 1, 1, "idle none"));
+    assert!(rt; tells(&rt, alloc, &SIXTEEN, false, 0, 1, SIXTEEN_DRAINED));
+    assert!(rt; tells(&rt, alloc, &one, true, 3, 2, "back done 3 idle none"));
+    assert!(rt; tells(&rt, alloc, &settled, false, 2, 1, "done 1 idle none"));
 }
 
 /// A round of these jobs.
@@ -227,7 +225,7 @@ fn round_of<G: Gate, H: Threads + Wait + Sync>(
 }
 
 /// The jobs of a round, a job a line, with the number granted where the run is unsettled.
-fn lines(alloc: Global, jobs: &Jobs<CountRun>) -> Result<String, Fail> {
+fn lines(alloc: Global, jobs: &Jobs<CountRun>) -> Result<String, AllocError> {
     let mut text = String::new(alloc);
     for job in jobs.as_slice() {
         let line = if job.run.unsettled() {
@@ -240,38 +238,56 @@ fn lines(alloc: Global, jobs: &Jobs<CountRun>) -> Result<String, Fail> {
     Ok(text)
 }
 
-/// What a round gives back, and how many turns began, and as many ended.
-fn reports<H: Threads + Wait + Sync + Abort>(
+/// What a round gives back.
+fn round_told<G: Gate, H: Threads + Wait + Sync>(
     rt: &H,
     alloc: Global,
     rows: &[Row],
     workers: u32,
     slice: u32,
-    wanted: (&str, u64),
-) -> Result<(), Fail>
+    gate: &G,
+) -> Result<String, Memory>
+    requires workers { (1 ≤ workers) × (workers ≤ 16) }
+    requires slice { IsSlice slice }
+{
+    let jobs = round_of(rt, alloc, rows, workers, slice, gate)?;
+    Ok(lines(alloc, &jobs)?)
+}
+
+/// Whether a round gives this back, and so many turns began, and as many ended.
+fn reports<H: Threads + Wait + Sync>(
+    rt: &H,
+    alloc: Global,
+    rows: &[Row],
+    workers: u32,
+    slice: u32,
+    wanted: &str,
+    turns: u64,
+) -> bool
     requires workers { (1 ≤ workers) × (workers ≤ 16) }
     requires slice { IsSlice slice }
 {
     let gate = CountGate::new();
-    let jobs = round_of(rt, alloc, rows, workers, slice, &gate)?;
-    let text = lines(alloc, &jobs)?;
-    assert!(rt; is_same(text.as_str(), wanted.0));
-    let (entered, left) = gate.counts();
-    assert!(rt; entered == wanted.1 && left == wanted.1);
-    Ok(())
+    match round_told(rt, alloc, rows, workers, slice, &gate) {
+        Ok(text) => {
+            let (entered, left) = gate.counts();
+            is_same(text.as_str(), wanted) && entered == turns && left == turns
+        }
+        Err(_) => false,
+    }
 }
 
 #[test]
-fn jobs_come_back_in_order_at_their_targets(rt: HostRuntime) -> Result<(), Fail> {
+fn jobs_come_back_in_order_at_their_targets(rt: HostRuntime) {
     let alloc = rt.alloc();
     let three = [(4, 5, 3), (7, 1, 3), (9, 100, 0)];
     let stands = "4 unsettled 3; 7 settled; 9 unsettled 0; ";
-    reports(&rt, alloc, &three, 2, 1, (stands, 5))?;
-    reports(&rt, alloc, &three, 1, 2, (stands, 4))?;
-    reports(&rt, alloc, &three, 16, 10000, (stands, 3))?;
+    assert!(rt; reports(&rt, alloc, &three, 2, 1, stands, 5));
+    assert!(rt; reports(&rt, alloc, &three, 1, 2, stands, 4));
+    assert!(rt; reports(&rt, alloc, &three, 16, 10000, stands, 3));
     let two = [(0, 1, 50), (1, 0, 50)];
-    reports(&rt, alloc, &two, 2, 1, ("0 settled; 1 settled; ", 2))?;
-    reports(&rt, alloc, &[], 3, 1, ("", 0))
+    assert!(rt; reports(&rt, alloc, &two, 2, 1, "0 settled; 1 settled; ", 2));
+    assert!(rt; reports(&rt, alloc, &[], 3, 1, "", 0));
 }
 
 /// Whether two horizons are at work at once in a round of these jobs.
@@ -289,22 +305,21 @@ fn meet<H: Threads + Wait + Sync>(
     Ok(back.len() == rows.len() && gate.met())
 }
 
+// Whichever two of three: so no two are dealt out to one worker beforehand.
 #[test]
-fn two_runs_are_at_work_at_once(rt: HostRuntime) -> Result<(), Fail> {
+fn two_runs_are_at_work_at_once(rt: HostRuntime) {
     let alloc = rt.alloc();
     let two = [(0, 1, 1), (1, 1, 1)];
     let three = [(0, 1, 1), (1, 1, 1), (2, 1, 1)];
-    assert!(rt; meet(&rt, alloc, &two, (0, 1), 2)?);
-
-    // Whichever two of three: so no two are dealt out to one worker beforehand.
-    for pair in [(0, 1), (0, 2), (1, 2)] {
-        assert!(rt; meet(&rt, alloc, &three, pair, 2)?);
-    }
+    assert!(rt; matches!(meet(&rt, alloc, &two, (0, 1), 2), Ok(true)));
+    assert!(rt; matches!(meet(&rt, alloc, &three, (0, 1), 2), Ok(true)));
+    assert!(rt; matches!(meet(&rt, alloc, &three, (0, 2), 2), Ok(true)));
+    assert!(rt; matches!(meet(&rt, alloc, &three, (1, 2), 2), Ok(true)));
 
     // Also where one of the two is settled from the start: its turn is taken all the same.
-    assert!(rt; meet(&rt, alloc, &[(0, 1, 1), (1, 0, 1)], (0, 1), 2)?);
+    let one_settled = [(0, 1, 1), (1, 0, 1)];
+    assert!(rt; matches!(meet(&rt, alloc, &one_settled, (0, 1), 2), Ok(true)));
 
     // One worker alone never ends the wait in time.
-    assert!(rt; !meet(&rt, alloc, &two, (0, 1), 1)?);
-    Ok(())
+    assert!(rt; matches!(meet(&rt, alloc, &two, (0, 1), 1), Ok(false)));
 }

@@ -1,16 +1,15 @@
-//! Small tasks.
+//! Small tasks. `None` stands for want of memory, and for what is no task.
 use gt_core::act::{Act, Acts};
 use gt_core::eff::{Eff, Effs};
 use gt_core::lits::{Bits, Lits};
 use gt_core::task::Task;
-use std::alloc::Global;
-use std::test::Fail;
+use std::alloc::{AllocError, Global};
 
 /// An action by its precondition and its effects, each by its condition and its literal.
 pub(crate) type Sketch<'a> = (&'a [u32], &'a [(&'a [u32], u32)]);
 
 /// Effects, each by its condition and its literal.
-fn effects_of(alloc: Global, sketches: &[(&[u32], u32)]) -> Result<Vec<Eff>, Fail> {
+fn effects_of(alloc: Global, sketches: &[(&[u32], u32)]) -> Result<Vec<Eff>, AllocError> {
     let mut effects = Vec::new(alloc);
     for (condition, lit) in sketches {
         let condition = Vec::from_slice(alloc, condition)?;
@@ -20,14 +19,14 @@ fn effects_of(alloc: Global, sketches: &[(&[u32], u32)]) -> Result<Vec<Eff>, Fai
 }
 
 /// The action of a sketch.
-fn drawn(alloc: Global, pre: &[u32], sketches: &[(&[u32], u32)]) -> Result<Act, Fail> {
+fn drawn(alloc: Global, pre: &[u32], sketches: &[(&[u32], u32)]) -> Result<Act, AllocError> {
     let pre = Vec::from_slice(alloc, pre)?;
     let effects = effects_of(alloc, sketches)?;
     Ok(Act::new(Lits::of(pre), Effs::of(effects)))
 }
 
 /// The actions of sketches.
-fn sketched(alloc: Global, sketches: &[Sketch]) -> Result<Vec<Act>, Fail> {
+fn sketched(alloc: Global, sketches: &[Sketch]) -> Result<Vec<Act>, AllocError> {
     let mut acts = Vec::new(alloc);
     for (pre, effects) in sketches {
         acts.push(drawn(alloc, pre, effects)?)?;
@@ -41,9 +40,9 @@ pub(crate) fn task_of(
     facts: u32,
     init: &[bool],
     sketches: &[Sketch],
-) -> Result<Task, Fail> {
-    let init = Bits::of(Vec::from_slice(alloc, init)?);
-    let goal = Lits::of(vec![in alloc; 0]?);
-    let acts = Acts::of(sketched(alloc, sketches)?);
-    Ok(Task::try_new(facts, init, goal, false, acts).ok_or("no task")?)
+) -> Option<Task> {
+    let init = Vec::from_slice(alloc, init).ok()?;
+    let goal = Vec::from_slice(alloc, &[0]).ok()?;
+    let acts = sketched(alloc, sketches).ok()?;
+    Task::try_new(facts, Bits::of(init), Lits::of(goal), false, Acts::of(acts))
 }
