@@ -9,7 +9,6 @@ use solver_pool::Resume;
 use std::alloc::AllocGlobal;
 use std::random::RandomSource;
 use std::sync::Wait;
-use std::test::Fail;
 
 /// A run that is told of.
 trait Told: Resume {
@@ -23,54 +22,52 @@ impl Told for HorizonRun {
     }
 }
 
-/// How a run stands once it was settled.
+/// How a run stands once it was settled; `None` where it is no new run.
 fn settled<R: Told, D: Driver>(
     driver: &mut D,
     run: R,
     target: u64,
-) -> Result<Result<(Standing, u64), SettleError>, Fail>
+) -> Option<Result<(Standing, u64), SettleError>>
     requires { target ≤ 1000 }
 {
     if run.spoilt() || run.granted() > target {
-        return Err("no new run")?;
+        return None;
     }
     match settle(driver, run, target, 1) {
-        Ok(end) => Ok(Ok(end.told())),
-        Err(error) => Ok(Err(error)),
+        Ok(end) => Some(Ok(end.told())),
+        Err(error) => Some(Err(error)),
     }
+}
+
+/// The same, where there is a run.
+fn settled_by<R: Told, D: Driver>(
+    driver: &mut D,
+    run: Option<R>,
+    target: u64,
+) -> Option<Result<(Standing, u64), SettleError>>
+    requires { target ≤ 1000 }
+{
+    settled(driver, run?, target)
 }
 
 /// The same over `block_on`.
 fn blocked<R: Told, H: Wait + RandomSource + AllocGlobal>(
     rt: &H,
-    run: R,
+    run: Option<R>,
     target: u64,
-) -> Result<Result<(Standing, u64), SettleError>, Fail>
+) -> Option<Result<(Standing, u64), SettleError>>
     requires { target ≤ 1000 }
 {
-    settled(&mut BlockOn::new(rt), run, target)
+    settled_by(&mut BlockOn::new(rt), run, target)
 }
 
 #[test]
-fn polls_settle_the_run_of_a_horizon(rt: HostRuntime) -> Result<(), Fail> {
+fn polls_settle_the_run_of_a_horizon(rt: HostRuntime) {
     let alloc = rt.alloc();
-    assert!(rt;
-        matches!(
-            blocked(&rt, lamp_run(alloc, 0)?, 50)?,
-            Ok((Standing::Refuted, 1))
-        )
-    );
-    assert!(rt;
-        matches!(
-            blocked(&rt, lamp_run(alloc, 0)?, 0)?,
-            Ok((Standing::Going, 0))
-        )
-    );
-    assert!(rt;
-        matches!(
-            settled(&mut NoDriver::new(), lamp_run(alloc, 0)?, 50)?,
-            Err(SettleError::Driver)
-        )
-    );
-    Ok(())
+    let far = blocked(&rt, lamp_run(alloc, 0), 50);
+    assert!(rt; matches!(far, Some(Ok((Standing::Refuted, 1)))));
+    let near = blocked(&rt, lamp_run(alloc, 0), 0);
+    assert!(rt; matches!(near, Some(Ok((Standing::Going, 0)))));
+    let undriven = settled_by(&mut NoDriver::new(), lamp_run(alloc, 0), 50);
+    assert!(rt; matches!(undriven, Some(Err(SettleError::Driver))));
 }
