@@ -63,11 +63,11 @@ fn removes_horizons_up_to_a_refuted_one(rt: HostRuntime) {
     for horizon in [2, 3, 5, 8] {
         assert!(rt; is(window.take_next(), horizon));
     }
-    assert!(rt; is(window.live(2), 5));
+    assert!(rt; matches!(window.live(2), Some(5)));
     window.refute(5);
     assert!(rt; is_left(&window, 8));
     assert!(rt; window.take_next().is_none());
-    assert!(rt; is(window.live(0), 8));
+    assert!(rt; matches!(window.live(0), Some(8)));
     window.refute(8);
     assert!(rt; window.ended());
 }
