@@ -14,7 +14,5 @@
 
 mod resume;
 mod run;
-#[cfg(test)]
-mod tests;
 
 pub use run::HorizonRun;

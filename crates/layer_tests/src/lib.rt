@@ -2,9 +2,13 @@
 #![tactic(auto)]
 
 #[cfg(test)]
+mod certificates;
+#[cfg(test)]
 mod choice;
 #[cfg(test)]
 mod known;
+#[cfg(test)]
+mod lists;
 #[cfg(test)]
 mod logs;
 #[cfg(test)]

@@ -4,52 +4,68 @@ use clause_base::literal::Lit;
 use clause_base::log::{Entry, Hints};
 use clause_log::log::Log;
 use clause_log::reader::Step;
+use number_bytes::numbers::Numbers;
 use std::alloc::Global;
-use std::test::Fail;
+use std::process::Abort;
+
+/// Pushes a clause with its hints.
+fn push_learn(alloc: Global, log: &mut Log) -> Option<()> {
+    let clause = Clause::of(alloc, &[Lit(300), Lit(7)]).ok()??;
+    let hints = Hints::copied_from(alloc, &[900, 3, 4_294_967_295, 0]).ok()?;
+    log.push(Entry::Learn { clause, hints }).ok()
+}
+
+/// Pushes a drop, and a clause without literals.
+fn push_more(log: &mut Log) -> Option<()> {
+    log.push_drops(&[70_000]).ok()?;
+    log.push_learned(&[], &[5]).ok()
+}
 
 /// The log that learns two clauses and drops one of them between.
-fn three_entries(alloc: Global) -> Result<Log, Fail> {
+fn three_entries(alloc: Global) -> Option<Log> {
     let mut log = Log::new(alloc);
-    let clause = Clause::of(alloc, &[Lit(300), Lit(7)])?.ok_or("no clause")?;
-    let hints = Hints::copied_from(alloc, &[900, 3, 4_294_967_295, 0])?;
-    log.push(Entry::Learn { clause, hints })?;
-    log.push_drops(&[70_000])?;
-    log.push_learned(&[], &[5])?;
-    Ok(log)
+    push_learn(alloc, &mut log)?;
+    push_more(&mut log)?;
+    Some(log)
+}
+
+/// Whether numbers are these, and no more.
+fn are(numbers: &Numbers, wanted: &[u32]) -> bool {
+    let mut left = numbers.copy();
+    for number in wanted {
+        match left.next() {
+            Some(next) if next == *number => {}
+            _ => return false,
+        }
+    }
+    numbers.len() == wanted.len() && left.next().is_none()
+}
+
+/// Whether a step learns the clause of these literals by these hints.
+fn learns(step: Option<Step>, lits: &[u32], by: &[u32]) -> bool {
+    match step {
+        Some(Step::Learn { clause, hints }) => are(&clause, lits) && are(&hints, by),
+        _ => false,
+    }
+}
+
+/// The entries of the log, read one after another.
+fn are_read(rt: &impl Abort, log: &Log) {
+    let mut reader = log.entries();
+    let hints = [900, 3, 4_294_967_295, 0];
+    assert!(rt; learns(reader.next(), &[7, 300], &hints));
+    assert!(rt; matches!(reader.next(), Some(Step::Drop { number: 70_000 })));
+    assert!(rt; learns(reader.next(), &[], &[5]));
+    assert!(rt; reader.next().is_none());
 }
 
 #[test]
-fn entries_go_in_and_come_back(rt: HostRuntime) -> Result<(), Fail> {
-    let log = three_entries(rt.alloc())?;
-    assert_eq!(rt; log.len(), 3);
-    assert_eq!(rt; log.learned_count(), 2);
-    let mut reader = log.entries();
-    match reader.next() {
-        Some(Step::Learn { clause, hints }) => {
-            let mut lits = clause.copy();
-            let mut left = hints.copy();
-            assert_eq!(rt; clause.len(), 2);
-            assert_eq!(rt; lits.next(), Some(7));
-            assert_eq!(rt; lits.next(), Some(300));
-            assert_eq!(rt; lits.next(), None);
-            assert_eq!(rt; hints.len(), 4);
-            assert_eq!(rt; left.next(), Some(900));
-            assert_eq!(rt; left.next(), Some(3));
-            assert_eq!(rt; left.next(), Some(4_294_967_295));
-            assert_eq!(rt; left.next(), Some(0));
-            assert_eq!(rt; left.next(), None);
-        }
-        _ => return Err(Fail::from("not learned")),
+fn entries_go_in_and_come_back(rt: HostRuntime) {
+    let log = three_entries(rt.alloc());
+    assert!(rt; log.is_some());
+    if let Some(log) = &log {
+        assert!(rt; log.len() == 3);
+        assert!(rt; log.learned_count() == 2);
+        are_read(&rt, log);
     }
-    assert!(rt; matches!(reader.next(), Some(Step::Drop { number: 70_000 })));
-    match reader.next() {
-        Some(Step::Learn { clause, hints }) => {
-            let mut left = hints.copy();
-            assert_eq!(rt; clause.len(), 0);
-            assert_eq!(rt; left.next(), Some(5));
-        }
-        _ => return Err(Fail::from("not learned")),
-    }
-    assert!(rt; reader.next().is_none());
-    Ok(())
 }

@@ -8,9 +8,8 @@ use solver_pool::{
     CountRun, Gate, Job, Jobs, Memory, OpenGate, Opened, Pass, Resume, Ring, Served, round,
     serve_one,
 };
-use std::alloc::Global;
+use std::alloc::{AllocError, Global};
 use std::sync::Wait;
-use std::test::Fail;
 use std::thread::Threads;
 
 /// A job of a run that counts: its horizon, the units that it needs, and its target.
@@ -39,13 +38,15 @@ fn ring_of<H: Wait>(rt: &H, alloc: Global, rows: &[Row]) -> Result<Opened<CountR
     Ring::open(rt, alloc, jobs)
 }
 
-/// What a turn came to, in words.
-fn word_of(alloc: Global, served: Served<CountRun>) -> Result<String, Fail> {
-    Ok(match served {
-        Served::Back => format!(in alloc; "back ")?,
-        Served::Done(job) => format!(in alloc; "done {} ", job.run.granted())?,
-        Served::Idle => format!(in alloc; "idle ")?,
-    })
+/// Writes what a turn came to.
+fn push_word(alloc: Global, served: Served<CountRun>, text: &mut String) -> Result<(), AllocError> {
+    match served {
+        Served::Back => text.push_str("back "),
+        Served::Idle => text.push_str("idle "),
+        Served::Done(job) => {
+            text.push_str(format!(in alloc; "done {} ", job.run.granted())?.as_str())
+        }
+    }
 }
 
 /// Makes so many turns with a pass, and writes what each came to.
@@ -57,15 +58,14 @@ fn serve<H: Wait>(
     turns: u32,
     slice: u32,
     text: &mut String,
-) -> Result<(), Fail>
+) -> Result<(), AllocError>
     requires pass { IsRingPass ⟦<CountRun as Resume>⟧ ring.now pass.old }
     requires slice { IsSlice slice }
     ensures pass { IsRingPass ⟦<CountRun as Resume>⟧ ring.now pass.new }
     ensures owner { (view pass.new.pass).owner ≡ (view pass.old.pass).owner }
 {
     for _ in 0..turns {
-        let served = serve_one(rt, ring, pass, slice, &OpenGate);
-        text.push_str(word_of(alloc, served)?.as_str())?;
+        push_word(alloc, serve_one(rt, ring, pass, slice, &OpenGate), text)?;
     }
     Ok(())
 }
@@ -77,7 +77,7 @@ fn drain<H: Wait>(
     ring: &Ring<CountRun>,
     owner: &mut Pass<CountRun>,
     text: &mut String,
-) -> Result<(), Fail>
+) -> Result<(), AllocError>
     requires { IsOwnerPass ⟦<CountRun as Resume>⟧ ring.now owner.old }
     ensures { IsOwnerPass ⟦<CountRun as Resume>⟧ ring.now owner.new }
 {
@@ -93,6 +93,49 @@ fn drain<H: Wait>(
     Ok(())
 }
 
+/// Makes so many turns with a pass that is given out, and drains the ring while it is out.
+fn lend<H: Wait>(
+    rt: &H,
+    alloc: Global,
+    ring: &Ring<CountRun>,
+    owner: &mut Pass<CountRun>,
+    turns: u32,
+    slice: u32,
+    text: &mut String,
+) -> Result<(), Memory>
+    requires owner { IsOwnerPass ⟦<CountRun as Resume>⟧ ring.now owner.old }
+    requires slice { IsSlice slice }
+{
+    let mut pass = ring.give(rt, owner)?;
+    serve(rt, alloc, ring, &mut pass, turns, slice, text)?;
+    drain(rt, alloc, ring, owner, text)?;
+    ring.take_in(rt, owner, pass);
+    Ok(())
+}
+
+/// Makes so many turns, with a pass that is given out or with the owner's, and drains the ring.
+fn turn<H: Wait>(
+    rt: &H,
+    alloc: Global,
+    ring: &Ring<CountRun>,
+    owner: &mut Pass<CountRun>,
+    given: bool,
+    turns: u32,
+    slice: u32,
+) -> Result<String, Memory>
+    requires owner { IsOwnerPass ⟦<CountRun as Resume>⟧ ring.now owner.old }
+    requires slice { IsSlice slice }
+{
+    let mut text = String::new(alloc);
+    if given {
+        lend(rt, alloc, ring, owner, turns, slice, &mut text)?;
+    } else {
+        serve(rt, alloc, ring, owner, turns, slice, &mut text)?;
+        drain(rt, alloc, ring, owner, &mut text)?;
+    }
+    Ok(text)
+}
+
 /// Opens a ring, makes so many turns, with a pass that is given out or with the owner's, and drains it.
 fn story<H: Wait>(
     rt: &H,
@@ -101,49 +144,65 @@ fn story<H: Wait>(
     given: bool,
     turns: u32,
     slice: u32,
-) -> Result<String, Fail>
+) -> Result<String, Memory>
     requires { IsSlice slice }
 {
     let Opened { ring, mut owner } = ring_of(rt, alloc, rows)?;
-    let mut text = String::new(alloc);
-    if given {
-        let mut pass = ring.give(rt, &mut owner)?;
-        serve(rt, alloc, &ring, &mut pass, turns, slice, &mut text)?;
-        drain(rt, alloc, &ring, &mut owner, &mut text)?;
-        ring.take_in(rt, &mut owner, pass);
-    } else {
-        serve(rt, alloc, &ring, &mut owner, turns, slice, &mut text)?;
-        drain(rt, alloc, &ring, &mut owner, &mut text)?;
-    }
-    Ok(text)
+    turn(rt, alloc, &ring, &mut owner, given, turns, slice)
 }
 
+/// Whether two texts are the same.
+fn is_same(text: &str, wanted: &str) -> bool {
+    text == wanted
+}
+
+/// Whether this becomes of a ring.
+fn tells<H: Wait>(
+    rt: &H,
+    alloc: Global,
+    rows: &[Row],
+    given: bool,
+    turns: u32,
+    slice: u32,
+    wanted: &str,
+) -> bool
+    requires { IsSlice slice }
+{
+    match story(rt, alloc, rows, given, turns, slice) {
+        Ok(text) => is_same(text.as_str(), wanted),
+        Err(_) => false,
+    }
+}
+
+const SIXTEEN: [Row; 16] = [
+    (0, 5, 3),
+    (1, 5, 3),
+    (2, 5, 3),
+    (3, 5, 3),
+    (4, 5, 3),
+    (5, 5, 3),
+    (6, 5, 3),
+    (7, 5, 3),
+    (8, 5, 3),
+    (9, 5, 3),
+    (10, 5, 3),
+    (11, 5, 3),
+    (12, 5, 3),
+    (13, 5, 3),
+    (14, 5, 3),
+    (15, 5, 3),
+];
+
+const SIXTEEN_DRAINED: &str = "0 1 2 3 4 5 6 7 8 9 10 11 12 13 14 15 none";
+
 #[test]
-fn a_ring_serves_and_is_drained(rt: HostRuntime) -> Result<(), Fail> {
+fn a_ring_serves_and_is_drained(rt: HostRuntime) {
     let alloc = rt.alloc();
-    let mut sixteen = Vec::new(alloc);
-    for horizon in 0..16u32 {
-        sixteen.push((horizon, 5u64, 3u16))?;
-    }
-    let told = [
-        (story(&rt, alloc, &[], true, 1, 1)?, "idle none"),
-        (
-            story(&rt, alloc, sixteen.as_slice(), false, 0, 1)?,
-            "0 1 2 3 4 5 6 7 8 9 10 11 12 13 14 15 none",
-        ),
-        (
-            story(&rt, alloc, &[(0, 5, 3)], true, 3, 2)?,
-            "back done 3 idle none",
-        ),
-        (
-            story(&rt, alloc, &[(0, 1, 1)], false, 2, 1)?,
-            "done 1 idle none",
-        ),
-    ];
-    for (text, wanted) in &told {
-        assert_eq!(rt; text.as_str(), *wanted);
-    }
-    Ok(())
+    let (one, settled) = ([(0, 5, 3)], [(0, 1, 1)]);
+    assert!(rt; tells(&rt, alloc, &[], true, 1, 1, "idle none"));
+    assert!(rt; tells(&rt, alloc, &SIXTEEN, false, 0, 1, SIXTEEN_DRAINED));
+    assert!(rt; tells(&rt, alloc, &one, true, 3, 2, "back done 3 idle none"));
+    assert!(rt; tells(&rt, alloc, &settled, false, 2, 1, "done 1 idle none"));
 }
 
 /// A round of these jobs.
@@ -165,19 +224,8 @@ fn round_of<G: Gate, H: Threads + Wait + Sync>(
     round(rt, alloc, jobs, workers, slice, gate)
 }
 
-/// What a round gives back, a job a line, with the number granted where the run is unsettled; and how many turns it took.
-fn report<H: Threads + Wait + Sync>(
-    rt: &H,
-    alloc: Global,
-    rows: &[Row],
-    workers: u32,
-    slice: u32,
-) -> Result<String, Fail>
-    requires workers { (1 ≤ workers) × (workers ≤ 16) }
-    requires slice { IsSlice slice }
-{
-    let gate = CountGate::new();
-    let jobs = round_of(rt, alloc, rows, workers, slice, &gate)?;
+/// The jobs of a round, a job a line, with the number granted where the run is unsettled.
+fn lines(alloc: Global, jobs: &Jobs<CountRun>) -> Result<String, AllocError> {
     let mut text = String::new(alloc);
     for job in jobs.as_slice() {
         let line = if job.run.unsettled() {
@@ -187,36 +235,59 @@ fn report<H: Threads + Wait + Sync>(
         };
         text.push_str(line.as_str())?;
     }
-    let (entered, left) = gate.counts();
-    text.push_str(format!(in alloc; "{entered} {left}")?.as_str())?;
     Ok(text)
 }
 
+/// What a round gives back.
+fn round_told<G: Gate, H: Threads + Wait + Sync>(
+    rt: &H,
+    alloc: Global,
+    rows: &[Row],
+    workers: u32,
+    slice: u32,
+    gate: &G,
+) -> Result<String, Memory>
+    requires workers { (1 ≤ workers) × (workers ≤ 16) }
+    requires slice { IsSlice slice }
+{
+    let jobs = round_of(rt, alloc, rows, workers, slice, gate)?;
+    Ok(lines(alloc, &jobs)?)
+}
+
+/// Whether a round gives this back, and so many turns began, and as many ended.
+fn reports<H: Threads + Wait + Sync>(
+    rt: &H,
+    alloc: Global,
+    rows: &[Row],
+    workers: u32,
+    slice: u32,
+    wanted: &str,
+    turns: u64,
+) -> bool
+    requires workers { (1 ≤ workers) × (workers ≤ 16) }
+    requires slice { IsSlice slice }
+{
+    let gate = CountGate::new();
+    match round_told(rt, alloc, rows, workers, slice, &gate) {
+        Ok(text) => {
+            let (entered, left) = gate.counts();
+            is_same(text.as_str(), wanted) && entered == turns && left == turns
+        }
+        Err(_) => false,
+    }
+}
+
 #[test]
-fn jobs_come_back_in_order_at_their_targets(rt: HostRuntime) -> Result<(), Fail> {
+fn jobs_come_back_in_order_at_their_targets(rt: HostRuntime) {
     let alloc = rt.alloc();
     let three = [(4, 5, 3), (7, 1, 3), (9, 100, 0)];
+    let stands = "4 unsettled 3; 7 settled; 9 unsettled 0; ";
+    assert!(rt; reports(&rt, alloc, &three, 2, 1, stands, 5));
+    assert!(rt; reports(&rt, alloc, &three, 1, 2, stands, 4));
+    assert!(rt; reports(&rt, alloc, &three, 16, 10000, stands, 3));
     let two = [(0, 1, 50), (1, 0, 50)];
-    let told = [
-        (
-            report(&rt, alloc, &three, 2, 1)?,
-            "4 unsettled 3; 7 settled; 9 unsettled 0; 5 5",
-        ),
-        (
-            report(&rt, alloc, &three, 1, 2)?,
-            "4 unsettled 3; 7 settled; 9 unsettled 0; 4 4",
-        ),
-        (
-            report(&rt, alloc, &three, 16, 10000)?,
-            "4 unsettled 3; 7 settled; 9 unsettled 0; 3 3",
-        ),
-        (report(&rt, alloc, &two, 2, 1)?, "0 settled; 1 settled; 2 2"),
-        (report(&rt, alloc, &[], 3, 1)?, "0 0"),
-    ];
-    for (text, wanted) in &told {
-        assert_eq!(rt; text.as_str(), *wanted);
-    }
-    Ok(())
+    assert!(rt; reports(&rt, alloc, &two, 2, 1, "0 settled; 1 settled; ", 2));
+    assert!(rt; reports(&rt, alloc, &[], 3, 1, "", 0));
 }
 
 /// Whether two horizons are at work at once in a round of these jobs.
@@ -234,22 +305,21 @@ fn meet<H: Threads + Wait + Sync>(
     Ok(back.len() == rows.len() && gate.met())
 }
 
+// Whichever two of three: so no two are dealt out to one worker beforehand.
 #[test]
-fn two_runs_are_at_work_at_once(rt: HostRuntime) -> Result<(), Fail> {
+fn two_runs_are_at_work_at_once(rt: HostRuntime) {
     let alloc = rt.alloc();
     let two = [(0, 1, 1), (1, 1, 1)];
     let three = [(0, 1, 1), (1, 1, 1), (2, 1, 1)];
-    assert!(rt; meet(&rt, alloc, &two, (0, 1), 2)?);
-
-    // Whichever two of three: so no two are dealt out to one worker beforehand.
-    for pair in [(0, 1), (0, 2), (1, 2)] {
-        assert!(rt; meet(&rt, alloc, &three, pair, 2)?);
-    }
+    assert!(rt; matches!(meet(&rt, alloc, &two, (0, 1), 2), Ok(true)));
+    assert!(rt; matches!(meet(&rt, alloc, &three, (0, 1), 2), Ok(true)));
+    assert!(rt; matches!(meet(&rt, alloc, &three, (0, 2), 2), Ok(true)));
+    assert!(rt; matches!(meet(&rt, alloc, &three, (1, 2), 2), Ok(true)));
 
     // Also where one of the two is settled from the start: its turn is taken all the same.
-    assert!(rt; meet(&rt, alloc, &[(0, 1, 1), (1, 0, 1)], (0, 1), 2)?);
+    let one_settled = [(0, 1, 1), (1, 0, 1)];
+    assert!(rt; matches!(meet(&rt, alloc, &one_settled, (0, 1), 2), Ok(true)));
 
     // One worker alone never ends the wait in time.
-    assert!(rt; !meet(&rt, alloc, &two, (0, 1), 1)?);
-    Ok(())
+    assert!(rt; matches!(meet(&rt, alloc, &two, (0, 1), 1), Ok(false)));
 }

@@ -20,14 +20,22 @@ fn rates(algorithm: Algorithm, start: u32, max: u32) -> Rates
     }
 }
 
+/// Whether a horizon is there, and this one.
+fn is(found: Option<u32>, horizon: u32) -> bool {
+    match found {
+        Some(number) => number == horizon,
+        None => false,
+    }
+}
+
 /// Asks for the listed horizons one after another.
 fn assert_lists(rt: &impl Abort, rates: &Rates, horizons: &[u32])
     requires { length horizons.now ≤ 6 }
 {
     for (place, horizon) in horizons.iter().enumerate() {
-        assert_eq!(rt; rates.nth(place as u32), Some(*horizon), "at place {place}");
+        assert!(rt; is(rates.nth(place as u32), *horizon));
     }
-    assert_eq!(rt; rates.nth(horizons.len() as u32), None);
+    assert!(rt; rates.nth(horizons.len() as u32).is_none());
 }
 
 #[test]
@@ -43,7 +51,7 @@ fn lists_horizons(rt: HostRuntime) {
 /// Whether this horizon alone is live, and no other is listed.
 fn is_left(window: &Window, horizon: u32) -> bool {
     window.count() == 1
-        && window.live(0) == Some(horizon)
+        && is(window.live(0), horizon)
         && window.live(1).is_none()
         && window.next_listed().is_none()
         && !window.ended()
@@ -53,13 +61,13 @@ fn is_left(window: &Window, horizon: u32) -> bool {
 fn removes_horizons_up_to_a_refuted_one(rt: HostRuntime) {
     let mut window = Window::new(&rates(Algorithm::C, 2, 8));
     for horizon in [2, 3, 5, 8] {
-        assert!(rt; window.take_next() == Some(horizon));
+        assert!(rt; is(window.take_next(), horizon));
     }
-    assert!(rt; window.live(2) == Some(5));
+    assert!(rt; matches!(window.live(2), Some(5)));
     window.refute(5);
     assert!(rt; is_left(&window, 8));
     assert!(rt; window.take_next().is_none());
-    assert!(rt; window.live(0) == Some(8));
+    assert!(rt; matches!(window.live(0), Some(8)));
     window.refute(8);
     assert!(rt; window.ended());
 }
@@ -77,8 +85,8 @@ fn grants_falling_quotas(rt: HostRuntime) {
     };
     let mut ledger = Ledger::new(11);
     for (place, (quota, granted)) in [(8, 8), (4, 3), (2, 0), (1, 0), (1, 0)].iter().enumerate() {
-        assert_eq!(rt; falling.quota(place as u32), *quota);
-        assert_eq!(rt; ledger.grant(*quota), *granted);
+        assert!(rt; falling.quota(place as u32) == *quota);
+        assert!(rt; ledger.grant(*quota) == *granted);
     }
-    assert_eq!(rt; ledger.left(), 0);
+    assert!(rt; ledger.left() == 0);
 }

@@ -6,7 +6,6 @@ use noting_gates::Notes;
 use solver_pool::{CountRun, Job, Jobs, Memory, Resume, round};
 use std::alloc::Global;
 use std::sync::Wait;
-use std::test::Fail;
 use std::thread::Threads;
 
 /// A run that counts, and tells of each time that it is advanced.
@@ -77,9 +76,8 @@ fn round_told<H: Threads + Wait + Sync>(rt: &H, alloc: Global, told: &Notes) -> 
 }
 
 #[test]
-fn a_run_enters_before_its_turn_and_leaves_after(rt: HostRuntime) -> Result<(), Fail> {
+fn a_run_enters_before_its_turn_and_leaves_after(rt: HostRuntime) {
     let told = Notes::new();
-    round_told(&rt, rt.alloc(), &told)?;
+    assert!(rt; round_told(&rt, rt.alloc(), &told).is_ok());
     assert!(rt; told.are(&[12, 13, 14, 21, 22, 23, 12, 13, 14]));
-    Ok(())
 }

@@ -156,24 +156,3 @@ impl<T: Copy> FlatLists<T> {
         })
     }
 }
-
-#[cfg(test)]
-mod tests {
-    use super::*;
-    use std::test::Fail;
-
-    #[test]
-    fn lists_go_in_and_come_back(rt: HostRuntime) -> Result<(), Fail> {
-        let alloc = rt.alloc();
-        let mut lists = FlatLists::<u32>::with_room(alloc, 1, 2)?;
-        lists.push(&[7, 9])?;
-        lists.reserve(1, 1)?;
-        lists.push_joined(&[8], &[6, 5])?;
-        let same = lists.copy(alloc)?;
-        assert_eq!(rt; same.len(), 2);
-        assert_eq!(rt; same.at(0), [7, 9].as_slice());
-        assert_eq!(rt; same.at(1), [8, 6, 5].as_slice());
-        assert_eq!(rt; FlatLists::<u32>::new(alloc).len(), 0);
-        Ok(())
-    }
-}

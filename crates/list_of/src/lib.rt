@@ -103,29 +103,3 @@ impl<T: Copy> ListOf<T> {
         })
     }
 }
-
-#[cfg(test)]
-mod tests {
-    use super::*;
-    use std::test::Fail;
-
-    #[test]
-    fn items_go_in_and_come_back(rt: HostRuntime) -> Result<(), Fail> {
-        let alloc = rt.alloc();
-        let mut list = ListOf::<u32>::new(alloc);
-        list.reserve(1)?;
-        list.push(7)?;
-        list.push(9)?;
-        assert_eq!(rt; list.as_slice(), [7, 9].as_slice());
-        assert_eq!(rt; list.pop(), Some(9));
-        list.push(9)?;
-        let mut other = ListOf::of(list.into_vec());
-        assert_eq!(rt;
-            ListOf::copied_from(alloc, other.as_slice())?.as_slice(),
-            [7, 9].as_slice()
-        );
-        other.clear();
-        assert_eq!(rt; other.pop(), None);
-        Ok(())
-    }
-}

@@ -14,8 +14,6 @@ mod driver;
 mod no_driver;
 mod poll_run;
 mod settling;
-#[cfg(test)]
-mod tests;
 
 pub use block_driver::BlockOn;
 pub use driver::{DriveFailed, Driver};

@@ -1,19 +1,18 @@
 //! A lamp that is off and cannot be on without a step, and one that is on: the race of horizon 0 of each, in a batch.
-ghost use Rattle.std.specs.Prelude.{◌≡◌, ◌∷◌, [], false, length, IfOk};
+ghost use Rattle.std.specs.Prelude.{◌≡◌, ◌∷◌, [], false, length, IfOk, IfSome};
 ghost use Rattle.std.specs.List.{AllByRecursion};
 ghost use Rattle.gt_core.specs.Published.{IsPublished};
 
+use crate::horizons::is_same;
 use crate::lamps::{Ground, form_of, grounded};
 use clause_base::memory::Memory;
 use horizon_rates::{Algorithm, Rates};
 use list_of::ListOf;
 use poll_batch::{BlockOn, Driver, Ends, NoDriver, PollRace, Races, batch_race};
-use race::RaceError;
 use race_end::{LineEnd, Lines, RaceEnd};
-use std::alloc::{AllocGlobal, Global};
+use std::alloc::{AllocError, AllocGlobal, Global};
 use std::random::RandomSource;
 use std::sync::Wait;
-use std::test::Fail;
 use std::thread::Threads;
 use step_encoding::exists::ExistsForm;
 use step_encoding::form::StepForm;
@@ -35,13 +34,13 @@ struct Lamps {
     on: Ground,
 }
 
-fn two_lamps(alloc: Global) -> Result<Lamps, Fail>
-    ensures off { IfOk result (λ lamps. IsPublished lamps.off.task lamps.off.pairs.clauses lamps.off.order) }
-    ensures on { IfOk result (λ lamps. IsPublished lamps.on.task lamps.on.pairs.clauses lamps.on.order) }
+fn two_lamps(alloc: Global) -> Option<Lamps>
+    ensures off { IfSome result (λ lamps. IsPublished lamps.off.task lamps.off.pairs.clauses lamps.off.order) }
+    ensures on { IfSome result (λ lamps. IsPublished lamps.on.task lamps.on.pairs.clauses lamps.on.order) }
 {
     let off = grounded(alloc, false)?;
     let on = grounded(alloc, true)?;
-    Ok(Lamps { off, on })
+    Some(Lamps { off, on })
 }
 
 /// Two lamps with the form of each.
@@ -103,26 +102,48 @@ fn raced<F: StepForm + Sync, D: Driver, H: Threads + Wait + Sync>(
     batch_race(rt, alloc, driver, races, &[0, 1])
 }
 
-/// The ends of the races of the two lamps.
+/// The ends of the races over two forms.
+fn ends_over<D: Driver, H: Threads + Wait + Sync>(
+    rt: &H,
+    alloc: Global,
+    driver: &mut D,
+    forms: &Forms<'_>,
+    backward: bool,
+) -> Result<Ends, Memory>
+    requires off { forms.now.off.task ≡ forms.now.lamps.now.off.task }
+    requires on { forms.now.on.task ≡ forms.now.lamps.now.on.task }
+{
+    raced(rt, alloc, driver, races_of(alloc, forms)?, backward)
+}
+
+/// The ends of the races of two lamps.
+fn ends_for<D: Driver, H: Threads + Wait + Sync>(
+    rt: &H,
+    alloc: Global,
+    driver: &mut D,
+    lamps: &Lamps,
+    backward: bool,
+) -> Result<Ends, Memory>
+    requires off { IsPublished lamps.now.off.task lamps.now.off.pairs.clauses lamps.now.off.order }
+    requires on { IsPublished lamps.now.on.task lamps.now.on.pairs.clauses lamps.now.on.order }
+{
+    let forms = forms_of(alloc, lamps)?;
+    ends_over(rt, alloc, driver, &forms, backward)
+}
+
+/// The ends of the races of a lamp that is off and one that is on; `None` without memory.
 fn ends_of<D: Driver, H: Threads + Wait + Sync>(
     rt: &H,
     alloc: Global,
     driver: &mut D,
     backward: bool,
-) -> Result<Ends, Fail> {
+) -> Option<Ends> {
     let lamps = two_lamps(alloc)?;
-    let forms = forms_of(alloc, &lamps)?;
-    Ok(raced(rt, alloc, driver, races_of(alloc, &forms)?, backward)?)
+    ends_for(rt, alloc, driver, &lamps, backward).ok()
 }
 
-fn blocked<H: Threads + Wait + Sync + RandomSource + AllocGlobal>(
-    rt: &H,
-    backward: bool,
-) -> Result<Ends, Fail> {
-    ends_of(rt, rt.alloc(), &mut BlockOn::new(rt), backward)
-}
-
-fn push_lines(text: &mut String, alloc: Global, lines: &Lines) -> Result<(), Fail> {
+/// Writes what became of each horizon.
+fn push_lines(text: &mut String, alloc: Global, lines: &Lines) -> Result<(), AllocError> {
     for line in lines.as_slice() {
         let word = match line.end {
             LineEnd::Refuted(_) => "refuted",
@@ -138,37 +159,37 @@ fn push_lines(text: &mut String, alloc: Global, lines: &Lines) -> Result<(), Fai
     Ok(())
 }
 
-/// What became of each horizon, and how the race ended.
-fn end_text(alloc: Global, end: &Result<RaceEnd, RaceError>) -> Result<String, Fail> {
-    let mut text = String::new(alloc);
+/// Writes what became of each horizon, and how the race ended.
+fn push_end(text: &mut String, alloc: Global, end: &RaceEnd) -> Result<(), AllocError> {
     match end {
-        Ok(
-            RaceEnd::Plan {
-                horizon,
-                steps: _,
-                lines,
-            },
-        ) => {
-            push_lines(&mut text, alloc, lines)?;
+        RaceEnd::Plan {
+            horizon,
+            steps: _,
+            lines,
+        } => {
+            push_lines(text, alloc, lines)?;
             text.push_str(format!(in alloc; "plan of {horizon} steps\n")?.as_str())?;
         }
-        Ok(RaceEnd::Exhausted { horizon, lines }) => {
-            push_lines(&mut text, alloc, lines)?;
+        RaceEnd::Exhausted { horizon, lines } => {
+            push_lines(text, alloc, lines)?;
             text.push_str(format!(in alloc; "exhausted at horizon {horizon}\n")?.as_str())?;
         }
-        Ok(RaceEnd::Unfinished { lines }) => {
-            push_lines(&mut text, alloc, lines)?;
+        RaceEnd::Unfinished { lines } => {
+            push_lines(text, alloc, lines)?;
             text.push_str("unfinished\n")?;
         }
-        Err(_) => text.push_str("no end\n")?,
     }
-    Ok(text)
+    Ok(())
 }
 
-fn text_of(alloc: Global, ends: Ends) -> Result<String, Fail> {
+/// The ends of races in words, one after the other.
+fn text_of(alloc: Global, ends: &Ends) -> Result<String, AllocError> {
     let mut text = String::new(alloc);
     for end in ends.as_slice() {
-        text.push_str(end_text(alloc, end)?.as_str())?;
+        match end {
+            Ok(end) => push_end(&mut text, alloc, end)?,
+            Err(_) => text.push_str("no end\n")?,
+        }
     }
     Ok(text)
 }
@@ -176,14 +197,38 @@ fn text_of(alloc: Global, ends: Ends) -> Result<String, Fail> {
 const ENDS: &str =
     "horizon 0 refuted conflicts 1\nexhausted at horizon 0\nhorizon 0 plan conflicts 0\nplan of 0 steps\n";
 
+/// Whether the races end as they do one by one.
+fn are_ended(alloc: Global, ends: &Ends) -> bool {
+    match text_of(alloc, ends) {
+        Ok(text) => is_same(text.as_str(), ENDS),
+        Err(_) => false,
+    }
+}
+
+/// Whether the races of the lamps end so with this driver.
+fn end<D: Driver, H: Threads + Wait + Sync>(
+    rt: &H,
+    alloc: Global,
+    driver: &mut D,
+    backward: bool,
+) -> bool {
+    match ends_of(rt, alloc, driver, backward) {
+        Some(ends) => are_ended(alloc, &ends),
+        None => false,
+    }
+}
+
+/// The same over `block_on`.
+fn end_blocked<H: Threads + Wait + Sync + RandomSource + AllocGlobal>(
+    rt: &H,
+    backward: bool,
+) -> bool {
+    end(rt, rt.alloc(), &mut BlockOn::new(rt), backward)
+}
+
 #[test]
-fn ends_are_the_same_for_both_drivers_and_orders(rt: HostRuntime) -> Result<(), Fail> {
-    let alloc = rt.alloc();
-    assert_eq!(rt; text_of(alloc, blocked(&rt, false)?)?.as_str(), ENDS);
-    assert_eq!(rt; text_of(alloc, blocked(&rt, true)?)?.as_str(), ENDS);
-    assert_eq!(rt;
-        text_of(alloc, ends_of(&rt, alloc, &mut NoDriver::new(), false)?)?.as_str(),
-        ENDS
-    );
-    Ok(())
+fn ends_are_the_same_for_both_drivers_and_orders(rt: HostRuntime) {
+    assert!(rt; end_blocked(&rt, false));
+    assert!(rt; end_blocked(&rt, true));
+    assert!(rt; end(&rt, rt.alloc(), &mut NoDriver::new(), false));
 }

@@ -1,25 +1,14 @@
 //! The run of horizon 0 of a lamp that is off and is to be on, settled by polls of one conflict.
 ghost use Rattle.std.specs.Prelude.{◌≤◌};
 
-use crate::lamps::{form_of, grounded};
+use crate::lamps::lamp_run;
 use cdcl_rules::standing::Standing;
 use horizon_run::HorizonRun;
 use poll_run::{BlockOn, Driver, NoDriver, SettleError, settle};
 use solver_pool::Resume;
-use std::alloc::{AllocGlobal, Global};
+use std::alloc::AllocGlobal;
 use std::random::RandomSource;
 use std::sync::Wait;
-use std::test::Fail;
-use step_encoding::form::StepForm;
-
-fn lamp_run(alloc: Global) -> Result<HorizonRun, Fail> {
-    let off = grounded(alloc, false)?;
-    let form = form_of(alloc, &off)?;
-    if form.size(0) > 4_000_000 {
-        return Err("too large")?;
-    }
-    Ok(HorizonRun::new(alloc, &off.task, &form, 0)?)
-}
 
 /// A run that is told of.
 trait Told: Resume {
@@ -33,48 +22,52 @@ impl Told for HorizonRun {
     }
 }
 
-/// How a run stands once it was settled.
+/// How a run stands once it was settled; `None` where it is no new run.
 fn settled<R: Told, D: Driver>(
     driver: &mut D,
     run: R,
     target: u64,
-) -> Result<Result<(Standing, u64), SettleError>, Fail>
+) -> Option<Result<(Standing, u64), SettleError>>
     requires { target ≤ 1000 }
 {
     if run.spoilt() || run.granted() > target {
-        return Err("no new run")?;
+        return None;
     }
     match settle(driver, run, target, 1) {
-        Ok(end) => Ok(Ok(end.told())),
-        Err(error) => Ok(Err(error)),
+        Ok(end) => Some(Ok(end.told())),
+        Err(error) => Some(Err(error)),
     }
+}
+
+/// The same, where there is a run.
+fn settled_by<R: Told, D: Driver>(
+    driver: &mut D,
+    run: Option<R>,
+    target: u64,
+) -> Option<Result<(Standing, u64), SettleError>>
+    requires { target ≤ 1000 }
+{
+    settled(driver, run?, target)
 }
 
 /// The same over `block_on`.
 fn blocked<R: Told, H: Wait + RandomSource + AllocGlobal>(
     rt: &H,
-    run: R,
+    run: Option<R>,
     target: u64,
-) -> Result<Result<(Standing, u64), SettleError>, Fail>
+) -> Option<Result<(Standing, u64), SettleError>>
     requires { target ≤ 1000 }
 {
-    settled(&mut BlockOn::new(rt), run, target)
+    settled_by(&mut BlockOn::new(rt), run, target)
 }
 
 #[test]
-fn polls_settle_the_run_of_a_horizon(rt: HostRuntime) -> Result<(), Fail> {
+fn polls_settle_the_run_of_a_horizon(rt: HostRuntime) {
     let alloc = rt.alloc();
-    assert_eq!(rt;
-        blocked(&rt, lamp_run(alloc)?, 50)?,
-        Ok((Standing::Refuted, 1))
-    );
-    assert_eq!(rt;
-        blocked(&rt, lamp_run(alloc)?, 0)?,
-        Ok((Standing::Going, 0))
-    );
-    assert_eq!(rt;
-        settled(&mut NoDriver::new(), lamp_run(alloc)?, 50)?,
-        Err(SettleError::Driver)
-    );
-    Ok(())
+    let far = blocked(&rt, lamp_run(alloc, 0), 50);
+    assert!(rt; matches!(far, Some(Ok((Standing::Refuted, 1)))));
+    let near = blocked(&rt, lamp_run(alloc, 0), 0);
+    assert!(rt; matches!(near, Some(Ok((Standing::Going, 0)))));
+    let undriven = settled_by(&mut NoDriver::new(), lamp_run(alloc, 0), 50);
+    assert!(rt; matches!(undriven, Some(Err(SettleError::Driver))));
 }

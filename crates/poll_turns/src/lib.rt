@@ -6,7 +6,5 @@
 #![tactic(auto)]
 
 mod in_turns;
-#[cfg(test)]
-mod tests;
 
 pub use in_turns::{TurnsError, drive_in_turns};

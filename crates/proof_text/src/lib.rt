@@ -18,8 +18,6 @@ mod number;
 mod numbers;
 mod proof;
 mod read;
-#[cfg(test)]
-mod tests;
 mod write;
 
 pub use every_log::written;
