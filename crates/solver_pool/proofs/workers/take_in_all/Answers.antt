@@ -11,6 +11,18 @@ take_in_one-requires-clause-worker g c =
     let items : c.loop-worker.workers.items ≡ c.pop.new.self.items ++ w ∷ [] = search rules in
     all_last (HasWorkerPass g.R.Resume) c.pop.new.self.items w (subst (λ (l : List (Worker g.row.R.Denot g.R.Resume)). All (HasWorkerPass g.R.Resume) l) items c.loop-worker.invariant.workers)
 
+pub take_in_one-requires-clause-passes : goal.take_in_one-requires-clause-passes
+take_in_one-requires-clause-passes g c =
+    let w = c.in-Some.worker in
+    let items : c.loop-worker.workers.items ≡ c.pop.new.self.items ++ w ∷ [] = search rules in
+    (c.loop-worker.invariant.pass, all_last (IsWorkerOf g.R.Resume c.args.ring.now) c.pop.new.self.items w (subst (λ (l : List (Worker g.row.R.Denot g.R.Resume)). All (IsWorkerOf g.R.Resume c.args.ring.now) l) items c.loop-worker.invariant.theirs))
+
+pub take_in_one-requires-clause-owns : goal.take_in_one-requires-clause-owns
+take_in_one-requires-clause-owns g c = c.loop-worker.invariant.owns
+
+pub returns-clause-pass : goal.returns-clause-pass
+returns-clause-pass g c = c.loop-worker.invariant.pass
+
 pub loop-worker-preserved : goal.loop-worker-preserved
 loop-worker-preserved g c =
     let w = c.in-Some.worker in
