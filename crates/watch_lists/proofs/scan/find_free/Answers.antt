@@ -1,4 +1,4 @@
-use Rattle.std.proofs.Common.{arith, ◌≡◌, ◌*◌, ◌<◌, ◌≤◌, ℕ, ◌∙◌, ap, not, Bool, true, false, length, get_or, sym, subst}
+use Rattle.std.proofs.Common.{arith, ◌≡◌, ◌*◌, ◌<◌, ◌≤◌, ℕ, ◌∙◌, ap, not, Bool, false, length, get_or, sym, subst}
 use Rattle.std.proofs.lemmas.List.{get_or_read}
 use Rattle.clause_base.specs.Clause.{has_literal}
 use Rattle.watch_lists.specs.Pending.{is_free}
