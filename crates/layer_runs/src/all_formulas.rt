@@ -1,7 +1,7 @@
 //! The formulas of all-steps of two worked tasks under their invariants: how large they are at the horizons 0 to 2, and the clauses
 //! of their chains in one step. What is due, a plain listing by the definition of the clauses wrote.
 
-ghost use Rattle.std.specs.Prelude.{◌≡◌};
+ghost use Rattle.std.specs.Prelude.{◌≡◌, ◌≤◌};
 ghost use Rattle.gt_core.specs.Published.{IsPublished};
 ghost use Rattle.gt_core.specs.Reached.{HoldsWherever};
 
@@ -9,6 +9,7 @@ use crate::clause_line::print_clause;
 use action_order::order::Order;
 use action_order::publish::publish;
 use all_steps::form::AllForm;
+use clause_base::formula::Formula;
 use clause_base::literal::Lit;
 use clause_base::view::View;
 use gt_core::act::Acts;
@@ -54,29 +55,20 @@ fn touches(clause: &View, first: u64, end: u64) -> bool {
     false
 }
 
-/// Prints how large the formulas are.
-fn print_sizes(rt: &(impl Print + AllocGlobal), form: &AllForm) -> io::Result<()> {
-    for n in 0..3 {
-        let size = form.size(n);
-        let Ok(formula) = form.formula(rt.alloc(), n) else {
-            return println!(rt; "no formula");
-        };
-        let (variables, clauses) = (formula.variables(), formula.count());
-        println!(rt; "horizon {n} variables {variables} clauses {clauses} size {size}")?;
-    }
-    Ok(())
-}
-
-/// Prints how many chain variables a step has, and the clauses in which they are.
-fn print_chains(rt: &(impl Print + AllocGlobal), form: &AllForm) -> io::Result<()> {
-    let Ok(formula) = form.formula(rt.alloc(), 1) else {
+/// Prints how large the formula of a horizon is.
+fn print_size<F: StepForm>(rt: &(impl Print + AllocGlobal), form: &F, n: u32) -> io::Result<()>
+    requires { n ≤ 255 }
+{
+    let size = form.size(n);
+    let Ok(formula) = form.formula(rt.alloc(), n) else {
         return println!(rt; "no formula");
     };
-    let z = form.layout(1);
-    let chains = z.chains;
-    println!(rt; "chain variables {chains}")?;
-    let first = u64::from(z.actions) + u64::from(z.conditional);
-    let end = first + u64::from(chains);
+    let (variables, clauses) = (formula.variables(), formula.count());
+    println!(rt; "horizon {n} variables {variables} clauses {clauses} size {size}")
+}
+
+/// Prints the clauses of a formula that have a literal of a variable from one on and below another.
+fn print_touching(rt: &impl Print, formula: &Formula, first: u64, end: u64) -> io::Result<()> {
     for number in 0..formula.count() {
         let clause = formula.clause(number);
         if touches(&clause, first, end) {
@@ -84,6 +76,26 @@ fn print_chains(rt: &(impl Print + AllocGlobal), form: &AllForm) -> io::Result<(
         }
     }
     Ok(())
+}
+
+/// Prints how many chain variables a step has, and the clauses in which they are.
+fn print_chains<F: StepForm>(rt: &(impl Print + AllocGlobal), form: &F) -> io::Result<()> {
+    let Ok(formula) = form.formula(rt.alloc(), 1) else {
+        return println!(rt; "no formula");
+    };
+    let z = form.layout(1);
+    let chains = z.chains;
+    println!(rt; "chain variables {chains}")?;
+    let first = u64::from(z.actions) + u64::from(z.conditional);
+    print_touching(rt, &formula, first, first + u64::from(chains))
+}
+
+/// Prints what there is to print of a form.
+fn print_form<F: StepForm>(rt: &(impl Print + AllocGlobal), form: &F) -> io::Result<()> {
+    for n in 0..3 {
+        print_size(rt, form, n)?;
+    }
+    print_chains(rt, form)
 }
 
 /// Prints what there is to print of a task under known pairs and its order.
@@ -97,11 +109,10 @@ fn print_ordered(
     requires hold { HoldsWherever task.now pairs.now.clauses }
     requires published { IsPublished task.now pairs.now.clauses order.now }
 {
-    let Ok(form) = AllForm::new(rt.alloc(), task, pairs, order) else {
-        return println!(rt; "no memory");
-    };
-    print_sizes(rt, &form)?;
-    print_chains(rt, &form)
+    match AllForm::new(rt.alloc(), task, pairs, order) {
+        Ok(form) => print_form(rt, &form),
+        Err(_) => println!(rt; "no memory"),
+    }
 }
 
 /// Prints what there is to print of a task under known pairs.

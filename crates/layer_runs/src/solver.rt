@@ -130,16 +130,20 @@ fn write_trail(out: &mut Vec<u8>, solver: &Solver<PlainChooser>) -> io::Result<(
     writeln!(out)
 }
 
+/// Writes how a solver stands, and the literals that are true where they are asked for.
+fn write_end(out: &mut Vec<u8>, solver: &Solver<PlainChooser>, with_trail: bool) -> io::Result<()> {
+    write_run(out, solver)?;
+    if with_trail {
+        return write_trail(out, solver);
+    }
+    Ok(())
+}
+
 /// How the run of a text's formula ends, in words.
 fn report(alloc: Global, text: &[u8], conflicts: u32, piece: Option<u32>) -> io::Result<Vec<u8>> {
     let mut out = Vec::new(alloc);
     match solved(alloc, text, conflicts, piece) {
-        Ok(Some(solver)) => {
-            write_run(&mut out, &solver)?;
-            if has_line(b"c trail", text) {
-                write_trail(&mut out, &solver)?;
-            }
-        }
+        Ok(Some(solver)) => write_end(&mut out, &solver, has_line(b"c trail", text))?,
         Ok(None) => writeln!(&mut out, "no formula")?,
         Err(Memory) => writeln!(&mut out, "want of memory")?,
     }
@@ -217,6 +221,20 @@ fn run_piece(
     out.write_all(cut.as_slice())
 }
 
+/// The same in pieces of 1, of 7 and of 64 conflicts.
+fn run_pieces(
+    alloc: Global,
+    text: &[u8],
+    conflicts: u32,
+    whole: &[u8],
+    out: &mut (impl Write + Drop),
+) -> io::Result<()> {
+    for piece in [1, 7, 64] {
+        run_piece(alloc, text, conflicts, piece, whole, out)?;
+    }
+    Ok(())
+}
+
 /// Runs a text's formula in one go and in pieces, and writes how the first ends, and the others where they end otherwise.
 fn run_in_pieces(
     alloc: Global,
@@ -226,9 +244,7 @@ fn run_in_pieces(
 ) -> io::Result<()> {
     let whole = report(alloc, text, conflicts, None)?;
     write_report(whole.as_slice(), has_line(b"c brief", text), out)?;
-    for piece in [1, 7, 64] {
-        run_piece(alloc, text, conflicts, piece, whole.as_slice(), out)?;
-    }
+    run_pieces(alloc, text, conflicts, whole.as_slice(), out)?;
     out.write_all(answer(alloc, text, conflicts)?.as_slice())
 }
 
