@@ -4,8 +4,7 @@ ghost use Rattle.pl_io.specs.Outside.{appended, TakesFront, Rose};
 ghost use Rattle.plan_endings.specs.Ending.{status_of, text_of, IsSmall};
 ghost use Rattle.plan_endings.specs.declared.ending.Ending.{Ending};
 
-use crate::Ending;
-use crate::status::Status;
+use crate::{Ending, Status};
 use pl_io::{Sink, put_all};
 use std::alloc::Global;
 
