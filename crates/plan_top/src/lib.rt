@@ -11,5 +11,6 @@ mod races;
 mod take;
 mod top;
 
-pub use plan_endings::{Ending, File, Kind, Limit, Outcome, Status};
+pub use plan_endings::{Ending, File, Kind, Limit, Outcome};
+pub use plan_status::Status;
 pub use top::run;

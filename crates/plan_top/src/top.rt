@@ -21,7 +21,7 @@ use crate::laws::laws;
 use crate::{Ending, Status};
 use pl_io::{Shelf, Sink};
 use plan_answers::stop::Stop;
-use plan_endings::written::written;
+use plan_status::written::written;
 use poll_batch::Driver;
 use solver_pool::Gate;
 use std::alloc::Global;
