@@ -1,9 +1,9 @@
-use Rattle.std.proofs.Common.{arith, ◌≡◌, ◌==◌, ℕ, ◌+◌, ◌<◌, ◌≤◌, List, Bool, true, ◌&&◌, ◌||◌, ap, sym, ◌∙◌, ◌⊎◌, inl, inr}
+use Rattle.std.proofs.Common.{arith, ◌≡◌, ◌==◌, ℕ, ◌+◌, ◌<◌, ◌≤◌, List, Bool, true, false, ◌&&◌, ◌||◌, ap, sym, ◌∙◌, ◌⊎◌, inl, inr}
 use Rattle.std.specs.Prelude.{nat_lt, nat_le}
-use Rattle.std.proofs.lemmas.Bool.{cases_lt, lt-ltb, ltb-true}
+use Rattle.std.proofs.lemmas.Bool.{cases_lt, lt-ltb, ltb-true, le-ltb}
 use Rattle.std.proofs.lemmas.Bool.Decides.{nat_tests}
 use Rattle.bit_rows.specs.Bits.{row_has}
-use Rattle.gt_core.proofs.Basics.{or_split, or_left, or_right, and_split, and_both, same_test, test_same, same_if}
+use Rattle.gt_core.proofs.Basics.{cases, not_true, or_split, or_left, or_right, and_split, and_both, same_test, test_same, same_if}
 use Rattle.two_invariants.specs.Listed.{is_from}
 
 -- The clauses of rows as a list.
@@ -61,3 +61,68 @@ module _ (V : ℕ → ℕ → Bool) (size : ℕ) (row : List ℕ) (l : ℕ) (eit
       -- the clauses with the row of one more literal
       pub listed_more : (old || is_from row l size a b) ≡ wanted
       listed_more = same_if (old || is_from row l size a b) wanted (λ t. old_wanted (or_split old (is_from row l size a b) t)) found
+
+-- ---- one literal's clauses, from one literal of its row to the next
+
+module _ (row : List ℕ) (l from : ℕ) (low : l ≤ from) where
+  abbrev upto : ℕ → ℕ → Bool
+  upto n y = (nat_le l y && nat_lt y n) && row_has row y
+
+  module _ (m : ℕ) (least : from ≤ m) (has : row_has row m ≡ true) (gap : (j : ℕ) → from ≤ j → j < m → row_has row j ≡ false) where
+    other : (y : ℕ) → (m ≡ y → ⊥) → (m == y) ≡ false
+    other y d = not_true (m == y) (λ t. d (test_same m y t))
+
+    next_upto : (y : ℕ) → upto (m + 1) y ≡ (upto from y || (m == y))
+    next_upto y = by (cases_lt y from) (cases_lt y m) (cases_lt m y)
+      where
+        near : (e t u r q : Bool) → t ≡ true → u ≡ true → q ≡ false → ((e && t) && r) ≡ (((e && u) && r) || q)
+        near e t u r q p s n = grind arith
+
+        between : (e t u r q : Bool) → u ≡ false → r ≡ false → q ≡ false → ((e && t) && r) ≡ (((e && u) && r) || q)
+        between e t u r q p s n = grind arith
+
+        past : (e t u r q : Bool) → t ≡ false → u ≡ false → q ≡ false → ((e && t) && r) ≡ (((e && u) && r) || q)
+        past e t u r q p s n = grind arith
+
+        own : (e t u r q : Bool) → e ≡ true → t ≡ true → r ≡ true → q ≡ true → ((e && t) && r) ≡ (((e && u) && r) || q)
+        own e t u r q d p s n = grind arith
+
+        by : (y < from) ⊎ (from ≤ y) → (y < m) ⊎ (m ≤ y) → (m < y) ⊎ (y ≤ m) → upto (m + 1) y ≡ (upto from y || (m == y))
+        by (inl h) j k = near _ _ _ _ _ (lt-ltb y (m + 1) (omega arith)) (lt-ltb y from h) (other y (λ e. omega arith))
+        by (inr h) (inl j) k = between _ (nat_lt y (m + 1)) _ _ _ (le-ltb y from h) (gap y h j) (other y (λ e. omega arith))
+        by (inr h) (inr j) (inl k) = past _ _ _ _ _ (le-ltb y (m + 1) (omega arith)) (le-ltb y from h) (other y (λ e. omega arith))
+        by (inr h) (inr j) (inr k) =
+            let e : m ≡ y = omega arith in
+            own _ _ (nat_lt y from) _ _ (le_test l y (omega arith)) (lt-ltb y (m + 1) (omega arith)) (ap (row_has row) (sym e) ∙ has) (same_test m y e)
+
+    -- one more clause
+    pub one_listed : (a b : ℕ) (old start : Bool) → old ≡ (start || is_from row l from a b)
+        → ((((l == a) && (m == b)) || ((l == b) && (m == a))) || old) ≡ (start || is_from row l (m + 1) a b)
+    one_listed a b old start was =
+        join _ old start (is_from row l from a b) was
+        ∙ (λ i. start || sym (spread (l == a) (upto from b) (m == b) (l == b) (upto from a) (m == a)) i)
+        ∙ (λ i. start || (((l == a) && sym (next_upto b) i) || ((l == b) && sym (next_upto a) i)))
+      where
+        join : (t old start f : Bool) → old ≡ (start || f) → (t || old) ≡ (start || (f || t))
+        join t old start f e = grind arith
+
+        spread : (p x q s y t : Bool) → ((p && (x || q)) || (s && (y || t))) ≡ (((p && x) || (s && y)) || ((p && q) || (s && t)))
+        spread p x q s y t = grind arith
+
+  -- the last was looked at
+  pub all_listed : (size a b : ℕ) → ((m : ℕ) → row_has row m ≡ true → m < size) → ((k : ℕ) → from ≤ k → row_has row k ≡ false) → is_from row l from a b ≡ is_from row l size a b
+  all_listed size a b within none = λ i. ((l == a) && all_upto b i) || ((l == b) && all_upto a i)
+    where
+      off : (e t u r : Bool) → r ≡ false → ((e && t) && r) ≡ ((e && u) && r)
+      off e t u r f = grind arith
+
+      both : (e t u r : Bool) → t ≡ true → u ≡ true → ((e && t) && r) ≡ ((e && u) && r)
+      both e t u r p q = grind arith
+
+      all_upto : (y : ℕ) → upto from y ≡ upto size y
+      all_upto y = by (cases_lt y from) (cases (row_has row y))
+        where
+          by : (y < from) ⊎ (from ≤ y) → (row_has row y ≡ true) ⊎ (row_has row y ≡ false) → upto from y ≡ upto size y
+          by (inr h) c = off _ (nat_lt y from) (nat_lt y size) _ (none y h)
+          by (inl h) (inr f) = off _ (nat_lt y from) (nat_lt y size) _ f
+          by (inl h) (inl t) = both _ _ _ _ (lt-ltb y from h) (lt-ltb y size (within y t))
