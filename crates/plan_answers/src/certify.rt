@@ -1,11 +1,11 @@
 //! What files come to for the commands on certificates.
 ghost use Rattle.std.specs.Prelude.{◌≡◌, ◌≤◌, length, IfOk};
-ghost use Rattle.pd_model.specs.WellFormed.{IsWellFormed};
-ghost use Rattle.certificates.specs.Certificate.{IsSpelled};
 ghost use Rattle.plan_answers.specs.Limits.{most_bytes};
-ghost use Rattle.plan_answers.specs.Tasks.{OnceRead, OnceGrounded};
-ghost use Rattle.plan_answers.specs.Answers.{AnswersProve, AnswersVerify, RefusesProof, ending_of_run, ending_of_check};
+ghost use Rattle.certificates.specs.Certificate.{IsSpelled};
 ghost use Rattle.plan_answers.specs.Ends.{EndsAs, StopsBy};
+ghost use Rattle.pd_model.specs.WellFormed.{IsWellFormed};
+ghost use Rattle.plan_answers.specs.Answers.{AnswersProve, AnswersVerify, RefusesProof, ending_of_run, ending_of_check};
+ghost use Rattle.plan_answers.specs.Tasks.{OnceRead, OnceGrounded};
 
 use crate::ground::ground_task;
 use crate::ready::read_ready;

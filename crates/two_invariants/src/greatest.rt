@@ -4,12 +4,12 @@
 ghost use Rattle.std.specs.Prelude.{◌≡◌, ℕ, ◌<◌, ◌==◌, true, IfOk};
 ghost use Rattle.std.specs.List.{AllByRecursion, list_any};
 ghost use Rattle.bit_rows.specs.Bits.{row_has};
-ghost use Rattle.gt_core.specs.Literal.{opposite};
-ghost use Rattle.gt_core.specs.Reached.{HoldsWherever};
-ghost use Rattle.known_literals.specs.Rows.{clause_in, AreRows};
-ghost use Rattle.known_literals.specs.Renewed.{asks};
 ghost use Rattle.two_invariants.specs.Closed.{AreInvariants};
+ghost use Rattle.known_literals.specs.Rows.{clause_in, AreRows};
+ghost use Rattle.gt_core.specs.Reached.{HoldsWherever};
 ghost use Rattle.two_invariants.specs.Greatest.{AreGreatest};
+ghost use Rattle.known_literals.specs.Renewed.{asks};
+ghost use Rattle.gt_core.specs.Literal.{opposite};
 
 use crate::list::list_clauses;
 use bit_rows::row::BitRow;
