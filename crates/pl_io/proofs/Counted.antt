@@ -22,3 +22,5 @@ Notes-keeps old new name other (inr more) = omega (arith, ap (fault_count other)
 -- a fault that is written down raises the count for its name
 pub FaultRose-noted : (old new : List (List ℕ)) (name : List ℕ) → new ≡ old ++ name ∷ [] → FaultRose name old new
 FaultRose-noted old new name noted = omega (arith, counted-once name old, ap (fault_count name) noted)
+
+pub ruleset counting = (Notes-keeps, FaultRose-noted)

@@ -111,6 +111,7 @@ impl<'a, H: Files> Shelf for FileShelf<'a, H> {
 
     ghost failed = { λ shelf. shelf.failed };
 
+    #[tactic(auto, using(crate::proofs::Counted::counting))]
     fn take(&mut self, name: &str, most: usize, into: &mut Vec<u8>) -> Result<Taken, TakeError> {
         // The room for a fault is taken before the file is read.
         let entry = Bytes::copied_from(self.alloc, name.as_bytes())?;

@@ -122,6 +122,7 @@ impl Shelf for MemShelf {
 
     ghost failed = { λ shelf. shelf.failed };
 
+    #[tactic(auto, using(crate::proofs::Counted::counting))]
     fn take(&mut self, name: &str, most: usize, into: &mut Vec<u8>) -> Result<Taken, TakeError>
         // As of every shelf.
         ensures told { bytes_at self.new.files ≡ bytes_at self.old.files }
