@@ -4,7 +4,7 @@ ghost use Rattle.std.specs.List.{AllByRecursion, AllZip};
 ghost use Rattle.plan_endings.specs.Ending.{batch_of};
 ghost use Rattle.plan_endings.specs.declared.ending.Ending.{Ending};
 ghost use Rattle.plan_top.specs.Parts.{IsShort, IsSound, CameTo, AnswersRun, AnswersBatch, open_in, woven};
-ghost use Rattle.plan_answers.specs.Ends.{EndsAs, OnlyMemory};
+ghost use Rattle.plan_files.specs.Ends.{EndsAs, OnlyMemory};
 
 use crate::Ending;
 use crate::first::take_first;
@@ -13,8 +13,8 @@ use crate::races::raced_all;
 use horizon_rates::Settings;
 use pl_io::Bytes;
 use plan_answers::reported::reported;
-use plan_answers::stop::Stop;
 use plan_endings::Growing;
+use plan_files::stop::Stop;
 use plan_words::Turns;
 use poll_batch::Driver;
 use race::RaceError;

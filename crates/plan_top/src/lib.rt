@@ -8,7 +8,6 @@ mod first;
 mod laws;
 mod parts;
 mod races;
-mod take;
 mod top;
 
 pub use plan_endings::{Ending, File, Kind, Limit, Outcome, Status};
