@@ -6,5 +6,6 @@
 //! ```
 #![tactic(auto)]
 
+pub mod first;
 pub mod stop;
 pub mod take;

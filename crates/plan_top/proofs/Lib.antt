@@ -5,8 +5,5 @@ pub mod Claims
 pub mod Complete
 mod OneTask
 mod OneReport
-pub mod Lists
-pub mod RaceEnds
-pub mod Turns
 pub mod Batches
 pub mod Promises

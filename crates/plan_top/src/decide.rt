@@ -6,15 +6,15 @@ ghost use Rattle.plan_words.specs.Requested.{requested, command_named};
 ghost use Rattle.plan_words.specs.Seen.{IsSized, files_of, seen};
 ghost use Rattle.plan_files.specs.Files.{NotesAmong};
 ghost use Rattle.plan_top.specs.Causes.{Comes, names_in};
-ghost use Rattle.plan_top.specs.Parts.{IsBatch};
+ghost use Rattle.plan_batches.specs.Parts.{IsBatch};
 ghost use Rattle.plan_files.specs.Ends.{EndsAs};
 
 use crate::Ending;
-use crate::batch::answer_batch;
-use crate::first::take_first;
 use horizon_rates::Settings;
 use pl_io::{Bytes, Shelf};
 use plan_answers::answer::answer;
+use plan_batches::batch::answer_batch;
+use plan_files::first::take_first;
 use plan_files::stop::Stop;
 use plan_files::take::take_all;
 use plan_words::{Request, Turns, read_words};

@@ -2,12 +2,8 @@
 //! exit status.
 #![tactic(auto)]
 
-mod batch;
 mod decide;
-mod first;
 mod laws;
-mod parts;
-mod races;
 mod top;
 
 pub use plan_endings::{Ending, File, Kind, Limit, Outcome, Status};

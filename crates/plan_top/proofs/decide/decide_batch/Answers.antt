@@ -3,7 +3,7 @@ use Rattle.plan_words.specs.Seen.{seen, files_of}
 use Rattle.plan_files.specs.Limits.{file_at}
 use Rattle.plan_files.specs.Files.{AreTakenOrLong, FaultsFrom}
 use Rattle.plan_top.specs.Causes.{Comes}
-use Rattle.plan_top.specs.Parts.{AnswersBatch}
+use Rattle.plan_batches.specs.Parts.{AnswersBatch}
 use Rattle.plan_top.proofs.Batches.{files_fit, request_comes, request_unread}
 use Rattle.plan_files.proofs.Stopped.{EndsAs-handed, EndsAs-weaker}
 use Rattle.plan_top.proofs.decide.decide_batch.Goals as goal
