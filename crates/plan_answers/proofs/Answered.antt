@@ -16,7 +16,7 @@ use Rattle.plan_files.specs.declared.stop.Stop.{Stop}
 use Rattle.plan_endings.specs.declared.ending.Ending.{Ending}
 use Rattle.plan_files.specs.Ends.{EndsBy, EndsAs}
 use Rattle.plan_answers.specs.Tasks.{AreTask, IsReady, StopsTask, RefusesTask, OnceRead, not_read, OnceGrounded, not_grounded, grounded}
-use Rattle.plan_answers.specs.Raced.{OnceRaced, too_large, TellsTooLarge}
+use Rattle.plan_races.specs.Raced.{OnceRaced, too_large, TellsTooLarge}
 use Rattle.plan_files.proofs.Stopped.{EndsAs-handed}
 
 -- ---- lists of so many files

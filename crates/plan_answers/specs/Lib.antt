@@ -1,5 +1,3 @@
-pub mod Stepping
 pub mod Tasks
-pub mod Raced
 pub mod Generated
 pub mod Answers

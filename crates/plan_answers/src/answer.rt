@@ -12,7 +12,6 @@ ghost use Rattle.plan_files.specs.Ends.{EndsAs, StopsBy};
 
 use crate::certify::{answer_prove, answer_verify};
 use crate::generated::answer_gen;
-use crate::raced::raced;
 use crate::ready::read_ready;
 use crate::reported::reported;
 use crate::task::read_task;
@@ -23,6 +22,7 @@ use pd_plan::{PlanFault, read_plan};
 use pl_io::Bytes;
 use plan_endings::{Ending, File, Kind};
 use plan_files::stop::{Stop, refuse};
+use plan_races::raced::raced;
 use plan_words::{Request, Stepping};
 use solver_pool::Gate;
 use std::alloc::Global;

@@ -7,7 +7,6 @@ ghost use Rattle.plan_answers.specs.Tasks.{OnceGrounded};
 ghost use Rattle.plan_answers.specs.Generated.{AnswersGenerated, RacesGenerated, kind_text, generated_line, generated_report};
 ghost use Rattle.plan_files.specs.Ends.{EndsAs};
 
-use crate::raced::{outcome, raced};
 use crate::ready::read_ready;
 use horizon_rates::Settings;
 use pd_model::Memory;
@@ -15,6 +14,7 @@ use pl_io::Bytes;
 use plan_endings::Ending;
 use plan_files::stop::Stop;
 use plan_gen::{Kind, Made, generate};
+use plan_races::raced::{outcome, raced};
 use plan_report::summary_text;
 use plan_words::{Show, Stepping};
 use race_end::RaceEnd;

@@ -3,16 +3,16 @@ ghost use Rattle.std.specs.Prelude.{◌≡◌, ◌≤◌, length, IfOk};
 ghost use Rattle.race_end.specs.Ends.{end_view, lines_in, conflicts_in};
 ghost use Rattle.plan_report.specs.Report.{report_of};
 ghost use Rattle.plan_report.specs.Laws.{HasActionsBelow, IsSmall};
-ghost use Rattle.plan_answers.specs.Raced.{outcome_of};
+ghost use Rattle.plan_races.specs.Raced.{outcome_of};
 ghost use Rattle.plan_endings.specs.declared.ending.Ending.{Ending};
 ghost use Rattle.plan_files.specs.Ends.{OnlyMemory};
 
-use crate::raced::outcome;
 use crate::ready::Ready;
 use horizon_rates::Settings;
 use pl_io::Bytes;
 use plan_endings::Ending;
 use plan_files::stop::Stop;
+use plan_races::raced::outcome;
 use plan_report::report_text;
 use race_end::RaceEnd;
 use std::alloc::Global;

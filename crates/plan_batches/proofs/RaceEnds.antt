@@ -19,11 +19,11 @@ use Rattle.race.specs.declared.error.RaceError.TheVariants as errors
 use Rattle.poll_race.specs.View.{RaceView, Gives}
 use Rattle.race.specs.Lines.{AreLines, EachRefuted}
 use Rattle.race.specs.Ends.{WherePlanned, AreActions, AreStepsOf, SumsWithin}
-use Rattle.plan_answers.specs.Raced.{input_of, ArePlan}
+use Rattle.plan_races.specs.Raced.{input_of, ArePlan}
 use Rattle.plan_batches.specs.Parts.{IsRaceOf, CameTo}
 use Rattle.plan_batches.specs.declared.parts.Run.{Run}
 use Rattle.plan_batches.proofs.Lists.{zip_both}
-use Rattle.plan_answers.proofs.RaceEnds.{comes_to, too_large_to}
+use Rattle.plan_races.proofs.RaceEnds.{comes_to, too_large_to}
 
 -- What the polled race of a run comes to, over a form with the input, the plans and the task of one of exists-steps.
 module _ (g : Ghosts OrderedTask) (inputs : (form : OrderedTask) (settings : Settings) → race_input g form settings ≡ input_of chain_places form settings) (plans : g.is_plan ≡ ArePlan chain_places IsStepPlan)

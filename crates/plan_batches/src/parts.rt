@@ -10,11 +10,11 @@ ghost use Rattle.plan_endings.specs.declared.ending.Ending.{Ending};
 
 use pd_sexp::Tree;
 use pl_io::Bytes;
-use plan_answers::raced::{Known, known_of};
 use plan_answers::ready::{Ready, ready_with};
 use plan_answers::task::{Reading, reading_of};
 use plan_endings::{Ending, File};
 use plan_files::stop::Stop;
+use plan_races::raced::{Known, known_of};
 use std::alloc::Global;
 use std::thread::Threads;
 

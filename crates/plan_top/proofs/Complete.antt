@@ -39,7 +39,7 @@ use Rattle.certificates.specs.declared.prove.Proved.TheVariants as proved
 use Rattle.certificates.specs.declared.verify.Judged.{Judged}
 use Rattle.certificates.specs.declared.verify.Judged.TheVariants as judged
 use Rattle.plan_answers.specs.Tasks.{AreTask, RefusesTask, IsTreeFault, domain_tree, problem_tree, no_task, OnceRead, not_read, read, refused, past, OnceGrounded, not_grounded, grounded, IsOver}
-use Rattle.plan_answers.specs.Raced.{too_large, ended, outcome_of}
+use Rattle.plan_races.specs.Raced.{too_large, ended, outcome_of}
 use Rattle.plan_answers.specs.Generated.{AnswersGenerated, RacesGenerated, generated_report}
 use Rattle.plan_answers.specs.Answers.{OfTwo, OfThree, Decides, AnswersPlan, AnswersGround, AnswersOrder, AnswersCheck, AnswersProve, not_run, run, AnswersVerify, unfit, beyond, spelled, not_checked, checked, ending_of_run, ending_of_check, ending_of}
 use Rattle.plan_top.specs.Causes.{ComesFor, stopped, decided, ArePartsOf, Comes, no_request, of_one, unread, in_parts}

@@ -30,8 +30,8 @@ use Rattle.certificates.specs.Known.{IsOrdered, form_of, formula_at}
 use Rattle.plan_top.specs.Laws.{Laws}
 use Rattle.plan_words.specs.declared.request.Stepping.{Stepping}
 use Rattle.plan_words.specs.declared.request.Stepping.TheVariants.{Exists}
-use Rattle.plan_answers.specs.Stepping.{places_by, is_plan_by}
-use Rattle.plan_answers.specs.Raced.{input_of, IsTooLarge, ComesTo, OnceRaced, too_large, ended, outcome_of}
+use Rattle.plan_races.specs.Stepping.{places_by, is_plan_by}
+use Rattle.plan_races.specs.Raced.{input_of, IsTooLarge, ComesTo, OnceRaced, too_large, ended, outcome_of}
 use Rattle.plan_answers.specs.Generated.{RacesGenerated, generated_line, generated_report}
 use Rattle.plan_answers.specs.Answers.{Decides, AnswersPlan}
 use Rattle.plan_top.specs.Causes.{HasRead, ComesFor, stopped, decided, ArePartsOf, Comes}

@@ -1,8 +1,8 @@
 //! The race on a ground task.
 ghost use Rattle.std.specs.Prelude.{◌≡◌, IfOk};
 ghost use Rattle.race_end.specs.Ends.{end_view};
-ghost use Rattle.plan_answers.specs.Stepping.{places_by, is_plan_by};
-ghost use Rattle.plan_answers.specs.Raced.{IsKnown, ComesTo, TellsTooLarge, outcome_of};
+ghost use Rattle.plan_races.specs.Stepping.{places_by, is_plan_by};
+ghost use Rattle.plan_races.specs.Raced.{IsKnown, ComesTo, TellsTooLarge, outcome_of};
 ghost use Rattle.plan_files.specs.Ends.{StopsBy, OnlyMemory};
 
 use action_order::order::Order;
@@ -25,7 +25,7 @@ use step_encoding::placed::{Placed, Placing};
 use two_invariants::find;
 
 /// What the race on a ground task comes to, for plans in steps of a kind.
-pub(crate) fn raced<H: Threads + Wait + Sync, G: Gate>(
+pub fn raced<H: Threads + Wait + Sync, G: Gate>(
     rt: &H,
     alloc: Global,
     steps: Stepping,
@@ -89,7 +89,7 @@ fn raced_in<P: Placing + Sync, H: Threads + Wait + Sync, G: Gate>(
 }
 
 /// How an end is told.
-pub(crate) fn outcome(end: &RaceEnd) -> Outcome
+pub fn outcome(end: &RaceEnd) -> Outcome
     ensures { result ≡ outcome_of (end_view end.now) }
 {
     match end {

@@ -10,8 +10,8 @@ use Rattle.race.specs.Race as stage
 use Rattle.race.specs.Lines.{AreLines, EachRefuted}
 use Rattle.race.specs.Ends.{WherePlanned, AreActions, AreStepsOf, SumsWithin}
 use Rattle.certificates.specs.Known.{form_of, formula_at}
-use Rattle.plan_answers.specs.Raced.{input_of, ArePlan, ComesTo, IsKnown, IsTooLarge}
-use Rattle.plan_answers.specs.declared.raced.Known.{Known}
+use Rattle.plan_races.specs.Raced.{input_of, ArePlan, ComesTo, IsKnown, IsTooLarge}
+use Rattle.plan_races.specs.declared.raced.Known.{Known}
 
 module _ (places : Task → List (List ℕ) → List (List ℕ × ℕ)) (is_plan : Task → List ℕ → (ℕ → ℕ → Bool) → ℕ → Type 0) (task : Task) (known : Known) (so : IsKnown task known) (form : OrderedTask)
     (same : form ≡ form_of task known.pairs.clauses known.order) (settings : Settings) where

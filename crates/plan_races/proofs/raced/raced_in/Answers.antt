@@ -1,8 +1,8 @@
 use Rattle.std.proofs.Common.{◌≡◌, ◌∙◌, ℕ, Err, refl, ap}
 use Rattle.step_laws.specs.Form.{OrderedTask}
 use Rattle.certificates.specs.Known.{form_of}
-use Rattle.plan_answers.proofs.RaceEnds.{comes_to, too_large_to}
-use Rattle.plan_answers.proofs.raced.raced_in.Goals as goal
+use Rattle.plan_races.proofs.RaceEnds.{comes_to, too_large_to}
+use Rattle.plan_races.proofs.raced.raced_in.Goals as goal
 
 pub returns-in-Ok-clause-ended : goal.returns-in-Ok-clause-ended
 returns-in-Ok-clause-ended g c =
