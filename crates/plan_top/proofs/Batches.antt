@@ -1,5 +1,5 @@
 -- The parts of a batch: from its files to an ending for each problem.
-use Rattle.std.proofs.Common.{◌≡◌, ◌≤◌, ◌<◌, ℕ, ◌+◌, Bool, true, false, List, [], ◌∷◌, ◌++◌, length, Option, Some, None, refl, sym, subst, arith, inl, inr}
+use Rattle.std.proofs.Common.{◌≡◌, ◌≤◌, ◌<◌, ℕ, ◌+◌, Bool, true, false, List, [], ◌∷◌, length, Option, Some, None, refl, sym, subst, arith, inl, inr}
 use Rattle.std.specs.Prelude.{IsTrue, IfSome}
 use Rattle.std.specs.List.{AllByRecursion, AllZip}
 use Rattle.horizon_rates.specs.declared.settings.Settings.{Settings}
@@ -12,12 +12,8 @@ use Rattle.plan_endings.specs.declared.ending.File.{File}
 use Rattle.plan_endings.specs.declared.ending.File.TheVariants.{Domain, Problem}
 use Rattle.plan_files.specs.Limits.{most_of, most_bytes, file_at}
 use Rattle.plan_files.specs.Files.{FaultsFrom, IsTaken, IsTooLong, IsTakenOrLong, AreTakenOrLong}
-use Rattle.plan_answers.specs.Tasks.{grounded}
 use Rattle.plan_top.specs.Causes.{HasRead, ComesFor, stopped, ArePartsOf, Comes, unread, in_parts, is_answer}
-use Rattle.plan_batches.specs.Parts.{IsBatch, IsShort, AnswersPart, AnswersBatch, IsRunOf, IsPart, IsSound, ArePrepared, AnswersRun, open_in, woven}
-use Rattle.plan_batches.specs.declared.parts.Part.{Part}
-use Rattle.plan_batches.specs.declared.parts.Part.TheVariants as parts
-use Rattle.plan_batches.specs.declared.parts.Run.{Run}
+use Rattle.plan_batches.specs.Parts.{IsBatch, IsShort, AnswersPart, AnswersBatch}
 use Rattle.plan_top.proofs.Complete.{batch_most}
 use Rattle.plan_files.proofs.Taking.{taken_fits}
 use Rattle.plan_top.proofs.Told.{decides_answer, taken_comes}
