@@ -1,3 +1,1 @@
-pub mod Stopped
 pub mod Answered
-pub mod RaceEnds

@@ -1,0 +1,4 @@
+mod Lists
+mod RaceEnds
+mod Turns
+mod Prepared
