@@ -10,7 +10,7 @@ use Rattle.clause_base.specs.Repeats.{Repeats, repeated, variables_of}
 use Rattle.clause_base.specs.Joined.{joined, IsJoined}
 use Rattle.clause_base.specs.declared.memory.Memory.{Memory}
 use Rattle.clause_base.proofs.PieceLemmas.{holds_at}
-use Rattle.clause_base.proofs.RepeatLemmas.{get_right}
+use Rattle.clause_base.proofs.RepeatLemmas.{get_left, get_right}
 
 -- one more clause at the end
 pub joined_more : (told : List (List ℕ)) (part : Repeats) (after : List (List ℕ)) (clause : List ℕ) → joined told part (after ++ clause ∷ []) ≡ joined told part after ++ clause ∷ []
@@ -70,10 +70,21 @@ repeat_is name variables told old after part now none t r v te t0 re r0 empty =
     ∙ ap (λ (x : List (List ℕ)). let f : Cnf = record { name = name; variables = variables; clauses = x ++ repeated part } in f) (sym (joined_only told old after (sym te ∙ t0) (sym re ∙ r0)))
     ∙ ap (λ (f : Cnf). let g : Cnf = record f { clauses = f.clauses ++ repeated part } in g) v
 
+-- a clause before the repeated ones
+pub told_at : (told rest : List (List ℕ)) (number : ℕ) (c : List ℕ) → slice_get told number ≡ Some c → slice_get (told ++ rest) number ≡ Some c
+told_at told rest number c at = get_left told rest number (slice_get_within told number c at) ∙ at
+
+-- a repeated one
+pub repeated_at : (told rep after : List (List ℕ)) (number t : ℕ) (c : List ℕ) → t ≡ length told → t ≤ number → slice_get rep (number - t) ≡ Some c → slice_get (told ++ (rep ++ after)) number ≡ Some c
+repeated_at told rep after number t c a h at = get_right told (rep ++ after) number (number - t) (omega arith) ∙ told_at rep after (number - t) c at
+
 -- a clause after the repeated ones
 pub after_at : (told rep after : List (List ℕ)) (number t k : ℕ) (c : List ℕ) → t ≡ length told → k ≡ length rep → t ≤ number → k ≤ number - t → slice_get after (number - t - k) ≡ Some c → slice_get (told ++ (rep ++ after)) number ≡ Some c
 after_at told rep after number t k c a b h l at =
     get_right told (rep ++ after) number (number - t) (omega arith) ∙ get_right rep after (number - t) (number - t - k) (omega arith) ∙ at
+
+pub value_at : (name variables : ℕ) (clauses : List (List ℕ)) (now : Cnf) (number : ℕ) (c : List ℕ) → record { name = name; variables = variables; clauses = clauses } ≡ now → slice_get clauses number ≡ Some c → slice_get now.clauses number ≡ Some c
+value_at name variables clauses now number c v e = subst (λ (f : Cnf). slice_get f.clauses number ≡ Some c) v e
 
 pub below_at : (name variables : ℕ) (clauses : List (List ℕ)) (now : Cnf) (number : ℕ) (c : List ℕ) → record { name = name; variables = variables; clauses = clauses } ≡ now → All (HasVariablesBelow variables) clauses → slice_get clauses number ≡ Some c → HasVariablesBelow now.variables c
 below_at name variables clauses now number c v a e = subst (λ (f : Cnf). HasVariablesBelow f.variables c) v (holds_at (HasVariablesBelow variables) clauses number c a e)

@@ -16,3 +16,9 @@ pub put_one-requires-clause-sound : goal.put_one-requires-clause-sound
 put_one-requires-clause-sound g c =
     let whole : c.loop-job.yielded ++ c.in-Some.job ∷ c.next.new.self.rest.items ≡ c.args.jobs = search rules in
     still_sound g.R.Resume c.args.jobs c.loop-job.yielded c.next.new.self.rest.items c.in-Some.job whole c.requires.sound
+
+pub put_one-requires-clause-owner : goal.put_one-requires-clause-owner
+put_one-requires-clause-owner g c = c.loop-job.invariant.owner
+
+pub returns-clause-owner : goal.returns-clause-owner
+returns-clause-owner g c = c.loop-job.invariant.owner
