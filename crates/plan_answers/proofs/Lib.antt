@@ -1,1 +1,3 @@
+pub mod Stopped
 pub mod Answered
+pub mod RaceEnds

@@ -24,10 +24,10 @@ use Rattle.certificates.specs.declared.verify.Judged.{Judged}
 use Rattle.certificates.specs.declared.verify.Judged.TheVariants as judged
 use Rattle.clause_base.specs.declared.log.Entry.{Entry}
 use Rattle.proof_text.specs.Place.{IsUnfitAt}
-use Rattle.plan_races.specs.Stepping.{places_by, is_plan_by}
+use Rattle.plan_answers.specs.Stepping.{places_by, is_plan_by}
 use Rattle.plan_answers.specs.Tasks.{OnceRead, OnceGrounded, TellsOver, IsReady}
 use Rattle.plan_endings.specs.declared.ending.File.TheVariants.{Plan, Proof}
-use Rattle.plan_races.specs.Raced.{OnceRaced}
+use Rattle.plan_answers.specs.Raced.{OnceRaced}
 use Rattle.plan_answers.specs.Generated.{AnswersGenerated}
 use Rattle.plan_endings.specs.declared.ending.Kind.TheVariants.{Syntax, Unknown, Arity, Mistyped}
 use Rattle.plan_endings.specs.declared.ending.Ending.{Ending}

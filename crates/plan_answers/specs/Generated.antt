@@ -13,7 +13,7 @@ use Rattle.plan_words.specs.declared.request.Show.TheVariants as shows
 use Rattle.plan_answers.specs.Tasks.{OnceGrounded}
 use Rattle.gt_core.specs.Step.{IsStepPlan}
 use Rattle.step_clauses.specs.Variables.{chain_places}
-use Rattle.plan_races.specs.Raced.{OnceRaced}
+use Rattle.plan_answers.specs.Raced.{OnceRaced}
 use Rattle.plan_endings.specs.declared.ending.Ending.{Ending}
 use Rattle.plan_endings.specs.declared.ending.Ending.TheVariants.{Listing}
 

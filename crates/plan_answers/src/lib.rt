@@ -8,13 +8,15 @@
 //! ```
 //!
 //! A caller that runs several races side by side reads and grounds each task by [`ready::ready_with`], finds what is known of it by
-//! `known_of` of plan_races, and tells of its race by [`reported::reported`].
+//! [`raced::known_of`], and tells of its race by [`reported::reported`].
 #![tactic(auto)]
 
 pub mod answer;
 mod certify;
 mod generated;
 mod ground;
+pub mod raced;
 pub mod ready;
 pub mod reported;
+pub mod stop;
 pub mod task;

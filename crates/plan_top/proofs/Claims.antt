@@ -36,9 +36,9 @@ use Rattle.certificates.specs.Known.{IsOrdered, form_of, choice_at, formula_at}
 use Rattle.plan_top.specs.Laws.{Laws}
 use Rattle.plan_words.specs.declared.request.Stepping.{Stepping}
 use Rattle.plan_words.specs.declared.request.Stepping.TheVariants.{Exists, All}
-use Rattle.plan_races.specs.Stepping.{places_by, is_plan_by, bars_by}
+use Rattle.plan_answers.specs.Stepping.{places_by, is_plan_by, bars_by}
 use Rattle.plan_answers.specs.Tasks.{IsReady}
-use Rattle.plan_races.specs.Raced.{input_of, ComesTo}
+use Rattle.plan_answers.specs.Raced.{input_of, ComesTo}
 use Rattle.plan_top.specs.Headline.{OfGrounded, HasStepPlan, PlanRuns, HasAtLeast, NoStepPlan, NoPlan, IsSo, LineIsSo, standing_of, conflicts_of, line_words, SpendsAll}
 
 -- ---- lines and the words in them

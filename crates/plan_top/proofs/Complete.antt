@@ -28,8 +28,8 @@ use Rattle.plan_endings.specs.declared.ending.Ending.{Ending}
 use Rattle.plan_endings.specs.declared.ending.Ending.TheVariants.{Report, TooLarge}
 use Rattle.plan_endings.specs.declared.ending.File.{File}
 use Rattle.plan_endings.specs.declared.ending.File.TheVariants.{Domain, Problem}
-use Rattle.plan_files.specs.Limits.{most_bytes, AreShort, file_at, most_of}
-use Rattle.plan_files.specs.Files.{StopsFrom, FaultsFrom, RoseAmong}
+use Rattle.plan_answers.specs.Limits.{most_bytes, AreShort, file_at, most_of}
+use Rattle.plan_top.specs.Files.{StopsFrom, FaultsFrom, RoseAmong}
 use Rattle.clause_base.specs.declared.log.Entry.{Entry}
 use Rattle.proof_text.specs.Place.{IsUnfitAt}
 use Rattle.proof_text.specs.Laws.{TextsAreFit}
@@ -39,7 +39,7 @@ use Rattle.certificates.specs.declared.prove.Proved.TheVariants as proved
 use Rattle.certificates.specs.declared.verify.Judged.{Judged}
 use Rattle.certificates.specs.declared.verify.Judged.TheVariants as judged
 use Rattle.plan_answers.specs.Tasks.{AreTask, RefusesTask, IsTreeFault, domain_tree, problem_tree, no_task, OnceRead, not_read, read, refused, past, OnceGrounded, not_grounded, grounded, IsOver}
-use Rattle.plan_races.specs.Raced.{too_large, ended, outcome_of}
+use Rattle.plan_answers.specs.Raced.{too_large, ended, outcome_of}
 use Rattle.plan_answers.specs.Generated.{AnswersGenerated, RacesGenerated, generated_report}
 use Rattle.plan_answers.specs.Answers.{OfTwo, OfThree, Decides, AnswersPlan, AnswersGround, AnswersOrder, AnswersCheck, AnswersProve, not_run, run, AnswersVerify, unfit, beyond, spelled, not_checked, checked, ending_of_run, ending_of_check, ending_of}
 use Rattle.plan_top.specs.Causes.{ComesFor, stopped, decided, ArePartsOf, Comes, no_request, of_one, unread, in_parts}

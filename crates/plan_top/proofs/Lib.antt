@@ -1,3 +1,4 @@
+pub mod Taking
 pub mod Verdicts
 pub mod Told
 pub mod Reports
@@ -5,5 +6,8 @@ pub mod Claims
 pub mod Complete
 mod OneTask
 mod OneReport
+pub mod Lists
+pub mod RaceEnds
+pub mod Turns
 pub mod Batches
 pub mod Promises

@@ -23,15 +23,15 @@ use Rattle.plan_words.specs.declared.request.Show.{Show}
 use Rattle.plan_words.specs.declared.request.Show.TheVariants as shows
 use Rattle.plan_endings.specs.declared.ending.Ending.{Ending}
 use Rattle.plan_endings.specs.declared.ending.Ending.TheVariants.{Report, TooLong, TooLarge, ReadFault}
-use Rattle.plan_files.specs.Limits.{most_of, most_bytes, file_at}
-use Rattle.plan_files.specs.Files.{Fits, FitFrom, OfTold, Stops, StopsFrom}
+use Rattle.plan_answers.specs.Limits.{most_of, most_bytes, file_at}
+use Rattle.plan_top.specs.Files.{Fits, FitFrom, OfTold, Stops, StopsFrom}
 use Rattle.gt_core.specs.Published.{IsPublished}
 use Rattle.certificates.specs.Known.{IsOrdered, form_of, formula_at}
 use Rattle.plan_top.specs.Laws.{Laws}
 use Rattle.plan_words.specs.declared.request.Stepping.{Stepping}
 use Rattle.plan_words.specs.declared.request.Stepping.TheVariants.{Exists}
-use Rattle.plan_races.specs.Stepping.{places_by, is_plan_by}
-use Rattle.plan_races.specs.Raced.{input_of, IsTooLarge, ComesTo, OnceRaced, too_large, ended, outcome_of}
+use Rattle.plan_answers.specs.Stepping.{places_by, is_plan_by}
+use Rattle.plan_answers.specs.Raced.{input_of, IsTooLarge, ComesTo, OnceRaced, too_large, ended, outcome_of}
 use Rattle.plan_answers.specs.Generated.{RacesGenerated, generated_line, generated_report}
 use Rattle.plan_answers.specs.Answers.{Decides, AnswersPlan}
 use Rattle.plan_top.specs.Causes.{HasRead, ComesFor, stopped, decided, ArePartsOf, Comes}

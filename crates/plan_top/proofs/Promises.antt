@@ -29,11 +29,11 @@ use Rattle.plan_endings.specs.declared.ending.Outcome.{Outcome}
 use Rattle.plan_endings.specs.declared.ending.Outcome.TheVariants as outcomes
 use Rattle.plan_endings.specs.declared.ending.Ending.{Ending}
 use Rattle.plan_endings.specs.declared.ending.Ending.TheVariants.{Report, Listing, Reaches, Blocked, Short, Refused, TooLong, TooMany, TooLarge, ReadFault, Usage, Found, Open, Accepted, Rejected, NotEmpty, Parts as Batched}
-use Rattle.plan_files.specs.Limits.{file_at}
-use Rattle.plan_files.specs.Files.{StopsFrom, FaultsFrom, OfTold, RoseAmong}
-use Rattle.plan_races.specs.Stepping.{places_by, is_plan_by}
+use Rattle.plan_answers.specs.Limits.{file_at}
+use Rattle.plan_top.specs.Files.{StopsFrom, FaultsFrom, OfTold, RoseAmong}
+use Rattle.plan_answers.specs.Stepping.{places_by, is_plan_by}
 use Rattle.plan_answers.specs.Tasks.{AreTask, RefusesTask, IsReady, StopsTask, refused, past, OnceRead, not_read, read, OnceGrounded, not_grounded, grounded}
-use Rattle.plan_races.specs.Raced.{ComesTo, too_large, ended, outcome_of}
+use Rattle.plan_answers.specs.Raced.{ComesTo, too_large, ended, outcome_of}
 use Rattle.plan_answers.specs.Answers.{Decides, AnswersPlan, AnswersGround, AnswersOrder, AnswersCheck, AnswersProve, not_run, run, AnswersVerify, unfit, beyond, spelled, not_checked, checked, ending_of_run, ending_of_check, refusal_of_plan, ending_of}
 use Rattle.plan_top.specs.Causes.{is_answer, HasRead, ComesFor, stopped, decided, ArePartsOf, Comes, no_request, of_one, unread, in_parts, names_in, FaultOf}
 use Rattle.step_clauses.specs.Variables.{chain_places}

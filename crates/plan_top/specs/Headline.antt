@@ -29,7 +29,7 @@ use Rattle.certificates.specs.Certificate.{IsCertificate}
 use Rattle.proof_text.specs.Text.{spaced, horizon_words}
 use Rattle.step_laws.specs.Form.{AreSets}
 use Rattle.step_clauses.specs.Variables.{chain_places}
-use Rattle.plan_races.specs.Stepping.{places_by, is_plan_by}
+use Rattle.plan_answers.specs.Stepping.{places_by, is_plan_by}
 use Rattle.plan_answers.specs.Tasks.{AreTask}
 
 -- the bytes that a sink took in between, where it tells them

@@ -1,4 +1,6 @@
+pub mod Files
 pub mod Causes
+pub mod Parts
 pub mod Complete
 pub mod Headline
 pub mod Laws

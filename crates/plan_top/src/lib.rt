@@ -2,9 +2,17 @@
 //! exit status.
 #![tactic(auto)]
 
+mod batch;
 mod decide;
+mod first;
 mod laws;
+mod parts;
+mod races;
+mod status;
+mod take;
 mod top;
+mod written;
 
-pub use plan_endings::{Ending, File, Kind, Limit, Outcome, Status};
+pub use plan_endings::{Ending, File, Kind, Limit, Outcome};
+pub use status::Status;
 pub use top::run;

@@ -1,14 +1,14 @@
 use Rattle.std.proofs.Common.{◌≡◌, subst}
 use Rattle.gt_core.specs.Task.{Task}
-use Rattle.plan_races.specs.Stepping.{places_by, is_plan_by}
+use Rattle.plan_answers.specs.Stepping.{places_by, is_plan_by}
 use Rattle.plan_answers.specs.Tasks.{OnceGrounded, grounded}
 use Rattle.race_end.specs.Ends.{end_view}
 use Rattle.plan_report.specs.Report.{report_of}
 use Rattle.plan_report.specs.Laws.{IsSmall}
 use Rattle.plan_endings.specs.declared.ending.Ending.TheVariants.{Report}
-use Rattle.plan_races.specs.Raced.{ComesTo, ended, outcome_of}
+use Rattle.plan_answers.specs.Raced.{ComesTo, ended, outcome_of}
 use Rattle.plan_answers.specs.Answers.{AnswersPlan}
-use Rattle.plan_files.proofs.Stopped.{EndsAs-made}
+use Rattle.plan_answers.proofs.Stopped.{EndsAs-made}
 use Rattle.plan_answers.proofs.Answered.{stop_handed, race_handed, actions_below}
 use Rattle.plan_answers.proofs.answer.answer_plan.Goals as goal
 

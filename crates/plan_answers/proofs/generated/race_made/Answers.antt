@@ -6,7 +6,7 @@ use Rattle.plan_endings.specs.declared.ending.Ending.TheVariants.{Report}
 use Rattle.gt_core.specs.Step.{IsStepPlan}
 use Rattle.step_clauses.specs.Variables.{chain_places}
 use Rattle.plan_answers.specs.Tasks.{grounded}
-use Rattle.plan_races.specs.Raced.{ComesTo, ended, outcome_of}
+use Rattle.plan_answers.specs.Raced.{ComesTo, ended, outcome_of}
 use Rattle.plan_answers.specs.Generated.{RacesGenerated, generated_report}
 use Rattle.plan_answers.proofs.Answered.{stop_handed, race_handed}
 use Rattle.plan_answers.proofs.generated.race_made.Goals as goal

@@ -1,4 +1,0 @@
-mod Lists
-mod RaceEnds
-mod Turns
-mod Prepared

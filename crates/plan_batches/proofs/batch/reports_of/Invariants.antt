@@ -1,7 +1,0 @@
-use Rattle.std.proofs.Common.{take}
-use Rattle.std.specs.List.{AllZip}
-use Rattle.plan_batches.specs.Parts.{AnswersRun}
-use Rattle.plan_batches.proofs.batch.reports_of.Given as goal
-
-abbrev pub invariant-loop-place : goal.invariant-loop-place
-invariant-loop-place l = AllZip (AnswersRun l.settings) (take l.place l.runs) l.reports.items

@@ -1,0 +1,16 @@
+use Rattle.std.proofs.Common.{◌≡◌, ◌-◌, length}
+use Rattle.plan_words.specs.Seen.{seen, files_of}
+use Rattle.plan_answers.specs.Limits.{file_at}
+use Rattle.plan_top.proofs.Taking.{SoFar}
+use Rattle.plan_top.proofs.take.take_all.Given as goal
+
+abbrev pub invariant-taking : goal.invariant-taking
+invariant-taking g l = record {
+  told : g.S.Shelf.told l.shelf ≡ g.S.Shelf.told l.fn.shelf;
+  lacks : g.S.Shelf.lacks l.shelf ≡ g.S.Shelf.lacks l.fn.shelf;
+  so : SoFar (g.K.Kept.is_kept (g.S.Shelf.told l.fn.shelf) (g.S.Shelf.lacks l.fn.shelf)) (g.K.Kept.goes_on (g.S.Shelf.told l.fn.shelf) (g.S.Shelf.lacks l.fn.shelf))
+      (g.K.Kept.ends_run (g.S.Shelf.told l.fn.shelf) (g.S.Shelf.lacks l.fn.shelf) (g.S.Shelf.failed l.fn.shelf)) (file_at (seen l.request)) (files_of (seen l.request)) (g.S.Shelf.failed l.fn.shelf) (g.S.Shelf.failed l.shelf) l.files.items;
+}
+
+abbrev pub decreases-taking : goal.decreases-taking
+decreases-taking g l = length (files_of (seen l.request)) - length l.files.items

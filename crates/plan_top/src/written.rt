@@ -1,0 +1,31 @@
+//! Writing the text of an ending.
+ghost use Rattle.std.specs.Prelude.{◌≡◌, ◌≢◌, ◌≤◌};
+ghost use Rattle.pl_io.specs.Outside.{appended, TakesFront, Rose};
+ghost use Rattle.plan_endings.specs.Ending.{status_of, text_of, IsSmall};
+ghost use Rattle.plan_endings.specs.declared.ending.Ending.{Ending};
+
+use crate::Ending;
+use crate::status::Status;
+use pl_io::{Sink, put_all};
+use std::alloc::Global;
+
+/// Makes the text of an ending whole and writes it: the ending's status, 6 where the sink failed, or 8 for want of memory.
+pub fn written<K: Sink>(alloc: Global, ending: Ending, sink: &mut K) -> Status
+    requires not_six { status_of ending ≢ 6 }
+    requires not_eight { status_of ending ≢ 8 }
+    ensures due { result.0 ≢ 6 → result.0 ≢ 8 → (result.0 ≡ status_of ending) × (K.taken sink.new ≡ appended (K.taken sink.old) (text_of ending)) }
+    ensures write_fault { result.0 ≡ 6 → Rose (K.faults sink.old) (K.faults sink.new) }
+    ensures front { result.0 ≢ 8 → IsSmall ending × TakesFront (K.taken sink.old) (K.taken sink.new) (text_of ending) }
+    ensures nothing { result.0 ≡ 8 → sink.new ≡ sink.old }
+    ensures usage { ending ≡ Ending.Usage → result.0 ≢ 8 }
+    ensures faults { K.faults sink.old ≤ K.faults sink.new }
+{
+    let status = ending.status();
+    let Ok(due) = ending.text(alloc) else {
+        return Status(8);
+    };
+    let Ok(()) = put_all(sink, due.as_slice()) else {
+        return Status(6);
+    };
+    Status(status)
+}
