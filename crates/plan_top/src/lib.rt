@@ -8,11 +8,9 @@ mod first;
 mod laws;
 mod parts;
 mod races;
-mod status;
 mod take;
 mod top;
-mod written;
 
 pub use plan_endings::{Ending, File, Kind, Limit, Outcome};
-pub use status::Status;
+pub use plan_status::Status;
 pub use top::run;

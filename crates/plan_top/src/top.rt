@@ -16,13 +16,12 @@ ghost use Rattle.plan_top.specs.OneReport.{AskForOneRace, AskForOnePart};
 ghost use Rattle.plan_answers.specs.Ends.{ending_in};
 ghost use Rattle.plan_endings.specs.declared.ending.Ending.{Ending};
 
-use crate::Ending;
 use crate::decide::decide;
 use crate::laws::laws;
-use crate::status::Status;
-use crate::written::written;
+use crate::{Ending, Status};
 use pl_io::{Shelf, Sink};
 use plan_answers::stop::Stop;
+use plan_status::written::written;
 use poll_batch::Driver;
 use solver_pool::Gate;
 use std::alloc::Global;

@@ -4,9 +4,9 @@ ghost use Rattle.pl_io.specs.Outside.{appended, TakesFront, Rose};
 ghost use Rattle.plan_endings.specs.Ending.{status_of, text_of, IsSmall};
 ghost use Rattle.plan_endings.specs.declared.ending.Ending.{Ending};
 
-use crate::Ending;
-use crate::status::Status;
+use crate::Status;
 use pl_io::{Sink, put_all};
+use plan_endings::Ending;
 use std::alloc::Global;
 
 /// Makes the text of an ending whole and writes it: the ending's status, 6 where the sink failed, or 8 for want of memory.
