@@ -19,7 +19,6 @@ use std::alloc::Global;
 use std::thread::Threads;
 
 /// A task, with what it is grounded to and what is known of that.
-#[derive(Debug)]
 pub struct Run {
     pub ready: Ready,
     pub known: Known,
@@ -33,7 +32,7 @@ impl Drop for Run {
 }
 
 /// A problem of a batch before its race.
-#[derive(Debug, Drop)]
+#[derive(Drop)]
 pub enum Part {
     /// It has an ending.
     Ends(Ending),
@@ -42,7 +41,6 @@ pub enum Part {
 }
 
 /// The problems of a batch before their races.
-#[derive(Debug)]
 pub struct Prepared {
     /// For each problem its ending, or nothing where the next of the runs decides.
     pub ended: Vec<Option<Ending>>,
