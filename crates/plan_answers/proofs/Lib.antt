@@ -1,3 +1,2 @@
-pub mod Stopped
 pub mod Answered
 pub mod RaceEnds

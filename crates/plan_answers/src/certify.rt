@@ -1,15 +1,14 @@
 //! What files come to for the commands on certificates.
 ghost use Rattle.std.specs.Prelude.{◌≡◌, ◌≤◌, length, IfOk};
-ghost use Rattle.plan_answers.specs.Limits.{most_bytes};
+ghost use Rattle.plan_files.specs.Limits.{most_bytes};
 ghost use Rattle.certificates.specs.Certificate.{IsSpelled};
-ghost use Rattle.plan_answers.specs.Ends.{EndsAs, StopsBy};
+ghost use Rattle.plan_files.specs.Ends.{EndsAs, StopsBy};
 ghost use Rattle.pd_model.specs.WellFormed.{IsWellFormed};
 ghost use Rattle.plan_answers.specs.Answers.{AnswersProve, AnswersVerify, RefusesProof, ending_of_run, ending_of_check};
 ghost use Rattle.plan_answers.specs.Tasks.{OnceRead, OnceGrounded};
 
 use crate::ground::ground_task;
 use crate::ready::read_ready;
-use crate::stop::{Stop, refuse};
 use crate::task::read_task;
 use certificates::ProofError;
 use certificates::prove::{Proved, prove};
@@ -17,6 +16,7 @@ use certificates::verify::{Judged, verify};
 use pd_model::Pddl;
 use pl_io::Bytes;
 use plan_endings::{Ending, File, Kind};
+use plan_files::stop::{Stop, refuse};
 use proof_text::{Proof, ProofFault, read_proof};
 use std::alloc::Global;
 use std::thread::Threads;

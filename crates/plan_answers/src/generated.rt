@@ -2,18 +2,18 @@
 ghost use Rattle.std.specs.Prelude.{◌≡◌, ◌≤◌, ◌++◌, length, IfOk};
 ghost use Rattle.race_end.specs.Ends.{end_view, lines_in, conflicts_in};
 ghost use Rattle.plan_gen.specs.Task.{domain_of, problem_of};
-ghost use Rattle.plan_answers.specs.Limits.{most_bytes};
+ghost use Rattle.plan_files.specs.Limits.{most_bytes};
 ghost use Rattle.plan_answers.specs.Tasks.{OnceGrounded};
 ghost use Rattle.plan_answers.specs.Generated.{AnswersGenerated, RacesGenerated, kind_text, generated_line, generated_report};
-ghost use Rattle.plan_answers.specs.Ends.{EndsAs};
+ghost use Rattle.plan_files.specs.Ends.{EndsAs};
 
 use crate::raced::{outcome, raced};
 use crate::ready::read_ready;
-use crate::stop::Stop;
 use horizon_rates::Settings;
 use pd_model::Memory;
 use pl_io::Bytes;
 use plan_endings::Ending;
+use plan_files::stop::Stop;
 use plan_gen::{Kind, Made, generate};
 use plan_report::summary_text;
 use plan_words::{Show, Stepping};

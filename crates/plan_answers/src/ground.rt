@@ -3,12 +3,12 @@ ghost use Rattle.std.specs.Prelude.{◌≡◌, IfOk};
 ghost use Rattle.grounding.specs.Grounded.{IsGrounded};
 ghost use Rattle.grounding.specs.Limits.{IsWithin};
 ghost use Rattle.plan_answers.specs.Tasks.{TellsOver};
-ghost use Rattle.plan_answers.specs.Ends.{StopsBy};
+ghost use Rattle.plan_files.specs.Ends.{StopsBy};
 
-use crate::stop::Stop;
 use grounder::{GroundError, Grounded, ground};
 use pd_model::Pddl;
 use plan_endings::{Ending, Limit};
+use plan_files::stop::Stop;
 use std::alloc::Global;
 
 fn too_many(what: Limit, count: u64) -> Stop

@@ -18,5 +18,4 @@ mod ground;
 pub mod raced;
 pub mod ready;
 pub mod reported;
-pub mod stop;
 pub mod task;

@@ -3,9 +3,8 @@ ghost use Rattle.std.specs.Prelude.{◌≡◌, IfOk};
 ghost use Rattle.race_end.specs.Ends.{end_view};
 ghost use Rattle.plan_answers.specs.Stepping.{places_by, is_plan_by};
 ghost use Rattle.plan_answers.specs.Raced.{IsKnown, ComesTo, TellsTooLarge, outcome_of};
-ghost use Rattle.plan_answers.specs.Ends.{StopsBy, OnlyMemory};
+ghost use Rattle.plan_files.specs.Ends.{StopsBy, OnlyMemory};
 
-use crate::stop::Stop;
 use action_order::order::Order;
 use action_order::publish::publish;
 use all_steps::form::BothWays;
@@ -13,6 +12,7 @@ use gt_core::pairs::Pairs;
 use gt_core::task::Task;
 use horizon_rates::Settings;
 use plan_endings::{Ending, Outcome};
+use plan_files::stop::Stop;
 use plan_words::Stepping;
 use race::{RaceError, race};
 use race_end::RaceEnd;

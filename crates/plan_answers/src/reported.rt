@@ -5,14 +5,14 @@ ghost use Rattle.plan_report.specs.Report.{report_of};
 ghost use Rattle.plan_report.specs.Laws.{HasActionsBelow, IsSmall};
 ghost use Rattle.plan_answers.specs.Raced.{outcome_of};
 ghost use Rattle.plan_endings.specs.declared.ending.Ending.{Ending};
-ghost use Rattle.plan_answers.specs.Ends.{OnlyMemory};
+ghost use Rattle.plan_files.specs.Ends.{OnlyMemory};
 
 use crate::raced::outcome;
 use crate::ready::Ready;
-use crate::stop::Stop;
 use horizon_rates::Settings;
 use pl_io::Bytes;
 use plan_endings::Ending;
+use plan_files::stop::Stop;
 use plan_report::report_text;
 use race_end::RaceEnd;
 use std::alloc::Global;

@@ -10,8 +10,8 @@ use Rattle.plan_endings.specs.declared.ending.Ending.{Ending}
 use Rattle.plan_endings.specs.declared.ending.Ending.TheVariants.{ReadFault}
 use Rattle.plan_endings.specs.declared.ending.File.{File}
 use Rattle.plan_endings.specs.declared.ending.File.TheVariants.{Domain, Problem}
-use Rattle.plan_answers.specs.Limits.{most_of, most_bytes, file_at}
-use Rattle.plan_top.specs.Files.{FaultsFrom, IsTaken, IsTooLong, IsTakenOrLong, AreTakenOrLong}
+use Rattle.plan_files.specs.Limits.{most_of, most_bytes, file_at}
+use Rattle.plan_files.specs.Files.{FaultsFrom, IsTaken, IsTooLong, IsTakenOrLong, AreTakenOrLong}
 use Rattle.plan_answers.specs.Tasks.{grounded}
 use Rattle.plan_top.specs.Causes.{HasRead, ComesFor, stopped, ArePartsOf, Comes, unread, in_parts, is_answer}
 use Rattle.plan_top.specs.Parts.{IsBatch, IsShort, AnswersPart, AnswersBatch, IsRunOf, IsPart, IsSound, ArePrepared, AnswersRun, open_in, woven}
@@ -19,7 +19,7 @@ use Rattle.plan_top.specs.declared.parts.Part.{Part}
 use Rattle.plan_top.specs.declared.parts.Part.TheVariants as parts
 use Rattle.plan_top.specs.declared.parts.Run.{Run}
 use Rattle.plan_top.proofs.Complete.{batch_most}
-use Rattle.plan_top.proofs.Taking.{taken_fits}
+use Rattle.plan_files.proofs.Taking.{taken_fits}
 use Rattle.plan_top.proofs.Told.{decides_answer, taken_comes}
 
 -- ---- files

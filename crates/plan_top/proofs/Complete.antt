@@ -28,8 +28,8 @@ use Rattle.plan_endings.specs.declared.ending.Ending.{Ending}
 use Rattle.plan_endings.specs.declared.ending.Ending.TheVariants.{Report, TooLarge}
 use Rattle.plan_endings.specs.declared.ending.File.{File}
 use Rattle.plan_endings.specs.declared.ending.File.TheVariants.{Domain, Problem}
-use Rattle.plan_answers.specs.Limits.{most_bytes, AreShort, file_at, most_of}
-use Rattle.plan_top.specs.Files.{StopsFrom, FaultsFrom, RoseAmong}
+use Rattle.plan_files.specs.Limits.{most_bytes, AreShort, file_at, most_of}
+use Rattle.plan_files.specs.Files.{StopsFrom, FaultsFrom, RoseAmong}
 use Rattle.clause_base.specs.declared.log.Entry.{Entry}
 use Rattle.proof_text.specs.Place.{IsUnfitAt}
 use Rattle.proof_text.specs.Laws.{TextsAreFit}

@@ -1,4 +1,3 @@
-pub mod Taking
 pub mod Verdicts
 pub mod Told
 pub mod Reports

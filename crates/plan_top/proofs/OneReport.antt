@@ -23,8 +23,8 @@ use Rattle.plan_words.specs.declared.request.Show.{Show}
 use Rattle.plan_words.specs.declared.request.Show.TheVariants as shows
 use Rattle.plan_endings.specs.declared.ending.Ending.{Ending}
 use Rattle.plan_endings.specs.declared.ending.Ending.TheVariants.{Report, TooLong, TooLarge, ReadFault}
-use Rattle.plan_answers.specs.Limits.{most_of, most_bytes, file_at}
-use Rattle.plan_top.specs.Files.{Fits, FitFrom, OfTold, Stops, StopsFrom}
+use Rattle.plan_files.specs.Limits.{most_of, most_bytes, file_at}
+use Rattle.plan_files.specs.Files.{Fits, FitFrom, OfTold, Stops, StopsFrom}
 use Rattle.gt_core.specs.Published.{IsPublished}
 use Rattle.certificates.specs.Known.{IsOrdered, form_of, formula_at}
 use Rattle.plan_top.specs.Laws.{Laws}

@@ -29,8 +29,8 @@ use Rattle.plan_endings.specs.declared.ending.Outcome.{Outcome}
 use Rattle.plan_endings.specs.declared.ending.Outcome.TheVariants as outcomes
 use Rattle.plan_endings.specs.declared.ending.Ending.{Ending}
 use Rattle.plan_endings.specs.declared.ending.Ending.TheVariants.{Report, Listing, Reaches, Blocked, Short, Refused, TooLong, TooMany, TooLarge, ReadFault, Usage, Found, Open, Accepted, Rejected, NotEmpty, Parts as Batched}
-use Rattle.plan_answers.specs.Limits.{file_at}
-use Rattle.plan_top.specs.Files.{StopsFrom, FaultsFrom, OfTold, RoseAmong}
+use Rattle.plan_files.specs.Limits.{file_at}
+use Rattle.plan_files.specs.Files.{StopsFrom, FaultsFrom, OfTold, RoseAmong}
 use Rattle.plan_answers.specs.Stepping.{places_by, is_plan_by}
 use Rattle.plan_answers.specs.Tasks.{AreTask, RefusesTask, IsReady, StopsTask, refused, past, OnceRead, not_read, read, OnceGrounded, not_grounded, grounded}
 use Rattle.plan_answers.specs.Raced.{ComesTo, too_large, ended, outcome_of}

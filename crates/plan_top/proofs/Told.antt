@@ -27,8 +27,8 @@ use Rattle.plan_endings.specs.declared.ending.Ending.{Ending}
 use Rattle.plan_endings.specs.declared.ending.Ending.TheVariants.{Refused, TooMany, Usage}
 use Rattle.plan_endings.specs.declared.ending.Limit.{Limit}
 use Rattle.plan_endings.specs.Ending.{batch_of}
-use Rattle.plan_answers.specs.Limits.{file_at}
-use Rattle.plan_top.specs.Files.{AreTaken, FaultsFrom, OfTold}
+use Rattle.plan_files.specs.Limits.{file_at}
+use Rattle.plan_files.specs.Files.{AreTaken, FaultsFrom, OfTold}
 use Rattle.plan_words.specs.declared.request.Stepping.{Stepping}
 use Rattle.certificates.specs.declared.prove.Proved.{Proved}
 use Rattle.certificates.specs.declared.prove.Proved.TheVariants as proved
@@ -39,7 +39,7 @@ use Rattle.plan_answers.specs.Raced.{too_large, ended}
 use Rattle.plan_answers.specs.Generated.{AnswersGenerated, RacesGenerated}
 use Rattle.plan_answers.specs.Answers.{OfTwo, OfThree, Decides, AnswersPlan, AnswersGround, AnswersOrder, AnswersCheck, AnswersProve, not_run, run, AnswersVerify, unfit, beyond, spelled, not_checked, checked, ending_of_run, ending_of_check, refusal_of_plan, ending_of}
 use Rattle.plan_top.specs.Causes.{is_answer, HasRead, ComesFor, decided, ArePartsOf, Comes, no_request, of_one, unread, in_parts}
-use Rattle.plan_top.proofs.Taking.{all_fit}
+use Rattle.plan_files.proofs.Taking.{all_fit}
 
 -- ---- endings that tell of a file
 

@@ -6,9 +6,9 @@ use Rattle.plan_words.specs.declared.request.Turns.{Turns}
 use Rattle.plan_words.specs.Requested.{requested}
 use Rattle.plan_words.specs.OneTask.{IsOfOne}
 use Rattle.plan_endings.specs.Ending.{batch_of}
-use Rattle.plan_answers.specs.Limits.{file_at}
+use Rattle.plan_files.specs.Limits.{file_at}
 use Rattle.plan_answers.specs.Answers.{Decides}
-use Rattle.plan_top.specs.Files.{FitFrom, StopsFrom, FaultsFrom, OfTold, RoseAmong}
+use Rattle.plan_files.specs.Files.{FitFrom, StopsFrom, FaultsFrom, OfTold, RoseAmong}
 use Rattle.plan_endings.specs.declared.ending.File.TheVariants.{Proof}
 use Rattle.plan_endings.specs.declared.ending.Ending.{Ending}
 use Rattle.plan_endings.specs.declared.ending.Ending.TheVariants.{Report, Listing, Reaches, Blocked, Short, Refused, TooLong, TooMany, TooLarge, ReadFault, Usage, Found, Open, Accepted, Rejected, NotEmpty}

@@ -9,8 +9,8 @@ use Rattle.grounding.specs.Limits.{IsWithin}
 use Rattle.plan_gen.specs.Task.{domain_of, problem_of}
 use Rattle.plan_words.specs.Seen.{Seen, plans, plans_by, checks, grounds, orders, generates, proves, verifies, batches, files_of}
 use Rattle.plan_words.specs.Requested.{requested}
-use Rattle.plan_answers.specs.Limits.{AreShort, file_at}
-use Rattle.plan_top.specs.Files.{RoseAmong}
+use Rattle.plan_files.specs.Limits.{AreShort, file_at}
+use Rattle.plan_files.specs.Files.{RoseAmong}
 use Rattle.plan_answers.specs.Tasks.{AreTask}
 use Rattle.clause_base.specs.declared.log.Entry.{Entry}
 use Rattle.certificates.specs.Certificate.{IsSpelled}

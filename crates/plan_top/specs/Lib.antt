@@ -1,4 +1,3 @@
-pub mod Files
 pub mod Causes
 pub mod Parts
 pub mod Complete

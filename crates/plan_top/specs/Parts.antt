@@ -18,7 +18,7 @@ use Rattle.plan_endings.specs.Ending.{batch_of}
 use Rattle.plan_endings.specs.declared.ending.Ending.{Ending}
 use Rattle.plan_endings.specs.declared.ending.Ending.TheVariants.{TooLong}
 use Rattle.plan_endings.specs.declared.ending.File.TheVariants.{Domain, Problem}
-use Rattle.plan_answers.specs.Limits.{most_bytes}
+use Rattle.plan_files.specs.Limits.{most_bytes}
 use Rattle.plan_answers.specs.Tasks.{AreTask, IsReady, IsReading, OnceGrounded}
 use Rattle.plan_answers.specs.Raced.{IsKnown, ComesTo, IsTooLarge}
 use Rattle.plan_answers.specs.Answers.{AnswersPlan}

@@ -4,11 +4,9 @@
 
 mod batch;
 mod decide;
-mod first;
 mod laws;
 mod parts;
 mod races;
-mod take;
 mod top;
 
 pub use plan_endings::{Ending, File, Kind, Limit, Outcome};

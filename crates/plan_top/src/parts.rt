@@ -2,10 +2,10 @@
 ghost use Rattle.std.specs.Prelude.{◌≡◌, ◌≤◌, ◌++◌, ◌∷◌, ℕ, List, Option, [], length, IsTrue, OnOk, IfOk};
 ghost use Rattle.std.specs.List.{AllByRecursion};
 ghost use Rattle.pd_sexp.specs.{Fault.Reads, View.view, Word.has_words};
-ghost use Rattle.plan_answers.specs.Limits.{most_bytes};
+ghost use Rattle.plan_files.specs.Limits.{most_bytes};
 ghost use Rattle.plan_answers.specs.Tasks.{IsReading};
 ghost use Rattle.plan_top.specs.Parts.{IsShort, IsFirst, HasWords, EndsAlone, IsRunOf, IsPart, ArePrepared};
-ghost use Rattle.plan_answers.specs.Ends.{OnlyMemory};
+ghost use Rattle.plan_files.specs.Ends.{OnlyMemory};
 ghost use Rattle.plan_endings.specs.declared.ending.Ending.{Ending};
 
 use crate::{Ending, File};
@@ -13,13 +13,12 @@ use pd_sexp::Tree;
 use pl_io::Bytes;
 use plan_answers::raced::{Known, known_of};
 use plan_answers::ready::{Ready, ready_with};
-use plan_answers::stop::Stop;
 use plan_answers::task::{Reading, reading_of};
+use plan_files::stop::Stop;
 use std::alloc::Global;
 use std::thread::Threads;
 
 /// A task, with what it is grounded to and what is known of that.
-#[derive(Debug)]
 pub struct Run {
     pub ready: Ready,
     pub known: Known,
@@ -33,7 +32,7 @@ impl Drop for Run {
 }
 
 /// A problem of a batch before its race.
-#[derive(Debug, Drop)]
+#[derive(Drop)]
 pub enum Part {
     /// It has an ending.
     Ends(Ending),
@@ -42,7 +41,6 @@ pub enum Part {
 }
 
 /// The problems of a batch before their races.
-#[derive(Debug)]
 pub struct Prepared {
     /// For each problem its ending, or nothing where the next of the runs decides.
     pub ended: Vec<Option<Ending>>,

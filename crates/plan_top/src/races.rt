@@ -3,11 +3,11 @@ ghost use Rattle.std.specs.Prelude.{◌≡◌, ◌≤◌, ◌<◌, length, IfOk}
 ghost use Rattle.std.specs.List.{AllByRecursion, AllZip};
 ghost use Rattle.poll_batch.specs.Batch.{IsOrder};
 ghost use Rattle.plan_top.specs.Parts.{IsSound, IsFormOf, IsRaceOf, CameTo, turn_at};
-ghost use Rattle.plan_answers.specs.Ends.{OnlyMemory};
+ghost use Rattle.plan_files.specs.Ends.{OnlyMemory};
 
 use crate::parts::Run;
 use horizon_rates::Settings;
-use plan_answers::stop::Stop;
+use plan_files::stop::Stop;
 use plan_words::Turns;
 use poll_batch::{Driver, Ends, PollRace, Races, batch_race};
 use std::alloc::Global;

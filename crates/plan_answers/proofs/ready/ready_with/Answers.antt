@@ -1,5 +1,5 @@
 use Rattle.plan_answers.specs.Tasks.{RefusesTask, TellsOver, StopsTask, refused, past}
-use Rattle.plan_answers.proofs.Stopped.{Stops-handed}
+use Rattle.plan_files.proofs.Stopped.{Stops-handed}
 use Rattle.plan_answers.proofs.ready.ready_with.Goals as goal
 
 pub returns-in_err-task-clause-stops : goal.returns-in_err-task-clause-stops

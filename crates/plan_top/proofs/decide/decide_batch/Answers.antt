@@ -1,11 +1,11 @@
 use Rattle.std.proofs.Common.{ℕ, List, Option, subst, arith}
 use Rattle.plan_words.specs.Seen.{seen, files_of}
-use Rattle.plan_answers.specs.Limits.{file_at}
-use Rattle.plan_top.specs.Files.{AreTakenOrLong, FaultsFrom}
+use Rattle.plan_files.specs.Limits.{file_at}
+use Rattle.plan_files.specs.Files.{AreTakenOrLong, FaultsFrom}
 use Rattle.plan_top.specs.Causes.{Comes}
 use Rattle.plan_top.specs.Parts.{AnswersBatch}
 use Rattle.plan_top.proofs.Batches.{files_fit, request_comes, request_unread}
-use Rattle.plan_answers.proofs.Stopped.{EndsAs-handed, EndsAs-weaker}
+use Rattle.plan_files.proofs.Stopped.{EndsAs-handed, EndsAs-weaker}
 use Rattle.plan_top.proofs.decide.decide_batch.Goals as goal
 
 pub answer_batch-requires-clause-problems : goal.answer_batch-requires-clause-problems

@@ -1,8 +1,8 @@
 use Rattle.plan_words.specs.Seen.{seen, files_of}
-use Rattle.plan_answers.specs.Limits.{file_at}
+use Rattle.plan_files.specs.Limits.{file_at}
 use Rattle.plan_top.specs.Causes.{of_one, stopped}
-use Rattle.plan_answers.proofs.Stopped.{EndsAs-handed, EndsAs-weaker}
-use Rattle.plan_top.proofs.Taking.{taken_short, taken_count}
+use Rattle.plan_files.proofs.Stopped.{EndsAs-handed, EndsAs-weaker}
+use Rattle.plan_files.proofs.Taking.{taken_short, taken_count}
 use Rattle.plan_top.proofs.Told.{taken_comes}
 use Rattle.plan_top.proofs.decide.decide_one.Goals as goal
 

@@ -1,8 +1,8 @@
 -- What is known of a call that ends the run, or goes on.
 use Rattle.std.specs.Prelude.{Result, Ok, Err, Option, Some, None}
 use Rattle.plan_endings.specs.declared.ending.Ending.{Ending}
-use Rattle.plan_answers.specs.declared.stop.Stop.{Stop}
-use Rattle.plan_answers.specs.declared.stop.Stop.TheVariants.{Ends, Memory}
+use Rattle.plan_files.specs.declared.stop.Stop.{Stop}
+use Rattle.plan_files.specs.declared.stop.Stop.TheVariants.{Ends, Memory}
 
 -- the run ends with an ending of this kind; of want of memory nothing is said
 abbrev pub EndsBy : (Ending → Type 0) → Stop → Type 0

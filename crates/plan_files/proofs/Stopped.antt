@@ -3,9 +3,9 @@ use Rattle.std.proofs.Common.{◌≡◌, Result, Ok, Err, Some, None, subst}
 use Rattle.std.specs.Prelude.{IfOk, IsErrAnd}
 use Rattle.std.proofs.lemmas.Result.{err_from_is_err_and}
 use Rattle.plan_endings.specs.declared.ending.Ending.{Ending}
-use Rattle.plan_answers.specs.declared.stop.Stop.{Stop}
-use Rattle.plan_answers.specs.declared.stop.Stop.TheVariants.{Ends, Memory}
-use Rattle.plan_answers.specs.Ends.{EndsBy, StopsBy, OnlyMemory, EndsAs, ending_in}
+use Rattle.plan_files.specs.declared.stop.Stop.{Stop}
+use Rattle.plan_files.specs.declared.stop.Stop.TheVariants.{Ends, Memory}
+use Rattle.plan_files.specs.Ends.{EndsBy, StopsBy, OnlyMemory, EndsAs, ending_in}
 
 pub EndsBy-weaker : (claim other : Ending → Type 0) → ((end : Ending) → claim end → other end) → (stop : Stop) → EndsBy claim stop → EndsBy other stop
 EndsBy-weaker claim other weaker (Ends end) h = weaker end h

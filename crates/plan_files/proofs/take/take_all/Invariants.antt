@@ -1,8 +1,8 @@
 use Rattle.std.proofs.Common.{◌≡◌, ◌-◌, length}
 use Rattle.plan_words.specs.Seen.{seen, files_of}
-use Rattle.plan_answers.specs.Limits.{file_at}
-use Rattle.plan_top.proofs.Taking.{SoFar}
-use Rattle.plan_top.proofs.take.take_all.Given as goal
+use Rattle.plan_files.specs.Limits.{file_at}
+use Rattle.plan_files.proofs.Taking.{SoFar}
+use Rattle.plan_files.proofs.take.take_all.Given as goal
 
 abbrev pub invariant-taking : goal.invariant-taking
 invariant-taking g l = record {

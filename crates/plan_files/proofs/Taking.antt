@@ -10,11 +10,11 @@ use Rattle.plan_words.specs.Among.{AreAmong}
 use Rattle.plan_endings.specs.declared.ending.Ending.{Ending}
 use Rattle.plan_endings.specs.declared.ending.Ending.TheVariants.{TooLong, ReadFault}
 use Rattle.plan_endings.specs.declared.ending.File.{File}
-use Rattle.plan_answers.specs.Ends.{EndsBy}
-use Rattle.plan_answers.specs.declared.stop.Stop.{Stop}
-use Rattle.plan_answers.specs.declared.stop.Stop.TheVariants.{Ends}
-use Rattle.plan_answers.specs.Limits.{AreShort, most_of}
-use Rattle.plan_top.specs.Files.{Fits, FitFrom, Stops, IsTooLong, IsTaken, AreTaken, AreKept, OneEnds, Rises, NotesAmong}
+use Rattle.plan_files.specs.Ends.{EndsBy}
+use Rattle.plan_files.specs.declared.stop.Stop.{Stop}
+use Rattle.plan_files.specs.declared.stop.Stop.TheVariants.{Ends}
+use Rattle.plan_files.specs.Limits.{AreShort, most_of}
+use Rattle.plan_files.specs.Files.{Fits, FitFrom, Stops, IsTooLong, IsTaken, AreTaken, AreKept, OneEnds, Rises, NotesAmong}
 
 -- ---- what is left of a list
 

@@ -1,6 +1,6 @@
 //! Why a run has no more to decide.
 ghost use Rattle.std.specs.Prelude.{◌≡◌};
-ghost use Rattle.plan_answers.specs.declared.stop.Stop.TheVariants as stop;
+ghost use Rattle.plan_files.specs.declared.stop.Stop.TheVariants as stop;
 
 use pd_model::Memory;
 use plan_endings::{Ending, File, Kind};
@@ -80,7 +80,7 @@ impl<T: Drop> From<AllocFailed<T>> for Stop {
 }
 
 /// The end of a run that refuses a file, at the offset of a byte.
-pub(crate) fn refuse(kind: Kind, file: File, at: u32) -> Stop
+pub fn refuse(kind: Kind, file: File, at: u32) -> Stop
     ensures { result ≡ Stop.Ends (Ending.Refused kind file at) }
 {
     Stop::Ends(Ending::Refused { kind, file, at })

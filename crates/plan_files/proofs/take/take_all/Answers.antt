@@ -1,10 +1,10 @@
 use Rattle.std.proofs.Common.{◌≡◌, sym, length, None, arith}
 use Rattle.std.specs.Prelude.{slice_get}
 use Rattle.plan_words.specs.Seen.{seen, files_of}
-use Rattle.plan_answers.specs.Limits.{file_at}
-use Rattle.plan_answers.proofs.Stopped.{Stops-handed}
-use Rattle.plan_top.proofs.Taking.{name_at, noted_so, noted_here, rises_so, ends_here, one_more, all_taken}
-use Rattle.plan_top.proofs.take.take_all.Goals as goal
+use Rattle.plan_files.specs.Limits.{file_at}
+use Rattle.plan_files.proofs.Stopped.{Stops-handed}
+use Rattle.plan_files.proofs.Taking.{name_at, noted_so, noted_here, rises_so, ends_here, one_more, all_taken}
+use Rattle.plan_files.proofs.take.take_all.Goals as goal
 
 pub returns-in_err-file-clause-noted : goal.returns-in_err-file-clause-noted
 returns-in_err-file-clause-noted g c =

@@ -2,7 +2,7 @@
 use Rattle.std.specs.Prelude.{◌≡◌, ◌⊎◌, ◌<◌, ◌≤◌, ℕ, ◌+◌, List, [], ◌∷◌, ◌++◌, length, Bool, IsTrue, Option, Some, None, IfSome}
 use Rattle.pl_io.specs.Outside.{FaultRose, fault_count}
 use Rattle.plan_words.specs.Among.{AreAmong}
-use Rattle.plan_answers.specs.Limits.{most_of}
+use Rattle.plan_files.specs.Limits.{most_of}
 use Rattle.plan_endings.specs.declared.ending.File.{File}
 use Rattle.plan_endings.specs.declared.ending.Ending.{Ending}
 use Rattle.plan_endings.specs.declared.ending.Ending.TheVariants.{TooLong, ReadFault}

@@ -1,6 +1,6 @@
 use Rattle.std.proofs.Common.{arith}
-use Rattle.plan_top.proofs.Taking.{ended_long}
-use Rattle.plan_top.proofs.take.OptionBytesKept.take.Goals as goal
+use Rattle.plan_files.proofs.Taking.{ended_long}
+use Rattle.plan_files.proofs.take.OptionBytesKept.take.Goals as goal
 
 pub returns-in-Err-Ends-TooLong-clause-kept : goal.returns-in-Err-Ends-TooLong-clause-kept
 returns-in-Err-Ends-TooLong-clause-kept g c =

@@ -1,5 +1,5 @@
 use Rattle.std.proofs.Common.{Err, refl, ap, arith, inl}
-use Rattle.plan_top.proofs.take.BytesKept.take.Goals as goal
+use Rattle.plan_files.proofs.take.BytesKept.take.Goals as goal
 
 pub returns-in-Err-Failed-clause-ends : goal.returns-in-Err-Failed-clause-ends
 returns-in-Err-Failed-clause-ends g c before rises =

@@ -2,15 +2,15 @@
 ghost use Rattle.std.specs.Prelude.{◌≡◌, ◌≤◌, ℕ, List, Bool, Option, OnOk, IfOk};
 ghost use Rattle.pl_io.specs.Outside.{Notes};
 ghost use Rattle.plan_words.specs.Seen.{seen, files_of};
-ghost use Rattle.plan_answers.specs.Limits.{file_at, third_of, most_of};
-ghost use Rattle.plan_answers.specs.Ends.{StopsBy};
+ghost use Rattle.plan_files.specs.Limits.{file_at, third_of, most_of};
+ghost use Rattle.plan_files.specs.Ends.{StopsBy};
 ghost use Rattle.plan_endings.specs.declared.ending.File.{File as FileValue};
 ghost use Rattle.plan_endings.specs.declared.ending.Ending.{Ending as EndingValue};
-ghost use Rattle.plan_top.specs.Files.{Fits, IsFault, IsNotMissing, IsTaken, IsTakenOrLong, Stops, AreKept, OneEnds, Rises, NotesAmong};
+ghost use Rattle.plan_files.specs.Files.{Fits, IsFault, IsNotMissing, IsTaken, IsTakenOrLong, Stops, AreKept, OneEnds, Rises, NotesAmong};
 
-use crate::{Ending, File};
+use crate::stop::Stop;
 use pl_io::{Bytes, Shelf, TakeError, Taken};
-use plan_answers::stop::Stop;
+use plan_endings::{Ending, File};
 use plan_words::Request;
 use std::alloc::Global;
 
