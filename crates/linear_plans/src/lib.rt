@@ -1,10 +1,12 @@
-//! The actions of steps in published order.
+//! The actions of steps, listed in published order.
+#![tactic(auto)]
+
 ghost use Rattle.std.specs.Prelude.{◌≡◌, ◌∷◌, ◌++◌, [], OnOk, IfOk};
 ghost use Rattle.std.specs.List.{filter};
 ghost use Rattle.gt_core.specs.Literal.{is_in};
 ghost use Rattle.gt_core.specs.Published.{order_of};
 ghost use Rattle.step_plans.specs.Plans.{in_order};
-ghost use Rattle.plan_report.specs.Laws.{ArePlanOf};
+ghost use Rattle.linear_plans.specs.Listed.{ArePlanOf};
 
 use action_order::numbers::ActNumbers;
 use action_order::order::Order;

@@ -5,7 +5,7 @@ use Rattle.pd_model.specs.Plan.{IsPlan}
 use Rattle.pd_model.specs.declared.calls.Call.{Call}
 use Rattle.grounding.specs.Laws.{AreNumbers}
 use Rattle.step_plans.specs.Plans.{in_order}
-use Rattle.plan_report.proofs.linear.linearise.Goals as goal
+use Rattle.linear_plans.proofs.linearise.Goals as goal
 
 all_done : (order : List ℕ) (steps : List (List ℕ)) (i : ℕ) (actions : List ℕ) → length steps ≤ i → in_order order steps ≡ actions ++ in_order order (drop i steps) → actions ≡ in_order order steps
 all_done order steps i actions past e = sym (append-nil actions) ∙ ap (λ (ss : List (List ℕ)). actions ++ in_order order ss) (sym (drop_all i steps past)) ∙ sym e

@@ -1,8 +1,8 @@
 use Rattle.std.proofs.Common.{◌∙◌}
 use Rattle.gt_core.specs.Literal.{is_in}
 use Rattle.gt_core.specs.Published.{order_of}
-use Rattle.plan_report.proofs.Pushed.{members_next}
-use Rattle.plan_report.proofs.linear.push_members.Goals as goal
+use Rattle.linear_plans.proofs.Listed.{members_next}
+use Rattle.linear_plans.proofs.push_members.Goals as goal
 
 pub loop-place-preserved : goal.loop-place-preserved
 loop-place-preserved c =
