@@ -1,7 +1,7 @@
 use Rattle.std.specs.Prelude.{ℕ, ◌/◌, ◌<◌}
 use Rattle.clause_base.specs.Derivation.{Effect as Meaning, Conflicts as conflicts, Forces as forces, Loose as loose}
-use Rattle.rup_check.specs.declared.effect.Effect.{Effect}
-use Rattle.rup_check.specs.declared.effect.Effect.TheVariants.{Conflicts, Forces, Loose}
+use Rattle.hint_effects.specs.declared.effect.Effect.{Effect}
+use Rattle.hint_effects.specs.declared.effect.Effect.TheVariants.{Conflicts, Forces, Loose}
 
 -- what the checker's effect says, in the words of derivations
 abbrev pub meaning : Effect → Meaning

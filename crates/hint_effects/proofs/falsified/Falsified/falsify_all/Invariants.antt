@@ -1,6 +1,6 @@
 use Rattle.std.proofs.Common.{◌≡◌, fold, length}
 use Rattle.clause_base.specs.Clause.{put, HasVariablesBelow}
-use Rattle.rup_check.proofs.falsified.Falsified.falsify_all.Given as goal
+use Rattle.hint_effects.proofs.falsified.Falsified.falsify_all.Given as goal
 
 abbrev pub invariant-loop-code : goal.invariant-loop-code
 invariant-loop-code l = record {

@@ -1,6 +1,6 @@
 use Rattle.std.proofs.Common.{◌≡◌, ◌∙◌, ℕ, suc, List, ◌∷◌, fold, ap, sym, subst, arith}
 use Rattle.clause_base.specs.Clause.{put, HasVariablesBelow}
-use Rattle.rup_check.proofs.falsified.Falsified.falsify_all.Goals as goal
+use Rattle.hint_effects.proofs.falsified.Falsified.falsify_all.Goals as goal
 
 -- what holds of all literals holds of those after the first
 below_rest : (variables lit : ℕ) (lits rest : List ℕ) → lits ≡ lit ∷ rest → HasVariablesBelow variables lits → HasVariablesBelow variables rest

@@ -19,7 +19,7 @@ pub struct Falsified {
 impl Model for Falsified {
     ghost use Rattle.std.specs.Prelude.{◌≡◌, ◌*◌, length};
     ghost use Rattle.lit_marks.specs.Marks.{places};
-    ghost use Rattle.rup_check.specs.Falsified.{FalsifiedView};
+    ghost use Rattle.hint_effects.specs.Falsified.{FalsifiedView};
 
     ghost Value = { FalsifiedView };
 

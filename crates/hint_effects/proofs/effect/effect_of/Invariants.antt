@@ -1,6 +1,6 @@
 use Rattle.std.proofs.Common.{◌≡◌, ◌++◌, ◌/◌, ◌<◌, drop, option_to_list, IfSome}
 use Rattle.clause_base.specs.Derivation.{open_literals}
-use Rattle.rup_check.proofs.effect.effect_of.Given as goal
+use Rattle.hint_effects.proofs.effect.effect_of.Given as goal
 
 abbrev pub invariant-loop-place : goal.invariant-loop-place
 invariant-loop-place l = record {
