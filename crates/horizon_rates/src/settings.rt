@@ -1,4 +1,4 @@
-ghost use Rattle.std.specs.Prelude.{◌≤◌};
+ghost use Rattle.std.specs.Prelude.{◌≡◌, ◌≤◌};
 
 use crate::Rates;
 
@@ -16,4 +16,22 @@ pub struct Settings {
     pub ghost budget_in_range: { budget ≤ 1000000 },
     pub ghost slice_in_range: { (1 ≤ slice) × (slice ≤ 10000) },
     pub ghost workers_in_range: { (1 ≤ workers) × (workers ≤ 16) },
+}
+
+impl Settings {
+    /// By what a race is run that is polled: its workers are one.
+    pub fn polled(rates: Rates, budget: u64, slice: u32) -> Settings
+        requires budget { budget ≤ 1000000 }
+        requires slice { (1 ≤ slice) × (slice ≤ 10000) }
+        ensures rates { result.rates ≡ rates }
+        ensures budget { result.budget ≡ budget }
+        ensures slice { result.slice ≡ slice }
+    {
+        Settings {
+            rates,
+            budget,
+            slice,
+            workers: 1,
+        }
+    }
 }

@@ -1,7 +1,6 @@
 -- Texts that are made piece by piece.
-use Rattle.std.proofs.Common.{◌≡◌, ℕ, suc, ◌+◌, Bool, true, false, if◌then◌else◌, List, [], ◌∷◌, ◌++◌, map, drop, slice_get, Some, refl, sym, ap, ◌∙◌, append_assoc, append-nil, add-one, drop-cons}
-use Rattle.std.specs.List.{flat_map, filter}
-use Rattle.std.proofs.lemmas.Option.{get_or_from_slice_get, slice_get_within}
+use Rattle.std.proofs.Common.{◌≡◌, ℕ, ◌+◌, List, [], ◌∷◌, ◌++◌, map, drop, slice_get, Some, refl, sym, ap, ◌∙◌, append_assoc}
+use Rattle.std.specs.List.{flat_map}
 use Rattle.report_lines.specs.Lines.{joined}
 use Rattle.pd_model.specs.declared.parts.Parts.{Parts}
 use Rattle.grounding.specs.Grounded.{Grounded}
@@ -10,6 +9,7 @@ use Rattle.race_end.specs.declared.line.Line.{Line}
 use Rattle.race_end.specs.declared.end.RaceEnd.{RaceEnd}
 use Rattle.race_end.specs.declared.end.RaceEnd.TheVariants as races
 use Rattle.race_end.specs.Ends.{LineView, line_view, end_view, lines_of, lines_in, conflicts_in}
+use Rattle.linear_plans.proofs.Listed.{rest_at}
 use Rattle.plan_report.specs.Report.{entry_of, action_text, step_line, step_lines, calls_by_step, conflicts_line, end_line, plan_lines, last_lines, report_of}
 use Rattle.plan_report.proofs.Lines.{joined-append}
 
@@ -27,23 +27,6 @@ two_and_words t0 t1 t2 t3 t4 t5 a b c d e f e1 e2 e3 e4 e5 = rw (e5, e4, e3, e2,
 pub lines_each : {X : Type 0} (line : X → List ℕ) (xs : List X) → flat_map (λ x. joined (line x ∷ [])) xs ≡ joined (map line xs)
 lines_each line [] = refl
 lines_each line (x ∷ xs) = append_assoc (line x) (10 ∷ []) (flat_map (λ y. joined (line y ∷ [])) xs) ∙ ap (λ (rest : List ℕ). line x ++ 10 ∷ rest) (lines_each line xs)
-
--- the rest of a list at a place
-rest_at : {X : Type 0} (xs : List X) (i : ℕ) (x : X) → slice_get xs i ≡ Some x → drop i xs ≡ x ∷ drop (i + 1) xs
-rest_at xs i x at =
-    let lt = slice_get_within xs i x at in
-    drop-cons xs i x lt ∙ ap (λ (y : _). y ∷ drop (suc i) xs) (get_or_from_slice_get xs i x x at) ∙ ap (λ (k : ℕ). x ∷ drop k xs) (sym (add-one i))
-
--- members of a set, one more place
-pub members_next :
-    (p : ℕ → Bool) (xs : List ℕ) (i x : ℕ) (before after : List ℕ) → slice_get xs i ≡ Some x → after ≡ before ++ filter p (x ∷ [])
-    → before ++ filter p (drop i xs) ≡ after ++ filter p (drop (i + 1) xs)
-members_next p xs i x before after at is =
-    ap (λ (ys : List ℕ). before ++ filter p ys) (rest_at xs i x at) ∙ by (p x) ∙ ap (λ (ys : List ℕ). ys ++ filter p (drop (i + 1) xs)) (sym is)
-  where
-    by : (b : Bool) → before ++ (if b then x ∷ filter p (drop (i + 1) xs) else filter p (drop (i + 1) xs)) ≡ (before ++ (if b then x ∷ [] else [])) ++ filter p (drop (i + 1) xs)
-    by true = sym (append_assoc before (x ∷ []) (filter p (drop (i + 1) xs)))
-    by false = ap (λ (ys : List ℕ). ys ++ filter p (drop (i + 1) xs)) (sym (append-nil before))
 
 -- the line of a step, and the lines under it
 pub step_pushed :

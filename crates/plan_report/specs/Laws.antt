@@ -4,18 +4,15 @@ use Rattle.std.specs.List.{list_all, AllByRecursion}
 use Rattle.std.specs.Str.{bytes_eq}
 use Rattle.report_lines.specs.Lines.{lines_of}
 use Rattle.report_lines.specs.Horizons.{Says, is_word, entry_line}
-use Rattle.gt_core.specs.Lawful.{is_task}
-use Rattle.gt_core.specs.Published.{IsPublished, order_of}
 use Rattle.pd_model.specs.Fits.{is_call}
-use Rattle.pd_model.specs.Plan.{IsPlan}
 use Rattle.pd_model.specs.WellFormed.{IsWellFormed}
 use Rattle.pd_model.specs.declared.calls.Call.{Call}
 use Rattle.pd_model.specs.declared.parts.Parts.{Parts}
 use Rattle.pd_plan.specs.PlanFile.{plan_file}
-use Rattle.grounding.specs.Grounded.{Grounded, IsGrounded}
+use Rattle.grounding.specs.Grounded.{Grounded}
 use Rattle.grounding.specs.Laws.{AreNumbers}
 use Rattle.race_end.specs.Ends.{LineView, EndView, Planned, Exhausted, Unfinished, lines_in, conflicts_in}
-use Rattle.step_plans.specs.Plans.{AreStepPlan, actions_in}
+use Rattle.step_plans.specs.Plans.{actions_in}
 use Rattle.plan_report.specs.Report.{word_text, entry_of, step_lines, calls_by_step, last_lines, report_of}
 
 -- ---- what is known of an end
@@ -53,12 +50,6 @@ HasCalls p g (Exhausted horizon lines) = Unit {0}
 HasCalls p g (Unfinished lines) = Unit {0}
 
 -- ---- laws
-
--- these actions are those of calls that are a plan, where the steps are a step plan in this order
-abbrev pub ArePlanOf : List (List ℕ) → List (List ℕ) → List ℕ → Type 0
-ArePlanOf components steps actions =
-    (p : Parts) (g : Grounded) (known : List (ℕ × ℕ)) (n : ℕ) → IsGrounded p g → is_task g.task ≡ true → IsPublished g.task known components
-    → AreStepPlan g.task (order_of components) steps n → (calls : List Call) × AreNumbers g calls actions × IsPlan p calls
 
 -- the lines of a report are read back
 abbrev pub LinesAreReadBack : Type 0

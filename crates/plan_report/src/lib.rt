@@ -7,10 +7,9 @@
 mod calls;
 mod horizons;
 pub mod laws;
-mod linear;
 mod report;
 mod text;
 
-pub use linear::linearise;
+pub use linear_plans::linearise;
 pub use report::{report_text, summary_text};
 pub use text::Text;

@@ -49,22 +49,6 @@ impl<'a, F: StepForm> Model for PollRace<'a, F> {
     ghost invariant = { λ p. (F.task p.form.now ≡ p.task.now) × IsTied (input_of F.StepForm p.form.now p.settings) p.phase };
 }
 
-/// By what a race is run that is polled: its workers are one.
-fn settings_of(rates: Rates, budget: u64, slice: u32) -> Settings
-    requires budget { budget ≤ 1000000 }
-    requires slice { (1 ≤ slice) × (slice ≤ 10000) }
-    ensures rates { result.rates ≡ rates }
-    ensures budget { result.budget ≡ budget }
-    ensures slice { result.slice ≡ slice }
-{
-    Settings {
-        rates,
-        budget,
-        slice,
-        workers: 1,
-    }
-}
-
 impl<'a, F: StepForm> PollRace<'a, F> {
     /// A race that was not polled yet, over a form of a task, by rates and a budget of at most 1,000,000 conflicts. Each poll of a
     /// run grants at most `slice` conflicts, 1 to 10,000. It borrows task and form.
@@ -87,7 +71,7 @@ impl<'a, F: StepForm> PollRace<'a, F> {
         ensures stage { IfOk result (λ race. race.stage ≡ record { ended = 0; begun = 0; done = 0; granted = 0 }) }
         ensures live { IfOk result (λ race. race.given ≡ false) }
     {
-        let settings = settings_of(rates, budget, slice);
+        let settings = Settings::polled(rates, budget, slice);
         let phase = Phase::Between(Racing::new(alloc, &settings));
         Ok(PollRace {
             task,

@@ -9,6 +9,7 @@ use futures::Future;
 use futures::task::{Context, Poll};
 use solver_pool::Resume;
 use std::marker::Model;
+use turn_parts::units_of_turn;
 
 /// A run that is advanced to a target by polls, each by a slice, and is given once it is settled, spoilt or at its target.
 #[derive(Drop)]
@@ -68,11 +69,7 @@ fn advance_once<R: Resume>(run: &mut R, target: u64, slice: u32) -> bool
     ensures off { result ≡ false → Ends R.Resume target run.new }
 {
     let left = target - run.granted();
-    let part = if left < slice as u64 {
-        left as u32
-    } else {
-        slice
-    };
+    let part = units_of_turn(left, slice);
 
     // A run that found no memory says so itself.
     let _ = run.advance(part);

@@ -6,12 +6,12 @@ ghost use Rattle.rup_check.specs.Certificate.{Certifies};
 ghost use Rattle.rup_check.specs.Ends.{ends_by};
 
 use crate::entry::is_derived;
-use crate::falsified::Falsified;
 use crate::kept::Kept;
 use clause_base::formula::Formula;
 use clause_base::memory::Memory;
 use clause_log::log::Log;
 use clause_log::reader::Step;
+use hint_effects::falsified::Falsified;
 use std::alloc::Global;
 use std::marker::Model;
 

@@ -4,13 +4,13 @@ ghost use Rattle.clause_base.specs.Derivation.{leads_to_conflict};
 ghost use Rattle.clause_log.specs.Step.{told};
 ghost use Rattle.rup_check.specs.Kept.{kept_named, is_derived_by};
 
-use crate::effect::{Effect, effect_of};
-use crate::falsified::Falsified;
 use crate::kept::Kept;
 use clause_base::formula::Formula;
 use clause_base::literal::Lit;
 use clause_base::memory::Memory;
 use clause_log::reader::Step;
+use hint_effects::effect::{Effect, effect_of};
+use hint_effects::falsified::Falsified;
 use number_bytes::numbers::Numbers;
 
 /// Whether the hints lead from what is taken as false to a conflict, where they name kept clauses. Each forced literal's

@@ -8,7 +8,5 @@
 #![tactic(auto)]
 
 pub mod check;
-mod effect;
 mod entry;
-mod falsified;
 mod kept;

@@ -7,6 +7,7 @@ ghost use Rattle.solver_pool.specs.Serve.{ServedSays, GoesOn, IsAdvanced, IsEnde
 
 use crate::{Gate, Job, Pass, Resume, Ring};
 use std::sync::Wait;
+use turn_parts::units_of_turn;
 
 /// What a turn came to.
 #[derive(Drop)]
@@ -62,11 +63,7 @@ fn advance_job<R: Resume, G: Gate>(job: &mut Job<R>, slice: u32, gate: &G) -> bo
 {
     let horizon = job.run.horizon();
     let left = job.target - job.run.granted();
-    let part = if left < slice as u64 {
-        left as u32
-    } else {
-        slice
-    };
+    let part = units_of_turn(left, slice);
     gate.enter(horizon);
 
     // A run that found no memory says so itself.

@@ -7,6 +7,7 @@ ghost use Rattle.solver_pool.specs.Worker.{StaysAtWork};
 
 use crate::{Gate, Job, Pass, Resume, Ring, Served, serve_one};
 use std::sync::Wait;
+use turn_parts::put_or_note;
 
 /// A worker: its pass, and the jobs that it is done with. It failed where it had no room for one of them.
 #[derive(Drop)]
@@ -33,9 +34,7 @@ fn turn<R: Resume, G: Gate, H: Wait>(
     match serve_one(rt, ring, &mut worker.pass, slice, gate) {
         Served::Back => false,
         Served::Done(job) => {
-            if worker.done.push(job).is_err() {
-                worker.failed = true;
-            }
+            put_or_note(&mut worker.done, job, &mut worker.failed);
             false
         }
         Served::Idle => true,
