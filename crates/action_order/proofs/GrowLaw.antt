@@ -1,4 +1,4 @@
-use Rattle.std.proofs.Common.{◌≡◌, ◌==◌, ℕ, ◌+◌, ◌<◌, List, [], ◌∷◌, ◌++◌, length, take, drop, Bool, ◌||◌, ap, sym, ◌∙◌}
+use Rattle.std.proofs.Common.{◌≡◌, ◌==◌, ℕ, ◌+◌, ◌<◌, List, [], ◌∷◌, ◌++◌, length, take, drop, Bool, true, false, not, ◌&&◌, ◌||◌, refl, ap, sym, ◌∙◌}
 use Rattle.std.specs.Prelude.{slice_index_or}
 use Rattle.std.specs.List.{list_any}
 use Rattle.std.proofs.lemmas.List.{take_more, at_drop_more}
@@ -26,3 +26,9 @@ in_pushed xs x y = any_push (λ z. z == y) xs x
 -- one more number below a bound
 pub any_below_more : (p : ℕ → Bool) (n : ℕ) → list_any p (range (n + 1)) ≡ (p n || list_any p (range n))
 any_below_more p n = ap (list_any p) (range_more n) ∙ any_push p (range n) n
+
+-- less one and the others is less the one, and then less the others
+pub less_both : (r h t : Bool) → (r && not (h || t)) ≡ ((r && not h) && not t)
+less_both false h t = refl
+less_both true true t = refl
+less_both true false t = refl

@@ -18,7 +18,7 @@ use bit_rows::row::BitRow;
 use std::alloc::{AllocError, Global};
 
 /// How far a vertex is: not seen yet, at a place of the stack, or in a finished component.
-#[derive(Clone, Copy, Debug)]
+#[derive(Clone, Copy)]
 pub enum Mark {
     Unseen,
     At(usize),
@@ -298,7 +298,7 @@ fn number_of(mark: Mark) -> usize
 
 /// The components of a graph: the number of each vertex's, and one vertex of each number. Components are numbered
 /// so that no edge leads to a greater number.
-#[derive(Debug, Drop)]
+#[derive(Drop)]
 pub struct Components {
     pub numbers: Vec<usize>,
     pub roots: Vec<u32>,

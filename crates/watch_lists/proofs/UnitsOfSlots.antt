@@ -10,7 +10,7 @@ use Rattle.watch_lists.specs.Pending.{is_pending_on}
 use Rattle.watch_lists.specs.Units.{IsUnit, AreUnits, IsUnitAt, HasPairsMore, AreDistinct, IsWithin, IsConsistent, HasUnits}
 use Rattle.watch_lists.specs.Visit.{slot_clauses, slot_set, AreSlotsBelow}
 use Rattle.watch_lists.proofs.Filters.{clause_past, pending_at}
-use Rattle.watch_lists.proofs.Assigns.{equal_of, apart_of, at_most_of, past_of}
+use Rattle.watch_lists.proofs.Assigns.{equal_of, apart_of, at_most_of, past_of, and_true}
 use Rattle.watch_lists.proofs.Adds.{at_other, at_own, get_other, kept_in}
 use Rattle.watch_lists.proofs.UnitsTell.{pending_kept, consistent_take}
 use Rattle.watch_lists.proofs.Slotted.{slot_at, slots_long, slots_same, slots_more}
@@ -213,3 +213,14 @@ has_units_shorter cl trail slots words units m trail' words' units' i e within u
   distinct = i.distinct;
   consistent = subst IsConsistent (sym e) (consistent_take m trail i.consistent);
 }
+
+-- a set of the pending clauses has members of these alone
+pub within_pending : (cl : List (List ℕ)) (kept : List Bool) (trail : List ℕ) (set : ℕ → Bool) → length kept ≡ length cl → ((k : ℕ) → set k ≡ is_pending_on cl kept trail k) → IsWithin (length cl) set
+within_pending cl kept trail set long same k m = omega (arith, kept_in kept k (is_pending (has_literal trail) (clause_at cl k)) (sym (same k) ∙ m), long)
+
+-- and they have their unit literals, where those of the pending clauses of slots were found
+pub units_pending : (cl : List (List ℕ)) (kept : List Bool) (trail slots : List ℕ) (set : ℕ → Bool) (units : List ℕ) → ((k : ℕ) → set k ≡ is_pending_on cl kept trail k) → ((s : ℕ) → s < length slots → is_pending (has_literal trail) (clause_at (slot_clauses cl slots) s) ≡ true → 2 < length (clause_at (slot_clauses cl slots) s) → IsUnit (has_literal trail) (clause_at (slot_clauses cl slots) s) (get_or units s 0)) → AreUnits (slot_clauses cl slots) (has_literal trail) (slot_set set slots) units
+units_pending cl kept trail slots set units same found s m long =
+    let inside : s < length slots = omega (arith, long_in (slot_clauses cl slots) s long, slots_long cl slots) in
+    let pending = and_true (get_or kept (get_or slots s 0) false) (is_pending (has_literal trail) (clause_at cl (get_or slots s 0))) (sym (same (get_or slots s 0)) ∙ m) in
+    found s inside (ap (is_pending (has_literal trail)) (slot_at cl slots s inside) ∙ pending.1) long

@@ -16,7 +16,7 @@ const ROOM: u32 = 4_096;
 const NONE: u32 = 4_294_967_295;
 
 /// A clause of two literals: one of them, the other one, and the clause's number.
-#[derive(Clone, Copy, Debug)]
+#[derive(Clone, Copy)]
 pub struct Entry {
     pub one: u32,
     pub pair: Pair,

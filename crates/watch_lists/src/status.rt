@@ -5,7 +5,7 @@ ghost use Rattle.watch_lists.specs.Status.{IsStatus};
 use clause_base::literal::Lit;
 
 /// How a clause stands on a trail.
-#[derive(Clone, Copy, Debug)]
+#[derive(Clone, Copy)]
 pub enum Status {
     /// It is not pending: a literal is true, or two are not false.
     Open,

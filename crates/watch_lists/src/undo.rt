@@ -21,7 +21,7 @@ use number_bits::flat::Flat;
 use number_bits::layer::Layer;
 
 /// To where a trail is taken back.
-#[derive(Clone, Copy, Debug)]
+#[derive(Clone, Copy)]
 pub enum Back {
     /// To a length, or not at all, where it is no longer than that.
     Length(u32),

@@ -23,7 +23,7 @@ use number_bits::set::NumberSet;
 use watch_chains::chains::Chains;
 
 /// The places of a clause's two watched literals, and the place where the search for another goes on.
-#[derive(Clone, Copy, Debug)]
+#[derive(Clone, Copy)]
 pub struct Watched {
     pub first: u32,
     pub second: u32,

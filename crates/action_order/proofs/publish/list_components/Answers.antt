@@ -1,14 +1,15 @@
-use Rattle.std.proofs.Common.{arith, ◌≡◌, ◌<◌, ℕ, length, sym, ◌∙◌, subst, rules}
+use Rattle.std.proofs.Common.{arith, ◌≡◌, ◌<◌, ℕ, length, sym, ◌∙◌, subst, rules, List, ap}
 use Rattle.std.specs.List.{AllByRecursion}
 use Rattle.gt_core.proofs.Literals.{in_among}
 use Rattle.gt_core.proofs.Basics.{each_at}
-use Rattle.action_order.specs.Graph.{class_at, IsClassed}
+use Rattle.action_order.specs.Graph.{class_at, IsClassed, item}
 use Rattle.action_order.specs.Quotient.{IsQuotient, AreNames}
 use Rattle.action_order.specs.Sorting.{IsTopologicalOrder}
 use Rattle.action_order.proofs.SortingLaw.{taken_below}
 use Rattle.action_order.proofs.QuotientLaw.{named_components}
 use Rattle.action_order.proofs.OrderLaw.{each_below, few_roots}
 use Rattle.action_order.proofs.ListedLaw.{is_listed, name_listed, name_item}
+use Rattle.std.proofs.lemmas.List.{length-map}
 use Rattle.action_order.proofs.publish.list_components.Goals as goal
 use Rattle.action_order.proofs.publish.list_components.Goals.{After-as_slice-5, After-as_slice-6}
 
@@ -79,3 +80,15 @@ returns-clause-names c =
     ∙ sym (name_listed c.args.targets.items n c.in_ok-found.found.roots.items c.in_ok-rows.rows.items c.in_ok-least.least.items c.requires.graph k q (named here) c.in_ok-order.order.items a lt
     (λ x i. let b = each_at (λ x. x < length c.in_ok-rows.rows.items) c.in_ok-order.order.items x (taken_below c.in_ok-rows.rows.items _ _ _ _ d.taken) (in_among _ x i) in let l = q.long in omega arith)
     (d.all (class_at n a) (let b = k.below a lt in let l = q.long in omega arith))))
+
+pub quotient-requires-clause-classes : goal.quotient-requires-clause-classes
+quotient-requires-clause-classes c =
+    let k : IsClassed c.args.targets.items c.in_ok-found.found.numbers.items c.in_ok-found.found.roots.items = rw (← c.as_slice.ensures.value) c.in_ok-found.ensures in
+    rw (c.as_slice-numbers.ensures.value, c.as_slice-2.ensures.value) k
+
+pub returns-clause-long : goal.returns-clause-long
+returns-clause-long c =
+    ap (λ (xs : List ℕ). length xs) c.in_ok-names.ensures
+    ∙ length-map c.as_slice-numbers.result.now (item c.as_slice-7.result.now)
+    ∙ ap (λ (xs : List ℕ). length xs) c.as_slice-numbers.ensures.value
+    ∙ (classed (goal.at.returns-clause-long c).After-as_slice-5).long

@@ -1,8 +1,10 @@
-use Rattle.std.proofs.Common.{◌==◌, ◌/◌, ◌+◌, take}
+use Rattle.std.proofs.Common.{◌==◌, ◌/◌, ◌+◌, take, arith, ◌<◌, ℕ, List, length, subst}
 use Rattle.action_order.specs.Graph.{item}
-use Rattle.action_order.specs.Readers.{has_fact}
+use Rattle.action_order.specs.Readers.{has_fact, IsEntered}
 use Rattle.action_order.proofs.GrowLaw.{any_more}
 use Rattle.action_order.proofs.ReadersLaw.{entered_then}
+use Rattle.std.proofs.lemmas.List.{take_all}
+use Rattle.gt_core.proofs.Lists.{each_number}
 use Rattle.action_order.proofs.readers.enter_condition.Goals as goal
 
 pub loop-lit-preserved : goal.loop-lit-preserved
@@ -10,3 +12,9 @@ loop-lit-preserved c =
     let i = c.loop-lit.lit-index in
     let lits = c.args.condition.now in
     entered_then (has_fact (take i lits)) (λ k. item lits i / 2 == k) (has_fact (take (i + 1) lits)) c.args.b c.args.rows.now.items c.loop-lit.rows.items c.enter.new.rows.items c.loop-lit.invariant c.in_ok-enter.ensures (λ k. any_more (λ l. l / 2 == k) lits i 0 c.loop-lit-test.true)
+
+pub enter-requires : goal.enter-requires
+enter-requires c = omega (arith, each_number (λ l. l / 2 < length c.args.rows.now.items) c.args.condition.now c.loop-lit.lit-index 0 c.requires c.loop-lit-test.true, c.loop-lit.invariant.long)
+
+pub returns : goal.returns
+returns c = subst (λ (ls : List ℕ). IsEntered (has_fact ls) c.args.b c.args.rows.now.items c.loop-lit.rows.items) (take_all c.loop-lit.lit-index c.args.condition.now (omega (arith, c.loop-lit-test.false))) c.loop-lit.invariant

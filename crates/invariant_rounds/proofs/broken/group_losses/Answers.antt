@@ -1,13 +1,13 @@
-use Rattle.std.proofs.Common.{◌≡◌, ◌∙◌, ◌&&◌, ◌||◌, length, drop, refl, sym, Bool, true, false, []}
+use Rattle.std.proofs.Common.{◌≡◌, ◌∙◌, ◌&&◌, ◌||◌, length, drop, refl, sym, Bool, true, false, [], ◌*◌}
 use Rattle.std.proofs.Math.ListN.{drop_of_length-le}
 use Rattle.std.proofs.lemmas.Option.{slice_get_read}
 use Rattle.bit_rows.specs.Bits.{row_has}
 use Rattle.gt_core.specs.Literal.{opposite}
 use Rattle.known_literals.specs.Rows.{clause_in}
 use Rattle.invariant_rounds.specs.Losses.{are_lost}
-use Rattle.invariant_rounds.specs.Groups.{group_with, breaks_under}
+use Rattle.invariant_rounds.specs.Groups.{group_with, breaks_under, GroupFits}
 use Rattle.invariant_rounds.specs.declared.groups.Group.{Group}
-use Rattle.invariant_rounds.proofs.Grouping.{groups_more}
+use Rattle.invariant_rounds.proofs.Grouping.{groups_more, all_read}
 use Rattle.invariant_rounds.proofs.Indexing.{from_place}
 use Rattle.invariant_rounds.proofs.broken.group_losses.Goals as goal
 
@@ -39,3 +39,6 @@ returns-clause-lost c = λ l m.
     ends true c = refl
     ends false true = refl
     ends false false = refl
+
+pub push_group_losses-requires-clause-group : goal.push_group_losses-requires-clause-group
+push_group_losses-requires-clause-group c = all_read (GroupFits (2 * c.args.before.now.facts)) c.args.before.now.groups.now c.loop-group.group-index c.group-item.result c.requires.before.groups c.loop-group-test.true c.group-item.is

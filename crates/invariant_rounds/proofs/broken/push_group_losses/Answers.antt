@@ -101,3 +101,9 @@ returns-clause-lost c = λ l m.
     ∙ (λ i. old || (clause && (c.requires.group.turned l i && (not (is_add l && given i) && not (sure i)))))
     ∙ ap (λ (b : Bool). old || (clause && (lits && (b && not (is_sure_by facts rows has (with_more rows set cond) m)))))
     (and_true (has_no_pair facts (with_more rows set cond)) (not (is_add l && has l (list_all (with_more rows set cond)))) (ap (has_no_pair facts) (sym here) ∙ sym free ∙ ap not c.if-has_pair.false))
+
+pub push_losses-requires-clause-lits : goal.push_losses-requires-clause-lits
+push_losses-requires-clause-lits c = c.requires.group.within
+
+pub push_losses-requires-clause-clauses : goal.push_losses-requires-clause-clauses
+push_losses-requires-clause-clauses c = c.requires.clauses

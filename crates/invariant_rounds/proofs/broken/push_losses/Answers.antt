@@ -1,9 +1,11 @@
-use Rattle.std.proofs.Common.{◌≡◌, ◌&&◌, not, ◌*◌, ap, Bool, ℕ, true, subst}
+use Rattle.std.proofs.Common.{◌≡◌, ◌&&◌, not, ◌*◌, ap, Bool, ℕ, true, refl, subst, ◌||◌, ◌∙◌, inl, inr, false, sym}
 use Rattle.bit_rows.specs.Bits.{row_has}
 use Rattle.known_literals.specs.Breaks.{is_add}
 use Rattle.known_literals.specs.Rows.{clause_in}
 use Rattle.invariant_rounds.specs.Losses.{are_lost}
 use Rattle.invariant_rounds.proofs.Grouping.{lost_next, own_part, part_none}
+use Rattle.std.specs.Prelude.{nat_lt}
+use Rattle.std.proofs.lemmas.Bool.{cases_lt, lt-ltb}
 use Rattle.invariant_rounds.proofs.broken.push_losses.Goals as goal
 
 pub loop-l-preserved : goal.loop-l-preserved
@@ -19,3 +21,19 @@ loop-l-preserved c =
           (λ low lt. part_none clause lits t (h.2 a low lt));
       each = λ all. c.in_ok-push_loss.ensures.each (2 * c.args.facts) (c.requires.lits c.in-Some.l h.1) (c.loop-l.invariant.each all);
     }
+
+-- a test that fails where it is asked for, and is not asked for elsewhere
+asked_or_not : (o b t : Bool) → t ≡ false → (o || (b && t)) ≡ (o || t)
+asked_or_not o true t e = refl
+asked_or_not o false t e = ap (λ (x : Bool). o || x) (sym e)
+
+pub returns-clause-lost : goal.returns-clause-lost
+returns-clause-lost c a m =
+    let clause : Bool = clause_in c.args.clauses.now a m in
+    let lits : Bool = row_has c.args.lits.now a in
+    let t : Bool = not (is_add a && row_has c.args.given.now a) && not (row_has c.args.sure.now m) in
+    let old : Bool = are_lost c.args.losses.now.items a m in
+    c.loop-l.invariant.lost a m ∙ elim (cases_lt a c.loop-l.from) [
+      | inl l ↦ ap (λ (b : Bool). old || (b && (clause && (lits && t)))) (lt-ltb a c.loop-l.from l)
+      | inr g ↦ asked_or_not old (nat_lt a c.loop-l.from) (clause && (lits && t)) (part_none clause lits t (c.in_default.ensures a g))
+    ]

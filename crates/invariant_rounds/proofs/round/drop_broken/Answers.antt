@@ -1,4 +1,4 @@
-use Rattle.std.proofs.Common.{arith, ◌*◌, ◌<◌, sym, subst, ℕ, List, length, Vec, Global}
+use Rattle.std.proofs.Common.{arith, ◌*◌, ◌<◌, sym, subst, ℕ, List, length, Vec, Global, ◌∙◌}
 use Rattle.std.specs.List.{AllByRecursion}
 use Rattle.bit_rows.specs.Bits.{row_has}
 use Rattle.gt_core.specs.Task.{Action}
@@ -7,6 +7,7 @@ use Rattle.invariant_rounds.specs.Losses.{LossFits}
 use Rattle.invariant_rounds.specs.declared.broken.Loss.{Loss}
 use Rattle.invariant_rounds.proofs.RoundLaw.{known_fit, actions_fit, zip_of, all_fit, round_is, picked}
 use Rattle.known_literals.proofs.Steps.{opposite_below}
+use Rattle.gt_core.proofs.Basics.{and_split}
 use Rattle.invariant_rounds.proofs.round.drop_broken.Goals as goal
 
 pub all_losses-requires-clause-rows : goal.all_losses-requires-clause-rows
@@ -50,3 +51,10 @@ returns-clause-round g c =
     let each = zip_of it c.facts-facts.result c.args.task.now.facts c.as_slice.result.now c.args.rows.now.items c.acts.result.now c.args.task.now.actions c.args.known.now c.args.todo.now c.in_ok-lists.lists.items c.facts-facts.ensures.facts c.as_slice.ensures.value c.acts.ensures.acts c.in_ok-lists.ensures in
     round_is it c.args.task.now c.args.rows.now.items _ c.args.known.now c.args.todo.now c.in_ok-lists.lists.items c.drop_all.result c.requires.rows c.requires.either c.requires.tested each
     (rw c.as_slice-2.ensures.value at c.drop_all.ensures.has) (rw c.as_slice-2.ensures.value at c.drop_all.ensures.dropped)
+
+pub returns-clause-rows : goal.returns-clause-rows
+returns-clause-rows g c = record {
+  few = c.requires.rows.few;
+  long = c.drop_all.ensures.long ∙ c.requires.rows.long;
+  within = λ l m t. c.requires.rows.within l m (and_split _ _ (sym (c.drop_all.ensures.has l m) ∙ t)).0;
+}

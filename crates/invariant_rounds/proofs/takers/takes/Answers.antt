@@ -1,5 +1,5 @@
-use Rattle.std.proofs.Common.{arith, ◌≡◌, ◌∙◌, ◌*◌, ◌<◌, ◌==◌, ◌&&◌, ap, sym, not, true, false, length, Bool, ℕ}
-use Rattle.std.specs.List.{list_all}
+use Rattle.std.proofs.Common.{arith, ◌≡◌, ◌∙◌, ◌*◌, ◌<◌, ◌==◌, ◌&&◌, ap, sym, not, true, false, length, Bool, ℕ, List, subst}
+use Rattle.std.specs.List.{list_all, AllByRecursion}
 use Rattle.bit_rows.specs.Bits.{row_has}
 use Rattle.known_literals.specs.Breaks.{is_add}
 use Rattle.known_literals.specs.Tested.{with_more, has_no_pair}
@@ -56,3 +56,8 @@ returns c =
     (ap (has_no_pair facts) (sym there) ∙ sym (pair_test_is facts (row_has c.fill_with.new.row) c.has_pair.result within c.has_pair.ensures) ∙ ap not c.if-has_pair.false)
     c.is_taken.result
     (c.is_taken.ensures ∙ ap (λ (b : Bool). not (is_add l && b)) (c.in_ok-fill_given.ensures l ∙ (λ i. group_with c.args.here.now.before.now.groups.now l (list_all (there i)))))
+
+pub fill_with-requires : goal.fill_with-requires
+fill_with-requires c =
+    subst (λ (n : ℕ). AllByRecursion (λ l. l < n) c.as_slice.result.now) (sym c.requires.here.before.rows.long)
+    (subst (λ (ls : List ℕ). AllByRecursion (λ l. l < 2 * c.args.here.now.before.now.facts) ls) (sym c.as_slice.ensures.value) c.requires.group.condition)

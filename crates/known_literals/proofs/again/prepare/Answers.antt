@@ -1,8 +1,8 @@
-use Rattle.std.proofs.Common.{◌<◌, ◌==◌, ◌≡◌, ◌||◌, subst, true, ℕ, List, length}
+use Rattle.std.proofs.Common.{◌<◌, ◌==◌, ◌≡◌, ◌||◌, subst, true, ℕ, List, length, ◌*◌, sym}
 use Rattle.std.specs.List.{list_any, AllByRecursion}
 use Rattle.bit_rows.specs.Bits.{row_has}
 use Rattle.gt_core.specs.Task.{Action}
-use Rattle.known_literals.specs.Tested.{act_at}
+use Rattle.known_literals.specs.Tested.{act_at, IsSetOf}
 use Rattle.known_literals.specs.Renewed.{is_unmoved}
 use Rattle.known_literals.proofs.Unmoved.{tested_again}
 use Rattle.known_literals.proofs.again.prepare.Goals as goal
@@ -15,3 +15,6 @@ returns-clause-tested c =
     tested_again task (row_has c.args.asked.now) c.args.known.now c.renew_known.new.known moved c.args.clauses.now todo c.requires.among c.in_ok-moved.ensures.moved c.requires.settled
     (subst (λ (xs : List Action). AllByRecursion (λ a. a < length xs) todo) c.acts.ensures.acts c.in_ok-todo.ensures.numbers)
     (subst (λ (xs : List Action). (a : ℕ) → a < length xs → (list_any (λ b. b == a) todo || is_unmoved moved (act_at xs a)) ≡ true) c.acts.ensures.acts c.in_ok-todo.ensures.left)
+
+pub renew_known-requires-clause-asked : goal.renew_known-requires-clause-asked
+renew_known-requires-clause-asked c = subst (λ (n : ℕ). IsSetOf (2 * n) (row_has c.args.asked.now)) (sym c.facts.ensures.facts) c.requires.asked

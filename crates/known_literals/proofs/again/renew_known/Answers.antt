@@ -4,6 +4,7 @@ use Rattle.gt_core.proofs.Basics.{cases}
 use Rattle.known_literals.specs.Rows.{row_at, clause_in, IsClosure}
 use Rattle.known_literals.proofs.Renewing.{row_was, none_was}
 use Rattle.known_literals.proofs.Steps.{nothing_in}
+use Rattle.known_literals.specs.Tested.{IsSetOf}
 use Rattle.known_literals.proofs.again.renew_known.Goals as goal
 
 pub renew_rows-requires-clause-were : goal.renew_rows-requires-clause-were
@@ -40,3 +41,6 @@ returns-clause-known c = record {
   each = c.in_ok-rows.ensures.each;
   other = λ k m f. ap (λ (r : List ℕ). row_has r m) (c.in_ok-rows.ensures.others k f) ∙ c.requires.were.other k m f;
 }
+
+pub find_lacking-requires-clause-asked : goal.find_lacking-requires-clause-asked
+find_lacking-requires-clause-asked c = subst (λ (n : ℕ). IsSetOf n (row_has c.args.asked.now)) (sym (ap length c.as_slice-2.ensures.value ∙ c.in_ok-rows.ensures.long)) c.requires.asked

@@ -1,9 +1,10 @@
-use Rattle.std.proofs.Common.{◌*◌, ◌<◌, ap, ℕ, subst, sym}
+use Rattle.std.proofs.Common.{◌*◌, ◌<◌, ap, ℕ, subst, sym, ◌∙◌, ◌&&◌, not, true, Bool, List, inl, inr}
 use Rattle.bit_rows.specs.Bits.{row_has}
 use Rattle.gt_core.specs.Literal.{opposite}
-use Rattle.known_literals.specs.Rows.{clause_in}
+use Rattle.known_literals.specs.Rows.{clause_in, HasNoPair}
 use Rattle.known_literals.proofs.Steps.{opposite_below}
 use Rattle.known_literals.proofs.Renewing.{same_closed, pair_closed}
+use Rattle.gt_core.proofs.Basics.{cases, and_both}
 use Rattle.known_literals.proofs.renew.renew.Goals as goal
 
 pub returns-then-is_same : goal.returns-then-is_same
@@ -16,3 +17,21 @@ pub none_follows-requires-clause-even : goal.none_follows-requires-clause-even
 none_follows-requires-clause-even c = λ l lt.
     let long = c.requires.done.rules.clauses.long in
     subst (λ (n : ℕ). opposite l < n) (sym long) (opposite_below l c.args.done.now.rules.now.facts (subst (λ (n : ℕ). l < n) long lt))
+
+pub returns-then-branch : goal.returns-then-branch
+returns-then-branch c = record {
+  given = λ m t. t;
+  sound = λ other chained part. part;
+  chained = λ free x y in_next told. elim (cases (next y)) [
+    | inl t ↦ t
+    | inr f ↦ absurd (c.in_ok-none_follows.ensures c.if-branch.true x y in_next
+        (c.subtract.ensures.has y ∙ ap (λ (r : List ℕ). row_has r y && not (next y)) c.in_ok-make_same.ensures ∙ and_both _ _ (c.requires.was.chained old_free x y (c.requires.was.part old_free x in_next) told) (ap not f))
+        (sym (c.requires.done.rules.either (opposite x) y) ∙ told))
+  ];
+}
+  where
+    next : ℕ → Bool
+    next = row_has c.args.next.now
+
+    old_free : HasNoPair (row_has c.args.old.now)
+    old_free = c.if-not-has_pair.ensures

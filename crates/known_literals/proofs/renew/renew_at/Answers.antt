@@ -1,8 +1,9 @@
-use Rattle.std.proofs.Common.{◌∙◌, ◌==◌, ◌*◌, ap, subst, sym, length, Bool, ℕ, List}
+use Rattle.std.proofs.Common.{◌∙◌, ◌==◌, ◌*◌, ap, subst, sym, length, Bool, ℕ, List, ◌≡◌, ◌||◌, true, false, refl}
 use Rattle.std.specs.Prelude.{if◌then◌else◌}
 use Rattle.bit_rows.specs.Bits.{row_has}
 use Rattle.known_literals.specs.Rows.{row_at, clause_in, IsClosure}
 use Rattle.known_literals.specs.Renewed.{WasTold}
+use Rattle.gt_core.proofs.Basics.{apart, same_test}
 use Rattle.known_literals.proofs.renew.renew_at.Goals as goal
 
 pub returns-in_ok-insert-clause-closure : goal.returns-in_ok-insert-clause-closure
@@ -27,3 +28,16 @@ renew_row-requires-clause-done c = record {
 pub renew_row-requires-clause-was : goal.renew_row-requires-clause-was
 renew_row-requires-clause-was c =
     subst (λ (rows : List (List ℕ)). WasTold (clause_in c.args.rules.now.clauses.now) (row_has c.args.stale.now) (2 * c.args.rules.now.facts) c.args.x (row_has (row_at rows c.args.x))) (sym c.as_slice.ensures.value) c.requires.was
+
+pub returns-in_ok-insert-clause-same : goal.returns-in_ok-insert-clause-same
+returns-in_ok-insert-clause-same c f =
+    let moved = row_has c.insert.new.self c.args.x in
+    absurd (apart moved (c.in_ok-insert.ensures.has c.args.x ∙ ap (λ (b : Bool). b || row_has c.args.moved.now c.args.x) (same_test c.args.x c.args.x refl)) f)
+
+-- the second of two tests of which neither is passed
+second_not : (a b : Bool) → (a || b) ≡ false → b ≡ false
+second_not true b e = absurd (let w : ⊥ = cc in w)
+second_not false b e = e
+
+pub returns-in_ok-insert-clause-more : goal.returns-in_ok-insert-clause-more
+returns-in_ok-insert-clause-more c k f = second_not (c.args.x == k) (row_has c.args.moved.now k) (sym (c.in_ok-insert.ensures.has k) ∙ f)

@@ -1,4 +1,4 @@
-use Rattle.std.proofs.Common.{subst, sym, Bool, ℕ, List}
+use Rattle.std.proofs.Common.{subst, sym, Bool, ℕ, List, ap, ◌∙◌}
 use Rattle.std.specs.Prelude.{if◌then◌else◌}
 use Rattle.bit_rows.specs.Bits.{row_has}
 use Rattle.known_literals.specs.Rows.{clause_in, IsClosure}
@@ -16,3 +16,6 @@ returns-clause-closure c =
     subst (λ (first : ℕ → Bool). IsClosure V first (row_has c.make_same.new.self)) (λ i l. c.in_ok-next.ensures l i)
     (subst (λ (r : List ℕ). IsClosure V (row_has c.in_ok-next.next) (row_has r)) (sym c.in_ok-make_same.ensures)
     (subst (λ (b : Bool). IsClosure V (row_has c.in_ok-next.next) (row_has (if b then c.renew.new.next else c.args.none.now))) c.if-not-branch.false c.in_ok-renew.ensures))
+
+pub returns-clause-same : goal.returns-clause-same
+returns-clause-same c m f = ap (λ (r : List ℕ). row_has r m) c.in_ok-make_same.ensures ∙ c.in_ok-moved.ensures m f

@@ -1,10 +1,12 @@
-use Rattle.std.proofs.Common.{◌≡◌, ◌∙◌, ◌&&◌, ◌*◌, ◌<◌, subst, sym, false, ℕ, List, []}
+use Rattle.std.proofs.Common.{◌≡◌, ◌∙◌, ◌&&◌, ◌*◌, ◌<◌, subst, sym, false, ℕ, List, [], inl, inr}
 use Rattle.std.specs.Prelude.{if◌then◌else◌}
 use Rattle.std.proofs.lemmas.List.{get_or_read}
 use Rattle.bit_rows.specs.Bits.{row_has}
 use Rattle.known_literals.specs.Rows.{row_at, clause_in, HasNoPair, IsClosure}
 use Rattle.known_literals.specs.Renewed.{WasClosed}
 use Rattle.known_literals.proofs.Renewing.{untouched_closed, was_closed, first_closed}
+use Rattle.gt_core.specs.Literal.{opposite}
+use Rattle.gt_core.proofs.Basics.{or_split, test_same}
 use Rattle.known_literals.proofs.renew.renew_row.Goals as goal
 
 pub returns-then-is_untouched : goal.returns-then-is_untouched
@@ -27,3 +29,9 @@ returns c =
     let read = sym c.index-done-done.is ∙ get_or_read c.args.done.now.rows.now c.args.done.now.below c.index-done-done.result (subst (λ (n : ℕ). c.args.done.now.below < n) (sym c.requires.done.long) c.requires.below) c.index-done-done.is [] in
     first_closed V c.args.done.now.below first _ c.in_ok-fill_first.ensures
     (subst (λ (r : List ℕ). IsClosure V first (row_has (if c.in_ok-anew.anew then c.renew.new.next else r))) read c.in_ok-anew.ensures)
+
+pub renew-requires-clause-within : goal.renew-requires-clause-within
+renew-requires-clause-within c m t = elim (or_split _ _ (sym (c.in_ok-fill_first.ensures m) ∙ t)) [
+  | inl e ↦ subst (λ (k : ℕ). k < 2 * c.args.done.now.rules.now.facts) (test_same c.args.done.now.below m e) c.requires.below
+  | inr v ↦ c.requires.done.rules.clauses.within (opposite c.args.done.now.below) m v
+]

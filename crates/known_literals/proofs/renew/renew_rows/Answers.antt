@@ -52,3 +52,12 @@ pub renew_at-requires-clause-was : goal.renew_at-requires-clause-was
 renew_at-requires-clause-was c =
     let h = c.in-Some.ensures in
     subst (λ (r : List ℕ). WasTold (clause_in c.args.rules.now.clauses.now) (row_has c.args.stale.now) (2 * c.args.rules.now.facts) c.in-Some.x (row_has r)) (sym (c.loop-x.invariant.left c.in-Some.x h.0)) (c.requires.were c.in-Some.x h.1)
+
+pub renew_at-requires-clause-x : goal.renew_at-requires-clause-x
+renew_at-requires-clause-x c = c.requires.asked c.in-Some.x c.in-Some.ensures.1
+
+pub overflow_add-from : goal.overflow_add-from
+overflow_add-from c = omega (arith, c.requires.asked c.in-Some.x c.in-Some.ensures.1, c.requires.rules.clauses.few)
+
+pub loop-x-smaller : goal.loop-x-smaller
+loop-x-smaller c = omega (arith, c.in-Some.ensures.0, c.requires.asked c.in-Some.x c.in-Some.ensures.1)

@@ -1,5 +1,7 @@
-use Rattle.std.proofs.Common.{◌*◌, ◌<◌, ℕ, List, length, get_or, sym, subst}
+use Rattle.std.proofs.Common.{◌*◌, ◌<◌, ℕ, List, length, get_or, sym, subst, arith, set, get_or-set_same, get_or-set_other}
 use Rattle.watch_lists.proofs.Slotted.{fit_slots}
+use Rattle.clause_base.specs.Clause.{has_literal}
+use Rattle.watch_lists.specs.Units.{IsUnit}
 use Rattle.watch_lists.proofs.front.find_unit.Goals as goal
 use Rattle.watch_lists.proofs.front.find_unit.Goals.{After-slot_clause-clause}
 
@@ -11,3 +13,14 @@ is_pending-requires c = below (goal.at.is_pending-requires c).After-slot_clause-
 
 pub unit_of-requires-clause-below : goal.unit_of-requires-clause-below
 unit_of-requires-clause-below c = below (goal.at.unit_of-requires-clause-below c).After-slot_clause-clause
+
+pub returns-then-is_pending-clause-own : goal.returns-then-is_pending-clause-own
+returns-then-is_pending-clause-own c p h =
+    let units = c.args.units.now.items in
+    let on = has_literal c.args.assignment.now.trail in
+    let unit : IsUnit on c.slot_clause-clause.result (get_or (set units c.args.slot c.unit_of.result) c.args.slot 0) =
+    subst (λ (u : ℕ). IsUnit on c.slot_clause-clause.result u) (sym (get_or-set_same units c.args.slot c.unit_of.result 0 (omega (arith, c.requires.inside, c.requires.long)))) c.unit_of.ensures in
+    subst (λ (xs : List ℕ). IsUnit on xs (get_or (set units c.args.slot c.unit_of.result) c.args.slot 0)) c.slot_clause-clause.ensures unit
+
+pub returns-then-is_pending-clause-others : goal.returns-then-is_pending-clause-others
+returns-then-is_pending-clause-others c s d = get_or-set_other c.args.units.now.items c.args.slot s c.unit_of.result 0 d

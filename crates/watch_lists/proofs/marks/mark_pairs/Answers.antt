@@ -75,3 +75,18 @@ returns-in-None-clause-grows c = grown (goal.at.returns-in-None-clause-grows c).
 
 pub returns-in-None-clause-only : goal.returns-in-None-clause-only
 returns-in-None-clause-only c = only (goal.at.returns-in-None-clause-only c).After-after
+
+pub mark_list-requires-clause-fit : goal.mark_list-requires-clause-fit
+mark_list-requires-clause-fit c = c.requires.fit
+
+pub mark_list-requires-2-clause-fit : goal.mark_list-requires-2-clause-fit
+mark_list-requires-2-clause-fit c = c.requires.fit
+
+pub mark_list-requires-3-clause-fit : goal.mark_list-requires-3-clause-fit
+mark_list-requires-3-clause-fit c = c.requires.fit
+
+pub mark_list-requires-4-clause-fit : goal.mark_list-requires-4-clause-fit
+mark_list-requires-4-clause-fit c = c.requires.fit
+
+pub mark_all-requires-clause-fit : goal.mark_all-requires-clause-fit
+mark_all-requires-clause-fit c = c.requires.fit

@@ -46,3 +46,9 @@ returns-clause-given c =
     let i = c.loop-index.invariant in
     given_passed c.args.codes c.args.store.now c.args.first c.loop-index.next c.args.others.now.count c.loop-index.index c.args.others.now.count c.args.others.now.places.items t.slots.items t.lists.watched.items t.lists.chains.heads.items t.lists.chains.nodes.items t.lists.pending t.lists.units.items i.given i.within
     (omega arith) c.requires.twos i.past (λ k h g. absurd (omega (arith, h, g, c.loop-index-test.false, c.len-index-end.ensures)))
+
+pub overflow_add-first : goal.overflow_add-first
+overflow_add-first c = omega (arith, below (goal.at.overflow_add-first c).After-index-place, c.requires.inside, c.requires.few)
+
+pub overflow_cast-place : goal.overflow_cast-place
+overflow_cast-place c = omega (arith, below (goal.at.overflow_cast-place c).After-index-place, c.requires.inside, c.requires.few)

@@ -186,3 +186,8 @@ enter_part-requires-3-clause-rising c = c.in_ok-after_others.ensures.rising
 
 pub enter_part-requires-3-clause-given : goal.enter_part-requires-3-clause-given
 enter_part-requires-3-clause-given c = c.in_ok-last.ensures.given
+
+pub enter_part-requires-clause-inside : goal.enter_part-requires-clause-inside
+enter_part-requires-clause-inside c =
+    let p = c.parts-parts.result in
+    omega (arith, whole_long p.told.now p.after.now c.args.store.now p.repeated.now (c.requires.same ∙ c.parts-parts.ensures.clauses), sized c.in_ok-told_others.ensures.count refl)

@@ -177,3 +177,42 @@ returns-in-Some-clause-lengths c =
     let found : c.found.inside.0 ≡ get_or c.slot_clause-clause.result place 0 = c.found.view_is ∙ get_or_read c.slot_clause-clause.result place c.get-found.result c.in-Some.ensures.inside c.get-found.ensures.item 0 in
     let free : is_free on c.found.inside.0 ≡ true = ap (is_free on) found ∙ c.in-Some.ensures.none in
     c.link-in-Some.ensures.lengths c.args.code (omega (arith, c.requires.code, c.requires.listed.0.codes)) (λ (e : c.args.code ≡ c.found.inside.0). let z : false ≡ true = sym (ap (λ (b : Bool). not b) c.requires.falsified) ∙ ap (is_free on) e ∙ free in let w : ⊥ = cc in w)
+
+pub slot_clause-clause-requires-clause-inside : goal.slot_clause-clause-requires-clause-inside
+slot_clause-clause-requires-clause-inside c = omega (arith, c.requires.real.below, slots_long c.args.tables.now.store c.args.tables.now.slots.items)
+
+pub slot_clause-clause-requires-clause-below : goal.slot_clause-clause-requires-clause-below
+slot_clause-clause-requires-clause-below c = c.requires.tables.slotted
+
+pub number_at-number-requires : goal.number_at-number-requires
+number_at-number-requires c = omega (arith, c.requires.real.below, slots_long c.args.tables.now.store c.args.tables.now.slots.items)
+
+pub index_mut-requires : goal.index_mut-requires
+index_mut-requires c = omega (arith, c.requires.real.below, c.requires.listed.0.placed.many)
+
+pub index_mut-requires-in-None : goal.index_mut-requires-in-None
+index_mut-requires-in-None c = omega (arith, c.requires.real.below, slots_long c.args.tables.now.store c.args.tables.now.slots.items, c.requires.set.members.long)
+
+pub returns-then-is_true-clause-moves : goal.returns-then-is_true-clause-moves
+returns-then-is_true-clause-moves c k r = inl refl
+
+pub returns-then-is_true-2-clause-moves : goal.returns-then-is_true-2-clause-moves
+returns-then-is_true-2-clause-moves c k r = inl refl
+
+pub returns-then-not-is_slot_kept-clause-moves : goal.returns-then-not-is_slot_kept-clause-moves
+returns-then-not-is_slot_kept-clause-moves c k r = inl refl
+
+pub returns-in-None-clause-moves : goal.returns-in-None-clause-moves
+returns-in-None-clause-moves c k r = inl refl
+
+pub returns-then-is_true-clause-lengths : goal.returns-then-is_true-clause-lengths
+returns-then-is_true-clause-lengths c = c.link.ensures.lengths c.args.code (omega (arith, c.requires.code, c.requires.listed.0.codes)) (λ (e : c.args.code ≡ c.args.spare). omega (arith, e, c.requires.code))
+
+pub returns-then-is_true-2-clause-lengths : goal.returns-then-is_true-2-clause-lengths
+returns-then-is_true-2-clause-lengths c = c.link-then-is_true-2.ensures.lengths c.args.code (omega (arith, c.requires.code, c.requires.listed.0.codes)) (λ (e : c.args.code ≡ c.args.spare). omega (arith, e, c.requires.code))
+
+pub returns-in-None-clause-lengths : goal.returns-in-None-clause-lengths
+returns-in-None-clause-lengths c = c.link-in-None.ensures.lengths c.args.code (omega (arith, c.requires.code, c.requires.listed.0.codes)) (λ (e : c.args.code ≡ c.args.spare). omega (arith, e, c.requires.code))
+
+pub returns-in-None-clause-grows : goal.returns-in-None-clause-grows
+returns-in-None-clause-grows c = grows_insert (words_have c.args.self.now.pending) (words_have c.insert.new.self) (get_or c.args.tables.now.slots.items (c.args.node / 2) 0) (insert_at (words_have c.args.self.now.pending) (words_have c.insert.new.self) c.number_at-number.result (get_or c.args.tables.now.slots.items (c.args.node / 2) 0) c.number_at-number.ensures c.insert.ensures.has)

@@ -19,6 +19,7 @@ use Rattle.watch_lists.proofs.Enters.{pair_loose, below_by, short_by, complete_a
 use Rattle.watch_lists.proofs.Sounds.{sound_add}
 use Rattle.watch_lists.proofs.Statuses.{front_left_same}
 use Rattle.watch_lists.proofs.Recents.{recent_more}
+use Rattle.std.proofs.lemmas.Bool.{false≢true}
 use Rattle.watch_lists.proofs.watching.Watching.add_sorted.Goals as goal
 use Rattle.watch_lists.proofs.watching.Watching.add_sorted.Goals.{After-assignment-assignment, After-raise, After-reserve-2}
 
@@ -221,3 +222,38 @@ invariant_of-self-2 c =
       subst (λ (v : AssignmentView). IsFrontLeft c.push.new.self (has_literal v.trail) (words_have c.clean-self-inside.new.pending) c.clean-self-inside.result) c.assignment-assignment.ensures c.clean-self-inside.ensures.left,
       recent_added (goal.at.invariant_of-self-2 c).After-raise,
     )
+
+pub invariant_of-self-in_err-push-2 : goal.invariant_of-self-in_err-push-2
+invariant_of-self-in_err-push-2 c = absurd (omega (arith, c.in_err-push-2.ensures.full, c.in_ok-reserve.ensures.ok))
+
+pub invariant_of-self-in_err-low : goal.invariant_of-self-in_err-low
+invariant_of-self-in_err-low c = absurd (false≢true c.in_err-low.ensures.ok)
+
+pub widen-requires-clause-few_slots : goal.widen-requires-clause-few_slots
+widen-requires-clause-few_slots c = omega (arith, c.self.invariant.0.slots_few, c.count-count.ensures.value, c.if-count-ge-MOST_CLAUSES.false)
+
+pub widen-requires-clause-units : goal.widen-requires-clause-units
+widen-requires-clause-units c = omega (arith, c.self.invariant.2.long)
+
+pub widen-requires-clause-nodes : goal.widen-requires-clause-nodes
+widen-requires-clause-nodes c = omega (arith, c.self.invariant.0.rest.many, slots_long c.self.inside.tables.store c.self.inside.tables.slots.items)
+
+pub widen-requires-clause-watches : goal.widen-requires-clause-watches
+widen-requires-clause-watches c = omega (arith, c.self.invariant.0.rest.placed.many, slots_long c.self.inside.tables.store c.self.inside.tables.slots.items)
+
+pub take_slot-requires-clause-few : goal.take_slot-requires-clause-few
+take_slot-requires-clause-few c = omega (arith, ap (λ (ss : List ℕ). length ss) c.reserve-2.ensures.items, c.self.invariant.0.slots_few, c.self.invariant.0.few)
+
+pub take_slot-requires-clause-capacity : goal.take_slot-requires-clause-capacity
+take_slot-requires-clause-capacity c = omega (arith, c.in_ok-reserve-2.ensures.ok)
+
+pub take_slot-requires-clause-room : goal.take_slot-requires-clause-room
+take_slot-requires-clause-room c =
+    let same = ap (λ (ss : List ℕ). length ss) c.reserve-2.ensures.items in
+    record { in_nodes = omega (arith, c.in_ok-widen.ensures.room.in_nodes, same); in_watches = omega (arith, c.in_ok-widen.ensures.room.in_watches, same) }
+
+pub take_slot-requires-clause-units : goal.take_slot-requires-clause-units
+take_slot-requires-clause-units c = omega (arith, c.in_ok-widen.ensures.in_units, ap (λ (ss : List ℕ). length ss) c.reserve-2.ensures.items)
+
+pub raise-requires-clause-number : goal.raise-requires-clause-number
+raise-requires-clause-number c = omega (arith, c.in_ok-widen.ensures.in_set, ap (λ (ws : List ℕ). length ws) c.take_slot.ensures.set)

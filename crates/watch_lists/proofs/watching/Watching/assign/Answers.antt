@@ -15,6 +15,7 @@ use Rattle.pair_index.specs.Pairs.{pairs_of, pair_in}
 use Rattle.watch_lists.specs.Units.{AreUnits, IsConsistent, HasUnits}
 use Rattle.watch_lists.specs.Sound.{IsFront, AreFree}
 use Rattle.watch_lists.specs.Status.{IsFrontLeft}
+use Rattle.watch_lists.specs.Tables.{IsUnitSet}
 use Rattle.watch_lists.proofs.Assigns.{opposite_twice, assign_complete, assign_free, assign_quiets, whole_free}
 use Rattle.watch_lists.proofs.UnitsTell.{all_longer, consistent_push, last_true}
 use Rattle.watch_lists.proofs.UnitsOfSlots.{units_pairs, within_pairs, has_units_fewer}
@@ -151,3 +152,16 @@ invariant_of-self c =
       subst (λ (ys : List ℕ). IsFrontLeft w.tables.store (has_literal ys) (words_have c.clean-self-inside.new.pending) c.clean-self-inside.result) seen c.clean-self-inside.ensures.left,
       c.mark_pairs.ensures.recent,
     )
+
+pub clean-self-inside-requires-clause-set : goal.clean-self-inside-requires-clause-set
+clean-self-inside-requires-clause-set c =
+    subst (λ (us : List ℕ). IsUnitSet (record c.self.inside.tables { recent = c.mark_pairs.new.recent }) c.assignment-assignment.result.trail c.visit_all.new.self.pending us) (sym c.as_slice.ensures.value) c.visit_all.ensures.set
+
+pub visit_all-requires-clause-spare : goal.visit_all-requires-clause-spare
+visit_all-requires-clause-spare c = ap (λ (n : ℕ). 2 * n) (sym (ap (λ (t : AssignmentView). t.variables) c.assignment-assignment.ensures ∙ ap (λ (t : TrailView). t.variables) c.push.ensures ∙ c.self.invariant.0.same))
+
+pub mark_pairs-requires-clause-room : goal.mark_pairs-requires-clause-room
+mark_pairs-requires-clause-room c = c.self.invariant.0.room
+
+pub mark_pairs-requires-clause-recent : goal.mark_pairs-requires-clause-recent
+mark_pairs-requires-clause-recent c = c.self.invariant.4

@@ -1,4 +1,4 @@
-use Rattle.std.proofs.Common.{arith, ◌≡◌, ◌*◌, ◌≤◌, ℕ, List, true, length, replicate, ap, sym, ◌∙◌, subst}
+use Rattle.std.proofs.Common.{arith, ◌≡◌, ◌*◌, ◌≤◌, ℕ, List, true, length, replicate, ap, sym, ◌∙◌, subst, [], refl}
 use Rattle.cdcl_trail.specs.Assignment.{AssignmentView, literals}
 use Rattle.cdcl_trail.specs.Mirrored.{TrailView}
 use Rattle.clause_base.specs.Clause.{has_literal}
@@ -51,3 +51,9 @@ left_least-front_left-requires-clause-front c k h =
     let l = c.in_ok-given.given.lists in
     subst (λ (t : AssignmentView). is_pending (has_literal t.trail) (clause_at c.in_ok-store.store k) ≡ true) (sym c.assignment.ensures)
     (front_given (2 * c.variables-variables.result) c.in_ok-store.store (literals c.in_ok-trail.trail.entries) c.in_ok-given.given.slots.items l.watched.items l.chains.heads.items l.chains.nodes.items l.pending l.units.items (ap (λ (t : TrailView). literals t.entries) c.in_ok-trail.ensures) c.in_ok-given.ensures k h)
+
+pub left_least-front_left-requires-clause-within : goal.left_least-front_left-requires-clause-within
+left_least-front_left-requires-clause-within c =
+    let g = c.in_ok-given.given in
+    let l = g.lists in
+    (has_units_given c.variables-variables.result c.in_ok-store.store [] g.slots.items l.watched.items l.chains.heads.items l.chains.nodes.items l.pending l.units.items refl c.in_ok-given.ensures).within

@@ -1,0 +1,25 @@
+use Rattle.std.proofs.Common.{◌<◌, ◌+◌, ◌&&◌, not, ◌∙◌, ℕ, List, Bool, [], length, drop, ap, sym}
+use Rattle.std.specs.List.{list_any}
+use Rattle.std.proofs.lemmas.List.{get_or_read, at_drop_more}
+use Rattle.bit_rows.specs.Bits.{row_has}
+use Rattle.gt_core.proofs.Lists.{each_number}
+use Rattle.action_order.specs.Graph.{row_at, item}
+use Rattle.action_order.proofs.GrowLaw.{less_both}
+use Rattle.action_order.proofs.edges.take_out.Goals as goal
+
+pub bounds-rows-lit : goal.bounds-rows-lit
+bounds-rows-lit c = each_number (λ l. l < length c.args.rows.now) c.args.lits.now c.loop-lit.lit-index 0 c.requires c.loop-lit-test.true
+
+pub loop-lit-preserved : goal.loop-lit-preserved
+loop-lit-preserved c b =
+    let rows = c.args.rows.now in
+    let lits = c.args.lits.now in
+    let i = c.loop-lit.lit-index in
+    let has : ℕ → Bool = λ l. row_has (row_at rows l) b in
+    let row = row_has c.loop-lit.row b in
+    let rest = list_any has (drop (i + 1) lits) in
+    let read = get_or_read rows (item lits i) c.index-rows-lit.result (each_number (λ l. l < length rows) lits i 0 c.requires c.loop-lit-test.true) c.index-rows-lit.is [] in
+    c.loop-lit.invariant b
+    ∙ ap (λ (t : Bool). row && not t) (at_drop_more (list_any has) lits i 0 c.loop-lit-test.true)
+    ∙ less_both row (has (item lits i)) rest
+    ∙ ap (λ (t : Bool). t && not rest) (sym (c.subtract.ensures.has b ∙ ap (λ (r : List ℕ). row && not (row_has r b)) read))
