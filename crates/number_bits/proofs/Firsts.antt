@@ -1,8 +1,10 @@
 -- A set that keeps its least member beside the others, as one list of words.
-use Rattle.std.proofs.Common.{arith, ◌≡◌, ◌≢◌, ◌==◌, ℕ, ◌*◌, ◌/◌, ◌%◌, ◌<◌, ◌≤◌, List, length, get_or, set, Bool, true, false, not, ◌||◌, ◌&&◌, refl, sym, ap, ◌∙◌, eqb, Option, Some, None, get_or-set_same, get_or-set_other}
+use Rattle.std.proofs.Common.{arith, inl, inr, ◌≡◌, ◌≢◌, ◌==◌, ℕ, ◌*◌, ◌/◌, ◌%◌, ◌<◌, ◌≤◌, List, length, get_or, set, Bool, true, false, not, ◌||◌, ◌&&◌, refl, sym, ap, ◌∙◌, eqb, Option, Some, None}
 use Rattle.std.proofs.lemmas.Bool.Decides.{nat_tests}
 use Rattle.std.specs.Option.{option_eq}
+use Rattle.std.specs.Prelude.{if◌then◌else◌}
 use Rattle.word_bits.proofs.WordLaw.{set_same, set_other}
+use Rattle.word_bits.proofs.Changed.{IsChanged, changed_bit}
 use Rattle.number_bits.specs.Bits.{word_has, word_with, words_have, words_with, bits_with, IsLeast, IsInside, IsFirst, IsTakenLeast}
 
 equal_of : (a b : ℕ) → (a == b) ≡ true → a ≡ b
@@ -17,36 +19,25 @@ tests_equal a b h = grind (arith, nat_tests)
 tests_apart : (a b : ℕ) → (a ≡ b → ⊥) → (a == b) ≡ false
 tests_apart a b h = let n : a ≢ b = h in grind (arith, nat_tests)
 
+-- a bit was changed
+pub changed : (words : List ℕ) (n w : ℕ) (b : Bool) → n < 64 * length words → word_has w (n % 64) ≡ b → ((k : ℕ) → (k ≡ n % 64 → ⊥) → word_has w k ≡ word_has (get_or words (n / 64) 0) k) → (k : ℕ) → words_have (set words (n / 64) w) k ≡ (if k == n then b else words_have words k)
+changed words n w b inside same others k = by (changed_bit words n w b inside same others k)
+  where
+    by : IsChanged words (set words (n / 64) w) n b k → words_have (set words (n / 64) w) k ≡ (if k == n then b else words_have words k)
+    by (inl h) = h.1 ∙ ap (λ (t : Bool). if t then b else words_have words k) (sym (tests_equal k n (sym h.0)))
+    by (inr h) = h.1 ∙ ap (λ (t : Bool). if t then b else words_have words k) (sym (tests_apart k n (λ (e : k ≡ n). h.0 (sym e))))
+
+pub has_or : (t b : Bool) → (if t then true else b) ≡ (t || b)
+has_or true b = refl
+has_or false b = refl
+
+pub has_not : (t b : Bool) → (if t then false else b) ≡ (not t && b)
+has_not true b = refl
+has_not false b = refl
+
 -- a word with one more bit has that one and those that it had
 pub has_with : (words : List ℕ) (n k : ℕ) → n < 64 * length words → words_have (words_with words (Some n)) k ≡ bits_with words n k
-has_with words n k inside = by (k == n) refl
-  where
-    at : ℕ
-    at = n / 64
-
-    word : ℕ
-    word = word_with (get_or words (n / 64) 0) (n % 64)
-
-    other_bit : k / 64 ≡ n / 64 → (k % 64 ≡ n % 64 → ⊥) → words_have (set words (n / 64) word) k ≡ words_have words k
-    other_bit q ne =
-        ap (λ (i : ℕ). word_has (get_or (set words (n / 64) word) i 0) (k % 64)) q
-        ∙ ap (λ (w : ℕ). word_has w (k % 64)) (get_or-set_same words (n / 64) word 0 (omega (arith, inside)))
-        ∙ set_other (get_or words (n / 64) 0) (n % 64) (omega arith) (k % 64) ne
-        ∙ ap (λ (i : ℕ). word_has (get_or words i 0) (k % 64)) (sym q)
-
-    other : (k ≡ n → ⊥) → (b : Bool) → (k / 64 == n / 64) ≡ b → words_have (set words (n / 64) word) k ≡ words_have words k
-    other ne true f =
-        let q : k / 64 ≡ n / 64 = equal_of (k / 64) (n / 64) f in
-        other_bit q (λ (r : k % 64 ≡ n % 64). ne (omega (arith, q, r)))
-    other ne false f = ap (λ (w : ℕ). word_has w (k % 64)) (get_or-set_other words (n / 64) (k / 64) word 0 (apart_of (k / 64) (n / 64) f))
-
-    by : (b : Bool) → (k == n) ≡ b → words_have (set words (n / 64) word) k ≡ (b || words_have words k)
-    by true f =
-        let e : k ≡ n = equal_of k n f in
-        ap (words_have (set words (n / 64) word)) e
-        ∙ ap (λ (w : ℕ). word_has w (n % 64)) (get_or-set_same words (n / 64) word 0 (omega (arith, inside)))
-        ∙ set_same (get_or words (n / 64) 0) (n % 64) (omega arith)
-    by false f = other (apart_of k n f) (k / 64 == n / 64) refl
+has_with words n k inside = changed words n (word_with (get_or words (n / 64) 0) (n % 64)) true inside (set_same (get_or words (n / 64) 0) (n % 64) (omega arith)) (set_other (get_or words (n / 64) 0) (n % 64) (omega arith)) k ∙ has_or (k == n) (words_have words k)
 
 -- the least member is the one that is kept beside the others
 pub first_least : (words : List ℕ) (least : Option ℕ) → IsFirst words least → IsLeast (words_have (words_with words least)) least
