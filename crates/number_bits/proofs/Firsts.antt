@@ -1,11 +1,11 @@
 -- A set that keeps its least member beside the others, as one list of words.
-use Rattle.std.proofs.Common.{arith, inl, inr, ◌≡◌, ◌≢◌, ◌==◌, ℕ, ◌*◌, ◌/◌, ◌%◌, ◌<◌, ◌≤◌, List, length, get_or, set, Bool, true, false, not, ◌||◌, ◌&&◌, refl, sym, ap, ◌∙◌, eqb, Option, Some, None}
+use Rattle.std.proofs.Common.{arith, inl, inr, ◌≡◌, ◌≢◌, ◌==◌, ℕ, ◌*◌, ◌/◌, ◌%◌, ◌<◌, ◌≤◌, min, max, leb, List, length, get_or, set, Bool, true, false, not, ◌||◌, ◌&&◌, refl, sym, ap, ◌∙◌, eqb, Option, Some, None}
 use Rattle.std.proofs.lemmas.Bool.Decides.{nat_tests}
 use Rattle.std.specs.Option.{option_eq}
 use Rattle.std.specs.Prelude.{if◌then◌else◌}
 use Rattle.word_bits.proofs.WordLaw.{set_same, set_other}
 use Rattle.word_bits.proofs.Changed.{IsChanged, changed_bit}
-use Rattle.number_bits.specs.Bits.{word_has, word_with, words_have, words_with, bits_with, IsLeast, IsInside, IsFirst, IsTakenLeast}
+use Rattle.number_bits.specs.Bits.{word_has, word_with, words_have, words_with, bits_with, IsLeast, IsPast, IsInside, IsFirst, IsTakenLeast}
 
 equal_of : (a b : ℕ) → (a == b) ≡ true → a ≡ b
 equal_of a b h = grind (arith, nat_tests)
@@ -94,3 +94,41 @@ is_least (Some m) n e = ap (λ (x : ℕ). Some x) (equal_of m n (sym e))
 pub not_least : (o : Option ℕ) (n : ℕ) → false ≡ option_eq eqb o (Some n) → o ≡ Some n → ⊥
 not_least None n e q = let w : ⊥ = cc in w
 not_least (Some m) n e q = let z : m ≡ n = cc in apart_of m n (sym e) z
+
+-- a number and the least one, the less of them first
+pub put_two : (a b lo hi k : ℕ) (h : Bool) → lo ≡ min a b → hi ≡ max a b → (k == lo || (k == hi || h)) ≡ (k == a || (k == b || h))
+put_two a b lo hi k h l g = by (leb a b) refl
+  where
+    turned : (x y z : Bool) → (x || (y || z)) ≡ (y || (x || z))
+    turned true true z = refl
+    turned true false z = refl
+    turned false y z = refl
+
+    same : {x y u v : ℕ} → x ≡ u → y ≡ v → (k == x || (k == y || h)) ≡ (k == u || (k == v || h))
+    same {x} {y} {u} {v} e f = ap (λ (n : ℕ). k == n || (k == y || h)) e ∙ ap (λ (n : ℕ). k == u || (k == n || h)) f
+
+    by : (t : Bool) → leb a b ≡ t → (k == lo || (k == hi || h)) ≡ (k == a || (k == b || h))
+    by true e = let le : a ≤ b = grind (arith, nat_tests) in same (omega (arith, l, le)) (omega (arith, g, le))
+    by false e = let lt : b < a = grind (arith, nat_tests) in same (omega (arith, l, lt)) (omega (arith, g, lt)) ∙ turned (k == b) (k == a) h
+
+-- past the least member of a set are all others
+pub past_taken : (p q : ℕ → Bool) (o : Option ℕ) → IsTakenLeast p q o → IsPast q o
+past_taken p q None t = t.1
+past_taken p q (Some n) t = λ k le. t.1 k ∙ by k le (k == n) refl
+  where
+    by : (k : ℕ) → k ≤ n → (b : Bool) → (k == n) ≡ b → (not b && p k) ≡ false
+    by k le true f = refl
+    by k le false f = let ne : k ≢ n = apart_of k n f in t.0.1 k (omega (arith, le, ne))
+
+and_none : (b : Bool) → (b && false) ≡ false
+and_none true = refl
+and_none false = refl
+
+-- and of fewer members too
+pub past_less : (p q : ℕ → Bool) (n : ℕ) (o : Option ℕ) → ((k : ℕ) → q k ≡ (not (k == n) && p k)) → IsPast p o → IsPast q o
+past_less p q n None has past = λ k. has k ∙ ap (λ (b : Bool). not (k == n) && b) (past k) ∙ and_none (not (k == n))
+past_less p q n (Some m) has past = λ k le. has k ∙ ap (λ (b : Bool). not (k == n) && b) (past k le) ∙ and_none (not (k == n))
+
+pub inside_same : (words words' : List ℕ) (o : Option ℕ) → length words' ≡ length words → IsInside words o → IsInside words' o
+inside_same words words' None long i = i
+inside_same words words' (Some n) long i = omega (arith, long, i)
