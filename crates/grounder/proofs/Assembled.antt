@@ -1,5 +1,5 @@
 -- What was found makes a grounded task.
-use Rattle.std.proofs.Common.{◌≡◌, List, ap, sym, ◌∙◌, subst}
+use Rattle.std.proofs.Common.{◌≡◌, List, sym, ◌∙◌, subst}
 use Rattle.std.specs.Prelude.{not}
 use Rattle.std.specs.List.{filter}
 use Rattle.gt_core.specs.Task.{Task}
@@ -7,28 +7,33 @@ use Rattle.pd_model.specs.State.{is_in}
 use Rattle.pd_model.specs.declared.atoms.Atom.{Atom}
 use Rattle.pd_model.specs.declared.calls.Call.{Call}
 use Rattle.pd_model.specs.declared.parts.Parts.{Parts}
-use Rattle.grounding.specs.Sorted.{atom_less, call_less, IsSorted}
+use Rattle.grounding.specs.Sorted.{atom_less, IsSorted}
 use Rattle.grounding.specs.Grounded.{IsGrounded}
 use Rattle.grounding.specs.Simplify.{task_of}
-use Rattle.grounding.specs.Found.{IsLeastPair, is_constant, facts_of, actions_of, grounded_by, grounded_from}
+use Rattle.grounding.specs.Found.{is_constant, facts_of, actions_of, grounded_by}
 use Rattle.grounding.specs.Laws.{LeastIsGrounded}
+use Rattle.grounder.specs.Found.{AreFound}
 use Rattle.grounder.specs.Putting.{HasExactly}
 
-pub grounded_is : LeastIsGrounded → (p : Parts) (reached : List Atom) (kept : List Call) → IsLeastPair p reached kept → IsSorted atom_less reached → IsSorted call_less kept
-    → (constant facts : List Atom) (calls : List Call) → HasExactly (is_constant p reached kept) constant → facts ≡ filter (λ a. not (is_in a constant)) reached → calls ≡ actions_of p facts kept
-    → IsGrounded p (grounded_by p facts calls)
-grounded_is law p reached kept least atoms_sorted calls_sorted constant facts calls exact facts_are calls_are =
-    let all : facts ≡ facts_of p reached kept = facts_are ∙ (λ i. filter (λ a. not (exact a i)) reached) in
-    let same : grounded_from p reached kept ≡ grounded_by p facts calls = (λ i. grounded_by p (sym all i) (actions_of p (sym all i) kept)) ∙ ap (grounded_by p facts) (sym calls_are) in
-    subst (IsGrounded p) same (law p reached kept least atoms_sorted calls_sorted)
+-- the facts are what the constant atoms leave
+pub left_facts : (p : Parts) (reached : List Atom) (kept : List Call) (constant facts : List Atom) → HasExactly (is_constant p reached kept) constant
+    → facts ≡ filter (λ a. not (is_in a constant)) reached → facts ≡ facts_of p reached kept
+left_facts p reached kept constant facts exact are = are ∙ (λ i. filter (λ a. not (exact a i)) reached)
 
--- the same, where what was found is of a task that is the same
-pub found_is : LeastIsGrounded → (p q : Parts) (reached : List Atom) (kept : List Call) (constant facts : List Atom) (calls : List Call) → q ≡ p
-    → IsLeastPair q reached kept → IsSorted atom_less reached → IsSorted call_less kept → HasExactly (is_constant q reached kept) constant
-    → facts ≡ filter (λ a. not (is_in a constant)) reached → calls ≡ actions_of p facts kept → IsGrounded p (grounded_by p facts calls)
-found_is law p q reached kept constant facts calls same least atoms_sorted calls_sorted exact =
-    grounded_is law p reached kept (subst (λ (r : Parts). IsLeastPair r reached kept) same least) atoms_sorted calls_sorted constant facts calls
-    (subst (λ (r : Parts). HasExactly (is_constant r reached kept) constant) same exact)
+pub found_grounded : LeastIsGrounded → (p : Parts) (facts : List Atom) (kept : List Call) → AreFound p facts kept → IsGrounded p (grounded_by p facts (actions_of p facts kept))
+found_grounded law p facts kept found =
+    subst (λ (xs : List Atom). IsGrounded p (grounded_by p xs (actions_of p xs kept))) (sym found.facts_are) (law p found.reached kept found.least found.atoms_sorted found.calls_sorted)
+
+pub found_sorted : LeastIsGrounded → (p : Parts) (facts : List Atom) (kept : List Call) → AreFound p facts kept → IsSorted atom_less facts
+found_sorted law p facts kept found = (found_grounded law p facts kept found).facts_sorted
+
+-- the same, with the actions among the kept calls, where what is known is of a task that is the same
+pub found_is : LeastIsGrounded → (p q : Parts) (found facts : List Atom) (kept calls : List Call) → q ≡ p → facts ≡ found → AreFound p found kept → calls ≡ actions_of q facts kept
+    → IsGrounded p (grounded_by p facts calls)
+found_is law p q found facts kept calls same known are able =
+    let all = subst (λ (xs : List Atom). AreFound p xs kept) (sym known) are in
+    let actions = subst (λ (r : Parts). calls ≡ actions_of r facts kept) same able in
+    subst (λ (cs : List Call). IsGrounded p (grounded_by p facts cs)) (sym actions) (found_grounded law p facts kept all)
 
 -- the task is the one that was made
 pub with_task : (p : Parts) (facts : List Atom) (calls : List Call) (task : Task) → IsGrounded p (grounded_by p facts calls) → task ≡ task_of p facts calls

@@ -2,3 +2,4 @@ pub mod Known
 pub mod Bindings
 pub mod Putting
 pub mod Few
+pub mod Found

@@ -1,18 +1,21 @@
 //! The constant atoms, and the facts.
-ghost use Rattle.std.specs.Prelude.{◌≡◌, false, not, IfOk, OnOk};
+ghost use Rattle.std.specs.Prelude.{◌≡◌, ◌≤◌, false, not, IfOk, OnOk};
 ghost use Rattle.std.specs.List.{list_any, filter};
 ghost use Rattle.pd_model.specs.State.{is_in};
 ghost use Rattle.grounding.specs.Instance.{change_of, changes_of, instance_of};
 ghost use Rattle.grounding.specs.Sorted.{IsSorted, atom_less};
 ghost use Rattle.grounding.specs.Found.{deletes, is_constant};
+ghost use Rattle.grounding.specs.Limits.{most_tuples};
+ghost use Rattle.grounding.specs.Tuples.{tuples_in};
+ghost use Rattle.grounder.specs.Found.{AreFound};
 ghost use Rattle.grounder.specs.Putting.{LeavesOut, HasExactly};
 ghost use Rattle.grounder.specs.Few.{HasFewTuples, HasFew, HaveFew};
 
 use crate::bindings::bindings_of;
 use crate::literals::all_may_hold;
 use atom_join::Domains;
-use pd_model::{Atom, Atoms, Call, Effect, Memory, State, instance_of};
-use reachability::Reached;
+use pd_model::{Atom, Atoms, Call, Calls, Effect, Memory, State, instance_of};
+use reachability::{Reached, reach};
 use std::alloc::Global;
 
 /// Takes out the atom of an instance of a delete, where it is possible.
@@ -91,11 +94,7 @@ fn leave_out_call(
 }
 
 /// The constant atoms: the initial ones that no possible delete of a kept call names.
-pub(crate) fn constant_atoms(
-    alloc: Global,
-    domains: &Domains,
-    reached: &Reached,
-) -> Result<State, Memory>
+fn constant_atoms(alloc: Global, domains: &Domains, reached: &Reached) -> Result<State, Memory>
     requires sorted { IsSorted atom_less reached.now.atoms }
     requires few { HaveFew domains.now reached.now.calls }
     ensures { IfOk result (λ constant. HasExactly (is_constant domains.now reached.now.atoms reached.now.calls) constant) }
@@ -115,7 +114,7 @@ pub(crate) fn constant_atoms(
 }
 
 /// The facts: the reachable atoms that are not constant.
-pub(crate) fn facts_of(alloc: Global, atoms: Atoms, constant: &State) -> Result<Atoms, Memory>
+fn facts_of(alloc: Global, atoms: Atoms, constant: &State) -> Result<Atoms, Memory>
     ensures { IfOk result (λ facts. facts ≡ filter (λ a. not (is_in a constant.now)) atoms) }
 {
     let mut facts = Vec::new(alloc);
@@ -125,4 +124,25 @@ pub(crate) fn facts_of(alloc: Global, atoms: Atoms, constant: &State) -> Result<
         }
     }
     Ok(Atoms::of(facts))
+}
+
+/// The facts of a task and its kept calls, each in order.
+#[derive(Drop)]
+pub(crate) struct Found {
+    pub(crate) facts: Atoms,
+    pub(crate) kept: Calls,
+}
+
+/// What the search finds of a task that is within the limit on tuples.
+pub(crate) fn found_in(alloc: Global, domains: &Domains) -> Result<Found, Memory>
+    requires { tuples_in domains.now ≤ most_tuples }
+    ensures { IfOk result (λ found. AreFound domains.now found.facts found.kept) }
+{
+    let reached = reach(alloc, domains)?;
+    let constant = constant_atoms(alloc, domains, &reached)?;
+    let facts = facts_of(alloc, reached.atoms, &constant)?;
+    Ok(Found {
+        facts,
+        kept: reached.calls,
+    })
 }

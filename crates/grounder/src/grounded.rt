@@ -5,13 +5,14 @@ ghost use Rattle.grounding.specs.Instance.{instance_of};
 ghost use Rattle.grounding.specs.Simplify.{action_of, values_in, task_of};
 ghost use Rattle.grounding.specs.Sorted.{IsSorted, atom_less};
 ghost use Rattle.grounding.specs.Grounded.{IsGrounded};
-ghost use Rattle.grounding.specs.Limits.{most_facts, IsWithin, IsOverTuples, IsOverFacts, IsOverActions, IsOverEffects};
+ghost use Rattle.grounding.specs.Limits.{most_tuples, most_facts, IsWithin, IsOverTuples, IsOverFacts, IsOverActions, IsOverEffects};
+ghost use Rattle.grounding.specs.Tuples.{tuples_in};
 ghost use Rattle.grounder.specs.Few.{HasFew, HaveFew};
 ghost use Rattle.grounder.specs.Known.{IsKnown};
 
 use crate::actions::actions_of;
 use crate::conditional::conditional_in;
-use crate::constant::{constant_atoms, facts_of};
+use crate::constant::found_in;
 use crate::effects::effects_of;
 use crate::known::Known;
 use crate::literals::any_never;
@@ -25,7 +26,6 @@ use gt_core::lits::{Bits, Lits};
 use gt_core::task::Task;
 use let_go::let_go;
 use pd_model::{Atom, Atoms, Call, Calls, Memory, Pddl, State};
-use reachability::reach;
 use std::alloc::Global;
 use std::marker::Model;
 
@@ -156,30 +156,24 @@ fn task_of(known: &Known, calls: &[Call], acts: Acts) -> Result<Task, Memory>
     Ok(Task::new(facts, init, goal, hopeless, acts))
 }
 
-/// The task that a task as it is written stands for, over numbered facts and actions.
-pub fn ground(alloc: Global, p: &Pddl) -> Result<Grounded, GroundError>
-    ensures grounded { IfOk result (λ g. IsGrounded p.now g) }
-    ensures within { IfOk result (λ g. IsWithin p.now g) }
-    ensures tuples { (n : ℕ) → result ≡ Err (GroundError.Tuples n) → IsOverTuples p.now n }
-    ensures facts { (n : ℕ) → result ≡ Err (GroundError.Facts n) → IsOverFacts p.now n }
-    ensures actions { (n : ℕ) → result ≡ Err (GroundError.Actions n) → IsOverActions p.now n }
-    ensures effects { (n : ℕ) → result ≡ Err (GroundError.Effects n) → IsOverEffects p.now n }
+/// The same of a task that is within the limit on tuples.
+fn ground_over(alloc: Global, domains: &Domains) -> Result<Grounded, GroundError>
+    requires { tuples_in domains.now ≤ most_tuples }
+    ensures grounded { IfOk result (λ g. IsGrounded domains.now g) }
+    ensures within { IfOk result (λ g. IsWithin domains.now g) }
+    ensures tuples { (n : ℕ) → result ≡ Err (GroundError.Tuples n) → IsOverTuples domains.now n }
+    ensures facts { (n : ℕ) → result ≡ Err (GroundError.Facts n) → IsOverFacts domains.now n }
+    ensures actions { (n : ℕ) → result ≡ Err (GroundError.Actions n) → IsOverActions domains.now n }
+    ensures effects { (n : ℕ) → result ≡ Err (GroundError.Effects n) → IsOverEffects domains.now n }
 {
     laws();
-    let count = count_tuples(p);
-    if count > 4_000_000 {
-        return Err(GroundError::Tuples { count });
-    }
-    let domains = Domains::of(alloc, p)?;
-    let reached = reach(alloc, &domains)?;
-    let constant = constant_atoms(alloc, &domains, &reached)?;
-    let facts = facts_of(alloc, reached.atoms, &constant)?;
-    let count = facts.as_slice().len() as u64;
+    let found = found_in(alloc, domains)?;
+    let count = found.facts.as_slice().len() as u64;
     if count > 2048 {
         return Err(GroundError::Facts { count });
     }
-    let known = known_of(alloc, &domains, facts)?;
-    let calls = actions_of(&known, reached.calls)?;
+    let known = known_of(alloc, domains, found.facts)?;
+    let calls = actions_of(&known, found.kept)?;
     let count = calls.as_slice().len() as u64;
     if count > 16384 {
         return Err(GroundError::Actions { count });
@@ -195,6 +189,23 @@ pub fn ground(alloc: Global, p: &Pddl) -> Result<Grounded, GroundError>
         calls,
         task,
     })
+}
+
+/// The task that a task as it is written stands for, over numbered facts and actions.
+pub fn ground(alloc: Global, p: &Pddl) -> Result<Grounded, GroundError>
+    ensures grounded { IfOk result (λ g. IsGrounded p.now g) }
+    ensures within { IfOk result (λ g. IsWithin p.now g) }
+    ensures tuples { (n : ℕ) → result ≡ Err (GroundError.Tuples n) → IsOverTuples p.now n }
+    ensures facts { (n : ℕ) → result ≡ Err (GroundError.Facts n) → IsOverFacts p.now n }
+    ensures actions { (n : ℕ) → result ≡ Err (GroundError.Actions n) → IsOverActions p.now n }
+    ensures effects { (n : ℕ) → result ≡ Err (GroundError.Effects n) → IsOverEffects p.now n }
+{
+    let count = count_tuples(p);
+    if count > 4_000_000 {
+        return Err(GroundError::Tuples { count });
+    }
+    let domains = Domains::of(alloc, p)?;
+    ground_over(alloc, &domains)
 }
 
 impl Grounded {

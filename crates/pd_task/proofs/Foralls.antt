@@ -72,7 +72,7 @@ module _ (types : List (List ℕ)) (vocabulary : Vocabulary) (scope next : Stand
 
   pub forall_fails : (new : List Effect) (e : ReadError) (r : Result (Unit {0}) ReadError) → Fails e (effect types (site_of vocabulary next []) before body) → IsErrAnd r (λ y. y ≡ e)
       → Leaves (effect types (site_of vocabulary scope []) before tree) new r
-  forall_fails new e r fails err = handed_on _ new e r (rw body_is (body_fails types (site_of vocabulary next []) before at body more e fails)) err
+  forall_fails new e r fails err = handed_on _ (λ _. new) e r (rw body_is (body_fails types (site_of vocabulary next []) before at body more e fails)) err
 
   pub forall_ends : (es : List Effect) (r : Result (Unit {0}) ReadError) → effect types (site_of vocabulary next []) before body ≡ Ok es → Gives (no_more more) r
       → Leaves (effect types (site_of vocabulary scope []) before tree) es r

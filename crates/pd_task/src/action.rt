@@ -20,7 +20,7 @@ use pd_words::{
 use std::alloc::Global;
 
 /// A key of an action.
-#[derive(Clone, Copy, Debug, PartialEq, Eq)]
+#[derive(Clone, Copy)]
 pub enum Key {
     Parameters,
     Precondition,

@@ -24,7 +24,7 @@ fn is_free(keyword: Keyword) -> bool
 }
 
 /// Predicates by number, with their names and arities apart.
-#[derive(Debug, Drop)]
+#[derive(Drop)]
 pub struct PredicateTable {
     pub names: Table,
     pub arities: Vec<u32>,

@@ -1,5 +1,7 @@
 // The passes of a domain and of a problem.
-ghost use Rattle.std.specs.Prelude.{◌≡◌, [], codes};
+ghost use Rattle.std.specs.Prelude.{◌≡◌, [], List, codes};
+ghost use Rattle.pd_model.specs.Names.{type_names};
+ghost use Rattle.pd_model.specs.declared.schemas.Schema.{Schema};
 ghost use Rattle.pd_sexp.specs.View.{view, views};
 ghost use Rattle.pd_words.specs.First.{Gives, GivesAs};
 ghost use Rattle.pd_words.specs.Frames as frames;
@@ -11,13 +13,13 @@ use crate::actions::read_actions;
 use crate::cond::read_cond;
 use crate::init::read_init;
 use crate::objects::ObjectTable;
-use crate::predicates::read_predicates;
+use crate::predicates::{PredicateTable, read_predicates};
 use crate::tables::DomainTables;
 use crate::vocabulary::Vocabulary;
-use pd_model::{Conds, ObjectDecls, Parts, Predicates, Schemas};
+use pd_model::{Atoms, Conds, ObjectDecls, Parts, Predicates, Schemas};
 use pd_sexp::Tree;
 use pd_words::{
-    Fault, ReadError, Scope, find_section, items_under, no_more, read_domain_frame,
+    Fault, ReadError, Scope, TypeTable, find_section, items_under, no_more, read_domain_frame,
     read_problem_frame, read_types,
 };
 use std::alloc::Global;
@@ -64,17 +66,19 @@ fn read_goal(alloc: Global, vocabulary: &Vocabulary, sections: &[Tree]) -> Resul
     Ok(Conds::of(conds))
 }
 
-/// Reads a problem of a domain, pass by pass.
+// Reads what a problem adds to a domain of these types and predicates: objects, and after them the initial state and the goal.
 #[tactic(auto, using(crate::proofs::ObjectLemmas::same_lengths))]
-pub fn read_problem(alloc: Global, domain: DomainTables, tree: &Tree) -> Result<Parts, ReadError>
-    ensures { Gives (reading.problem_parts (domain_of domain) (view tree.now)) result }
+fn read_rest(
+    alloc: Global,
+    types: &TypeTable,
+    predicates: &PredicateTable,
+    objects: &mut ObjectTable,
+    tree: &Tree,
+) -> Result<(Atoms, Conds), ReadError>
+    requires { types.now.names ≡ type_names types.now.decls }
+    ensures { (schemas : List Schema) → GivesAs (λ r. record { types = types.now.decls; predicates = predicates.now.decls.items; objects = objects.new.decls.items; schemas = schemas; init = r.0; goal = r.1 })
+        (reading.problem_parts (record { types = types.now.decls; constants = objects.old.decls.items; predicates = predicates.now.decls.items; schemas = schemas }) (view tree.now)) result }
 {
-    let DomainTables {
-        types,
-        mut objects,
-        predicates,
-        schemas,
-    } = domain;
     let sections = read_problem_frame(alloc, tree)?;
     objects.read(alloc, &types.names, items_under(":objects", sections))?;
     let vocabulary = Vocabulary {
@@ -85,6 +89,20 @@ pub fn read_problem(alloc: Global, domain: DomainTables, tree: &Tree) -> Result<
     };
     let init = read_init(alloc, &vocabulary, items_under(":init", sections))?;
     let goal = read_goal(alloc, &vocabulary, sections)?;
+    Ok((init, goal))
+}
+
+/// Reads a problem of a domain, pass by pass.
+pub fn read_problem(alloc: Global, domain: DomainTables, tree: &Tree) -> Result<Parts, ReadError>
+    ensures { Gives (reading.problem_parts (domain_of domain) (view tree.now)) result }
+{
+    let DomainTables {
+        types,
+        mut objects,
+        predicates,
+        schemas,
+    } = domain;
+    let (init, goal) = read_rest(alloc, &types, &predicates, &mut objects, tree)?;
     Ok(Parts {
         types: types.decls,
         predicates: Predicates::of(predicates.decls),

@@ -10,6 +10,8 @@ use Rattle.clap.specs.declared.builder.value_parser.ValueParser.TheVariants as r
 use Rattle.clap_words.specs.Same.{somewhere}
 use Rattle.plan_words.specs.declared.command.Name.{Name}
 use Rattle.plan_words.specs.declared.command.Name.TheVariants.{Plan, Check, Ground, Order, Gen, Prove, Verify, Batch}
+use Rattle.plan_words.specs.declared.command.Argument.{Argument}
+use Rattle.plan_words.specs.declared.command.Argument.TheVariants as argument
 use Rattle.plan_words.specs.declared.command.Readers.{Readers}
 use Rattle.plan_words.specs.declared.request.Stepping.TheVariants.{Exists, All}
 
@@ -32,6 +34,13 @@ option name by default = record (new_rule name) { long = Some name; action = Som
 -- `--name NUMBER`, from low to high.
 abbrev pub number : Text → ℕ → ℕ → Text → Rule
 number name low high default = option name (reader.Signed (pos low) (pos high)) default
+
+-- What an argument asks for.
+abbrev pub rule_for : Argument → Rule
+rule_for (argument.Word name) = word name.now
+rule_for (argument.Words name) = many_words name.now
+rule_for (argument.Read name by) = reading_word name.now by
+rule_for (argument.Long name by default) = option name.now by default.now
 
 -- The reader takes exactly these words, wherever they lie in memory.
 abbrev pub TakesWords : List Text → ValueParser → Type 0

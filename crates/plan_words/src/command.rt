@@ -1,8 +1,7 @@
 //! The commands, as `clap` is told of them.
-ghost use Rattle.std.specs.Prelude.{◌≡◌, ◌≤◌, ◌++◌, pos, IfOk, Some, None, true, false};
+ghost use Rattle.std.specs.Prelude.{◌≡◌, ◌++◌, map, IfOk, OnOk, Some, None, true, false};
 ghost use Rattle.clap.specs.Words.{rule_of, app_of, with_rule, new_app};
-ghost use Rattle.plan_words.specs.Command.{word, many_words, reading_word, option, number, named, with_rules, two, options, race_options, window_options, list_options, work_options, budget_option, workers_option, lists, command_of, AreReaders};
-ghost use Rattle.clap.specs.declared.builder.value_parser.ValueParser.TheVariants as reader;
+ghost use Rattle.plan_words.specs.Command.{word, many_words, reading_word, option, rule_for, named, with_rules, two, options, race_options, word_of, rules_of, command_of, AreReaders};
 
 use crate::request::Stepping;
 use clap::builder::ValueParser;
@@ -10,7 +9,7 @@ use clap::{Arg, ArgAction, Command};
 use std::alloc::{AllocError, Global};
 
 /// The commands, by the word that names each.
-#[derive(Clone, Copy, Debug, PartialEq, Eq)]
+#[derive(Clone, Copy)]
 pub(crate) enum Name {
     Plan(Stepping),
     Check,
@@ -24,12 +23,25 @@ pub(crate) enum Name {
 
 /// Readers of the lists of words: the algorithms, the kinds of a generated task, what of it is shown, and the orders of
 /// turns.
-#[derive(Clone, Copy, Debug)]
+#[derive(Clone, Copy)]
 pub(crate) struct Readers<'a> {
     pub(crate) algorithms: ValueParser<'a>,
     pub(crate) kinds: ValueParser<'a>,
     pub(crate) shows: ValueParser<'a>,
     pub(crate) turns: ValueParser<'a>,
+}
+
+/// An argument of a command.
+#[derive(Clone, Copy)]
+pub(crate) enum Argument<'a> {
+    /// A word that has to stand there.
+    Word(&'a str),
+    /// Words of which one or more have to stand there.
+    Words(&'a str),
+    /// A word that has to stand there, which this reader takes.
+    Read(&'a str, ValueParser<'a>),
+    /// `--name VALUE`, which this reader takes, and the value where it is not given.
+    Long(&'a str, ValueParser<'a>, &'a str),
 }
 
 static ALGORITHMS: [&str; 3] = ["a", "b", "c"];
@@ -109,104 +121,173 @@ fn option<'a>(alloc: Global, name: &'a str, by: ValueParser<'a>, default: &'a st
         .default_value(default)
 }
 
-// Numbers from `low` to `high`.
-fn between<'a>(low: u32, high: u32) -> ValueParser<'a>
-    ensures { result ≡ reader.Signed (pos low) (pos high) }
+// The argument, as `clap` is told of it.
+fn arg_of<'a>(alloc: Global, argument: Argument<'a>) -> Arg<'a>
+    ensures rule { rule_of result ≡ rule_for argument.entry }
+    ensures own { result.global ≡ false }
 {
-    ValueParser::signed(i64::from(low), i64::from(high))
+    match argument {
+        Argument::Word(name) => word(alloc, name),
+        Argument::Words(name) => many_words(alloc, name),
+        Argument::Read(name, by) => reading_word(alloc, name, by),
+        Argument::Long(name, by, default) => option(alloc, name, by, default),
+    }
 }
 
 // The command with one more argument.
-fn with<'a>(command: Command<'a>, arg: Arg<'a>) -> Result<Command<'a>, AllocError>
-    requires { arg.global ≡ false }
-    ensures { IfOk result (λ c. app_of c ≡ with_rule (app_of command.entry) (rule_of arg.entry)) }
-{
-    command.arg(arg)
-}
-
-// `--name NUMBER`, from `low` to `high`, after the command's other arguments.
-fn with_number<'a>(
+fn with<'a>(
     alloc: Global,
     command: Command<'a>,
+    argument: Argument<'a>,
+) -> Result<Command<'a>, AllocError>
+    ensures { IfOk result (λ c. app_of c ≡ with_rule (app_of command.entry) (rule_for argument.entry)) }
+{
+    command.arg(arg_of(alloc, argument))
+}
+
+// The command of this name with these arguments.
+fn with_all<'a>(
+    alloc: Global,
     name: &'a str,
-    low: u32,
-    high: u32,
-    default: &'a str,
+    arguments: &[Argument<'a>],
 ) -> Result<Command<'a>, AllocError>
-    ensures { IfOk result (λ c. app_of c ≡ with_rule (app_of command.entry) (number name.entry.now low high default.entry.now)) }
+    ensures { IfOk result (λ c. app_of c ≡ with_rules (new_app name.entry.now) (map rule_for arguments.now)) }
 {
-    with(command, option(alloc, name, between(low, high), default))
+    let mut command = Command::new(alloc, name);
+    for argument in arguments {
+        command = with(alloc, command, *argument)?;
+    }
+    Ok(command)
 }
 
-// The options of a race: the window's, the list's, those of the work, and that of the workers.
-fn with_options<'a>(
-    alloc: Global,
-    command: Command<'a>,
+// Adds arguments to a list.
+fn put<'a>(into: &mut Vec<Argument<'a>>, more: &[Argument<'a>]) -> Result<(), AllocError>
+    ensures { OnOk result (map rule_for into.new.items ≡ map rule_for into.old.items ++ map rule_for more.now) }
+{
+    into.extend_from_slice(more)?;
+    Ok(())
+}
+
+// Adds the options of a race but that of the workers: the window's, the list's, and those of the work.
+fn put_race<'a>(into: &mut Vec<Argument<'a>>, algorithms: ValueParser<'a>) -> Result<(), AllocError>
+    ensures { OnOk result (map rule_for into.new.items ≡ map rule_for into.old.items ++ race_options algorithms.entry) }
+{
+    put(
+        into,
+        &[
+            Argument::Long("alg", algorithms, "a"),
+            Argument::Long("width", ValueParser::Signed(1, 16), "4"),
+            Argument::Long("quota", ValueParser::Signed(1, 10000), "50"),
+            Argument::Long("percent", ValueParser::Signed(1, 99), "50"),
+            Argument::Long("growth", ValueParser::Signed(101, 400), "150"),
+            Argument::Long("start", ValueParser::Signed(0, 255), "0"),
+            Argument::Long("max-horizon", ValueParser::Signed(0, 255), "64"),
+            Argument::Long("budget", ValueParser::Signed(0, 1000000), "100000"),
+            Argument::Long("slice", ValueParser::Signed(1, 10000), "10"),
+        ],
+    )
+}
+
+// Adds the options of a race.
+fn put_options<'a>(
+    into: &mut Vec<Argument<'a>>,
     algorithms: ValueParser<'a>,
-) -> Result<Command<'a>, AllocError>
-    ensures { IfOk result (λ c. app_of c ≡ with_rules (app_of command.entry) (options algorithms.entry)) }
+) -> Result<(), AllocError>
+    ensures { OnOk result (map rule_for into.new.items ≡ map rule_for into.old.items ++ options algorithms.entry) }
 {
-    let command = with_race(alloc, command, algorithms)?;
-    with_number(alloc, command, "workers", 1, 16, "4")
+    put_race(into, algorithms)?;
+    put(
+        into,
+        &[Argument::Long("workers", ValueParser::Signed(1, 16), "4")],
+    )?;
+    Ok(())
 }
 
-// All but that of the workers.
-fn with_race<'a>(
-    alloc: Global,
-    command: Command<'a>,
+// Adds the words of the two files that are a task, and options of a race.
+fn put_planning<'a>(
+    into: &mut Vec<Argument<'a>>,
     algorithms: ValueParser<'a>,
-) -> Result<Command<'a>, AllocError>
-    ensures { IfOk result (λ c. app_of c ≡ with_rules (app_of command.entry) (race_options algorithms.entry)) }
+) -> Result<(), AllocError>
+    ensures { OnOk result (map rule_for into.new.items ≡ map rule_for into.old.items ++ (two ++ options algorithms.entry)) }
 {
-    let command = with_window(alloc, command, algorithms)?;
-    let command = with_list(alloc, command)?;
-    with_work(alloc, command)
+    put(into, &[Argument::Word("domain"), Argument::Word("problem")])?;
+    put_options(into, algorithms)?;
+    Ok(())
 }
 
-// The options of the window.
-fn with_window<'a>(
-    alloc: Global,
-    command: Command<'a>,
-    algorithms: ValueParser<'a>,
-) -> Result<Command<'a>, AllocError>
-    ensures { IfOk result (λ c. app_of c ≡ with_rules (app_of command.entry) (window_options algorithms.entry)) }
+// Adds the arguments of `gen`.
+fn put_generating<'a>(into: &mut Vec<Argument<'a>>, by: Readers<'a>) -> Result<(), AllocError>
+    ensures { OnOk result (map rule_for into.new.items ≡ map rule_for into.old.items ++ rules_of by.entry Name.Gen) }
 {
-    let command = with(command, option(alloc, "alg", algorithms, "a"))?;
-    let command = with_number(alloc, command, "width", 1, 16, "4")?;
-    let command = with_number(alloc, command, "quota", 1, 10000, "50")?;
-    with_number(alloc, command, "percent", 1, 99, "50")
+    put(
+        into,
+        &[
+            Argument::Read("kind", by.kinds),
+            Argument::Read("number", ValueParser::Signed(1, 64)),
+        ],
+    )?;
+    put_options(into, by.algorithms)?;
+    put(into, &[Argument::Long("show", by.shows, "none")])?;
+    Ok(())
 }
 
-// The options of the list of horizons.
-fn with_list<'a>(alloc: Global, command: Command<'a>) -> Result<Command<'a>, AllocError>
-    ensures { IfOk result (λ c. app_of c ≡ with_rules (app_of command.entry) list_options) }
+// Adds the arguments of `batch`.
+fn put_batching<'a>(into: &mut Vec<Argument<'a>>, by: Readers<'a>) -> Result<(), AllocError>
+    ensures { OnOk result (map rule_for into.new.items ≡ map rule_for into.old.items ++ rules_of by.entry Name.Batch) }
 {
-    let command = with_number(alloc, command, "growth", 101, 400, "150")?;
-    let command = with_number(alloc, command, "start", 0, 255, "0")?;
-    with_number(alloc, command, "max-horizon", 0, 255, "64")
+    put(
+        into,
+        &[Argument::Word("domain"), Argument::Words("problem")],
+    )?;
+    put_race(into, by.algorithms)?;
+    put(into, &[Argument::Long("turns", by.turns, "forward")])?;
+    Ok(())
 }
 
-// The options of the work.
-fn with_work<'a>(alloc: Global, command: Command<'a>) -> Result<Command<'a>, AllocError>
-    ensures { IfOk result (λ c. app_of c ≡ with_rules (app_of command.entry) work_options) }
+// Adds the arguments of a command, in their order.
+fn put_arguments<'a>(
+    into: &mut Vec<Argument<'a>>,
+    name: Name,
+    by: Readers<'a>,
+) -> Result<(), AllocError>
+    ensures { OnOk result (map rule_for into.new.items ≡ map rule_for into.old.items ++ rules_of by.entry name) }
 {
-    let command = with_budget(alloc, command)?;
-    with_number(alloc, command, "slice", 1, 10000, "10")
+    let domain = Argument::Word("domain");
+    let problem = Argument::Word("problem");
+    match name {
+        Name::Plan(_) => put_planning(into, by.algorithms),
+        Name::Check => put(into, &[domain, problem, Argument::Word("plan")]),
+        Name::Ground | Name::Order => put(into, &[domain, problem]),
+        Name::Gen => put_generating(into, by),
+        Name::Prove => put(
+            into,
+            &[
+                domain,
+                problem,
+                Argument::Read("horizon", ValueParser::Signed(0, 255)),
+                Argument::Long("budget", ValueParser::Signed(0, 1000000), "100000"),
+            ],
+        ),
+        Name::Verify => put(into, &[domain, problem, Argument::Word("certificate")]),
+        Name::Batch => put_batching(into, by),
+    }
 }
 
-// The option of the conflicts in all.
-fn with_budget<'a>(alloc: Global, command: Command<'a>) -> Result<Command<'a>, AllocError>
-    ensures { IfOk result (λ c. app_of c ≡ with_rule (app_of command.entry) budget_option) }
+// The word that names a command.
+fn word_for(name: Name) -> &'static str
+    ensures { result.now ≡ word_of name }
 {
-    with_number(alloc, command, "budget", 0, 1000000, "100000")
-}
-
-// The command of this name with the words of the two files that are a task.
-fn with_two<'a>(alloc: Global, name: &'a str) -> Result<Command<'a>, AllocError>
-    ensures { IfOk result (λ c. app_of c ≡ with_rules (new_app name.entry.now) two) }
-{
-    let command = with(Command::new(alloc, name), word(alloc, "domain"))?;
-    with(command, word(alloc, "problem"))
+    match name {
+        Name::Plan(Stepping::Exists) => "plan",
+        Name::Plan(Stepping::All) => "plan-all",
+        Name::Check => "check",
+        Name::Ground => "ground",
+        Name::Order => "order",
+        Name::Gen => "gen",
+        Name::Prove => "prove",
+        Name::Verify => "verify",
+        Name::Batch => "batch",
+    }
 }
 
 /// The command of this name.
@@ -217,54 +298,7 @@ pub(crate) fn command_for<'a>(
 ) -> Result<Command<'a>, AllocError>
     ensures { IfOk result (λ c. app_of c ≡ command_of by.entry name) }
 {
-    match name {
-        Name::Plan(Stepping::Exists) => planning(alloc, "plan", by),
-        Name::Plan(Stepping::All) => planning(alloc, "plan-all", by),
-        Name::Check => with(with_two(alloc, "check")?, word(alloc, "plan")),
-        Name::Ground => with_two(alloc, "ground"),
-        Name::Order => with_two(alloc, "order"),
-        Name::Gen => generating(alloc, by),
-        Name::Prove => proving(alloc),
-        Name::Verify => with(with_two(alloc, "verify")?, word(alloc, "certificate")),
-        Name::Batch => batching(alloc, by),
-    }
-}
-
-// The command of this name that plans for the two files.
-fn planning<'a>(alloc: Global, name: &'a str, by: Readers<'a>) -> Result<Command<'a>, AllocError>
-    ensures { IfOk result (λ c. app_of c ≡ with_rules (new_app name.entry.now) (two ++ options by.entry.algorithms)) }
-{
-    with_options(alloc, with_two(alloc, name)?, by.algorithms)
-}
-
-// The command `prove`.
-fn proving<'a>(alloc: Global) -> Result<Command<'a>, AllocError>
-    ensures { IfOk result (λ c. app_of c ≡ command_of lists Name.Prove) }
-{
-    let command = with_two(alloc, "prove")?;
-    let command = with(command, reading_word(alloc, "horizon", between(0, 255)))?;
-    with_budget(alloc, command)
-}
-
-// The command `batch`.
-fn batching<'a>(alloc: Global, by: Readers<'a>) -> Result<Command<'a>, AllocError>
-    ensures { IfOk result (λ c. app_of c ≡ command_of by.entry Name.Batch) }
-{
-    let command = with(Command::new(alloc, "batch"), word(alloc, "domain"))?;
-    let command = with(command, many_words(alloc, "problem"))?;
-    let command = with_race(alloc, command, by.algorithms)?;
-    with(command, option(alloc, "turns", by.turns, "forward"))
-}
-
-// The command `gen`.
-fn generating<'a>(alloc: Global, by: Readers<'a>) -> Result<Command<'a>, AllocError>
-    ensures { IfOk result (λ c. app_of c ≡ command_of by.entry Name.Gen) }
-{
-    let command = with(
-        Command::new(alloc, "gen"),
-        reading_word(alloc, "kind", by.kinds),
-    )?;
-    let command = with(command, reading_word(alloc, "number", between(1, 64)))?;
-    let command = with_options(alloc, command, by.algorithms)?;
-    with(command, option(alloc, "show", by.shows, "none"))
+    let mut arguments = Vec::new(alloc);
+    put_arguments(&mut arguments, name, by)?;
+    with_all(alloc, word_for(name), arguments.as_slice())
 }

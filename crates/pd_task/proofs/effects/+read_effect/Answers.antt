@@ -19,7 +19,7 @@ returns-in_err-read_effect-in-And-clause-effects t c =
 pub loop-item-preserved : goal.loop-item-preserved
 loop-item-preserved t c =
     let here = rw c.loop-item.invariant.0 at c.in_ok-read_effect-in-And.ensures.effects in
-    (c.in_ok-read_effect-in-And.ensures.scope ∙ c.loop-item.invariant.0, item_read (effects_listed _ _) _ _ _ _ _ _ c.loop-item-test.true c.item-item.is c.loop-item.invariant.1 here)
+    (c.in_ok-read_effect-in-And.ensures.scope ∙ c.loop-item.invariant.0, item_read (effects_listed _ _).items _ _ _ _ _ _ c.loop-item-test.true c.item-item.is c.loop-item.invariant.1 here)
 
 pub returns-after-loop-item-clause-effects : goal.returns-after-loop-item-clause-effects
 returns-after-loop-item-clause-effects t c =
