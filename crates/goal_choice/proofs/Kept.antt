@@ -1,13 +1,13 @@
 -- What is kept of a walk stands where a value changes, and a step goes on from it.
 use Rattle.std.proofs.Common.{arith, ◌≡◌, ℕ, zero, suc, ◌==◌, ◌+◌, ◌-◌, ◌*◌, ◌/◌, ◌%◌, ◌<◌, ◌≤◌, List, [], ◌∷◌, length, set, get_or, replicate, fold, Bool, true, false, Option, Some, None, refl, sym, ap, ◌∙◌, subst, if◌then◌else◌, ◌⊎◌, inl, inr}
 use Rattle.std.proofs.lemmas.List.{length-set, length-replicate, get_or-set_same, get_or-set_other, get_or-replicate, get_or_default}
-use Rattle.std.proofs.Math.Nat.{mul_comm, div-add-mod, mod-lt}
+use Rattle.std.proofs.Math.Nat.{mul_comm, div-add-mod, mod-lt, div-lt_iff_lt-mul}
 use Rattle.std.proofs.lemmas.Bool.{cases_eq, cases_lt}
 use Rattle.std.specs.Prelude.{not}
 use Rattle.std.specs.List.{slice_get, AllByRecursion}
 use Rattle.clause_base.specs.Clause.{put}
 use Rattle.clause_base.specs.Choice.{Known, same_value}
-use Rattle.gt_core.specs.Layout.{width, variables, fact_at}
+use Rattle.gt_core.specs.Layout.{Layout, width, variables, fact_at}
 use Rattle.gt_core.proofs.LayoutLaw.{product_le}
 use Rattle.goal_choice.specs.Means.{Means, start_of}
 use Rattle.goal_choice.specs.Walk.{support_of, supports, walk}
@@ -268,3 +268,16 @@ begun m seen items h facts place goal ls a e f n k p g l =
     empty : place ≡ no_literals facts
     empty =
         p ∙ ap (λ (x : List Literals). get_or x h place) k ∙ get_or-replicate (h + 1) h (no_literals facts) place (omega arith)
+
+-- where a number is below a product, the second factor is not 0, and it goes into the number fewer times than the first
+pub some_factor : (v h w : ℕ) → v < h * w → 0 < w
+some_factor v h zero lt = let z : h * 0 ≡ 0 = omega arith in absurd (omega (arith, lt, z))
+some_factor v h (suc w) lt = omega arith
+
+pub quotient_below : (v h w : ℕ) → v < h * w → v / w < h
+quotient_below v h w lt = (div-lt_iff_lt-mul {k = w} {x = v} {y = h} (some_factor v h w lt)).1 lt
+
+-- where a variable is past those of the steps, there is a fact
+pub some_facts : (v steps : ℕ) (z y : Layout) → steps ≡ z.horizon * width z → z ≡ y → v < variables y → steps ≤ v → 0 < z.facts
+some_facts v steps z y s e below past =
+    let all = subst (λ (x : Layout). v < variables x) (sym e) below in some_factor (v - steps) (z.horizon + 1) z.facts (omega (arith, all, s, past))

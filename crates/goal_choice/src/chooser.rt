@@ -22,7 +22,7 @@ use std::marker::Model;
 
 /// The chooser of actions backwards from the goals. It fits the number of variables of the layout that it was made with. Beside
 /// what it chooses by it has two sets to write over.
-#[derive(Debug, Drop)]
+#[derive(Drop)]
 pub struct GoalChooser {
     means: Supporters,
     wanted: Literals,

@@ -11,7 +11,7 @@ use clause_base::literal::Lit;
 use clause_base::values::Values;
 
 /// What a walk came to: a decision, where there is one, and the least time for which it knows what is wanted.
-#[derive(Debug, Drop)]
+#[derive(Drop)]
 pub(crate) struct Descent {
     pub(crate) choice: Option<Lit>,
     pub(crate) low: u32,

@@ -9,7 +9,7 @@ use std::alloc::Global;
 use std::marker::Model;
 
 /// A set of literals of so many facts, as a row of bits.
-#[derive(Debug, Drop)]
+#[derive(Drop)]
 pub(crate) struct Literals {
     facts: u32,
     row: BitRow,

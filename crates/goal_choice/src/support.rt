@@ -11,7 +11,7 @@ use clause_base::literal::Lit;
 use clause_base::values::Values;
 
 /// What a literal asks for that is wanted after a step.
-#[derive(Clone, Copy, Debug)]
+#[derive(Clone, Copy)]
 pub(crate) enum Support<'a> {
     /// A decision.
     Choose(Lit),

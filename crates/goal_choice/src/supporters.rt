@@ -22,7 +22,6 @@ use step_template::template::one_layout;
 
 /// The goal; for each fact literal the variables in the first step of the effects with it, in the order of the effects, and
 /// whether each is at most the next one; and for each such variable what has to hold before the step.
-#[derive(Debug)]
 struct Blocks {
     goal: Vec<u32>,
     variables: FlatLists<u32>,
@@ -38,7 +37,7 @@ impl Drop for Blocks {
 }
 
 /// An effect as a supporter of its literal: its variable in the first step, and the literals that have to hold before it.
-#[derive(Clone, Copy, Debug)]
+#[derive(Clone, Copy)]
 pub(crate) struct Supporter<'a> {
     pub(crate) variable: u32,
     pub(crate) needs: &'a [u32],
@@ -48,7 +47,7 @@ pub(crate) struct Supporter<'a> {
 /// once and shared. Contracts see what a choice over some layout is made from: here that of one step without chain variables.
 /// For every layout with the same numbers of actions, conditional effects and facts it is the same, but for the layout, since
 /// supporters are known by their variables in the first step.
-#[derive(Debug, Drop)]
+#[derive(Drop)]
 pub struct Supporters {
     layout: Layout,
     blocks: Arc<Blocks>,

@@ -19,7 +19,7 @@ use std::marker::Model;
 /// What a chooser of actions backwards from the goals keeps from one choice to the next: the literals that it was told, oldest
 /// first, and of its last walk over their values the literals that it wanted at each time, from the last time down to `low`.
 /// Beside that, a set to write over.
-#[derive(Debug, Drop)]
+#[derive(Drop)]
 pub struct ToldWalk {
     means: Supporters,
     own: Vec<Lit>,

@@ -1,11 +1,11 @@
-use Rattle.std.proofs.Common.{arith, ◌≡◌, ◌==◌, ℕ, ◌<◌, ◌≤◌, List, [], length, get_or, Bool, true, false, not, ◌&&◌, ◌||◌, refl, ap, sym, ◌∙◌, ◌⊎◌, inl, inr}
+use Rattle.std.proofs.Common.{arith, ◌≡◌, ◌==◌, ℕ, ◌<◌, ◌≤◌, List, [], length, get_or, set, Bool, true, false, not, ◌&&◌, ◌||◌, refl, ap, sym, ◌∙◌, ◌⊎◌, inl, inr, subst, get_or-set_same, get_or-set_other}
 use Rattle.std.specs.Prelude.{nat_lt}
 use Rattle.std.proofs.lemmas.Bool.{le-ltb as ge_test}
 use Rattle.std.proofs.lemmas.List.{get_or_read}
 use Rattle.bit_rows.specs.Bits.{row_has}
 use Rattle.gt_core.specs.Literal.{opposite}
-use Rattle.gt_core.proofs.Basics.{cases, or_left, same_test, test_same}
-use Rattle.known_literals.specs.Rows.{clause_in}
+use Rattle.gt_core.proofs.Basics.{apart, cases, or_left, same_test, test_same}
+use Rattle.known_literals.specs.Rows.{clause_in, row_at}
 use Rattle.invariant_rounds.specs.Losses.{IsDropped}
 use Rattle.invariant_rounds.proofs.Grouping.{and_one}
 
@@ -94,3 +94,15 @@ one_more_dropped old now one rest e = ap (λ (b : Bool). b || rest) e ∙ nested
     nested : (a b c : Bool) → ((a || b) || c) ≡ (a || (b || c))
     nested true b c = refl
     nested false b c = refl
+
+-- literals were taken out of one row
+pub row_less : (rows : List (List ℕ)) (row : ℕ) (r : List ℕ) (out : ℕ → Bool) → row < length rows → ((b : ℕ) → row_has r b ≡ (row_has (row_at rows row) b && not (out b))) → (a b : ℕ) → clause_in (set rows row r) a b ≡ (clause_in rows a b && not ((row == a) && out b))
+row_less rows row r out inside less a b = by (row == a) refl
+  where
+    kept : (x : Bool) → x ≡ (x && true)
+    kept true = refl
+    kept false = refl
+
+    by : (t : Bool) → (row == a) ≡ t → clause_in (set rows row r) a b ≡ (clause_in rows a b && not (t && out b))
+    by true e = subst (λ (n : ℕ). clause_in (set rows row r) n b ≡ (clause_in rows n b && not (out b))) (test_same row a e) (ap (λ (xs : List ℕ). row_has xs b) (get_or-set_same rows row r [] inside) ∙ less b)
+    by false e = ap (λ (xs : List ℕ). row_has xs b) (get_or-set_other rows row a r [] (λ (s : a ≡ row). apart (row == a) (same_test row a (sym s)) e)) ∙ kept (clause_in rows a b)

@@ -12,7 +12,7 @@ use std::alloc::Global;
 use step_chains::Chains;
 
 /// The members of a step run in one published order, and the chains go over each component of it.
-#[derive(Debug, Drop)]
+#[derive(Drop)]
 pub struct Components;
 
 impl Placing for Components {

@@ -88,7 +88,7 @@ fn kept_time(alloc: Global, pairs: &Pairs, literals: u64) -> Result<SharedList, 
 /// The encoding whose chains go where `P` says. The chains are found once, and how many literals a step has, and the known
 /// pairs at one time, is counted once. The clauses of one step and of one time are made once, where some formula has them and
 /// is not too large; all formulas have them in the same memory, however many there are and however many steps they have.
-#[derive(Debug, Drop)]
+#[derive(Drop)]
 pub struct Placed<'a, P: Placing> {
     task: &'a Task,
     pairs: &'a Pairs,

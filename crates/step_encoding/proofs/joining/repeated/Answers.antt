@@ -1,8 +1,9 @@
-use Rattle.std.proofs.Common.{arith, ◌∙◌, length, sym, ap}
-use Rattle.gt_core.specs.Layout.{Layout}
+use Rattle.std.proofs.Common.{arith, ◌∙◌, length, sym, ap, ◌+◌, ◌≤◌, subst}
+use Rattle.gt_core.specs.Layout.{Layout, variables}
 use Rattle.clause_base.specs.Repeats.{Repeats, repeated}
 use Rattle.clause_base.proofs.RepeatLemmas.{length_repeated}
 use Rattle.step_encoding.proofs.Joined.{repeats_of, repeated_is, new_is, new_fits, first_new, first_fits, first_is, first_long}
+use Rattle.std.proofs.Math.Nat.{mul-le-mul_right}
 use Rattle.step_encoding.proofs.joining.repeated.Goals as goal
 
 pub sharing-requires-clause-time_below : goal.sharing-requires-clause-time_below
@@ -43,3 +44,17 @@ returns-clause-long c =
     let read : Layout = record { horizon = c.layout.inside.horizon; actions = c.layout.inside.actions; conditional = c.layout.inside.conditional; chains = c.layout.inside.chains; facts = c.layout.inside.facts } in
     ap (λ (x : Repeats). length (repeated x)) (new_is read c.args.layout.now c.args.step.now c.args.known.now c.in_ok-step.step c.in_ok-time.time _ c.layout.view_is c.in_ok-step.ensures c.in_ok-time.ensures c.sharing-2.ensures)
     ∙ length_repeated (repeats_of c.args.layout.now c.args.step.now c.args.known.now)
+
+pub overflow_add-width : goal.overflow_add-width
+overflow_add-width c =
+    let z = c.layout.inside in
+    let small = subst (λ (y : Layout). variables y ≤ 2147483647) (sym c.layout.view_is) c.variables-all.ensures.lawful in
+    let some : 1 ≤ z.horizon = omega (arith, c.if-layout-eq0.false) in
+    omega (arith, small, mul-le-mul_right (z.actions + z.conditional + z.chains) some)
+
+pub overflow_add-width-2 : goal.overflow_add-width-2
+overflow_add-width-2 c =
+    let z = c.layout.inside in
+    let small = subst (λ (y : Layout). variables y ≤ 2147483647) (sym c.layout.view_is) c.variables-all.ensures.lawful in
+    let some : 1 ≤ z.horizon = omega (arith, c.if-layout-eq0.false) in
+    omega (arith, small, mul-le-mul_right (z.actions + z.conditional + z.chains) some)
