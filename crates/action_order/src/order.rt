@@ -6,7 +6,6 @@ use std::marker::Model;
 
 /// An order of a task's actions, as its components one after the other. Actions are numbered as in the task, places
 /// from 0.
-#[derive(Debug)]
 pub struct Order {
     components: Vec<ActNumbers>,
     order: Vec<u32>,

@@ -13,7 +13,7 @@ use step_encoding::placed::{Placed, Placing};
 
 /// The members of a step run in every order, and for each fact literal chains go over all actions, forward and backward in
 /// one order.
-#[derive(Debug, Drop)]
+#[derive(Drop)]
 pub struct BothWays;
 
 impl Placing for BothWays {

@@ -9,7 +9,7 @@ use word_bits::{
 
 /// A set of numbers below 2^32, a bit for each number up to the greatest for which there is room. A new row has no
 /// room; room comes with the numbers that are put in.
-#[derive(Debug, Drop)]
+#[derive(Drop)]
 pub struct BitRow {
     words: Vec<u64>,
 }

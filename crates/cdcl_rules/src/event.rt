@@ -4,7 +4,7 @@ ghost use Rattle.cdcl_rules.specs.Run.{is_conflict};
 use clause_base::literal::Lit;
 
 /// What a solver does next.
-#[derive(Clone, Copy, Debug)]
+#[derive(Clone, Copy)]
 pub enum Event {
     /// All literals of the clause with this number are false.
     Conflict(u32),

@@ -1,5 +1,5 @@
 /// How far a solver is.
-#[derive(Clone, Copy, Debug, PartialEq, Eq)]
+#[derive(Clone, Copy, PartialEq, Eq)]
 pub enum Standing {
     /// It may go on.
     Going,

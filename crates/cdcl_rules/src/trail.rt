@@ -1,7 +1,7 @@
 use clause_base::literal::Lit;
 
 /// A literal that is true, with the number of the clause that forced it; with none it is a decision.
-#[derive(Clone, Copy, Debug)]
+#[derive(Clone, Copy)]
 pub struct Assigned {
     /// The literal.
     pub literal: Lit,

@@ -9,7 +9,7 @@ use std::marker::Model;
 
 /// What a trail says: the literals that are true, oldest first, with the truth of each literal by its code and the position of
 /// each variable. It is read where the trail keeps it.
-#[derive(Debug, Drop)]
+#[derive(Drop)]
 pub struct Assignment<'a> {
     variables: u32,
     entries: &'a [Assigned],

@@ -3,7 +3,7 @@ ghost use Rattle.std.specs.Prelude.{◌≡◌};
 ghost use Rattle.certificates.specs.declared.error.ProofError.TheVariants as errors;
 
 /// Why there is no answer on a horizon.
-#[derive(Clone, Copy, Debug, PartialEq, Eq)]
+#[derive(Clone, Copy, PartialEq, Eq)]
 pub enum ProofError {
     /// The formula of the horizon has too many literals, so many.
     Literals { count: u64 },

@@ -24,7 +24,7 @@ use two_invariants::find;
 const MOST_BYTES: u64 = 16_777_216;
 
 /// What the run of a horizon comes to.
-#[derive(Debug, Drop)]
+#[derive(Drop)]
 pub enum Proved {
     /// It is refuted: its certificate.
     Certificate(Text),

@@ -16,7 +16,7 @@ use step_encoding::form::{FormError, StepForm};
 use two_invariants::find;
 
 /// What the checker says of a certificate.
-#[derive(Clone, Copy, Debug, PartialEq, Eq)]
+#[derive(Clone, Copy, PartialEq, Eq)]
 pub enum Judged {
     /// It is accepted, with so many entries.
     Accepted { entries: u32 },

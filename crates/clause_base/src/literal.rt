@@ -6,7 +6,7 @@ use literal_codes::opposite;
 use std::marker::Model;
 
 /// A literal by its code: `2v` is variable v, and `2v + 1` its negation. Variables are numbered from 0.
-#[derive(Clone, Copy, Debug, PartialEq, Eq, PartialOrd, Ord)]
+#[derive(Clone, Copy, PartialEq, Eq, PartialOrd, Ord)]
 pub struct Lit(pub u32);
 
 impl Model for Lit {

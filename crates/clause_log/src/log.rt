@@ -12,7 +12,6 @@ use std::alloc::Global;
 use std::marker::Model;
 
 /// A list of entries: clauses that are learned from a formula and the entries before, and clauses that are dropped.
-#[derive(Debug)]
 pub struct Log {
     count: usize,
     learned: usize,

@@ -8,7 +8,7 @@ use number_bytes::numbers::{Numbers, after_numbers};
 use std::marker::Model;
 
 /// An entry of a log where it stands.
-#[derive(Debug, Drop)]
+#[derive(Drop)]
 pub enum Step<'a> {
     /// A clause, by the codes of its literals, is learned from the clauses with these numbers.
     Learn {
@@ -22,7 +22,7 @@ pub enum Step<'a> {
 }
 
 /// The entries of a log, from the next one on. Contracts see the list of them.
-#[derive(Debug, Drop)]
+#[derive(Drop)]
 pub struct Reader<'a> {
     left: usize,
     steps: &'a [u8],

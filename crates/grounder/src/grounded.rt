@@ -30,7 +30,6 @@ use std::alloc::Global;
 use std::marker::Model;
 
 /// A task over numbered facts and actions, with the atom of each fact and the call of each action.
-#[derive(Debug)]
 pub struct Grounded {
     facts: Atoms,
     calls: Calls,
@@ -53,7 +52,7 @@ impl Drop for Grounded {
 }
 
 /// Why a task is not grounded: it is past a limit, told with its count, or memory ran out.
-#[derive(Clone, Copy, Debug, PartialEq, Eq)]
+#[derive(Clone, Copy, PartialEq, Eq)]
 pub enum GroundError {
     /// More than 4,000,000 tuples; a count past the greatest u64 is told as that number.
     Tuples { count: u64 },

@@ -6,7 +6,7 @@ use list_of::ListOf;
 use std::marker::Model;
 
 /// An action: what has to hold before it, and what it does.
-#[derive(Debug, Drop)]
+#[derive(Drop)]
 pub struct Act {
     pre: Lits,
     effects: Effs,

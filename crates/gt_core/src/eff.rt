@@ -6,7 +6,7 @@ use std::marker::Model;
 
 /// An effect: its literal comes true where the literals of its condition hold. An even literal adds its fact, an
 /// odd one deletes it. An effect is conditional where its condition is not empty.
-#[derive(Debug, Drop)]
+#[derive(Drop)]
 pub struct Eff {
     cond: Lits,
     lit: u32,

@@ -8,7 +8,7 @@ use std::marker::Model;
 /// How many steps, actions, conditional effects, chain variables and facts a horizon's formula has. Variables are
 /// numbered from 0: step after step, first the actions, then the conditional effects, then the chain variables;
 /// after the last step the facts, time after time, from time 0 to the horizon. There are at most 2,147,483,647.
-#[derive(Clone, Copy, Debug)]
+#[derive(Clone, Copy)]
 pub struct Layout {
     /// How many steps.
     pub horizon: u32,

@@ -10,7 +10,6 @@ use std::marker::Model;
 /// A set of clauses of one fact literal, or of two literals of different facts, over so many facts. It is kept as a
 /// sorted list, and as a row of bits for each literal, which has the literals that stand in a clause with it. A
 /// literal without a clause takes no row.
-#[derive(Debug)]
 pub struct Pairs {
     facts: u32,
     clauses: Vec<(u32, u32)>,

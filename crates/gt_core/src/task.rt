@@ -16,7 +16,6 @@ use std::marker::Model;
 /// numbered actions. The goal is hopeless where it has a literal that is never true. There are at most 2,048 facts,
 /// 16,384 actions and 65,536 effects with a condition; literals are of these facts, sorted and without repeats, and
 /// the effects of an action are sorted by literal and then by condition.
-#[derive(Debug)]
 pub struct Task {
     facts: u32,
     init: Bits,

@@ -8,7 +8,7 @@ use clause_base::literal::Lit;
 use clause_base::view::View;
 
 /// What a clause says where some literals are taken as false.
-#[derive(Clone, Copy, Debug)]
+#[derive(Clone, Copy)]
 pub enum Effect {
     /// All its literals are false.
     Conflicts,

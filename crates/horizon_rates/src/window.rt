@@ -6,7 +6,7 @@ use std::marker::Model;
 
 /// The live horizons of a race: those that were taken from the list and neither refuted nor passed
 /// by a refuted one. They rise, and at most 16 are live at once.
-#[derive(Debug, Drop)]
+#[derive(Drop)]
 pub struct Window {
     rates: Rates,
     // The live horizons stand side by side in the list, so the place of the first one and their

@@ -27,7 +27,7 @@ use step_encoding::form::StepForm;
 const TASKS: u32 = 20;
 
 /// What is printed of a task: the formula of a horizon, and the steps of an assignment where it satisfies it.
-#[derive(Clone, Copy, Debug)]
+#[derive(Clone, Copy)]
 struct Asked<'a> {
     horizon: u32,
     values: &'a [bool],

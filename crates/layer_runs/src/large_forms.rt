@@ -21,7 +21,7 @@ use step_encoding::exists::ExistsForm;
 use step_encoding::form::StepForm;
 
 /// What is asked of a form: the formula of a horizon where it is not 0, and how often to add up the sizes of all horizons.
-#[derive(Clone, Copy, Debug)]
+#[derive(Clone, Copy)]
 struct Asked {
     horizon: u32,
     sizes: u32,

@@ -6,7 +6,7 @@ use std::alloc::{AllocError, Global};
 use std::marker::Model;
 
 /// Lists of items: the items one after another, and where each list ends. Contracts see the list of the lists.
-#[derive(Debug, Drop)]
+#[derive(Drop)]
 pub struct FlatLists<T> {
     items: Vec<T>,
     ends: Vec<usize>,

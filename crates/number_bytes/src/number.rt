@@ -4,7 +4,7 @@ ghost use Rattle.number_bytes.specs.Number.{number_of, after_number, bytes_of, b
 use std::alloc::AllocError;
 
 /// The number that some bytes begin with, and the bytes after it.
-#[derive(Clone, Copy, Debug)]
+#[derive(Clone, Copy)]
 pub struct Taken<'a> {
     pub number: u64,
     pub rest: &'a [u8],

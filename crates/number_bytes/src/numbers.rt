@@ -8,7 +8,7 @@ use std::alloc::AllocError;
 use std::marker::Model;
 
 /// Numbers that stand in bytes, from the next one on. Contracts see the list of them.
-#[derive(Debug, Drop)]
+#[derive(Drop)]
 pub struct Numbers<'a> {
     bytes: &'a [u8],
     left: usize,

@@ -5,7 +5,7 @@ use std::alloc::Global;
 
 /// An object by its number, or a variable by its place: the parameters of the action come first, from
 /// 0, and then the variables of the `forall` that it stands under.
-#[derive(Clone, Copy, Debug, PartialEq, Eq)]
+#[derive(Clone, Copy, PartialEq, Eq)]
 pub enum Term {
     Object(u32),
     Variable(u32),
@@ -15,7 +15,7 @@ pub enum Term {
 pub type Terms = ListOf<Term>;
 
 /// An atom whose terms may be variables.
-#[derive(Debug, Drop)]
+#[derive(Drop)]
 pub struct Pattern {
     /// The number of its predicate.
     pub predicate: u32,
@@ -24,7 +24,7 @@ pub struct Pattern {
 }
 
 /// A ground atom.
-#[derive(Debug, PartialEq, Eq, PartialOrd, Ord, Drop)]
+#[derive(PartialEq, Eq, PartialOrd, Ord, Drop)]
 pub struct Atom {
     /// The number of its predicate.
     pub predicate: u32,

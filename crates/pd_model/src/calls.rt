@@ -3,7 +3,7 @@ use crate::Objects;
 use list_of::ListOf;
 
 /// A schema with one object for each parameter.
-#[derive(Debug, Drop)]
+#[derive(Drop)]
 pub struct Call {
     /// The number of the schema.
     pub schema: u32,
@@ -15,7 +15,7 @@ pub struct Call {
 pub type Calls = ListOf<Call>;
 
 /// What a list of calls comes to.
-#[derive(Clone, Copy, Debug, PartialEq, Eq)]
+#[derive(Clone, Copy, PartialEq, Eq)]
 pub enum Verdict {
     /// Each call runs in turn, and the goal holds in the last state: the list is a plan.
     Reaches,

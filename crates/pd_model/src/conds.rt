@@ -3,7 +3,7 @@ use crate::{Pattern, Term};
 use list_of::ListOf;
 
 /// One literal of a condition.
-#[derive(Debug, Drop)]
+#[derive(Drop)]
 pub enum Cond {
     /// The atom is in the state, or is not, as is wanted.
     Has { atom: Pattern, want: bool },

@@ -4,7 +4,7 @@ use list_of::ListOf;
 
 /// One literal that an action adds or deletes, where its condition holds before the action: once for each
 /// tuple of objects that fit the types of the `forall` round it.
-#[derive(Debug, Drop)]
+#[derive(Drop)]
 pub struct Effect {
     /// The types of the variables of the `forall`, which follow the parameters.
     pub over: TypeNumbers,

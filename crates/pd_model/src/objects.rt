@@ -5,7 +5,7 @@ use std::cmp::Ordering;
 use std::marker::Model;
 
 /// A declared object. Objects are numbered from 0, the constants of the domain first.
-#[derive(Debug, Drop)]
+#[derive(Drop)]
 pub struct ObjectDecl {
     /// Its name.
     pub name: Name,
@@ -17,7 +17,7 @@ pub struct ObjectDecl {
 pub type ObjectDecls = ListOf<ObjectDecl>;
 
 /// Numbers of objects: those of a ground atom or of a call.
-#[derive(Debug, Drop)]
+#[derive(Drop)]
 pub struct Objects {
     items: Vec<u32>,
 }

@@ -3,7 +3,6 @@ use crate::{Atoms, Conds, ObjectDecls, Predicates, Schemas, Types};
 use let_go::let_go;
 
 /// What a domain and a problem declare, before it is known to be a task.
-#[derive(Debug)]
 pub struct Parts {
     /// The types, `object` first.
     pub types: Types,

@@ -3,7 +3,7 @@ use list_of::ListOf;
 use pd_sexp::Name;
 
 /// A declared predicate. Predicates are numbered from 0 in order of declaration.
-#[derive(Debug, Drop)]
+#[derive(Drop)]
 pub struct Predicate {
     /// Its name.
     pub name: Name,

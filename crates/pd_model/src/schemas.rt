@@ -4,7 +4,7 @@ use list_of::ListOf;
 use pd_sexp::Name;
 
 /// An action with variables. Schemas are numbered from 0 in order of declaration.
-#[derive(Debug, Drop)]
+#[derive(Drop)]
 pub struct Schema {
     /// Its name.
     pub name: Name,

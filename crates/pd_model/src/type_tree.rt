@@ -10,7 +10,7 @@ use std::alloc::Global;
 
 /// The numbers at which a walk in depth enters and leaves the types. The types at or under one are those that are
 /// entered while it is open, so that a test of two types takes constant time.
-#[derive(Debug, Drop)]
+#[derive(Drop)]
 pub struct TypeTree {
     pub entries: Vec<usize>,
     pub exits: Vec<usize>,

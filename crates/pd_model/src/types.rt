@@ -3,7 +3,7 @@ use list_of::ListOf;
 use pd_sexp::Name;
 
 /// A declared type. Types are numbered from 0; type 0 is `object`, its own parent.
-#[derive(Debug, Drop)]
+#[derive(Drop)]
 pub struct TypeDecl {
     /// Its name.
     pub name: Name,

@@ -5,7 +5,7 @@ ghost use Rattle.pd_plan.specs.declared.fault.PlanFault.TheVariants as error;
 use std::alloc::{AllocError, AllocFailed};
 
 /// The first fault of a plan file; places are offsets of bytes, from 0.
-#[derive(Clone, Copy, Debug, PartialEq, Eq)]
+#[derive(Clone, Copy, PartialEq, Eq)]
 pub enum PlanFault {
     /// The bytes are no lists of words: the wrong byte, the parenthesis of an empty list, or the length where
     /// a list is not closed.

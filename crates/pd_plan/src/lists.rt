@@ -13,7 +13,7 @@ use std::alloc::Global;
 pub type Words = ListOf<Named>;
 
 /// A list of words, and the offset of its parenthesis.
-#[derive(Debug, Drop)]
+#[derive(Drop)]
 pub struct WordList {
     /// The offset of its parenthesis in the file, from 0.
     pub at: u32,

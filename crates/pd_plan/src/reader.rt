@@ -7,7 +7,7 @@ use std::alloc::Global;
 use std::mem;
 
 /// Between lists, or in one.
-#[derive(Clone, Copy, Debug, PartialEq, Eq)]
+#[derive(Clone, Copy, PartialEq, Eq)]
 pub enum Place {
     Between,
     Inside,

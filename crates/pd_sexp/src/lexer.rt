@@ -7,7 +7,7 @@ use std::alloc::{AllocError, Global};
 use std::marker::Model;
 
 /// What a byte comes to, after those before it.
-#[derive(Debug, Drop)]
+#[derive(Drop)]
 pub enum Lexed {
     /// A blank, a byte of a comment, or one more letter of a word.
     Nothing,
@@ -18,7 +18,7 @@ pub enum Lexed {
 }
 
 /// In a gap, in a comment, or in a word.
-#[derive(Clone, Copy, Debug, PartialEq, Eq)]
+#[derive(Clone, Copy, PartialEq, Eq)]
 pub enum Spot {
     Gap,
     Comment,

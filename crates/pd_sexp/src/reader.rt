@@ -38,7 +38,7 @@ impl Frame {
 }
 
 /// Before the file's list, in it, or after it.
-#[derive(Clone, Copy, Debug, PartialEq, Eq)]
+#[derive(Clone, Copy, PartialEq, Eq)]
 pub enum Place {
     Before,
     Inside,

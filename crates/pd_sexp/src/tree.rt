@@ -8,7 +8,7 @@ use std::alloc::{AllocError, AllocFailed};
 pub type Name = ListOf<u8>;
 
 /// A word, or a list of trees. Each has the offset of its first byte in the file, from 0.
-#[derive(Debug, Drop)]
+#[derive(Drop)]
 #[cycle(tree)]
 pub enum Tree {
     Word { at: u32, text: Name },
@@ -16,7 +16,7 @@ pub enum Tree {
 }
 
 /// The items of a list, in the order of the file.
-#[derive(Debug, Drop)]
+#[derive(Drop)]
 #[cycle(tree)]
 pub struct Trees {
     /// The items.
@@ -24,7 +24,7 @@ pub struct Trees {
 }
 
 /// Why bytes are read as no tree; places are offsets, from 0.
-#[derive(Clone, Copy, Debug, PartialEq, Eq)]
+#[derive(Clone, Copy, PartialEq, Eq)]
 pub enum TreeError {
     /// No file goes on so at this byte, or the file ends too early.
     Syntax { at: u32 },

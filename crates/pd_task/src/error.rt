@@ -7,7 +7,7 @@ use pd_words::{Fault, ReadError};
 
 /// The first cause for which a domain and a problem say no task, with the file and the offset of a byte in
 /// it, from 0.
-#[derive(Clone, Copy, Debug, PartialEq, Eq)]
+#[derive(Clone, Copy, PartialEq, Eq)]
 pub enum PddlError {
     /// A wrong item, at its place; or a list that lacks one.
     Shape { file: Which, at: u32 },

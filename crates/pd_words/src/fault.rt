@@ -5,7 +5,7 @@ ghost use Rattle.pd_words.specs.declared.fault.ReadError.TheVariants.{Memory};
 use std::alloc::{AllocError, AllocFailed};
 
 /// The first cause for which a file is no task, at the offset of a byte, from 0.
-#[derive(Clone, Copy, Debug, PartialEq, Eq)]
+#[derive(Clone, Copy, PartialEq, Eq)]
 pub enum Fault {
     /// A wrong item, or a list that lacks one.
     Shape(u32),
@@ -20,7 +20,7 @@ pub enum Fault {
 }
 
 /// Why reading a tree ends early.
-#[derive(Clone, Copy, Debug, PartialEq, Eq)]
+#[derive(Clone, Copy, PartialEq, Eq)]
 pub enum ReadError {
     /// Want of memory; also where more than 4,294,967,295 things would need a number.
     Memory,

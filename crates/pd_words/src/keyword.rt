@@ -7,7 +7,7 @@ use crate::words::{is, is_any};
 use pd_sexp::{Name, Tree};
 
 /// What a list's first word makes of it.
-#[derive(Clone, Copy, Debug, PartialEq, Eq)]
+#[derive(Clone, Copy, PartialEq, Eq)]
 pub enum Keyword {
     And,
     Not,

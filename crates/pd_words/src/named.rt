@@ -5,7 +5,7 @@ use pd_sexp::Name;
 use std::alloc::{AllocError, Global};
 
 /// A word, and the offset of its first byte.
-#[derive(Debug, Drop)]
+#[derive(Drop)]
 pub struct Named {
     /// The offset of its first byte in the file, from 0.
     pub at: u32,

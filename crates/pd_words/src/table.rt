@@ -14,7 +14,6 @@ use std::collections::BTreeMap;
 use std::marker::Model;
 
 /// Distinct names, numbered from 0 in the order in which they were added.
-#[derive(Debug)]
 pub struct Table {
     names: Vec<Name>,
     numbers: BTreeMap<Vec<u8>, u32>,

@@ -224,7 +224,7 @@ fn check_rooted(alloc: Global, parents: &[u32], places: &[u32]) -> Result<(), Re
 }
 
 /// The types of a domain, by number, and their names.
-#[derive(Debug, Drop)]
+#[derive(Drop)]
 pub struct TypeTable {
     pub decls: Types,
     pub names: Table,

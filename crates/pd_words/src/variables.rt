@@ -14,7 +14,7 @@ use pd_sexp::Tree;
 use std::alloc::{AllocError, Global};
 
 /// Variables with the numbers of their types.
-#[derive(Debug, Drop)]
+#[derive(Drop)]
 pub struct Variables {
     pub names: Table,
     pub kinds: Vec<u32>,

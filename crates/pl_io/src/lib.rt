@@ -23,7 +23,7 @@ pub use outside::{PutFailed, Shelf, Sink, TakeError, Taken, put_all};
 use std::alloc::AllocError;
 
 /// Want of memory: no room was to be had, and nothing else went wrong.
-#[derive(Clone, Copy, Debug, PartialEq, Eq)]
+#[derive(Clone, Copy, PartialEq, Eq)]
 pub struct Memory;
 
 impl From<AllocError> for Memory {

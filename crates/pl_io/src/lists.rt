@@ -11,7 +11,7 @@ pub type Bytes = ListOf<u8>;
 pub type Numbers = ListOf<u32>;
 
 /// A file's name and the bytes that it holds.
-#[derive(Debug, Drop)]
+#[derive(Drop)]
 pub struct NamedFile {
     /// The file's name.
     pub name: Bytes,

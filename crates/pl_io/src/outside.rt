@@ -5,7 +5,7 @@ ghost use Rattle.pl_io.specs.Outside.{Notes, Took, TookWhole, TookFirst, fault_c
 use std::alloc::AllocError;
 
 /// How much of a file was taken.
-#[derive(Clone, Copy, Debug, PartialEq, Eq)]
+#[derive(Clone, Copy, PartialEq, Eq)]
 pub enum Taken {
     /// All of its bytes.
     Whole,
@@ -15,7 +15,7 @@ pub enum Taken {
 }
 
 /// Why a file was not taken.
-#[derive(Clone, Copy, Debug, PartialEq, Eq)]
+#[derive(Clone, Copy, PartialEq, Eq)]
 pub enum TakeError {
     /// A fault of reading, which the shelf wrote down under the file's name. That there is no such file is one.
     Failed,
@@ -77,7 +77,7 @@ pub trait Shelf {
 }
 
 /// A fault of writing: nothing was taken in that call.
-#[derive(Clone, Copy, Debug, PartialEq, Eq)]
+#[derive(Clone, Copy, PartialEq, Eq)]
 pub struct PutFailed;
 
 /// Where bytes go.

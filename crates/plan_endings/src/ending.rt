@@ -8,7 +8,7 @@ use report_lines::push_number;
 use std::alloc::Global;
 
 /// An input file.
-#[derive(Clone, Copy, Debug, PartialEq, Eq)]
+#[derive(Clone, Copy, PartialEq, Eq)]
 pub enum File {
     /// The domain.
     Domain,
@@ -21,7 +21,7 @@ pub enum File {
 }
 
 /// What is wrong with a file that is refused.
-#[derive(Clone, Copy, Debug, PartialEq, Eq)]
+#[derive(Clone, Copy, PartialEq, Eq)]
 pub enum Kind {
     /// The bytes are no text tree.
     Syntax,
@@ -42,7 +42,7 @@ pub enum Kind {
 }
 
 /// What there may be too much of in a task.
-#[derive(Clone, Copy, Debug, PartialEq, Eq)]
+#[derive(Clone, Copy, PartialEq, Eq)]
 pub enum Limit {
     /// Tuples of objects for parameters and `forall`s: at most 4,000,000.
     Tuples,
@@ -55,7 +55,7 @@ pub enum Limit {
 }
 
 /// How a race ended.
-#[derive(Clone, Copy, Debug, PartialEq, Eq)]
+#[derive(Clone, Copy, PartialEq, Eq)]
 pub enum Outcome {
     /// With a plan.
     Planned,
@@ -66,7 +66,7 @@ pub enum Outcome {
 }
 
 /// How a run ends, but for want of memory and a write fault.
-#[derive(Debug, Drop)]
+#[derive(Drop)]
 pub enum Ending {
     /// A race ended, with its report.
     Report { outcome: Outcome, text: Bytes },
@@ -177,7 +177,7 @@ impl Ending {
 }
 
 /// A text that is due.
-#[derive(Debug, Drop)]
+#[derive(Drop)]
 pub enum Due {
     /// One that was made.
     Made(Bytes),

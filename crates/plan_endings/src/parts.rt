@@ -10,7 +10,7 @@ use report_lines::push_number;
 use std::alloc::Global;
 
 /// A batch to which parts are added.
-#[derive(Debug, Drop)]
+#[derive(Drop)]
 pub struct Growing {
     count: u64,
     status: u8,

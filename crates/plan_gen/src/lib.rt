@@ -28,7 +28,7 @@ pub enum Kind {
 }
 
 /// A written task: the texts of its domain and of its problem.
-#[derive(Debug, Drop)]
+#[derive(Drop)]
 pub struct Made {
     pub domain: Text,
     pub problem: Text,

@@ -13,5 +13,5 @@
 /// | 6 | the report could not be written |
 /// | 7 | the words are none that are taken |
 /// | 8 | want of memory; nothing was written |
-#[derive(Clone, Copy, Debug, PartialEq, Eq)]
+#[derive(Clone, Copy, PartialEq, Eq)]
 pub struct Status(pub u8);

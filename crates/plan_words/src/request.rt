@@ -18,7 +18,7 @@ pub enum Show {
 }
 
 /// Which orders of a step's members run.
-#[derive(Clone, Copy, Debug, PartialEq, Eq)]
+#[derive(Clone, Copy, PartialEq, Eq)]
 pub enum Stepping {
     /// Some order, which the plan tells (Rintanen, Heljanko and Niemelä 2006: an ∃-step).
     Exists,
@@ -39,7 +39,7 @@ pub enum Turns {
 pub type Problems<'a> = ListOf<&'a str>;
 
 /// What is asked for. A file is named by its word.
-#[derive(Debug, Drop)]
+#[derive(Drop)]
 pub enum Request<'a> {
     /// A plan of the problem, or that there is none within the horizons that are listed.
     Plan {

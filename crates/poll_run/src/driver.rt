@@ -5,7 +5,7 @@ ghost use Rattle.pl_io.specs.Outside.{HasCause};
 use futures::Future;
 
 /// The driver gave up. The future is gone.
-#[derive(Clone, Copy, Debug, PartialEq, Eq)]
+#[derive(Clone, Copy, PartialEq, Eq)]
 pub struct DriveFailed;
 
 /// Polls a future until it is ready.

@@ -8,7 +8,7 @@ use crate::{Driver, PollRun};
 use solver_pool::Resume;
 
 /// Why a run was not brought to its target. The run is gone.
-#[derive(Clone, Copy, Debug, PartialEq, Eq)]
+#[derive(Clone, Copy, PartialEq, Eq)]
 pub enum SettleError {
     /// The driver gave up.
     Driver,

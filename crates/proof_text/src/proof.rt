@@ -11,7 +11,7 @@ use std::alloc::{AllocError, AllocFailed};
 pub type Text = ListOf<u8>;
 
 /// A certificate: a horizon, and the log that is to refute it.
-#[derive(Debug, Drop)]
+#[derive(Drop)]
 pub struct Proof {
     /// The horizon, from 0 to 255.
     pub horizon: u32,
@@ -20,7 +20,7 @@ pub struct Proof {
 }
 
 /// Why bytes are no certificate.
-#[derive(Clone, Copy, Debug, PartialEq, Eq)]
+#[derive(Clone, Copy, PartialEq, Eq)]
 pub enum ProofFault {
     /// The line that begins at this offset, from 0, does not fit.
     Syntax { at: u32 },

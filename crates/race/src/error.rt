@@ -4,7 +4,7 @@ ghost use Rattle.std.specs.Prelude.{◌≡◌};
 use clause_base::memory::Memory;
 
 /// Why a race has no end.
-#[derive(Clone, Copy, Debug, PartialEq, Eq)]
+#[derive(Clone, Copy, PartialEq, Eq)]
 pub enum RaceError {
     /// The formula of a horizon has too many literals, and none is live when its turn to start comes.
     Literals { horizon: u32, count: u64 },

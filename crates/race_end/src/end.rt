@@ -4,7 +4,7 @@ use crate::line::Lines;
 use step_encoding::steps::Steps;
 
 /// How a race ends, with a line for each horizon that was started, rising.
-#[derive(Debug, Drop)]
+#[derive(Drop)]
 pub enum RaceEnd {
     /// The least horizon that was found, with its steps.
     Plan {

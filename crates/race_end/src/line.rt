@@ -4,7 +4,7 @@ use list_of::ListOf;
 use rup_check::check::Checked;
 
 /// How a horizon ended.
-#[derive(Debug, Drop)]
+#[derive(Drop)]
 pub enum LineEnd {
     /// It has no plan, by a log that was checked.
     Refuted(Checked),
@@ -17,7 +17,7 @@ pub enum LineEnd {
 }
 
 /// What became of a started horizon.
-#[derive(Debug, Drop)]
+#[derive(Drop)]
 pub struct Line {
     /// Its horizon: a number of steps.
     pub horizon: u32,

@@ -18,7 +18,7 @@ use std::marker::Model;
 /// The mark of an accepted log: `check` gives it, with a clause that says which formula and log it is of and that the
 /// formula has no satisfying assignment. Nothing else makes one, since its fields are private; that is all that protects it.
 /// The mark alone does not say what was refuted: a formula of one empty clause is refuted under every name.
-#[derive(Debug, Drop)]
+#[derive(Drop)]
 pub struct Checked {
     name: u32,
     entries: u32,

@@ -3,7 +3,7 @@
 ghost use Rattle.std.specs.Prelude.{◌<◌};
 
 /// A linear congruential generator.
-#[derive(Debug, Drop)]
+#[derive(Drop)]
 pub struct Dice {
     state: u32,
 }

@@ -13,7 +13,7 @@ use std::alloc::{AllocError, Global};
 /// How many rooms there are. Fact r says that the robot is in room r. Lamp k stands in room 5k; after the rooms come the
 /// facts that lamp k is on, then those that it is off, then those that it was seen when it was on. The last fact is that the
 /// battery is charged.
-#[derive(Clone, Copy, Debug)]
+#[derive(Clone, Copy)]
 struct House {
     rooms: u32,
 }

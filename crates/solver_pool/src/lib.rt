@@ -44,7 +44,7 @@ pub use serve::{Served, serve_one};
 use std::alloc::AllocError;
 
 /// Want of memory: no room was to be had, and nothing else went wrong.
-#[derive(Clone, Copy, Debug, PartialEq, Eq)]
+#[derive(Clone, Copy, PartialEq, Eq)]
 pub struct Memory;
 
 impl From<AllocError> for Memory {

@@ -6,7 +6,7 @@ use crate::link::Link;
 use std::marker::Model;
 
 /// A chain: the number of its first variable, counted from 0, and its members.
-#[derive(Debug, Drop)]
+#[derive(Drop)]
 pub(crate) struct Chain {
     pub(crate) first: u32,
     pub(crate) links: Vec<Link>,

@@ -23,7 +23,7 @@ use std::marker::Model;
 
 /// The chains of a task that have a variable, in the order in which they were added, with as many links as
 /// 1,073,741,824 at most.
-#[derive(Debug, Drop)]
+#[derive(Drop)]
 pub struct Chains {
     actions: u32,
     chains: Vec<Chain>,

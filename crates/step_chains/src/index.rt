@@ -21,7 +21,7 @@ use std::marker::Model;
 
 /// For each fact literal, the links of the actions that touch it, in the order of the actions. To fill it, and to go over
 /// its links, takes time by the number of literals in the actions.
-#[derive(Debug, Drop)]
+#[derive(Drop)]
 pub struct LinkIndex {
     lists: Vec<Links>,
     touched: BitRow,

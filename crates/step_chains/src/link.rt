@@ -7,7 +7,7 @@ use clause_base::memory::Memory;
 use list_of::ListOf;
 
 /// An action beside a fact literal: whether it may take the literal away, and whether it reads it.
-#[derive(Clone, Copy, Debug)]
+#[derive(Clone, Copy)]
 pub struct Link {
     /// The number of the action.
     pub action: u32,

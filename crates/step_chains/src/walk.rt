@@ -7,7 +7,7 @@ use crate::link::Link;
 
 /// Where a walk along the links of a chain stands: whether a taker was seen, the number of the next variable, and how many
 /// readers are left.
-#[derive(Clone, Copy, Debug)]
+#[derive(Clone, Copy)]
 pub(crate) struct Walk {
     pub(crate) seen: bool,
     pub(crate) next: u32,

@@ -9,7 +9,7 @@ use gt_core::eff::Eff;
 use step_template::adders::add_of_fact;
 
 /// The effects that were passed with the literal `lit`, an add: how many there are, and whether one has no condition.
-#[derive(Clone, Copy, Debug)]
+#[derive(Clone, Copy)]
 pub(crate) struct Adds {
     pub(crate) lit: u32,
     pub(crate) count: u32,

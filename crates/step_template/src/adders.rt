@@ -12,7 +12,7 @@ use gt_core::layout::Layout;
 use std::alloc::Global;
 
 /// The effects that were passed with the literal `lit`, an add: their variables.
-#[derive(Debug, Drop)]
+#[derive(Drop)]
 pub(crate) struct Adders {
     lit: u32,
     vars: Vec<Lit>,

@@ -10,7 +10,7 @@ use gt_core::eff::Eff;
 use gt_core::layout::Layout;
 
 /// Where an effect stands: the number of its action, and the number that it has where it is conditional.
-#[derive(Clone, Copy, Debug)]
+#[derive(Clone, Copy)]
 pub(crate) struct Place {
     pub(crate) action: u32,
     pub(crate) number: u32,

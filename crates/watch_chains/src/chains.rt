@@ -7,7 +7,7 @@ use std::alloc::{AllocError, Global};
 const END: u32 = 4_294_967_295;
 
 /// A node of a chain: the node after it, and a blocking literal: where that is true, nothing need be done for the node.
-#[derive(Clone, Copy, Debug)]
+#[derive(Clone, Copy)]
 pub struct Node {
     pub next: u32,
     pub blocking: u32,
