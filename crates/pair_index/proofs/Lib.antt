@@ -8,3 +8,4 @@ pub mod Steps
 pub mod Whole
 pub mod Five
 pub mod Shapes
+pub mod Movables

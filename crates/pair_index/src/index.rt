@@ -17,7 +17,6 @@ use std::marker::Model;
 /// step and of one time stand in tables by the literals of that step and that time, whatever the horizon is; those that are
 /// told, and those that were added after all of these, in tables by all literals, where there are such clauses. Nothing in it
 /// changes after it is made.
-#[derive(Debug)]
 pub struct PairIndex {
     shape: Shape,
     told: Table,

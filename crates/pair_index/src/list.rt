@@ -8,7 +8,7 @@ use crate::pair::Pair;
 use std::marker::Model;
 
 /// Where the pairs of one step or one time go.
-#[derive(Clone, Copy, Debug)]
+#[derive(Clone, Copy)]
 pub struct Move {
     /// How many variables of the pairs' literals are the step's own.
     pub width: u32,
@@ -21,7 +21,7 @@ pub struct Move {
 }
 
 /// Pairs of a literal: those of one step or one time as they stand in its table, and how they are moved.
-#[derive(Debug, Drop)]
+#[derive(Drop)]
 pub struct PairList<'a> {
     pairs: &'a [Pair],
     to: Move,

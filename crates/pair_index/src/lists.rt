@@ -109,7 +109,7 @@ fn next_of<'a>(shape: &Shape, step: &'a Table, time: u32, fact: u32) -> Option<P
 }
 
 /// The pairs of a literal, in five lists that stand one after another.
-#[derive(Debug, Drop)]
+#[derive(Drop)]
 pub struct Lists<'a> {
     shape: &'a Shape,
     told: &'a Table,

@@ -5,7 +5,7 @@ ghost use Rattle.pair_index.specs.Origin.{IsOrigin};
 use crate::shape::Shape;
 
 /// Of which step or time a literal is, and its code there.
-#[derive(Clone, Copy, Debug)]
+#[derive(Clone, Copy)]
 pub enum Origin {
     /// A literal of a variable of the step with a number.
     Step(u32, u32),

@@ -1,7 +1,7 @@
 //! A clause of two literals as one of them sees it.
 
 /// A clause of two literals beside one of them: the other one, and the clause's number.
-#[derive(Clone, Copy, Debug)]
+#[derive(Clone, Copy)]
 pub struct Pair {
     /// The code of the other literal.
     pub other: u32,

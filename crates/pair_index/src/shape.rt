@@ -7,7 +7,7 @@ use clause_base::clause_list::ClauseList;
 use clause_base::repeated::Repeated;
 
 /// The numbers of a formula's parts.
-#[derive(Clone, Copy, Debug)]
+#[derive(Clone, Copy)]
 pub struct Shape {
     /// How many variables there are in all.
     pub variables: u32,

@@ -12,7 +12,6 @@ use std::marker::Model;
 
 /// For each literal by its code the clauses of two literals that it is in, in two blocks of memory: the pairs one after
 /// another, and where those of each literal begin.
-#[derive(Debug)]
 pub struct Table {
     offsets: Vec<u32>,
     items: Vec<Pair>,

@@ -1,5 +1,8 @@
-use Rattle.std.proofs.Common.{arith, ◌≤◌}
+use Rattle.std.proofs.Common.{arith, ◌≤◌, List, sym, subst}
 use Rattle.std.proofs.Math.Nat.{mul-le-mul_right}
+use Rattle.pair_index.specs.declared.pair.Pair.{Pair}
+use Rattle.pair_index.specs.Moved.{AreMovable}
+use Rattle.pair_index.proofs.Movables.{step_to, step_movable}
 use Rattle.pair_index.proofs.lists.step_list.Goals as goal
 
 pub overflow_mul-to : goal.overflow_mul-to
@@ -16,3 +19,6 @@ overflow_mul-to-3 c = let within : c.args.step ≤ c.args.shape.now.horizon = om
 
 pub overflow_add-to-2 : goal.overflow_add-to-2
 overflow_add-to-2 c = let within : c.args.step ≤ c.args.shape.now.horizon = omega arith in omega (arith, mul-le-mul_right c.args.shape.now.steps within)
+
+pub of-requires : goal.of-requires
+of-requires c = subst (λ (ps : List Pair). AreMovable (step_to c.args.shape.now c.args.step) ps) (sym c.row-pairs.ensures) (step_movable c.args.shape.now c.args.table.now c.args.step c.args.code c.requires.shape c.requires.within c.requires.step)

@@ -1,5 +1,8 @@
-use Rattle.std.proofs.Common.{arith}
+use Rattle.std.proofs.Common.{arith, List, sym, subst}
 use Rattle.std.proofs.Math.Nat.{mul-le-mul_right}
+use Rattle.pair_index.specs.declared.pair.Pair.{Pair}
+use Rattle.pair_index.specs.Moved.{AreMovable}
+use Rattle.pair_index.proofs.Movables.{time_to, time_movable}
 use Rattle.pair_index.proofs.lists.time_list.Goals as goal
 
 pub overflow_mul-to : goal.overflow_mul-to
@@ -16,3 +19,6 @@ overflow_add-to-2 c = omega (arith, mul-le-mul_right c.args.shape.now.times c.re
 
 pub overflow_add-to-3 : goal.overflow_add-to-3
 overflow_add-to-3 c = omega (arith, mul-le-mul_right c.args.shape.now.times c.requires.time)
+
+pub of-requires : goal.of-requires
+of-requires c = subst (λ (ps : List Pair). AreMovable (time_to c.args.shape.now c.args.time) ps) (sym c.row-pairs.ensures) (time_movable c.args.shape.now c.args.table.now c.args.time c.args.code c.requires.shape c.requires.within c.requires.time)
