@@ -58,7 +58,7 @@ pub trait Chooser {
 }
 
 /// The chooser that makes the least variable without a value false. It fits every number of variables.
-#[derive(Clone, Copy, Debug)]
+#[derive(Clone, Copy)]
 pub struct PlainChooser;
 
 impl PlainChooser {

@@ -12,7 +12,6 @@ use std::marker::Model;
 
 /// A list of clauses: their literals one after another in one block of memory, where each ends in another, and a third block for
 /// sorting.
-#[derive(Debug)]
 pub struct ClauseList {
     lists: FlatLists<Lit>,
     sorted: Vec<Lit>,

@@ -19,7 +19,6 @@ const MOST_CLAUSES: u32 = 1_073_741_824;
 /// A named conjunction of clauses over variables that are numbered from 0. It has at most 2,147,483,647 variables and at most
 /// 1,073,741,824 clauses. First come those that were added before a repeated part, then those of the repeated part, which
 /// stand once however often they are seen, then those that were added after it.
-#[derive(Debug)]
 pub struct Formula {
     name: u32,
     variables: u32,
@@ -36,7 +35,7 @@ impl Drop for Formula {
 }
 
 /// The parts of a formula's list of clauses, in order.
-#[derive(Clone, Copy, Debug)]
+#[derive(Clone, Copy)]
 pub struct Parts<'a> {
     /// The clauses that were added before the repeated part, if there is one.
     pub told: &'a ClauseList,

@@ -5,7 +5,7 @@ use list_of::ListOf;
 pub type Hints = ListOf<u32>;
 
 /// What a solver did with a clause.
-#[derive(Debug, Drop)]
+#[derive(Drop)]
 pub enum Entry {
     /// It learned a clause, from the clauses with these numbers, in the order in which they force a literal; the last one
     /// is the clause that is then false. The clause takes the next number.

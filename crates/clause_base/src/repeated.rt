@@ -14,7 +14,6 @@ use std::marker::Model;
 /// The clauses of one step and of one time, seen as those of all steps and of all times of a horizon. The variables are
 /// numbered step after step, each with `width` of its own, and after them time after time, each with one for each fact.
 /// One step's clauses stand over its own variables, then the facts before it, then those after it; one time's over the facts.
-#[derive(Debug)]
 pub struct Repeated {
     horizon: u32,
     width: u32,

@@ -10,14 +10,13 @@ use std::marker::Model;
 use std::sync::Arc;
 
 /// Whose memory the clauses are in.
-#[derive(Debug, Drop)]
+#[derive(Drop)]
 enum Held {
     Own(ClauseList),
     Shared(Arc<ClauseList>),
 }
 
 /// A list of clauses that does not change any more. Once it is shared, its copies stand in the same memory.
-#[derive(Debug)]
 pub struct SharedList {
     held: Held,
 }

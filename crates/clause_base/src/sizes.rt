@@ -6,7 +6,7 @@ use crate::shared_list::SharedList;
 
 /// How many variables all steps have of their own, and how many clauses there are of one step, of one time, of all steps,
 /// and of all steps and times.
-#[derive(Clone, Copy, Debug)]
+#[derive(Clone, Copy)]
 pub(crate) struct Sizes {
     pub(crate) first: u32,
     pub(crate) per_step: usize,

@@ -12,7 +12,6 @@ use word_bits::least_bit;
 
 /// For each of at most 2,147,483,647 variables true, false or not given. They are kept as bits, 64 variables to a word: which
 /// have a value, and which are true. What the second row has of a variable without a value says nothing.
-#[derive(Debug)]
 pub struct Values {
     variables: u32,
     given: Vec<u64>,

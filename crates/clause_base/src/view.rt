@@ -7,7 +7,7 @@ use std::marker::Model;
 
 /// The literals of a clause, read where they stand: each is moved as it is read, so that a clause that is seen many times
 /// stands once.
-#[derive(Debug, Drop)]
+#[derive(Drop)]
 pub struct View<'a> {
     lits: &'a [Lit],
     limit: u32,
