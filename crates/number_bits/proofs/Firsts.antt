@@ -1,9 +1,11 @@
 -- A set that keeps its least member beside the others, as one list of words.
-use Rattle.std.proofs.Common.{arith, ◌≡◌, ◌≢◌, ◌==◌, ℕ, ◌*◌, ◌/◌, ◌%◌, ◌<◌, ◌≤◌, List, length, get_or, set, Bool, true, false, not, ◌||◌, ◌&&◌, refl, sym, ap, ◌∙◌, eqb, Option, Some, None, get_or-set_same, get_or-set_other}
+use Rattle.std.proofs.Common.{arith, inl, inr, ◌≡◌, ◌≢◌, ◌==◌, ℕ, ◌*◌, ◌/◌, ◌%◌, ◌<◌, ◌≤◌, min, max, leb, List, length, get_or, set, Bool, true, false, not, ◌||◌, ◌&&◌, refl, sym, ap, ◌∙◌, eqb, Option, Some, None}
 use Rattle.std.proofs.lemmas.Bool.Decides.{nat_tests}
 use Rattle.std.specs.Option.{option_eq}
+use Rattle.std.specs.Prelude.{if◌then◌else◌}
 use Rattle.word_bits.proofs.WordLaw.{set_same, set_other}
-use Rattle.number_bits.specs.Bits.{word_has, word_with, words_have, words_with, bits_with, IsLeast, IsInside, IsFirst, IsTakenLeast}
+use Rattle.word_bits.proofs.Changed.{IsChanged, changed_bit}
+use Rattle.number_bits.specs.Bits.{word_has, word_with, words_have, words_with, bits_with, IsLeast, IsPast, IsInside, IsFirst, IsTakenLeast}
 
 equal_of : (a b : ℕ) → (a == b) ≡ true → a ≡ b
 equal_of a b h = grind (arith, nat_tests)
@@ -17,36 +19,25 @@ tests_equal a b h = grind (arith, nat_tests)
 tests_apart : (a b : ℕ) → (a ≡ b → ⊥) → (a == b) ≡ false
 tests_apart a b h = let n : a ≢ b = h in grind (arith, nat_tests)
 
+-- a bit was changed
+pub changed : (words : List ℕ) (n w : ℕ) (b : Bool) → n < 64 * length words → word_has w (n % 64) ≡ b → ((k : ℕ) → (k ≡ n % 64 → ⊥) → word_has w k ≡ word_has (get_or words (n / 64) 0) k) → (k : ℕ) → words_have (set words (n / 64) w) k ≡ (if k == n then b else words_have words k)
+changed words n w b inside same others k = by (changed_bit words n w b inside same others k)
+  where
+    by : IsChanged words (set words (n / 64) w) n b k → words_have (set words (n / 64) w) k ≡ (if k == n then b else words_have words k)
+    by (inl h) = h.1 ∙ ap (λ (t : Bool). if t then b else words_have words k) (sym (tests_equal k n (sym h.0)))
+    by (inr h) = h.1 ∙ ap (λ (t : Bool). if t then b else words_have words k) (sym (tests_apart k n (λ (e : k ≡ n). h.0 (sym e))))
+
+pub has_or : (t b : Bool) → (if t then true else b) ≡ (t || b)
+has_or true b = refl
+has_or false b = refl
+
+pub has_not : (t b : Bool) → (if t then false else b) ≡ (not t && b)
+has_not true b = refl
+has_not false b = refl
+
 -- a word with one more bit has that one and those that it had
 pub has_with : (words : List ℕ) (n k : ℕ) → n < 64 * length words → words_have (words_with words (Some n)) k ≡ bits_with words n k
-has_with words n k inside = by (k == n) refl
-  where
-    at : ℕ
-    at = n / 64
-
-    word : ℕ
-    word = word_with (get_or words (n / 64) 0) (n % 64)
-
-    other_bit : k / 64 ≡ n / 64 → (k % 64 ≡ n % 64 → ⊥) → words_have (set words (n / 64) word) k ≡ words_have words k
-    other_bit q ne =
-        ap (λ (i : ℕ). word_has (get_or (set words (n / 64) word) i 0) (k % 64)) q
-        ∙ ap (λ (w : ℕ). word_has w (k % 64)) (get_or-set_same words (n / 64) word 0 (omega (arith, inside)))
-        ∙ set_other (get_or words (n / 64) 0) (n % 64) (omega arith) (k % 64) ne
-        ∙ ap (λ (i : ℕ). word_has (get_or words i 0) (k % 64)) (sym q)
-
-    other : (k ≡ n → ⊥) → (b : Bool) → (k / 64 == n / 64) ≡ b → words_have (set words (n / 64) word) k ≡ words_have words k
-    other ne true f =
-        let q : k / 64 ≡ n / 64 = equal_of (k / 64) (n / 64) f in
-        other_bit q (λ (r : k % 64 ≡ n % 64). ne (omega (arith, q, r)))
-    other ne false f = ap (λ (w : ℕ). word_has w (k % 64)) (get_or-set_other words (n / 64) (k / 64) word 0 (apart_of (k / 64) (n / 64) f))
-
-    by : (b : Bool) → (k == n) ≡ b → words_have (set words (n / 64) word) k ≡ (b || words_have words k)
-    by true f =
-        let e : k ≡ n = equal_of k n f in
-        ap (words_have (set words (n / 64) word)) e
-        ∙ ap (λ (w : ℕ). word_has w (n % 64)) (get_or-set_same words (n / 64) word 0 (omega (arith, inside)))
-        ∙ set_same (get_or words (n / 64) 0) (n % 64) (omega arith)
-    by false f = other (apart_of k n f) (k / 64 == n / 64) refl
+has_with words n k inside = changed words n (word_with (get_or words (n / 64) 0) (n % 64)) true inside (set_same (get_or words (n / 64) 0) (n % 64) (omega arith)) (set_other (get_or words (n / 64) 0) (n % 64) (omega arith)) k ∙ has_or (k == n) (words_have words k)
 
 -- the least member is the one that is kept beside the others
 pub first_least : (words : List ℕ) (least : Option ℕ) → IsFirst words least → IsLeast (words_have (words_with words least)) least
@@ -103,3 +94,41 @@ is_least (Some m) n e = ap (λ (x : ℕ). Some x) (equal_of m n (sym e))
 pub not_least : (o : Option ℕ) (n : ℕ) → false ≡ option_eq eqb o (Some n) → o ≡ Some n → ⊥
 not_least None n e q = let w : ⊥ = cc in w
 not_least (Some m) n e q = let z : m ≡ n = cc in apart_of m n (sym e) z
+
+-- a number and the least one, the less of them first
+pub put_two : (a b lo hi k : ℕ) (h : Bool) → lo ≡ min a b → hi ≡ max a b → (k == lo || (k == hi || h)) ≡ (k == a || (k == b || h))
+put_two a b lo hi k h l g = by (leb a b) refl
+  where
+    turned : (x y z : Bool) → (x || (y || z)) ≡ (y || (x || z))
+    turned true true z = refl
+    turned true false z = refl
+    turned false y z = refl
+
+    same : {x y u v : ℕ} → x ≡ u → y ≡ v → (k == x || (k == y || h)) ≡ (k == u || (k == v || h))
+    same {x} {y} {u} {v} e f = ap (λ (n : ℕ). k == n || (k == y || h)) e ∙ ap (λ (n : ℕ). k == u || (k == n || h)) f
+
+    by : (t : Bool) → leb a b ≡ t → (k == lo || (k == hi || h)) ≡ (k == a || (k == b || h))
+    by true e = let le : a ≤ b = grind (arith, nat_tests) in same (omega (arith, l, le)) (omega (arith, g, le))
+    by false e = let lt : b < a = grind (arith, nat_tests) in same (omega (arith, l, lt)) (omega (arith, g, lt)) ∙ turned (k == b) (k == a) h
+
+-- past the least member of a set are all others
+pub past_taken : (p q : ℕ → Bool) (o : Option ℕ) → IsTakenLeast p q o → IsPast q o
+past_taken p q None t = t.1
+past_taken p q (Some n) t = λ k le. t.1 k ∙ by k le (k == n) refl
+  where
+    by : (k : ℕ) → k ≤ n → (b : Bool) → (k == n) ≡ b → (not b && p k) ≡ false
+    by k le true f = refl
+    by k le false f = let ne : k ≢ n = apart_of k n f in t.0.1 k (omega (arith, le, ne))
+
+and_none : (b : Bool) → (b && false) ≡ false
+and_none true = refl
+and_none false = refl
+
+-- and of fewer members too
+pub past_less : (p q : ℕ → Bool) (n : ℕ) (o : Option ℕ) → ((k : ℕ) → q k ≡ (not (k == n) && p k)) → IsPast p o → IsPast q o
+past_less p q n None has past = λ k. has k ∙ ap (λ (b : Bool). not (k == n) && b) (past k) ∙ and_none (not (k == n))
+past_less p q n (Some m) has past = λ k le. has k ∙ ap (λ (b : Bool). not (k == n) && b) (past k le) ∙ and_none (not (k == n))
+
+pub inside_same : (words words' : List ℕ) (o : Option ℕ) → length words' ≡ length words → IsInside words o → IsInside words' o
+inside_same words words' None long i = i
+inside_same words words' (Some n) long i = omega (arith, long, i)

@@ -1,1 +1,2 @@
 pub mod WordLaw
+pub mod Changed
