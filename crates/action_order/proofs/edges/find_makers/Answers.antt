@@ -4,7 +4,7 @@ use Rattle.std.proofs.lemmas.List.{get_or_read}
 use Rattle.gt_core.specs.Literal.{is_in}
 use Rattle.gt_core.proofs.Lists.{each_number}
 use Rattle.action_order.specs.Graph.{row_at}
-use Rattle.action_order.specs.Readers.{IsEntered}
+use Rattle.action_order.specs.Readers.{IsEntered, AreRowsOf}
 use Rattle.action_order.specs.Edges.{surely}
 use Rattle.action_order.proofs.ReadersLaw.{none_entered, entered_more}
 use Rattle.action_order.proofs.edges.find_makers.Goals as goal
@@ -32,3 +32,8 @@ loop-b-preserved c =
     let after = c.enter_literals.new.rows.items in
     entered_more (surely c.args.sure.now) c.args.keys b before after c.loop-b.invariant
     (subst (λ (ls : List ℕ). IsEntered (is_in ls) b before after) (read here) c.in_ok-enter_literals.ensures)
+
+pub returns : goal.returns
+returns c =
+    let end : c.loop-b.b ≡ length c.args.sure.now = omega (arith, c.loop-b-test.false, c.loop-b.auto.b-end) in
+    subst (λ (n : ℕ). AreRowsOf (surely c.args.sure.now) c.args.keys n c.loop-b.rows.items) end c.loop-b.invariant

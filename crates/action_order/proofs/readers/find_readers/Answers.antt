@@ -1,8 +1,8 @@
-use Rattle.std.proofs.Common.{◌*◌, subst}
+use Rattle.std.proofs.Common.{◌*◌, subst, arith, ◌≡◌, length, ℕ}
 use Rattle.gt_core.specs.Literal.{is_in}
 use Rattle.gt_core.specs.Task.{Action}
 use Rattle.gt_core.specs.Interference.{action_needs, action_asks}
-use Rattle.action_order.specs.Readers.{IsEntered, needs, asks_of, of_effects}
+use Rattle.action_order.specs.Readers.{IsEntered, needs, asks_of, of_effects, AreRowsOf}
 use Rattle.action_order.proofs.ReadersLaw.{none_entered, entered_more, act_is, within_at}
 use Rattle.action_order.proofs.readers.find_readers.Goals as goal
 
@@ -33,3 +33,13 @@ pub enter_effects-requires : goal.enter_effects-requires
 enter_effects-requires c =
     let w = within_at c.args.facts c.args.acts.now c.loop-b.b c.index-acts-b.result c.requires.within c.loop-b-test.true c.index-acts-b.is in
     rw (c.effects.ensures, c.loop-b.invariant.asking.long) w.effects
+
+pub returns-clause-needing : goal.returns-clause-needing
+returns-clause-needing c =
+    let end : c.loop-b.b ≡ length c.args.acts.now = omega (arith, c.loop-b-test.false, c.loop-b.auto.b-end) in
+    subst (λ (n : ℕ). AreRowsOf (needs c.args.acts.now) (2 * c.args.facts) n c.loop-b.needing.items) end c.loop-b.invariant.needing
+
+pub returns-clause-asking : goal.returns-clause-asking
+returns-clause-asking c =
+    let end : c.loop-b.b ≡ length c.args.acts.now = omega (arith, c.loop-b-test.false, c.loop-b.auto.b-end) in
+    subst (λ (n : ℕ). AreRowsOf (asks_of c.args.acts.now) (c.args.facts) n c.loop-b.asking.items) end c.loop-b.invariant.asking

@@ -1,4 +1,4 @@
-use Rattle.std.proofs.Common.{◌*◌, ◌<◌, ap, ℕ, subst, sym, ◌∙◌, ◌&&◌, not, true, Bool, List, inl, inr}
+use Rattle.std.proofs.Common.{◌*◌, ◌<◌, ap, ℕ, subst, sym, ◌∙◌, ◌&&◌, not, Bool, List, inl, inr}
 use Rattle.bit_rows.specs.Bits.{row_has}
 use Rattle.gt_core.specs.Literal.{opposite}
 use Rattle.known_literals.specs.Rows.{clause_in, HasNoPair}
