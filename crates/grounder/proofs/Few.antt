@@ -1,18 +1,17 @@
 -- Within the limit on tuples a `forall` of a kept call has no more tuples than the limit says.
-use Rattle.std.proofs.Common.{arith, ◌≡◌, ℕ, zero, suc, ◌+◌, ◌*◌, ◌≤◌, ◌<◌, List, [], ◌∷◌, Bool, true, false, cond, length, map, get_or, refl, ap, sym, ◌∙◌, subst, Option, Some, None, IsTrue, inl, inr}
+use Rattle.std.proofs.Common.{arith, ◌≡◌, ℕ, zero, suc, ◌+◌, ◌*◌, ◌≤◌, ◌<◌, List, [], ◌∷◌, Bool, true, false, cond, length, map, get_or, refl, ap, sym, subst, Option, Some, None, IsTrue, inl, inr}
 use Rattle.std.specs.Prelude.{sum_by, slice_get}
-use Rattle.std.specs.List.{filter, list_any, AllByRecursion, Contains}
+use Rattle.std.specs.List.{filter, AllByRecursion}
 use Rattle.std.proofs.lemmas.Bool.{and_parts}
 use Rattle.std.proofs.lemmas.Option.{slice_get_within, get_or_from_slice_get}
 use Rattle.std.proofs.lemmas.List.Sums.{get_or-le-sum_by, sum_by-cons}
 use Rattle.std.proofs.Math.Nat.{mul-le-mul_left, mul-le-mul_right}
 use Rattle.gt_core.proofs.Basics.{Among, each_from}
-use Rattle.pd_model.specs.Fits.{fits, fitting, all_fit, is_call_of, is_call}
+use Rattle.pd_model.specs.Fits.{fits, fitting, all_fit, is_call_of}
 use Rattle.pd_model.specs.declared.calls.Call.{Call}
-use Rattle.pd_model.specs.declared.effects.Effect.{Effect}
 use Rattle.pd_model.specs.declared.parts.Parts.{Parts}
 use Rattle.pd_model.specs.declared.schemas.Schema.{Schema}
-use Rattle.grounding.specs.Grounded.{is_listed, same_call}
+use Rattle.grounding.specs.Grounded.{is_listed}
 use Rattle.grounding.specs.Reach.{IsKept}
 use Rattle.grounding.specs.Tuples.{product_of, effect_tuples, schema_tuples, tuples_in, saturated}
 use Rattle.grounding.proofs.Kept.{kept_is_call}

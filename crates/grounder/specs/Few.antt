@@ -1,5 +1,5 @@
 -- Tasks within the limit on tuples: no `forall` of an action that has calls has more tuples than the limit says.
-use Rattle.std.specs.Prelude.{ℕ, ◌≤◌, List, Option, Some, None, slice_get}
+use Rattle.std.specs.Prelude.{◌≤◌, List, Option, Some, None, slice_get}
 use Rattle.std.specs.List.{AllByRecursion}
 use Rattle.pd_model.specs.declared.calls.Call.{Call}
 use Rattle.pd_model.specs.declared.effects.Effect.{Effect}
