@@ -35,7 +35,7 @@ impl Read for Faulty {
 
 impl Write for Faulty {
     fn write(&mut self, _buf: &[u8]) -> io::Result<usize> {
-        unasked()
+        Ok(0)
     }
 
     fn flush(&mut self) -> io::Result<()> {
