@@ -6,6 +6,8 @@ mod certificates;
 #[cfg(test)]
 mod choice;
 #[cfg(test)]
+mod faulty_files;
+#[cfg(test)]
 mod known;
 #[cfg(test)]
 mod lists;
@@ -15,6 +17,10 @@ mod logs;
 mod pool;
 #[cfg(test)]
 mod rates;
+#[cfg(test)]
+mod shelves;
+#[cfg(test)]
+mod sinks;
 #[cfg(test)]
 mod tasks;
 #[cfg(test)]

@@ -1,4 +1,4 @@
-//! Turns in a ring, rounds, and that two runs are at work at once.
+//! Turns in a ring, rounds, and that two runs are at work at once. What finds no memory is not as it should be.
 ghost use Rattle.std.specs.Prelude.{◌≡◌, ◌≤◌, IfOk};
 ghost use Rattle.crossbeam_queue.specs.Passes.{view};
 ghost use Rattle.solver_pool.specs.Ring.{IsOwnerPass, IsRingPass, IsSlice};
@@ -8,7 +8,7 @@ use solver_pool::{
     CountRun, Gate, Job, Jobs, Memory, OpenGate, Opened, Pass, Resume, Ring, Served, round,
     serve_one,
 };
-use std::alloc::{AllocError, Global};
+use std::alloc::Global;
 use std::sync::Wait;
 use std::thread::Threads;
 
@@ -38,138 +38,121 @@ fn ring_of<H: Wait>(rt: &H, alloc: Global, rows: &[Row]) -> Result<Opened<CountR
     Ring::open(rt, alloc, jobs)
 }
 
-/// Writes what a turn came to.
-fn push_word(alloc: Global, served: Served<CountRun>, text: &mut String) -> Result<(), AllocError> {
-    match served {
-        Served::Back => text.push_str("back "),
-        Served::Idle => text.push_str("idle "),
-        Served::Done(job) => {
-            text.push_str(format!(in alloc; "done {} ", job.run.granted())?.as_str())
-        }
+/// What a turn comes to.
+#[derive(Clone, Copy)]
+enum Turn {
+    /// The job stays in the ring.
+    Back,
+    /// There is no job.
+    Idle,
+    /// The job is done, and its run was granted so many units.
+    Done(u64),
+}
+
+/// Whether a turn came to this.
+fn is_turn(served: Served<CountRun>, turn: Turn) -> bool {
+    match (served, turn) {
+        (Served::Back, Turn::Back) | (Served::Idle, Turn::Idle) => true,
+        (Served::Done(job), Turn::Done(units)) => job.run.granted() == units,
+        _ => false,
     }
 }
 
-/// Makes so many turns with a pass, and writes what each came to.
-fn serve<H: Wait>(
+/// Makes turns with a pass, and answers whether they come to this.
+fn serves<H: Wait>(
     rt: &H,
-    alloc: Global,
     ring: &Ring<CountRun>,
     pass: &mut Pass<CountRun>,
-    turns: u32,
     slice: u32,
-    text: &mut String,
-) -> Result<(), AllocError>
+    turns: &[Turn],
+) -> bool
     requires pass { IsRingPass ⟦<CountRun as Resume>⟧ ring.now pass.old }
     requires slice { IsSlice slice }
     ensures pass { IsRingPass ⟦<CountRun as Resume>⟧ ring.now pass.new }
     ensures owner { (view pass.new.pass).owner ≡ (view pass.old.pass).owner }
 {
-    for _ in 0..turns {
-        push_word(alloc, serve_one(rt, ring, pass, slice, &OpenGate), text)?;
+    let mut same = true;
+    for turn in turns {
+        same &= is_turn(serve_one(rt, ring, pass, slice, &OpenGate), *turn);
     }
-    Ok(())
+    same
 }
 
-/// Drains a ring until it is found empty, at most so often, and writes the horizons.
-fn drain<H: Wait>(
+/// Whether a job is there, and of this horizon.
+fn is_of(job: Option<Job<CountRun>>, horizon: u32) -> bool {
+    match job {
+        Some(job) => job.run.horizon() == horizon,
+        None => false,
+    }
+}
+
+/// Whether no job is there.
+fn is_none(job: Option<Job<CountRun>>) -> bool {
+    job.is_none()
+}
+
+/// Drains a ring, and answers whether jobs of these horizons come out, and no other.
+fn drains<H: Wait>(
     rt: &H,
-    alloc: Global,
     ring: &Ring<CountRun>,
     owner: &mut Pass<CountRun>,
-    text: &mut String,
-) -> Result<(), AllocError>
+    horizons: &[u32],
+) -> bool
     requires { IsOwnerPass ⟦<CountRun as Resume>⟧ ring.now owner.old }
     ensures { IsOwnerPass ⟦<CountRun as Resume>⟧ ring.now owner.new }
 {
-    for _ in 0..17 {
-        match ring.drain(rt, owner) {
-            Some(job) => text.push_str(format!(in alloc; "{} ", job.run.horizon())?.as_str())?,
-            None => {
-                text.push_str("none")?;
-                break;
-            }
-        }
+    let mut same = true;
+    for horizon in horizons {
+        same &= is_of(ring.drain(rt, owner), *horizon);
     }
-    Ok(())
+    is_none(ring.drain(rt, owner)) && same
 }
 
-/// Makes so many turns with a pass that is given out, and drains the ring while it is out.
-fn lend<H: Wait>(
+/// Makes turns with a pass that is given out, and drains the ring while it is out.
+fn lends<H: Wait>(
     rt: &H,
-    alloc: Global,
     ring: &Ring<CountRun>,
     owner: &mut Pass<CountRun>,
-    turns: u32,
     slice: u32,
-    text: &mut String,
-) -> Result<(), Memory>
-    requires owner { IsOwnerPass ⟦<CountRun as Resume>⟧ ring.now owner.old }
-    requires slice { IsSlice slice }
-{
-    let mut pass = ring.give(rt, owner)?;
-    serve(rt, alloc, ring, &mut pass, turns, slice, text)?;
-    drain(rt, alloc, ring, owner, text)?;
-    ring.take_in(rt, owner, pass);
-    Ok(())
-}
-
-/// Makes so many turns, with a pass that is given out or with the owner's, and drains the ring.
-fn turn<H: Wait>(
-    rt: &H,
-    alloc: Global,
-    ring: &Ring<CountRun>,
-    owner: &mut Pass<CountRun>,
-    given: bool,
-    turns: u32,
-    slice: u32,
-) -> Result<String, Memory>
-    requires owner { IsOwnerPass ⟦<CountRun as Resume>⟧ ring.now owner.old }
-    requires slice { IsSlice slice }
-{
-    let mut text = String::new(alloc);
-    if given {
-        lend(rt, alloc, ring, owner, turns, slice, &mut text)?;
-    } else {
-        serve(rt, alloc, ring, owner, turns, slice, &mut text)?;
-        drain(rt, alloc, ring, owner, &mut text)?;
-    }
-    Ok(text)
-}
-
-/// Opens a ring, makes so many turns, with a pass that is given out or with the owner's, and drains it.
-fn story<H: Wait>(
-    rt: &H,
-    alloc: Global,
-    rows: &[Row],
-    given: bool,
-    turns: u32,
-    slice: u32,
-) -> Result<String, Memory>
-    requires { IsSlice slice }
-{
-    let Opened { ring, mut owner } = ring_of(rt, alloc, rows)?;
-    turn(rt, alloc, &ring, &mut owner, given, turns, slice)
-}
-
-/// Whether two texts are the same.
-fn is_same(text: &str, wanted: &str) -> bool {
-    text == wanted
-}
-
-/// Whether this becomes of a ring.
-fn tells<H: Wait>(
-    rt: &H,
-    alloc: Global,
-    rows: &[Row],
-    given: bool,
-    turns: u32,
-    slice: u32,
-    wanted: &str,
+    turns: &[Turn],
+    horizons: &[u32],
 ) -> bool
-    requires { IsSlice slice }
+    requires owner { IsOwnerPass ⟦<CountRun as Resume>⟧ ring.now owner.old }
+    requires slice { IsSlice slice }
 {
-    match story(rt, alloc, rows, given, turns, slice) {
-        Ok(text) => is_same(text.as_str(), wanted),
+    let Ok(mut pass) = ring.give(rt, owner) else {
+        return false;
+    };
+    let served = serves(rt, ring, &mut pass, slice, turns);
+    let drained = drains(rt, ring, owner, horizons);
+    ring.take_in(rt, owner, pass);
+    served && drained
+}
+
+/// Jobs, whether the turns are made with a pass that is given out or with the owner's, how many units a turn grants, what
+/// the turns come to, and the horizons that are drained after them.
+type Story = (&'static [Row], bool, u32, &'static [Turn], &'static [u32]);
+
+/// Whether what is told of a ring comes to pass.
+fn is_told<H: Wait>(rt: &H, opened: Opened<CountRun>, story: &Story) -> bool
+    requires { IsOwnerPass ⟦<CountRun as Resume>⟧ opened.ring opened.owner }
+{
+    let (_, given, slice, turns, horizons) = *story;
+    let Opened { ring, mut owner } = opened;
+    if slice == 0 || slice > 10000 {
+        return false;
+    }
+    if given {
+        return lends(rt, &ring, &mut owner, slice, turns, horizons);
+    }
+    let served = serves(rt, &ring, &mut owner, slice, turns);
+    drains(rt, &ring, &mut owner, horizons) && served
+}
+
+/// Whether what is told comes to pass of a ring that is opened for it.
+fn comes_to_pass<H: Wait>(rt: &H, alloc: Global, story: &Story) -> bool {
+    match ring_of(rt, alloc, story.0) {
+        Ok(opened) => is_told(rt, opened, story),
         Err(_) => false,
     }
 }
@@ -193,16 +176,30 @@ const SIXTEEN: [Row; 16] = [
     (15, 5, 3),
 ];
 
-const SIXTEEN_DRAINED: &str = "0 1 2 3 4 5 6 7 8 9 10 11 12 13 14 15 none";
+const STORIES: [Story; 4] = [
+    (&[], true, 1, &[Turn::Idle], &[]),
+    (
+        &SIXTEEN,
+        false,
+        1,
+        &[],
+        &[0, 1, 2, 3, 4, 5, 6, 7, 8, 9, 10, 11, 12, 13, 14, 15],
+    ),
+    (
+        &[(0, 5, 3)],
+        true,
+        2,
+        &[Turn::Back, Turn::Done(3), Turn::Idle],
+        &[],
+    ),
+    (&[(0, 1, 1)], false, 1, &[Turn::Done(1), Turn::Idle], &[]),
+];
 
 #[test]
 fn a_ring_serves_and_is_drained(rt: HostRuntime) {
-    let alloc = rt.alloc();
-    let (one, settled) = ([(0, 5, 3)], [(0, 1, 1)]);
-    assert!(rt; tells(&rt, alloc, &[], true, 1, 1, "idle none"));
-    assert!(rt; tells(&rt, alloc, &SIXTEEN, false, 0, 1, SIXTEEN_DRAINED));
-    assert!(rt; tells(&rt, alloc, &one, true, 3, 2, "back done 3 idle none"));
-    assert!(rt; tells(&rt, alloc, &settled, false, 2, 1, "done 1 idle none"));
+    for story in &STORIES {
+        assert!(rt; comes_to_pass(&rt, rt.alloc(), story));
+    }
 }
 
 /// A round of these jobs.
@@ -224,102 +221,99 @@ fn round_of<G: Gate, H: Threads + Wait + Sync>(
     round(rt, alloc, jobs, workers, slice, gate)
 }
 
-/// The jobs of a round, a job a line, with the number granted where the run is unsettled.
-fn lines(alloc: Global, jobs: &Jobs<CountRun>) -> Result<String, AllocError> {
-    let mut text = String::new(alloc);
-    for job in jobs.as_slice() {
-        let line = if job.run.unsettled() {
-            format!(in alloc; "{} unsettled {}; ", job.run.horizon(), job.run.granted())?
-        } else {
-            format!(in alloc; "{} settled; ", job.run.horizon())?
-        };
-        text.push_str(line.as_str())?;
+/// A job that a round gives back: its horizon, and the units that its run was granted where it is unsettled.
+type Line = (u32, Option<u64>);
+
+/// Whether a job is as a line says.
+fn is_line(job: &Job<CountRun>, line: &Line) -> bool {
+    let (horizon, granted) = *line;
+    let unsettled = job.run.unsettled();
+    let as_told = match granted {
+        Some(units) => unsettled && job.run.granted() == units,
+        None => !unsettled,
+    };
+    job.run.horizon() == horizon && as_told
+}
+
+/// Whether jobs are as the lines say, a job a line.
+fn are_lines(jobs: &[Job<CountRun>], lines: &[Line]) -> bool {
+    let mut same = jobs.len() == lines.len();
+    for (job, line) in jobs.iter().zip(lines) {
+        same &= is_line(job, line);
     }
-    Ok(text)
+    same
 }
 
-/// What a round gives back.
-fn round_told<G: Gate, H: Threads + Wait + Sync>(
-    rt: &H,
-    alloc: Global,
-    rows: &[Row],
-    workers: u32,
-    slice: u32,
-    gate: &G,
-) -> Result<String, Memory>
-    requires workers { (1 ≤ workers) × (workers ≤ 16) }
-    requires slice { IsSlice slice }
-{
-    let jobs = round_of(rt, alloc, rows, workers, slice, gate)?;
-    Ok(lines(alloc, &jobs)?)
-}
+/// Jobs, how many workers serve them, how many units a turn grants, what comes back, and how many turns begin.
+type Round = (&'static [Row], u32, u32, &'static [Line], u64);
 
-/// Whether a round gives this back, and so many turns began, and as many ended.
-fn reports<H: Threads + Wait + Sync>(
-    rt: &H,
-    alloc: Global,
-    rows: &[Row],
-    workers: u32,
-    slice: u32,
-    wanted: &str,
-    turns: u64,
-) -> bool
-    requires workers { (1 ≤ workers) × (workers ≤ 16) }
-    requires slice { IsSlice slice }
-{
+/// Whether a round gives back what is told, and so many turns began, and as many ended.
+fn gives_back<H: Threads + Wait + Sync>(rt: &H, alloc: Global, told: &Round) -> bool {
+    let (rows, workers, slice, lines, turns) = *told;
+    if workers == 0 || workers > 16 || slice == 0 || slice > 10000 {
+        return false;
+    }
     let gate = CountGate::new();
-    match round_told(rt, alloc, rows, workers, slice, &gate) {
-        Ok(text) => {
+    match round_of(rt, alloc, rows, workers, slice, &gate) {
+        Ok(jobs) => {
             let (entered, left) = gate.counts();
-            is_same(text.as_str(), wanted) && entered == turns && left == turns
+            are_lines(jobs.as_slice(), lines) && entered == turns && left == turns
         }
         Err(_) => false,
     }
 }
 
+const THREE: [Row; 3] = [(4, 5, 3), (7, 1, 3), (9, 100, 0)];
+
+const STAND: [Line; 3] = [(4, Some(3)), (7, None), (9, Some(0))];
+
+const ROUNDS: [Round; 5] = [
+    (&THREE, 2, 1, &STAND, 5),
+    (&THREE, 1, 2, &STAND, 4),
+    (&THREE, 16, 10000, &STAND, 3),
+    (&[(0, 1, 50), (1, 0, 50)], 2, 1, &[(0, None), (1, None)], 2),
+    (&[], 3, 1, &[], 0),
+];
+
 #[test]
 fn jobs_come_back_in_order_at_their_targets(rt: HostRuntime) {
-    let alloc = rt.alloc();
-    let three = [(4, 5, 3), (7, 1, 3), (9, 100, 0)];
-    let stands = "4 unsettled 3; 7 settled; 9 unsettled 0; ";
-    assert!(rt; reports(&rt, alloc, &three, 2, 1, stands, 5));
-    assert!(rt; reports(&rt, alloc, &three, 1, 2, stands, 4));
-    assert!(rt; reports(&rt, alloc, &three, 16, 10000, stands, 3));
-    let two = [(0, 1, 50), (1, 0, 50)];
-    assert!(rt; reports(&rt, alloc, &two, 2, 1, "0 settled; 1 settled; ", 2));
-    assert!(rt; reports(&rt, alloc, &[], 3, 1, "", 0));
+    for told in &ROUNDS {
+        assert!(rt; gives_back(&rt, rt.alloc(), told));
+    }
 }
 
-/// Whether two horizons are at work at once in a round of these jobs.
-fn meet<H: Threads + Wait + Sync>(
-    rt: &H,
-    alloc: Global,
-    rows: &[Row],
-    pair: (u32, u32),
-    workers: u32,
-) -> Result<bool, Memory>
-    requires { (1 ≤ workers) × (workers ≤ 16) }
-{
-    let gate = PairGate::new(pair.0, pair.1);
-    let back = round_of(rt, alloc, rows, workers, 1, &gate)?;
-    Ok(back.len() == rows.len() && gate.met())
+/// Jobs, two horizons, how many workers serve the jobs, and whether the two are at work at once.
+type Pair = (&'static [Row], u32, u32, u32, bool);
+
+/// Whether two horizons are at work at once in a round of these jobs, as is told.
+fn meet<H: Threads + Wait + Sync>(rt: &H, alloc: Global, told: &Pair) -> bool {
+    let (rows, one, two, workers, met) = *told;
+    if workers == 0 || workers > 16 {
+        return false;
+    }
+    let gate = PairGate::new(one, two);
+    match round_of(rt, alloc, rows, workers, 1, &gate) {
+        Ok(back) => back.len() == rows.len() && gate.met() == met,
+        Err(_) => false,
+    }
 }
 
-// Whichever two of three: so no two are dealt out to one worker beforehand.
+const ALL_THREE: [Row; 3] = [(0, 1, 1), (1, 1, 1), (2, 1, 1)];
+
+// Whichever two of three: so no two are dealt out to one worker beforehand. Also where one of the two is settled from the
+// start: its turn is taken all the same. One worker alone never ends the wait in time.
+const PAIRS: [Pair; 6] = [
+    (&[(0, 1, 1), (1, 1, 1)], 0, 1, 2, true),
+    (&ALL_THREE, 0, 1, 2, true),
+    (&ALL_THREE, 0, 2, 2, true),
+    (&ALL_THREE, 1, 2, 2, true),
+    (&[(0, 1, 1), (1, 0, 1)], 0, 1, 2, true),
+    (&[(0, 1, 1), (1, 1, 1)], 0, 1, 1, false),
+];
+
 #[test]
 fn two_runs_are_at_work_at_once(rt: HostRuntime) {
-    let alloc = rt.alloc();
-    let two = [(0, 1, 1), (1, 1, 1)];
-    let three = [(0, 1, 1), (1, 1, 1), (2, 1, 1)];
-    assert!(rt; matches!(meet(&rt, alloc, &two, (0, 1), 2), Ok(true)));
-    assert!(rt; matches!(meet(&rt, alloc, &three, (0, 1), 2), Ok(true)));
-    assert!(rt; matches!(meet(&rt, alloc, &three, (0, 2), 2), Ok(true)));
-    assert!(rt; matches!(meet(&rt, alloc, &three, (1, 2), 2), Ok(true)));
-
-    // Also where one of the two is settled from the start: its turn is taken all the same.
-    let one_settled = [(0, 1, 1), (1, 0, 1)];
-    assert!(rt; matches!(meet(&rt, alloc, &one_settled, (0, 1), 2), Ok(true)));
-
-    // One worker alone never ends the wait in time.
-    assert!(rt; matches!(meet(&rt, alloc, &two, (0, 1), 1), Ok(false)));
+    for told in &PAIRS {
+        assert!(rt; meet(&rt, rt.alloc(), told));
+    }
 }

@@ -3,6 +3,7 @@ ghost use Rattle.std.specs.Prelude.{◌≡◌, ◌≤◌, ◌+◌, ◌++◌, ℕ
 ghost use Rattle.std.specs.declared.io.ErrorKind.TheVariants as kinds;
 ghost use Rattle.pl_io.specs.Outside.{Took};
 
+use crate::faults::note;
 use crate::{Bytes, Names, Shelf, TakeError, Taken};
 use std::alloc::Global;
 use std::fs::{self, OpenFile};
@@ -30,6 +31,13 @@ impl<'a, H: Files> FileShelf<'a, H> {
             alloc,
             failed: Names::of(Vec::new(alloc)),
         }
+    }
+
+    /// The names at which the shelf failed, in the order of the calls.
+    pub fn failed(&self) -> &[Bytes]
+        ensures { result.now ≡ ⟦<FileShelf<'a, H> as Shelf>⟧.failed self.now }
+    {
+        self.failed.as_slice()
     }
 }
 
@@ -111,83 +119,10 @@ impl<'a, H: Files> Shelf for FileShelf<'a, H> {
 
     ghost failed = { λ shelf. shelf.failed };
 
-    #[tactic(auto, using(crate::proofs::Counted::counting))]
     fn take(&mut self, name: &str, most: usize, into: &mut Vec<u8>) -> Result<Taken, TakeError> {
-        // The room for a fault is taken before the file is read.
-        let entry = Bytes::copied_from(self.alloc, name.as_bytes())?;
-        self.failed.reserve(1)?;
         match open_and_read(self.rt, name, most, into) {
-            Err(TakeError::Failed) => {
-                self.failed.push(entry)?;
-                Err(TakeError::Failed)
-            }
+            Err(TakeError::Failed) => Err(note(self.alloc, &mut self.failed, name)),
             other => other,
         }
-    }
-}
-
-#[cfg(test)]
-mod tests {
-    use super::*;
-    use crate::takes::takes_each;
-    use std::io;
-    use std::test::Fail;
-
-    // Is interrupted, gives two bytes, is interrupted again, gives two more, and then fails.
-    #[derive(Drop)]
-    struct Faulty {
-        reads: u8,
-    }
-
-    impl Read for Faulty {
-        fn read(&mut self, buf: &mut [u8]) -> io::Result<usize> {
-            self.reads = self.reads.saturating_add(1);
-            if self.reads > 4 || buf.len() < 2 {
-                return Err(io::Error::from(ErrorKind::Other));
-            }
-            if self.reads % 2 == 1 {
-                return Err(io::Error::from(ErrorKind::Interrupted));
-            }
-            buf[0] = b'a';
-            buf[1] = b'b';
-            Ok(2)
-        }
-    }
-
-    #[test]
-    fn reads_on_after_an_interruption(rt: HostRuntime) -> Result<(), Fail> {
-        let mut into = vec![in rt.alloc(); b'>']?;
-        assert_eq!(rt;
-            read_front(&mut Faulty { reads: 0 }, 3, &mut into),
-            Ok(Taken::Longer)
-        );
-        assert_eq!(rt; into.as_slice(), ">aba".as_bytes());
-        into.clear();
-        assert_eq!(rt;
-            read_front(&mut Faulty { reads: 0 }, 9, &mut into),
-            Err(TakeError::Failed)
-        );
-        assert_eq!(rt; into.as_slice(), "abab".as_bytes());
-        Ok(())
-    }
-
-    #[test]
-    fn takes_a_real_file(rt: HostRuntime) -> Result<(), Fail> {
-        let alloc = rt.alloc();
-        fs::write(&rt, "shelf-file", "(define)")?;
-        let mut shelf = FileShelf::new(&rt, alloc);
-        let read = [
-            ("shelf-file", 9, Ok(Taken::Whole), ">(define)"),
-            ("shelf-file", 8, Ok(Taken::Whole), ">(define)"),
-            ("shelf-file", 7, Ok(Taken::Longer), ">(define"),
-        ];
-        takes_each(&rt, alloc, &mut shelf, &read)?;
-        for name in ["shelf-none", ".", ""] {
-            let failed = (name, 8, Err(TakeError::Failed), ">");
-            takes_each(&rt, alloc, &mut shelf, &[failed])?;
-        }
-        assert_eq!(rt; shelf.failed.as_slice().len(), 3);
-        fs::remove_file(&rt, "shelf-file")?;
-        Ok(())
     }
 }

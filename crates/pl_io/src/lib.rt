@@ -5,14 +5,13 @@
 //! system's files and the standard output, and tell no content. [`put_all`] is a whole caller of a sink.
 #![tactic(auto)]
 
+mod faults;
 mod file_shelf;
 mod lists;
 mod mem_shelf;
 mod mem_sink;
 mod out_sink;
 mod outside;
-#[cfg(test)]
-mod takes;
 
 pub use file_shelf::FileShelf;
 pub use lists::{Bytes, Files, NamedFile, Names, Numbers};

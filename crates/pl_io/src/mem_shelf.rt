@@ -4,9 +4,10 @@ ghost use Rattle.pl_io.specs.Outside.{Notes, Took, TookWhole, TookFirst, fault_c
 ghost use Rattle.pl_io.specs.Calls.{next_call, NextFails};
 ghost use Rattle.pl_io.specs.MemShelf.{bytes_at, has_none};
 
+use crate::faults::note;
 use crate::{Bytes, Files, NamedFile, Names, Numbers, Shelf, TakeError, Taken};
 use let_go::let_go;
-use std::alloc::{AllocError, Global};
+use std::alloc::Global;
 use std::marker::Model;
 
 /// Files in memory, by name. The calls of `take` whose numbers, counted from 1, are listed as failing fail.
@@ -63,27 +64,6 @@ impl MemShelf {
         self.calls = self.calls.saturating_add(1);
         self.failing.as_slice().contains(&self.calls)
     }
-
-    /// Writes a fault down, if there is memory for it.
-    fn write_down(&mut self, name: &str) -> Result<(), AllocError>
-        ensures ok { OnOk result (self.new ≡ record self.old { failed = self.old.failed ++ name.now ∷ [] }) }
-        ensures err { OnErr result (self.new ≡ self.old) }
-    {
-        let entry = Bytes::copied_from(self.alloc, name.as_bytes())?;
-        self.failed.push(entry)
-    }
-
-    /// Writes a fault down, and answers it; or want of memory, where there was none to write it down.
-    fn note(&mut self, name: &str) -> TakeError
-        ensures kept { self.new ≡ record self.old { failed = self.new.failed } }
-        ensures notes { Notes self.old.failed self.new.failed name.now }
-        ensures failed { result ≡ TakeError.Failed → self.new.failed ≡ self.old.failed ++ name.now ∷ [] }
-    {
-        match self.write_down(name) {
-            Ok(()) => TakeError::Failed,
-            Err(_) => TakeError::Memory,
-        }
-    }
 }
 
 /// The bytes of the first file of this name.
@@ -122,7 +102,6 @@ impl Shelf for MemShelf {
 
     ghost failed = { λ shelf. shelf.failed };
 
-    #[tactic(auto, using(crate::proofs::Counted::counting))]
     fn take(&mut self, name: &str, most: usize, into: &mut Vec<u8>) -> Result<Taken, TakeError>
         // As of every shelf.
         ensures told { bytes_at self.new.files ≡ bytes_at self.old.files }
@@ -152,43 +131,6 @@ impl Shelf for MemShelf {
         {
             return append_front(bytes.as_slice(), most, into);
         }
-        Err(self.note(name))
-    }
-}
-
-#[cfg(test)]
-mod tests {
-    use super::*;
-    use crate::takes::takes_each;
-    use std::test::Fail;
-
-    fn bytes(alloc: Global, text: &str) -> Result<Bytes, AllocError> {
-        Bytes::copied_from(alloc, text.as_bytes())
-    }
-
-    #[test]
-    fn takes_files_and_fails_where_told(rt: HostRuntime) -> Result<(), Fail> {
-        let alloc = rt.alloc();
-        let mut files = Vec::new(alloc);
-        files.push(NamedFile {
-            name: bytes(alloc, "domain")?,
-            bytes: bytes(alloc, "(define)")?,
-        })?;
-        let failing = Numbers::of(vec![in alloc; 5]?);
-        let mut shelf = MemShelf::new(alloc, Files::of(files), failing);
-        let cases = [
-            ("domain", 9, Ok(Taken::Whole), ">(define)"),
-            ("domain", 8, Ok(Taken::Whole), ">(define)"),
-            ("domain", 7, Ok(Taken::Longer), ">(define"),
-            ("problem", 8, Err(TakeError::Failed), ">"),
-            ("domain", 8, Err(TakeError::Failed), ">"),
-            ("domain", 0, Ok(Taken::Longer), ">"),
-        ];
-        takes_each(&rt, alloc, &mut shelf, &cases)?;
-        let failed = shelf.failed();
-        assert_eq!(rt; failed.len(), 2);
-        assert_eq!(rt; failed[0].as_slice(), "problem".as_bytes());
-        assert_eq!(rt; failed[1].as_slice(), "domain".as_bytes());
-        Ok(())
+        Err(note(self.alloc, &mut self.failed, name))
     }
 }

@@ -125,32 +125,3 @@ impl Sink for MemSink {
         Ok(count)
     }
 }
-
-#[cfg(test)]
-mod tests {
-    use super::*;
-    use crate::put_all;
-    use std::test::Fail;
-
-    #[test]
-    fn takes_a_front_of_the_text(rt: HostRuntime) -> Result<(), Fail> {
-        let alloc = rt.alloc();
-        let text = "; horizon 0 plan conflicts 0\n";
-        let cases: [(u32, u32, u32, usize); 5] = [
-            (10, 9, 1000, 29),
-            (10, 2, 1000, 10),
-            (1, 1, 1000, 0),
-            (1000, 9, 29, 29),
-            (10, 9, 28, 28),
-        ];
-        for (most, failing, room, front) in cases {
-            let failing = Numbers::of(vec![in alloc; failing]?);
-            let mut sink = MemSink::new(alloc, most, failing, room)?;
-            let is_whole = put_all(&mut sink, text.as_bytes()).is_ok();
-            assert_eq!(rt; is_whole, front == text.len(), "at {most} {room}");
-            assert_eq!(rt; sink.taken(), &text.as_bytes()[..front], "at {most} {room}");
-            assert_eq!(rt; sink.faults(), u64::from(!is_whole), "at {most} {room}");
-        }
-        Ok(())
-    }
-}

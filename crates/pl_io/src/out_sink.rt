@@ -18,6 +18,13 @@ impl<'a, H: Print> OutSink<'a, H> {
     {
         OutSink { rt, faults: 0 }
     }
+
+    /// How many faults the sink had.
+    pub fn faults(&self) -> u64
+        ensures { result ≡ ⟦<OutSink<'a, H> as Sink>⟧.faults self.now }
+    {
+        self.faults
+    }
 }
 
 /// Writes some of the text, and answers how many bytes. A write that a signal interrupted is made again.
@@ -51,46 +58,5 @@ impl<'a, H: Print> Sink for OutSink<'a, H> {
                 Err(PutFailed)
             }
         }
-    }
-}
-
-#[cfg(test)]
-mod tests {
-    use super::*;
-    use crate::put_all;
-
-    // Is interrupted, takes a byte, and then takes nothing.
-    #[derive(Drop)]
-    struct Stingy {
-        writes: u8,
-    }
-
-    impl Write for Stingy {
-        fn write(&mut self, buf: &[u8]) -> io::Result<usize> {
-            self.writes = self.writes.saturating_add(1);
-            match self.writes {
-                1 => Err(io::Error::from(ErrorKind::Interrupted)),
-                2 => Ok(buf.len().min(1)),
-                _ => Ok(0),
-            }
-        }
-
-        fn flush(&mut self) -> io::Result<()> {
-            Ok(())
-        }
-    }
-
-    #[test]
-    fn writes_again_after_an_interruption(rt: HostRuntime) {
-        let mut out = Stingy { writes: 0 };
-        assert_eq!(rt; write_some(&mut out, b"ab"), Some(1));
-        assert_eq!(rt; write_some(&mut out, b"b"), None);
-    }
-
-    #[test]
-    fn puts_to_the_standard_output(rt: HostRuntime) {
-        let mut sink = OutSink::new(&rt);
-        assert_eq!(rt; put_all(&mut sink, b"; written\n"), Ok(()));
-        assert_eq!(rt; sink.faults, 0);
     }
 }

@@ -1,5 +1,4 @@
-use Rattle.std.proofs.Common.{refl, rules}
-use Rattle.pl_io.proofs.Counted.{FaultRose-noted, Notes-keeps}
+use Rattle.std.proofs.Common.{refl}
 use Rattle.pl_io.proofs.Grown.{whole-fits, first-fills}
 use Rattle.pl_io.proofs.mem_shelf.MemShelfShelf.take.Goals as goal
 
@@ -17,12 +16,6 @@ returns-clause-cause c e = absurd (c.append_front.ensures.memory e)
 
 pub returns-clause-rose : goal.returns-clause-rose
 returns-clause-rose c e = absurd (c.append_front.ensures.memory e)
-
-pub returns-2-clause-never_falls : goal.returns-2-clause-never_falls
-returns-2-clause-never_falls c other = Notes-keeps c.args.self.now.failed c.note.new.self.failed c.args.name.now other (search rules)
-
-pub returns-2-clause-rose : goal.returns-2-clause-rose
-returns-2-clause-rose c e = FaultRose-noted c.args.self.now.failed c.note.new.self.failed c.args.name.now (search rules)
 
 pub same-self : goal.same-self
 same-self c = refl

@@ -1,6 +1,0 @@
-use Rattle.std.proofs.Common.{◌≡◌, true}
-use Rattle.crossbeam_queue.specs.Passes.{view, IsPassOf}
-use Rattle.layer_tests.proofs.pool.drain.Given as goal
-
-abbrev pub invariant-loop : goal.invariant-loop
-invariant-loop g l = IsPassOf l.ring.queue l.owner.pass × ((view l.owner.pass).owner ≡ true)

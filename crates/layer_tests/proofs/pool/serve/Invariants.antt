@@ -1,6 +1,0 @@
-use Rattle.std.proofs.Common.{◌≡◌}
-use Rattle.crossbeam_queue.specs.Passes.{view, IsPassOf}
-use Rattle.layer_tests.proofs.pool.serve.Given as goal
-
-abbrev pub invariant-loop : goal.invariant-loop
-invariant-loop g l = IsPassOf l.ring.queue l.pass.pass × ((view l.pass.pass).owner ≡ (view l.initial.pass.pass).owner)
