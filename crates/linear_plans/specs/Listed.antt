@@ -1,5 +1,5 @@
 -- What the listed actions of steps are worth.
-use Rattle.std.specs.Prelude.{ℕ, List, Bool, true, ◌≡◌}
+use Rattle.std.specs.Prelude.{ℕ, List, true, ◌≡◌}
 use Rattle.gt_core.specs.Lawful.{is_task}
 use Rattle.gt_core.specs.Published.{IsPublished, order_of}
 use Rattle.pd_model.specs.Plan.{IsPlan}
