@@ -43,7 +43,6 @@ pub(crate) fn raced<H: Threads + Wait + Sync, G: Gate>(
 }
 
 /// What is known of a ground task: its invariants of one or two literals, and its actions in published order.
-#[derive(Debug)]
 pub struct Known {
     pub pairs: Pairs,
     pub order: Order,

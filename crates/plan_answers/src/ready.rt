@@ -15,7 +15,6 @@ use plan_files::stop::Stop;
 use std::alloc::Global;
 
 /// A task, and what it is grounded to.
-#[derive(Debug)]
 pub struct Ready {
     /// The task.
     pub task: Pddl,

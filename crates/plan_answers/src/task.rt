@@ -26,7 +26,7 @@ fn input(file: Which) -> File
 }
 
 /// What the bytes of a file are read as.
-#[derive(Debug, Drop)]
+#[derive(Drop)]
 pub enum Reading {
     /// A tree.
     Tree(Tree),

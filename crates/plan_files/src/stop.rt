@@ -7,7 +7,7 @@ use plan_endings::{Ending, File, Kind};
 use std::alloc::{AllocError, AllocFailed};
 
 /// The run ends, or memory is wanting.
-#[derive(Debug, Drop)]
+#[derive(Drop)]
 pub enum Stop {
     /// With this ending.
     Ends(Ending),
