@@ -12,4 +12,6 @@ mod lamps;
 #[cfg(test)]
 mod polls;
 #[cfg(test)]
+mod seen;
+#[cfg(test)]
 mod settled;

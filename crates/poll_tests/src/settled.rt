@@ -2,72 +2,57 @@
 ghost use Rattle.std.specs.Prelude.{◌≤◌};
 
 use crate::lamps::lamp_run;
-use cdcl_rules::standing::Standing;
-use horizon_run::HorizonRun;
+use crate::seen::{Seen, holds};
 use poll_run::{BlockOn, Driver, NoDriver, SettleError, settle};
-use solver_pool::Resume;
 use std::alloc::AllocGlobal;
+use std::process::Abort;
 use std::random::RandomSource;
 use std::sync::Wait;
 
-/// A run that is told of.
-trait Told: Resume {
-    /// How it stands, and after how many conflicts.
-    fn told(&self) -> (Standing, u64);
-}
-
-impl Told for HorizonRun {
-    fn told(&self) -> (Standing, u64) {
-        (self.standing(), self.conflicts())
-    }
-}
-
-/// How a run stands once it was settled; `None` where it is no new run.
-fn settled<R: Told, D: Driver>(
+/// A new run, settled so.
+fn settled<R: Seen, D: Driver>(
+    rt: &impl Abort,
     driver: &mut D,
     run: R,
     target: u64,
-) -> Option<Result<(Standing, u64), SettleError>>
+) -> Result<R, SettleError>
     requires { target ≤ 1000 }
 {
-    if run.spoilt() || run.granted() > target {
-        return None;
-    }
-    match settle(driver, run, target, 1) {
-        Ok(end) => Some(Ok(end.told())),
-        Err(error) => Some(Err(error)),
-    }
-}
-
-/// The same, where there is a run.
-fn settled_by<R: Told, D: Driver>(
-    driver: &mut D,
-    run: Option<R>,
-    target: u64,
-) -> Option<Result<(Standing, u64), SettleError>>
-    requires { target ≤ 1000 }
-{
-    settled(driver, run?, target)
+    assert!(rt; !run.spoilt() && run.granted() <= target);
+    settle(driver, run, target, 1)
 }
 
 /// The same over `block_on`.
-fn blocked<R: Told, H: Wait + RandomSource + AllocGlobal>(
-    rt: &H,
-    run: Option<R>,
-    target: u64,
-) -> Option<Result<(Standing, u64), SettleError>>
+fn blocked<R: Seen, H: Wait + RandomSource + AllocGlobal + Abort>(rt: &H, run: R, target: u64) -> R
     requires { target ≤ 1000 }
 {
-    settled_by(&mut BlockOn::new(rt), run, target)
+    settled(rt, &mut BlockOn::new(rt), run, target).expect(rt, "a run")
+}
+
+/// With units, its first conflict refutes it.
+fn is_refuted<R: Seen, H: Wait + RandomSource + AllocGlobal + Abort>(rt: &H, run: R) {
+    let far = blocked(rt, run, 50);
+    holds(rt, far.handled() == 1 && far.is_refuted(rt.alloc()));
+}
+
+/// Without units, it stays as it is.
+fn is_going<R: Seen, H: Wait + RandomSource + AllocGlobal + Abort>(rt: &H, run: R) {
+    let near = blocked(rt, run, 0);
+    holds(rt, near.handled() == 0 && near.goes());
+}
+
+/// Whether it is lost to a driver that fails.
+fn is_lost<R: Seen>(rt: &impl Abort, run: R) -> bool {
+    matches!(
+        settled(rt, &mut NoDriver::new(), run, 50),
+        Err(SettleError::Driver)
+    )
 }
 
 #[test]
 fn polls_settle_the_run_of_a_horizon(rt: HostRuntime) {
     let alloc = rt.alloc();
-    let far = blocked(&rt, lamp_run(alloc, 0), 50);
-    assert!(rt; matches!(far, Some(Ok((Standing::Refuted, 1)))));
-    let near = blocked(&rt, lamp_run(alloc, 0), 0);
-    assert!(rt; matches!(near, Some(Ok((Standing::Going, 0)))));
-    let undriven = settled_by(&mut NoDriver::new(), lamp_run(alloc, 0), 50);
-    assert!(rt; matches!(undriven, Some(Err(SettleError::Driver))));
+    is_refuted(&rt, lamp_run(&rt, alloc, 0));
+    is_going(&rt, lamp_run(&rt, alloc, 0));
+    holds(&rt, is_lost(&rt, lamp_run(&rt, alloc, 0)));
 }
