@@ -4,12 +4,12 @@ ghost use Rattle.gt_core.specs.Published.{IsPublished};
 
 use action_order::order::Order;
 use action_order::publish::publish;
-use gt_core::act::Acts;
+use gt_core::act::{Act, Acts};
+use gt_core::eff::{Eff, Effs};
 use gt_core::lits::{Bits, Lits};
 use gt_core::pairs::Pairs;
 use gt_core::task::Task;
 use horizon_run::HorizonRun;
-use sample_tasks::actions::plain;
 use std::alloc::Global;
 use std::process::Abort;
 use step_encoding::exists::ExistsForm;
@@ -17,11 +17,15 @@ use step_encoding::form::StepForm;
 
 /// A lamp, with an action that turns it on, and the goal that it is on.
 fn lamp(rt: &impl Abort, alloc: Global, on: bool) -> Task {
+    let mut effects = Effs::new(alloc);
+    effects
+        .push(Eff::new(Lits::new(alloc), 0))
+        .expect(rt, "memory");
+    let pre = Lits::copied_from(alloc, &[1]).expect(rt, "memory");
+    let mut acts = Acts::new(alloc);
+    acts.push(Act::new(pre, effects)).expect(rt, "memory");
     let init = Bits::copied_from(alloc, &[on]).expect(rt, "memory");
     let goal = Lits::copied_from(alloc, &[0]).expect(rt, "memory");
-    let act = plain(alloc, &[1], &[0]).expect(rt, "memory");
-    let mut acts = Acts::new(alloc);
-    acts.push(act).expect(rt, "memory");
     Task::try_new(1, init, goal, false, acts).expect(rt, "a task")
 }
 
