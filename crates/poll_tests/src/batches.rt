@@ -99,8 +99,8 @@ fn is_planned(end: &Result<RaceEnd, RaceError>) -> bool {
         Ok(
             RaceEnd::Plan {
                 horizon: 0,
-                steps: _,
                 lines,
+                ..
             },
         ) => is_found(lines.as_slice()),
         _ => false,
@@ -122,29 +122,17 @@ fn are_ended(ends: &[Result<RaceEnd, RaceError>]) -> bool {
     }
 }
 
-/// Two tasks and their forms.
-#[derive(Clone, Copy)]
-struct Forms<'a, F> {
-    off_task: &'a Task,
-    off: &'a F,
-    on_task: &'a Task,
-    on: &'a F,
-}
-
-/// The races over two forms end so.
+/// Two races end so.
 fn end_over<F: StepForm + Sync, D: Driver, H: Threads + Wait + Sync + Abort>(
     rt: &H,
     alloc: Global,
     driver: &mut D,
-    forms: Forms<'_, F>,
+    races: Races<'_, F>,
     backward: bool,
 )
-    requires off { F.task forms.off.now ≡ forms.off_task.now }
-    requires on { F.task forms.on.now ≡ forms.on_task.now }
+    requires two { length races ≡ 2 }
+    requires live { AllByRecursion (λ race. race.given ≡ false) races }
 {
-    let off = race_of(rt, alloc, forms.off_task, forms.off);
-    let on = race_of(rt, alloc, forms.on_task, forms.on);
-    let races = two_of(rt, alloc, off, on);
     let ends = raced(rt, alloc, driver, races, backward).expect(rt, "memory");
     holds(rt, are_ended(ends.as_slice()));
 }
@@ -163,13 +151,10 @@ fn end_for<D: Driver, H: Threads + Wait + Sync + Abort>(
 {
     let off_form = form_of(rt, alloc, off);
     let on_form = form_of(rt, alloc, on);
-    let forms = Forms {
-        off_task: &off.task,
-        off: &off_form,
-        on_task: &on.task,
-        on: &on_form,
-    };
-    end_over(rt, alloc, driver, forms, backward);
+    let first = race_of(rt, alloc, &off.task, &off_form);
+    let second = race_of(rt, alloc, &on.task, &on_form);
+    let races = two_of(rt, alloc, first, second);
+    end_over(rt, alloc, driver, races, backward);
 }
 
 /// The races of a lamp that is off and one that is on do.

@@ -6,34 +6,34 @@ use super::runs::holds;
 use action_order::numbers::ActNumbers;
 use action_order::order::Order;
 use action_order::publish::publish;
-use gt_core::act::Acts;
+use gt_core::act::{Act, Acts};
+use gt_core::eff::{Eff, Effs};
 use gt_core::lits::{Bits, Lits};
 use gt_core::pairs::Pairs;
 use gt_core::task::Task;
 use plan_report::linearise;
-use sample_tasks::actions::{action, plain, when};
 use std::alloc::Global;
 use std::process::Abort;
 use step_encoding::steps::Steps;
 
-/// An action without effect conditions, by its precondition and its effects.
-type Plain<'a> = (&'a [u32], &'a [u32]);
-
-/// Actions without effect conditions.
-fn plain_acts(rt: &impl Abort, alloc: Global, rows: &[Plain]) -> Acts {
-    let mut acts = Acts::new(alloc);
-    for (pre, lits) in rows {
-        acts.push(plain(alloc, pre, lits).expect(rt, "memory"))
-            .expect(rt, "memory");
+/// The action that needs some literals and has these effects, each a condition and a literal.
+fn act(rt: &impl Abort, alloc: Global, pre: &[u32], sketches: &[(&[u32], u32)]) -> Act {
+    let mut effects = Effs::new(alloc);
+    for (condition, lit) in sketches {
+        let condition = Lits::copied_from(alloc, condition).expect(rt, "memory");
+        effects.push(Eff::new(condition, *lit)).expect(rt, "memory");
     }
-    acts
+    Act::new(Lits::copied_from(alloc, pre).expect(rt, "memory"), effects)
 }
 
-/// A task without a goal, whose facts have these values at first.
-fn task(rt: &impl Abort, alloc: Global, init: &[bool], acts: Acts) -> Task {
+/// A task of two actions without a goal, whose facts have these values at first.
+fn task(rt: &impl Abort, alloc: Global, init: &[bool], first: Act, second: Act) -> Task {
     assert!(rt; init.len() <= 4);
     let facts = init.len() as u32;
     let init = Bits::copied_from(alloc, init).expect(rt, "memory");
+    let mut acts = Acts::new(alloc);
+    acts.push(first).expect(rt, "memory");
+    acts.push(second).expect(rt, "memory");
     Task::try_new(facts, init, Lits::new(alloc), false, acts).expect(rt, "a task")
 }
 
@@ -92,8 +92,9 @@ fn is_told(
 
 /// Facts p 0, q 1, r 2. Action 0 burns p, action 1 needs it.
 fn burn_and_use(rt: &impl Abort, alloc: Global) -> Task {
-    let acts = plain_acts(rt, alloc, &[(&[], &[1, 4]), (&[0], &[2])]);
-    task(rt, alloc, &[true, true, true], acts)
+    let burn = act(rt, alloc, &[], &[(&[], 1), (&[], 4)]);
+    let using = act(rt, alloc, &[0], &[(&[], 2)]);
+    task(rt, alloc, &[true, true, true], burn, using)
 }
 
 #[test]
@@ -105,8 +106,8 @@ fn user_before_burner(rt: HostRuntime) {
     is_told(&rt, alloc, &task, &[(0, 4), (1, 5)], 2, [(1, 1), (0, 0)]);
 }
 
-/// Three steps, each by its actions.
-fn three_steps(rt: &impl Abort, alloc: Global, sets: [&[u32]; 3]) -> Steps {
+/// Steps, each by its actions.
+fn steps_of(rt: &impl Abort, alloc: Global, sets: &[&[u32]]) -> Steps {
     let mut steps = Steps::new(alloc);
     for set in sets {
         let set = ActNumbers::copied_from(alloc, set).expect(rt, "memory");
@@ -126,7 +127,7 @@ fn members_in_published_order(rt: HostRuntime) {
     let alloc = rt.alloc();
     let task = burn_and_use(&rt, alloc);
     let order = order_under(&rt, alloc, &task, &[]);
-    let steps = three_steps(&rt, alloc, [&[0, 1], &[], &[0]]);
+    let steps = steps_of(&rt, alloc, &[&[0, 1], &[], &[0]]);
     let actions = listed(&rt, alloc, &order, &steps);
     holds(&rt, matches!(actions.as_slice(), [1, 0, 0]), "three steps");
 }
@@ -135,29 +136,20 @@ fn members_in_published_order(rt: HostRuntime) {
 fn each_takes_the_other_s_need(rt: HostRuntime) {
     let alloc = rt.alloc();
     // Facts p 0, q 1, r 2, s 3. Each action takes what the other needs: one component.
-    let acts = plain_acts(&rt, alloc, &[(&[0], &[2, 7]), (&[6], &[1, 4])]);
-    let task = task(&rt, alloc, &[true, true, true, true], acts);
+    let one = act(&rt, alloc, &[0], &[(&[], 2), (&[], 7)]);
+    let two = act(&rt, alloc, &[6], &[(&[], 1), (&[], 4)]);
+    let task = task(&rt, alloc, &[true, true, true, true], one, two);
     is_told(&rt, alloc, &task, &[], 1, [(0, 0), (0, 1)]);
     // Under the clause that not both needs hold, no edge is left.
     is_told(&rt, alloc, &task, &[(1, 7)], 2, [(0, 0), (1, 1)]);
 }
 
-/// Facts p 0, q 1, g 2. Action 0 deletes p; action 1 adds g where p holds.
-fn delete_and_gain(rt: &impl Abort, alloc: Global) -> Acts {
-    let mut acts = plain_acts(rt, alloc, &[(&[], &[1, 2])]);
-    let mut effects = Vec::new(alloc);
-    effects
-        .push(when(alloc, &[0], 4).expect(rt, "memory"))
-        .expect(rt, "memory");
-    acts.push(action(alloc, &[], effects).expect(rt, "memory"))
-        .expect(rt, "memory");
-    acts
-}
-
 #[test]
 fn effect_condition_is_read(rt: HostRuntime) {
     let alloc = rt.alloc();
-    let acts = delete_and_gain(&rt, alloc);
-    let task = task(&rt, alloc, &[true, true, true], acts);
+    // Facts p 0, q 1, g 2. Action 0 deletes p; action 1 adds g where p holds.
+    let drop = act(&rt, alloc, &[], &[(&[], 1), (&[], 2)]);
+    let gain = act(&rt, alloc, &[], &[(&[0], 4)]);
+    let task = task(&rt, alloc, &[true, true, true], drop, gain);
     is_told(&rt, alloc, &task, &[], 2, [(1, 1), (0, 0)]);
 }

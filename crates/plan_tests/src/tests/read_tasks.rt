@@ -2,7 +2,7 @@
 use super::runs::holds;
 use grounder::{Grounded, ground};
 use gt_core::task::Task;
-use pd_model::{Call, Effect, Objects, Pddl, Schema, Term, Type};
+use pd_model::{Call, Effect, Objects, Pddl, Schema, Term, TypeDecl};
 use pd_sexp::read_tree;
 use pd_task::read_pddl;
 use std::alloc::Global;
@@ -54,7 +54,7 @@ fn adds_win(rt: HostRuntime) {
 
 // Whether the call of a schema without objects is one of a task.
 fn is_call(alloc: Global, task: &Pddl, schema: u32) -> bool {
-    let objects = Objects::new(alloc);
+    let objects = Objects::of(Vec::new(alloc));
     task.is_call(&Call { schema, objects })
 }
 
@@ -67,7 +67,7 @@ fn calls_are_those_of_the_schemas(rt: HostRuntime) {
 }
 
 // Whether the types have the parents 0, 2 and 0.
-fn have_parents(types: &[Type]) -> bool {
+fn have_parents(types: &[TypeDecl]) -> bool {
     match types {
         [object, a, b] => object.parent == 0 && a.parent == 2 && b.parent == 0,
         _ => false,
