@@ -1,4 +1,4 @@
-//! Tests of whole runs that no row of `plan_rows` can show: broken files, failing devices, workers, and what is seen of a task.
+//! Tests that cross crates and are no rows of the built program: calls of the shelf, workers at gates, and what is seen of a task.
 #![tactic(auto)]
 
 #[cfg(test)]

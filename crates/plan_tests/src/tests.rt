@@ -1,8 +1,8 @@
 // The tests, by what they are of, and the files of their runs.
 mod devices;
-mod files;
 mod orders;
 mod read_tasks;
+mod runs;
 mod tasks;
 mod words;
 mod workers;

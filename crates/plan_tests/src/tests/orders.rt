@@ -1,5 +1,10 @@
 // The published order of tasks written by hand.
+ghost use Rattle.std.specs.Prelude.{◌<◌, ◌≤◌, length};
+ghost use Rattle.gt_core.specs.Published.{order_of};
+
+use super::runs::holds;
 use action_order::numbers::ActNumbers;
+use action_order::order::Order;
 use action_order::publish::publish;
 use gt_core::act::{Act, Acts};
 use gt_core::eff::{Eff, Effs};
@@ -7,117 +12,144 @@ use gt_core::lits::{Bits, Lits};
 use gt_core::pairs::Pairs;
 use gt_core::task::Task;
 use plan_report::linearise;
+use std::alloc::Global;
 use std::process::Abort;
-use std::test::Fail;
 use step_encoding::steps::Steps;
 
-/// An action without effect conditions.
-fn act(rt: &impl AllocGlobal, pre: &[u32], lits: &[u32]) -> Result<Act, Fail> {
-    let mut effects = Vec::new(rt.alloc());
-    for lit in lits {
-        effects.push(Eff::new(Lits::of(Vec::new(rt.alloc())), *lit))?;
+/// The action that needs some literals and has these effects, each a condition and a literal.
+fn act(rt: &impl Abort, alloc: Global, pre: &[u32], sketches: &[(&[u32], u32)]) -> Act {
+    let mut effects = Effs::new(alloc);
+    for (condition, lit) in sketches {
+        let condition = Lits::copied_from(alloc, condition).expect(rt, "memory");
+        effects.push(Eff::new(condition, *lit)).expect(rt, "memory");
     }
-    Ok(Act::new(
-        Lits::of(Vec::from_slice(rt.alloc(), pre)?),
-        Effs::of(effects),
-    ))
+    Act::new(Lits::copied_from(alloc, pre).expect(rt, "memory"), effects)
 }
 
-/// A task without a goal, whose facts are true at first.
-fn task(rt: &impl AllocGlobal, facts: u32, acts: Vec<Act>) -> Result<Task, Fail> {
-    let init = Bits::of(vec![in rt.alloc(); true; facts as usize]?);
-    let goal = Lits::of(Vec::new(rt.alloc()));
-    let task = Task::try_new(facts, init, goal, false, Acts::of(acts)).ok_or("no task")?;
-    Ok(task)
+/// A task of two actions without a goal, whose facts have these values at first.
+fn task(rt: &impl Abort, alloc: Global, init: &[bool], first: Act, second: Act) -> Task {
+    assert!(rt; init.len() <= 4);
+    let facts = init.len() as u32;
+    let init = Bits::copied_from(alloc, init).expect(rt, "memory");
+    let mut acts = Acts::new(alloc);
+    acts.push(first).expect(rt, "memory");
+    acts.push(second).expect(rt, "memory");
+    Task::try_new(facts, init, Lits::new(alloc), false, acts).expect(rt, "a task")
 }
 
-/// What the command `order` tells of the order, under no clauses: the number of components, and for each place the
-/// component and the action.
-fn told(rt: &(impl AllocGlobal + Abort), task: &Task) -> Result<Vec<u32>, Fail> {
-    told_under(rt, task, &[])
+/// Adds a clause of two literals of different facts.
+fn add(rt: &impl Abort, pairs: &mut Pairs, l: u32, m: u32) {
+    let facts = pairs.facts();
+    assert!(rt; l / 2 < facts && m / 2 < facts && l / 2 != m / 2);
+    pairs.add(l, m).expect(rt, "memory");
 }
 
-/// The same under clauses of two literals.
-fn told_under(
-    rt: &(impl AllocGlobal + Abort),
+/// Clauses of two literals over so many facts.
+fn pairs_of(rt: &impl Abort, alloc: Global, facts: u32, clauses: &[(u32, u32)]) -> Pairs
+    requires { facts ≤ 2048 }
+{
+    let mut pairs = Pairs::empty(alloc, facts).expect(rt, "memory");
+    for (l, m) in clauses {
+        add(rt, &mut pairs, *l, *m);
+    }
+    holds(rt, pairs.count() as usize == clauses.len(), "clauses");
+    pairs
+}
+
+/// The order of a task under clauses.
+fn order_under(rt: &impl Abort, alloc: Global, task: &Task, clauses: &[(u32, u32)]) -> Order {
+    let pairs = pairs_of(rt, alloc, task.facts(), clauses);
+    assert!(rt; pairs.facts() == task.facts());
+    publish(alloc, task, &pairs).expect(rt, "memory")
+}
+
+/// At a place stands an action of a component.
+fn is_placed(rt: &impl Abort, order: &Order, place: u32, wanted: (u32, u32))
+    requires { place < length (order_of order.now) }
+{
+    let (component, action) = wanted;
+    let a = order.at(place);
+    let is = order.place(a) == place && order.component(a) == component && a == action;
+    holds(rt, is, "a place of an order");
+}
+
+/// What the command `order` tells of the order of a task under clauses: so many components, and at each place this component and
+/// this action.
+fn is_told(
+    rt: &impl Abort,
+    alloc: Global,
     task: &Task,
     clauses: &[(u32, u32)],
-) -> Result<Vec<u32>, Fail> {
-    let mut pairs = Pairs::empty(rt.alloc(), task.facts()).map_err(|_| "no memory")?;
-    for (l, m) in clauses {
-        let facts = pairs.facts();
-        assert!(rt; *l / 2 < facts && *m / 2 < facts && *l / 2 != *m / 2);
-        pairs.add(*l, *m).map_err(|_| "no memory")?;
-    }
-    assert_eq!(rt; pairs.count() as usize, clauses.len());
-    assert!(rt; pairs.facts() == task.facts());
-    let order = publish(rt.alloc(), task, &pairs).map_err(|_| "no memory")?;
-    let mut told = Vec::new(rt.alloc());
-    told.push(order.components())?;
-    for place in 0..order.actions() {
-        let a = order.at(place);
-        assert_eq!(rt; order.place(a), place);
-        told.push(order.component(a))?;
-        told.push(a)?;
-    }
-    Ok(told)
+    components: u32,
+    wanted: [(u32, u32); 2],
+) {
+    let order = order_under(rt, alloc, task, clauses);
+    assert!(rt; order.components() == components && order.actions() == 2);
+    let [first, second] = wanted;
+    is_placed(rt, &order, 0, first);
+    is_placed(rt, &order, 1, second);
 }
 
-// Facts p 0, q 1, r 2. Action 0 burns p, action 1 needs it.
-fn burn_and_use(rt: &impl AllocGlobal) -> Result<Task, Fail> {
-    let burn = act(rt, &[], &[1, 4])?;
-    let using = act(rt, &[0], &[2])?;
-    task(rt, 3, vec![in rt.alloc(); burn, using]?)
+/// Facts p 0, q 1, r 2. Action 0 burns p, action 1 needs it.
+fn burn_and_use(rt: &impl Abort, alloc: Global) -> Task {
+    let burn = act(rt, alloc, &[], &[(&[], 1), (&[], 4)]);
+    let using = act(rt, alloc, &[0], &[(&[], 2)]);
+    task(rt, alloc, &[true, true, true], burn, using)
 }
 
 #[test]
-fn user_before_burner(rt: HostRuntime) -> Result<(), Fail> {
-    let task = burn_and_use(&rt)?;
-    assert_eq!(rt; told(&rt, &task)?.as_slice(), [2, 1, 1, 0, 0].as_slice());
+fn user_before_burner(rt: HostRuntime) {
+    let alloc = rt.alloc();
+    let task = burn_and_use(&rt, alloc);
+    is_told(&rt, alloc, &task, &[], 2, [(1, 1), (0, 0)]);
     // The invariants: p or r, not p or not r.
-    let under = told_under(&rt, &task, &[(0, 4), (1, 5)])?;
-    assert_eq!(rt; under.as_slice(), [2, 1, 1, 0, 0].as_slice());
-    Ok(())
+    is_told(&rt, alloc, &task, &[(0, 4), (1, 5)], 2, [(1, 1), (0, 0)]);
+}
+
+/// Steps, each by its actions.
+fn steps_of(rt: &impl Abort, alloc: Global, sets: &[&[u32]]) -> Steps {
+    let mut steps = Steps::new(alloc);
+    for set in sets {
+        let set = ActNumbers::copied_from(alloc, set).expect(rt, "memory");
+        steps.push(set).expect(rt, "memory");
+    }
+    steps
+}
+
+/// The members of steps in published order.
+fn listed(rt: &impl Abort, alloc: Global, order: &Order, steps: &Steps) -> ActNumbers {
+    linearise(alloc, order, steps).expect(rt, "memory")
 }
 
 // The members of each step are listed in published order.
 #[test]
-fn members_in_published_order(rt: HostRuntime) -> Result<(), Fail> {
+fn members_in_published_order(rt: HostRuntime) {
     let alloc = rt.alloc();
-    let task = burn_and_use(&rt)?;
-    let pairs = Pairs::empty(alloc, task.facts())?;
-    let order = publish(alloc, &task, &pairs)?;
-    let steps = Steps::of(vec![in alloc;
-        ActNumbers::of(vec![in alloc; 0, 1]?),
-        ActNumbers::of(Vec::new(alloc)),
-        ActNumbers::of(vec![in alloc; 0]?),
-    ]?);
-    let actions = linearise(alloc, &order, &steps)?;
-    assert_eq!(rt; actions.as_slice(), [1, 0, 0].as_slice());
-    Ok(())
+    let task = burn_and_use(&rt, alloc);
+    let order = order_under(&rt, alloc, &task, &[]);
+    let steps = steps_of(&rt, alloc, &[&[0, 1], &[], &[0]]);
+    let actions = listed(&rt, alloc, &order, &steps);
+    holds(&rt, matches!(actions.as_slice(), [1, 0, 0]), "three steps");
 }
 
 #[test]
-fn each_takes_the_other_s_need(rt: HostRuntime) -> Result<(), Fail> {
+fn each_takes_the_other_s_need(rt: HostRuntime) {
+    let alloc = rt.alloc();
     // Facts p 0, q 1, r 2, s 3. Each action takes what the other needs: one component.
-    let one = act(&rt, &[0], &[2, 7])?;
-    let two = act(&rt, &[6], &[1, 4])?;
-    let task = task(&rt, 4, vec![in rt.alloc(); one, two]?)?;
-    assert_eq!(rt; told(&rt, &task)?.as_slice(), [1, 0, 0, 0, 1].as_slice());
+    let one = act(&rt, alloc, &[0], &[(&[], 2), (&[], 7)]);
+    let two = act(&rt, alloc, &[6], &[(&[], 1), (&[], 4)]);
+    let task = task(&rt, alloc, &[true, true, true, true], one, two);
+    is_told(&rt, alloc, &task, &[], 1, [(0, 0), (0, 1)]);
     // Under the clause that not both needs hold, no edge is left.
-    let under = told_under(&rt, &task, &[(1, 7)])?;
-    assert_eq!(rt; under.as_slice(), [2, 0, 0, 1, 1].as_slice());
-    Ok(())
+    is_told(&rt, alloc, &task, &[(1, 7)], 2, [(0, 0), (1, 1)]);
 }
 
 #[test]
-fn effect_condition_is_read(rt: HostRuntime) -> Result<(), Fail> {
+fn effect_condition_is_read(rt: HostRuntime) {
+    let alloc = rt.alloc();
     // Facts p 0, q 1, g 2. Action 0 deletes p; action 1 adds g where p holds.
-    let drop = act(&rt, &[], &[1, 2])?;
-    let when = Lits::of(vec![in rt.alloc(); 0]?);
-    let effects = vec![in rt.alloc(); Eff::new(when, 4)]?;
-    let gain = Act::new(Lits::of(Vec::new(rt.alloc())), Effs::of(effects));
-    let task = task(&rt, 3, vec![in rt.alloc(); drop, gain]?)?;
-    assert_eq!(rt; told(&rt, &task)?.as_slice(), [2, 1, 1, 0, 0].as_slice());
-    Ok(())
+    let drop = act(&rt, alloc, &[], &[(&[], 1), (&[], 2)]);
+    let gain = act(&rt, alloc, &[], &[(&[0], 4)]);
+    let task = task(&rt, alloc, &[true, true, true], drop, gain);
+    is_told(&rt, alloc, &task, &[], 2, [(1, 1), (0, 0)]);
 }

@@ -5,9 +5,6 @@ pub(crate) const LAMP: &[u8] =
 
 pub(crate) const DARK: &[u8] = b"(define (problem p) (:domain lamp) (:init) (:goal (on)))";
 
-// The same with a goal that holds at first.
-pub(crate) const LIT: &[u8] = b"(define (problem p) (:init (on)) (:goal (on)))";
-
 pub(crate) const BLOCKS: &[u8] = b"; The usual blocks.
 (DEFINE (DOMAIN BLOCKS)
 (:PREDICATES (ON ?X ?Y) (ONTABLE ?X) (CLEAR ?X) (HANDEMPTY) (HOLDING ?X))
@@ -63,8 +60,3 @@ pub(crate) const LAMP_PLAN: &str = "; horizon 0 refuted conflicts 1
 ; step 1
 (flip)
 ";
-
-// A predicate that holds of one object.
-pub(crate) const MARKS: &[u8] = b"(define (domain m) (:predicates (p ?x)))";
-
-pub(crate) const MARKED: &[u8] = b"(define (problem x) (:objects a b) (:init (p a)) (:goal (p a)))";

@@ -1,21 +1,30 @@
 // The files that words name.
-use mem_runs::split;
+use super::runs::{holds, split};
 use plan_words::laws::laws;
-use plan_words::read_words;
-use std::test::Fail;
+use plan_words::{Request, read_words};
+
+// Whether a file is named, by this name.
+fn is_file(request: &Request<'_>, number: usize, name: &str) -> bool {
+    match request.file(number) {
+        Some(file) => file == name,
+        None => false,
+    }
+}
+
+// Whether these files are named, and no more.
+fn are_files(request: &Request<'_>) -> bool {
+    is_file(request, 0, "")
+        && is_file(request, 1, "-p")
+        && is_file(request, 2, "l")
+        && request.file(3).is_none()
+}
 
 #[test]
-fn lists_files(rt: HostRuntime) -> Result<(), Fail> {
+fn lists_files(rt: HostRuntime) {
     laws();
-    let alloc = rt.alloc();
-    let words = split(alloc, "check --  -p l")?;
-    let request = read_words(alloc, words.as_slice())
-        .ok()
-        .ok_or("memory")?
-        .ok_or("taken")?;
-    assert_eq!(rt; request.file(0), Some(""));
-    assert_eq!(rt; request.file(1), Some("-p"));
-    assert_eq!(rt; request.file(2), Some("l"));
-    assert_eq!(rt; request.file(3), None);
-    Ok(())
+    let text = "check --  -p l";
+    let words = split(&rt, rt.alloc(), text);
+    let read = read_words(rt.alloc(), words.as_slice()).expect(&rt, "memory");
+    let request = read.expect(&rt, "words that are taken");
+    holds(&rt, are_files(&request), text);
 }

@@ -1,0 +1,71 @@
+// Runs of the planner in memory.
+use pl_io::{Bytes, Files, MemShelf, MemSink, NamedFile, Numbers, Shelf, Sink};
+use plan_top::run;
+use poll_run::NoDriver;
+use solver_pool::Gate;
+use std::alloc::Global;
+use std::process::Abort;
+use std::sync::Wait;
+use std::thread::Threads;
+
+/// A file's name and its bytes.
+pub(crate) type Named<'a> = (&'a str, &'a [u8]);
+
+/// That this is so, of these words.
+pub(crate) fn holds(rt: &impl Abort, is: bool, words: &str) {
+    assert!(rt; is, "{words}");
+}
+
+/// A file for a shelf.
+fn named(rt: &impl Abort, alloc: Global, name: &str, bytes: &[u8]) -> NamedFile {
+    let name = Bytes::copied_from(alloc, name.as_bytes()).expect(rt, "memory");
+    let bytes = Bytes::copied_from(alloc, bytes).expect(rt, "memory");
+    NamedFile { name, bytes }
+}
+
+/// A shelf of these files, whose calls with the numbers of `failing`, counted from 1, fail.
+pub(crate) fn shelf_of(
+    rt: &impl Abort,
+    alloc: Global,
+    files: &[Named],
+    failing: &[u32],
+) -> MemShelf {
+    let mut shelved = Files::new(alloc);
+    for (name, bytes) in files {
+        shelved
+            .push(named(rt, alloc, name, bytes))
+            .expect(rt, "memory");
+    }
+    let failing = Numbers::copied_from(alloc, failing).expect(rt, "memory");
+    MemShelf::new(alloc, shelved, failing)
+}
+
+/// An empty sink that fails at no call and has room for 100,000 bytes, of which it takes at most 1,000 a call.
+pub(crate) fn ample_sink(rt: &impl Abort, alloc: Global) -> MemSink {
+    MemSink::new(alloc, 1000, Numbers::new(alloc), 100_000).expect(rt, "memory")
+}
+
+/// The words of a text, with a blank between each two.
+pub(crate) fn split(rt: &impl Abort, alloc: Global, text: &str) -> Vec<String> {
+    let mut words = Vec::new(alloc);
+    for word in text.split(' ') {
+        words
+            .push(word.to_owned(alloc).expect(rt, "memory"))
+            .expect(rt, "memory");
+    }
+    words
+}
+
+/// Whether a run on a shelf, into a sink and at a gate, ends with status 0. A driver that fails drives a batch.
+pub(crate) fn ends_well<S: Shelf, K: Sink, G: Gate, H: Threads + Wait + Sync + Abort>(
+    rt: &H,
+    alloc: Global,
+    words: &str,
+    shelf: &mut S,
+    sink: &mut K,
+    gate: &G,
+) -> bool {
+    let words = split(rt, alloc, words);
+    let status = run(rt, alloc, &words, shelf, sink, gate, &mut NoDriver::new());
+    status.0 == 0
+}
