@@ -4,7 +4,7 @@
 //! The clauses say of each three variables in a row that the first two imply the third. A row prints the sum of the numbers of
 //! the clauses that asked first.
 
-ghost use Rattle.std.specs.Prelude.{◌≡◌, ◌+◌, ◌*◌, ◌≤◌, ◌<◌, [], length, IfSome, OnSome};
+ghost use Rattle.std.specs.Prelude.{◌≡◌, ◌+◌, ◌*◌, ◌≤◌, ◌<◌, ◌++◌, ◌∷◌, [], length, true, IfSome, OnSome};
 
 use crate::dimacs::add_clause;
 use crate::lines::put;
@@ -94,7 +94,7 @@ fn add_two(alloc: Global, watches: &mut Watches, v: u32) -> Option<()>
     requires none { watches.old.trail ≡ [] }
     ensures many { OnSome result (watches.new.variables ≡ 100002) }
     ensures none { OnSome result (watches.new.trail ≡ []) }
-    ensures count { OnSome result (length watches.new.kept ≡ length watches.old.kept + 1) }
+    ensures kept { OnSome result (watches.new.kept ≡ watches.old.kept ++ true ∷ []) }
 {
     let lits = [Lit::of(v, false), Lit::of(v + 1, false)];
     let clause = Clause::of(alloc, &lits).ok()??;
