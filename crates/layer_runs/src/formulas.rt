@@ -3,236 +3,230 @@
 //! `bench/list-formulas` wrote, from the definition of the clauses alone.
 
 ghost use Rattle.std.specs.Prelude.{◌≡◌, ◌≤◌};
+ghost use Rattle.clause_base.specs.Formula.{IsModel};
 ghost use Rattle.gt_core.specs.Published.{IsPublished};
 ghost use Rattle.gt_core.specs.Reached.{HoldsWherever};
+ghost use Rattle.step_encoding.specs.Numbers.{literals_of};
 
-use crate::clause_line::print_clause;
+use crate::lines::{put, put_all};
 use crate::model::is_model;
 use action_order::order::Order;
 use action_order::publish::publish;
 use all_steps::form::AllForm;
 use clause_base::formula::Formula;
-use clause_base::memory::Memory;
+use clause_base::view::View;
 use gt_core::pairs::Pairs;
 use gt_core::task::Task;
 use sample_tasks::dice::Dice;
 use sample_tasks::kept::{are_kept, kept_pairs};
 use sample_tasks::{drawn, worked};
-use std::alloc::AllocError;
-use std::io;
+use std::alloc::Global;
 use step_encoding::exists::ExistsForm;
 use step_encoding::form::StepForm;
 
 /// How many tasks are drawn.
 const TASKS: u32 = 20;
 
-/// What is printed of a task: the formula of a horizon, and the steps of an assignment where it satisfies it.
+/// What is written of a task: the formula of a horizon, and the steps of an assignment where it satisfies it.
 #[derive(Clone, Copy)]
 struct Asked<'a> {
     horizon: u32,
     values: &'a [bool],
 }
 
-/// Prints numbers, a blank before each.
-fn print_numbers(rt: &impl Print, numbers: &[u32]) -> io::Result<()> {
-    for number in numbers {
-        print!(rt; " {number}")?;
-    }
-    Ok(())
-}
-
-/// Prints the components of an order.
-fn print_order(rt: &impl Print, order: &Order) -> io::Result<()> {
-    print!(rt; "order")?;
+/// Writes the components of an order.
+fn put_order(out: &mut Vec<u8>, order: &Order) -> Option<()> {
+    put(out, "order", &[])?;
     for group in order.groups() {
-        print!(rt; " |")?;
-        print_numbers(rt, group.as_slice())?;
+        put(out, " |", &[])?;
+        put_all(out, group.as_slice())?;
     }
-    println!(rt; "")
+    put(out, "\n", &[])
 }
 
-/// Prints a formula.
-fn print_formula(rt: &impl Print, formula: &Formula) -> io::Result<()> {
-    let (name, variables) = (formula.name(), formula.variables());
-    println!(rt; "formula {name} variables {variables}")?;
+/// Writes the line of a clause: the word `clause` and the codes of its literals, in order.
+pub(crate) fn put_clause(out: &mut Vec<u8>, clause: &View) -> Option<()> {
+    put(out, "clause", &[])?;
+    for place in 0..clause.len() {
+        put(out, " #", &[clause.get(place).0 as u64])?;
+    }
+    put(out, "\n", &[])
+}
+
+/// Writes a formula.
+fn put_formula(out: &mut Vec<u8>, formula: &Formula) -> Option<()> {
+    let (name, variables) = (formula.name() as u64, formula.variables() as u64);
+    put(out, "formula # variables #\n", &[name, variables])?;
     for number in 0..formula.count() {
-        print_clause(rt, &formula.clause(number))?;
+        put_clause(out, &formula.clause(number))?;
     }
-    Ok(())
+    Some(())
 }
 
-/// Prints how many variables a horizon has of each kind.
-fn print_layout<F: StepForm>(rt: &impl Print, form: &F, n: u32) -> io::Result<()>
+/// Writes how many variables a horizon has of each kind.
+fn put_layout<F: StepForm>(out: &mut Vec<u8>, form: &F, n: u32) -> Option<()>
     requires { n ≤ 255 }
 {
     if form.size(n) > 4_000_000 {
-        return println!(rt; "too large");
+        return put(out, "too large\n", &[]);
     }
     let z = form.layout(n);
-    let (actions, conditional, chains, facts) = (z.actions, z.conditional, z.chains, z.facts);
-    println!(rt; "layout {n} {actions} {conditional} {chains} {facts}")
+    put(out, "layout", &[])?;
+    put_all(out, &[n, z.actions, z.conditional, z.chains, z.facts])?;
+    put(out, "\n", &[])
 }
 
-/// Prints the actions of a step.
-fn print_step(rt: &impl Print, actions: &[u32]) -> io::Result<()> {
-    print!(rt; "step")?;
-    print_numbers(rt, actions)?;
-    println!(rt; "")
+/// Writes the actions of a step.
+fn put_step(out: &mut Vec<u8>, actions: &[u32]) -> Option<()> {
+    put(out, "step", &[])?;
+    put_all(out, actions)?;
+    put(out, "\n", &[])
 }
 
-/// Prints a horizon's formula, and the steps of an assignment where it satisfies it.
-fn print_horizon<F: StepForm>(
-    rt: &(impl Print + AllocGlobal),
+/// Writes the steps of an assignment where it satisfies a horizon's formula.
+fn put_steps<F: StepForm>(
+    alloc: Global,
+    out: &mut Vec<u8>,
     form: &F,
     n: u32,
     values: &[bool],
-) -> io::Result<()>
+) -> Option<()>
+    requires horizon { n ≤ 255 }
+    requires size { literals_of (F.formula_of form.now n) ≤ 4000000 }
+    requires model { IsModel (F.formula_of form.now n) values.now }
+{
+    let steps = form.steps_of(alloc, n, values).ok()?;
+    for step in steps.as_slice() {
+        put_step(out, step.as_slice())?;
+    }
+    Some(())
+}
+
+/// Writes a horizon's formula, and the steps of an assignment where it satisfies it.
+fn put_horizon<F: StepForm>(
+    alloc: Global,
+    out: &mut Vec<u8>,
+    form: &F,
+    n: u32,
+    values: &[bool],
+) -> Option<()>
     requires { n ≤ 255 }
 {
-    let Ok(formula) = form.formula(rt.alloc(), n) else {
-        return println!(rt; "no formula");
-    };
-    print_formula(rt, &formula)?;
+    let formula = form.formula(alloc, n).ok()?;
+    put_formula(out, &formula)?;
     if !is_model(&formula, values) {
-        return println!(rt; "no model");
+        return put(out, "no model\n", &[]);
     }
-    let Ok(steps) = form.steps_of(rt.alloc(), n, values) else {
-        return println!(rt; "no memory");
-    };
-    for step in steps.as_slice() {
-        print_step(rt, step.as_slice())?;
-    }
-    Ok(())
+    put_steps(alloc, out, form, n, values)
 }
 
-/// Prints what was asked of a form.
-fn print_form<F: StepForm>(
-    rt: &(impl Print + AllocGlobal),
-    form: &F,
-    asked: Asked,
-) -> io::Result<()> {
+/// Writes what was asked of a form. A horizon is at most 255.
+fn put_form<F: StepForm>(alloc: Global, out: &mut Vec<u8>, form: &F, asked: Asked) -> Option<()> {
     for n in 0..4 {
-        let size = form.size(n);
-        println!(rt; "size {n} {size}")?;
+        put(out, "size # #\n", &[n as u64, form.size(n)])?;
     }
     if asked.horizon > 255 {
-        return println!(rt; "a horizon is at most 255");
+        return None;
     }
-    print_layout(rt, form, asked.horizon)?;
-    print_horizon(rt, form, asked.horizon, asked.values)
+    put_layout(out, form, asked.horizon)?;
+    put_horizon(alloc, out, form, asked.horizon, asked.values)
 }
 
-/// Prints pairs.
-fn print_pairs(rt: &impl Print, pairs: &Pairs) -> io::Result<()> {
-    print!(rt; "pairs")?;
+/// Writes what was asked of a form that was made, if there was memory for it, under its name.
+fn put_built<F: StepForm + Drop>(
+    alloc: Global,
+    out: &mut Vec<u8>,
+    name: &str,
+    built: Option<F>,
+    asked: Asked,
+) -> Option<()> {
+    put(out, name, &[])?;
+    put_form(alloc, out, &built?, asked)
+}
+
+/// Writes pairs.
+fn put_pairs(out: &mut Vec<u8>, pairs: &Pairs) -> Option<()> {
+    put(out, "pairs", &[])?;
     for i in 0..pairs.count() {
         let (l, m) = pairs.at(i);
-        print!(rt; " {l},{m}")?;
+        put(out, " #,#", &[l as u64, m as u64])?;
     }
-    println!(rt; "")
+    put(out, "\n", &[])
 }
 
-/// Prints what was asked of a form that was made, under its name.
-fn print_built<F: StepForm + Drop>(
-    rt: &(impl Print + AllocGlobal),
-    name: &str,
-    built: Result<F, Memory>,
-    asked: Asked,
-) -> io::Result<()> {
-    println!(rt; "{name}")?;
-    match built {
-        Ok(form) => print_form(rt, &form, asked),
-        Err(_) => println!(rt; "no memory"),
-    }
-}
-
-/// Prints a task's order and its formulas under known pairs.
-fn print_ordered(
-    rt: &(impl Print + AllocGlobal),
+/// Writes a task's order and its formulas under known pairs.
+fn put_ordered(
+    alloc: Global,
+    out: &mut Vec<u8>,
     task: &Task,
     pairs: &Pairs,
     order: &Order,
     asked: Asked,
-) -> io::Result<()>
+) -> Option<()>
     requires facts { pairs.now.facts ≡ task.now.facts }
     requires hold { HoldsWherever task.now pairs.now.clauses }
     requires published { IsPublished task.now pairs.now.clauses order.now }
 {
-    print_order(rt, order)?;
-    let exists = ExistsForm::new(rt.alloc(), task, pairs, order);
-    print_built(rt, "exists-steps", exists, asked)?;
-    let all = AllForm::new(rt.alloc(), task, pairs, order);
-    print_built(rt, "all-steps", all, asked)
+    put_order(out, order)?;
+    let exists = ExistsForm::new(alloc, task, pairs, order).ok();
+    put_built(alloc, out, "exists-steps\n", exists, asked)?;
+    let all = AllForm::new(alloc, task, pairs, order).ok();
+    put_built(alloc, out, "all-steps\n", all, asked)
 }
 
-/// Prints known pairs, and a task's published order and its formulas under them.
-fn print_known(
-    rt: &(impl Print + AllocGlobal),
+/// Writes known pairs, and a task's published order and its formulas under them.
+fn put_known(
+    alloc: Global,
+    out: &mut Vec<u8>,
     task: &Task,
     pairs: &Pairs,
     asked: Asked,
-) -> io::Result<()>
+) -> Option<()>
     requires { pairs.now.facts ≡ task.now.facts }
 {
     if !are_kept(task, pairs) {
-        return println!(rt; "a pair that is not kept");
+        return put(out, "a pair that is not kept\n", &[]);
     }
-    print_pairs(rt, pairs)?;
-    match publish(rt.alloc(), task, pairs) {
-        Ok(order) => print_ordered(rt, task, pairs, &order, asked),
-        Err(_) => println!(rt; "no memory"),
-    }
+    put_pairs(out, pairs)?;
+    let order = publish(alloc, task, pairs).ok()?;
+    put_ordered(alloc, out, task, pairs, &order, asked)
 }
 
-/// Prints a task's formula under no known pair, and then under all that are kept.
-fn print_task(rt: &(impl Print + AllocGlobal), task: &Task, asked: Asked) -> io::Result<()> {
-    let Ok(none) = Pairs::empty(rt.alloc(), task.facts()) else {
-        return println!(rt; "no memory");
-    };
-    print_known(rt, task, &none, asked)?;
-    let Ok(kept) = kept_pairs(rt.alloc(), task) else {
-        return println!(rt; "no memory");
-    };
-    print_known(rt, task, &kept, asked)
+/// Writes a task's formula under no known pair, and then under all that are kept.
+fn put_task(alloc: Global, out: &mut Vec<u8>, task: &Task, asked: Asked) -> Option<()> {
+    let none = Pairs::empty(alloc, task.facts()).ok()?;
+    put_known(alloc, out, task, &none, asked)?;
+    let kept = kept_pairs(alloc, task).ok()?;
+    put_known(alloc, out, task, &kept, asked)
 }
 
-/// Prints a task that was made, or why there is none.
-fn print_made(
-    rt: &(impl Print + AllocGlobal),
-    made: &Result<Option<Task>, AllocError>,
-    asked: Asked,
-) -> io::Result<()> {
-    match made {
-        Ok(Some(task)) => print_task(rt, task, asked),
-        Ok(None) => println!(rt; "no task"),
-        Err(_) => println!(rt; "no memory"),
-    }
-}
-
-/// Prints the formulas of a task that is drawn from a number.
-fn print_drawn(rt: &(impl Print + AllocGlobal), number: u32) -> io::Result<()> {
-    println!(rt; "task {number}")?;
-    let mut dice = Dice::new(number);
+/// Writes the formulas of a task that is drawn from a number.
+fn put_drawn(alloc: Global, out: &mut Vec<u8>, number: u32) -> Option<()> {
+    put(out, "task #\n", &[number as u64])?;
+    let task = drawn::task(alloc, &mut Dice::new(number)).ok()??;
     let two_steps = Asked {
         horizon: 2,
         values: &[],
     };
-    print_made(rt, &drawn::task(rt.alloc(), &mut dice), two_steps)
+    put_task(alloc, out, &task, two_steps)
 }
 
-/// Prints the formulas of all tasks.
-pub(crate) fn print_tasks(rt: &(impl Print + AllocGlobal)) -> io::Result<()> {
-    let flipped = [true, false, true];
+/// Writes the formulas of a worked task.
+fn put_worked(alloc: Global, out: &mut Vec<u8>, name: &str, task: Option<Task>) -> Option<()> {
+    put(out, name, &[])?;
     let one_step = Asked {
         horizon: 1,
-        values: &flipped,
+        values: &[true, false, true],
     };
-    println!(rt; "lamp")?;
-    print_made(rt, &worked::lamp(rt.alloc()), one_step)?;
-    println!(rt; "rivals")?;
-    print_made(rt, &worked::rivals(rt.alloc()), one_step)?;
+    put_task(alloc, out, &task?, one_step)
+}
+
+/// Writes the formulas of all tasks.
+pub(crate) fn put_tasks(alloc: Global, out: &mut Vec<u8>) -> Option<()> {
+    put_worked(alloc, out, "lamp\n", worked::lamp(alloc).ok()?)?;
+    put_worked(alloc, out, "rivals\n", worked::rivals(alloc).ok()?)?;
     for number in 0..TASKS {
-        print_drawn(rt, number)?;
+        put_drawn(alloc, out, number)?;
     }
-    Ok(())
+    Some(())
 }

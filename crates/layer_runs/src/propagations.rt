@@ -4,7 +4,6 @@ use crate::solver::go_on;
 use cdcl_core::solver::Solver;
 use cdcl_rules::trail::Assigned;
 use clause_base::chooser::PlainChooser;
-use clause_base::memory::Memory;
 use std::alloc::Global;
 
 /// At each so manyth conflict the solver restarts: of its trail it keeps what stands before the first decision.
@@ -13,28 +12,20 @@ const RESTART: u64 = 64;
 /// How many entries of a trail from a place on a clause forced.
 fn forced_from(trail: &[Assigned], start: usize) -> u64 {
     let mut count: u64 = 0;
-    for entry in trail.iter().skip(start) {
-        if entry.reason.is_some() {
+    for (place, entry) in trail.iter().enumerate() {
+        if start <= place && entry.reason.is_some() {
             count = count.saturating_add(1);
         }
     }
     count
 }
 
-/// How many entries stand before the first decision.
-fn before_decisions(trail: &[Assigned]) -> usize {
-    trail
-        .iter()
-        .position(|entry| entry.reason.is_none())
-        .unwrap_or(trail.len())
-}
-
-/// How many entries two trails have in common at their beginnings. After a conflict without a restart that is what was kept: the
-/// learned clause forces a literal where a decision stood, which was not this one.
-fn in_common(old: &[Assigned], new: &[Assigned]) -> usize {
+/// How many entries of a trail were kept in the next one. After a restart these are those before the first decision; else those that
+/// both have in common at their beginnings, since the learned clause forces a literal where a decision stood, which was not this one.
+fn kept(old: &[Assigned], new: &[Assigned], is_restart: bool) -> usize {
     let mut count: usize = 0;
     for (a, b) in old.iter().zip(new) {
-        if a.literal.0 != b.literal.0 {
+        if is_restart && a.reason.is_none() || a.literal.0 != b.literal.0 {
             return count;
         }
         count = count.saturating_add(1);
@@ -43,20 +34,17 @@ fn in_common(old: &[Assigned], new: &[Assigned]) -> usize {
 }
 
 /// Goes on for one conflict, and tells how many propagations came with it; none where nothing is left to do.
-fn one_more(alloc: Global, solver: &mut Solver<PlainChooser>) -> Result<Option<u64>, Memory> {
+fn one_more(solver: &mut Solver<PlainChooser>, old: &mut Vec<Assigned>) -> Option<Option<u64>> {
     let conflicts = solver.conflicts();
-    let mut old = Vec::new(alloc);
-    old.extend_from_slice(solver.trail())?;
+    old.clear();
+    old.extend_from_slice(solver.trail()).ok()?;
     go_on(solver, 1)?;
     if solver.conflicts() == conflicts {
-        return Ok(None);
+        return Some(None);
     }
-    let kept = if solver.conflicts() % RESTART == 0 {
-        before_decisions(old.as_slice())
-    } else {
-        in_common(old.as_slice(), solver.trail())
-    };
-    Ok(Some(forced_from(solver.trail(), kept)))
+    let is_restart = solver.conflicts() % RESTART == 0;
+    let start = kept(old.as_slice(), solver.trail(), is_restart);
+    Some(Some(forced_from(solver.trail(), start)))
 }
 
 /// Goes on for so many conflicts, one after another, and counts the propagations. The solver is new.
@@ -64,14 +52,15 @@ pub(crate) fn count_propagations(
     alloc: Global,
     solver: &mut Solver<PlainChooser>,
     conflicts: u32,
-) -> Result<u64, Memory> {
+) -> Option<u64> {
     go_on(solver, 0)?;
     let mut count = forced_from(solver.trail(), 0);
+    let mut old = Vec::new(alloc);
     for _ in 0..conflicts {
-        match one_more(alloc, solver)? {
-            Some(more) => count = count.saturating_add(more),
-            None => return Ok(count),
-        }
+        let Some(more) = one_more(solver, &mut old)? else {
+            return Some(count);
+        };
+        count = count.saturating_add(more);
     }
-    Ok(count)
+    Some(count)
 }

@@ -4,14 +4,14 @@
 //! The clauses say of each three variables in a row that the first two imply the third. A row prints the sum of the numbers of
 //! the clauses that asked first.
 
-ghost use Rattle.std.specs.Prelude.{◌≡◌, ◌+◌, ◌*◌, ◌≤◌, ◌<◌, [], length, OnOk, IfOk};
+ghost use Rattle.std.specs.Prelude.{◌≡◌, ◌+◌, ◌*◌, ◌≤◌, ◌<◌, ◌++◌, ◌∷◌, [], length, true, IfSome, OnSome};
 
+use crate::dimacs::add_clause;
+use crate::lines::put;
 use clause_base::clause::Clause;
 use clause_base::formula::Formula;
 use clause_base::literal::Lit;
-use clause_base::memory::Memory;
 use std::alloc::Global;
-use std::io;
 use watch_lists::watches::Watches;
 
 /// How many clauses there are at first.
@@ -24,8 +24,8 @@ const VARIABLES: u32 = CLAUSES + 2;
 const ROUNDS: u32 = 100_000;
 
 /// For each three variables in a row, that the first two imply the third.
-fn triples(alloc: Global) -> Result<Formula, Memory>
-    ensures { IfOk result (λ f. f.variables ≡ 100002) }
+fn triples(alloc: Global) -> Option<Formula>
+    ensures { IfSome result (λ f. f.variables ≡ 100002) }
 {
     let mut formula = Formula::new(alloc, 0, VARIABLES);
     for v in 0..CLAUSES {
@@ -34,13 +34,9 @@ fn triples(alloc: Global) -> Result<Formula, Memory>
             Lit::of(v + 1, false),
             Lit::of(v + 2, true),
         ];
-        if let Some(clause) = Clause::of(alloc, &lits)? {
-            if formula.has_room() && clause.fits(formula.variables()) {
-                formula.add(clause)?;
-            }
-        }
+        add_clause(alloc, &mut formula, &lits)?;
     }
-    Ok(formula)
+    Some(formula)
 }
 
 /// The number of the clause that asks first, or 0.
@@ -91,38 +87,43 @@ fn undone(watches: &mut Watches) -> u64
     sum
 }
 
+/// Adds, with the next number, that a variable and the next one are not both true.
+fn add_two(alloc: Global, watches: &mut Watches, v: u32) -> Option<()>
+    requires many { watches.old.variables ≡ 100002 }
+    requires variable { v < 100000 }
+    requires none { watches.old.trail ≡ [] }
+    ensures many { OnSome result (watches.new.variables ≡ 100002) }
+    ensures none { OnSome result (watches.new.trail ≡ []) }
+    ensures kept { OnSome result (watches.new.kept ≡ watches.old.kept ++ true ∷ []) }
+{
+    let lits = [Lit::of(v, false), Lit::of(v + 1, false)];
+    let clause = Clause::of(alloc, &lits).ok()??;
+    if !clause.fits(VARIABLES) {
+        return None;
+    }
+    watches.add(clause).ok()
+}
+
 /// Adds, with the next number, that two variables in a row are not both true, and removes it. What is told is the number of the
 /// clause that asks where the first is true, before the clause is removed and, 1,000,000 times, after.
-fn asked_when_added(
-    alloc: Global,
-    watches: &mut Watches,
-    v: u32,
-    number: u32,
-) -> Result<u64, Memory>
+fn asked_when_added(alloc: Global, watches: &mut Watches, v: u32, number: u32) -> Option<u64>
     requires many { watches.old.variables ≡ 100002 }
     requires variable { v < 100000 }
     requires none { watches.old.trail ≡ [] }
     requires count { length watches.old.kept ≡ number }
-    ensures many { OnOk result (watches.new.variables ≡ 100002) }
-    ensures none { OnOk result (watches.new.trail ≡ []) }
-    ensures count { OnOk result (length watches.new.kept ≡ number + 1) }
+    ensures many { OnSome result (watches.new.variables ≡ 100002) }
+    ensures none { OnSome result (watches.new.trail ≡ []) }
+    ensures count { OnSome result (length watches.new.kept ≡ number + 1) }
 {
-    let lits = [Lit::of(v, false), Lit::of(v + 1, false)];
-    let Some(clause) = Clause::of(alloc, &lits)? else {
-        return Err(Memory);
-    };
-    if !clause.fits(VARIABLES) {
-        return Err(Memory);
-    }
-    watches.add(clause)?;
+    add_two(alloc, watches, v)?;
     let before = asked_by_one(watches, v);
     watches.remove(number);
     let after = asked_by_one(watches, v);
-    Ok(before.wrapping_add(after.wrapping_mul(1_000_000)))
+    Some(before.wrapping_add(after.wrapping_mul(1_000_000)))
 }
 
 /// Adds and removes a clause for each two variables in a row.
-fn added(alloc: Global, watches: &mut Watches, first: u32) -> Result<u64, Memory>
+fn added(alloc: Global, watches: &mut Watches, first: u32) -> Option<u64>
     requires many { watches.old.variables ≡ 100002 }
     requires none { watches.old.trail ≡ [] }
     requires count { length watches.old.kept ≡ first }
@@ -132,29 +133,22 @@ fn added(alloc: Global, watches: &mut Watches, first: u32) -> Result<u64, Memory
     for v in 0..ROUNDS {
         sum = sum.wrapping_add(asked_when_added(alloc, watches, v, first + v)?);
     }
-    Ok(sum)
+    Some(sum)
 }
 
-/// The sums of both rows.
-fn sums(alloc: Global) -> Result<(u64, u64), Memory> {
+/// Writes the sums of both rows.
+pub(crate) fn put_sums(alloc: Global, out: &mut Vec<u8>) -> Option<()> {
     let formula = triples(alloc)?;
     let count = formula.count();
-    let mut watches = Watches::new(alloc, &formula)?;
+    let mut watches = Watches::new(alloc, &formula).ok()?;
     let undone = undone(&mut watches);
     if count > CLAUSES {
-        return Err(Memory);
+        return None;
     }
     let added = added(alloc, &mut watches, count)?;
-    Ok((undone, added))
-}
-
-/// Prints the sums of both rows.
-pub(crate) fn print_sums(rt: &(impl Print + AllocGlobal)) -> io::Result<()> {
-    match sums(rt.alloc()) {
-        Ok((undone, added)) => {
-            println!(rt; "undone {ROUNDS} times: {undone}")?;
-            println!(rt; "added and removed {ROUNDS} times: {added}")
-        }
-        Err(_) => println!(rt; "want of memory"),
-    }
+    put(
+        out,
+        "undone 100000 times: #\nadded and removed 100000 times: #\n",
+        &[undone, added],
+    )
 }
