@@ -49,7 +49,7 @@ impl Checked {
 }
 
 /// Why a log is not accepted.
-#[derive(Clone, Copy, Debug, PartialEq, Eq)]
+#[derive(Clone, Copy, PartialEq, Eq)]
 pub enum CheckError {
     /// The first entry, counted from 0 over all entries, that does not follow from the formula and the entries before it.
     Rejected {

@@ -14,7 +14,7 @@ use gt_core::layout::Layout;
 use std::alloc::Global;
 
 /// Why there is no formula.
-#[derive(Clone, Copy, Debug, PartialEq, Eq)]
+#[derive(Clone, Copy, PartialEq, Eq)]
 pub enum FormError {
     /// The formula has more than 4,000,000 literals.
     Literals { count: u64 },
