@@ -1,5 +1,5 @@
 // Runs of the planner in memory.
-use pl_io::{Bytes, Files, MemShelf, MemSink, NamedFile, Numbers, Shelf, Sink};
+use pl_io::{Bytes, Files, MemShelf, MemSink, NamedFile, Numbers};
 use plan_top::run;
 use poll_run::NoDriver;
 use solver_pool::Gate;
@@ -57,12 +57,12 @@ pub(crate) fn split(rt: &impl Abort, alloc: Global, text: &str) -> Vec<String> {
 }
 
 /// Whether a run on a shelf, into a sink and at a gate, ends with status 0. A driver that fails drives a batch.
-pub(crate) fn ends_well<S: Shelf, K: Sink, G: Gate, H: Threads + Wait + Sync + Abort>(
+pub(crate) fn ends_well<G: Gate, H: Threads + Wait + Sync + Abort>(
     rt: &H,
     alloc: Global,
     words: &str,
-    shelf: &mut S,
-    sink: &mut K,
+    shelf: &mut MemShelf,
+    sink: &mut MemSink,
     gate: &G,
 ) -> bool {
     let words = split(rt, alloc, words);
