@@ -1,6 +1,7 @@
 //! Certificates, and texts that are none.
 ghost use Rattle.std.specs.Prelude.{◌≤◌};
 
+use crate::shelves::is_same;
 use proof_text::laws::laws;
 use proof_text::{Proof, ProofFault, proof_length, read_proof, write_proof, written};
 use std::alloc::Global;
@@ -40,11 +41,6 @@ const ROWS: [Row; 27] = [
     ("horizon 0\ndrop 1\nx", Some(17)),
     ("horizon 0\nlearn\n", Some(10)),
 ];
-
-/// Whether bytes are the same.
-fn is_same(bytes: &[u8], wanted: &[u8]) -> bool {
-    bytes == wanted
-}
 
 /// Whether a certificate is written as this text.
 fn is_written(alloc: Global, proof: &Proof, text: &str) -> bool

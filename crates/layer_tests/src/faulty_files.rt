@@ -14,7 +14,7 @@ pub(crate) struct Faulty {
 pub(crate) struct FaultyFiles;
 
 /// What is not asked for.
-fn unasked<T>() -> io::Result<T> {
+pub(crate) fn unasked<T>() -> io::Result<T> {
     Err(io::Error::from(ErrorKind::Unsupported))
 }
 

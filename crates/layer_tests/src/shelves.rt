@@ -9,7 +9,7 @@ use std::process::Abort;
 type Row = (&'static str, usize, Result<Taken, TakeError>, &'static str);
 
 /// Whether bytes are the same.
-fn is_same(bytes: &[u8], wanted: &[u8]) -> bool {
+pub(crate) fn is_same(bytes: &[u8], wanted: &[u8]) -> bool {
     bytes == wanted
 }
 

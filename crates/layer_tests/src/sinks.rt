@@ -1,6 +1,7 @@
 //! Sinks in memory, over the standard output, and over an output that is interrupted and takes few bytes.
 ghost use Rattle.std.specs.Prelude.{◌<◌};
 
+use crate::faulty_files::unasked;
 use pl_io::{MemSink, Memory, Numbers, OutSink, PutFailed, Sink, put_all};
 use std::alloc::Global;
 use std::fmt::Display;
@@ -59,11 +60,6 @@ fn takes_a_front_of_the_text(rt: HostRuntime) {
 #[derive(Drop)]
 struct Stingy {
     writes: AtomicU64,
-}
-
-/// What is not asked for.
-fn unasked() -> io::Result<()> {
-    Err(io::Error::from(ErrorKind::Unsupported))
 }
 
 impl Print for Stingy {
