@@ -38,7 +38,9 @@ fn race_of<'a, F: StepForm>(
     requires { F.task form.now ≡ task.now }
     ensures { result.given ≡ false }
 {
-    PollRace::new(alloc, task, form, HORIZON_0, 100_000, 10).expect(rt, "memory")
+    PollRace::new(alloc, task, form, HORIZON_0, 100_000, 10)
+        .ok()
+        .expect(rt, "memory")
 }
 
 /// Two races in a row.
@@ -133,7 +135,9 @@ fn end_over<F: StepForm + Sync, D: Driver, H: Threads + Wait + Sync + Abort>(
     requires two { length races ≡ 2 }
     requires live { AllByRecursion (λ race. race.given ≡ false) races }
 {
-    let ends = raced(rt, alloc, driver, races, backward).expect(rt, "memory");
+    let ends = raced(rt, alloc, driver, races, backward)
+        .ok()
+        .expect(rt, "memory");
     holds(rt, are_ended(ends.as_slice()));
 }
 

@@ -10,7 +10,7 @@ use std::thread::Threads;
 /// Grants a run conflicts, as a worker does. It has handled so many then, and was granted so many.
 fn grant<R: Seen>(rt: &impl Abort, run: &mut R, conflicts: u32, handled: u64, granted: u64) {
     assert!(rt; conflicts <= 1000 && run.granted() <= 1000);
-    run.advance(conflicts).expect(rt, "memory");
+    run.advance(conflicts).ok().expect(rt, "memory");
     holds(rt, run.handled() == handled && run.granted() == granted);
 }
 
@@ -66,7 +66,9 @@ fn rounded<R: Resume + Send, H: Threads + Wait + Sync + Abort>(
 ) -> Jobs<R> {
     let jobs = two_jobs(rt, alloc, first, second);
     assert!(rt; jobs.len() <= 16 && jobs.are_rising() && jobs.are_sound());
-    round(rt, alloc, jobs, 2, 1, &OpenGate).expect(rt, "memory")
+    round(rt, alloc, jobs, 2, 1, &OpenGate)
+        .ok()
+        .expect(rt, "memory")
 }
 
 /// Whether two runs stand as they do by themselves.

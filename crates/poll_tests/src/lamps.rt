@@ -44,8 +44,8 @@ pub(crate) fn grounded(rt: &impl Abort, alloc: Global, on: bool) -> Ground
     ensures { IsPublished result.task result.pairs.clauses result.order }
 {
     let task = lamp(rt, alloc, on);
-    let pairs = Pairs::empty(alloc, task.facts()).expect(rt, "memory");
-    let order = publish(alloc, &task, &pairs).expect(rt, "memory");
+    let pairs = Pairs::empty(alloc, task.facts()).ok().expect(rt, "memory");
+    let order = publish(alloc, &task, &pairs).ok().expect(rt, "memory");
     Ground { task, pairs, order }
 }
 
@@ -54,7 +54,9 @@ pub(crate) fn form_of<'a>(rt: &impl Abort, alloc: Global, ground: &'a Ground) ->
     requires { IsPublished ground.now.task ground.now.pairs.clauses ground.now.order }
     ensures { result.task ≡ ground.now.task }
 {
-    ExistsForm::new(alloc, &ground.task, &ground.pairs, &ground.order).expect(rt, "memory")
+    ExistsForm::new(alloc, &ground.task, &ground.pairs, &ground.order)
+        .ok()
+        .expect(rt, "memory")
 }
 
 /// The run of a horizon over a form of a small task.
@@ -63,7 +65,9 @@ fn run_of<F: StepForm>(rt: &impl Abort, alloc: Global, task: &Task, form: &F, n:
 {
     let n = u32::from(n);
     assert!(rt; form.size(n) <= 4_000_000);
-    HorizonRun::new(alloc, task, form, n).expect(rt, "memory")
+    HorizonRun::new(alloc, task, form, n)
+        .ok()
+        .expect(rt, "memory")
 }
 
 /// The run of a horizon of the lamp that is off.

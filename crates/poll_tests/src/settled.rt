@@ -26,7 +26,9 @@ fn settled<R: Seen, D: Driver>(
 fn blocked<R: Seen, H: Wait + RandomSource + AllocGlobal + Abort>(rt: &H, run: R, target: u64) -> R
     requires { target ≤ 1000 }
 {
-    settled(rt, &mut BlockOn::new(rt), run, target).expect(rt, "a run")
+    settled(rt, &mut BlockOn::new(rt), run, target)
+        .ok()
+        .expect(rt, "a run")
 }
 
 /// With units, its first conflict refutes it.

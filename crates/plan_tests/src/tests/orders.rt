@@ -41,14 +41,14 @@ fn task(rt: &impl Abort, alloc: Global, init: &[bool], first: Act, second: Act) 
 fn add(rt: &impl Abort, pairs: &mut Pairs, l: u32, m: u32) {
     let facts = pairs.facts();
     assert!(rt; l / 2 < facts && m / 2 < facts && l / 2 != m / 2);
-    pairs.add(l, m).expect(rt, "memory");
+    pairs.add(l, m).ok().expect(rt, "memory");
 }
 
 /// Clauses of two literals over so many facts.
 fn pairs_of(rt: &impl Abort, alloc: Global, facts: u32, clauses: &[(u32, u32)]) -> Pairs
     requires { facts ≤ 2048 }
 {
-    let mut pairs = Pairs::empty(alloc, facts).expect(rt, "memory");
+    let mut pairs = Pairs::empty(alloc, facts).ok().expect(rt, "memory");
     for (l, m) in clauses {
         add(rt, &mut pairs, *l, *m);
     }
@@ -60,7 +60,7 @@ fn pairs_of(rt: &impl Abort, alloc: Global, facts: u32, clauses: &[(u32, u32)]) 
 fn order_under(rt: &impl Abort, alloc: Global, task: &Task, clauses: &[(u32, u32)]) -> Order {
     let pairs = pairs_of(rt, alloc, task.facts(), clauses);
     assert!(rt; pairs.facts() == task.facts());
-    publish(alloc, task, &pairs).expect(rt, "memory")
+    publish(alloc, task, &pairs).ok().expect(rt, "memory")
 }
 
 /// At a place stands an action of a component.
@@ -118,7 +118,7 @@ fn steps_of(rt: &impl Abort, alloc: Global, sets: &[&[u32]]) -> Steps {
 
 /// The members of steps in published order.
 fn listed(rt: &impl Abort, alloc: Global, order: &Order, steps: &Steps) -> ActNumbers {
-    linearise(alloc, order, steps).expect(rt, "memory")
+    linearise(alloc, order, steps).ok().expect(rt, "memory")
 }
 
 // The members of each step are listed in published order.

@@ -21,15 +21,19 @@ const NO_GOALS: &[u8] = b"(define (problem p) (:goal ()))";
 // The task of two texts.
 fn task(rt: &impl Abort, alloc: Global, domain: &[u8], problem: &[u8]) -> Pddl {
     assert!(rt; domain.len() <= 1000 && problem.len() <= 1000);
-    let domain = read_tree(alloc, domain).expect(rt, "a domain");
-    let problem = read_tree(alloc, problem).expect(rt, "a problem");
-    read_pddl(alloc, &domain, &problem).expect(rt, "a task")
+    let domain = read_tree(alloc, domain).ok().expect(rt, "a domain");
+    let problem = read_tree(alloc, problem).ok().expect(rt, "a problem");
+    read_pddl(alloc, &domain, &problem)
+        .ok()
+        .expect(rt, "a task")
 }
 
 // The ground task of two texts.
 fn grounded(rt: &impl Abort, alloc: Global, domain: &[u8], problem: &[u8]) -> Grounded {
     let read = task(rt, alloc, domain, problem);
-    ground(alloc, &read).expect(rt, "a task within the limits")
+    ground(alloc, &read)
+        .ok()
+        .expect(rt, "a task within the limits")
 }
 
 // In the one state where its one fact is false, the one action of a task makes it true.

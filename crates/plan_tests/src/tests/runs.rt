@@ -42,7 +42,9 @@ pub(crate) fn shelf_of(
 
 /// An empty sink that fails at no call and has room for 100,000 bytes, of which it takes at most 1,000 a call.
 pub(crate) fn ample_sink(rt: &impl Abort, alloc: Global) -> MemSink {
-    MemSink::new(alloc, 1000, Numbers::new(alloc), 100_000).expect(rt, "memory")
+    MemSink::new(alloc, 1000, Numbers::new(alloc), 100_000)
+        .ok()
+        .expect(rt, "memory")
 }
 
 /// The words of a text, with a blank between each two.

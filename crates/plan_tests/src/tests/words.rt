@@ -24,7 +24,9 @@ fn lists_files(rt: HostRuntime) {
     laws();
     let text = "check --  -p l";
     let words = split(&rt, rt.alloc(), text);
-    let read = read_words(rt.alloc(), words.as_slice()).expect(&rt, "memory");
+    let read = read_words(rt.alloc(), words.as_slice())
+        .ok()
+        .expect(&rt, "memory");
     let request = read.expect(&rt, "words that are taken");
     holds(&rt, are_files(&request), text);
 }
