@@ -1,6 +1,7 @@
-// Calls of the shelf.
-use super::runs::{Named, ample_sink, ends_well, holds, shelf_of};
+// Calls of the shelf and of the sink.
+use super::runs::{Named, ample_sink, holds, is_same, shelf_of, status_of};
 use super::tasks::{DARK, LAMP};
+use pl_io::{MemSink, Numbers};
 use solver_pool::OpenGate;
 use std::alloc::Global;
 use std::process::Abort;
@@ -9,12 +10,24 @@ use std::thread::Threads;
 
 const FILES: [Named<'static>; 3] = [("d", LAMP), ("p", DARK), ("l", b"(flip)")];
 
+// What `batch` prints of the lamp in the dark.
+const BATCH: &str = "; problem 1
+; horizon 0 refuted conflicts 1
+; horizon 1 plan conflicts 0
+; horizon 2 plan conflicts 0
+; horizon 3 plan conflicts 0
+; conflicts 1 of 100000
+; plan of 1 steps with 1 actions
+; step 1
+(flip)
+";
+
 // A run that ends well, though this call of the shelf would fail, which is not made.
 fn stops_before<H: Threads + Wait + Sync + Abort>(rt: &H, alloc: Global, words: &str, call: u32) {
     let mut shelf = shelf_of(rt, alloc, &FILES, &[call]);
     let mut sink = ample_sink(rt, alloc);
-    let well = ends_well(rt, alloc, words, &mut shelf, &mut sink, &OpenGate);
-    holds(rt, well && shelf.failed().is_empty(), words);
+    let status = status_of(rt, alloc, words, &mut shelf, &mut sink, &OpenGate);
+    holds(rt, status == 0 && shelf.failed().is_empty(), words);
 }
 
 // Each file that the words name is taken once, and no other: a call more would fail, and the shelf note it.
@@ -26,5 +39,29 @@ fn files_are_taken_once(rt: HostRuntime) {
     stops_before(&rt, alloc, "ground d p", 3);
     stops_before(&rt, alloc, "order d p", 3);
     stops_before(&rt, alloc, "gen corridor 1", 1);
-    stops_before(&rt, alloc, "batch d p", 3);
+}
+
+// So in a batch, which tells the same with a driver that fails as with one that does not.
+#[test]
+fn driver_fails(rt: HostRuntime) {
+    let (alloc, words) = (rt.alloc(), "batch d p");
+    let mut shelf = shelf_of(&rt, alloc, &FILES, &[3]);
+    let mut sink = ample_sink(&rt, alloc);
+    let status = status_of(&rt, alloc, words, &mut shelf, &mut sink, &OpenGate);
+    let is = status == 0 && shelf.failed().is_empty() && is_same(sink.taken(), BATCH);
+    holds(&rt, is, words);
+}
+
+// The sink takes ten bytes a call, and its second call fails: ten bytes are there, and a fault is noted.
+#[test]
+fn sink_fails_at_a_call(rt: HostRuntime) {
+    let (alloc, words) = (rt.alloc(), "plan d p");
+    let mut shelf = shelf_of(&rt, alloc, &FILES, &[]);
+    let failing = Numbers::copied_from(alloc, &[2]).expect(&rt, "memory");
+    let mut sink = MemSink::new(alloc, 10, failing, 1000)
+        .ok()
+        .expect(&rt, "memory");
+    let status = status_of(&rt, alloc, words, &mut shelf, &mut sink, &OpenGate);
+    let is = status == 6 && sink.faults() == 1 && is_same(sink.taken(), "; horizon ");
+    holds(&rt, is, words);
 }

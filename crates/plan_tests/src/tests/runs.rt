@@ -58,16 +58,21 @@ pub(crate) fn split(rt: &impl Abort, alloc: Global, text: &str) -> Vec<String> {
     words
 }
 
-/// Whether a run on a shelf, into a sink and at a gate, ends with status 0. A driver that fails drives a batch.
-pub(crate) fn ends_well<G: Gate, H: Threads + Wait + Sync + Abort>(
+/// Whether two texts are the same.
+pub(crate) fn is_same(text: &[u8], wanted: &str) -> bool {
+    text == wanted.as_bytes()
+}
+
+/// The status with which a run on a shelf, into a sink and at a gate, ends. A driver that fails drives a batch.
+pub(crate) fn status_of<G: Gate, H: Threads + Wait + Sync + Abort>(
     rt: &H,
     alloc: Global,
     words: &str,
     shelf: &mut MemShelf,
     sink: &mut MemSink,
     gate: &G,
-) -> bool {
+) -> u8 {
     let words = split(rt, alloc, words);
     let status = run(rt, alloc, &words, shelf, sink, gate, &mut NoDriver::new());
-    status.0 == 0
+    status.0
 }

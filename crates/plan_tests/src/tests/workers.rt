@@ -1,5 +1,5 @@
 // Runs with several workers.
-use super::runs::{Named, ample_sink, ends_well, holds, shelf_of};
+use super::runs::{Named, ample_sink, holds, is_same, shelf_of, status_of};
 use super::tasks::{BLOCKS, DARK, LAMP, LAMP_PLAN, TOWER, TOWER_PLAN};
 use noting_gates::{CountGate, Notes, PairGate};
 use solver_pool::Gate;
@@ -7,11 +7,6 @@ use std::alloc::Global;
 use std::process::Abort;
 use std::sync::Wait;
 use std::thread::Threads;
-
-// Whether two texts are the same.
-fn is_same(text: &[u8], wanted: &str) -> bool {
-    text == wanted.as_bytes()
-}
 
 // A run on these files at a gate, which ends with status 0 and this report.
 fn run_at<G: Gate, H: Threads + Wait + Sync + Abort>(
@@ -24,8 +19,8 @@ fn run_at<G: Gate, H: Threads + Wait + Sync + Abort>(
 ) {
     let mut shelf = shelf_of(rt, alloc, files, &[]);
     let mut sink = ample_sink(rt, alloc);
-    let well = ends_well(rt, alloc, words, &mut shelf, &mut sink, gate);
-    holds(rt, well && is_same(sink.taken(), report), words);
+    let status = status_of(rt, alloc, words, &mut shelf, &mut sink, gate);
+    holds(rt, status == 0 && is_same(sink.taken(), report), words);
 }
 
 const IN_THE_DARK: [Named<'static>; 2] = [("d", LAMP), ("p", DARK)];
