@@ -49,7 +49,9 @@ fn lists_horizons(rt: HostRuntime) {
 
 /// Refutes the horizon at a place of the window, which is this one.
 fn refute_at(rt: &impl Abort, window: &mut Window, place: u32, horizon: u32) {
-    let live = window.live(place).expect(rt, "a live horizon");
+    let Some(live) = window.live(place) else {
+        rt.panic("a live horizon")
+    };
     holds(rt, live == horizon, "the horizon");
     window.refute(live);
 }

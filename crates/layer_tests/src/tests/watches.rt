@@ -23,7 +23,8 @@ fn two_clauses(rt: &impl Abort, alloc: Global) -> Watches
     ensures variables { result.variables ≡ 2 }
     ensures trail { result.trail ≡ [] }
 {
-    let Ok(mut watches) = Watches::new(alloc, &Formula::new(alloc, 0, 2)) else {
+    let formula = Formula::new(alloc, 0, 2);
+    let Ok(mut watches) = Watches::new(alloc, &formula) else {
         rt.panic("memory")
     };
     let Ok(()) = watches.add_sorted(&[Lit(0), Lit(2)]) else {
