@@ -21,22 +21,17 @@ fn values_of(rt: &impl Abort, alloc: Global, count: u32, given: &[(u32, bool)]) 
     values
 }
 
-/// The variables of two steps of a small task.
-fn layout_of(rt: &impl Abort, task: &Task) -> Layout {
-    assert!(rt; task.facts() <= 8 && task.acts().len() <= 8 && task.conditional() <= 8);
-    let actions = task.acts().len() as u32;
-    Layout::new(2, actions, task.conditional(), 0, task.facts())
-}
-
 /// The code of what is chosen in a task where these variables have values, 99 where nothing is.
 fn chosen(rt: &impl Abort, alloc: Global, task: &Task, given: &[(u32, bool)]) -> u32 {
-    let layout = layout_of(rt, task);
+    assert!(rt; task.facts() <= 8 && task.acts().len() <= 8 && task.conditional() <= 8);
+    let actions = task.acts().len() as u32;
+    let layout = Layout::new(2, actions, task.conditional(), 0, task.facts());
     let count = layout.variables();
     let values = values_of(rt, alloc, count, given);
     assert!(rt; values.variables() == count);
-    let mut chooser = GoalChooser::new(alloc, task, layout)
-        .ok()
-        .expect(rt, "memory");
+    let Ok(mut chooser) = GoalChooser::new(alloc, task, layout) else {
+        rt.panic("memory")
+    };
     match chooser.choose(&values) {
         None => 99,
         Some(lit) => lit.0,

@@ -1,5 +1,5 @@
 // Which clause asks first, as literals become true and are taken back.
-ghost use Rattle.std.specs.Prelude.{◌≡◌, []};
+ghost use Rattle.std.specs.Prelude.{◌≡◌};
 
 use super::holding::{holds, is};
 use clause_base::clause::Clause;
@@ -18,11 +18,8 @@ fn asks(watches: &Watches, number: Option<u32>) -> bool {
     }
 }
 
-/// Two clauses over two variables without values.
-fn two_clauses(rt: &impl Abort, alloc: Global) -> Watches
-    ensures variables { result.variables ≡ 2 }
-    ensures trail { result.trail ≡ [] }
-{
+/// Two clauses over two variables ask, now one and now the other.
+fn ask_in_turn(rt: &impl Abort, alloc: Global) {
     let formula = Formula::new(alloc, 0, 2);
     let Ok(mut watches) = Watches::new(alloc, &formula) else {
         rt.panic("memory")
@@ -33,28 +30,19 @@ fn two_clauses(rt: &impl Abort, alloc: Global) -> Watches
     let Ok(()) = watches.add_sorted(&[Lit(1), Lit(2)]) else {
         rt.panic("memory")
     };
-    watches
-}
-
-/// Two clauses ask, now one and now the other.
-fn ask_in_turn(rt: &impl Abort, watches: &mut Watches)
-    requires variables { watches.old.variables ≡ 2 }
-    requires trail { watches.old.trail ≡ [] }
-{
     watches.assign(Lit(3));
-    holds(rt, asks(watches, Some(0)), "the first clause");
+    holds(rt, asks(&watches, Some(0)), "the first clause");
     watches.assign(Lit(0));
-    holds(rt, asks(watches, Some(1)), "the second clause");
+    holds(rt, asks(&watches, Some(1)), "the second clause");
     watches.undo_to(1);
-    holds(rt, asks(watches, Some(0)), "the first clause again");
+    holds(rt, asks(&watches, Some(0)), "the first clause again");
     watches.undo_to(0);
-    holds(rt, asks(watches, None), "no clause");
+    holds(rt, asks(&watches, None), "no clause");
 }
 
 #[test]
 fn two_clauses_ask_in_turn(rt: HostRuntime) {
-    let mut watches = two_clauses(&rt, rt.alloc());
-    ask_in_turn(&rt, &mut watches);
+    ask_in_turn(&rt, rt.alloc());
 }
 
 /// How many variables the long chain has.
