@@ -1,41 +1,41 @@
-//! Turns in a ring, rounds, and that two runs are at work at once. What finds no memory is not as it should be.
-ghost use Rattle.std.specs.Prelude.{◌≡◌, ◌≤◌, IfOk};
+// Turns in a ring, rounds, and that two runs are at work at once.
+ghost use Rattle.std.specs.Prelude.{◌≡◌};
 ghost use Rattle.crossbeam_queue.specs.Passes.{view};
 ghost use Rattle.solver_pool.specs.Ring.{IsOwnerPass, IsRingPass, IsSlice};
 
+use super::holding::holds;
 use noting_gates::{CountGate, PairGate};
 use solver_pool::{
-    CountRun, Gate, Job, Jobs, Memory, OpenGate, Opened, Pass, Resume, Ring, Served, round,
-    serve_one,
+    CountRun, Gate, Job, Jobs, OpenGate, Opened, Pass, Resume, Ring, Served, round, serve_one,
 };
 use std::alloc::Global;
+use std::process::Abort;
 use std::sync::Wait;
 use std::thread::Threads;
 
 /// A job of a run that counts: its horizon, the units that it needs, and its target.
 type Row = (u32, u64, u16);
 
-fn jobs_of(alloc: Global, rows: &[Row]) -> Result<Jobs<CountRun>, Memory> {
+fn jobs_of(rt: &impl Abort, alloc: Global, rows: &[Row]) -> Jobs<CountRun> {
     let mut jobs = Vec::new(alloc);
-    for row in rows {
-        let run = CountRun::new(row.0, row.1);
-        let target = row.2 as u64;
-        if jobs.push(Job { run, target }).is_err() {
-            return Err(Memory);
-        }
+    for (horizon, need, target) in rows {
+        let run = CountRun::new(*horizon, *need);
+        let target = u64::from(*target);
+        jobs.push(Job { run, target }).ok().expect(rt, "memory");
     }
-    Ok(Jobs::new(jobs))
+    Jobs::new(jobs)
 }
 
 /// A ring of these jobs.
-fn ring_of<H: Wait>(rt: &H, alloc: Global, rows: &[Row]) -> Result<Opened<CountRun>, Memory>
-    ensures { IfOk result (λ r. IsOwnerPass ⟦<CountRun as Resume>⟧ r.ring r.owner) }
+fn ring_of<H: Wait + Abort>(rt: &H, alloc: Global, rows: &[Row]) -> Opened<CountRun>
+    ensures { IsOwnerPass ⟦<CountRun as Resume>⟧ result.ring result.owner }
 {
-    let jobs = jobs_of(alloc, rows)?;
-    if jobs.len() > 16 || !jobs.are_rising() || !jobs.are_sound() {
-        return Err(Memory);
-    }
-    Ring::open(rt, alloc, jobs)
+    let jobs = jobs_of(rt, alloc, rows);
+    assert!(rt; jobs.len() <= 16 && jobs.are_rising() && jobs.are_sound());
+    let Ok(opened) = Ring::open(rt, alloc, jobs) else {
+        rt.panic("memory")
+    };
+    opened
 }
 
 /// What a turn comes to.
@@ -58,24 +58,23 @@ fn is_turn(served: Served<CountRun>, turn: Turn) -> bool {
     }
 }
 
-/// Makes turns with a pass, and answers whether they come to this.
-fn serves<H: Wait>(
+/// Makes turns with a pass, which come to this.
+fn serves<H: Wait + Abort>(
     rt: &H,
     ring: &Ring<CountRun>,
     pass: &mut Pass<CountRun>,
     slice: u32,
     turns: &[Turn],
-) -> bool
+)
     requires pass { IsRingPass ⟦<CountRun as Resume>⟧ ring.now pass.old }
     requires slice { IsSlice slice }
     ensures pass { IsRingPass ⟦<CountRun as Resume>⟧ ring.now pass.new }
     ensures owner { (view pass.new.pass).owner ≡ (view pass.old.pass).owner }
 {
-    let mut same = true;
     for turn in turns {
-        same &= is_turn(serve_one(rt, ring, pass, slice, &OpenGate), *turn);
+        let served = serve_one(rt, ring, pass, slice, &OpenGate);
+        holds(rt, is_turn(served, *turn), "a turn");
     }
-    same
 }
 
 /// Whether a job is there, and of this horizon.
@@ -91,70 +90,54 @@ fn is_none(job: Option<Job<CountRun>>) -> bool {
     job.is_none()
 }
 
-/// Drains a ring, and answers whether jobs of these horizons come out, and no other.
-fn drains<H: Wait>(
+/// Drains a ring: jobs of these horizons come out, and no other.
+fn drains<H: Wait + Abort>(
     rt: &H,
     ring: &Ring<CountRun>,
     owner: &mut Pass<CountRun>,
     horizons: &[u32],
-) -> bool
+)
     requires { IsOwnerPass ⟦<CountRun as Resume>⟧ ring.now owner.old }
     ensures { IsOwnerPass ⟦<CountRun as Resume>⟧ ring.now owner.new }
 {
-    let mut same = true;
     for horizon in horizons {
-        same &= is_of(ring.drain(rt, owner), *horizon);
+        holds(rt, is_of(ring.drain(rt, owner), *horizon), "a job");
     }
-    is_none(ring.drain(rt, owner)) && same
-}
-
-/// Makes turns with a pass that is given out, and drains the ring while it is out.
-fn lends<H: Wait>(
-    rt: &H,
-    ring: &Ring<CountRun>,
-    owner: &mut Pass<CountRun>,
-    slice: u32,
-    turns: &[Turn],
-    horizons: &[u32],
-) -> bool
-    requires owner { IsOwnerPass ⟦<CountRun as Resume>⟧ ring.now owner.old }
-    requires slice { IsSlice slice }
-{
-    let Ok(mut pass) = ring.give(rt, owner) else {
-        return false;
-    };
-    let served = serves(rt, ring, &mut pass, slice, turns);
-    let drained = drains(rt, ring, owner, horizons);
-    ring.take_in(rt, owner, pass);
-    served && drained
+    holds(rt, is_none(ring.drain(rt, owner)), "no job");
 }
 
 /// Jobs, whether the turns are made with a pass that is given out or with the owner's, how many units a turn grants, what
 /// the turns come to, and the horizons that are drained after them.
 type Story = (&'static [Row], bool, u32, &'static [Turn], &'static [u32]);
 
-/// Whether what is told of a ring comes to pass.
-fn is_told<H: Wait>(rt: &H, opened: Opened<CountRun>, story: &Story) -> bool
-    requires { IsOwnerPass ⟦<CountRun as Resume>⟧ opened.ring opened.owner }
+/// What is told of a ring comes to pass.
+fn is_told<H: Wait + Abort>(
+    rt: &H,
+    ring: &Ring<CountRun>,
+    owner: &mut Pass<CountRun>,
+    story: &Story,
+)
+    requires { IsOwnerPass ⟦<CountRun as Resume>⟧ ring.now owner.old }
 {
     let (_, given, slice, turns, horizons) = *story;
-    let Opened { ring, mut owner } = opened;
-    if slice == 0 || slice > 10000 {
-        return false;
-    }
+    assert!(rt; slice >= 1 && slice <= 10000);
     if given {
-        return lends(rt, &ring, &mut owner, slice, turns, horizons);
+        let Ok(mut pass) = ring.give(rt, owner) else {
+            rt.panic("memory")
+        };
+        serves(rt, ring, &mut pass, slice, turns);
+        drains(rt, ring, owner, horizons);
+        ring.take_in(rt, owner, pass);
+    } else {
+        serves(rt, ring, owner, slice, turns);
+        drains(rt, ring, owner, horizons);
     }
-    let served = serves(rt, &ring, &mut owner, slice, turns);
-    drains(rt, &ring, &mut owner, horizons) && served
 }
 
-/// Whether what is told comes to pass of a ring that is opened for it.
-fn comes_to_pass<H: Wait>(rt: &H, alloc: Global, story: &Story) -> bool {
-    match ring_of(rt, alloc, story.0) {
-        Ok(opened) => is_told(rt, opened, story),
-        Err(_) => false,
-    }
+/// What is told comes to pass of a ring that is opened for it.
+fn comes_to_pass<H: Wait + Abort>(rt: &H, alloc: Global, story: &Story) {
+    let Opened { ring, mut owner } = ring_of(rt, alloc, story.0);
+    is_told(rt, &ring, &mut owner, story);
 }
 
 const SIXTEEN: [Row; 16] = [
@@ -198,27 +181,25 @@ const STORIES: [Story; 4] = [
 #[test]
 fn a_ring_serves_and_is_drained(rt: HostRuntime) {
     for story in &STORIES {
-        assert!(rt; comes_to_pass(&rt, rt.alloc(), story));
+        comes_to_pass(&rt, rt.alloc(), story);
     }
 }
 
 /// A round of these jobs.
-fn round_of<G: Gate, H: Threads + Wait + Sync>(
+fn round_of<G: Gate, H: Threads + Wait + Sync + Abort>(
     rt: &H,
     alloc: Global,
     rows: &[Row],
     workers: u32,
     slice: u32,
     gate: &G,
-) -> Result<Jobs<CountRun>, Memory>
-    requires workers { (1 ≤ workers) × (workers ≤ 16) }
-    requires slice { IsSlice slice }
-{
-    let jobs = jobs_of(alloc, rows)?;
-    if jobs.len() > 16 || !jobs.are_rising() || !jobs.are_sound() {
-        return Err(Memory);
-    }
+) -> Jobs<CountRun> {
+    assert!(rt; workers >= 1 && workers <= 16 && slice >= 1 && slice <= 10000);
+    let jobs = jobs_of(rt, alloc, rows);
+    assert!(rt; jobs.len() <= 16 && jobs.are_rising() && jobs.are_sound());
     round(rt, alloc, jobs, workers, slice, gate)
+        .ok()
+        .expect(rt, "memory")
 }
 
 /// A job that a round gives back: its horizon, and the units that its run was granted where it is unsettled.
@@ -247,20 +228,14 @@ fn are_lines(jobs: &[Job<CountRun>], lines: &[Line]) -> bool {
 /// Jobs, how many workers serve them, how many units a turn grants, what comes back, and how many turns begin.
 type Round = (&'static [Row], u32, u32, &'static [Line], u64);
 
-/// Whether a round gives back what is told, and so many turns began, and as many ended.
-fn gives_back<H: Threads + Wait + Sync>(rt: &H, alloc: Global, told: &Round) -> bool {
+/// A round gives back what is told, and so many turns began, and as many ended.
+fn gives_back<H: Threads + Wait + Sync + Abort>(rt: &H, alloc: Global, told: &Round) {
     let (rows, workers, slice, lines, turns) = *told;
-    if workers == 0 || workers > 16 || slice == 0 || slice > 10000 {
-        return false;
-    }
     let gate = CountGate::new();
-    match round_of(rt, alloc, rows, workers, slice, &gate) {
-        Ok(jobs) => {
-            let (entered, left) = gate.counts();
-            are_lines(jobs.as_slice(), lines) && entered == turns && left == turns
-        }
-        Err(_) => false,
-    }
+    let jobs = round_of(rt, alloc, rows, workers, slice, &gate);
+    holds(rt, are_lines(jobs.as_slice(), lines), "what comes back");
+    let (entered, left) = gate.counts();
+    holds(rt, entered == turns && left == turns, "turns");
 }
 
 const THREE: [Row; 3] = [(4, 5, 3), (7, 1, 3), (9, 100, 0)];
@@ -278,24 +253,20 @@ const ROUNDS: [Round; 5] = [
 #[test]
 fn jobs_come_back_in_order_at_their_targets(rt: HostRuntime) {
     for told in &ROUNDS {
-        assert!(rt; gives_back(&rt, rt.alloc(), told));
+        gives_back(&rt, rt.alloc(), told);
     }
 }
 
 /// Jobs, two horizons, how many workers serve the jobs, and whether the two are at work at once.
 type Pair = (&'static [Row], u32, u32, u32, bool);
 
-/// Whether two horizons are at work at once in a round of these jobs, as is told.
-fn meet<H: Threads + Wait + Sync>(rt: &H, alloc: Global, told: &Pair) -> bool {
+/// Two horizons are at work at once in a round of these jobs, or not, as is told.
+fn meet<H: Threads + Wait + Sync + Abort>(rt: &H, alloc: Global, told: &Pair) {
     let (rows, one, two, workers, met) = *told;
-    if workers == 0 || workers > 16 {
-        return false;
-    }
     let gate = PairGate::new(one, two);
-    match round_of(rt, alloc, rows, workers, 1, &gate) {
-        Ok(back) => back.len() == rows.len() && gate.met() == met,
-        Err(_) => false,
-    }
+    let jobs = round_of(rt, alloc, rows, workers, 1, &gate);
+    holds(rt, jobs.len() == rows.len(), "as many jobs");
+    holds(rt, gate.met() == met, "at work at once");
 }
 
 const ALL_THREE: [Row; 3] = [(0, 1, 1), (1, 1, 1), (2, 1, 1)];
@@ -314,6 +285,6 @@ const PAIRS: [Pair; 6] = [
 #[test]
 fn two_runs_are_at_work_at_once(rt: HostRuntime) {
     for told in &PAIRS {
-        assert!(rt; meet(&rt, rt.alloc(), told));
+        meet(&rt, rt.alloc(), told);
     }
 }

@@ -2,7 +2,7 @@ use Rattle.std.proofs.Common.{◌≡◌, ◌∙◌, ap, ℕ, ◌*◌, ◌<◌, �
 use Rattle.clause_base.specs.Clause.{has_literal}
 use Rattle.watch_lists.specs.Pending.{WatchesView}
 use Rattle.layer_tests.proofs.Free.{still_free}
-use Rattle.layer_tests.proofs.watches.chain_asks.Goals as goal
+use Rattle.layer_tests.proofs.tests.watches.chain_asks.Goals as goal
 
 pub loop-j-preserved : goal.loop-j-preserved
 loop-j-preserved g c = record {

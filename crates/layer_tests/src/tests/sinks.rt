@@ -1,11 +1,11 @@
-//! Sinks in memory, over the standard output, and over an output that is interrupted and takes few bytes.
-ghost use Rattle.std.specs.Prelude.{◌<◌};
-
-use crate::faulty_files::unasked;
-use pl_io::{MemSink, Memory, Numbers, OutSink, PutFailed, Sink, put_all};
+// Sinks in memory, over the standard output, and over an output that is interrupted and takes few bytes.
+use super::faulty_files::unasked;
+use super::holding::{holds, is_same};
+use pl_io::{MemSink, Numbers, OutSink, PutFailed, Sink, put_all};
 use std::alloc::Global;
 use std::fmt::Display;
 use std::io::{self, ErrorKind, Print};
+use std::process::Abort;
 use std::sync::atomic::{AtomicU64, Ordering};
 
 /// How many bytes a sink takes at most a call, which of its calls fails, how much room it has, and what it takes of the text.
@@ -21,38 +21,29 @@ const FRONTS: [Row; 5] = [
     (10, 9, 28, "; horizon 0 plan conflicts 0"),
 ];
 
-/// A sink in memory, one of whose calls fails.
-fn sink_of(alloc: Global, most: u32, failing: u32, room: u32) -> Result<MemSink, Memory>
-    requires { 0 < most }
-{
-    let failing = Numbers::copied_from(alloc, &[failing])?;
-    MemSink::new(alloc, most, failing, room)
-}
-
 /// Whether a sink took this, and had a fault where that is not the whole text.
 fn took(sink: &MemSink, is_whole: bool, front: &str) -> bool {
     is_whole == (front.len() == TEXT.len())
-        && sink.taken() == front.as_bytes()
+        && is_same(sink.taken(), front.as_bytes())
         && sink.faults() == u64::from(!is_whole)
 }
 
-/// Whether a sink in memory takes what a row says; it does not without memory.
-fn takes_front(alloc: Global, row: &Row) -> bool {
+/// A sink in memory, one of whose calls fails, takes what a row says.
+fn takes_front(rt: &impl Abort, alloc: Global, row: &Row) {
     let (most, failing, room, front) = *row;
-    if most == 0 {
-        return false;
-    }
-    let Ok(mut sink) = sink_of(alloc, most, failing, room) else {
-        return false;
-    };
+    assert!(rt; most > 0);
+    let failing = Numbers::copied_from(alloc, &[failing]).expect(rt, "memory");
+    let mut sink = MemSink::new(alloc, most, failing, room)
+        .ok()
+        .expect(rt, "memory");
     let is_whole = put_all(&mut sink, TEXT.as_bytes()).is_ok();
-    took(&sink, is_whole, front)
+    holds(rt, took(&sink, is_whole, front), front);
 }
 
 #[test]
 fn takes_a_front_of_the_text(rt: HostRuntime) {
     for row in &FRONTS {
-        assert!(rt; takes_front(rt.alloc(), row), "at {} {}", row.0, row.2);
+        takes_front(&rt, rt.alloc(), row);
     }
 }
 
@@ -90,13 +81,13 @@ fn writes_again_after_an_interruption(rt: HostRuntime) {
         writes: AtomicU64::new(0),
     };
     let mut sink = OutSink::new(&out);
-    assert!(rt; matches!(sink.put(b"ab"), Ok(1)));
-    assert!(rt; matches!(sink.put(b"b"), Err(PutFailed)));
+    holds(&rt, matches!(sink.put(b"ab"), Ok(1)), "a byte");
+    holds(&rt, matches!(sink.put(b"b"), Err(PutFailed)), "no byte");
 }
 
 #[test]
 fn puts_to_the_standard_output(rt: HostRuntime) {
     let mut sink = OutSink::new(&rt);
-    assert!(rt; put_all(&mut sink, b"; written\n").is_ok());
-    assert!(rt; sink.faults() == 0);
+    holds(&rt, put_all(&mut sink, b"; written\n").is_ok(), "a line");
+    holds(&rt, sink.faults() == 0, "no fault");
 }

@@ -1,10 +1,12 @@
-//! The gate is told before and after each turn, and of its horizon.
+// The gate is told before and after each turn, and of its horizon.
 ghost use Rattle.std.specs.Prelude.{◌≡◌, false, nat_lt};
 ghost use Rattle.solver_pool.specs.CountRun.{count_moved, count_state, count_state-unsettled};
 
+use super::holding::holds;
 use noting_gates::Notes;
 use solver_pool::{CountRun, Job, Jobs, Memory, Resume, round};
 use std::alloc::Global;
+use std::process::Abort;
 use std::sync::Wait;
 use std::thread::Threads;
 
@@ -55,29 +57,34 @@ impl Resume for ToldRun<'_> {
     ghost by_state = { λ r. count_state-unsettled r.run };
 }
 
-/// A round of one worker in turns of one unit, of two runs: that of horizon 4 needs two units, that of horizon 7 one.
-fn round_told<H: Threads + Wait + Sync>(rt: &H, alloc: Global, told: &Notes) -> Result<(), Memory> {
+/// Two runs that tell of their turns: that of horizon 4 needs two units, that of horizon 7 one.
+fn jobs_told<'a>(rt: &impl Abort, alloc: Global, told: &'a Notes) -> Jobs<ToldRun<'a>> {
     let mut jobs = Vec::new(alloc);
-    for (horizon, target) in [(4, 2), (7, 1)] {
-        let run = ToldRun {
-            run: CountRun::new(horizon, target),
-            told,
+    for (horizon, target) in &[(4, 2), (7, 1)] {
+        let run = CountRun::new(*horizon, *target);
+        let job = Job {
+            run: ToldRun { run, told },
+            target: *target,
         };
-        if jobs.push(Job { run, target }).is_err() {
-            return Err(Memory);
-        }
+        jobs.push(job).ok().expect(rt, "memory");
     }
-    let jobs = Jobs::new(jobs);
-    if jobs.len() > 16 || !jobs.are_rising() || !jobs.are_sound() {
-        return Err(Memory);
-    }
-    round(rt, alloc, jobs, 1, 1, told)?;
-    Ok(())
+    Jobs::new(jobs)
+}
+
+/// A round of one worker in turns of one unit, of the two runs.
+fn round_told<H: Threads + Wait + Sync + Abort>(rt: &H, alloc: Global, told: &Notes) {
+    let jobs = jobs_told(rt, alloc, told);
+    assert!(rt; jobs.len() <= 16 && jobs.are_rising() && jobs.are_sound());
+    round(rt, alloc, jobs, 1, 1, told).ok().expect(rt, "memory");
 }
 
 #[test]
 fn a_run_enters_before_its_turn_and_leaves_after(rt: HostRuntime) {
     let told = Notes::new();
-    assert!(rt; round_told(&rt, rt.alloc(), &told).is_ok());
-    assert!(rt; told.are(&[12, 13, 14, 21, 22, 23, 12, 13, 14]));
+    round_told(&rt, rt.alloc(), &told);
+    holds(
+        &rt,
+        told.are(&[12, 13, 14, 21, 22, 23, 12, 13, 14]),
+        "the steps of two runs",
+    );
 }

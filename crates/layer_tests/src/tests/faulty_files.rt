@@ -1,4 +1,4 @@
-//! Files that can be opened and read, and each of which is interrupted and fails. Nothing else can be done with them.
+// Files that can be opened and read, and each of which is interrupted and fails. Nothing else can be done with them.
 use std::alloc::Allocator;
 use std::fs::{Files, Metadata, OpenFile, OpenOptions};
 use std::io::{self, ErrorKind, Read, Seek, SeekFrom, Write};
@@ -31,6 +31,10 @@ impl Read for Faulty {
         buf[1] = b'b';
         Ok(2)
     }
+
+    fn read_exact(&mut self, _buf: &mut [u8]) -> io::Result<()> {
+        unasked()
+    }
 }
 
 impl Write for Faulty {
@@ -39,6 +43,10 @@ impl Write for Faulty {
     }
 
     fn flush(&mut self) -> io::Result<()> {
+        unasked()
+    }
+
+    fn write_all(&mut self, _buf: &[u8]) -> io::Result<()> {
         unasked()
     }
 }

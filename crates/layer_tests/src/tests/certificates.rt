@@ -1,7 +1,7 @@
-//! Certificates, and texts that are none.
+// Certificates, and texts that are none.
 ghost use Rattle.std.specs.Prelude.{◌≤◌};
 
-use crate::shelves::is_same;
+use super::holding::{holds, is, is_same};
 use proof_text::laws::laws;
 use proof_text::{Proof, ProofFault, proof_length, read_proof, write_proof, written};
 use std::alloc::Global;
@@ -60,10 +60,10 @@ fn is_so(alloc: Global, row: &Row) -> bool {
     if text.len() > 16_777_216 {
         return false;
     }
-    match (read_proof(alloc, text.as_bytes()), place) {
-        (Ok(proof), None) => is_written(alloc, &proof, text),
-        (Err(ProofFault::Syntax { at }), Some(place)) => place == at,
-        _ => false,
+    match read_proof(alloc, text.as_bytes()) {
+        Ok(proof) => place.is_none() && is_written(alloc, &proof, text),
+        Err(ProofFault::Syntax { at }) => is(place, at),
+        Err(_) => false,
     }
 }
 
@@ -71,6 +71,6 @@ fn is_so(alloc: Global, row: &Row) -> bool {
 fn each_text_is_read_or_refused_at_its_place(rt: HostRuntime) {
     laws();
     for row in &ROWS {
-        assert!(rt; is_so(rt.alloc(), row), "{}", row.0);
+        holds(&rt, is_so(rt.alloc(), row), row.0);
     }
 }
