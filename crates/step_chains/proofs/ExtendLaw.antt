@@ -20,10 +20,11 @@ use Rattle.step_clauses.specs.Clause.{Literal}
 use Rattle.step_clauses.specs.Chain.{chain_length, enter_clauses, pass_clauses}
 use Rattle.step_clauses.specs.Formula.{chain_clauses}
 use Rattle.step_clauses.specs.Variables.{chains_from, chain_places, chain_variables_in}
-use Rattle.step_chains.specs.declared.link.Link.{Link}
-use Rattle.step_chains.specs.Links.{link_of, links_of, touches, link_count, pass_links}
+use Rattle.link_index.specs.declared.link.Link.{Link}
+use Rattle.link_index.specs.Links.{link_of, links_of, touches}
+use Rattle.step_chains.specs.Links.{link_count, pass_links}
 use Rattle.step_chains.specs.Chains.{LinkedChain, LinkedChains, linked_clauses, all_clauses, Extends, AreWithin, IsChainWithin, HasRoom, links_in, members_in, no_chains}
-use Rattle.step_chains.specs.Index.{IsIndexOf}
+use Rattle.link_index.specs.Index.{IsIndexOf}
 use Rattle.step_chains.specs.BothWays.{ways, ways_in}
 use Rattle.step_chains.proofs.LinkLaw.{count_is, enter_is, pass_is, enter_none, pass_none}
 

@@ -8,7 +8,7 @@ use Rattle.step_clauses.specs.Clause.{Literal, Is, Not, code}
 use Rattle.step_clauses.specs.Coded.{coded, literals_in}
 use Rattle.step_clauses.proofs.SizeLaw.{size_append}
 use Rattle.step_clauses.proofs.ClauseSize.{two_size}
-use Rattle.step_chains.specs.declared.link.Link.{Link}
+use Rattle.link_index.specs.declared.link.Link.{Link}
 use Rattle.step_chains.specs.Links.{is_read, link_size, enter_links, pass_links}
 use Rattle.step_chains.specs.Chains.{LinkedChain, LinkedChains, linked_clauses, all_clauses, links_in, IsChainWithin, AreWithin}
 

@@ -6,7 +6,7 @@ use Rattle.std.proofs.lemmas.Bool.Decides.{nat_tests}
 use Rattle.step_clauses.specs.Clause.{Literal, Is, Not}
 use Rattle.step_clauses.specs.Coded.{coded}
 use Rattle.step_clauses.proofs.CodedLaw.{coded-append}
-use Rattle.step_chains.specs.declared.link.Link.{Link}
+use Rattle.link_index.specs.declared.link.Link.{Link}
 use Rattle.step_chains.specs.declared.walk.Walk.{Walk}
 use Rattle.step_chains.specs.Links.{link_count, enter_links, pass_links, is_read, link_size}
 use Rattle.step_chains.specs.Walk.{StandsBefore, IsAfter}

@@ -1,5 +1,4 @@
 pub mod Links
 pub mod Walk
-pub mod Index
 pub mod Chains
 pub mod BothWays

@@ -1,24 +1,11 @@
 -- Chains over the members that touch a literal. Members that neither take nor read it change nothing of a chain, so
 -- they are left out.
-use Rattle.std.specs.Prelude.{ℕ, ◌+◌, List, [], ◌∷◌, Bool, ◌&&◌, ◌||◌, if◌then◌else◌, map}
-use Rattle.std.specs.List.{list_any, filter}
-use Rattle.gt_core.specs.Interference.{takes, reads}
-use Rattle.gt_core.specs.Task.{Task}
+use Rattle.std.specs.Prelude.{ℕ, ◌+◌, List, [], ◌∷◌, Bool, ◌&&◌, ◌||◌, if◌then◌else◌}
+use Rattle.std.specs.List.{list_any}
 use Rattle.gt_core.specs.Layout.{Layout, action_at, chain_at}
 use Rattle.step_clauses.specs.Clause.{Literal, Is, Not}
 use Rattle.step_clauses.specs.Chain.{chain_length, enter_clauses, pass_clauses}
-use Rattle.step_chains.specs.declared.link.Link.{Link}
-
--- an action beside a fact literal
-abbrev pub link_of : Task → ℕ → ℕ → Link
-link_of task m a = record { action = a; takes = takes task m a; reads = reads task m a }
-
-abbrev pub touches : Link → Bool
-touches k = k.takes || k.reads
-
--- the members that touch a literal
-abbrev pub links_of : Task → ℕ → List ℕ → List Link
-links_of task m members = filter touches (map (link_of task m) members)
+use Rattle.link_index.specs.declared.link.Link.{Link}
 
 -- the definitions of a chain, with links as its members
 

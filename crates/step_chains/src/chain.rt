@@ -2,14 +2,19 @@
 ghost use Rattle.std.specs.Prelude.{◌≡◌, ◌+◌, ◌*◌, ◌≤◌, ◌&&◌, ◌||◌, Bool, true, false, length, count_by, if◌then◌else◌};
 ghost use Rattle.step_chains.specs.Links.{link_count, link_size, is_read};
 
-use crate::link::Link;
+use link_index::link::Link;
 use std::marker::Model;
 
 /// A chain: the number of its first variable, counted from 0, and its members.
-#[derive(Drop)]
 pub(crate) struct Chain {
     pub(crate) first: u32,
     pub(crate) links: Vec<Link>,
+}
+
+impl Drop for Chain {
+    fn drop(self) {
+        let Chain { first: _, links: _ } = self;
+    }
 }
 
 impl Model for Chain {

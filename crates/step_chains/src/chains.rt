@@ -8,26 +8,35 @@ ghost use Rattle.gt_core.specs.Layout.{Layout as LayoutValue, action_at, chain_a
 ghost use Rattle.step_clauses.specs.Variables.{chain_places, chains};
 ghost use Rattle.step_clauses.specs.Formula.{chain_clauses};
 ghost use Rattle.step_clauses.specs.Coded.{coded, literals_in};
-ghost use Rattle.step_chains.specs.Links.{links_of};
+ghost use Rattle.link_index.specs.Links.{links_of};
 ghost use Rattle.step_chains.specs.BothWays.{ways, ways_in, all_places};
 ghost use Rattle.step_chains.specs.Chains.{AreChains, AreWithin, Extends, HasRoom, links_in, all_clauses};
 
 use crate::chain::{Chain, chain_size, count};
-use crate::index::{LinkIndex, literals};
-use crate::link::Link;
 use action_order::order::Order;
 use clause_base::memory::Memory;
 use gt_core::task::Task;
+use link_index::index::{LinkIndex, literals};
+use link_index::link::Link;
 use std::alloc::Global;
 use std::marker::Model;
 
 /// The chains of a task that have a variable, in the order in which they were added, with as many links as
 /// 1,073,741,824 at most.
-#[derive(Drop)]
 pub struct Chains {
     actions: u32,
     chains: Vec<Chain>,
     variables: u32,
+}
+
+impl Drop for Chains {
+    fn drop(self) {
+        let Chains {
+            actions: _,
+            chains: _,
+            variables: _,
+        } = self;
+    }
 }
 
 impl Model for Chains {

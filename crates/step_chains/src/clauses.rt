@@ -14,12 +14,12 @@ ghost use Rattle.step_clauses.specs.Variables.{chains};
 
 use crate::chain::Chain;
 use crate::chains::Chains;
-use crate::link::Link;
 use crate::walk::Walk;
 use clause_base::clause_list::ClauseList;
 use clause_base::literal::Lit;
 use clause_base::memory::Memory;
 use gt_core::layout::Layout;
+use link_index::link::Link;
 
 /// Appends the clause of two literals, unless they are opposite.
 fn add_pair(clauses: &mut ClauseList, one: Lit, other: Lit) -> Result<(), Memory>

@@ -10,8 +10,7 @@
 mod chain;
 pub mod chains;
 mod clauses;
-pub mod index;
-pub mod link;
 mod walk;
 
 pub use chains::Chains;
+pub use link_index::link::Link;
