@@ -43,29 +43,34 @@ none_entered test keys rows long none = record { long = long; tells = λ k b lt.
     before : (b : ℕ) (t : Bool) → false ≡ (nat_lt b 0 && t)
     before b t = let e : nat_lt b 0 ≡ false = grind (arith, nat_tests) in rw e refl
 
--- one more number
-pub entered_more : (test : ℕ → ℕ → Bool) (keys b : ℕ) (before after : List (List ℕ)) → AreRowsOf test keys b before → IsEntered (test b) b before after → AreRowsOf test keys (b + 1) after
-entered_more test keys b before after r e = record {
-  long = e.long ∙ r.long;
-  tells = λ k x lt. e.tells k x (let l = r.long in omega arith) ∙ ap (λ (t : Bool). (test b k && (b == x)) || t) (r.tells k x lt) ∙ by k x (b == x) refl;
-}
+-- nothing of a test counts
+none_of : (t u : Bool) → ((t && false) || u) ≡ u
+none_of true u = refl
+none_of false u = refl
+
+-- what holds of the numbers below one more
+pub upto_more : (test : ℕ → Bool) (b x : ℕ) → ((test b && (b == x)) || (nat_lt x b && test x)) ≡ (nat_lt x (b + 1) && test x)
+upto_more test b x = by (b == x) refl
   where
     always : (t u : Bool) → ((t && true) || (false && u)) ≡ (true && t)
     always true u = refl
     always false u = refl
 
-    never : (t u : Bool) → ((t && false) || u) ≡ u
-    never true u = refl
-    never false u = refl
-
-    by : (k x : ℕ) (t : Bool) → (b == x) ≡ t → ((test b k && t) || (nat_lt x b && test x k)) ≡ (nat_lt x (b + 1) && test x k)
-    by k x true s =
+    by : (t : Bool) → (b == x) ≡ t → ((test b && t) || (nat_lt x b && test x)) ≡ (nat_lt x (b + 1) && test x)
+    by true s =
         let no : nat_lt b b ≡ false = grind (arith, nat_tests) in
         let yes : nat_lt b (b + 1) ≡ true = grind (arith, nat_tests) in
-        subst (λ (n : ℕ). ((test b k && true) || (nat_lt n b && test n k)) ≡ (nat_lt n (b + 1) && test n k)) (test_same b x s) (rw (no, yes) (always (test b k) (test b k)))
-    by k x false s =
+        subst (λ (n : ℕ). ((test b && true) || (nat_lt n b && test n)) ≡ (nat_lt n (b + 1) && test n)) (test_same b x s) (rw (no, yes) (always (test b) (test b)))
+    by false s =
         let same : nat_lt x b ≡ nat_lt x (b + 1) = grind (arith, nat_tests) in
-        never (test b k) _ ∙ ap (λ (t : Bool). t && test x k) same
+        none_of (test b) _ ∙ ap (λ (t : Bool). t && test x) same
+
+-- one more number
+pub entered_more : (test : ℕ → ℕ → Bool) (keys b : ℕ) (before after : List (List ℕ)) → AreRowsOf test keys b before → IsEntered (test b) b before after → AreRowsOf test keys (b + 1) after
+entered_more test keys b before after r e = record {
+  long = e.long ∙ r.long;
+  tells = λ k x lt. e.tells k x (let l = r.long in omega arith) ∙ ap (λ (t : Bool). (test b k && (b == x)) || t) (r.tells k x lt) ∙ upto_more (λ n. test n k) b x;
+}
 
 pub opposite_below : (l f : ℕ) → l < 2 * f → opposite l < 2 * f
 opposite_below l f lt = by (l % 2 == 0) refl

@@ -133,6 +133,15 @@ one_blocked p i s t calls call lt at ran =
 pub ended : (p : Parts) (i : ℕ) (s : List Atom) (b : Bool) → all_hold s [] p.goal ≡ b → cond b Reaches Short ≡ verdict_from p i s []
 ended p i s b is = λ j. cond (sym is j) Reaches Short
 
+-- what a call comes to that can run, and one that cannot
+pub call_runs : (p : Parts) (s t : List Atom) (call : Call) (schema : Schema) → is_call p call ≡ true → slice_get p.schemas call.schema ≡ Some schema → all_hold s call.objects schema.pre ≡ true
+    → SameState t (next p s call.objects schema.effects) → Follows (exec p s call) true t
+call_runs p s t call schema is found met same = rw (is, found, met) (refl, same)
+
+pub call_stops : (p : Parts) (s t : List Atom) (call : Call) (schema : Schema) → is_call p call ≡ true → slice_get p.schemas call.schema ≡ Some schema → all_hold s call.objects schema.pre ≡ false
+    → Follows (exec p s call) false t
+call_stops p s t call schema is found met = rw (is, found, met) refl
+
 -- ---- plans
 
 abbrev all_after : Parts → Option (List Atom) → List Call → Option (List Atom)

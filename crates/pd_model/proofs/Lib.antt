@@ -8,3 +8,4 @@ pub mod Tasks
 pub mod TypeWalk
 pub mod Rooted
 pub mod LineLaw
+pub mod Reading

@@ -31,6 +31,10 @@ fewer xs i x lt none some =
     let new : weight x ≡ 0 = rw differ refl in
     omega (arith, sum_by-set weight xs i x 0 lt, old, new)
 
+-- a type that is left does not wait any more
+pub left_fewer : (parents entries exits last before : List ℕ) (next at : ℕ) → IsWalk parents entries exits last before next at → to_do (set exits at next) + 1 ≡ to_do exits
+left_fewer parents entries exits last before next at w = fewer exits at next (omega (arith, w.at_type, w.exits_long)) (w.at_open) (omega (arith, w.entered at))
+
 -- ---- parents lead from one type to another
 
 above_zero : (parents : List ℕ) → slice_index parents 0 ≡ 0 → (kind above : ℕ) → Above parents kind above → kind ≡ 0 → above ≡ 0

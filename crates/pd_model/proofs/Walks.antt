@@ -3,7 +3,7 @@ use Rattle.std.proofs.Common.{◌≡◌, ℕ, zero, suc, ◌+◌, ◌-◌, ◌<�
 use Rattle.std.specs.Prelude.{slice_get}
 use Rattle.std.specs.List.{flat_map, filter}
 use Rattle.std.proofs.lemmas.Bool.{and_parts}
-use Rattle.std.proofs.lemmas.List.{append-nil, take_more, nil_from_length, take_at, length-append, map_more}
+use Rattle.std.proofs.lemmas.List.{append-nil, take_more, nil_from_length, take_at, length-append, map_more, at_drop_more}
 use Rattle.std.proofs.lemmas.List.Concat.{flat_map-append, flat_map-cons}
 use Rattle.std.proofs.lemmas.List.Elements.{filter-append}
 use Rattle.pd_model.specs.Fits.{tuples, is_of, fits, all_fit}
@@ -62,6 +62,11 @@ pub none_left : (p : Parts) (kinds : List ℕ) (i : ℕ) (rest : List ℕ) → i
 none_left p [] i rest lt none = absurd (omega (arith, lt))
 none_left p (kind ∷ kinds) zero rest lt none = rw (nil_from_length rest none) refl
 none_left p (kind ∷ kinds) (suc i) rest lt none = none_left p kinds i rest (omega (arith, lt)) none
+
+-- an object that fits goes with its type
+pub one_fits : (p : Parts) (kinds : List ℕ) (i kind object : ℕ) (rest others : List ℕ) → i < length kinds → rest ≡ object ∷ others → fits p (get_or kinds i kind) object ≡ true
+    → all_fit p (drop (i + 1) kinds) others ≡ all_fit p (drop i kinds) rest
+one_fits p kinds i kind object rest others lt is fit = sym (at_drop_more (λ (ks : List ℕ). all_fit p ks rest) kinds i kind lt ∙ rw (is, fit) refl)
 
 -- ---- objects that fit
 

@@ -1,6 +1,8 @@
-use Rattle.std.proofs.Common.{◌+◌, take, List, ℕ, subst, arith}
+use Rattle.std.proofs.Common.{◌+◌, ◌/◌, ◌<◌, take, length, List, ℕ, subst, sym, ap, arith, ◌∙◌}
 use Rattle.gt_core.specs.Task.{Effect}
+use Rattle.gt_core.specs.Active.{EffectWithin}
 use Rattle.gt_core.specs.Interference.{action_asks}
+use Rattle.gt_core.proofs.Lists.{each_number}
 use Rattle.action_order.specs.Readers.{IsEntered, has_fact, of_effects}
 use Rattle.action_order.proofs.GrowLaw.{any_more}
 use Rattle.action_order.proofs.ReadersLaw.{entered_then}
@@ -18,3 +20,9 @@ loop-effect-preserved c =
 
 pub returns : goal.returns
 returns c = subst (λ (es : List Effect). IsEntered (action_asks (of_effects es)) c.args.b c.args.rows.now.items c.loop-effect.rows.items) (take_all c.loop-effect.effect-index c.args.effects.now (omega (arith, c.loop-effect-test.false))) c.loop-effect.invariant
+
+pub enter_condition-requires : goal.enter_condition-requires
+enter_condition-requires c =
+    let rows = c.args.rows.now.items in
+    let e = subst (EffectWithin (length rows)) (sym c.effect-item.is) (each_number (EffectWithin (length rows)) c.args.effects.now c.loop-effect.effect-index c.effect-item.result c.requires c.loop-effect-test.true) in
+    rw (c.cond.ensures, c.loop-effect.invariant.long) e.condition

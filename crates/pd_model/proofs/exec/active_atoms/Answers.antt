@@ -1,3 +1,4 @@
+use Rattle.std.proofs.lemmas.List.{take_all}
 use Rattle.pd_model.specs.declared.effects.Effect.{Effect}
 use Rattle.std.proofs.Common.{◌∙◌}
 use Rattle.pd_model.specs.Exec.{active}
@@ -11,3 +12,6 @@ loop-effect-preserved c =
       c.in_ok-add_signed.ensures.kept ∙ c.loop-effect.invariant.0,
       active_more (active c.args.p.now c.args.state.now c.args.objects.now) (λ (e : Effect). agrees c.args.sign e.adds) c.args.effects.now c.loop-effect.effect-index c.effect-item.result c.loop-effect.atoms.items c.add_signed.new.into.items c.loop-effect-test.true c.effect-item.is c.loop-effect.invariant.1 added,
     )
+
+pub returns : goal.returns
+returns c = rw (take_all c.loop-effect.effect-index c.args.effects.now c.loop-effect-test.false) at c.loop-effect.invariant.1

@@ -1,6 +1,7 @@
-use Rattle.std.proofs.Common.{◌∙◌, sym, true, false}
+use Rattle.std.proofs.Common.{◌≡◌, ◌∙◌, sym, true, false}
 use Rattle.std.proofs.lemmas.List.{drop_all}
-use Rattle.pd_model.specs.declared.calls.Verdict.TheVariants.{Reaches, Short}
+use Rattle.pd_model.specs.Plan.{verdict}
+use Rattle.pd_model.specs.declared.calls.Verdict.TheVariants.{Reaches, Blocked, Short}
 use Rattle.pd_model.proofs.Alike.{begun, one_run, one_blocked, ended, plan_where}
 use Rattle.pd_model.proofs.pddl.Pddl.run_plan.Goals as goal
 
@@ -13,20 +14,23 @@ loop-i-preserved c =
     let ran = rw c.if-not-branch.false at c.in_ok-run_call.ensures in
     one_run c.args.self.now c.loop-i.i c.loop-i.state c.run_call.new.state c.args.calls.now c.index-calls-i.result c.loop-i-test.true c.index-calls-i.is ran ∙ c.loop-i.invariant
 
-pub returns-then-not-branch-clause-plan : goal.returns-then-not-branch-clause-plan
-returns-then-not-branch-clause-plan c =
+pub returns-then-not-branch : goal.returns-then-not-branch
+returns-then-not-branch c =
     let stopped = rw c.if-not-branch.true at c.in_ok-run_call.ensures in
-    plan_where c.args.self.now c.args.calls.now _
-    (one_blocked c.args.self.now c.loop-i.i c.loop-i.state c.run_call.new.state c.args.calls.now c.index-calls-i.result c.loop-i-test.true c.index-calls-i.is stopped ∙ c.loop-i.invariant)
+    let is : Blocked c.loop-i.i ≡ verdict c.args.self.now c.args.calls.now =
+    one_blocked c.args.self.now c.loop-i.i c.loop-i.state c.run_call.new.state c.args.calls.now c.index-calls-i.result c.loop-i-test.true c.index-calls-i.is stopped ∙ c.loop-i.invariant in
+    record { verdict = is; plan = plan_where c.args.self.now c.args.calls.now (Blocked c.loop-i.i) is }
 
-pub returns-then-branch-clause-plan : goal.returns-then-branch-clause-plan
-returns-then-branch-clause-plan c =
+pub returns-then-branch : goal.returns-then-branch
+returns-then-branch c =
     let end = rw (drop_all c.loop-i.i c.args.calls.now c.loop-i-test.false) at c.loop-i.invariant in
     let met = rw (c.as_slice-2.ensures, c.goal.ensures.goal, c.if-branch.true) at (sym c.in_ok-are_true.ensures) in
-    plan_where c.args.self.now c.args.calls.now Reaches (ended c.args.self.now c.loop-i.i c.loop-i.state true met ∙ end)
+    let is : Reaches ≡ verdict c.args.self.now c.args.calls.now = ended c.args.self.now c.loop-i.i c.loop-i.state true met ∙ end in
+    record { verdict = is; plan = plan_where c.args.self.now c.args.calls.now Reaches is }
 
-pub returns-clause-plan : goal.returns-clause-plan
-returns-clause-plan c =
+pub returns : goal.returns
+returns c =
     let end = rw (drop_all c.loop-i.i c.args.calls.now c.loop-i-test.false) at c.loop-i.invariant in
     let met = rw (c.as_slice-2.ensures, c.goal.ensures.goal, c.if-branch.false) at (sym c.in_ok-are_true.ensures) in
-    plan_where c.args.self.now c.args.calls.now Short (ended c.args.self.now c.loop-i.i c.loop-i.state false met ∙ end)
+    let is : Short ≡ verdict c.args.self.now c.args.calls.now = ended c.args.self.now c.loop-i.i c.loop-i.state false met ∙ end in
+    record { verdict = is; plan = plan_where c.args.self.now c.args.calls.now Short is }

@@ -1,7 +1,7 @@
 use Rattle.std.proofs.Common.{◌≡◌, slice_index, sym, arith, true≢false}
 use Rattle.std.proofs.lemmas.Bool.{false≢true}
 use Rattle.std.proofs.lemmas.List.{get_or_read}
-use Rattle.pd_model.proofs.TypeWalk.{entered_child, entered_fewer, left_for_parent, tree_is, child_in}
+use Rattle.pd_model.proofs.TypeWalk.{entered_child, entered_fewer, left_fewer, left_for_parent, tree_is, child_in}
 use Rattle.pd_model.proofs.walk.Walk.step.Goals as goal
 
 pub returns-then-child-gt0-clause-goes_on : goal.returns-then-child-gt0-clause-goes_on
@@ -45,3 +45,9 @@ index_mut-requires-then-child-gt0 c =
     let w = c.requires in
     let child = sym (get_or_read c.args.self.now.last.items c.args.self.now.at c.index-child.result.now (omega (arith, w.at_type, w.last_long)) c.index-child.ensures 0) in
     omega (arith, child_in _ _ _ _ _ _ _ _ w child (c.if-child-gt0.true), w.entries_long, c.args.self.now.entries.ok.0)
+
+pub returns-then-at-eq0-clause-fewer : goal.returns-then-at-eq0-clause-fewer
+returns-then-at-eq0-clause-fewer c = omega (arith, left_fewer _ _ _ _ _ _ _ (c.requires))
+
+pub returns-clause-fewer : goal.returns-clause-fewer
+returns-clause-fewer c = omega (arith, left_fewer _ _ _ _ _ _ _ (c.requires))
