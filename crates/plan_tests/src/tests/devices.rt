@@ -1,7 +1,6 @@
 // Calls of the shelf.
-use super::runs::{Named, ample_sink, ends_well, holds, shelf_of};
+use super::runs::{Named, Watch, ample_sink, ends_well, holds, shelf_of};
 use super::tasks::{DARK, LAMP};
-use solver_pool::OpenGate;
 use std::alloc::Global;
 use std::process::Abort;
 use std::sync::Wait;
@@ -13,7 +12,7 @@ const FILES: [Named<'static>; 3] = [("d", LAMP), ("p", DARK), ("l", b"(flip)")];
 fn stops_before<H: Threads + Wait + Sync + Abort>(rt: &H, alloc: Global, words: &str, call: u32) {
     let mut shelf = shelf_of(rt, alloc, &FILES, &[call]);
     let mut sink = ample_sink(rt, alloc);
-    let well = ends_well(rt, alloc, words, &mut shelf, &mut sink, &OpenGate);
+    let well = ends_well(rt, alloc, words, &mut shelf, &mut sink, &Watch::new());
     holds(rt, well && shelf.failed().is_empty(), words);
 }
 
