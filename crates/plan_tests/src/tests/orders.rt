@@ -82,7 +82,7 @@ fn is_placed(rt: &impl Abort, order: &Order, place: u32, wanted: (u32, u32))
 /// many components, and at each place this component and this action.
 type Row = (
     &'static [bool],
-    [Sketch; 2],
+    &'static [Sketch],
     &'static [(u32, u32)],
     u32,
     [(u32, u32); 2],
@@ -91,7 +91,7 @@ type Row = (
 /// The order of a row's task is so.
 fn is_told(rt: &impl Abort, alloc: Global, row: &Row) {
     let (init, sketches, clauses, components, wanted) = *row;
-    let task = task(rt, alloc, init, &sketches);
+    let task = task(rt, alloc, init, sketches);
     let order = order_under(rt, alloc, &task, clauses);
     assert!(rt; order.components() == components && order.actions() == 2);
     let [first, second] = wanted;
@@ -102,13 +102,13 @@ fn is_told(rt: &impl Abort, alloc: Global, row: &Row) {
 const THREE: &[bool] = &[true, true, true];
 
 /// Facts p 0, q 1, r 2. Action 0 burns p, action 1 needs it.
-const BURN_AND_USE: [Sketch; 2] = [(&[], &[], &[1, 4]), (&[0], &[], &[2])];
+const BURN_AND_USE: &[Sketch] = &[(&[], &[], &[1, 4]), (&[0], &[], &[2])];
 
 /// Facts p 0, q 1, r 2, s 3. Each action takes what the other needs.
-const EACH_TAKES: [Sketch; 2] = [(&[0], &[], &[2, 7]), (&[6], &[], &[1, 4])];
+const EACH_TAKES: &[Sketch] = &[(&[0], &[], &[2, 7]), (&[6], &[], &[1, 4])];
 
 /// Facts p 0, q 1, g 2. Action 0 deletes p; action 1 adds g where p holds.
-const DROP_AND_GAIN: [Sketch; 2] = [(&[], &[], &[1, 2]), (&[], &[0], &[4])];
+const DROP_AND_GAIN: &[Sketch] = &[(&[], &[], &[1, 2]), (&[], &[0], &[4])];
 
 // The user comes before the burner, under the invariants too: p or r, not p or not r. Two that take each other's need are one
 // component; under the clause that not both needs hold, no edge is left. A condition of an effect is read.
@@ -158,7 +158,7 @@ fn listed(rt: &impl Abort, alloc: Global, order: &Order, steps: &Steps) -> ActNu
 #[test]
 fn members_in_published_order(rt: HostRuntime) {
     let alloc = rt.alloc();
-    let task = task(&rt, alloc, THREE, &BURN_AND_USE);
+    let task = task(&rt, alloc, THREE, BURN_AND_USE);
     let order = order_under(&rt, alloc, &task, &[]);
     let steps = steps_of(&rt, alloc, &[&[0, 1], &[], &[0]]);
     let actions = listed(&rt, alloc, &order, &steps);
