@@ -1,5 +1,5 @@
 -- Two places, in either order.
-use Rattle.std.proofs.Common.{arith, ◌≡◌, ℕ, zero, suc, ◌<◌, [], ◌∷◌, nat_eq, count_by, refl, sym, subst}
+use Rattle.std.proofs.Common.{arith, ◌≡◌, ℕ, List, zero, suc, ◌<◌, [], ◌∷◌, nat_eq, count_by, refl, sym, subst}
 use Rattle.std.proofs.lemmas.List.Elements.{All-from_recursion}
 use Rattle.poll_batch.specs.Batch.{IsOrder}
 
@@ -13,14 +13,11 @@ once-backward zero l = refl
 once-backward (suc zero) l = refl
 once-backward (suc (suc n)) l = absurd (omega (arith, l))
 
-two-forward : IsOrder 2 (0 ∷ 1 ∷ [])
-two-forward = record { within = All-from_recursion (λ (t : ℕ). t < 2) (0 ∷ 1 ∷ []) (omega arith, (omega arith, tt)); once = once-forward }
+pub forward : IsOrder 2 (0 ∷ 1 ∷ [])
+forward = record { within = All-from_recursion (λ (t : ℕ). t < 2) (0 ∷ 1 ∷ []) (omega arith, (omega arith, tt)); once = once-forward }
 
-two-backward : IsOrder 2 (1 ∷ 0 ∷ [])
-two-backward = record { within = All-from_recursion (λ (t : ℕ). t < 2) (1 ∷ 0 ∷ []) (omega arith, (omega arith, tt)); once = once-backward }
+pub backward : IsOrder 2 (1 ∷ 0 ∷ [])
+backward = record { within = All-from_recursion (λ (t : ℕ). t < 2) (1 ∷ 0 ∷ []) (omega arith, (omega arith, tt)); once = once-backward }
 
-pub forward : (n : ℕ) → n ≡ 2 → IsOrder n (0 ∷ 1 ∷ [])
-forward n is = subst (λ (k : ℕ). IsOrder k (0 ∷ 1 ∷ [])) (sym is) two-forward
-
-pub backward : (n : ℕ) → n ≡ 2 → IsOrder n (1 ∷ 0 ∷ [])
-backward n is = subst (λ (k : ℕ). IsOrder k (1 ∷ 0 ∷ [])) (sym is) two-backward
+pub of_two : (n : ℕ) (turns : List ℕ) → n ≡ 2 → IsOrder 2 turns → IsOrder n turns
+of_two n turns is order = subst (λ (k : ℕ). IsOrder k turns) (sym is) order

@@ -2,16 +2,4 @@
 #![tactic(auto)]
 
 #[cfg(test)]
-mod batches;
-#[cfg(test)]
-mod horizons;
-#[cfg(test)]
-mod in_turns;
-#[cfg(test)]
-mod lamps;
-#[cfg(test)]
-mod polls;
-#[cfg(test)]
-mod seen;
-#[cfg(test)]
-mod settled;
+mod tests;

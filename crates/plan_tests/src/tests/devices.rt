@@ -1,8 +1,7 @@
 // Calls of the shelf and of the sink.
-use super::runs::{Named, ample_sink, holds, is_same, shelf_of, status_of};
+use super::runs::{Named, TurnNotes, ample_sink, holds, is_same, shelf_of, status_of};
 use super::tasks::{DARK, LAMP};
 use pl_io::{MemSink, Numbers};
-use solver_pool::OpenGate;
 use std::alloc::Global;
 use std::process::Abort;
 use std::sync::Wait;
@@ -26,7 +25,7 @@ const BATCH: &str = "; problem 1
 fn stops_before<H: Threads + Wait + Sync + Abort>(rt: &H, alloc: Global, words: &str, call: u32) {
     let mut shelf = shelf_of(rt, alloc, &FILES, &[call]);
     let mut sink = ample_sink(rt, alloc);
-    let status = status_of(rt, alloc, words, &mut shelf, &mut sink, &OpenGate);
+    let status = status_of(rt, alloc, words, &mut shelf, &mut sink, &TurnNotes::new());
     holds(rt, status == 0 && shelf.failed().is_empty(), words);
 }
 
@@ -47,7 +46,7 @@ fn driver_fails(rt: HostRuntime) {
     let (alloc, words) = (rt.alloc(), "batch d p");
     let mut shelf = shelf_of(&rt, alloc, &FILES, &[3]);
     let mut sink = ample_sink(&rt, alloc);
-    let status = status_of(&rt, alloc, words, &mut shelf, &mut sink, &OpenGate);
+    let status = status_of(&rt, alloc, words, &mut shelf, &mut sink, &TurnNotes::new());
     let is = status == 0 && shelf.failed().is_empty() && is_same(sink.taken(), BATCH);
     holds(&rt, is, words);
 }
@@ -61,7 +60,7 @@ fn sink_fails_at_a_call(rt: HostRuntime) {
     let mut sink = MemSink::new(alloc, 10, failing, 1000)
         .ok()
         .expect(&rt, "memory");
-    let status = status_of(&rt, alloc, words, &mut shelf, &mut sink, &OpenGate);
+    let status = status_of(&rt, alloc, words, &mut shelf, &mut sink, &TurnNotes::new());
     let is = status == 6 && sink.faults() == 1 && is_same(sink.taken(), "; horizon ");
     holds(&rt, is, words);
 }

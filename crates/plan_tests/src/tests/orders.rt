@@ -16,24 +16,29 @@ use std::alloc::Global;
 use std::process::Abort;
 use step_encoding::steps::Steps;
 
-/// The action that needs some literals and has these effects, each a condition and a literal.
-fn act(rt: &impl Abort, alloc: Global, pre: &[u32], sketches: &[(&[u32], u32)]) -> Act {
+/// An action: the literals that it needs, those under which its effects come, and those that come true.
+type Sketch = (&'static [u32], &'static [u32], &'static [u32]);
+
+/// The action of a sketch.
+fn act(rt: &impl Abort, alloc: Global, sketch: &Sketch) -> Act {
+    let (pre, when, lits) = *sketch;
     let mut effects = Effs::new(alloc);
-    for (condition, lit) in sketches {
-        let condition = Lits::copied_from(alloc, condition).expect(rt, "memory");
-        effects.push(Eff::new(condition, *lit)).expect(rt, "memory");
+    for lit in lits {
+        let when = Lits::copied_from(alloc, when).expect(rt, "memory");
+        effects.push(Eff::new(when, *lit)).expect(rt, "memory");
     }
     Act::new(Lits::copied_from(alloc, pre).expect(rt, "memory"), effects)
 }
 
-/// A task of two actions without a goal, whose facts have these values at first.
-fn task(rt: &impl Abort, alloc: Global, init: &[bool], first: Act, second: Act) -> Task {
+/// A task without a goal, whose facts have these values at first.
+fn task(rt: &impl Abort, alloc: Global, init: &[bool], sketches: &[Sketch]) -> Task {
     assert!(rt; init.len() <= 4);
+    let mut acts = Acts::new(alloc);
+    for sketch in sketches {
+        acts.push(act(rt, alloc, sketch)).expect(rt, "memory");
+    }
     let facts = init.len() as u32;
     let init = Bits::copied_from(alloc, init).expect(rt, "memory");
-    let mut acts = Acts::new(alloc);
-    acts.push(first).expect(rt, "memory");
-    acts.push(second).expect(rt, "memory");
     Task::try_new(facts, init, Lits::new(alloc), false, acts).expect(rt, "a task")
 }
 
@@ -73,37 +78,65 @@ fn is_placed(rt: &impl Abort, order: &Order, place: u32, wanted: (u32, u32))
     holds(rt, is, "a place of an order");
 }
 
-/// What the command `order` tells of the order of a task under clauses: so many components, and at each place this component and
-/// this action.
-fn is_told(
-    rt: &impl Abort,
-    alloc: Global,
-    task: &Task,
-    clauses: &[(u32, u32)],
-    components: u32,
-    wanted: [(u32, u32); 2],
-) {
-    let order = order_under(rt, alloc, task, clauses);
+/// The values of facts at first, and two actions; clauses; and what the command `order` tells of the order of the task under them: so
+/// many components, and at each place this component and this action.
+type Row = (
+    &'static [bool],
+    &'static [Sketch],
+    &'static [(u32, u32)],
+    u32,
+    [(u32, u32); 2],
+);
+
+/// The order of a row's task is so.
+fn is_told(rt: &impl Abort, alloc: Global, row: &Row) {
+    let (init, sketches, clauses, components, wanted) = *row;
+    let task = task(rt, alloc, init, sketches);
+    let order = order_under(rt, alloc, &task, clauses);
     assert!(rt; order.components() == components && order.actions() == 2);
     let [first, second] = wanted;
     is_placed(rt, &order, 0, first);
     is_placed(rt, &order, 1, second);
 }
 
+const THREE: &[bool] = &[true, true, true];
+
 /// Facts p 0, q 1, r 2. Action 0 burns p, action 1 needs it.
-fn burn_and_use(rt: &impl Abort, alloc: Global) -> Task {
-    let burn = act(rt, alloc, &[], &[(&[], 1), (&[], 4)]);
-    let using = act(rt, alloc, &[0], &[(&[], 2)]);
-    task(rt, alloc, &[true, true, true], burn, using)
-}
+const BURN_AND_USE: &[Sketch] = &[(&[], &[], &[1, 4]), (&[0], &[], &[2])];
+
+/// Facts p 0, q 1, r 2, s 3. Each action takes what the other needs.
+const EACH_TAKES: &[Sketch] = &[(&[0], &[], &[2, 7]), (&[6], &[], &[1, 4])];
+
+/// Facts p 0, q 1, g 2. Action 0 deletes p; action 1 adds g where p holds.
+const DROP_AND_GAIN: &[Sketch] = &[(&[], &[], &[1, 2]), (&[], &[0], &[4])];
+
+// The user comes before the burner, under the invariants too: p or r, not p or not r. Two that take each other's need are one
+// component; under the clause that not both needs hold, no edge is left. A condition of an effect is read.
+const ROWS: [Row; 5] = [
+    (THREE, BURN_AND_USE, &[], 2, [(1, 1), (0, 0)]),
+    (THREE, BURN_AND_USE, &[(0, 4), (1, 5)], 2, [(1, 1), (0, 0)]),
+    (
+        &[true, true, true, true],
+        EACH_TAKES,
+        &[],
+        1,
+        [(0, 0), (0, 1)],
+    ),
+    (
+        &[true, true, true, true],
+        EACH_TAKES,
+        &[(1, 7)],
+        2,
+        [(0, 0), (1, 1)],
+    ),
+    (THREE, DROP_AND_GAIN, &[], 2, [(1, 1), (0, 0)]),
+];
 
 #[test]
-fn user_before_burner(rt: HostRuntime) {
-    let alloc = rt.alloc();
-    let task = burn_and_use(&rt, alloc);
-    is_told(&rt, alloc, &task, &[], 2, [(1, 1), (0, 0)]);
-    // The invariants: p or r, not p or not r.
-    is_told(&rt, alloc, &task, &[(0, 4), (1, 5)], 2, [(1, 1), (0, 0)]);
+fn needs_come_before_what_takes_them(rt: HostRuntime) {
+    for row in &ROWS {
+        is_told(&rt, rt.alloc(), row);
+    }
 }
 
 /// Steps, each by its actions.
@@ -125,31 +158,9 @@ fn listed(rt: &impl Abort, alloc: Global, order: &Order, steps: &Steps) -> ActNu
 #[test]
 fn members_in_published_order(rt: HostRuntime) {
     let alloc = rt.alloc();
-    let task = burn_and_use(&rt, alloc);
+    let task = task(&rt, alloc, THREE, BURN_AND_USE);
     let order = order_under(&rt, alloc, &task, &[]);
     let steps = steps_of(&rt, alloc, &[&[0, 1], &[], &[0]]);
     let actions = listed(&rt, alloc, &order, &steps);
     holds(&rt, matches!(actions.as_slice(), [1, 0, 0]), "three steps");
-}
-
-#[test]
-fn each_takes_the_other_s_need(rt: HostRuntime) {
-    let alloc = rt.alloc();
-    // Facts p 0, q 1, r 2, s 3. Each action takes what the other needs: one component.
-    let one = act(&rt, alloc, &[0], &[(&[], 2), (&[], 7)]);
-    let two = act(&rt, alloc, &[6], &[(&[], 1), (&[], 4)]);
-    let task = task(&rt, alloc, &[true, true, true, true], one, two);
-    is_told(&rt, alloc, &task, &[], 1, [(0, 0), (0, 1)]);
-    // Under the clause that not both needs hold, no edge is left.
-    is_told(&rt, alloc, &task, &[(1, 7)], 2, [(0, 0), (1, 1)]);
-}
-
-#[test]
-fn effect_condition_is_read(rt: HostRuntime) {
-    let alloc = rt.alloc();
-    // Facts p 0, q 1, g 2. Action 0 deletes p; action 1 adds g where p holds.
-    let drop = act(&rt, alloc, &[], &[(&[], 1), (&[], 2)]);
-    let gain = act(&rt, alloc, &[], &[(&[0], 4)]);
-    let task = task(&rt, alloc, &[true, true, true], drop, gain);
-    is_told(&rt, alloc, &task, &[], 2, [(1, 1), (0, 0)]);
 }

@@ -1,4 +1,5 @@
 // Runs of the planner in memory.
+use noting_gates::{CountGate, Notes, PairGate};
 use pl_io::{Bytes, Files, MemShelf, MemSink, NamedFile, Numbers};
 use plan_top::run;
 use poll_run::NoDriver;
@@ -63,14 +64,62 @@ pub(crate) fn is_same(text: &[u8], wanted: &str) -> bool {
     text == wanted.as_bytes()
 }
 
+/// All that is noted of the turns of a run. One type for all runs, so that the planner is compiled once.
+pub(crate) struct TurnNotes {
+    pub(crate) count: CountGate,
+    pub(crate) notes: Notes,
+    pub(crate) pair: PairGate,
+}
+
+/// Letting one go is one call, in which its parts go: whoever holds one proves one step.
+impl Drop for TurnNotes {
+    fn drop(self) {
+        let TurnNotes {
+            count: _,
+            notes: _,
+            pair: _,
+        } = self;
+    }
+}
+
+impl TurnNotes {
+    /// For a run of which these two horizons wait for each other.
+    pub(crate) fn of_pair(one: u32, two: u32) -> TurnNotes {
+        TurnNotes {
+            count: CountGate::new(),
+            notes: Notes::new(),
+            pair: PairGate::new(one, two),
+        }
+    }
+
+    /// For a run of which no horizon waits: there is none past 255.
+    pub(crate) fn new() -> TurnNotes {
+        TurnNotes::of_pair(256, 257)
+    }
+}
+
+impl Gate for TurnNotes {
+    fn enter(&self, horizon: u32) {
+        self.count.enter(horizon);
+        self.notes.enter(horizon);
+        self.pair.enter(horizon);
+    }
+
+    fn leave(&self, horizon: u32) {
+        self.count.leave(horizon);
+        self.notes.leave(horizon);
+        self.pair.leave(horizon);
+    }
+}
+
 /// The status with which a run on a shelf, into a sink and at a gate, ends. A driver that fails drives a batch.
-pub(crate) fn status_of<G: Gate, H: Threads + Wait + Sync + Abort>(
+pub(crate) fn status_of<H: Threads + Wait + Sync + Abort>(
     rt: &H,
     alloc: Global,
     words: &str,
     shelf: &mut MemShelf,
     sink: &mut MemSink,
-    gate: &G,
+    gate: &TurnNotes,
 ) -> u8 {
     let words = split(rt, alloc, words);
     let status = run(rt, alloc, &words, shelf, sink, gate, &mut NoDriver::new());

@@ -1,20 +1,18 @@
 // Runs with several workers.
-use super::runs::{Named, ample_sink, holds, is_same, shelf_of, status_of};
+use super::runs::{Named, TurnNotes, ample_sink, holds, is_same, shelf_of, status_of};
 use super::tasks::{BLOCKS, DARK, LAMP, LAMP_PLAN, TOWER, TOWER_PLAN};
-use noting_gates::{CountGate, Notes, PairGate};
-use solver_pool::Gate;
 use std::alloc::Global;
 use std::process::Abort;
 use std::sync::Wait;
 use std::thread::Threads;
 
 // A run on these files at a gate, which ends with status 0 and this report.
-fn run_at<G: Gate, H: Threads + Wait + Sync + Abort>(
+fn run_at<H: Threads + Wait + Sync + Abort>(
     rt: &H,
     alloc: Global,
     words: &str,
     files: &[Named],
-    gate: &G,
+    gate: &TurnNotes,
     report: &str,
 ) {
     let mut shelf = shelf_of(rt, alloc, files, &[]);
@@ -27,9 +25,9 @@ const IN_THE_DARK: [Named<'static>; 2] = [("d", LAMP), ("p", DARK)];
 
 // Whether two horizons of a run are at work at once.
 fn meets<H: Threads + Wait + Sync + Abort>(rt: &H, alloc: Global, words: &str, wanted: bool) {
-    let gate = PairGate::new(0, 1);
+    let gate = TurnNotes::of_pair(0, 1);
     run_at(rt, alloc, words, &IN_THE_DARK, &gate, LAMP_PLAN);
-    holds(rt, gate.met() == wanted, words);
+    holds(rt, gate.pair.met() == wanted, words);
 }
 
 // They are, but not where there is one worker.
@@ -42,15 +40,15 @@ fn two_horizons_are_at_work_at_once(rt: HostRuntime) {
 // One worker takes the horizons of a round in turn, and the gate is told of each.
 #[test]
 fn one_worker_takes_one_after_another(rt: HostRuntime) {
-    let gate = Notes::new();
+    let gate = TurnNotes::new();
     let words = "plan d p --workers 1";
     run_at(&rt, rt.alloc(), words, &IN_THE_DARK, &gate, LAMP_PLAN);
-    holds(&rt, gate.are(&[0, 2, 3, 5, 6, 8, 9, 11]), words);
+    holds(&rt, gate.notes.are(&[0, 2, 3, 5, 6, 8, 9, 11]), words);
 }
 
 // How many turns a run on the tower takes.
 fn turns<H: Threads + Wait + Sync + Abort>(rt: &H, alloc: Global, words: &str, wanted: u64) {
-    let gate = CountGate::new();
+    let gate = TurnNotes::new();
     run_at(
         rt,
         alloc,
@@ -59,7 +57,7 @@ fn turns<H: Threads + Wait + Sync + Abort>(rt: &H, alloc: Global, words: &str, w
         &gate,
         TOWER_PLAN,
     );
-    let (entered, left) = gate.counts();
+    let (entered, left) = gate.count.counts();
     holds(rt, entered == wanted && left == wanted, words);
 }
 

@@ -2,13 +2,13 @@
 ghost use Rattle.std.specs.Prelude.{◌≡◌, false, length};
 ghost use Rattle.std.specs.List.{AllByRecursion};
 ghost use Rattle.gt_core.specs.Published.{IsPublished};
+ghost use Rattle.poll_batch.specs.Batch.{IsOrder};
 
-use crate::lamps::{Ground, form_of, grounded};
-use crate::seen::holds;
-use clause_base::memory::Memory;
+use super::lamps::{Ground, form_of, grounded};
+use super::seen::holds;
 use gt_core::task::Task;
 use horizon_rates::{Algorithm, Rates};
-use poll_batch::{BlockOn, Driver, Ends, NoDriver, PollRace, Races, batch_race};
+use poll_batch::{BlockOn, Driver, NoDriver, PollRace, Races, batch_race};
 use race::RaceError;
 use race_end::{Line, LineEnd, RaceEnd};
 use std::alloc::{AllocGlobal, Global};
@@ -61,36 +61,25 @@ fn two_of<'a, F: StepForm>(
     races
 }
 
-/// The ends of two races.
-fn raced<F: StepForm + Sync, D: Driver, H: Threads + Wait + Sync>(
-    rt: &H,
-    alloc: Global,
-    driver: &mut D,
-    races: Races<'_, F>,
-    backward: bool,
-) -> Result<Ends, Memory>
-    requires two { length races ≡ 2 }
-    requires live { AllByRecursion (λ race. race.given ≡ false) races }
-{
-    if backward {
-        return batch_race(rt, alloc, driver, races, &[1, 0]);
+/// Whether a race has one line, of horizon 0, with so many conflicts, that is refuted, or found.
+fn has_one_line(lines: &[Line], conflicts: u64, refuted: bool) -> bool {
+    match lines {
+        [line] => {
+            let is_end = match line.end {
+                LineEnd::Refuted(_) => refuted,
+                LineEnd::Found => !refuted,
+                _ => false,
+            };
+            is_end && line.horizon == 0 && line.conflicts == conflicts
+        }
+        _ => false,
     }
-    batch_race(rt, alloc, driver, races, &[0, 1])
 }
 
 /// Whether the race of the lamp that is off ended as it has to: horizon 0, which is the last one, is refuted by one conflict.
 fn is_exhausted(end: &Result<RaceEnd, RaceError>) -> bool {
     match end {
-        Ok(RaceEnd::Exhausted { horizon: 0, lines }) => is_refuted(lines.as_slice()),
-        _ => false,
-    }
-}
-
-fn is_refuted(lines: &[Line]) -> bool {
-    match lines {
-        [line] => {
-            line.horizon == 0 && line.conflicts == 1 && matches!(line.end, LineEnd::Refuted(_))
-        }
+        Ok(RaceEnd::Exhausted { horizon: 0, lines }) => has_one_line(lines.as_slice(), 1, true),
         _ => false,
     }
 }
@@ -104,14 +93,7 @@ fn is_planned(end: &Result<RaceEnd, RaceError>) -> bool {
                 lines,
                 ..
             },
-        ) => is_found(lines.as_slice()),
-        _ => false,
-    }
-}
-
-fn is_found(lines: &[Line]) -> bool {
-    match lines {
-        [line] => { line.horizon == 0 && line.conflicts == 0 && matches!(line.end, LineEnd::Found) }
+        ) => has_one_line(lines.as_slice(), 0, false),
         _ => false,
     }
 }
@@ -130,12 +112,13 @@ fn end_over<F: StepForm + Sync, D: Driver, H: Threads + Wait + Sync + Abort>(
     alloc: Global,
     driver: &mut D,
     races: Races<'_, F>,
-    backward: bool,
+    turns: &[u32],
 )
     requires two { length races ≡ 2 }
     requires live { AllByRecursion (λ race. race.given ≡ false) races }
+    requires turns { IsOrder 2 turns.now }
 {
-    let ends = raced(rt, alloc, driver, races, backward)
+    let ends = batch_race(rt, alloc, driver, races, turns)
         .ok()
         .expect(rt, "memory");
     holds(rt, are_ended(ends.as_slice()));
@@ -148,17 +131,18 @@ fn end_for<D: Driver, H: Threads + Wait + Sync + Abort>(
     driver: &mut D,
     off: &Ground,
     on: &Ground,
-    backward: bool,
+    turns: &[u32],
 )
     requires off { IsPublished off.now.task off.now.pairs.clauses off.now.order }
     requires on { IsPublished on.now.task on.now.pairs.clauses on.now.order }
+    requires turns { IsOrder 2 turns.now }
 {
     let off_form = form_of(rt, alloc, off);
     let on_form = form_of(rt, alloc, on);
     let first = race_of(rt, alloc, &off.task, &off_form);
     let second = race_of(rt, alloc, &on.task, &on_form);
     let races = two_of(rt, alloc, first, second);
-    end_over(rt, alloc, driver, races, backward);
+    end_over(rt, alloc, driver, races, turns);
 }
 
 /// The races of a lamp that is off and one that is on do.
@@ -166,24 +150,25 @@ fn end<D: Driver, H: Threads + Wait + Sync + Abort>(
     rt: &H,
     alloc: Global,
     driver: &mut D,
-    backward: bool,
-) {
+    turns: &[u32],
+)
+    requires { IsOrder 2 turns.now }
+{
     let off = grounded(rt, alloc, false);
     let on = grounded(rt, alloc, true);
-    end_for(rt, alloc, driver, &off, &on, backward);
+    end_for(rt, alloc, driver, &off, &on, turns);
 }
 
 /// The same over `block_on`.
-fn end_blocked<H: Threads + Wait + Sync + RandomSource + AllocGlobal + Abort>(
-    rt: &H,
-    backward: bool,
-) {
-    end(rt, rt.alloc(), &mut BlockOn::new(rt), backward);
+fn end_blocked<H: Threads + Wait + Sync + RandomSource + AllocGlobal + Abort>(rt: &H, turns: &[u32])
+    requires { IsOrder 2 turns.now }
+{
+    end(rt, rt.alloc(), &mut BlockOn::new(rt), turns);
 }
 
 #[test]
 fn ends_are_the_same_for_both_drivers_and_orders(rt: HostRuntime) {
-    end_blocked(&rt, false);
-    end_blocked(&rt, true);
-    end(&rt, rt.alloc(), &mut NoDriver::new(), false);
+    end_blocked(&rt, &[0, 1]);
+    end_blocked(&rt, &[1, 0]);
+    end(&rt, rt.alloc(), &mut NoDriver::new(), &[0, 1]);
 }

@@ -14,17 +14,9 @@ pub(crate) fn holds(rt: &impl Abort, is: bool) {
 
 /// A run of which tests see how far it is.
 pub(crate) trait Seen: Resume {
-    /// How many conflicts it has handled.
-    fn handled(&self) -> u64;
-
-    /// Whether it goes on.
-    fn goes(&self) -> bool;
-
-    /// Whether it is refuted, and its log, which has one entry, is accepted for the formula that has the name 0.
-    fn is_refuted(&self, alloc: Global) -> bool;
-
-    /// Whether it is found: flip in the first step, and the lamp is on after it and not before.
-    fn is_found(&self, alloc: Global) -> bool;
+    /// Whether it has handled so many conflicts and stands so. The log of a refuted run has one entry and is accepted for the
+    /// formula that has the name 0; the values of a found one say flip in the first step, with the lamp on after it and not before.
+    fn is_at(&self, alloc: Global, conflicts: u64, wanted: Standing) -> bool;
 }
 
 /// Whether its log is accepted so.
@@ -48,25 +40,12 @@ fn has_values(alloc: Global, run: &HorizonRun) -> bool
 }
 
 impl Seen for HorizonRun {
-    fn handled(&self) -> u64 {
-        self.conflicts()
-    }
-
-    fn goes(&self) -> bool {
-        matches!(self.standing(), Standing::Going)
-    }
-
-    fn is_refuted(&self, alloc: Global) -> bool {
-        match self.standing() {
-            Standing::Refuted => is_certified(alloc, self),
-            _ => false,
-        }
-    }
-
-    fn is_found(&self, alloc: Global) -> bool {
-        match self.standing() {
-            Standing::Found => has_values(alloc, self),
-            _ => false,
-        }
+    fn is_at(&self, alloc: Global, conflicts: u64, wanted: Standing) -> bool {
+        let is_wanted = match self.standing() {
+            Standing::Going => matches!(wanted, Standing::Going),
+            Standing::Refuted => matches!(wanted, Standing::Refuted) && is_certified(alloc, self),
+            Standing::Found => matches!(wanted, Standing::Found) && has_values(alloc, self),
+        };
+        is_wanted && self.conflicts() == conflicts
     }
 }

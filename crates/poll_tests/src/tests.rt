@@ -1,0 +1,6 @@
+// The tests, by what they are of, lamps, and what is seen of runs.
+mod batches;
+mod horizons;
+mod lamps;
+mod polls;
+mod seen;
