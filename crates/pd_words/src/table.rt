@@ -7,6 +7,7 @@ ghost use Rattle.pd_words.specs.Names.{number_of, is_among};
 ghost use Rattle.pd_words.specs.declared.fault.ReadError.TheVariants as errors;
 
 use crate::fault::ReadError;
+use crate::named::copy_name;
 use let_go::let_go;
 use pd_sexp::Name;
 use std::alloc::Global;
@@ -85,9 +86,20 @@ impl Table {
         if count >= u32::MAX as usize {
             return Err(ReadError::Memory);
         }
-        let number = count as u32;
         let key = Vec::from_slice(alloc, name.as_slice())?;
-        let kept = Name::of(Vec::from_slice(alloc, name.as_slice())?);
+        let kept = copy_name(alloc, name)?;
+        self.put(key, kept, count as u32)
+    }
+
+    // Puts a new name at the end, and the next number under its bytes.
+    fn put(&mut self, key: Vec<u8>, kept: Name, number: u32) -> Result<(), ReadError>
+        requires same { key.items ≡ kept }
+        requires number { number ≡ length self.old }
+        requires fresh { number_of kept self.old ≡ None }
+        ensures added { OnOk result (self.new ≡ self.old ++ kept ∷ []) }
+        ensures unchanged { OnErr result (self.new ≡ self.old) }
+        ensures memory { IfErr result (λ e. e ≡ errors.Memory) }
+    {
         self.names.reserve(1)?;
         self.numbers.insert(key, number)?;
         self.names.push(kept)?;

@@ -195,6 +195,15 @@ fn types_under(alloc: Global, names: &[Name], numbers: &[u32]) -> Result<Vec<Typ
     Ok(decls)
 }
 
+// The types of these names, each but the first under the parent of its place.
+fn types_named(alloc: Global, names: &Table, parents: &[Name]) -> Result<Vec<TypeDecl>, ReadError>
+    ensures types { IfOk result (λ v. v.items ≡ types.types_under names.now (0 ∷ map (types.number_in names.now) parents.now)) }
+    ensures memory { IfErr result (λ e. e ≡ errors.Memory) }
+{
+    let numbers = parent_numbers(alloc, names, parents)?;
+    types_under(alloc, names.names(), numbers.as_slice())
+}
+
 fn parents_in(alloc: Global, decls: &[TypeDecl]) -> Result<Vec<u32>, ReadError>
     ensures parents { IfOk result (λ v. v.items ≡ parents_of decls.now) }
     ensures memory { IfErr result (λ e. e ≡ errors.Memory) }
@@ -223,6 +232,16 @@ fn check_rooted(alloc: Global, parents: &[u32], places: &[u32]) -> Result<(), Re
     Ok(())
 }
 
+// The same of types of which the parents are known.
+fn check_places(alloc: Global, decls: &[TypeDecl], places: &[u32]) -> Result<(), ReadError>
+    requires parents { AreParents (parents_of decls.now) }
+    requires room { length places.now < length (parents_of decls.now) }
+    ensures { Gives (types.rooted (parents_of decls.now) 1 places.now) result }
+{
+    let parents = parents_in(alloc, decls)?;
+    check_rooted(alloc, parents.as_slice(), places)
+}
+
 /// The types of a domain, by number, and their names.
 #[derive(Drop)]
 pub struct TypeTable {
@@ -241,10 +260,8 @@ pub fn read_types(alloc: Global, items: &[Tree]) -> Result<TypeTable, ReadError>
         parents,
     } = read_declared(alloc, items)?;
     add_parents(alloc, &mut names, parents.as_slice())?;
-    let numbers = parent_numbers(alloc, &names, parents.as_slice())?;
-    let decls = types_under(alloc, names.names(), numbers.as_slice())?;
-    let above = parents_in(alloc, decls.as_slice())?;
-    check_rooted(alloc, above.as_slice(), places.as_slice())?;
+    let decls = types_named(alloc, &names, parents.as_slice())?;
+    check_places(alloc, decls.as_slice(), places.as_slice())?;
     Ok(TypeTable {
         decls: Types::of(decls),
         names,
