@@ -1,7 +1,11 @@
-use Rattle.std.proofs.Common.{arith, ◌<◌, ◌+◌, ℕ, length, count_by, ap, sym, ◌∙◌}
+use Rattle.std.proofs.Common.{arith, ◌<◌, ◌≤◌, ◌+◌, ◌++◌, ℕ, List, length, count_by, ap, sym, ◌∙◌}
+use Rattle.std.proofs.lemmas.List.{drop_all, append-nil}
 use Rattle.gt_core.specs.Layout.{Layout}
-use Rattle.gt_core.specs.Task.{Action}
+use Rattle.gt_core.specs.Task.{Action, effects_from}
 use Rattle.gt_core.specs.Lawful.{is_conditional}
+use Rattle.step_clauses.specs.Variables.{rows, rows_from}
+use Rattle.step_clauses.specs.Coded.{coded}
+use Rattle.step_template.specs.Rows.{effects_of}
 use Rattle.step_template.proofs.Placing.{placed}
 use Rattle.step_template.proofs.RowLaw.{first_more}
 use Rattle.step_template.proofs.EffectLaw.{actions_step}
@@ -30,3 +34,13 @@ add_effects_of-requires-clause-sorted c =
     let e = ap (λ (z : Layout). z.actions) c.layout.view_is in
     let lt : c.loop-a.a < length c.args.task.now.actions = let r = c.requires.actions in let t = c.loop-a-test.true in omega (arith, e, r, t) in
     sorted_by c.args.layout.now.facts c.args.task.now c.loop-a.a c.effects.result.now c.requires.facts c.act-act.ensures.lawful lt (c.effects.ensures ∙ ap (λ (x : Action). x.effects) c.act-act.ensures.act)
+
+pub returns : goal.returns
+returns c =
+    let z = c.args.layout.now in
+    let task = c.args.task.now in
+    let e = ap (λ (z : Layout). z.actions) c.layout.view_is in
+    let past : length task.actions ≤ c.loop-a.a = let r = c.requires.actions in let t = c.loop-a-test.false in omega (arith, e, r, t) in
+    sym (c.loop-a.invariant.1
+    ∙ ap (λ (xs : List Action). c.loop-a.clauses ++ coded (effects_of z (rows task) (rows_from c.loop-a.first (effects_from c.loop-a.a xs)))) (drop_all c.loop-a.a task.actions past)
+    ∙ append-nil c.loop-a.clauses)

@@ -1,8 +1,10 @@
-use Rattle.std.proofs.Common.{arith, List, refl, sym, subst}
+use Rattle.std.proofs.Common.{arith, ◌++◌, List, refl, sym, ap, ◌∙◌, subst}
+use Rattle.std.proofs.lemmas.List.{drop_all, append-nil}
 use Rattle.gt_core.specs.Task.{Effect}
 use Rattle.gt_core.specs.Active.{EffectWithin}
 use Rattle.step_clauses.proofs.Sorted.{sorted_before, taken_more}
-use Rattle.step_template.specs.Rows.{rows_of}
+use Rattle.step_clauses.specs.Coded.{coded}
+use Rattle.step_template.specs.Rows.{rows_of, effects_of}
 use Rattle.step_template.specs.Adders.{IsAdders}
 use Rattle.step_template.proofs.RowLaw.{number_fits, number_next, number_taken}
 use Rattle.step_template.proofs.Bounds.{each_place}
@@ -49,3 +51,19 @@ add_effect-requires c =
       number = number_fits c.loop-effect.number z.conditional es i e e c.loop-effect.invariant.0 lt c.effect-item.is;
       within = subst (EffectWithin z.facts) (sym c.effect-item.is) (each_place (EffectWithin z.facts) es i e c.requires.placed.within lt);
     }
+
+pub note-requires-clause-number : goal.note-requires-clause-number
+note-requires-clause-number c =
+    number_fits c.loop-effect.number c.args.layout.now.conditional c.args.effects.now c.loop-effect.effect-index c.effect-item.result c.effect-item.result c.loop-effect.invariant.0 c.loop-effect-test.true c.effect-item.is
+
+pub number_after-number-requires : goal.number_after-number-requires
+number_after-number-requires c = let h = c.loop-effect.invariant.0 in let f = c.requires.placed.few in omega (arith, h, f)
+
+pub returns : goal.returns
+returns c =
+    let z = c.args.layout.now in
+    let a = c.args.action in
+    let es = c.args.effects.now in
+    sym (c.loop-effect.invariant.1
+    ∙ ap (λ (ds : List Effect). c.loop-effect.clauses ++ coded (effects_of z (rows_of a c.args.first es) (rows_of a c.loop-effect.number ds))) (drop_all c.loop-effect.effect-index es c.loop-effect-test.false)
+    ∙ append-nil c.loop-effect.clauses)

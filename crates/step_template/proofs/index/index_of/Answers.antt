@@ -1,10 +1,10 @@
-use Rattle.std.proofs.Common.{arith, ◌<◌, ◌+◌, ℕ, length, count_by, ap, sym, ◌∙◌, []}
+use Rattle.std.proofs.Common.{arith, ◌<◌, ◌≤◌, ◌+◌, ℕ, length, count_by, ap, sym, ◌∙◌, []}
 use Rattle.gt_core.specs.Layout.{Layout}
 use Rattle.gt_core.specs.Task.{Action}
 use Rattle.gt_core.specs.Lawful.{is_conditional}
 use Rattle.step_template.proofs.Placing.{placed}
 use Rattle.step_template.proofs.RowLaw.{first_more}
-use Rattle.step_template.proofs.IndexLaw.{made_more}
+use Rattle.step_template.proofs.IndexLaw.{made_more, made_whole}
 use Rattle.step_template.proofs.index.index_of.Goals as goal
 
 pub loop-a-preserved : goal.loop-a-preserved
@@ -26,3 +26,15 @@ index_effects_of-requires-clause-placed c =
     let lt : c.loop-a.a < length c.args.task.now.actions = let r = c.requires.actions in let t = c.loop-a-test.true in omega (arith, e, r, t) in
     placed c.args.task.now c.args.layout.now c.loop-a.a c.loop-a.first c.act-act.result.now c.effects.result.now c.requires.horizon c.requires.actions c.requires.conditional c.requires.facts
     c.act-act.ensures.act c.effects.ensures c.act-act.ensures.lawful lt c.loop-a.invariant.first
+
+pub index_effects_of-requires-clause-long : goal.index_effects_of-requires-clause-long
+index_effects_of-requires-clause-long c = let e = c.requires.facts in let h = c.loop-a.invariant.long in omega (arith, e, h)
+
+pub returns : goal.returns
+returns c =
+    let e = ap (λ (z : Layout). z.actions) c.layout.view_is in
+    let past : length c.args.task.now.actions ≤ c.loop-a.a = let r = c.requires.actions in let t = c.loop-a-test.false in omega (arith, e, r, t) in
+    record {
+      long = c.loop-a.invariant.long;
+      each = λ m lt. made_whole c.args.layout.now m c.loop-a.a c.loop-a.first c.args.task.now.actions _ _ past (c.loop-a.invariant.each m);
+    }
