@@ -1,10 +1,12 @@
 //! Formulas in the DIMACS form.
 ghost use Rattle.std.specs.Prelude.{◌≡◌};
 
+use crate::lines::must;
 use clause_base::clause::Clause;
 use clause_base::formula::Formula;
 use clause_base::literal::Lit;
 use std::alloc::Global;
+use std::process::Abort;
 
 /// How many variables a formula may have.
 const MOST_VARIABLES: u32 = 1_000_000_000;
@@ -36,48 +38,65 @@ fn literal_of(word: &str) -> Option<Lit> {
     }
 }
 
-/// Adds the clause of some literals, if it is one that fits.
-pub(crate) fn add_clause(alloc: Global, formula: &mut Formula, lits: &[Lit]) -> Option<()>
+/// Adds a clause, if it fits.
+fn add_fitting(rt: &impl Abort, formula: &mut Formula, clause: Clause)
     ensures { formula.new.variables ≡ formula.old.variables }
 {
-    let Some(clause) = Clause::of(alloc, lits).ok()? else {
-        return Some(());
-    };
     if formula.has_room() && clause.fits(formula.variables()) {
-        return formula.add(clause).ok();
+        match formula.add(clause) {
+            Ok(()) => (),
+            Err(_) => rt.panic("no memory"),
+        }
     }
-    Some(())
+}
+
+/// Adds the clause of some literals, if it is one that fits.
+pub(crate) fn add_clause(rt: &impl Abort, alloc: Global, formula: &mut Formula, lits: &[Lit])
+    ensures { formula.new.variables ≡ formula.old.variables }
+{
+    if let Some(clause) = must(rt, Clause::of(alloc, lits)) {
+        add_fitting(rt, formula, clause);
+    }
 }
 
 /// Makes a list the literals of a line.
-fn read_literals(lits: &mut Vec<Lit>, line: &str) -> Option<()> {
+fn read_literals(rt: &impl Abort, lits: &mut Vec<Lit>, line: &str) {
     lits.clear();
     for word in line.split(' ') {
         if let Some(lit) = literal_of(word) {
-            lits.push(lit).ok()?;
+            must(rt, lits.push(lit));
         }
     }
-    Some(())
 }
 
 /// Adds the clauses of a text, a line each.
-fn add_lines(alloc: Global, formula: &mut Formula, lits: &mut Vec<Lit>, text: &str) -> Option<()> {
+fn add_lines(
+    rt: &impl Abort,
+    alloc: Global,
+    formula: &mut Formula,
+    lits: &mut Vec<Lit>,
+    text: &str,
+) {
     for line in text.lines() {
-        read_literals(lits, line)?;
-        add_clause(alloc, formula, lits.as_slice())?;
+        read_literals(rt, lits, line);
+        add_clause(rt, alloc, formula, lits.as_slice());
     }
-    Some(())
+}
+
+/// The number of variables and the clauses of a text in the form of `formula_of`.
+fn sizes_and_clauses(text: &str) -> Option<(u32, &str)> {
+    let (_, told) = text.split_once("p cnf ")?;
+    let (sizes, clauses) = told.split_once('\n')?;
+    Some((first_number(sizes)?, clauses))
 }
 
 /// The formula of a text: after a line `p cnf VARIABLES CLAUSES` a clause a line, each ended by 0, and no other line.
-pub(crate) fn formula_of(alloc: Global, text: &str) -> Option<Formula> {
-    let (_, told) = text.split_once("p cnf ")?;
-    let (sizes, clauses) = told.split_once('\n')?;
-    let variables = first_number(sizes)?;
+pub(crate) fn formula_of(rt: &impl Abort, alloc: Global, text: &str) -> Formula {
+    let (variables, clauses) = sizes_and_clauses(text).expect(rt, "no formula");
     if variables > MOST_VARIABLES {
-        return None;
+        rt.panic("too many variables");
     }
     let mut formula = Formula::new(alloc, 0, variables);
-    add_lines(alloc, &mut formula, &mut Vec::new(alloc), clauses)?;
-    Some(formula)
+    add_lines(rt, alloc, &mut formula, &mut Vec::new(alloc), clauses);
+    formula
 }

@@ -8,108 +8,115 @@
 //! printed, stand before the line `p cnf`.
 
 use crate::dimacs::{first_number, formula_of, line_after};
-use crate::lines::put;
+use crate::lines::{Out, must, put};
 use crate::logs::{log_of, put_answer, put_log};
 use crate::propagations::count_propagations;
 use cdcl_core::Standing;
 use cdcl_core::solver::Solver;
 use clause_base::chooser::PlainChooser;
 use std::alloc::Global;
+use std::process::Abort;
 
 /// The most conflicts of a run.
 const MOST: u32 = 1_000_000;
 
+/// What is written of a log that the checker accepts.
+const ACCEPTED: &str = "check: accepted, entries #\n";
+
 /// The solver of a text's formula.
-fn solver_of(alloc: Global, text: &str) -> Option<Solver<PlainChooser>> {
-    let formula = formula_of(alloc, text)?;
-    Solver::new(alloc, formula, PlainChooser::new()).ok()
+fn solver_of(rt: &impl Abort, alloc: Global, text: &str) -> Solver<PlainChooser> {
+    let formula = formula_of(rt, alloc, text);
+    must(rt, Solver::new(alloc, formula, PlainChooser::new()))
 }
 
 /// Goes on for so many conflicts, unless there were too many.
-pub(crate) fn go_on(solver: &mut Solver<PlainChooser>, conflicts: u32) -> Option<()> {
-    if solver.conflicts() > u64::from(MOST) {
-        return Some(());
+pub(crate) fn go_on(rt: &impl Abort, solver: &mut Solver<PlainChooser>, conflicts: u32) {
+    if solver.conflicts() <= u64::from(MOST) {
+        must(rt, solver.advance(conflicts.min(MOST)));
     }
-    solver.advance(conflicts.min(MOST)).ok()
 }
 
 /// Goes on for so many conflicts in pieces: first for none, then for a piece each time, of which the last may be shorter.
-fn go_on_in_pieces(solver: &mut Solver<PlainChooser>, conflicts: u32, piece: u32) -> Option<()> {
+fn go_on_in_pieces(rt: &impl Abort, solver: &mut Solver<PlainChooser>, conflicts: u32, piece: u32) {
     let mut left = conflicts;
-    go_on(solver, 0)?;
+    go_on(rt, solver, 0);
     for _ in 0..conflicts {
         let next = left.min(piece);
-        go_on(solver, next)?;
+        go_on(rt, solver, next);
         left -= next;
     }
-    Some(())
 }
 
 /// Writes how a solver stands, and its conflicts.
-fn put_standing(out: &mut Vec<u8>, solver: &Solver<PlainChooser>) -> Option<()> {
+fn put_standing(out: &mut Out, solver: &Solver<PlainChooser>) {
     let words = match solver.standing() {
         Standing::Going => "standing going\nconflicts #\n",
         Standing::Found => "standing found\nconflicts #\n",
         Standing::Refuted => "standing refuted\nconflicts #\n",
     };
-    put(out, words, &[solver.conflicts()])
+    put(out, words, &[solver.conflicts()]);
 }
 
 /// Writes the literals that are true where a solver stopped, oldest first.
-fn put_trail(out: &mut Vec<u8>, solver: &Solver<PlainChooser>) -> Option<()> {
-    put(out, "trail", &[])?;
+fn put_trail(out: &mut Out, solver: &Solver<PlainChooser>) {
+    put(out, "trail", &[]);
     for entry in solver.trail() {
-        put(out, " #", &[entry.literal.0 as u64])?;
+        put(out, " #", &[entry.literal.0 as u64]);
     }
-    put(out, "\n", &[])
+    put(out, "\n", &[]);
 }
 
 /// Writes how a solver stands, its conflicts, its log, and the literals that are true where its text asks for them.
-fn put_run(out: &mut Vec<u8>, solver: &Solver<PlainChooser>, text: &str) -> Option<()> {
-    put_standing(out, solver)?;
-    put_log(out, solver.log())?;
-    match line_after("c trail", text) {
-        Some(_) => put_trail(out, solver),
-        None => Some(()),
+fn put_run(out: &mut Out, solver: &Solver<PlainChooser>, text: &str) {
+    put_standing(out, solver);
+    put_log(out, solver.log());
+    if line_after("c trail", text).is_some() {
+        put_trail(out, solver);
     }
 }
 
 /// What is written of a solver.
-fn report(alloc: Global, solver: &Solver<PlainChooser>, text: &str) -> Option<Vec<u8>> {
-    let mut out = Vec::new(alloc);
-    put_run(&mut out, solver, text)?;
-    Some(out)
+fn report(rt: &impl Abort, alloc: Global, solver: &Solver<PlainChooser>, text: &str) -> Vec<u8> {
+    let mut out = Out::new(alloc);
+    put_run(&mut out, solver, text);
+    out.done(rt)
 }
 
 /// What is written of the solver of a text's formula after a run in pieces.
-fn report_in_pieces(alloc: Global, text: &str, conflicts: u32, piece: u32) -> Option<Vec<u8>> {
-    let mut solver = solver_of(alloc, text)?;
-    go_on_in_pieces(&mut solver, conflicts, piece)?;
-    report(alloc, &solver, text)
+fn report_in_pieces(
+    rt: &impl Abort,
+    alloc: Global,
+    text: &str,
+    conflicts: u32,
+    piece: u32,
+) -> Vec<u8> {
+    let mut solver = solver_of(rt, alloc, text);
+    go_on_in_pieces(rt, &mut solver, conflicts, piece);
+    report(rt, alloc, &solver, text)
 }
 
 /// Writes how a run in pieces ends where that is otherwise than in one go.
-fn put_cut(out: &mut Vec<u8>, piece: u32, cut: &[u8], whole: &[u8]) -> Option<()> {
+fn put_cut(out: &mut Out, piece: u32, cut: &[u8], whole: &[u8]) {
     if cut == whole {
         return put(out, "in pieces of #: the same\n", &[piece as u64]);
     }
-    put(out, "in pieces of #:\n", &[piece as u64])?;
-    out.extend_from_slice(cut).ok()
+    put(out, "in pieces of #:\n", &[piece as u64]);
+    out.add(cut);
 }
 
 /// Runs a text's formula in pieces of 1, of 7 and of 64 conflicts.
 fn put_pieces(
+    rt: &impl Abort,
     alloc: Global,
-    out: &mut Vec<u8>,
+    out: &mut Out,
     text: &str,
     conflicts: u32,
     whole: &[u8],
-) -> Option<()> {
+) {
     for piece in [1, 7, 64] {
-        let cut = report_in_pieces(alloc, text, conflicts, piece)?;
-        put_cut(out, piece, cut.as_slice(), whole)?;
+        let cut = report_in_pieces(rt, alloc, text, conflicts, piece);
+        put_cut(out, piece, cut.as_slice(), whole);
     }
-    Some(())
 }
 
 /// How many lines a report has.
@@ -124,87 +131,90 @@ fn line_count(report: &[u8]) -> u64 {
 }
 
 /// Writes a solver's report, or only its first two lines and how many there are where the text says so.
-fn put_whole(
-    out: &mut Vec<u8>,
-    solver: &Solver<PlainChooser>,
-    text: &str,
-    whole: &[u8],
-) -> Option<()> {
+fn put_whole(out: &mut Out, solver: &Solver<PlainChooser>, text: &str, whole: &[u8]) {
     if line_after("c brief", text).is_none() {
-        return out.extend_from_slice(whole).ok();
+        return out.add(whole);
     }
-    put_standing(out, solver)?;
-    put(out, "lines #\n", &[line_count(whole)])
+    put_standing(out, solver);
+    put(out, "lines #\n", &[line_count(whole)]);
 }
 
 /// Writes how a run in one go ended, and where runs in pieces end otherwise, these.
 fn put_compared(
+    rt: &impl Abort,
     alloc: Global,
-    out: &mut Vec<u8>,
+    out: &mut Out,
     solver: &Solver<PlainChooser>,
     text: &str,
     conflicts: u32,
-) -> Option<()> {
-    let whole = report(alloc, solver, text)?;
-    put_whole(out, solver, text, whole.as_slice())?;
-    put_pieces(alloc, out, text, conflicts, whole.as_slice())
+) {
+    let whole = report(rt, alloc, solver, text);
+    put_whole(out, solver, text, whole.as_slice());
+    put_pieces(rt, alloc, out, text, conflicts, whole.as_slice());
 }
 
 /// Runs a text's formula in one go and in pieces, and lets its log be checked.
-fn put_runs(alloc: Global, out: &mut Vec<u8>, text: &str, conflicts: u32) -> Option<()> {
-    let mut solver = solver_of(alloc, text)?;
-    go_on(&mut solver, conflicts)?;
-    put_compared(alloc, out, &solver, text, conflicts)?;
-    put_answer(alloc, out, solver.formula(), solver.log())
+fn put_runs(rt: &impl Abort, alloc: Global, out: &mut Out, text: &str, conflicts: u32) {
+    let mut solver = solver_of(rt, alloc, text);
+    go_on(rt, &mut solver, conflicts);
+    put_compared(rt, alloc, out, &solver, text, conflicts);
+    put_answer(rt, alloc, out, ACCEPTED, solver.formula(), solver.log());
 }
 
 /// Checks the log that a text has.
-fn put_checked(alloc: Global, out: &mut Vec<u8>, text: &str) -> Option<()> {
-    let formula = formula_of(alloc, text)?;
-    let log = log_of(alloc, text)?;
-    put_answer(alloc, out, &formula, &log)
+fn put_checked(rt: &impl Abort, alloc: Global, out: &mut Out, text: &str) {
+    let formula = formula_of(rt, alloc, text);
+    let log = log_of(rt, alloc, text);
+    put_answer(rt, alloc, out, ACCEPTED, &formula, &log);
 }
 
 /// Writes the first line of a text, without the letter before it, and runs or checks its formula.
-fn put_part(alloc: Global, out: &mut Vec<u8>, text: &str) -> Option<()> {
-    put(out, line_after("c ", text)?, &[])?;
-    put(out, "\n", &[])?;
+fn put_part(rt: &impl Abort, alloc: Global, out: &mut Out, text: &str) {
+    put(out, line_after("c ", text).expect(rt, "no title"), &[]);
+    put(out, "\n", &[]);
     match line_after("c conflicts ", text) {
-        Some(conflicts) => put_runs(alloc, out, text, first_number(conflicts)?),
-        None => put_checked(alloc, out, text),
+        Some(line) => put_runs(
+            rt,
+            alloc,
+            out,
+            text,
+            first_number(line).expect(rt, "no number"),
+        ),
+        None => put_checked(rt, alloc, out, text),
     }
 }
 
 /// Runs or checks each of the formulas of a text, each ended by a `%`.
-pub(crate) fn put_all_parts(alloc: Global, out: &mut Vec<u8>, text: &str) -> Option<()> {
+pub(crate) fn put_all_parts(rt: &impl Abort, alloc: Global, out: &mut Out, text: &str) {
     for part in text.split('%') {
         if line_after("p cnf", part).is_some() {
-            put_part(alloc, out, part)?;
+            put_part(rt, alloc, out, part);
         }
     }
-    Some(())
 }
 
 /// Runs a text's formula for at most so many conflicts, and writes how that ends.
 pub(crate) fn put_solved(
+    rt: &impl Abort,
     alloc: Global,
-    out: &mut Vec<u8>,
+    out: &mut Out,
     text: &str,
     conflicts: u32,
-) -> Option<()> {
-    let mut solver = solver_of(alloc, text)?;
-    go_on(&mut solver, conflicts)?;
-    put_run(out, &solver, text)
+) {
+    let mut solver = solver_of(rt, alloc, text);
+    go_on(rt, &mut solver, conflicts);
+    put_run(out, &solver, text);
 }
 
 /// Runs a text's formula for at most so many conflicts, and writes how many propagations it makes.
 pub(crate) fn put_propagations(
+    rt: &impl Abort,
     alloc: Global,
-    out: &mut Vec<u8>,
+    out: &mut Out,
     text: &str,
     conflicts: u32,
-) -> Option<()> {
-    let mut solver = solver_of(alloc, text)?;
-    let count = count_propagations(alloc, &mut solver, conflicts)?;
-    put(out, "propagations #\n", &[count])
+) {
+    let mut solver = solver_of(rt, alloc, text);
+    let count = count_propagations(rt, alloc, &mut solver, conflicts);
+    put(out, "propagations #\n", &[count]);
 }

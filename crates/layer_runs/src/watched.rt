@@ -4,14 +4,15 @@
 //! The clauses say of each three variables in a row that the first two imply the third. A row prints the sum of the numbers of
 //! the clauses that asked first.
 
-ghost use Rattle.std.specs.Prelude.{◌≡◌, ◌+◌, ◌*◌, ◌≤◌, ◌<◌, ◌++◌, ◌∷◌, [], length, true, IfSome, OnSome};
+ghost use Rattle.std.specs.Prelude.{◌≡◌, ◌+◌, ◌*◌, ◌≤◌, ◌<◌, ◌++◌, ◌∷◌, [], length, true};
 
 use crate::dimacs::add_clause;
-use crate::lines::put;
+use crate::lines::{Out, must, put};
 use clause_base::clause::Clause;
 use clause_base::formula::Formula;
 use clause_base::literal::Lit;
 use std::alloc::Global;
+use std::process::Abort;
 use watch_lists::watches::Watches;
 
 /// How many clauses there are at first.
@@ -24,8 +25,8 @@ const VARIABLES: u32 = CLAUSES + 2;
 const ROUNDS: u32 = 100_000;
 
 /// For each three variables in a row, that the first two imply the third.
-fn triples(alloc: Global) -> Option<Formula>
-    ensures { IfSome result (λ f. f.variables ≡ 100002) }
+fn triples(rt: &impl Abort, alloc: Global) -> Formula
+    ensures { result.variables ≡ 100002 }
 {
     let mut formula = Formula::new(alloc, 0, VARIABLES);
     for v in 0..CLAUSES {
@@ -34,9 +35,9 @@ fn triples(alloc: Global) -> Option<Formula>
             Lit::of(v + 1, false),
             Lit::of(v + 2, true),
         ];
-        add_clause(alloc, &mut formula, &lits)?;
+        add_clause(rt, alloc, &mut formula, &lits);
     }
-    Some(formula)
+    formula
 }
 
 /// The number of the clause that asks first, or 0.
@@ -88,42 +89,51 @@ fn undone(watches: &mut Watches) -> u64
 }
 
 /// Adds, with the next number, that a variable and the next one are not both true.
-fn add_two(alloc: Global, watches: &mut Watches, v: u32) -> Option<()>
+fn add_two(rt: &impl Abort, alloc: Global, watches: &mut Watches, v: u32)
     requires many { watches.old.variables ≡ 100002 }
     requires variable { v < 100000 }
     requires none { watches.old.trail ≡ [] }
-    ensures many { OnSome result (watches.new.variables ≡ 100002) }
-    ensures none { OnSome result (watches.new.trail ≡ []) }
-    ensures kept { OnSome result (watches.new.kept ≡ watches.old.kept ++ true ∷ []) }
+    ensures many { watches.new.variables ≡ 100002 }
+    ensures none { watches.new.trail ≡ [] }
+    ensures kept { watches.new.kept ≡ watches.old.kept ++ true ∷ [] }
 {
     let lits = [Lit::of(v, false), Lit::of(v + 1, false)];
-    let clause = Clause::of(alloc, &lits).ok()??;
+    let clause = must(rt, Clause::of(alloc, &lits)).expect(rt, "no clause");
     if !clause.fits(VARIABLES) {
-        return None;
+        rt.panic("too many variables");
     }
-    watches.add(clause).ok()
+    match watches.add(clause) {
+        Ok(()) => (),
+        Err(_) => rt.panic("no memory"),
+    }
 }
 
 /// Adds, with the next number, that two variables in a row are not both true, and removes it. What is told is the number of the
 /// clause that asks where the first is true, before the clause is removed and, 1,000,000 times, after.
-fn asked_when_added(alloc: Global, watches: &mut Watches, v: u32, number: u32) -> Option<u64>
+fn asked_when_added(
+    rt: &impl Abort,
+    alloc: Global,
+    watches: &mut Watches,
+    v: u32,
+    number: u32,
+) -> u64
     requires many { watches.old.variables ≡ 100002 }
     requires variable { v < 100000 }
     requires none { watches.old.trail ≡ [] }
     requires count { length watches.old.kept ≡ number }
-    ensures many { OnSome result (watches.new.variables ≡ 100002) }
-    ensures none { OnSome result (watches.new.trail ≡ []) }
-    ensures count { OnSome result (length watches.new.kept ≡ number + 1) }
+    ensures many { watches.new.variables ≡ 100002 }
+    ensures none { watches.new.trail ≡ [] }
+    ensures count { length watches.new.kept ≡ number + 1 }
 {
-    add_two(alloc, watches, v)?;
+    add_two(rt, alloc, watches, v);
     let before = asked_by_one(watches, v);
     watches.remove(number);
     let after = asked_by_one(watches, v);
-    Some(before.wrapping_add(after.wrapping_mul(1_000_000)))
+    before.wrapping_add(after.wrapping_mul(1_000_000))
 }
 
 /// Adds and removes a clause for each two variables in a row.
-fn added(alloc: Global, watches: &mut Watches, first: u32) -> Option<u64>
+fn added(rt: &impl Abort, alloc: Global, watches: &mut Watches, first: u32) -> u64
     requires many { watches.old.variables ≡ 100002 }
     requires none { watches.old.trail ≡ [] }
     requires count { length watches.old.kept ≡ first }
@@ -131,24 +141,26 @@ fn added(alloc: Global, watches: &mut Watches, first: u32) -> Option<u64>
 {
     let mut sum: u64 = 0;
     for v in 0..ROUNDS {
-        sum = sum.wrapping_add(asked_when_added(alloc, watches, v, first + v)?);
+        sum = sum.wrapping_add(asked_when_added(rt, alloc, watches, v, first + v));
     }
-    Some(sum)
+    sum
 }
 
 /// Writes the sums of both rows.
-pub(crate) fn put_sums(alloc: Global, out: &mut Vec<u8>) -> Option<()> {
-    let formula = triples(alloc)?;
+pub(crate) fn put_sums(rt: &impl Abort, alloc: Global, out: &mut Out) {
+    let formula = triples(rt, alloc);
     let count = formula.count();
-    let mut watches = Watches::new(alloc, &formula).ok()?;
-    let undone = undone(&mut watches);
     if count > CLAUSES {
-        return None;
+        rt.panic("too many clauses");
     }
-    let added = added(alloc, &mut watches, count)?;
+    let Ok(mut watches) = Watches::new(alloc, &formula) else {
+        rt.panic("no memory")
+    };
+    let undone = undone(&mut watches);
+    let added = added(rt, alloc, &mut watches, count);
     put(
         out,
         "undone 100000 times: #\nadded and removed 100000 times: #\n",
         &[undone, added],
-    )
+    );
 }
