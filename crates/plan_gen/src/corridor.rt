@@ -47,6 +47,5 @@ fn put_door(text: &mut Text, from: u32, to: u32) -> Result<(), Memory>
     text.put_number(from)?;
     text.put(" r")?;
     text.put_number(to)?;
-    text.put(")")?;
-    Ok(())
+    text.put(")")
 }
