@@ -3,7 +3,7 @@
 
 ghost use Rattle.std.specs.Prelude.{◌≤◌};
 
-use crate::formulas::put_clause;
+use crate::formulas::{put_clause, put_counts};
 use crate::lines::{Out, must, put};
 use action_order::publish::publish;
 use all_steps::form::AllForm;
@@ -47,11 +47,12 @@ fn put_size<F: StepForm>(rt: &impl Abort, alloc: Global, out: &mut Out, form: &F
     requires { n ≤ 255 }
 {
     let formula = must(rt, form.formula(alloc, n));
-    let (variables, clauses) = (formula.variables() as u64, formula.count() as u64);
-    put(
+    put_counts(
         out,
         "horizon # variables # clauses # size #\n",
-        &[n as u64, variables, clauses, form.size(n)],
+        form,
+        n,
+        &formula,
     );
 }
 

@@ -3,7 +3,6 @@
 //! `bench/list-formulas` wrote, from the definition of the clauses alone.
 
 ghost use Rattle.std.specs.Prelude.{◌≡◌, ◌≤◌};
-ghost use Rattle.clause_base.specs.Formula.{IsModel};
 ghost use Rattle.gt_core.specs.Published.{IsPublished};
 ghost use Rattle.gt_core.specs.Reached.{HoldsWherever};
 ghost use Rattle.step_encoding.specs.Numbers.{literals_of};
@@ -25,6 +24,7 @@ use std::process::Abort;
 use step_encoding::exists::Components;
 use step_encoding::form::StepForm;
 use step_encoding::placed::{Placed, Placing};
+use step_encoding::steps::Steps;
 
 /// How many tasks are drawn.
 const TASKS: u32 = 20;
@@ -55,6 +55,20 @@ pub(crate) fn put_clause(out: &mut Out, clause: &View) {
     put(out, "\n", &[]);
 }
 
+/// Writes, by words with four `#`, a horizon and how many variables, clauses and literals its formula has.
+pub(crate) fn put_counts<F: StepForm>(
+    out: &mut Out,
+    words: &str,
+    form: &F,
+    n: u32,
+    formula: &Formula,
+)
+    requires { n ≤ 255 }
+{
+    let (variables, clauses) = (formula.variables() as u64, formula.count() as u64);
+    put(out, words, &[n as u64, variables, clauses, form.size(n)]);
+}
+
 /// Writes a formula.
 fn put_formula(out: &mut Out, formula: &Formula) {
     let (name, variables) = (formula.name() as u64, formula.variables() as u64);
@@ -75,20 +89,8 @@ fn put_layout<F: StepForm>(out: &mut Out, form: &F, n: u32)
     put(out, "\n", &[]);
 }
 
-/// Writes the steps of an assignment that satisfies a horizon's formula, the actions of each in a line.
-fn put_steps<F: StepForm>(
-    rt: &impl Abort,
-    alloc: Global,
-    out: &mut Out,
-    form: &F,
-    n: u32,
-    values: &[bool],
-)
-    requires horizon { n ≤ 255 }
-    requires size { literals_of (F.formula_of form.now n) ≤ 4000000 }
-    requires model { IsModel (F.formula_of form.now n) values.now }
-{
-    let steps = must(rt, form.steps_of(alloc, n, values));
+/// Writes steps, the actions of each in a line.
+fn put_steps(out: &mut Out, steps: &Steps) {
     for step in steps.as_slice() {
         put(out, "step", &[]);
         put_all(out, step.as_slice());
@@ -113,7 +115,7 @@ fn put_horizon<F: StepForm>(
     put_layout(out, form, n);
     put_formula(out, &formula);
     if is_model(&formula, values) {
-        put_steps(rt, alloc, out, form, n, values);
+        put_steps(out, &must(rt, form.steps_of(alloc, n, values)));
     } else {
         put(out, "no model\n", &[]);
     }
@@ -186,14 +188,8 @@ fn put_kept(rt: &impl Abort, alloc: Global, out: &mut Out, task: &Task, asked: A
 /// Writes a task's formulas under no known pair, and then under all that are kept.
 fn put_task(rt: &impl Abort, alloc: Global, out: &mut Out, made: Option<Task>, asked: Asked) {
     let task = made.expect(rt, "no task");
-    put_known(
-        rt,
-        alloc,
-        out,
-        &task,
-        &known_pairs(rt, alloc, &task, 0, ""),
-        asked,
-    );
+    let none = known_pairs(rt, alloc, &task, 0, "");
+    put_known(rt, alloc, out, &task, &none, asked);
     put_kept(rt, alloc, out, &task, asked);
 }
 

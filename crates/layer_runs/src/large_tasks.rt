@@ -4,6 +4,7 @@
 
 ghost use Rattle.std.specs.Prelude.{◌≡◌, ◌<◌, ◌≤◌};
 
+use crate::formulas::put_counts;
 use crate::known::{kept_order, known_pairs};
 use crate::lines::{Out, must, put};
 use action_order::publish::publish;
@@ -70,12 +71,14 @@ fn put_formula<F: StepForm>(rt: &impl Abort, alloc: Global, out: &mut Out, form:
     requires { n ≤ 255 }
 {
     let formula = must(rt, form.formula(alloc, n));
-    let (variables, clauses) = (formula.variables() as u64, formula.count() as u64);
-    put(
+    put_counts(
         out,
-        "horizon #: # variables, # clauses, # literals, sum #\n",
-        &[n as u64, variables, clauses, form.size(n), sum_of(&formula)],
+        "horizon #: # variables, # clauses, # literals",
+        form,
+        n,
+        &formula,
     );
+    put(out, ", sum #\n", &[sum_of(&formula)]);
 }
 
 /// Does what was asked with a form. A horizon is at most 255.
@@ -129,14 +132,8 @@ fn put_sizes(rt: &impl Abort, alloc: Global, out: &mut Out, word: &str) {
         horizon: 0,
         sizes: 0,
     };
-    put_task(
-        rt,
-        alloc,
-        out,
-        &task,
-        &known_pairs(rt, alloc, &task, 0, ""),
-        asked,
-    );
+    let none = known_pairs(rt, alloc, &task, 0, "");
+    put_task(rt, alloc, out, &task, &none, asked);
 }
 
 /// Writes how many actions and components the order of the task for a word has.

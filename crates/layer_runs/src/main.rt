@@ -75,10 +75,7 @@ fn solve_file(
 ) {
     let text = must(rt, fs::read_to_string(rt, path));
     let conflicts = number(words, 1, 1000);
-    if words.len() > 2 {
-        return solver::put_propagations(rt, alloc, out, text.as_str(), conflicts);
-    }
-    solver::put_solved(rt, alloc, out, text.as_str(), conflicts)
+    solver::put_solved(rt, alloc, out, text.as_str(), conflicts, words.len() > 2);
 }
 
 /// Runs the solver on the formula of a file, or on those of the input.

@@ -193,28 +193,20 @@ pub(crate) fn put_all_parts(rt: &impl Abort, alloc: Global, out: &mut Out, text:
     }
 }
 
-/// Runs a text's formula for at most so many conflicts, and writes how that ends.
+/// Runs a text's formula for at most so many conflicts, and writes how that ends, or how many propagations the run makes.
 pub(crate) fn put_solved(
     rt: &impl Abort,
     alloc: Global,
     out: &mut Out,
     text: &str,
     conflicts: u32,
+    are_counted: bool,
 ) {
     let mut solver = solver_of(rt, alloc, text);
+    if are_counted {
+        let count = count_propagations(rt, alloc, &mut solver, conflicts);
+        return put(out, "propagations #\n", &[count]);
+    }
     go_on(rt, &mut solver, conflicts);
     put_run(out, &solver, text);
-}
-
-/// Runs a text's formula for at most so many conflicts, and writes how many propagations it makes.
-pub(crate) fn put_propagations(
-    rt: &impl Abort,
-    alloc: Global,
-    out: &mut Out,
-    text: &str,
-    conflicts: u32,
-) {
-    let mut solver = solver_of(rt, alloc, text);
-    let count = count_propagations(rt, alloc, &mut solver, conflicts);
-    put(out, "propagations #\n", &[count]);
 }
