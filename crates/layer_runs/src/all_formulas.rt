@@ -1,8 +1,7 @@
 //! The formulas of all-steps of two worked tasks under their invariants: how large they are at the horizons 0 to 2, and the clauses
 //! of their chains in one step. What is due, a plain listing by the definition of the clauses wrote.
 
-ghost use Rattle.std.specs.Prelude.{◌≤◌};
-
+use crate::Host;
 use crate::formulas::{put_clause, put_counts};
 use crate::lines::{Out, must, put};
 use action_order::publish::publish;
@@ -16,7 +15,6 @@ use sample_tasks::actions::plain;
 use sample_tasks::worked;
 use std::alloc::Global;
 use std::process::Abort;
-use std::thread::Threads;
 use step_encoding::form::StepForm;
 use two_invariants::find;
 
@@ -42,20 +40,6 @@ fn touches(clause: &View, first: u64, end: u64) -> bool {
     false
 }
 
-/// Writes how large the formula of a horizon is.
-fn put_size<F: StepForm>(rt: &impl Abort, alloc: Global, out: &mut Out, form: &F, n: u32)
-    requires { n ≤ 255 }
-{
-    let formula = must(rt, form.formula(alloc, n));
-    put_counts(
-        out,
-        "horizon # variables # clauses # size #\n",
-        form,
-        n,
-        &formula,
-    );
-}
-
 /// Writes the clauses of a formula that have a literal of a variable from one on and below another.
 fn put_touching(out: &mut Out, formula: &Formula, first: u64, end: u64) {
     for number in 0..formula.count() {
@@ -67,8 +51,8 @@ fn put_touching(out: &mut Out, formula: &Formula, first: u64, end: u64) {
 }
 
 /// Writes how many chain variables a step has, and the clauses in which they are.
-fn put_chains<F: StepForm>(rt: &impl Abort, alloc: Global, out: &mut Out, form: &F) {
-    let Ok(formula) = form.formula(alloc, 1) else {
+fn put_chains<F: StepForm>(rt: &impl Abort, out: &mut Out, form: &F) {
+    let Ok(formula) = form.formula(out.alloc, 1) else {
         rt.panic("no memory, or too large")
     };
     let z = form.layout(1);
@@ -77,40 +61,32 @@ fn put_chains<F: StepForm>(rt: &impl Abort, alloc: Global, out: &mut Out, form: 
     put_touching(out, &formula, first, first + u64::from(z.chains));
 }
 
-/// Writes what there is to write of a form.
-fn put_form<F: StepForm>(rt: &impl Abort, alloc: Global, out: &mut Out, form: &F) {
+/// Writes how large the formulas of three horizons are, and what there is to write of the chains.
+fn put_form<F: StepForm>(rt: &impl Abort, out: &mut Out, form: &F) {
+    let words = "horizon # variables # clauses # size #\n";
     for n in 0..3 {
-        put_size(rt, alloc, out, form, n);
+        let formula = must(rt, form.formula(out.alloc, n));
+        put_counts(out, words, &formula, form.size(n));
     }
-    put_chains(rt, alloc, out, form);
+    put_chains(rt, out, form);
 }
 
-/// Writes what there is to write of a task under its invariants.
-fn put_task(rt: &(impl Threads + Sync + Abort), alloc: Global, out: &mut Out, task: &Task) {
-    let Ok(pairs) = find(rt, alloc, task) else {
-        rt.panic("no memory")
-    };
-    let Ok(order) = publish(alloc, task, &pairs) else {
-        rt.panic("no memory")
-    };
-    let form = must(rt, AllForm::new(alloc, task, &pairs, &order));
-    put_form(rt, alloc, out, &form);
-}
-
-/// Writes what there is to write of a task that was made, after its name.
-fn put_made(
-    rt: &(impl Threads + Sync + Abort),
-    alloc: Global,
-    out: &mut Out,
-    name: &str,
-    made: Option<Task>,
-) {
+/// Writes what there is to write of a task under its invariants, after its name.
+fn put_task(rt: &impl Host, out: &mut Out, name: &str, made: Option<Task>) {
+    let task = made.expect(rt, "no task");
     put(out, name, &[]);
-    put_task(rt, alloc, out, &made.expect(rt, "no task"));
+    let Ok(pairs) = find(rt, out.alloc, &task) else {
+        rt.panic("no memory")
+    };
+    let Ok(order) = publish(out.alloc, &task, &pairs) else {
+        rt.panic("no memory")
+    };
+    let form = must(rt, AllForm::new(out.alloc, &task, &pairs, &order));
+    put_form(rt, out, &form);
 }
 
 /// Writes what there is to write of both tasks.
-pub(crate) fn put_tasks(rt: &(impl Threads + Sync + Abort), alloc: Global, out: &mut Out) {
-    put_made(rt, alloc, out, "burning\n", burning(rt, alloc));
-    put_made(rt, alloc, out, "rivals\n", must(rt, worked::rivals(alloc)));
+pub(crate) fn put_tasks(rt: &impl Host, out: &mut Out) {
+    put_task(rt, out, "burning\n", burning(rt, out.alloc));
+    put_task(rt, out, "rivals\n", must(rt, worked::rivals(out.alloc)));
 }

@@ -70,15 +70,10 @@ fn read_literals(rt: &impl Abort, lits: &mut Vec<Lit>, line: &str) {
 }
 
 /// Adds the clauses of a text, a line each.
-fn add_lines(
-    rt: &impl Abort,
-    alloc: Global,
-    formula: &mut Formula,
-    lits: &mut Vec<Lit>,
-    text: &str,
-) {
+fn add_lines(rt: &impl Abort, alloc: Global, formula: &mut Formula, text: &str) {
+    let mut lits = Vec::new(alloc);
     for line in text.lines() {
-        read_literals(rt, lits, line);
+        read_literals(rt, &mut lits, line);
         add_clause(rt, alloc, formula, lits.as_slice());
     }
 }
@@ -97,6 +92,6 @@ pub(crate) fn formula_of(rt: &impl Abort, alloc: Global, text: &str) -> Formula 
         rt.panic("too many variables");
     }
     let mut formula = Formula::new(alloc, 0, variables);
-    add_lines(rt, alloc, &mut formula, &mut Vec::new(alloc), clauses);
+    add_lines(rt, alloc, &mut formula, clauses);
     formula
 }

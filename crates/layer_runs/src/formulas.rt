@@ -7,7 +7,7 @@ ghost use Rattle.gt_core.specs.Published.{IsPublished};
 ghost use Rattle.gt_core.specs.Reached.{HoldsWherever};
 ghost use Rattle.step_encoding.specs.Numbers.{literals_of};
 
-use crate::known::{kept_order, known_pairs};
+use crate::known::{kept_order, pairs_of};
 use crate::lines::{Out, must, put, put_all};
 use crate::model::is_model;
 use action_order::order::Order;
@@ -55,18 +55,10 @@ pub(crate) fn put_clause(out: &mut Out, clause: &View) {
     put(out, "\n", &[]);
 }
 
-/// Writes, by words with four `#`, a horizon and how many variables, clauses and literals its formula has.
-pub(crate) fn put_counts<F: StepForm>(
-    out: &mut Out,
-    words: &str,
-    form: &F,
-    n: u32,
-    formula: &Formula,
-)
-    requires { n ≤ 255 }
-{
-    let (variables, clauses) = (formula.variables() as u64, formula.count() as u64);
-    put(out, words, &[n as u64, variables, clauses, form.size(n)]);
+/// Writes, by words with four `#`, the horizon of a formula, and how many variables, clauses and literals it has.
+pub(crate) fn put_counts(out: &mut Out, words: &str, formula: &Formula, size: u64) {
+    let (name, variables) = (formula.name() as u64, formula.variables() as u64);
+    put(out, words, &[name, variables, formula.count() as u64, size]);
 }
 
 /// Writes a formula.
@@ -99,40 +91,32 @@ fn put_steps(out: &mut Out, steps: &Steps) {
 }
 
 /// Writes a horizon's formula, and the steps of an assignment where it satisfies it.
-fn put_horizon<F: StepForm>(
-    rt: &impl Abort,
-    alloc: Global,
-    out: &mut Out,
-    form: &F,
-    n: u32,
-    values: &[bool],
-)
+fn put_horizon<F: StepForm>(rt: &impl Abort, out: &mut Out, form: &F, n: u32, values: &[bool])
     requires { n ≤ 255 }
 {
-    let Ok(formula) = form.formula(alloc, n) else {
+    let Ok(formula) = form.formula(out.alloc, n) else {
         rt.panic("no memory, or too large")
     };
     put_layout(out, form, n);
     put_formula(out, &formula);
     if is_model(&formula, values) {
-        put_steps(out, &must(rt, form.steps_of(alloc, n, values)));
+        put_steps(out, &must(rt, form.steps_of(out.alloc, n, values)));
     } else {
         put(out, "no model\n", &[]);
     }
 }
 
 /// Writes what was asked of a form.
-fn put_form<F: StepForm>(rt: &impl Abort, alloc: Global, out: &mut Out, form: &F, asked: Asked) {
+fn put_form<F: StepForm>(rt: &impl Abort, out: &mut Out, form: &F, asked: Asked) {
     for n in 0..4 {
         put(out, "size # #\n", &[n as u64, form.size(n)]);
     }
-    put_horizon(rt, alloc, out, form, asked.horizon.min(255), asked.values);
+    put_horizon(rt, out, form, asked.horizon.min(255), asked.values);
 }
 
 /// Writes what was asked of the form of a task whose chains go where `P` says, under its name.
 fn put_placed<P: Placing>(
     rt: &impl Abort,
-    alloc: Global,
     out: &mut Out,
     name: &str,
     task: &Task,
@@ -145,8 +129,8 @@ fn put_placed<P: Placing>(
     requires published { IsPublished task.now pairs.now.clauses order.now }
 {
     put(out, name, &[]);
-    let form = must(rt, Placed::<P>::new(alloc, task, pairs, order));
-    put_form(rt, alloc, out, &form, asked);
+    let form = must(rt, Placed::<P>::new(out.alloc, task, pairs, order));
+    put_form(rt, out, &form, asked);
 }
 
 /// Writes pairs.
@@ -160,65 +144,53 @@ fn put_pairs(out: &mut Out, pairs: &Pairs) {
 }
 
 /// Writes known pairs, and a task's published order and its formulas under them.
-fn put_known(
-    rt: &impl Abort,
-    alloc: Global,
-    out: &mut Out,
-    task: &Task,
-    pairs: &Pairs,
-    asked: Asked,
-)
+fn put_known(rt: &impl Abort, out: &mut Out, task: &Task, pairs: &Pairs, asked: Asked)
     requires { pairs.now.facts ≡ task.now.facts }
 {
-    let order = kept_order(rt, alloc, task, pairs);
+    let order = kept_order(rt, out.alloc, task, pairs);
     put_pairs(out, pairs);
     put_order(out, &order);
-    put_placed::<Components>(rt, alloc, out, "exists-steps\n", task, pairs, &order, asked);
-    put_placed::<BothWays>(rt, alloc, out, "all-steps\n", task, pairs, &order, asked);
-}
-
-/// Writes a task's formulas under all pairs that are kept.
-fn put_kept(rt: &impl Abort, alloc: Global, out: &mut Out, task: &Task, asked: Asked) {
-    match kept_pairs(alloc, task) {
-        Ok(pairs) => put_known(rt, alloc, out, task, &pairs, asked),
-        Err(_) => rt.panic("no memory"),
-    }
+    put_placed::<Components>(rt, out, "exists-steps\n", task, pairs, &order, asked);
+    put_placed::<BothWays>(rt, out, "all-steps\n", task, pairs, &order, asked);
 }
 
 /// Writes a task's formulas under no known pair, and then under all that are kept.
-fn put_task(rt: &impl Abort, alloc: Global, out: &mut Out, made: Option<Task>, asked: Asked) {
+fn put_task(rt: &impl Abort, out: &mut Out, made: Option<Task>, asked: Asked) {
     let task = made.expect(rt, "no task");
-    let none = known_pairs(rt, alloc, &task, 0, "");
-    put_known(rt, alloc, out, &task, &none, asked);
-    put_kept(rt, alloc, out, &task, asked);
+    let none = pairs_of(rt, out.alloc, &task, 0, "");
+    put_known(rt, out, &task, &none, asked);
+    let Ok(kept) = kept_pairs(out.alloc, &task) else {
+        rt.panic("no memory")
+    };
+    put_known(rt, out, &task, &kept, asked);
 }
 
 /// Writes the formulas of a worked task, after its name.
-fn put_worked(rt: &impl Abort, alloc: Global, out: &mut Out, name: &str, made: Option<Task>) {
+fn put_worked(rt: &impl Abort, out: &mut Out, name: &str, made: Option<Task>) {
     let one_step = Asked {
         horizon: 1,
         values: &[true, false, true],
     };
     put(out, name, &[]);
-    put_task(rt, alloc, out, made, one_step);
+    put_task(rt, out, made, one_step);
 }
 
 /// Writes the formulas of a task that is drawn from a number.
-fn put_drawn(rt: &impl Abort, alloc: Global, out: &mut Out, number: u32) {
+fn put_drawn(rt: &impl Abort, out: &mut Out, number: u32) {
     let two_steps = Asked {
         horizon: 2,
         values: &[],
     };
-    let made = must(rt, drawn::task(alloc, &mut Dice::new(number)));
+    let made = must(rt, drawn::task(out.alloc, &mut Dice::new(number)));
     put(out, "task #\n", &[number as u64]);
-    put_task(rt, alloc, out, made, two_steps);
+    put_task(rt, out, made, two_steps);
 }
 
 /// Writes the formulas of all tasks.
-pub(crate) fn put_tasks(rt: &impl Abort, alloc: Global, out: &mut Out) {
-    put_worked(rt, alloc, out, "lamp\n", must(rt, worked::lamp(alloc)));
-    put_worked(rt, alloc, out, "rivals\n", must(rt, worked::rivals(alloc)));
+pub(crate) fn put_tasks(rt: &impl Abort, out: &mut Out) {
+    put_worked(rt, out, "lamp\n", must(rt, worked::lamp(out.alloc)));
+    put_worked(rt, out, "rivals\n", must(rt, worked::rivals(out.alloc)));
     for number in 0..TASKS {
-        put_drawn(rt, alloc, out, number);
+        put_drawn(rt, out, number);
     }
 }

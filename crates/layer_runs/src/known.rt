@@ -16,13 +16,7 @@ use std::alloc::Global;
 use std::process::Abort;
 
 /// The pairs that are known of the lamps of so many rooms; of no room, none. With them the pairs of the places, for the word `known`.
-pub(crate) fn known_pairs(
-    rt: &impl Abort,
-    alloc: Global,
-    task: &Task,
-    rooms: u32,
-    word: &str,
-) -> Pairs
+pub(crate) fn pairs_of(rt: &impl Abort, alloc: Global, task: &Task, rooms: u32, word: &str) -> Pairs
     ensures { result.facts ≡ task.now.facts }
 {
     let Ok(mut pairs) = Pairs::empty(alloc, task.facts()) else {

@@ -4,8 +4,9 @@
 
 ghost use Rattle.std.specs.Prelude.{◌≡◌, ◌<◌, ◌≤◌};
 
+use crate::Host;
 use crate::formulas::put_counts;
-use crate::known::{kept_order, known_pairs};
+use crate::known::{kept_order, pairs_of};
 use crate::lines::{Out, must, put};
 use action_order::publish::publish;
 use clause_base::formula::Formula;
@@ -16,7 +17,6 @@ use sample_tasks::large::large;
 use sample_tasks::rooms::rooms;
 use std::alloc::Global;
 use std::process::Abort;
-use std::thread::Threads;
 use step_encoding::exists::ExistsForm;
 use step_encoding::form::StepForm;
 use two_invariants::find;
@@ -67,24 +67,19 @@ fn all_sizes<F: StepForm>(form: &F) -> u64 {
 }
 
 /// Builds a formula, and writes how many literals and clauses it has and what they sum up to.
-fn put_formula<F: StepForm>(rt: &impl Abort, alloc: Global, out: &mut Out, form: &F, n: u32)
+fn put_formula<F: StepForm>(rt: &impl Abort, out: &mut Out, form: &F, n: u32)
     requires { n ≤ 255 }
 {
-    let formula = must(rt, form.formula(alloc, n));
-    put_counts(
-        out,
-        "horizon #: # variables, # clauses, # literals",
-        form,
-        n,
-        &formula,
-    );
+    let formula = must(rt, form.formula(out.alloc, n));
+    let words = "horizon #: # variables, # clauses, # literals";
+    put_counts(out, words, &formula, form.size(n));
     put(out, ", sum #\n", &[sum_of(&formula)]);
 }
 
 /// Does what was asked with a form. A horizon is at most 255.
-fn put_form<F: StepForm>(rt: &impl Abort, alloc: Global, out: &mut Out, form: &F, asked: Asked) {
+fn put_form<F: StepForm>(rt: &impl Abort, out: &mut Out, form: &F, asked: Asked) {
     if 0 < asked.horizon && asked.horizon <= 255 {
-        put_formula(rt, alloc, out, form, asked.horizon);
+        put_formula(rt, out, form, asked.horizon);
     }
     let (one, two) = (form.size(1), form.size(2));
     put(out, "sizes: # and # literals\n", &[one, two]);
@@ -94,29 +89,23 @@ fn put_form<F: StepForm>(rt: &impl Abort, alloc: Global, out: &mut Out, form: &F
 }
 
 /// Makes the published order and the form, and does what was asked.
-fn put_task(rt: &impl Abort, alloc: Global, out: &mut Out, task: &Task, pairs: &Pairs, asked: Asked)
+fn put_task(rt: &impl Abort, out: &mut Out, task: &Task, pairs: &Pairs, asked: Asked)
     requires { pairs.now.facts ≡ task.now.facts }
 {
-    let order = kept_order(rt, alloc, task, pairs);
+    let order = kept_order(rt, out.alloc, task, pairs);
     let (components, count) = (order.components() as u64, pairs.count() as u64);
     put(out, "# components, # known pairs\n", &[components, count]);
-    let form = must(rt, ExistsForm::new(alloc, task, pairs, &order));
-    put_form(rt, alloc, out, &form, asked);
+    let form = must(rt, ExistsForm::new(out.alloc, task, pairs, &order));
+    put_form(rt, out, &form, asked);
 }
 
 /// Takes the task of a robot in rooms with lamps, of which it is known that each is on or off and not both. Writes how many literals
 /// and clauses the formula of a horizon has, and a number that depends on each literal and on its place; of horizon 0, nothing. So
 /// many times it adds up the sizes of all horizons up to 255.
-pub(crate) fn put_rooms(rt: &impl Abort, alloc: Global, out: &mut Out, count: u32, asked: Asked) {
-    let task = must(rt, rooms(alloc, count)).expect(rt, "no such task");
-    put_task(
-        rt,
-        alloc,
-        out,
-        &task,
-        &known_pairs(rt, alloc, &task, count, ""),
-        asked,
-    );
+pub(crate) fn put_rooms(rt: &impl Abort, out: &mut Out, count: u32, asked: Asked) {
+    let task = must(rt, rooms(out.alloc, count)).expect(rt, "no such task");
+    let pairs = pairs_of(rt, out.alloc, &task, count, "");
+    put_task(rt, out, &task, &pairs, asked);
 }
 
 /// The large task for a word.
@@ -126,45 +115,39 @@ fn task_of(rt: &impl Abort, alloc: Global, word: &str) -> Task {
 }
 
 /// Writes the sizes of two horizons of a task under no known pair.
-fn put_sizes(rt: &impl Abort, alloc: Global, out: &mut Out, word: &str) {
-    let task = task_of(rt, alloc, word);
+fn put_sizes(rt: &impl Abort, out: &mut Out, word: &str) {
+    let task = task_of(rt, out.alloc, word);
     let asked = Asked {
         horizon: 0,
         sizes: 0,
     };
-    let none = known_pairs(rt, alloc, &task, 0, "");
-    put_task(rt, alloc, out, &task, &none, asked);
+    let none = pairs_of(rt, out.alloc, &task, 0, "");
+    put_task(rt, out, &task, &none, asked);
 }
 
 /// Writes how many actions and components the order of the task for a word has.
-fn put_order(rt: &impl Abort, alloc: Global, out: &mut Out, word: &str) {
-    let task = task_of(rt, alloc, word);
-    let pairs = known_pairs(rt, alloc, &task, 0, word);
-    let order = must(rt, publish(alloc, &task, &pairs));
+fn put_order(rt: &impl Abort, out: &mut Out, word: &str) {
+    let task = task_of(rt, out.alloc, word);
+    let pairs = pairs_of(rt, out.alloc, &task, 0, word);
+    let order = must(rt, publish(out.alloc, &task, &pairs));
     let (actions, components) = (order.actions() as u64, order.components() as u64);
     put(out, word, &[]);
     put(out, ": # actions, # components\n", &[actions, components]);
 }
 
 /// Writes how many invariants the task for a word has.
-fn put_count(rt: &(impl Threads + Sync + Abort), alloc: Global, out: &mut Out, word: &str) {
-    let task = task_of(rt, alloc, word);
-    let pairs = must(rt, find(rt, alloc, &task));
+fn put_count(rt: &impl Host, out: &mut Out, word: &str) {
+    let task = task_of(rt, out.alloc, word);
+    let pairs = must(rt, find(rt, out.alloc, &task));
     put(out, word, &[]);
     put(out, ": # invariants\n", &[pairs.count() as u64]);
 }
 
 /// Publishes the order of the large task for a word, finds its invariants, or writes how large its formulas are.
-pub(crate) fn put_large(
-    rt: &(impl Threads + Sync + Abort),
-    alloc: Global,
-    out: &mut Out,
-    first: &str,
-    word: &str,
-) {
+pub(crate) fn put_large(rt: &impl Host, out: &mut Out, first: &str, word: &str) {
     match first {
-        "order" => put_order(rt, alloc, out, word),
-        "invariants" => put_count(rt, alloc, out, word),
-        _ => put_sizes(rt, alloc, out, word),
+        "order" => put_order(rt, out, word),
+        "invariants" => put_count(rt, out, word),
+        _ => put_sizes(rt, out, word),
     }
 }

@@ -1,5 +1,7 @@
 //! Lines of words and numbers, as a run prints them. Where memory is wanting, the run ends.
 
+ghost use Rattle.std.specs.Prelude.{◌≡◌};
+
 use itoa::Buffer;
 use std::alloc::Global;
 use std::process::Abort;
@@ -7,6 +9,8 @@ use std::process::Abort;
 /// What a run has written, and whether there was memory for all of it.
 #[derive(Drop)]
 pub(crate) struct Out {
+    /// Where what a run makes has its memory.
+    pub(crate) alloc: Global,
     bytes: Vec<u8>,
     is_whole: bool,
 }
@@ -15,6 +19,7 @@ impl Out {
     /// Nothing so far.
     pub(crate) fn new(alloc: Global) -> Out {
         Out {
+            alloc,
             bytes: Vec::new(alloc),
             is_whole: true,
         }

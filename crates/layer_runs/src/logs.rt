@@ -61,7 +61,6 @@ fn put_refusal(rt: &impl Abort, out: &mut Out, why: CheckError) {
 /// Writes what the checker says of a log; where it accepts the log these words, with the number of entries.
 pub(crate) fn put_answer(
     rt: &impl Abort,
-    alloc: Global,
     out: &mut Out,
     words: &str,
     formula: &Formula,
@@ -70,7 +69,7 @@ pub(crate) fn put_answer(
     if formula.count() > MOST || log.len() > MOST as usize {
         return put(out, "check: too long\n", &[]);
     }
-    match check(alloc, formula, log) {
+    match check(out.alloc, formula, log) {
         Ok(checked) => put(out, words, &[checked.entries() as u64]),
         Err(why) => put_refusal(rt, out, why),
     }

@@ -51,16 +51,14 @@ fn refutation(rt: &impl Abort, alloc: Global) -> Log {
         let lit = Lit::of(19 + number % 981, true);
         must(rt, log.push_learned(&[lit], &HINTS));
     }
-    must(
-        rt,
-        log.push_learned(Clause::empty(alloc).as_slice(), &HINTS),
-    );
+    let last = Clause::empty(alloc);
+    must(rt, log.push_learned(last.as_slice(), &HINTS));
     log
 }
 
 /// Checks the log, and writes how many entries are accepted.
-pub(crate) fn put_accepted(rt: &impl Abort, alloc: Global, out: &mut Out) {
-    let formula = formula_of(rt, alloc, CHAIN);
-    let log = refutation(rt, alloc);
-    put_answer(rt, alloc, out, "accepted # entries\n", &formula, &log);
+pub(crate) fn put_accepted(rt: &impl Abort, out: &mut Out) {
+    let formula = formula_of(rt, out.alloc, CHAIN);
+    let log = refutation(rt, out.alloc);
+    put_answer(rt, out, "accepted # entries\n", &formula, &log);
 }

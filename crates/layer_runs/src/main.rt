@@ -51,6 +51,11 @@ const ALL: [&str; 8] = [
 const WORDS: &str =
     "none of solve, check, watches, order, invariants, forms, rooms, formulas, all-formulas and all\n";
 
+/// What a run has of the system.
+pub(crate) trait Host: Input + Files + AllocGlobal + Threads + Sync + Abort {}
+
+impl<R: Input + Files + AllocGlobal + Threads + Sync + Abort> Host for R {}
+
 /// The number that the word at a place spells, or another one.
 fn number(words: &[String], place: usize, other: u32) -> u32 {
     match words.get(place) {
@@ -60,74 +65,51 @@ fn number(words: &[String], place: usize, other: u32) -> u32 {
 }
 
 /// Runs the solver on each formula of the input.
-fn solve_input(rt: &(impl Input + Abort), alloc: Global, out: &mut Out) {
-    let text = must(rt, io::read_to_string(alloc, rt.reader()));
-    solver::put_all_parts(rt, alloc, out, text.as_str());
+fn solve_input(rt: &impl Host, out: &mut Out) {
+    let text = must(rt, io::read_to_string(out.alloc, rt.reader()));
+    solver::put_all_parts(rt, out, text.as_str());
 }
 
 /// Runs the solver on the formula of a file.
-fn solve_file(
-    rt: &(impl Files + AllocGlobal + Abort),
-    alloc: Global,
-    out: &mut Out,
-    path: &str,
-    words: &[String],
-) {
+fn solve_file(rt: &impl Host, out: &mut Out, path: &str, words: &[String]) {
     let text = must(rt, fs::read_to_string(rt, path));
     let conflicts = number(words, 1, 1000);
-    solver::put_solved(rt, alloc, out, text.as_str(), conflicts, words.len() > 2);
+    solver::put_solved(rt, out, text.as_str(), conflicts, words.len() > 2);
 }
 
 /// Runs the solver on the formula of a file, or on those of the input.
-fn solve(
-    rt: &(impl Input + Files + AllocGlobal + Abort),
-    alloc: Global,
-    out: &mut Out,
-    words: &[String],
-) {
+fn solve(rt: &impl Host, out: &mut Out, words: &[String]) {
     match words.first() {
-        Some(path) => solve_file(rt, alloc, out, path.as_str(), words),
-        None => solve_input(rt, alloc, out),
+        Some(path) => solve_file(rt, out, path.as_str(), words),
+        None => solve_input(rt, out),
     }
 }
 
 /// Sums up a formula of a robot in rooms.
-fn sum_up(rt: &impl Abort, alloc: Global, out: &mut Out, words: &[String]) {
+fn sum_up(rt: &impl Abort, out: &mut Out, words: &[String]) {
     let rooms = number(words, 0, 3);
     let horizon = number(words, 1, 1);
     let sizes = number(words, 2, 0);
-    large_tasks::put_rooms(rt, alloc, out, rooms, Asked { horizon, sizes });
+    large_tasks::put_rooms(rt, out, rooms, Asked { horizon, sizes });
 }
 
 /// Publishes the orders of the large tasks for several words, finds their invariants, or tells how large their formulas are.
-fn run_on_tasks(
-    rt: &(impl Threads + Sync + Abort),
-    alloc: Global,
-    out: &mut Out,
-    first: &str,
-    words: &[String],
-) {
+fn run_on_tasks(rt: &impl Host, out: &mut Out, first: &str, words: &[String]) {
     for word in words {
-        large_tasks::put_large(rt, alloc, out, first, word.as_str());
+        large_tasks::put_large(rt, out, first, word.as_str());
     }
 }
 
 /// Does what a first word says.
-fn run(
-    rt: &(impl Input + Files + AllocGlobal + Threads + Sync + Abort),
-    alloc: Global,
-    out: &mut Out,
-    first: &str,
-    others: &[String],
-) {
+fn run(rt: &impl Host, out: &mut Out, first: &str, others: &[String]) {
     match first {
-        "solve" => solve(rt, alloc, out, others),
-        "check" => long_log::put_accepted(rt, alloc, out),
-        "watches" => watched::put_sums(rt, alloc, out),
-        "order" | "invariants" | "forms" => run_on_tasks(rt, alloc, out, first, others),
-        "rooms" => sum_up(rt, alloc, out, others),
-        "formulas" => formulas::put_tasks(rt, alloc, out),
-        "all-formulas" => all_formulas::put_tasks(rt, alloc, out),
+        "solve" => solve(rt, out, others),
+        "check" => long_log::put_accepted(rt, out),
+        "watches" => watched::put_sums(rt, out),
+        "order" | "invariants" | "forms" => run_on_tasks(rt, out, first, others),
+        "rooms" => sum_up(rt, out, others),
+        "formulas" => formulas::put_tasks(rt, out),
+        "all-formulas" => all_formulas::put_tasks(rt, out),
         _ => put(out, WORDS, &[]),
     }
 }
@@ -142,58 +124,41 @@ fn words_of(rt: &impl Abort, alloc: Global, line: &str) -> Vec<String> {
 }
 
 /// Does what the words of a line say, under the first of them.
-fn run_line(
-    rt: &(impl Input + Files + AllocGlobal + Threads + Sync + Abort),
-    alloc: Global,
-    out: &mut Out,
-    line: &str,
-) {
-    let words = words_of(rt, alloc, line);
+fn run_line(rt: &impl Host, out: &mut Out, line: &str) {
+    let words = words_of(rt, out.alloc, line);
     let (first, others) = words.as_slice().split_first().expect(rt, "no word");
     put(out, "== ", &[]);
     put(out, first.as_str(), &[]);
     put(out, "\n", &[]);
-    run(rt, alloc, out, first.as_str(), others);
+    run(rt, out, first.as_str(), others);
 }
 
 /// Makes a run of each kind but `forms`.
-fn run_all(
-    rt: &(impl Input + Files + AllocGlobal + Threads + Sync + Abort),
-    alloc: Global,
-    out: &mut Out,
-) {
+fn run_all(rt: &impl Host, out: &mut Out) {
     for line in ALL {
-        run_line(rt, alloc, out, line);
+        run_line(rt, out, line);
     }
 }
 
 /// Does what the words after the program's name say.
-fn run_words(
-    rt: &(impl Input + Files + AllocGlobal + Threads + Sync + Abort),
-    alloc: Global,
-    out: &mut Out,
-    words: &[String],
-) {
+fn run_words(rt: &impl Host, out: &mut Out, words: &[String]) {
+    let (_, words) = words.split_first().expect(rt, "no name");
     match words.split_first() {
-        Some((first, _)) if first.as_str() == "all" => run_all(rt, alloc, out),
-        Some((first, others)) => run(rt, alloc, out, first.as_str(), others),
+        Some((first, _)) if first.as_str() == "all" => run_all(rt, out),
+        Some((first, others)) => run(rt, out, first.as_str(), others),
         None => put(out, WORDS, &[]),
     }
 }
 
-/// What the words after the program's name let it print.
-fn printed(
-    rt: &(impl Input + Files + AllocGlobal + Threads + Sync + Abort),
-    alloc: Global,
-    words: &[String],
-) -> Vec<u8> {
+/// What the program's name and the words after it let it print.
+fn printed(rt: &impl Host, alloc: Global, words: &[String]) -> Vec<u8> {
     let mut out = Out::new(alloc);
-    run_words(rt, alloc, &mut out, words);
+    run_words(rt, &mut out, words);
     out.done(rt)
 }
 
 fn main(rt: HostRuntime) -> io::Result<()> {
     let given = must(&rt, env::args(&rt));
-    let words = must(&rt, given.skip(1).collect::<Vec<String>>(rt.alloc()));
+    let words = must(&rt, given.collect::<Vec<String>>(rt.alloc()));
     io::writer(&rt).write_all(printed(&rt, rt.alloc(), words.as_slice()).as_slice())
 }

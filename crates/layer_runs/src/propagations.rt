@@ -1,10 +1,8 @@
 //! How many propagations a run makes. A propagation is an entry of the trail that a clause forced, counted each time that it is
 //! made: the solver stops before each conflict, and what stands on its trail then above what it kept of the one before is new.
 use crate::lines::must;
-use crate::solver::go_on;
-use cdcl_core::solver::Solver;
+use crate::solver::{Plain, go_on};
 use cdcl_rules::trail::Assigned;
-use clause_base::chooser::PlainChooser;
 use std::alloc::Global;
 use std::process::Abort;
 
@@ -36,11 +34,7 @@ fn kept(old: &[Assigned], new: &[Assigned], is_restart: bool) -> usize {
 }
 
 /// Goes on for one conflict, and tells how many propagations came with it; none where nothing is left to do.
-fn one_more(
-    rt: &impl Abort,
-    solver: &mut Solver<PlainChooser>,
-    old: &mut Vec<Assigned>,
-) -> Option<u64> {
+fn one_more(rt: &impl Abort, solver: &mut Plain, old: &mut Vec<Assigned>) -> Option<u64> {
     let conflicts = solver.conflicts();
     old.clear();
     must(rt, old.extend_from_slice(solver.trail()));
@@ -57,7 +51,7 @@ fn one_more(
 pub(crate) fn count_propagations(
     rt: &impl Abort,
     alloc: Global,
-    solver: &mut Solver<PlainChooser>,
+    solver: &mut Plain,
     conflicts: u32,
 ) -> u64 {
     go_on(rt, solver, 0);

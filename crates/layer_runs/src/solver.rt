@@ -17,6 +17,9 @@ use clause_base::chooser::PlainChooser;
 use std::alloc::Global;
 use std::process::Abort;
 
+/// The solver with the plain chooser.
+pub(crate) type Plain = Solver<PlainChooser>;
+
 /// The most conflicts of a run.
 const MOST: u32 = 1_000_000;
 
@@ -24,20 +27,20 @@ const MOST: u32 = 1_000_000;
 const ACCEPTED: &str = "check: accepted, entries #\n";
 
 /// The solver of a text's formula.
-fn solver_of(rt: &impl Abort, alloc: Global, text: &str) -> Solver<PlainChooser> {
+fn solver_of(rt: &impl Abort, alloc: Global, text: &str) -> Plain {
     let formula = formula_of(rt, alloc, text);
     must(rt, Solver::new(alloc, formula, PlainChooser::new()))
 }
 
 /// Goes on for so many conflicts, unless there were too many.
-pub(crate) fn go_on(rt: &impl Abort, solver: &mut Solver<PlainChooser>, conflicts: u32) {
+pub(crate) fn go_on(rt: &impl Abort, solver: &mut Plain, conflicts: u32) {
     if solver.conflicts() <= u64::from(MOST) {
         must(rt, solver.advance(conflicts.min(MOST)));
     }
 }
 
 /// Goes on for so many conflicts in pieces: first for none, then for a piece each time, of which the last may be shorter.
-fn go_on_in_pieces(rt: &impl Abort, solver: &mut Solver<PlainChooser>, conflicts: u32, piece: u32) {
+fn go_on_in_pieces(rt: &impl Abort, solver: &mut Plain, conflicts: u32, piece: u32) {
     let mut left = conflicts;
     go_on(rt, solver, 0);
     for _ in 0..conflicts {
@@ -48,7 +51,7 @@ fn go_on_in_pieces(rt: &impl Abort, solver: &mut Solver<PlainChooser>, conflicts
 }
 
 /// Writes how a solver stands, and its conflicts.
-fn put_standing(out: &mut Out, solver: &Solver<PlainChooser>) {
+fn put_standing(out: &mut Out, solver: &Plain) {
     let words = match solver.standing() {
         Standing::Going => "standing going\nconflicts #\n",
         Standing::Found => "standing found\nconflicts #\n",
@@ -58,7 +61,7 @@ fn put_standing(out: &mut Out, solver: &Solver<PlainChooser>) {
 }
 
 /// Writes the literals that are true where a solver stopped, oldest first.
-fn put_trail(out: &mut Out, solver: &Solver<PlainChooser>) {
+fn put_trail(out: &mut Out, solver: &Plain) {
     put(out, "trail", &[]);
     for entry in solver.trail() {
         put(out, " #", &[entry.literal.0 as u64]);
@@ -67,7 +70,7 @@ fn put_trail(out: &mut Out, solver: &Solver<PlainChooser>) {
 }
 
 /// Writes how a solver stands, its conflicts, its log, and the literals that are true where its text asks for them.
-fn put_run(out: &mut Out, solver: &Solver<PlainChooser>, text: &str) {
+fn put_run(out: &mut Out, solver: &Plain, text: &str) {
     put_standing(out, solver);
     put_log(out, solver.log());
     if line_after("c trail", text).is_some() {
@@ -76,7 +79,7 @@ fn put_run(out: &mut Out, solver: &Solver<PlainChooser>, text: &str) {
 }
 
 /// What is written of a solver.
-fn report(rt: &impl Abort, alloc: Global, solver: &Solver<PlainChooser>, text: &str) -> Vec<u8> {
+fn report(rt: &impl Abort, alloc: Global, solver: &Plain, text: &str) -> Vec<u8> {
     let mut out = Out::new(alloc);
     put_run(&mut out, solver, text);
     out.done(rt)
@@ -105,16 +108,9 @@ fn put_cut(out: &mut Out, piece: u32, cut: &[u8], whole: &[u8]) {
 }
 
 /// Runs a text's formula in pieces of 1, of 7 and of 64 conflicts.
-fn put_pieces(
-    rt: &impl Abort,
-    alloc: Global,
-    out: &mut Out,
-    text: &str,
-    conflicts: u32,
-    whole: &[u8],
-) {
+fn put_pieces(rt: &impl Abort, out: &mut Out, text: &str, conflicts: u32, whole: &[u8]) {
     for piece in [1, 7, 64] {
-        let cut = report_in_pieces(rt, alloc, text, conflicts, piece);
+        let cut = report_in_pieces(rt, out.alloc, text, conflicts, piece);
         put_cut(out, piece, cut.as_slice(), whole);
     }
 }
@@ -131,7 +127,7 @@ fn line_count(report: &[u8]) -> u64 {
 }
 
 /// Writes a solver's report, or only its first two lines and how many there are where the text says so.
-fn put_whole(out: &mut Out, solver: &Solver<PlainChooser>, text: &str, whole: &[u8]) {
+fn put_whole(out: &mut Out, solver: &Plain, text: &str, whole: &[u8]) {
     if line_after("c brief", text).is_none() {
         return out.add(whole);
     }
@@ -139,56 +135,38 @@ fn put_whole(out: &mut Out, solver: &Solver<PlainChooser>, text: &str, whole: &[
     put(out, "lines #\n", &[line_count(whole)]);
 }
 
-/// Writes how a run in one go ended, and where runs in pieces end otherwise, these.
-fn put_compared(
-    rt: &impl Abort,
-    alloc: Global,
-    out: &mut Out,
-    solver: &Solver<PlainChooser>,
-    text: &str,
-    conflicts: u32,
-) {
-    let whole = report(rt, alloc, solver, text);
-    put_whole(out, solver, text, whole.as_slice());
-    put_pieces(rt, alloc, out, text, conflicts, whole.as_slice());
-}
-
-/// Runs a text's formula in one go and in pieces, and lets its log be checked.
-fn put_runs(rt: &impl Abort, alloc: Global, out: &mut Out, text: &str, conflicts: u32) {
-    let mut solver = solver_of(rt, alloc, text);
+/// Runs a text's formula in one go and in pieces, writes how that ends, and lets its log be checked.
+fn put_runs(rt: &impl Abort, out: &mut Out, text: &str, conflicts: u32) {
+    let mut solver = solver_of(rt, out.alloc, text);
     go_on(rt, &mut solver, conflicts);
-    put_compared(rt, alloc, out, &solver, text, conflicts);
-    put_answer(rt, alloc, out, ACCEPTED, solver.formula(), solver.log());
+    let whole = report(rt, out.alloc, &solver, text);
+    put_whole(out, &solver, text, whole.as_slice());
+    put_pieces(rt, out, text, conflicts, whole.as_slice());
+    put_answer(rt, out, ACCEPTED, solver.formula(), solver.log());
 }
 
 /// Checks the log that a text has.
-fn put_checked(rt: &impl Abort, alloc: Global, out: &mut Out, text: &str) {
-    let formula = formula_of(rt, alloc, text);
-    let log = log_of(rt, alloc, text);
-    put_answer(rt, alloc, out, ACCEPTED, &formula, &log);
+fn put_checked(rt: &impl Abort, out: &mut Out, text: &str) {
+    let formula = formula_of(rt, out.alloc, text);
+    let log = log_of(rt, out.alloc, text);
+    put_answer(rt, out, ACCEPTED, &formula, &log);
 }
 
 /// Writes the first line of a text, without the letter before it, and runs or checks its formula.
-fn put_part(rt: &impl Abort, alloc: Global, out: &mut Out, text: &str) {
+fn put_part(rt: &impl Abort, out: &mut Out, text: &str) {
     put(out, line_after("c ", text).expect(rt, "no title"), &[]);
     put(out, "\n", &[]);
     match line_after("c conflicts ", text) {
-        Some(line) => put_runs(
-            rt,
-            alloc,
-            out,
-            text,
-            first_number(line).expect(rt, "no number"),
-        ),
-        None => put_checked(rt, alloc, out, text),
+        Some(line) => put_runs(rt, out, text, first_number(line).expect(rt, "no number")),
+        None => put_checked(rt, out, text),
     }
 }
 
 /// Runs or checks each of the formulas of a text, each ended by a `%`.
-pub(crate) fn put_all_parts(rt: &impl Abort, alloc: Global, out: &mut Out, text: &str) {
+pub(crate) fn put_all_parts(rt: &impl Abort, out: &mut Out, text: &str) {
     for part in text.split('%') {
         if line_after("p cnf", part).is_some() {
-            put_part(rt, alloc, out, part);
+            put_part(rt, out, part);
         }
     }
 }
@@ -196,15 +174,14 @@ pub(crate) fn put_all_parts(rt: &impl Abort, alloc: Global, out: &mut Out, text:
 /// Runs a text's formula for at most so many conflicts, and writes how that ends, or how many propagations the run makes.
 pub(crate) fn put_solved(
     rt: &impl Abort,
-    alloc: Global,
     out: &mut Out,
     text: &str,
     conflicts: u32,
     are_counted: bool,
 ) {
-    let mut solver = solver_of(rt, alloc, text);
+    let mut solver = solver_of(rt, out.alloc, text);
     if are_counted {
-        let count = count_propagations(rt, alloc, &mut solver, conflicts);
+        let count = count_propagations(rt, out.alloc, &mut solver, conflicts);
         return put(out, "propagations #\n", &[count]);
     }
     go_on(rt, &mut solver, conflicts);

@@ -147,17 +147,17 @@ fn added(rt: &impl Abort, alloc: Global, watches: &mut Watches, first: u32) -> u
 }
 
 /// Writes the sums of both rows.
-pub(crate) fn put_sums(rt: &impl Abort, alloc: Global, out: &mut Out) {
-    let formula = triples(rt, alloc);
+pub(crate) fn put_sums(rt: &impl Abort, out: &mut Out) {
+    let formula = triples(rt, out.alloc);
     let count = formula.count();
     if count > CLAUSES {
         rt.panic("too many clauses");
     }
-    let Ok(mut watches) = Watches::new(alloc, &formula) else {
+    let Ok(mut watches) = Watches::new(out.alloc, &formula) else {
         rt.panic("no memory")
     };
     let undone = undone(&mut watches);
-    let added = added(rt, alloc, &mut watches, count);
+    let added = added(rt, out.alloc, &mut watches, count);
     put(
         out,
         "undone 100000 times: #\nadded and removed 100000 times: #\n",
