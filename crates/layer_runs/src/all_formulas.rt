@@ -1,32 +1,48 @@
 //! The formulas of all-steps of two worked tasks under their invariants: how large they are at the horizons 0 to 2, and the clauses
 //! of their chains in one step. What is due, a plain listing by the definition of the clauses wrote.
 
-use crate::Host;
+ghost use Rattle.std.specs.Prelude.{◌≤◌};
+
 use crate::formulas::{put_clause, put_counts};
-use crate::lines::{Out, must, put};
+use crate::lines::{Out, keep, put};
 use action_order::publish::publish;
 use all_steps::form::AllForm;
 use clause_base::formula::Formula;
 use clause_base::view::View;
-use gt_core::act::Acts;
+use gt_core::act::{Act, Acts};
 use gt_core::lits::{Bits, Lits};
 use gt_core::task::Task;
 use sample_tasks::actions::plain;
 use sample_tasks::worked;
-use std::alloc::Global;
-use std::process::Abort;
+use std::alloc::AllocError;
+use std::thread::Threads;
 use step_encoding::form::StepForm;
 use two_invariants::find;
 
-/// A match that is used while it is there, and burns. Burn takes the fact match away, and use needs it. Facts: match 0, used 1,
-/// burnt 2.
-fn burning(rt: &impl Abort, alloc: Global) -> Option<Task> {
-    let mut acts = Vec::new(alloc);
-    must(rt, acts.push(must(rt, plain(alloc, &[], &[1, 4]))));
-    must(rt, acts.push(must(rt, plain(alloc, &[0], &[2]))));
-    let init = must(rt, Bits::copied_from(alloc, &[true, false, false]));
-    let goal = must(rt, Lits::copied_from(alloc, &[2, 4]));
-    Task::try_new(3, init, goal, false, Acts::of(acts))
+/// How large a formula is, in words.
+const SIZE: &str = "horizon # variables # clauses # size #\n";
+
+/// Adds an action, if it was made.
+fn add_act(out: &mut Out, acts: &mut Vec<Act>, made: Result<Act, AllocError>) {
+    match made {
+        Ok(act) => keep(out, acts.push(act)),
+        Err(_) => out.fail(),
+    }
+}
+
+/// Burn takes the fact match away, and use needs it. Facts: match 0, used 1, burnt 2.
+fn burning_acts(out: &mut Out) -> Acts {
+    let mut acts = Vec::new(out.alloc);
+    add_act(out, &mut acts, plain(out.alloc, &[], &[1, 4]));
+    add_act(out, &mut acts, plain(out.alloc, &[0], &[2]));
+    Acts::of(acts)
+}
+
+/// A match that is used while it is there, and burns.
+fn burning(out: &mut Out) -> Result<Option<Task>, AllocError> {
+    let init = Bits::copied_from(out.alloc, &[true, false, false])?;
+    let goal = Lits::copied_from(out.alloc, &[2, 4])?;
+    Ok(Task::try_new(3, init, goal, false, burning_acts(out)))
 }
 
 /// Whether a clause has a literal of a variable from one on and below another.
@@ -50,10 +66,20 @@ fn put_touching(out: &mut Out, formula: &Formula, first: u64, end: u64) {
     }
 }
 
+/// Writes how large the formula of a horizon is.
+fn put_size<F: StepForm>(out: &mut Out, form: &F, n: u32)
+    requires { n ≤ 255 }
+{
+    match form.formula(out.alloc, n) {
+        Ok(formula) => put_counts(out, SIZE, &formula, form.size(n)),
+        Err(_) => out.fail(),
+    }
+}
+
 /// Writes how many chain variables a step has, and the clauses in which they are.
-fn put_chains<F: StepForm>(rt: &impl Abort, out: &mut Out, form: &F) {
+fn put_chains<F: StepForm>(out: &mut Out, form: &F) {
     let Ok(formula) = form.formula(out.alloc, 1) else {
-        rt.panic("no memory, or too large")
+        return out.fail();
     };
     let z = form.layout(1);
     put(out, "chain variables #\n", &[z.chains as u64]);
@@ -62,31 +88,40 @@ fn put_chains<F: StepForm>(rt: &impl Abort, out: &mut Out, form: &F) {
 }
 
 /// Writes how large the formulas of three horizons are, and what there is to write of the chains.
-fn put_form<F: StepForm>(rt: &impl Abort, out: &mut Out, form: &F) {
-    let words = "horizon # variables # clauses # size #\n";
+fn put_form<F: StepForm>(out: &mut Out, form: &F) {
     for n in 0..3 {
-        let formula = must(rt, form.formula(out.alloc, n));
-        put_counts(out, words, &formula, form.size(n));
+        put_size(out, form, n);
     }
-    put_chains(rt, out, form);
+    put_chains(out, form);
 }
 
-/// Writes what there is to write of a task under its invariants, after its name.
-fn put_task(rt: &impl Host, out: &mut Out, name: &str, made: Option<Task>) {
-    let task = made.expect(rt, "no task");
-    put(out, name, &[]);
-    let Ok(pairs) = find(rt, out.alloc, &task) else {
-        rt.panic("no memory")
+/// Writes what there is to write of a task under its invariants.
+fn put_task(rt: &(impl Threads + Sync), out: &mut Out, task: &Task) {
+    let Ok(pairs) = find(rt, out.alloc, task) else {
+        return out.fail();
     };
-    let Ok(order) = publish(out.alloc, &task, &pairs) else {
-        rt.panic("no memory")
+    let Ok(order) = publish(out.alloc, task, &pairs) else {
+        return out.fail();
     };
-    let form = must(rt, AllForm::new(out.alloc, &task, &pairs, &order));
-    put_form(rt, out, &form);
+    match AllForm::new(out.alloc, task, &pairs, &order) {
+        Ok(form) => put_form(out, &form),
+        Err(_) => out.fail(),
+    }
+}
+
+/// Writes what there is to write of a task that was made.
+fn put_made(rt: &(impl Threads + Sync), out: &mut Out, made: Result<Option<Task>, AllocError>) {
+    match made {
+        Ok(Some(task)) => put_task(rt, out, &task),
+        _ => out.fail(),
+    }
 }
 
 /// Writes what there is to write of both tasks.
-pub(crate) fn put_tasks(rt: &impl Host, out: &mut Out) {
-    put_task(rt, out, "burning\n", burning(rt, out.alloc));
-    put_task(rt, out, "rivals\n", must(rt, worked::rivals(out.alloc)));
+pub(crate) fn put_tasks(rt: &(impl Threads + Sync), out: &mut Out) {
+    put(out, "burning\n", &[]);
+    let made = burning(out);
+    put_made(rt, out, made);
+    put(out, "rivals\n", &[]);
+    put_made(rt, out, worked::rivals(out.alloc));
 }

@@ -1,12 +1,10 @@
 //! Formulas in the DIMACS form.
 ghost use Rattle.std.specs.Prelude.{◌≡◌};
 
-use crate::lines::must;
+use crate::lines::{Out, keep};
 use clause_base::clause::Clause;
 use clause_base::formula::Formula;
 use clause_base::literal::Lit;
-use std::alloc::Global;
-use std::process::Abort;
 
 /// How many variables a formula may have.
 const MOST_VARIABLES: u32 = 1_000_000_000;
@@ -39,42 +37,44 @@ fn literal_of(word: &str) -> Option<Lit> {
 }
 
 /// Adds a clause, if it fits.
-fn add_fitting(rt: &impl Abort, formula: &mut Formula, clause: Clause)
+fn add_fitting(out: &mut Out, formula: &mut Formula, clause: Clause)
     ensures { formula.new.variables ≡ formula.old.variables }
 {
     if formula.has_room() && clause.fits(formula.variables()) {
         match formula.add(clause) {
             Ok(()) => (),
-            Err(_) => rt.panic("no memory"),
+            Err(_) => out.fail(),
         }
     }
 }
 
 /// Adds the clause of some literals, if it is one that fits.
-pub(crate) fn add_clause(rt: &impl Abort, alloc: Global, formula: &mut Formula, lits: &[Lit])
+pub(crate) fn add_clause(out: &mut Out, formula: &mut Formula, lits: &[Lit])
     ensures { formula.new.variables ≡ formula.old.variables }
 {
-    if let Some(clause) = must(rt, Clause::of(alloc, lits)) {
-        add_fitting(rt, formula, clause);
+    match Clause::of(out.alloc, lits) {
+        Ok(Some(clause)) => add_fitting(out, formula, clause),
+        Ok(None) => (),
+        Err(_) => out.fail(),
     }
 }
 
 /// Makes a list the literals of a line.
-fn read_literals(rt: &impl Abort, lits: &mut Vec<Lit>, line: &str) {
+fn read_literals(out: &mut Out, lits: &mut Vec<Lit>, line: &str) {
     lits.clear();
     for word in line.split(' ') {
         if let Some(lit) = literal_of(word) {
-            must(rt, lits.push(lit));
+            keep(out, lits.push(lit));
         }
     }
 }
 
 /// Adds the clauses of a text, a line each.
-fn add_lines(rt: &impl Abort, alloc: Global, formula: &mut Formula, text: &str) {
-    let mut lits = Vec::new(alloc);
+fn add_lines(out: &mut Out, formula: &mut Formula, text: &str) {
+    let mut lits = Vec::new(out.alloc);
     for line in text.lines() {
-        read_literals(rt, &mut lits, line);
-        add_clause(rt, alloc, formula, lits.as_slice());
+        read_literals(out, &mut lits, line);
+        add_clause(out, formula, lits.as_slice());
     }
 }
 
@@ -82,16 +82,22 @@ fn add_lines(rt: &impl Abort, alloc: Global, formula: &mut Formula, text: &str) 
 fn sizes_and_clauses(text: &str) -> Option<(u32, &str)> {
     let (_, told) = text.split_once("p cnf ")?;
     let (sizes, clauses) = told.split_once('\n')?;
-    Some((first_number(sizes)?, clauses))
+    let variables = first_number(sizes)?;
+    if variables <= MOST_VARIABLES {
+        Some((variables, clauses))
+    } else {
+        None
+    }
 }
 
-/// The formula of a text: after a line `p cnf VARIABLES CLAUSES` a clause a line, each ended by 0, and no other line.
-pub(crate) fn formula_of(rt: &impl Abort, alloc: Global, text: &str) -> Formula {
-    let (variables, clauses) = sizes_and_clauses(text).expect(rt, "no formula");
-    if variables > MOST_VARIABLES {
-        rt.panic("too many variables");
-    }
-    let mut formula = Formula::new(alloc, 0, variables);
-    add_lines(rt, alloc, &mut formula, clauses);
+/// The formula of a text: after a line `p cnf VARIABLES CLAUSES` a clause a line, each ended by 0, and no other line. Of a text that
+/// is none, a formula without clauses.
+pub(crate) fn formula_of(out: &mut Out, text: &str) -> Formula {
+    let Some((variables, clauses)) = sizes_and_clauses(text) else {
+        out.fail();
+        return Formula::new(out.alloc, 0, 0);
+    };
+    let mut formula = Formula::new(out.alloc, 0, variables.min(MOST_VARIABLES));
+    add_lines(out, &mut formula, clauses);
     formula
 }

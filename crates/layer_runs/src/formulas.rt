@@ -2,25 +2,25 @@
 //! drawn from numbers, first under no known pair and then under all pairs that each action keeps by itself. What is due,
 //! `bench/list-formulas` wrote, from the definition of the clauses alone.
 
-ghost use Rattle.std.specs.Prelude.{◌≡◌, ◌≤◌};
+ghost use Rattle.std.specs.Prelude.{◌≡◌, ◌≤◌, IfOk};
 ghost use Rattle.gt_core.specs.Published.{IsPublished};
 ghost use Rattle.gt_core.specs.Reached.{HoldsWherever};
 ghost use Rattle.step_encoding.specs.Numbers.{literals_of};
 
 use crate::known::{kept_order, pairs_of};
-use crate::lines::{Out, must, put, put_all};
+use crate::lines::{Out, put, put_all};
 use crate::model::is_model;
 use action_order::order::Order;
 use all_steps::form::BothWays;
 use clause_base::formula::Formula;
 use clause_base::view::View;
+use gt_core::memory::Memory;
 use gt_core::pairs::Pairs;
 use gt_core::task::Task;
 use sample_tasks::dice::Dice;
 use sample_tasks::kept::kept_pairs;
 use sample_tasks::{drawn, worked};
-use std::alloc::Global;
-use std::process::Abort;
+use std::alloc::AllocError;
 use step_encoding::exists::Components;
 use step_encoding::form::StepForm;
 use step_encoding::placed::{Placed, Placing};
@@ -82,7 +82,10 @@ fn put_layout<F: StepForm>(out: &mut Out, form: &F, n: u32)
 }
 
 /// Writes steps, the actions of each in a line.
-fn put_steps(out: &mut Out, steps: &Steps) {
+fn put_steps(out: &mut Out, made: Option<Steps>) {
+    let Some(steps) = made else {
+        return out.fail();
+    };
     for step in steps.as_slice() {
         put(out, "step", &[]);
         put_all(out, step.as_slice());
@@ -91,32 +94,31 @@ fn put_steps(out: &mut Out, steps: &Steps) {
 }
 
 /// Writes a horizon's formula, and the steps of an assignment where it satisfies it.
-fn put_horizon<F: StepForm>(rt: &impl Abort, out: &mut Out, form: &F, n: u32, values: &[bool])
+fn put_horizon<F: StepForm>(out: &mut Out, form: &F, n: u32, values: &[bool])
     requires { n ≤ 255 }
 {
     let Ok(formula) = form.formula(out.alloc, n) else {
-        rt.panic("no memory, or too large")
+        return out.fail();
     };
     put_layout(out, form, n);
     put_formula(out, &formula);
     if is_model(&formula, values) {
-        put_steps(out, &must(rt, form.steps_of(out.alloc, n, values)));
+        put_steps(out, form.steps_of(out.alloc, n, values).ok());
     } else {
         put(out, "no model\n", &[]);
     }
 }
 
 /// Writes what was asked of a form.
-fn put_form<F: StepForm>(rt: &impl Abort, out: &mut Out, form: &F, asked: Asked) {
+fn put_form<F: StepForm>(out: &mut Out, form: &F, asked: Asked) {
     for n in 0..4 {
         put(out, "size # #\n", &[n as u64, form.size(n)]);
     }
-    put_horizon(rt, out, form, asked.horizon.min(255), asked.values);
+    put_horizon(out, form, asked.horizon.min(255), asked.values);
 }
 
 /// Writes what was asked of the form of a task whose chains go where `P` says, under its name.
 fn put_placed<P: Placing>(
-    rt: &impl Abort,
     out: &mut Out,
     name: &str,
     task: &Task,
@@ -129,8 +131,10 @@ fn put_placed<P: Placing>(
     requires published { IsPublished task.now pairs.now.clauses order.now }
 {
     put(out, name, &[]);
-    let form = must(rt, Placed::<P>::new(out.alloc, task, pairs, order));
-    put_form(rt, out, &form, asked);
+    match Placed::<P>::new(out.alloc, task, pairs, order) {
+        Ok(form) => put_form(out, &form, asked),
+        Err(_) => out.fail(),
+    }
 }
 
 /// Writes pairs.
@@ -144,53 +148,60 @@ fn put_pairs(out: &mut Out, pairs: &Pairs) {
 }
 
 /// Writes known pairs, and a task's published order and its formulas under them.
-fn put_known(rt: &impl Abort, out: &mut Out, task: &Task, pairs: &Pairs, asked: Asked)
-    requires { pairs.now.facts ≡ task.now.facts }
+fn put_known(out: &mut Out, task: &Task, made: Result<Pairs, Memory>, asked: Asked)
+    requires { IfOk made (λ pairs. pairs.facts ≡ task.now.facts) }
 {
-    let order = kept_order(rt, out.alloc, task, pairs);
-    put_pairs(out, pairs);
+    let Ok(pairs) = made else {
+        return out.fail();
+    };
+    let Some(order) = kept_order(out, task, &pairs) else {
+        return;
+    };
+    put_pairs(out, &pairs);
     put_order(out, &order);
-    put_placed::<Components>(rt, out, "exists-steps\n", task, pairs, &order, asked);
-    put_placed::<BothWays>(rt, out, "all-steps\n", task, pairs, &order, asked);
+    put_placed::<Components>(out, "exists-steps\n", task, &pairs, &order, asked);
+    put_placed::<BothWays>(out, "all-steps\n", task, &pairs, &order, asked);
 }
 
 /// Writes a task's formulas under no known pair, and then under all that are kept.
-fn put_task(rt: &impl Abort, out: &mut Out, made: Option<Task>, asked: Asked) {
-    let task = made.expect(rt, "no task");
-    let none = pairs_of(rt, out.alloc, &task, 0, "");
-    put_known(rt, out, &task, &none, asked);
-    let Ok(kept) = kept_pairs(out.alloc, &task) else {
-        rt.panic("no memory")
+fn put_task(out: &mut Out, made: Result<Option<Task>, AllocError>, asked: Asked) {
+    let Ok(Some(task)) = made else {
+        return out.fail();
     };
-    put_known(rt, out, &task, &kept, asked);
+    let none = pairs_of(out, &task, 0, "");
+    put_known(out, &task, none, asked);
+    put_known(out, &task, kept_pairs(out.alloc, &task), asked);
 }
 
 /// Writes the formulas of a worked task, after its name.
-fn put_worked(rt: &impl Abort, out: &mut Out, name: &str, made: Option<Task>) {
+fn put_worked(out: &mut Out, name: &str, made: Result<Option<Task>, AllocError>) {
     let one_step = Asked {
         horizon: 1,
         values: &[true, false, true],
     };
     put(out, name, &[]);
-    put_task(rt, out, made, one_step);
+    put_task(out, made, one_step);
 }
 
 /// Writes the formulas of a task that is drawn from a number.
-fn put_drawn(rt: &impl Abort, out: &mut Out, number: u32) {
+fn put_drawn(out: &mut Out, number: u32) {
     let two_steps = Asked {
         horizon: 2,
         values: &[],
     };
-    let made = must(rt, drawn::task(out.alloc, &mut Dice::new(number)));
     put(out, "task #\n", &[number as u64]);
-    put_task(rt, out, made, two_steps);
+    put_task(
+        out,
+        drawn::task(out.alloc, &mut Dice::new(number)),
+        two_steps,
+    );
 }
 
 /// Writes the formulas of all tasks.
-pub(crate) fn put_tasks(rt: &impl Abort, out: &mut Out) {
-    put_worked(rt, out, "lamp\n", must(rt, worked::lamp(out.alloc)));
-    put_worked(rt, out, "rivals\n", must(rt, worked::rivals(out.alloc)));
+pub(crate) fn put_tasks(out: &mut Out) {
+    put_worked(out, "lamp\n", worked::lamp(out.alloc));
+    put_worked(out, "rivals\n", worked::rivals(out.alloc));
     for number in 0..TASKS {
-        put_drawn(rt, out, number);
+        put_drawn(out, number);
     }
 }

@@ -2,21 +2,23 @@
 //! The word `known` names `moves` where it is known that no two of the places hold together: 130,816 pairs. What is due of the robot
 //! in rooms, `bench/list-large-formula` wrote, from the definition of the clauses alone. A body that gives up past some size fails there.
 
-ghost use Rattle.std.specs.Prelude.{◌≡◌, ◌<◌, ◌≤◌};
+ghost use Rattle.std.specs.Prelude.{◌≡◌, ◌<◌, ◌≤◌, IfOk};
+ghost use Rattle.gt_core.specs.Published.{IsPublished};
+ghost use Rattle.gt_core.specs.Reached.{HoldsWherever};
 
-use crate::Host;
 use crate::formulas::put_counts;
 use crate::known::{kept_order, pairs_of};
-use crate::lines::{Out, must, put};
+use crate::lines::{Out, put};
+use action_order::order::Order;
 use action_order::publish::publish;
 use clause_base::formula::Formula;
 use clause_base::view::View;
+use gt_core::memory::Memory;
 use gt_core::pairs::Pairs;
 use gt_core::task::Task;
 use sample_tasks::large::large;
 use sample_tasks::rooms::rooms;
-use std::alloc::Global;
-use std::process::Abort;
+use std::thread::Threads;
 use step_encoding::exists::ExistsForm;
 use step_encoding::form::StepForm;
 use two_invariants::find;
@@ -67,19 +69,21 @@ fn all_sizes<F: StepForm>(form: &F) -> u64 {
 }
 
 /// Builds a formula, and writes how many literals and clauses it has and what they sum up to.
-fn put_formula<F: StepForm>(rt: &impl Abort, out: &mut Out, form: &F, n: u32)
+fn put_formula<F: StepForm>(out: &mut Out, form: &F, n: u32)
     requires { n ≤ 255 }
 {
-    let formula = must(rt, form.formula(out.alloc, n));
+    let Ok(formula) = form.formula(out.alloc, n) else {
+        return out.fail();
+    };
     let words = "horizon #: # variables, # clauses, # literals";
     put_counts(out, words, &formula, form.size(n));
     put(out, ", sum #\n", &[sum_of(&formula)]);
 }
 
 /// Does what was asked with a form. A horizon is at most 255.
-fn put_form<F: StepForm>(rt: &impl Abort, out: &mut Out, form: &F, asked: Asked) {
+fn put_form<F: StepForm>(out: &mut Out, form: &F, asked: Asked) {
     if 0 < asked.horizon && asked.horizon <= 255 {
-        put_formula(rt, out, form, asked.horizon);
+        put_formula(out, form, asked.horizon);
     }
     let (one, two) = (form.size(1), form.size(2));
     put(out, "sizes: # and # literals\n", &[one, two]);
@@ -88,66 +92,84 @@ fn put_form<F: StepForm>(rt: &impl Abort, out: &mut Out, form: &F, asked: Asked)
     }
 }
 
-/// Makes the published order and the form, and does what was asked.
-fn put_task(rt: &impl Abort, out: &mut Out, task: &Task, pairs: &Pairs, asked: Asked)
-    requires { pairs.now.facts ≡ task.now.facts }
+/// Makes the form under pairs and the order that is published under them, and does what was asked.
+fn put_ordered(out: &mut Out, task: &Task, pairs: &Pairs, order: &Order, asked: Asked)
+    requires facts { pairs.now.facts ≡ task.now.facts }
+    requires hold { HoldsWherever task.now pairs.now.clauses }
+    requires published { IsPublished task.now pairs.now.clauses order.now }
 {
-    let order = kept_order(rt, out.alloc, task, pairs);
     let (components, count) = (order.components() as u64, pairs.count() as u64);
     put(out, "# components, # known pairs\n", &[components, count]);
-    let form = must(rt, ExistsForm::new(out.alloc, task, pairs, &order));
-    put_form(rt, out, &form, asked);
+    match ExistsForm::new(out.alloc, task, pairs, order) {
+        Ok(form) => put_form(out, &form, asked),
+        Err(_) => out.fail(),
+    }
+}
+
+/// Makes the published order and the form, and does what was asked.
+fn put_task(out: &mut Out, task: &Task, made: Result<Pairs, Memory>, asked: Asked)
+    requires { IfOk made (λ pairs. pairs.facts ≡ task.now.facts) }
+{
+    let Ok(pairs) = made else {
+        return out.fail();
+    };
+    if let Some(order) = kept_order(out, task, &pairs) {
+        put_ordered(out, task, &pairs, &order, asked);
+    }
 }
 
 /// Takes the task of a robot in rooms with lamps, of which it is known that each is on or off and not both. Writes how many literals
 /// and clauses the formula of a horizon has, and a number that depends on each literal and on its place; of horizon 0, nothing. So
 /// many times it adds up the sizes of all horizons up to 255.
-pub(crate) fn put_rooms(rt: &impl Abort, out: &mut Out, count: u32, asked: Asked) {
-    let task = must(rt, rooms(out.alloc, count)).expect(rt, "no such task");
-    let pairs = pairs_of(rt, out.alloc, &task, count, "");
-    put_task(rt, out, &task, &pairs, asked);
-}
-
-/// The large task for a word.
-fn task_of(rt: &impl Abort, alloc: Global, word: &str) -> Task {
-    let name = if word == "known" { "moves" } else { word };
-    must(rt, large(alloc, name)).expect(rt, "no such task")
+pub(crate) fn put_rooms(out: &mut Out, count: u32, asked: Asked) {
+    let Ok(Some(task)) = rooms(out.alloc, count) else {
+        return out.fail();
+    };
+    let pairs = pairs_of(out, &task, count, "");
+    put_task(out, &task, pairs, asked);
 }
 
 /// Writes the sizes of two horizons of a task under no known pair.
-fn put_sizes(rt: &impl Abort, out: &mut Out, word: &str) {
-    let task = task_of(rt, out.alloc, word);
+fn put_sizes(out: &mut Out, task: &Task) {
     let asked = Asked {
         horizon: 0,
         sizes: 0,
     };
-    let none = pairs_of(rt, out.alloc, &task, 0, "");
-    put_task(rt, out, &task, &none, asked);
+    let none = pairs_of(out, task, 0, "");
+    put_task(out, task, none, asked);
 }
 
 /// Writes how many actions and components the order of the task for a word has.
-fn put_order(rt: &impl Abort, out: &mut Out, word: &str) {
-    let task = task_of(rt, out.alloc, word);
-    let pairs = pairs_of(rt, out.alloc, &task, 0, word);
-    let order = must(rt, publish(out.alloc, &task, &pairs));
+fn put_order(out: &mut Out, task: &Task, word: &str) {
+    let Ok(pairs) = pairs_of(out, task, 0, word) else {
+        return out.fail();
+    };
+    let Ok(order) = publish(out.alloc, task, &pairs) else {
+        return out.fail();
+    };
     let (actions, components) = (order.actions() as u64, order.components() as u64);
     put(out, word, &[]);
     put(out, ": # actions, # components\n", &[actions, components]);
 }
 
 /// Writes how many invariants the task for a word has.
-fn put_count(rt: &impl Host, out: &mut Out, word: &str) {
-    let task = task_of(rt, out.alloc, word);
-    let pairs = must(rt, find(rt, out.alloc, &task));
+fn put_count(rt: &(impl Threads + Sync), out: &mut Out, task: &Task, word: &str) {
+    let Ok(pairs) = find(rt, out.alloc, task) else {
+        return out.fail();
+    };
     put(out, word, &[]);
     put(out, ": # invariants\n", &[pairs.count() as u64]);
 }
 
 /// Publishes the order of the large task for a word, finds its invariants, or writes how large its formulas are.
-pub(crate) fn put_large(rt: &impl Host, out: &mut Out, first: &str, word: &str) {
+pub(crate) fn put_large(rt: &(impl Threads + Sync), out: &mut Out, first: &str, word: &str) {
+    let name = if word == "known" { "moves" } else { word };
+    let Ok(Some(task)) = large(out.alloc, name) else {
+        return out.fail();
+    };
     match first {
-        "order" => put_order(rt, out, word),
-        "invariants" => put_count(rt, out, word),
-        _ => put_sizes(rt, out, word),
+        "order" => put_order(out, &task, word),
+        "invariants" => put_count(rt, out, &task, word),
+        _ => put_sizes(out, &task),
     }
 }

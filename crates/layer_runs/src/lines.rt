@@ -1,12 +1,14 @@
-//! Lines of words and numbers, as a run prints them. Where memory is wanting, the run ends.
-
-ghost use Rattle.std.specs.Prelude.{◌≡◌};
+//! Lines of words and numbers, as a run prints them. Where something could not be made, that is kept, and told at the end in place of
+//! all lines.
 
 use itoa::Buffer;
 use std::alloc::Global;
-use std::process::Abort;
 
-/// What a run has written, and whether there was memory for all of it.
+/// What is printed where something could not be made.
+const FAILED: &str =
+    "no memory, or no such formula, task or file; or none of solve, check, watches, order, invariants, forms, rooms, formulas, all-formulas and all\n";
+
+/// What a run has written, and whether it made all that it had to.
 #[derive(Drop)]
 pub(crate) struct Out {
     /// Where what a run makes has its memory.
@@ -25,29 +27,40 @@ impl Out {
         }
     }
 
+    /// Keeps that something could not be made.
+    pub(crate) fn fail(&mut self) {
+        self.is_whole = false;
+    }
+
     /// Adds bytes.
     pub(crate) fn add(&mut self, bytes: &[u8]) {
         if self.bytes.extend_from_slice(bytes).is_err() {
-            self.is_whole = false;
+            self.fail();
         }
     }
 
-    /// All that was written. Where there was no memory for it, the run ends.
-    pub(crate) fn done(self, rt: &impl Abort) -> Vec<u8> {
-        if !self.is_whole {
-            rt.panic("no memory");
+    /// The bytes of lines that are no part of what is printed. Where they are not whole, neither is this.
+    pub(crate) fn taken(&mut self, other: Out) -> Vec<u8> {
+        if !other.is_whole {
+            self.fail();
         }
-        self.bytes
+        other.bytes
+    }
+
+    /// What is printed.
+    pub(crate) fn printed(&self) -> &[u8] {
+        if self.is_whole {
+            self.bytes.as_slice()
+        } else {
+            FAILED.as_bytes()
+        }
     }
 }
 
-/// What was made. Where it was not, for want of memory or since the system did not do it, the run ends.
-pub(crate) fn must<T, E>(rt: &impl Abort, made: Result<T, E>) -> T
-    ensures { made ≡ Ok result }
-{
-    match made {
-        Ok(value) => value,
-        Err(_) => rt.panic("no memory, or no such file"),
+/// Keeps whether something was made.
+pub(crate) fn keep<E: Drop>(out: &mut Out, made: Result<(), E>) {
+    if made.is_err() {
+        out.fail();
     }
 }
 

@@ -1,17 +1,16 @@
 //! Logs that are given as text, logs as text, and what the checker says of a log.
 
 use crate::dimacs::first_number;
-use crate::lines::{Out, must, put};
+use crate::lines::{Out, keep, put};
 use clause_base::clause::Clause;
 use clause_base::formula::Formula;
 use clause_base::literal::Lit;
 use clause_base::log::{Entry, Hints};
+use clause_base::memory::Memory;
 use clause_log::log::Log;
 use clause_log::reader::Step;
 use number_bytes::numbers::Numbers;
 use rup_check::check::{CheckError, check};
-use std::alloc::Global;
-use std::process::Abort;
 
 /// The most clauses of a formula, and entries of a log, that are checked.
 const MOST: u32 = 1_000_000;
@@ -49,77 +48,79 @@ pub(crate) fn put_log(out: &mut Out, log: &Log) {
     }
 }
 
-/// Writes why a log is not accepted.
-fn put_refusal(rt: &impl Abort, out: &mut Out, why: CheckError) {
-    match why {
-        CheckError::Rejected { entry } => put(out, "check: rejected at entry #\n", &[entry as u64]),
-        CheckError::NotEmpty => put(out, "check: not empty\n", &[]),
-        CheckError::Memory => rt.panic("no memory"),
-    }
-}
-
 /// Writes what the checker says of a log; where it accepts the log these words, with the number of entries.
-pub(crate) fn put_answer(
-    rt: &impl Abort,
-    out: &mut Out,
-    words: &str,
-    formula: &Formula,
-    log: &Log,
-) {
+pub(crate) fn put_answer(out: &mut Out, words: &str, formula: &Formula, log: &Log) {
     if formula.count() > MOST || log.len() > MOST as usize {
         return put(out, "check: too long\n", &[]);
     }
     match check(out.alloc, formula, log) {
         Ok(checked) => put(out, words, &[checked.entries() as u64]),
-        Err(why) => put_refusal(rt, out, why),
+        Err(CheckError::Rejected { entry }) => put(
+            out,
+            "check: rejected at entry #\n",
+            &[entry as u64],
+        ),
+        Err(CheckError::NotEmpty) => put(out, "check: not empty\n", &[]),
+        Err(CheckError::Memory) => out.fail(),
     }
 }
 
 /// The numbers of a text.
-fn numbers_of(rt: &impl Abort, alloc: Global, text: &str) -> Vec<u32> {
-    let mut numbers = Vec::new(alloc);
+fn numbers_of(out: &mut Out, text: &str) -> Vec<u32> {
+    let mut numbers = Vec::new(out.alloc);
     for word in text.split(' ') {
         if let Ok(number) = word.parse::<u32>() {
-            must(rt, numbers.push(number));
+            keep(out, numbers.push(number));
         }
     }
     numbers
 }
 
-/// The clause of literals of these codes, which are those of one.
-fn clause_of(rt: &impl Abort, alloc: Global, codes: &[u32]) -> Clause {
-    let mut lits = Vec::new(alloc);
-    for code in codes {
-        must(rt, lits.push(Lit(*code)));
+/// The clause of the codes of a text's literals, where it is one.
+fn clause_of(out: &mut Out, text: &str) -> Result<Option<Clause>, Memory> {
+    let mut lits = Vec::new(out.alloc);
+    for code in numbers_of(out, text).as_slice() {
+        keep(out, lits.push(Lit(*code)));
     }
-    must(rt, Clause::of(alloc, lits.as_slice())).expect(rt, "no clause")
+    Clause::of(out.alloc, lits.as_slice())
 }
 
-/// The entry that learns a clause, of the codes of its literals and of its hints.
-fn learned(rt: &impl Abort, alloc: Global, clause: &str, hints: &str) -> Entry {
-    Entry::Learn {
-        clause: clause_of(rt, alloc, numbers_of(rt, alloc, clause).as_slice()),
-        hints: Hints::of(numbers_of(rt, alloc, hints)),
+/// Adds an entry that learns a clause, of the codes of its literals and of its hints.
+fn push_learned(out: &mut Out, log: &mut Log, clause: &str, hints: &str) {
+    let hints = Hints::of(numbers_of(out, hints));
+    match clause_of(out, clause) {
+        Ok(Some(clause)) => keep(out, log.push(Entry::Learn { clause, hints })),
+        _ => out.fail(),
+    }
+}
+
+/// Adds the entry that drops the clause with the number that a text begins with.
+fn push_drop(out: &mut Out, log: &mut Log, text: &str) {
+    match first_number(text) {
+        Some(number) => keep(out, log.push(Entry::Drop { number })),
+        None => out.fail(),
     }
 }
 
 /// Adds the entry of a line, where it tells of one: `learn`, codes of literals, `by`, hints; or `drop` and a number.
-fn push_line(rt: &impl Abort, alloc: Global, log: &mut Log, line: &str) {
+fn push_line(out: &mut Out, log: &mut Log, line: &str) {
     if let Some(rest) = line.strip_prefix("drop ") {
-        let number = first_number(rest).expect(rt, "no number");
-        must(rt, log.push(Entry::Drop { number }));
+        return push_drop(out, log, rest);
     }
-    if let Some(rest) = line.strip_prefix("learn ") {
-        let (clause, hints) = rest.split_once("by").expect(rt, "no hints");
-        must(rt, log.push(learned(rt, alloc, clause, hints)));
+    let Some(rest) = line.strip_prefix("learn ") else {
+        return;
+    };
+    match rest.split_once("by") {
+        Some((clause, hints)) => push_learned(out, log, clause, hints),
+        None => out.fail(),
     }
 }
 
 /// The log of a text's lines.
-pub(crate) fn log_of(rt: &impl Abort, alloc: Global, text: &str) -> Log {
-    let mut log = Log::new(alloc);
+pub(crate) fn log_of(out: &mut Out, text: &str) -> Log {
+    let mut log = Log::new(out.alloc);
     for line in text.lines() {
-        push_line(rt, alloc, &mut log, line);
+        push_line(out, &mut log, line);
     }
     log
 }

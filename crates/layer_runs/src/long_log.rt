@@ -4,13 +4,11 @@
 //! false. So each entry follows by going along the chain. `bench/check-log` times a run.
 
 use crate::dimacs::formula_of;
-use crate::lines::{Out, must};
+use crate::lines::{Out, keep};
 use crate::logs::put_answer;
 use clause_base::clause::Clause;
 use clause_base::literal::Lit;
 use clause_log::log::Log;
-use std::alloc::Global;
-use std::process::Abort;
 
 /// How many entries the log has.
 const ENTRIES: u32 = 400_000;
@@ -45,20 +43,20 @@ const HINTS: [u32; 20] = [
 ];
 
 /// The log of all entries: each learns a literal past the chain, and the last one the empty clause.
-fn refutation(rt: &impl Abort, alloc: Global) -> Log {
-    let mut log = Log::new(alloc);
+fn refutation(out: &mut Out) -> Log {
+    let mut log = Log::new(out.alloc);
     for number in 0..ENTRIES - 1 {
         let lit = Lit::of(19 + number % 981, true);
-        must(rt, log.push_learned(&[lit], &HINTS));
+        keep(out, log.push_learned(&[lit], &HINTS));
     }
-    let last = Clause::empty(alloc);
-    must(rt, log.push_learned(last.as_slice(), &HINTS));
+    let last = Clause::empty(out.alloc);
+    keep(out, log.push_learned(last.as_slice(), &HINTS));
     log
 }
 
 /// Checks the log, and writes how many entries are accepted.
-pub(crate) fn put_accepted(rt: &impl Abort, out: &mut Out) {
-    let formula = formula_of(rt, out.alloc, CHAIN);
-    let log = refutation(rt, out.alloc);
-    put_answer(rt, out, "accepted # entries\n", &formula, &log);
+pub(crate) fn put_accepted(out: &mut Out) {
+    let formula = formula_of(out, CHAIN);
+    let log = refutation(out);
+    put_answer(out, "accepted # entries\n", &formula, &log);
 }

@@ -27,10 +27,8 @@ mod solver;
 mod watched;
 
 use crate::large_tasks::Asked;
-use crate::lines::{Out, must, put};
-use std::alloc::Global;
+use crate::lines::{Out, keep, put};
 use std::io::Write;
-use std::process::Abort;
 use std::rt::Files;
 use std::thread::Threads;
 use std::{env, fs, io};
@@ -47,14 +45,10 @@ const ALL: [&str; 8] = [
     "all-formulas",
 ];
 
-/// What is written where no words say what to run.
-const WORDS: &str =
-    "none of solve, check, watches, order, invariants, forms, rooms, formulas, all-formulas and all\n";
-
 /// What a run has of the system.
-pub(crate) trait Host: Input + Files + AllocGlobal + Threads + Sync + Abort {}
+trait Host: Input + Files + AllocGlobal + Threads + Sync {}
 
-impl<R: Input + Files + AllocGlobal + Threads + Sync + Abort> Host for R {}
+impl<R: Input + Files + AllocGlobal + Threads + Sync> Host for R {}
 
 /// The number that the word at a place spells, or another one.
 fn number(words: &[String], place: usize, other: u32) -> u32 {
@@ -66,15 +60,19 @@ fn number(words: &[String], place: usize, other: u32) -> u32 {
 
 /// Runs the solver on each formula of the input.
 fn solve_input(rt: &impl Host, out: &mut Out) {
-    let text = must(rt, io::read_to_string(out.alloc, rt.reader()));
-    solver::put_all_parts(rt, out, text.as_str());
+    match io::read_to_string(out.alloc, rt.reader()) {
+        Ok(text) => solver::put_all_parts(out, text.as_str()),
+        Err(_) => out.fail(),
+    }
 }
 
 /// Runs the solver on the formula of a file.
 fn solve_file(rt: &impl Host, out: &mut Out, path: &str, words: &[String]) {
-    let text = must(rt, fs::read_to_string(rt, path));
     let conflicts = number(words, 1, 1000);
-    solver::put_solved(rt, out, text.as_str(), conflicts, words.len() > 2);
+    match fs::read_to_string(rt, path) {
+        Ok(text) => solver::put_solved(out, text.as_str(), conflicts, words.len() > 2),
+        Err(_) => out.fail(),
+    }
 }
 
 /// Runs the solver on the formula of a file, or on those of the input.
@@ -86,11 +84,11 @@ fn solve(rt: &impl Host, out: &mut Out, words: &[String]) {
 }
 
 /// Sums up a formula of a robot in rooms.
-fn sum_up(rt: &impl Abort, out: &mut Out, words: &[String]) {
+fn sum_up(out: &mut Out, words: &[String]) {
     let rooms = number(words, 0, 3);
     let horizon = number(words, 1, 1);
     let sizes = number(words, 2, 0);
-    large_tasks::put_rooms(rt, out, rooms, Asked { horizon, sizes });
+    large_tasks::put_rooms(out, rooms, Asked { horizon, sizes });
 }
 
 /// Publishes the orders of the large tasks for several words, finds their invariants, or tells how large their formulas are.
@@ -104,29 +102,33 @@ fn run_on_tasks(rt: &impl Host, out: &mut Out, first: &str, words: &[String]) {
 fn run(rt: &impl Host, out: &mut Out, first: &str, others: &[String]) {
     match first {
         "solve" => solve(rt, out, others),
-        "check" => long_log::put_accepted(rt, out),
-        "watches" => watched::put_sums(rt, out),
+        "check" => long_log::put_accepted(out),
+        "watches" => watched::put_sums(out),
         "order" | "invariants" | "forms" => run_on_tasks(rt, out, first, others),
-        "rooms" => sum_up(rt, out, others),
-        "formulas" => formulas::put_tasks(rt, out),
+        "rooms" => sum_up(out, others),
+        "formulas" => formulas::put_tasks(out),
         "all-formulas" => all_formulas::put_tasks(rt, out),
-        _ => put(out, WORDS, &[]),
+        _ => out.fail(),
     }
 }
 
 /// The words of a line.
-fn words_of(rt: &impl Abort, alloc: Global, line: &str) -> Vec<String> {
-    let mut words = Vec::new(alloc);
+fn words_of(out: &mut Out, line: &str) -> Vec<String> {
+    let mut words = Vec::new(out.alloc);
     for word in line.split(' ') {
-        must(rt, words.push(must(rt, word.to_owned(alloc))));
+        match word.to_owned(out.alloc) {
+            Ok(word) => keep(out, words.push(word)),
+            Err(_) => out.fail(),
+        }
     }
     words
 }
 
-/// Does what the words of a line say, under the first of them.
-fn run_line(rt: &impl Host, out: &mut Out, line: &str) {
-    let words = words_of(rt, out.alloc, line);
-    let (first, others) = words.as_slice().split_first().expect(rt, "no word");
+/// Does what words say, under the first of them.
+fn run_titled(rt: &impl Host, out: &mut Out, words: &[String]) {
+    let Some((first, others)) = words.split_first() else {
+        return;
+    };
     put(out, "== ", &[]);
     put(out, first.as_str(), &[]);
     put(out, "\n", &[]);
@@ -136,29 +138,28 @@ fn run_line(rt: &impl Host, out: &mut Out, line: &str) {
 /// Makes a run of each kind but `forms`.
 fn run_all(rt: &impl Host, out: &mut Out) {
     for line in ALL {
-        run_line(rt, out, line);
+        let words = words_of(out, line);
+        run_titled(rt, out, words.as_slice());
     }
 }
 
 /// Does what the words after the program's name say.
 fn run_words(rt: &impl Host, out: &mut Out, words: &[String]) {
-    let (_, words) = words.split_first().expect(rt, "no name");
+    let Some((_, words)) = words.split_first() else {
+        return out.fail();
+    };
     match words.split_first() {
         Some((first, _)) if first.as_str() == "all" => run_all(rt, out),
         Some((first, others)) => run(rt, out, first.as_str(), others),
-        None => put(out, WORDS, &[]),
+        None => out.fail(),
     }
 }
 
-/// What the program's name and the words after it let it print.
-fn printed(rt: &impl Host, alloc: Global, words: &[String]) -> Vec<u8> {
-    let mut out = Out::new(alloc);
-    run_words(rt, &mut out, words);
-    out.done(rt)
-}
-
 fn main(rt: HostRuntime) -> io::Result<()> {
-    let given = must(&rt, env::args(&rt));
-    let words = must(&rt, given.collect::<Vec<String>>(rt.alloc()));
-    io::writer(&rt).write_all(printed(&rt, rt.alloc(), words.as_slice()).as_slice())
+    let Ok(words) = env::args(&rt)?.collect::<Vec<String>>(rt.alloc()) else {
+        return io::writer(&rt).write_all(b"no memory\n");
+    };
+    let mut out = Out::new(rt.alloc());
+    run_words(&rt, &mut out, words.as_slice());
+    io::writer(&rt).write_all(out.printed())
 }

@@ -1,10 +1,8 @@
 //! How many propagations a run makes. A propagation is an entry of the trail that a clause forced, counted each time that it is
 //! made: the solver stops before each conflict, and what stands on its trail then above what it kept of the one before is new.
-use crate::lines::must;
+use crate::lines::{Out, keep};
 use crate::solver::{Plain, go_on};
 use cdcl_rules::trail::Assigned;
-use std::alloc::Global;
-use std::process::Abort;
 
 /// At each so manyth conflict the solver restarts: of its trail it keeps what stands before the first decision.
 const RESTART: u64 = 64;
@@ -34,11 +32,11 @@ fn kept(old: &[Assigned], new: &[Assigned], is_restart: bool) -> usize {
 }
 
 /// Goes on for one conflict, and tells how many propagations came with it; none where nothing is left to do.
-fn one_more(rt: &impl Abort, solver: &mut Plain, old: &mut Vec<Assigned>) -> Option<u64> {
+fn one_more(out: &mut Out, solver: &mut Plain, old: &mut Vec<Assigned>) -> Option<u64> {
     let conflicts = solver.conflicts();
     old.clear();
-    must(rt, old.extend_from_slice(solver.trail()));
-    go_on(rt, solver, 1);
+    keep(out, old.extend_from_slice(solver.trail()));
+    go_on(out, solver, 1);
     if solver.conflicts() == conflicts {
         return None;
     }
@@ -48,17 +46,12 @@ fn one_more(rt: &impl Abort, solver: &mut Plain, old: &mut Vec<Assigned>) -> Opt
 }
 
 /// Goes on for so many conflicts, one after another, and counts the propagations. The solver is new.
-pub(crate) fn count_propagations(
-    rt: &impl Abort,
-    alloc: Global,
-    solver: &mut Plain,
-    conflicts: u32,
-) -> u64 {
-    go_on(rt, solver, 0);
+pub(crate) fn count_propagations(out: &mut Out, solver: &mut Plain, conflicts: u32) -> u64 {
+    go_on(out, solver, 0);
     let mut count = forced_from(solver.trail(), 0);
-    let mut old = Vec::new(alloc);
+    let mut old = Vec::new(out.alloc);
     for _ in 0..conflicts {
-        match one_more(rt, solver, &mut old) {
+        match one_more(out, solver, &mut old) {
             Some(more) => count = count.saturating_add(more),
             None => break,
         }

@@ -8,14 +8,13 @@
 //! printed, stand before the line `p cnf`.
 
 use crate::dimacs::{first_number, formula_of, line_after};
-use crate::lines::{Out, must, put};
+use crate::lines::{Out, keep, put};
 use crate::logs::{log_of, put_answer, put_log};
 use crate::propagations::count_propagations;
 use cdcl_core::Standing;
 use cdcl_core::solver::Solver;
 use clause_base::chooser::PlainChooser;
-use std::alloc::Global;
-use std::process::Abort;
+use clause_base::memory::Memory;
 
 /// The solver with the plain chooser.
 pub(crate) type Plain = Solver<PlainChooser>;
@@ -27,25 +26,25 @@ const MOST: u32 = 1_000_000;
 const ACCEPTED: &str = "check: accepted, entries #\n";
 
 /// The solver of a text's formula.
-fn solver_of(rt: &impl Abort, alloc: Global, text: &str) -> Plain {
-    let formula = formula_of(rt, alloc, text);
-    must(rt, Solver::new(alloc, formula, PlainChooser::new()))
+fn solver_of(out: &mut Out, text: &str) -> Result<Plain, Memory> {
+    let formula = formula_of(out, text);
+    Solver::new(out.alloc, formula, PlainChooser::new())
 }
 
 /// Goes on for so many conflicts, unless there were too many.
-pub(crate) fn go_on(rt: &impl Abort, solver: &mut Plain, conflicts: u32) {
+pub(crate) fn go_on(out: &mut Out, solver: &mut Plain, conflicts: u32) {
     if solver.conflicts() <= u64::from(MOST) {
-        must(rt, solver.advance(conflicts.min(MOST)));
+        keep(out, solver.advance(conflicts.min(MOST)));
     }
 }
 
 /// Goes on for so many conflicts in pieces: first for none, then for a piece each time, of which the last may be shorter.
-fn go_on_in_pieces(rt: &impl Abort, solver: &mut Plain, conflicts: u32, piece: u32) {
+fn go_on_in_pieces(out: &mut Out, solver: &mut Plain, conflicts: u32, piece: u32) {
     let mut left = conflicts;
-    go_on(rt, solver, 0);
+    go_on(out, solver, 0);
     for _ in 0..conflicts {
         let next = left.min(piece);
-        go_on(rt, solver, next);
+        go_on(out, solver, next);
         left -= next;
     }
 }
@@ -79,23 +78,20 @@ fn put_run(out: &mut Out, solver: &Plain, text: &str) {
 }
 
 /// What is written of a solver.
-fn report(rt: &impl Abort, alloc: Global, solver: &Plain, text: &str) -> Vec<u8> {
-    let mut out = Out::new(alloc);
-    put_run(&mut out, solver, text);
-    out.done(rt)
+fn report(out: &mut Out, solver: &Plain, text: &str) -> Vec<u8> {
+    let mut told = Out::new(out.alloc);
+    put_run(&mut told, solver, text);
+    out.taken(told)
 }
 
 /// What is written of the solver of a text's formula after a run in pieces.
-fn report_in_pieces(
-    rt: &impl Abort,
-    alloc: Global,
-    text: &str,
-    conflicts: u32,
-    piece: u32,
-) -> Vec<u8> {
-    let mut solver = solver_of(rt, alloc, text);
-    go_on_in_pieces(rt, &mut solver, conflicts, piece);
-    report(rt, alloc, &solver, text)
+fn report_in_pieces(out: &mut Out, text: &str, conflicts: u32, piece: u32) -> Vec<u8> {
+    let Ok(mut solver) = solver_of(out, text) else {
+        out.fail();
+        return Vec::new(out.alloc);
+    };
+    go_on_in_pieces(out, &mut solver, conflicts, piece);
+    report(out, &solver, text)
 }
 
 /// Writes how a run in pieces ends where that is otherwise than in one go.
@@ -108,9 +104,9 @@ fn put_cut(out: &mut Out, piece: u32, cut: &[u8], whole: &[u8]) {
 }
 
 /// Runs a text's formula in pieces of 1, of 7 and of 64 conflicts.
-fn put_pieces(rt: &impl Abort, out: &mut Out, text: &str, conflicts: u32, whole: &[u8]) {
+fn put_pieces(out: &mut Out, text: &str, conflicts: u32, whole: &[u8]) {
     for piece in [1, 7, 64] {
-        let cut = report_in_pieces(rt, out.alloc, text, conflicts, piece);
+        let cut = report_in_pieces(out, text, conflicts, piece);
         put_cut(out, piece, cut.as_slice(), whole);
     }
 }
@@ -135,55 +131,70 @@ fn put_whole(out: &mut Out, solver: &Plain, text: &str, whole: &[u8]) {
     put(out, "lines #\n", &[line_count(whole)]);
 }
 
-/// Runs a text's formula in one go and in pieces, writes how that ends, and lets its log be checked.
-fn put_runs(rt: &impl Abort, out: &mut Out, text: &str, conflicts: u32) {
-    let mut solver = solver_of(rt, out.alloc, text);
-    go_on(rt, &mut solver, conflicts);
-    let whole = report(rt, out.alloc, &solver, text);
-    put_whole(out, &solver, text, whole.as_slice());
-    put_pieces(rt, out, text, conflicts, whole.as_slice());
-    put_answer(rt, out, ACCEPTED, solver.formula(), solver.log());
+/// Writes how a solver that was run in one go stands, and where runs in pieces end otherwise, these; and lets its log be checked.
+fn put_compared(out: &mut Out, solver: &Plain, text: &str, conflicts: u32) {
+    let whole = report(out, solver, text);
+    put_whole(out, solver, text, whole.as_slice());
+    put_pieces(out, text, conflicts, whole.as_slice());
+    put_answer(out, ACCEPTED, solver.formula(), solver.log());
+}
+
+/// Runs a text's formula in one go and in pieces, and lets its log be checked.
+fn put_runs(out: &mut Out, text: &str, conflicts: u32) {
+    let Ok(mut solver) = solver_of(out, text) else {
+        return out.fail();
+    };
+    go_on(out, &mut solver, conflicts);
+    put_compared(out, &solver, text, conflicts);
 }
 
 /// Checks the log that a text has.
-fn put_checked(rt: &impl Abort, out: &mut Out, text: &str) {
-    let formula = formula_of(rt, out.alloc, text);
-    let log = log_of(rt, out.alloc, text);
-    put_answer(rt, out, ACCEPTED, &formula, &log);
+fn put_checked(out: &mut Out, text: &str) {
+    let formula = formula_of(out, text);
+    let log = log_of(out, text);
+    put_answer(out, ACCEPTED, &formula, &log);
 }
 
-/// Writes the first line of a text, without the letter before it, and runs or checks its formula.
-fn put_part(rt: &impl Abort, out: &mut Out, text: &str) {
-    put(out, line_after("c ", text).expect(rt, "no title"), &[]);
-    put(out, "\n", &[]);
-    match line_after("c conflicts ", text) {
-        Some(line) => put_runs(rt, out, text, first_number(line).expect(rt, "no number")),
-        None => put_checked(rt, out, text),
+/// Runs the formula of a text that has this line of conflicts, or checks its log where it has none.
+fn put_run_or_check(out: &mut Out, text: &str, conflicts: Option<&str>) {
+    let Some(conflicts) = conflicts else {
+        return put_checked(out, text);
+    };
+    match first_number(conflicts) {
+        Some(conflicts) => put_runs(out, text, conflicts),
+        None => out.fail(),
     }
 }
 
+/// Writes the first line of a text, without the letter before it, and runs or checks its formula.
+fn put_part(out: &mut Out, text: &str) {
+    let Some(title) = line_after("c ", text) else {
+        return out.fail();
+    };
+    put(out, title, &[]);
+    put(out, "\n", &[]);
+    put_run_or_check(out, text, line_after("c conflicts ", text));
+}
+
 /// Runs or checks each of the formulas of a text, each ended by a `%`.
-pub(crate) fn put_all_parts(rt: &impl Abort, out: &mut Out, text: &str) {
+pub(crate) fn put_all_parts(out: &mut Out, text: &str) {
     for part in text.split('%') {
         if line_after("p cnf", part).is_some() {
-            put_part(rt, out, part);
+            put_part(out, part);
         }
     }
 }
 
 /// Runs a text's formula for at most so many conflicts, and writes how that ends, or how many propagations the run makes.
-pub(crate) fn put_solved(
-    rt: &impl Abort,
-    out: &mut Out,
-    text: &str,
-    conflicts: u32,
-    are_counted: bool,
-) {
-    let mut solver = solver_of(rt, out.alloc, text);
+pub(crate) fn put_solved(out: &mut Out, text: &str, conflicts: u32, are_counted: bool) {
+    let Ok(mut solver) = solver_of(out, text) else {
+        return out.fail();
+    };
     if are_counted {
-        let count = count_propagations(rt, out.alloc, &mut solver, conflicts);
-        return put(out, "propagations #\n", &[count]);
+        let count = count_propagations(out, &mut solver, conflicts);
+        put(out, "propagations #\n", &[count]);
+    } else {
+        go_on(out, &mut solver, conflicts);
+        put_run(out, &solver, text);
     }
-    go_on(rt, &mut solver, conflicts);
-    put_run(out, &solver, text);
 }

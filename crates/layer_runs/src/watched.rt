@@ -4,15 +4,14 @@
 //! The clauses say of each three variables in a row that the first two imply the third. A row prints the sum of the numbers of
 //! the clauses that asked first.
 
-ghost use Rattle.std.specs.Prelude.{◌≡◌, ◌+◌, ◌*◌, ◌≤◌, ◌<◌, ◌++◌, ◌∷◌, [], length, true};
+ghost use Rattle.std.specs.Prelude.{◌≡◌, ◌+◌, ◌*◌, ◌≤◌, ◌<◌, ◌++◌, ◌∷◌, [], length, true, OnSome};
 
 use crate::dimacs::add_clause;
-use crate::lines::{Out, must, put};
+use crate::lines::{Out, put};
 use clause_base::clause::Clause;
 use clause_base::formula::Formula;
 use clause_base::literal::Lit;
 use std::alloc::Global;
-use std::process::Abort;
 use watch_lists::watches::Watches;
 
 /// How many clauses there are at first.
@@ -25,17 +24,17 @@ const VARIABLES: u32 = CLAUSES + 2;
 const ROUNDS: u32 = 100_000;
 
 /// For each three variables in a row, that the first two imply the third.
-fn triples(rt: &impl Abort, alloc: Global) -> Formula
+fn triples(out: &mut Out) -> Formula
     ensures { result.variables ≡ 100002 }
 {
-    let mut formula = Formula::new(alloc, 0, VARIABLES);
+    let mut formula = Formula::new(out.alloc, 0, VARIABLES);
     for v in 0..CLAUSES {
         let lits = [
             Lit::of(v, false),
             Lit::of(v + 1, false),
             Lit::of(v + 2, true),
         ];
-        add_clause(rt, alloc, &mut formula, &lits);
+        add_clause(out, &mut formula, &lits);
     }
     formula
 }
@@ -89,51 +88,42 @@ fn undone(watches: &mut Watches) -> u64
 }
 
 /// Adds, with the next number, that a variable and the next one are not both true.
-fn add_two(rt: &impl Abort, alloc: Global, watches: &mut Watches, v: u32)
+fn add_two(alloc: Global, watches: &mut Watches, v: u32) -> Option<()>
     requires many { watches.old.variables ≡ 100002 }
     requires variable { v < 100000 }
     requires none { watches.old.trail ≡ [] }
-    ensures many { watches.new.variables ≡ 100002 }
-    ensures none { watches.new.trail ≡ [] }
-    ensures kept { watches.new.kept ≡ watches.old.kept ++ true ∷ [] }
+    ensures many { OnSome result (watches.new.variables ≡ 100002) }
+    ensures none { OnSome result (watches.new.trail ≡ []) }
+    ensures kept { OnSome result (watches.new.kept ≡ watches.old.kept ++ true ∷ []) }
 {
     let lits = [Lit::of(v, false), Lit::of(v + 1, false)];
-    let clause = must(rt, Clause::of(alloc, &lits)).expect(rt, "no clause");
+    let clause = Clause::of(alloc, &lits).ok()??;
     if !clause.fits(VARIABLES) {
-        rt.panic("too many variables");
+        return None;
     }
-    match watches.add(clause) {
-        Ok(()) => (),
-        Err(_) => rt.panic("no memory"),
-    }
+    watches.add(clause).ok()
 }
 
 /// Adds, with the next number, that two variables in a row are not both true, and removes it. What is told is the number of the
 /// clause that asks where the first is true, before the clause is removed and, 1,000,000 times, after.
-fn asked_when_added(
-    rt: &impl Abort,
-    alloc: Global,
-    watches: &mut Watches,
-    v: u32,
-    number: u32,
-) -> u64
+fn asked_when_added(alloc: Global, watches: &mut Watches, v: u32, number: u32) -> Option<u64>
     requires many { watches.old.variables ≡ 100002 }
     requires variable { v < 100000 }
     requires none { watches.old.trail ≡ [] }
     requires count { length watches.old.kept ≡ number }
-    ensures many { watches.new.variables ≡ 100002 }
-    ensures none { watches.new.trail ≡ [] }
-    ensures count { length watches.new.kept ≡ number + 1 }
+    ensures many { OnSome result (watches.new.variables ≡ 100002) }
+    ensures none { OnSome result (watches.new.trail ≡ []) }
+    ensures count { OnSome result (length watches.new.kept ≡ number + 1) }
 {
-    add_two(rt, alloc, watches, v);
+    add_two(alloc, watches, v)?;
     let before = asked_by_one(watches, v);
     watches.remove(number);
     let after = asked_by_one(watches, v);
-    before.wrapping_add(after.wrapping_mul(1_000_000))
+    Some(before.wrapping_add(after.wrapping_mul(1_000_000)))
 }
 
 /// Adds and removes a clause for each two variables in a row.
-fn added(rt: &impl Abort, alloc: Global, watches: &mut Watches, first: u32) -> u64
+fn added(alloc: Global, watches: &mut Watches, first: u32) -> Option<u64>
     requires many { watches.old.variables ≡ 100002 }
     requires none { watches.old.trail ≡ [] }
     requires count { length watches.old.kept ≡ first }
@@ -141,26 +131,32 @@ fn added(rt: &impl Abort, alloc: Global, watches: &mut Watches, first: u32) -> u
 {
     let mut sum: u64 = 0;
     for v in 0..ROUNDS {
-        sum = sum.wrapping_add(asked_when_added(rt, alloc, watches, v, first + v));
+        sum = sum.wrapping_add(asked_when_added(alloc, watches, v, first + v)?);
     }
-    sum
+    Some(sum)
+}
+
+/// Writes the sums of both rows over a formula.
+fn put_rows(out: &mut Out, formula: &Formula)
+    requires { formula.now.variables ≡ 100002 }
+{
+    let count = formula.count();
+    if count > CLAUSES {
+        return out.fail();
+    }
+    let Ok(mut watches) = Watches::new(out.alloc, formula) else {
+        return out.fail();
+    };
+    let undone = undone(&mut watches);
+    put(out, "undone 100000 times: #\n", &[undone]);
+    match added(out.alloc, &mut watches, count) {
+        Some(added) => put(out, "added and removed 100000 times: #\n", &[added]),
+        None => out.fail(),
+    }
 }
 
 /// Writes the sums of both rows.
-pub(crate) fn put_sums(rt: &impl Abort, out: &mut Out) {
-    let formula = triples(rt, out.alloc);
-    let count = formula.count();
-    if count > CLAUSES {
-        rt.panic("too many clauses");
-    }
-    let Ok(mut watches) = Watches::new(out.alloc, &formula) else {
-        rt.panic("no memory")
-    };
-    let undone = undone(&mut watches);
-    let added = added(rt, out.alloc, &mut watches, count);
-    put(
-        out,
-        "undone 100000 times: #\nadded and removed 100000 times: #\n",
-        &[undone, added],
-    );
+pub(crate) fn put_sums(out: &mut Out) {
+    let formula = triples(out);
+    put_rows(out, &formula);
 }

@@ -2,4 +2,4 @@ use Rattle.std.proofs.Common.{◌≡◌}
 use Rattle.layer_runs.proofs.watched.triples.Given as goal
 
 abbrev pub invariant-loop-v : goal.invariant-loop-v
-invariant-loop-v g l = l.formula.variables ≡ 100002
+invariant-loop-v l = l.formula.variables ≡ 100002
