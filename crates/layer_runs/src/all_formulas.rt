@@ -96,24 +96,19 @@ fn put_form<F: StepForm>(out: &mut Out, form: &F) {
 }
 
 /// Writes what there is to write of a task under its invariants.
-fn put_task(rt: &(impl Threads + Sync), out: &mut Out, task: &Task) {
-    let Ok(pairs) = find(rt, out.alloc, task) else {
+fn put_task(rt: &(impl Threads + Sync), out: &mut Out, made: Result<Option<Task>, AllocError>) {
+    let Ok(Some(task)) = made else {
         return out.fail();
     };
-    let Ok(order) = publish(out.alloc, task, &pairs) else {
+    let Ok(pairs) = find(rt, out.alloc, &task) else {
         return out.fail();
     };
-    match AllForm::new(out.alloc, task, &pairs, &order) {
+    let Ok(order) = publish(out.alloc, &task, &pairs) else {
+        return out.fail();
+    };
+    match AllForm::new(out.alloc, &task, &pairs, &order) {
         Ok(form) => put_form(out, &form),
         Err(_) => out.fail(),
-    }
-}
-
-/// Writes what there is to write of a task that was made.
-fn put_made(rt: &(impl Threads + Sync), out: &mut Out, made: Result<Option<Task>, AllocError>) {
-    match made {
-        Ok(Some(task)) => put_task(rt, out, &task),
-        _ => out.fail(),
     }
 }
 
@@ -121,7 +116,7 @@ fn put_made(rt: &(impl Threads + Sync), out: &mut Out, made: Result<Option<Task>
 pub(crate) fn put_tasks(rt: &(impl Threads + Sync), out: &mut Out) {
     put(out, "burning\n", &[]);
     let made = burning(out);
-    put_made(rt, out, made);
+    put_task(rt, out, made);
     put(out, "rivals\n", &[]);
-    put_made(rt, out, worked::rivals(out.alloc));
+    put_task(rt, out, worked::rivals(out.alloc));
 }

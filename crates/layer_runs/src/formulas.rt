@@ -29,13 +29,6 @@ use step_encoding::steps::Steps;
 /// How many tasks are drawn.
 const TASKS: u32 = 20;
 
-/// What is written of a task: the formula of a horizon, and the steps of an assignment where it satisfies it.
-#[derive(Clone, Copy)]
-struct Asked<'a> {
-    horizon: u32,
-    values: &'a [bool],
-}
-
 /// Writes the components of an order.
 fn put_order(out: &mut Out, order: &Order) {
     put(out, "order", &[]);
@@ -83,9 +76,7 @@ fn put_layout<F: StepForm>(out: &mut Out, form: &F, n: u32)
 
 /// Writes steps, the actions of each in a line.
 fn put_steps(out: &mut Out, made: Option<Steps>) {
-    let Some(steps) = made else {
-        return out.fail();
-    };
+    let Some(steps) = made else { return out.fail() };
     for step in steps.as_slice() {
         put(out, "step", &[]);
         put_all(out, step.as_slice());
@@ -110,11 +101,11 @@ fn put_horizon<F: StepForm>(out: &mut Out, form: &F, n: u32, values: &[bool])
 }
 
 /// Writes what was asked of a form.
-fn put_form<F: StepForm>(out: &mut Out, form: &F, asked: Asked) {
-    for n in 0..4 {
-        put(out, "size # #\n", &[n as u64, form.size(n)]);
+fn put_form<F: StepForm>(out: &mut Out, form: &F, n: u32, values: &[bool]) {
+    for k in 0..4 {
+        put(out, "size # #\n", &[k as u64, form.size(k)]);
     }
-    put_horizon(out, form, asked.horizon.min(255), asked.values);
+    put_horizon(out, form, n.min(255), values);
 }
 
 /// Writes what was asked of the form of a task whose chains go where `P` says, under its name.
@@ -124,7 +115,8 @@ fn put_placed<P: Placing>(
     task: &Task,
     pairs: &Pairs,
     order: &Order,
-    asked: Asked,
+    n: u32,
+    values: &[bool],
 )
     requires facts { pairs.now.facts ≡ task.now.facts }
     requires hold { HoldsWherever task.now pairs.now.clauses }
@@ -132,7 +124,7 @@ fn put_placed<P: Placing>(
 {
     put(out, name, &[]);
     match Placed::<P>::new(out.alloc, task, pairs, order) {
-        Ok(form) => put_form(out, &form, asked),
+        Ok(form) => put_form(out, &form, n, values),
         Err(_) => out.fail(),
     }
 }
@@ -148,53 +140,33 @@ fn put_pairs(out: &mut Out, pairs: &Pairs) {
 }
 
 /// Writes known pairs, and a task's published order and its formulas under them.
-fn put_known(out: &mut Out, task: &Task, made: Result<Pairs, Memory>, asked: Asked)
+fn put_known(out: &mut Out, task: &Task, made: Result<Pairs, Memory>, n: u32, values: &[bool])
     requires { IfOk made (λ pairs. pairs.facts ≡ task.now.facts) }
 {
-    let Ok(pairs) = made else {
-        return out.fail();
-    };
+    let Ok(pairs) = made else { return out.fail() };
     let Some(order) = kept_order(out, task, &pairs) else {
         return;
     };
     put_pairs(out, &pairs);
     put_order(out, &order);
-    put_placed::<Components>(out, "exists-steps\n", task, &pairs, &order, asked);
-    put_placed::<BothWays>(out, "all-steps\n", task, &pairs, &order, asked);
+    put_placed::<Components>(out, "exists-steps\n", task, &pairs, &order, n, values);
+    put_placed::<BothWays>(out, "all-steps\n", task, &pairs, &order, n, values);
 }
 
 /// Writes a task's formulas under no known pair, and then under all that are kept.
-fn put_task(out: &mut Out, made: Result<Option<Task>, AllocError>, asked: Asked) {
+fn put_task(out: &mut Out, made: Result<Option<Task>, AllocError>, n: u32, values: &[bool]) {
     let Ok(Some(task)) = made else {
         return out.fail();
     };
     let none = pairs_of(out, &task, 0, "");
-    put_known(out, &task, none, asked);
-    put_known(out, &task, kept_pairs(out.alloc, &task), asked);
+    put_known(out, &task, none, n, values);
+    put_known(out, &task, kept_pairs(out.alloc, &task), n, values);
 }
 
-/// Writes the formulas of a worked task, after its name.
+/// Writes the formulas of a worked task in one step, after its name.
 fn put_worked(out: &mut Out, name: &str, made: Result<Option<Task>, AllocError>) {
-    let one_step = Asked {
-        horizon: 1,
-        values: &[true, false, true],
-    };
     put(out, name, &[]);
-    put_task(out, made, one_step);
-}
-
-/// Writes the formulas of a task that is drawn from a number.
-fn put_drawn(out: &mut Out, number: u32) {
-    let two_steps = Asked {
-        horizon: 2,
-        values: &[],
-    };
-    put(out, "task #\n", &[number as u64]);
-    put_task(
-        out,
-        drawn::task(out.alloc, &mut Dice::new(number)),
-        two_steps,
-    );
+    put_task(out, made, 1, &[true, false, true]);
 }
 
 /// Writes the formulas of all tasks.
@@ -202,6 +174,8 @@ pub(crate) fn put_tasks(out: &mut Out) {
     put_worked(out, "lamp\n", worked::lamp(out.alloc));
     put_worked(out, "rivals\n", worked::rivals(out.alloc));
     for number in 0..TASKS {
-        put_drawn(out, number);
+        put(out, "task #\n", &[number as u64]);
+        let made = drawn::task(out.alloc, &mut Dice::new(number));
+        put_task(out, made, 2, &[]);
     }
 }

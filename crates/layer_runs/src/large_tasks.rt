@@ -3,13 +3,10 @@
 //! in rooms, `bench/list-large-formula` wrote, from the definition of the clauses alone. A body that gives up past some size fails there.
 
 ghost use Rattle.std.specs.Prelude.{◌≡◌, ◌<◌, ◌≤◌, IfOk};
-ghost use Rattle.gt_core.specs.Published.{IsPublished};
-ghost use Rattle.gt_core.specs.Reached.{HoldsWherever};
 
 use crate::formulas::put_counts;
 use crate::known::{kept_order, pairs_of};
 use crate::lines::{Out, put};
-use action_order::order::Order;
 use action_order::publish::publish;
 use clause_base::formula::Formula;
 use clause_base::view::View;
@@ -22,13 +19,6 @@ use std::thread::Threads;
 use step_encoding::exists::ExistsForm;
 use step_encoding::form::StepForm;
 use two_invariants::find;
-
-/// What is asked of a form: the formula of a horizon where it is not 0, and how often to add up the sizes of all horizons.
-#[derive(Clone, Copy)]
-pub(crate) struct Asked {
-    pub(crate) horizon: u32,
-    pub(crate) sizes: u32,
-}
 
 /// The number that comes after another one by a literal.
 fn summed(sum: u64, code: u32) -> u64
@@ -80,63 +70,50 @@ fn put_formula<F: StepForm>(out: &mut Out, form: &F, n: u32)
     put(out, ", sum #\n", &[sum_of(&formula)]);
 }
 
-/// Does what was asked with a form. A horizon is at most 255.
-fn put_form<F: StepForm>(out: &mut Out, form: &F, asked: Asked) {
-    if 0 < asked.horizon && asked.horizon <= 255 {
-        put_formula(out, form, asked.horizon);
+/// Builds the formula of a horizon from 1 to 255, and so many times adds up the sizes of all horizons.
+fn put_form<F: StepForm>(out: &mut Out, form: &F, horizon: u32, sizes: u32) {
+    if 0 < horizon && horizon <= 255 {
+        put_formula(out, form, horizon);
     }
     let (one, two) = (form.size(1), form.size(2));
     put(out, "sizes: # and # literals\n", &[one, two]);
-    for _ in 0..asked.sizes {
+    for _ in 0..sizes {
         put(out, "all sizes: #\n", &[all_sizes(form)]);
     }
 }
 
-/// Makes the form under pairs and the order that is published under them, and does what was asked.
-fn put_ordered(out: &mut Out, task: &Task, pairs: &Pairs, order: &Order, asked: Asked)
-    requires facts { pairs.now.facts ≡ task.now.facts }
-    requires hold { HoldsWherever task.now pairs.now.clauses }
-    requires published { IsPublished task.now pairs.now.clauses order.now }
-{
-    let (components, count) = (order.components() as u64, pairs.count() as u64);
-    put(out, "# components, # known pairs\n", &[components, count]);
-    match ExistsForm::new(out.alloc, task, pairs, order) {
-        Ok(form) => put_form(out, &form, asked),
-        Err(_) => out.fail(),
-    }
-}
-
-/// Makes the published order and the form, and does what was asked.
-fn put_task(out: &mut Out, task: &Task, made: Result<Pairs, Memory>, asked: Asked)
+/// Makes the published order under pairs and the form, builds the formula of a horizon from 1 to 255, and so many times adds up the
+/// sizes of all horizons.
+fn put_task(out: &mut Out, task: &Task, made: Result<Pairs, Memory>, horizon: u32, sizes: u32)
     requires { IfOk made (λ pairs. pairs.facts ≡ task.now.facts) }
 {
-    let Ok(pairs) = made else {
-        return out.fail();
+    let Ok(pairs) = made else { return out.fail() };
+    let Some(order) = kept_order(out, task, &pairs) else {
+        return;
     };
-    if let Some(order) = kept_order(out, task, &pairs) {
-        put_ordered(out, task, &pairs, &order, asked);
+    let (components, count) = (order.components() as u64, pairs.count() as u64);
+    put(out, "# components, # known pairs\n", &[components, count]);
+    match ExistsForm::new(out.alloc, task, &pairs, &order) {
+        Ok(form) => put_form(out, &form, horizon, sizes),
+        Err(_) => out.fail(),
     }
 }
 
 /// Takes the task of a robot in rooms with lamps, of which it is known that each is on or off and not both. Writes how many literals
 /// and clauses the formula of a horizon has, and a number that depends on each literal and on its place; of horizon 0, nothing. So
 /// many times it adds up the sizes of all horizons up to 255.
-pub(crate) fn put_rooms(out: &mut Out, count: u32, asked: Asked) {
+pub(crate) fn put_rooms(out: &mut Out, count: u32, horizon: u32, sizes: u32) {
     let Ok(Some(task)) = rooms(out.alloc, count) else {
         return out.fail();
     };
     let pairs = pairs_of(out, &task, count, "");
-    put_task(out, &task, pairs, asked);
+    put_task(out, &task, pairs, horizon, sizes);
 }
 
 /// Writes the sizes of two horizons of a task under no known pair.
 fn put_sizes(out: &mut Out, task: &Task) {
-    let asked = Asked {
-        horizon: 0,
-        sizes: 0,
-    };
     let none = pairs_of(out, task, 0, "");
-    put_task(out, task, none, asked);
+    put_task(out, task, none, 0, 0);
 }
 
 /// Writes how many actions and components the order of the task for a word has.

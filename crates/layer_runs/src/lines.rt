@@ -1,5 +1,4 @@
-//! Lines of words and numbers, as a run prints them. Where something could not be made, that is kept, and told at the end in place of
-//! all lines.
+//! Lines of words and numbers, as a run prints them. What could not be made is kept, and told at the end in place of all lines.
 
 use itoa::Buffer;
 use std::alloc::Global;

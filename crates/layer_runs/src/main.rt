@@ -26,7 +26,6 @@ mod propagations;
 mod solver;
 mod watched;
 
-use crate::large_tasks::Asked;
 use crate::lines::{Out, keep, put};
 use std::io::Write;
 use std::rt::Files;
@@ -34,16 +33,8 @@ use std::thread::Threads;
 use std::{env, fs, io};
 
 /// The runs of the word `all`.
-const ALL: [&str; 8] = [
-    "solve",
-    "check",
-    "watches",
-    "order none ring conditional",
-    "invariants takers",
-    "rooms 1000 95 1",
-    "formulas",
-    "all-formulas",
-];
+const ALL: &str =
+    "solve|check|watches|order none ring conditional|invariants takers|rooms 1000 95 1|formulas|all-formulas";
 
 /// What a run has of the system.
 trait Host: Input + Files + AllocGlobal + Threads + Sync {}
@@ -88,7 +79,7 @@ fn sum_up(out: &mut Out, words: &[String]) {
     let rooms = number(words, 0, 3);
     let horizon = number(words, 1, 1);
     let sizes = number(words, 2, 0);
-    large_tasks::put_rooms(out, rooms, Asked { horizon, sizes });
+    large_tasks::put_rooms(out, rooms, horizon, sizes);
 }
 
 /// Publishes the orders of the large tasks for several words, finds their invariants, or tells how large their formulas are.
@@ -137,7 +128,7 @@ fn run_titled(rt: &impl Host, out: &mut Out, words: &[String]) {
 
 /// Makes a run of each kind but `forms`.
 fn run_all(rt: &impl Host, out: &mut Out) {
-    for line in ALL {
+    for line in ALL.split('|') {
         let words = words_of(out, line);
         run_titled(rt, out, words.as_slice());
     }

@@ -155,25 +155,14 @@ fn put_checked(out: &mut Out, text: &str) {
     put_answer(out, ACCEPTED, &formula, &log);
 }
 
-/// Runs the formula of a text that has this line of conflicts, or checks its log where it has none.
-fn put_run_or_check(out: &mut Out, text: &str, conflicts: Option<&str>) {
-    let Some(conflicts) = conflicts else {
-        return put_checked(out, text);
-    };
-    match first_number(conflicts) {
-        Some(conflicts) => put_runs(out, text, conflicts),
-        None => out.fail(),
-    }
-}
-
 /// Writes the first line of a text, without the letter before it, and runs or checks its formula.
 fn put_part(out: &mut Out, text: &str) {
-    let Some(title) = line_after("c ", text) else {
-        return out.fail();
-    };
-    put(out, title, &[]);
+    put(out, line_after("c ", text).unwrap_or("?"), &[]);
     put(out, "\n", &[]);
-    put_run_or_check(out, text, line_after("c conflicts ", text));
+    match line_after("c conflicts ", text) {
+        Some(line) => put_runs(out, text, first_number(line).unwrap_or(0)),
+        None => put_checked(out, text),
+    }
 }
 
 /// Runs or checks each of the formulas of a text, each ended by a `%`.
