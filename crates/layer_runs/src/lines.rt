@@ -2,6 +2,7 @@
 
 use itoa::Buffer;
 use std::alloc::Global;
+use std::io;
 
 /// What is printed where something could not be made.
 const FAILED: &str =
@@ -44,6 +45,14 @@ impl Out {
             self.fail();
         }
         other.bytes
+    }
+
+    /// How a run ends: with an error where something could not be made.
+    pub(crate) fn ended(&self) -> io::Result<()> {
+        if self.is_whole {
+            return Ok(());
+        }
+        Err(io::Error::from(io::ErrorKind::InvalidInput))
     }
 
     /// What is printed.

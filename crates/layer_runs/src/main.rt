@@ -147,10 +147,9 @@ fn run_words(rt: &impl Host, out: &mut Out, words: &[String]) {
 }
 
 fn main(rt: HostRuntime) -> io::Result<()> {
-    let Ok(words) = env::args(&rt)?.collect::<Vec<String>>(rt.alloc()) else {
-        return io::writer(&rt).write_all(b"no memory\n");
-    };
+    let words = env::args(&rt)?.collect::<Vec<String>>(rt.alloc())?;
     let mut out = Out::new(rt.alloc());
     run_words(&rt, &mut out, words.as_slice());
-    io::writer(&rt).write_all(out.printed())
+    io::writer(&rt).write_all(out.printed())?;
+    out.ended()
 }
