@@ -1,10 +1,10 @@
 //! Formulas in the DIMACS form.
 ghost use Rattle.std.specs.Prelude.{◌≡◌};
 
+use crate::lines::{Out, keep};
 use clause_base::clause::Clause;
 use clause_base::formula::Formula;
 use clause_base::literal::Lit;
-use std::alloc::Global;
 
 /// How many variables a formula may have.
 const MOST_VARIABLES: u32 = 1_000_000_000;
@@ -36,48 +36,68 @@ fn literal_of(word: &str) -> Option<Lit> {
     }
 }
 
-/// Adds the clause of some literals, if it is one that fits.
-pub(crate) fn add_clause(alloc: Global, formula: &mut Formula, lits: &[Lit]) -> Option<()>
+/// Adds a clause, if it fits.
+fn add_fitting(out: &mut Out, formula: &mut Formula, clause: Clause)
     ensures { formula.new.variables ≡ formula.old.variables }
 {
-    let Some(clause) = Clause::of(alloc, lits).ok()? else {
-        return Some(());
-    };
     if formula.has_room() && clause.fits(formula.variables()) {
-        return formula.add(clause).ok();
+        match formula.add(clause) {
+            Ok(()) => (),
+            Err(_) => out.fail(),
+        }
     }
-    Some(())
+}
+
+/// Adds the clause of some literals, if it is one that fits.
+pub(crate) fn add_clause(out: &mut Out, formula: &mut Formula, lits: &[Lit])
+    ensures { formula.new.variables ≡ formula.old.variables }
+{
+    match Clause::of(out.alloc, lits) {
+        Ok(Some(clause)) => add_fitting(out, formula, clause),
+        Ok(None) => (),
+        Err(_) => out.fail(),
+    }
 }
 
 /// Makes a list the literals of a line.
-fn read_literals(lits: &mut Vec<Lit>, line: &str) -> Option<()> {
+fn read_literals(out: &mut Out, lits: &mut Vec<Lit>, line: &str) {
     lits.clear();
     for word in line.split(' ') {
         if let Some(lit) = literal_of(word) {
-            lits.push(lit).ok()?;
+            keep(out, lits.push(lit));
         }
     }
-    Some(())
 }
 
 /// Adds the clauses of a text, a line each.
-fn add_lines(alloc: Global, formula: &mut Formula, lits: &mut Vec<Lit>, text: &str) -> Option<()> {
+fn add_lines(out: &mut Out, formula: &mut Formula, text: &str) {
+    let mut lits = Vec::new(out.alloc);
     for line in text.lines() {
-        read_literals(lits, line)?;
-        add_clause(alloc, formula, lits.as_slice())?;
+        read_literals(out, &mut lits, line);
+        add_clause(out, formula, lits.as_slice());
     }
-    Some(())
 }
 
-/// The formula of a text: after a line `p cnf VARIABLES CLAUSES` a clause a line, each ended by 0, and no other line.
-pub(crate) fn formula_of(alloc: Global, text: &str) -> Option<Formula> {
+/// The number of variables and the clauses of a text in the form of `formula_of`.
+fn sizes_and_clauses(text: &str) -> Option<(u32, &str)> {
     let (_, told) = text.split_once("p cnf ")?;
     let (sizes, clauses) = told.split_once('\n')?;
     let variables = first_number(sizes)?;
-    if variables > MOST_VARIABLES {
-        return None;
+    if variables <= MOST_VARIABLES {
+        Some((variables, clauses))
+    } else {
+        None
     }
-    let mut formula = Formula::new(alloc, 0, variables);
-    add_lines(alloc, &mut formula, &mut Vec::new(alloc), clauses)?;
-    Some(formula)
+}
+
+/// The formula of a text: after a line `p cnf VARIABLES CLAUSES` a clause a line, each ended by 0, and no other line. Of a text that
+/// is none, a formula without clauses.
+pub(crate) fn formula_of(out: &mut Out, text: &str) -> Formula {
+    let Some((variables, clauses)) = sizes_and_clauses(text) else {
+        out.fail();
+        return Formula::new(out.alloc, 0, 0);
+    };
+    let mut formula = Formula::new(out.alloc, 0, variables.min(MOST_VARIABLES));
+    add_lines(out, &mut formula, clauses);
+    formula
 }

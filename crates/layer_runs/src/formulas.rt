@@ -2,231 +2,180 @@
 //! drawn from numbers, first under no known pair and then under all pairs that each action keeps by itself. What is due,
 //! `bench/list-formulas` wrote, from the definition of the clauses alone.
 
-ghost use Rattle.std.specs.Prelude.{◌≡◌, ◌≤◌};
-ghost use Rattle.clause_base.specs.Formula.{IsModel};
+ghost use Rattle.std.specs.Prelude.{◌≡◌, ◌≤◌, IfOk};
 ghost use Rattle.gt_core.specs.Published.{IsPublished};
 ghost use Rattle.gt_core.specs.Reached.{HoldsWherever};
 ghost use Rattle.step_encoding.specs.Numbers.{literals_of};
 
-use crate::lines::{put, put_all};
+use crate::known::{kept_order, pairs_of};
+use crate::lines::{Out, put, put_all};
 use crate::model::is_model;
 use action_order::order::Order;
-use action_order::publish::publish;
-use all_steps::form::AllForm;
+use all_steps::form::BothWays;
 use clause_base::formula::Formula;
 use clause_base::view::View;
+use gt_core::memory::Memory;
 use gt_core::pairs::Pairs;
 use gt_core::task::Task;
 use sample_tasks::dice::Dice;
-use sample_tasks::kept::{are_kept, kept_pairs};
+use sample_tasks::kept::kept_pairs;
 use sample_tasks::{drawn, worked};
-use std::alloc::Global;
-use step_encoding::exists::ExistsForm;
+use std::alloc::AllocError;
+use step_encoding::exists::Components;
 use step_encoding::form::StepForm;
+use step_encoding::placed::{Placed, Placing};
+use step_encoding::steps::Steps;
 
 /// How many tasks are drawn.
 const TASKS: u32 = 20;
 
-/// What is written of a task: the formula of a horizon, and the steps of an assignment where it satisfies it.
-#[derive(Clone, Copy)]
-struct Asked<'a> {
-    horizon: u32,
-    values: &'a [bool],
-}
-
 /// Writes the components of an order.
-fn put_order(out: &mut Vec<u8>, order: &Order) -> Option<()> {
-    put(out, "order", &[])?;
+fn put_order(out: &mut Out, order: &Order) {
+    put(out, "order", &[]);
     for group in order.groups() {
-        put(out, " |", &[])?;
-        put_all(out, group.as_slice())?;
+        put(out, " |", &[]);
+        put_all(out, group.as_slice());
     }
-    put(out, "\n", &[])
+    put(out, "\n", &[]);
 }
 
 /// Writes the line of a clause: the word `clause` and the codes of its literals, in order.
-pub(crate) fn put_clause(out: &mut Vec<u8>, clause: &View) -> Option<()> {
-    put(out, "clause", &[])?;
+pub(crate) fn put_clause(out: &mut Out, clause: &View) {
+    put(out, "clause", &[]);
     for place in 0..clause.len() {
-        put(out, " #", &[clause.get(place).0 as u64])?;
+        put(out, " #", &[clause.get(place).0 as u64]);
     }
-    put(out, "\n", &[])
+    put(out, "\n", &[]);
+}
+
+/// Writes, by words with four `#`, the horizon of a formula, and how many variables, clauses and literals it has.
+pub(crate) fn put_counts(out: &mut Out, words: &str, formula: &Formula, size: u64) {
+    let (name, variables) = (formula.name() as u64, formula.variables() as u64);
+    put(out, words, &[name, variables, formula.count() as u64, size]);
 }
 
 /// Writes a formula.
-fn put_formula(out: &mut Vec<u8>, formula: &Formula) -> Option<()> {
+fn put_formula(out: &mut Out, formula: &Formula) {
     let (name, variables) = (formula.name() as u64, formula.variables() as u64);
-    put(out, "formula # variables #\n", &[name, variables])?;
+    put(out, "formula # variables #\n", &[name, variables]);
     for number in 0..formula.count() {
-        put_clause(out, &formula.clause(number))?;
+        put_clause(out, &formula.clause(number));
     }
-    Some(())
 }
 
 /// Writes how many variables a horizon has of each kind.
-fn put_layout<F: StepForm>(out: &mut Vec<u8>, form: &F, n: u32) -> Option<()>
-    requires { n ≤ 255 }
-{
-    if form.size(n) > 4_000_000 {
-        return put(out, "too large\n", &[]);
-    }
-    let z = form.layout(n);
-    put(out, "layout", &[])?;
-    put_all(out, &[n, z.actions, z.conditional, z.chains, z.facts])?;
-    put(out, "\n", &[])
-}
-
-/// Writes the actions of a step.
-fn put_step(out: &mut Vec<u8>, actions: &[u32]) -> Option<()> {
-    put(out, "step", &[])?;
-    put_all(out, actions)?;
-    put(out, "\n", &[])
-}
-
-/// Writes the steps of an assignment where it satisfies a horizon's formula.
-fn put_steps<F: StepForm>(
-    alloc: Global,
-    out: &mut Vec<u8>,
-    form: &F,
-    n: u32,
-    values: &[bool],
-) -> Option<()>
+fn put_layout<F: StepForm>(out: &mut Out, form: &F, n: u32)
     requires horizon { n ≤ 255 }
     requires size { literals_of (F.formula_of form.now n) ≤ 4000000 }
-    requires model { IsModel (F.formula_of form.now n) values.now }
 {
-    let steps = form.steps_of(alloc, n, values).ok()?;
+    let z = form.layout(n);
+    put(out, "layout", &[]);
+    put_all(out, &[n, z.actions, z.conditional, z.chains, z.facts]);
+    put(out, "\n", &[]);
+}
+
+/// Writes steps, the actions of each in a line.
+fn put_steps(out: &mut Out, made: Option<Steps>) {
+    let Some(steps) = made else { return out.fail() };
     for step in steps.as_slice() {
-        put_step(out, step.as_slice())?;
+        put(out, "step", &[]);
+        put_all(out, step.as_slice());
+        put(out, "\n", &[]);
     }
-    Some(())
 }
 
 /// Writes a horizon's formula, and the steps of an assignment where it satisfies it.
-fn put_horizon<F: StepForm>(
-    alloc: Global,
-    out: &mut Vec<u8>,
-    form: &F,
-    n: u32,
-    values: &[bool],
-) -> Option<()>
+fn put_horizon<F: StepForm>(out: &mut Out, form: &F, n: u32, values: &[bool])
     requires { n ≤ 255 }
 {
-    let formula = form.formula(alloc, n).ok()?;
-    put_formula(out, &formula)?;
-    if !is_model(&formula, values) {
-        return put(out, "no model\n", &[]);
+    let Ok(formula) = form.formula(out.alloc, n) else {
+        return out.fail();
+    };
+    put_layout(out, form, n);
+    put_formula(out, &formula);
+    if is_model(&formula, values) {
+        put_steps(out, form.steps_of(out.alloc, n, values).ok());
+    } else {
+        put(out, "no model\n", &[]);
     }
-    put_steps(alloc, out, form, n, values)
 }
 
-/// Writes what was asked of a form. A horizon is at most 255.
-fn put_form<F: StepForm>(alloc: Global, out: &mut Vec<u8>, form: &F, asked: Asked) -> Option<()> {
-    for n in 0..4 {
-        put(out, "size # #\n", &[n as u64, form.size(n)])?;
+/// Writes what was asked of a form.
+fn put_form<F: StepForm>(out: &mut Out, form: &F, n: u32, values: &[bool]) {
+    for k in 0..4 {
+        put(out, "size # #\n", &[k as u64, form.size(k)]);
     }
-    if asked.horizon > 255 {
-        return None;
-    }
-    put_layout(out, form, asked.horizon)?;
-    put_horizon(alloc, out, form, asked.horizon, asked.values)
+    put_horizon(out, form, n.min(255), values);
 }
 
-/// Writes what was asked of a form that was made, if there was memory for it, under its name.
-fn put_built<F: StepForm + Drop>(
-    alloc: Global,
-    out: &mut Vec<u8>,
+/// Writes what was asked of the form of a task whose chains go where `P` says, under its name.
+fn put_placed<P: Placing>(
+    out: &mut Out,
     name: &str,
-    built: Option<F>,
-    asked: Asked,
-) -> Option<()> {
-    put(out, name, &[])?;
-    put_form(alloc, out, &built?, asked)
-}
-
-/// Writes pairs.
-fn put_pairs(out: &mut Vec<u8>, pairs: &Pairs) -> Option<()> {
-    put(out, "pairs", &[])?;
-    for i in 0..pairs.count() {
-        let (l, m) = pairs.at(i);
-        put(out, " #,#", &[l as u64, m as u64])?;
-    }
-    put(out, "\n", &[])
-}
-
-/// Writes a task's order and its formulas under known pairs.
-fn put_ordered(
-    alloc: Global,
-    out: &mut Vec<u8>,
     task: &Task,
     pairs: &Pairs,
     order: &Order,
-    asked: Asked,
-) -> Option<()>
+    n: u32,
+    values: &[bool],
+)
     requires facts { pairs.now.facts ≡ task.now.facts }
     requires hold { HoldsWherever task.now pairs.now.clauses }
     requires published { IsPublished task.now pairs.now.clauses order.now }
 {
-    put_order(out, order)?;
-    let exists = ExistsForm::new(alloc, task, pairs, order).ok();
-    put_built(alloc, out, "exists-steps\n", exists, asked)?;
-    let all = AllForm::new(alloc, task, pairs, order).ok();
-    put_built(alloc, out, "all-steps\n", all, asked)
+    put(out, name, &[]);
+    match Placed::<P>::new(out.alloc, task, pairs, order) {
+        Ok(form) => put_form(out, &form, n, values),
+        Err(_) => out.fail(),
+    }
+}
+
+/// Writes pairs.
+fn put_pairs(out: &mut Out, pairs: &Pairs) {
+    put(out, "pairs", &[]);
+    for i in 0..pairs.count() {
+        let (l, m) = pairs.at(i);
+        put(out, " #,#", &[l as u64, m as u64]);
+    }
+    put(out, "\n", &[]);
 }
 
 /// Writes known pairs, and a task's published order and its formulas under them.
-fn put_known(
-    alloc: Global,
-    out: &mut Vec<u8>,
-    task: &Task,
-    pairs: &Pairs,
-    asked: Asked,
-) -> Option<()>
-    requires { pairs.now.facts ≡ task.now.facts }
+fn put_known(out: &mut Out, task: &Task, made: Result<Pairs, Memory>, n: u32, values: &[bool])
+    requires { IfOk made (λ pairs. pairs.facts ≡ task.now.facts) }
 {
-    if !are_kept(task, pairs) {
-        return put(out, "a pair that is not kept\n", &[]);
-    }
-    put_pairs(out, pairs)?;
-    let order = publish(alloc, task, pairs).ok()?;
-    put_ordered(alloc, out, task, pairs, &order, asked)
-}
-
-/// Writes a task's formula under no known pair, and then under all that are kept.
-fn put_task(alloc: Global, out: &mut Vec<u8>, task: &Task, asked: Asked) -> Option<()> {
-    let none = Pairs::empty(alloc, task.facts()).ok()?;
-    put_known(alloc, out, task, &none, asked)?;
-    let kept = kept_pairs(alloc, task).ok()?;
-    put_known(alloc, out, task, &kept, asked)
-}
-
-/// Writes the formulas of a task that is drawn from a number.
-fn put_drawn(alloc: Global, out: &mut Vec<u8>, number: u32) -> Option<()> {
-    put(out, "task #\n", &[number as u64])?;
-    let task = drawn::task(alloc, &mut Dice::new(number)).ok()??;
-    let two_steps = Asked {
-        horizon: 2,
-        values: &[],
+    let Ok(pairs) = made else { return out.fail() };
+    let Some(order) = kept_order(out, task, &pairs) else {
+        return;
     };
-    put_task(alloc, out, &task, two_steps)
+    put_pairs(out, &pairs);
+    put_order(out, &order);
+    put_placed::<Components>(out, "exists-steps\n", task, &pairs, &order, n, values);
+    put_placed::<BothWays>(out, "all-steps\n", task, &pairs, &order, n, values);
 }
 
-/// Writes the formulas of a worked task.
-fn put_worked(alloc: Global, out: &mut Vec<u8>, name: &str, task: Option<Task>) -> Option<()> {
-    put(out, name, &[])?;
-    let one_step = Asked {
-        horizon: 1,
-        values: &[true, false, true],
+/// Writes a task's formulas under no known pair, and then under all that are kept.
+fn put_task(out: &mut Out, made: Result<Option<Task>, AllocError>, n: u32, values: &[bool]) {
+    let Ok(Some(task)) = made else {
+        return out.fail();
     };
-    put_task(alloc, out, &task?, one_step)
+    let none = pairs_of(out, &task, 0, "");
+    put_known(out, &task, none, n, values);
+    put_known(out, &task, kept_pairs(out.alloc, &task), n, values);
+}
+
+/// Writes the formulas of a worked task in one step, after its name.
+fn put_worked(out: &mut Out, name: &str, made: Result<Option<Task>, AllocError>) {
+    put(out, name, &[]);
+    put_task(out, made, 1, &[true, false, true]);
 }
 
 /// Writes the formulas of all tasks.
-pub(crate) fn put_tasks(alloc: Global, out: &mut Vec<u8>) -> Option<()> {
-    put_worked(alloc, out, "lamp\n", worked::lamp(alloc).ok()?)?;
-    put_worked(alloc, out, "rivals\n", worked::rivals(alloc).ok()?)?;
+pub(crate) fn put_tasks(out: &mut Out) {
+    put_worked(out, "lamp\n", worked::lamp(out.alloc));
+    put_worked(out, "rivals\n", worked::rivals(out.alloc));
     for number in 0..TASKS {
-        put_drawn(alloc, out, number)?;
+        put(out, "task #\n", &[number as u64]);
+        let made = drawn::task(out.alloc, &mut Dice::new(number));
+        put_task(out, made, 2, &[]);
     }
-    Some(())
 }

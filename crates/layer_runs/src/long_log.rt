@@ -4,12 +4,11 @@
 //! false. So each entry follows by going along the chain. `bench/check-log` times a run.
 
 use crate::dimacs::formula_of;
-use crate::lines::put;
+use crate::lines::{Out, keep};
+use crate::logs::put_answer;
 use clause_base::clause::Clause;
 use clause_base::literal::Lit;
 use clause_log::log::Log;
-use rup_check::check::check;
-use std::alloc::Global;
 
 /// How many entries the log has.
 const ENTRIES: u32 = 400_000;
@@ -44,26 +43,20 @@ const HINTS: [u32; 20] = [
 ];
 
 /// The log of all entries: each learns a literal past the chain, and the last one the empty clause.
-fn refutation(alloc: Global) -> Option<Log> {
-    let mut log = Log::new(alloc);
+fn refutation(out: &mut Out) -> Log {
+    let mut log = Log::new(out.alloc);
     for number in 0..ENTRIES - 1 {
         let lit = Lit::of(19 + number % 981, true);
-        log.push_learned(&[lit], &HINTS).ok()?;
+        keep(out, log.push_learned(&[lit], &HINTS));
     }
-    log.push_learned(Clause::empty(alloc).as_slice(), &HINTS)
-        .ok()?;
-    Some(log)
+    let last = Clause::empty(out.alloc);
+    keep(out, log.push_learned(last.as_slice(), &HINTS));
+    log
 }
 
 /// Checks the log, and writes how many entries are accepted.
-pub(crate) fn put_accepted(alloc: Global, out: &mut Vec<u8>) -> Option<()> {
-    let formula = formula_of(alloc, CHAIN)?;
-    let log = refutation(alloc)?;
-    if formula.count() > 1000 || log.len() > 1_000_000 {
-        return put(out, "too long\n", &[]);
-    }
-    match check(alloc, &formula, &log) {
-        Ok(checked) => put(out, "accepted # entries\n", &[checked.entries() as u64]),
-        Err(_) => put(out, "not accepted\n", &[]),
-    }
+pub(crate) fn put_accepted(out: &mut Out) {
+    let formula = formula_of(out, CHAIN);
+    let log = refutation(out);
+    put_answer(out, "accepted # entries\n", &formula, &log);
 }

@@ -5,9 +5,9 @@
 //! - `check` runs the checker on a long log, `order WORD..` publishes the orders of large tasks, `invariants WORD..` finds their
 //!   invariants, and `forms WORD..` tells how large their formulas are;
 //! - `rooms ROOMS HORIZON SIZES` builds and sums up a large formula, and adds up the sizes of all horizons SIZES times;
-//! - `all` makes a run of each but `forms`, each under a line with its first word, and three more: under `watches` it makes literals
-//!   true and takes them back over 100,000 clauses; under `formulas` it prints formulas of small tasks, clause by clause; and under
-//!   `all-formulas` what is known of two formulas of all-steps.
+//! - `watches` makes literals true and takes them back over 100,000 clauses, `formulas` prints formulas of small tasks, clause by
+//!   clause, and `all-formulas` what is known of two formulas of all-steps;
+//! - `all` makes a run of each but `forms`, each under a line with its first word.
 //!
 //! The gate runs `all`. The file `stdout` is not this program's: scripts that read the definitions plainly wrote it, or it was worked
 //! out by hand.
@@ -16,6 +16,7 @@
 mod all_formulas;
 mod dimacs;
 mod formulas;
+mod known;
 mod large_tasks;
 mod lines;
 mod logs;
@@ -25,144 +26,130 @@ mod propagations;
 mod solver;
 mod watched;
 
-use crate::large_tasks::Asked;
-use crate::lines::put;
-use std::alloc::Global;
+use crate::lines::{Out, keep, put};
 use std::io::Write;
 use std::rt::Files;
 use std::thread::Threads;
 use std::{env, fs, io};
 
-/// The number that a word spells, or another one.
-fn number(word: Option<&String>, other: u32) -> u32 {
-    match word {
+/// The runs of the word `all`.
+const ALL: &str =
+    "solve|check|watches|order none ring conditional|invariants takers|rooms 1000 95 1|formulas|all-formulas";
+
+/// What a run has of the system.
+trait Host: Input + Files + AllocGlobal + Threads + Sync {}
+
+impl<R: Input + Files + AllocGlobal + Threads + Sync> Host for R {}
+
+/// The number that the word at a place spells, or another one.
+fn number(words: &[String], place: usize, other: u32) -> u32 {
+    match words.get(place) {
         Some(word) => word.parse::<u32>().unwrap_or(other),
         None => other,
     }
 }
 
 /// Runs the solver on each formula of the input.
-fn solve_input(rt: &(impl Input + AllocGlobal), out: &mut Vec<u8>) -> Option<()> {
-    let text = io::read_to_string(rt.alloc(), rt.reader()).ok()?;
-    solver::put_all_parts(rt.alloc(), out, text.as_str())
+fn solve_input(rt: &impl Host, out: &mut Out) {
+    match io::read_to_string(out.alloc, rt.reader()) {
+        Ok(text) => solver::put_all_parts(out, text.as_str()),
+        Err(_) => out.fail(),
+    }
 }
 
 /// Runs the solver on the formula of a file.
-fn solve_file(
-    rt: &(impl Files + AllocGlobal),
-    out: &mut Vec<u8>,
-    path: &str,
-    words: &[String],
-) -> Option<()> {
-    let text = fs::read_to_string(rt, path).ok()?;
-    let conflicts = number(words.get(1), 1000);
-    if words.len() > 2 {
-        return solver::put_propagations(rt.alloc(), out, text.as_str(), conflicts);
+fn solve_file(rt: &impl Host, out: &mut Out, path: &str, words: &[String]) {
+    let conflicts = number(words, 1, 1000);
+    match fs::read_to_string(rt, path) {
+        Ok(text) => solver::put_solved(out, text.as_str(), conflicts, words.len() > 2),
+        Err(_) => out.fail(),
     }
-    solver::put_solved(rt.alloc(), out, text.as_str(), conflicts)
+}
+
+/// Runs the solver on the formula of a file, or on those of the input.
+fn solve(rt: &impl Host, out: &mut Out, words: &[String]) {
+    match words.first() {
+        Some(path) => solve_file(rt, out, path.as_str(), words),
+        None => solve_input(rt, out),
+    }
 }
 
 /// Sums up a formula of a robot in rooms.
-fn sum_up(alloc: Global, out: &mut Vec<u8>, words: &[String]) -> Option<()> {
-    let (rooms, horizon) = (number(words.get(0), 3), number(words.get(1), 1));
-    let sizes = number(words.get(2), 0);
-    large_tasks::put_rooms(alloc, out, rooms, Asked { horizon, sizes })
+fn sum_up(out: &mut Out, words: &[String]) {
+    let rooms = number(words, 0, 3);
+    let horizon = number(words, 1, 1);
+    let sizes = number(words, 2, 0);
+    large_tasks::put_rooms(out, rooms, horizon, sizes);
 }
 
 /// Publishes the orders of the large tasks for several words, finds their invariants, or tells how large their formulas are.
-fn run_on_tasks(
-    rt: &(impl AllocGlobal + Threads + Sync),
-    out: &mut Vec<u8>,
-    first: &str,
-    words: &[String],
-) -> Option<()> {
+fn run_on_tasks(rt: &impl Host, out: &mut Out, first: &str, words: &[String]) {
     for word in words {
-        large_tasks::put_large(rt, out, first, word.as_str())?;
+        large_tasks::put_large(rt, out, first, word.as_str());
     }
-    Some(())
 }
 
-/// The runs of the word `all` on formulas and logs.
-fn run_solving(rt: &(impl Input + AllocGlobal), out: &mut Vec<u8>) -> Option<()> {
-    put(out, "== solve\n", &[])?;
-    solve_input(rt, out)?;
-    put(out, "== check\n", &[])?;
-    long_log::put_accepted(rt.alloc(), out)?;
-    put(out, "== watches\n", &[])?;
-    watched::put_sums(rt.alloc(), out)
-}
-
-/// Those on tasks.
-fn run_planning(rt: &(impl AllocGlobal + Threads + Sync), out: &mut Vec<u8>) -> Option<()> {
-    put(out, "== order\n", &[])?;
-    for word in ["none", "ring", "conditional"] {
-        large_tasks::put_large(rt, out, "order", word)?;
+/// Does what a first word says.
+fn run(rt: &impl Host, out: &mut Out, first: &str, others: &[String]) {
+    match first {
+        "solve" => solve(rt, out, others),
+        "check" => long_log::put_accepted(out),
+        "watches" => watched::put_sums(out),
+        "order" | "invariants" | "forms" => run_on_tasks(rt, out, first, others),
+        "rooms" => sum_up(out, others),
+        "formulas" => formulas::put_tasks(out),
+        "all-formulas" => all_formulas::put_tasks(rt, out),
+        _ => out.fail(),
     }
-    put(out, "== invariants\n", &[])?;
-    large_tasks::put_large(rt, out, "invariants", "takers")
 }
 
-/// Those on formulas of tasks.
-fn run_encoding(rt: &(impl AllocGlobal + Threads + Sync), out: &mut Vec<u8>) -> Option<()> {
-    put(out, "== rooms\n", &[])?;
-    let asked = Asked {
-        horizon: 95,
-        sizes: 1,
+/// The words of a line.
+fn words_of(out: &mut Out, line: &str) -> Vec<String> {
+    let mut words = Vec::new(out.alloc);
+    for word in line.split(' ') {
+        match word.to_owned(out.alloc) {
+            Ok(word) => keep(out, words.push(word)),
+            Err(_) => out.fail(),
+        }
+    }
+    words
+}
+
+/// Does what words say, under the first of them.
+fn run_titled(rt: &impl Host, out: &mut Out, words: &[String]) {
+    let Some((first, others)) = words.split_first() else {
+        return;
     };
-    large_tasks::put_rooms(rt.alloc(), out, 1000, asked)?;
-    put(out, "== formulas\n", &[])?;
-    formulas::put_tasks(rt.alloc(), out)?;
-    put(out, "== all-formulas\n", &[])?;
-    all_formulas::put_tasks(rt, out)
+    put(out, "== ", &[]);
+    put(out, first.as_str(), &[]);
+    put(out, "\n", &[]);
+    run(rt, out, first.as_str(), others);
 }
 
 /// Makes a run of each kind but `forms`.
-fn run_all(rt: &(impl Input + AllocGlobal + Threads + Sync), out: &mut Vec<u8>) -> Option<()> {
-    run_solving(rt, out)?;
-    run_planning(rt, out)?;
-    run_encoding(rt, out)
-}
-
-/// Does what a first word says; nothing where it says nothing.
-fn run(
-    rt: &(impl Input + Files + AllocGlobal + Threads + Sync),
-    out: &mut Vec<u8>,
-    first: &str,
-    others: &[String],
-) -> Option<()> {
-    match first {
-        "solve" => match others.first() {
-            Some(path) => solve_file(rt, out, path.as_str(), others),
-            None => solve_input(rt, out),
-        },
-        "check" => long_log::put_accepted(rt.alloc(), out),
-        "order" | "invariants" | "forms" => run_on_tasks(rt, out, first, others),
-        "rooms" => sum_up(rt.alloc(), out, others),
-        "all" => run_all(rt, out),
-        _ => None,
+fn run_all(rt: &impl Host, out: &mut Out) {
+    for line in ALL.split('|') {
+        let words = words_of(out, line);
+        run_titled(rt, out, words.as_slice());
     }
 }
 
 /// Does what the words after the program's name say.
-fn run_words(
-    rt: &(impl Input + Files + AllocGlobal + Threads + Sync),
-    out: &mut Vec<u8>,
-    words: &[String],
-) -> Option<()> {
-    let (_, words) = words.split_first()?;
-    let (first, others) = words.split_first()?;
-    run(rt, out, first.as_str(), others)
+fn run_words(rt: &impl Host, out: &mut Out, words: &[String]) {
+    let Some((_, words)) = words.split_first() else {
+        return out.fail();
+    };
+    match words.split_first() {
+        Some((first, _)) if first.as_str() == "all" => run_all(rt, out),
+        Some((first, others)) => run(rt, out, first.as_str(), others),
+        None => out.fail(),
+    }
 }
 
 fn main(rt: HostRuntime) -> io::Result<()> {
-    let mut out = Vec::new(rt.alloc());
-    let Ok(words) = env::args(&rt)?.collect::<Vec<String>>(rt.alloc()) else {
-        return println!(rt; "no memory");
-    };
-    match run_words(&rt, &mut out, words.as_slice()) {
-        Some(()) => io::writer(&rt).write_all(out.as_slice()),
-        None => println!(rt;
-            "no memory, or no such formula, task or file; or none of solve, check, order, invariants, forms, rooms and all"
-        ),
-    }
+    let words = env::args(&rt)?.collect::<Vec<String>>(rt.alloc())?;
+    let mut out = Out::new(rt.alloc());
+    run_words(&rt, &mut out, words.as_slice());
+    io::writer(&rt).write_all(out.printed())?;
+    out.ended()
 }

@@ -1,10 +1,8 @@
 //! How many propagations a run makes. A propagation is an entry of the trail that a clause forced, counted each time that it is
 //! made: the solver stops before each conflict, and what stands on its trail then above what it kept of the one before is new.
-use crate::solver::go_on;
-use cdcl_core::solver::Solver;
+use crate::lines::{Out, keep};
+use crate::solver::{Plain, go_on};
 use cdcl_rules::trail::Assigned;
-use clause_base::chooser::PlainChooser;
-use std::alloc::Global;
 
 /// At each so manyth conflict the solver restarts: of its trail it keeps what stands before the first decision.
 const RESTART: u64 = 64;
@@ -34,33 +32,29 @@ fn kept(old: &[Assigned], new: &[Assigned], is_restart: bool) -> usize {
 }
 
 /// Goes on for one conflict, and tells how many propagations came with it; none where nothing is left to do.
-fn one_more(solver: &mut Solver<PlainChooser>, old: &mut Vec<Assigned>) -> Option<Option<u64>> {
+fn one_more(out: &mut Out, solver: &mut Plain, old: &mut Vec<Assigned>) -> Option<u64> {
     let conflicts = solver.conflicts();
     old.clear();
-    old.extend_from_slice(solver.trail()).ok()?;
-    go_on(solver, 1)?;
+    keep(out, old.extend_from_slice(solver.trail()));
+    go_on(out, solver, 1);
     if solver.conflicts() == conflicts {
-        return Some(None);
+        return None;
     }
     let is_restart = solver.conflicts() % RESTART == 0;
     let start = kept(old.as_slice(), solver.trail(), is_restart);
-    Some(Some(forced_from(solver.trail(), start)))
+    Some(forced_from(solver.trail(), start))
 }
 
 /// Goes on for so many conflicts, one after another, and counts the propagations. The solver is new.
-pub(crate) fn count_propagations(
-    alloc: Global,
-    solver: &mut Solver<PlainChooser>,
-    conflicts: u32,
-) -> Option<u64> {
-    go_on(solver, 0)?;
+pub(crate) fn count_propagations(out: &mut Out, solver: &mut Plain, conflicts: u32) -> u64 {
+    go_on(out, solver, 0);
     let mut count = forced_from(solver.trail(), 0);
-    let mut old = Vec::new(alloc);
+    let mut old = Vec::new(out.alloc);
     for _ in 0..conflicts {
-        let Some(more) = one_more(solver, &mut old)? else {
-            return Some(count);
-        };
-        count = count.saturating_add(more);
+        match one_more(out, solver, &mut old) {
+            Some(more) => count = count.saturating_add(more),
+            None => break,
+        }
     }
-    Some(count)
+    count
 }

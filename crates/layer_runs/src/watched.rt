@@ -4,10 +4,10 @@
 //! The clauses say of each three variables in a row that the first two imply the third. A row prints the sum of the numbers of
 //! the clauses that asked first.
 
-ghost use Rattle.std.specs.Prelude.{◌≡◌, ◌+◌, ◌*◌, ◌≤◌, ◌<◌, ◌++◌, ◌∷◌, [], length, true, IfSome, OnSome};
+ghost use Rattle.std.specs.Prelude.{◌≡◌, ◌+◌, ◌*◌, ◌≤◌, ◌<◌, ◌++◌, ◌∷◌, [], length, true, OnSome};
 
 use crate::dimacs::add_clause;
-use crate::lines::put;
+use crate::lines::{Out, put};
 use clause_base::clause::Clause;
 use clause_base::formula::Formula;
 use clause_base::literal::Lit;
@@ -24,19 +24,19 @@ const VARIABLES: u32 = CLAUSES + 2;
 const ROUNDS: u32 = 100_000;
 
 /// For each three variables in a row, that the first two imply the third.
-fn triples(alloc: Global) -> Option<Formula>
-    ensures { IfSome result (λ f. f.variables ≡ 100002) }
+fn triples(out: &mut Out) -> Formula
+    ensures { result.variables ≡ 100002 }
 {
-    let mut formula = Formula::new(alloc, 0, VARIABLES);
+    let mut formula = Formula::new(out.alloc, 0, VARIABLES);
     for v in 0..CLAUSES {
         let lits = [
             Lit::of(v, false),
             Lit::of(v + 1, false),
             Lit::of(v + 2, true),
         ];
-        add_clause(alloc, &mut formula, &lits)?;
+        add_clause(out, &mut formula, &lits);
     }
-    Some(formula)
+    formula
 }
 
 /// The number of the clause that asks first, or 0.
@@ -136,19 +136,27 @@ fn added(alloc: Global, watches: &mut Watches, first: u32) -> Option<u64>
     Some(sum)
 }
 
-/// Writes the sums of both rows.
-pub(crate) fn put_sums(alloc: Global, out: &mut Vec<u8>) -> Option<()> {
-    let formula = triples(alloc)?;
+/// Writes the sums of both rows over a formula.
+fn put_rows(out: &mut Out, formula: &Formula)
+    requires { formula.now.variables ≡ 100002 }
+{
     let count = formula.count();
-    let mut watches = Watches::new(alloc, &formula).ok()?;
-    let undone = undone(&mut watches);
     if count > CLAUSES {
-        return None;
+        return out.fail();
     }
-    let added = added(alloc, &mut watches, count)?;
-    put(
-        out,
-        "undone 100000 times: #\nadded and removed 100000 times: #\n",
-        &[undone, added],
-    )
+    let Ok(mut watches) = Watches::new(out.alloc, formula) else {
+        return out.fail();
+    };
+    let undone = undone(&mut watches);
+    put(out, "undone 100000 times: #\n", &[undone]);
+    match added(out.alloc, &mut watches, count) {
+        Some(added) => put(out, "added and removed 100000 times: #\n", &[added]),
+        None => out.fail(),
+    }
+}
+
+/// Writes the sums of both rows.
+pub(crate) fn put_sums(out: &mut Out) {
+    let formula = triples(out);
+    put_rows(out, &formula);
 }
