@@ -1,4 +1,4 @@
-use Rattle.std.proofs.Common.{arith, ◌≡◌, ◌<◌, ◌+◌, ℕ, List, length, take, count_by, true, ap}
+use Rattle.std.proofs.Common.{arith, ◌≡◌, ◌<◌, ◌≤◌, ◌+◌, ℕ, List, length, take, count_by, true, ap}
 use Rattle.gt_core.specs.Task.{Effect, Action, Task, action}
 use Rattle.gt_core.specs.Lawful.{is_conditional, conditional_in, is_task}
 use Rattle.gt_core.specs.Layout.{Layout}
@@ -20,3 +20,11 @@ placed task z a first x es step actions conditional facts is same t lt from =
       few = omega (arith, conditional, (lawful task t).conditional);
       within = effects_within task z.facts a es x facts is same t lt;
     }
+
+-- The number after an action's conditional effects is at most that of all.
+pub own_few : (task : Task) (a first own : ℕ) (x : Action) → x ≡ action task a → own ≡ count_by is_conditional x.effects → is_task task ≡ true → a < length task.actions → first ≡ conditional_in (take a task.actions) → first + own ≤ 65536
+own_few task a first own x is count t lt from =
+    let more = first_more task a first own x is count lt from in
+    let all = taken_and_left task.actions (a + 1) in
+    let few = (lawful task t).conditional in
+    omega (arith, more, all, few)

@@ -2,7 +2,7 @@ use Rattle.std.proofs.Common.{arith, ◌<◌, ◌≤◌, ◌+◌, ℕ, length, c
 use Rattle.gt_core.specs.Layout.{Layout}
 use Rattle.gt_core.specs.Task.{Action}
 use Rattle.gt_core.specs.Lawful.{is_conditional}
-use Rattle.step_template.proofs.Placing.{placed}
+use Rattle.step_template.proofs.Placing.{placed, own_few}
 use Rattle.step_template.proofs.RowLaw.{first_more}
 use Rattle.step_template.proofs.IndexLaw.{made_more, made_whole}
 use Rattle.step_template.proofs.index.index_of.Goals as goal
@@ -38,3 +38,15 @@ returns c =
       long = c.loop-a.invariant.long;
       each = λ m lt. made_whole c.args.layout.now m c.loop-a.a c.loop-a.first c.args.task.now.actions _ _ past (c.loop-a.invariant.each m);
     }
+
+pub overflow_cast-first : goal.overflow_cast-first
+overflow_cast-first c =
+    let e = ap (λ (z : Layout). z.actions) c.layout.view_is in
+    let h = own_few c.args.task.now c.loop-a.a c.loop-a.first c.conditional.result c.act-act.result.now c.act-act.ensures.act c.conditional.ensures c.act-act.ensures.lawful (let r = c.requires.actions in let t = c.loop-a-test.true in omega (arith, e, r, t)) c.loop-a.invariant.first in
+    omega (arith, h)
+
+pub overflow_add-first : goal.overflow_add-first
+overflow_add-first c =
+    let e = ap (λ (z : Layout). z.actions) c.layout.view_is in
+    let h = own_few c.args.task.now c.loop-a.a c.loop-a.first c.conditional.result c.act-act.result.now c.act-act.ensures.act c.conditional.ensures c.act-act.ensures.lawful (let r = c.requires.actions in let t = c.loop-a-test.true in omega (arith, e, r, t)) c.loop-a.invariant.first in
+    omega (arith, h)

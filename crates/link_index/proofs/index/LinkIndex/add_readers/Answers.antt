@@ -1,4 +1,5 @@
-use Rattle.std.proofs.Common.{◌==◌, ℕ, false, refl, get_or, ◌∙◌}
+use Rattle.std.proofs.Common.{arith, ◌<◌, ◌==◌, ℕ, false, length, refl, get_or, ◌∙◌}
+use Rattle.gt_core.proofs.Lists.{each_number}
 use Rattle.link_index.proofs.IndexLaw.{reads_next, none_left, marks_none}
 use Rattle.link_index.proofs.index.LinkIndex.add_readers.Goals as goal
 
@@ -15,3 +16,9 @@ pub returns-clause-marks : goal.returns-clause-marks
 returns-clause-marks c =
     c.loop-lit.invariant.1 c.loop-lit.self
     (marks_none c.args.a (λ m. false) _ c.loop-lit.self (λ m. refl) (λ m. none_left (λ (l : ℕ). l == m) c.args.lits.now c.loop-lit.lit-index c.loop-lit-test.false))
+
+pub mark_reader-requires : goal.mark_reader-requires
+mark_reader-requires c =
+    let w = each_number (λ (l : ℕ). l < length c.args.self.now) c.args.lits.now c.loop-lit.lit-index 0 c.requires c.loop-lit-test.true in
+    let e = c.loop-lit.invariant.0 in
+    omega (arith, w, e)

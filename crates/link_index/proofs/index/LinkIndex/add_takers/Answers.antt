@@ -1,6 +1,7 @@
-use Rattle.std.proofs.Common.{◌==◌, ℕ, false, refl, ap, ◌∙◌}
+use Rattle.std.proofs.Common.{arith, ◌<◌, ◌==◌, ℕ, false, length, refl, ap, ◌∙◌}
 use Rattle.gt_core.specs.Literal.{opposite}
 use Rattle.gt_core.specs.Task.{Effect}
+use Rattle.gt_core.proofs.Lists.{each_number}
 use Rattle.link_index.proofs.IndexLaw.{takes_next, none_left, marks_none, opposite_is, marks_same}
 use Rattle.link_index.proofs.index.LinkIndex.add_takers.Goals as goal
 
@@ -17,3 +18,10 @@ pub returns-clause-marks : goal.returns-clause-marks
 returns-clause-marks c =
     c.loop-effect.invariant.1 c.loop-effect.self
     (marks_none c.args.a _ (λ m. false) c.loop-effect.self (λ m. none_left (λ (e : Effect). e.literal == opposite m) c.args.effects.now c.loop-effect.effect-index c.loop-effect-test.false) (λ m. refl))
+
+pub mark_taker-requires : goal.mark_taker-requires
+mark_taker-requires c =
+    let w = each_number (λ (e : Effect). opposite e.literal < length c.args.self.now) c.args.effects.now c.loop-effect.effect-index c.effect-item.result c.requires c.loop-effect-test.true in
+    let at = c.opposite.ensures ∙ ap opposite c.lit.ensures ∙ ap (λ (e : Effect). opposite e.literal) c.effect-item.is in
+    let same = c.loop-effect.invariant.0 in
+    omega (arith, w, at, same)
