@@ -1,4 +1,5 @@
-//! Lines of words and numbers, as a run prints them. What could not be made is kept, and told at the end in place of all lines.
+//! Lines of words and numbers, as a run prints them. Whether something could not be made is kept, and told at the end
+//! in place of all lines.
 
 use itoa::Buffer;
 use std::alloc::Global;
@@ -52,7 +53,7 @@ impl Out {
         if self.is_whole {
             return Ok(());
         }
-        Err(io::Error::from(io::ErrorKind::InvalidInput))
+        Err(io::Error::from(io::ErrorKind::Other))
     }
 
     /// What is printed.

@@ -157,11 +157,17 @@ fn put_checked(out: &mut Out, text: &str) {
 
 /// Writes the first line of a text, without the letter before it, and runs or checks its formula.
 fn put_part(out: &mut Out, text: &str) {
-    put(out, line_after("c ", text).unwrap_or("?"), &[]);
+    let Some(title) = line_after("c ", text) else {
+        return out.fail();
+    };
+    put(out, title, &[]);
     put(out, "\n", &[]);
-    match line_after("c conflicts ", text) {
-        Some(line) => put_runs(out, text, first_number(line).unwrap_or(0)),
-        None => put_checked(out, text),
+    let Some(line) = line_after("c conflicts ", text) else {
+        return put_checked(out, text);
+    };
+    match first_number(line) {
+        Some(conflicts) => put_runs(out, text, conflicts),
+        None => out.fail(),
     }
 }
 

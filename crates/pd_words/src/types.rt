@@ -232,7 +232,7 @@ fn check_rooted(alloc: Global, parents: &[u32], places: &[u32]) -> Result<(), Re
     Ok(())
 }
 
-// The same of types of which the parents are known.
+// Tests the same of types, by their parents.
 fn check_places(alloc: Global, decls: &[TypeDecl], places: &[u32]) -> Result<(), ReadError>
     requires parents { AreParents (parents_of decls.now) }
     requires room { length places.now < length (parents_of decls.now) }

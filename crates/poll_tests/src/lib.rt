@@ -1,4 +1,5 @@
-//! Tests of runs and races of lamps of one action, and of what polls runs by hand: over both drivers.
+//! Tests of runs of lamps of one action, of their races in a batch over both drivers, and of counting runs that are polled by
+//! hand, by drivers and in turn.
 #![tactic(auto)]
 
 #[cfg(test)]

@@ -21,7 +21,7 @@ placed task z a first x es step actions conditional facts is same t lt from =
       within = effects_within task z.facts a es x facts is same t lt;
     }
 
--- The number after an action's conditional effects is at most that of all.
+-- The number after an action's conditional effects is at most 65,536, as many as a task may have.
 pub own_few : (task : Task) (a first own : ℕ) (x : Action) → x ≡ action task a → own ≡ count_by is_conditional x.effects → is_task task ≡ true → a < length task.actions → first ≡ conditional_in (take a task.actions) → first + own ≤ 65536
 own_few task a first own x is count t lt from =
     let more = first_more task a first own x is count lt from in

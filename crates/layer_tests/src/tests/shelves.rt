@@ -94,7 +94,11 @@ fn takes_a_real_file(rt: HostRuntime) {
         takes(&rt, rt.alloc(), &mut shelf, name, &FAULT);
     }
     holds(&rt, shelf.failed().len() == 3, "three faults");
-    holds(&rt, fs::remove_file(&rt, "shelf-file").is_ok(), "no file");
+    holds(
+        &rt,
+        fs::remove_file(&rt, "shelf-file").is_ok(),
+        "a file is removed",
+    );
 }
 
 const INTERRUPTED: [Row; 2] = [
