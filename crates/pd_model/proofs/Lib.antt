@@ -3,6 +3,7 @@ pub mod Equality
 pub mod States
 pub mod Alike
 mod Rows
+mod Tried
 pub mod ByTest
 pub mod Tasks
 pub mod TypeWalk

@@ -37,18 +37,25 @@ removed s n x h a =
     sym (any_tied a n) ∙ h a ∙ (λ i. cond (tied x a i) false (any_tied a s i))
     ∙ and_by_cond (same_atom x a) (is_in a s) ∙ sym (is_in-filter a (λ b. not (same_atom x b)) s)
 
-move_not : (x d s : Bool) → (not x && (not d && s)) ≡ (not (d || (x || false)) && s)
-move_not x d s = grind arith
+in_either : (ks k s : Bool) → (ks || (k || s)) ≡ (k || (ks || s))
+in_either ks k s = grind arith
 
--- one more atom removed
-pub one_removed : (s t n : List Atom) (ds : List Atom) (x : Atom) → SameState n (filter (λ b. not (same_atom x b)) t)
-    → SameState t (filter (λ b. not (is_in b ds)) s) → SameState n (filter (λ b. not (is_in b (ds ++ x ∷ []))) s)
-one_removed s t n ds x one so_far a =
-    one a ∙ is_in-filter a (λ b. not (same_atom x b)) t ∙ (λ i. not (same_symm x a i) && so_far a i)
-    ∙ (λ i. not (same_atom a x) && is_in-filter a (λ b. not (is_in b ds)) s i)
-    ∙ move_not (same_atom a x) (is_in a ds) (is_in a s)
-    ∙ (λ i. not (sym (list_any-append (same_atom a) ds (x ∷ [])) i) && is_in a s)
-    ∙ sym (is_in-filter a (λ b. not (is_in b (ds ++ x ∷ []))) s)
+-- an atom goes over from one state into another, and both together stay as they are
+pub goes_over : (k : Atom) (ks s n whole : List Atom) → SameState n (k ∷ s) → SameState ((k ∷ ks) ++ s) whole → SameState (ks ++ n) whole
+goes_over k ks s n whole added both a =
+    list_any-append (same_atom a) ks n ∙ (λ i. is_in a ks || added a i) ∙ in_either (is_in a ks) (same_atom a k) (is_in a s)
+    ∙ (λ i. same_atom a k || sym (list_any-append (same_atom a) ks s) i) ∙ both a
+
+in_neither : (ks k s : Bool) → (not ks && (not k && s)) ≡ (not (k || ks) && s)
+in_neither ks k s = grind arith
+
+-- an atom is taken from what is left out, and left out
+pub leaves : (k : Atom) (ks s n whole : List Atom) → SameState n (filter (λ b. not (same_atom k b)) s) → SameState (filter (λ b. not (is_in b (k ∷ ks))) s) whole
+    → SameState (filter (λ b. not (is_in b ks)) n) whole
+leaves k ks s n whole removed both a =
+    is_in-filter a (λ b. not (is_in b ks)) n ∙ (λ i. not (is_in a ks) && removed a i) ∙ (λ i. not (is_in a ks) && is_in-filter a (λ b. not (same_atom k b)) s i)
+    ∙ (λ i. not (is_in a ks) && (not (same_symm k a i) && is_in a s)) ∙ in_neither (is_in a ks) (same_atom a k) (is_in a s)
+    ∙ sym (is_in-filter a (λ b. not (is_in b (k ∷ ks))) s) ∙ both a
 
 add_wins : (g d s : Bool) → (g || (not d && s)) ≡ ((not (not g && d) && s) || g)
 add_wins g d s = grind arith
@@ -65,12 +72,15 @@ stepped s t n gains deletes without with_gains a =
     ∙ (λ i. sym (is_in-filter a (λ b. not (is_in b losses)) s) i || is_in a gains)
     ∙ sym (list_any-append (same_atom a) (filter (λ b. not (is_in b losses)) s) gains)
 
-pub none_removed : (s : List Atom) → SameState s (filter (λ b. not (is_in b [])) s)
-none_removed s a = sym (is_in-filter a (λ b. not (is_in b [])) s)
+pub none_left : (s whole : List Atom) → SameState (filter (λ b. not (is_in b [])) s) whole → SameState s whole
+none_left s whole h a = sym (is_in-filter a (λ b. not (is_in b [])) s) ∙ h a
 
-pub removed_more : (s t n : List Atom) (xs : List Atom) (i : ℕ) (x : Atom) → i < length xs → x ≡ get_or xs i x
-    → SameState n (filter (λ b. not (same_atom x b)) t) → SameState t (filter (λ b. not (is_in b (take i xs))) s)
-    → SameState n (filter (λ b. not (is_in b (take (i + 1) xs))) s)
-removed_more s t n xs i x lt at one so_far =
-    let more : take (i + 1) xs ≡ take i xs ++ x ∷ [] = take_more xs i x lt ∙ ap (λ (y : Atom). take i xs ++ y ∷ []) (sym at) in
-    subst (λ (ds : List Atom). SameState n (filter (λ b. not (is_in b ds)) s)) (sym more) (one_removed s t n (take i xs) x one so_far)
+-- the same, of states with the same atoms
+pub stepped_alike : (s t n gains deletes more fewer : List Atom) → SameState more gains → SameState fewer deletes → SameState t (filter (λ a. not (is_in a fewer)) s) → SameState n (more ++ t)
+    → SameState n (filter (λ a. not (is_in a (filter (λ b. not (is_in b gains)) deletes))) s ++ gains)
+stepped_alike s t n gains deletes more fewer as_gains as_deletes without with_gains =
+    let without_them : SameState t (filter (λ a. not (is_in a deletes)) s) =
+    λ a. without a ∙ is_in-filter a (λ b. not (is_in b fewer)) s ∙ (λ i. not (as_deletes a i) && is_in a s) ∙ sym (is_in-filter a (λ b. not (is_in b deletes)) s) in
+    let with_them : SameState n (gains ++ t) =
+    λ a. with_gains a ∙ list_any-append (same_atom a) more t ∙ (λ i. as_gains a i || is_in a t) ∙ sym (list_any-append (same_atom a) gains t) in
+    stepped s t n gains deletes without_them with_them

@@ -25,16 +25,6 @@ moved f objects o (t ∷ ts) = rw (flat_map-cons, flat_map-cons, append_assoc ob
 pub for_none : {A : Type 0} (f : List ℕ → List A) (p : Parts) (objects over : List ℕ) → length over ≡ 0 → flat_map (λ more. f (objects ++ more)) (tuples p over) ≡ f objects
 for_none f p objects over none = rw (nil_from_length over none, append-nil, append-nil) refl
 
--- one more object
-pub one_more : {A : Type 0} (f : List ℕ → List A) (objects : List ℕ) (ts : List (List ℕ)) (os : List ℕ) (i : ℕ) (o : ℕ) (old into next : List A) → i < length os → o ≡ get_or os i o
-    → into ≡ old ++ flat_map (λ o. flat_map (λ more. f (objects ++ o ∷ more)) ts) (take i os)
-    → next ≡ into ++ flat_map (λ more. f ((objects ++ o ∷ []) ++ more)) ts
-    → next ≡ old ++ flat_map (λ o. flat_map (λ more. f (objects ++ o ∷ more)) ts) (take (i + 1) os)
-one_more {A} f objects ts os i o old into next lt at so_far added =
-    let g : ℕ → List A = λ o. flat_map (λ more. f (objects ++ o ∷ more)) ts in
-    let both : next ≡ (old ++ flat_map g (take i os)) ++ g o = rw (← so_far) (added ∙ ap (λ (ys : List _). into ++ ys) (moved f objects o ts)) in
-    rw (take_more os i o lt, ← at, flat_map-append, append-nil, ← append_assoc) both
-
 pub popped : (xs ys zs : List ℕ) (o n : ℕ) → zs ≡ xs ++ o ∷ [] → length zs ≡ n → ys ≡ take (n - 1) zs → ys ≡ xs
 popped xs ys zs o n is long rest =
     let less : n - 1 ≡ length xs = omega (arith, long, ap length is, length-append xs (o ∷ [])) in
@@ -44,14 +34,9 @@ chosen : {X A : Type 0} (g : X → List A) (b : Bool) (x : X) (front : List A) �
 chosen g true x front = ap (λ (ys : List _). front ++ ys) (append-nil (g x))
 chosen g false x front = refl
 
-signed_more : {X A : Type 0} (g : X → List A) (pick : X → Bool) (xs : List X) (i : ℕ) (x : X) → i < length xs → x ≡ get_or xs i x
+pub signed_more : {X A : Type 0} (g : X → List A) (pick : X → Bool) (xs : List X) (i : ℕ) (x : X) → i < length xs → x ≡ get_or xs i x
     → flat_map g (filter pick (take (i + 1) xs)) ≡ flat_map g (filter pick (take i xs)) ++ cond (pick x) (g x) []
 signed_more g pick xs i x lt at = rw (take_more xs i x lt, ← at, filter-append, flat_map-append) (chosen g (pick x) x (flat_map g (filter pick (take i xs))))
-
--- a loop over what is picked, once more
-pub active_more : {X A : Type 0} (g : X → List A) (pick : X → Bool) (xs : List X) (i : ℕ) (x : X) (so_far next : List A) → i < length xs → x ≡ get_or xs i x → so_far ≡ flat_map g (filter pick (take i xs)) → next ≡ so_far ++ cond (pick x) (g x) [] → next ≡ flat_map g (filter pick (take (i + 1) xs))
-active_more g pick xs i x so_far next lt at before added =
-    added ∙ (ap (λ (ys : List _). ys ++ cond (pick x) (g x) []) before ∙ sym (signed_more g pick xs i x lt at))
 
 -- a loop that maps a list, once more
 pub mapped_more : {X A : Type 0} (g : X → A) (xs : List X) (i : ℕ) (d : X) (so_far next : List A) → i < length xs → so_far ≡ map g (take i xs) → next ≡ so_far ++ g (get_or xs i d) ∷ [] → next ≡ map g (take (i + 1) xs)

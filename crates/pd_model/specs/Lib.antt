@@ -8,6 +8,7 @@ pub mod WellFormed
 pub mod State
 pub mod Order
 pub mod Instance
+pub mod Variables
 pub mod Fits
 pub mod Exec
 pub mod Plan

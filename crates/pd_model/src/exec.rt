@@ -1,14 +1,18 @@
-// The active instances of effects.
-ghost use Rattle.std.specs.Prelude.{◌≡◌, ◌++◌, ◌∷◌, [], ℕ, List, IfOk, OnOk, length, map, if◌then◌else◌};
+// The atoms of the active instances of effects. They are kept as a set, and a variable that an effect does not name stands for
+// one object alone: so the atoms take as much room as there are of them, and not as there are tuples of objects.
+ghost use Rattle.std.specs.Prelude.{◌≡◌, ◌++◌, [], IfOk, OnOk, take, if◌then◌else◌};
 ghost use Rattle.std.specs.List.{flat_map};
+ghost use Rattle.pd_model.specs.State.{SameState};
 ghost use Rattle.pd_model.specs.Instance.{agrees};
 ghost use Rattle.pd_model.specs.Fits.{tuples};
 ghost use Rattle.pd_model.specs.Exec.{active, active_at, of_sign};
+ghost use Rattle.pd_model.specs.Variables.{effect_names};
 
 use crate::fits::fitting_objects;
 use crate::instance::{are_true, instance_of};
 use crate::state::State;
-use crate::{Atom, Effect, Memory, Pddl};
+use crate::variables::effect_names;
+use crate::{Effect, Memory, Pddl};
 use std::alloc::Global;
 
 /// Adds the atom of the effect's instance for these objects, where its condition holds.
@@ -17,14 +21,27 @@ fn add_one(
     state: &State,
     objects: &[u32],
     effect: &Effect,
-    into: &mut Vec<Atom>,
+    into: &mut State,
 ) -> Result<(), Memory>
-    ensures { OnOk result (into.new.items ≡ into.old.items ++ active_at state.now effect.now objects.now) }
+    ensures { OnOk result (SameState into.new (active_at state.now effect.now objects.now ++ into.old)) }
 {
     if are_true(alloc, state, objects, effect.cond.as_slice())? {
-        into.push(instance_of(alloc, objects, &effect.atom)?)?;
+        into.add(instance_of(alloc, objects, &effect.atom)?)?;
     }
     Ok(())
+}
+
+/// The objects to be tried for the variable at a place: all, or the first where the effect does not name it.
+fn tried<'a>(fitting: &'a [u32], place: usize, effect: &Effect) -> &'a [u32]
+    ensures { result.now ≡ (if effect_names place effect.now then fitting.now else take 1 fitting.now) }
+{
+    if effect_names(place, effect) {
+        return fitting;
+    }
+    match fitting.first() {
+        None => fitting,
+        Some(_) => &fitting[..1],
+    }
 }
 
 /// Adds the atoms of the active instances of an effect, for each tuple of the objects that fit.
@@ -35,16 +52,16 @@ fn add_active(
     objects: &mut Vec<u32>,
     over: &[u32],
     effect: &Effect,
-    into: &mut Vec<Atom>,
+    into: &mut State,
 ) -> Result<(), Memory>
     ensures kept { OnOk result (objects.new.items ≡ objects.old.items) }
-    ensures added { OnOk result (into.new.items ≡ into.old.items ++ flat_map (λ more. active_at state.now effect.now (objects.old.items ++ more)) (tuples p.now over.now)) }
+    ensures added { OnOk result (SameState into.new (flat_map (λ more. active_at state.now effect.now (objects.old.items ++ more)) (tuples p.now over.now) ++ into.old)) }
 {
     let Some((kind, rest)) = over.split_first() else {
         return add_one(alloc, state, objects, effect, into);
     };
     let fitting = fitting_objects(alloc, p, *kind)?;
-    for o in fitting.iter() {
+    for o in tried(&fitting, objects.len(), effect) {
         objects.push(*o)?;
         add_active(alloc, p, state, objects, rest, effect, into)?;
         objects.pop();
@@ -59,10 +76,10 @@ fn add_signed(
     objects: &mut Vec<u32>,
     effect: &Effect,
     sign: bool,
-    into: &mut Vec<Atom>,
+    into: &mut State,
 ) -> Result<(), Memory>
     ensures kept { OnOk result (objects.new.items ≡ objects.old.items) }
-    ensures added { OnOk result (into.new.items ≡ into.old.items ++ (if agrees sign effect.now.adds then active p.now state.now objects.old.items effect.now else [])) }
+    ensures added { OnOk result (SameState into.new ((if agrees sign effect.now.adds then active p.now state.now objects.old.items effect.now else []) ++ into.old)) }
 {
     if effect.adds == sign {
         add_active(
@@ -86,11 +103,11 @@ pub fn active_atoms(
     objects: &[u32],
     effects: &[Effect],
     sign: bool,
-) -> Result<Vec<Atom>, Memory>
-    ensures { IfOk result (λ atoms. atoms.items ≡ flat_map (active p.now state.now objects.now) (of_sign sign effects.now)) }
+) -> Result<State, Memory>
+    ensures { IfOk result (λ atoms. SameState atoms (flat_map (active p.now state.now objects.now) (of_sign sign effects.now))) }
 {
     let mut tuple = Vec::from_slice(alloc, objects)?;
-    let mut atoms = Vec::new(alloc);
+    let mut atoms = State::new(alloc);
     for effect in effects {
         add_signed(alloc, p, state, &mut tuple, effect, sign, &mut atoms)?;
     }

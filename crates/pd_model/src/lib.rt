@@ -25,6 +25,7 @@ mod schemas;
 mod state;
 mod type_tree;
 mod types;
+mod variables;
 mod walk;
 
 pub use atoms::{Atom, Atoms, Pattern, Term, Terms};

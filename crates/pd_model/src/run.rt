@@ -25,8 +25,8 @@ fn apply(
 {
     let gains = active_atoms(alloc, p, state, objects, effects, true)?;
     let deletes = active_atoms(alloc, p, state, objects, effects, false)?;
-    state.remove_all(&deletes);
-    state.add_all(&gains)?;
+    state.subtract(deletes);
+    state.unite(gains)?;
     Ok(())
 }
 

@@ -67,12 +67,22 @@ impl State {
         Ok(())
     }
 
-    /// Makes the atoms false.
-    pub fn remove_all(&mut self, atoms: &[Atom])
-        ensures { SameState self.new (filter (λ a. not (is_in a atoms.now)) self.old) }
+    /// Makes the atoms of another state true.
+    pub fn unite(&mut self, mut other: State) -> Result<(), Memory>
+        ensures { OnOk result (SameState self.new (other ++ self.old)) }
     {
-        for atom in atoms {
-            self.remove(atom);
+        while let Some(atom) = other.atoms.pop_first() {
+            self.add(atom)?;
+        }
+        Ok(())
+    }
+
+    /// Makes the atoms of another state false.
+    pub fn subtract(&mut self, mut other: State)
+        ensures { SameState self.new (filter (λ a. not (is_in a other)) self.old) }
+    {
+        while let Some(atom) = other.atoms.pop_first() {
+            self.remove(&atom);
         }
     }
 }
