@@ -14,12 +14,10 @@ only what the texts tell is warned of.
 Statuses: 0 no warning; 1 some; 3, 5 the planner refuses a file or cannot read it, and its line is printed; 4 a file is too
 long; 7 the words are not taken; 70 the planner does not run. With --quiet only warnings are printed, and the status is 0.
 """
-import os
-import subprocess
 import sys
 
 sys.dont_write_bytecode = True
-from pddl import File, NoTree, keys, typed
+from pddl import File, Ground, Kinds, NoTree, keys, listed, typed
 
 
 class Action:
@@ -67,59 +65,21 @@ def literals(tree, scope):
         yield tree, True, scope
 
 
-class Task:
+class Task(Kinds):
     """What a domain and a problem say, with the places."""
 
     def __init__(self, domain, problem):
+        super().__init__(domain, problem)
         self.domain, self.problem = domain, problem
-        self.parents = dict(pair_of(it) for it in listed(domain, ":types"))
         self.predicates = {
             it.head(): (it.items[0], [kind for _, kind in typed(it.items[1:])])
             for section in domain.sections(":predicates")
             for it in section.items[1:]
         }
-        self.objects = dict(map(pair_of, listed(domain, ":constants") + listed(problem, ":objects")))
         self.actions = [Action(it) for it in domain.sections(":action")]
         self.init = [it for section in problem.sections(":init") for it in section.items[1:] if it.head() != "not"]
         self.goals = problem.sections(":goal")
         self.goal = list(literals(self.goals[0].items[1], {})) if self.goals else []
-
-    def is_under(self, kind, above):
-        """Whether a type is another one or lies under it."""
-        for _ in range(len(self.parents) + 2):
-            if kind == above or above == "object":
-                return True
-            kind = self.parents.get(kind, "object")
-        return False
-
-    def has_object(self, kind):
-        """Whether an object fits a type."""
-        return any(self.is_under(it, kind) for it in self.objects.values())
-
-
-def pair_of(pair):
-    """A word of a typed list and its type, as texts."""
-    return pair[0].word, pair[1]
-
-
-def listed(file, head):
-    """The typed words of a section."""
-    return [pair for section in file.sections(head) for pair in typed(section.items[1:])]
-
-
-class Ground:
-    """What `ground` lists: the facts, as texts, and the names of the actions. Nothing where a limit is passed."""
-
-    def __init__(self, text):
-        self.facts, self.names = set(), set()
-        at = self.facts
-        for line in text.splitlines():
-            if line.startswith("; actions "):
-                at = self.names
-            call = line.partition(" (")[2]
-            if call:
-                at.add("(" + call if at is self.facts else call.rstrip(")").split(" ")[0])
-        self.is_known = text.startswith("; facts ")
 
 
 def of_names(task):
@@ -185,7 +145,7 @@ def why_never(task, action):
     """Why an action can never be executed, where one of its parts tells it, else nothing."""
     true = held(task)
     for it, kind in action.parameters:
-        if not task.has_object(kind):
+        if not task.fitting(kind):
             return f"there is no object of the type {kind} for {it.word}"
     for atom, wanted, _ in action.before:
         if wanted and atom.head() not in true and atom.head() != "=":
@@ -195,9 +155,10 @@ def why_never(task, action):
 
 def of_actions(task, ground):
     """Warnings of actions that can never be executed, and of predicates that do nothing."""
+    executed = {call[0] for call in ground.calls}
     for action in task.actions:
         why = why_never(task, action)
-        if why or (ground.is_known and action.name.word not in ground.names):
+        if why or (ground.is_known and action.name.word not in executed):
             because = f": {why}" if why else ""
             yield task.domain, action.name.at, f"the action {action.name.word} can never be executed in this problem{because}"
     asked = {it[0].head() for action in task.actions for it in action.conditions if it[1]}
@@ -218,20 +179,14 @@ def warnings(task, ground):
     return [f"{file.place(at)}: warning: {text}" for file, at, text in found]
 
 
-def of_refused(ran, problem):
+def of_refused(ground, problem):
     """The warning of a problem without a :goal, where the planner refuses it for that."""
     try:
-        file = File(problem) if ran.stdout.startswith("; refused shape problem ") else None
+        file = File(problem) if ground.text.startswith("; refused shape problem ") else None
     except NoTree:
         file = None
-    if file and not file.sections(":goal") and ran.stdout.split()[-1] == str(file.tree.at):
+    if file and not file.sections(":goal") and ground.text.split()[-1] == str(file.tree.at):
         print(f"{file.place(file.tree.at)}: warning: the :goal is missing")
-
-
-def ground(domain, problem):
-    """What the planner's command ground comes to."""
-    program = os.environ.get("DOKYREVA_PROGRAM", "")
-    return subprocess.run([program, "ground", domain, problem], capture_output=True, text=True, check=False)
 
 
 def main(words):
@@ -242,15 +197,15 @@ def main(words):
         print("lint: the words are: DOMAIN PROBLEM", file=sys.stderr)
         return 7
     try:
-        ran = ground(*words)
+        ground = Ground(*words)
     except OSError as fault:
         print(f"lint: the planner does not run: {fault}", file=sys.stderr)
         return 0 if is_quiet else 70
-    if ran.returncode not in (0, 4) or ran.stdout.startswith("; limit file "):
-        of_refused(ran, words[1])
-        print(end="" if is_quiet else ran.stdout)
-        return 0 if is_quiet else ran.returncode
-    lines = warnings(Task(*map(File, words)), Ground(ran.stdout))
+    if ground.status not in (0, 4) or ground.text.startswith("; limit file "):
+        of_refused(ground, words[1])
+        print(end="" if is_quiet else ground.text)
+        return 0 if is_quiet else ground.status
+    lines = warnings(Task(*map(File, words)), ground)
     for line in lines:
         print(line)
     if is_quiet:

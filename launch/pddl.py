@@ -3,8 +3,10 @@
 A byte is one letter here (Latin-1), so that an offset in the text is one in the file. Words are in small letters, as the
 planner reads them.
 """
+import os
 import pathlib
 import re
+import subprocess
 
 TOKEN = re.compile(r";[^\n]*|[()]|[!-'*-:<-~]+")
 
@@ -90,7 +92,7 @@ def typed(items):
     pairs, waiting, at = [], [], 0
     while at < len(items):
         if items[at].word == "-":
-            pairs += [(it, items[at + 1].text()) for it in waiting]
+            pairs += [(it, items[at + 1].text() if at + 1 < len(items) else "object") for it in waiting]
             waiting = []
             at += 2
         else:
@@ -102,3 +104,54 @@ def typed(items):
 def keys(action):
     """The parameters, the precondition and the effect of an action, by the words before them."""
     return {action.items[at].word: action.items[at + 1] for at in range(2, len(action.items) - 1, 2)}
+
+
+def pair_of(pair):
+    """A word of a typed list and its type, as texts."""
+    return pair[0].word, pair[1]
+
+
+def listed(file, head):
+    """The typed words of a section."""
+    return [pair for section in file.sections(head) for pair in typed(section.items[1:])]
+
+
+class Kinds:
+    """The types and the objects of a domain and a problem."""
+
+    def __init__(self, domain, problem):
+        self.parents = dict(map(pair_of, listed(domain, ":types")))
+        self.objects = dict(map(pair_of, listed(domain, ":constants") + listed(problem, ":objects")))
+
+    def is_under(self, kind, above):
+        """Whether a type is another one or lies under it."""
+        for _ in range(len(self.parents) + 2):
+            if kind == above or above == "object":
+                return True
+            kind = self.parents.get(kind, "object")
+        return False
+
+    def fitting(self, kind):
+        """The objects that fit a type."""
+        return [name for name, its in self.objects.items() if self.is_under(its, kind)]
+
+
+class Ground:
+    """What the planner's command ground comes to: its text and status, and where it lists the task its facts and calls.
+
+    The variable DOKYREVA_PROGRAM is the path of the planner."""
+
+    def __init__(self, domain, problem):
+        words = [os.environ.get("DOKYREVA_PROGRAM", ""), "ground", domain, problem]
+        ran = subprocess.run(words, capture_output=True, text=True, check=False)
+        self.text, self.status = ran.stdout, ran.returncode
+        self.is_known = self.status == 0
+        self.facts, self.calls = set(), []
+        has_calls = False
+        for line in self.text.splitlines():
+            has_calls = has_calls or line.startswith("; actions ")
+            call = line.partition(" (")[2].rstrip(")")
+            if call and has_calls:
+                self.calls.append(call.split(" "))
+            elif call:
+                self.facts.add(f"({call})")
