@@ -26,7 +26,9 @@ has_answered() {
 
 # is_whole PROGRAM SUM: its bytes have this sum, and it answers here; where that is not so, why is set.
 is_whole() {
-    [ -f "$1" ] && [ -x "$1" ] && [ -n "$2" ] || return
+    [ -f "$1" ] && [ -n "$2" ] || return
+    why="$1 stands where no program may be executed"
+    [ -x "$1" ] || return
     has_answered "$1" && return
     use unpack
     look_at "$1" "$2"
