@@ -74,9 +74,13 @@ tell_of_task() {
 
 # tell_of_run COMMAND WORD..: what the run itself has told, by the same run, where that is short.
 tell_of_run() {
-    [[ $1 != check && $1 != verify ]] || can_be_read "${files[2]-}" plan || return
+    local last=plan
+    if [ "$1" = check ] || [ "$1" = verify ]; then
+        [ "$1" = check ] || last=proof
+        can_be_read "${files[2]-}" "$last" || return
+    fi
     if [ "$SECONDS" -ge 20 ] || ! ask 30 "$@" || [ "$answer" != "$status" ]; then
-        said="; limit ${told_late:-of a horizon}"
+        said="; limit of a horizon"
         [ "$status" = 4 ] || return
     fi
     tell_line "$said" "${files[0]-}" "${files[1]-}" "${files[2]-}" "$1"

@@ -34,8 +34,8 @@ set_own() {
     --plan-file)
         [ -z "$plan_file" ] && [ -n "$2" ] || refuse_own "--plan-file takes the name of a file once"
         plan_file=$2
+        [ ! -e "$2" ] || { [ -f "$2" ] && [[ $2 != /dev/* && $2 != /proc/* ]]; } || refuse_own "$2 is no file"
         [ ! -L "$plan_file" ] || plan_file=$(readlink -f -- "$plan_file") || refuse_own "$2 is no file"
-        [ ! -e "$plan_file" ] || [ -f "$plan_file" ] || refuse_own "$2 is no file"
         ;;
     esac
 }
