@@ -1,6 +1,14 @@
 # The programs that may be run, by their names (plan_prog, judge_prog): that of the release, the one that was proved here, and a
 # quick build, which is not proved. To be read by scripts that have set root, after places.bash, bytes.bash and sources.bash.
 
+# program_names: the programs that there are sources of.
+program_names() {
+    local name
+    for name in plan_prog judge_prog; do
+        [ ! -d "$root/crates/$name" ] || echo "$name"
+    done
+}
+
 # kept_sum NAME: sets kept to the SHA-256 of a program of the release. The file has a line for each, the sum and the name; a sum
 # alone is that of plan_prog.
 kept_sum() {
