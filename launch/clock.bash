@@ -2,7 +2,7 @@
 
 # start_timer SECONDS: after so many seconds late is set and the program is ended.
 start_timer() {
-    use uses
+    use nap
     trap 'late=yes; [ -z "$running" ] || kill -KILL "$running" 2>/dev/null' ALRM
     (
         trap - INT QUIT TERM HUP ALRM

@@ -8,8 +8,9 @@ sources_sum() (
         xargs -0 sha256sum | sha256sum | cut -d ' ' -f 1
 )
 
-# find_sources: sets sources to that sum; to nothing where there are no crates. It is worked out anew where git or an editor has
-# changed a folder of them, or git its index, since it was kept; look_through sees every file.
+# find_sources: sets sources to that sum; to nothing where there are no crates. It is worked out anew where git has changed its index,
+# or git or an editor a folder of the program's sources, since it was kept: a look at every file would take longer than a short run.
+# What is written into a file in its place, in no other way, is seen by look_through alone.
 find_sources() {
     local place name
     sources=''
@@ -27,10 +28,10 @@ read_stamp() {
     [ -r "$1" ] && { read -r sources && read -r of; } <"$1" && [ "$of" = "$root" ]
 }
 
-# same_folders STAMP: no folder of sources is newer than it, nor crates.txt, nor the index of git.
+# same_folders STAMP: no folder of the program's sources is newer than it, nor crates.txt, nor the index of git.
 same_folders() {
     local it
-    for it in "$root"/{crates.txt,.git/index,crates} "$root"/crates/*/{src,specs,proofs}; do
+    for it in "$root"/{crates.txt,.git/index,crates} "$root"/crates/*/{src,specs}; do
         [[ ! $it -nt $1 ]] || return 1
     done
 }

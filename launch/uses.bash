@@ -1,4 +1,4 @@
-# What a run has used so far, and waiting. To be read after watch.bash.
+# What a run has used so far. To be read after nap.bash.
 
 # used_by PROCESS: sets used to the seconds of the processor and the megabytes of memory that a process has used.
 used_by() {
@@ -9,12 +9,6 @@ used_by() {
         [ "$name" != VmHWM: ] || rest=$((value / 1024))
     done 2>/dev/null <"/proc/$1/status"
     used="$(((ticks[11] + ticks[12]) / clock_ticks)) s of processors, $rest MB"
-}
-
-# nap SECONDS: waits without a process of its own, which would be left over.
-nap() {
-    [ -n "${still-}" ] || exec {still}<> <(:)
-    read -r -t "$1" -u "$still" _
 }
 
 # show_use PROCESS: from two seconds on, one line on standard error that is written over each second.

@@ -39,7 +39,7 @@ run_program() {
     trap end_by_signal INT QUIT TERM HUP
     start_program "$@"
     if [ -t 2 ]; then
-        use uses
+        use nap uses
         show_use "$running" </dev/null >/dev/null &
         watcher=$!
     fi

@@ -1,0 +1,7 @@
+# Waiting without a process. To be read by scripts, and by their copies in a folder of results.
+
+# nap SECONDS: waits without a process of its own, which would be left over.
+nap() {
+    [ -n "${still-}" ] || exec {still}<> <(:)
+    read -r -t "$1" -u "$still" _
+}
