@@ -124,18 +124,27 @@ clear_progress() {
 
 # stop_spread: ends all jobs, leaves nothing half made, and ends with 130.
 stop_spread() {
-    local children
     trap '' INT QUIT TERM HUP
     clear_progress
     [ -z "$job" ] || scancel "$job" 2>/dev/null
     [ -z "$running" ] || kill -KILL "$running" 2>/dev/null
-    mapfile -t children < <(jobs -p)
-    [ "${#children[@]}" = 0 ] || kill -TERM "${children[@]}" 2>/dev/null
-    wait 2>/dev/null
+    end_children
     running=''
     stop_run "$folder"
     exit 130
 }
+
+# end_children: asks the jobs of this process to end, again where one was still being started, and ends them at last.
+end_children() {
+    local children tries
+    for tries in {1..30}; do
+        mapfile -t children < <(jobs -pr)
+        [ "${#children[@]}" -gt 0 ] || break
+        kill "-$([ "$tries" -lt 30 ] && echo TERM || echo KILL)" "${children[@]}"
+        nap 0.1
+    done
+    wait
+} 2>/dev/null
 
 # run_engine: runs what is left.
 run_engine() {
