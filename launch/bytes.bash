@@ -1,3 +1,4 @@
+# shellcheck shell=bash disable=SC2034,SC2154 # the parts set variables for one another
 # Which program may be run: one whose bytes have the SHA-256 that is kept, and that was seen to answer on this machine. To be read by
 # scripts that have set root, after places.bash.
 #

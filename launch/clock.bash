@@ -1,3 +1,4 @@
+# shellcheck shell=bash disable=SC2034,SC2154 # the parts set variables for one another
 # Runs that are bounded by the clock, and reports that are kept before they are shown. To be read after watch.bash.
 
 # start_timer SECONDS: after so many seconds late is set and the program is ended.

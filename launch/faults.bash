@@ -1,3 +1,4 @@
+# shellcheck shell=bash disable=SC2034,SC2154 # the parts set variables for one another
 # Where the fault of a file is, and which limit was passed. To be read by scripts that have set root, after clock.bash.
 
 # files_of WORD..: sets files to the words of a command that are no options.
@@ -124,8 +125,7 @@ tell_line() {
     read -r _ word kind which at <<<"$1"
     case $word:$kind in
     refused:*) ;;
-    read:*) which=$which ;;
-    limit:file) ;;
+    read:* | limit:file) ;;
     limit:*)
         tell_limit "$kind" "$which" "${at#horizon }" "$5"
         return

@@ -1,3 +1,4 @@
+# shellcheck shell=bash disable=SC2034,SC2154 # the parts set variables for one another
 # Waiting without a process. To be read by scripts, and by their copies in a folder of results.
 
 # nap SECONDS: waits without a process of its own, which would be left over.

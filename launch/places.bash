@@ -1,3 +1,4 @@
+# shellcheck shell=bash disable=SC2034,SC2154 # the parts set variables for one another
 # Where files may be kept: in out/ of this checkout, else in a folder of the user's own. To be read by scripts that have set root.
 
 # use PART..: reads parts of the launcher.
@@ -28,7 +29,7 @@ make_place() {
     if [ "$1" = "$root/out" ]; then
         mkdir -p -- "$1" 2>/dev/null
     else
-        mkdir -p -m 700 -- "$1" 2>/dev/null
+        (umask 077 && mkdir -p -- "$1") 2>/dev/null
     fi
     is_own "$1" && [ -w "$1" ]
 }

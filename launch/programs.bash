@@ -1,3 +1,4 @@
+# shellcheck shell=bash disable=SC2034,SC2154 # the parts set variables for one another
 # The programs that may be run, by their names (plan_prog, judge_prog): that of the release, the one that was proved here, and a
 # quick build, which is not proved. To be read by scripts that have set root, after places.bash, bytes.bash and sources.bash.
 

@@ -1,3 +1,4 @@
+# shellcheck shell=bash disable=SC2034,SC2154,SC2030,SC2031 # the parts set variables for one another
 # A quick build of the sources, of which nothing is proved. To be read after programs.bash.
 
 # build_quick NAME. The command rt try compiles a program without its proof, runs it once, and throws it away. While it compiles, the whole

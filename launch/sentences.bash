@@ -1,3 +1,4 @@
+# shellcheck shell=bash disable=SC2034,SC2154 # the parts set variables for one another
 # A place in a file, and in one sentence what is wrong there. To be read by scripts that have set root.
 
 # tell_place PATH KIND FILE AT: the place as editors read it, the source line with a caret, and what the kind means.

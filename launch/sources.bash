@@ -1,3 +1,4 @@
+# shellcheck shell=bash disable=SC2034,SC2154 # the parts set variables for one another
 # What the programs are made of, and the stamps of what was made of it. To be read by scripts that have set root, after
 # places.bash and bytes.bash.
 

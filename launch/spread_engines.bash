@@ -1,3 +1,4 @@
+# shellcheck shell=bash disable=SC2034,SC2154 # the parts set variables for one another
 # A folder of results, and how its horizons are run: side by side on this machine, or as an array of jobs of Slurm.
 
 job=''

@@ -1,3 +1,4 @@
+# shellcheck shell=bash disable=SC2034,SC2154 # the parts set variables for one another
 # One horizon of a spread search, and what a job does with several. Read by ./spread, and by its copy in a folder of results.
 #
 # FOLDER/task has the domain, the problem, the planner, these scripts, their SHA-256 and the settings; FOLDER/h/N has what is

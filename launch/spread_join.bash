@@ -1,3 +1,4 @@
+# shellcheck shell=bash disable=SC2034,SC2154 # the parts set variables for one another
 # What the results of a folder come to. Nothing that a job wrote is taken on trust: sums are compared, the certificate and the
 # plan on which the answer rests are checked by the program of this checkout, and only then is anything said.
 

@@ -1,3 +1,4 @@
+# shellcheck shell=bash disable=SC2034,SC2154 # the parts set variables for one another
 # What a run has used so far. To be read after nap.bash.
 
 # used_by PROCESS: sets used to the seconds of the processor and the megabytes of memory that a process has used.

@@ -1,3 +1,4 @@
+# shellcheck shell=bash disable=SC2034,SC2154 # the parts set variables for one another
 # Runs of a program, that end with their caller. To be read by scripts that have set root.
 
 running='' watcher='' timer='' room='' leftover='' late=no
@@ -15,6 +16,7 @@ stop_all() {
     for process in $running $watcher $timer; do
         kill -KILL "$process"
     done
+    # shellcheck disable=SC2086 # numbers, or nothing
     wait $running $watcher $timer
     running='' watcher='' timer=''
     [ -z "$leftover" ] || rm -f -- "$leftover"

@@ -1,3 +1,4 @@
+# shellcheck shell=bash disable=SC2034,SC2154 # the parts set variables for one another
 # The words that are taken, for those who ask and for those who miss one; all of it stands in launch/help: in NAME.txt a command's
 # synopsis, its summary, and what is to be said of it, with rows for options of its own and a line with the names of those that stand
 # in options.txt. To be read by scripts that have set root, after commands.bash.
