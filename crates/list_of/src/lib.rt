@@ -1,10 +1,12 @@
 //! Lists of items: a type that other crates give names of their own, as `pub type Files = ListOf<NamedFile>`; and lists of
-//! lists in two blocks of memory.
+//! lists in two blocks of memory; and lists in memory that their copies share.
 #![tactic(auto)]
 
 mod flat_lists;
+mod shared;
 
 pub use flat_lists::FlatLists;
+pub use shared::SharedListOf;
 use std::alloc::{AllocError, Global};
 use std::marker::Model;
 

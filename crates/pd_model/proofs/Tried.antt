@@ -1,15 +1,14 @@
 -- Sets of atoms that grow, and variables that an effect does not name: its instances are the same for each object.
-use Rattle.std.proofs.Common.{arith, ◌≡◌, ℕ, zero, suc, ◌+◌, ◌<◌, Bool, true, false, cond, List, [], ◌∷◌, ◌++◌, length, take, get_or, map, refl, sym, ap, subst, ◌∙◌}
+use Rattle.std.proofs.Common.{arith, ◌≡◌, ℕ, zero, suc, ◌+◌, ◌<◌, Bool, true, false, cond, List, [], ◌∷◌, ◌++◌, length, take, get_or, map, refl, sym, subst, ◌∙◌}
 use Rattle.std.specs.Prelude.{◌||◌, ◌==◌, slice_index}
-use Rattle.std.specs.List.{list_any, list_all, flat_map, filter}
+use Rattle.std.specs.List.{list_any, flat_map, filter}
 use Rattle.std.proofs.lemmas.Bool.{or_parts}
 use Rattle.std.proofs.lemmas.List.{append-nil, take_more}
 use Rattle.std.proofs.lemmas.List.Folds.{list_any-append}
 use Rattle.std.proofs.lemmas.List.Concat.{flat_map-append, flat_map-cons}
 use Rattle.pd_model.specs.State.{same_atom, is_in, SameState}
-use Rattle.pd_model.specs.Instance.{value, instance, agrees, holds, all_hold}
+use Rattle.pd_model.specs.Instance.{value, instance, holds, all_hold}
 use Rattle.pd_model.specs.Exec.{active_at}
-use Rattle.pd_model.specs.Fits.{tuples}
 use Rattle.pd_model.specs.Variables.{is_variable, atom_names, cond_names, effect_names}
 use Rattle.pd_model.specs.declared.atoms.Term.{Term}
 use Rattle.pd_model.specs.declared.atoms.Term.TheVariants.{Object, Variable}
@@ -18,7 +17,6 @@ use Rattle.pd_model.specs.declared.atoms.Atom.{Atom}
 use Rattle.pd_model.specs.declared.conds.Cond.{Cond}
 use Rattle.pd_model.specs.declared.conds.Cond.TheVariants.{Has, Same}
 use Rattle.pd_model.specs.declared.effects.Effect.{Effect}
-use Rattle.pd_model.specs.declared.parts.Parts.{Parts}
 use Rattle.pd_model.proofs.Walks.{moved, signed_more}
 
 -- ---- sets that grow

@@ -1,6 +1,6 @@
 // Conditions.
 use crate::{Pattern, Term};
-use list_of::ListOf;
+use list_of::{ListOf, SharedListOf};
 
 /// One literal of a condition.
 #[derive(Drop)]
@@ -13,3 +13,6 @@ pub enum Cond {
 
 /// A condition: the conjunction of its literals.
 pub type Conds = ListOf<Cond>;
+
+/// A condition in memory that all effects share which stand under it.
+pub type SharedConds = SharedListOf<Cond>;

@@ -1,5 +1,5 @@
 // Effects.
-use crate::{Conds, Pattern, TypeNumbers};
+use crate::{Pattern, SharedConds, SharedTypeNumbers};
 use list_of::ListOf;
 
 /// One literal that an action adds or deletes, where its condition holds before the action: once for each
@@ -7,9 +7,9 @@ use list_of::ListOf;
 #[derive(Drop)]
 pub struct Effect {
     /// The types of the variables of the `forall`, which follow the parameters.
-    pub over: TypeNumbers,
+    pub over: SharedTypeNumbers,
     /// What stands under `when`.
-    pub cond: Conds,
+    pub cond: SharedConds,
     /// The atom that is added or deleted.
     pub atom: Pattern,
     /// Whether the atom is added; else it is deleted.

@@ -30,7 +30,7 @@ mod walk;
 
 pub use atoms::{Atom, Atoms, Pattern, Term, Terms};
 pub use calls::{Call, Calls, Verdict};
-pub use conds::{Cond, Conds};
+pub use conds::{Cond, Conds, SharedConds};
 pub use effects::{Effect, Effects};
 pub use few::few_parts;
 pub use fits::fitting_objects;
@@ -43,4 +43,4 @@ pub use pddl::Pddl;
 pub use predicates::{Predicate, Predicates};
 pub use schemas::{Schema, Schemas};
 pub use state::State;
-pub use types::{TypeDecl, TypeNumbers, Types};
+pub use types::{SharedTypeNumbers, TypeDecl, TypeNumbers, Types};

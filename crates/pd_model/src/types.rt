@@ -1,5 +1,5 @@
 // The types of objects.
-use list_of::ListOf;
+use list_of::{ListOf, SharedListOf};
 use pd_sexp::Name;
 
 /// A declared type. Types are numbered from 0; type 0 is `object`, its own parent.
@@ -16,3 +16,6 @@ pub type Types = ListOf<TypeDecl>;
 
 /// Numbers of types: those of parameters, or of the variables of a `forall`.
 pub type TypeNumbers = ListOf<u32>;
+
+/// Numbers of types in memory that all effects share which stand under the same `forall`.
+pub type SharedTypeNumbers = SharedListOf<u32>;

@@ -12,7 +12,7 @@ ghost use Rattle.pd_task.specs.KeyValues.{keys_of};
 use crate::cond::read_cond;
 use crate::effects::read_effect;
 use crate::vocabulary::Vocabulary;
-use pd_model::{Cond, Conds, Effect, Effects, Schema, TypeNumbers};
+use pd_model::{Cond, Conds, Effect, Effects, Schema, SharedTypeNumbers, TypeNumbers};
 use pd_sexp::{Name, Tree};
 use pd_words::{
     Fault, ReadError, Scope, Table, Variables, copy_name, is, place_of, read_variable_list,
@@ -127,7 +127,8 @@ fn read_effects(
 {
     let mut found = Vec::new(alloc);
     if let Some(tree) = tree {
-        read_effect(alloc, vocabulary, scope, tree, &mut found)?;
+        let over = SharedTypeNumbers::copied_from(alloc, scope.over())?;
+        read_effect(alloc, vocabulary, scope, &over, tree, &mut found)?;
     }
     Ok(Effects::of(found))
 }

@@ -11,64 +11,32 @@ use crate::cond::{one, read_cond};
 use crate::headed::read_headed;
 use crate::terms::read_atom;
 use crate::vocabulary::Vocabulary;
-use pd_model::{Cond, Conds, Effect, Pattern, Terms, TypeNumbers};
+use pd_model::{Effect, Pattern, SharedConds, SharedTypeNumbers};
 use pd_sexp::Tree;
 use pd_words::{Fault, Keyword, ReadError, Scope, head_keyword, no_more, read_variable_list};
-use std::alloc::{AllocError, Global};
+use std::alloc::Global;
 
-fn copy_pattern(alloc: Global, pattern: &Pattern) -> Result<Pattern, AllocError>
-    ensures { IfOk result (λ p. p ≡ pattern.now) }
-{
-    let terms = Terms::of(Vec::from_slice(alloc, pattern.terms.as_slice())?);
-    Ok(Pattern {
-        predicate: pattern.predicate,
-        terms,
-    })
-}
-
-fn copy_cond(alloc: Global, cond: &Cond) -> Result<Cond, AllocError>
-    ensures { IfOk result (λ c. c ≡ cond.now) }
-{
-    match cond {
-        Cond::Has { atom, want } => {
-            let atom = copy_pattern(alloc, atom)?;
-            Ok(Cond::Has { atom, want: *want })
-        }
-        Cond::Same { left, right, want } => Ok(Cond::Same {
-            left: *left,
-            right: *right,
-            want: *want,
-        }),
-    }
-}
-
-fn copy_conds(alloc: Global, conds: &[Cond]) -> Result<Conds, AllocError>
-    ensures { IfOk result (λ c. c ≡ conds.now) }
-{
-    let mut copied = Vec::new(alloc);
-    for cond in conds {
-        copied.push(copy_cond(alloc, cond)?)?;
-    }
-    Ok(Conds::of(copied))
+/// What an effect stands under: the types of the variables of the `forall`, and the condition of the `when`. All effects that stand
+/// under the same share them.
+#[derive(Clone, Copy)]
+struct Under<'a> {
+    over: &'a SharedTypeNumbers,
+    cond: &'a SharedConds,
 }
 
 // Adds one effect. It fails only for want of memory.
 fn push_effect(
-    alloc: Global,
-    scope: &Scope,
-    cond: &[Cond],
+    under: &Under<'_>,
     atom: Pattern,
     adds: bool,
     into: &mut Vec<Effect>,
 ) -> Result<(), ReadError>
-    ensures added { OnOk result (into.new.items ≡ into.old.items ++ record { over = scope.now.over; cond = cond.now; atom = atom; adds = adds } ∷ []) }
+    ensures added { OnOk result (into.new.items ≡ into.old.items ++ record { over = under.now.over.now; cond = under.now.cond.now; atom = atom; adds = adds } ∷ []) }
     ensures memory { IfErr result (λ e. e ≡ errors.Memory) }
 {
-    let over = TypeNumbers::of(Vec::from_slice(alloc, scope.over())?);
-    let cond = copy_conds(alloc, cond)?;
     into.push(Effect {
-        over,
-        cond,
+        over: under.over.copy()?,
+        cond: under.cond.copy()?,
         atom,
         adds,
     })?;
@@ -80,12 +48,13 @@ fn read_removed(
     alloc: Global,
     vocabulary: &Vocabulary,
     scope: &Scope,
-    cond: &[Cond],
+    under: &Under<'_>,
     at: u32,
     tree: &Tree,
     into: &mut Vec<Effect>,
 ) -> Result<(), ReadError>
-    ensures { Leaves (effects.removed (site_of vocabulary.now scope.now cond.now) into.old.items at (view tree.now)) into.new.items result }
+    requires { under.now.over.now ≡ scope.now.over }
+    ensures { Leaves (effects.removed (site_of vocabulary.now scope.now under.now.cond.now) into.old.items at (view tree.now)) into.new.items result }
 {
     let Some(list) = read_headed(tree)? else {
         return Err(ReadError::Fault(Fault::Shape(at)));
@@ -93,7 +62,7 @@ fn read_removed(
     match head_keyword(list.head) {
         Keyword::Free => {
             let atom = read_atom(alloc, vocabulary, scope, list.at, list.items)?;
-            push_effect(alloc, scope, cond, atom, false, into)
+            push_effect(under, atom, false, into)
         }
         Keyword::Equals => Err(ReadError::Fault(Fault::Shape(list.at))),
         _ => Err(ReadError::Fault(Fault::Unsupported(at))),
@@ -104,17 +73,18 @@ fn read_removal(
     alloc: Global,
     vocabulary: &Vocabulary,
     scope: &Scope,
-    cond: &[Cond],
+    under: &Under<'_>,
     at: u32,
     items: &[Tree],
     into: &mut Vec<Effect>,
 ) -> Result<(), ReadError>
-    ensures { Leaves (effects.removal (site_of vocabulary.now scope.now cond.now) into.old.items at (views items.now)) into.new.items result }
+    requires { under.now.over.now ≡ scope.now.over }
+    ensures { Leaves (effects.removal (site_of vocabulary.now scope.now under.now.cond.now) into.old.items at (views items.now)) into.new.items result }
 {
     let Some(item) = one(items) else {
         return Err(ReadError::Fault(Fault::Shape(at)));
     };
-    read_removed(alloc, vocabulary, scope, cond, at, item, into)
+    read_removed(alloc, vocabulary, scope, under, at, item, into)
 }
 
 // Adds the literals after the condition of a `when`.
@@ -122,11 +92,12 @@ fn read_literals(
     alloc: Global,
     vocabulary: &Vocabulary,
     scope: &Scope,
-    cond: &[Cond],
+    under: &Under<'_>,
     tree: &Tree,
     into: &mut Vec<Effect>,
 ) -> Result<(), ReadError>
-    ensures { Leaves (effects.literals (site_of vocabulary.now scope.now cond.now) into.old.items (view tree.now)) into.new.items result }
+    requires { under.now.over.now ≡ scope.now.over }
+    ensures { Leaves (effects.literals (site_of vocabulary.now scope.now under.now.cond.now) into.old.items (view tree.now)) into.new.items result }
 {
     let Some(list) = read_headed(tree)? else {
         return Ok(());
@@ -134,14 +105,14 @@ fn read_literals(
     match head_keyword(list.head) {
         Keyword::And => {
             for item in list.rest {
-                read_literals(alloc, vocabulary, scope, cond, item, into)?;
+                read_literals(alloc, vocabulary, scope, under, item, into)?;
             }
             Ok(())
         }
-        Keyword::Not => read_removal(alloc, vocabulary, scope, cond, list.at, list.rest, into),
+        Keyword::Not => read_removal(alloc, vocabulary, scope, under, list.at, list.rest, into),
         Keyword::Free => {
             let atom = read_atom(alloc, vocabulary, scope, list.at, list.items)?;
-            push_effect(alloc, scope, cond, atom, true, into)
+            push_effect(under, atom, true, into)
         }
         Keyword::Equals => Err(ReadError::Fault(Fault::Shape(list.at))),
         _ => Err(ReadError::Fault(Fault::Unsupported(list.at))),
@@ -153,10 +124,12 @@ fn read_conditional(
     alloc: Global,
     vocabulary: &Vocabulary,
     scope: &Scope,
+    over: &SharedTypeNumbers,
     at: u32,
     items: &[Tree],
     into: &mut Vec<Effect>,
 ) -> Result<(), ReadError>
+    requires { over.now ≡ scope.now.over }
     ensures { Leaves (effects.conditional (site_of vocabulary.now scope.now []) into.old.items at (views items.now)) into.new.items result }
 {
     let Some((first, rest)) = items.split_first() else {
@@ -167,7 +140,9 @@ fn read_conditional(
     let Some((what, more)) = rest.split_first() else {
         return Err(ReadError::Fault(Fault::Shape(at)));
     };
-    read_literals(alloc, vocabulary, scope, cond.as_slice(), what, into)?;
+    let cond = SharedConds::of(alloc, cond)?;
+    let under = &Under { over, cond: &cond };
+    read_literals(alloc, vocabulary, scope, under, what, into)?;
     no_more(more)
 }
 
@@ -176,23 +151,27 @@ fn read_simple(
     alloc: Global,
     vocabulary: &Vocabulary,
     scope: &Scope,
+    over: &SharedTypeNumbers,
     keyword: Keyword,
     at: u32,
     items: &[Tree],
     into: &mut Vec<Effect>,
 ) -> Result<(), ReadError>
+    requires { over.now ≡ scope.now.over }
     ensures { Leaves (effects.simple (site_of vocabulary.now scope.now []) into.old.items keyword at (views items.now)) into.new.items result }
 {
     let rest = match items.split_first() {
         None => items,
         Some((_, rest)) => rest,
     };
+    let none = SharedConds::of(alloc, Vec::new(alloc))?;
+    let under = &Under { over, cond: &none };
     match keyword {
-        Keyword::Not => read_removal(alloc, vocabulary, scope, &[], at, rest, into),
-        Keyword::When => read_conditional(alloc, vocabulary, scope, at, rest, into),
+        Keyword::Not => read_removal(alloc, vocabulary, scope, under, at, rest, into),
+        Keyword::When => read_conditional(alloc, vocabulary, scope, over, at, rest, into),
         Keyword::Free => {
             let atom = read_atom(alloc, vocabulary, scope, at, items)?;
-            push_effect(alloc, scope, &[], atom, true, into)
+            push_effect(under, atom, true, into)
         }
         Keyword::Equals => Err(ReadError::Fault(Fault::Shape(at))),
         _ => Err(ReadError::Fault(Fault::Unsupported(at))),
@@ -220,15 +199,17 @@ fn enter_forall<'a>(
     }
 }
 
-/// Adds the effects of a tree.
+/// Adds the effects of a tree. The types of the variables that stand in a `forall` are handed over once more, to be shared.
 #[tactic(auto)]
 pub fn read_effect(
     alloc: Global,
     vocabulary: &Vocabulary,
     scope: &mut Scope,
+    over: &SharedTypeNumbers,
     tree: &Tree,
     into: &mut Vec<Effect>,
 ) -> Result<(), ReadError>
+    requires { over.now ≡ scope.old.over }
     ensures effects { Leaves (effects.effect vocabulary.now.types.now (site_of vocabulary.now scope.old []) into.old.items (view tree.now)) into.new.items result }
     ensures scope { OnOk result (scope.new ≡ scope.old) }
 {
@@ -238,17 +219,20 @@ pub fn read_effect(
     match head_keyword(list.head) {
         Keyword::And => {
             for item in list.rest {
-                read_effect(alloc, vocabulary, scope, item, into)?;
+                read_effect(alloc, vocabulary, scope, over, item, into)?;
             }
             Ok(())
         }
         Keyword::Forall => {
             let count = scope.over().len();
             let (body, more) = enter_forall(alloc, vocabulary, scope, list.at, list.rest)?;
-            read_effect(alloc, vocabulary, scope, body, into)?;
+            let inside = SharedTypeNumbers::copied_from(alloc, scope.over())?;
+            read_effect(alloc, vocabulary, scope, &inside, body, into)?;
             scope.leave(count);
             no_more(more)
         }
-        other => read_simple(alloc, vocabulary, scope, other, list.at, list.items, into),
+        other => read_simple(
+            alloc, vocabulary, scope, over, other, list.at, list.items, into,
+        ),
     }
 }
