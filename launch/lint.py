@@ -17,52 +17,7 @@ long; 7 the words are not taken; 70 the planner does not run. With --quiet only 
 import sys
 
 sys.dont_write_bytecode = True
-from pddl import File, Ground, Kinds, NoTree, keys, listed, typed
-
-
-class Action:
-    """An action: its name, the types of its parameters, its conditions and its effects, as literals with their scopes."""
-
-    def __init__(self, section):
-        parts = keys(section)
-        self.name = section.items[1]
-        self.parameters = typed(parts[":parameters"].items) if ":parameters" in parts else []
-        scope = {it.word: kind for it, kind in self.parameters}
-        self.conditions = list(literals(parts.get(":precondition"), scope))
-        self.before = list(self.conditions)
-        self.adds, self.deletes = [], []
-        self.read_effect(parts.get(":effect"), scope)
-
-    def read_effect(self, tree, scope):
-        """Takes in an effect and the conditions in it."""
-        if tree is None or not tree.items:
-            return
-        if tree.head() == "and":
-            for item in tree.items[1:]:
-                self.read_effect(item, scope)
-        elif tree.head() == "forall":
-            inner = {it.word: kind for it, kind in typed(tree.items[1].items)}
-            self.read_effect(tree.items[2], {**scope, **inner})
-        elif tree.head() == "when":
-            self.conditions += literals(tree.items[1], scope)
-            self.read_effect(tree.items[2], scope)
-        elif tree.head() == "not":
-            self.deletes.append((tree.items[1], False, scope))
-        else:
-            self.adds.append((tree, True, scope))
-
-
-def literals(tree, scope):
-    """The literals of a condition: the atom or `=`, whether it is wanted, and the types of the variables there."""
-    if tree is None or not tree.items:
-        return
-    if tree.head() == "and":
-        for item in tree.items[1:]:
-            yield from literals(item, scope)
-    elif tree.head() == "not":
-        yield tree.items[1], False, scope
-    else:
-        yield tree, True, scope
+from pddl import Action, File, Ground, Kinds, NoTree, listed, literals, typed
 
 
 class Task(Kinds):

@@ -3,6 +3,7 @@
 A byte is one letter here (Latin-1), so that an offset in the text is one in the file. Words are in small letters, as the
 planner reads them.
 """
+import collections
 import os
 import pathlib
 import re
@@ -41,6 +42,11 @@ class Tree:
         return self.word if self.word is not None else "(" + " ".join(it.text() for it in self.items) + ")"
 
 
+def place(text, at):
+    """The line and the column of an offset, both from 1."""
+    return text.count("\n", 0, at) + 1, at - text.rfind("\n", 0, at)
+
+
 class File:
     """A file of PDDL: its path, its text and its tree."""
 
@@ -50,9 +56,9 @@ class File:
         self.tree = read_tree(self.text)
 
     def place(self, at):
-        """`path:line:column` of an offset, both from 1."""
-        line = self.text.count("\n", 0, at) + 1
-        return f"{self.path}:{line}:{at - (self.text.rfind(chr(10), 0, at) + 1) + 1}"
+        """`path:line:column` of an offset."""
+        line, column = place(self.text, at)
+        return f"{self.path}:{line}:{column}"
 
     def sections(self, head):
         """The sections with this head."""
@@ -104,6 +110,54 @@ def typed(items):
 def keys(action):
     """The parameters, the precondition and the effect of an action, by the words before them."""
     return {action.items[at].word: action.items[at + 1] for at in range(2, len(action.items) - 1, 2)}
+
+
+class Action:
+    """An action: its name, the types of its parameters, its conditions and its effects.
+
+    Conditions and effects are literals with their scopes, which are the variables with their types: the last map of a scope
+    has the parameters, and those before it the variables of each `forall`, the innermost first."""
+
+    def __init__(self, section):
+        parts = keys(section)
+        self.name = section.items[1]
+        self.parameters = typed(parts[":parameters"].items) if ":parameters" in parts else []
+        scope = collections.ChainMap({it.word: kind for it, kind in self.parameters})
+        self.conditions = list(literals(parts.get(":precondition"), scope))
+        self.before = list(self.conditions)
+        self.adds, self.deletes = [], []
+        self.read_effect(parts.get(":effect"), scope)
+
+    def read_effect(self, tree, scope):
+        """Takes in an effect and the conditions in it."""
+        if tree is None or not tree.items:
+            return
+        if tree.head() == "and":
+            for item in tree.items[1:]:
+                self.read_effect(item, scope)
+        elif tree.head() == "forall":
+            inner = {it.word: kind for it, kind in typed(tree.items[1].items)}
+            self.read_effect(tree.items[2], scope.new_child(inner))
+        elif tree.head() == "when":
+            self.conditions += literals(tree.items[1], scope)
+            self.read_effect(tree.items[2], scope)
+        elif tree.head() == "not":
+            self.deletes.append((tree.items[1], False, scope))
+        else:
+            self.adds.append((tree, True, scope))
+
+
+def literals(tree, scope):
+    """The literals of a condition: the atom or `=`, whether it is wanted, and the types of the variables there."""
+    if tree is None or not tree.items:
+        return
+    if tree.head() == "and":
+        for item in tree.items[1:]:
+            yield from literals(item, scope)
+    elif tree.head() == "not":
+        yield tree.items[1], False, scope
+    else:
+        yield tree, True, scope
 
 
 def pair_of(pair):
