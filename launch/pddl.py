@@ -8,6 +8,7 @@ import os
 import pathlib
 import re
 import subprocess
+import typing
 
 TOKEN = re.compile(r";[^\n]*|[()]|[!-'*-:<-~]+")
 
@@ -112,6 +113,15 @@ def keys(action):
     return {action.items[at].word: action.items[at + 1] for at in range(2, len(action.items) - 1, 2)}
 
 
+class Literal(typing.NamedTuple):
+    """An atom or `=`, whether it is wanted or added, the types of the variables there, and the `when` over an effect."""
+
+    atom: Tree
+    wanted: bool
+    scope: typing.Mapping
+    under: typing.Sequence = ()
+
+
 class Action:
     """An action: its name, the types of its parameters, its conditions and its effects.
 
@@ -128,36 +138,37 @@ class Action:
         self.adds, self.deletes = [], []
         self.read_effect(parts.get(":effect"), scope)
 
-    def read_effect(self, tree, scope):
+    def read_effect(self, tree, scope, under=()):
         """Takes in an effect and the conditions in it."""
         if tree is None or not tree.items:
             return
         if tree.head() == "and":
             for item in tree.items[1:]:
-                self.read_effect(item, scope)
+                self.read_effect(item, scope, under)
         elif tree.head() == "forall":
             inner = {it.word: kind for it, kind in typed(tree.items[1].items)}
-            self.read_effect(tree.items[2], scope.new_child(inner))
+            self.read_effect(tree.items[2], scope.new_child(inner), under)
         elif tree.head() == "when":
-            self.conditions += literals(tree.items[1], scope)
-            self.read_effect(tree.items[2], scope)
+            under = list(literals(tree.items[1], scope))
+            self.conditions += under
+            self.read_effect(tree.items[2], scope, under)
         elif tree.head() == "not":
-            self.deletes.append((tree.items[1], False, scope))
+            self.deletes.append(Literal(tree.items[1], False, scope, under))
         else:
-            self.adds.append((tree, True, scope))
+            self.adds.append(Literal(tree, True, scope, under))
 
 
 def literals(tree, scope):
-    """The literals of a condition: the atom or `=`, whether it is wanted, and the types of the variables there."""
+    """The literals of a condition."""
     if tree is None or not tree.items:
         return
     if tree.head() == "and":
         for item in tree.items[1:]:
             yield from literals(item, scope)
     elif tree.head() == "not":
-        yield tree.items[1], False, scope
+        yield Literal(tree.items[1], False, scope)
     else:
-        yield tree, True, scope
+        yield Literal(tree, True, scope)
 
 
 def pair_of(pair):

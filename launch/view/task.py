@@ -2,7 +2,8 @@
 
 For the calls of a step the atoms that their effects can name are put together, whatever their conditions. Of these, check
 tells which hold before the step and which after it: it is called on the beginning of the plan and on the problem with another
-goal, which asks for some of them to hold and for others not to. What the page shows is what it answered.
+goal, which asks for some of them to hold and for others not to. Which are expected to hold is guessed from the effects, so
+that one call is mostly enough; what the page shows is what check answered.
 """
 import hashlib
 import itertools
@@ -84,37 +85,41 @@ class Task:
         half = len(pairs) // 2
         return {**self.values(calls, dict(pairs[:half])), **self.values(calls, dict(pairs[half:]))}
 
-    def named(self, call):
-        """The atoms that effects of a call can name, each with whether an effect adds it."""
+    def expected(self, call, guess):
+        """The atoms that effects of a call can name, each with whether it should hold after it, where a guess holds before."""
         action = self.actions[call[0]]
         stands = dict(zip((it.word for it, _ in action.parameters), call[1:]))
-        named = {}
-        for atom, adds, scope in action.deletes + action.adds:
-            free = sorted({it.word for it in atom.items[1:]} & set().union(*scope.maps[:-1]))
-            for objects in itertools.product(*(self.kinds.fitting(scope[it]) for it in free)):
+        told = {}
+        for literal in action.deletes + action.adds:
+            free = {name: kind for it in reversed(literal.scope.maps[:-1]) for name, kind in it.items()}
+            for objects in itertools.product(*(self.kinds.fitting(kind) for kind in free.values())):
                 here = {**stands, **dict(zip(free, objects))}
-                text = " ".join([atom.head()] + [here.get(it.word, it.word) for it in atom.items[1:]])
-                named[f"({text})"] = adds
-        return named
+                text = instance(literal.atom, here)
+                told.setdefault(text, text in guess)
+                if all((instance(it.atom, here) in guess) == it.wanted for it in literal.under if it.atom.head() != "="):
+                    told[text] = literal.wanted
+        return told
 
     def changes(self, steps):
         """For each step the atoms that it makes true and those that it makes false, each list in order."""
         before, told = [], []
+        guess = {it.text() for section in self.problem.sections(":init") for it in section.items[1:]}
         for calls in steps:
             expected = {}
             for call in calls:
-                for atom, adds in self.named(call).items():
-                    expected[atom] = adds or expected.get(atom, False)
+                for atom, holds in self.expected(call, guess).items():
+                    expected[atom] = holds if holds != (atom in guess) else expected.get(atom, holds)
             after = self.values(before + calls, expected)
-            first = self.values(before, {atom: not holds for atom, holds in after.items()})
+            first = self.values(before, {atom: atom in guess for atom in after})
             before = before + calls
-            told.append(
-                (
-                    sorted(atom for atom, holds in after.items() if holds and not first[atom]),
-                    sorted(atom for atom, holds in after.items() if not holds and first[atom]),
-                )
-            )
+            guess = guess - set(after) | {atom for atom, holds in after.items() if holds}
+            told.append(tuple(sorted(it for it in after if after[it] == holds != first[it]) for holds in (True, False)))
         return told
+
+
+def instance(atom, stands):
+    """An atom with objects for its variables, as a text."""
+    return "(" + " ".join([atom.head()] + [stands.get(it.word, it.word) for it in atom.items[1:]]) + ")"
 
 
 def asked(words, report):
