@@ -81,15 +81,14 @@ def curve(part):
     ]
     path = " ".join(f"{x:.1f},{y:.1f}" for x, y, *_ in points)
     lines = [
-        f'<svg class="curve" viewBox="0 0 600 100" role="img" aria-label="Conflicts of horizons {first} to {last}">',
+        f'<svg class="curve" viewBox="0 0 600 88" role="img" aria-label="Conflicts of horizons {first} to {last}">',
         '<line class="axis" x1="10" y1="82" x2="590" y2="82"/>',
         f'<polyline points="{path}"/>',
     ]
     for x, y, horizon, word, conflicts in points:
         told = f"horizon {horizon}: {word}, {count(conflicts, 'conflict')}"
         lines.append(f'<circle class="is-{word}" cx="{x:.1f}" cy="{y:.1f}" r="4"><title>{told}</title></circle>')
-    lines.append(f'<text x="10" y="97">{first}</text><text class="end-of-line" x="590" y="97">{last}</text>')
-    return lines + ["</svg>"]
+    return lines + ["</svg>", f'<div class="ends"><span>{first}</span><span>{last}</span></div>']
 
 
 def horizons(part):
@@ -248,8 +247,8 @@ def footer(data, was_asked):
     """Where the page comes from, and what was checked."""
     if was_asked:
         told = (
-            "For this page <code>./dokyreva check</code> was called on these files: the calls of the report are a plan of them, and "
-            "what each step makes true and false is what it says of the beginnings of the plan. Nothing else was checked."
+            "For this page <code>./dokyreva check</code> was called on these files: the calls of the report are a plan of them, "
+            "and what each step makes true and false is what it says of the beginnings of the plan. Nothing else was checked."
         )
     else:
         told = (

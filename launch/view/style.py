@@ -13,7 +13,7 @@ p { margin: .25rem 0; max-width: 45rem; } .end { font-size: 1.15rem; font-weight
 section { border-top: 1px solid var(--line); padding: 1rem 0; } a { color: inherit; }
 table { border-collapse: collapse; } th { text-align: left; font-weight: 500; }
 .parts { margin-bottom: 1rem; } .parts th { white-space: nowrap; }
-.parts th, .parts td { padding: .15rem .75rem .15rem 0; vertical-align: top; }
+.parts th, .parts td { padding: .15rem .75rem .15rem 0; vertical-align: top; } .parts td { overflow-wrap: anywhere; }
 code { overflow-wrap: anywhere; font-size: .8125rem; } pre { background: var(--soft); padding: 1rem; overflow: auto; }
 .bars { width: 100%; max-width: 45rem; }
 .bars th, .bars td { padding: .15rem .75rem .15rem 0; white-space: nowrap; vertical-align: middle; }
@@ -26,8 +26,8 @@ code { overflow-wrap: anywhere; font-size: .8125rem; } pre { background: var(--s
 .curve { display: block; width: 100%; max-width: 45rem; } .curve polyline { fill: none; stroke: var(--line); stroke-width: 1.5; }
 .curve .axis { stroke: var(--line); }
 .curve circle { fill: var(--wait); } .curve circle.is-refuted { fill: var(--no); }
-.curve circle.is-plan { fill: var(--yes); } .curve text { fill: var(--wait); font-size: 12px; }
-.curve .end-of-line { text-anchor: end; }
+.curve circle.is-plan { fill: var(--yes); }
+.ends { display: flex; justify-content: space-between; max-width: 45rem; font-size: .8125rem; color: var(--wait); }
 .beside { display: grid; grid-template-columns: minmax(15rem, 22rem) minmax(0, 1fr); gap: 1.5rem; align-items: start; }
 .steps { list-style: none; margin: 0; padding: 0; max-height: 80vh; overflow: auto; border: 1px solid var(--line); }
 .steps li { padding: .4rem .6rem; border-bottom: 1px solid var(--line); font-size: .875rem; } .steps li:last-child { border: 0; }
@@ -38,7 +38,7 @@ table.plan th, table.plan td { border: 1px solid var(--line); padding: .25rem .5
 table.plan { font-size: .875rem; }
 table.plan thead th { position: sticky; top: 0; background: var(--soft); z-index: 1; white-space: nowrap; }
 table.plan tbody th { position: sticky; left: 0; background: var(--soft); }
-table.plan tbody th { overflow-wrap: break-word; min-width: 4rem; max-width: 9rem; }
+table.plan tbody th { overflow-wrap: break-word; min-width: 6rem; max-width: 9rem; }
 table.plan .corner { left: 0; z-index: 2; } table.plan td { min-width: 5rem; } table.plan td div { white-space: nowrap; }
 table.plan span { color: var(--wait); } table.plan .gap { min-width: 0; background: var(--soft); }
 .small:checked ~ .scroll td { min-width: 0; padding: 0 .1rem; font-size: 0; }

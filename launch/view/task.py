@@ -124,7 +124,7 @@ def instance(atom, stands):
 
 def asked(words, report):
     """The sums of a domain and a problem and, where a report has a plan, what each of its steps changes."""
-    launcher = os.environ.get("DOKYREVA") or str(pathlib.Path(__file__).resolve().parent.parent.parent / "dokyreva")
+    launcher = os.environ.get("DOKYREVA_PROGRAM") or str(pathlib.Path(__file__).resolve().parent.parent.parent / "dokyreva")
     with tempfile.TemporaryDirectory() as room:
         task = Task(words, room, launcher)
         part = report.parts[0] if report.parts else None

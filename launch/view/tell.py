@@ -69,7 +69,8 @@ def tell_answer(end):
     if kind == "left":
         return tell_left(int(end[1]), end[2], int(end[3]))
     if kind == "refused":
-        return f"The {FILES[end[2]]} is refused at the byte with offset {int(end[3]):,}.", f"Kind {end[1]}: {KINDS[end[1]]}."
+        kind = "it is no certificate from there on" if end[2] == "proof" else KINDS[end[1]]
+        return f"The {FILES[end[2]]} is refused at the byte with offset {int(end[3]):,}.", f"Kind {end[1]}: {kind}."
     if kind == "read fault":
         return f"The {FILES[end[1]]} could not be read.", "Nothing is known of it."
     return tell_limit(end)
