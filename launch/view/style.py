@@ -50,7 +50,7 @@ b { font-weight: 600; color: var(--name); } .legend span { margin-right: .75rem;
 .c4 { --name: light-dark(#a02c3c, #ee8d98); } .c5 { --name: light-dark(#00696f, #5fc3c9); }
 .c6 { --name: light-dark(#6b5d00, #cdbb4f); } .c7 { --name: light-dark(#4d4a9e, #a7a4f0); }
 .c8 { --name: light-dark(#96307a, #e78fc9); } .c9 { --name: light-dark(#4f6416, #a9c266); }
-footer { border-top: 1px solid var(--line); padding-top: 1rem; font-size: .875rem; }
+footer { border-top: 1px solid var(--line); margin-top: 1rem; padding-top: 1rem; font-size: .875rem; }
 @media (max-width: 44rem) { body { padding: 1rem; } .beside { display: block; } .table { display: none; }
  .steps { max-height: none; } .bars .bar { width: 40%; } }
 """

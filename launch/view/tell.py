@@ -109,9 +109,9 @@ def tell_limit(end):
 def tell_certificate(certificate):
     """What a certificate says, in sentences."""
     return (
-        f"A certificate that there is no plan of {count(certificate.horizon, 'step')} or fewer.",
+        f"A certificate of horizon {certificate.horizon}, which was not verified here.",
+        f"Where verify accepts it, there is no plan of {count(certificate.horizon, 'step')} or fewer.",
         f"It adds {count(certificate.learned, 'clause')} and drops {certificate.dropped:,}; the last is the empty clause.",
-        "Whether each follows is not looked at here: that is what verify is for.",
     )
 
 
