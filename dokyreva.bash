@@ -1,44 +1,68 @@
-# Completion for bash: . dokyreva.bash, then the Tab key after ./dokyreva, ./plan or dokyreva.
+# Completion for bash: . dokyreva.bash, then the Tab key after ./dokyreva, ./plan, ./spread or ./plan-view, or after these names
+# without their folder. What is completed stands in launch/help.
 
-_dokyreva_values() {
-    case $1 in
-    --alg) echo a b c ;;
-    --show) echo none domain problem ;;
-    --turns) echo forward backward ;;
-    --width) echo 1 2 4 8 16 ;;
-    --workers) echo 1 2 4 8 16 ;;
-    --max-horizon) echo 8 16 32 64 128 255 ;;
-    --budget) echo 1000 10000 100000 1000000 ;;
-    esac
+_dokyreva_help=$(readlink -f -- "${BASH_SOURCE[0]}")
+_dokyreva_help=${_dokyreva_help%/*}/launch/help
+
+# _dokyreva_options COMMAND: the options of a command, as they stand in its help.
+_dokyreva_options() {
+    local line
+    [ -f "$_dokyreva_help/$1.txt" ] || return
+    while read -r line; do
+        case $line in
+        'Options: '*) printf '%s ' "${line#Options: }" ;;
+        --*) printf '%s ' "${line%% *}" ;;
+        esac
+    done <"$_dokyreva_help/$1.txt"
 }
 
-_dokyreva_options() {
-    local race='--alg --width --quota --percent --growth --start --max-horizon --budget --slice'
-    case $1 in
-    plan | plan-all) echo "$race --workers" ;;
-    batch) echo "$race --turns" ;;
-    gen) echo "$race --workers --show" ;;
-    prove) echo --budget ;;
-    esac
+# _dokyreva_values COMMAND OPTION: what may stand for an option: values, FILE or FOLDER, or nothing.
+_dokyreva_values() {
+    awk -F '  +' -v name="$2" '
+        $1 == name {
+            if ($2 ~ /^(FILE|FOLDER)$/) print $2; else if ($4 != "-") print $4
+            exit
+        }' "$_dokyreva_help/$1.txt" "$_dokyreva_help/options.txt"
+}
+
+# _dokyreva_commands: the commands that there are here.
+_dokyreva_commands() {
+    local name by
+    while read -r name by; do
+        [[ $by == plan_prog || -f $_dokyreva_help/../../$by || -f $_dokyreva_help/../../release/$by.gz ]] && printf '%s ' "$name"
+    done <"$_dokyreva_help/commands.txt"
+    echo help
+}
+
+# _dokyreva_words WORDS..: completes the last word from a list.
+_dokyreva_words() {
+    mapfile -t COMPREPLY < <(compgen -W "$*" -- "${COMP_WORDS[COMP_CWORD]}")
 }
 
 _dokyreva() {
-    local word=${COMP_WORDS[COMP_CWORD]} before=${COMP_WORDS[COMP_CWORD - 1]} command=${COMP_WORDS[1]} place=$COMP_CWORD
-    if [ "${COMP_WORDS[0]##*/}" = plan ]; then
-        command=plan place=$((place + 1))
-    elif [ "$place" = 1 ]; then
-        mapfile -t COMPREPLY < <(compgen -W 'plan plan-all batch check ground order gen prove verify help' -- "$word")
+    local word=${COMP_WORDS[COMP_CWORD]} before=${COMP_WORDS[COMP_CWORD - 1]} place=$COMP_CWORD command values=''
+    command=${COMP_WORDS[0]##*/}
+    if [ "$command" = dokyreva ]; then
+        command=${COMP_WORDS[1]-} place=$((place - 1))
+    fi
+    if [ "$place" = 0 ]; then
+        _dokyreva_words "$(_dokyreva_commands)"
         return
     fi
-    if [ "$command" = gen ] && [ "$place" = 2 ]; then
-        mapfile -t COMPREPLY < <(compgen -W 'corridor gripper' -- "$word")
-    elif [[ $before == --* ]]; then
-        mapfile -t COMPREPLY < <(compgen -W "$(_dokyreva_values "$before")" -- "$word")
+    [[ $before != --* ]] || values=$(_dokyreva_values "$command" "$before")
+    if [ "$command" = help ]; then
+        _dokyreva_words "$(_dokyreva_commands)"
+    elif [ "$command" = gen ] && [ "$place" = 1 ]; then
+        _dokyreva_words corridor gripper
+    elif [ "$values" = FOLDER ]; then
+        mapfile -t COMPREPLY < <(compgen -d -- "$word")
+    elif [[ $before == --* && $before != --help && $values != FILE ]]; then
+        _dokyreva_words "$values"
     elif [[ $word == -* ]]; then
-        mapfile -t COMPREPLY < <(compgen -W "$(_dokyreva_options "$command")" -- "$word")
+        _dokyreva_words "$(_dokyreva_options "$command") --help"
     else
         mapfile -t COMPREPLY < <(compgen -f -- "$word")
     fi
 }
 
-complete -o filenames -F _dokyreva dokyreva ./dokyreva plan ./plan
+complete -o filenames -F _dokyreva dokyreva ./dokyreva plan ./plan spread ./spread plan-view ./plan-view

@@ -1,105 +1,76 @@
-# The programs that may be run: that of the release, the one that was proved here, and a quick build, which is not proved.
-# To be read by scripts that have set root, after sources.bash.
+# shellcheck shell=bash disable=SC2034,SC2154 # the parts set variables for one another
+# The programs that may be run, by their names (plan_prog, judge_prog): that of the release, the one that was proved here, and a
+# quick build, which is not proved. To be read by scripts that have set root, after places.bash, bytes.bash and sources.bash.
 
-released=$root/out/release/plan_prog
-proved=$root/out/proved/plan_prog
-quick=$root/out/quick/plan_prog
-
-# unpack_release: unpacks the release, where it is of these sources, and only where its bytes have the sum that is told.
-unpack_release() (
-    cd -- "$root/release" 2>/dev/null && [ -f plan_prog.gz ] && [ -f SOURCES ] && [ -f SHA256 ] || exit
-    none_newer "$root/out/release/other" && [ ! SOURCES -nt "$root/out/release/other" ] && exit 1
-    sum=$(sources_sum)
-    if [ "$sum" != "$(cat SOURCES)" ]; then
-        mkdir -p -- "$root/out/release" && : >"$root/out/release/other"
-        exit 1
-    fi
-    room=$(mktemp -d) || exit
-    trap 'rm -rf -- "$room"' EXIT
-    gzip -dc plan_prog.gz >"$room/plan_prog" || exit
-    if [ "$(sha256sum <"$room/plan_prog" | cut -d ' ' -f 1)" != "$(cat SHA256)" ]; then
-        say "release/plan_prog.gz is not what release/SHA256 tells: it is not run"
-        exit 1
-    fi
-    put_program "$room/plan_prog" "$released" "$sum"
-)
-
-has_release() {
-    [ -f "$root/release/plan_prog.gz" ] && { is_current "$released" || unpack_release; }
-}
-
-has_proved() {
-    is_current "$proved"
-}
-
-has_quick() {
-    is_current "$quick"
-}
-
-# The command rt try compiles a program without its proof, runs it once, and throws it away. While it compiles, the whole
-# program stands in its folder as a module of LLVM, of which the toolchain's own clang makes a program. Where that can not be
-# had, the program that rt try makes is taken, which is a hundred times slower.
-build_quick() (
-    room=$(mktemp -d) || exit
-    trap 'rm -rf -- "$room"' EXIT
-    sum=$(sources_sum)
-    mkfifo -- "$room/pipe" || exit
-    (
-        cd -- "$root/crates/plan_prog" || exit
-        TMPDIR=$room exec rt try --steps 1 -- plan "$room/pipe" /dev/null --max-horizon 0
-    ) >"$room/said" 2>&1 </dev/null &
-    try=$!
-    if keep_module "$room" "$try" && link_module "$room"; then
-        put_program "$room/linked" "$quick" "$sum"
-        kill "$try" 2>/dev/null
-    else
-        take_slow "$room" "$try"
-    fi
-    wait "$try" 2>/dev/null
-    has_quick && exit
-    sed 's/^/dokyreva: rt: /' -- "$room/said" >&2
-    exit 1
-)
-
-# keep_module FOLDER PROCESS: keeps the module that rt try compiles, once it is whole: its object is begun after it.
-keep_module() {
-    local module
-    while kill -0 "$2" 2>/dev/null; do
-        for module in "$1"/*/*/module.bc; do
-            if compgen -G "${module%/*}/*.o*" >/dev/null; then
-                ln -- "$module" "$1/module.bc" 2>/dev/null || cp -- "$module" "$1/module.bc"
-                return
-            fi
-        done
-        sleep 0.1
+# program_names: the programs that there are sources of.
+program_names() {
+    local name
+    for name in plan_prog judge_prog; do
+        [ ! -d "$root/crates/$name" ] || echo "$name"
     done
+}
+
+# kept_sum NAME: sets kept to the SHA-256 of a program of the release. The file has a line for each, the sum and the name; a sum
+# alone is that of plan_prog.
+kept_sum() {
+    local sum name
+    [ -r "$root/release/SHA256" ] || return
+    while read -r sum name; do
+        if [ "${name:-plan_prog}" = "$1" ]; then
+            kept=$sum
+            return
+        fi
+    done <"$root/release/SHA256"
     return 1
 }
 
-# link_module FOLDER: makes a program of the module that was kept, by the toolchain's own tools.
-link_module() {
-    local kit
-    kit=$(dirname -- "$(rt doc 2>/dev/null)") || return
-    [ -x "$kit/toolchain/bin/clang" ] && [ -x "$kit/bin/rattle-link" ] || return
-    "$kit/toolchain/bin/clang" --target=x86_64-unknown-linux-gnu -O1 -c -o "$1/module.o" "$1/module.bc" >>"$1/said" 2>&1 &&
-        "$kit/bin/rattle-link" --target x86_64-unknown-linux-gnu --toolchain "$kit/toolchain" -o "$1/linked" "$1/module.o" \
-            "$kit/c/asan.a" "$kit/c/libos_c.a" "$kit/c/liblibc_c.a" >>"$1/said" 2>&1
+# is_of_release: the sources are those of the release. Without a folder of crates there is nothing that could be other.
+is_of_release() {
+    local of=''
+    [ -d "$root/crates" ] || return 0
+    [ -r "$root/release/SOURCES" ] && read -r of <"$root/release/SOURCES" && [ "$of" = "$sources" ]
 }
 
-# take_slow FOLDER PROCESS: takes the program that rt try runs. It is run on a pipe in place of the domain; a planner that waits
-# at the pipe is whole and can be copied. Where rt try ends without a planner, another reader waits there in its place.
-take_slow() {
-    local waits made
-    (
-        while kill -0 "$2" 2>/dev/null; do sleep 0.2; done
-        exec cat -- "$1/pipe" >/dev/null
-    ) &
-    waits=$!
-    exec 3>"$1/pipe"
-    for made in "$1"/*/*/program; do
-        put_program "$made" "$quick" "$sum"
+# find_release NAME: sets program to that of the release, which is unpacked where it is not there yet. Where that cannot be, why
+# is set.
+find_release() {
+    local folder
+    kept_sum "$1" && is_of_release || return
+    for folder in "$root/release" "$root/out/release" "${places[@]:1}"; do
+        [[ $folder == "$root"/* ]] || { is_own "$folder" && folder=$folder/$kept; } || continue
+        program=$folder/$1
+        is_whole "$program" "$kept" && return
     done
-    exec 3>&-
-    kill "$waits" 2>/dev/null
-    wait "$waits" 2>/dev/null
+    [ -f "$root/release/$1.gz" ] || return
+    use unpack
+    unpack_release "$1"
+}
+
+# find_program NAME: sets program to the first that may be run, and what to what it is; else why.
+find_program() {
+    why=''
+    find_sources
+    what='the proved program of the release'
+    find_release "$1" && return
+    program=$root/out/proved/$1 what='the proved program'
+    is_current "$program" && return
+    program=$root/out/quick/$1 what='the quick program, of which nothing was proved; ./plan-build makes the proved one'
+    is_current "$program"
+}
+
+# find_or_build NAME: the same, with a quick build where nothing else is there. Says what stands in the way, and ends then.
+find_or_build() {
+    find_program "$1" && return
+    [ -z "$why" ] || say "$why"
+    if ! command -v rt >/dev/null; then
+        [ -n "$why" ] || say "no program is built of these sources, and there is no command rt to build one:" \
+            "put the toolchain's bin on the PATH"
+        return 70
+    fi
+    say "building the quick program, which is not proved; this takes about a minute"
+    use quick
+    if ! build_quick "$1" || ! find_program "$1"; then
+        say "the quick program could not be built"
+        return 70
+    fi
 }

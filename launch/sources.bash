@@ -1,4 +1,6 @@
-# What the program is made of, and the stamps of what was made of it. To be read by scripts that have set root.
+# shellcheck shell=bash disable=SC2034,SC2154 # the parts set variables for one another
+# What the programs are made of, and the stamps of what was made of it. To be read by scripts that have set root, after
+# places.bash and bytes.bash.
 
 # sources_sum: the SHA-256 of crates.txt and of all that stands in the src, specs and proofs of crates, with its names.
 sources_sum() (
@@ -7,23 +9,63 @@ sources_sum() (
         xargs -0 sha256sum | sha256sum | cut -d ' ' -f 1
 )
 
-# none_newer FILE: nothing that the program is made of is newer than a file.
-none_newer() {
-    [ -f "$1" ] && [ -z "$(find "$root/crates.txt" "$root"/crates/*/{src,specs,proofs} -newer "$1" -print -quit)" ]
+# find_sources: sets sources to that sum; to nothing where there are no crates. It is worked out anew where git has changed its index,
+# or git or an editor a folder of the program's sources, since it was kept: a look at every file would take longer than a short run.
+# What is written into a file in its place, in no other way, is seen by look_through alone.
+find_sources() {
+    local place name
+    sources=''
+    [ -d "$root/crates" ] || return 0
+    mangled "$root"
+    for place in "${places[@]}"; do
+        is_own "$place" && read_stamp "$place/$name.sources" && same_folders "$place/$name.sources" && return
+    done
+    look_through
 }
 
-# is_current PROGRAM: the program was made of the sources as they are. Beside it stands the sum of what it was made of.
-# Where nothing is newer than that stamp it is not worked out again.
+# read_stamp FILE: sets sources to what was kept there of this checkout.
+read_stamp() {
+    local of=''
+    [ -r "$1" ] && { read -r sources && read -r of; } <"$1" && [ "$of" = "$root" ]
+}
+
+# same_folders STAMP: no folder of the program's sources is newer than it, nor crates.txt, nor the index of git.
+same_folders() {
+    local it
+    for it in "$root"/{crates.txt,.git/index,crates} "$root"/crates/*/{src,specs}; do
+        [[ ! $it -nt $1 ]] || return 1
+    done
+}
+
+# look_through: sets sources, as the files are now, and keeps it.
+look_through() {
+    local place name begun=$EPOCHREALTIME
+    sources=$(sources_sum)
+    mangled "$root"
+    for place in "${places[@]}"; do
+        if keep_line "$place" "$name.sources" "$sources" "$root"; then
+            touch -d "@${begun/,/.}" -- "$place/$name.sources"
+            return
+        fi
+    done
+}
+
+# is_current PROGRAM: it was made of the sources as they are, and is whole. Beside it stand the sums of both.
 is_current() {
-    [ -x "$1" ] && [ -f "$1.sources" ] || return
-    none_newer "$1.sources" && return
-    [ "$(sources_sum)" = "$(cat -- "$1.sources")" ] && touch -- "$1.sources"
+    local of='' sum=''
+    [ -x "$1" ] && [ -r "$1.sources" ] && [ -r "$1.sha256" ] || return
+    read -r of <"$1.sources"
+    read -r sum <"$1.sha256"
+    [ -n "$of" ] && [ "$of" = "$sources" ] && is_whole "$1" "$sum"
 }
 
-# put_program FROM TO SUM: puts a program in its place, whole or not at all, with the sum of what it was made of.
+# put_program FROM TO SUM: puts a program in its place, whole or not at all, with the sum of what it was made of and its own.
 put_program() {
-    mkdir -p -- "$(dirname -- "$2")" &&
-        cp -- "$1" "$2.$$" && chmod 755 -- "$2.$$" &&
-        printf '%s\n' "$3" >"$2.sources.$$" &&
-        rm -f -- "$2.sources" && mv -f -- "$2.$$" "$2" && mv -f -- "$2.sources.$$" "$2.sources"
+    if mkdir -p -- "${2%/*}" && cp -- "$1" "$2.$$" && chmod 755 -- "$2.$$" &&
+        printf '%s\n' "$3" >"$2.sources.$$" && sum_of "$2.$$" >"$2.sha256.$$" &&
+        rm -f -- "$2.sources" && mv -f -- "$2.$$" "$2" && mv -f -- "$2.sha256.$$" "$2.sha256" && mv -f -- "$2.sources.$$" "$2.sources"; then
+        return
+    fi
+    rm -f -- "$2"*".$$"
+    return 1
 }

@@ -1,9 +1,12 @@
+# shellcheck shell=bash disable=SC2034,SC2154 # the parts set variables for one another
 # What the results of a folder come to. Nothing that a job wrote is taken on trust: sums are compared, the certificate and the
 # plan on which the answer rests are checked by the program of this checkout, and only then is anything said.
 
 # value_of FILE NAME
 value_of() {
-    sed -n "s/^$2=//p" "$1" 2>/dev/null | head -n 1
+    local field
+    field_of "$1" "$2"
+    printf '%s\n' "$field"
 }
 
 # read_result FOLDER N: sets word for the horizon, of a result that has the form and the files that it names.
@@ -12,11 +15,11 @@ read_result() {
     word=missing
     [ -f "$at/result" ] || return 0
     word=$(value_of "$at/result" word)
-    [[ $word == refuted || $word == reported || $word == plan || $word == open || $word == limit ]] || wrong "$at/result is not what a job writes"
+    [[ $word =~ ^(refuted|reported|plan|open|limit)$ ]] || wrong "$at/result is not what a job writes"
     [ "$(value_of "$at/result" horizon)" = "$2" ] || wrong "$at/result is of another horizon"
     [[ $word == open || $word == limit ]] || grep -q '^file=' "$at/result" || wrong "$at/result names no file"
     while read -r name sum; do
-        [ "$(sha256sum <"$at/$name" 2>/dev/null | cut -d ' ' -f 1)" = "$sum" ] || wrong "$at/$name is not the file that its result names"
+        [ "$(sha256sum <"$at/$name" 2>/dev/null)" = "$sum  -" ] || wrong "$at/$name is not the file that its result names"
     done < <(sed -n 's/^file=//p' "$at/result")
 }
 
@@ -75,12 +78,19 @@ mend_results() {
 # mend_answer FOLDER: runs again what the answer rests on and does not stand. What is still wrong then is told by the join.
 mend_answer() {
     mend_results "$1"
+    begin_bounds
     run_engine
     read_results "$1"
     answer_fault "$1"
     [ -z "$fault" ] && return
     set_aside "$1" "$bad" "$fault"
+    begin_bounds
     run_engine
+}
+
+# is_settled N: what is known of other horizons decides of this one.
+is_settled() {
+    [ "$found" -ge 0 ] && [ "$1" -gt "$found" ] || [ "$1" -lt "$certified" ]
 }
 
 # tell_table FOLDER
@@ -92,7 +102,7 @@ tell_table() {
         if [ "${words[n]}" != missing ]; then
             printf '%-8s %-9s %10s %8s %7s  %s\n' "$n" "${words[n]}" "$(value_of "$at" conflicts)" "$(value_of "$at" seconds)" \
                 "$(value_of "$at" megabytes)" "$(value_of "$at" where)"
-        elif [ "$found" -ge 0 ] && [ "$n" -gt "$found" ] || [ "$n" -lt "$certified" ]; then
+        elif is_settled "$n"; then
             printf '%-8s %-9s\n' "$n" needless
         elif [ -n "$lost" ]; then
             printf '%-8s %-9s %10s %8s %7s  %s\n' "$n" lost '' '' '' "$lost"
@@ -104,7 +114,7 @@ tell_table() {
 
 # tell_answer: the sentences that follow. Sets ends.
 tell_answer() {
-    local least=$((certified > reported ? certified : reported))
+    local least=$((certified > reported ? certified : reported)) from
     if [ "$found" -ge 0 ]; then
         echo "A plan of $found steps, which was checked: h/$found/plan"
         ends=0
@@ -112,14 +122,21 @@ tell_answer() {
         echo "Every horizon up to $last is refuted."
         ends=1
     else
-        echo "Horizons $((least + 1 > first ? least + 1 : first)) to $last are not all decided."
+        from=$((least + 1 > first ? least + 1 : first))
+        if [ "$from" = "$last" ]; then
+            echo "Horizon $last is not decided."
+        else
+            echo "Horizons $from to $last are not all decided."
+        fi
         ends=2
     fi
     if [ "$certified" -ge 0 ]; then
-        echo "No plan of at most $certified actions: the certificate of horizon $certified was checked, and one is enough for all below it."
+        echo "No plan of at most $certified actions: the certificate of horizon $certified was checked," \
+            "and one is enough for all below it."
     fi
     if [ "$reported" -gt "$certified" ]; then
-        echo "Horizon $reported is refuted by the planner's report, without a certificate, which would be too long: no plan of at most $reported actions."
+        echo "Horizon $reported is refuted by the planner's report, without a certificate, which would be too long:" \
+            "no plan of at most $reported actions."
     fi
     if [ "$found" -gt 0 ] && [ "$certified" = $((found - 1)) ]; then
         echo "$found is the least number of steps."
@@ -130,7 +147,7 @@ tell_answer() {
 lost_status() {
     local n why
     for ((n = first; n <= last; n++)); do
-        [ "${words[n]}" = missing ] && [ -f "$1/h/$n/lost" ] && ! is_needless "$1" "$n" || continue
+        [ "${words[n]}" = missing ] && [ -f "$1/h/$n/lost" ] && ! is_settled "$n" || continue
         why=$(cat -- "$1/h/$n/lost")
         case $why in
         memory) echo 8 ;;
@@ -161,11 +178,12 @@ put_properties() {
     for ((n = first; n <= last; n++)); do
         at=$1/h/$n
         [ -f "$at/result" ] || continue
-        as_json horizon "$n" word "${words[n]}" conflicts "$(value_of "$at/result" conflicts)" budget "$(value_of "$at/result" budget)" \
-            seconds "$(value_of "$at/result" seconds)" megabytes "$(value_of "$at/result" megabytes)" >"$at/properties.json"
+        as_json horizon "$n" word "${words[n]}" conflicts "$(value_of "$at/result" conflicts)" \
+            budget "$(value_of "$at/result" budget)" seconds "$(value_of "$at/result" seconds)" \
+            megabytes "$(value_of "$at/result" megabytes)" >"$at/properties.json"
     done
-    as_json first "$first" last "$last" budget "$(setting "$1" budget)" plan "$found" certified "$certified" reported "$reported" \
-        status "$ends" >"$1/properties.json"
+    as_json first "$first" last "$last" budget "$budget" plan "$found" certified "$certified" \
+        reported "$reported" status "$ends" >"$1/properties.json"
 }
 
 # join_results FOLDER: ends with the status of the answer.
@@ -173,7 +191,7 @@ join_results() {
     local folder lost
     folder=$(readlink -f -- "$1") && [ -f "$folder/task/SHA256SUMS" ] || wrong "$1 is no folder of results"
     is_unchanged "$folder" || wrong "a file in $folder/task was changed"
-    first=$(setting "$folder" first) last=$(setting "$folder" last)
+    read_settings "$folder"
     is_number "$first" 0 255 && is_number "$last" "$first" 255 || wrong "$folder/task/settings is not what a driver writes"
     read_results "$folder"
     answer_fault "$folder"

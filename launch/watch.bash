@@ -1,49 +1,66 @@
-# What a run has used so far, shown while it goes on. To be read by scripts that have set root.
+# shellcheck shell=bash disable=SC2034,SC2154 # the parts set variables for one another
+# Runs of a program, that end with their caller. To be read by scripts that have set root.
 
-# used_by PROCESS: the seconds of the processor and the megabytes of memory that a process has used.
-used_by() {
-    local stat ticks pages
-    stat=$(cat "/proc/$1/stat" 2>/dev/null) || return
-    stat=${stat##*) }
-    ticks=$(cut -d ' ' -f 12,13 <<<"$stat")
-    pages=$(awk '/^VmHWM:/ { print int($2 / 1024) }' "/proc/$1/status" 2>/dev/null)
-    printf '%d s of processors, %s MB' $(((${ticks% *} + ${ticks#* }) / ${clock_ticks:-100})) "${pages:-0}"
+running='' watcher='' timer='' room='' leftover='' late=no
+
+# end_by_signal: ends all that runs, removes what is half made, and ends with 130.
+end_by_signal() {
+    trap '' INT QUIT TERM HUP
+    stop_all
+    exit 130
 }
 
-# show_use PROCESS: from two seconds on, one line on standard error that is written over each second.
-show_use() {
-    clock_ticks=$(getconf CLK_TCK 2>/dev/null || echo 100)
-    SECONDS=0
-    sleep 2
-    while kill -0 "$1" 2>/dev/null; do
-        printf '\033[K%d s, %s\r' "$SECONDS" "$(used_by "$1")" >&2
-        sleep 1
+# stop_all: nothing that was started runs on, and no file is left.
+stop_all() {
+    local process
+    for process in $running $watcher $timer; do
+        kill -KILL "$process"
     done
+    # shellcheck disable=SC2086 # numbers, or nothing
+    wait $running $watcher $timer
+    running='' watcher='' timer=''
+    [ -z "$leftover" ] || rm -f -- "$leftover"
+    [ -z "$room" ] || rm -rf -- "$room"
+} 2>/dev/null
+
+# start_program WORD..: starts the program in the background, with this process's standard input, within the memory that was
+# asked for. Where the system can do that, it ends with this process, whatever ends that.
+start_program() {
+    local tie=()
+    [ "$tied" != yes ] || tie=(setpriv --pdeathsig KILL)
+    if [ -n "$memory" ]; then
+        (ulimit -v $((memory * 1024)) && exec "${tie[@]}" "$program" "$@") <&0 &
+    else
+        "${tie[@]}" "$program" "$@" <&0 &
+    fi
+    running=$!
 }
 
-# run_program PROGRAM WORD..: ends with the program's own status. Where standard error is a terminal it shows there what the
-# run uses, and after status 7 the words that are taken.
+# run_program WORD..: sets status to that of the program. Where standard error is a terminal it shows there what the run uses.
 run_program() {
-    [ -t 2 ] || exec "$@"
-    local status
-    "$@" <&0 &
-    local running=$!
-    trap 'kill -INT "$running" 2>/dev/null' INT
-    trap 'kill "$running" 2>/dev/null' TERM HUP
-    show_use "$running" </dev/null >/dev/null &
-    local watcher=$!
-    wait "$running"
-    status=$?
-    while kill -0 "$running" 2>/dev/null; do
+    trap end_by_signal INT QUIT TERM HUP
+    start_program "$@"
+    if [ -t 2 ]; then
+        use nap uses
+        show_use "$running" </dev/null >/dev/null &
+        watcher=$!
+    fi
+    wait_for_program
+    if [ -n "$watcher" ]; then
+        { kill -KILL "$watcher"; wait "$watcher"; } 2>/dev/null
+        watcher=''
+        printf '\033[K' >&2
+    fi
+}
+
+# wait_for_program: sets status. The signal of the timer interrupts the first wait, and is no end.
+wait_for_program() {
+    local before
+    while :; do
+        before=$late
         wait "$running"
         status=$?
-    done
-    kill "$watcher" 2>/dev/null
-    wait "$watcher" 2>/dev/null
-    printf '\033[K' >&2
-    if [ "$status" = 7 ]; then
-        tell_nearest "${@:2}"
-        tell_words >&2
-    fi
-    exit "$status"
+        [ "$before" = "$late" ] && break
+    done 2>/dev/null
+    running=''
 }

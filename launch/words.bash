@@ -1,49 +1,76 @@
-# The words that the planner takes, for those who ask and for those who miss one. To be read by scripts that have set root.
-
-commands='plan plan-all batch check ground order gen prove verify'
-options='--alg --width --quota --percent --growth --start --max-horizon --budget --slice --workers --show --turns'
+# shellcheck shell=bash disable=SC2034,SC2154 # the parts set variables for one another
+# The words that are taken, for those who ask and for those who miss one; all of it stands in launch/help: in NAME.txt a command's
+# synopsis, its summary, and what is to be said of it, with rows for options of its own and a line with the names of those that stand
+# in options.txt. To be read by scripts that have set root, after commands.bash.
 
 # options_of COMMAND: the options that it takes; all that there are where it is no command.
 options_of() {
-    local race=${options%% --workers*}
-    case $1 in
-    plan | plan-all) echo "$race --workers" ;;
-    batch) echo "$race --turns" ;;
-    gen) echo "$race --workers --show" ;;
-    prove) echo --budget ;;
-    check | ground | order | verify) ;;
-    *) echo "$options" ;;
-    esac
+    local line taken=''
+    if [ ! -f "$root/launch/help/$1.txt" ]; then
+        cut -d ' ' -f 1 "$root/launch/help/options.txt" | paste -sd ' '
+        return
+    fi
+    while read -r line; do
+        case $line in
+        'Options: '*) taken+=" ${line#Options: }" ;;
+        --*) taken+=" ${line%% *}" ;;
+        esac
+    done <"$root/launch/help/$1.txt"
+    echo "${taken# }"
 }
 
+# tell_options NAME..: rows of options, as a table.
+tell_options() {
+    awk -F '  +' -v names=" $* " '
+        index(names, " " $1 " ") {
+            printf "  %-13s %-20s %-9s %s\n", $1, $2, $3 == "-" ? "" : "(" $3 ")", $5
+        }' "$root/launch/help/options.txt"
+}
+
+# tell_help COMMAND CALLED: the help of a command, with what stands before its name where it is called.
+tell_help() {
+    local names
+    awk -F '  +' -v called="$2" '
+        NR == 1 { gsub(/ [|] /, "&" called); print "usage: " called $0; next }
+        /^Options: / { next }
+        /^--/ { printf "  %-13s %-20s %-17s %s\n", $1, $2, $3 == "-" ? "" : "(" $3 ")", $5; next }
+        { print }' "$root/launch/help/$1.txt"
+    names=$(sed -n 's/^Options: //p' "$root/launch/help/$1.txt")
+    if [ -n "$names" ]; then
+        echo 'Options, with what may stand for each and its default'
+        # shellcheck disable=SC2086 # names are words
+        tell_options $names
+    fi
+}
+
+# tell_words: all commands, options and statuses.
 tell_words() {
-    cat <<'END'
-./dokyreva COMMAND WORD..
-  plan DOMAIN PROBLEM [OPTION..]       a plan, or that there is none up to a horizon
-  plan-all DOMAIN PROBLEM [OPTION..]   the same with steps whose actions may be executed in every order
-  batch DOMAIN PROBLEM.. [OPTION..]    what plan prints, for each of 1 to 16 problems of a domain
-  check DOMAIN PROBLEM PLAN            what the calls of a plan file come to
-  prove DOMAIN PROBLEM HORIZON [--budget K]   a certificate that there is no plan of so many steps (0 to 255)
-  verify DOMAIN PROBLEM CERTIFICATE    whether such a certificate is right
-  ground DOMAIN PROBLEM                the facts and the actions of a problem
-  order DOMAIN PROBLEM                 the actions in the order in which a step executes them
-  gen KIND NUMBER [OPTION..] [--show none|domain|problem (none)]   KIND corridor or gripper, NUMBER 1 to 64
-Options, with what may stand for each and its default
-  --alg a|b|c (a)           --max-horizon 0 to 255 (64)      --budget 0 to 1000000 (100000) conflicts
-  --width 1 to 16 (4) live horizons                          --quota 1 to 10000 (50) conflicts a round
-  --percent 1 to 99 (50) with b: of the quota before it      --growth 101 to 400 (150) percent with c
-  --start 0 to 255 (0) with c: the first horizon             --slice 1 to 10000 (10) conflicts a turn
-  --workers 1 to 16 (4), not of batch                        --turns forward|backward (forward), of batch alone
-Statuses: 0 a plan, or the answer is yes; 1 there is none, or no; 2 the budget is spent; 3 an input is refused; 4 a limit;
-5 a file was not read; 6 the report was not written; 7 other words; 8 want of memory; 9 no words; 70 no program to run.
-Of batch the greatest of the statuses that plan has on each problem.
-END
+    local name
+    echo "$called COMMAND WORD..; $called COMMAND --help tells more of one"
+    for name in $commands; do
+        { IFS= read -r synopsis && IFS= read -r summary; } <"$root/launch/help/$name.txt"
+        printf '  %-45s %s\n' "$synopsis" "$summary"
+    done
+    echo "Options, with what may stand for each and its default"
+    # shellcheck disable=SC2046 # names are words
+    tell_options $(options_of '')
+    echo "Statuses"
+    awk -F '  +' '{ printf "  %-4s %s\n", $1, $2 }' "$root/launch/help/statuses.txt"
 }
 
 # tell_version: what stands here, with the toolchain that it was proved with.
 tell_version() {
-    printf 'dokyreva, sources %s\n' "$(sources_sum)"
-    [ ! -f "$root/release/TOOLCHAIN" ] || printf 'the release was proved with %s\n' "$(cat -- "$root/release/TOOLCHAIN")"
+    local number='' described=''
+    [ ! -r "$root/VERSION" ] || read -r number <"$root/VERSION"
+    [ ! -e "$root/.git" ] || described=$(git -C "$root" describe --always --dirty 2>/dev/null)
+    echo "dokyreva${number:+ $number}${described:+ ($described)}"
+    if [ -d "$root/crates" ]; then
+        look_through
+        echo "sources $sources"
+    elif [ -r "$root/release/SOURCES" ]; then
+        echo "sources $(<"$root/release/SOURCES")"
+    fi
+    [ ! -r "$root/release/TOOLCHAIN" ] || echo "the release was proved with $(<"$root/release/TOOLCHAIN")"
 }
 
 # nearest WORD LIST..: the first of the list that is nearest to the word by single letters put in, left out or exchanged,
@@ -73,16 +100,24 @@ nearest() {
         }'
 }
 
+# tell_refused WORD..: for words that are not taken, what was perhaps meant, and which commands there are. Where standard error is a
+# terminal, the help of the command too.
+tell_refused() {
+    tell_nearest "$@"
+    say "these words are not taken. Commands: ${commands// /, }, help; $called COMMAND --help tells the words of one"
+    if [ -t 2 ]; then
+        if is_command "${1-}"; then tell_help "$1" "$called " >&2; else tell_words >&2; fi
+    fi
+}
+
 # tell_nearest WORD..: for words that were not taken, the command and the options that were perhaps meant.
 tell_nearest() {
     local word meant
-    case " $commands " in
-    *" ${1-} "*) ;;
-    *)
+    if ! is_command "${1-}"; then
+        # shellcheck disable=SC2086 # commands are words
         meant=$(nearest "${1-}" $commands)
         [ -z "$meant" ] || say "there is no command $1: is it $meant?"
-        ;;
-    esac
+    fi
     for word in "${@:2}"; do
         case $word in
         --?*) tell_option "${1-}" "${word%%=*}" ;;
@@ -94,10 +129,11 @@ tell_nearest() {
 tell_option() {
     local taken meant
     taken=$(options_of "$1")
-    case " $taken | $options " in
+    case " $taken | $(options_of '') " in
     *" $2 "*"|"*) ;;
     *"|"*" $2 "*) say "$1 takes no option $2" ;;
     *)
+        # shellcheck disable=SC2086 # options are words
         meant=$(nearest "$2" $taken)
         [ -z "$meant" ] || say "there is no option $2: is it $meant?"
         ;;

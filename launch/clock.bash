@@ -1,0 +1,130 @@
+# shellcheck shell=bash disable=SC2034,SC2154 # the parts set variables for one another
+# Runs that are bounded by the clock, and reports that are kept before they are shown. To be read after watch.bash.
+
+# start_timer SECONDS: after so many seconds late is set and the program is ended.
+start_timer() {
+    use nap
+    trap 'late=yes; [ -z "$running" ] || kill -KILL "$running" 2>/dev/null' ALRM
+    (
+        trap - INT QUIT TERM HUP ALRM
+        nap "$1"
+        kill -ALRM $$
+    ) </dev/null >/dev/null 2>&1 &
+    timer=$!
+}
+
+# split_budget WORD..: sets budget to the words' own one, or to nothing, and rest to the words without it.
+split_budget() {
+    budget='' rest=()
+    while [ $# -gt 0 ]; do
+        case $1 in
+        --) break ;;
+        --budget) budget=${2-} && shift ;;
+        --budget=*) budget=${1#*=} ;;
+        *) rest+=("$1") ;;
+        esac
+        [ $# = 0 ] || shift
+    done
+    rest+=("$@")
+}
+
+# budgets_to LAST: sets steps to the growing budgets of which the last one is LAST.
+budgets_to() {
+    local next
+    steps=()
+    for next in 250 1000 4000 16000 64000 256000; do
+        [ "$next" -ge "$1" ] || steps+=("$next")
+    done
+    steps+=("$1")
+}
+
+# run_by_clock WORD..: asks for growing budgets, so that what a shorter search has found is not lost: the report of a greater
+# budget is the same as far as the shorter one went. Shows the last report that ended. Sets status, 124 where time was short.
+run_by_clock() {
+    local budget rest steps next ended='' last=0
+    open_room || return
+    start_timer "$seconds"
+    split_budget "$@"
+    if [[ " $(options_of "$1") " != *' --budget '* ]]; then
+        steps=('')
+    elif [[ ${budget:=1000000} =~ ^[0-9]{1,7}$ ]]; then
+        budgets_to "$((10#$budget))"
+    else
+        steps=("$budget")
+    fi
+    for next in "${steps[@]}"; do
+        run_program "${rest[0]}" ${next:+"--budget=$next"} "${rest[@]:1}" >"$room/next"
+        [ "$late" = no ] || break
+        mv -f -- "$room/next" "$room/report"
+        ended=$next last=$status
+        [ "$status" = 2 ] || break
+    done
+    end_timer
+    tell_clock "$ended"
+    [ -f "$room/report" ] || return
+    [ "$late" = yes ] || status=$last
+    show_report
+}
+
+# tell_clock BUDGET: what the report stands for that is shown. Sets status where time was short.
+tell_clock() {
+    if [ "$late" = yes ]; then
+        status=124
+        if [ -f "$room/report" ]; then
+            say "$seconds seconds are over: this is the report of a search with --budget $1, the greatest that ended"
+        else
+            say "$seconds seconds are over, and no search has ended by then"
+        fi
+    elif [ -n "$1" ] && [ "$status" -le 2 ]; then
+        say "this is the report of a search with --budget $1"
+    fi
+}
+
+end_timer() {
+    { kill -KILL "$timer"; wait "$timer"; } 2>/dev/null
+    timer=''
+    trap - ALRM
+}
+
+# open_room: a folder for reports that are not shown yet.
+open_room() {
+    [ -z "$room" ] || return 0
+    room=$(mktemp -d) && return
+    say "there is no folder for a report: $TMPDIR cannot be written"
+    status=6
+    return 1
+}
+
+# show_report: what the program wrote, on standard output. Where it cannot be written there status is 6.
+show_report() {
+    cat -- "$room/report" 2>/dev/null || status=6
+}
+
+# run_kept WORD..: runs the program, and shows its report, which stays in the room.
+run_kept() {
+    open_room || return
+    run_program "$@" >"$room/report"
+    show_report
+}
+
+# begin_plan_file: no plan of an earlier run is left, and a new one can be written there.
+begin_plan_file() {
+    leftover=$plan_file.$$
+    if [ ! -d "$plan_file" ] && rm -f -- "$plan_file" && : >"$leftover"; then
+        return
+    fi 2>/dev/null
+    say "the plan cannot be written to $plan_file"
+    exit 6
+}
+
+# end_plan_file: after status 0 the calls of the report, whole, else nothing.
+end_plan_file() {
+    if [ "$status" = 0 ]; then
+        if ! { grep '^(' "$room/report" || [ $? = 1 ]; } >"$leftover" 2>/dev/null || ! mv -f -- "$leftover" "$plan_file"; then
+            say "the plan could not be written to $plan_file"
+            status=6
+        fi
+    fi
+    rm -f -- "$leftover"
+    leftover=''
+}

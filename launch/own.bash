@@ -1,0 +1,63 @@
+# shellcheck shell=bash disable=SC2034,SC2154 # the parts set variables for one another
+# The options of the launcher itself, which the program does not take. To be read after words.bash.
+
+# take_own WORD..: sets words to those that are for the program, and memory, seconds and plan_file. Ends with 7 where one of its own
+# is not as it has to be.
+take_own() {
+    words=() memory='' seconds='' plan_file=''
+    while [ $# -gt 0 ]; do
+        case $1 in
+        --) break ;;
+        --memory | --seconds | --plan-file)
+            [ $# -ge 2 ] || refuse_own "$1 has no value"
+            set_own "$1" "$2"
+            shift
+            ;;
+        --memory=* | --seconds=* | --plan-file=*) set_own "${1%%=*}" "${1#*=}" ;;
+        *) words+=("$1") ;;
+        esac
+        shift
+    done
+    words+=("$@")
+    check_own "${words[0]-}"
+}
+
+set_own() {
+    case $1 in
+    --memory)
+        [ -z "$memory" ] && is_count "$2" 16 100000000 || refuse_own "--memory takes megabytes once, 16 to 100000000"
+        memory=$2
+        ;;
+    --seconds)
+        [ -z "$seconds" ] && is_count "$2" 1 10000000 || refuse_own "--seconds takes seconds once, 1 to 10000000"
+        seconds=$2
+        ;;
+    --plan-file)
+        [ -z "$plan_file" ] && [ -n "$2" ] || refuse_own "--plan-file takes the name of a file once"
+        plan_file=$2
+        [ ! -e "$2" ] || { [ -f "$2" ] && [[ $2 != /dev/* && $2 != /proc/* ]]; } || refuse_own "$2 is no file"
+        [ ! -L "$plan_file" ] || plan_file=$(readlink -f -- "$plan_file") || refuse_own "$2 is no file"
+        ;;
+    esac
+}
+
+# is_count WORD LEAST MOST
+is_count() {
+    [[ $1 =~ ^[1-9][0-9]{0,8}$ ]] && [ "$1" -ge "$2" ] && [ "$1" -le "$3" ]
+}
+
+refuse_own() {
+    say "$*"
+    exit 7
+}
+
+# check_own COMMAND: it takes those of the launcher's own options that stand among the words.
+check_own() {
+    local taken
+    [ -n "$memory$seconds$plan_file" ] && is_command "$1" || return 0
+    use words
+    taken=" $(options_of "$1") "
+    [[ -z $memory || $taken == *' --memory '* ]] || refuse_own "$1 takes no option --memory"
+    [[ -z $seconds || $taken == *' --seconds '* ]] || refuse_own "$1 takes no option --seconds"
+    [[ -z $plan_file || $taken == *' --plan-file '* ]] || refuse_own "$1 takes no option --plan-file"
+}
