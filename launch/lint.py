@@ -158,8 +158,10 @@ def main(words):
         return 0 if is_quiet else 70
     if ground.status not in (0, 4) or ground.text.startswith("; limit file "):
         of_refused(ground, words[1])
-        print(end="" if is_quiet else ground.text)
-        return 0 if is_quiet else ground.status
+        if is_quiet:
+            return 0
+        ground.tell()
+        return ground.status
     lines = warnings(Task(*map(File, words)), ground)
     for line in lines:
         print(line)

@@ -8,8 +8,12 @@ import os
 import pathlib
 import re
 import subprocess
+import sys
 import typing
 
+from view.tell import KINDS
+
+REFUSED = re.compile(r"; refused (\w+) (domain|problem) (\d+)\n")
 TOKEN = re.compile(r";[^\n]*|[()]|[!-'*-:<-~]+")
 
 
@@ -211,6 +215,7 @@ class Ground:
         ran = subprocess.run(words, capture_output=True, text=True, check=False)
         self.text, self.status = ran.stdout, ran.returncode
         self.is_known = self.status == 0
+        self.paths = {"domain": domain, "problem": problem}
         self.facts, self.calls = set(), []
         has_calls = False
         for line in self.text.splitlines():
@@ -220,3 +225,12 @@ class Ground:
                 self.calls.append(call.split(" "))
             elif call:
                 self.facts.add(f"({call})")
+
+    def tell(self, paths=None):
+        """Prints what the planner printed and, of a refusal, the place on standard error, in a file at one of these paths."""
+        print(self.text, end="", flush=True)
+        found = REFUSED.fullmatch(self.text)
+        if found:
+            path = (paths or self.paths)[found[2]]
+            line, column = place(pathlib.Path(path).read_bytes().decode("latin-1"), int(found[3]))
+            print(f"{path}:{line}:{column}: {found[1]}: {KINDS[found[1]]}", file=sys.stderr)
