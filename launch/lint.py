@@ -17,52 +17,7 @@ long; 7 the words are not taken; 70 the planner does not run. With --quiet only 
 import sys
 
 sys.dont_write_bytecode = True
-from pddl import File, Ground, Kinds, NoTree, keys, listed, typed
-
-
-class Action:
-    """An action: its name, the types of its parameters, its conditions and its effects, as literals with their scopes."""
-
-    def __init__(self, section):
-        parts = keys(section)
-        self.name = section.items[1]
-        self.parameters = typed(parts[":parameters"].items) if ":parameters" in parts else []
-        scope = {it.word: kind for it, kind in self.parameters}
-        self.conditions = list(literals(parts.get(":precondition"), scope))
-        self.before = list(self.conditions)
-        self.adds, self.deletes = [], []
-        self.read_effect(parts.get(":effect"), scope)
-
-    def read_effect(self, tree, scope):
-        """Takes in an effect and the conditions in it."""
-        if tree is None or not tree.items:
-            return
-        if tree.head() == "and":
-            for item in tree.items[1:]:
-                self.read_effect(item, scope)
-        elif tree.head() == "forall":
-            inner = {it.word: kind for it, kind in typed(tree.items[1].items)}
-            self.read_effect(tree.items[2], {**scope, **inner})
-        elif tree.head() == "when":
-            self.conditions += literals(tree.items[1], scope)
-            self.read_effect(tree.items[2], scope)
-        elif tree.head() == "not":
-            self.deletes.append((tree.items[1], False, scope))
-        else:
-            self.adds.append((tree, True, scope))
-
-
-def literals(tree, scope):
-    """The literals of a condition: the atom or `=`, whether it is wanted, and the types of the variables there."""
-    if tree is None or not tree.items:
-        return
-    if tree.head() == "and":
-        for item in tree.items[1:]:
-            yield from literals(item, scope)
-    elif tree.head() == "not":
-        yield tree.items[1], False, scope
-    else:
-        yield tree, True, scope
+from pddl import Action, File, Ground, Kinds, Literal, NoTree, listed, literals, typed
 
 
 class Task(Kinds):
@@ -101,10 +56,10 @@ def of_names(task):
 
 def of_types(task):
     """Warnings of atoms whose terms do not fit what their predicate declares."""
-    outside = [(it, True, {}) for it in task.init] + task.goal
+    outside = [Literal(it, True, {}) for it in task.init] + task.goal
     inside = [it for action in task.actions for it in action.conditions + action.adds + action.deletes]
     for file, uses in ((task.problem, outside), (task.domain, inside)):
-        for atom, _, scope in uses:
+        for atom, _, scope, _ in uses:
             if atom.head() == "=":
                 continue
             kinds = task.predicates[atom.head()][1]
@@ -121,7 +76,7 @@ def of_goal(task, ground):
     if not task.goal:
         yield task.problem, task.goals[0].at, "the :goal is empty: every state is one"
     first = {it.text() for it in task.init}
-    for atom, wanted, _ in task.goal:
+    for atom, wanted, *_ in task.goal:
         if atom.head() == "=":
             if (atom.items[1].word == atom.items[2].word) != wanted:
                 yield task.problem, atom.at, f"the goal {atom.text()} is never as it is wanted"
@@ -130,7 +85,7 @@ def of_goal(task, ground):
             continue
         does = [it for action in task.actions for it in (action.adds if wanted else action.deletes)]
         word = "adds" if wanted else "deletes"
-        if not any(it[0].head() == atom.head() for it in does):
+        if not any(it.atom.head() == atom.head() for it in does):
             yield task.problem, atom.at, f"no action {word} {atom.text()}: the goal is never reached"
         elif ground.is_known and atom.text() not in ground.facts:
             yield task.problem, atom.at, f"no action that can be executed {word} {atom.text()}: the goal is never reached"
@@ -138,7 +93,7 @@ def of_goal(task, ground):
 
 def held(task):
     """The predicates that are true of something at first or by an action."""
-    return {it.head() for it in task.init} | {it[0].head() for action in task.actions for it in action.adds}
+    return {it.head() for it in task.init} | {it.atom.head() for action in task.actions for it in action.adds}
 
 
 def why_never(task, action):
@@ -147,7 +102,7 @@ def why_never(task, action):
     for it, kind in action.parameters:
         if not task.fitting(kind):
             return f"there is no object of the type {kind} for {it.word}"
-    for atom, wanted, _ in action.before:
+    for atom, wanted, *_ in action.before:
         if wanted and atom.head() not in true and atom.head() != "=":
             return f"nothing makes {atom.text()} true"
     return None
@@ -161,11 +116,11 @@ def of_actions(task, ground):
         if why or (ground.is_known and action.name.word not in executed):
             because = f": {why}" if why else ""
             yield task.domain, action.name.at, f"the action {action.name.word} can never be executed in this problem{because}"
-    asked = {it[0].head() for action in task.actions for it in action.conditions if it[1]}
-    used = {it[0].head() for action in task.actions for it in action.conditions + action.adds + action.deletes}
+    asked = {it.atom.head() for action in task.actions for it in action.conditions if it.wanted}
+    used = {it.atom.head() for action in task.actions for it in action.conditions + action.adds + action.deletes}
     true = held(task)
     for name, (at, _) in task.predicates.items():
-        if name not in used and name not in {it[0].head() for it in task.goal}:
+        if name not in used and name not in {it.atom.head() for it in task.goal}:
             yield task.domain, at.at, f"the predicate {name} stands in no action and not in the goal"
         elif name in asked and name not in true:
             why = "it is not in :init, and no action adds it"
@@ -203,8 +158,10 @@ def main(words):
         return 0 if is_quiet else 70
     if ground.status not in (0, 4) or ground.text.startswith("; limit file "):
         of_refused(ground, words[1])
-        print(end="" if is_quiet else ground.text)
-        return 0 if is_quiet else ground.status
+        if is_quiet:
+            return 0
+        ground.tell()
+        return ground.status
     lines = warnings(Task(*map(File, words)), ground)
     for line in lines:
         print(line)

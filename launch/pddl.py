@@ -3,11 +3,17 @@
 A byte is one letter here (Latin-1), so that an offset in the text is one in the file. Words are in small letters, as the
 planner reads them.
 """
+import collections
 import os
 import pathlib
 import re
 import subprocess
+import sys
+import typing
 
+from view.tell import KINDS
+
+REFUSED = re.compile(r"; refused (\w+) (domain|problem) (\d+)\n")
 TOKEN = re.compile(r";[^\n]*|[()]|[!-'*-:<-~]+")
 
 
@@ -41,6 +47,11 @@ class Tree:
         return self.word if self.word is not None else "(" + " ".join(it.text() for it in self.items) + ")"
 
 
+def place(text, at):
+    """The line and the column of an offset, both from 1."""
+    return text.count("\n", 0, at) + 1, at - text.rfind("\n", 0, at)
+
+
 class File:
     """A file of PDDL: its path, its text and its tree."""
 
@@ -50,9 +61,9 @@ class File:
         self.tree = read_tree(self.text)
 
     def place(self, at):
-        """`path:line:column` of an offset, both from 1."""
-        line = self.text.count("\n", 0, at) + 1
-        return f"{self.path}:{line}:{at - (self.text.rfind(chr(10), 0, at) + 1) + 1}"
+        """`path:line:column` of an offset."""
+        line, column = place(self.text, at)
+        return f"{self.path}:{line}:{column}"
 
     def sections(self, head):
         """The sections with this head."""
@@ -106,6 +117,64 @@ def keys(action):
     return {action.items[at].word: action.items[at + 1] for at in range(2, len(action.items) - 1, 2)}
 
 
+class Literal(typing.NamedTuple):
+    """An atom or `=`, whether it is wanted or added, the types of the variables there, and the `when` over an effect."""
+
+    atom: Tree
+    wanted: bool
+    scope: typing.Mapping
+    under: typing.Sequence = ()
+
+
+class Action:
+    """An action: its name, the types of its parameters, its conditions and its effects.
+
+    Conditions and effects are literals with their scopes, which are the variables with their types: the last map of a scope
+    has the parameters, and those before it the variables of each `forall`, the innermost first."""
+
+    def __init__(self, section):
+        parts = keys(section)
+        self.name = section.items[1]
+        self.parameters = typed(parts[":parameters"].items) if ":parameters" in parts else []
+        scope = collections.ChainMap({it.word: kind for it, kind in self.parameters})
+        self.conditions = list(literals(parts.get(":precondition"), scope))
+        self.before = list(self.conditions)
+        self.adds, self.deletes = [], []
+        self.read_effect(parts.get(":effect"), scope)
+
+    def read_effect(self, tree, scope, under=()):
+        """Takes in an effect and the conditions in it."""
+        if tree is None or not tree.items:
+            return
+        if tree.head() == "and":
+            for item in tree.items[1:]:
+                self.read_effect(item, scope, under)
+        elif tree.head() == "forall":
+            inner = {it.word: kind for it, kind in typed(tree.items[1].items)}
+            self.read_effect(tree.items[2], scope.new_child(inner), under)
+        elif tree.head() == "when":
+            under = list(literals(tree.items[1], scope))
+            self.conditions += under
+            self.read_effect(tree.items[2], scope, under)
+        elif tree.head() == "not":
+            self.deletes.append(Literal(tree.items[1], False, scope, under))
+        else:
+            self.adds.append(Literal(tree, True, scope, under))
+
+
+def literals(tree, scope):
+    """The literals of a condition."""
+    if tree is None or not tree.items:
+        return
+    if tree.head() == "and":
+        for item in tree.items[1:]:
+            yield from literals(item, scope)
+    elif tree.head() == "not":
+        yield Literal(tree.items[1], False, scope)
+    else:
+        yield Literal(tree, True, scope)
+
+
 def pair_of(pair):
     """A word of a typed list and its type, as texts."""
     return pair[0].word, pair[1]
@@ -146,6 +215,7 @@ class Ground:
         ran = subprocess.run(words, capture_output=True, text=True, check=False)
         self.text, self.status = ran.stdout, ran.returncode
         self.is_known = self.status == 0
+        self.paths = {"domain": domain, "problem": problem}
         self.facts, self.calls = set(), []
         has_calls = False
         for line in self.text.splitlines():
@@ -155,3 +225,12 @@ class Ground:
                 self.calls.append(call.split(" "))
             elif call:
                 self.facts.add(f"({call})")
+
+    def tell(self, paths=None):
+        """Prints what the planner printed and, of a refusal, the place on standard error, in a file at one of these paths."""
+        print(self.text, end="", flush=True)
+        found = REFUSED.fullmatch(self.text)
+        if found:
+            path = (paths or self.paths)[found[2]]
+            line, column = place(pathlib.Path(path).read_bytes().decode("latin-1"), int(found[3]))
+            print(f"{path}:{line}:{column}: {found[1]}: {KINDS[found[1]]}", file=sys.stderr)

@@ -241,7 +241,7 @@ def main(words):
         except (NoTree, FileNotFoundError, PermissionError, IsADirectoryError):
             costs, ground = None, Ground(*words[:2])
         if costs is None or ground.status not in (0, 4):
-            print(end=ground.text)
+            ground.tell(dict(zip(("domain", "problem"), words)))
             return ground.status
     except OtherForm as why:
         print(why, file=sys.stderr)
