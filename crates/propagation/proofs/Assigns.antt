@@ -12,7 +12,7 @@ use Rattle.propagation.specs.Pending.{is_free, has_two_free, is_pending_on}
 use Rattle.cdcl_rules.specs.Pending.{is_pending}
 use Rattle.cdcl_rules.specs.State.{clause_at}
 use Rattle.propagation.specs.Visit.{no_watches, place_in, place_of, literal_at, AreTwoPlaces, IsReal, IsNodeKept, MovesToFree, Grows, AllSettled}
-use Rattle.propagation.specs.Sound.{AreFree, IsFront}
+use Rattle.propagation.specs.Sound.{AreFree}
 use Rattle.propagation.proofs.Filters.{count_two, count_weaker, any_weaker, two_of, tests_two, pending_at}
 
 -- what a test tells, over plain variables
@@ -250,23 +250,23 @@ pub whole_free : (cl : List (List ℕ)) (wa : List Watched) (kept : List Bool) (
 whole_free cl wa kept trail free = subst (λ (ys : List ℕ). AreFree cl wa kept ys) (take_all (length trail) trail (omega arith)) (free (length trail) (omega arith))
 
 -- where the set has no least number nothing is pending
-pub none_pending : (p s : ℕ → Bool) → IsFront p s → IsLeast s None → (k : ℕ) → p k ≡ false
-none_pending p s f none k = by (p k) refl
+none_pending : (p s : ℕ → Bool) → ((k : ℕ) → p k ≡ true → s k ≡ true) → IsLeast s None → (k : ℕ) → p k ≡ false
+none_pending p s complete none k = by (p k) refl
   where
     by : (b : Bool) → p k ≡ b → b ≡ false
-    by true e = let z : true ≡ false = sym (f.complete k e) ∙ none k in cc
+    by true e = let z : true ≡ false = sym (complete k e) ∙ none k in cc
     by false e = refl
 
 -- the quiet lengths of a longer trail
-pub assign_quiets : (cl : List (List ℕ)) (kept : List Bool) (trail : List ℕ) (x : ℕ) (quiet : List Bool) (len : ℕ) (o : Option ℕ) (b : Bool) (s : ℕ → Bool) → len ≡ length trail → len < length quiet → IsLeast s o → is_some o ≡ not b → IsFront (is_pending_on cl kept trail) s → ((n : ℕ) → n < length trail → get_or quiet n false ≡ true → (k : ℕ) → is_pending_on cl kept (take n trail) k ≡ false) → (n : ℕ) → n < length (trail ++ x ∷ []) → get_or (set quiet len b) n false ≡ true → (k : ℕ) → is_pending_on cl kept (take n (trail ++ x ∷ [])) k ≡ false
-assign_quiets cl kept trail x quiet len o b s e inside least is front old n h q k = by (n == len) refl
+pub assign_quiets : (cl : List (List ℕ)) (kept : List Bool) (trail : List ℕ) (x : ℕ) (quiet : List Bool) (len : ℕ) (o : Option ℕ) (b : Bool) (s : ℕ → Bool) → len ≡ length trail → len < length quiet → IsLeast s o → is_some o ≡ not b → ((k : ℕ) → is_pending_on cl kept trail k ≡ true → s k ≡ true) → ((n : ℕ) → n < length trail → get_or quiet n false ≡ true → (k : ℕ) → is_pending_on cl kept (take n trail) k ≡ false) → (n : ℕ) → n < length (trail ++ x ∷ []) → get_or (set quiet len b) n false ≡ true → (k : ℕ) → is_pending_on cl kept (take n (trail ++ x ∷ [])) k ≡ false
+assign_quiets cl kept trail x quiet len o b s e inside least is complete old n h q k = by (n == len) refl
   where
     by : (p : Bool) → (n == len) ≡ p → is_pending_on cl kept (take n (trail ++ x ∷ [])) k ≡ false
     by true f =
         let g : n ≡ len = equal_of n len f in
         let v : b ≡ true = sym (ap (λ (m : ℕ). get_or (set quiet len b) m false) g ∙ get_or-set_same quiet len b false inside) ∙ q in
         let t : take n (trail ++ x ∷ []) ≡ trail = take-append-le n trail (x ∷ []) (omega (arith, g, e)) ∙ take_all n trail (omega (arith, g, e)) in
-        ap (λ (ys : List ℕ). is_pending_on cl kept ys k) t ∙ none_pending (is_pending_on cl kept trail) s front (at o least (ap (λ (z : Bool). not z) is ∙ ap (λ (z : Bool). not (not z)) v)) k
+        ap (λ (ys : List ℕ). is_pending_on cl kept ys k) t ∙ none_pending (is_pending_on cl kept trail) s complete (at o least (ap (λ (z : Bool). not z) is ∙ ap (λ (z : Bool). not (not z)) v)) k
       where
         at : (u : Option ℕ) → IsLeast s u → not (is_some u) ≡ true → IsLeast s None
         at None l z = l

@@ -1,20 +1,22 @@
 -- What a new clause brings: its nodes on their chains, its watched literals right in each prefix of the trail, and the prefixes
 -- in which it is not pending.
-use Rattle.std.proofs.Common.{arith, ◌≡◌, ◌==◌, ℕ, ◌+◌, ◌*◌, ◌/◌, ◌%◌, ◌<◌, ◌≤◌, List, [], ◌∷◌, ◌++◌, length, take, set, get_or, leb, Bool, true, false, refl, sym, ap, ◌∙◌, subst, Option, Some, None}
+use Rattle.std.proofs.Common.{arith, ◌≡◌, ◌==◌, ℕ, ◌+◌, ◌*◌, ◌/◌, ◌%◌, ◌<◌, ◌≤◌, List, [], ◌∷◌, ◌++◌, length, take, set, get_or, leb, Bool, true, false, refl, sym, ap, ◌∙◌, subst, Option, Some, None, ◌||◌, ◌⊎◌, inl, inr}
 use Rattle.std.proofs.lemmas.List.{take_all}
 use Rattle.std.proofs.lemmas.List.Elements.{All-get_or}
 use Rattle.clause_base.specs.Clause.{has_literal, IsClause, HasVariablesBelow}
-use Rattle.cdcl_rules.specs.Pending.{is_pending, is_pending_in, least_from}
-use Rattle.cdcl_rules.proofs.Pending.{first_is, none_is}
-use Rattle.number_bits.specs.Bits.{IsLeast}
+use Rattle.cdcl_rules.specs.Pending.{is_pending}
 use Rattle.watch_chains.specs.declared.chains.Node.{Node}
 use Rattle.watch_chains.specs.Linked.{IsLinked, ArePairLoose, blocking_of, placed}
+use Rattle.number_bits.specs.Bits.{words_have}
+use Rattle.propagation.specs.declared.pending.Pending.{Pending}
+use Rattle.propagation.specs.declared.enter.Entered.{Entered}
 use Rattle.propagation.specs.declared.visit.Watched.{Watched}
 use Rattle.propagation.specs.Pending.{is_free, has_two_free, is_pending_on}
 use Rattle.cdcl_rules.specs.State.{clause_at}
-use Rattle.propagation.specs.Visit.{literal_at, Grows, IsAtRest}
+use Rattle.propagation.specs.Visit.{literal_at, IsAtRest}
 use Rattle.propagation.specs.Sound.{AreFree}
-use Rattle.propagation.specs.Added.{Outlasts, RestsWith, FreeWith, IsQuietBelow}
+use Rattle.propagation.specs.Added.{Outlasts, IsQuietBelow, IsRaised}
+use Rattle.propagation.specs.Front.{IsComplete}
 use Rattle.propagation.proofs.Filters.{count_two, pending_at, pending_off}
 use Rattle.propagation.proofs.Assigns.{equal_of, apart_of, at_most_of, past_of, tests_at_most}
 use Rattle.propagation.proofs.Adds.{listed_add, literal_other, literal_own, own_free, free_add, rising_short, pending_other, pending_own, kept_in}
@@ -59,7 +61,7 @@ rests_at k trail wa w heads nodes heads' nodes' a b codes cl kept e lk r =
     (e.linked r.on r.linked (off_past cl wa heads nodes codes kept (2 * length cl) r (omega arith)) (off_past cl wa heads nodes codes kept (2 * length cl + 1) r (omega arith)))
     e.codes e.room e.first_note e.second_note e.others
 
-pub rests_long : (k : List ℕ) (number : ℕ) (trail : List ℕ) (wa : List Watched) (w : Watched) (heads : List ℕ) (nodes : List Node) (heads' : List ℕ) (nodes' : List Node) (a b codes : ℕ) → IsEntered k number trail wa w heads nodes heads' nodes' a b → RestsWith k number codes wa heads nodes (set wa number w) heads' nodes'
+pub rests_long : (k : List ℕ) (number : ℕ) (trail : List ℕ) (wa : List Watched) (w : Watched) (heads : List ℕ) (nodes : List Node) (heads' : List ℕ) (nodes' : List Node) (a b codes : ℕ) → IsEntered k number trail wa w heads nodes heads' nodes' a b → (cl : List (List ℕ)) (kept : List Bool) → length cl ≡ number → length kept ≡ number → IsAtRest cl wa heads nodes codes kept → IsAtRest (cl ++ k ∷ []) (set wa number w) heads' nodes' codes (kept ++ true ∷ [])
 rests_long k number trail wa w heads nodes heads' nodes' a b codes e cl kept lc lk r =
     subst (λ (n : ℕ). IsAtRest (cl ++ k ∷ []) (set wa n w) heads' nodes' codes (kept ++ true ∷ [])) lc
     (rests_at k trail wa w heads nodes heads' nodes' a b codes cl kept (subst (λ (n : ℕ). IsEntered k n trail wa w heads nodes heads' nodes' a b) (sym lc) e) (lk ∙ sym lc) r)
@@ -75,7 +77,7 @@ free_at k trail wa w heads nodes heads' nodes' a b cl kept n e lk h f =
         by true s o = ap (λ (l : ℕ). is_free (has_literal (take n trail)) l) (literal_own cl k wa w node true q s e.below) ∙ o.1
         by false s o = ap (λ (l : ℕ). is_free (has_literal (take n trail)) l) (literal_own cl k wa w node false q s e.below) ∙ o.0
 
-pub free_long : (k : List ℕ) (number : ℕ) (trail : List ℕ) (wa : List Watched) (w : Watched) (heads : List ℕ) (nodes : List Node) (heads' : List ℕ) (nodes' : List Node) (a b : ℕ) → IsEntered k number trail wa w heads nodes heads' nodes' a b → FreeWith k number trail wa (set wa number w)
+pub free_long : (k : List ℕ) (number : ℕ) (trail : List ℕ) (wa : List Watched) (w : Watched) (heads : List ℕ) (nodes : List Node) (heads' : List ℕ) (nodes' : List Node) (a b : ℕ) → IsEntered k number trail wa w heads nodes heads' nodes' a b → (cl : List (List ℕ)) (kept : List Bool) (n : ℕ) → length cl ≡ number → length kept ≡ number → n ≤ length trail → AreFree cl wa kept (take n trail) → AreFree (cl ++ k ∷ []) (set wa number w) (kept ++ true ∷ []) (take n trail)
 free_long k number trail wa w heads nodes heads' nodes' a b e cl kept n lc lk h f =
     subst (λ (m : ℕ). AreFree (cl ++ k ∷ []) (set wa m w) (kept ++ true ∷ []) (take n trail)) lc
     (free_at k trail wa w heads nodes heads' nodes' a b cl kept n (subst (λ (m : ℕ). IsEntered k m trail wa w heads nodes heads' nodes' a b) (sym lc) e) (lk ∙ sym lc) h f)
@@ -89,14 +91,6 @@ quiet_long k number trail wa w heads nodes heads' nodes' a b until e lasts n h l
     let first = e.most w.second e.second_in n h second in
     pending_off on k (count_two (is_free on) k w.second w.first e.second_in e.first_in e.apart second first)
 
--- a clause of two literals is not pending as long as both are not false
-pub quiet_pair : (k trail : List ℕ) (u v low : ℕ) → length k ≡ 2 → ((n : ℕ) → n ≤ length trail → is_free (has_literal (take n trail)) (get_or k 0 0) ≡ leb n u) → ((n : ℕ) → n ≤ length trail → is_free (has_literal (take n trail)) (get_or k 1 0) ≡ leb n v) → low ≤ u + 1 → low ≤ v + 1 → IsQuietBelow k trail low
-quiet_pair k trail u v low two first second hu hv n h l =
-    let on = has_literal (take n trail) in
-    pending_off on k
-    (count_two (is_free on) k 0 1 (omega (arith, two)) (omega (arith, two)) (λ (e : 0 ≡ 1). absurd (omega (arith, e)))
-    (first n h ∙ tests_at_most n u (omega (arith, l, hu))) (second n h ∙ tests_at_most n v (omega (arith, l, hv))))
-
 pub below_by : (v p : ℕ) (k : List ℕ) → HasVariablesBelow v k → p < length k → get_or k p 0 < 2 * v
 below_by v p k h l = let a = All-get_or (λ (x : ℕ). x / 2 < v) k p 0 l h in omega (arith, a)
 
@@ -105,22 +99,20 @@ short_by v [] s c h = omega arith
 short_by v (x ∷ xs) s c h = let r = rising_short x xs (2 * v) c.rising (λ p l. below_by v p (x ∷ xs) h l) in omega (arith, r, s)
 
 -- those that were pending are in the set, and so is the new clause where it is pending
-pub complete_add : (cl : List (List ℕ)) (k : List ℕ) (kept : List Bool) (trail : List ℕ) (number low : ℕ) (s s' : ℕ → Bool) → length kept ≡ length cl → number ≡ length cl → ((c : ℕ) → is_pending_on cl kept trail c ≡ true → s c ≡ true) → Grows s s' → IsQuietBelow k trail low → (low ≤ length trail → s' number ≡ true) → (c : ℕ) → is_pending_on (cl ++ k ∷ []) (kept ++ true ∷ []) trail c ≡ true → s' c ≡ true
-complete_add cl k kept trail number low s s' lk e old grows calm own c p = by (c == number) refl (leb low (length trail)) refl
+pub complete_add : (cl : List (List ℕ)) (k : List ℕ) (kept : List Bool) (trail : List ℕ) (number : ℕ) (entered : Entered) (old new : Pending) → length kept ≡ length cl → number ≡ length cl → IsComplete (is_pending_on cl kept trail) old → IsRaised trail number entered old new → IsQuietBelow k trail entered.low → IsComplete (is_pending_on (cl ++ k ∷ []) (kept ++ true ∷ []) trail) new
+complete_add cl k kept trail number entered old new lk e complete raised calm c p = by (c == number) refl raised
   where
-    by : (b : Bool) → (c == number) ≡ b → (r : Bool) → leb low (length trail) ≡ r → s' c ≡ true
-    by true f true g = ap s' (equal_of c number f) ∙ own (at_most_of low (length trail) g)
-    by true f false g =
-        let whole = subst (λ (xs : List ℕ). is_pending (has_literal xs) k ≡ false) (take_all (length trail) trail (omega arith)) (calm (length trail) (omega arith) (past_of low (length trail) g)) in
+    before : (c ≡ number → ⊥) → words_have old.numbers c ≡ true
+    before ne = complete c (sym (pending_other cl k kept trail c lk (λ (q : c ≡ length cl). ne (q ∙ sym e))) ∙ p)
+
+    by : (b : Bool) → (c == number) ≡ b → IsRaised trail number entered old new → words_have new.numbers c ≡ true
+    by b f (inl r) = r.1.has c ∙ put b f
+      where
+        put : (a : Bool) → (c == number) ≡ a → ((c == number) || words_have old.numbers c) ≡ true
+        put true g = ap (λ (x : Bool). x || words_have old.numbers c) g
+        put false g = ap (λ (x : Bool). x || words_have old.numbers c) g ∙ before (apart_of c number g)
+    by true f (inr r) =
+        let whole = subst (λ (xs : List ℕ). is_pending (has_literal xs) k ≡ false) (take_all (length trail) trail (omega arith)) (calm (length trail) (omega arith) r.0) in
         let z : true ≡ false = sym p ∙ pending_own cl k kept trail c (equal_of c number f ∙ e) whole in
         absurd (let w : ⊥ = cc in w)
-    by false f r g =
-        let ne : c ≡ length cl → ⊥ = (λ (q : c ≡ length cl). apart_of c number f (q ∙ sym e)) in
-        grows c (old c (sym (pending_other cl k kept trail c lk ne) ∙ p))
-
--- the first that is kept and pending is the least
-pub least_is : (cl : List (List ℕ)) (kept : List Bool) (trail : List ℕ) (o : Option ℕ) → length kept ≡ length cl → IsLeast (is_pending_on cl kept trail) o → o ≡ least_from (is_pending_in cl kept (has_literal trail)) 0 (length cl)
-least_is cl kept trail None m l = sym (none_is (is_pending_in cl kept (has_literal trail)) 0 (length cl) (λ r a b. l r))
-least_is cl kept trail (Some k) m l =
-    let high = kept_in kept k (is_pending (has_literal trail) (clause_at cl k)) (sym (pending_at cl kept trail k) ∙ l.0) in
-    sym (first_is (is_pending_in cl kept (has_literal trail)) 0 (length cl) k (record { passes = l.0; low = omega arith; high = omega (arith, high, m); first = λ j a b. l.1 j b }))
+    by false f (inr r) = ap (λ (q : Pending). words_have q.numbers c) r.1 ∙ before (apart_of c number f)

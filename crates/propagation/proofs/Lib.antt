@@ -11,12 +11,9 @@ pub mod Paired
 pub mod Slotted
 pub mod Sounds
 pub mod Founds
-pub mod UnitsTell
-pub mod Statuses
-pub mod Recents
-pub mod Lefts
-pub mod UnitsOfSlots
-pub mod Tabled
+pub mod Asks
+pub mod AsksKept
+pub mod Scans
+pub mod Fronts
 pub mod Givens
-pub mod Views
 pub mod Templates

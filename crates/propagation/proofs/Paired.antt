@@ -1,16 +1,16 @@
 -- Clauses of two literals by the lists of their literals.
-use Rattle.std.proofs.Common.{arith, ◌≡◌, ◌≢◌, ◌==◌, ℕ, ◌<◌, ◌≤◌, List, [], ◌∷◌, ◌++◌, length, set, get_or, leb, ltb, Bool, true, false, not, ◌||◌, if◌then◌else◌, refl, sym, ap, ◌∙◌, subst, ◌⊎◌, inl, inr}
+use Rattle.std.proofs.Common.{arith, ◌≡◌, ◌≢◌, ◌==◌, ℕ, zero, suc, ◌<◌, ◌≤◌, List, [], ◌∷◌, ◌++◌, length, set, get_or, leb, ltb, Bool, true, false, not, ◌||◌, if◌then◌else◌, refl, sym, ap, ◌∙◌, subst, ◌⊎◌, inl, inr}
 use Rattle.std.specs.List.{list_any, filter}
 use Rattle.std.proofs.lemmas.Bool.Decides.{nat_tests}
 use Rattle.std.proofs.lemmas.List.{get_or_push, get_or_append_left, length_push}
 use Rattle.clause_base.specs.Literal.{opposite}
 use Rattle.clause_base.specs.Clause.{has_literal}
-use Rattle.watch_chains.specs.declared.chains.Node.{Node}
-use Rattle.propagation.specs.declared.visit.Watched.{Watched}
+use Rattle.propagation.specs.declared.visit.Lists.{Lists}
 use Rattle.pair_index.specs.declared.pair.Pair.{Pair}
 use Rattle.pair_index.specs.Pairs.{pairs_of, pair_in, HasPair, IsInPairs, IsPairOf, AreExact}
 use Rattle.propagation.specs.Pending.{is_free, has_two_free}
 use Rattle.cdcl_rules.specs.State.{clause_at}
+use Rattle.propagation.specs.Asks.{IsAsk}
 use Rattle.propagation.specs.Visit.{IsFit}
 use Rattle.propagation.specs.Pairs.{IsUnwatched, HasSlot, IsPaired}
 use Rattle.propagation.specs.Added.{IsTaken}
@@ -54,14 +54,14 @@ exact_more cl k ps old code place h = by (old code place h)
     by (inr e) = inr (at_other cl k (pair_in (pairs_of ps code) place).number (not_last ((pair_in (pairs_of ps code) place).other ∷ code ∷ []) e refl) ∙ e)
 
 -- with a new clause that has a slot, or fewer than two literals
-pub paired_add : (v number codes : ℕ) (cl : List (List ℕ)) (k trail : List ℕ) (ps : List (List Pair)) (slots : List ℕ) (wa : List Watched) (heads : List ℕ) (nodes : List Node) (slots' : List ℕ) (wa' : List Watched) (heads' : List ℕ) (nodes' : List Node) → IsPaired v cl slots ps → number ≡ length cl → IsTaken k number codes trail slots wa heads nodes slots' wa' heads' nodes' → IsPaired v (cl ++ k ∷ []) slots' ps
-paired_add v number codes cl k trail ps slots wa heads nodes slots' wa' heads' nodes' i e taken = record {
+pub paired_add : (v number codes : ℕ) (cl : List (List ℕ)) (k trail : List ℕ) (ps : List (List Pair)) (slots : List ℕ) (l : Lists) (slots' : List ℕ) (l' : Lists) → IsPaired v cl slots ps → number ≡ length cl → IsTaken k number codes trail slots l slots' l' → IsPaired v (cl ++ k ∷ []) slots' ps
+paired_add v number codes cl k trail ps slots l slots' l' i e taken = record {
   long = i.long;
   found = λ c h. by c h (c == length cl) refl;
   exact = exact_more cl k ps i.exact;
 }
   where
-    own : IsTaken k number codes trail slots wa heads nodes slots' wa' heads' nodes' → IsUnwatched ps k number ⊎ HasSlot slots' number
+    own : IsTaken k number codes trail slots l slots' l' → IsUnwatched ps k number ⊎ HasSlot slots' number
     own (inl t) = inl (inr t.short)
     own (inr t) = inr (record {
       slot = length slots;
@@ -69,7 +69,7 @@ paired_add v number codes cl k trail ps slots wa heads nodes slots' wa' heads' n
       is = ap (λ (ss : List ℕ). get_or ss (length slots) 0) t.slotted ∙ get_or_push slots number 0 (length slots) refl;
     })
 
-    slot_stays : (c : ℕ) → HasSlot slots c → IsTaken k number codes trail slots wa heads nodes slots' wa' heads' nodes' → HasSlot slots' c
+    slot_stays : (c : ℕ) → HasSlot slots c → IsTaken k number codes trail slots l slots' l' → HasSlot slots' c
     slot_stays c s (inl t) = subst (λ (ss : List ℕ). HasSlot ss c) (sym t.slots_stay) s
     slot_stays c s (inr t) = record {
       slot = s.slot;
@@ -138,7 +138,17 @@ pair_pending clause ps list trail x k s i l set free none less =
         let z : true ≡ false = sym t ∙ ap (λ (xs : List ℕ). has_two_free on' xs) (sym i.is) ∙ less in
         absurd (let w : ⊥ = cc in w)
 
--- the clause of a pair has two literals
-pub pair_long : (cl : List (List ℕ)) (code : ℕ) (p : Pair) → IsPairOf cl code p → length (clause_at cl p.number) ≡ 2
-pair_long cl code p (inl e) = ap (λ (xs : List ℕ). length xs) e
-pair_long cl code p (inr e) = ap (λ (xs : List ℕ). length xs) e
+-- where one of its literals is false the clause of a pair asks for the other
+pub pair_ask : (cl : List (List ℕ)) (on : ℕ → Bool) (code : ℕ) (p : Pair) → IsPairOf cl code p → on (opposite code) ≡ true → IsAsk on (clause_at cl p.number) p.other
+pair_ask cl on code p (inl e) f = subst (λ (xs : List ℕ). IsAsk on xs p.other) (sym e) (inr (record { place = 1; inside = omega arith; own = refl; others = λ i h ne. by i h ne }))
+  where
+    by : (i : ℕ) → i < 2 → (i ≡ 1 → ⊥) → is_free on (get_or (code ∷ p.other ∷ []) i 0) ≡ false
+    by zero h ne = ap (λ (b : Bool). not b) f
+    by (suc zero) h ne = absurd (ne refl)
+    by (suc (suc i)) h ne = absurd (omega (arith, h))
+pair_ask cl on code p (inr e) f = subst (λ (xs : List ℕ). IsAsk on xs p.other) (sym e) (inr (record { place = 0; inside = omega arith; own = refl; others = λ i h ne. by i h ne }))
+  where
+    by : (i : ℕ) → i < 2 → (i ≡ 0 → ⊥) → is_free on (get_or (p.other ∷ code ∷ []) i 0) ≡ false
+    by zero h ne = absurd (ne refl)
+    by (suc zero) h ne = ap (λ (b : Bool). not b) f
+    by (suc (suc i)) h ne = absurd (omega (arith, h))

@@ -1,11 +1,10 @@
 -- The clauses of the slots, and which of them are kept.
-use Rattle.std.proofs.Common.{arith, ◌≡◌, ◌==◌, ℕ, suc, ◌+◌, ◌<◌, ◌≤◌, List, [], ◌∷◌, ◌++◌, length, take, set, get_or, ltb, Bool, true, false, ◌&&◌, refl, sym, ap, ◌∙◌, subst, ◌⊎◌, inl, inr}
+use Rattle.std.proofs.Common.{arith, ◌≡◌, ◌==◌, ℕ, suc, ◌+◌, ◌<◌, ◌≤◌, List, [], ◌∷◌, ◌++◌, length, take, set, get_or, ltb, Bool, true, false, ◌&&◌, ◌||◌, refl, sym, ap, ◌∙◌, subst, ◌⊎◌, inl, inr}
 use Rattle.std.proofs.lemmas.Bool.Decides.{nat_tests}
 use Rattle.std.proofs.lemmas.List.{get_or-map, length-map, map-append, length_push, get_or_push}
 use Rattle.clause_base.specs.Clause.{has_literal}
 use Rattle.cdcl_rules.specs.Pending.{is_pending}
-use Rattle.watch_chains.specs.declared.chains.Node.{Node}
-use Rattle.propagation.specs.declared.visit.Watched.{Watched}
+use Rattle.propagation.specs.declared.visit.Lists.{Lists}
 use Rattle.propagation.specs.Pending.{is_pending_on}
 use Rattle.cdcl_rules.specs.State.{clause_at}
 use Rattle.propagation.specs.Visit.{slot_clauses, slot_flags, slot_set, AreSlotsBelow, IsFit, IsAtRest}
@@ -99,25 +98,20 @@ below_as : (m n : ℕ) (slots : List ℕ) → m ≡ n → AreSlotsBelow m slots 
 below_as m n slots e h = subst (λ (x : ℕ). AreSlotsBelow x slots) e h
 
 -- a clause that was taken leaves the tables at rest
-pub taken_rest : (cl : List (List ℕ)) (k : List ℕ) (kept : List Bool) (number codes : ℕ) (trail : List ℕ) (slots : List ℕ) (wa : List Watched) (heads : List ℕ) (nodes : List Node) (slots' : List ℕ) (wa' : List Watched) (heads' : List ℕ) (nodes' : List Node) → length kept ≡ length cl → number ≡ length cl → AreSlotsBelow (length cl) slots → IsTaken k number codes trail slots wa heads nodes slots' wa' heads' nodes' → IsAtRest (slot_clauses cl slots) wa heads nodes codes (slot_flags kept slots) → IsAtRest (slot_clauses (cl ++ k ∷ []) slots') wa' heads' nodes' codes (slot_flags (kept ++ true ∷ []) slots')
-taken_rest cl k kept number codes trail slots wa heads nodes slots' wa' heads' nodes' lk e h (inl t) r =
-    rw (t.slots_stay, t.watches_stay, t.heads_stay, t.nodes_stay, slots_same cl k slots h, flags_same kept slots (below_as (length cl) (length kept) slots (sym lk) h)) r
-taken_rest cl k kept number codes trail slots wa heads nodes slots' wa' heads' nodes' lk e h (inr t) r =
+pub taken_rest : (cl : List (List ℕ)) (k : List ℕ) (kept : List Bool) (number codes : ℕ) (trail slots : List ℕ) (l : Lists) (slots' : List ℕ) (l' : Lists) → length kept ≡ length cl → number ≡ length cl → AreSlotsBelow (length cl) slots → IsTaken k number codes trail slots l slots' l' → IsAtRest (slot_clauses cl slots) l.watched.items l.chains.heads.items l.chains.nodes.items codes (slot_flags kept slots) → IsAtRest (slot_clauses (cl ++ k ∷ []) slots') l'.watched.items l'.chains.heads.items l'.chains.nodes.items codes (slot_flags (kept ++ true ∷ []) slots')
+taken_rest cl k kept number codes trail slots l slots' l' lk e h (inl t) r =
+    rw (t.slots_stay, t.lists_stay, slots_same cl k slots h, flags_same kept slots (below_as (length cl) (length kept) slots (sym lk) h)) r
+taken_rest cl k kept number codes trail slots l slots' l' lk e h (inr t) r =
     rw (t.slotted, slots_more cl k slots number h e, flags_more kept slots number (below_as (length cl) (length kept) slots (sym lk) h) (e ∙ sym lk))
     (t.rests (slot_clauses cl slots) (slot_flags kept slots) (slots_long cl slots) (flags_long kept slots) r)
 
 -- and its watched literals right in each prefix of the trail
-pub taken_free : (cl : List (List ℕ)) (k : List ℕ) (kept : List Bool) (number codes : ℕ) (trail : List ℕ) (slots : List ℕ) (wa : List Watched) (heads : List ℕ) (nodes : List Node) (slots' : List ℕ) (wa' : List Watched) (heads' : List ℕ) (nodes' : List Node) (n : ℕ) → length kept ≡ length cl → number ≡ length cl → AreSlotsBelow (length cl) slots → IsTaken k number codes trail slots wa heads nodes slots' wa' heads' nodes' → n ≤ length trail → AreFree (slot_clauses cl slots) wa (slot_flags kept slots) (take n trail) → AreFree (slot_clauses (cl ++ k ∷ []) slots') wa' (slot_flags (kept ++ true ∷ []) slots') (take n trail)
-taken_free cl k kept number codes trail slots wa heads nodes slots' wa' heads' nodes' n lk e h (inl t) l f =
-    subst (λ (ss : List ℕ). AreFree (slot_clauses (cl ++ k ∷ []) ss) wa' (slot_flags (kept ++ true ∷ []) ss) (take n trail)) (sym t.slots_stay)
-    (subst (λ (w : List Watched). AreFree (slot_clauses (cl ++ k ∷ []) slots) w (slot_flags (kept ++ true ∷ []) slots) (take n trail)) (sym t.watches_stay)
-    (subst (λ (cs : List (List ℕ)). AreFree cs wa (slot_flags (kept ++ true ∷ []) slots) (take n trail)) (sym (slots_same cl k slots h))
-    (subst (λ (ks : List Bool). AreFree (slot_clauses cl slots) wa ks (take n trail)) (sym (flags_same kept slots (below_as (length cl) (length kept) slots (sym lk) h))) f)))
-taken_free cl k kept number codes trail slots wa heads nodes slots' wa' heads' nodes' n lk e h (inr t) l f =
-    subst (λ (ss : List ℕ). AreFree (slot_clauses (cl ++ k ∷ []) ss) wa' (slot_flags (kept ++ true ∷ []) ss) (take n trail)) (sym t.slotted)
-    (subst (λ (cs : List (List ℕ)). AreFree cs wa' (slot_flags (kept ++ true ∷ []) (slots ++ number ∷ [])) (take n trail)) (sym (slots_more cl k slots number h e))
-    (subst (λ (ks : List Bool). AreFree (slot_clauses cl slots ++ k ∷ []) wa' ks (take n trail)) (sym (flags_more kept slots number (below_as (length cl) (length kept) slots (sym lk) h) (e ∙ sym lk)))
-    (t.free (slot_clauses cl slots) (slot_flags kept slots) n (slots_long cl slots) (flags_long kept slots) l f)))
+pub taken_free : (cl : List (List ℕ)) (k : List ℕ) (kept : List Bool) (number codes : ℕ) (trail slots : List ℕ) (l : Lists) (slots' : List ℕ) (l' : Lists) (n : ℕ) → length kept ≡ length cl → number ≡ length cl → AreSlotsBelow (length cl) slots → IsTaken k number codes trail slots l slots' l' → n ≤ length trail → AreFree (slot_clauses cl slots) l.watched.items (slot_flags kept slots) (take n trail) → AreFree (slot_clauses (cl ++ k ∷ []) slots') l'.watched.items (slot_flags (kept ++ true ∷ []) slots') (take n trail)
+taken_free cl k kept number codes trail slots l slots' l' n lk e h (inl t) b f =
+    rw (t.slots_stay, t.lists_stay, slots_same cl k slots h, flags_same kept slots (below_as (length cl) (length kept) slots (sym lk) h)) f
+taken_free cl k kept number codes trail slots l slots' l' n lk e h (inr t) b f =
+    rw (t.slotted, slots_more cl k slots number h e, flags_more kept slots number (below_as (length cl) (length kept) slots (sym lk) h) (e ∙ sym lk))
+    (t.free (slot_clauses cl slots) (slot_flags kept slots) n (slots_long cl slots) (flags_long kept slots) b f)
 
 -- the slots stay below the number of clauses, and are no more
 pub below_more : (n : ℕ) (slots : List ℕ) (number : ℕ) → number ≡ n → AreSlotsBelow n slots → AreSlotsBelow (n + 1) (slots ++ number ∷ [])
@@ -133,14 +127,14 @@ below_more n slots number e h s g = by (s == length slots) refl
 below_wider : (n : ℕ) (slots : List ℕ) → AreSlotsBelow n slots → AreSlotsBelow (n + 1) slots
 below_wider n slots h s g = omega (arith, h s g)
 
-pub taken_below : (n : ℕ) (k : List ℕ) (number codes : ℕ) (trail : List ℕ) (slots : List ℕ) (wa : List Watched) (heads : List ℕ) (nodes : List Node) (slots' : List ℕ) (wa' : List Watched) (heads' : List ℕ) (nodes' : List Node) → number ≡ n → IsTaken k number codes trail slots wa heads nodes slots' wa' heads' nodes' → AreSlotsBelow n slots → AreSlotsBelow (n + 1) slots'
-taken_below n k number codes trail slots wa heads nodes slots' wa' heads' nodes' e (inl t) h = subst (λ (ss : List ℕ). AreSlotsBelow (n + 1) ss) (sym t.slots_stay) (below_wider n slots h)
-taken_below n k number codes trail slots wa heads nodes slots' wa' heads' nodes' e (inr t) h = subst (λ (ss : List ℕ). AreSlotsBelow (n + 1) ss) (sym t.slotted) (below_more n slots number e h)
+pub taken_below : (n : ℕ) (k : List ℕ) (number codes : ℕ) (trail slots : List ℕ) (l : Lists) (slots' : List ℕ) (l' : Lists) → number ≡ n → IsTaken k number codes trail slots l slots' l' → AreSlotsBelow n slots → AreSlotsBelow (n + 1) slots'
+taken_below n k number codes trail slots l slots' l' e (inl t) h = subst (λ (ss : List ℕ). AreSlotsBelow (n + 1) ss) (sym t.slots_stay) (below_wider n slots h)
+taken_below n k number codes trail slots l slots' l' e (inr t) h = subst (λ (ss : List ℕ). AreSlotsBelow (n + 1) ss) (sym t.slotted) (below_more n slots number e h)
 
-pub taken_few : (k : List ℕ) (number codes : ℕ) (trail : List ℕ) (slots : List ℕ) (wa : List Watched) (heads : List ℕ) (nodes : List Node) (slots' : List ℕ) (wa' : List Watched) (heads' : List ℕ) (nodes' : List Node) → IsTaken k number codes trail slots wa heads nodes slots' wa' heads' nodes' → length slots' ≤ length slots + 1
-taken_few k number codes trail slots wa heads nodes slots' wa' heads' nodes' (inl t) = omega (arith, ap (λ (ss : List ℕ). length ss) t.slots_stay)
-taken_few k number codes trail slots wa heads nodes slots' wa' heads' nodes' (inr t) = omega (arith, ap (λ (ss : List ℕ). length ss) t.slotted, length_push slots number)
+pub taken_few : (k : List ℕ) (number codes : ℕ) (trail slots : List ℕ) (l : Lists) (slots' : List ℕ) (l' : Lists) → IsTaken k number codes trail slots l slots' l' → length slots' ≤ length slots + 1
+taken_few k number codes trail slots l slots' l' (inl t) = omega (arith, ap (λ (ss : List ℕ). length ss) t.slots_stay)
+taken_few k number codes trail slots l slots' l' (inr t) = omega (arith, ap (λ (ss : List ℕ). length ss) t.slotted, length_push slots number)
 
-pub taken_slots : (k : List ℕ) (number codes : ℕ) (trail : List ℕ) (slots : List ℕ) (wa : List Watched) (heads : List ℕ) (nodes : List Node) (slots' : List ℕ) (wa' : List Watched) (heads' : List ℕ) (nodes' : List Node) → IsTaken k number codes trail slots wa heads nodes slots' wa' heads' nodes' → (slots' ≡ slots) ⊎ (slots' ≡ slots ++ number ∷ [])
-taken_slots k number codes trail slots wa heads nodes slots' wa' heads' nodes' (inl t) = inl t.slots_stay
-taken_slots k number codes trail slots wa heads nodes slots' wa' heads' nodes' (inr t) = inr t.slotted
+-- the number that entered a set is this one
+pub insert_at : (was is : ℕ → Bool) (m n : ℕ) → m ≡ n → ((k : ℕ) → is k ≡ (k == m || was k)) → (k : ℕ) → is k ≡ (k == n || was k)
+insert_at was is m n e has = subst (λ (x : ℕ). (k : ℕ) → is k ≡ (k == x || was k)) e has

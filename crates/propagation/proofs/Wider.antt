@@ -1,21 +1,26 @@
 -- Tables with more room say what they did.
 use Rattle.std.proofs.Common.{arith, ◌≡◌, ◌==◌, ℕ, ◌*◌, ◌/◌, ◌%◌, ◌<◌, ◌≤◌, List, length, take, get_or, Bool, sym, ap, ◌∙◌, subst, Some, ◌⊎◌, inl, inr}
 use Rattle.clause_base.specs.Clause.{has_literal}
-use Rattle.number_bits.specs.Bits.{words_have}
-use Rattle.watch_chains.specs.declared.chains.Node.{Node}
+use Rattle.propagation.specs.declared.pending.Pending.{Pending}
+use Rattle.propagation.specs.declared.tables.Tables.{Tables}
+use Rattle.propagation.specs.declared.visit.Lists.{Lists}
 use Rattle.propagation.specs.declared.visit.Watched.{Watched}
 use Rattle.propagation.specs.Pending.{is_free}
 use Rattle.cdcl_rules.specs.State.{clause_at}
-use Rattle.propagation.specs.Visit.{no_watches, place_in, literal_at, slot_clauses, slot_flags, IsReal, NoWhy, IsAtRest}
-use Rattle.propagation.specs.Sound.{IsFront, AreTablesSound}
-use Rattle.propagation.specs.Added.{IsWider}
+use Rattle.propagation.specs.Visit.{no_watches, place_in, literal_at, IsReal, NoWhy, IsAtRest}
+use Rattle.propagation.specs.Asks.{IsWider}
+use Rattle.propagation.specs.Front.{IsComplete}
+use Rattle.propagation.specs.Tables.{clauses_in, flags_in, pending_in}
+use Rattle.propagation.specs.Sound.{AreSound}
+use Rattle.propagation.specs.Added.{AreSame, AreWider}
+use Rattle.propagation.proofs.AsksKept.{asks_wider}
 
-literal_wider : (cl : List (List ℕ)) (wa : List Watched) (heads : List ℕ) (nodes : List Node) (words : List ℕ) (wa' : List Watched) (heads' : List ℕ) (nodes' : List Node) (words' : List ℕ) (node : ℕ) → IsWider wa heads nodes words wa' heads' nodes' words' → length cl ≤ length wa → IsReal cl node → literal_at cl wa' node ≡ literal_at cl wa node
-literal_wider cl wa heads nodes words wa' heads' nodes' words' node w m real =
+literal_wider : (cl : List (List ℕ)) (l l' : Lists) (node : ℕ) → AreWider l l' → length cl ≤ length l.watched.items → IsReal cl node → literal_at cl l'.watched.items node ≡ literal_at cl l.watched.items node
+literal_wider cl l l' node w m real =
     ap (λ (v : Watched). get_or (clause_at cl (node / 2)) (place_in v (node % 2 == 1)) 0) (w.watches (node / 2) (omega (arith, real.below, m)))
 
-pub rest_wider : (cl : List (List ℕ)) (wa : List Watched) (heads : List ℕ) (nodes : List Node) (words : List ℕ) (wa' : List Watched) (heads' : List ℕ) (nodes' : List Node) (words' : List ℕ) (spare : ℕ) (kept : List Bool) → IsAtRest cl wa heads nodes spare kept → IsWider wa heads nodes words wa' heads' nodes' words' → IsAtRest cl wa' heads' nodes' spare kept
-rest_wider cl wa heads nodes words wa' heads' nodes' words' spare kept r w = record {
+pub rest_wider : (cl : List (List ℕ)) (l l' : Lists) (spare : ℕ) (kept : List Bool) → IsAtRest cl l.watched.items l.chains.heads.items l.chains.nodes.items spare kept → AreWider l l' → IsAtRest cl l'.watched.items l'.chains.heads.items l'.chains.nodes.items spare kept
+rest_wider cl l l' spare kept r w = record {
   on = r.on;
   linked = w.linked r.on r.linked;
   placed = record {
@@ -31,32 +36,55 @@ rest_wider cl wa heads nodes words wa' heads' nodes' words' spare kept r w = rec
   blockings = λ node real. ap (λ (x : ℕ). has_literal (clause_at cl (node / 2)) x) (w.blockings node (omega (arith, real.below, r.many))) ∙ r.blockings node real;
 }
   where
-    at : (c : ℕ) → c < length cl → get_or wa' c no_watches ≡ get_or wa c no_watches
+    at : (c : ℕ) → c < length cl → get_or l'.watched.items c no_watches ≡ get_or l.watched.items c no_watches
     at c h = w.watches c (omega (arith, h, r.placed.many))
 
-    by : (node : ℕ) → IsReal cl node → (r.on node ≡ Some (literal_at cl wa node)) ⊎ ((r.on node ≡ Some spare) × NoWhy node) → (r.on node ≡ Some (literal_at cl wa' node)) ⊎ ((r.on node ≡ Some spare) × NoWhy node)
-    by node real (inl e) = inl (e ∙ ap (λ (l : ℕ). Some l) (sym (literal_wider cl wa heads nodes words wa' heads' nodes' words' node w r.placed.many real)))
+    by : (node : ℕ) → IsReal cl node → (r.on node ≡ Some (literal_at cl l.watched.items node)) ⊎ ((r.on node ≡ Some spare) × NoWhy node) → (r.on node ≡ Some (literal_at cl l'.watched.items node)) ⊎ ((r.on node ≡ Some spare) × NoWhy node)
+    by node real (inl e) = inl (e ∙ ap (λ (c : ℕ). Some c) (sym (literal_wider cl l l' node w r.placed.many real)))
     by node real (inr v) = absurd v.1
 
-front_wider : (p s s' : ℕ → Bool) → ((k : ℕ) → s' k ≡ s k) → IsFront p s → IsFront p s'
-front_wider p s s' same f = record {
-  complete = λ k e. same k ∙ f.complete k e;
-  first = λ k l. f.first k (sym (same k) ∙ l.0, λ j h. sym (same j) ∙ l.1 j h);
-}
+complete_wider : (passes : ℕ → Bool) (p p' : Pending) → IsWider p p' → IsComplete passes p → IsComplete passes p'
+complete_wider passes p p' w c k e = w.same k ∙ c k e
 
-pub sound_wider : (v tv : ℕ) (cl : List (List ℕ)) (kept : List Bool) (trail slots : List ℕ) (wa : List Watched) (heads : List ℕ) (nodes : List Node) (words : List ℕ) (quiet : List Bool) (wa' : List Watched) (heads' : List ℕ) (nodes' : List Node) (words' : List ℕ) → AreTablesSound v tv cl kept trail slots wa heads nodes words quiet → IsWider wa heads nodes words wa' heads' nodes' words' → AreTablesSound v tv cl kept trail slots wa' heads' nodes' words' quiet
-sound_wider v tv cl kept trail slots wa heads nodes words quiet wa' heads' nodes' words' i w = record {
+-- there is more room
+sound_wider : (v : ℕ) (t : Tables) (l l' : Lists) (trail : List ℕ) (quiet : List Bool) → AreSound v t l trail quiet → AreWider l l' → AreSound v t l' trail quiet
+sound_wider v t l l' trail quiet i w = record {
   small = i.small;
-  same = i.same;
-  many = i.many;
+  tables = i.tables;
   few = i.few;
-  fit = i.fit;
-  room = omega (arith, i.room, w.more_words);
-  slotted = i.slotted;
   slots_few = i.slots_few;
-  rest = rest_wider (slot_clauses cl slots) wa heads nodes words wa' heads' nodes' words' (2 * v) (slot_flags kept slots) i.rest w;
-  free = λ n h node real must none two. ap (λ (l : ℕ). is_free (has_literal (take n trail)) l) (literal_wider (slot_clauses cl slots) wa heads nodes words wa' heads' nodes' words' node w i.rest.placed.many real) ∙ i.free n h node real must none two;
-  front = front_wider _ (words_have words) (words_have words') w.set i.front;
+  rest = rest_wider (clauses_in t) l l' (2 * v) (flags_in t) i.rest w;
+  free = λ n h node real must none two. ap (λ (x : ℕ). is_free (has_literal (take n trail)) x) (literal_wider (clauses_in t) l l' node w i.rest.placed.many real) ∙ i.free n h node real must none two;
+  consistent = i.consistent;
+  asks = asks_wider t.store trail l.pending l'.pending i.asks w.pending;
+  complete = complete_wider (pending_in t trail) l.pending l'.pending w.pending i.complete;
   quiet_size = i.quiet_size;
   quiets = i.quiets;
 }
+
+-- the tables that are read are the same
+pub sound_again : (v : ℕ) (t t' : Tables) (l : Lists) (trail : List ℕ) (quiet : List Bool) → AreSound v t l trail quiet → AreSame t t' → AreSound v t' l trail quiet
+sound_again v t t' l trail quiet i e = record {
+  small = i.small;
+  tables = record {
+    limit = i.tables.limit;
+    fit = rw e.store i.tables.fit;
+    small = rw e.store i.tables.small;
+    kept = rw (e.store, e.kept) i.tables.kept;
+    slotted = rw (e.store, e.slots) i.tables.slotted;
+    few = rw e.slots i.tables.few;
+  };
+  few = rw e.store i.few;
+  slots_few = rw (e.store, e.slots) i.slots_few;
+  rest = rw (e.store, e.slots, e.kept) i.rest;
+  free = rw (e.store, e.slots, e.kept) i.free;
+  consistent = i.consistent;
+  asks = rw e.store i.asks;
+  complete = rw (e.store, e.kept) i.complete;
+  quiet_size = i.quiet_size;
+  quiets = rw (e.store, e.kept) i.quiets;
+}
+
+-- and so where room was made
+pub sound_room : (v : ℕ) (t t' : Tables) (l l' : Lists) (trail : List ℕ) (quiet : List Bool) → AreSound v t l trail quiet → AreSame t t' → AreWider l l' → AreSound v t' l' trail quiet
+sound_room v t t' l l' trail quiet i e w = sound_again v t t' l' trail quiet (sound_wider v t l l' trail quiet i w) e

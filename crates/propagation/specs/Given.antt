@@ -18,7 +18,7 @@ pub record AreGiven (codes : ℕ) (clauses : List (List ℕ)) (number : ℕ) (g 
   pub only : (c : ℕ) → words_have g.lists.pending.numbers c ≡ true → (c < number) × (length (clause_at clauses c) < 2)
   pub asks : (c : ℕ) → words_have g.lists.pending.numbers c ≡ true → (on : ℕ → Bool) → IsAsk on (clause_at clauses c) (slice_index g.lists.pending.asks.items c)
   pub room : length clauses ≤ 64 * length g.lists.pending.numbers
-  pub long : length g.lists.pending.asks.items ≡ length clauses
+  pub long : length clauses ≤ length g.lists.pending.asks.items
 
 -- the places of a list, in order
 abbrev pub AreRising : List ℕ → Type 0

@@ -16,6 +16,7 @@ pending_in t trail = is_pending_on t.store t.kept.items trail
 
 -- what holds of the tables, where the literals are below a number
 pub record AreTables (t : Tables) (codes : ℕ) : Type 0 where
+  pub limit : codes ≤ 4294967294
   pub fit : IsFit t.store codes
   pub small : length t.store ≤ 4294967295
   pub kept : length t.kept.items ≡ length t.store

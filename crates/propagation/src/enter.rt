@@ -2,9 +2,8 @@
 //! literals are not false, these two are not, now and in each prefix of the trail.
 ghost use Rattle.std.specs.Prelude.{◌≡◌, ℕ, ◌+◌, ◌*◌, ◌<◌, ◌≤◌, Bool, length, slice_index};
 ghost use Rattle.clause_base.specs.Clause.{has_literal};
-ghost use Rattle.watch_chains.specs.Linked.{ArePairLoose};
 ghost use Rattle.propagation.specs.Asks.{IsAsk};
-ghost use Rattle.propagation.specs.Added.{HasRoom, Outlasts, RestsWith, FreeWith, IsQuietBelow};
+ghost use Rattle.propagation.specs.Added.{HasSlotRoom, IsLoose, Outlasts, RestsWith, FreeWith, IsQuietBelow};
 
 use crate::fall::{free_until, latest};
 use crate::visit::{Lists, Watched};
@@ -51,13 +50,13 @@ impl Lists {
         requires short { length clause.now ≤ 4294967295 }
         requires two { 2 ≤ length clause.now }
         requires codes { length self.old.chains.heads.items ≡ 2 * assignment.now.variables + 1 }
-        requires room { HasRoom slot self.old.watched.items self.old.chains.nodes.items }
-        requires loose { ArePairLoose self.old.chains.heads.items self.old.chains.nodes.items (2 * slot) }
-        ensures rest { RestsWith clause.now slot (2 * assignment.now.variables) self.old.watched.items self.old.chains.heads.items self.old.chains.nodes.items self.new.watched.items self.new.chains.heads.items self.new.chains.nodes.items }
-        ensures free { FreeWith clause.now slot assignment.now.trail self.old.watched.items self.new.watched.items }
+        requires room { HasSlotRoom slot self.old }
+        requires loose { IsLoose slot self.old }
+        ensures rest { RestsWith clause.now slot (2 * assignment.now.variables) self.old self.new }
+        ensures free { FreeWith clause.now slot assignment.now.trail self.old self.new }
         ensures quiet { IsQuietBelow clause.now assignment.now.trail result.low }
         ensures ask { result.low ≤ length assignment.now.trail → IsAsk (has_literal assignment.now.trail) clause.now result.ask }
-        ensures set { self.new.pending ≡ self.old.pending }
+        ensures pending { self.new.pending ≡ self.old.pending }
     {
         let watched = to_watch(assignment, clause);
         self.watched[slot as usize] = watched;
@@ -77,10 +76,10 @@ impl Lists {
         requires short { length clause.now ≤ 4294967295 }
         requires two { 2 ≤ length clause.now }
         requires codes { length self.old.chains.heads.items ≡ codes + 1 }
-        requires room { HasRoom slot self.old.watched.items self.old.chains.nodes.items }
-        requires loose { ArePairLoose self.old.chains.heads.items self.old.chains.nodes.items (2 * slot) }
-        ensures rest { RestsWith clause.now slot codes self.old.watched.items self.old.chains.heads.items self.old.chains.nodes.items self.new.watched.items self.new.chains.heads.items self.new.chains.nodes.items }
-        ensures set { self.new.pending ≡ self.old.pending }
+        requires room { HasSlotRoom slot self.old }
+        requires loose { IsLoose slot self.old }
+        ensures rest { RestsWith clause.now slot codes self.old self.new }
+        ensures pending { self.new.pending ≡ self.old.pending }
     {
         let length = clause.len() as u32;
         let watched = Watched {

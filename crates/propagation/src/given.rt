@@ -119,7 +119,7 @@ impl Given {
             self.lists.pending.put(number, only_ask(&clause));
             return Ok(());
         }
-        self.lists.widen(slot)?;
+        self.lists.widen(number, slot)?;
         self.slots.push(number)?;
         self.lists.enter_last(&clause, slot, codes);
         Ok(())

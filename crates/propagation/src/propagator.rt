@@ -13,6 +13,7 @@ use crate::given::Given;
 use crate::marks::mark_pairs;
 use crate::pending::Pending;
 use crate::quiet::{no_quiet, raise};
+use crate::room::make_room;
 use crate::tables::Tables;
 use crate::take_slot::take_slot;
 use crate::undo::refresh;
@@ -133,10 +134,7 @@ impl Propagator {
             return Err(Memory);
         }
         let slot = self.tables.slots.len() as u32;
-        self.tables.kept.reserve(1)?;
-        self.tables.slots.reserve(1)?;
-        self.lists.pending.widen(number)?;
-        self.lists.widen(slot)?;
+        make_room(&mut self.tables, &mut self.lists, number, slot)?;
         self.tables.store.push(clause)?;
         self.tables.kept.push(true)?;
         let assignment = self.trail.assignment();

@@ -1,10 +1,11 @@
 //! Room in each table for one more clause and one more slot. After want of memory a table may have it already, and nothing else
 //! has changed.
-ghost use Rattle.std.specs.Prelude.{◌≡◌, ℕ, ◌+◌, ◌*◌, ◌<◌, ◌≤◌, Option, length, slice_index_or, OnOk};
+ghost use Rattle.std.specs.Prelude.{◌≡◌, ℕ, ◌+◌, ◌*◌, ◌<◌, ◌≤◌, Option, length, slice_index_or, vec_capacity, OnOk};
 ghost use Rattle.watch_chains.specs.Linked.{IsLinked, blocking_of};
 ghost use Rattle.propagation.specs.Visit.{no_watches};
-ghost use Rattle.propagation.specs.Added.{IsWider, HasRoom};
+ghost use Rattle.propagation.specs.Added.{AreSame, AreWider, HasRoom, HasRoomBelow};
 
+use crate::tables::Tables;
 use crate::visit::{Lists, Watched};
 use std::alloc::AllocError;
 use watch_chains::chains::Chains;
@@ -43,16 +44,33 @@ fn widen_watches(watched: &mut Vec<Watched>, slot: u32) -> Result<(), AllocError
 }
 
 impl Lists {
-    /// Makes room for the two nodes and the watched places of a slot, where there is room for those of all slots before it.
-    pub fn widen(&mut self, slot: u32) -> Result<(), AllocError>
-        requires few_slots { slot < 2147483647 }
-        requires nodes { 2 * slot ≤ length self.old.chains.nodes.items }
-        requires watches { slot ≤ length self.old.watched.items }
-        ensures room { OnOk result (HasRoom slot self.new.watched.items self.new.chains.nodes.items) }
-        ensures wider { IsWider self.old.watched.items self.old.chains.heads.items self.old.chains.nodes.items self.new.watched.items self.new.chains.heads.items self.new.chains.nodes.items }
-        ensures pending { self.new.pending ≡ self.old.pending }
+    /// Makes room for a clause and a slot, where there is room for all before them.
+    pub fn widen(&mut self, number: u32, slot: u32) -> Result<(), AllocError>
+        requires { HasRoomBelow number slot self.old }
+        ensures room { OnOk result (HasRoom number slot self.new) }
+        ensures wider { AreWider self.old self.new }
     {
+        self.pending.widen(number)?;
         widen_nodes(&mut self.chains, slot)?;
         widen_watches(&mut self.watched, slot)
     }
+}
+
+/// Makes room for the next clause in all tables but that of the clauses.
+pub fn make_room(
+    tables: &mut Tables,
+    lists: &mut Lists,
+    number: u32,
+    slot: u32,
+) -> Result<(), AllocError>
+    requires { HasRoomBelow number slot lists.old }
+    ensures same { AreSame tables.old tables.new }
+    ensures kept { OnOk result (length tables.new.kept.items < vec_capacity tables.new.kept) }
+    ensures slots { OnOk result (length tables.new.slots.items < vec_capacity tables.new.slots) }
+    ensures room { OnOk result (HasRoom number slot lists.new) }
+    ensures wider { AreWider lists.old lists.new }
+{
+    tables.kept.reserve(1)?;
+    tables.slots.reserve(1)?;
+    lists.widen(number, slot)
 }

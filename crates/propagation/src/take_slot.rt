@@ -2,9 +2,8 @@
 //! wherever it is not true, and is not sought.
 ghost use Rattle.std.specs.Prelude.{◌≡◌, ℕ, ◌+◌, ◌*◌, ◌<◌, ◌≤◌, length, slice_index, vec_capacity, IfOk, IsOk};
 ghost use Rattle.clause_base.specs.Clause.{has_literal};
-ghost use Rattle.watch_chains.specs.Linked.{ArePairLoose};
 ghost use Rattle.propagation.specs.Asks.{IsAsk};
-ghost use Rattle.propagation.specs.Added.{HasRoom, IsTaken, IsQuietBelow};
+ghost use Rattle.propagation.specs.Added.{HasSlotRoom, IsLoose, IsTaken, IsQuietBelow};
 
 use crate::enter::Entered;
 use crate::scan::only_ask;
@@ -28,13 +27,13 @@ pub fn take_slot(
     requires few { length slots.old.items ≤ 2147483647 }
     requires capacity { length slots.old.items < vec_capacity slots.old }
     requires codes { length lists.old.chains.heads.items ≡ 2 * assignment.now.variables + 1 }
-    requires room { HasRoom (length slots.old.items) lists.old.watched.items lists.old.chains.nodes.items }
-    requires loose { ArePairLoose lists.old.chains.heads.items lists.old.chains.nodes.items (2 * length slots.old.items) }
+    requires room { HasSlotRoom (length slots.old.items) lists.old }
+    requires loose { IsLoose (length slots.old.items) lists.old }
     ensures ok { IsOk result }
-    ensures taken { IsTaken clause.now number (2 * assignment.now.variables) assignment.now.trail slots.old.items lists.old.watched.items lists.old.chains.heads.items lists.old.chains.nodes.items slots.new.items lists.new.watched.items lists.new.chains.heads.items lists.new.chains.nodes.items }
+    ensures taken { IsTaken clause.now number (2 * assignment.now.variables) assignment.now.trail slots.old.items lists.old slots.new.items lists.new }
     ensures quiet { IfOk result (λ entered. IsQuietBelow clause.now assignment.now.trail entered.low) }
     ensures ask { IfOk result (λ entered. entered.low ≤ length assignment.now.trail → IsAsk (has_literal assignment.now.trail) clause.now entered.ask) }
-    ensures set { lists.new.pending ≡ lists.old.pending }
+    ensures pending { lists.new.pending ≡ lists.old.pending }
 {
     if clause.len() < 2 {
         return Ok(Entered {

@@ -4,9 +4,7 @@ use Rattle.number_bits.specs.Bits.{words_have}
 use Rattle.pair_index.specs.declared.pair.Pair.{Pair}
 use Rattle.pair_index.specs.Pairs.{IsPairOf, pairs_of}
 use Rattle.pair_index.proofs.Five.{EachPair, AreFive, each_of_five, five_of_each}
-use Rattle.propagation.specs.Units.{HasPairsMore}
 use Rattle.propagation.specs.Visit.{Grows}
-use Rattle.propagation.proofs.UnitsOfSlots.{pairs_then}
 use Rattle.propagation.proofs.marks.mark_pairs.Goals as goal
 use Rattle.propagation.proofs.marks.mark_pairs.Goals.{After-lists-lists, After-after}
 
@@ -35,7 +33,7 @@ pub mark_all-requires-clause-exact : goal.mark_all-requires-clause-exact
 mark_all-requires-clause-exact c = at_list c.args.store.now c.args.falsified c.in-Some.ensures (parts (goal.at.mark_all-requires-clause-exact c).After-lists-lists).fifth
 
 -- what is marked once the last list is
-marked : (c : After-after) (set : ℕ → Bool) → Grows (words_have c.mark_list-4.new.pending) set → EachPair (λ p. has_literal c.args.assignment.now.trail p.other ≡ false → set p.number ≡ true) c.lists-lists.result.after → EachPair (λ p. has_literal c.args.assignment.now.trail p.other ≡ false → set p.number ≡ true) (pairs_of c.args.index.now c.args.falsified)
+marked : (c : After-after) (set : ℕ → Bool) → Grows (words_have c.mark_list-4.new.pending.numbers) set → EachPair (λ p. has_literal c.args.assignment.now.trail p.other ≡ false → set p.number ≡ true) c.lists-lists.result.after → EachPair (λ p. has_literal c.args.assignment.now.trail p.other ≡ false → set p.number ≡ true) (pairs_of c.args.index.now c.args.falsified)
 marked c set grows after =
     let P : Pair → Type 0 = λ p. has_literal c.args.assignment.now.trail p.other ≡ false → set p.number ≡ true in
     let ls = c.lists-lists.result in
@@ -45,36 +43,20 @@ marked c set grows after =
     let time : EachPair P ls.time = subst (EachPair P) c.time.ensures (λ i h f. grows _ (c.mark_list-4.ensures.in_set i h f)) in
     subst (EachPair P) (sym c.lists-lists.ensures) (each_of_five P ls.told ls.last ls.next ls.time ls.after told last next time after)
 
-grown : (c : After-after) → Grows (words_have c.args.pending.now) (words_have c.mark_list-4.new.pending)
+grown : (c : After-after) → Grows (words_have c.args.pending.now.numbers) (words_have c.mark_list-4.new.pending.numbers)
 grown c k h = c.mark_list-4.ensures.grows k (c.mark_list-3.ensures.grows k (c.mark_list-2.ensures.grows k (c.mark_list.ensures.grows k h)))
 
-only : (c : After-after) → HasPairsMore c.args.store.now (words_have c.args.pending.now) (words_have c.mark_list-4.new.pending)
-only c =
-    let store = c.args.store.now in
-    let s0 = words_have c.args.pending.now in
-    let s1 = words_have c.mark_list.new.pending in
-    let s2 = words_have c.mark_list-2.new.pending in
-    let s3 = words_have c.mark_list-3.new.pending in
-    let s4 = words_have c.mark_list-4.new.pending in
-    pairs_then store s0 s3 s4 (pairs_then store s0 s2 s3 (pairs_then store s0 s1 s2 c.mark_list.ensures.only c.mark_list-2.ensures.only) c.mark_list-3.ensures.only) c.mark_list-4.ensures.only
-
 pub returns-in-Some-clause-in_set : goal.returns-in-Some-clause-in_set
-returns-in-Some-clause-in_set c = marked (goal.at.returns-in-Some-clause-in_set c).After-after (words_have c.mark_all.new.pending) c.mark_all.ensures.grows (subst (EachPair (λ p. has_literal c.args.assignment.now.trail p.other ≡ false → words_have c.mark_all.new.pending p.number ≡ true)) c.in-Some.ensures c.mark_all.ensures.in_set)
+returns-in-Some-clause-in_set c = marked (goal.at.returns-in-Some-clause-in_set c).After-after (words_have c.mark_all.new.pending.numbers) c.mark_all.ensures.grows (subst (EachPair (λ p. has_literal c.args.assignment.now.trail p.other ≡ false → words_have c.mark_all.new.pending.numbers p.number ≡ true)) c.in-Some.ensures c.mark_all.ensures.in_set)
 
 pub returns-in-Some-clause-grows : goal.returns-in-Some-clause-grows
 returns-in-Some-clause-grows c k h = c.mark_all.ensures.grows k (grown (goal.at.returns-in-Some-clause-grows c).After-after k h)
 
-pub returns-in-Some-clause-only : goal.returns-in-Some-clause-only
-returns-in-Some-clause-only c = pairs_then c.args.store.now (words_have c.args.pending.now) (words_have c.mark_list-4.new.pending) (words_have c.mark_all.new.pending) (only (goal.at.returns-in-Some-clause-only c).After-after) c.mark_all.ensures.only
-
 pub returns-in-None-clause-in_set : goal.returns-in-None-clause-in_set
-returns-in-None-clause-in_set c = marked (goal.at.returns-in-None-clause-in_set c).After-after (words_have c.mark_list-4.new.pending) (λ k h. h) (λ i h. absurd (omega (arith, h, ap (λ (ps : List Pair). length ps) c.in-None.ensures)))
+returns-in-None-clause-in_set c = marked (goal.at.returns-in-None-clause-in_set c).After-after (words_have c.mark_list-4.new.pending.numbers) (λ k h. h) (λ i h. absurd (omega (arith, h, ap (λ (ps : List Pair). length ps) c.in-None.ensures)))
 
 pub returns-in-None-clause-grows : goal.returns-in-None-clause-grows
 returns-in-None-clause-grows c = grown (goal.at.returns-in-None-clause-grows c).After-after
-
-pub returns-in-None-clause-only : goal.returns-in-None-clause-only
-returns-in-None-clause-only c = only (goal.at.returns-in-None-clause-only c).After-after
 
 pub mark_list-requires-clause-fit : goal.mark_list-requires-clause-fit
 mark_list-requires-clause-fit c = c.requires.fit

@@ -2,7 +2,7 @@ use Rattle.std.proofs.Common.{arith, ◌≡◌, ◌*◌, ◌<◌, ◌≤◌, ℕ
 use Rattle.std.proofs.lemmas.List.{get_or_read}
 use Rattle.clause_base.specs.Clause.{has_literal}
 use Rattle.propagation.specs.Pending.{is_free}
-use Rattle.propagation.proofs.UnitsTell.{below_more}
+use Rattle.propagation.proofs.Asks.{below_more}
 use Rattle.propagation.proofs.scan.find_free.Goals as goal
 use Rattle.propagation.proofs.scan.find_free.Goals.{After-lit, else-not-is_false-via-then-not-is_false+else-place-skipped, else-not-is_false-via-else-not-is_false}
 

@@ -1,18 +1,12 @@
-use Rattle.number_bits.specs.Bits.{words_have}
-use Rattle.propagation.proofs.UnitsOfSlots.{within_pending, units_pending}
+use Rattle.std.proofs.Common.{arith, ap, List, ℕ, length, sym, ◌∙◌, ◌≡◌, true, false, get_or}
+use Rattle.propagation.proofs.AsksKept.{asks_cleared}
+use Rattle.propagation.proofs.Asks.{clash}
 use Rattle.propagation.proofs.undo.refresh.Goals as goal
 
-pub returns-clause-within : goal.returns-clause-within
-returns-clause-within c =
-    let t = c.args.tables.now in
-    within_pending t.store t.kept.items c.args.assignment.now.trail (words_have c.rescan.new.pending) c.requires.tables.kept c.rescan.ensures.same
+pub returns-then-quiet-length-clause-asks : goal.returns-then-quiet-length-clause-asks
+returns-then-quiet-length-clause-asks c = asks_cleared c.args.tables.now.store c.args.assignment.now.trail c.clear.new.self c.clear.ensures.none (omega (arith, c.clear.ensures.room, c.requires.room)) (omega (arith, ap (λ (xs : List ℕ). length xs) c.clear.ensures.asks, c.requires.long))
 
-pub left_least-requires-clause-within : goal.left_least-requires-clause-within
-left_least-requires-clause-within c =
-    let t = c.args.tables.now in
-    within_pending t.store t.kept.items c.args.assignment.now.trail (words_have c.rescan.new.pending) c.requires.tables.kept c.rescan.ensures.same
-
-pub returns-clause-units_are : goal.returns-clause-units_are
-returns-clause-units_are c =
-    let t = c.args.tables.now in
-    units_pending t.store t.kept.items c.args.assignment.now.trail t.slots.items (words_have c.rescan.new.pending) c.find_units.new.units.items c.rescan.ensures.same c.find_units.ensures.units_are
+pub returns-then-quiet-length-clause-complete : goal.returns-then-quiet-length-clause-complete
+returns-then-quiet-length-clause-complete c k p =
+    let flag = ap (λ (n : ℕ). get_or c.args.quiet.now n false) (sym c.length.ensures.is) ∙ sym c.index.ensures ∙ c.if-quiet-length.true in
+    clash (sym p ∙ c.requires.quiet flag k)

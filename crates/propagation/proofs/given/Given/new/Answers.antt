@@ -37,7 +37,7 @@ pub enter_part-requires-clause-given : goal.enter_part-requires-clause-given
 enter_part-requires-clause-given c =
     let g = c.in_ok-given.given in
     let e = c.in_ok-given.ensures in
-    given_none c.args.codes c.args.store.now g.slots.items g.lists.watched.items g.lists.chains.heads.items g.lists.chains.nodes.items g.lists.pending g.lists.units.items e.slots e.linked e.codes e.pending (omega (arith, e.room, c.count.ensures.value, ap (λ (cs : List (List ℕ)). length cs) c.requires.same))
+    given_none c.args.codes c.args.store.now g e.slots e.linked e.codes e.pending (omega (arith, e.room, c.count.ensures.value, ap (λ (cs : List (List ℕ)). length cs) c.requires.same)) (omega (arith, e.asks, c.count.ensures.value, ap (λ (cs : List (List ℕ)). length cs) c.requires.same))
 
 pub enter_part-requires-clause-twos : goal.enter_part-requires-clause-twos
 enter_part-requires-clause-twos c =
@@ -113,7 +113,7 @@ returns c =
     let p = c.parts-parts.result in
     let e = c.enter_part-3.new.self in
     let end : c.in_ok-enter_part.field-0 ≡ length c.args.store.now = omega (arith, whole_long p.told.now p.after.now c.args.store.now p.repeated.now (c.requires.same ∙ c.parts-parts.ensures.clauses), last_end a.In_ok-last (times_end a.In_ok-timed (steps_end a.In_ok-stepped (told_end a.In_ok-told))), sized c.in_ok-after_others.ensures.count refl, c.in_ok-enter_part.ensures.next) in
-    subst (λ (n : ℕ). AreGiven c.args.codes c.args.store.now n e.slots.items e.lists.watched.items e.lists.chains.heads.items e.lists.chains.nodes.items e.lists.pending e.lists.units.items) end c.in_ok-enter_part.ensures.given
+    subst (λ (n : ℕ). AreGiven c.args.codes c.args.store.now n e) end c.in_ok-enter_part.ensures.given
 
 pub enter_part-requires-clause-fit : goal.enter_part-requires-clause-fit
 enter_part-requires-clause-fit c = c.requires.fit

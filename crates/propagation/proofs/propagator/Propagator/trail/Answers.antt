@@ -11,4 +11,4 @@ pub returns : goal.returns
 returns c =
     let w = c.self.inside in
     same_view w.trail.variables c.args.self.now.variables w.trail.entries c.args.self.now.entries
-    (c.self.invariant.0.same ∙ ap (λ (v : PropagatorView). v.variables) c.self.view_is) (ap (λ (v : PropagatorView). v.entries) c.self.view_is)
+    (c.self.invariant.2 ∙ ap (λ (v : PropagatorView). v.variables) c.self.view_is) (ap (λ (v : PropagatorView). v.entries) c.self.view_is)

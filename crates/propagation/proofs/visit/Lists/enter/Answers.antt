@@ -1,14 +1,14 @@
-use Rattle.std.proofs.Common.{arith, ◌≡◌, ◌*◌, ◌∙◌, get_or, set, false, sym, ap, get_or-set_same}
+use Rattle.std.proofs.Common.{arith, ◌≡◌, ◌*◌, ◌∙◌, get_or, false, sym, ap, inr}
 use Rattle.std.proofs.lemmas.List.{get_or_read}
 use Rattle.clause_base.specs.Clause.{has_literal}
 use Rattle.propagation.specs.Pending.{is_free}
-use Rattle.propagation.proofs.UnitsTell.{false_past, false_after}
+use Rattle.propagation.proofs.Asks.{false_past, false_after}
 use Rattle.propagation.proofs.Enters.{IsEntered, rests_long, free_long, quiet_long}
 use Rattle.propagation.proofs.visit.Lists.enter.Goals as goal
 use Rattle.propagation.proofs.visit.Lists.enter.Goals.{After-free_until}
 
-pub overflow_add-result : goal.overflow_add-result
-overflow_add-result c = let s = c.free_until.ensures.short in omega (arith, s, c.requires.small)
+pub overflow_add : goal.overflow_add
+overflow_add c = let s = c.free_until.ensures.short in omega (arith, s, c.requires.small)
 
 entered : (c : After-free_until) → IsEntered c.args.clause.now c.args.slot c.args.assignment.now.trail c.args.self.now.watched.items c.to_watch-watched.result c.args.self.now.chains.heads.items c.args.self.now.chains.nodes.items c.link_two.new.self.heads.items c.link_two.new.self.nodes.items c.a.inside.0 c.b.inside.0
 entered c = record {
@@ -41,16 +41,15 @@ pub returns-clause-quiet : goal.returns-clause-quiet
 returns-clause-quiet c =
     quiet_long c.args.clause.now c.args.slot c.args.assignment.now.trail c.args.self.now.watched.items c.to_watch-watched.result c.args.self.now.chains.heads.items c.args.self.now.chains.nodes.items c.link_two.new.self.heads.items c.link_two.new.self.nodes.items c.a.inside.0 c.b.inside.0 c.free_until.result (entered c) c.free_until.ensures.lasts
 
-pub returns-clause-units_are : goal.returns-clause-units_are
-returns-clause-units_are c h two =
+pub returns-clause-ask : goal.returns-clause-ask
+returns-clause-ask c h =
     let trail = c.args.assignment.now.trail in
     let e = entered c in
     let k = c.args.clause.now in
     let off : is_free (has_literal trail) (get_or k c.to_watch-watched.result.second 0) ≡ false = ap (is_free (has_literal trail)) (sym e.second_is) ∙ false_past trail c.b.inside.0 c.free_until.result c.free_until.ensures.lasts h in
-    let unit : get_or (set c.args.self.now.units.items c.args.slot c.a.inside.0) c.args.slot 0 ≡ c.a.inside.0 = get_or-set_same c.args.self.now.units.items c.args.slot c.a.inside.0 0 c.requires.units in
-    record {
+    inr (record {
       place = c.to_watch-watched.result.first;
       inside = c.to_watch-watched.ensures.first_in;
-      own = sym (unit ∙ e.first_is);
+      own = sym e.first_is;
       others = λ p g ne. false_after trail (get_or k c.to_watch-watched.result.second 0) (get_or k p 0) (c.to_watch-watched.ensures.next p g ne) off;
-    }
+    })

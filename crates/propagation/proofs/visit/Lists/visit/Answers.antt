@@ -4,14 +4,13 @@ use Rattle.clause_base.specs.Clause.{has_literal}
 use Rattle.number_bits.specs.Bits.{words_have}
 use Rattle.propagation.specs.declared.visit.Watched.{Watched}
 use Rattle.propagation.specs.Pending.{is_free}
-use Rattle.propagation.specs.Units.{IsUnit}
+use Rattle.propagation.specs.Asks.{IsUnit, IsAsk}
 use Rattle.cdcl_rules.specs.State.{clause_at}
 use Rattle.propagation.specs.Visit.{no_watches, place_in, slot_clauses, slot_flags, slot_set, Grows, Stays}
 use Rattle.propagation.proofs.Filters.{settled_one}
 use Rattle.propagation.proofs.Visits.{has_below, listed_drop, listed_link, listed_true, moves_own, others_stay, own_moved, placed_moved, Beside, beside_of, settled_grows, grows_insert, own_insert}
-use Rattle.propagation.proofs.Slotted.{fit_slots, slots_long}
-use Rattle.propagation.proofs.Tabled.{insert_at}
-use Rattle.propagation.proofs.UnitsOfSlots.{units_insert, within_insert}
+use Rattle.propagation.proofs.Slotted.{fit_slots, slots_long, slot_at, insert_at}
+use Rattle.propagation.proofs.AsksKept.{asks_put}
 use Rattle.propagation.proofs.visit.Lists.visit.Goals as goal
 use Rattle.propagation.proofs.visit.Lists.visit.Goals.{After-lit}
 
@@ -57,26 +56,26 @@ link-requires-in-Some-clause-code c =
 pub returns-then-is_true-clause-listed : goal.returns-then-is_true-clause-listed
 returns-then-is_true-clause-listed c =
     let r = c.requires.listed.0 in
-    listed_true (slot_clauses c.args.tables.now.store c.args.tables.now.slots.items) c.args.self.now.watched.items c.args.self.now.chains.heads.items c.link.new.self.heads.items c.args.self.now.chains.nodes.items c.link.new.self.nodes.items c.args.spare (slot_flags c.args.tables.now.kept.items c.args.tables.now.slots.items) c.args.node c.blocking-blocking.result c.args.code (has_literal c.args.assignment.now.trail) (slot_set (words_have c.args.self.now.pending) c.args.tables.now.slots.items) r c.requires.listed.1
+    listed_true (slot_clauses c.args.tables.now.store c.args.tables.now.slots.items) c.args.self.now.watched.items c.args.self.now.chains.heads.items c.link.new.self.heads.items c.args.self.now.chains.nodes.items c.link.new.self.nodes.items c.args.spare (slot_flags c.args.tables.now.kept.items c.args.tables.now.slots.items) c.args.node c.blocking-blocking.result c.args.code (has_literal c.args.assignment.now.trail) (slot_set (words_have c.args.self.now.pending.numbers) c.args.tables.now.slots.items) r c.requires.listed.1
     (c.link.ensures.linked r.on r.linked c.requires.listed.1) c.link.ensures.codes c.link.ensures.nodes c.link.ensures.own c.link.ensures.others c.requires.real c.requires.own (ap (λ (x : ℕ). has_literal (clause_at (slot_clauses c.args.tables.now.store c.args.tables.now.slots.items) (c.args.node / 2)) x) c.blocking-blocking.ensures ∙ r.blockings c.args.node c.requires.real) (sym c.is_true.ensures ∙ c.if-is_true.true)
 
 pub returns-then-is_true-2-clause-listed : goal.returns-then-is_true-2-clause-listed
 returns-then-is_true-2-clause-listed c =
     let r = c.requires.listed.0 in
     let b = beside (goal.at.returns-then-is_true-2-clause-listed c).After-lit in
-    listed_true (slot_clauses c.args.tables.now.store c.args.tables.now.slots.items) c.args.self.now.watched.items c.args.self.now.chains.heads.items c.link-then-is_true-2.new.self.heads.items c.args.self.now.chains.nodes.items c.link-then-is_true-2.new.self.nodes.items c.args.spare (slot_flags c.args.tables.now.kept.items c.args.tables.now.slots.items) c.args.node c.lit.inside.0 c.args.code (has_literal c.args.assignment.now.trail) (slot_set (words_have c.args.self.now.pending) c.args.tables.now.slots.items) r c.requires.listed.1
+    listed_true (slot_clauses c.args.tables.now.store c.args.tables.now.slots.items) c.args.self.now.watched.items c.args.self.now.chains.heads.items c.link-then-is_true-2.new.self.heads.items c.args.self.now.chains.nodes.items c.link-then-is_true-2.new.self.nodes.items c.args.spare (slot_flags c.args.tables.now.kept.items c.args.tables.now.slots.items) c.args.node c.lit.inside.0 c.args.code (has_literal c.args.assignment.now.trail) (slot_set (words_have c.args.self.now.pending.numbers) c.args.tables.now.slots.items) r c.requires.listed.1
     (c.link-then-is_true-2.ensures.linked r.on r.linked c.requires.listed.1) c.link-then-is_true-2.ensures.codes c.link-then-is_true-2.ensures.nodes c.link-then-is_true-2.ensures.own c.link-then-is_true-2.ensures.others c.requires.real c.requires.own b.has (sym c.is_true-2.ensures ∙ c.if-is_true-2.true)
 
 pub returns-in-None-clause-listed : goal.returns-in-None-clause-listed
 returns-in-None-clause-listed c =
-    let has = insert_at (words_have c.args.self.now.pending) (words_have c.insert.new.self) c.number_at-number.result (get_or c.args.tables.now.slots.items (c.args.node / 2) 0) c.number_at-number.ensures c.insert.ensures.has in
-    let grown : Grows (slot_set (words_have c.args.self.now.pending) c.args.tables.now.slots.items) (slot_set (words_have c.insert.new.self) c.args.tables.now.slots.items) = (λ k h. grows_insert (words_have c.args.self.now.pending) (words_have c.insert.new.self) (get_or c.args.tables.now.slots.items (c.args.node / 2) 0) has (get_or c.args.tables.now.slots.items k 0) h) in
-    let own = own_insert (words_have c.args.self.now.pending) (words_have c.insert.new.self) (get_or c.args.tables.now.slots.items (c.args.node / 2) 0) has in
+    let has = insert_at (words_have c.args.self.now.pending.numbers) (words_have c.put.new.self.numbers) c.number_at.result (get_or c.args.tables.now.slots.items (c.args.node / 2) 0) c.number_at.ensures c.put.ensures.has in
+    let grown : Grows (slot_set (words_have c.args.self.now.pending.numbers) c.args.tables.now.slots.items) (slot_set (words_have c.put.new.self.numbers) c.args.tables.now.slots.items) = (λ k h. grows_insert (words_have c.args.self.now.pending.numbers) (words_have c.put.new.self.numbers) (get_or c.args.tables.now.slots.items (c.args.node / 2) 0) has (get_or c.args.tables.now.slots.items k 0) h) in
+    let own = own_insert (words_have c.args.self.now.pending.numbers) (words_have c.put.new.self.numbers) (get_or c.args.tables.now.slots.items (c.args.node / 2) 0) has in
     let cl = slot_clauses c.args.tables.now.store c.args.tables.now.slots.items in
     let wa = c.args.self.now.watched.items in
     let on = has_literal c.args.assignment.now.trail in
-    let s = slot_set (words_have c.args.self.now.pending) c.args.tables.now.slots.items in
-    let s' = slot_set (words_have c.insert.new.self) c.args.tables.now.slots.items in
+    let s = slot_set (words_have c.args.self.now.pending.numbers) c.args.tables.now.slots.items in
+    let s' = slot_set (words_have c.put.new.self.numbers) c.args.tables.now.slots.items in
     let r = c.requires.listed.0 in
     let W = Stays cl wa on s c.args.code in
     let W' = Stays cl wa on s' c.args.code in
@@ -94,7 +93,7 @@ returns-in-Some-clause-listed c =
     let w' = c.moved.result in
     let wa' = set wa (c.args.node / 2) w' in
     let on = has_literal c.args.assignment.now.trail in
-    let s = slot_set (words_have c.args.self.now.pending) c.args.tables.now.slots.items in
+    let s = slot_set (words_have c.args.self.now.pending.numbers) c.args.tables.now.slots.items in
     let r = c.requires.listed.0 in
     let W = Stays cl wa on s c.args.code in
     let W' = Stays cl wa' on s c.args.code in
@@ -118,35 +117,32 @@ returns-in-Some-clause-listed c =
 number_in : (c : After-lit) → get_or c.args.tables.now.slots.items (c.args.node / 2) 0 < length c.args.tables.now.store
 number_in c = c.requires.tables.slotted (c.args.node / 2) (omega (arith, c.requires.real.below, slots_long c.args.tables.now.store c.args.tables.now.slots.items))
 
-pub insert-requires : goal.insert-requires
-insert-requires c = omega (arith, c.number_at-number.ensures, number_in (goal.at.insert-requires c).After-lit, c.requires.set.room)
+pub put-requires-clause-number : goal.put-requires-clause-number
+put-requires-clause-number c = omega (arith, c.number_at.ensures, number_in (goal.at.put-requires-clause-number c).After-lit, c.requires.asks.room)
 
-pub returns-in-None-clause-set : goal.returns-in-None-clause-set
-returns-in-None-clause-set c =
-    let has = insert_at (words_have c.args.self.now.pending) (words_have c.insert.new.self) c.number_at-number.result (get_or c.args.tables.now.slots.items (c.args.node / 2) 0) c.number_at-number.ensures c.insert.ensures.has in
+pub put-requires-clause-ask : goal.put-requires-clause-ask
+put-requires-clause-ask c = omega (arith, c.number_at.ensures, number_in (goal.at.put-requires-clause-ask c).After-lit, c.requires.asks.long)
+
+pub returns-in-None-clause-asks : goal.returns-in-None-clause-asks
+returns-in-None-clause-asks c =
     let store = c.args.tables.now.store in
     let slots = c.args.tables.now.slots.items in
-    let cl = slot_clauses store slots in
     let on = has_literal c.args.assignment.now.trail in
     let slot = c.args.node / 2 in
     let inside : slot < length slots = omega (arith, c.requires.real.below, slots_long store slots) in
-    let b = beside (goal.at.returns-in-None-clause-set c).After-lit in
-    let own : IsUnit on (clause_at cl slot) c.lit.inside.0 = subst (λ (xs : List ℕ). IsUnit on xs c.lit.inside.0) c.slot_clause-clause.ensures (record {
+    let here = (goal.at.returns-in-None-clause-asks c).After-lit in
+    let b = beside here in
+    let read = c.slot_clause-clause.result in
+    let long : c.at-other.result < length read = omega (arith, b.inside, ap (λ (xs : List ℕ). length xs) c.slot_clause-clause.ensures) in
+    let own : IsUnit on read c.lit.inside.0 = record {
       place = c.at-other.result;
-      inside = omega (arith, b.inside, ap (λ (xs : List ℕ). length xs) c.slot_clause-clause.ensures);
-      own = sym (c.lit.view_is ∙ get_or_read c.slot_clause-clause.result c.at-other.result c.get-lit.result (omega (arith, b.inside, ap (λ (xs : List ℕ). length xs) c.slot_clause-clause.ensures)) c.get-lit.ensures.item 0);
+      inside = long;
+      own = sym (c.lit.view_is ∙ get_or_read read c.at-other.result c.get-lit.result long c.get-lit.ensures.item 0);
       others = c.in-None.ensures.none;
-    }) in
-    record {
-      room = omega (arith, c.requires.set.room, c.insert.ensures.room);
-      members = record {
-        within = within_insert (length store) (get_or slots slot 0) (words_have c.args.self.now.pending) (words_have c.insert.new.self) (number_in (goal.at.returns-in-None-clause-set c).After-lit) c.requires.set.members.within has;
-        units_are = units_insert store on (words_have c.args.self.now.pending) (words_have c.insert.new.self) slots c.args.self.now.units.items (set c.args.self.now.units.items slot c.lit.inside.0) slot c.lit.inside.0 c.requires.set.members.distinct c.requires.set.members.units_are inside (omega (arith, inside, c.requires.set.members.long)) own has refl;
-        long = omega (arith, c.requires.set.members.long, length-set c.args.self.now.units.items slot c.lit.inside.0);
-        distinct = c.requires.set.members.distinct;
-        consistent = c.requires.set.members.consistent;
-      };
-    }
+    } in
+    let at : read ≡ clause_at store c.number_at.result = c.slot_clause-clause.ensures ∙ slot_at store slots slot inside ∙ ap (λ (n : ℕ). clause_at store n) (sym c.number_at.ensures) in
+    asks_put store c.args.assignment.now.trail c.number_at.result c.lit.inside.0 c.args.self.now.pending c.put.new.self c.requires.asks c.put.ensures (omega (arith, c.number_at.ensures, number_in here))
+    (subst (λ (xs : List ℕ). IsAsk on xs c.lit.inside.0) at (inr own))
 
 pub returns-in-Some-clause-moves : goal.returns-in-Some-clause-moves
 returns-in-Some-clause-moves c =
@@ -168,7 +164,7 @@ is_slot_kept-requires-clause-inside c = omega (arith, c.requires.real.below, slo
 pub returns-then-not-is_slot_kept-clause-listed : goal.returns-then-not-is_slot_kept-clause-listed
 returns-then-not-is_slot_kept-clause-listed c =
     let cl = slot_clauses c.args.tables.now.store c.args.tables.now.slots.items in
-    listed_drop cl c.args.self.now.watched.items c.args.self.now.chains.heads.items c.args.self.now.chains.nodes.items c.args.spare (slot_flags c.args.tables.now.kept.items c.args.tables.now.slots.items) c.args.node (Stays cl c.args.self.now.watched.items (has_literal c.args.assignment.now.trail) (slot_set (words_have c.args.self.now.pending) c.args.tables.now.slots.items) c.args.code) c.requires.listed.0 (sym c.is_slot_kept.ensures ∙ c.if-not-is_slot_kept.true)
+    listed_drop cl c.args.self.now.watched.items c.args.self.now.chains.heads.items c.args.self.now.chains.nodes.items c.args.spare (slot_flags c.args.tables.now.kept.items c.args.tables.now.slots.items) c.args.node (Stays cl c.args.self.now.watched.items (has_literal c.args.assignment.now.trail) (slot_set (words_have c.args.self.now.pending.numbers) c.args.tables.now.slots.items) c.args.code) c.requires.listed.0 (sym c.is_slot_kept.ensures ∙ c.if-not-is_slot_kept.true)
 
 pub returns-in-Some-clause-lengths : goal.returns-in-Some-clause-lengths
 returns-in-Some-clause-lengths c =
@@ -184,14 +180,11 @@ slot_clause-clause-requires-clause-inside c = omega (arith, c.requires.real.belo
 pub slot_clause-clause-requires-clause-below : goal.slot_clause-clause-requires-clause-below
 slot_clause-clause-requires-clause-below c = c.requires.tables.slotted
 
-pub number_at-number-requires : goal.number_at-number-requires
-number_at-number-requires c = omega (arith, c.requires.real.below, slots_long c.args.tables.now.store c.args.tables.now.slots.items)
+pub number_at-requires : goal.number_at-requires
+number_at-requires c = omega (arith, c.requires.real.below, slots_long c.args.tables.now.store c.args.tables.now.slots.items)
 
 pub index_mut-requires : goal.index_mut-requires
 index_mut-requires c = omega (arith, c.requires.real.below, c.requires.listed.0.placed.many)
-
-pub index_mut-requires-in-None : goal.index_mut-requires-in-None
-index_mut-requires-in-None c = omega (arith, c.requires.real.below, slots_long c.args.tables.now.store c.args.tables.now.slots.items, c.requires.set.members.long)
 
 pub returns-then-is_true-clause-moves : goal.returns-then-is_true-clause-moves
 returns-then-is_true-clause-moves c k r = inl refl
@@ -215,4 +208,4 @@ pub returns-in-None-clause-lengths : goal.returns-in-None-clause-lengths
 returns-in-None-clause-lengths c = c.link-in-None.ensures.lengths c.args.code (omega (arith, c.requires.code, c.requires.listed.0.codes)) (λ (e : c.args.code ≡ c.args.spare). omega (arith, e, c.requires.code))
 
 pub returns-in-None-clause-grows : goal.returns-in-None-clause-grows
-returns-in-None-clause-grows c = grows_insert (words_have c.args.self.now.pending) (words_have c.insert.new.self) (get_or c.args.tables.now.slots.items (c.args.node / 2) 0) (insert_at (words_have c.args.self.now.pending) (words_have c.insert.new.self) c.number_at-number.result (get_or c.args.tables.now.slots.items (c.args.node / 2) 0) c.number_at-number.ensures c.insert.ensures.has)
+returns-in-None-clause-grows c = grows_insert (words_have c.args.self.now.pending.numbers) (words_have c.put.new.self.numbers) (get_or c.args.tables.now.slots.items (c.args.node / 2) 0) (insert_at (words_have c.args.self.now.pending.numbers) (words_have c.put.new.self.numbers) c.number_at.result (get_or c.args.tables.now.slots.items (c.args.node / 2) 0) c.number_at.ensures c.put.ensures.has)

@@ -1,5 +1,5 @@
--- The unit literals of the clauses of the set tell whether they are pending.
-use Rattle.std.proofs.Common.{arith, ◌≡◌, ◌≢◌, ◌==◌, ℕ, suc, ◌+◌, ◌-◌, ◌%◌, ◌<◌, ◌≤◌, List, [], ◌∷◌, ◌++◌, length, take, set, get_or, leb, Bool, true, false, not, ◌||◌, ◌&&◌, if◌then◌else◌, refl, sym, ap, ◌∙◌, subst, Some}
+-- What a clause asks for tells whether it is pending, and what it leaves.
+use Rattle.std.proofs.Common.{arith, ◌≡◌, ◌≢◌, ◌==◌, ℕ, zero, suc, ◌+◌, ◌-◌, ◌%◌, ◌<◌, ◌≤◌, List, [], ◌∷◌, ◌++◌, length, take, set, get_or, leb, Bool, true, false, not, ◌||◌, ◌&&◌, if◌then◌else◌, refl, sym, ap, ◌∙◌, subst, Some, inl, inr}
 use Rattle.std.specs.List.{list_any, filter}
 use Rattle.std.proofs.lemmas.Bool.Decides.{nat_tests}
 use Rattle.std.proofs.lemmas.List.{take_all}
@@ -10,7 +10,7 @@ use Rattle.number_bits.specs.Bits.{IsLeast}
 use Rattle.cdcl_trail.proofs.Assignments.{has-snoc}
 use Rattle.pair_index.specs.declared.pair.Pair.{Pair}
 use Rattle.propagation.specs.Pending.{is_free, is_pending_on}
-use Rattle.propagation.specs.Units.{IsUnit, AreUnits, IsConsistent}
+use Rattle.propagation.specs.Asks.{IsUnit, IsAsk, IsConsistent}
 use Rattle.cdcl_rules.specs.State.{clause_at}
 use Rattle.propagation.specs.Visit.{Grows, IsFit}
 use Rattle.pair_index.specs.Pairs.{pair_in}
@@ -54,7 +54,7 @@ pending_by_unit trail clause unit cons a = met (has_literal trail unit) refl
         at i g true e = own i (equal_of i a.place e) f
         at i g false e = off_of trail (get_or clause i 0) cons (a.others i g (apart_of i a.place e))
 
--- it is its unit literal on longer trails
+-- it is its unit literal on longer trails, and what it asks for stays
 pub unit_longer : (on on' : ℕ → Bool) (clause : List ℕ) (unit : ℕ) → ((l : ℕ) → on l ≡ true → on' l ≡ true) → IsUnit on clause unit → IsUnit on' clause unit
 unit_longer on on' clause unit h a = record {
   place = a.place;
@@ -63,8 +63,9 @@ unit_longer on on' clause unit h a = record {
   others = λ p g ne. ap (λ (b : Bool). not b) (h (opposite (get_or clause p 0)) (not_false (on (opposite (get_or clause p 0))) (a.others p g ne)));
 }
 
-pub all_longer : (cl : List (List ℕ)) (trail : List ℕ) (x : ℕ) (set : ℕ → Bool) (units : List ℕ) → AreUnits cl (has_literal trail) set units → AreUnits cl (has_literal (trail ++ x ∷ [])) set units
-all_longer cl trail x set units a s h long = unit_longer (has_literal trail) (has_literal (trail ++ x ∷ [])) (clause_at cl s) (get_or units s 0) (true_longer trail x) (a s h long)
+pub ask_longer : (on on' : ℕ → Bool) (clause : List ℕ) (ask : ℕ) → ((l : ℕ) → on l ≡ true → on' l ≡ true) → IsAsk on clause ask → IsAsk on' clause ask
+ask_longer on on' clause ask h (inl e) = inl e
+ask_longer on on' clause ask h (inr u) = inr (unit_longer on on' clause ask h u)
 
 -- trails on which no literal is true and false
 pub consistent_none : (trail : List ℕ) → trail ≡ [] → IsConsistent trail
@@ -193,16 +194,7 @@ pending_kept cl kept trail k p = by (get_or kept k false) (sym (pending_at cl ke
     by true e = e
     by false e = absurd (let w : ⊥ = cc in w)
 
--- one number more is looked at
-pub scanned : (p s s' : ℕ → Bool) (n : ℕ) → ((k : ℕ) → k < n → s k ≡ p k) → s n ≡ false → ((k : ℕ) → (k ≡ n → ⊥) → s' k ≡ s k) → (p n ≡ true → s' n ≡ true) → (p n ≡ false → s' n ≡ s n) → (k : ℕ) → k < n + 1 → s' k ≡ p k
-scanned p s s' n before off others own none k h = by (k == n) refl (p n) refl
-  where
-    by : (b : Bool) → (k == n) ≡ b → (q : Bool) → p n ≡ q → s' k ≡ p k
-    by true f true g = let e = equal_of k n f in ap s' e ∙ own g ∙ sym g ∙ ap p (sym e)
-    by true f false g = let e = equal_of k n f in ap s' e ∙ none g ∙ off ∙ sym g ∙ ap p (sym e)
-    by false f q g = let ne : k ≢ n = apart_of k n f in others k ne ∙ before k (omega (arith, h, ne))
-
--- and one pair more is marked
+-- one pair more is marked
 pub marked_more : (pairs : List Pair) (n : ℕ) (on s s' : ℕ → Bool) → ((i : ℕ) → i < n → on (pair_in pairs i).other ≡ false → s (pair_in pairs i).number ≡ true) → Grows s s' → (on (pair_in pairs n).other ≡ false → s' (pair_in pairs n).number ≡ true) → (i : ℕ) → i < n + 1 → on (pair_in pairs i).other ≡ false → s' (pair_in pairs i).number ≡ true
 marked_more pairs n on s s' old grows own i h f = by (i == n) refl
   where
@@ -219,3 +211,57 @@ below_more P i before here p h = by (p == i) refl
     by : (b : Bool) → (p == i) ≡ b → P p
     by true e = subst P (sym (equal_of p i e)) here
     by false e = let ne : p ≢ i = apart_of p i e in before p (omega (arith, h, ne))
+
+-- a test that fails everywhere, and one that passes at one place
+pub none_left : (p : ℕ → Bool) (xs : List ℕ) → ((i : ℕ) → i < length xs → p (get_or xs i 0) ≡ false) → filter p xs ≡ []
+none_left p [] h = refl
+none_left p (x ∷ xs) h =
+    ap (λ (b : Bool). if b then x ∷ filter p xs else filter p xs) (h 0 (omega arith))
+    ∙ none_left p xs (λ i g. h (suc i) (omega (arith, g)))
+
+one_left : (p : ℕ → Bool) (xs : List ℕ) (k : ℕ) → k < length xs → ((i : ℕ) → i < length xs → (i ≡ k → ⊥) → p (get_or xs i 0) ≡ false) → p (get_or xs k 0) ≡ true → filter p xs ≡ get_or xs k 0 ∷ []
+one_left p [] k g h e = absurd (omega arith)
+one_left p (x ∷ xs) zero g h e =
+    ap (λ (b : Bool). if b then x ∷ filter p xs else filter p xs) e
+    ∙ ap (λ (ys : List ℕ). x ∷ ys) (none_left p xs (λ i l. h (suc i) (omega (arith, l)) (λ (q : suc i ≡ 0). absurd (omega (arith, q)))))
+one_left p (x ∷ xs) (suc k) g h e =
+    ap (λ (b : Bool). if b then x ∷ filter p xs else filter p xs) (h 0 (omega arith) (λ (q : 0 ≡ suc k). absurd (omega (arith, q))))
+    ∙ one_left p xs k (omega (arith, g)) (λ i l ne. h (suc i) (omega (arith, l)) (λ (q : suc i ≡ suc k). ne (omega (arith, q)))) e
+
+-- the unit literal, where it is not false
+pub left_one : (on : ℕ → Bool) (clause : List ℕ) (unit : ℕ) → IsUnit on clause unit → is_free on unit ≡ true → filter (is_free on) clause ≡ unit ∷ []
+left_one on clause unit a f = one_left (is_free on) clause a.place a.inside a.others (ap (is_free on) a.own ∙ f) ∙ ap (λ (l : ℕ). l ∷ []) a.own
+
+-- else none
+pub left_none : (on : ℕ → Bool) (clause : List ℕ) (unit : ℕ) → IsUnit on clause unit → is_free on unit ≡ false → filter (is_free on) clause ≡ []
+left_none on clause unit a f = none_left (is_free on) clause (λ i g. at i g (i == a.place) refl)
+  where
+    at : (i : ℕ) → i < length clause → (b : Bool) → (i == a.place) ≡ b → is_free on (get_or clause i 0) ≡ false
+    at i g true e = ap (λ (j : ℕ). is_free on (get_or clause j 0)) (equal_of i a.place e) ∙ ap (is_free on) a.own ∙ f
+    at i g false e = a.others i g (apart_of i a.place e)
+
+-- so what a clause asks for tells whether it is pending, and what it leaves
+pub ask_true : (trail clause : List ℕ) (ask : ℕ) → IsConsistent trail → IsAsk (has_literal trail) clause ask → (ask ≡ 4294967295 → ⊥) → has_literal trail ask ≡ true → is_pending (has_literal trail) clause ≡ false
+ask_true trail clause ask cons (inl e) some t = absurd (some e.1)
+ask_true trail clause ask cons (inr u) some t = pending_by_unit trail clause ask cons u ∙ ap (λ (b : Bool). not b) t
+
+pub ask_open : (trail clause : List ℕ) (ask : ℕ) → IsConsistent trail → IsAsk (has_literal trail) clause ask → (ask ≡ 4294967295 → ⊥) → has_literal trail ask ≡ false → is_pending (has_literal trail) clause ≡ true
+ask_open trail clause ask cons (inl e) some f = absurd (some e.1)
+ask_open trail clause ask cons (inr u) some f = pending_by_unit trail clause ask cons u ∙ ap (λ (b : Bool). not b) f
+
+pub ask_left : (on : ℕ → Bool) (clause : List ℕ) (ask : ℕ) → IsAsk on clause ask → (ask ≡ 4294967295 → ⊥) → is_free on ask ≡ true → filter (is_free on) clause ≡ ask ∷ []
+ask_left on clause ask (inl e) some f = absurd (some e.1)
+ask_left on clause ask (inr u) some f = left_one on clause ask u f
+
+pub ask_none : (on : ℕ → Bool) (clause : List ℕ) (ask : ℕ) → IsAsk on clause ask → (ask ≡ 4294967295 → ⊥) → is_free on ask ≡ false → filter (is_free on) clause ≡ []
+ask_none on clause ask (inl e) some f = absurd (some e.1)
+ask_none on clause ask (inr u) some f = left_none on clause ask u f
+
+-- what a clause asks for is one of its literals, if it has any
+pub ask_below : (cl : List (List ℕ)) (on : ℕ → Bool) (k ask codes : ℕ) → IsFit cl codes → IsAsk on (clause_at cl k) ask → (ask ≡ 4294967295 → ⊥) → ask < codes
+ask_below cl on k ask codes fit (inl e) some = absurd (some e.1)
+ask_below cl on k ask codes fit (inr u) some = unit_below cl on k ask codes fit u
+
+pub ask_empty : (cl : List (List ℕ)) (on : ℕ → Bool) (k ask codes : ℕ) → IsFit cl codes → codes ≤ 4294967294 → IsAsk on (clause_at cl k) ask → ask ≡ 4294967295 → clause_at cl k ≡ []
+ask_empty cl on k ask codes fit few (inl e) none = e.0
+ask_empty cl on k ask codes fit few (inr u) none = absurd (omega (arith, unit_below cl on k ask codes fit u, few, none))
