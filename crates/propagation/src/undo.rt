@@ -20,7 +20,8 @@ pub fn refresh(tables: &Tables, quiet: &[bool], assignment: &Assignment, pending
     ensures asks { HasAsks tables.now.store assignment.now.trail pending.new }
     ensures complete { IsComplete (pending_in tables.now assignment.now.trail) pending.new }
 {
-    if quiet[assignment.length() as usize] {
+    let is_quiet = quiet[assignment.length() as usize];
+    if is_quiet {
         pending.clear();
     } else {
         rescan(tables, assignment, pending);

@@ -1,6 +1,9 @@
-use Rattle.std.proofs.Common.{arith, ◌∙◌, ap, sym}
+use Rattle.std.proofs.Common.{arith, ℕ, sym, subst}
+use Rattle.std.proofs.lemmas.List.{get_or_read}
 use Rattle.clause_base.specs.Clause.{has_literal}
 use Rattle.number_bits.specs.Bits.{words_have}
+use Rattle.cdcl_rules.specs.State.{clause_at}
+use Rattle.propagation.specs.Asks.{IsAsk}
 use Rattle.propagation.specs.Tables.{pending_in}
 use Rattle.propagation.proofs.Asks.{cleaned_complete, cleaned_least, cleaned_fewer}
 use Rattle.propagation.proofs.AsksKept.{asks_fewer}
@@ -14,7 +17,11 @@ pub answer-requires-clause-inside : goal.answer-requires-clause-inside
 answer-requires-clause-inside c = c.taking.invariant.asks.within c.in-Some.number c.in-Some.ensures.0
 
 pub answer-requires-clause-ask : goal.answer-requires-clause-ask
-answer-requires-clause-ask c = c.taking.invariant.asks.are c.in-Some.number c.in-Some.ensures.0
+answer-requires-clause-ask c =
+    let a = c.taking.invariant.asks in
+    let inside = a.within c.in-Some.number c.in-Some.ensures.0 in
+    let read = get_or_read c.taking.pending.asks.items c.in-Some.number c.index-ask.result.now (omega (arith, inside, a.long)) c.index-ask.ensures 0 in
+    subst (λ (x : ℕ). IsAsk (has_literal c.args.assignment.now.trail) (clause_at c.args.tables.now.store c.in-Some.number) x) (sym read) (a.are c.in-Some.number c.in-Some.ensures.0)
 
 pub remove-requires : goal.remove-requires
 remove-requires c = omega (arith, c.taking.invariant.asks.within c.in-Some.number c.in-Some.ensures.0, c.taking.invariant.asks.room)

@@ -71,7 +71,7 @@ returns c =
     let store = c.args.store.now in
     let g = record c.args.self.now { lists = c.widen.new.self } in
     let g' = record c.args.self.now { slots = c.push.new.self; lists = c.enter_last.new.self } in
-    let rests = subst (λ (n : ℕ). RestsWith (clause_at store c.args.number) n c.args.codes g.lists g'.lists) (omega (arith, c.len-slot.ensures))
+    let rests = subst (λ (n : ℕ). RestsWith (clause_at store c.args.number) n c.args.codes g.lists g'.lists) (let f : c.len-slot.result ≡ length c.args.self.now.slots.items = omega (arith, c.len-slot.ensures) in f)
     (subst (λ (xs : List ℕ). RestsWith xs c.len-slot.result c.args.codes g.lists g'.lists) (read here) c.enter_last.ensures.rest) in
     given_long c.args.codes store c.args.number g g' (wide (goal.at.returns c).After-widen)
     (omega (arith, ap (λ (xs : List ℕ). length xs) (read here), c.len-length.ensures, c.if-length-eq2.false, c.if-length-lt2.false)) c.in_ok-push.ensures.items c.enter_last.ensures.pending rests

@@ -6,6 +6,7 @@ use Rattle.cdcl_trail.specs.Assignment.{AssignmentView, literals}
 use Rattle.propagation.specs.Added.{IsTaken, IsQuietBelow, IsRaised}
 use Rattle.propagation.specs.Asks.{IsAsk}
 use Rattle.propagation.specs.declared.pending.Pending.{Pending}
+use Rattle.propagation.specs.declared.tables.Tables.{Tables}
 use Rattle.propagation.specs.Tables.{clauses_in, flags_in}
 use Rattle.propagation.specs.Pending.{PropagatorView}
 use Rattle.propagation.specs.Pairs.{IsPaired}
@@ -48,8 +49,8 @@ make_room-requires c =
       watches = omega (arith, i.rest.placed.many, long, c.len-slot.ensures);
     }
 
-pub invariant_of-self-in_err-make_room : goal.invariant_of-self-in_err-make_room
-invariant_of-self-in_err-make_room c = let h = (goal.at.invariant_of-self-in_err-make_room c).After-make_room in (roomy h, paired h, c.self.invariant.2)
+pub invariant_of-self : goal.invariant_of-self
+invariant_of-self c = let h = (goal.at.invariant_of-self c).After-make_room in (roomy h, paired h, c.self.invariant.2)
 
 pub invariant_of-self-in_err-push : goal.invariant_of-self-in_err-push
 invariant_of-self-in_err-push c =
@@ -123,7 +124,7 @@ invariant_of-self-2 c =
     let number : c.count-number.result ≡ length t.store = c.count-number.ensures.value ∙ ap (λ (cs : List (List ℕ)). length cs) (sym e.store) in
     let taken = subst (λ (n : ℕ). IsTaken k c.count-number.result (2 * n) trail t.slots.items l c.take_slot.new.slots.items c.take_slot.new.lists) (over a)
     (subst (λ (ys : List ℕ). IsTaken k c.count-number.result (2 * c.assignment-assignment.result.variables) ys t.slots.items l c.take_slot.new.slots.items c.take_slot.new.lists) (told a) c.take_slot.ensures.taken) in
-    let t' = record { store = c.push.new.self; kept = c.push-2.new.self; slots = c.take_slot.new.slots } in
+    let t' : Tables = record { store = c.push.new.self; kept = c.push-2.new.self; slots = c.take_slot.new.slots } in
     let done : IsAddedTo w.variables t l trail w.quiet.items k c.count-number.result c.in_ok-entered.entered t' c.take_slot.new.lists c.raise.new.pending c.raise.new.quiet.items = record {
       lawful = c.requires.lawful;
       below = below h;

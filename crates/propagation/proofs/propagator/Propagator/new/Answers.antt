@@ -2,6 +2,7 @@ use Rattle.std.proofs.Common.{arith, ◌≡◌, ◌*◌, ◌≤◌, ℕ, List, t
 use Rattle.cdcl_trail.specs.Assignment.{literals}
 use Rattle.cdcl_trail.specs.Mirrored.{TrailView}
 use Rattle.pair_index.specs.Pairs.{IsIndex}
+use Rattle.propagation.specs.declared.tables.Tables.{Tables}
 use Rattle.propagation.specs.Visit.{IsFit}
 use Rattle.propagation.proofs.Givens.{fit_given, sound_given, paired_given}
 use Rattle.propagation.proofs.propagator.Propagator.new.Goals as goal
@@ -21,7 +22,7 @@ invariant_of-result c =
     let v = c.variables-variables.result in
     let store = c.in_ok-store.store in
     let g = c.in_ok-given.given in
-    let t = record { store = store; kept = c.in_ok-kept.kept; slots = g.slots } in
+    let t : Tables = record { store = store; kept = c.in_ok-kept.kept; slots = g.slots } in
     let all : length store ≡ c.count-count.result = (let e = ap (λ (cs : List (List ℕ)). length cs) c.in_ok-store.ensures in omega (arith, e, c.count-count.ensures.value)) in
     let f = fit_store (goal.at.invariant_of-result c).After-count-count store c.in_ok-store.ensures in
     let small : v ≤ 2147483647 = omega (arith, c.variables-variables.ensures.small, c.variables-variables.ensures.value) in

@@ -7,8 +7,8 @@ use Rattle.propagation.proofs.Enters.{IsEntered, rests_long, free_long, quiet_lo
 use Rattle.propagation.proofs.visit.Lists.enter.Goals as goal
 use Rattle.propagation.proofs.visit.Lists.enter.Goals.{After-free_until}
 
-pub overflow_add : goal.overflow_add
-overflow_add c = let s = c.free_until.ensures.short in omega (arith, s, c.requires.small)
+pub overflow_add-result : goal.overflow_add-result
+overflow_add-result c = let s = c.free_until.ensures.short in omega (arith, s, c.requires.small)
 
 entered : (c : After-free_until) → IsEntered c.args.clause.now c.args.slot c.args.assignment.now.trail c.args.self.now.watched.items c.to_watch-watched.result c.args.self.now.chains.heads.items c.args.self.now.chains.nodes.items c.link_two.new.self.heads.items c.link_two.new.self.nodes.items c.a.inside.0 c.b.inside.0
 entered c = record {
