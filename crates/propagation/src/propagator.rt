@@ -201,7 +201,7 @@ impl Propagator {
         let assignment = self.trail.assignment();
         refresh(
             &self.tables,
-            self.quiet.as_slice(),
+            &self.quiet,
             &assignment,
             &mut self.lists.pending,
         );

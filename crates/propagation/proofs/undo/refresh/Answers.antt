@@ -9,7 +9,8 @@ returns-then-is_quiet-clause-asks c = asks_cleared c.args.tables.now.store c.arg
 
 pub returns-then-is_quiet-clause-complete : goal.returns-then-is_quiet-clause-complete
 returns-then-is_quiet-clause-complete c k p =
-    let inside : c.length.result < length c.args.quiet.now = omega (arith, c.requires.flags, c.length.ensures.is) in
-    let read = get_or_read c.args.quiet.now c.length.result c.index-is_quiet.result inside c.index-is_quiet.is false in
-    let flag = ap (λ (n : ℕ). get_or c.args.quiet.now n false) (sym c.length.ensures.is) ∙ sym read ∙ c.if-is_quiet.true in
+    let flags = c.args.quiet.now.items in
+    let inside : c.length.result < length flags = omega (arith, c.requires.flags, c.length.ensures.is) in
+    let read = get_or_read flags c.length.result c.index-is_quiet.result.now inside c.index-is_quiet.ensures false in
+    let flag = ap (λ (n : ℕ). get_or flags n false) (sym c.length.ensures.is) ∙ sym read ∙ c.if-is_quiet.true in
     clash (sym p ∙ c.requires.quiet flag k)

@@ -51,13 +51,13 @@ refresh-requires-clause-tables c =
 pub refresh-requires-clause-flags : goal.refresh-requires-clause-flags
 refresh-requires-clause-flags c =
     let at = (goal.at.refresh-requires-clause-flags c).After-assignment-assignment in
-    omega (arith, long_is at, less at, c.length-before.ensures.short, length-map c.self.inside.trail.entries (λ (a : Assigned). a.literal), c.length-before.ensures.is, c.self.invariant.2, c.self.invariant.0.quiet_size, ap (λ (qs : List Bool). length qs) c.as_slice.ensures.value)
+    omega (arith, long_is at, less at, c.length-before.ensures.short, length-map c.self.inside.trail.entries (λ (a : Assigned). a.literal), c.length-before.ensures.is, c.self.invariant.2, c.self.invariant.0.quiet_size)
 
 pub refresh-requires-clause-quiet : goal.refresh-requires-clause-quiet
 refresh-requires-clause-quiet c q k =
     let w = c.self.inside in
     let at = (goal.at.refresh-requires-clause-quiet c).After-assignment-assignment in
-    let flag = ap (λ (n : ℕ). get_or w.quiet.items n false) (sym (long_is at)) ∙ ap (λ (qs : List Bool). get_or qs (length c.assignment-assignment.result.trail) false) (sym c.as_slice.ensures.value) ∙ q in
+    let flag = ap (λ (n : ℕ). get_or w.quiet.items n false) (sym (long_is at)) ∙ q in
     ap (λ (xs : List ℕ). pending_in w.tables xs k) (told at ∙ taken at)
     ∙ c.self.invariant.0.quiets (length c.backtrack.new.self.entries) (less at) flag k
 
