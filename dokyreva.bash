@@ -1,5 +1,5 @@
-# Completion for bash: . dokyreva.bash, then the Tab key after ./dokyreva, ./plan, ./spread or ./plan-view, or after these names
-# without their folder. What is completed stands in launch/help.
+# Completion for bash: . dokyreva.bash, then the Tab key after ./dokyreva, ./plan, ./plan-by, ./spread or ./plan-view, or after
+# these names without their folder. What is completed stands in launch/help.
 
 _dokyreva_help=$(readlink -f -- "${BASH_SOURCE[0]}")
 _dokyreva_help=${_dokyreva_help%/*}/launch/help
@@ -54,6 +54,8 @@ _dokyreva() {
         _dokyreva_words "$(_dokyreva_commands)"
     elif [ "$command" = gen ] && [ "$place" = 1 ]; then
         _dokyreva_words corridor gripper
+    elif [ "$command" = plan-by ] && [ "$place" = 1 ]; then
+        _dokyreva_words cadical kissat drat:
     elif [ "$values" = FOLDER ]; then
         mapfile -t COMPREPLY < <(compgen -d -- "$word")
     elif [[ $before == --* && $before != --help && $values != FILE ]]; then
@@ -65,4 +67,4 @@ _dokyreva() {
     fi
 }
 
-complete -o filenames -F _dokyreva dokyreva ./dokyreva plan ./plan spread ./spread plan-view ./plan-view
+complete -o filenames -F _dokyreva dokyreva ./dokyreva plan ./plan plan-by ./plan-by spread ./spread plan-view ./plan-view

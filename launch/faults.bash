@@ -75,16 +75,17 @@ tell_of_task() {
 
 # tell_of_run COMMAND WORD..: what the run itself has told, by the same run, where that is short.
 tell_of_run() {
-    local last=plan
-    if [ "$1" = check ] || [ "$1" = verify ]; then
-        [ "$1" = check ] || last=proof
-        can_be_read "${files[2]-}" "$last" || return
-    fi
+    local path=''
+    case $1 in
+    check) path=${files[2]-} && { can_be_read "$path" plan || return; } ;;
+    verify) path=${files[2]-} && { can_be_read "$path" proof || return; } ;;
+    judge | model) path=${files[3]-} && { can_be_read "$path" proof || return; } ;;
+    esac
     if [ "$SECONDS" -ge 20 ] || ! ask 30 "$@" || [ "$answer" != "$status" ]; then
         said="; limit of a horizon"
         [ "$status" = 4 ] || return
     fi
-    tell_line "$said" "${files[0]-}" "${files[1]-}" "${files[2]-}" "$1"
+    tell_line "$said" "${files[0]-}" "${files[1]-}" "$path" "$1"
 }
 
 # can_be_read PATH FILE: it can be read twice; else it is told why it was not read at all.

@@ -3,7 +3,7 @@
 
 # tell_place PATH KIND FILE AT: the place as editors read it, the source line with a caret, and what the kind means.
 tell_place() {
-    local it=() line column source caret
+    local it=() line column source caret word opens depth ended at_end
     mapfile -t it < <(LC_ALL=C tr '\000' '?' <"$1" | LC_ALL=C awk -v at="$4" -f "$root/launch/place.awk")
     line=${it[0]-} column=${it[1]-} word=${it[2]-} opens=${it[3]-} depth=${it[4]-0} ended=${it[5]-0}
     source=${it[6]-} caret=${it[7]-}
