@@ -1,0 +1,236 @@
+"""Texts of PDDL as trees with places. To be read by scripts in launch/.
+
+A byte is one letter here (Latin-1), so that an offset in the text is one in the file. Words are in small letters, as the
+planner reads them.
+"""
+import collections
+import os
+import pathlib
+import re
+import subprocess
+import sys
+import typing
+
+from view.tell import KINDS
+
+REFUSED = re.compile(r"; refused (\w+) (domain|problem) (\d+)\n")
+TOKEN = re.compile(r";[^\n]*|[()]|[!-'*-:<-~]+")
+
+
+class NoTree(Exception):
+    """The text is no list of words and lists, at this offset."""
+
+    def __init__(self, at):
+        super().__init__(f"no list of words and lists, at the byte with offset {at}")
+        self.at = at
+
+
+class Tree:
+    """A word, whose items are None, or a list, whose word is None; from `at` up to before `end` of the text."""
+
+    def __init__(self, at, word=None):
+        self.at = at
+        self.word = word
+        self.items = [] if word is None else None
+        self.end = at + 1 if word is None else at + len(word)
+
+    def head(self):
+        """The word that a list begins with, else an empty text."""
+        return self.items[0].word or "" if self.items else ""
+
+    def words(self):
+        """The words that a list has, without the lists in it."""
+        return [it for it in self.items or [] if it.word is not None]
+
+    def text(self):
+        """The tree with single blanks."""
+        return self.word if self.word is not None else "(" + " ".join(it.text() for it in self.items) + ")"
+
+
+def place(text, at):
+    """The line and the column of an offset, both from 1."""
+    return text.count("\n", 0, at) + 1, at - text.rfind("\n", 0, at)
+
+
+class File:
+    """A file of PDDL: its path, its text and its tree."""
+
+    def __init__(self, path):
+        self.path = path
+        self.text = pathlib.Path(path).read_bytes().decode("latin-1")
+        self.tree = read_tree(self.text)
+
+    def place(self, at):
+        """`path:line:column` of an offset."""
+        line, column = place(self.text, at)
+        return f"{self.path}:{line}:{column}"
+
+    def sections(self, head):
+        """The sections with this head."""
+        return [it for it in self.tree.items[2:] if it.head() == head]
+
+    def name(self):
+        """The word of `(domain NAME)` or `(problem NAME)`, as a tree."""
+        return self.tree.items[1].items[1]
+
+
+def read_tree(text):
+    """The one list that a text is, between blanks and comments."""
+    whole, opened = None, []
+    for found in TOKEN.finditer(text):
+        token, at = found[0], found.start()
+        if token[0] == ";":
+            continue
+        if whole is not None and not opened or not opened and token != "(":
+            raise NoTree(at)
+        if token == ")":
+            opened.pop().end = at + 1
+            continue
+        tree = Tree(at) if token == "(" else Tree(at, token.lower())
+        if opened:
+            opened[-1].items.append(tree)
+        else:
+            whole = tree
+        if token == "(":
+            opened.append(tree)
+    if whole is None or opened:
+        raise NoTree(len(text))
+    return whole
+
+
+def typed(items):
+    """The words of a typed list, each with its type, which is `object` where none is told."""
+    pairs, waiting, at = [], [], 0
+    while at < len(items):
+        if items[at].word == "-":
+            pairs += [(it, items[at + 1].text() if at + 1 < len(items) else "object") for it in waiting]
+            waiting = []
+            at += 2
+        else:
+            waiting.append(items[at])
+            at += 1
+    return pairs + [(it, "object") for it in waiting]
+
+
+def keys(action):
+    """The parameters, the precondition and the effect of an action, by the words before them."""
+    return {action.items[at].word: action.items[at + 1] for at in range(2, len(action.items) - 1, 2)}
+
+
+class Literal(typing.NamedTuple):
+    """An atom or `=`, whether it is wanted or added, the types of the variables there, and the `when` over an effect."""
+
+    atom: Tree
+    wanted: bool
+    scope: typing.Mapping
+    under: typing.Sequence = ()
+
+
+class Action:
+    """An action: its name, the types of its parameters, its conditions and its effects.
+
+    Conditions and effects are literals with their scopes, which are the variables with their types: the last map of a scope
+    has the parameters, and those before it the variables of each `forall`, the innermost first."""
+
+    def __init__(self, section):
+        parts = keys(section)
+        self.name = section.items[1]
+        self.parameters = typed(parts[":parameters"].items) if ":parameters" in parts else []
+        scope = collections.ChainMap({it.word: kind for it, kind in self.parameters})
+        self.conditions = list(literals(parts.get(":precondition"), scope))
+        self.before = list(self.conditions)
+        self.adds, self.deletes = [], []
+        self.read_effect(parts.get(":effect"), scope)
+
+    def read_effect(self, tree, scope, under=()):
+        """Takes in an effect and the conditions in it."""
+        if tree is None or not tree.items:
+            return
+        if tree.head() == "and":
+            for item in tree.items[1:]:
+                self.read_effect(item, scope, under)
+        elif tree.head() == "forall":
+            inner = {it.word: kind for it, kind in typed(tree.items[1].items)}
+            self.read_effect(tree.items[2], scope.new_child(inner), under)
+        elif tree.head() == "when":
+            under = list(literals(tree.items[1], scope))
+            self.conditions += under
+            self.read_effect(tree.items[2], scope, under)
+        elif tree.head() == "not":
+            self.deletes.append(Literal(tree.items[1], False, scope, under))
+        else:
+            self.adds.append(Literal(tree, True, scope, under))
+
+
+def literals(tree, scope):
+    """The literals of a condition."""
+    if tree is None or not tree.items:
+        return
+    if tree.head() == "and":
+        for item in tree.items[1:]:
+            yield from literals(item, scope)
+    elif tree.head() == "not":
+        yield Literal(tree.items[1], False, scope)
+    else:
+        yield Literal(tree, True, scope)
+
+
+def pair_of(pair):
+    """A word of a typed list and its type, as texts."""
+    return pair[0].word, pair[1]
+
+
+def listed(file, head):
+    """The typed words of a section."""
+    return [pair for section in file.sections(head) for pair in typed(section.items[1:])]
+
+
+class Kinds:
+    """The types and the objects of a domain and a problem."""
+
+    def __init__(self, domain, problem):
+        self.parents = dict(map(pair_of, listed(domain, ":types")))
+        self.objects = dict(map(pair_of, listed(domain, ":constants") + listed(problem, ":objects")))
+
+    def is_under(self, kind, above):
+        """Whether a type is another one or lies under it."""
+        for _ in range(len(self.parents) + 2):
+            if kind == above or above == "object":
+                return True
+            kind = self.parents.get(kind, "object")
+        return False
+
+    def fitting(self, kind):
+        """The objects that fit a type."""
+        return [name for name, its in self.objects.items() if self.is_under(its, kind)]
+
+
+class Ground:
+    """What the planner's command ground comes to: its text and status, and where it lists the task its facts and calls.
+
+    The variable DOKYREVA_PROGRAM is the path of the planner."""
+
+    def __init__(self, domain, problem):
+        words = [os.environ.get("DOKYREVA_PROGRAM", ""), "ground", domain, problem]
+        ran = subprocess.run(words, capture_output=True, text=True, check=False)
+        self.text, self.status = ran.stdout, ran.returncode
+        self.is_known = self.status == 0
+        self.paths = {"domain": domain, "problem": problem}
+        self.facts, self.calls = set(), []
+        has_calls = False
+        for line in self.text.splitlines():
+            has_calls = has_calls or line.startswith("; actions ")
+            call = line.partition(" (")[2].rstrip(")")
+            if call and has_calls:
+                self.calls.append(call.split(" "))
+            elif call:
+                self.facts.add(f"({call})")
+
+    def tell(self, paths=None):
+        """Prints what the planner printed and, of a refusal, the place on standard error, in a file at one of these paths."""
+        print(self.text, end="", flush=True)
+        found = REFUSED.fullmatch(self.text)
+        if found:
+            path = (paths or self.paths)[found[2]]
+            line, column = place(pathlib.Path(path).read_bytes().decode("latin-1"), int(found[3]))
+            print(f"{path}:{line}:{column}: {found[1]}: {KINDS[found[1]]}", file=sys.stderr)
