@@ -9,9 +9,9 @@ sources_sum() (
         xargs -0 sha256sum | sha256sum | cut -d ' ' -f 1
 )
 
-# find_sources: sets sources to that sum; to nothing where there are no crates. It is worked out anew where git has changed its index,
-# or git or an editor a folder of the program's sources, since it was kept: a look at every file would take longer than a short run.
-# What is written into a file in its place, in no other way, is seen by look_through alone.
+# find_sources: sets sources to that sum; to nothing where there are no crates. It is worked out anew where git has changed
+# its index, or git or an editor a folder of the program's sources, since it was kept: a look at every file would take longer
+# than a short run. What is written into a file in its place, in no other way, is seen by look_through alone.
 find_sources() {
     local place name
     sources=''
@@ -63,7 +63,8 @@ is_current() {
 put_program() {
     if mkdir -p -- "${2%/*}" && cp -- "$1" "$2.$$" && chmod 755 -- "$2.$$" &&
         printf '%s\n' "$3" >"$2.sources.$$" && sum_of "$2.$$" >"$2.sha256.$$" &&
-        rm -f -- "$2.sources" && mv -f -- "$2.$$" "$2" && mv -f -- "$2.sha256.$$" "$2.sha256" && mv -f -- "$2.sources.$$" "$2.sources"; then
+        rm -f -- "$2.sources" && mv -f -- "$2.$$" "$2" && mv -f -- "$2.sha256.$$" "$2.sha256" &&
+        mv -f -- "$2.sources.$$" "$2.sources"; then
         return
     fi
     rm -f -- "$2"*".$$"
