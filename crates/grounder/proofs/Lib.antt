@@ -8,3 +8,5 @@ pub mod Leaving
 pub mod Assembled
 pub mod Listed
 pub mod Few
+pub mod Alike
+pub mod Thinned
