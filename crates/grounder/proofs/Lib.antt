@@ -8,5 +8,3 @@ pub mod Leaving
 pub mod Assembled
 pub mod Listed
 pub mod Few
-pub mod Alike
-pub mod Thinned

@@ -5,7 +5,7 @@ use Rattle.grounding.specs.Limits.{most_tuples}
 use Rattle.grounding.specs.Tuples.{tuples_in}
 use Rattle.grounder.specs.declared.grounded.GroundError.{GroundError}
 use Rattle.grounder.proofs.Saturated.{few_saturated}
-use Rattle.grounder.proofs.Thinned as thinned
+use Rattle.atom_join.proofs.Same as thinned
 use Rattle.grounder.proofs.grounded.ground.Goals as goal
 use Rattle.grounder.proofs.grounded.ground.Goals.{After-ground_over}
 
