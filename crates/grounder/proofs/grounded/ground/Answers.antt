@@ -18,7 +18,7 @@ if_ok (Err e) P Q f h = tt
 
 pub ground_over-requires : goal.ground_over-requires
 ground_over-requires c =
-    let few = few_saturated 4000000 _ c.count_tuples-count.result (omega arith) c.count_tuples-count.ensures c.if-count-gt4000000.false in
+    let few : tuples_in c.args.p.now ≤ most_tuples = few_saturated 4000000 _ c.count_tuples-count.result (omega arith) c.count_tuples-count.ensures c.if-count-gt4000000.false in
     let fewer = thinned.few_tuples c.args.p.now c.in_ok-domains.domains c.in_ok-domains.ensures in
     omega (arith, few, fewer)
 
