@@ -27,8 +27,7 @@ fn is_able(known: &Known, call: &Call) -> Result<bool, Memory>
     requires { IsKnown known.now }
     ensures { IfOk result (λ answer. answer ≡ list_all (may_be_true known.now.domains.now known.now.facts) (instance_of known.now.domains.now call.now).precondition) }
 {
-    let p = known.domains.task();
-    let Some(schema) = p.schemas().as_slice().get(call.schema as usize) else {
+    let Some(schema) = known.domains.schemas().as_slice().get(call.schema as usize) else {
         return Ok(true);
     };
     all_may_be_true(known, call.objects.as_slice(), schema.pre.as_slice())

@@ -76,8 +76,7 @@ fn leave_out_call(
     requires few { HasFew domains.now call.now }
     ensures { OnOk result (LeavesOut (λ a. list_any (deletes reached.now a) (instance_of domains.now call.now).changes) constant.old constant.new) }
 {
-    let p = domains.task();
-    let Some(schema) = p.schemas().as_slice().get(call.schema as usize) else {
+    let Some(schema) = domains.schemas().as_slice().get(call.schema as usize) else {
         return Ok(());
     };
     for effect in schema.effects.as_slice() {
@@ -100,7 +99,7 @@ fn constant_atoms(alloc: Global, domains: &Domains, reached: &Reached) -> Result
     ensures { IfOk result (λ constant. HasExactly (is_constant domains.now reached.now.atoms reached.now.calls) constant) }
 {
     let mut constant = State::new(alloc);
-    constant.add_all(domains.task().init().as_slice())?;
+    constant.add_all(domains.init().as_slice())?;
     for call in reached.calls.as_slice() {
         leave_out_call(
             alloc,

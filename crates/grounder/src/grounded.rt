@@ -83,8 +83,7 @@ fn action_of(known: &Known, call: &Call) -> Result<Act, Memory>
     requires few { HasFew known.now.domains.now call.now }
     ensures { IfOk result (λ act. act ≡ action_of known.now.domains.now known.now.facts (instance_of known.now.domains.now call.now)) }
 {
-    let p = known.domains.task();
-    let Some(schema) = p.schemas().as_slice().get(call.schema as usize) else {
+    let Some(schema) = known.domains.schemas().as_slice().get(call.schema as usize) else {
         return Ok(Act::new(
             Lits::of(Vec::new(known.alloc)),
             Effs::of(Vec::new(known.alloc)),
@@ -131,7 +130,7 @@ fn known_of<'a>(alloc: Global, domains: &'a Domains<'a>, facts: Atoms) -> Result
     ensures facts { IfOk result (λ known. known.facts ≡ facts) }
 {
     let mut initial = State::new(alloc);
-    initial.add_all(domains.task().init().as_slice())?;
+    initial.add_all(domains.init().as_slice())?;
     Ok(Known {
         alloc,
         domains,
@@ -148,7 +147,7 @@ fn task_of(known: &Known, calls: &[Call], acts: Acts) -> Result<Task, Memory>
     ensures { IfOk result (λ task. task ≡ task_of known.now.domains.now known.now.facts calls.now) }
 {
     let init = initial_values(known)?;
-    let conds = known.domains.task().goal().as_slice();
+    let conds = known.domains.goal().as_slice();
     let goal = simplified(known, &[], conds)?;
     let hopeless = any_never(known, &[], conds)?;
     let facts = known.facts.as_slice().len() as u32;
