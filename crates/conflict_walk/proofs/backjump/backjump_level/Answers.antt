@@ -11,9 +11,12 @@ loop-lit-preserved c =
     let index = c.loop-lit.lit-index in
     let greatest = decision_count (take c.loop-lit.length es) in
     let within : index < length lits = c.loop-lit-test.true in
+    let rest = drop (index + 1) lits in
+    let next = decision_count (take c.further-length.result es) in
     c.loop-lit.invariant
     ∙ ap (greatest_from es greatest) (drop_more lits index c.lit-item.result within)
-    ∙ greatest_next es greatest (decision_count (take c.further.result es)) (get_or lits index c.lit-item.result) (drop (index + 1) lits) c.further.ensures
+    ∙ ap (λ (l : ℕ). greatest_from es greatest (l ∷ rest)) (sym c.lit-item.is)
+    ∙ greatest_next es greatest next c.lit-item.result rest c.further-length.ensures
 
 pub returns : goal.returns
 returns c =

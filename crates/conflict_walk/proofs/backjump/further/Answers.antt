@@ -7,8 +7,8 @@ use Rattle.conflict_walk.proofs.backjump.further.Goals as goal
 pub returns-then-is_current : goal.returns-then-is_current
 returns-then-is_current c = rw (sym c.is_current.ensures.current ∙ c.if-is_current.true) refl
 
-pub returns-else-is_current : goal.returns-else-is_current
-returns-else-is_current c =
+pub returns : goal.returns
+returns c =
     let es = c.args.trail.now.entries in
     rw (sym c.is_current.ensures.current ∙ c.if-is_current.false)
     (ap (λ (k : ℕ). decision_count (take k es)) c.max.ensures
