@@ -10,8 +10,8 @@ use Rattle.clause_base.specs.Derivation.{clauses_of}
 use Rattle.clause_base.specs.declared.log.Entry.TheVariants.{Learn, Drop}
 use Rattle.cdcl_rules.specs.declared.trail.Assigned.{Assigned}
 use Rattle.cdcl_rules.specs.declared.event.Event.{Event}
-use Rattle.cdcl_rules.specs.State.{State, clause_at, is_kept, is_on}
-use Rattle.cdcl_rules.specs.Pending.{open_ones, is_pending_in, least_from, first_pending}
+use Rattle.cdcl_rules.specs.State.{clause_at, is_kept, is_on}
+use Rattle.cdcl_rules.specs.Pending.{open_ones, is_pending_in, least_from}
 use Rattle.cdcl_rules.specs.Event.{asked}
 use Rattle.cdcl_rules.specs.declared.standing.Standing.{Standing}
 use Rattle.cdcl_rules.specs.Run.{is_going}
@@ -22,7 +22,8 @@ use Rattle.cdcl_trail.proofs.Assignments.{has_is}
 use Rattle.conflict_walk.specs.Clauses.{ClausesView, all_clauses}
 use Rattle.conflict_walk.specs.Resolvent.{ResolventView}
 use Rattle.conflict_walk.proofs.Placed.{learned_learn, learned_drops}
-use Rattle.watch_lists.specs.Pending.{WatchingView}
+use Rattle.propagation.specs.Front.{asked_at, first_asked}
+use Rattle.propagation.specs.Pending.{PropagatorView}
 use Rattle.cdcl_core.specs.Search.{SearchView, IsKept, watched, AreKept, asked_first, state_of}
 
 -- what is told of literals by two tests that agree is the same
@@ -47,37 +48,28 @@ least_same p q k (suc n) h =
     ap (λ (b : Bool). if b then Some k else least_from p (k + 1) n) (h k)
     ∙ ap (λ (o : Option ℕ). if q k then Some k else o) (least_same p q (k + 1) n h)
 
--- the first pending clause of those that are watched
-pub first_watched : (clauses : ClausesView) (trail : List Assigned) (w : WatchingView) (o : Option ℕ) → w ≡ watched clauses trail → o ≡ least_from (is_pending_in w.clauses w.kept (has_literal (literals w.entries))) 0 (length w.clauses) → o ≡ least_from (is_pending_in (all_clauses clauses) clauses.kept (is_on trail)) 0 (length (all_clauses clauses))
-first_watched clauses trail w o m e =
-    e ∙ ap (λ (v : WatchingView). least_from (is_pending_in v.clauses v.kept (has_literal (literals v.entries))) 0 (length v.clauses)) m
-    ∙ least_same (is_pending_in (all_clauses clauses) clauses.kept (has_literal (literals trail))) (is_pending_in (all_clauses clauses) clauses.kept (is_on trail)) 0 (length (all_clauses clauses))
-    (pending_same (has_literal (literals trail)) (is_on trail) (has_is trail) (all_clauses clauses) clauses.kept)
+-- what the first pending clause asks for of those that are watched
+event_same : (on on' : ℕ → Bool) → ((l : ℕ) → on l ≡ on' l) → (cs : List (List ℕ)) (o : Option ℕ) → elim o as (λ _. Option Event) [ Some n ↦ Some (asked_at cs on n) | None ↦ None ] ≡ elim o as (λ _. Option Event) [ Some n ↦ Some (asked n (open_ones on' (clause_at cs n))) | None ↦ None ]
+event_same on on' h cs None = refl
+event_same on on' h cs (Some n) = ap (λ (os : List ℕ). Some (asked n os)) (open_same on on' h (clause_at cs n))
 
--- and its literals that are not false
-pub open_watched : (clauses : ClausesView) (trail : List Assigned) (w : WatchingView) (n : ℕ) → w ≡ watched clauses trail → open_ones (has_literal (literals w.entries)) (clause_at w.clauses n) ≡ open_ones (is_on trail) (clause_at (all_clauses clauses) n)
-open_watched clauses trail w n m =
-    ap (λ (v : WatchingView). open_ones (has_literal (literals v.entries)) (clause_at v.clauses n)) m
-    ∙ open_same (has_literal (literals trail)) (is_on trail) (has_is trail) (clause_at (all_clauses clauses) n)
+first_same : (on on' : ℕ → Bool) → ((l : ℕ) → on l ≡ on' l) → (cs : List (List ℕ)) (ks : List Bool) → first_asked cs ks on ≡ elim (least_from (is_pending_in cs ks on') 0 (length cs)) as (λ _. Option Event) [ Some n ↦ Some (asked n (open_ones on' (clause_at cs n))) | None ↦ None ]
+first_same on on' h cs ks =
+    event_same on on' h cs (least_from (is_pending_in cs ks on) 0 (length cs))
+    ∙ ap (λ (o : Option ℕ). elim o as (λ _. Option Event) [ Some n ↦ Some (asked n (open_ones on' (clause_at cs n))) | None ↦ None ])
+    (least_same (is_pending_in cs ks on) (is_pending_in cs ks on') 0 (length cs) (pending_same on on' h cs ks))
 
--- and what it asks for
-asked_by : State → Option ℕ → Option Event
-asked_by s o = elim o as (λ _. Option Event) [ Some n ↦ Some (asked n (open_ones (is_on s.trail) (clause_at s.clauses n))) | None ↦ None ]
-
-pub none_asked : (s : State) → first_pending s ≡ None → None ≡ asked_first s
-unfolding asked_by
-none_asked s e = sym (ap (asked_by s) e)
-
-pub some_asked : (s : State) (n : ℕ) → first_pending s ≡ Some n → Some (asked n (open_ones (is_on s.trail) (clause_at s.clauses n))) ≡ asked_first s
-unfolding asked_by
-some_asked s n e = sym (ap (asked_by s) e)
+pub first_watched : (clauses : ClausesView) (trail : List Assigned) (standing : Standing) (w : PropagatorView) (o : Option Event) → w ≡ watched clauses trail → o ≡ first_asked w.clauses w.kept (has_literal (literals w.entries)) → o ≡ asked_first (state_of clauses trail standing)
+first_watched clauses trail standing w o m e =
+    e ∙ ap (λ (v : PropagatorView). first_asked v.clauses v.kept (has_literal (literals v.entries))) m
+    ∙ first_same (has_literal (literals trail)) (is_on trail) (has_is trail) (all_clauses clauses) clauses.kept
 
 -- one literal more is true
-pub watched_assign : (clauses : ClausesView) (trail : List Assigned) (w w' : WatchingView) (a : Assigned) → w ≡ watched clauses trail → w' ≡ record w { entries = w.entries ++ a ∷ [] } → w' ≡ watched clauses (trail ++ a ∷ [])
-watched_assign clauses trail w w' a m e = e ∙ ap (λ (v : WatchingView). record v { entries = v.entries ++ a ∷ [] }) m
+pub watched_assign : (clauses : ClausesView) (trail : List Assigned) (w w' : PropagatorView) (a : Assigned) → w ≡ watched clauses trail → w' ≡ record w { entries = w.entries ++ a ∷ [] } → w' ≡ watched clauses (trail ++ a ∷ [])
+watched_assign clauses trail w w' a m e = e ∙ ap (λ (v : PropagatorView). record v { entries = v.entries ++ a ∷ [] }) m
 
 -- what a search watches, by its parts
-views_same : (n m : ℕ) (cs ds : List (List ℕ)) (ks ls : List Bool) (t : List Assigned) → n ≡ m → cs ≡ ds → ks ≡ ls → (let v : WatchingView = record { variables = n; clauses = cs; kept = ks; entries = t } in v) ≡ (let w : WatchingView = record { variables = m; clauses = ds; kept = ls; entries = t } in w)
+views_same : (n m : ℕ) (cs ds : List (List ℕ)) (ks ls : List Bool) (t : List Assigned) → n ≡ m → cs ≡ ds → ks ≡ ls → (let v : PropagatorView = record { variables = n; clauses = cs; kept = ks; entries = t } in v) ≡ (let w : PropagatorView = record { variables = m; clauses = ds; kept = ls; entries = t } in w)
 views_same n m cs ds ks ls t a b c = cc
 
 pub last_below : (n : ℕ) (cs : List (List ℕ)) (k : List ℕ) → All (HasVariablesBelow n) (cs ++ k ∷ []) → HasVariablesBelow n k
@@ -85,15 +77,15 @@ last_below n cs k a =
     subst (HasVariablesBelow n) (get_or_push cs k [] (length cs) refl) (All-get_or (HasVariablesBelow n) (cs ++ k ∷ []) (length cs) [] (omega (arith, length_push cs k)) a)
 
 -- once a clause is learned, the trail goes back and the clause is watched
-pub watched_learned : (clauses clauses' : ClausesView) (trail trail' : List Assigned) (w w' w2 : WatchingView) (k h : List ℕ) → w ≡ watched clauses trail → clauses' ≡ record clauses { log = clauses.log ++ Learn k h ∷ []; kept = clauses.kept ++ true ∷ [] } → w' ≡ record w { entries = trail' } → w2 ≡ record w' { clauses = w'.clauses ++ k ∷ []; kept = w'.kept ++ true ∷ [] } → w2 ≡ watched clauses' trail'
+pub watched_learned : (clauses clauses' : ClausesView) (trail trail' : List Assigned) (w w' w2 : PropagatorView) (k h : List ℕ) → w ≡ watched clauses trail → clauses' ≡ record clauses { log = clauses.log ++ Learn k h ∷ []; kept = clauses.kept ++ true ∷ [] } → w' ≡ record w { entries = trail' } → w2 ≡ record w' { clauses = w'.clauses ++ k ∷ []; kept = w'.kept ++ true ∷ [] } → w2 ≡ watched clauses' trail'
 watched_learned clauses clauses' trail trail' w w' w2 k h m e t f =
-    let g : w' ≡ watched clauses trail' = t ∙ ap (λ (v : WatchingView). record v { entries = trail' }) m in
+    let g : w' ≡ watched clauses trail' = t ∙ ap (λ (v : PropagatorView). record v { entries = trail' }) m in
     let all : all_clauses clauses ++ k ∷ [] ≡ all_clauses clauses' =
     append_assoc clauses.formula.clauses (clauses_of clauses.log) (k ∷ [])
     ∙ ap (λ (xs : List (List ℕ)). clauses.formula.clauses ++ xs) (sym (learned_learn clauses.log k h))
     ∙ sym (ap all_clauses e) in
     f
-    ∙ ap (λ (v : WatchingView). let r : WatchingView = record v { clauses = v.clauses ++ k ∷ []; kept = v.kept ++ true ∷ [] } in r) g
+    ∙ ap (λ (v : PropagatorView). let r : PropagatorView = record v { clauses = v.clauses ++ k ∷ []; kept = v.kept ++ true ∷ [] } in r) g
     ∙ views_same clauses.formula.variables clauses'.formula.variables (all_clauses clauses ++ k ∷ []) (all_clauses clauses') (clauses.kept ++ true ∷ []) clauses'.kept trail'
     (sym (ap (λ (c : ClausesView). c.formula.variables) e)) all (sym (ap (λ (c : ClausesView). c.kept) e))
 
@@ -102,22 +94,22 @@ abbrev pub search_of : ClausesView → List Assigned → Standing → Bool → S
 search_of clauses trail standing spoilt = record { formula = clauses.formula; state = state_of clauses trail standing; spoilt = spoilt }
 
 -- what a search watches that is going on, and not spoilt: all its clauses, on its trail
-pub watched_going : {clauses : ClausesView} {w : WatchingView} {r : ResolventView} {standing : Standing} {spoilt : Bool} {v : SearchView} → IsKept clauses w r standing spoilt
+pub watched_going : {clauses : ClausesView} {w : PropagatorView} {r : ResolventView} {standing : Standing} {spoilt : Bool} {v : SearchView} → IsKept clauses w r standing spoilt
     → search_of clauses w.entries standing spoilt ≡ v → v.spoilt ≡ false → is_going v.state.standing ≡ true → w ≡ watched clauses w.entries
 watched_going kept is sane going = kept.mirrored (ap (λ (s : SearchView). s.spoilt) is ∙ sane) (ap (λ (s : SearchView). is_going s.state.standing) is ∙ going)
 
-pub watched_all : {clauses : ClausesView} {w : WatchingView} {r : ResolventView} {standing : Standing} {spoilt : Bool} {v : SearchView} → IsKept clauses w r standing spoilt
+pub watched_all : {clauses : ClausesView} {w : PropagatorView} {r : ResolventView} {standing : Standing} {spoilt : Bool} {v : SearchView} → IsKept clauses w r standing spoilt
     → search_of clauses w.entries standing spoilt ≡ v → v.spoilt ≡ false → is_going v.state.standing ≡ true → w.clauses ≡ all_clauses clauses
-watched_all kept is sane going = ap (λ (w : WatchingView). w.clauses) (watched_going kept is sane going)
+watched_all kept is sane going = ap (λ (w : PropagatorView). w.clauses) (watched_going kept is sane going)
 
-pub watched_now : (clauses : ClausesView) (w : WatchingView) (trail : List Assigned) → w ≡ watched clauses trail → w ≡ watched clauses w.entries
-watched_now clauses w trail m = m ∙ ap (watched clauses) (sym (ap (λ (v : WatchingView). v.entries) m))
+pub watched_now : (clauses : ClausesView) (w : PropagatorView) (trail : List Assigned) → w ≡ watched clauses trail → w ≡ watched clauses w.entries
+watched_now clauses w trail m = m ∙ ap (watched clauses) (sym (ap (λ (v : PropagatorView). v.entries) m))
 
 -- clauses are dropped
-pub watched_drops : (clauses clauses' : ClausesView) (trail : List Assigned) (w w' : WatchingView) (ns : List ℕ) → w ≡ watched clauses trail → clauses' ≡ record clauses { log = clauses.log ++ map (λ n. Drop n) ns; kept = kept_without clauses.kept ns } → w' ≡ record w { kept = kept_without w.kept ns } → w' ≡ watched clauses' trail
+pub watched_drops : (clauses clauses' : ClausesView) (trail : List Assigned) (w w' : PropagatorView) (ns : List ℕ) → w ≡ watched clauses trail → clauses' ≡ record clauses { log = clauses.log ++ map (λ n. Drop n) ns; kept = kept_without clauses.kept ns } → w' ≡ record w { kept = kept_without w.kept ns } → w' ≡ watched clauses' trail
 watched_drops clauses clauses' trail w w' ns m e f =
-    f ∙ ap (λ (v : WatchingView). record v { kept = kept_without v.kept ns }) m
-    ∙ ap (λ (cs : List (List ℕ)). let v : WatchingView = record { variables = clauses.formula.variables; clauses = clauses.formula.clauses ++ cs; kept = kept_without clauses.kept ns; entries = trail } in v) (sym (learned_drops clauses.log ns))
+    f ∙ ap (λ (v : PropagatorView). record v { kept = kept_without v.kept ns }) m
+    ∙ ap (λ (cs : List (List ℕ)). let v : PropagatorView = record { variables = clauses.formula.variables; clauses = clauses.formula.clauses ++ cs; kept = kept_without clauses.kept ns; entries = trail } in v) (sym (learned_drops clauses.log ns))
     ∙ sym (ap (λ (c : ClausesView). watched c trail) e)
 
 -- each clause that is dropped is kept when its turn comes

@@ -16,7 +16,7 @@ use Rattle.cdcl_rules.specs.Open.{Opens}
 use Rattle.cdcl_laws.specs.Sound.{IsSound}
 use Rattle.conflict_walk.specs.Clauses.{ClausesView, all_clauses}
 use Rattle.conflict_walk.specs.Resolvent.{ResolventView, IsEmptied}
-use Rattle.watch_lists.specs.Pending.{WatchingView}
+use Rattle.propagation.specs.Pending.{PropagatorView}
 
 -- a search for an assignment, as its clients see it
 pub record SearchView : Type 0 where
@@ -45,7 +45,7 @@ state_of clauses trail standing = record {
 }
 
 -- these clauses as they are watched on a trail
-abbrev pub watched : ClausesView → List Assigned → WatchingView
+abbrev pub watched : ClausesView → List Assigned → PropagatorView
 watched clauses trail = record {
   variables = clauses.formula.variables;
   clauses = all_clauses clauses;
@@ -60,13 +60,13 @@ AreKept kept (n ∷ numbers) = (is_kept kept n ≡ true) × AreKept (slice_set k
 
 -- what a search keeps: a sound state, a trail over the formula's variables and a resolvent that is empty unless it is spoilt; as
 -- long as it is going its clauses are watched on its trail
-pub record IsKept (clauses : ClausesView) (watching : WatchingView) (resolvent : ResolventView) (standing : Standing) (spoilt : Bool) : Type 0 where
-  pub over : watching.variables ≡ clauses.formula.variables
+pub record IsKept (clauses : ClausesView) (propagator : PropagatorView) (resolvent : ResolventView) (standing : Standing) (spoilt : Bool) : Type 0 where
+  pub over : propagator.variables ≡ clauses.formula.variables
   pub wide : length resolvent.on ≡ 2 * clauses.formula.variables
   pub empty : spoilt ≡ false → IsEmptied resolvent
   pub going : spoilt ≡ true → standing ≡ Going
-  pub sound : IsSound clauses.formula (state_of clauses watching.entries standing)
-  pub mirrored : spoilt ≡ false → is_going standing ≡ true → watching ≡ watched clauses watching.entries
+  pub sound : IsSound clauses.formula (state_of clauses propagator.entries standing)
+  pub mirrored : spoilt ≡ false → is_going standing ≡ true → propagator ≡ watched clauses propagator.entries
 
 -- what the first clause asks for that is kept and pending
 abbrev pub asked_first : State → Option Event

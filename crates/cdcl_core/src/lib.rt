@@ -11,7 +11,6 @@
 //! ```
 #![tactic(auto)]
 
-mod pending;
 mod reduce;
 mod search;
 pub mod solver;

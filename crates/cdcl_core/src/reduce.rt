@@ -10,8 +10,8 @@ use cdcl_rules::trail::Assigned;
 use cdcl_trail::trail::Trail;
 use clause_base::memory::Memory;
 use conflict_walk::clauses::Clauses;
+use propagation::propagator::Propagator;
 use std::alloc::Global;
-use watch_lists::watching::Watching;
 
 /// For each of so many clauses whether it forced an entry of the trail.
 fn forced_flags(alloc: Global, entries: &[Assigned], count: u32) -> Result<Vec<bool>, Memory>
@@ -53,26 +53,30 @@ fn first_half(numbers: &[u32]) -> &[u32]
 }
 
 /// Stops watching clauses.
-fn forget(watching: &mut Watching, numbers: &[u32])
-    requires { AreKept watching.old.kept numbers.now }
-    ensures { watching.new ≡ record watching.old { kept = kept_without watching.old.kept numbers.now } }
+fn forget(propagator: &mut Propagator, numbers: &[u32])
+    requires { AreKept propagator.old.kept numbers.now }
+    ensures { propagator.new ≡ record propagator.old { kept = kept_without propagator.old.kept numbers.now } }
 {
     for number in numbers {
-        watching.remove(*number);
+        propagator.remove(*number);
     }
 }
 
 /// Drops the first half of the candidates. After want of memory nothing has changed.
-pub fn reduce(alloc: Global, clauses: &mut Clauses, watching: &mut Watching) -> Result<(), Memory>
-    requires { watching.old ≡ watched clauses.old watching.old.entries }
-    ensures ok { OnOk result (clauses.new ≡ record clauses.old { log = clauses.old.log ++ map (λ n. Drop n) (first_half (candidates (length clauses.old.formula.clauses) (all_clauses clauses.old) clauses.old.kept watching.old.entries)); kept = kept_without clauses.old.kept (first_half (candidates (length clauses.old.formula.clauses) (all_clauses clauses.old) clauses.old.kept watching.old.entries)) }) }
+pub fn reduce(
+    alloc: Global,
+    clauses: &mut Clauses,
+    propagator: &mut Propagator,
+) -> Result<(), Memory>
+    requires { propagator.old ≡ watched clauses.old propagator.old.entries }
+    ensures ok { OnOk result (clauses.new ≡ record clauses.old { log = clauses.old.log ++ map (λ n. Drop n) (first_half (candidates (length clauses.old.formula.clauses) (all_clauses clauses.old) clauses.old.kept propagator.old.entries)); kept = kept_without clauses.old.kept (first_half (candidates (length clauses.old.formula.clauses) (all_clauses clauses.old) clauses.old.kept propagator.old.entries)) }) }
     ensures err { OnErr result (clauses.new ≡ clauses.old) }
-    ensures same { OnErr result (watching.new ≡ watching.old) }
-    ensures mirrored { OnOk result (watching.new ≡ watched clauses.new watching.old.entries) }
+    ensures same { OnErr result (propagator.new ≡ propagator.old) }
+    ensures mirrored { OnOk result (propagator.new ≡ watched clauses.new propagator.old.entries) }
 {
-    let numbers = candidates(alloc, clauses, watching.trail())?;
+    let numbers = candidates(alloc, clauses, propagator.trail())?;
     let half = first_half(numbers.as_slice());
     clauses.drop_all(half)?;
-    forget(watching, half);
+    forget(propagator, half);
     Ok(())
 }

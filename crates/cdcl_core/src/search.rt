@@ -9,7 +9,6 @@ ghost use Rattle.cdcl_rules.specs.Run.{start_of, apply, with_learned, after_conf
 ghost use Rattle.cdcl_laws.specs.Sound.{IsSound};
 ghost use Rattle.cdcl_core.specs.Search.{SearchView, IsNextEvent, MayApply, GoesOn, asked_first, level_after};
 
-use crate::pending::asked;
 use crate::reduce::reduce;
 use cdcl_rules::event::Event;
 use cdcl_rules::standing::Standing;
@@ -23,9 +22,9 @@ use conflict_walk::backjump::backjump_level;
 use conflict_walk::clauses::Clauses;
 use conflict_walk::learn::{Analysis, LearnedClause};
 use let_go::let_go;
+use propagation::propagator::Propagator;
 use std::alloc::Global;
 use std::marker::Model;
-use watch_lists::watching::Watching;
 
 /// At each so manyth conflict the search restarts: it backtracks to level 0, and drops learned clauses.
 const RESTART: u64 = 64;
@@ -34,7 +33,7 @@ const RESTART: u64 = 64;
 pub struct Search {
     alloc: Global,
     clauses: Clauses,
-    watching: Watching,
+    propagator: Propagator,
     analysis: Analysis,
     standing: Standing,
     spoilt: bool,
@@ -45,15 +44,15 @@ impl Model for Search {
 
     ghost Value = { SearchView };
 
-    ghost view = { λ s. record { formula = s.clauses.formula; state = state_of s.clauses s.watching.entries s.standing; spoilt = s.spoilt } };
+    ghost view = { λ s. record { formula = s.clauses.formula; state = state_of s.clauses s.propagator.entries s.standing; spoilt = s.spoilt } };
 
-    ghost invariant = { λ s. IsKept s.clauses s.watching s.analysis s.standing s.spoilt };
+    ghost invariant = { λ s. IsKept s.clauses s.propagator s.analysis s.standing s.spoilt };
 }
 
 /// Letting one go is one call, in which its parts go: whoever holds one proves one step.
 impl Drop for Search {
     fn drop(self) {
-        let_go!(self: Search { alloc, clauses, watching, analysis, standing, spoilt });
+        let_go!(self: Search { alloc, clauses, propagator, analysis, standing, spoilt });
     }
 }
 
@@ -66,7 +65,7 @@ impl Search {
         let _lawful = formula.count();
         Ok(Search {
             alloc,
-            watching: Watching::new(alloc, &formula)?,
+            propagator: Propagator::new(alloc, &formula)?,
             analysis: Analysis::new(alloc, variables)?,
             standing: Standing::Going,
             spoilt: false,
@@ -117,14 +116,14 @@ impl Search {
         ensures value { result ≡ value_of self.now.state.trail v }
         ensures past { self.now.formula.variables ≤ v → result ≡ None }
     {
-        self.watching.trail().value(v)
+        self.propagator.trail().value(v)
     }
 
     /// The values of all variables.
     pub fn values(&self) -> &Values
         ensures { result.now ≡ values_of self.now.formula.variables self.now.state.trail }
     {
-        self.watching.trail().values()
+        self.propagator.trail().values()
     }
 
     /// The literals that are true, oldest first; they are of the variables, each of which has at most one.
@@ -133,27 +132,25 @@ impl Search {
         ensures below { All (λ a. a.literal / 2 < self.now.formula.variables) self.now.state.trail }
         ensures short { length self.now.state.trail ≤ self.now.formula.variables }
     {
-        self.watching.trail().entries()
+        self.propagator.trail().entries()
     }
 
     /// Lets a chooser's search for the least variable without a value begin where it should.
     pub fn pass_given(&mut self)
         ensures { self.new ≡ self.old }
     {
-        self.watching.pass_given();
+        self.propagator.pass_given();
     }
 
     /// What the first clause asks for that is kept and pending.
-    pub fn asked(&self) -> Option<Event>
-        requires sane { self.now.spoilt ≡ false }
-        requires going { is_going self.now.state.standing ≡ true }
-        ensures event { result ≡ asked_first self.now.state }
-        ensures sound { IsSound self.now.formula self.now.state }
+    pub fn asked(&mut self) -> Option<Event>
+        requires sane { self.old.spoilt ≡ false }
+        requires going { is_going self.old.state.standing ≡ true }
+        ensures event { result ≡ asked_first self.old.state }
+        ensures same { self.new ≡ self.old }
+        ensures sound { IsSound self.old.formula self.old.state }
     {
-        match self.watching.least_pending() {
-            None => None,
-            Some(number) => Some(asked(&self.watching, number)),
-        }
+        self.propagator.next()
     }
 
     /// What the conflict in a clause teaches. After want of memory the search is spoilt.
@@ -169,8 +166,8 @@ impl Search {
         self.spoilt = true;
         let learned = self.analysis.learn(
             self.alloc,
-            self.watching.store(),
-            self.watching.trail(),
+            self.propagator.store(),
+            self.propagator.trail(),
             number,
         )?;
         self.spoilt = false;
@@ -195,7 +192,7 @@ impl Search {
         if self.is_restart() {
             0
         } else {
-            backjump_level(self.watching.trail(), lits)
+            backjump_level(self.propagator.trail(), lits)
         }
     }
 
@@ -226,10 +223,10 @@ impl Search {
             self.spoilt = false;
             return Ok(());
         }
-        self.watching.backtrack(level);
-        self.watching.add_sorted(clause)?;
+        self.propagator.backtrack(level);
+        self.propagator.add_sorted(clause)?;
         if is_restart {
-            reduce(self.alloc, &mut self.clauses, &mut self.watching)?;
+            reduce(self.alloc, &mut self.clauses, &mut self.propagator)?;
         }
         self.spoilt = false;
         Ok(())
@@ -244,7 +241,7 @@ impl Search {
         requires sound { IsSound self.old.formula (record self.old.state { trail = self.old.state.trail ++ entry ∷ [] }) }
         ensures { self.new ≡ record self.old { state = record self.old.state { trail = self.old.state.trail ++ entry ∷ [] } } }
     {
-        self.watching.assign(entry);
+        self.propagator.assign(entry);
     }
 
     /// Says that the values satisfy the formula.

@@ -7,7 +7,7 @@ ghost use Rattle.cdcl_rules.specs.Open.{Opens};
 ghost use Rattle.cdcl_rules.specs.Run.{start_of, apply, after, is_going, is_conflict, IsAfter};
 ghost use Rattle.cdcl_laws.specs.Sound.{IsSound, IsSolution, made_true};
 ghost use Rattle.cdcl_laws.specs.Laws.{AddsUp, SettledStays, ComesToRestAlways, Grants};
-ghost use Rattle.cdcl_core.specs.Search.{SolverView, MayApply, GoesOn};
+ghost use Rattle.cdcl_core.specs.Search.{SolverView, MayApply, GoesOn, asked_first};
 ghost use Rattle.cdcl_core.specs.Between.{IsShortBetween};
 ghost use Rattle.cdcl_trail.specs.Assignment.{literals};
 ghost use Rattle.cdcl_core.specs.Told.{IsToldUpTo};
@@ -178,6 +178,18 @@ impl<C: Chooser> Solver<C> {
             .choose_told(&mut self.told, self.search.values())
     }
 
+    /// What the first clause asks for that is kept and pending.
+    fn asked(&mut self) -> Option<Event>
+        requires sane { self.old.spoilt ≡ false }
+        requires going { is_going self.old.state.standing ≡ true }
+        ensures event { result ≡ asked_first self.old.state }
+        ensures kept { self.new ≡ self.old }
+        ensures opens { Opens self.old.formula.variables (C.choice self.old.chooser) }
+        ensures sound { IsSound self.old.formula self.old.state }
+    {
+        self.search.asked()
+    }
+
     /// The next event.
     fn event(&mut self) -> Event
         requires sane { self.old.spoilt ≡ false }
@@ -187,7 +199,7 @@ impl<C: Chooser> Solver<C> {
         ensures opens { Opens self.old.formula.variables (C.choice self.old.chooser) }
         ensures sound { IsSound self.old.formula self.old.state }
     {
-        match self.search.asked() {
+        match self.asked() {
             Some(event) => event,
             None => match self.choice() {
                 None => Event::Finish,

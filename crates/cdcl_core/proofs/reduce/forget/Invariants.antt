@@ -5,7 +5,7 @@ use Rattle.cdcl_core.proofs.reduce.forget.Given as goal
 
 abbrev pub invariant-loop-number : goal.invariant-loop-number
 invariant-loop-number l = record {
-  are : AreKept l.watching.kept (drop l.number-index l.numbers);
-  same : l.watching ≡ record l.initial.watching { kept = l.watching.kept };
-  rest : kept_without l.initial.watching.kept l.numbers ≡ kept_without l.watching.kept (drop l.number-index l.numbers);
+  are : AreKept l.propagator.kept (drop l.number-index l.numbers);
+  same : l.propagator ≡ record l.initial.propagator { kept = l.propagator.kept };
+  rest : kept_without l.initial.propagator.kept l.numbers ≡ kept_without l.propagator.kept (drop l.number-index l.numbers);
 }

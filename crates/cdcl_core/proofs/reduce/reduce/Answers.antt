@@ -3,7 +3,7 @@ use Rattle.clause_base.specs.declared.log.Entry.TheVariants.{Drop}
 use Rattle.cdcl_rules.specs.Reduce.{candidates, first_half, kept_without}
 use Rattle.cdcl_trail.specs.Mirrored.{TrailView}
 use Rattle.conflict_walk.specs.Clauses.{ClausesView, all_clauses}
-use Rattle.watch_lists.specs.Pending.{WatchingView}
+use Rattle.propagation.specs.Pending.{PropagatorView}
 use Rattle.cdcl_core.specs.Search.{AreKept}
 use Rattle.cdcl_core.proofs.Watching.{half_kept, watched_drops}
 use Rattle.cdcl_core.proofs.reduce.reduce.Goals as goal
@@ -11,10 +11,10 @@ use Rattle.cdcl_core.proofs.reduce.reduce.Goals as goal
 pub forget-requires : goal.forget-requires
 forget-requires c =
     let v = c.args.clauses.now in
-    let trail = c.args.watching.now.entries in
+    let trail = c.args.propagator.now.entries in
     let given = length v.formula.clauses in
     let e = c.first_half-half.ensures ∙ ap first_half (c.as_slice.ensures.value ∙ c.in_ok-numbers.ensures ∙ ap (λ (t : TrailView). candidates given (all_clauses v) v.kept t.entries) c.trail.ensures) in
-    let k = ap (λ (w : WatchingView). w.kept) c.requires in
+    let k = ap (λ (w : PropagatorView). w.kept) c.requires in
     subst (λ (ks : List Bool). AreKept ks c.first_half-half.result.now) (sym k)
     (subst (AreKept v.kept) (sym e) (half_kept given (all_clauses v) v.kept trail))
 
@@ -27,4 +27,4 @@ returns-clause-ok c =
 
 pub returns-clause-mirrored : goal.returns-clause-mirrored
 returns-clause-mirrored c =
-    watched_drops c.args.clauses.now c.drop_all.new.self c.args.watching.now.entries c.args.watching.now c.forget.new.watching c.first_half-half.result.now c.requires c.in_ok-drop_all.ensures.ok c.forget.ensures
+    watched_drops c.args.clauses.now c.drop_all.new.self c.args.propagator.now.entries c.args.propagator.now c.forget.new.propagator c.first_half-half.result.now c.requires c.in_ok-drop_all.ensures.ok c.forget.ensures

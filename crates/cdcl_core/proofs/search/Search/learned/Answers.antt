@@ -19,21 +19,21 @@ learn-requires-clause-reasoned c =
     let all = c.store.ensures ∙ watched_all c.self.invariant c.self.view_is c.requires.sane c.requires.going in
     subst (λ (cs : List (List ℕ)). IsReasoned cs c.trail.result.now.entries) (sym all)
     (subst (λ (v : TrailView). IsReasoned (all_clauses t.clauses) v.entries) (sym c.trail.ensures)
-    (sound_reasoned t.clauses.formula (state_of t.clauses t.watching.entries t.standing) c.self.invariant.sound))
+    (sound_reasoned t.clauses.formula (state_of t.clauses t.propagator.entries t.standing) c.self.invariant.sound))
 
 pub learn-requires-clause-number : goal.learn-requires-clause-number
 learn-requires-clause-number c =
     let t = c.self.inside in
     let all = c.store.ensures ∙ watched_all c.self.invariant c.self.view_is c.requires.sane c.requires.going in
     let next = subst (λ (w : SearchView). IsNextEvent w.formula w.state (Conflict c.args.number)) (sym c.self.view_is) c.requires.next in
-    subst (λ (cs : List (List ℕ)). c.args.number < length cs) (sym all) (conflict_is t.clauses.formula (state_of t.clauses t.watching.entries t.standing) c.args.number c.self.invariant.sound next).in_range
+    subst (λ (cs : List (List ℕ)). c.args.number < length cs) (sym all) (conflict_is t.clauses.formula (state_of t.clauses t.propagator.entries t.standing) c.args.number c.self.invariant.sound next).in_range
 
 pub learn-requires-clause-rising : goal.learn-requires-clause-rising
 learn-requires-clause-rising c =
     let t = c.self.inside in
     let all = c.store.ensures ∙ watched_all c.self.invariant c.self.view_is c.requires.sane c.requires.going in
     let next = subst (λ (w : SearchView). IsNextEvent w.formula w.state (Conflict c.args.number)) (sym c.self.view_is) c.requires.next in
-    subst (λ (cs : List (List ℕ)). IsRising (clause_at cs c.args.number)) (sym all) (conflict_is t.clauses.formula (state_of t.clauses t.watching.entries t.standing) c.args.number c.self.invariant.sound next).rising
+    subst (λ (cs : List (List ℕ)). IsRising (clause_at cs c.args.number)) (sym all) (conflict_is t.clauses.formula (state_of t.clauses t.propagator.entries t.standing) c.args.number c.self.invariant.sound next).rising
 
 pub learn-requires-clause-all_false : goal.learn-requires-clause-all_false
 learn-requires-clause-all_false c =
@@ -41,7 +41,7 @@ learn-requires-clause-all_false c =
     let all = c.store.ensures ∙ watched_all c.self.invariant c.self.view_is c.requires.sane c.requires.going in
     let next = subst (λ (w : SearchView). IsNextEvent w.formula w.state (Conflict c.args.number)) (sym c.self.view_is) c.requires.next in
     subst (λ (cs : List (List ℕ)). AllFalse c.trail.result.now.entries (clause_at cs c.args.number)) (sym all)
-    (subst (λ (v : TrailView). AllFalse v.entries (clause_at (all_clauses t.clauses) c.args.number)) (sym c.trail.ensures) (conflict_is t.clauses.formula (state_of t.clauses t.watching.entries t.standing) c.args.number c.self.invariant.sound next).all_false)
+    (subst (λ (v : TrailView). AllFalse v.entries (clause_at (all_clauses t.clauses) c.args.number)) (sym c.trail.ensures) (conflict_is t.clauses.formula (state_of t.clauses t.propagator.entries t.standing) c.args.number c.self.invariant.sound next).all_false)
 
 pub returns-clause-clause : goal.returns-clause-clause
 returns-clause-clause c =

@@ -1,0 +1,57 @@
+-- The tables where the trail is taken back: the watched literals stay right, and the set is found anew.
+use Rattle.std.proofs.Common.{arith, ◌≡◌, ℕ, ◌<◌, ◌≤◌, List, Bool, length, take, sym, ap, ◌∙◌, subst}
+use Rattle.std.proofs.lemmas.List.{take-take, length-take-le}
+use Rattle.cdcl_rules.specs.Learn.{backtracked}
+use Rattle.cdcl_rules.specs.declared.trail.Assigned.{Assigned}
+use Rattle.cdcl_trail.specs.Assignment.{literals}
+use Rattle.cdcl_trail.proofs.Assignments.{literals_back}
+use Rattle.propagation.specs.declared.pending.Pending.{Pending}
+use Rattle.propagation.specs.declared.tables.Tables.{Tables}
+use Rattle.propagation.specs.declared.visit.Lists.{Lists}
+use Rattle.propagation.specs.Asks.{HasAsks, IsConsistent}
+use Rattle.propagation.specs.Front.{IsComplete}
+use Rattle.propagation.specs.Sound.{AreFree, AreSound}
+use Rattle.propagation.specs.Tables.{clauses_in, flags_in, pending_in}
+use Rattle.propagation.proofs.Asks.{consistent_take}
+
+-- a trail that is taken back is a prefix
+pub short_of : (level : ℕ) (old new : List Assigned) → new ≡ backtracked level old → literals new ≡ take (length new) (literals old)
+short_of level old new e = ap literals e ∙ sym (literals_back level old) ∙ ap (λ (es : List Assigned). take (length es) (literals old)) (sym e)
+
+-- on a shorter trail the watches are right with no work
+pub undo_sound : (v : ℕ) (t : Tables) (l : Lists) (trail : List ℕ) (quiet : List Bool) (m : ℕ) (trail' : List ℕ) (p : Pending) → AreSound v t l trail quiet → trail' ≡ take m trail → m ≤ length trail → HasAsks t.store trail' p → IsComplete (pending_in t trail') p → AreSound v t (record l { pending = p }) trail' quiet
+undo_sound v t l trail quiet m trail' p i e h asks complete = record {
+  small = i.small;
+  tables = i.tables;
+  few = i.few;
+  slots_few = i.slots_few;
+  rest = i.rest;
+  free = λ n b. subst (λ (xs : List ℕ). AreFree (clauses_in t) l.watched.items (flags_in t) xs) (sym (shorter n (omega (arith, b, long)))) (i.free n (omega (arith, b, long, h)));
+  consistent = subst IsConsistent (sym e) (consistent_take m trail i.consistent);
+  asks = asks;
+  complete = complete;
+  quiet_size = i.quiet_size;
+  quiets = λ n b q k. ap (λ (xs : List ℕ). pending_in t xs k) (shorter n (omega (arith, b, long))) ∙ i.quiets n (omega (arith, b, long, h)) q k;
+}
+  where
+    long : length trail' ≡ m
+    long = ap (λ (xs : List ℕ). length xs) e ∙ length-take-le m trail h
+
+    shorter : (n : ℕ) → n ≤ m → take n trail' ≡ take n trail
+    shorter n b = ap (λ (xs : List ℕ). take n xs) e ∙ take-take n m trail b
+
+-- the set alone is another
+pub sound_set : (v : ℕ) (t : Tables) (l : Lists) (trail : List ℕ) (quiet : List Bool) (p : Pending) → AreSound v t l trail quiet → HasAsks t.store trail p → IsComplete (pending_in t trail) p → AreSound v t (record l { pending = p }) trail quiet
+sound_set v t l trail quiet p i asks complete = record {
+  small = i.small;
+  tables = i.tables;
+  few = i.few;
+  slots_few = i.slots_few;
+  rest = i.rest;
+  free = i.free;
+  consistent = i.consistent;
+  asks = asks;
+  complete = complete;
+  quiet_size = i.quiet_size;
+  quiets = i.quiets;
+}

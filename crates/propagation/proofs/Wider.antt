@@ -1,0 +1,90 @@
+-- Tables with more room say what they did.
+use Rattle.std.proofs.Common.{arith, ◌≡◌, ◌==◌, ℕ, ◌*◌, ◌/◌, ◌%◌, ◌<◌, ◌≤◌, List, length, take, get_or, Bool, sym, ap, ◌∙◌, subst, Some, ◌⊎◌, inl, inr}
+use Rattle.clause_base.specs.Clause.{has_literal}
+use Rattle.propagation.specs.declared.pending.Pending.{Pending}
+use Rattle.propagation.specs.declared.tables.Tables.{Tables}
+use Rattle.propagation.specs.declared.visit.Lists.{Lists}
+use Rattle.propagation.specs.declared.visit.Watched.{Watched}
+use Rattle.propagation.specs.Pending.{is_free}
+use Rattle.cdcl_rules.specs.State.{clause_at}
+use Rattle.propagation.specs.Visit.{no_watches, place_in, literal_at, IsReal, NoWhy, IsAtRest}
+use Rattle.propagation.specs.Asks.{IsWider}
+use Rattle.propagation.specs.Front.{IsComplete}
+use Rattle.propagation.specs.Tables.{clauses_in, flags_in, pending_in}
+use Rattle.propagation.specs.Sound.{AreSound}
+use Rattle.propagation.specs.Added.{AreSame, AreWider}
+use Rattle.propagation.proofs.AsksKept.{asks_wider}
+
+literal_wider : (cl : List (List ℕ)) (l l' : Lists) (node : ℕ) → AreWider l l' → length cl ≤ length l.watched.items → IsReal cl node → literal_at cl l'.watched.items node ≡ literal_at cl l.watched.items node
+literal_wider cl l l' node w m real =
+    ap (λ (v : Watched). get_or (clause_at cl (node / 2)) (place_in v (node % 2 == 1)) 0) (w.watches (node / 2) (omega (arith, real.below, m)))
+
+pub rest_wider : (cl : List (List ℕ)) (l l' : Lists) (spare : ℕ) (kept : List Bool) → IsAtRest cl l.watched.items l.chains.heads.items l.chains.nodes.items spare kept → AreWider l l' → IsAtRest cl l'.watched.items l'.chains.heads.items l'.chains.nodes.items spare kept
+rest_wider cl l l' spare kept r w = record {
+  on = r.on;
+  linked = w.linked r.on r.linked;
+  placed = record {
+    many = omega (arith, r.placed.many, w.more_watches);
+    first_in = λ c h two. subst (λ (v : Watched). v.first < length (clause_at cl c)) (sym (at c h)) (r.placed.first_in c h two);
+    second_in = λ c h two. subst (λ (v : Watched). v.second < length (clause_at cl c)) (sym (at c h)) (r.placed.second_in c h two);
+    apart = λ c h two e. r.placed.apart c h two (ap (λ (v : Watched). v.first) (sym (at c h)) ∙ e ∙ ap (λ (v : Watched). v.second) (at c h));
+  };
+  codes = w.codes ∙ r.codes;
+  many = omega (arith, r.many, w.more_nodes);
+  real = r.real;
+  there = λ node real must. by node real (r.there node real must);
+  blockings = λ node real. ap (λ (x : ℕ). has_literal (clause_at cl (node / 2)) x) (w.blockings node (omega (arith, real.below, r.many))) ∙ r.blockings node real;
+}
+  where
+    at : (c : ℕ) → c < length cl → get_or l'.watched.items c no_watches ≡ get_or l.watched.items c no_watches
+    at c h = w.watches c (omega (arith, h, r.placed.many))
+
+    by : (node : ℕ) → IsReal cl node → (r.on node ≡ Some (literal_at cl l.watched.items node)) ⊎ ((r.on node ≡ Some spare) × NoWhy node) → (r.on node ≡ Some (literal_at cl l'.watched.items node)) ⊎ ((r.on node ≡ Some spare) × NoWhy node)
+    by node real (inl e) = inl (e ∙ ap (λ (c : ℕ). Some c) (sym (literal_wider cl l l' node w r.placed.many real)))
+    by node real (inr v) = absurd v.1
+
+complete_wider : (passes : ℕ → Bool) (p p' : Pending) → IsWider p p' → IsComplete passes p → IsComplete passes p'
+complete_wider passes p p' w c k e = w.same k ∙ c k e
+
+-- there is more room
+sound_wider : (v : ℕ) (t : Tables) (l l' : Lists) (trail : List ℕ) (quiet : List Bool) → AreSound v t l trail quiet → AreWider l l' → AreSound v t l' trail quiet
+sound_wider v t l l' trail quiet i w = record {
+  small = i.small;
+  tables = i.tables;
+  few = i.few;
+  slots_few = i.slots_few;
+  rest = rest_wider (clauses_in t) l l' (2 * v) (flags_in t) i.rest w;
+  free = λ n h node real must none two. ap (λ (x : ℕ). is_free (has_literal (take n trail)) x) (literal_wider (clauses_in t) l l' node w i.rest.placed.many real) ∙ i.free n h node real must none two;
+  consistent = i.consistent;
+  asks = asks_wider t.store trail l.pending l'.pending i.asks w.pending;
+  complete = complete_wider (pending_in t trail) l.pending l'.pending w.pending i.complete;
+  quiet_size = i.quiet_size;
+  quiets = i.quiets;
+}
+
+-- the tables that are read are the same
+pub sound_again : (v : ℕ) (t t' : Tables) (l : Lists) (trail : List ℕ) (quiet : List Bool) → AreSound v t l trail quiet → AreSame t t' → AreSound v t' l trail quiet
+sound_again v t t' l trail quiet i e = record {
+  small = i.small;
+  tables = record {
+    limit = i.tables.limit;
+    fit = rw e.store i.tables.fit;
+    small = rw e.store i.tables.small;
+    kept = rw (e.store, e.kept) i.tables.kept;
+    slotted = rw (e.store, e.slots) i.tables.slotted;
+    few = rw e.slots i.tables.few;
+  };
+  few = rw e.store i.few;
+  slots_few = rw (e.store, e.slots) i.slots_few;
+  rest = rw (e.store, e.slots, e.kept) i.rest;
+  free = rw (e.store, e.slots, e.kept) i.free;
+  consistent = i.consistent;
+  asks = rw e.store i.asks;
+  complete = rw (e.store, e.kept) i.complete;
+  quiet_size = i.quiet_size;
+  quiets = rw (e.store, e.kept) i.quiets;
+}
+
+-- and so where room was made
+pub sound_room : (v : ℕ) (t t' : Tables) (l l' : Lists) (trail : List ℕ) (quiet : List Bool) → AreSound v t l trail quiet → AreSame t t' → AreWider l l' → AreSound v t' l' trail quiet
+sound_room v t t' l l' trail quiet i e w = sound_again v t t' l' trail quiet (sound_wider v t l l' trail quiet i w) e

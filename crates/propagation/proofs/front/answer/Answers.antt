@@ -1,0 +1,69 @@
+use Rattle.std.proofs.Common.{arith, ◌≡◌, ◌*◌, ◌<◌, ℕ, List, [], ◌∙◌, ap, sym, not, Bool, true, false, ◌&&◌, refl, get_or}
+use Rattle.clause_base.specs.Clause.{has_literal}
+use Rattle.cdcl_rules.specs.declared.event.Event.{Event}
+use Rattle.cdcl_rules.specs.Event.{asked}
+use Rattle.cdcl_rules.specs.Pending.{is_pending, open_ones}
+use Rattle.cdcl_rules.specs.State.{clause_at}
+use Rattle.propagation.specs.Pending.{is_free}
+use Rattle.propagation.proofs.Asks.{ask_true, ask_open, ask_left, ask_none, ask_below, ask_empty}
+use Rattle.propagation.proofs.Filters.{pending_at}
+use Rattle.propagation.proofs.front.answer.Goals as goal
+use Rattle.propagation.proofs.front.answer.Goals.{Else-ask-eq-NO_LITERAL}
+
+-- where the clause is kept, it is pending if it is so by its literals
+kept_and : (kept pending : Bool) (b : Bool) → kept ≡ true → pending ≡ b → (kept && pending) ≡ b
+kept_and kept pending b e f = ap (λ (x : Bool). x && pending) e ∙ f
+
+pub returns-then-not-is_kept : goal.returns-then-not-is_kept
+returns-then-not-is_kept c =
+    let t = c.args.tables.now in
+    let off : get_or t.kept.items c.args.number false ≡ false = sym c.is_kept.ensures ∙ c.if-not-is_kept.true in
+    pending_at t.store t.kept.items c.args.assignment.now.trail c.args.number ∙ ap (λ (b : Bool). b && is_pending (has_literal c.args.assignment.now.trail) (clause_at t.store c.args.number)) off
+
+pub returns-then-ask-eq-NO_LITERAL : goal.returns-then-ask-eq-NO_LITERAL
+returns-then-ask-eq-NO_LITERAL c =
+    let t = c.args.tables.now in
+    let on = has_literal c.args.assignment.now.trail in
+    let empty = ask_empty t.store on c.args.number c.args.ask (2 * c.args.assignment.now.variables) c.requires.tables.fit c.requires.tables.limit c.requires.ask c.if-ask-eq-NO_LITERAL.true in (
+      kept_and (get_or t.kept.items c.args.number false) (is_pending on (clause_at t.store c.args.number)) true (sym c.is_kept.ensures ∙ c.if-not-is_kept.false) (ap (is_pending on) empty),
+      sym (ap (λ (xs : List ℕ). asked c.args.number (open_ones on xs)) empty),
+    )
+
+below : (c : Else-ask-eq-NO_LITERAL) → c.args.ask < 2 * c.args.assignment.now.variables
+below c = ask_below c.args.tables.now.store (has_literal c.args.assignment.now.trail) c.args.number c.args.ask (2 * c.args.assignment.now.variables) c.requires.tables.fit c.requires.ask c.if-ask-eq-NO_LITERAL.false
+
+pub is_true-requires : goal.is_true-requires
+is_true-requires c = below (goal.at.is_true-requires c).Else-ask-eq-NO_LITERAL
+
+pub is_false-requires : goal.is_false-requires
+is_false-requires c = below (goal.at.is_false-requires c).Else-ask-eq-NO_LITERAL
+
+pub returns-then-is_true : goal.returns-then-is_true
+returns-then-is_true c =
+    let t = c.args.tables.now in
+    let trail = c.args.assignment.now.trail in
+    let xs = clause_at t.store c.args.number in
+    let off = ask_true trail xs c.args.ask c.requires.consistent c.requires.ask c.if-ask-eq-NO_LITERAL.false (sym c.is_true.ensures ∙ c.if-is_true.true) in
+    kept_and (get_or t.kept.items c.args.number false) (is_pending (has_literal trail) xs) false (sym c.is_kept.ensures ∙ c.if-not-is_kept.false) off
+
+pub returns-then-is_false : goal.returns-then-is_false
+returns-then-is_false c =
+    let t = c.args.tables.now in
+    let trail = c.args.assignment.now.trail in
+    let xs = clause_at t.store c.args.number in
+    let some = c.if-ask-eq-NO_LITERAL.false in
+    let free : is_free (has_literal trail) c.args.ask ≡ false = ap (λ (b : Bool). not b) (sym c.is_false.ensures ∙ c.if-is_false.true) in (
+      kept_and (get_or t.kept.items c.args.number false) (is_pending (has_literal trail) xs) true (sym c.is_kept.ensures ∙ c.if-not-is_kept.false) (ask_open trail xs c.args.ask c.requires.consistent c.requires.ask some (sym c.is_true.ensures ∙ c.if-is_true.false)),
+      sym (ap (λ (os : List ℕ). asked c.args.number os) (ask_none (has_literal trail) xs c.args.ask c.requires.ask some free)),
+    )
+
+pub returns-else-is_false : goal.returns-else-is_false
+returns-else-is_false c =
+    let t = c.args.tables.now in
+    let trail = c.args.assignment.now.trail in
+    let xs = clause_at t.store c.args.number in
+    let some = c.if-ask-eq-NO_LITERAL.false in
+    let free : is_free (has_literal trail) c.args.ask ≡ true = ap (λ (b : Bool). not b) (sym c.is_false.ensures ∙ c.if-is_false.false) in (
+      kept_and (get_or t.kept.items c.args.number false) (is_pending (has_literal trail) xs) true (sym c.is_kept.ensures ∙ c.if-not-is_kept.false) (ask_open trail xs c.args.ask c.requires.consistent c.requires.ask some (sym c.is_true.ensures ∙ c.if-is_true.false)),
+      sym (ap (λ (os : List ℕ). asked c.args.number os) (ask_left (has_literal trail) xs c.args.ask c.requires.ask some free)),
+    )

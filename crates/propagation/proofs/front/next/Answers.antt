@@ -1,0 +1,51 @@
+use Rattle.std.proofs.Common.{arith, ℕ, sym, subst}
+use Rattle.std.proofs.lemmas.List.{get_or_read}
+use Rattle.clause_base.specs.Clause.{has_literal}
+use Rattle.number_bits.specs.Bits.{words_have}
+use Rattle.cdcl_rules.specs.State.{clause_at}
+use Rattle.propagation.specs.Asks.{IsAsk}
+use Rattle.propagation.specs.Tables.{pending_in}
+use Rattle.propagation.proofs.Asks.{cleaned_complete, cleaned_least, cleaned_fewer}
+use Rattle.propagation.proofs.AsksKept.{asks_fewer}
+use Rattle.propagation.proofs.Fronts.{first_some, first_none}
+use Rattle.propagation.proofs.front.next.Goals as goal
+
+pub index-ask-requires : goal.index-ask-requires
+index-ask-requires c = omega (arith, c.taking.invariant.asks.within c.in-Some.number c.in-Some.ensures.0, c.taking.invariant.asks.long)
+
+pub answer-requires-clause-inside : goal.answer-requires-clause-inside
+answer-requires-clause-inside c = c.taking.invariant.asks.within c.in-Some.number c.in-Some.ensures.0
+
+pub answer-requires-clause-ask : goal.answer-requires-clause-ask
+answer-requires-clause-ask c =
+    let a = c.taking.invariant.asks in
+    let inside = a.within c.in-Some.number c.in-Some.ensures.0 in
+    let read = get_or_read c.taking.pending.asks.items c.in-Some.number c.index-ask.result.now (omega (arith, inside, a.long)) c.index-ask.ensures 0 in
+    subst (λ (x : ℕ). IsAsk (has_literal c.args.assignment.now.trail) (clause_at c.args.tables.now.store c.in-Some.number) x) (sym read) (a.are c.in-Some.number c.in-Some.ensures.0)
+
+pub remove-requires : goal.remove-requires
+remove-requires c = omega (arith, c.taking.invariant.asks.within c.in-Some.number c.in-Some.ensures.0, c.taking.invariant.asks.room)
+
+pub taking-preserved : goal.taking-preserved
+taking-preserved c =
+    let i = c.taking.invariant in
+    let has = c.remove.ensures.has in
+    let was = words_have c.taking.pending.numbers in
+    let is = words_have c.remove.new.self in
+    record {
+      asks = asks_fewer c.args.tables.now.store c.args.assignment.now.trail c.taking.pending c.remove.new.self i.asks (cleaned_fewer was is c.in-Some.number has) (omega (arith, c.remove.ensures.room));
+      complete = cleaned_complete (pending_in c.args.tables.now c.args.assignment.now.trail) was is c.in-Some.number c.in-None-answer.ensures i.complete has;
+      none = cleaned_least was is c.in-Some.number c.in-Some.ensures has;
+      low = omega arith;
+    }
+
+pub returns-in-Some-answer-clause-first : goal.returns-in-Some-answer-clause-first
+returns-in-Some-answer-clause-first c =
+    let t = c.args.tables.now in
+    let i = c.taking.invariant in
+    first_some t.store t.kept.items c.args.assignment.now.trail c.taking.pending c.in-Some.number c.in-Some-answer.event c.requires.tables.kept i.complete c.in-Some.ensures c.in-Some-answer.ensures
+
+pub returns-in-None-clause-first : goal.returns-in-None-clause-first
+returns-in-None-clause-first c =
+    let t = c.args.tables.now in
+    first_none t.store t.kept.items c.args.assignment.now.trail c.taking.pending c.taking.invariant.complete c.in-None.ensures

@@ -1,0 +1,32 @@
+use Rattle.std.proofs.Common.{arith, ◌≡◌, ◌<◌, ◌∙◌, sym, ap, true, length, ℕ, List}
+use Rattle.clause_base.specs.Clause.{has_literal}
+use Rattle.cdcl_rules.specs.Pending.{is_pending}
+use Rattle.cdcl_rules.specs.State.{clause_at}
+use Rattle.number_bits.specs.Bits.{words_have}
+use Rattle.propagation.specs.Tables.{pending_in}
+use Rattle.propagation.proofs.Adds.{kept_in}
+use Rattle.propagation.proofs.Asks.{below_more}
+use Rattle.propagation.proofs.AsksKept.{asks_cleared}
+use Rattle.propagation.proofs.Filters.{pending_at}
+use Rattle.propagation.proofs.front.rescan.Goals as goal
+
+pub loop-number-init : goal.loop-number-init
+loop-number-init c = record {
+  asks = asks_cleared c.args.tables.now.store c.args.assignment.now.trail c.clear.new.self c.clear.ensures.none (omega (arith, c.clear.ensures.room, c.requires.room)) (omega (arith, ap (λ (xs : List ℕ). length xs) c.clear.ensures.asks, c.requires.long));
+  complete = λ k h. absurd (omega (arith, h));
+}
+
+pub loop-number-preserved : goal.loop-number-preserved
+loop-number-preserved c =
+    let i = c.loop-number.invariant in
+    let e = c.scan_one.ensures in
+    record {
+      asks = e.asks;
+      complete = below_more (λ k. pending_in c.args.tables.now c.args.assignment.now.trail k ≡ true → words_have c.scan_one.new.pending.numbers k ≡ true) c.loop-number.number (λ k h p. e.grows k (i.complete k h p)) e.own;
+    }
+
+pub returns-clause-complete : goal.returns-clause-complete
+returns-clause-complete c k p =
+    let t = c.args.tables.now in
+    let inside = kept_in t.kept.items k (is_pending (has_literal c.args.assignment.now.trail) (clause_at t.store k)) (sym (pending_at t.store t.kept.items c.args.assignment.now.trail k) ∙ p) in
+    c.loop-number.invariant.complete k (omega (arith, inside, c.loop-number-test.false, c.len-number-end.ensures)) p

@@ -1,0 +1,11 @@
+use Rattle.std.proofs.Common.{◌≡◌, ℕ, ◌<◌, true}
+use Rattle.number_bits.specs.Bits.{words_have}
+use Rattle.propagation.specs.Asks.{HasAsks}
+use Rattle.propagation.specs.Tables.{pending_in}
+use Rattle.propagation.proofs.front.rescan.Given as goal
+
+abbrev pub invariant-loop-number : goal.invariant-loop-number
+invariant-loop-number l = record {
+  asks : HasAsks l.tables.store l.assignment.trail l.pending;
+  complete : (k : ℕ) → k < l.number → pending_in l.tables l.assignment.trail k ≡ true → words_have l.pending.numbers k ≡ true;
+}

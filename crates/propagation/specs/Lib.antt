@@ -1,0 +1,9 @@
+pub mod Pending
+pub mod Visit
+pub mod Asks
+pub mod Front
+pub mod Pairs
+pub mod Tables
+pub mod Sound
+pub mod Added
+pub mod Given

@@ -1,0 +1,21 @@
+-- How a clause is found that may become pending.
+use Rattle.std.specs.Prelude.{◌≡◌, ℕ, ◌*◌, ◌<◌, ◌⊎◌, List, length, slice_index}
+use Rattle.pair_index.specs.declared.pair.Pair.{Pair}
+use Rattle.pair_index.specs.Pairs.{IsInPairs, AreExact}
+use Rattle.cdcl_rules.specs.State.{clause_at}
+
+-- the clause with a number has a slot
+pub record HasSlot (slots : List ℕ) (number : ℕ) : Type 0 where
+  pub slot : ℕ
+  pub inside : slot < length slots
+  pub is : slice_index slots slot ≡ number
+
+-- a clause that is not watched: it is in the lists of its two literals, or has fewer
+abbrev pub IsUnwatched : List (List Pair) → List ℕ → ℕ → Type 0
+IsUnwatched pairs clause number = IsInPairs pairs clause number ⊎ (length clause < 2)
+
+-- what holds of the pairs: each clause of two literals or more is in the lists of its two literals or has a slot
+pub record IsPaired (variables : ℕ) (clauses : List (List ℕ)) (slots : List ℕ) (pairs : List (List Pair)) : Type 0 where
+  pub long : length pairs ≡ 2 * variables
+  pub found : (c : ℕ) → c < length clauses → IsUnwatched pairs (clause_at clauses c) c ⊎ HasSlot slots c
+  pub exact : AreExact clauses pairs

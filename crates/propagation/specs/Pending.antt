@@ -1,0 +1,25 @@
+-- What a clause is that has literals which are not false, and a propagator as its clients see it.
+use Rattle.std.specs.Prelude.{ℕ, List, Bool, not, length, nat_le}
+use Rattle.clause_base.specs.Literal.{opposite}
+use Rattle.clause_base.specs.Clause.{has_literal}
+use Rattle.cdcl_rules.specs.declared.trail.Assigned.{Assigned}
+use Rattle.cdcl_rules.specs.Pending.{open_ones, is_pending_in}
+
+-- a literal is not false, where these are true
+abbrev pub is_free : (ℕ → Bool) → ℕ → Bool
+is_free on l = not (on (opposite l))
+
+-- a clause has two literals at least that are not false
+abbrev pub has_two_free : (ℕ → Bool) → List ℕ → Bool
+has_two_free on clause = not (nat_le (length (open_ones on clause)) 1)
+
+-- the clause with a number is kept and pending on a trail of literals
+abbrev pub is_pending_on : List (List ℕ) → List Bool → List ℕ → ℕ → Bool
+is_pending_on clauses kept trail k = is_pending_in clauses kept (has_literal trail) k
+
+-- the clauses by number, which of them are kept, and the entries of the trail, oldest first
+pub record PropagatorView : Type 0 where
+  pub variables : ℕ
+  pub clauses : List (List ℕ)
+  pub kept : List Bool
+  pub entries : List Assigned

@@ -1,0 +1,105 @@
+use Rattle.std.specs.Prelude.{◌≡◌, ℕ, ◌+◌, ◌*◌, ◌/◌, ◌%◌, ◌<◌, ◌≤◌, ◌==◌, ◌⊎◌, List, length, Bool, true, false, Option, Some, slice_index, slice_index_or, map, if◌then◌else◌}
+use Rattle.std.specs.List.{list_any}
+use Rattle.clause_base.specs.Clause.{has_literal}
+use Rattle.cdcl_rules.specs.State.{clause_at}
+use Rattle.watch_chains.specs.declared.chains.Node.{Node}
+use Rattle.watch_chains.specs.Linked.{IsLinked, blocking_of}
+use Rattle.propagation.specs.declared.visit.Watched.{Watched}
+use Rattle.propagation.specs.Pending.{is_free, has_two_free}
+use Rattle.cdcl_rules.specs.Pending.{is_pending}
+
+abbrev pub no_watches : Watched
+no_watches = record { first = 0; second = 0; from = 0 }
+
+-- clauses that are watched have a slot each, with the number of the clause; the clauses of the slots, which of them are kept,
+-- and which are in a set of numbers of clauses
+abbrev pub slot_clauses : List (List ℕ) → List ℕ → List (List ℕ)
+slot_clauses clauses slots = map (λ n. clause_at clauses n) slots
+
+abbrev pub slot_flags : List Bool → List ℕ → List Bool
+slot_flags kept slots = map (λ n. slice_index_or kept n false) slots
+
+abbrev pub slot_set : (ℕ → Bool) → List ℕ → ℕ → Bool
+slot_set set slots s = set (slice_index slots s)
+
+-- the slots are of clauses whose numbers are below this one
+abbrev pub AreSlotsBelow : ℕ → List ℕ → Type 0
+AreSlotsBelow n slots = (s : ℕ) → s < length slots → slice_index slots s < n
+
+-- the two places that a clause watches, of which a node has one: an odd node the second
+abbrev pub place_in : Watched → Bool → ℕ
+place_in w second = if second then w.second else w.first
+
+abbrev pub place_of : List Watched → ℕ → ℕ
+place_of watched node = place_in (slice_index_or watched (node / 2) no_watches) (node % 2 == 1)
+
+-- the literal that a node watches
+abbrev pub literal_at : List (List ℕ) → List Watched → ℕ → ℕ
+literal_at clauses watched node = slice_index (clause_at clauses (node / 2)) (place_of watched node)
+
+-- the literals of the clauses are below a number, and each clause is short enough for its places
+pub record IsFit (clauses : List (List ℕ)) (codes : ℕ) : Type 0 where
+  pub below : (c p : ℕ) → p < length (clause_at clauses c) → slice_index (clause_at clauses c) p < codes
+  pub short : (c : ℕ) → length (clause_at clauses c) ≤ 4294967295
+
+-- the watched places of a clause of two literals or more are two of its places
+pub record AreTwoPlaces (clauses : List (List ℕ)) (watched : List Watched) : Type 0 where
+  pub many : length clauses ≤ length watched
+  pub first_in : (c : ℕ) → c < length clauses → 2 ≤ length (clause_at clauses c) → (slice_index_or watched c no_watches).first < length (clause_at clauses c)
+  pub second_in : (c : ℕ) → c < length clauses → 2 ≤ length (clause_at clauses c) → (slice_index_or watched c no_watches).second < length (clause_at clauses c)
+  pub apart : (c : ℕ) → c < length clauses → 2 ≤ length (clause_at clauses c) → (slice_index_or watched c no_watches).first ≡ (slice_index_or watched c no_watches).second → ⊥
+
+-- a node is of a clause with two literals or more
+pub record IsReal (clauses : List (List ℕ)) (node : ℕ) : Type 0 where
+  pub below : node / 2 < length clauses
+  pub long : 2 ≤ length (clause_at clauses (node / 2))
+
+-- each node that has to be on a chain is on that of its watched literal, or on the spare chain for a reason
+pub record IsListed (clauses : List (List ℕ)) (watched : List Watched) (heads : List ℕ) (nodes : List Node) (spare : ℕ) (Must Why : ℕ → Type 0) : Type 0 where
+  pub on : ℕ → Option ℕ
+  pub linked : IsLinked heads nodes on
+  pub placed : AreTwoPlaces clauses watched
+  pub codes : length heads ≡ spare + 1
+  pub many : 2 * length clauses ≤ length nodes
+  pub real : (node l : ℕ) → on node ≡ Some l → IsReal clauses node
+  pub there : (node : ℕ) → IsReal clauses node → Must node → (on node ≡ Some (literal_at clauses watched node)) ⊎ ((on node ≡ Some spare) × Why node)
+  pub blockings : (node : ℕ) → IsReal clauses node → has_literal (clause_at clauses (node / 2)) (blocking_of nodes node) ≡ true
+
+-- the clause with a number is kept
+abbrev pub IsNodeKept : List Bool → ℕ → Type 0
+IsNodeKept kept node = slice_index_or kept (node / 2) false ≡ true
+
+abbrev pub NoWhy : ℕ → Type 0
+NoWhy node = ⊥
+
+-- between the visits
+abbrev pub IsAtRest : List (List ℕ) → List Watched → List ℕ → List Node → ℕ → List Bool → Type 0
+IsAtRest clauses watched heads nodes spare kept = IsListed clauses watched heads nodes spare (IsNodeKept kept) NoWhy
+
+-- a clause that may watch a false literal: it has no two that are not false, and where it is pending it is in the set
+pub record IsSettled (on : ℕ → Bool) (set : ℕ → Bool) (clause : List ℕ) (c : ℕ) : Type 0 where
+  pub not_loose : list_any on clause ≡ false → has_two_free on clause ≡ false
+  pub in_set : is_pending on clause ≡ true → set c ≡ true
+
+-- why a visited node stays: it watches the literal of the visited chain, and its clause is settled
+abbrev pub Stays : List (List ℕ) → List Watched → (ℕ → Bool) → (ℕ → Bool) → ℕ → ℕ → Type 0
+Stays clauses watched on set code node =
+    (literal_at clauses watched node ≡ code) × IsSettled on set (clause_at clauses (node / 2)) (node / 2)
+
+-- each node watches what it did, or a literal that is not false
+abbrev pub MovesToFree : List (List ℕ) → List Watched → List Watched → (ℕ → Bool) → Type 0
+MovesToFree clauses watched watched' on =
+    (node : ℕ) → IsReal clauses node → (literal_at clauses watched' node ≡ literal_at clauses watched node) ⊎ (is_free on (literal_at clauses watched' node) ≡ true)
+
+-- nothing leaves a set
+abbrev pub Grows : (ℕ → Bool) → (ℕ → Bool) → Type 0
+Grows set set' = (k : ℕ) → set k ≡ true → set' k ≡ true
+
+-- the node whose turn it is, and which is on no chain
+abbrev pub IsOther : List Bool → ℕ → ℕ → Type 0
+IsOther kept node k = IsNodeKept kept k × (k ≡ node → ⊥)
+
+-- after a visit each kept clause that still watches the literal is settled
+abbrev pub AllSettled : List (List ℕ) → List Watched → (ℕ → Bool) → (ℕ → Bool) → ℕ → List Bool → Type 0
+AllSettled clauses watched on set code kept =
+    (node : ℕ) → IsReal clauses node → IsNodeKept kept node → literal_at clauses watched node ≡ code → IsSettled on set (clause_at clauses (node / 2)) (node / 2)

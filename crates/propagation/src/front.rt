@@ -1,0 +1,107 @@
+//! The least clause that is kept and pending. Each clause that is so is in the set; a member that is not is taken out where it is the
+//! least: one that is not kept, or whose asked literal is true.
+ghost use Rattle.std.specs.Prelude.{◌≡◌, ℕ, ◌*◌, ◌<◌, ◌≤◌, length, true, slice_index};
+ghost use Rattle.clause_base.specs.Clause.{has_literal};
+ghost use Rattle.number_bits.specs.Bits.{words_have};
+ghost use Rattle.propagation.specs.Asks.{HasAsks, IsAsk, IsConsistent};
+ghost use Rattle.propagation.specs.Front.{asked_at, first_asked, IsAnswer, IsComplete};
+ghost use Rattle.propagation.specs.Tables.{AreTables, pending_in};
+ghost use Rattle.propagation.specs.Visit.{Grows};
+ghost use Rattle.cdcl_rules.specs.State.{clause_at};
+
+use crate::pending::{NO_LITERAL, Pending};
+use crate::scan::{ask_of, is_pending};
+use crate::tables::Tables;
+use cdcl_rules::event::Event;
+use cdcl_trail::assignment::Assignment;
+use clause_base::literal::Lit;
+use number_bits::first::First;
+use number_bits::flat::Flat;
+use number_bits::layer::Layer;
+use number_bits::set::NumberSet;
+
+/// What a clause asks for, if it is kept and pending: one of which all literals are false but for this one.
+#[inline(always)]
+fn answer(tables: &Tables, assignment: &Assignment, number: u32, ask: u32) -> Option<Event>
+    requires tables { AreTables tables.now (2 * assignment.now.variables) }
+    requires inside { number < length tables.now.store }
+    requires consistent { IsConsistent assignment.now.trail }
+    requires ask { IsAsk (has_literal assignment.now.trail) (clause_at tables.now.store number) ask }
+    ensures { IsAnswer (pending_in tables.now assignment.now.trail number) (asked_at tables.now.store (has_literal assignment.now.trail) number) result }
+{
+    if !tables.is_kept(number) {
+        return None;
+    }
+    if ask == NO_LITERAL {
+        return Some(Event::Conflict(number));
+    }
+    if assignment.is_true(ask) {
+        None
+    } else if assignment.is_false(ask) {
+        Some(Event::Conflict(number))
+    } else {
+        Some(Event::Force(Lit(ask), number))
+    }
+}
+
+/// What the least clause asks for that is kept and pending. Lesser members that are not go.
+#[inline(always)]
+pub fn next(tables: &Tables, assignment: &Assignment, pending: &mut Pending) -> Option<Event>
+    requires tables { AreTables tables.now (2 * assignment.now.variables) }
+    requires consistent { IsConsistent assignment.now.trail }
+    requires asks { HasAsks tables.now.store assignment.now.trail pending.old }
+    requires complete { IsComplete (pending_in tables.now assignment.now.trail) pending.old }
+    ensures first { result ≡ first_asked tables.now.store tables.now.kept.items (has_literal assignment.now.trail) }
+    ensures asks { HasAsks tables.now.store assignment.now.trail pending.new }
+    ensures complete { IsComplete (pending_in tables.now assignment.now.trail) pending.new }
+{
+    // For the proof: the numbers below it were taken, so that the loop ends.
+    let mut low: u64 = 0;
+    'taking: loop {
+        match pending.numbers.least() {
+            None => return None,
+            Some(number) => {
+                let ask = pending.asks[number as usize];
+                match answer(tables, assignment, number, ask) {
+                    Some(event) => return Some(event),
+                    None => {
+                        pending.numbers.remove(number);
+                        low = number as u64 + 1;
+                    }
+                }
+            }
+        }
+    }
+}
+
+/// Puts a clause into the set with what it asks for, if it is kept and pending.
+fn scan_one(tables: &Tables, assignment: &Assignment, pending: &mut Pending, number: u32)
+    requires tables { AreTables tables.now (2 * assignment.now.variables) }
+    requires inside { number < length tables.now.store }
+    requires asks { HasAsks tables.now.store assignment.now.trail pending.old }
+    ensures own { pending_in tables.now assignment.now.trail number ≡ true → words_have pending.new.numbers number ≡ true }
+    ensures grows { Grows (words_have pending.old.numbers) (words_have pending.new.numbers) }
+    ensures asks { HasAsks tables.now.store assignment.now.trail pending.new }
+{
+    if !tables.is_kept(number) {
+        return;
+    }
+    let clause = tables.store.clause(number);
+    if is_pending(assignment, &clause) {
+        pending.put(number, ask_of(assignment, &clause));
+    }
+}
+
+/// Puts the clauses that are kept and pending into a set, and takes all others out.
+pub fn rescan(tables: &Tables, assignment: &Assignment, pending: &mut Pending)
+    requires tables { AreTables tables.now (2 * assignment.now.variables) }
+    requires room { length tables.now.store ≤ 64 * length pending.old.numbers }
+    requires long { length tables.now.store ≤ length pending.old.asks.items }
+    ensures asks { HasAsks tables.now.store assignment.now.trail pending.new }
+    ensures complete { IsComplete (pending_in tables.now assignment.now.trail) pending.new }
+{
+    pending.clear();
+    for number in 0..tables.kept.len() as u32 {
+        scan_one(tables, assignment, pending, number);
+    }
+}

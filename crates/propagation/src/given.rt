@@ -1,0 +1,208 @@
+//! The tables of a formula's clauses, made at once before any literal is true. A clause of more than two literals has a slot and
+//! watches its last two; one of two literals is in the pair index alone; one of fewer is pending, and in the set from the
+//! beginning.
+ghost use Rattle.std.specs.Prelude.{◌≡◌, ℕ, ◌+◌, ◌*◌, ◌<◌, ◌≤◌, ◌==◌, [], None, false, length, IfOk, OnOk};
+ghost use Rattle.cdcl_rules.specs.State.{clause_at};
+ghost use Rattle.number_bits.specs.Bits.{words_have};
+ghost use Rattle.watch_chains.specs.Linked.{IsLinked};
+ghost use Rattle.propagation.specs.Visit.{IsFit, AreSlotsBelow};
+ghost use Rattle.propagation.specs.Given.{AreGiven, AreRising, IsBeside};
+
+use crate::pending::Pending;
+use crate::scan::only_ask;
+use crate::visit::Lists;
+use clause_base::clause_list::ClauseList;
+use clause_base::formula::Formula;
+use clause_base::memory::Memory;
+use std::alloc::Global;
+use watch_chains::chains::Chains;
+use watch_store::store::Store;
+
+/// The slots of a formula's clauses, and what is watched of them.
+#[derive(Drop)]
+pub struct Given {
+    pub slots: Vec<u32>,
+    pub lists: Lists,
+}
+
+/// The places in a list of those clauses that have fewer than two literals, or more, in order, and how many clauses there are.
+#[derive(Drop)]
+struct Others {
+    places: Vec<usize>,
+    count: usize,
+}
+
+/// Whether the clause of a list with a number has two literals.
+fn is_two(list: &ClauseList, number: usize) -> bool
+    requires { number < length list.now }
+    ensures { result ≡ (length (clause_at list.now number) == 2) }
+{
+    list.clause(number).len() == 2
+}
+
+/// The places of the clauses of a list that have not two literals.
+fn others_of(alloc: Global, list: &ClauseList) -> Result<Others, Memory>
+    ensures count { IfOk result (λ others. others.count ≡ length list.now) }
+    ensures below { IfOk result (λ others. AreSlotsBelow others.count others.places.items) }
+    ensures rising { IfOk result (λ others. AreRising others.places.items) }
+    ensures twos { IfOk result (λ others. (j : ℕ) → IsBeside others.places.items others.count j → length (clause_at list.now j) ≡ 2) }
+{
+    let mut places = Vec::new(alloc);
+    let count = list.count();
+    for number in 0..count {
+        if !is_two(list, number) {
+            places.push(number)?;
+        }
+    }
+    Ok(Others { places, count })
+}
+
+/// At least so many clauses of a formula have slots, if memory is to be had for them: those that have not two literals.
+fn room_for(horizon: u32, once: usize, step: &Others, time: &Others) -> usize {
+    let steps = horizon as usize;
+    once.saturating_add(steps.saturating_mul(step.places.len()))
+        .saturating_add((steps + 1).saturating_mul(time.places.len()))
+}
+
+/// The lists of no clauses, with room for so many, of which so many have slots.
+fn no_lists(alloc: Global, count: u32, longs: usize, codes: u32) -> Result<Lists, Memory>
+    requires codes { codes ≤ 4294967294 }
+    requires few { count ≤ 1073741824 }
+    ensures watched { IfOk result (λ l. l.watched.items ≡ []) }
+    ensures pending { IfOk result (λ l. (k : ℕ) → words_have l.pending.numbers k ≡ false) }
+    ensures linked { IfOk result (λ l. IsLinked l.chains.heads.items l.chains.nodes.items (λ k. None)) }
+    ensures codes { IfOk result (λ l. length l.chains.heads.items ≡ codes + 1) }
+    ensures room { IfOk result (λ l. count ≤ 64 * length l.pending.numbers) }
+    ensures asks { IfOk result (λ l. length l.pending.asks.items ≡ count) }
+{
+    Ok(Lists {
+        chains: Chains::new(alloc, codes + 1, longs.saturating_add(longs))?,
+        watched: Vec::with_capacity(alloc, longs)?,
+        pending: Pending::new(alloc, count)?,
+    })
+}
+
+impl Given {
+    /// The tables of no clauses, with room for so many, of which so many have slots.
+    fn empty(alloc: Global, count: u32, longs: usize, codes: u32) -> Result<Given, Memory>
+        requires codes { codes ≤ 4294967294 }
+        requires few { count ≤ 1073741824 }
+        ensures slots { IfOk result (λ g. g.slots.items ≡ []) }
+        ensures watched { IfOk result (λ g. g.lists.watched.items ≡ []) }
+        ensures pending { IfOk result (λ g. (k : ℕ) → words_have g.lists.pending.numbers k ≡ false) }
+        ensures linked { IfOk result (λ g. IsLinked g.lists.chains.heads.items g.lists.chains.nodes.items (λ k. None)) }
+        ensures codes { IfOk result (λ g. length g.lists.chains.heads.items ≡ codes + 1) }
+        ensures room { IfOk result (λ g. count ≤ 64 * length g.lists.pending.numbers) }
+        ensures asks { IfOk result (λ g. length g.lists.pending.asks.items ≡ count) }
+    {
+        Ok(Given {
+            slots: Vec::with_capacity(alloc, longs)?,
+            lists: no_lists(alloc, count, longs, codes)?,
+        })
+    }
+
+    /// Gives the next clause a slot, if it has more than two literals, and puts it into the set, if it has fewer than two.
+    fn enter(&mut self, store: &Store, number: u32, codes: u32) -> Result<(), Memory>
+        requires fit { IsFit store.now codes }
+        requires inside { number < length store.now }
+        requires few { length store.now ≤ 1073741824 }
+        requires given { AreGiven codes store.now number self.old }
+        ensures { OnOk result (AreGiven codes store.now (number + 1) self.new) }
+    {
+        let slot = self.slots.len() as u32;
+        let clause = store.clause(number);
+        let length = clause.len();
+        if length == 2 {
+            return Ok(());
+        }
+        if length < 2 {
+            self.lists.pending.put(number, only_ask(&clause));
+            return Ok(());
+        }
+        self.lists.widen(number, slot)?;
+        self.slots.push(number)?;
+        self.lists.enter_last(&clause, slot, codes);
+        Ok(())
+    }
+
+    /// Enters the clauses of a part from a number on, and gives the number after them. Those of two literals are not looked at.
+    fn enter_part(
+        &mut self,
+        store: &Store,
+        others: &Others,
+        first: u32,
+        codes: u32,
+    ) -> Result<u32, Memory>
+        requires fit { IsFit store.now codes }
+        requires inside { first + others.now.count ≤ length store.now }
+        requires few { length store.now ≤ 1073741824 }
+        requires below { AreSlotsBelow others.now.count others.now.places.items }
+        requires rising { AreRising others.now.places.items }
+        requires twos { (j : ℕ) → IsBeside others.now.places.items others.now.count j → length (clause_at store.now (first + j)) ≡ 2 }
+        requires given { AreGiven codes store.now first self.old }
+        ensures next { IfOk result (λ next. next ≡ first + others.now.count) }
+        ensures given { IfOk result (λ next. AreGiven codes store.now next self.new) }
+    {
+        let mut next: usize = 0;
+        for index in 0..others.places.len() {
+            let place = others.places[index];
+            self.enter(store, first + place as u32, codes)?;
+            next = place + 1;
+        }
+        Ok(first + others.count as u32)
+    }
+
+    /// Enters the clauses of so many parts with the same numbers of literals, and gives the number after them.
+    fn enter_parts(
+        &mut self,
+        store: &Store,
+        others: &Others,
+        parts: u32,
+        first: u32,
+        codes: u32,
+    ) -> Result<u32, Memory>
+        requires fit { IsFit store.now codes }
+        requires inside { first + parts * others.now.count ≤ length store.now }
+        requires few { length store.now ≤ 1073741824 }
+        requires below { AreSlotsBelow others.now.count others.now.places.items }
+        requires rising { AreRising others.now.places.items }
+        requires twos { (t j : ℕ) → t < parts → IsBeside others.now.places.items others.now.count j → length (clause_at store.now (first + (t * others.now.count + j))) ≡ 2 }
+        requires given { AreGiven codes store.now first self.old }
+        ensures next { IfOk result (λ next. next ≡ first + parts * others.now.count) }
+        ensures given { IfOk result (λ next. AreGiven codes store.now next self.new) }
+    {
+        let mut next = first;
+        for _ in 0..parts {
+            next = self.enter_part(store, others, next, codes)?;
+        }
+        Ok(next)
+    }
+
+    /// The tables of the clauses of a formula, of which a store has a copy. Which clauses have two literals is found once for all
+    /// steps and once for all times.
+    pub fn new(alloc: Global, store: &Store, formula: &Formula, codes: u32) -> Result<Given, Memory>
+        requires same { store.now ≡ formula.now.clauses }
+        requires fit { IsFit store.now codes }
+        requires codes { codes ≤ 4294967294 }
+        ensures { IfOk result (λ g. AreGiven codes store.now (length store.now) g) }
+    {
+        let parts = formula.parts();
+        let steps = parts.repeated.horizon();
+        let told_others = others_of(alloc, parts.told)?;
+        let step_others = others_of(alloc, parts.repeated.step())?;
+        let time_others = others_of(alloc, parts.repeated.time())?;
+        let after_others = others_of(alloc, parts.after)?;
+        let once = told_others
+            .places
+            .len()
+            .saturating_add(after_others.places.len());
+        let longs = room_for(steps, once, &step_others, &time_others);
+        let mut given = Given::empty(alloc, formula.count(), longs, codes)?;
+        let told = given.enter_part(store, &told_others, 0, codes)?;
+        let stepped = given.enter_parts(store, &step_others, steps, told, codes)?;
+        let timed = given.enter_parts(store, &time_others, steps, stepped, codes)?;
+        let last = given.enter_part(store, &time_others, timed, codes)?;
+        given.enter_part(store, &after_others, last, codes)?;
+        Ok(given)
+    }
+}

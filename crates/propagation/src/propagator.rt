@@ -1,0 +1,217 @@
+//! The clauses that are watched on a trail, and what the first of them asks for that is kept and pending, as literals become true and
+//! are taken back and clauses come and go.
+ghost use Rattle.std.specs.Prelude.{◌≡◌, ℕ, ◌*◌, ◌/◌, ◌<◌, ◌++◌, ◌∷◌, [], None, length, replicate, true, false, slice_set, slice_index_or, IfOk, OnOk, OnErr};
+ghost use Rattle.clause_base.specs.Clause.{IsClause, has_literal, HasVariablesBelow};
+ghost use Rattle.cdcl_rules.specs.State.{value_of};
+ghost use Rattle.cdcl_rules.specs.Learn.{backtracked};
+ghost use Rattle.cdcl_trail.specs.Assignment.{literals};
+ghost use Rattle.propagation.specs.Front.{first_asked};
+ghost use Rattle.propagation.specs.Pending.{PropagatorView};
+
+use crate::front::next;
+use crate::given::Given;
+use crate::marks::mark_pairs;
+use crate::pending::Pending;
+use crate::quiet::{no_quiet, raise};
+use crate::room::make_room;
+use crate::tables::Tables;
+use crate::take_slot::take_slot;
+use crate::undo::refresh;
+use crate::visit::Lists;
+use cdcl_rules::event::Event;
+use cdcl_rules::trail::Assigned;
+use cdcl_trail::trail::Trail;
+use clause_base::formula::Formula;
+use clause_base::literal::Lit;
+use clause_base::memory::Memory;
+use let_go::let_go;
+use number_bits::first::First;
+use number_bits::flat::Flat;
+use number_bits::layer::Layer;
+use number_bits::set::NumberSet;
+use pair_index::index::PairIndex;
+use std::alloc::Global;
+use std::marker::Model;
+use watch_chains::chains::Chains;
+use watch_store::store::Store;
+
+/// How many clauses there may be.
+const MOST_CLAUSES: u32 = 2_147_483_647;
+
+/// Clauses by number, which of them are kept, and the trail that they are watched on. A clause of two literals is in the lists of
+/// both, and of each other clause two literals are watched.
+pub struct Propagator {
+    variables: u32,
+    tables: Tables,
+    trail: Trail,
+    pairs: PairIndex,
+    lists: Lists,
+    /// For each length of the trail below the whole one whether it is known that nothing is pending there.
+    quiet: Vec<bool>,
+}
+
+impl Model for Propagator {
+    ghost use Rattle.std.specs.Prelude.{◌≡◌};
+    ghost use Rattle.cdcl_trail.specs.Assignment.{literals};
+    ghost use Rattle.propagation.specs.Pending.{PropagatorView};
+    ghost use Rattle.propagation.specs.Pairs.{IsPaired};
+    ghost use Rattle.propagation.specs.Sound.{AreSound};
+
+    ghost Value = { PropagatorView };
+
+    ghost view = { λ p. record { variables = p.variables; clauses = p.tables.store; kept = p.tables.kept.items; entries = p.trail.entries } };
+
+    ghost invariant = { λ p. AreSound p.variables p.tables p.lists (literals p.trail.entries) p.quiet.items × IsPaired p.variables p.tables.store p.tables.slots.items p.pairs × (p.trail.variables ≡ p.variables) };
+}
+
+/// Letting one go is one call, in which its parts go: whoever holds one proves one step.
+impl Drop for Propagator {
+    fn drop(self) {
+        let_go!(self: Propagator {
+            variables, tables, trail, pairs, lists, quiet
+        });
+    }
+}
+
+impl Propagator {
+    /// The clauses of a formula, all kept, where no variable has a value.
+    pub fn new(alloc: Global, formula: &Formula) -> Result<Propagator, Memory>
+        ensures { IfOk result (λ p. p ≡ record { variables = formula.now.variables; clauses = formula.now.clauses; kept = replicate (length formula.now.clauses) true; entries = [] }) }
+    {
+        let variables = formula.variables();
+        let count = formula.count();
+        let store = Store::new(alloc, formula)?;
+        let kept = vec![in alloc; true; count as usize]?;
+        let trail = Trail::new(alloc, variables)?;
+        let pairs = PairIndex::new(alloc, formula)?;
+        let quiet = no_quiet(alloc, variables)?;
+        let given = Given::new(alloc, &store, formula, 2 * variables)?;
+        Ok(Propagator {
+            variables,
+            tables: Tables {
+                store,
+                kept,
+                slots: given.slots,
+            },
+            trail,
+            pairs,
+            lists: given.lists,
+            quiet,
+        })
+    }
+
+    /// The trail.
+    pub fn trail(&self) -> &Trail
+        ensures { result.now ≡ record { variables = self.now.variables; entries = self.now.entries } }
+    {
+        &self.trail
+    }
+
+    /// The clauses by number; one that is kept no more still stands there.
+    pub fn store(&self) -> &Store
+        ensures { result.now ≡ self.now.clauses }
+    {
+        &self.tables.store
+    }
+
+    /// Lets a chooser's search for the least variable without a value begin where it should.
+    pub fn pass_given(&mut self)
+        ensures { self.new ≡ self.old }
+    {
+        self.trail.pass_given();
+    }
+
+    /// Adds the clause of literals that are in a clause's form already, with the next number, kept. After want of memory, or
+    /// where there would be more than 2,147,483,647 clauses, nothing has changed.
+    pub fn add_sorted(&mut self, clause: &[Lit]) -> Result<(), Memory>
+        requires lawful { IsClause clause.now }
+        requires below { HasVariablesBelow self.old.variables clause.now }
+        ensures ok { OnOk result (self.new ≡ record self.old { clauses = self.old.clauses ++ clause.now ∷ []; kept = self.old.kept ++ true ∷ [] }) }
+        ensures err { OnErr result (self.new ≡ self.old) }
+    {
+        let number = self.tables.store.count();
+        if number >= MOST_CLAUSES {
+            return Err(Memory);
+        }
+        let slot = self.tables.slots.len() as u32;
+        make_room(&mut self.tables, &mut self.lists, number, slot)?;
+        self.tables.store.push(clause)?;
+        self.tables.kept.push(true)?;
+        let assignment = self.trail.assignment();
+        let entered = take_slot(
+            &mut self.tables.slots,
+            &mut self.lists,
+            &assignment,
+            clause,
+            number,
+        )?;
+        raise(
+            &assignment,
+            &mut self.lists.pending,
+            &mut self.quiet,
+            number,
+            entered,
+        );
+        Ok(())
+    }
+
+    /// Makes a literal true whose variable has no value. It takes no memory.
+    pub fn assign(&mut self, entry: Assigned)
+        requires below { entry.literal < 2 * self.old.variables }
+        requires opened { value_of self.old.entries (entry.literal / 2) ≡ None }
+        ensures { self.new ≡ record self.old { entries = self.old.entries ++ entry ∷ [] } }
+    {
+        let falsified = entry.literal.opposite();
+        let length = self.trail.length();
+        let least = self.lists.pending.numbers.least();
+        self.quiet[length as usize] = least.is_none();
+        self.trail.push(entry);
+        let assignment = self.trail.assignment();
+        mark_pairs(
+            &self.tables.store,
+            &self.pairs,
+            &assignment,
+            falsified.0,
+            &mut self.lists.pending,
+        );
+        let spare = 2 * self.variables;
+        self.lists
+            .visit_all(&self.tables, &assignment, spare, falsified.0);
+    }
+
+    /// What the first clause asks for that is kept and pending: a conflict, or its only literal that is not false. It takes no
+    /// memory.
+    pub fn next(&mut self) -> Option<Event>
+        ensures first { result ≡ first_asked self.old.clauses self.old.kept (has_literal (literals self.old.entries)) }
+        ensures same { self.new ≡ self.old }
+    {
+        let assignment = self.trail.assignment();
+        next(&self.tables, &assignment, &mut self.lists.pending)
+    }
+
+    /// Takes back what stands above a level of the trail. It takes no memory.
+    pub fn backtrack(&mut self, level: u32)
+        ensures { self.new ≡ record self.old { entries = backtracked level self.old.entries } }
+    {
+        let before = self.trail.length();
+        self.trail.backtrack(level);
+        if self.trail.length() == before {
+            return;
+        }
+        let assignment = self.trail.assignment();
+        refresh(
+            &self.tables,
+            &self.quiet,
+            &assignment,
+            &mut self.lists.pending,
+        );
+    }
+
+    /// Stops keeping a clause. It takes no memory.
+    pub fn remove(&mut self, number: u32)
+        requires { slice_index_or self.old.kept number false ≡ true }
+        ensures { self.new ≡ record self.old { kept = slice_set self.old.kept number false } }
+    {
+        self.tables.kept[number as usize] = false;
+    }
+}

@@ -1,0 +1,76 @@
+//! Room in each table for one more clause and one more slot. After want of memory a table may have it already, and nothing else
+//! has changed.
+ghost use Rattle.std.specs.Prelude.{◌≡◌, ℕ, ◌+◌, ◌*◌, ◌<◌, ◌≤◌, Option, length, slice_index_or, vec_capacity, OnOk};
+ghost use Rattle.watch_chains.specs.Linked.{IsLinked, blocking_of};
+ghost use Rattle.propagation.specs.Visit.{no_watches};
+ghost use Rattle.propagation.specs.Added.{AreSame, AreWider, HasRoom, HasRoomBelow};
+
+use crate::tables::Tables;
+use crate::visit::{Lists, Watched};
+use std::alloc::AllocError;
+use watch_chains::chains::Chains;
+
+/// Makes the two nodes of a slot, where those of all slots before it are there.
+fn widen_nodes(chains: &mut Chains, slot: u32) -> Result<(), AllocError>
+    requires few { slot < 2147483647 }
+    requires many { 2 * slot ≤ length chains.old.nodes.items }
+    ensures room { OnOk result (2 * slot + 1 < length chains.new.nodes.items) }
+    ensures more { length chains.old.nodes.items ≤ length chains.new.nodes.items }
+    ensures linked { (on : ℕ → Option ℕ) → IsLinked chains.old.heads.items chains.old.nodes.items on → IsLinked chains.new.heads.items chains.new.nodes.items on }
+    ensures blockings { (k : ℕ) → k < length chains.old.nodes.items → blocking_of chains.new.nodes.items k ≡ blocking_of chains.old.nodes.items k }
+    ensures heads { length chains.new.heads.items ≡ length chains.old.heads.items }
+{
+    if chains.nodes.len() <= 2 * slot as usize + 1 {
+        chains.add_two()?;
+    }
+    Ok(())
+}
+
+/// Makes room for the watched places of a slot, where there is room for those of all slots before it.
+fn widen_watches(watched: &mut Vec<Watched>, slot: u32) -> Result<(), AllocError>
+    requires many { slot ≤ length watched.old.items }
+    ensures room { OnOk result (slot < length watched.new.items) }
+    ensures more { length watched.old.items ≤ length watched.new.items }
+    ensures same { (c : ℕ) → c < length watched.old.items → slice_index_or watched.new.items c no_watches ≡ slice_index_or watched.old.items c no_watches }
+{
+    if watched.len() <= slot as usize {
+        watched.push(Watched {
+            first: 0,
+            second: 0,
+            from: 0,
+        })?;
+    }
+    Ok(())
+}
+
+impl Lists {
+    /// Makes room for a clause and a slot, where there is room for all before them.
+    pub fn widen(&mut self, number: u32, slot: u32) -> Result<(), AllocError>
+        requires { HasRoomBelow number slot self.old }
+        ensures room { OnOk result (HasRoom number slot self.new) }
+        ensures wider { AreWider self.old self.new }
+    {
+        self.pending.widen(number)?;
+        widen_nodes(&mut self.chains, slot)?;
+        widen_watches(&mut self.watched, slot)
+    }
+}
+
+/// Makes room for the next clause in all tables but that of the clauses.
+pub fn make_room(
+    tables: &mut Tables,
+    lists: &mut Lists,
+    number: u32,
+    slot: u32,
+) -> Result<(), AllocError>
+    requires { HasRoomBelow number slot lists.old }
+    ensures same { AreSame tables.old tables.new }
+    ensures kept { OnOk result (length tables.new.kept.items < vec_capacity tables.new.kept) }
+    ensures slots { OnOk result (length tables.new.slots.items < vec_capacity tables.new.slots) }
+    ensures room { OnOk result (HasRoom number slot lists.new) }
+    ensures wider { AreWider lists.old lists.new }
+{
+    tables.kept.reserve(1)?;
+    tables.slots.reserve(1)?;
+    lists.widen(number, slot)
+}

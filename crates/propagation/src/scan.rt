@@ -1,0 +1,102 @@
+//! What is found by reading the literals of a clause: whether it is pending, what it asks for, and another one to watch.
+ghost use Rattle.std.specs.Prelude.{◌≡◌, ℕ, ◌*◌, ◌<◌, ◌≤◌, Bool, length, true, false, slice_index, MatchOption, IfSome};
+ghost use Rattle.clause_base.specs.Clause.{has_literal};
+ghost use Rattle.propagation.specs.Asks.{IsAsk};
+ghost use Rattle.propagation.specs.Pending.{is_free};
+ghost use Rattle.cdcl_rules.specs.Pending.{is_pending};
+
+use crate::pending::NO_LITERAL;
+use cdcl_trail::assignment::Assignment;
+use clause_base::literal::Lit;
+use clause_base::view::View;
+
+/// Whether a clause has no true literal and at most one that is not false. Each literal is read once.
+pub fn is_pending(assignment: &Assignment, clause: &View) -> bool
+    requires { (p : ℕ) → p < length clause.now → slice_index clause.now p < 2 * assignment.now.variables }
+    ensures { result ≡ is_pending (has_literal assignment.now.trail) clause.now }
+{
+    let mut left: Option<Lit> = None;
+    for place in 0..clause.len() {
+        let lit = clause.get(place);
+        if assignment.is_true(lit.0) {
+            return false;
+        }
+        if !assignment.is_false(lit.0) {
+            if left.is_some() {
+                return false;
+            }
+            left = Some(lit);
+        }
+    }
+    true
+}
+
+/// What a pending clause asks for: its literal that is not false, or its first one where all are false.
+pub fn ask_of(assignment: &Assignment, clause: &View) -> u32
+    requires below { (p : ℕ) → p < length clause.now → slice_index clause.now p < 2 * assignment.now.variables }
+    requires pending { is_pending (has_literal assignment.now.trail) clause.now ≡ true }
+    ensures { IsAsk (has_literal assignment.now.trail) clause.now result }
+{
+    for place in 0..clause.len() {
+        let lit = clause.get(place);
+        if !assignment.is_false(lit.0) {
+            return lit.0;
+        }
+    }
+    if clause.len() == 0 {
+        return NO_LITERAL;
+    }
+    let first = clause.get(0);
+    first.0
+}
+
+/// What a clause of fewer than two literals asks for.
+pub fn only_ask(clause: &View) -> u32
+    requires { length clause.now < 2 }
+    ensures { (on : ℕ → Bool) → IsAsk on clause.now result }
+{
+    if clause.len() == 0 {
+        return NO_LITERAL;
+    }
+    let only = clause.get(0);
+    only.0
+}
+
+/// A place from `low` up to `high`, other than `skipped`, whose literal is not false.
+pub fn find_free(
+    assignment: &Assignment,
+    clause: &View,
+    skipped: u32,
+    low: u32,
+    high: u32,
+) -> Option<u32>
+    requires below { (p : ℕ) → p < length clause.now → slice_index clause.now p < 2 * assignment.now.variables }
+    requires high { high ≤ length clause.now }
+    ensures none { MatchOption result ((p : ℕ) → low ≤ p → p < high → (p ≡ skipped → ⊥) → is_free (has_literal assignment.now.trail) (slice_index clause.now p) ≡ false) (λ p. is_free (has_literal assignment.now.trail) (slice_index clause.now p) ≡ true) }
+    ensures other { IfSome result (λ p. p ≡ skipped → ⊥) }
+    ensures inside { IfSome result (λ p. p < length clause.now) }
+{
+    for place in low..high {
+        let lit = clause.get(place as usize);
+        if !assignment.is_false(lit.0) && place != skipped {
+            return Some(place);
+        }
+    }
+    None
+}
+
+/// A place other than `skipped` whose literal is not false, sought from `from` on and then from the front.
+pub fn find_other(assignment: &Assignment, clause: &View, skipped: u32, from: u32) -> Option<u32>
+    requires below { (p : ℕ) → p < length clause.now → slice_index clause.now p < 2 * assignment.now.variables }
+    requires short { length clause.now ≤ 4294967295 }
+    ensures none { MatchOption result ((p : ℕ) → p < length clause.now → (p ≡ skipped → ⊥) → is_free (has_literal assignment.now.trail) (slice_index clause.now p) ≡ false) (λ p. is_free (has_literal assignment.now.trail) (slice_index clause.now p) ≡ true) }
+    ensures other { IfSome result (λ p. p ≡ skipped → ⊥) }
+    ensures inside { IfSome result (λ p. p < length clause.now) }
+{
+    let length = clause.len() as u32;
+    let middle = from.min(length);
+    match find_free(assignment, clause, skipped, middle, length) {
+        Some(place) => Some(place),
+        None => find_free(assignment, clause, skipped, 0, middle),
+    }
+}

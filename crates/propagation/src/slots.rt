@@ -1,0 +1,28 @@
+//! The slots of clauses that are watched: each has the number of one.
+ghost use Rattle.std.specs.Prelude.{◌≡◌, ◌<◌, ◌≤◌, length, false, slice_index_or};
+ghost use Rattle.cdcl_rules.specs.State.{clause_at};
+ghost use Rattle.propagation.specs.Visit.{AreSlotsBelow};
+ghost use Rattle.propagation.specs.Tables.{clauses_in, flags_in};
+
+use crate::tables::Tables;
+use clause_base::view::View;
+
+/// The literals of the clause of a slot.
+#[inline(always)]
+pub fn slot_clause(tables: &Tables, slot: u32) -> View<'_>
+    requires inside { slot < length tables.now.slots.items }
+    requires below { AreSlotsBelow (length tables.now.store) tables.now.slots.items }
+    ensures { result ≡ clause_at (clauses_in tables.now) slot }
+{
+    tables.store.clause(tables.number_at(slot))
+}
+
+/// Whether the clause of a slot is kept.
+#[inline(always)]
+pub fn is_slot_kept(tables: &Tables, slot: u32) -> bool
+    requires inside { slot < length tables.now.slots.items }
+    requires below { AreSlotsBelow (length tables.now.kept.items) tables.now.slots.items }
+    ensures { result ≡ slice_index_or (flags_in tables.now) slot false }
+{
+    tables.is_kept(tables.number_at(slot))
+}

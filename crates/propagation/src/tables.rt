@@ -1,0 +1,41 @@
+//! The clauses by number, which of them are kept, and where each is found: what is read, and stays as it is, where clauses are
+//! visited and where the first one that is pending is sought.
+ghost use Rattle.std.specs.Prelude.{◌≡◌, ◌<◌, length, false, slice_index, slice_index_or};
+
+use let_go::let_go;
+use watch_store::store::Store;
+
+/// The clauses by number, which of them are kept, and the number of each slot's clause.
+pub struct Tables {
+    pub store: Store,
+    pub kept: Vec<bool>,
+    /// For each slot the number of its clause.
+    pub slots: Vec<u32>,
+}
+
+/// Letting one go is one call, in which its parts go: whoever holds one proves one step.
+impl Drop for Tables {
+    fn drop(self) {
+        let_go!(self: Tables { store, kept, slots });
+    }
+}
+
+impl Tables {
+    /// The number of the clause of a slot.
+    #[inline(always)]
+    pub fn number_at(&self, slot: u32) -> u32
+        requires { slot < length self.now.slots.items }
+        ensures { result ≡ slice_index self.now.slots.items slot }
+    {
+        self.slots[slot as usize]
+    }
+
+    /// Whether the clause with a number is kept.
+    #[inline(always)]
+    pub fn is_kept(&self, number: u32) -> bool
+        requires { number < length self.now.kept.items }
+        ensures { result ≡ slice_index_or self.now.kept.items number false }
+    {
+        self.kept[number as usize]
+    }
+}

@@ -1,0 +1,29 @@
+//! Which clauses are pending once the trail was taken back.
+ghost use Rattle.std.specs.Prelude.{◌≡◌, ℕ, ◌*◌, ◌<◌, ◌≤◌, length, true, false, slice_index_or};
+ghost use Rattle.propagation.specs.Asks.{HasAsks};
+ghost use Rattle.propagation.specs.Front.{IsComplete};
+ghost use Rattle.propagation.specs.Tables.{AreTables, pending_in};
+
+use crate::front::rescan;
+use crate::pending::Pending;
+use crate::tables::Tables;
+use cdcl_trail::assignment::Assignment;
+
+/// Finds which clauses are pending on a trail that was taken back. Where nothing is pending at its length, as the flags tell, no
+/// clause is looked at.
+pub fn refresh(tables: &Tables, quiet: &Vec<bool>, assignment: &Assignment, pending: &mut Pending)
+    requires tables { AreTables tables.now (2 * assignment.now.variables) }
+    requires room { length tables.now.store ≤ 64 * length pending.old.numbers }
+    requires long { length tables.now.store ≤ length pending.old.asks.items }
+    requires flags { length assignment.now.trail < length quiet.now.items }
+    requires quiet { slice_index_or quiet.now.items (length assignment.now.trail) false ≡ true → (k : ℕ) → pending_in tables.now assignment.now.trail k ≡ false }
+    ensures asks { HasAsks tables.now.store assignment.now.trail pending.new }
+    ensures complete { IsComplete (pending_in tables.now assignment.now.trail) pending.new }
+{
+    let is_quiet = quiet[assignment.length() as usize];
+    if is_quiet {
+        pending.clear();
+    } else {
+        rescan(tables, assignment, pending);
+    }
+}
