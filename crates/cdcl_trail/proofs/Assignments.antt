@@ -1,7 +1,7 @@
 -- The tables of an assignment, with one literal more and with one less.
-use Rattle.std.proofs.Common.{arith, ◌≡◌, ◌≢◌, ◌==◌, ltb, ℕ, zero, suc, ◌+◌, ◌-◌, ◌*◌, ◌/◌, ◌%◌, ◌<◌, ◌≤◌, List, [], ◌∷◌, ◌++◌, length, take, set, get_or, Bool, true, false, ◌||◌, if◌then◌else◌, refl, sym, ap, ◌∙◌, Option, Some, None, ◌⊎◌, inl, inr, length-set, get_or-set_same, get_or-set_other, replicate}
+use Rattle.std.proofs.Common.{arith, ◌≡◌, ◌≢◌, ◌==◌, ltb, ℕ, zero, suc, ◌+◌, ◌-◌, ◌/◌, ◌%◌, ◌<◌, ◌≤◌, List, [], ◌∷◌, ◌++◌, length, take, set, get_or, Bool, true, false, ◌||◌, if◌then◌else◌, refl, sym, ap, ◌∙◌, Option, Some, None, ◌⊎◌, inl, inr, length-set, get_or-set_same, get_or-set_other}
 use Rattle.std.proofs.lemmas.Bool.Decides.{nat_tests}
-use Rattle.std.proofs.lemmas.List.{length-take, length-take-le, get_or-take, length_push, get_or_push, get_or_append_left, length-replicate}
+use Rattle.std.proofs.lemmas.List.{length-take, length-take-le, get_or-take, length_push, get_or_push, get_or_append_left}
 use Rattle.clause_base.specs.Literal.{opposite}
 use Rattle.clause_base.specs.Clause.{has_literal}
 use Rattle.cdcl_rules.specs.declared.trail.Assigned.{Assigned}

@@ -2,7 +2,7 @@
 use Rattle.std.proofs.Common.{arith, ◌≡◌, ◌≢◌, ◌==◌, ℕ, zero, suc, ◌+◌, ◌-◌, ◌*◌, ◌/◌, ◌%◌, ◌<◌, ◌≤◌, List, [], ◌∷◌, ◌++◌, length, take, drop, reverse, set, get_or, Bool, true, false, not, ◌||◌, refl, sym, ap, ◌∙◌, subst, if◌then◌else◌, Option, Some, None, ◌⊎◌, inl, inr, All, zero-add, replicate}
 use Rattle.std.specs.List.{slice_get}
 use Rattle.std.proofs.Math.Nat.{eq-or-lt_of_le}
-use Rattle.std.proofs.lemmas.List.{reverse-append, length-reverse, length-map, length_push, map_push, take-append-drop, get_or_default, take_all}
+use Rattle.std.proofs.lemmas.List.{reverse-append, length-reverse, length-map, length_push, map_push, take-append-drop, get_or_default}
 use Rattle.std.proofs.Math.Seq.{take-suc}
 use Rattle.std.proofs.lemmas.List.Elements.{All-push, All-take, All-from_recursion}
 use Rattle.std.proofs.lemmas.Option.{slice_get-get_or}

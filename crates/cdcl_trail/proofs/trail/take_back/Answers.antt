@@ -1,8 +1,8 @@
-use Rattle.std.proofs.Common.{arith, ◌≡◌, ◌-◌, ◌<◌, ◌/◌, ℕ, suc, None, length, take, set, get_or, sym, ap, ◌∙◌}
+use Rattle.std.proofs.Common.{arith, ◌≡◌, ◌-◌, ◌/◌, ℕ, suc, None, length, take, set, get_or, ap, ◌∙◌}
 use Rattle.std.specs.List.{slice_get}
 use Rattle.clause_base.specs.Choice.{Known}
 use Rattle.cdcl_rules.specs.State.{values_of}
-use Rattle.cdcl_trail.proofs.Mirrors.{IsLast, last_at}
+use Rattle.cdcl_trail.proofs.Mirrors.{last_at}
 use Rattle.cdcl_trail.proofs.trail.take_back.Goals as goal
 
 pub take_back-requires : goal.take_back-requires

@@ -1,4 +1,4 @@
-use Rattle.std.proofs.Common.{arith, ◌≡◌, ◌<◌, ◌∙◌, ◌∷◌, ◌+◌, ℕ, List, length, take, drop, get_or, sym, ap}
+use Rattle.std.proofs.Common.{arith, ◌<◌, ◌∙◌, ◌∷◌, ◌+◌, ℕ, length, take, drop, sym, ap}
 use Rattle.std.proofs.lemmas.List.{drop_more, drop_all}
 use Rattle.cdcl_rules.specs.State.{decision_count}
 use Rattle.conflict_walk.proofs.Levels.{greatest_from, greatest_next}

@@ -1,6 +1,5 @@
-use Rattle.std.proofs.Common.{arith, ◌≡◌, ◌∙◌, ◌==◌, ℕ, max, take, refl, sym, ap}
+use Rattle.std.proofs.Common.{◌∙◌, ℕ, max, take, refl, sym, ap}
 use Rattle.cdcl_rules.specs.State.{decision_count}
-use Rattle.cdcl_rules.specs.Learn.{level_of}
 use Rattle.cdcl_trail.proofs.Levels.{decisions_max}
 use Rattle.conflict_walk.proofs.backjump.further.Goals as goal
 

@@ -1,4 +1,4 @@
-use Rattle.std.proofs.Common.{arith, length}
+use Rattle.std.proofs.Common.{arith}
 use Rattle.cdcl_trail.proofs.Mirrors.{values_len, assigned}
 use Rattle.cdcl_trail.proofs.trail.Trail.assignment.Goals as goal
 

@@ -1,4 +1,4 @@
-use Rattle.std.proofs.Common.{arith, ◌≡◌, ◌<◌, ◌≤◌, length, subst, refl, sym, ap, ◌∙◌, take}
+use Rattle.std.proofs.Common.{arith, refl, sym, ap, ◌∙◌, take}
 use Rattle.cdcl_rules.specs.State.{decision_count}
 use Rattle.cdcl_rules.specs.Learn.{backtracked}
 use Rattle.cdcl_trail.specs.Mirrored.{TrailView}

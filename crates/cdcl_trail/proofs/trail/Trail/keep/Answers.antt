@@ -1,5 +1,4 @@
-use Rattle.std.proofs.Common.{arith, ◌≡◌, ℕ, List, length, take, sym, ap, ◌∙◌}
-use Rattle.cdcl_rules.specs.declared.trail.Assigned.{Assigned}
+use Rattle.std.proofs.Common.{arith, ◌≡◌, take, sym, ap, ◌∙◌}
 use Rattle.cdcl_rules.specs.State.{decision_count}
 use Rattle.cdcl_trail.specs.Mirrored.{TrailView}
 use Rattle.cdcl_trail.proofs.Mirrors.{given_by, kept_by, same_view}

@@ -1,4 +1,4 @@
-use Rattle.std.proofs.Common.{arith, ◌≡◌, ◌/◌, true, length, sym, ap, subst}
+use Rattle.std.proofs.Common.{arith, ◌≡◌, true, length, sym, ap, subst}
 use Rattle.clause_base.specs.Literal.{opposite}
 use Rattle.cdcl_rules.specs.State.{is_on}
 use Rattle.cdcl_trail.specs.Mirrored.{TrailView}

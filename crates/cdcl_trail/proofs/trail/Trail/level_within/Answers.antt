@@ -1,4 +1,4 @@
-use Rattle.std.proofs.Common.{arith, ◌≡◌, ◌+◌, ℕ, List, length, take, sym, subst, ap, ◌∙◌}
+use Rattle.std.proofs.Common.{arith, ℕ, List, length, take, sym, subst, ap, ◌∙◌}
 use Rattle.cdcl_rules.specs.State.{decision_count}
 use Rattle.cdcl_trail.specs.Mirrored.{TrailView, IsCount, AreRising}
 use Rattle.cdcl_trail.proofs.Levels.{starts_rise, count_is}

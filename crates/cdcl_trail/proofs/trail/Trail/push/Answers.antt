@@ -1,4 +1,4 @@
-use Rattle.std.proofs.Common.{arith, ◌≡◌, ◌<◌, ◌++◌, ◌∷◌, [], ◌/◌, ◌%◌, ◌==◌, ℕ, None, Some, set, length, subst, sym, ◌∙◌, ap}
+use Rattle.std.proofs.Common.{arith, ◌≡◌, ◌<◌, ◌++◌, ◌∷◌, [], ◌/◌, ◌%◌, ◌==◌, ℕ, None, Some, set, length, subst, ◌∙◌, ap}
 use Rattle.cdcl_rules.specs.State.{value_of}
 use Rattle.cdcl_trail.specs.Assignment.{literals}
 use Rattle.cdcl_trail.specs.Mirrored.{TrailView, IsMirrored, IsPlaced, begun}

@@ -1,6 +1,5 @@
-use Rattle.std.proofs.Common.{arith, ◌≡◌, ◌∙◌, ◌*◌, ◌<◌, ◌+◌, ℕ, Option, Bool, true, false, Some, ap, sym}
+use Rattle.std.proofs.Common.{arith, ◌∙◌, ◌*◌, ◌<◌, ◌+◌, Option, Bool, true, false, Some, ap, sym}
 use Rattle.std.specs.List.{slice_get}
-use Rattle.std.proofs.lemmas.List.{get_or_default}
 use Rattle.clause_base.specs.Choice.{Known}
 use Rattle.clause_base.proofs.ValueLemmas.{length-view, values-get, read_at, true_at, false_at, none_at}
 use Rattle.clause_base.proofs.values.Values.get.Goals as goal

@@ -1,7 +1,7 @@
-use Rattle.std.proofs.Common.{arith, ◌≡◌, ◌∙◌, ◌<◌, ◌≤◌, ◌*◌, ◌/◌, ◌%◌, ◌==◌, ℕ, Bool, true, Option, Some, None, ap, sym, subst, length, length-set}
+use Rattle.std.proofs.Common.{arith, ◌∙◌, ◌/◌, ◌%◌, ◌==◌, ℕ, true, Some, None, ap, sym, subst, length-set}
 use Rattle.std.specs.List.{slice_set}
 use Rattle.clause_base.specs.Choice.{Known}
-use Rattle.clause_base.specs.ValueTruths.{value_at, values_of, AreTruths}
+use Rattle.clause_base.specs.ValueTruths.{values_of, AreTruths}
 use Rattle.clause_base.proofs.ValueLemmas.{literal_got, values-set, truths_changed, elsewhere_set, value_true}
 use Rattle.clause_base.proofs.values.Values.make_true.Goals as goal
 

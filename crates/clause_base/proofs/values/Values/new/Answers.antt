@@ -1,4 +1,3 @@
-use Rattle.std.proofs.Common.{arith}
 use Rattle.clause_base.proofs.ValueLemmas.{none_of}
 use Rattle.clause_base.proofs.values.Values.new.Goals as goal
 

@@ -1,4 +1,4 @@
-use Rattle.std.proofs.Common.{arith, ◌≡◌, ◌∙◌, ◌≤◌, Bool, Option, Some, None, true, false, refl, ap, sym}
+use Rattle.std.proofs.Common.{arith, ◌≡◌, ◌∙◌, Bool, Option, Some, None, true, false, refl, ap, sym}
 use Rattle.std.specs.List.{slice_set}
 use Rattle.clause_base.specs.Choice.{Known}
 use Rattle.clause_base.proofs.ValueLemmas.{variable_below, value_both}

@@ -1,7 +1,7 @@
-use Rattle.std.proofs.Common.{arith, ◌≡◌, ◌∙◌, ◌<◌, ◌≤◌, ◌*◌, ◌/◌, ◌%◌, ◌==◌, ℕ, Bool, false, Option, Some, None, ap, sym, subst, length, length-set}
+use Rattle.std.proofs.Common.{arith, ◌∙◌, ◌≤◌, ◌/◌, ◌%◌, ◌==◌, ℕ, false, Some, None, ap, sym, subst, length-set}
 use Rattle.std.specs.List.{slice_set}
 use Rattle.clause_base.specs.Choice.{Known}
-use Rattle.clause_base.specs.ValueTruths.{value_at, values_of, AreTruths}
+use Rattle.clause_base.specs.ValueTruths.{values_of, AreTruths}
 use Rattle.clause_base.proofs.ValueLemmas.{literal_got, values-set, truths_changed, elsewhere_set, value_taken}
 use Rattle.clause_base.proofs.values.Values.take_back.Goals as goal
 
