@@ -1,13 +1,14 @@
 -- The tables of an assignment, with one literal more and with one less.
-use Rattle.std.proofs.Common.{arith, ◌≡◌, ◌≢◌, ◌==◌, ltb, ℕ, zero, suc, ◌+◌, ◌-◌, ◌*◌, ◌/◌, ◌%◌, ◌<◌, ◌≤◌, List, [], ◌∷◌, ◌++◌, length, take, set, get_or, Bool, true, false, ◌||◌, if◌then◌else◌, refl, sym, ap, ◌∙◌, Option, Some, None, ◌⊎◌, inl, inr, length-set, get_or-set_same, get_or-set_other, replicate}
+use Rattle.std.proofs.Common.{arith, ◌≡◌, ◌≢◌, ◌==◌, ltb, ℕ, zero, suc, ◌+◌, ◌-◌, ◌/◌, ◌%◌, ◌<◌, ◌≤◌, List, [], ◌∷◌, ◌++◌, length, take, set, get_or, Bool, true, false, ◌||◌, if◌then◌else◌, refl, sym, ap, ◌∙◌, Option, Some, None, ◌⊎◌, inl, inr, length-set, get_or-set_same, get_or-set_other}
 use Rattle.std.proofs.lemmas.Bool.Decides.{nat_tests}
-use Rattle.std.proofs.lemmas.List.{length-take-le, get_or-take, length_push, get_or_push, get_or_append_left, length-replicate}
+use Rattle.std.proofs.lemmas.List.{length-take, length-take-le, get_or-take, length_push, get_or_push, get_or_append_left}
 use Rattle.clause_base.specs.Literal.{opposite}
 use Rattle.clause_base.specs.Clause.{has_literal}
 use Rattle.cdcl_rules.specs.declared.trail.Assigned.{Assigned}
 use Rattle.cdcl_rules.specs.State.{is_on}
 use Rattle.cdcl_rules.specs.Learn.{backtracked}
 use Rattle.cdcl_trail.specs.Assignment.{IsAssignment, literals}
+use Rattle.cdcl_trail.specs.Mirrored.{IsPlaced}
 
 pub has-snoc : (xs : List ℕ) (y l : ℕ) → has_literal (xs ++ y ∷ []) l ≡ (has_literal xs l || (y == l))
 has-snoc [] y l = by (y == l)
@@ -31,7 +32,10 @@ pub literals_back : (level : ℕ) (trail : List Assigned) → take (length (back
 literals_back level [] = refl
 literals_back level (a ∷ trail) = by a.reason (level == 0) (literals_back level trail) (literals_back (level - 1) trail)
   where
-    by : (o : Option ℕ) (b : Bool) → take (length (backtracked level trail)) (literals trail) ≡ literals (backtracked level trail) → take (length (backtracked (level - 1) trail)) (literals trail) ≡ literals (backtracked (level - 1) trail) → take (length (elim o as (λ _. List Assigned) [ Some r ↦ a ∷ backtracked level trail | None ↦ if b then [] else a ∷ backtracked (level - 1) trail ])) (literals (a ∷ trail)) ≡ literals (elim o as (λ _. List Assigned) [ Some r ↦ a ∷ backtracked level trail | None ↦ if b then [] else a ∷ backtracked (level - 1) trail ])
+    by : (o : Option ℕ) (b : Bool) → take (length (backtracked level trail)) (literals trail) ≡ literals (backtracked level trail) → take (length (backtracked (level - 1) trail)) (literals trail)
+        ≡ literals (backtracked (level - 1) trail) → take
+        (length (elim o as (λ _. List Assigned) [ Some r ↦ a ∷ backtracked level trail | None ↦ if b then [] else a ∷ backtracked (level - 1) trail ])) (literals (a ∷ trail)) ≡ literals
+        (elim o as (λ _. List Assigned) [ Some r ↦ a ∷ backtracked level trail | None ↦ if b then [] else a ∷ backtracked (level - 1) trail ])
     by (Some r) b same less = ap (λ (ls : List ℕ). a.literal ∷ ls) same
     by None true same less = refl
     by None false same less = ap (λ (ls : List ℕ). a.literal ∷ ls) less
@@ -40,7 +44,8 @@ pub back_le : (level : ℕ) (trail : List Assigned) → length (backtracked leve
 back_le level [] = omega arith
 back_le level (a ∷ trail) = by a.reason (level == 0) (back_le level trail) (back_le (level - 1) trail)
   where
-    by : (o : Option ℕ) (b : Bool) → length (backtracked level trail) ≤ length trail → length (backtracked (level - 1) trail) ≤ length trail → length (elim o as (λ _. List Assigned) [ Some r ↦ a ∷ backtracked level trail | None ↦ if b then [] else a ∷ backtracked (level - 1) trail ]) ≤ length (a ∷ trail)
+    by : (o : Option ℕ) (b : Bool) → length (backtracked level trail) ≤ length trail → length (backtracked (level - 1) trail) ≤ length trail
+        → length (elim o as (λ _. List Assigned) [ Some r ↦ a ∷ backtracked level trail | None ↦ if b then [] else a ∷ backtracked (level - 1) trail ]) ≤ length (a ∷ trail)
     by (Some r) b same less = omega (arith, same)
     by None true same less = omega arith
     by None false same less = omega (arith, less)
@@ -50,7 +55,8 @@ position_in : (xs : List ℕ) (l : ℕ) → has_literal xs l ≡ true → (i : �
 position_in [] l h = absurd (let w : ⊥ = cc in w)
 position_in (x ∷ xs) l h = by (x == l) refl h (position_in xs l)
   where
-    by : (b : Bool) → (x == l) ≡ b → (b || has_literal xs l) ≡ true → (has_literal xs l ≡ true → (i : ℕ) × (i < length xs) × (get_or xs i 0 ≡ l)) → (i : ℕ) × (i < length (x ∷ xs)) × (get_or (x ∷ xs) i 0 ≡ l)
+    by : (b : Bool) → (x == l) ≡ b → (b || has_literal xs l) ≡ true → (has_literal xs l ≡ true → (i : ℕ) × (i < length xs) × (get_or xs i 0 ≡ l))
+        → (i : ℕ) × (i < length (x ∷ xs)) × (get_or (x ∷ xs) i 0 ≡ l)
     by true f h on = (0, omega arith, grind (arith, nat_tests))
     by false f h on = let w = on h in (suc w.0, omega (arith, w.1), w.2)
 
@@ -81,97 +87,51 @@ apart trail code off free i h e =
       | inr a ↦ let z : true ≡ false = sym t ∙ ap (has_literal trail) a ∙ free in cc
     ]
 
--- one literal more is true
-pub assigned_push : (n : ℕ) (trail : List ℕ) (on : List Bool) (positions : List ℕ) (code : ℕ) → IsAssignment n trail on positions → length trail < n → code < 2 * n → has_literal trail code ≡ false → has_literal trail (opposite code) ≡ false → IsAssignment n (trail ++ code ∷ []) (set on code true) (set positions (code / 2) (length trail))
-assigned_push n trail on positions code m room below off free = record {
-  small = m.small;
-  short = omega (arith, room, length_push trail code);
-  positions_size = length-set positions (code / 2) (length trail) ∙ m.positions_size;
-  on_size = length-set on code true ∙ m.on_size;
-  truths = λ l h. rw (has-snoc trail code l) (truth l h (code == l) refl);
-  below = λ i h. below_by i (i == length trail) refl (omega (arith, h, length_push trail code));
+-- one literal more has its position
+pub placed_push : (n : ℕ) (trail : List ℕ) (positions : List ℕ) (code : ℕ) → IsPlaced n trail positions → code / 2 < n → has_literal trail code ≡ false → has_literal trail (opposite code) ≡ false
+    → IsPlaced n (trail ++ code ∷ []) (set positions (code / 2) (length trail))
+placed_push n trail positions code m below off free = record {
+  size = length-set positions (code / 2) (length trail) ∙ m.size;
   positions_are = λ i h. positions_by i (i == length trail) refl (omega (arith, h, length_push trail code));
 }
   where
-    or_on : (b : Bool) → (b || true) ≡ true
-    or_on true = refl
-    or_on false = refl
-
-    or_off : (b : Bool) → (b || false) ≡ b
-    or_off true = refl
-    or_off false = refl
-
-    truth : (l : ℕ) → l < 2 * n → (p : Bool) → (code == l) ≡ p → get_or (set on code true) l false ≡ (has_literal trail l || p)
-    truth l h true f =
-        let e : l ≡ code = grind (arith, nat_tests) in
-        ap (λ (x : ℕ). get_or (set on code true) x false) e ∙ get_or-set_same on code true false (omega (arith, below, m.on_size)) ∙ sym (or_on (has_literal trail l))
-    truth l h false f =
-        let e : l ≢ code = grind (arith, nat_tests) in
-        get_or-set_other on code l true false e ∙ m.truths l h ∙ sym (or_off (has_literal trail l))
-
-    below_by : (i : ℕ) (p : Bool) → (i == length trail) ≡ p → i < length trail + 1 → get_or (trail ++ code ∷ []) i 0 < 2 * n
-    below_by i true f h = let e : i ≡ length trail = grind (arith, nat_tests) in omega (arith, get_or_push trail code 0 i (sym e), below)
-    below_by i false f h =
-        let e : i ≢ length trail = grind (arith, nat_tests) in
-        let l : i < length trail = omega (arith, h, e) in
-        omega (arith, get_or_append_left trail (code ∷ []) 0 i l, m.below i l)
-
     positions_by : (i : ℕ) (p : Bool) → (i == length trail) ≡ p → i < length trail + 1 → get_or (set positions (code / 2) (length trail)) (get_or (trail ++ code ∷ []) i 0 / 2) 0 ≡ i
     positions_by i true f h =
         let e : i ≡ length trail = grind (arith, nat_tests) in
-        ap (λ (x : ℕ). get_or (set positions (code / 2) (length trail)) (x / 2) 0) (get_or_push trail code 0 i (sym e)) ∙ get_or-set_same positions (code / 2) (length trail) 0 (omega (arith, below, m.positions_size)) ∙ sym e
+        ap (λ (x : ℕ). get_or (set positions (code / 2) (length trail)) (x / 2) 0) (get_or_push trail code 0 i (sym e))
+        ∙ get_or-set_same positions (code / 2) (length trail) 0 (omega (arith, below, m.size)) ∙ sym e
     positions_by i false f h =
         let e : i ≢ length trail = grind (arith, nat_tests) in
         let l : i < length trail = omega (arith, h, e) in
         let ne : get_or trail i 0 / 2 ≢ code / 2 = apart trail code off free i l in
-        ap (λ (x : ℕ). get_or (set positions (code / 2) (length trail)) (x / 2) 0) (get_or_append_left trail (code ∷ []) 0 i l) ∙ get_or-set_other positions (code / 2) (get_or trail i 0 / 2) (length trail) 0 ne ∙ m.positions_are i l
+        ap (λ (x : ℕ). get_or (set positions (code / 2) (length trail)) (x / 2) 0) (get_or_append_left trail (code ∷ []) 0 i l)
+        ∙ get_or-set_other positions (code / 2) (get_or trail i 0 / 2) (length trail) 0 ne ∙ m.positions_are i l
 
--- one literal less is true
-pub assigned_pop : (n : ℕ) (trail : List ℕ) (on : List Bool) (positions : List ℕ) (code : ℕ) → IsAssignment n (trail ++ code ∷ []) on positions → IsAssignment n trail (set on code false) positions
-assigned_pop n trail on positions code m = record {
-  small = m.small;
-  short = omega (arith, m.short, length_push trail code);
-  positions_size = m.positions_size;
-  on_size = length-set on code false ∙ m.on_size;
-  truths = λ l h. truth l h (code == l) refl;
-  below = λ i h. let k = m.below i (omega (arith, h, length_push trail code)) in omega (arith, k, older i h);
-  positions_are = λ i h. ap (λ (x : ℕ). get_or positions (x / 2) 0) (sym (older i h)) ∙ m.positions_are i (omega (arith, h, length_push trail code));
+-- the first literals of a trail keep theirs
+pub placed_take : (n k : ℕ) (trail positions : List ℕ) → IsPlaced n trail positions → IsPlaced n (take k trail) positions
+placed_take n k trail positions m = record {
+  size = m.size;
+  positions_are = λ i h.
+      let s = length-take k trail in
+      ap (λ (x : ℕ). get_or positions (x / 2) 0) (get_or-take k trail i 0 (omega (arith, h, s))) ∙ m.positions_are i (omega (arith, h, s));
 }
-  where
-    older : (i : ℕ) → i < length trail → get_or (trail ++ code ∷ []) i 0 ≡ get_or trail i 0
-    older i h = get_or_append_left trail (code ∷ []) 0 i h
 
-    last : get_or (trail ++ code ∷ []) (length trail) 0 ≡ code
-    last = get_or_push trail code 0 (length trail) refl
-
-    or_off : (b p : Bool) → p ≡ false → (b || p) ≡ b
-    or_off true p h = refl
-    or_off false p h = h
-
-    gone : has_literal trail code ≡ false
-    gone = by (has_literal trail code) refl
-      where
-        by : (p : Bool) → has_literal trail code ≡ p → p ≡ false
-        by true f =
-            let w = position_in trail code f in
-            let v : get_or (trail ++ code ∷ []) w.0 0 ≡ get_or (trail ++ code ∷ []) (length trail) 0 = older w.0 w.1 ∙ w.2 ∙ sym last in
-            let z : w.0 ≡ length trail = sym (m.positions_are w.0 (omega (arith, w.1, length_push trail code))) ∙ ap (λ (x : ℕ). get_or positions (x / 2) 0) v ∙ m.positions_are (length trail) (omega (arith, length_push trail code)) in
-            absurd (omega (arith, z, w.1))
-        by false f = refl
-
-    code_below : code < 2 * n
-    code_below = let k = m.below (length trail) (omega (arith, length_push trail code)) in omega (arith, k, last)
-
-    truth : (l : ℕ) → l < 2 * n → (p : Bool) → (code == l) ≡ p → get_or (set on code false) l false ≡ has_literal trail l
-    truth l h true f =
-        let e : l ≡ code = grind (arith, nat_tests) in
-        rw e (get_or-set_same on code false false (omega (arith, code_below, m.on_size)) ∙ sym gone)
-    truth l h false f =
-        let e : l ≢ code = grind (arith, nat_tests) in
-        get_or-set_other on code l false false e ∙ m.truths l h ∙ has-snoc trail code l ∙ or_off (has_literal trail l) (code == l) f
+-- the position of a literal that is true
+pub place_in : (n : ℕ) (trail positions : List ℕ) (code : ℕ) → IsPlaced n trail positions → has_literal trail code ≡ true
+    → (let p = get_or positions (code / 2) 0 in (p < length trail) × (get_or trail p 0 ≡ code) × ((i : ℕ) → i < p → get_or trail i 0 ≢ code))
+place_in n trail positions code m h =
+    let w = position_in trail code h in
+    let p : get_or positions (code / 2) 0 ≡ w.0 = ap (λ (x : ℕ). get_or positions (x / 2) 0) (sym w.2) ∙ m.positions_are w.0 w.1 in (
+      omega (arith, p, w.1),
+      ap (λ (i : ℕ). get_or trail i 0) p ∙ w.2,
+      λ i l e.
+          let q : get_or positions (code / 2) 0 ≡ i = ap (λ (x : ℕ). get_or positions (x / 2) 0) (sym e) ∙ m.positions_are i (omega (arith, l, p, w.1)) in
+          omega (arith, l, q),
+    )
 
 -- from its position on a literal is true
-pub position_is : (n : ℕ) (trail : List ℕ) (on : List Bool) (positions : List ℕ) (code half : ℕ) → IsAssignment n trail on positions → code / 2 ≡ half → has_literal trail code ≡ true → (k : ℕ) → k ≤ length trail → has_literal (take k trail) code ≡ ltb (get_or positions half 0) k
+pub position_is : (n : ℕ) (trail : List ℕ) (on : List Bool) (positions : List ℕ) (code half : ℕ) → IsAssignment n trail on positions → code / 2 ≡ half → has_literal trail code ≡ true → (k : ℕ)
+    → k ≤ length trail → has_literal (take k trail) code ≡ ltb (get_or positions half 0) k
 position_is n trail on positions code half m e h k kl =
     let w = position_in trail code h in
     let p : get_or positions half 0 ≡ w.0 = ap (λ (x : ℕ). get_or positions x 0) (sym (ap (λ (x : ℕ). x / 2) w.2 ∙ e)) ∙ m.positions_are w.0 w.1 in
@@ -193,20 +153,3 @@ position_is n trail on positions code half m e h k kl =
             let z : w.0 ≡ i = sym (m.positions_are w.0 (omega (arith, jk, kl))) ∙ ap (λ (x : ℕ). get_or positions (x / 2) 0) u ∙ m.positions_are i il in
             absurd (omega (arith, z, jk, g))
         at false q = refl
-
--- at first no literal is true
-pub assigned_none : (n : ℕ) (on : List Bool) (positions : List ℕ) → n ≤ 2147483647 → on ≡ replicate (2 * n) false → length positions ≡ n → IsAssignment n [] on positions
-assigned_none n on positions s o p = record {
-  small = s;
-  short = omega arith;
-  positions_size = p;
-  on_size = ap (λ (xs : List Bool). length xs) o ∙ length-replicate (2 * n) false;
-  truths = λ l h. ap (λ (xs : List Bool). get_or xs l false) o ∙ off_in (2 * n) l;
-  below = λ i h. absurd (omega arith);
-  positions_are = λ i h. absurd (omega arith);
-}
-  where
-    off_in : (k l : ℕ) → get_or (replicate k false) l false ≡ false
-    off_in zero l = refl
-    off_in (suc k) zero = refl
-    off_in (suc k) (suc l) = off_in k l

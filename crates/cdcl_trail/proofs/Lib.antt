@@ -1,2 +1,3 @@
 pub mod Assignments
+pub mod Levels
 pub mod Mirrors

@@ -1,8 +1,7 @@
-use Rattle.std.specs.Prelude.{◌≡◌, ℕ, ◌/◌, ◌<◌, ◌≤◌, List, [], ◌∷◌, length, reverse, slice_index, true, All, Option, Some, None}
+use Rattle.std.specs.Prelude.{◌≡◌, ℕ, ◌+◌, ◌/◌, ◌<◌, ◌≤◌, List, [], ◌∷◌, length, reverse, slice_index, All, Option, Some, None}
 use Rattle.cdcl_rules.specs.declared.trail.Assigned.{Assigned}
 use Rattle.clause_base.specs.Choice.{Known}
-use Rattle.cdcl_rules.specs.State.{is_on, value_of, values_of, decision_count}
-use Rattle.cdcl_rules.specs.Learn.{level_from}
+use Rattle.cdcl_rules.specs.State.{value_of, values_of}
 
 -- a trail over so many variables
 pub record TrailView : Type 0 where
@@ -14,17 +13,36 @@ abbrev pub IsOnce : List Assigned → Type 0
 IsOnce [] = Unit {0}
 IsOnce (a ∷ older) = (value_of older (a.literal / 2) ≡ None) × IsOnce older
 
--- values and levels by variable mirror the trail
-pub record IsMirrored (n : ℕ) (entries : List Assigned) (values : Known) (levels : List ℕ) (level : ℕ) : Type 0 where
+-- the positions of the decisions, where the first entry has this position: there the levels begin
+abbrev pub starts_from : ℕ → List Assigned → List ℕ
+starts_from p [] = []
+starts_from p (a ∷ entries) = elim a.reason [ None ↦ p ∷ starts_from (p + 1) entries | Some r ↦ starts_from (p + 1) entries ]
+
+-- what an entry with a reason, or a decision, at a position adds to them
+abbrev pub begun : Option ℕ → ℕ → List ℕ
+begun None p = p ∷ []
+begun (Some r) p = []
+
+-- the values are what the trail says, and the level of an entry can be found among the positions where levels begin; no variable
+-- stands twice, so that room for an entry of each variable is room enough
+pub record IsMirrored (n : ℕ) (entries : List Assigned) (values : Known) (starts : List ℕ) : Type 0 where
   pub values_are : values ≡ values_of n entries
-  pub levels_len : length levels ≡ n
-  pub levels_are : (l : ℕ) → is_on entries l ≡ true → slice_index levels (l / 2) ≡ level_from 0 entries l
-  pub level_is : level ≡ decision_count entries
+  pub starts_are : starts ≡ starts_from 0 entries
   pub below : All (λ a. a.literal / 2 < n) entries
   pub once : IsOnce (reverse entries)
   pub small : n ≤ 2147483647
 
--- how much a trail entry raises the level
-abbrev pub step_of : Option ℕ → ℕ
-step_of None = 1
-step_of (Some r) = 0
+-- each variable of the trail has its position in a table: an entry is found from its literal, and its level from there
+pub record IsPlaced (n : ℕ) (trail : List ℕ) (positions : List ℕ) : Type 0 where
+  pub size : length positions ≡ n
+  pub positions_are : (i : ℕ) → i < length trail → slice_index positions (slice_index trail i / 2) ≡ i
+
+-- so many of some numbers, which rise, are below a bound
+pub record IsCount (numbers : List ℕ) (bound count : ℕ) : Type 0 where
+  pub within : count ≤ length numbers
+  pub less : (i : ℕ) → i < count → slice_index numbers i < bound
+  pub rest : (i : ℕ) → count ≤ i → i < length numbers → bound ≤ slice_index numbers i
+
+-- numbers that do not fall
+abbrev pub AreRising : List ℕ → Type 0
+AreRising numbers = (i j : ℕ) → i ≤ j → j < length numbers → slice_index numbers i ≤ slice_index numbers j

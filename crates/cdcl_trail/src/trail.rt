@@ -1,9 +1,9 @@
-ghost use Rattle.std.specs.Prelude.{◌≡◌, ◌<◌, ◌≤◌, ◌+◌, ◌/◌, ◌==◌, [], ◌++◌, ◌∷◌, true, None, All, take, length, IfOk, MatchOption};
+ghost use Rattle.std.specs.Prelude.{◌≡◌, ◌%◌, ◌<◌, ◌≤◌, ◌/◌, ◌==◌, [], ◌++◌, ◌∷◌, true, None, All, take, length, reverse, vec_capacity, IfOk};
 ghost use Rattle.clause_base.specs.Literal.{opposite};
 ghost use Rattle.cdcl_rules.specs.State.{is_on, value_of, values_of, decision_count};
 ghost use Rattle.cdcl_rules.specs.Learn.{backtracked, level_of};
 ghost use Rattle.cdcl_trail.specs.Assignment.{literals};
-ghost use Rattle.cdcl_trail.specs.Mirrored.{IsMirrored, TrailView, step_of};
+ghost use Rattle.cdcl_trail.specs.Mirrored.{TrailView, begun, IsOnce, IsCount, AreRising};
 
 use crate::assignment::Assignment;
 use cdcl_rules::trail::Assigned;
@@ -14,56 +14,80 @@ use let_go::let_go;
 use std::alloc::Global;
 use std::marker::Model;
 
-/// The literals that are true, oldest first, over a number of variables; for each literal whether it is true; for each variable
-/// its value, and its level and position where it has a value.
+/// The literals that are true, oldest first, over a number of variables; the values that they give; for each variable on the trail
+/// its position; and the positions of the decisions, where the levels begin. No entry keeps its level: an entry is of the current
+/// level where its position is not before the last beginning, and another level is found by halving.
 pub struct Trail {
     variables: u32,
     entries: Vec<Assigned>,
     values: Values,
-    levels: Vec<u32>,
-    level: u32,
-    on: Vec<bool>,
     positions: Vec<u32>,
+    starts: Vec<u32>,
 }
 
 impl Model for Trail {
     ghost use Rattle.std.specs.Prelude.{◌≤◌, vec_capacity};
-    ghost use Rattle.cdcl_trail.specs.Assignment.{IsAssignment, literals};
-    ghost use Rattle.cdcl_trail.specs.Mirrored.{TrailView, IsMirrored};
+    ghost use Rattle.cdcl_trail.specs.Assignment.{literals};
+    ghost use Rattle.cdcl_trail.specs.Mirrored.{TrailView, IsMirrored, IsPlaced};
 
     ghost Value = { TrailView };
 
     ghost view = { λ t. record { variables = t.variables; entries = t.entries.items } };
 
-    ghost invariant = { λ t. IsMirrored t.variables t.entries.items t.values t.levels.items t.level × IsAssignment t.variables (literals t.entries.items) t.on.items t.positions.items × (t.variables ≤ vec_capacity t.entries) };
+    ghost invariant = { λ t. IsMirrored t.variables t.entries.items t.values t.starts.items × IsPlaced t.variables (literals t.entries.items) t.positions.items × (t.variables ≤ vec_capacity t.entries) × (t.variables ≤ vec_capacity t.starts) };
 }
 
 /// Letting one go is one call, in which its parts go: whoever holds one proves one step.
 impl Drop for Trail {
     fn drop(self) {
-        let_go!(self: Trail { variables, entries, values, levels, level, on, positions });
+        let_go!(self: Trail { variables, entries, values, positions, starts });
     }
 }
 
-/// The level with an entry, from the level before it.
-fn level_after(level: u32, entry: &Assigned) -> u32
-    requires { level < 4294967295 }
-    ensures { result ≡ level + step_of entry.now.reason }
+/// How many of some numbers, which rise, are below a bound.
+fn count_below(numbers: &[u32], bound: u32) -> u32
+    requires rising { AreRising numbers.now }
+    requires few { length numbers.now ≤ 4294967295 }
+    ensures { IsCount numbers.now bound result }
 {
-    match entry.reason {
-        None => level + 1,
-        Some(_) => level,
+    let mut low = 0;
+    let mut high = numbers.len();
+    while low < high {
+        let middle = low + (high - low) / 2;
+        if numbers[middle] < bound {
+            low = middle + 1;
+        } else {
+            high = middle;
+        }
+    }
+    low as u32
+}
+
+/// Takes back the values that entries give but for the first ones, the last one's first.
+fn take_back(values: &mut Values, entries: &[Assigned], kept: usize)
+    requires values { values.old ≡ values_of (length values.old) entries.now }
+    requires below { All (λ a. a.literal / 2 < length values.old) entries.now }
+    requires once { IsOnce (reverse entries.now) }
+    requires within { kept ≤ length entries.now }
+    ensures { values.new ≡ values_of (length values.old) (take kept entries.now) }
+{
+    let mut place = entries.len();
+    while place > kept {
+        place -= 1;
+        values.take_back(entries[place].literal);
     }
 }
 
-/// The level before an entry, from the level with it.
-fn level_before(level: u32, entry: &Assigned) -> u32
-    requires { step_of entry.now.reason ≤ level }
-    ensures { level ≡ result + step_of entry.now.reason }
+/// Adds the position of an entry to those of the decisions, if it is one.
+#[inline]
+fn add_start(starts: &mut Vec<u32>, position: u32, reason: Option<u32>)
+    requires { length starts.old.items < vec_capacity starts.old }
+    ensures added { starts.new.items ≡ starts.old.items ++ begun reason position }
+    ensures capacity { vec_capacity starts.new ≡ vec_capacity starts.old }
 {
-    match entry.reason {
-        None => level - 1,
-        Some(_) => level,
+    match reason {
+        None => starts.push_reserved(position),
+        Some(_) => {}
     }
 }
 
@@ -74,17 +98,14 @@ impl Trail {
         ensures { IfOk result (λ t. t ≡ record { variables = variables; entries = [] }) }
     {
         let values = Values::new(alloc, variables)?;
-        let levels = vec![in alloc; 0; variables as usize]?;
         let positions = vec![in alloc; 0; variables as usize]?;
-        let on = vec![in alloc; false; 2 * variables as usize]?;
+        let starts = Vec::with_capacity(alloc, variables as usize)?;
         Ok(Trail {
             variables,
             entries: Vec::with_capacity(alloc, variables as usize)?,
             values,
-            levels,
-            level: 0,
-            on,
             positions,
+            starts,
         })
     }
 
@@ -124,7 +145,26 @@ impl Trail {
     pub fn level(&self) -> u32
         ensures { result ≡ decision_count self.now.entries }
     {
-        self.level
+        self.starts.len() as u32
+    }
+
+    /// The level of the first so many entries.
+    pub fn level_within(&self, length: u32) -> u32
+        ensures { result ≡ decision_count (take length self.now.entries) }
+    {
+        count_below(&self.starts, length)
+    }
+
+    /// How many entries there are up to the one that made a literal false, with it.
+    #[inline]
+    pub fn length_with(&self, lit: Lit) -> u32
+        requires { is_on self.now.entries (opposite lit) ≡ true }
+        ensures level { decision_count (take result self.now.entries) ≡ level_of self.now.entries lit }
+        ensures within { result ≤ length self.now.entries }
+        ensures below { lit / 2 < self.now.variables }
+        ensures small { self.now.variables ≤ 2147483647 }
+    {
+        self.positions[lit.variable() as usize] + 1
     }
 
     /// The level at which a false literal became false.
@@ -134,17 +174,20 @@ impl Trail {
         ensures below { lit / 2 < self.now.variables }
         ensures small { self.now.variables ≤ 2147483647 }
     {
-        self.levels[lit.variable() as usize]
+        self.level_within(self.length_with(lit))
     }
 
     /// Whether a false literal became false at the current level.
+    #[inline]
     pub fn is_current(&self, lit: Lit) -> bool
         requires { is_on self.now.entries (opposite lit) ≡ true }
         ensures current { result ≡ (level_of self.now.entries lit == decision_count self.now.entries) }
         ensures below { lit / 2 < self.now.variables }
         ensures small { self.now.variables ≤ 2147483647 }
     {
-        self.level_of(lit) == self.level
+        let length = self.length_with(lit);
+        let level = self.starts.len();
+        level == 0 || self.starts[level - 1] < length
     }
 
     /// Lets a chooser's search for the least variable without a value begin where it should. The trail stays as it is.
@@ -162,52 +205,43 @@ impl Trail {
         Assignment::of(
             self.variables,
             self.entries.as_slice(),
-            self.on.as_slice(),
+            self.values.truths(),
             self.positions.as_slice(),
         )
     }
 
     /// Makes a literal true whose variable has no value. It takes no memory.
+    #[inline]
     pub fn push(&mut self, entry: Assigned)
         requires below { entry.literal / 2 < self.old.variables }
         requires opened { value_of self.old.entries (entry.literal / 2) ≡ None }
         ensures { self.new ≡ record self.old { entries = self.old.entries ++ entry ∷ [] } }
     {
-        let lit = entry.literal;
-        let v = lit.variable();
-        self.level = level_after(self.level, &entry);
-        self.values.set(v, Some(lit.is_positive()));
-        self.levels[v as usize] = self.level;
-        self.on[lit.0 as usize] = true;
-        self.positions[v as usize] = self.entries.len() as u32;
+        let position = self.entries.len() as u32;
+        self.values.make_true(entry.literal);
+        self.positions[entry.literal.variable() as usize] = position;
+        add_start(&mut self.starts, position, entry.reason);
         self.entries.push_reserved(entry);
     }
 
-    /// Takes the last entry back, if there is one.
-    fn pop(&mut self) -> Option<Assigned>
-        ensures { MatchOption result ((self.new ≡ self.old) × (self.old.entries ≡ [])) (λ entry. self.old ≡ record self.new { entries = self.new.entries ++ entry ∷ [] }) }
+    /// Takes back all but the first entries, which have so many decisions.
+    fn keep(&mut self, kept: usize, level: usize)
+        requires within { kept ≤ length self.old.entries }
+        requires level { level ≡ decision_count (take kept self.old.entries) }
+        ensures { self.new ≡ record self.old { entries = take kept self.old.entries } }
     {
-        match self.entries.pop() {
-            None => None,
-            Some(entry) => {
-                let lit = entry.literal;
-                self.level = level_before(self.level, &entry);
-                self.values.set(lit.variable(), None);
-                self.on[lit.0 as usize] = false;
-                Some(entry)
-            }
-        }
+        take_back(&mut self.values, &self.entries, kept);
+        self.entries.truncate(kept);
+        self.starts.truncate(level);
     }
 
     /// Takes back what stands above a level. It takes no memory.
     pub fn backtrack(&mut self, level: u32)
         ensures { self.new ≡ record self.old { entries = backtracked level self.old.entries } }
     {
-        while self.level() > level {
-            match self.pop() {
-                None => return,
-                Some(_) => {}
-            }
+        if level < self.level() {
+            let kept = self.starts[level as usize] as usize;
+            self.keep(kept, level as usize);
         }
     }
 
@@ -215,11 +249,9 @@ impl Trail {
     pub fn cut(&mut self, length: u32)
         ensures { self.new ≡ record self.old { entries = take length self.old.entries } }
     {
-        while self.length() > length {
-            match self.pop() {
-                None => return,
-                Some(_) => {}
-            }
+        if length < self.length() {
+            let level = self.level_within(length);
+            self.keep(length as usize, level as usize);
         }
     }
 }

@@ -4,7 +4,6 @@ pub mod Neighbours
 pub mod Refutation
 pub mod PieceLemmas
 pub mod ValueLemmas
-pub mod ValueWords
 pub mod Moved
 pub mod ToldLemmas
 pub mod RepeatLemmas

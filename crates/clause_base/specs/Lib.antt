@@ -8,6 +8,6 @@ pub mod Joined
 pub mod Shared
 pub mod Derivation
 pub mod Choice
-pub mod ValueBits
+pub mod ValueTruths
 pub mod ChoiceLaw
 pub mod Told

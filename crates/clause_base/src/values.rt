@@ -1,66 +1,54 @@
-ghost use Rattle.std.specs.Prelude.{◌≡◌, ◌<◌, ◌≤◌, ◌*◌, Some, None, false, length, slice_get, slice_set, replicate, IfOk, IfSome, IfNone};
-ghost use Rattle.number_bits.specs.Bits.{words_have};
+ghost use Rattle.std.specs.Prelude.{◌≡◌, ◌==◌, ℕ, ◌<◌, ◌≤◌, ◌*◌, ◌/◌, ◌%◌, Some, None, false, length, slice_get, slice_set, slice_index_or, replicate, IfOk, IfSome, IfNone};
 ghost use Rattle.clause_base.specs.Choice.{least_open};
-ghost use Rattle.clause_base.specs.ValueBits.{AreGivenBelow};
+ghost use Rattle.clause_base.specs.ValueTruths.{AreGivenBelow, says, value_at};
 
+use crate::literal::Lit;
 use crate::memory::Memory;
 use let_go::let_go;
-use number_bits::flat::{clear_bit, set_bit};
 use std::alloc::Global;
 use std::marker::Model;
-use word_bits::least_bit;
 
-/// For each of at most 2,147,483,647 variables true, false or not given. They are kept as bits, 64 variables to a word: which
-/// have a value, and which are true. What the second row has of a variable without a value says nothing.
+/// For each of at most 2,147,483,647 variables true, false or not given. They are kept as the truth of each literal by its code: a
+/// solver asks for literals far more often than for variables, and makes a literal true or takes it back by one write.
 pub struct Values {
     variables: u32,
-    given: Vec<u64>,
-    trues: Vec<u64>,
+    on: Vec<bool>,
     low: u32,
 }
 
 impl Model for Values {
     ghost use Rattle.std.specs.Prelude.{List, Option, Bool};
-    ghost use Rattle.clause_base.specs.ValueBits.{values_of, AreRows};
+    ghost use Rattle.clause_base.specs.ValueTruths.{values_of, AreTruths};
 
     ghost Value = { List (Option Bool) };
 
-    ghost view = { λ v. values_of v.variables v.given.items v.trues.items };
+    ghost view = { λ v. values_of v.variables v.on.items };
 
-    ghost invariant = { λ v. AreRows v.variables v.low v.given.items v.trues.items };
+    ghost invariant = { λ v. AreTruths v.variables v.low v.on.items };
 }
 
 /// Letting one go is one call, in which its parts go: whoever holds one proves one step.
 impl Drop for Values {
     fn drop(self) {
-        let_go!(self: Values { variables, given, trues, low });
+        let_go!(self: Values { variables, on, low });
     }
 }
 
-/// Whether a bit is set.
-fn has_bit(words: &[u64], number: u32) -> bool
-    requires { number < 64 * length words.now }
-    ensures { result ≡ words_have words.now number }
-{
-    (words[(number / 64) as usize] >> (number % 64)) & 1 == 1
-}
-
-/// The least number below a bound whose bit is not set, where those below a place are set.
-fn first_clear(words: &[u64], low: u32, bound: u32) -> Option<u32>
-    requires given { AreGivenBelow low words.now }
+/// The least variable below a bound neither of whose literals is true, where those below a place have values.
+fn first_open(on: &[bool], low: u32, bound: u32) -> Option<u32>
+    requires given { AreGivenBelow low on.now }
     requires low { low ≤ bound }
-    requires room { bound ≤ 64 * length words.now }
-    requires small { length words.now ≤ 33554432 }
+    requires size { length on.now ≡ 2 * bound }
+    requires small { bound ≤ 2147483647 }
     ensures within { IfSome result (λ v. v < bound) }
-    ensures given { IfSome result (λ v. AreGivenBelow v words.now) }
-    ensures clear { IfSome result (λ v. words_have words.now v ≡ false) }
-    ensures all { IfNone result (AreGivenBelow bound words.now) }
+    ensures given { IfSome result (λ v. AreGivenBelow v on.now) }
+    ensures clear { IfSome result (λ v. value_at on.now v ≡ None) }
+    ensures all { IfNone result (AreGivenBelow bound on.now) }
 {
-    for place in (low / 64) as usize..words.len() {
-        let clear = !words[place];
-        if clear != 0 {
-            let v = 64 * (place as u32) + least_bit(clear);
-            return if v < bound { Some(v) } else { None };
+    for v in low..bound {
+        let code = 2 * v as usize;
+        if !on[code] && !on[code + 1] {
+            return Some(v);
         }
     }
     None
@@ -72,13 +60,9 @@ impl Values {
         requires { variables ≤ 2147483647 }
         ensures { IfOk result (λ values. values ≡ replicate variables None) }
     {
-        let words = variables.div_ceil(64) as usize;
-        let given = vec![in alloc; 0; words]?;
-        let trues = vec![in alloc; 0; words]?;
         Ok(Values {
             variables,
-            given,
-            trues,
+            on: vec![in alloc; false; 2 * variables as usize]?,
             low: 0,
         })
     }
@@ -99,11 +83,23 @@ impl Values {
         if v >= self.variables {
             return None;
         }
-        if has_bit(&self.given, v) {
-            Some(has_bit(&self.trues, v))
+        let code = 2 * v as usize;
+        if self.on[code] {
+            Some(true)
+        } else if self.on[code + 1] {
+            Some(false)
         } else {
             None
         }
+    }
+
+    /// For each literal by its code whether it is true.
+    #[inline(always)]
+    pub fn truths(&self) -> &[bool]
+        ensures size { length result.now ≡ 2 * length self.now }
+        ensures truths { (l : ℕ) → l < 2 * length self.now → slice_index_or result.now l false ≡ says self.now l }
+    {
+        self.on.as_slice()
     }
 
     /// Gives a variable a value, or takes its value back.
@@ -111,20 +107,41 @@ impl Values {
         requires { v < length self.old }
         ensures { self.new ≡ slice_set self.old v value }
     {
+        let code = 2 * v as usize;
         match value {
             Some(true) => {
-                set_bit(&mut self.given, v);
-                set_bit(&mut self.trues, v);
+                self.on[code] = true;
+                self.on[code + 1] = false;
             }
             Some(false) => {
-                set_bit(&mut self.given, v);
-                clear_bit(&mut self.trues, v);
+                self.on[code] = false;
+                self.on[code + 1] = true;
             }
             None => {
-                clear_bit(&mut self.given, v);
+                self.on[code] = false;
+                self.on[code + 1] = false;
                 self.low = self.low.min(v);
             }
         }
+    }
+
+    /// Makes a literal true whose variable has no value.
+    #[inline(always)]
+    pub fn make_true(&mut self, lit: Lit)
+        requires { slice_get self.old (lit / 2) ≡ Some None }
+        ensures { self.new ≡ slice_set self.old (lit / 2) (Some (lit % 2 == 0)) }
+    {
+        self.on[lit.0 as usize] = true;
+    }
+
+    /// Takes the value of a true literal's variable back.
+    #[inline(always)]
+    pub fn take_back(&mut self, lit: Lit)
+        requires { slice_get self.old (lit / 2) ≡ Some (Some (lit % 2 == 0)) }
+        ensures { self.new ≡ slice_set self.old (lit / 2) None }
+    {
+        self.on[lit.0 as usize] = false;
+        self.low = self.low.min(lit.0 / 2);
     }
 
     /// The least variable without a value. The search begins at a place below which all variables have values: where
@@ -134,14 +151,14 @@ impl Values {
         ensures below { IfSome result (λ v. v < length self.now) }
         ensures small { length self.now ≤ 2147483647 }
     {
-        first_clear(&self.given, self.low, self.variables)
+        first_open(&self.on, self.low, self.variables)
     }
 
     /// Lets later calls of `least_open` begin at the least variable without a value. The values stay as they are.
     pub fn pass_given(&mut self)
         ensures { self.new ≡ self.old }
     {
-        self.low = match first_clear(&self.given, self.low, self.variables) {
+        self.low = match first_open(&self.on, self.low, self.variables) {
             Some(v) => v,
             None => self.variables,
         };

@@ -54,7 +54,8 @@ impl Resolvent {
         ensures { result ≡ at self.now.on (opposite lit) }
     {
         let opposite = lit.opposite();
-        let _level = trail.level_of(opposite);
+        // for the proof: a false literal is one of the trail's variables
+        let _current = trail.is_current(opposite);
         self.draft.has(opposite)
     }
 

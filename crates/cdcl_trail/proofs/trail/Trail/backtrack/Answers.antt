@@ -1,27 +1,38 @@
-use Rattle.std.proofs.Common.{arith, ◌≡◌, ◌++◌, ◌∷◌, [], ℕ, List, sym, ◌∙◌, ap}
+use Rattle.std.proofs.Common.{arith, refl, sym, ap, ◌∙◌, take}
 use Rattle.cdcl_rules.specs.State.{decision_count}
-use Rattle.cdcl_rules.specs.declared.trail.Assigned.{Assigned}
 use Rattle.cdcl_rules.specs.Learn.{backtracked}
 use Rattle.cdcl_trail.specs.Mirrored.{TrailView}
-use Rattle.cdcl_trail.proofs.Mirrors.{backtracked_push, backtracked_all}
+use Rattle.cdcl_trail.proofs.Mirrors.{starts_fit, back_view, backtracked_all, same_view}
 use Rattle.cdcl_trail.proofs.trail.Trail.backtrack.Goals as goal
 
-same_view : (n m : ℕ) (es fs : List Assigned) → n ≡ m → es ≡ fs → (let x : TrailView = record { variables = n; entries = es } in x) ≡ (let y : TrailView = record { variables = m; entries = fs } in y)
-same_view n m es fs e f = cc
+pub index-requires : goal.index-requires
+index-requires c =
+    let t = c.self.inside in
+    let fit = starts_fit t.variables t.entries.items t.values t.starts.items c.self.invariant.0 in
+    omega (arith, fit.0, ap (λ (w : TrailView). decision_count w.entries) c.self.view_is, c.level.ensures, c.if-level.true, t.starts.ok)
 
-pub loop-self-preserved : goal.loop-self-preserved
-loop-self-preserved c =
-    let a = c.in-Some.field-0 in
-    let xs = c.pop.new.self.entries in
-    let e : c.loop-self.self.entries ≡ xs ++ a ∷ [] = ap (λ (w : TrailView). w.entries) c.in-Some.ensures in
-    let d = ap decision_count e in
-    record {
-      backtracked_is = c.loop-self.invariant.backtracked_is ∙ ap (backtracked c.args.level) e ∙ backtracked_push c.args.level xs a (omega (arith, d, c.level.ensures, c.loop-self-test.true));
-      variables = sym (ap (λ (w : TrailView). w.variables) c.in-Some.ensures) ∙ c.loop-self.invariant.variables;
-    }
+pub keep-requires-clause-within : goal.keep-requires-clause-within
+keep-requires-clause-within c =
+    let t = c.self.inside in
+    (back_view t.variables c.args.level c.index.result.now c.level.result t.entries.items t.values t.starts.items c.args.self.now c.self.invariant.0 c.self.view_is c.level.ensures c.if-level.true
+    c.index.ensures).0
 
-pub returns : goal.returns
-returns c =
-    let t = c.loop-self.self in
-    let here : t.entries ≡ backtracked c.args.level t.entries = sym (backtracked_all c.args.level t.entries (omega (arith, c.level.ensures, c.loop-self-test.false))) in
-    same_view t.variables c.args.self.now.variables t.entries (backtracked c.args.level c.args.self.now.entries) c.loop-self.invariant.variables (here ∙ sym c.loop-self.invariant.backtracked_is)
+pub keep-requires-clause-level : goal.keep-requires-clause-level
+keep-requires-clause-level c =
+    let t = c.self.inside in
+    (back_view t.variables c.args.level c.index.result.now c.level.result t.entries.items t.values t.starts.items c.args.self.now c.self.invariant.0 c.self.view_is c.level.ensures c.if-level.true
+    c.index.ensures).1
+
+pub returns-then-level : goal.returns-then-level
+returns-then-level c =
+    let w = c.args.self.now in
+    let t = c.self.inside in
+    let back =
+    (back_view t.variables c.args.level c.index.result.now c.level.result t.entries.items t.values t.starts.items c.args.self.now c.self.invariant.0 c.self.view_is c.level.ensures
+    c.if-level.true c.index.ensures).2 in
+    c.keep.ensures ∙ same_view w.variables w.variables (take c.index.result.now w.entries) (backtracked c.args.level w.entries) refl (sym back)
+
+pub returns-else-level : goal.returns-else-level
+returns-else-level c =
+    let w = c.args.self.now in
+    same_view w.variables w.variables w.entries (backtracked c.args.level w.entries) refl (sym (backtracked_all c.args.level w.entries (omega (arith, c.level.ensures, c.if-level.false))))

@@ -6,4 +6,4 @@ use Rattle.cdcl_trail.proofs.trail.Trail.entries.Goals as goal
 pub returns-clause-short : goal.returns-clause-short
 returns-clause-short c =
     let t = c.self.inside in
-    subst (λ (w : TrailView). length w.entries ≤ w.variables) c.self.view_is (entries_fit t.variables t.entries.items t.values t.levels.items t.level c.self.invariant.0)
+    subst (λ (w : TrailView). length w.entries ≤ w.variables) c.self.view_is (entries_fit t.variables t.entries.items t.values t.starts.items c.self.invariant.0)

@@ -7,11 +7,12 @@ use Rattle.cdcl_trail.proofs.trail.Trail.value.Goals as goal
 pub returns-clause-value : goal.returns-clause-value
 returns-clause-value c =
     let t = c.self.inside in
-    value_read t.variables t.entries.items t.values t.levels.items t.level c.args.v c.get.result c.self.invariant.0 c.get.ensures.value c.get.ensures.past ∙ ap (λ (w : TrailView). value_of w.entries c.args.v) c.self.view_is
+    value_read t.variables t.entries.items t.values t.starts.items c.args.v c.get.result c.self.invariant.0 c.get.ensures.value c.get.ensures.past
+    ∙ ap (λ (w : TrailView). value_of w.entries c.args.v) c.self.view_is
 
 pub returns-clause-past : goal.returns-clause-past
 returns-clause-past c h =
     let t = c.self.inside in
-    let n : length t.values ≡ t.variables = values_len t.variables t.entries.items t.values t.levels.items t.level c.self.invariant.0 in
+    let n : length t.values ≡ t.variables = values_len t.variables t.entries.items t.values t.starts.items c.self.invariant.0 in
     let v = ap (λ (w : TrailView). w.variables) c.self.view_is in
     c.get.ensures.past (omega (arith, n, v, h))
