@@ -1,0 +1,16 @@
+use Rattle.std.proofs.Common.{arith, ◌≡◌, ◌<◌, ◌++◌, ◌∷◌, [], ◌∙◌, ℕ, List, Bool, true, false, length, set, length-set, sym, ap, subst}
+use Rattle.std.proofs.lemmas.List.{length_push}
+use Rattle.clause_base.specs.Literal.{opposite}
+use Rattle.clause_base.specs.Clause.{has_literal, HasVariablesBelow}
+use Rattle.propagation.specs.Pending.{PropagatorView}
+use Rattle.watch_lists.specs.Pending.{WatchesView, AreBelow, without_reasons}
+use Rattle.watch_lists.proofs.Belows.{known, below_push}
+use Rattle.watch_lists.proofs.Views.{none_of, view_push, view_cut}
+use Rattle.watch_lists.proofs.watches.Watches.remove.Goals as goal
+
+pub invariant_of-self : goal.invariant_of-self
+invariant_of-self c =
+    let e = c.remove.ensures in
+    known c.remove.new.self c.next-self-inside.new.self c.next-self-inside.result c.next-self-inside.ensures.first c.next-self-inside.ensures.same
+    (subst (λ (q : PropagatorView). AreBelow q.variables q.clauses) (sym e) c.self.invariant.1)
+    (subst (λ (q : PropagatorView). length q.kept ≡ length q.clauses) (sym e) (omega (arith, length-set c.self.inside.propagator.kept c.args.number false, c.self.invariant.2)))
