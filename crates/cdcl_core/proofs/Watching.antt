@@ -10,8 +10,8 @@ use Rattle.clause_base.specs.Derivation.{clauses_of}
 use Rattle.clause_base.specs.declared.log.Entry.TheVariants.{Learn, Drop}
 use Rattle.cdcl_rules.specs.declared.trail.Assigned.{Assigned}
 use Rattle.cdcl_rules.specs.declared.event.Event.{Event}
-use Rattle.cdcl_rules.specs.State.{State, clause_at, is_kept, is_on}
-use Rattle.cdcl_rules.specs.Pending.{open_ones, is_pending_in, least_from, first_pending}
+use Rattle.cdcl_rules.specs.State.{clause_at, is_kept, is_on}
+use Rattle.cdcl_rules.specs.Pending.{open_ones, is_pending_in, least_from}
 use Rattle.cdcl_rules.specs.Event.{asked}
 use Rattle.cdcl_rules.specs.declared.standing.Standing.{Standing}
 use Rattle.cdcl_rules.specs.Run.{is_going}

@@ -1,7 +1,5 @@
-use Rattle.std.proofs.Common.{◌≡◌, ◌∙◌, Option, subst, ap}
-use Rattle.cdcl_rules.specs.declared.event.Event.{Event}
-use Rattle.cdcl_core.specs.Search.{SearchView, state_of, asked_first}
-use Rattle.propagation.specs.Pending.{PropagatorView}
+use Rattle.std.proofs.Common.{◌≡◌, subst}
+use Rattle.cdcl_core.specs.Search.{SearchView, asked_first}
 use Rattle.cdcl_core.proofs.Watching.{watched_going, first_watched}
 use Rattle.cdcl_core.proofs.search.Search.asked.Goals as goal
 
