@@ -1,6 +1,5 @@
 -- The number of the clause that asks first.
-use Rattle.std.proofs.Common.{◌≡◌, ℕ, List, [], ◌∷◌, Bool, length, Option, Some, None, refl, sym, ap, ◌∙◌}
-use Rattle.clause_base.specs.Clause.{has_literal}
+use Rattle.std.proofs.Common.{◌≡◌, ℕ, List, [], ◌∷◌, Bool, length, Option, Some, None, refl, ap, ◌∙◌}
 use Rattle.cdcl_rules.specs.declared.event.Event.{Event}
 use Rattle.cdcl_rules.specs.Event.{asked}
 use Rattle.cdcl_rules.specs.Pending.{is_pending_in, least_from}

@@ -1,13 +1,11 @@
-use Rattle.std.proofs.Common.{arith, ◌≡◌, ◌<◌, ◌++◌, ◌∷◌, [], ◌∙◌, ℕ, List, Bool, true, false, length, set, length-set, sym, ap, subst}
+use Rattle.std.proofs.Common.{arith, ◌≡◌, true, length, sym, subst}
 use Rattle.std.proofs.lemmas.List.{length_push}
-use Rattle.clause_base.specs.Literal.{opposite}
 use Rattle.clause_base.specs.Clause.{has_literal, HasVariablesBelow}
 use Rattle.propagation.specs.Front.{first_asked}
 use Rattle.cdcl_trail.specs.Assignment.{literals}
 use Rattle.propagation.specs.Pending.{PropagatorView}
-use Rattle.watch_lists.specs.Pending.{WatchesView, AreBelow, without_reasons}
+use Rattle.watch_lists.specs.Pending.{WatchesView, AreBelow}
 use Rattle.watch_lists.proofs.Belows.{known, below_push}
-use Rattle.watch_lists.proofs.Views.{none_of, view_push, view_cut}
 use Rattle.watch_lists.proofs.watches.Watches.add_sorted.Goals as goal
 
 pub add_sorted-requires-clause-below : goal.add_sorted-requires-clause-below

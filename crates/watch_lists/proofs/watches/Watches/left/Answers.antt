@@ -1,4 +1,4 @@
-use Rattle.std.proofs.Common.{arith, ◌≡◌, ◌<◌, ◌∙◌, ◌∷◌, [], ◌&&◌, ℕ, List, Bool, true, false, length, get_or, sym, ap, subst, MatchOption}
+use Rattle.std.proofs.Common.{arith, ◌≡◌, ◌<◌, ◌∙◌, ◌∷◌, [], ℕ, List, true, false, length, get_or, sym, ap, subst, MatchOption}
 use Rattle.clause_base.specs.Clause.{has_literal}
 use Rattle.cdcl_rules.specs.Pending.{is_pending, is_pending_in, open_ones}
 use Rattle.cdcl_rules.specs.State.{clause_at}

@@ -1,8 +1,4 @@
-use Rattle.std.proofs.Common.{arith, ◌≡◌, ◌∙◌, ℕ, List, [], Bool, Option, true, length, replicate, sym, ap, subst}
-use Rattle.clause_base.specs.Clause.{has_literal}
-use Rattle.cdcl_rules.specs.declared.event.Event.{Event}
-use Rattle.cdcl_trail.specs.Assignment.{literals}
-use Rattle.propagation.specs.Front.{first_asked}
+use Rattle.std.proofs.Common.{◌≡◌, ◌∙◌, [], true, length, replicate, sym, ap, subst}
 use Rattle.propagation.specs.Pending.{PropagatorView}
 use Rattle.watch_lists.specs.Pending.{AreBelow, without_reasons}
 use Rattle.watch_lists.proofs.Belows.{all_below, known, replicate_long}

@@ -1,11 +1,7 @@
-use Rattle.std.proofs.Common.{arith, ◌≡◌, ◌<◌, ◌++◌, ◌∷◌, [], ◌∙◌, ℕ, List, Bool, true, false, length, set, length-set, sym, ap, subst}
-use Rattle.std.proofs.lemmas.List.{length_push}
-use Rattle.clause_base.specs.Literal.{opposite}
-use Rattle.clause_base.specs.Clause.{has_literal, HasVariablesBelow}
+use Rattle.std.proofs.Common.{arith, ◌≡◌, false, length, length-set, sym, subst}
 use Rattle.propagation.specs.Pending.{PropagatorView}
-use Rattle.watch_lists.specs.Pending.{WatchesView, AreBelow, without_reasons}
-use Rattle.watch_lists.proofs.Belows.{known, below_push}
-use Rattle.watch_lists.proofs.Views.{none_of, view_push, view_cut}
+use Rattle.watch_lists.specs.Pending.{AreBelow}
+use Rattle.watch_lists.proofs.Belows.{known}
 use Rattle.watch_lists.proofs.watches.Watches.remove.Goals as goal
 
 pub invariant_of-self : goal.invariant_of-self
