@@ -1,5 +1,5 @@
 //! A line, read.
-ghost use Rattle.std.specs.Prelude.{◌≡◌, ◌<◌, ◌≤◌, length};
+ghost use Rattle.std.specs.Prelude.{◌<◌};
 
 use crate::words::{Signed, Words};
 use clause_base::literal::Lit;

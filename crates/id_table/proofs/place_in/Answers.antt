@@ -1,4 +1,4 @@
-use Rattle.std.proofs.Common.{ℕ, ◌≡◌, ◌<◌, ◌≤◌, List, length, get_or, MatchResult, Result, Err}
+use Rattle.std.proofs.Common.{Err}
 use Rattle.std.proofs.lemmas.List.Sorted.{searched}
 use Rattle.id_table.proofs.Places.{searched_none, not_falling}
 use Rattle.id_table.proofs.place_in.Goals as goal

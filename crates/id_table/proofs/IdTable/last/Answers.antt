@@ -1,4 +1,4 @@
-use Rattle.std.proofs.Common.{arith, rules, ◌≡◌, ◌-◌, ◌<◌, length, get_or}
+use Rattle.std.proofs.Common.{rules, ◌≡◌, ◌-◌, ◌<◌, length}
 use Rattle.std.proofs.lemmas.List.{get_or_read}
 use Rattle.id_table.proofs.Places.{most_dense, is_dense, most_later, is_later}
 use Rattle.id_table.proofs.IdTable.last.Goals as goal
