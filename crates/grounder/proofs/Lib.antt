@@ -8,3 +8,4 @@ pub mod Leaving
 pub mod Assembled
 pub mod Listed
 pub mod Few
+pub mod Counting

@@ -3,3 +3,4 @@ pub mod Bindings
 pub mod Putting
 pub mod Few
 pub mod Found
+pub mod Counted

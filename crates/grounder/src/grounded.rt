@@ -8,10 +8,11 @@ ghost use Rattle.grounding.specs.Grounded.{IsGrounded};
 ghost use Rattle.grounding.specs.Limits.{most_tuples, most_facts, IsWithin, IsOverTuples, IsOverFacts, IsOverActions, IsOverEffects};
 ghost use Rattle.grounding.specs.Tuples.{tuples_in};
 ghost use Rattle.grounder.specs.Few.{HasFew, HaveFew};
+ghost use Rattle.grounder.specs.Counted.{HasCounted};
 ghost use Rattle.grounder.specs.Known.{IsKnown};
 
 use crate::actions::actions_of;
-use crate::conditional::conditional_in;
+use crate::conditional::Counted;
 use crate::constant::found_in;
 use crate::effects::effects_of;
 use crate::known::Known;
@@ -95,17 +96,21 @@ fn action_of(known: &Known, call: &Call) -> Result<Act, Memory>
     Ok(Act::new(pre, effects))
 }
 
-/// The actions of calls.
-fn acts_of(known: &Known, calls: &[Call]) -> Result<Acts, Memory>
+/// The actions of calls, counted by their effects with a condition.
+fn acts_of(known: &Known, calls: &[Call]) -> Result<Counted, Memory>
     requires known { IsKnown known.now }
     requires few { HaveFew known.now.domains.now calls.now }
-    ensures { IfOk result (λ acts. acts ≡ map (λ c. action_of known.now.domains.now known.now.facts (instance_of known.now.domains.now c)) calls.now) }
+    ensures { IfOk result (HasCounted (map (λ c. action_of known.now.domains.now known.now.facts (instance_of known.now.domains.now c)) calls.now)) }
 {
-    let mut acts = Vec::with_capacity(known.alloc, calls.len())?;
+    let mut counted = Counted {
+        acts: Vec::with_capacity(known.alloc, calls.len())?,
+        conditional: 0,
+    };
     for call in calls {
-        acts.push(action_of(known, call)?)?;
+        let act = action_of(known, call)?;
+        counted.add(act)?;
     }
-    Ok(Acts::of(acts))
+    Ok(counted)
 }
 
 /// The truth of each fact in the initial state.
@@ -176,12 +181,12 @@ fn ground_over(alloc: Global, domains: &Domains) -> Result<Grounded, GroundError
     if count > 16384 {
         return Err(GroundError::Actions { count });
     }
-    let acts = acts_of(&known, calls.as_slice())?;
-    let count = conditional_in(acts.as_slice());
+    let counted = acts_of(&known, calls.as_slice())?;
+    let count = counted.conditional;
     if count > 65536 {
         return Err(GroundError::Effects { count });
     }
-    let task = task_of(&known, calls.as_slice(), acts)?;
+    let task = task_of(&known, calls.as_slice(), Acts::of(counted.acts))?;
     Ok(Grounded {
         facts: known.facts,
         calls,

@@ -1,7 +1,8 @@
-use Rattle.std.proofs.Common.{◌≡◌, take, map}
+use Rattle.std.proofs.Common.{take, map}
 use Rattle.grounding.specs.Instance.{instance_of}
 use Rattle.grounding.specs.Simplify.{action_of}
+use Rattle.grounder.specs.Counted.{HasCounted}
 use Rattle.grounder.proofs.grounded.acts_of.Given as goal
 
 abbrev pub invariant-loop-call : goal.invariant-loop-call
-invariant-loop-call l = l.acts.items ≡ map (λ c. action_of l.known.domains.now l.known.facts (instance_of l.known.domains.now c)) (take l.call-index l.calls)
+invariant-loop-call l = HasCounted (map (λ c. action_of l.known.domains.now l.known.facts (instance_of l.known.domains.now c)) (take l.call-index l.calls)) l.counted

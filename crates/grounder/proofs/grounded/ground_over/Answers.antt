@@ -27,21 +27,23 @@ pub task_of-requires-clause-task : goal.task_of-requires-clause-task
 task_of-requires-clause-task c =
     let of_task = c.in_ok-known.ensures.domains in
     let is = found_is c.laws.ensures.least_is_grounded c.args.domains.now c.in_ok-known.known.domains.now c.in_ok-found.found.facts c.in_ok-known.known.facts c.in_ok-found.found.kept c.in_ok-calls.calls of_task c.in_ok-known.ensures.facts c.in_ok-found.ensures c.in_ok-calls.ensures in
-    let acts = c.as_slice-4.ensures ∙ (rw (c.as_slice-3.ensures, of_task) at c.in_ok-acts.ensures) in
-    let count : c.conditional_in-count.result ≡ saturated (conditional_in (task_of c.args.domains.now c.in_ok-known.known.facts c.in_ok-calls.calls).actions) = c.conditional_in-count.ensures ∙ ap (λ (xs : List Action). saturated (conditional_in xs)) acts in
-    rw (of_task, c.as_slice-5.ensures) (c.laws.ensures.grounded_is_task c.args.domains.now (grounded_by c.args.domains.now c.in_ok-known.known.facts c.in_ok-calls.calls) is (record {
+    let count : c.in_ok-counted.counted.conditional ≡ saturated (conditional_in (task_of c.args.domains.now c.in_ok-known.known.facts c.in_ok-calls.calls).actions) = rw (c.as_slice-3.ensures, of_task) at c.in_ok-counted.ensures.count in
+    rw (of_task, c.as_slice-4.ensures) (c.laws.ensures.grounded_is_task c.args.domains.now (grounded_by c.args.domains.now c.in_ok-known.known.facts c.in_ok-calls.calls) is (record {
       tuples = c.requires;
       facts = omega (arith, ap length c.as_slice.ensures, ap length c.in_ok-known.ensures.facts);
       actions = omega (arith, ap length c.as_slice-2.ensures);
       effects = few_saturated 65536 _ _ (omega arith) count c.if-count-gt65536.false;
     }))
 
+pub task_of-requires-clause-acts : goal.task_of-requires-clause-acts
+task_of-requires-clause-acts c =
+    rw c.as_slice-4.ensures (c.of.ensures ∙ rw c.as_slice-3.ensures at c.in_ok-counted.ensures.acts_are (omega (arith, c.if-count-gt65536.false)))
+
 pub returns-then-count-gt65536-clause-effects : goal.returns-then-count-gt65536-clause-effects
 returns-then-count-gt65536-clause-effects c =
     let of_task = c.in_ok-known.ensures.domains in
     let is = found_is c.laws.ensures.least_is_grounded c.args.domains.now c.in_ok-known.known.domains.now c.in_ok-found.found.facts c.in_ok-known.known.facts c.in_ok-found.found.kept c.in_ok-calls.calls of_task c.in_ok-known.ensures.facts c.in_ok-found.ensures c.in_ok-calls.ensures in
-    let acts = c.as_slice-4.ensures ∙ (rw (c.as_slice-3.ensures, of_task) at c.in_ok-acts.ensures) in
-    let count : c.conditional_in-count.result ≡ saturated (conditional_in (task_of c.args.domains.now c.in_ok-known.known.facts c.in_ok-calls.calls).actions) = c.conditional_in-count.ensures ∙ ap (λ (xs : List Action). saturated (conditional_in xs)) acts in
+    let count : c.in_ok-counted.counted.conditional ≡ saturated (conditional_in (task_of c.args.domains.now c.in_ok-known.known.facts c.in_ok-calls.calls).actions) = rw (c.as_slice-3.ensures, of_task) at c.in_ok-counted.ensures.count in
     λ n e. record {
       grounded = grounded_by c.args.domains.now c.in_ok-known.known.facts c.in_ok-calls.calls;
       is = is;
@@ -49,11 +51,11 @@ returns-then-count-gt65536-clause-effects c =
       facts = omega (arith, ap length c.as_slice.ensures, ap length c.in_ok-known.ensures.facts);
       actions = omega (arith, ap length c.as_slice-2.ensures);
       over = many_saturated 65536 _ _ count c.if-count-gt65536.true;
-      count_is = (let same : n ≡ c.conditional_in-count.result = cc in same ∙ count);
+      count_is = (let same : n ≡ c.in_ok-counted.counted.conditional = cc in same ∙ count);
     }
 
 pub returns-clause-grounded : goal.returns-clause-grounded
 returns-clause-grounded c =
     let of_task = c.in_ok-known.ensures.domains in
     let is = found_is c.laws.ensures.least_is_grounded c.args.domains.now c.in_ok-known.known.domains.now c.in_ok-found.found.facts c.in_ok-known.known.facts c.in_ok-found.found.kept c.in_ok-calls.calls of_task c.in_ok-known.ensures.facts c.in_ok-found.ensures c.in_ok-calls.ensures in
-    with_task c.args.domains.now c.in_ok-known.known.facts c.in_ok-calls.calls c.in_ok-task.task is (rw (of_task, c.as_slice-5.ensures) at c.in_ok-task.ensures)
+    with_task c.args.domains.now c.in_ok-known.known.facts c.in_ok-calls.calls c.in_ok-task.task is (rw (of_task, c.as_slice-4.ensures) at c.in_ok-task.ensures)
