@@ -38,6 +38,10 @@ tell_faults() {
     6) say "the report could not be written" ;;
     8) tell_memory ;;
     9) say "the system did not give the words" ;;
+    126 | 127)
+        say "the program could not be run (status $status)"
+        status=70
+        ;;
     *) [ "$status" -le 128 ] || say "the program was ended by signal $((status - 128))" ;;
     esac
     if [ "$1" = batch ] && [ "$status" -ge 3 ] && [ "$status" -le 5 ]; then
