@@ -42,7 +42,7 @@ impl<'a, H: Files> FileShelf<'a, H> {
 }
 
 /// Want of memory of the system is no fault of the file.
-fn cause_of(kind: ErrorKind) -> TakeError
+pub(crate) fn cause_of(kind: ErrorKind) -> TakeError
     ensures memory { kind ≡ kinds.OutOfMemory → result ≡ TakeError.Memory }
     ensures failed { ¬ (kind ≡ kinds.OutOfMemory) → result ≡ TakeError.Failed }
 {

@@ -7,19 +7,25 @@
 
 mod faults;
 mod file_shelf;
+mod file_tape;
 mod lists;
 mod mem_shelf;
 mod mem_sink;
+mod mem_tape;
 mod out_sink;
 mod outside;
+mod tape;
 
 pub use file_shelf::FileShelf;
+pub use file_tape::FileTape;
 pub use lists::{Bytes, Files, NamedFile, Names, Numbers};
 pub use mem_shelf::MemShelf;
 pub use mem_sink::MemSink;
+pub use mem_tape::MemTape;
 pub use out_sink::OutSink;
 pub use outside::{PutFailed, Shelf, Sink, TakeError, Taken, put_all};
 use std::alloc::AllocError;
+pub use tape::Tape;
 
 /// Want of memory: no room was to be had, and nothing else went wrong.
 #[derive(Clone, Copy, PartialEq, Eq)]
