@@ -1,7 +1,7 @@
 use Rattle.std.proofs.Common.{◌≡◌, drop, map}
 use Rattle.clap.specs.Words.{app_of, new_app}
-use Rattle.plan_words.specs.Command.{rule_for, with_rules}
-use Rattle.plan_words.proofs.command.with_all.Given as goal
+use Rattle.clap_words.specs.Arguments.{rule_for, with_rules}
+use Rattle.clap_words.proofs.building.with_all.Given as goal
 
 -- The command with the arguments that are left is the one that is asked for.
 abbrev pub invariant-loop-argument : goal.invariant-loop-argument
