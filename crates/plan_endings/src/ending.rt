@@ -254,16 +254,22 @@ fn numbered(mut text: Vec<u8>, number: u64) -> Result<Due, Memory>
     Ok(Due::Made(Bytes::of(text)))
 }
 
-// The line of a text and a number.
-fn of_number(alloc: Global, front: &str, number: u64) -> Result<Due, Memory>
+/// The line of a text and a number.
+pub fn of_number(alloc: Global, front: &str, number: u64) -> Result<Due, Memory>
     ensures text { IfOk result (λ due. bytes_of due ≡ joined ((front.now ++ decimal number) ∷ [])) }
     ensures small { OnOk result (number < 2 ^ 64) }
 {
     numbered(Vec::from_slice(alloc, front.as_bytes())?, number)
 }
 
-// The line of two texts, each before a number.
-fn of_numbers(alloc: Global, front: &str, one: u64, middle: &str, two: u64) -> Result<Due, Memory>
+/// The line of two texts, each before a number.
+pub fn of_numbers(
+    alloc: Global,
+    front: &str,
+    one: u64,
+    middle: &str,
+    two: u64,
+) -> Result<Due, Memory>
     ensures text { IfOk result (λ due. bytes_of due ≡ joined ((front.now ++ (decimal one ++ (middle.now ++ decimal two))) ∷ [])) }
     ensures small { OnOk result ((one < 2 ^ 64) × (two < 2 ^ 64)) }
 {

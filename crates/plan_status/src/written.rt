@@ -1,12 +1,12 @@
 //! Writing the text of an ending.
-ghost use Rattle.std.specs.Prelude.{◌≡◌, ◌≢◌, ◌≤◌};
+ghost use Rattle.std.specs.Prelude.{◌≡◌, ◌≢◌, ◌≤◌, ◌∷◌, [], Contains};
 ghost use Rattle.pl_io.specs.Outside.{appended, TakesFront, Rose};
-ghost use Rattle.plan_endings.specs.Ending.{status_of, text_of, IsSmall};
+ghost use Rattle.plan_endings.specs.Ending.{bytes_of, status_of, text_of, IsSmall};
 ghost use Rattle.plan_endings.specs.declared.ending.Ending.{Ending};
 
 use crate::Status;
 use pl_io::{Sink, put_all};
-use plan_endings::Ending;
+use plan_endings::{Due, Ending};
 use std::alloc::Global;
 
 /// Makes the text of an ending whole and writes it: the ending's status, 6 where the sink failed, or 8 for want of memory.
@@ -24,6 +24,18 @@ pub fn written<K: Sink>(alloc: Global, ending: Ending, sink: &mut K) -> Status
     let Ok(due) = ending.text(alloc) else {
         return Status(8);
     };
+    put_due(status, &due, sink)
+}
+
+/// Writes a text that is due: the status that is handed in, or 6 where the sink failed.
+pub fn put_due<K: Sink>(status: u8, due: &Due, sink: &mut K) -> Status
+    requires { status ≢ 6 }
+    ensures due { result.0 ≢ 6 → (result.0 ≡ status) × (K.taken sink.new ≡ appended (K.taken sink.old) (bytes_of due.now)) }
+    ensures write_fault { result.0 ≡ 6 → Rose (K.faults sink.old) (K.faults sink.new) }
+    ensures cases { Contains (6 ∷ status ∷ []) result.0 }
+    ensures front { TakesFront (K.taken sink.old) (K.taken sink.new) (bytes_of due.now) }
+    ensures faults { K.faults sink.old ≤ K.faults sink.new }
+{
     let Ok(()) = put_all(sink, due.as_slice()) else {
         return Status(6);
     };
