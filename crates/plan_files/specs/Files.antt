@@ -1,5 +1,5 @@
 -- Taking the files of a request from a shelf.
-use Rattle.std.specs.Prelude.{◌≡◌, ◌⊎◌, ◌<◌, ◌≤◌, ℕ, ◌+◌, List, [], ◌∷◌, ◌++◌, length, Bool, IsTrue, Option, Some, None, IfSome}
+use Rattle.std.specs.Prelude.{false, ◌≡◌, ◌⊎◌, ◌<◌, ◌≤◌, ℕ, ◌+◌, List, [], ◌∷◌, ◌++◌, length, Bool, IsTrue, Option, Some, None, IfSome}
 use Rattle.pl_io.specs.Outside.{FaultRose, fault_count}
 use Rattle.plan_words.specs.Among.{AreAmong}
 use Rattle.plan_files.specs.Limits.{most_of}
@@ -21,6 +21,10 @@ pub record IsTaken (told : List ℕ → Option (List ℕ)) (lacks : List ℕ →
   pub there : IsTrue (lacks name) → ⊥
   pub whole : IfSome (told name) (λ told. bytes ≡ told)
   pub fits : length bytes ≤ most_of file
+
+-- no file is said to be missing
+abbrev pub none_lacks : List ℕ → Bool
+none_lacks name = false
 
 -- the claim holds of the bytes of the files of these names, where all of them are told
 abbrev pub OfTold : (List ℕ → Option (List ℕ)) → List (List ℕ) → (List (List ℕ) → Type 0) → Type 0

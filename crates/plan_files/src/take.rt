@@ -1,12 +1,12 @@
 //! Taking files from the shelf.
 ghost use Rattle.std.specs.Prelude.{◌≡◌, ◌≤◌, ℕ, List, Bool, Option, OnOk, IfOk};
-ghost use Rattle.pl_io.specs.Outside.{Notes};
+ghost use Rattle.pl_io.specs.Outside.{Notes, Extends, AgreesSince};
 ghost use Rattle.plan_words.specs.Seen.{seen, files_of};
 ghost use Rattle.plan_files.specs.Limits.{file_at, third_of, most_of};
 ghost use Rattle.plan_files.specs.Ends.{StopsBy};
 ghost use Rattle.plan_endings.specs.declared.ending.File.{File as FileValue};
 ghost use Rattle.plan_endings.specs.declared.ending.Ending.{Ending as EndingValue};
-ghost use Rattle.plan_files.specs.Files.{Fits, IsFault, IsNotMissing, IsTaken, IsTakenOrLong, Stops, AreKept, OneEnds, Rises, NotesAmong};
+ghost use Rattle.plan_files.specs.Files.{none_lacks, Fits, IsFault, IsNotMissing, IsTaken, IsTakenOrLong, Stops, AreKept, OneEnds, Rises, NotesAmong};
 
 use crate::stop::Stop;
 use pl_io::{Bytes, Shelf, TakeError, Taken};
@@ -30,6 +30,13 @@ pub trait Kept: Sized + Drop {
         ensures told { S.told shelf.new ≡ S.told shelf.old }
         ensures lacks { S.lacks shelf.new ≡ S.lacks shelf.old }
         ensures notes { Notes (S.failed shelf.old) (S.failed shelf.new) name.now }
+        // By whatever is said of files that agrees with what was handed over: of a shelf that tells nothing too.
+        ensures grows { Extends (S.heard shelf.old) (S.heard shelf.new) }
+        ensures heard_kept { (told : List ℕ → Option (List ℕ)) → AgreesSince told (S.heard shelf.old) (S.heard shelf.new) → IfOk result (is_kept told none_lacks file name.now) }
+        ensures heard_goes { (told : List ℕ → Option (List ℕ)) → AgreesSince told (S.heard shelf.old) (S.heard shelf.new) → OnOk result (goes_on told none_lacks file name.now) }
+        ensures heard_ends { (told : List ℕ → Option (List ℕ)) → AgreesSince told (S.heard shelf.old) (S.heard shelf.new) → (before : List (List ℕ)) → Rises before (S.failed shelf.old) → StopsBy (ends_run told none_lacks before (S.failed shelf.new) file name.now) result }
+
+        // By what the shelf tells.
         ensures kept { IfOk result (is_kept (S.told shelf.old) (S.lacks shelf.old) file name.now) }
         ensures goes { OnOk result (goes_on (S.told shelf.old) (S.lacks shelf.old) file name.now) }
         ensures ends { (before : List (List ℕ)) → Rises before (S.failed shelf.old) → StopsBy (ends_run (S.told shelf.old) (S.lacks shelf.old) before (S.failed shelf.new) file name.now) result };
@@ -77,6 +84,12 @@ pub fn take_all<K: Kept, S: Shelf>(
 ) -> Result<Vec<K>, Stop>
     ensures told { S.told shelf.new ≡ S.told shelf.old }
     ensures lacks { S.lacks shelf.new ≡ S.lacks shelf.old }
+    // By whatever is said of files that agrees with what was handed over: of a shelf that tells nothing too.
+    ensures grows { Extends (S.heard shelf.old) (S.heard shelf.new) }
+    ensures heard_taken { (told : List ℕ → Option (List ℕ)) → AgreesSince told (S.heard shelf.old) (S.heard shelf.new) → IfOk result (λ files. AreKept (K.is_kept told none_lacks) (file_at (seen request.now)) 0 (files_of (seen request.now)) files.items) }
+    ensures heard_stops { (told : List ℕ → Option (List ℕ)) → AgreesSince told (S.heard shelf.old) (S.heard shelf.new) → StopsBy (OneEnds (K.ends_run told none_lacks (S.failed shelf.old) (S.failed shelf.new)) (K.goes_on told none_lacks) (file_at (seen request.now)) 0 (files_of (seen request.now))) result }
+
+    // By what the shelf tells.
     ensures noted { NotesAmong (files_of (seen request.now)) (S.failed shelf.old) (S.failed shelf.new) }
     ensures taken { IfOk result (λ files. AreKept (K.is_kept (S.told shelf.old) (S.lacks shelf.old)) (file_at (seen request.now)) 0 (files_of (seen request.now)) files.items) }
     ensures stops { StopsBy (OneEnds (K.ends_run (S.told shelf.old) (S.lacks shelf.old) (S.failed shelf.old) (S.failed shelf.new)) (K.goes_on (S.told shelf.old) (S.lacks shelf.old)) (file_at (seen request.now)) 0 (files_of (seen request.now))) result }

@@ -1,7 +1,5 @@
-pub mod Verdicts
 pub mod Told
 pub mod Reports
-pub mod Claims
 pub mod Complete
 mod OneTask
 mod OneReport

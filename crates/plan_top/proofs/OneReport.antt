@@ -27,7 +27,7 @@ use Rattle.plan_files.specs.Limits.{most_of, most_bytes, file_at}
 use Rattle.plan_files.specs.Files.{Fits, FitFrom, OfTold, Stops, StopsFrom}
 use Rattle.gt_core.specs.Published.{IsPublished}
 use Rattle.certificates.specs.Known.{IsOrdered, form_of, formula_at}
-use Rattle.plan_top.specs.Laws.{Laws}
+use Rattle.plan_claims.specs.Laws.{Laws}
 use Rattle.plan_words.specs.declared.request.Stepping.{Stepping}
 use Rattle.plan_words.specs.declared.request.Stepping.TheVariants.{Exists}
 use Rattle.plan_answers.specs.Stepping.{places_by, is_plan_by}

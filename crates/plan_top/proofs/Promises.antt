@@ -53,12 +53,12 @@ use Rattle.plan_words.specs.declared.request.Stepping.TheVariants.{Exists}
 use Rattle.plan_top.specs.Complete.{GoesWell, IsGood}
 use Rattle.plan_top.specs.OneReport.{AskForOneRace, AskForOnePart}
 use Rattle.plan_endings.specs.Ending.{status_of, status_of_race, text_of, greatest, parts_text, batch_of, IsSmall}
-use Rattle.plan_top.specs.Headline.{Printed, OfFiles, OfPlans, PlanRuns, HasAtLeast, NoStepPlan, NoPlan, LineIsSo, SpendsAll, Certifies, OfProof, ProvesNone, TellsGround, TellsOrder, CallsRun}
-use Rattle.plan_top.specs.Laws.{Laws}
-use Rattle.plan_top.proofs.Claims as claims
+use Rattle.plan_claims.specs.Headline.{Printed, OfFiles, OfPlans, PlanRuns, HasAtLeast, NoStepPlan, NoPlan, LineIsSo, SpendsAll, Certifies, OfProof, ProvesNone, TellsGround, TellsOrder, CallsRun}
+use Rattle.plan_claims.specs.Laws.{Laws}
+use Rattle.plan_claims.proofs.Claims as claims
 use Rattle.plan_top.proofs.Told.{task_refusal, two_weaker, three_weaker, asked_comes, asked_parts, not_asked_comes}
 use Rattle.plan_top.proofs.Reports.{is_stop, stop_status, stop_says_nothing, printed_is, printed_front, nothing_said}
-use Rattle.plan_top.proofs.Verdicts.{reaches_is_plan}
+use Rattle.plan_claims.proofs.Verdicts.{reaches_is_plan}
 use Rattle.plan_top.proofs.Complete.{complete as goes_well}
 use Rattle.plan_top.proofs.OneReport.{one_ending, one_part, has_read}
 

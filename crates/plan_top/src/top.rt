@@ -11,15 +11,15 @@ ghost use Rattle.plan_files.specs.Files.{NotesAmong};
 ghost use Rattle.plan_top.specs.Causes.{Comes, ArePartsOf, HasRead, FaultOf, names_in};
 ghost use Rattle.plan_top.specs.Complete.{GoesWell, IsGood};
 ghost use Rattle.plan_endings.specs.Ending.{status_of, text_of, greatest, parts_text, IsSmall};
-ghost use Rattle.plan_top.specs.Headline.{Printed, OfFiles, OfPlans, PlanRuns, HasAtLeast, NoStepPlan, NoPlan, LineIsSo, SpendsAll, Certifies, OfProof, ProvesNone, TellsGround, TellsOrder, CallsRun};
+ghost use Rattle.plan_claims.specs.Headline.{Printed, OfFiles, OfPlans, PlanRuns, HasAtLeast, NoStepPlan, NoPlan, LineIsSo, SpendsAll, Certifies, OfProof, ProvesNone, TellsGround, TellsOrder, CallsRun};
 ghost use Rattle.plan_top.specs.OneReport.{AskForOneRace, AskForOnePart};
 ghost use Rattle.plan_files.specs.Ends.{ending_in};
 ghost use Rattle.plan_endings.specs.declared.ending.Ending.{Ending};
 
 use crate::decide::decide;
-use crate::laws::laws;
 use crate::{Ending, Status};
 use pl_io::{Shelf, Sink};
+use plan_claims::laws::laws;
 use plan_files::stop::Stop;
 use plan_status::written::written;
 use poll_batch::Driver;

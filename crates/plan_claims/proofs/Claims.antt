@@ -33,13 +33,13 @@ use Rattle.step_plans.specs.Plans.{AreStepPlan, IsStepPlanOf, AreListed, actions
 use Rattle.plan_report.specs.Report.{word_text, entry_of, plan_line, conflicts_line, last_lines, report_of}
 use Rattle.plan_report.specs.Laws.{IsSmall, HasCalls, Tells}
 use Rattle.certificates.specs.Known.{IsOrdered, form_of, choice_at, formula_at}
-use Rattle.plan_top.specs.Laws.{Laws}
+use Rattle.plan_claims.specs.Laws.{Laws}
 use Rattle.plan_words.specs.declared.request.Stepping.{Stepping}
 use Rattle.plan_words.specs.declared.request.Stepping.TheVariants.{Exists, All}
 use Rattle.plan_answers.specs.Stepping.{places_by, is_plan_by, bars_by}
 use Rattle.plan_answers.specs.Tasks.{IsReady}
 use Rattle.plan_answers.specs.Raced.{input_of, ComesTo}
-use Rattle.plan_top.specs.Headline.{OfGrounded, HasStepPlan, PlanRuns, HasAtLeast, NoStepPlan, NoPlan, IsSo, LineIsSo, standing_of, conflicts_of, line_words, SpendsAll}
+use Rattle.plan_claims.specs.Headline.{OfGrounded, HasStepPlan, PlanRuns, HasAtLeast, NoStepPlan, NoPlan, IsSo, LineIsSo, standing_of, conflicts_of, line_words, SpendsAll}
 
 -- ---- lines and the words in them
 
