@@ -13,9 +13,7 @@ ghost use Rattle.plan_files.specs.Ends.{EndsAs, StopsBy};
 use crate::certify::{answer_prove, answer_verify};
 use crate::generated::answer_gen;
 use crate::raced::raced;
-use crate::ready::read_ready;
 use crate::reported::reported;
-use crate::task::read_task;
 use action_order::publish::publish;
 use horizon_rates::Settings;
 use pd_model::{Calls, Pddl, Verdict};
@@ -23,6 +21,8 @@ use pd_plan::{PlanFault, read_plan};
 use pl_io::Bytes;
 use plan_endings::{Ending, File, Kind};
 use plan_files::stop::{Stop, refuse};
+use plan_tasks::ready::read_ready;
+use plan_tasks::task::read_task;
 use plan_words::{Request, Stepping};
 use solver_pool::Gate;
 use std::alloc::Global;
@@ -88,8 +88,8 @@ pub fn answer<H: Threads + Wait + Sync, G: Gate>(
     }
 }
 
-// The bytes of the two files of a request.
-fn two_of<'a>(_request: &Request<'_>, files: &'a [Bytes]) -> (&'a [u8], &'a [u8])
+/// The bytes of the two files of a request.
+pub fn two_of<'a>(_request: &Request<'_>, files: &'a [Bytes]) -> (&'a [u8], &'a [u8])
     requires fit { AreShort (file_at (seen _request.now)) 0 files.now }
     requires count { length files.now ≡ 2 }
     ensures files { files.now ≡ result.0.now ∷ result.1.now ∷ [] }

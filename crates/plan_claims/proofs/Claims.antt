@@ -34,6 +34,8 @@ use Rattle.plan_report.specs.Report.{word_text, entry_of, plan_line, conflicts_l
 use Rattle.plan_report.specs.Laws.{IsSmall, HasCalls, Tells}
 use Rattle.certificates.specs.Known.{IsOrdered, form_of, choice_at, formula_at}
 use Rattle.plan_claims.specs.Laws.{Laws}
+use Rattle.plan_tasks.proofs.Claims as low
+use Rattle.plan_tasks.proofs.Claims.{as_barred}
 use Rattle.plan_words.specs.declared.request.Stepping.{Stepping}
 use Rattle.plan_words.specs.declared.request.Stepping.TheVariants.{Exists, All}
 use Rattle.plan_answers.specs.Stepping.{places_by, is_plan_by, bars_by}
@@ -108,19 +110,6 @@ conflicts_same (line ∷ lines) = ap (λ (n : ℕ). line.conflicts + n) (conflic
 
 -- ---- plans in steps of a kind
 
--- what a plan in steps of a kind is, as the laws of step plans have it
-pub as_barred : (how : Stepping) (task : Task) (order : List ℕ) (sets : ℕ → ℕ → Bool) (n : ℕ) → is_plan_by how task order sets n → IsStepPlanOf (bars_by how task) task order sets n
-as_barred Exists task order sets n plan = record { plan = plan; each = λ t lt a b x y. refl }
-as_barred All task order sets n plan = record { plan = plan.plan; each = plan.none }
-
-from_barred : (how : Stepping) (task : Task) (order : List ℕ) (sets : ℕ → ℕ → Bool) (n : ℕ) → IsStepPlanOf (bars_by how task) task order sets n → is_plan_by how task order sets n
-from_barred Exists task order sets n of = of.plan
-from_barred All task order sets n of = record { plan = of.plan; none = of.each }
-
-bars_itself : NeverItself → (how : Stepping) (task : Task) (a : ℕ) → bars_by how task a a ≡ false
-bars_itself itself Exists task a = refl
-bars_itself itself All task a = itself task a
-
 -- the word of a line is one of the four
 words_in : (lines : List LineView) → AllByRecursion (λ e. Contains line_words e.word) (map entry_of lines)
 words_in [] = tt
@@ -134,42 +123,20 @@ words_in (line ∷ lines) = (one line.word, words_in lines)
 
 -- what is known of a ground task, and its order
 module _ (laws : Laws) (task : Parts) (g : Grounded) (ready : IsReady task g) (clauses : List (ℕ × ℕ)) (components : List (List ℕ)) (ordered : IsOrdered g.task clauses components) where
-  only : (h : Grounded) (others : List (ℕ × ℕ)) (parts : List (List ℕ)) → IsGrounded task h → IsOrdered h.task others parts → (h ≡ g) × (others ≡ clauses) × (parts ≡ components)
-  only h others parts is_h ordered_h =
-      let same : h ≡ g = laws.one_result task h g is_h ready.grounded in
-      let here : IsOrdered g.task others parts = subst (λ (x : Grounded). IsOrdered x.task others parts) same ordered_h in
-      let known : others ≡ clauses = laws.invariants g.task others clauses here.known ordered.known in
-      let published : IsPublished g.task clauses parts = subst (λ (cs : List (ℕ × ℕ)). IsPublished g.task cs parts) known here.published in
-      (same, known, laws.unique g.task clauses parts components published ordered.published)
-
   pub of_grounded : (claim : Grounded → List (ℕ × ℕ) → List (List ℕ) → Type 0) → claim g clauses components → OfGrounded task claim
-  of_grounded claim h = record { g = g; clauses = clauses; components = components; grounded = ready.grounded; ordered = ordered; only = only; holds = h }
+  of_grounded = low.of_grounded laws.of_tasks task g ready clauses components ordered
 
   -- ---- refuted horizons
 
   module _ (how : Stepping) (horizon : ℕ) (none : (steps : List (List ℕ)) → AreSets (is_plan_by how) g.task (order_of components) steps horizon → ⊥) where
-    no_sets : (sets : ℕ → ℕ → Bool) → IsStepPlanOf (bars_by how g.task) g.task (order_of components) sets horizon → ⊥
-    no_sets sets of =
-        let l = laws.lists (bars_by how g.task) g.task (order_of components) sets horizon of in
-        none l.0 (record { long = l.1; plan = from_barred how g.task (order_of components) (member_at l.0) horizon l.2 })
-
-    longer : (sets : ℕ → ℕ → Bool) (n : ℕ) → is_plan_by how g.task (order_of components) sets n → horizon < n
-    longer sets n plan = laws.longer (bars_by how g.task) g.task (order_of components) horizon no_sets sets n (as_barred how g.task (order_of components) sets n plan)
-
     pub no_step_plan : NoStepPlan how horizon task
-    no_step_plan =
-        of_grounded (λ h clauses components. (sets : ℕ → ℕ → Bool) (n : ℕ) → n ≤ horizon → is_plan_by how h.task (order_of components) sets n → ⊥)
-        (λ sets n le plan. let more = longer sets n plan in omega (arith, le, more))
+    no_step_plan = low.no_step_plan laws.of_tasks task g ready clauses components ordered how horizon none
 
     pub at_least : HasAtLeast how (horizon + 1) task
-    at_least =
-        of_grounded (λ h clauses components. (sets : ℕ → ℕ → Bool) (k : ℕ) → is_plan_by how h.task (order_of components) sets k → horizon + 1 ≤ k)
-        (λ sets k plan. let more = longer sets k plan in omega (arith, more))
+    at_least = low.at_least laws.of_tasks task g ready clauses components ordered how horizon none
 
     pub no_plan : NoPlan horizon task
-    no_plan calls short plan =
-        let s = laws.short (bars_by how g.task) task g (order_of components) horizon calls (bars_itself laws.itself how g.task) ready.grounded short plan in
-        no_sets s.0 s.1
+    no_plan = low.no_plan laws.of_tasks task g ready clauses components ordered how horizon none
 
 module _ (laws : Laws) (how : Stepping) (settings : Settings) (task : Parts) (g : Grounded) (ready : IsReady task g) where
   module _ (race : RaceEnd) (comes : ComesTo (places_by how) (is_plan_by how) g.task settings race) where

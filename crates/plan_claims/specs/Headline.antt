@@ -31,14 +31,11 @@ use Rattle.step_laws.specs.Form.{AreSets}
 use Rattle.step_clauses.specs.Variables.{chain_places}
 use Rattle.plan_answers.specs.Stepping.{places_by, is_plan_by}
 use Rattle.plan_answers.specs.Tasks.{AreTask}
+pub use Rattle.plan_tasks.specs.Claims.{OfFiles, OfGrounded, HasAtLeast, NoStepPlan, NoPlan}
 
 -- the bytes that a sink took in between, where it tells them
 abbrev pub Printed : Option (List ℕ) → Option (List ℕ) → List ℕ → Type 0
 Printed old new text = (before : List ℕ) × (old ≡ Some before) × (new ≡ Some (before ++ text))
-
--- Two files of these names are a task of which the claim holds, where their bytes are told. (Files are at most one task.)
-abbrev pub OfFiles : (List ℕ → Option (List ℕ)) → List ℕ → List ℕ → (Parts → Type 0) → Type 0
-OfFiles told domain problem claim = IfSome (told domain) (λ first. IfSome (told problem) (λ second. (task : Parts) × AreTask first second task × claim task))
 
 -- What is promised of a text that was printed for words that ask for a plan: of its steps, the text and the numbers, and of claims on
 -- the task of its files.
@@ -46,17 +43,6 @@ abbrev pub OfPlans : List (List ℕ) → (List ℕ → Option (List ℕ)) → Op
 OfPlans words told old new promise =
     (how : Stepping) (text domain problem : List ℕ) (numbers : Numbers) → Printed old new text → requested words ≡ Some (plans_by how domain problem numbers)
     → promise how text numbers (OfFiles told domain problem)
-
--- What a task is grounded to, the clauses that are known of it, and its actions in published order, as their components:
--- there are such, there are no others, and the claim holds of them.
-pub record OfGrounded (task : Parts) (claim : Grounded → List (ℕ × ℕ) → List (List ℕ) → Type 0) : Type 0 where
-  pub g : Grounded
-  pub clauses : List (ℕ × ℕ)
-  pub components : List (List ℕ)
-  pub grounded : IsGrounded task g
-  pub ordered : IsOrdered g.task clauses components
-  pub only : (h : Grounded) (others : List (ℕ × ℕ)) (parts : List (List ℕ)) → IsGrounded task h → IsOrdered h.task others parts → (h ≡ g) × (others ≡ clauses) × (parts ≡ components)
-  pub holds : claim g clauses components
 
 -- ---- plans
 
@@ -71,19 +57,7 @@ HasStepPlan how text task g clauses components =
 abbrev pub PlanRuns : Stepping → List ℕ → Parts → Type 0
 PlanRuns how text task = ((calls : List Call) × (plan_file task text ≡ Ok calls) × IsPlan task calls) × OfGrounded task (HasStepPlan how text task)
 
--- each plan in these steps has at least so many
-abbrev pub HasAtLeast : Stepping → ℕ → Parts → Type 0
-HasAtLeast how n task = OfGrounded task (λ g clauses components. (sets : ℕ → ℕ → Bool) (k : ℕ) → is_plan_by how g.task (order_of components) sets k → n ≤ k)
-
 -- ---- horizons
-
--- no list of so many sets of actions, or of fewer, is a step plan
-abbrev pub NoStepPlan : Stepping → ℕ → Parts → Type 0
-NoStepPlan how horizon task = OfGrounded task (λ g clauses components. (sets : ℕ → ℕ → Bool) (n : ℕ) → n ≤ horizon → is_plan_by how g.task (order_of components) sets n → ⊥)
-
--- no list of at most so many calls is a plan
-abbrev pub NoPlan : ℕ → Parts → Type 0
-NoPlan horizon task = (calls : List Call) → length calls ≤ horizon → IsPlan task calls → ⊥
 
 -- how the solver of a horizon stands where a line has this word
 abbrev pub standing_of : Word → Standing

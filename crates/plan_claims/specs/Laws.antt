@@ -4,11 +4,13 @@ use Rattle.gt_core.specs.Laws.{PublishedIsUnique, NeverItself}
 use Rattle.two_invariants.specs.Laws.{OneListOfInvariants}
 use Rattle.grounding.specs.Laws.{OneResult, GroundedIsTask}
 use Rattle.plan_words.specs.Seen.{NumbersAreSettings}
+use Rattle.plan_tasks.specs.Laws.{TaskLaws}
 use Rattle.step_plans.specs.Laws.{StepPlansRun, ShortPlansAreStepPlans, OtherPlansAreLonger, SetsAreLists, ListedHaveActionsOnce, ListedAreInOrder, SetsAtPlacesAreListed}
 use Rattle.proof_text.specs.Laws.{OneSpelling, LinesAreRead, TextsAreFit}
 use Rattle.plan_report.specs.Laws.{LinesAreReadBack, PlansAreRead, StepsAreTold, HorizonsAreTold}
 
 pub record Laws : Type 0 where
+  pub of_tasks : TaskLaws
   pub settings : NumbersAreSettings
   pub fronts : FrontsSayNoMore
   pub entries : ReportsSayEntries

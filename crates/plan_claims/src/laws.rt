@@ -13,4 +13,5 @@ pub fn laws()
     step_plans::laws::laws();
     plan_report::laws::laws();
     proof_text::laws::laws();
+    plan_tasks::laws::laws();
 }

@@ -21,8 +21,8 @@ use Rattle.plan_endings.specs.declared.ending.Kind.{Kind}
 use Rattle.plan_endings.specs.declared.ending.Kind.TheVariants.{Syntax, Deep, Shape, Unknown, Arity, Duplicate, Unsupported}
 use Rattle.plan_endings.specs.declared.ending.Ending.{Ending}
 use Rattle.plan_endings.specs.declared.ending.Ending.TheVariants.{Refused, TooMany}
-use Rattle.plan_answers.specs.declared.task.Reading.{Reading}
-use Rattle.plan_answers.specs.declared.task.Reading.TheVariants as readings
+use Rattle.plan_tasks.specs.declared.task.Reading.{Reading}
+use Rattle.plan_tasks.specs.declared.task.Reading.TheVariants as readings
 
 -- two files are a task
 abbrev pub AreTask : List ℕ → List ℕ → Parts → Type 0

@@ -1,6 +1,6 @@
-use Rattle.plan_answers.specs.Tasks.{RefusesTask, TellsOver, StopsTask, refused, past}
+use Rattle.plan_tasks.specs.Tasks.{RefusesTask, TellsOver, StopsTask, refused, past}
 use Rattle.plan_files.proofs.Stopped.{Stops-handed}
-use Rattle.plan_answers.proofs.ready.ready_with.Goals as goal
+use Rattle.plan_tasks.proofs.ready.ready_with.Goals as goal
 
 pub returns-in_err-task-clause-stops : goal.returns-in_err-task-clause-stops
 returns-in_err-task-clause-stops c domain reads =

@@ -2,7 +2,7 @@
 ghost use Rattle.std.specs.Prelude.{◌≡◌, IfOk};
 ghost use Rattle.grounding.specs.Grounded.{IsGrounded};
 ghost use Rattle.grounding.specs.Limits.{IsWithin};
-ghost use Rattle.plan_answers.specs.Tasks.{TellsOver};
+ghost use Rattle.plan_tasks.specs.Tasks.{TellsOver};
 ghost use Rattle.plan_files.specs.Ends.{StopsBy};
 
 use grounder::{GroundError, Grounded, ground};
@@ -18,7 +18,7 @@ fn too_many(what: Limit, count: u64) -> Stop
 }
 
 /// What a task is grounded to.
-pub(crate) fn ground_task(alloc: Global, task: &Pddl) -> Result<Grounded, Stop>
+pub fn ground_task(alloc: Global, task: &Pddl) -> Result<Grounded, Stop>
     ensures grounded { IfOk result (IsGrounded task.now) }
     ensures within { IfOk result (IsWithin task.now) }
     ensures stops { StopsBy (TellsOver task.now) result }

@@ -4,7 +4,7 @@ ghost use Rattle.pd_sexp.specs.{Fault.Reads, View.view, Word.has_words};
 ghost use Rattle.pd_model.specs.WellFormed.{IsWellFormed};
 ghost use Rattle.pd_task.specs.Reading.{reading};
 ghost use Rattle.plan_files.specs.Limits.{most_bytes};
-ghost use Rattle.plan_answers.specs.Tasks.{AreTask, input_of, RefusesTask, RefusesTree, RefusesTrees, IsReading};
+ghost use Rattle.plan_tasks.specs.Tasks.{AreTask, input_of, RefusesTask, RefusesTree, RefusesTrees, IsReading};
 ghost use Rattle.plan_files.specs.Ends.{StopsBy, OnlyMemory};
 
 use pd_model::{Pddl, Which};
@@ -102,7 +102,7 @@ pub(crate) fn task_with(alloc: Global, first: &Tree, problem: &[u8]) -> Result<P
 }
 
 /// The task that the bytes of two files say.
-pub(crate) fn read_task(alloc: Global, domain: &[u8], problem: &[u8]) -> Result<Pddl, Stop>
+pub fn read_task(alloc: Global, domain: &[u8], problem: &[u8]) -> Result<Pddl, Stop>
     requires domain_fits { length domain.now ≤ most_bytes }
     requires problem_fits { length problem.now ≤ most_bytes }
     ensures task { IfOk result (AreTask domain.now problem.now) }

@@ -2,7 +2,7 @@
 ghost use Rattle.std.specs.Prelude.{◌≤◌, ℕ, List, length, IsTrue, IfOk};
 ghost use Rattle.pd_sexp.specs.{Fault.Reads, View.view, Word.has_words};
 ghost use Rattle.plan_files.specs.{Limits.most_bytes, Ends.StopsBy};
-ghost use Rattle.plan_answers.specs.Tasks.{AreTask, IsReady, StopsTask};
+ghost use Rattle.plan_tasks.specs.Tasks.{AreTask, IsReady, StopsTask};
 
 use crate::ground::ground_task;
 use crate::task::{task_with, tree_of};
@@ -43,7 +43,7 @@ pub fn ready_with(alloc: Global, first: &Tree, problem: &[u8]) -> Result<Ready, 
 }
 
 /// The task that the bytes of two files say, grounded within the limits.
-pub(crate) fn read_ready(alloc: Global, domain: &[u8], problem: &[u8]) -> Result<Ready, Stop>
+pub fn read_ready(alloc: Global, domain: &[u8], problem: &[u8]) -> Result<Ready, Stop>
     requires domain_fits { length domain.now ≤ most_bytes }
     requires problem_fits { length problem.now ≤ most_bytes }
     ensures task { IfOk result (λ r. AreTask domain.now problem.now r.task) }
