@@ -1,6 +1,7 @@
 -- What a report and a checked plan promise of the files.
 use Rattle.std.specs.List.{AllByRecursion}
-use Rattle.std.specs.Prelude.{◌≡◌, ◌≤◌, ℕ, ◌+◌, List, [], ◌∷◌, ◌++◌, map, length, codes, Bool, Option, Some, IfSome, Ok, Contains}
+use Rattle.std.specs.Prelude.{◌≡◌, ◌≤◌, ℕ, ◌+◌, List, [], ◌∷◌, ◌++◌, map, length, codes, Bool, Option, Some, Ok, Contains}
+use Rattle.pl_io.specs.Outside.{Heard, whole}
 use Rattle.report_lines.specs.Lines.{lines_of}
 use Rattle.report_lines.specs.Horizons.{Entry, entry_line, report}
 use Rattle.clause_base.specs.Choice.{Known}
@@ -37,12 +38,18 @@ pub use Rattle.plan_tasks.specs.Claims.{OfFiles, OfGrounded, HasAtLeast, NoStepP
 abbrev pub Printed : Option (List ℕ) → Option (List ℕ) → List ℕ → Type 0
 Printed old new text = (before : List ℕ) × (old ≡ Some before) × (new ≡ Some (before ++ text))
 
+-- what was handed over in between is two files that are a task, and a third file, of whose bytes the claim holds too
+abbrev pub OfThreeFiles : List Heard → List Heard → List ℕ → List ℕ → List ℕ → (List ℕ → Parts → Type 0) → Type 0
+OfThreeFiles old new domain problem other claim =
+    (first second third : List ℕ) × (new ≡ old ++ whole domain first ∷ whole problem second ∷ whole other third ∷ [])
+    × (task : Parts) × AreTask first second task × claim third task
+
 -- What is promised of a text that was printed for words that ask for a plan: of its steps, the text and the numbers, and of claims on
 -- the task of its files.
-abbrev pub OfPlans : List (List ℕ) → (List ℕ → Option (List ℕ)) → Option (List ℕ) → Option (List ℕ) → (Stepping → List ℕ → Numbers → ((Parts → Type 0) → Type 0) → Type 0) → Type 0
-OfPlans words told old new promise =
+abbrev pub OfPlans : List (List ℕ) → List Heard → List Heard → Option (List ℕ) → Option (List ℕ) → (Stepping → List ℕ → Numbers → ((Parts → Type 0) → Type 0) → Type 0) → Type 0
+OfPlans words was now old new promise =
     (how : Stepping) (text domain problem : List ℕ) (numbers : Numbers) → Printed old new text → requested words ≡ Some (plans_by how domain problem numbers)
-    → promise how text numbers (OfFiles told domain problem)
+    → promise how text numbers (OfFiles was now domain problem)
 
 -- ---- plans
 
@@ -110,22 +117,15 @@ Certifies text horizon task = OfGrounded task (λ g clauses components. IsCertif
 abbrev pub IsOfHorizon : List ℕ → ℕ → Type 0
 IsOfHorizon text horizon = (rest : List (List ℕ)) × (lines_of text ≡ spaced (horizon_words horizon) ∷ rest)
 
--- three files of these names are a task and a certificate of which the claim holds, where their bytes are told
-abbrev pub OfProof : (List ℕ → Option (List ℕ)) → List ℕ → List ℕ → List ℕ → (List ℕ → Parts → Type 0) → Type 0
-OfProof told domain problem proof claim =
-    IfSome (told domain) (λ first. IfSome (told problem) (λ second. IfSome (told proof) (λ third. (task : Parts) × AreTask first second task × claim third task)))
-
 -- the text names a horizon that has no step plan of so many steps, nor of fewer, and no plan of at most so many actions
 abbrev pub ProvesNone : List ℕ → Parts → Type 0
 ProvesNone text task = (horizon : ℕ) × IsOfHorizon text horizon × NoStepPlan Exists horizon task × NoPlan horizon task
 
 -- ---- the other commands
 
--- three files of these names are a task and calls of it that are a plan, where their bytes are told
-abbrev pub CallsRun : (List ℕ → Option (List ℕ)) → List ℕ → List ℕ → List ℕ → Type 0
-CallsRun told domain problem plan =
-    IfSome (told domain) (λ first. IfSome (told problem) (λ second. IfSome (told plan) (λ third.
-    (task : Parts) × (calls : List Call) × AreTask first second task × (plan_file task third ≡ Ok calls) × IsPlan task calls)))
+-- the bytes are a plan file whose calls are a plan
+abbrev pub AreCallsOfPlan : List ℕ → Parts → Type 0
+AreCallsOfPlan text task = (calls : List Call) × (plan_file task text ≡ Ok calls) × IsPlan task calls
 
 -- the text has the facts and the actions of a task
 abbrev pub TellsGround : List ℕ → Parts → Type 0

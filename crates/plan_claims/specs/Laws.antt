@@ -6,7 +6,7 @@ use Rattle.grounding.specs.Laws.{OneResult, GroundedIsTask}
 use Rattle.plan_words.specs.Seen.{NumbersAreSettings}
 use Rattle.plan_tasks.specs.Laws.{TaskLaws}
 use Rattle.step_plans.specs.Laws.{StepPlansRun, ShortPlansAreStepPlans, OtherPlansAreLonger, SetsAreLists, ListedHaveActionsOnce, ListedAreInOrder, SetsAtPlacesAreListed}
-use Rattle.proof_text.specs.Laws.{OneSpelling, LinesAreRead, TextsAreFit}
+use Rattle.proof_text.specs.Laws.{OneSpelling, OnePlace, LinesAreRead, TextsAreFit}
 use Rattle.plan_report.specs.Laws.{LinesAreReadBack, PlansAreRead, StepsAreTold, HorizonsAreTold}
 
 pub record Laws : Type 0 where
@@ -31,5 +31,6 @@ pub record Laws : Type 0 where
   pub steps : StepsAreTold
   pub horizons : HorizonsAreTold
   pub one_spelling : OneSpelling
+  pub one_place : OnePlace
   pub proof_lines : LinesAreRead
   pub no_fault : TextsAreFit

@@ -2,7 +2,7 @@ use Rattle.std.proofs.Common.{sym, map, string_bytes}
 use Rattle.plan_top.proofs.decide.decide.Goals as goal
 
 pub returns-clause-cause : goal.returns-clause-cause
-returns-clause-cause g c = c.decide_request.ensures.cause (map string_bytes c.args.words.now) (sym (rw c.in-Some.is at c.in_ok-request.ensures.request))
+returns-clause-cause g c took handed = c.decide_request.ensures.cause took handed (map string_bytes c.args.words.now) (sym (rw c.in-Some.is at c.in_ok-request.ensures.request))
 
 pub decide_request-requires-clause-sized : goal.decide_request-requires-clause-sized
 decide_request-requires-clause-sized g c κs within = rw c.in-Some.is at c.in_ok-request.ensures.sized
