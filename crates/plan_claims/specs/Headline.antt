@@ -32,11 +32,7 @@ use Rattle.step_laws.specs.Form.{AreSets}
 use Rattle.step_clauses.specs.Variables.{chain_places}
 use Rattle.plan_answers.specs.Stepping.{places_by, is_plan_by}
 use Rattle.plan_answers.specs.Tasks.{AreTask}
-pub use Rattle.plan_tasks.specs.Claims.{OfFiles, OfGrounded, HasAtLeast, NoStepPlan, NoPlan}
-
--- the bytes that a sink took in between, where it tells them
-abbrev pub Printed : Option (List ℕ) → Option (List ℕ) → List ℕ → Type 0
-Printed old new text = (before : List ℕ) × (old ≡ Some before) × (new ≡ Some (before ++ text))
+pub use Rattle.plan_tasks.specs.Claims.{Printed, OfFiles, OfGrounded, HasAtLeast, NoStepPlan, NoPlan}
 
 -- what was handed over in between is two files that are a task, and a third file, of whose bytes the claim holds too
 abbrev pub OfThreeFiles : List Heard → List Heard → List ℕ → List ℕ → List ℕ → (List ℕ → Parts → Type 0) → Type 0

@@ -1,5 +1,5 @@
 -- What is claimed of a task and of the files that say it.
-use Rattle.std.specs.Prelude.{◌≡◌, ◌≤◌, ℕ, List, [], ◌∷◌, ◌++◌, length, Bool}
+use Rattle.std.specs.Prelude.{◌≡◌, ◌≤◌, ℕ, List, [], ◌∷◌, ◌++◌, length, Bool, Option, Some}
 use Rattle.pl_io.specs.Outside.{Heard, whole}
 use Rattle.pd_model.specs.Plan.{IsPlan}
 use Rattle.pd_model.specs.declared.calls.Call.{Call}
@@ -10,6 +10,10 @@ use Rattle.plan_words.specs.declared.request.Stepping.{Stepping}
 use Rattle.ordered_tasks.specs.Known.{IsOrdered}
 use Rattle.plan_tasks.specs.Stepping.{is_plan_by}
 use Rattle.plan_tasks.specs.Tasks.{AreTask}
+
+-- the bytes that a sink took in between, where it tells them
+abbrev pub Printed : Option (List ℕ) → Option (List ℕ) → List ℕ → Type 0
+Printed old new text = (before : List ℕ) × (old ≡ Some before) × (new ≡ Some (before ++ text))
 
 -- What was handed over in between is two files of these names, all of each, which are a task of which the claim holds. (Files are at
 -- most one task.)

@@ -1,5 +1,5 @@
-use Rattle.plan_answers.proofs.Answered.{three_are}
-use Rattle.plan_answers.proofs.answer.three_of.Goals as goal
+use Rattle.plan_files.proofs.Several.{three_are}
+use Rattle.plan_files.proofs.parts.three_of.Goals as goal
 
 pub returns-clause-files : goal.returns-clause-files
 returns-clause-files c =

@@ -1,5 +1,5 @@
-use Rattle.plan_answers.proofs.Answered.{two_are}
-use Rattle.plan_answers.proofs.answer.two_of.Goals as goal
+use Rattle.plan_files.proofs.Several.{two_are}
+use Rattle.plan_files.proofs.parts.two_of.Goals as goal
 
 pub returns-clause-files : goal.returns-clause-files
 returns-clause-files c = rw (c.as_slice.ensures, c.as_slice-2.ensures) (two_are c.args.files.now c.index-files-0.result c.index-files-1.result c.requires.count c.index-files-0.is c.index-files-1.is)
