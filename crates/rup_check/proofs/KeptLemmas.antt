@@ -13,7 +13,7 @@ use Rattle.clause_base.specs.Derivation.{Effect, Conflicts, Forces, Loose, effec
 use Rattle.clause_base.specs.declared.log.Entry.{Entry}
 use Rattle.clause_base.specs.declared.log.Entry.TheVariants.{Learn, Drop}
 use Rattle.clause_base.proofs.ClauseLemmas.{below_from_test}
-use Rattle.rup_check.specs.Kept.{is_dropped, kept_named, is_derived_by, IsKnownAfter, IsDropBelow}
+use Rattle.rup_check.specs.Kept.{is_dropped, kept_named, is_derived_by, IsKnownAfter}
 
 pub goes_on-same : (next other : ℕ → Bool) (ends : Bool) (e : Effect) → ((l : ℕ) → next l ≡ other l) → goes_on next ends e ≡ goes_on other ends e
 goes_on-same next other ends Conflicts h = refl
@@ -48,7 +48,7 @@ clauses_of-append [] more = refl
 clauses_of-append (Learn clause hints ∷ earlier) more = ap (λ (xss : List (List ℕ)). clause ∷ xss) (clauses_of-append earlier more)
 clauses_of-append (Drop number ∷ earlier) more = clauses_of-append earlier more
 
-any-append : (p : Entry → Bool) (earlier : List Entry) (entry : Entry) → list_any p (earlier ++ entry ∷ []) ≡ (list_any p earlier || p entry)
+pub any-append : (p : Entry → Bool) (earlier : List Entry) (entry : Entry) → list_any p (earlier ++ entry ∷ []) ≡ (list_any p earlier || p entry)
 any-append p earlier entry = list_any-append p earlier (entry ∷ []) ∙ ap (λ (b : Bool). list_any p earlier || b) (or-false (p entry))
 
 -- with one more entry
@@ -76,28 +76,6 @@ below-derived variables clauses learned dropped (Learn clause hints) t =
     All-cons (HasVariablesBelow variables) clause [] (below_from_test variables clause (and_left (has_variables_below variables clause) _ t)) (All-nil (HasVariablesBelow variables))
 below-derived variables clauses learned dropped (Drop number) t = All-nil (HasVariablesBelow variables)
 
-within_some : (clauses : List (List ℕ)) (n : ℕ) → is_some (slice_get clauses n) ≡ true → n < length clauses
-within_some [] n t = cc
-within_some (c ∷ clauses) zero t = omega arith
-within_some (c ∷ clauses) (suc n) t = let h = within_some clauses n t in omega arith
-
--- what a derived entry drops is a number so far
-pub drop_below-derived : (variables : ℕ) (clauses learned : List (List ℕ)) (dropped : List Bool) (entry : Entry) → length dropped ≡ length clauses + length learned → is_derived_by variables clauses learned dropped entry ≡ true → IsDropBelow (length dropped) entry
-drop_below-derived variables clauses learned dropped (Learn clause hints) l t = tt
-drop_below-derived variables clauses learned dropped (Drop number) l t = by (is_dropped dropped number) refl
-  where
-    by : (b : Bool) → is_dropped dropped number ≡ b → number < length dropped
-    by true e = let off : false ≡ true = ap (λ (b : Bool). is_some (if b then None else slice_get (clauses ++ learned) number)) (sym e) ∙ t in cc
-    by false e =
-        let there : is_some (slice_get (clauses ++ learned) number) ≡ true = ap (λ (b : Bool). is_some (if b then None else slice_get (clauses ++ learned) number)) (sym e) ∙ t in
-        let within = within_some (clauses ++ learned) number there in
-        omega (arith, within, l, length-append clauses learned)
-
--- an entry at its place in a log
-pub derived_at : (variables : ℕ) (clauses : List (List ℕ)) (log : List Entry) (n : ℕ) (learned : List (List ℕ)) (dropped : List Bool) (entry : Entry) (b : Bool) → IsKnownAfter (take n log) learned dropped → slice_get log n ≡ Some entry → b ≡ is_derived_by variables clauses learned dropped entry → is_derived_after variables clauses (take n log) (slice_get log n) ≡ b
-derived_at variables clauses log n learned dropped entry b k e t =
-    ap (λ (o : Option Entry). is_derived_after variables clauses (take n log) o) e ∙ sym (t ∙ is_derived_by-known variables clauses (take n log) learned dropped entry k)
-
 pub derived_more : (variables : ℕ) (clauses : List (List ℕ)) (log : List Entry) (n : ℕ) → ((k : ℕ) → k < n → IsDerivedAt variables clauses log k) → IsDerivedAt variables clauses log n → (k : ℕ) → k < n + 1 → IsDerivedAt variables clauses log k
 derived_more variables clauses log n before here k h = by (k == n) refl
   where
@@ -105,13 +83,9 @@ derived_more variables clauses log n before here k h = by (k == n) refl
     by true e = let same : n ≡ k = grind (arith, nat_tests) in subst (λ (m : ℕ). IsDerivedAt variables clauses log m) same here
     by false e = let less : k < n = grind (arith, nat_tests) in before k less
 
-take_more : (log : List Entry) (n : ℕ) (entry : Entry) → n < length log → entry ≡ get_or log n entry → take (n + 1) log ≡ take n log ++ entry ∷ []
+pub take_more : (log : List Entry) (n : ℕ) (entry : Entry) → n < length log → entry ≡ get_or log n entry → take (n + 1) log ≡ take n log ++ entry ∷ []
 take_more log n entry h e =
     ap (λ (m : ℕ). take m log) (add-one n) ∙ take-suc log n entry h ∙ ap (λ (x : Entry). take n log ++ x ∷ []) (sym e)
-
-pub known_next : (log : List Entry) (n : ℕ) (entry : Entry) (learned more : List (List ℕ)) (dropped now : List Bool) → n < length log → entry ≡ get_or log n entry → IsKnownAfter (take n log) learned dropped → more ≡ learned ++ clauses_of (entry ∷ []) → ((k : ℕ) → is_dropped now k ≡ (is_dropped dropped k || drops k entry)) → IsKnownAfter (take (n + 1) log) more now
-known_next log n entry learned more dropped now h e k m d =
-    subst (λ (es : List Entry). IsKnownAfter es more now) (sym (take_more log n entry h e)) (known-more (take n log) entry learned more dropped now k m d)
 
 pub long_next : (clauses learned more added : List (List ℕ)) (dropped now : List Bool) → length dropped ≡ length clauses + length learned → more ≡ learned ++ added → length now ≡ length dropped + length added → length now ≡ length clauses + length more
 long_next clauses learned more added dropped now l m d =

@@ -1,3 +1,4 @@
 pub mod KeptLemmas
 pub mod SameMembers
 pub mod EndsLaws
+pub mod TakenLaws

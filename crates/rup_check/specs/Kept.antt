@@ -1,5 +1,5 @@
 -- What the checker knows after some entries: the clauses that they learned, in order, and a table of the numbers that they dropped.
-use Rattle.std.specs.Prelude.{◌≡◌, ℕ, ◌&&◌, ◌<◌, List, ◌++◌, Bool, false, Option, None, slice_get, slice_index_or, if◌then◌else◌}
+use Rattle.std.specs.Prelude.{◌≡◌, ℕ, ◌&&◌, List, ◌++◌, Bool, false, Option, None, slice_get, slice_index_or, if◌then◌else◌}
 use Rattle.std.specs.List.{list_any}
 use Rattle.std.specs.Option.{is_some}
 use Rattle.clause_base.specs.Clause.{has_variables_below}
@@ -24,8 +24,3 @@ is_derived_by variables clauses learned dropped (Drop number) = is_some (kept_na
 pub record IsKnownAfter (earlier : List Entry) (learned : List (List ℕ)) (dropped : List Bool) : Type 0 where
   pub learned_is : learned ≡ clauses_of earlier
   pub dropped_is : (number : ℕ) → is_dropped dropped number ≡ list_any (drops number) earlier
-
--- an entry drops a number below this one, if any
-abbrev pub IsDropBelow : ℕ → Entry → Type 0
-IsDropBelow n (Learn clause hints) = Unit {0}
-IsDropBelow n (Drop number) = number < n

@@ -5,13 +5,11 @@ ghost use Rattle.clause_log.specs.Step.{told};
 ghost use Rattle.rup_check.specs.Certificate.{Certifies};
 ghost use Rattle.rup_check.specs.Ends.{ends_by};
 
-use crate::entry::is_derived;
-use crate::kept::Kept;
+use crate::checker::Checker;
+use crate::steps::{Room, learns_empty, take_step};
 use clause_base::formula::Formula;
 use clause_base::memory::Memory;
 use clause_log::log::Log;
-use clause_log::reader::Step;
-use hint_effects::falsified::Falsified;
 use std::alloc::Global;
 use std::marker::Model;
 
@@ -84,31 +82,20 @@ fn ends_empty(log: &Log) -> bool
     empty
 }
 
-/// Whether an entry learns the empty clause.
-fn learns_empty(step: &Step<'_>) -> bool
-    ensures { result ≡ learns_empty (told step.now) }
-{
-    match step {
-        Step::Learn { clause, hints: _ } => clause.len() == 0,
-        Step::Drop { number: _ } => false,
-    }
-}
-
 /// The first of the entries that is not derived.
 fn first_underived(alloc: Global, formula: &Formula, log: &Log) -> Result<Option<u32>, Memory>
     requires { length formula.now.clauses + length log.now < 2 ^ 32 }
     ensures found { IfOk result (λ first. IfSome first (IsFirstUnderived formula.now.variables formula.now.clauses log.now)) }
     ensures none { IfOk result (λ first. IfNone first (IsDerivation formula.now.variables formula.now.clauses log.now)) }
 {
-    let mut marks = Falsified::new(alloc, formula.variables())?;
-    let mut kept = Kept::new(alloc, formula.count())?;
+    let mut checker = Checker::new(alloc, formula)?;
+    let mut room = Room::new(alloc);
     let mut reader = log.entries();
     for number in 0..log.len() {
         let step = reader.take();
-        if !is_derived(&mut marks, formula, &kept, &step)? {
+        if !take_step(&mut checker, &mut room, &step)? {
             return Ok(Some(number as u32));
         }
-        kept.record(&step)?;
     }
     Ok(None)
 }

@@ -1,36 +1,19 @@
-ghost use Rattle.std.specs.Prelude.{◌≡◌, ◌∷◌, [], ◌+◌, ◌++◌, ◌<◌, ◌||◌, ℕ, Bool, false, length, replicate, slice_get, IfOk, OnOk};
-ghost use Rattle.clause_base.specs.Derivation.{clauses_of, drops};
-ghost use Rattle.clause_log.specs.Step.{told, IsLawful};
-ghost use Rattle.rup_check.specs.Kept.{kept_named, is_dropped, IsDropBelow};
+ghost use Rattle.std.specs.Prelude.{◌≡◌, ◌∷◌, [], ◌+◌, ◌++◌, ◌<◌, ◌||◌, ◌==◌, ℕ, Bool, false, length, replicate, slice_get, IfOk, OnOk, OnErr};
+ghost use Rattle.clause_base.specs.Clause.{IsClause};
+ghost use Rattle.rup_check.specs.Kept.{kept_named, is_dropped};
 
 use clause_base::clause_list::ClauseList;
 use clause_base::formula::Formula;
 use clause_base::literal::Lit;
 use clause_base::memory::Memory;
 use clause_base::view::View;
-use clause_log::reader::Step;
-use number_bytes::numbers::Numbers;
 use std::alloc::Global;
 
-/// What is known after some entries: the clauses that they learned, and for each number so far whether it was dropped. The third
-/// vector is room in which a clause is read.
+/// What is known after some entries: the clauses that they learned, and for each number so far whether it was dropped.
 #[derive(Drop)]
 pub struct Kept {
     pub learned: ClauseList,
     pub dropped: Vec<bool>,
-    lits: Vec<Lit>,
-}
-
-/// Makes a vector hold the literals of a clause, which are told by their codes.
-fn read_into(lits: &mut Vec<Lit>, clause: &Numbers<'_>) -> Result<(), Memory>
-    ensures { OnOk result (lits.new.items ≡ clause.now) }
-{
-    lits.clear();
-    let mut left = clause.copy();
-    while let Some(code) = left.next() {
-        lits.push(Lit(code))?;
-    }
-    Ok(())
 }
 
 impl Kept {
@@ -42,7 +25,6 @@ impl Kept {
         Ok(Kept {
             learned: ClauseList::new(alloc),
             dropped: vec![in alloc; false; clauses as usize]?,
-            lits: Vec::new(alloc),
         })
     }
 
@@ -80,24 +62,31 @@ impl Kept {
         }
     }
 
-    /// Takes an entry as the next one. The number that it drops is one so far.
-    pub fn record(&mut self, step: &Step<'_>) -> Result<(), Memory>
-        requires in_range { IsDropBelow (length self.old.dropped.items) (told step.now) }
-        requires lawful { IsLawful step.now }
-        ensures learned { OnOk result (self.new.learned ≡ self.old.learned ++ clauses_of (told step.now ∷ [])) }
-        ensures dropped { OnOk result ((number : ℕ) → is_dropped self.new.dropped.items number ≡ (is_dropped self.old.dropped.items number || drops number (told step.now))) }
-        ensures long { OnOk result (length self.new.dropped.items ≡ length self.old.dropped.items + length (clauses_of (told step.now ∷ []))) }
+    /// Takes the entry that learns a clause as the next one. After want of memory what is known is unchanged.
+    pub fn learn(&mut self, clause: &[Lit]) -> Result<(), Memory>
+        requires { IsClause clause.now }
+        ensures learned { OnOk result (self.new.learned ≡ self.old.learned ++ clause.now ∷ []) }
+        ensures dropped { OnOk result ((number : ℕ) → is_dropped self.new.dropped.items number ≡ is_dropped self.old.dropped.items number) }
+        ensures long { OnOk result (length self.new.dropped.items ≡ length self.old.dropped.items + 1) }
+        ensures same_learned { OnErr result (self.new.learned ≡ self.old.learned) }
+        ensures same_dropped { OnErr result (self.new.dropped.items ≡ self.old.dropped.items) }
     {
-        match step {
-            Step::Learn { clause, hints: _ } => {
-                read_into(&mut self.lits, clause)?;
-                self.learned.add_sorted(&self.lits)?;
-                self.dropped.push(false)?;
-            }
-            Step::Drop { number } => {
-                self.dropped[*number as usize] = true;
-            }
+        let count = self.dropped.len();
+        self.dropped.push(false)?;
+        if let Err(error) = self.learned.add_sorted(clause) {
+            self.dropped.truncate(count);
+            return Err(error);
         }
         Ok(())
+    }
+
+    /// Takes the entry that drops the clause with this number, one so far, as the next one.
+    pub fn forget(&mut self, number: u32)
+        requires { number < length self.old.dropped.items }
+        ensures learned { self.new.learned ≡ self.old.learned }
+        ensures dropped { (other : ℕ) → is_dropped self.new.dropped.items other ≡ (is_dropped self.old.dropped.items other || (number == other)) }
+        ensures long { length self.new.dropped.items ≡ length self.old.dropped.items }
+    {
+        self.dropped[number as usize] = true;
     }
 }

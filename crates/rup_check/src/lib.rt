@@ -5,8 +5,13 @@
 //! an entry drops are no hints after it. A formula
 //! with an accepted log has no satisfying assignment, which is a clause of `check`; so a `Checked` is worth as much as the
 //! definitions of `clause_base`, whatever made the log.
+//!
+//! `Checker` is the same for entries that come one after another and are not kept, as those of a file of any length.
 #![tactic(auto)]
 
 pub mod check;
+pub mod checker;
 mod entry;
 mod kept;
+mod left;
+mod steps;

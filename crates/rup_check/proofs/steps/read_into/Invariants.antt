@@ -1,5 +1,5 @@
 use Rattle.std.proofs.Common.{◌≡◌, ◌++◌, length}
-use Rattle.rup_check.proofs.kept.read_into.Given as goal
+use Rattle.rup_check.proofs.steps.read_into.Given as goal
 
 abbrev pub invariant-loop-code : goal.invariant-loop-code
 invariant-loop-code l = l.lits.items ++ l.left ≡ l.clause

@@ -1,6 +1,6 @@
 use Rattle.rup_check.specs.Kept.{kept_named}
 use Rattle.rup_check.proofs.SameMembers.{falsified_leads}
-use Rattle.rup_check.proofs.entry.follows.Goals as goal
+use Rattle.rup_check.proofs.entry.leads_from.Goals as goal
 
 pub returns-clause-answer : goal.returns-clause-answer
 returns-clause-answer c =
