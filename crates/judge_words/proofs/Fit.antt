@@ -1,5 +1,5 @@
 -- Each command can be parsed, and gives its horizon.
-use Rattle.std.proofs.Common.{◌≡◌, ◌∙◌, ℕ, Bool, true, false, true≢false, List, [], ◌∷◌, map, Option, Some, None, is_some, slice_get, option_and_then, refl, sym, ap, subst, codes, if◌then◌else◌, String, Global, string_bytes}
+use Rattle.std.proofs.Common.{◌≡◌, ◌∙◌, Bool, true, false, true≢false, List, [], ◌∷◌, map, Option, Some, None, is_some, slice_get, option_and_then, refl, sym, ap, subst, codes, if◌then◌else◌, String, Global, string_bytes}
 use Rattle.std.specs.Prelude.{unwrap_or}
 use Rattle.clap.specs.Walk.{Row, Text}
 use Rattle.clap.specs.Simple.{App, matches_of}

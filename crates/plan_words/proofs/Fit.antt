@@ -1,16 +1,10 @@
 -- Each command can be parsed, and gives its numbers.
-use Rattle.std.proofs.Common.{◌≡◌, ◌∙◌, ℕ, Bool, true, false, true≢false, List, [], ◌∷◌, map, Option, Some, None, is_some, slice_get, option_and_then, option_map, pos, refl, sym, ap, subst, codes, if◌then◌else◌, String, Global, string_bytes}
-use Rattle.std.specs.List.{list_any}
-use Rattle.std.proofs.lemmas.Option.{slice_get-map}
+use Rattle.std.proofs.Common.{◌≡◌, ◌∙◌, ℕ, Bool, true, false, true≢false, List, [], ◌∷◌, map, Option, Some, None, is_some, slice_get, option_and_then, refl, sym, ap, subst, codes, if◌then◌else◌, String, Global, string_bytes}
 use Rattle.std.specs.Prelude.{unwrap_or}
-use Rattle.clap.specs.Values.{same_text}
-use Rattle.clap.specs.ValueTests.{accepts}
 use Rattle.clap.specs.Walk.{Row, Rule, Text, arg_by_id}
 use Rattle.clap.specs.Simple.{App, matches_of}
 use Rattle.clap.specs.Takes.{takes}
 use Rattle.clap.specs.declared.builder.value_parser.ValueParser.{ValueParser}
-use Rattle.clap.specs.declared.builder.value_parser.ValueParser.TheVariants as reader
-use Rattle.clap.proofs.WalkLemmas.{list_any-map}
 use Rattle.plan_words.specs.declared.command.Name.{Name}
 use Rattle.plan_words.specs.declared.command.Name.TheVariants.{Plan, Check, Ground, Order, Gen, Prove, Verify, Batch}
 use Rattle.plan_words.specs.declared.command.Readers.{Readers}
@@ -18,7 +12,7 @@ use Rattle.clap_words.specs.Same.{IsSame}
 use Rattle.clap_words.specs.Arguments.{number}
 use Rattle.plan_words.specs.Command.{AreReaders, command_of, lists, named, race_options, workers_option}
 use Rattle.clap_words.specs.Fit.{IsFit}
-use Rattle.clap_words.specs.Passed.{HasNumber, Passed}
+use Rattle.clap_words.specs.Passed.{Passed}
 use Rattle.plan_words.specs.Ranges.{Has, HasNumbers, HasSettings}
 use Rattle.plan_words.specs.Requested.{command_named, requested, requested_of}
 use Rattle.plan_words.specs.Seen.{Seen, counted, seen_in}

@@ -1,14 +1,10 @@
 -- Any readers of the lists make the same commands, but for where the lists lie.
-use Rattle.std.proofs.Common.{◌≡◌, ◌∙◌, List, [], ◌∷◌, map, refl, sym, ap}
-use Rattle.std.specs.Borrow.{Bor}
-use Rattle.clap.specs.Walk.{Text, texts}
-use Rattle.clap.specs.declared.builder.value_parser.ValueParser.{ValueParser}
-use Rattle.clap.specs.declared.builder.value_parser.ValueParser.TheVariants as reader
+use Rattle.std.proofs.Common.{refl}
 use Rattle.plan_words.specs.declared.command.Name.{Name}
 use Rattle.plan_words.specs.declared.command.Name.TheVariants.{Plan, Check, Ground, Order, Gen, Prove, Verify, Batch}
 use Rattle.plan_words.specs.declared.request.Stepping.TheVariants.{Exists, All}
 use Rattle.plan_words.specs.declared.command.Readers.{Readers}
-use Rattle.clap_words.specs.Same.{IsSame, reader_anywhere, somewhere}
+use Rattle.clap_words.specs.Same.{IsSame}
 use Rattle.clap_words.proofs.ListReaders.{norm_lists}
 use Rattle.plan_words.specs.Command.{AreReaders, algorithm_words, command_of, kind_words, lists, show_words, turn_words}
 

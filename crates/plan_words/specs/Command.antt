@@ -1,5 +1,5 @@
 -- The commands as `clap` reads them: the arguments of each, in their order.
-use Rattle.std.specs.Prelude.{map, ◌≡◌, ℕ, Option, Some, None, List, [], ◌∷◌, ◌++◌, codes, pos, true, if◌then◌else◌}
+use Rattle.std.specs.Prelude.{Option, Some, None, List, [], ◌∷◌, ◌++◌, codes, pos, if◌then◌else◌}
 use Rattle.std.specs.Str.{bytes_eq}
 use Rattle.clap.specs.Walk.{Text, Rule}
 use Rattle.clap.specs.Simple.{App, new_app}
