@@ -12,8 +12,8 @@ use Rattle.pl_io.specs.declared.outside.TakeError.TheVariants as takes
 use Rattle.step_laws.specs.Form.{OrderedTask, AreSets}
 use Rattle.step_encoding.specs.Numbers.{literals_of}
 use Rattle.ordered_tasks.specs.Known.{IsOrdered, form_of, formula_at}
-use Rattle.lrat_judge.specs.declared.judge.Verdict.{Verdict}
-use Rattle.lrat_judge.specs.declared.judge.Verdict.TheVariants as verdicts
+use Rattle.lrat_judge.specs.declared.verdict.Verdict.{Verdict}
+use Rattle.lrat_judge.specs.declared.verdict.Verdict.TheVariants as verdicts
 use Rattle.plan_words.specs.declared.request.Stepping.{Stepping}
 use Rattle.plan_words.specs.declared.request.Stepping.TheVariants.{Exists, All}
 use Rattle.plan_endings.specs.declared.ending.Ending.{Ending}

@@ -9,9 +9,9 @@ use crate::verdict::verdict_on;
 use judge_endings::Ended;
 use lrat_judge::Verdict;
 use pl_io::Tape;
-use plan_tasks::ready::read_ready;
 use plan_endings::Ending;
 use plan_files::stop::Stop;
+use plan_tasks::ready::read_ready;
 use plan_words::Stepping;
 use std::alloc::Global;
 use std::thread::Threads;
@@ -49,7 +49,7 @@ pub fn answer_judge<H: Threads + Sync, T: Tape>(
     requires domain_fits { length domain.now ≤ most_bytes }
     requires problem_fits { length problem.now ≤ most_bytes }
     requires horizon { horizon ≤ 255 }
-    ensures { EndsWith (OnceReady domain.now problem.now (AnswersJudge steps horizon (T.faults tape.old) (T.faults tape.new))) result }
+    ensures ended { EndsWith (OnceReady domain.now problem.now (AnswersJudge steps horizon (T.faults tape.old) (T.faults tape.new))) result }
     ensures later { T.faults tape.old ≤ T.faults tape.new }
 {
     let ready = read_ready(alloc, domain, problem)?;

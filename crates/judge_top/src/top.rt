@@ -16,8 +16,8 @@ use crate::decide::decide;
 use crate::{Ended, Status};
 use judge_endings::written;
 use pl_io::{Shelf, Sink, Tape};
-use plan_tasks::laws::laws;
 use plan_files::stop::Stop;
+use plan_tasks::laws::laws;
 use std::alloc::Global;
 use std::thread::Threads;
 

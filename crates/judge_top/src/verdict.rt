@@ -62,7 +62,7 @@ pub fn verdict_on<T: Tape>(alloc: Global, formula: &Formula, tape: &mut T) -> Re
     let mut piece = [0u8; PIECE];
     loop {
         let Some(count) = next(tape, &mut piece)? else {
-            return Ok(judge.finish()?);
+            return Ok(judge.finish());
         };
         match judge.take(&piece[..count])? {
             Verdict::More => {}
