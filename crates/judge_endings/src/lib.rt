@@ -6,7 +6,6 @@
 #![tactic(auto)]
 
 mod ended;
-mod written;
+pub mod written;
 
 pub use ended::Ended;
-pub use written::written;

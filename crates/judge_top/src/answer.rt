@@ -7,7 +7,7 @@ use crate::formula::formula_by;
 use crate::told::{told, word_of};
 use crate::verdict::verdict_on;
 use judge_endings::Ended;
-use lrat_judge::Verdict;
+use lrat_judge::verdict::Verdict;
 use pl_io::Tape;
 use plan_endings::Ending;
 use plan_files::stop::Stop;

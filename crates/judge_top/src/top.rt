@@ -14,7 +14,7 @@ ghost use Rattle.judge_top.specs.Headline.{IsProvedNone, TellsFormula};
 
 use crate::decide::decide;
 use crate::{Ended, Status};
-use judge_endings::written;
+use judge_endings::written::written;
 use pl_io::{Shelf, Sink, Tape};
 use plan_files::stop::Stop;
 use plan_tasks::laws::laws;

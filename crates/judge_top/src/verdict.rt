@@ -6,7 +6,8 @@ ghost use Rattle.plan_files.specs.Ends.{StopsBy};
 ghost use Rattle.judge_top.specs.Answers.{IsUnread, stop_of};
 
 use clause_base::formula::Formula;
-use lrat_judge::{Judge, Verdict};
+use lrat_judge::judge::Judge;
+use lrat_judge::verdict::Verdict;
 use pl_io::{TakeError, Tape};
 use plan_endings::{Ending, File};
 use plan_files::stop::Stop;
