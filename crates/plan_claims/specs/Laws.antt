@@ -1,7 +1,7 @@
 -- What the crates below promise of plans and reports, gathered.
 use Rattle.report_lines.specs.Laws.{FrontsSayNoMore, ReportsSayEntries}
 use Rattle.gt_core.specs.Laws.{PublishedIsUnique, NeverItself}
-use Rattle.two_invariants.specs.Laws.{OneListOfInvariants}
+use Rattle.two_invariants.specs.Laws.{InvariantsHold, OneListOfInvariants}
 use Rattle.grounding.specs.Laws.{OneResult, GroundedIsTask}
 use Rattle.plan_words.specs.Seen.{NumbersAreSettings}
 use Rattle.step_plans.specs.Laws.{StepPlansRun, ShortPlansAreStepPlans, OtherPlansAreLonger, SetsAreLists, ListedHaveActionsOnce, ListedAreInOrder, SetsAtPlacesAreListed}
@@ -12,6 +12,7 @@ pub record Laws : Type 0 where
   pub settings : NumbersAreSettings
   pub fronts : FrontsSayNoMore
   pub entries : ReportsSayEntries
+  pub hold : InvariantsHold
   pub invariants : OneListOfInvariants
   pub unique : PublishedIsUnique
   pub itself : NeverItself

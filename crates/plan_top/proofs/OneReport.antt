@@ -233,16 +233,20 @@ cause_of request took old new files end of count has (decided taken are answer h
     let same = taken_are (file_at request) 0 (files_of request) took taken files are of count in
     inr (subst (AreShort (file_at request) 0) same (taken_short (file_at request) 0 (files_of request) took taken are), subst (λ (fs : List (List ℕ)). Decides request fs end) same h)
 
-one_cause : (r q : Seen) (files : List (List ℕ)) (x y : Ending) → third_of q ≡ third_of r → (Decides r files x → Decides q files y → x ≡ y) → IsCause r files x → IsCause q files y → x ≡ y
-one_cause r q files x y third one p q_is = step p (subst (λ (t : File). Moved t) third q_is)
-  where
-    abbrev Moved : File → Type 0
-    Moved t = LongFrom (λ place. if place == 0 then Domain else if place == 1 then Problem else t) 0 files y ⊎ (AreShort (λ place. if place == 0 then Domain else if place == 1 then Problem else t) 0 files × Decides q files y)
+-- the same by what the files after the first two are
+abbrev file_by : File → ℕ → File
+file_by third place = if place == 0 then Domain else if place == 1 then Problem else third
 
-    step : IsCause r files x → Moved (third_of r) → x ≡ y
-    step (inl a) (inl b) = one_long (file_at r) 0 files x y a b
-    step (inl a) (inr b) = absurd (not_long (file_at r) 0 files x a b.0)
-    step (inr a) (inl b) = absurd (not_long (file_at r) 0 files y b a.0)
+abbrev IsCauseBy : File → Seen → List (List ℕ) → Ending → Type 0
+IsCauseBy third request files end = LongFrom (file_by third) 0 files end ⊎ (AreShort (file_by third) 0 files × Decides request files end)
+
+one_cause : (r q : Seen) (files : List (List ℕ)) (x y : Ending) → third_of q ≡ third_of r → (Decides r files x → Decides q files y → x ≡ y) → IsCause r files x → IsCause q files y → x ≡ y
+one_cause r q files x y third one mine other = step mine (subst (λ (t : File). IsCauseBy t q files y) third other)
+  where
+    step : IsCauseBy (third_of r) r files x → IsCauseBy (third_of r) q files y → x ≡ y
+    step (inl a) (inl b) = one_long (file_by (third_of r)) 0 files x y a b
+    step (inl a) (inr b) = absurd (not_long (file_by (third_of r)) 0 files x a b.0)
+    step (inr a) (inl b) = absurd (not_long (file_by (third_of r)) 0 files y b a.0)
     step (inr a) (inr b) = one a.1 b.1
 
 -- ---- requests of one task
