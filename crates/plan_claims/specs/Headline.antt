@@ -1,5 +1,5 @@
 -- What a report and a checked plan promise of the files.
-use Rattle.std.specs.List.{AllByRecursion}
+use Rattle.std.specs.List.{AllByRecursion, AllZip}
 use Rattle.std.specs.Prelude.{◌≡◌, ◌≤◌, ℕ, ◌+◌, List, [], ◌∷◌, ◌++◌, map, length, codes, Bool, IsTrue, Option, Some, Ok, Contains}
 use Rattle.pl_io.specs.Outside.{Heard, whole}
 use Rattle.report_lines.specs.Lines.{lines_of}
@@ -14,6 +14,8 @@ use Rattle.pd_model.specs.Plan.{IsPlan}
 use Rattle.pd_model.specs.declared.calls.Call.{Call}
 use Rattle.pd_model.specs.declared.parts.Parts.{Parts}
 use Rattle.pd_plan.specs.PlanFile.{plan_file}
+use Rattle.gt_core.specs.Literal.{is_in}
+use Rattle.gt_core.specs.AllStep.{HasMembersOnce}
 use Rattle.gt_core.specs.Published.{order_of}
 use Rattle.grounding.specs.Grounded.{Grounded, IsGrounded}
 use Rattle.grounding.specs.Laws.{AreNumbers}
@@ -82,6 +84,20 @@ HasStepPlan how text task calls g clauses components =
 -- the text is a plan file whose calls are a plan, and its steps are a step plan
 abbrev pub PlanRuns : Stepping → List ℕ → Parts → Type 0
 PlanRuns how text task = (calls : List Call) × (plan_file task text ≡ Ok calls) × IsPlan task calls × OfGrounded task (HasStepPlan how text task calls)
+
+-- each list has the members of the set at its place, in some order
+abbrev pub AreOrders : List (List ℕ) → List (List ℕ) → Type 0
+AreOrders steps lists = AllZip (λ set list. HasMembersOnce (is_in set) list) steps lists
+
+-- The text has the calls of these steps, and in every order within their steps the calls are a plan.
+abbrev pub RunInEveryOrder : List ℕ → Parts → Grounded → Type 0
+RunInEveryOrder text task g =
+    (steps : List (List ℕ)) × TellsSteps text (calls_by_step task g steps)
+    × ((lists : List (List ℕ)) → AreOrders steps lists → (calls : List Call) × AreNumbers g calls (actions_in lists) × IsPlan task calls)
+
+-- the same of a task
+abbrev pub EveryOrderRuns : List ℕ → Parts → Type 0
+EveryOrderRuns text task = OfGrounded task (λ g clauses components. RunInEveryOrder text task g)
 
 -- each plan in these steps has at least so many
 abbrev pub HasAtLeast : Stepping → ℕ → Parts → Type 0

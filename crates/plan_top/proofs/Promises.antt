@@ -50,13 +50,14 @@ use Rattle.certificates.specs.declared.prove.Proved.{Proved}
 use Rattle.certificates.specs.declared.prove.Proved.TheVariants as proved
 use Rattle.certificates.specs.declared.verify.Judged.{Judged}
 use Rattle.certificates.specs.declared.verify.Judged.TheVariants as judged
-use Rattle.plan_words.specs.declared.request.Stepping.TheVariants.{Exists}
+use Rattle.plan_words.specs.declared.request.Stepping.TheVariants.{Exists, All}
 use Rattle.plan_top.specs.Complete.{GoesWell, IsGood}
 use Rattle.plan_top.specs.OneReport.{AskForOne, AskForOnePart}
 use Rattle.plan_endings.specs.Ending.{status_of, status_of_race, text_of, greatest, parts_text, batch_of, IsSmall}
-use Rattle.plan_claims.specs.Headline.{Printed, OfFiles, OfThreeFiles, OfPlans, PlanRuns, HasAtLeast, HasPlanOf, TellsExhausted, NoStepPlan, NoPlan, LineIsSo, SpendsAll, PartIsSo, Certifies, CertifiesNothing, ProvesNone, TellsGround, TellsOrder, AreCallsOfPlan, AreCallsOfNoPlan}
+use Rattle.plan_claims.specs.Headline.{Printed, OfFiles, OfThreeFiles, OfPlans, PlanRuns, EveryOrderRuns, HasAtLeast, HasPlanOf, TellsExhausted, NoStepPlan, NoPlan, LineIsSo, SpendsAll, PartIsSo, Certifies, CertifiesNothing, ProvesNone, TellsGround, TellsOrder, AreCallsOfPlan, AreCallsOfNoPlan}
 use Rattle.plan_claims.specs.Laws.{Laws}
 use Rattle.plan_claims.proofs.Claims as claims
+use Rattle.plan_claims.proofs.EveryOrder.{every_order}
 use Rattle.plan_top.proofs.Told.{task_refusal, asked_comes, asked_parts, not_asked_comes}
 use Rattle.plan_top.proofs.Reports.{is_stop, stop_status, stop_says_nothing, printed_is, printed_front, nothing_said}
 use Rattle.plan_claims.proofs.Verdicts.{reaches_is_plan, plan_reaches}
@@ -123,6 +124,16 @@ module _ (laws : Laws) (how : Stepping) (settings : Settings) (domain problem : 
       step : (race : RaceEnd) → ComesTo (places_by how) (is_plan_by how) r.g.task settings race → IsSmallReport settings.budget (end_view race) → status_of_race (outcome_of (end_view race)) ≡ 0
           → PlanRuns how (report_of r.task r.g settings.budget (end_view race)) r.task
       step (races.Plan horizon steps lines) comes small zero = claims.plan_runs laws how settings r.task r.g r.ready horizon steps lines comes small
+      step (races.Exhausted horizon lines) comes small zero = absurd (omega arith)
+      step (races.Unfinished lines) comes small zero = absurd (omega arith)
+
+  -- of a plan in all-steps, the calls run in every order
+  orders_of : how ≡ All → status_of end ≡ 0 → EveryOrderRuns (text_of end) r.task
+  orders_of all zero = subst (λ (e : Ending). EveryOrderRuns (text_of e) r.task) (sym r.told) (step r.race (subst (λ (h : Stepping). ComesTo (places_by h) (is_plan_by h) r.g.task settings r.race) all r.comes) r.small (sym (ap status_of r.told) ∙ zero))
+    where
+      step : (race : RaceEnd) → ComesTo (places_by All) (is_plan_by All) r.g.task settings race → IsSmallReport settings.budget (end_view race) → status_of_race (outcome_of (end_view race)) ≡ 0
+          → EveryOrderRuns (report_of r.task r.g settings.budget (end_view race)) r.task
+      step (races.Plan horizon steps lines) comes small zero = every_order laws settings r.task r.g r.ready horizon steps lines comes small
       step (races.Exhausted horizon lines) comes small zero = absurd (omega arith)
       step (races.Unfinished lines) comes small zero = absurd (omega arith)
 
@@ -500,6 +511,13 @@ module _ (was now took : List Heard) (handed : now ≡ was ++ took) (old new : L
       let is : text ≡ text_of d.0 = printed_is before after text (text_of d.0) printed d.3 in
       of_race d.0 d.2 how domain problem n (PlanRuns how text) asked (on_low d.0 0 d.1 (omega arith))
       (λ settings same first second r. subst (λ (xs : List ℕ). PlanRuns how xs r.task) (sym is) (plan_of laws how settings first second d.0 r d.1))
+
+  pub every_order_runs : Laws → IsDue → OfPlans words was now before after (λ how text n of_files. status ≡ 0 → how ≡ All → of_files (EveryOrderRuns text))
+  every_order_runs laws due how text domain problem n printed asked zero all =
+      let d = due_at 0 due zero (omega arith) in
+      let is : text ≡ text_of d.0 = printed_is before after text (text_of d.0) printed d.3 in
+      of_race d.0 d.2 how domain problem n (EveryOrderRuns text) asked (on_low d.0 0 d.1 (omega arith))
+      (λ settings same first second r. subst (λ (xs : List ℕ). EveryOrderRuns xs r.task) (sym is) (orders_of laws how settings first second d.0 r all d.1))
 
   pub exhausted : Laws → IsDue → OfPlans words was now before after (λ how text n of_files. status ≡ 1 → of_files (λ task. TellsExhausted text n))
   exhausted laws due how text domain problem n printed asked one =

@@ -5,13 +5,14 @@ ghost use Rattle.report_lines.specs.Lines.{lines_of};
 ghost use Rattle.report_lines.specs.Horizons.{Says, is_word};
 ghost use Rattle.plan_report.specs.Report.{plan_line};
 ghost use Rattle.plan_words.specs.Seen.{Numbers, checks, grounds, orders, proves, verifies, batches};
+ghost use Rattle.plan_words.specs.declared.request.Stepping.TheVariants.{All};
 ghost use Rattle.plan_words.specs.declared.request.Turns.{Turns};
 ghost use Rattle.plan_words.specs.Requested.{requested, command_named};
 ghost use Rattle.plan_files.specs.Files.{NotesAmong};
 ghost use Rattle.plan_top.specs.Causes.{Comes, IsBatchOf, ArePartsSo, HasRead, AskForBatch, FaultOf, names_in};
 ghost use Rattle.plan_top.specs.Complete.{GoesWell, IsGood};
 ghost use Rattle.plan_endings.specs.Ending.{status_of, text_of, greatest, parts_text, IsSmall};
-ghost use Rattle.plan_claims.specs.Headline.{Printed, OfFiles, OfThreeFiles, OfPlans, PlanRuns, HasAtLeast, HasPlanOf, TellsExhausted, NoStepPlan, NoPlan, LineIsSo, SpendsAll, Certifies, CertifiesNothing, ProvesNone, TellsGround, TellsOrder, AreCallsOfPlan, AreCallsOfNoPlan};
+ghost use Rattle.plan_claims.specs.Headline.{Printed, OfFiles, OfThreeFiles, OfPlans, PlanRuns, EveryOrderRuns, HasAtLeast, HasPlanOf, TellsExhausted, NoStepPlan, NoPlan, LineIsSo, SpendsAll, Certifies, CertifiesNothing, ProvesNone, TellsGround, TellsOrder, AreCallsOfPlan, AreCallsOfNoPlan};
 ghost use Rattle.plan_top.specs.OneReport.{AskForOne, AskForOnePart};
 ghost use Rattle.plan_files.specs.Ends.{ending_in};
 ghost use Rattle.plan_endings.specs.declared.ending.Ending.{Ending};
@@ -46,6 +47,10 @@ pub fn run<H: Threads + Wait + Sync, S: Shelf, K: Sink, G: Gate, D: Driver>(
     // A printed plan leads from the initial state to the goal, and its steps are a step plan.
     ensures plan_runs { OfPlans (map string_bytes words.now) (S.heard shelf.old) (S.heard shelf.new) (K.taken sink.old) (K.taken sink.new) (λ how text numbers of_files.
         result.0 ≡ 0 → of_files (PlanRuns how text)) }
+
+    // The calls of a plan in all-steps are a plan in every order within their steps.
+    ensures every_order_runs { OfPlans (map string_bytes words.now) (S.heard shelf.old) (S.heard shelf.new) (K.taken sink.old) (K.taken sink.new) (λ how text numbers of_files.
+        result.0 ≡ 0 → how ≡ All → of_files (EveryOrderRuns text)) }
 
     // A horizon that is printed as `plan` has a plan in so many steps.
     ensures found_steps { OfPlans (map string_bytes words.now) (S.heard shelf.old) (S.heard shelf.new) (K.taken sink.old) (K.taken sink.new) (λ how text numbers of_files.

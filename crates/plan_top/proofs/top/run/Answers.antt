@@ -1,5 +1,5 @@
 use Rattle.std.proofs.Common.{ap, refl, arith}
-use Rattle.plan_top.proofs.Promises.{plan_runs, refuted_steps, refuted_plans, least, unfinished, lines, ground_told, order_told, reached, read_fault, usage, not_taken, no_command, same_report, complete, certified, verified, accepted, rejected, batch, parts_are_so, as_alone, not_reached, exhausted, found_steps}
+use Rattle.plan_top.proofs.Promises.{plan_runs, refuted_steps, refuted_plans, least, unfinished, lines, ground_told, order_told, reached, read_fault, usage, not_taken, no_command, same_report, complete, certified, verified, accepted, rejected, batch, parts_are_so, as_alone, not_reached, exhausted, found_steps, every_order_runs}
 use Rattle.plan_top.proofs.top.run.Goals as goal
 
 pub returns-clause-plan_runs : goal.returns-clause-plan_runs
@@ -79,3 +79,6 @@ returns-clause-exhausted g c = let h = c.answered.ensures.agrees in exhausted _ 
 
 pub returns-clause-found_steps : goal.returns-clause-found_steps
 returns-clause-found_steps g c = let h = c.answered.ensures.agrees in found_steps _ _ h.0 h.1 _ _ _ _ _ _ c.laws.ensures (c.answered.ensures.front h.0 h.1) (λ eight. ap g.K.Sink.taken (c.answered.ensures.nothing eight))
+
+pub returns-clause-every_order_runs : goal.returns-clause-every_order_runs
+returns-clause-every_order_runs g c = let h = c.answered.ensures.agrees in every_order_runs _ _ h.0 h.1 _ _ _ _ _ _ c.laws.ensures (c.answered.ensures.due h.0 h.1)
