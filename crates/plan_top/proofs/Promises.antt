@@ -52,7 +52,7 @@ use Rattle.certificates.specs.declared.verify.Judged.{Judged}
 use Rattle.certificates.specs.declared.verify.Judged.TheVariants as judged
 use Rattle.plan_words.specs.declared.request.Stepping.TheVariants.{Exists, All}
 use Rattle.plan_top.specs.Complete.{GoesWell, IsGood}
-use Rattle.plan_top.specs.OneReport.{AskForOne, AskForOnePart}
+use Rattle.plan_top.specs.OneReport.{AskForOne, AskForOnePart, AskToVerify}
 use Rattle.plan_endings.specs.Ending.{status_of, status_of_race, text_of, greatest, parts_text, batch_of, IsSmall}
 use Rattle.plan_claims.specs.Headline.{Printed, OfFiles, OfThreeFiles, OfPlans, PlanRuns, EveryOrderRuns, HasAtLeast, HasPlanOf, TellsExhausted, NoStepPlan, NoPlan, LineIsSo, SpendsAll, PartIsSo, Certifies, CertifiesNothing, ProvesNone, TellsGround, TellsOrder, AreCallsOfPlan, AreCallsOfNoPlan}
 use Rattle.plan_claims.specs.Laws.{Laws}
@@ -63,6 +63,7 @@ use Rattle.plan_top.proofs.Reports.{is_stop, stop_status, stop_says_nothing, pri
 use Rattle.plan_claims.proofs.Verdicts.{reaches_is_plan, plan_reaches}
 use Rattle.plan_top.proofs.Complete.{complete as goes_well}
 use Rattle.plan_top.proofs.OneReport.{one_ending, part_at, has_read}
+use Rattle.plan_top.proofs.Passing.{passes as certificate_passes}
 
 -- ---- endings that stop a run
 
@@ -390,6 +391,17 @@ proves_so laws task g horizon budget end zero ready (run p so e) = step p so e
     step (proved.Plan conflicts) so told = absurd (let one = sym zero ∙ ap status_of told in omega (arith, one))
     step (proved.Open conflicts) so told = absurd (let two = sym zero ∙ ap status_of told in omega (arith, two))
 
+-- where a plan is told there is one of so many steps
+proves_plan : Laws → (task : Parts) (g : Grounded) (horizon budget : ℕ) (end : Ending) → status_of end ≡ 1 → IsReady task g → AnswersProve horizon budget task g end → HasPlanOf Exists horizon task
+proves_plan laws task g horizon budget end one ready (not_run count many e) = absurd (let four = sym one ∙ ap status_of e in omega (arith, four))
+proves_plan laws task g horizon budget end one ready (run p so e) = step p so (sym (ap status_of e) ∙ one)
+  where
+    step : (p : Proved) → Proves g.task horizon budget p → status_of (ending_of_run horizon p) ≡ 1 → HasPlanOf Exists horizon task
+    step (proved.Certificate text) so one = absurd (omega (arith, one))
+    step proved.TooLong so one = absurd (omega (arith, one))
+    step (proved.Plan conflicts) so one = let m = so.found conflicts refl in claims.has_plan laws task g ready so.clauses so.components so.ordered Exists horizon m.0 m.1
+    step (proved.Open conflicts) so one = absurd (omega (arith, one))
+
 -- what the checker said of a certificate whose ending has a status below 2
 pub record Checks (task : Parts) (bytes : List ℕ) (k : ℕ) : Type 0 where
   pub horizon : ℕ
@@ -570,6 +582,13 @@ module _ (was now took : List Heard) (handed : now ≡ was ++ took) (old new : L
       of_listing text printed due (proves domain problem horizon budget) domain problem (λ xs task. Certifies xs horizon task) refl tt asked zero
       (λ end first second at on h. let r = goes_on first second (AnswersProve horizon budget) end on h in (r.0, r.2, proves_so laws r.0 r.1 horizon budget end at r.3 r.4))
 
+  pub proved_plan : Laws → IsDue → (domain problem : List ℕ) (horizon budget : ℕ) → status ≡ 1 → requested words ≡ Some (proves domain problem horizon budget) → OfFiles was now domain problem (HasPlanOf Exists horizon)
+  proved_plan laws due domain problem horizon budget one asked =
+      let d = due_at 1 due one (omega arith) in
+      let on : is_stop d.0 ≡ true → ⊥ = on_low d.0 1 d.1 (omega arith) in
+      of_two_files d.0 d.2 (proves domain problem horizon budget) domain problem (HasPlanOf Exists horizon) refl tt asked on
+      (λ first second h. let r = goes_on first second (AnswersProve horizon budget) d.0 on h in (r.0, r.2, proves_plan laws r.0 r.1 horizon budget d.0 d.1 r.3 r.4))
+
   -- what a certificate file came to that was answered so
   judged_for : (k : ℕ) → k ≤ 1 → IsDue → (domain problem proof : List ℕ) (claim : List ℕ → Parts → Type 0) → status ≡ k → requested words ≡ Some (verifies domain problem proof)
       → ((first second third : List ℕ) (task : Parts) (end : Ending) → status_of end ≡ k → AreTask first second task → AnswersVerify task third end → claim third task) → OfThreeFiles was now domain problem proof claim
@@ -686,6 +705,12 @@ module _ (was now took : List Heard) (handed : now ≡ was ++ took) (old new : L
       let d = due not_six not_eight in
       let one : d.0 ≡ end = one_ending laws took elsewhere old new was is words others d.0 end ask d.2 comes (has_read d.0 (λ five. not_five (d.1 ∙ five))) reads in
       (d.1 ∙ ap status_of one, d.3 ∙ ap (λ (e : Ending). appended before (text_of e)) one)
+
+  pub passes : Laws → IsDue → (elsewhere : List Heard) (others was is : List (List ℕ)) (text : List ℕ) → AskToVerify took elsewhere words others text → Comes elsewhere was is others (Listing text)
+      → (status ≡ 5 → ⊥) → (status ≡ 6 → ⊥) → (status ≡ 8 → ⊥) → status ≡ 0
+  passes laws due elsewhere others was is text ask comes not_five not_six not_eight =
+      let d = due not_six not_eight in
+      d.1 ∙ certificate_passes laws took elsewhere old new was is words others text d.0 ask d.2 comes (has_read d.0 (λ five. not_five (d.1 ∙ five)))
 
   -- ---- batches
 

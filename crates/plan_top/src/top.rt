@@ -5,7 +5,7 @@ ghost use Rattle.report_lines.specs.Lines.{lines_of};
 ghost use Rattle.report_lines.specs.Horizons.{Says, is_word};
 ghost use Rattle.plan_report.specs.Report.{plan_line};
 ghost use Rattle.plan_words.specs.Seen.{Numbers, checks, grounds, orders, proves, verifies, batches};
-ghost use Rattle.plan_words.specs.declared.request.Stepping.TheVariants.{All};
+ghost use Rattle.plan_words.specs.declared.request.Stepping.TheVariants.{Exists, All};
 ghost use Rattle.plan_words.specs.declared.request.Turns.{Turns};
 ghost use Rattle.plan_words.specs.Requested.{requested, command_named};
 ghost use Rattle.plan_files.specs.Files.{NotesAmong};
@@ -13,9 +13,10 @@ ghost use Rattle.plan_top.specs.Causes.{Comes, IsBatchOf, ArePartsSo, HasRead, A
 ghost use Rattle.plan_top.specs.Complete.{GoesWell, IsGood};
 ghost use Rattle.plan_endings.specs.Ending.{status_of, text_of, greatest, parts_text, IsSmall};
 ghost use Rattle.plan_claims.specs.Headline.{Printed, OfFiles, OfThreeFiles, OfPlans, PlanRuns, EveryOrderRuns, HasAtLeast, HasPlanOf, TellsExhausted, NoStepPlan, NoPlan, LineIsSo, SpendsAll, Certifies, CertifiesNothing, ProvesNone, TellsGround, TellsOrder, AreCallsOfPlan, AreCallsOfNoPlan};
-ghost use Rattle.plan_top.specs.OneReport.{AskForOne, AskForOnePart};
+ghost use Rattle.plan_top.specs.OneReport.{AskForOne, AskForOnePart, AskToVerify};
 ghost use Rattle.plan_files.specs.Ends.{ending_in};
 ghost use Rattle.plan_endings.specs.declared.ending.Ending.{Ending};
+ghost use Rattle.plan_endings.specs.declared.ending.Ending.TheVariants.{Listing};
 
 use crate::decide::decide;
 use crate::{Ending, Status};
@@ -97,6 +98,10 @@ pub fn run<H: Threads + Wait + Sync, S: Shelf, K: Sink, G: Gate, D: Driver>(
     ensures certified { (text domain problem : List ℕ) (horizon budget : ℕ) → result.0 ≡ 0 → Printed (K.taken sink.old) (K.taken sink.new) text
         → requested (map string_bytes words.now) ≡ Some (proves domain problem horizon budget) → OfFiles (S.heard shelf.old) (S.heard shelf.new) domain problem (Certifies text horizon) }
 
+    // Where a plan is told in its place, the horizon has a step plan of so many steps.
+    ensures proved_plan { (domain problem : List ℕ) (horizon budget : ℕ) → result.0 ≡ 1 → requested (map string_bytes words.now) ≡ Some (proves domain problem horizon budget)
+        → OfFiles (S.heard shelf.old) (S.heard shelf.new) domain problem (HasPlanOf Exists horizon) }
+
     // Where a certificate is accepted, the horizon that it names has no step plan of so many steps, nor of fewer, and no plan of at
     // most so many actions.
     ensures verified { (domain problem proof : List ℕ) → result.0 ≡ 0 → requested (map string_bytes words.now) ≡ Some (verifies domain problem proof)
@@ -145,6 +150,11 @@ pub fn run<H: Threads + Wait + Sync, S: Shelf, K: Sink, G: Gate, D: Driver>(
         → AskForOne took elsewhere (map string_bytes words.now) others → Comes elsewhere before after others end
         → HasRead end → result.0 ≢ 5 → result.0 ≢ 6 → result.0 ≢ 8
         → (result.0 ≡ status_of end) × (K.taken sink.new ≡ appended (K.taken sink.old) (text_of end)) }
+
+    // What `prove` wrote for the same domain and problem is accepted.
+    ensures passes { (took : List Heard) → S.heard shelf.new ≡ S.heard shelf.old ++ took → (elsewhere : List Heard) (others before after : List (List ℕ)) (text : List ℕ)
+        → AskToVerify took elsewhere (map string_bytes words.now) others text → Comes elsewhere before after others (Listing text)
+        → result.0 ≢ 5 → result.0 ≢ 6 → result.0 ≢ 8 → result.0 ≡ 0 }
 
     // Each part of a batch is what `plan` has due on the domain and that problem, by the same numbers; the text is the parts' texts under
     // their lines, the status the greatest.
