@@ -42,12 +42,12 @@ fitting_is input (Some x) k e = step (nat_le (literals_of (input.formula x)) 400
 
 fill_ends : (input : RaceInput) (n : ℕ) (race : RaceState) → EndsListed input race → EndsListed input (fill input n race)
 fill_ends input zero race h = h
-fill_ends input (suc n) race h = step (fitting input (listed input.rates race.next)) refl
+fill_ends input (suc n) race h = step (λ k. fill_ends input n (started input k race)) (fitting input (listed input.rates race.next)) refl
   where
-    step : (q : Option ℕ) → fitting input (listed input.rates race.next) ≡ q → EndsListed input (elim q [ Some k ↦ fill input n (started input k race) | None ↦ race ])
-    step None e = h
-    step (Some k) e =
-        fill_ends input n (started input k race) (inr (record { front = race.live; last = live_at input k 0; is = refl; place = race.next; before = refl; listed_at = fitting_is input (listed input.rates race.next) k e }))
+    step : ((k : ℕ) → EndsListed input (started input k race) → EndsListed input (fill input n (started input k race))) → (q : Option ℕ) → fitting input (listed input.rates race.next) ≡ q → EndsListed input (elim q [ Some k ↦ fill input n (started input k race) | None ↦ race ])
+    step more None e = h
+    step more (Some k) e =
+        more k (inr (record { front = race.live; last = live_at input k 0; is = refl; place = race.next; before = refl; listed_at = fitting_is input (listed input.rates race.next) k e }))
 
 no_pushed : {A : Type 0} (xs : List LiveRun) (x : LiveRun) → xs ++ x ∷ [] ≡ [] → A
 no_pushed [] x e = absurd (let never : x ∷ [] ≡ [] = e in cc)
@@ -56,11 +56,11 @@ no_pushed (y ∷ ys) x e = absurd (let never : y ∷ (ys ++ x ∷ []) ≡ [] = e
 -- where none is live afterwards none was started
 fill_none : (input : RaceInput) (n : ℕ) (race : RaceState) → (fill input n race).live ≡ [] → fill input n race ≡ race
 fill_none input zero race none = refl
-fill_none input (suc n) race none = step (fitting input (listed input.rates race.next)) none
+fill_none input (suc n) race none = step (λ k. fill_none input n (started input k race)) (fitting input (listed input.rates race.next)) none
   where
-    step : (q : Option ℕ) → (elim q as (λ _. RaceState) [ Some k ↦ fill input n (started input k race) | None ↦ race ]).live ≡ [] → elim q as (λ _. RaceState) [ Some k ↦ fill input n (started input k race) | None ↦ race ] ≡ race
-    step None none = refl
-    step (Some k) none = no_pushed race.live (live_at input k 0) (sym (ap (λ (r : RaceState). r.live) (fill_none input n (started input k race) none)) ∙ none)
+    step : ((k : ℕ) → (fill input n (started input k race)).live ≡ [] → fill input n (started input k race) ≡ started input k race) → (q : Option ℕ) → (elim q as (λ _. RaceState) [ Some k ↦ fill input n (started input k race) | None ↦ race ]).live ≡ [] → elim q as (λ _. RaceState) [ Some k ↦ fill input n (started input k race) | None ↦ race ] ≡ race
+    step more None none = refl
+    step more (Some k) none = no_pushed race.live (live_at input k 0) (sym (ap (λ (r : RaceState). r.live) (more k none)) ∙ none)
 
 raised_last : (input : RaceInput) (front : List LiveRun) (last : LiveRun) (gs : List ℕ) → (f : List LiveRun) × (l : LiveRun) × (raised input (front ++ last ∷ []) gs ≡ f ++ l ∷ []) × (l.horizon ≡ last.horizon)
 raised_last input [] last [] = ([], last, refl, refl)
@@ -113,11 +113,11 @@ passed_last [] last none = step (any_refuted (last ∷ [])) refl none
     step : (b : Bool) → any_refuted (last ∷ []) ≡ b → (if b then staying [] else last ∷ []) ≡ [] → Contains (if b then passed_line last ∷ passed [] else []) (passed_line last) × (is_refuted last.state.standing ≡ true)
     step true e none = ((0, omega arith, refl), or_false (is_refuted last.state.standing) e)
     step false e none = absurd (let never : last ∷ [] ≡ [] = none in cc)
-passed_last (r ∷ front) last none = step (any_refuted (r ∷ (front ++ last ∷ []))) none
+passed_last (r ∷ front) last none = step (passed_last front last) (any_refuted (r ∷ (front ++ last ∷ []))) none
   where
-    step : (b : Bool) → (if b then staying (front ++ last ∷ []) else r ∷ (front ++ last ∷ [])) ≡ [] → Contains (if b then passed_line r ∷ passed (front ++ last ∷ []) else []) (passed_line last) × (is_refuted last.state.standing ≡ true)
-    step true none = let rest = passed_last front last none in (Contains-append_right (passed_line r ∷ []) (passed (front ++ last ∷ [])) (passed_line last) rest.0, rest.1)
-    step false none = absurd (let never : r ∷ (front ++ last ∷ []) ≡ [] = none in cc)
+    step : (staying (front ++ last ∷ []) ≡ [] → Contains (passed (front ++ last ∷ [])) (passed_line last) × (is_refuted last.state.standing ≡ true)) → (b : Bool) → (if b then staying (front ++ last ∷ []) else r ∷ (front ++ last ∷ [])) ≡ [] → Contains (if b then passed_line r ∷ passed (front ++ last ∷ []) else []) (passed_line last) × (is_refuted last.state.standing ≡ true)
+    step more true none = let rest = more none in (Contains-append_right (passed_line r ∷ []) (passed (front ++ last ∷ [])) (passed_line last) rest.0, rest.1)
+    step more false none = absurd (let never : r ∷ (front ++ last ∷ []) ≡ [] = none in cc)
 
 word_refuted : (s : Standing) → is_refuted s ≡ true → passed_word s ≡ WordRefuted
 word_refuted Going e = absurd (let never : false ≡ true = e in cc)

@@ -13,7 +13,7 @@ taking-init g c = record {
   told = refl;
   lacks = refl;
   agrees = agrees_same _ _ (g.S.Shelf.heard c.args.shelf.now) (g.S.Shelf.heard c.args.shelf.now) refl;
-  so = ([], sym (append-nil (g.S.Shelf.heard c.args.shelf.now)), none_taken _ _ _ _ _);
+  so = ([], sym (append-nil (g.S.Shelf.heard c.args.shelf.now)), rw c.new-files.ensures.items (none_taken _ _ _ _ _));
 }
 
 pub returns-in_err-file-clause-noted : goal.returns-in_err-file-clause-noted
