@@ -130,7 +130,7 @@ module _ {X : Type 0} (is : File → List ℕ → Heard → X → Type 0) (ends 
     rises_so name = never_falls names old now name noted_so
 
     pub all_taken : slice_get names (length files) ≡ None → AreKept is file 0 names took files
-    all_taken none = rw append-nil at (so.taken [] [] (rw (drop_none names (length files) none) tt))
+    all_taken none = rw (append-nil took, append-nil files) at (so.taken [] [] (rw (drop_none names (length files) none) tt))
 
     -- with the next file
     module _ (next : List (List ℕ)) (name : List ℕ) (at : slice_get names (length files) ≡ Some name) (notes : Notes now next name) where
@@ -146,6 +146,6 @@ module _ {X : Type 0} (is : File → List ℕ → Heard → X → Type 0) (ends 
       pub one_more : (heard : Heard) (x : X) → is (file (length files)) name heard x → SoFar next (took ++ heard ∷ []) (files ++ x ∷ [])
       one_more heard x here = record {
         noted = rw (length_push files x) noted_more;
-        taken = λ more others h. rw append_assoc (so.taken (heard ∷ more) (x ∷ others) (rw (drop_at names (length files) name at) (here, rw (length_push files x) at h)));
-        on = λ new more end h. rw append_assoc (so.on new (heard ∷ more) end (rw (drop_at names (length files) name at) (inr ((x, here), rw (length_push files x) at h))));
+        taken = λ more others h. rw (append_assoc took (heard ∷ []) more, append_assoc files (x ∷ []) others) (so.taken (heard ∷ more) (x ∷ others) (rw (drop_at names (length files) name at) (here, rw (length_push files x) at h)));
+        on = λ new more end h. rw (append_assoc took (heard ∷ []) more) (so.on new (heard ∷ more) end (rw (drop_at names (length files) name at) (inr ((x, here), rw (length_push files x) at h))));
       }

@@ -3,6 +3,7 @@ pub mod Reports
 pub mod Complete
 mod OneTask
 mod OneReport
+mod Passing
 pub mod Lists
 pub mod RaceEnds
 pub mod Turns

@@ -79,7 +79,7 @@ module _ (invariants : OneListOfInvariants) (unique : PublishedIsUnique) (how : 
       let clauses : ds ≡ cs = invariants task ds cs q.known p.known in
       (sym clauses, unique task cs a b p.published (subst (λ (zs : List (ℕ × ℕ)). IsPublished task zs b) clauses q.published))
 
-  one_form : (cs ds : List (ℕ × ℕ)) (a b : List (List ℕ)) → IsOrdered task cs a → IsOrdered task ds b → form_of task cs a ≡ form_of task ds b
+  pub one_form : (cs ds : List (ℕ × ℕ)) (a b : List (List ℕ)) → IsOrdered task cs a → IsOrdered task ds b → form_of task cs a ≡ form_of task ds b
   one_form cs ds a b p q = let same = one_order cs ds a b p q in ap₂ (form_of task) same.0 same.1
 
   module _ (s t : Settings) (rates : s.rates ≡ t.rates) (budget : s.budget ≡ t.budget) where
@@ -141,7 +141,7 @@ one_check task bytes x y (inr (fault, p, e)) (inr (other, q, d)) =
     let same : fault ≡ other = cc in
     e ∙ (ap refusal_of_plan same ∙ sym d)
 
-one_judgement : (f : Cnf) (log : List Entry) (i j : Judged) → IsJudged f log i → IsJudged f log j → i ≡ j
+pub one_judgement : (f : Cnf) (log : List Entry) (i j : Judged) → IsJudged f log i → IsJudged f log j → i ≡ j
 one_judgement f log (judged.Accepted a) (judged.Accepted b) p q = ap judged.Accepted (p.0 ∙ sym q.0)
 one_judgement f log (judged.Accepted a) (judged.Rejected e) p q = absurd (q.here (p.1.derived e q.in_range))
 one_judgement f log (judged.Accepted a) judged.NotEmpty p q = absurd (q.1 p.1.ends_empty)
@@ -168,7 +168,7 @@ module _ (invariants : OneListOfInvariants) (unique : PublishedIsUnique) where
   one_count : (task : Task) (h k l : ℕ) → HasTooMany task h k → HasTooMany task h l → TooLarge h k ≡ TooLarge h l
   one_count task h k l m n = ap (TooLarge h) (one_size task h k m n.clauses n.components n.ordered ∙ sym n.count_is)
 
-  not_small : {A : Type 0} (task : Task) (h k : ℕ) → HasTooMany task h k → (cs : List (ℕ × ℕ)) (a : List (List ℕ)) → IsOrdered task cs a → literals_of (formula_at chain_places (form_of task cs a) h) ≤ 4000000 → A
+  pub not_small : {A : Type 0} (task : Task) (h k : ℕ) → HasTooMany task h k → (cs : List (ℕ × ℕ)) (a : List (List ℕ)) → IsOrdered task cs a → literals_of (formula_at chain_places (form_of task cs a) h) ≤ 4000000 → A
   not_small task h k m cs a is small = let size = one_size task h k m cs a is in let over = m.over in absurd (omega (arith, size, over, small))
 
   one_proof : (h b : ℕ) (task : Parts) (g : Grounded) (x y : Ending) → AnswersProve h b task g x → AnswersProve h b task g y → x ≡ y
@@ -192,7 +192,7 @@ module _ (invariants : OneListOfInvariants) (unique : PublishedIsUnique) where
 -- ---- the files
 
 -- one of the files from a place on has more bytes than it may have, and those before it have not
-abbrev LongFrom : (ℕ → File) → ℕ → List (List ℕ) → Ending → Type 0
+abbrev pub LongFrom : (ℕ → File) → ℕ → List (List ℕ) → Ending → Type 0
 LongFrom file place [] end = ⊥
 LongFrom file place (f ∷ fs) end = ((end ≡ TooLong (file place)) × (most_of (file place) < length f)) ⊎ ((length f ≤ most_of (file place)) × LongFrom file (place + 1) fs end)
 
@@ -203,7 +203,7 @@ one_long file place (f ∷ fs) x y (inl p) (inr q) = absurd (omega (arith, p.1, 
 one_long file place (f ∷ fs) x y (inr p) (inl q) = absurd (omega (arith, p.0, q.1))
 one_long file place (f ∷ fs) x y (inr p) (inr q) = one_long file (place + 1) fs x y p.1 q.1
 
-not_long : (file : ℕ → File) (place : ℕ) (files : List (List ℕ)) (x : Ending) → LongFrom file place files x → AreShort file place files → ⊥
+pub not_long : (file : ℕ → File) (place : ℕ) (files : List (List ℕ)) (x : Ending) → LongFrom file place files x → AreShort file place files → ⊥
 not_long file place [] x p short = p
 not_long file place (f ∷ fs) x (inl p) short = let few = short.0 in omega (arith, p.1, few)
 not_long file place (f ∷ fs) x (inr p) short = not_long file (place + 1) fs x p.1 short.1
@@ -224,25 +224,29 @@ long_of old new file place (n ∷ ns) (e ∷ es) (f ∷ fs) end of count has (in
 )
 
 -- the files stop a run, or decide its ending
-abbrev IsCause : Seen → List (List ℕ) → Ending → Type 0
+abbrev pub IsCause : Seen → List (List ℕ) → Ending → Type 0
 IsCause request files end = LongFrom (file_at request) 0 files end ⊎ (AreShort (file_at request) 0 files × Decides request files end)
 
-cause_of : (request : Seen) (took : List Heard) (old new files : List (List ℕ)) (end : Ending) → AreOf files took → length files ≡ length (files_of request) → HasRead end → ComesFor took old new request end → IsCause request files end
+pub cause_of : (request : Seen) (took : List Heard) (old new files : List (List ℕ)) (end : Ending) → AreOf files took → length files ≡ length (files_of request) → HasRead end → ComesFor took old new request end → IsCause request files end
 cause_of request took old new files end of count has (stopped h) = inl (long_of old new (file_at request) 0 (files_of request) took files end of count has h)
 cause_of request took old new files end of count has (decided taken are answer h) =
     let same = taken_are (file_at request) 0 (files_of request) took taken files are of count in
     inr (subst (AreShort (file_at request) 0) same (taken_short (file_at request) 0 (files_of request) took taken are), subst (λ (fs : List (List ℕ)). Decides request fs end) same h)
 
-one_cause : (r q : Seen) (files : List (List ℕ)) (x y : Ending) → third_of q ≡ third_of r → (Decides r files x → Decides q files y → x ≡ y) → IsCause r files x → IsCause q files y → x ≡ y
-one_cause r q files x y third one p q_is = step p (subst (λ (t : File). Moved t) third q_is)
-  where
-    abbrev Moved : File → Type 0
-    Moved t = LongFrom (λ place. if place == 0 then Domain else if place == 1 then Problem else t) 0 files y ⊎ (AreShort (λ place. if place == 0 then Domain else if place == 1 then Problem else t) 0 files × Decides q files y)
+-- the same by what the files after the first two are
+abbrev file_by : File → ℕ → File
+file_by third place = if place == 0 then Domain else if place == 1 then Problem else third
 
-    step : IsCause r files x → Moved (third_of r) → x ≡ y
-    step (inl a) (inl b) = one_long (file_at r) 0 files x y a b
-    step (inl a) (inr b) = absurd (not_long (file_at r) 0 files x a b.0)
-    step (inr a) (inl b) = absurd (not_long (file_at r) 0 files y b a.0)
+abbrev IsCauseBy : File → Seen → List (List ℕ) → Ending → Type 0
+IsCauseBy third request files end = LongFrom (file_by third) 0 files end ⊎ (AreShort (file_by third) 0 files × Decides request files end)
+
+one_cause : (r q : Seen) (files : List (List ℕ)) (x y : Ending) → third_of q ≡ third_of r → (Decides r files x → Decides q files y → x ≡ y) → IsCause r files x → IsCause q files y → x ≡ y
+one_cause r q files x y third one mine other = step mine (subst (λ (t : File). IsCauseBy t q files y) third other)
+  where
+    step : IsCauseBy (third_of r) r files x → IsCauseBy (third_of r) q files y → x ≡ y
+    step (inl a) (inl b) = one_long (file_by (third_of r)) 0 files x y a b
+    step (inl a) (inr b) = absurd (not_long (file_by (third_of r)) 0 files x a b.0)
+    step (inr a) (inl b) = absurd (not_long (file_by (third_of r)) 0 files y b a.0)
     step (inr a) (inr b) = one a.1 b.1
 
 -- ---- requests of one task

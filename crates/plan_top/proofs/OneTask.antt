@@ -76,7 +76,7 @@ one_tree bytes t u r s = s.only t r.file
 one_reading : (domain problem : List ℕ) (s t u v : Tree) → Reads domain s → Reads problem t → Reads domain u → Reads problem v → reading s t ≡ reading u v
 one_reading domain problem s t u v rs rt ru rv = ap₂ reading (one_tree domain s u rs ru) (one_tree problem t v rt rv)
 
-one_task : (domain problem : List ℕ) (a b : Parts) → AreTask domain problem a → AreTask domain problem b → a ≡ b
+pub one_task : (domain problem : List ℕ) (a b : Parts) → AreTask domain problem a → AreTask domain problem b → a ≡ b
 one_task domain problem a b (s, t, rs, rt, p) (u, v, ru, rv, q) =
     let both : Ok a ≡ Ok b = sym p ∙ (one_reading domain problem s t u v rs rt ru rv ∙ q) in
     cc
@@ -100,7 +100,7 @@ module _ (domain problem : List ℕ) where
   one_refusal x y (no_task s t rs rt p) (problem_tree u r q) = absurd (no_tree_refusal problem Problem t y rt q)
   one_refusal x y (no_task s t rs rt p) (no_task u v ru rv q) = one_trees_refusal s t u v x y (one_reading domain problem s t u v rs rt ru rv) p q
 
-  no_refusal : (x : Ending) (a : Parts) → RefusesTask domain problem x → AreTask domain problem a → ⊥
+  pub no_refusal : (x : Ending) (a : Parts) → RefusesTask domain problem x → AreTask domain problem a → ⊥
   no_refusal x a (domain_tree p) (s, t, rs, rt, e) = no_tree_refusal domain Domain s x rs p
   no_refusal x a (problem_tree u r p) (s, t, rs, rt, e) = no_tree_refusal problem Problem t x rt p
   no_refusal x a (no_task u v ru rv (c, p, r)) (s, t, rs, rt, e) =

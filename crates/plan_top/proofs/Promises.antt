@@ -1,8 +1,8 @@
 -- The promises of the top call, each from what it needs alone: mostly that its ending has a cause and that its text is written.
-use Rattle.std.proofs.Common.{◌≡◌, ◌≤◌, ◌+◌, ℕ, Bool, true, false, List, [], ◌∷◌, Option, Some, None, Ok, refl, sym, ap, subst, ◌∙◌, arith, inl, inr, codes, map}
+use Rattle.std.proofs.Common.{◌≡◌, ◌≤◌, ◌+◌, ℕ, Bool, true, false, List, [], ◌∷◌, Option, Some, None, Ok, refl, sym, ap, subst, ◌∙◌, arith, inl, inr, codes, map, append-nil}
 use Rattle.std.specs.Prelude.{◌++◌, IsTrue, Contains, ◌⊎◌, slice_get}
 use Rattle.std.proofs.lemmas.Bool.Decides.{eqb_tells}
-use Rattle.pl_io.specs.Outside.{Heard, appended, TakesFront}
+use Rattle.pl_io.specs.Outside.{Heard, whole, appended, TakesFront}
 use Rattle.report_lines.specs.Lines.{lines_of}
 use Rattle.report_lines.specs.Horizons.{Says, is_word}
 use Rattle.horizon_rates.specs.declared.settings.Settings.{Settings}
@@ -36,7 +36,7 @@ use Rattle.plan_answers.specs.Stepping.{places_by, is_plan_by}
 use Rattle.plan_answers.specs.Tasks.{AreTask, RefusesTask, IsReady, StopsTask, refused, past, OnceRead, not_read, read, OnceGrounded, not_grounded, grounded}
 use Rattle.plan_answers.specs.Raced.{ComesTo, too_large, ended, outcome_of}
 use Rattle.plan_answers.specs.Answers.{Decides, AnswersPlan, AnswersGround, AnswersOrder, AnswersCheck, AnswersProve, not_run, run, AnswersVerify, unfit, beyond, spelled, not_checked, checked, ending_of_run, ending_of_check, refusal_of_plan, ending_of}
-use Rattle.plan_top.specs.Causes.{is_answer, HasRead, ComesFor, stopped, decided, ArePartsOf, IsBatchOf, Comes, no_request, of_one, unread, in_parts, names_in, FaultOf}
+use Rattle.plan_top.specs.Causes.{is_answer, HasRead, ComesFor, stopped, decided, IsPartOf, ArePartsOf, IsBatchOf, ArePartsSo, Comes, no_request, of_one, unread, in_parts, names_in, FaultOf}
 use Rattle.step_clauses.specs.Variables.{chain_places}
 use Rattle.clause_base.specs.Formula.{Cnf}
 use Rattle.clause_base.specs.Derivation.{IsRefutation}
@@ -50,18 +50,20 @@ use Rattle.certificates.specs.declared.prove.Proved.{Proved}
 use Rattle.certificates.specs.declared.prove.Proved.TheVariants as proved
 use Rattle.certificates.specs.declared.verify.Judged.{Judged}
 use Rattle.certificates.specs.declared.verify.Judged.TheVariants as judged
-use Rattle.plan_words.specs.declared.request.Stepping.TheVariants.{Exists}
+use Rattle.plan_words.specs.declared.request.Stepping.TheVariants.{Exists, All}
 use Rattle.plan_top.specs.Complete.{GoesWell, IsGood}
-use Rattle.plan_top.specs.OneReport.{AskForOne, AskForOnePart}
+use Rattle.plan_top.specs.OneReport.{AskForOne, AskForOnePart, AskToVerify}
 use Rattle.plan_endings.specs.Ending.{status_of, status_of_race, text_of, greatest, parts_text, batch_of, IsSmall}
-use Rattle.plan_claims.specs.Headline.{Printed, OfFiles, OfThreeFiles, OfPlans, PlanRuns, HasAtLeast, NoStepPlan, NoPlan, LineIsSo, SpendsAll, Certifies, ProvesNone, TellsGround, TellsOrder, AreCallsOfPlan}
+use Rattle.plan_claims.specs.Headline.{Printed, OfFiles, OfThreeFiles, OfPlans, PlanRuns, EveryOrderRuns, HasAtLeast, HasPlanOf, TellsExhausted, NoStepPlan, NoPlan, LineIsSo, SpendsAll, PartIsSo, Certifies, CertifiesNothing, ProvesNone, TellsGround, TellsOrder, AreCallsOfPlan, AreCallsOfNoPlan}
 use Rattle.plan_claims.specs.Laws.{Laws}
 use Rattle.plan_claims.proofs.Claims as claims
+use Rattle.plan_claims.proofs.EveryOrder.{every_order}
 use Rattle.plan_top.proofs.Told.{task_refusal, asked_comes, asked_parts, not_asked_comes}
 use Rattle.plan_top.proofs.Reports.{is_stop, stop_status, stop_says_nothing, printed_is, printed_front, nothing_said}
-use Rattle.plan_claims.proofs.Verdicts.{reaches_is_plan}
+use Rattle.plan_claims.proofs.Verdicts.{reaches_is_plan, plan_reaches}
 use Rattle.plan_top.proofs.Complete.{complete as goes_well}
 use Rattle.plan_top.proofs.OneReport.{one_ending, part_at, has_read}
+use Rattle.plan_top.proofs.Passing.{passes as certificate_passes}
 
 -- ---- endings that stop a run
 
@@ -126,6 +128,16 @@ module _ (laws : Laws) (how : Stepping) (settings : Settings) (domain problem : 
       step (races.Exhausted horizon lines) comes small zero = absurd (omega arith)
       step (races.Unfinished lines) comes small zero = absurd (omega arith)
 
+  -- of a plan in all-steps, the calls run in every order
+  orders_of : how ≡ All → status_of end ≡ 0 → EveryOrderRuns (text_of end) r.task
+  orders_of all zero = subst (λ (e : Ending). EveryOrderRuns (text_of e) r.task) (sym r.told) (step r.race (subst (λ (h : Stepping). ComesTo (places_by h) (is_plan_by h) r.g.task settings r.race) all r.comes) r.small (sym (ap status_of r.told) ∙ zero))
+    where
+      step : (race : RaceEnd) → ComesTo (places_by All) (is_plan_by All) r.g.task settings race → IsSmallReport settings.budget (end_view race) → status_of_race (outcome_of (end_view race)) ≡ 0
+          → EveryOrderRuns (report_of r.task r.g settings.budget (end_view race)) r.task
+      step (races.Plan horizon steps lines) comes small zero = every_order laws settings r.task r.g r.ready horizon steps lines comes small
+      step (races.Exhausted horizon lines) comes small zero = absurd (omega arith)
+      step (races.Unfinished lines) comes small zero = absurd (omega arith)
+
   spent_of : status_of end ≡ 2 → SpendsAll (text_of end) settings.budget
   spent_of two = subst (λ (e : Ending). SpendsAll (text_of e) settings.budget) (sym r.told) (step r.race r.comes r.small (sym (ap status_of r.told) ∙ two))
     where
@@ -134,6 +146,16 @@ module _ (laws : Laws) (how : Stepping) (settings : Settings) (domain problem : 
       step (races.Plan horizon steps lines) comes small two = absurd (omega arith)
       step (races.Exhausted horizon lines) comes small two = absurd (omega arith)
       step (races.Unfinished lines) comes small two = claims.spends_all laws how settings r.task r.g r.ready lines comes small
+
+  -- one of status 1 that the last horizon is refuted
+  exhausted_of : status_of end ≡ 1 → TellsExhausted (text_of end) (numbers settings)
+  exhausted_of one = subst (λ (e : Ending). TellsExhausted (text_of e) (numbers settings)) (sym r.told) (step r.race r.comes r.small (sym (ap status_of r.told) ∙ one))
+    where
+      step : (race : RaceEnd) → ComesTo (places_by how) (is_plan_by how) r.g.task settings race → IsSmallReport settings.budget (end_view race) → status_of_race (outcome_of (end_view race)) ≡ 1
+          → TellsExhausted (report_of r.task r.g settings.budget (end_view race)) (numbers settings)
+      step (races.Plan horizon steps lines) comes small one = absurd (omega arith)
+      step (races.Exhausted horizon lines) comes small one = claims.tells_exhausted laws how settings r.task r.g r.ready horizon lines comes small
+      step (races.Unfinished lines) comes small one = absurd (omega arith)
 
   its_calls : HasCalls r.task r.g (end_view r.race)
   its_calls = step r.race r.comes
@@ -148,6 +170,44 @@ module _ (laws : Laws) (how : Stepping) (settings : Settings) (domain problem : 
   said_of horizon word conflicts one says =
       laws.horizons r.task r.g settings.budget (end_view r.race) horizon word conflicts r.ready.well r.small its_calls one
       (subst (λ (e : Ending). Says (text_of e) horizon word conflicts) r.told says)
+
+-- what was decided by an ending that stops no run, for a race that comes of what was handed over
+raced_of : (took : List Heard) (old new : List (List ℕ)) (how : Stepping) (domain problem : List ℕ) (n : Numbers) (end : Ending) → (is_stop end ≡ true → ⊥) → ComesFor took old new (plans_by how domain problem n) end
+    → (first second : List ℕ) × (took ≡ whole domain first ∷ whole problem second ∷ []) × (settings : Settings) × (numbers settings ≡ n) × Raced how settings first second end
+raced_of took old new how domain problem n end on (stopped h) = absurd (on (files_stop old new (file_at (plans_by how domain problem n)) 0 (domain ∷ problem ∷ []) took end h))
+raced_of took old new how domain problem n end on (decided files are answer h) =
+    let t = two_taken (file_at (plans_by how domain problem n)) 0 domain problem took files are in
+    let d = subst (λ (fs : List (List ℕ)). Decides (plans_by how domain problem n) fs end) t.2 h in
+    (t.0, t.1, t.3, d.0, d.1, raced how d.0 t.0 t.1 end on d.2)
+
+module _ (laws : Laws) (domain problem : List ℕ) (n : Numbers) (heard other : Heard) (end : Ending) (first second : List ℕ) (are : heard ∷ other ∷ [] ≡ whole domain first ∷ whole problem second ∷ [])
+    (settings : Settings) (same : numbers settings ≡ n) (r : Raced Exists settings first second end) where
+  of_part : (claim : Parts → Type 0) → claim r.task → OfFiles [] (heard ∷ other ∷ []) domain problem claim
+  of_part claim h = (first, second, are, r.task, r.are, h)
+
+  -- a line says so of a horizon, and so does the end of the race
+  of_said_line : (horizon : ℕ) (word : List ℕ) (conflicts : ℕ) → IsTrue (is_word word) → Says (text_of end) horizon word conflicts → Tells (lines_in (end_view r.race)) horizon word conflicts
+  of_said_line horizon word conflicts one says = said_of laws Exists settings first second end r horizon word conflicts one says
+
+  refuted_here : (horizon conflicts : ℕ) → Says (text_of end) horizon (codes "refuted") conflicts → claims.IsRefuted laws Exists settings r.task r.g r.ready r.race r.comes horizon
+  refuted_here horizon conflicts says = claims.refuted_line laws Exists settings r.task r.g r.ready r.race r.comes horizon conflicts (of_said_line horizon (codes "refuted") conflicts refl says)
+
+  part_is_so : PartIsSo domain problem n heard other (text_of end) (status_of end)
+  part_is_so = record {
+    plan_runs = λ zero. of_part (PlanRuns Exists (text_of end)) (plan_of laws Exists settings first second end r zero);
+    found_steps = λ horizon conflicts says.
+        of_part (HasPlanOf Exists horizon) (claims.found_line laws Exists settings r.task r.g r.ready r.race r.comes horizon conflicts (of_said_line horizon (codes "plan") conflicts refl says));
+    refuted_steps = λ horizon conflicts says.
+        of_part (NoStepPlan Exists horizon) (claims.no_step_plan laws r.task r.g r.ready r.comes.clauses r.comes.components r.comes.ordered Exists horizon (refuted_here horizon conflicts says));
+    refuted_plans = λ horizon conflicts says.
+        of_part (NoPlan horizon) (claims.no_plan laws r.task r.g r.ready r.comes.clauses r.comes.components r.comes.ordered Exists horizon (refuted_here horizon conflicts says));
+    least = λ horizon conflicts actions line says.
+        of_part (HasAtLeast Exists (horizon + 1)) (claims.at_least laws r.task r.g r.ready r.comes.clauses r.comes.components r.comes.ordered Exists horizon (refuted_here horizon conflicts says));
+    exhausted = λ one. of_part (λ task. TellsExhausted (text_of end) n) (subst (TellsExhausted (text_of end)) same (exhausted_of laws Exists settings first second end r one));
+    unfinished = λ two. of_part (λ task. SpendsAll (text_of end) n.budget) (subst (SpendsAll (text_of end)) (ap (λ (x : Numbers). x.budget) same) (spent_of laws Exists settings first second end r two));
+    lines = λ horizon conflicts word one says.
+        of_part (LineIsSo Exists horizon word conflicts) (claims.line_is_so laws Exists settings r.task r.g r.ready r.race r.comes horizon word conflicts (of_said_line horizon word conflicts one says));
+  }
 
 -- ---- the other commands
 
@@ -169,6 +229,20 @@ calls_reach task bytes end zero (inl h) =
     let reaches = verdict_reaches (verdict task h.0) (sym (ap status_of h.2) ∙ zero) in
     (h.0, h.1, reaches_is_plan task 0 task.init h.0 reaches)
 calls_reach task bytes end zero (inr h) = not_low end (ap is_stop h.2 ∙ fault_stops h.0) (omega arith)
+
+verdict_falls : (v : Verdict) → status_of (ending_of v) ≡ 1 → v ≡ verdicts.Reaches → ⊥
+verdict_falls verdicts.Reaches one same = omega (arith, one)
+verdict_falls (verdicts.Blocked index) one same = let never : verdicts.Blocked index ≡ verdicts.Reaches = same in cc
+verdict_falls verdicts.Short one same = let never : verdicts.Short ≡ verdicts.Reaches = same in cc
+
+calls_fall : (task : Parts) (bytes : List ℕ) (end : Ending) → status_of end ≡ 1 → AnswersCheck task bytes end → AreCallsOfNoPlan bytes task
+calls_fall task bytes end one (inl h) = (h.0, h.1, λ plan. verdict_falls (verdict task h.0) (sym (ap status_of h.2) ∙ one) (plan_reaches task 0 task.init h.0 plan))
+calls_fall task bytes end one (inr h) = not_low end (ap is_stop h.2 ∙ fault_stops h.0) (omega (arith, one))
+
+check_fell : (domain problem bytes : List ℕ) (end : Ending) → status_of end ≡ 1 → OnceRead domain problem (λ task. AnswersCheck task bytes) end
+    → (task : Parts) × AreTask domain problem task × AreCallsOfNoPlan bytes task
+check_fell domain problem bytes end one (not_read r) = not_low end (refused_stops domain problem end r) (omega (arith, one))
+check_fell domain problem bytes end one (read task are h) = (task, are, calls_fall task bytes end one h)
 
 check_reached : (domain problem bytes : List ℕ) (end : Ending) → status_of end ≡ 0 → OnceRead domain problem (λ task. AnswersCheck task bytes) end
     → (task : Parts) × AreTask domain problem task × AreCallsOfPlan bytes task
@@ -317,6 +391,17 @@ proves_so laws task g horizon budget end zero ready (run p so e) = step p so e
     step (proved.Plan conflicts) so told = absurd (let one = sym zero ∙ ap status_of told in omega (arith, one))
     step (proved.Open conflicts) so told = absurd (let two = sym zero ∙ ap status_of told in omega (arith, two))
 
+-- where a plan is told there is one of so many steps
+proves_plan : Laws → (task : Parts) (g : Grounded) (horizon budget : ℕ) (end : Ending) → status_of end ≡ 1 → IsReady task g → AnswersProve horizon budget task g end → HasPlanOf Exists horizon task
+proves_plan laws task g horizon budget end one ready (not_run count many e) = absurd (let four = sym one ∙ ap status_of e in omega (arith, four))
+proves_plan laws task g horizon budget end one ready (run p so e) = step p so (sym (ap status_of e) ∙ one)
+  where
+    step : (p : Proved) → Proves g.task horizon budget p → status_of (ending_of_run horizon p) ≡ 1 → HasPlanOf Exists horizon task
+    step (proved.Certificate text) so one = absurd (omega (arith, one))
+    step proved.TooLong so one = absurd (omega (arith, one))
+    step (proved.Plan conflicts) so one = let m = so.found conflicts refl in claims.has_plan laws task g ready so.clauses so.components so.ordered Exists horizon m.0 m.1
+    step (proved.Open conflicts) so one = absurd (omega (arith, one))
+
 -- what the checker said of a certificate whose ending has a status below 2
 pub record Checks (task : Parts) (bytes : List ℕ) (k : ℕ) : Type 0 where
   pub horizon : ℕ
@@ -367,20 +452,16 @@ not_refutation f horizon log (judged.Accepted entries) one is refutes = absurd (
 not_refutation f horizon log (judged.Rejected entry) one is refutes = is.here (refutes.derived entry is.in_range)
 not_refutation f horizon log judged.NotEmpty one is refutes = is.1 refutes.ends_empty
 
-rejects : Laws → (task : Parts) (bytes : List ℕ) (end : Ending) → status_of end ≡ 1 → AnswersVerify task bytes end → (horizon : ℕ) → Certifies bytes horizon task → ⊥
-rejects laws task bytes end one h horizon certifies =
+rejects : Laws → (task : Parts) (bytes : List ℕ) (end : Ending) → status_of end ≡ 1 → AnswersVerify task bytes end → CertifiesNothing bytes task
+rejects laws task bytes end one h =
     let c = checks_at 1 (omega arith) task bytes end one h in
-    let same = certifies.only c.g c.judges.clauses c.judges.components c.ready.grounded c.judges.ordered in
-    let formulas : formula_at chain_places (form_of c.g.task c.judges.clauses c.judges.components) ≡ formula_at chain_places (form_of certifies.g.task certifies.clauses certifies.components) =
-    ap (λ (g : Grounded). formula_at chain_places (form_of g.task c.judges.clauses c.judges.components)) same.0
-    ∙ (ap (λ (cs : List (ℕ × ℕ)). formula_at chain_places (form_of certifies.g.task cs c.judges.components)) same.1
-    ∙ ap (λ (ps : List (List ℕ)). formula_at chain_places (form_of certifies.g.task certifies.clauses ps)) same.2) in
-    let cert = certifies.holds in
+    let formula = formula_at chain_places (form_of c.g.task c.judges.clauses c.judges.components) in
+    claims.of_grounded laws task c.g c.ready c.judges.clauses c.judges.components c.judges.ordered (λ g clauses components. (horizon : ℕ) → IsCertificate (formula_at chain_places (form_of g.task clauses components)) bytes horizon → ⊥)
+    (λ horizon cert.
     let one_value = laws.one_spelling c.horizon horizon c.log cert.log c.is_spelled.within cert.is_spelled.within c.is_spelled.written cert.is_spelled.written (sym c.is_spelled.spelled ∙ cert.is_spelled.spelled) in
-    let is = subst (λ (f : ℕ → Cnf). IsJudged (f c.horizon) c.log c.j) formulas c.judges.is in
-    let here = subst (λ (n : ℕ). IsJudged (formula_at chain_places (form_of certifies.g.task certifies.clauses certifies.components) n) c.log c.j) one_value.0 is in
-    let there = subst (λ (log : List Entry). IsJudged (formula_at chain_places (form_of certifies.g.task certifies.clauses certifies.components) horizon) log c.j) one_value.1 here in
-    not_refutation (formula_at chain_places (form_of certifies.g.task certifies.clauses certifies.components) horizon) c.horizon cert.log c.j c.status there cert.refutes
+    let here = subst (λ (n : ℕ). IsJudged (formula n) c.log c.j) one_value.0 c.judges.is in
+    let there = subst (λ (log : List Entry). IsJudged (formula horizon) log c.j) one_value.1 here in
+    not_refutation (formula horizon) c.horizon cert.log c.j c.status there cert.refutes)
 
 -- ---- what comes
 
@@ -443,6 +524,20 @@ module _ (was now took : List Heard) (handed : now ≡ was ++ took) (old new : L
       of_race d.0 d.2 how domain problem n (PlanRuns how text) asked (on_low d.0 0 d.1 (omega arith))
       (λ settings same first second r. subst (λ (xs : List ℕ). PlanRuns how xs r.task) (sym is) (plan_of laws how settings first second d.0 r d.1))
 
+  pub every_order_runs : Laws → IsDue → OfPlans words was now before after (λ how text n of_files. status ≡ 0 → how ≡ All → of_files (EveryOrderRuns text))
+  every_order_runs laws due how text domain problem n printed asked zero all =
+      let d = due_at 0 due zero (omega arith) in
+      let is : text ≡ text_of d.0 = printed_is before after text (text_of d.0) printed d.3 in
+      of_race d.0 d.2 how domain problem n (EveryOrderRuns text) asked (on_low d.0 0 d.1 (omega arith))
+      (λ settings same first second r. subst (λ (xs : List ℕ). EveryOrderRuns xs r.task) (sym is) (orders_of laws how settings first second d.0 r all d.1))
+
+  pub exhausted : Laws → IsDue → OfPlans words was now before after (λ how text n of_files. status ≡ 1 → of_files (λ task. TellsExhausted text n))
+  exhausted laws due how text domain problem n printed asked one =
+      let d = due_at 1 due one (omega arith) in
+      let is : text ≡ text_of d.0 = printed_is before after text (text_of d.0) printed d.3 in
+      of_race d.0 d.2 how domain problem n (λ task. TellsExhausted text n) asked (on_low d.0 1 d.1 (omega arith))
+      (λ settings same first second r. subst (TellsExhausted text) same (subst (λ (xs : List ℕ). TellsExhausted xs (numbers settings)) (sym is) (exhausted_of laws how settings first second d.0 r d.1)))
+
   pub unfinished : Laws → IsDue → OfPlans words was now before after (λ how text n of_files. status ≡ 2 → of_files (λ task. SpendsAll text n.budget))
   unfinished laws due how text domain problem n printed asked two =
       let d = due_at 2 due two (omega arith) in
@@ -474,12 +569,25 @@ module _ (was now took : List Heard) (handed : now ≡ was ++ took) (old new : L
       of_three_files d.0 d.2 (checks domain problem plan_name) domain problem plan_name AreCallsOfPlan refl tt asked (on_low d.0 0 d.1 (omega arith))
       (λ first second third h. check_reached first second third d.0 d.1 h)
 
+  pub not_reached : IsDue → (domain problem plan_name : List ℕ) → status ≡ 1 → requested words ≡ Some (checks domain problem plan_name) → OfThreeFiles was now domain problem plan_name AreCallsOfNoPlan
+  not_reached due domain problem plan_name one asked =
+      let d = due_at 1 due one (omega arith) in
+      of_three_files d.0 d.2 (checks domain problem plan_name) domain problem plan_name AreCallsOfNoPlan refl tt asked (on_low d.0 1 d.1 (omega arith))
+      (λ first second third h. check_fell first second third d.0 d.1 h)
+
   -- ---- certificates
 
   pub certified : Laws → IsDue → (text domain problem : List ℕ) (horizon budget : ℕ) → status ≡ 0 → Printed before after text → requested words ≡ Some (proves domain problem horizon budget) → OfFiles was now domain problem (Certifies text horizon)
   certified laws due text domain problem horizon budget zero printed asked =
       of_listing text printed due (proves domain problem horizon budget) domain problem (λ xs task. Certifies xs horizon task) refl tt asked zero
       (λ end first second at on h. let r = goes_on first second (AnswersProve horizon budget) end on h in (r.0, r.2, proves_so laws r.0 r.1 horizon budget end at r.3 r.4))
+
+  pub proved_plan : Laws → IsDue → (domain problem : List ℕ) (horizon budget : ℕ) → status ≡ 1 → requested words ≡ Some (proves domain problem horizon budget) → OfFiles was now domain problem (HasPlanOf Exists horizon)
+  proved_plan laws due domain problem horizon budget one asked =
+      let d = due_at 1 due one (omega arith) in
+      let on : is_stop d.0 ≡ true → ⊥ = on_low d.0 1 d.1 (omega arith) in
+      of_two_files d.0 d.2 (proves domain problem horizon budget) domain problem (HasPlanOf Exists horizon) refl tt asked on
+      (λ first second h. let r = goes_on first second (AnswersProve horizon budget) d.0 on h in (r.0, r.2, proves_plan laws r.0 r.1 horizon budget d.0 d.1 r.3 r.4))
 
   -- what a certificate file came to that was answered so
   judged_for : (k : ℕ) → k ≤ 1 → IsDue → (domain problem proof : List ℕ) (claim : List ℕ → Parts → Type 0) → status ≡ k → requested words ≡ Some (verifies domain problem proof)
@@ -500,9 +608,9 @@ module _ (was now took : List Heard) (handed : now ≡ was ++ took) (old new : L
   accepted laws due domain problem proof zero asked =
       judged_for 0 (omega arith) due domain problem proof (λ text task. (horizon : ℕ) × Certifies text horizon task) zero asked (λ first second third task end at are h. accepts laws task third end at h)
 
-  pub rejected : Laws → IsDue → (domain problem proof : List ℕ) → status ≡ 1 → requested words ≡ Some (verifies domain problem proof) → OfThreeFiles was now domain problem proof (λ text task. (horizon : ℕ) → Certifies text horizon task → ⊥)
+  pub rejected : Laws → IsDue → (domain problem proof : List ℕ) → status ≡ 1 → requested words ≡ Some (verifies domain problem proof) → OfThreeFiles was now domain problem proof CertifiesNothing
   rejected laws due domain problem proof one asked =
-      judged_for 1 (omega arith) due domain problem proof (λ text task. (horizon : ℕ) → Certifies text horizon task → ⊥) one asked (λ first second third task end at are h. rejects laws task third end at h)
+      judged_for 1 (omega arith) due domain problem proof CertifiesNothing one asked (λ first second third task end at are h. rejects laws task third end at h)
 
   -- ---- what the text says of horizons
 
@@ -522,6 +630,11 @@ module _ (was now took : List Heard) (handed : now ≡ was ++ took) (old new : L
             let whole : Says (text_of end) horizon word conflicts = subst (λ (xs : List ℕ). Says xs horizon word conflicts) (sym due.1) (laws.fronts text due.0 horizon word conflicts says) in
             of_race end comes how domain problem n claim asked (λ stop. stop_says_nothing laws.entries end stop small horizon word conflicts one whole)
             (λ settings same first second r. from settings r.task r.g r.ready r.race r.comes (said_of laws how settings first second end r horizon word conflicts one whole))
+
+    pub found_steps : OfPlans words was now before after (λ how text n of_files. (horizon conflicts : ℕ) → Says text horizon (codes "plan") conflicts → of_files (HasPlanOf how horizon))
+    found_steps how text domain problem n printed asked horizon conflicts says =
+        of_said how text domain problem n printed asked horizon (codes "plan") conflicts (HasPlanOf how horizon) refl says
+        (λ settings task g ready race comes tells. claims.found_line laws how settings task g ready race comes horizon conflicts tells)
 
     pub refuted_steps : OfPlans words was now before after (λ how text n of_files. (horizon conflicts : ℕ) → Says text horizon (codes "refuted") conflicts → of_files (NoStepPlan how horizon))
     refuted_steps how text domain problem n printed asked horizon conflicts says =
@@ -593,6 +706,12 @@ module _ (was now took : List Heard) (handed : now ≡ was ++ took) (old new : L
       let one : d.0 ≡ end = one_ending laws took elsewhere old new was is words others d.0 end ask d.2 comes (has_read d.0 (λ five. not_five (d.1 ∙ five))) reads in
       (d.1 ∙ ap status_of one, d.3 ∙ ap (λ (e : Ending). appended before (text_of e)) one)
 
+  pub passes : Laws → IsDue → (elsewhere : List Heard) (others was is : List (List ℕ)) (text : List ℕ) → AskToVerify took elsewhere words others text → Comes elsewhere was is others (Listing text)
+      → (status ≡ 5 → ⊥) → (status ≡ 6 → ⊥) → (status ≡ 8 → ⊥) → status ≡ 0
+  passes laws due elsewhere others was is text ask comes not_five not_six not_eight =
+      let d = due not_six not_eight in
+      d.1 ∙ certificate_passes laws took elsewhere old new was is words others text d.0 ask d.2 comes (has_read d.0 (λ five. not_five (d.1 ∙ five)))
+
   -- ---- batches
 
   -- the status and the text of a batch with these parts
@@ -613,6 +732,35 @@ module _ (was now took : List Heard) (handed : now ≡ was ++ took) (old new : L
   pub batch : IsDue → (domain : List ℕ) (problems : List (List ℕ)) (n : Numbers) (turns : Turns) → requested words ≡ Some (batches domain problems n turns) → (status ≡ 5 → ⊥) → (status ≡ 6 → ⊥) → (status ≡ 8 → ⊥)
       → (parts : List Ending) × IsBatchOf took old new domain n problems parts × (status ≡ greatest (map status_of parts)) × (after ≡ appended before (parts_text 1 parts))
   batch due domain problems n turns asked not_five not_six not_eight = its_parts due domain problems n turns asked not_five not_six not_eight
+
+  -- each of them keeps what is promised of `plan`
+  one_is_so : Laws → (domain problem : List ℕ) (n : Numbers) (heard other : Heard) (part : Ending) → IsPartOf old new heard other (plans domain problem n) part → status_of part ≤ 2 → PartIsSo domain problem n heard other (text_of part) (status_of part)
+  one_is_so laws domain problem n heard other part is low =
+      let r = raced_of is.took old new Exists domain problem n part (λ stop. not_low part stop low) is.comes in
+      let none : is.rest ≡ [] = nothing_left heard other domain problem r.0 r.1 is.took is.rest is.split r.2 in
+      let all : heard ∷ other ∷ [] ≡ whole domain r.0 ∷ whole problem r.1 ∷ [] = is.split ∙ (ap (λ (xs : List Heard). is.took ++ xs) none ∙ (append-nil is.took ∙ r.2)) in
+      part_is_so laws domain problem n heard other part r.0 r.1 all r.3 r.4 r.5
+    where
+      nothing_left : (heard other : Heard) (domain problem first second : List ℕ) (took rest : List Heard) → heard ∷ other ∷ [] ≡ took ++ rest → took ≡ whole domain first ∷ whole problem second ∷ [] → rest ≡ []
+      nothing_left heard other domain problem first second took rest split is =
+          let both : heard ∷ other ∷ [] ≡ whole domain first ∷ whole problem second ∷ rest = split ∙ ap (λ (xs : List Heard). xs ++ rest) is in
+          let left : [] ≡ rest = cc in
+          sym left
+
+  all_are_so : Laws → (domain : List ℕ) (n : Numbers) (heard : Heard) (problems : List (List ℕ)) (others : List Heard) (parts : List Ending) → ArePartsOf old new domain n heard problems others parts → ArePartsSo domain n heard problems others parts
+  all_are_so laws domain n heard [] [] [] are = tt
+  all_are_so laws domain n heard [] [] (x ∷ xs) are = absurd are
+  all_are_so laws domain n heard [] (o ∷ os) parts are = absurd are
+  all_are_so laws domain n heard (p ∷ ps) [] parts are = absurd are
+  all_are_so laws domain n heard (p ∷ ps) (o ∷ os) [] are = absurd are
+  all_are_so laws domain n heard (p ∷ ps) (o ∷ os) (x ∷ xs) are = (λ low. one_is_so laws domain p n heard o x are.0 low, all_are_so laws domain n heard ps os xs are.1)
+
+  pub parts_are_so : Laws → IsDue → (domain : List ℕ) (problems : List (List ℕ)) (n : Numbers) (turns : Turns) → requested words ≡ Some (batches domain problems n turns) → (status ≡ 5 → ⊥) → (status ≡ 6 → ⊥) → (status ≡ 8 → ⊥)
+      → (parts : List Ending) × (first : Heard) × (others : List Heard) × (took ≡ first ∷ others) × ArePartsSo domain n first problems others parts × (status ≡ greatest (map status_of parts)) × (after ≡ appended before (parts_text 1 parts))
+  parts_are_so laws due domain problems n turns asked not_five not_six not_eight =
+      let p = its_parts due domain problems n turns asked not_five not_six not_eight in
+      let b = p.1 in
+      (p.0, b.first, b.others, b.all, all_are_so laws domain n b.first problems b.others p.0 b.are, p.2, p.3)
 
   pub as_alone : Laws → IsDue → (domain : List ℕ) (problems : List (List ℕ)) (n : Numbers) (turns : Turns) → requested words ≡ Some (batches domain problems n turns) → (status ≡ 5 → ⊥) → (status ≡ 6 → ⊥) → (status ≡ 8 → ⊥)
       → (parts : List Ending) × (status ≡ greatest (map status_of parts)) × (after ≡ appended before (parts_text 1 parts))

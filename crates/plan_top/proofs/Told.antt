@@ -37,7 +37,7 @@ use Rattle.plan_answers.specs.Tasks.{RefusesTask, domain_tree, problem_tree, no_
 use Rattle.plan_answers.specs.Raced.{too_large, ended}
 use Rattle.plan_answers.specs.Generated.{AnswersGenerated, RacesGenerated}
 use Rattle.plan_answers.specs.Answers.{OfTwo, OfThree, Decides, AnswersPlan, AnswersGround, AnswersOrder, AnswersCheck, AnswersProve, not_run, run, AnswersVerify, unfit, beyond, spelled, not_checked, checked, ending_of_run, ending_of_check, refusal_of_plan, ending_of}
-use Rattle.plan_top.specs.Causes.{is_answer, HasRead, ComesFor, decided, IsBatchOf, Comes, no_request, of_one, unread, in_parts}
+use Rattle.plan_top.specs.Causes.{is_answer, HasRead, ComesFor, decided, IsBatchOf, AskForBatch, Comes, no_request, of_one, unread, in_parts}
 
 -- ---- endings that tell of a file
 
@@ -174,6 +174,17 @@ unread_file old new file place (name ∷ names) (e ∷ es) end (inr more) has = 
 -- words ask for one thing
 pub one_request : (words : List (List ℕ)) (request other : Seen) → requested words ≡ Some request → requested words ≡ Some other → request ≡ other
 one_request words request other asked also = let same : Some request ≡ Some other = sym asked ∙ also in cc
+
+-- words that ask for no batch ask for one task
+pub one_unless : (words : List (List ℕ)) (request : Seen) → (AskForBatch words → ⊥) → requested words ≡ Some request → IsOfOne request
+one_unless words (plans_by steps d p n) no_batch asked = tt
+one_unless words (checks d p l) no_batch asked = tt
+one_unless words (grounds d p) no_batch asked = tt
+one_unless words (orders d p) no_batch asked = tt
+one_unless words (generates k m n s) no_batch asked = tt
+one_unless words (proves d p h b) no_batch asked = tt
+one_unless words (verifies d p c) no_batch asked = tt
+one_unless words (batches d ps n t) no_batch asked = no_batch (d, ps, n, t, asked)
 
 module _ (took : List Heard) (old new : List (List ℕ)) where
   -- of files that were taken, what their bytes decide comes of a request of one task

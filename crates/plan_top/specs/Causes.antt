@@ -1,11 +1,12 @@
 -- When each ending of a run comes.
-use Rattle.std.specs.Prelude.{◌≡◌, ℕ, List, [], ◌∷◌, ◌++◌, Bool, true, false, IsTrue, Option, Some, None}
+use Rattle.std.specs.Prelude.{◌≡◌, ◌≤◌, ℕ, List, [], ◌∷◌, ◌++◌, Bool, true, false, IsTrue, Option, Some, None}
 use Rattle.pl_io.specs.Outside.{Heard}
 use Rattle.plan_words.specs.Seen.{Seen, Numbers, plans, plans_by, checks, grounds, orders, generates, proves, verifies, batches, files_of}
 use Rattle.plan_words.specs.declared.request.Turns.{Turns}
 use Rattle.plan_words.specs.Requested.{requested}
 use Rattle.plan_words.specs.OneTask.{IsOfOne}
-use Rattle.plan_endings.specs.Ending.{batch_of}
+use Rattle.plan_endings.specs.Ending.{batch_of, status_of, text_of}
+use Rattle.plan_claims.specs.Headline.{PartIsSo}
 use Rattle.plan_files.specs.Limits.{file_at}
 use Rattle.plan_answers.specs.Answers.{Decides}
 use Rattle.plan_files.specs.Files.{AreTaken, StopsFrom, FaultsFrom, RoseAmong}
@@ -87,6 +88,10 @@ module _ (took : List Heard) (old new : List (List ℕ)) where
     in_parts : (domain : List ℕ) (problems : List (List ℕ)) (numbers : Numbers) (turns : Turns) → requested words ≡ Some (batches domain problems numbers turns)
         → (parts : List Ending) → IsBatchOf took old new domain numbers problems parts → end ≡ batch_of parts → Comes words end
 
+-- words ask for a batch
+abbrev pub AskForBatch : List (List ℕ) → Type 0
+AskForBatch words = (domain : List ℕ) × (problems : List (List ℕ)) × (numbers : Numbers) × (turns : Turns) × (requested words ≡ Some (batches domain problems numbers turns))
+
 -- the names of the files that words ask for
 abbrev pub names_in : List (List ℕ) → List (List ℕ)
 names_in words = elim (requested words) [ None ↦ [] | Some request ↦ files_of request ]
@@ -94,3 +99,11 @@ names_in words = elim (requested words) [ None ↦ [] | Some request ↦ files_o
 -- the count of faults of a file that the words name rose
 abbrev pub FaultOf : List (List ℕ) → List (List ℕ) → List (List ℕ) → Type 0
 FaultOf old new words = RoseAmong (names_in words) old new
+
+-- Each part of a batch but those that tell why there is no answer keeps what is promised of `plan` on the domain and its problem.
+module _ (domain : List ℕ) (numbers : Numbers) (first : Heard) where
+  abbrev pub ArePartsSo : List (List ℕ) → List Heard → List Ending → Type 0
+  ArePartsSo [] [] [] = Unit {0}
+  ArePartsSo (problem ∷ problems) (other ∷ others) (part ∷ parts) =
+      (status_of part ≤ 2 → PartIsSo domain problem numbers first other (text_of part) (status_of part)) × ArePartsSo problems others parts
+  ArePartsSo _ _ _ = ⊥

@@ -64,6 +64,23 @@ pub record AskForOnePart (took elsewhere : List Heard) (words : List (List ℕ))
   pub at_place : slice_get texts place ≡ Some second
   pub other_heard : AreOf (first ∷ second ∷ []) elsewhere
 
+-- Words ask to verify a file, and others for a certificate of a horizon: what was handed over for both is of one domain and one problem, and
+-- the file is this text.
+pub record AskToVerify (took elsewhere : List Heard) (words others : List (List ℕ)) (text : List ℕ) : Type 0 where
+  pub domain : List ℕ
+  pub problem : List ℕ
+  pub proof : List ℕ
+  pub other_domain : List ℕ
+  pub other_problem : List ℕ
+  pub horizon : ℕ
+  pub budget : ℕ
+  pub first : List ℕ
+  pub second : List ℕ
+  pub asked : requested words ≡ Some (verifies domain problem proof)
+  pub others_asked : requested others ≡ Some (proves other_domain other_problem horizon budget)
+  pub heard : AreOf (first ∷ second ∷ text ∷ []) took
+  pub other_heard : AreOf (first ∷ second ∷ []) elsewhere
+
 -- Runs on the same files by such words have one ending, but for a file that could not be read.
 abbrev pub OneEnding : Type 0
 OneEnding =

@@ -5,7 +5,7 @@ ghost use Rattle.plan_words.specs.OneTask.{IsOfOne};
 ghost use Rattle.plan_words.specs.Requested.{requested, command_named};
 ghost use Rattle.plan_words.specs.Seen.{IsSized, files_of, seen};
 ghost use Rattle.plan_files.specs.Files.{NotesAmong};
-ghost use Rattle.plan_top.specs.Causes.{Comes, names_in};
+ghost use Rattle.plan_top.specs.Causes.{Comes, AskForBatch, names_in};
 ghost use Rattle.plan_top.specs.Parts.{IsBatch};
 ghost use Rattle.plan_files.specs.Ends.{EndsAs};
 
@@ -42,6 +42,7 @@ pub fn decide<H: Threads + Wait + Sync, S: Shelf, G: Gate, D: Driver>(
     ensures noted { NotesAmong (names_in (map string_bytes words.now)) (S.failed shelf.old) (S.failed shelf.new) }
     ensures never_falls { (name : List ℕ) → fault_count name (S.failed shelf.old) ≤ fault_count name (S.failed shelf.new) }
     ensures drives { D.faults driver.old ≤ D.faults driver.new }
+    ensures idle { (AskForBatch (map string_bytes words.now) → ⊥) → driver.new ≡ driver.old }
 {
     let Some(request) = read_words(alloc, words)? else {
         return Ok(Ending::Usage);
@@ -65,6 +66,7 @@ fn decide_request<H: Threads + Wait + Sync, S: Shelf, G: Gate, D: Driver>(
     ensures lacks { S.lacks shelf.new ≡ S.lacks shelf.old }
     ensures noted { NotesAmong (files_of (seen request.now)) (S.failed shelf.old) (S.failed shelf.new) }
     ensures drives { D.faults driver.old ≤ D.faults driver.new }
+    ensures idle { IsOfOne (seen request.now) → driver.new ≡ driver.old }
 {
     match request {
         Request::Batch {

@@ -5,16 +5,18 @@ ghost use Rattle.report_lines.specs.Lines.{lines_of};
 ghost use Rattle.report_lines.specs.Horizons.{Says, is_word};
 ghost use Rattle.plan_report.specs.Report.{plan_line};
 ghost use Rattle.plan_words.specs.Seen.{Numbers, checks, grounds, orders, proves, verifies, batches};
+ghost use Rattle.plan_words.specs.declared.request.Stepping.TheVariants.{Exists, All};
 ghost use Rattle.plan_words.specs.declared.request.Turns.{Turns};
 ghost use Rattle.plan_words.specs.Requested.{requested, command_named};
 ghost use Rattle.plan_files.specs.Files.{NotesAmong};
-ghost use Rattle.plan_top.specs.Causes.{Comes, IsBatchOf, HasRead, FaultOf, names_in};
+ghost use Rattle.plan_top.specs.Causes.{Comes, IsBatchOf, ArePartsSo, HasRead, AskForBatch, FaultOf, names_in};
 ghost use Rattle.plan_top.specs.Complete.{GoesWell, IsGood};
 ghost use Rattle.plan_endings.specs.Ending.{status_of, text_of, greatest, parts_text, IsSmall};
-ghost use Rattle.plan_claims.specs.Headline.{Printed, OfFiles, OfThreeFiles, OfPlans, PlanRuns, HasAtLeast, NoStepPlan, NoPlan, LineIsSo, SpendsAll, Certifies, ProvesNone, TellsGround, TellsOrder, AreCallsOfPlan};
-ghost use Rattle.plan_top.specs.OneReport.{AskForOne, AskForOnePart};
+ghost use Rattle.plan_claims.specs.Headline.{Printed, OfFiles, OfThreeFiles, OfPlans, PlanRuns, EveryOrderRuns, HasAtLeast, HasPlanOf, TellsExhausted, NoStepPlan, NoPlan, LineIsSo, SpendsAll, Certifies, CertifiesNothing, ProvesNone, TellsGround, TellsOrder, AreCallsOfPlan, AreCallsOfNoPlan};
+ghost use Rattle.plan_top.specs.OneReport.{AskForOne, AskForOnePart, AskToVerify};
 ghost use Rattle.plan_files.specs.Ends.{ending_in};
 ghost use Rattle.plan_endings.specs.declared.ending.Ending.{Ending};
+ghost use Rattle.plan_endings.specs.declared.ending.Ending.TheVariants.{Listing};
 
 use crate::decide::decide;
 use crate::{Ending, Status};
@@ -47,6 +49,14 @@ pub fn run<H: Threads + Wait + Sync, S: Shelf, K: Sink, G: Gate, D: Driver>(
     ensures plan_runs { OfPlans (map string_bytes words.now) (S.heard shelf.old) (S.heard shelf.new) (K.taken sink.old) (K.taken sink.new) (λ how text numbers of_files.
         result.0 ≡ 0 → of_files (PlanRuns how text)) }
 
+    // The calls of a plan in all-steps are a plan in every order within their steps.
+    ensures every_order_runs { OfPlans (map string_bytes words.now) (S.heard shelf.old) (S.heard shelf.new) (K.taken sink.old) (K.taken sink.new) (λ how text numbers of_files.
+        result.0 ≡ 0 → how ≡ All → of_files (EveryOrderRuns text)) }
+
+    // A horizon that is printed as `plan` has a plan in so many steps.
+    ensures found_steps { OfPlans (map string_bytes words.now) (S.heard shelf.old) (S.heard shelf.new) (K.taken sink.old) (K.taken sink.new) (λ how text numbers of_files.
+        (horizon conflicts : ℕ) → Says text horizon (codes "plan") conflicts → of_files (HasPlanOf how horizon)) }
+
     // A horizon that is printed as refuted has no step plan of so many steps, nor of fewer.
     ensures refuted_steps { OfPlans (map string_bytes words.now) (S.heard shelf.old) (S.heard shelf.new) (K.taken sink.old) (K.taken sink.new) (λ how text numbers of_files.
         (horizon conflicts : ℕ) → Says text horizon (codes "refuted") conflicts → of_files (NoStepPlan how horizon)) }
@@ -58,6 +68,10 @@ pub fn run<H: Threads + Wait + Sync, S: Shelf, K: Sink, G: Gate, D: Driver>(
     // Where the horizon below that of a printed plan is refuted, each step plan has at least as many steps as the plan.
     ensures least { OfPlans (map string_bytes words.now) (S.heard shelf.old) (S.heard shelf.new) (K.taken sink.old) (K.taken sink.new) (λ how text numbers of_files.
         (horizon conflicts actions : ℕ) → Contains (lines_of text) (plan_line (horizon + 1) actions) → Says text horizon (codes "refuted") conflicts → of_files (HasAtLeast how (horizon + 1))) }
+
+    // Where no plan is told and nothing is left open, the last listed horizon is refuted.
+    ensures exhausted { OfPlans (map string_bytes words.now) (S.heard shelf.old) (S.heard shelf.new) (K.taken sink.old) (K.taken sink.new) (λ how text numbers of_files.
+        result.0 ≡ 1 → of_files (λ task. TellsExhausted text numbers)) }
 
     // Unfinished is printed only where the conflicts of the horizons are the budget.
     ensures unfinished { OfPlans (map string_bytes words.now) (S.heard shelf.old) (S.heard shelf.new) (K.taken sink.old) (K.taken sink.new) (λ how text numbers of_files.
@@ -76,10 +90,17 @@ pub fn run<H: Threads + Wait + Sync, S: Shelf, K: Sink, G: Gate, D: Driver>(
     // Calls that are answered as a plan are one.
     ensures reached { (domain problem plan : List ℕ) → result.0 ≡ 0 → requested (map string_bytes words.now) ≡ Some (checks domain problem plan)
         → OfThreeFiles (S.heard shelf.old) (S.heard shelf.new) domain problem plan AreCallsOfPlan }
+    // And calls that are answered as none are none.
+    ensures not_reached { (domain problem plan : List ℕ) → result.0 ≡ 1 → requested (map string_bytes words.now) ≡ Some (checks domain problem plan)
+        → OfThreeFiles (S.heard shelf.old) (S.heard shelf.new) domain problem plan AreCallsOfNoPlan }
 
     // What is written as a certificate is one: it spells the horizon and a derivation of the empty clause from its formula.
     ensures certified { (text domain problem : List ℕ) (horizon budget : ℕ) → result.0 ≡ 0 → Printed (K.taken sink.old) (K.taken sink.new) text
         → requested (map string_bytes words.now) ≡ Some (proves domain problem horizon budget) → OfFiles (S.heard shelf.old) (S.heard shelf.new) domain problem (Certifies text horizon) }
+
+    // Where a plan is told in its place, the horizon has a step plan of so many steps.
+    ensures proved_plan { (domain problem : List ℕ) (horizon budget : ℕ) → result.0 ≡ 1 → requested (map string_bytes words.now) ≡ Some (proves domain problem horizon budget)
+        → OfFiles (S.heard shelf.old) (S.heard shelf.new) domain problem (HasPlanOf Exists horizon) }
 
     // Where a certificate is accepted, the horizon that it names has no step plan of so many steps, nor of fewer, and no plan of at
     // most so many actions.
@@ -90,7 +111,7 @@ pub fn run<H: Threads + Wait + Sync, S: Shelf, K: Sink, G: Gate, D: Driver>(
     ensures accepted { (domain problem proof : List ℕ) → result.0 ≡ 0 → requested (map string_bytes words.now) ≡ Some (verifies domain problem proof)
         → OfThreeFiles (S.heard shelf.old) (S.heard shelf.new) domain problem proof (λ text task. (horizon : ℕ) × Certifies text horizon task) }
     ensures rejected { (domain problem proof : List ℕ) → result.0 ≡ 1 → requested (map string_bytes words.now) ≡ Some (verifies domain problem proof)
-        → OfThreeFiles (S.heard shelf.old) (S.heard shelf.new) domain problem proof (λ text task. (horizon : ℕ) → Certifies text horizon task → ⊥) }
+        → OfThreeFiles (S.heard shelf.old) (S.heard shelf.new) domain problem proof CertifiesNothing }
 
     // Each status has its cause, and with every status but 6 the bytes taken are exactly the text due.
     ensures due { (took : List Heard) → S.heard shelf.new ≡ S.heard shelf.old ++ took → result.0 ≢ 6 → result.0 ≢ 8 → (end : Ending) × (result.0 ≡ status_of end)
@@ -130,11 +151,22 @@ pub fn run<H: Threads + Wait + Sync, S: Shelf, K: Sink, G: Gate, D: Driver>(
         → HasRead end → result.0 ≢ 5 → result.0 ≢ 6 → result.0 ≢ 8
         → (result.0 ≡ status_of end) × (K.taken sink.new ≡ appended (K.taken sink.old) (text_of end)) }
 
+    // What `prove` wrote for the same domain and problem is accepted.
+    ensures passes { (took : List Heard) → S.heard shelf.new ≡ S.heard shelf.old ++ took → (elsewhere : List Heard) (others before after : List (List ℕ)) (text : List ℕ)
+        → AskToVerify took elsewhere (map string_bytes words.now) others text → Comes elsewhere before after others (Listing text)
+        → result.0 ≢ 5 → result.0 ≢ 6 → result.0 ≢ 8 → result.0 ≡ 0 }
+
     // Each part of a batch is what `plan` has due on the domain and that problem, by the same numbers; the text is the parts' texts under
     // their lines, the status the greatest.
     ensures batch { (took : List Heard) → S.heard shelf.new ≡ S.heard shelf.old ++ took → (domain : List ℕ) (problems : List (List ℕ)) (numbers : Numbers) (turns : Turns)
         → requested (map string_bytes words.now) ≡ Some (batches domain problems numbers turns) → result.0 ≢ 5 → result.0 ≢ 6 → result.0 ≢ 8
         → (parts : List Ending) × IsBatchOf took (S.failed shelf.old) (S.failed shelf.new) domain numbers problems parts
+        × (result.0 ≡ greatest (map status_of parts)) × (K.taken sink.new ≡ appended (K.taken sink.old) (parts_text 1 parts)) }
+
+    // What is promised of the text of `plan` holds of each part with a status up to 2.
+    ensures parts_are_so { (took : List Heard) → S.heard shelf.new ≡ S.heard shelf.old ++ took → (domain : List ℕ) (problems : List (List ℕ)) (numbers : Numbers) (turns : Turns)
+        → requested (map string_bytes words.now) ≡ Some (batches domain problems numbers turns) → result.0 ≢ 5 → result.0 ≢ 6 → result.0 ≢ 8
+        → (parts : List Ending) × (first : Heard) × (others : List Heard) × (took ≡ first ∷ others) × ArePartsSo domain numbers first problems others parts
         × (result.0 ≡ greatest (map status_of parts)) × (K.taken sink.new ≡ appended (K.taken sink.old) (parts_text 1 parts)) }
 
     // The part of a problem is what each run of `plan` prints, on whatever shelf, that was handed the same two files, by the same numbers
@@ -146,8 +178,9 @@ pub fn run<H: Threads + Wait + Sync, S: Shelf, K: Sink, G: Gate, D: Driver>(
         → AskForOnePart took elsewhere (map string_bytes words.now) place others → Comes elsewhere before after others end
         → HasRead end → slice_get parts place ≡ Some end) }
 
-    // No count of the driver's faults falls.
+    // No count of the driver's faults falls, and but for a batch the driver is not touched.
     ensures drives { D.faults driver.old ≤ D.faults driver.new }
+    ensures idle { (AskForBatch (map string_bytes words.now) → ⊥) → driver.new ≡ driver.old }
 
     // Words that are taken and files in order give an answer, where no fault comes from outside.
     ensures complete { (took : List Heard) → S.heard shelf.new ≡ S.heard shelf.old ++ took → (well : GoesWell (map string_bytes words.now) took (S.failed shelf.old) (S.failed shelf.new))
@@ -184,6 +217,7 @@ fn answered<H: Threads + Wait + Sync, S: Shelf, K: Sink, G: Gate, D: Driver>(
     ensures never_falls { (name : List ℕ) → fault_count name (S.failed shelf.old) ≤ fault_count name (S.failed shelf.new) }
     ensures faults { K.faults sink.old ≤ K.faults sink.new }
     ensures drives { D.faults driver.old ≤ D.faults driver.new }
+    ensures idle { (AskForBatch (map string_bytes words.now) → ⊥) → driver.new ≡ driver.old }
 {
     let Some(ending) = ended(decide(rt, alloc, words, shelf, gate, driver)) else {
         return Status(8);

@@ -1,5 +1,6 @@
-use Rattle.std.proofs.Common.{◌≡◌, ◌++◌, ◌∷◌, [], refl, sym, length, None, arith, append-nil}
+use Rattle.std.proofs.Common.{◌≡◌, ◌++◌, ◌∷◌, [], refl, sym, length, None, arith, append-nil, length-append}
 use Rattle.std.specs.Prelude.{slice_get}
+use Rattle.std.proofs.lemmas.Option.{slice_get_within}
 use Rattle.plan_words.specs.Seen.{seen, files_of}
 use Rattle.plan_files.specs.Limits.{file_at}
 use Rattle.plan_files.proofs.Hearing.{more_heard, agrees_same, agrees_more}
@@ -7,12 +8,12 @@ use Rattle.plan_files.proofs.Stopped.{Stops-handed}
 use Rattle.plan_files.proofs.Taking.{name_at, none_taken, noted_so, noted_here, rises_so, ends_here, one_more, all_taken}
 use Rattle.plan_files.proofs.take.take_all.Goals as goal
 
-pub taking-holds_initially : goal.taking-holds_initially
-taking-holds_initially g c = record {
+pub taking-init : goal.taking-init
+taking-init g c = record {
   told = refl;
   lacks = refl;
   agrees = agrees_same _ _ (g.S.Shelf.heard c.args.shelf.now) (g.S.Shelf.heard c.args.shelf.now) refl;
-  so = ([], sym (append-nil (g.S.Shelf.heard c.args.shelf.now)), none_taken _ _ _ _ _);
+  so = ([], sym (append-nil (g.S.Shelf.heard c.args.shelf.now)), rw c.new-files.ensures.items (none_taken _ _ _ _ _));
 }
 
 pub returns-in_err-file-clause-noted : goal.returns-in_err-file-clause-noted
@@ -65,6 +66,13 @@ taking-preserved g c =
         rw c.in_ok-push.ensures.items (one_more _ _ (file_at (seen c.args.request.now)) _ _ _ _ _ so.2 (g.S.Shelf.failed c.take.new.shelf) c.in-Some.name.now at c.in_ok-file.ensures.notes kept.0 c.in_ok-file.file kept.2),
       );
     }
+
+pub taking-smaller : goal.taking-smaller
+taking-smaller g c =
+    let names = files_of (seen c.args.request.now) in
+    let at = name_at names c.len.result (length c.taking.files.items) c.in-Some.name.now (omega (arith, c.taking.files.ok)) c.in-Some.ensures in
+    let within = slice_get_within names (length c.taking.files.items) c.in-Some.name.now at in
+    rw c.in_ok-push.ensures.items (omega (arith, within, length-append c.taking.files.items (c.in_ok-file.file ∷ [])))
 
 pub returns-clause-noted : goal.returns-clause-noted
 returns-clause-noted g c = noted_so _ _ (file_at (seen c.args.request.now)) _ _ _ _ _ c.taking.invariant.so.2

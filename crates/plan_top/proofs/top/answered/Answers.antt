@@ -1,4 +1,4 @@
-use Rattle.std.proofs.Common.{◌≡◌, Some, ap, ◌∙◌, map, string_bytes}
+use Rattle.std.proofs.Common.{◌≡◌, Some, refl, ap, ◌∙◌, map, string_bytes}
 use Rattle.plan_files.specs.Ends.{ending_in}
 use Rattle.plan_endings.specs.declared.ending.Ending.TheVariants.{Usage}
 use Rattle.plan_top.proofs.Promises.{status_apart}
@@ -32,4 +32,5 @@ returns-clause-front g c took handed not_eight =
 pub returns-clause-no_command : goal.returns-clause-no_command
 returns-clause-no_command g c none =
     let is : Some c.in-Some.ending ≡ Some Usage = c.in-Some.ensures ∙ ap ending_in (c.decide.ensures.no_command none) in
-    c.written.ensures.usage (let ending : c.in-Some.ending ≡ Usage = cc in ending)
+    let ending : c.in-Some.ending ≡ Usage = cc in
+    c.written.ensures.there (rw ending refl)

@@ -1,5 +1,5 @@
 use Rattle.std.proofs.Common.{ap, refl, arith}
-use Rattle.plan_top.proofs.Promises.{plan_runs, refuted_steps, refuted_plans, least, unfinished, lines, ground_told, order_told, reached, read_fault, usage, not_taken, no_command, same_report, complete, certified, verified, accepted, rejected, batch, as_alone}
+use Rattle.plan_top.proofs.Promises.{plan_runs, refuted_steps, refuted_plans, least, unfinished, lines, ground_told, order_told, reached, read_fault, usage, not_taken, no_command, same_report, complete, certified, verified, accepted, rejected, batch, parts_are_so, as_alone, not_reached, exhausted, found_steps, every_order_runs, proved_plan, passes}
 use Rattle.plan_top.proofs.top.run.Goals as goal
 
 pub returns-clause-plan_runs : goal.returns-clause-plan_runs
@@ -67,3 +67,24 @@ returns-clause-batch g c took handed = batch _ _ took handed _ _ _ _ _ _ (c.answ
 
 pub returns-clause-as_alone : goal.returns-clause-as_alone
 returns-clause-as_alone g c took handed = as_alone _ _ took handed _ _ _ _ _ _ c.laws.ensures (c.answered.ensures.due took handed)
+
+pub returns-clause-parts_are_so : goal.returns-clause-parts_are_so
+returns-clause-parts_are_so g c took handed = parts_are_so _ _ took handed _ _ _ _ _ _ c.laws.ensures (c.answered.ensures.due took handed)
+
+pub returns-clause-not_reached : goal.returns-clause-not_reached
+returns-clause-not_reached g c = let h = c.answered.ensures.agrees in not_reached _ _ h.0 h.1 _ _ _ _ _ _ (c.answered.ensures.due h.0 h.1)
+
+pub returns-clause-exhausted : goal.returns-clause-exhausted
+returns-clause-exhausted g c = let h = c.answered.ensures.agrees in exhausted _ _ h.0 h.1 _ _ _ _ _ _ c.laws.ensures (c.answered.ensures.due h.0 h.1)
+
+pub returns-clause-found_steps : goal.returns-clause-found_steps
+returns-clause-found_steps g c = let h = c.answered.ensures.agrees in found_steps _ _ h.0 h.1 _ _ _ _ _ _ c.laws.ensures (c.answered.ensures.front h.0 h.1) (λ eight. ap g.K.Sink.taken (c.answered.ensures.nothing eight))
+
+pub returns-clause-every_order_runs : goal.returns-clause-every_order_runs
+returns-clause-every_order_runs g c = let h = c.answered.ensures.agrees in every_order_runs _ _ h.0 h.1 _ _ _ _ _ _ c.laws.ensures (c.answered.ensures.due h.0 h.1)
+
+pub returns-clause-proved_plan : goal.returns-clause-proved_plan
+returns-clause-proved_plan g c = let h = c.answered.ensures.agrees in proved_plan _ _ h.0 h.1 _ _ _ _ _ _ c.laws.ensures (c.answered.ensures.due h.0 h.1)
+
+pub returns-clause-passes : goal.returns-clause-passes
+returns-clause-passes g c took handed = passes _ _ took handed _ _ _ _ _ _ c.laws.ensures (c.answered.ensures.due took handed)

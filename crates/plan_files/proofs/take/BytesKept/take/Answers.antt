@@ -1,5 +1,5 @@
-use Rattle.std.proofs.Common.{true, false, [], ◌∷◌, Ok, Err, refl, ap, arith, inl, inr, length, sym, ◌∙◌, append-nil}
-use Rattle.plan_files.specs.Limits.{most_of}
+use Rattle.std.proofs.Common.{◌≡◌, true, false, [], ◌∷◌, Ok, Err, refl, ap, arith, inl, inr, length, sym, ◌∙◌, append-nil}
+use Rattle.pl_io.specs.Outside.{Heard}
 use Rattle.plan_files.proofs.Hearing.{heard_is, so_whole, so_front, agrees_same, agrees_one}
 use Rattle.plan_files.proofs.take.BytesKept.take.Goals as goal
 
@@ -19,8 +19,7 @@ returns-in-Ok-Whole-clause-kept g c =
     let none = c.new-bytes.ensures.items in (
       (c.args.name.now, (true, c.take.new.into.items)),
       heard_is true (g.S.Shelf.heard c.args.shelf.now) (g.S.Shelf.heard c.take.new.self) c.args.name.now c.new-bytes.result.items c.take.new.into.items none (c.in-Ok-Whole.ensures.heard e),
-      rw c.of.ensures refl,
-      rw c.of.ensures (omega (arith, fits, ap length none, c.most_of.ensures.value)),
+      (rw c.of.ensures refl, rw c.of.ensures (omega (arith, fits, ap length none, c.most_of.ensures.value))),
     )
 
 pub returns-in-Ok-Longer-clause-agrees : goal.returns-in-Ok-Longer-clause-agrees
@@ -37,7 +36,7 @@ returns-in-Ok-Longer-clause-ends g c before rises =
     let e = ap Ok c.in-Ok-Longer.field-0-is in
     let full = c.in-Ok-Longer.ensures.longer_fills e in
     let none = c.new-bytes.ensures.items in
-    let front = (c.args.name.now, (false, c.take.new.into.items)) in (
+    let front : Heard = (c.args.name.now, (false, c.take.new.into.items)) in (
       front ∷ [],
       heard_is false (g.S.Shelf.heard c.args.shelf.now) (g.S.Shelf.heard c.take.new.self) c.args.name.now c.new-bytes.result.items c.take.new.into.items none (c.in-Ok-Longer.ensures.heard_front e),
       inr (refl, (front, refl, (c.take.new.into.items, refl, omega (arith, full, ap length none, c.most_of.ensures.value)))),
@@ -51,6 +50,3 @@ returns-in-Err-Failed-clause-ends g c before rises =
     let rose = c.in-Err-Failed.ensures.rose (ap Err c.in-Err-Failed.field-0-is) in
     let more = rises c.args.name.now in
     ([], c.in-Err-Failed.ensures.unheard ∙ sym (append-nil (g.S.Shelf.heard c.args.shelf.now)), inl (refl, omega (arith, rose, more), refl))
-
-pub returns-in-Err-Memory-clause-agrees : goal.returns-in-Err-Memory-clause-agrees
-returns-in-Err-Memory-clause-agrees g c = agrees_same (g.S.Shelf.told c.args.shelf.now) (g.S.Shelf.lacks c.args.shelf.now) (g.S.Shelf.heard c.args.shelf.now) (g.S.Shelf.heard c.take.new.self) c.in-Err-Memory.ensures.unheard
