@@ -29,7 +29,7 @@ pub fn told(alloc: Global, word: &[u8], horizon: u32, formula: &Formula) -> Resu
     let mut text = Text::of(word, horizon, formula);
     let mut all = Vec::new(alloc);
     let mut piece = Vec::new(alloc);
-    while text.next(&mut piece)? {
+    'telling: while text.next(&mut piece)? {
         all.extend_from_slice(piece.as_slice())?;
     }
     Ok(Bytes::of(all))

@@ -61,7 +61,7 @@ pub fn verdict_on<T: Tape>(alloc: Global, formula: &Formula, tape: &mut T) -> Re
 {
     let mut judge = Judge::new(alloc, formula)?;
     let mut piece = [0u8; PIECE];
-    loop {
+    'reading: loop {
         let Some(count) = next(tape, &mut piece)? else {
             return Ok(judge.finish());
         };
