@@ -196,14 +196,13 @@ module _ (heard hears : List Heard) (failed fails : List (List ℕ)) (faults ris
           let k = none v.0 v.1 in (
             task,
             are,
-            claims.no_step_plan laws task g is k.clauses k.components k.ordered how horizon k.holds,
-            claims.no_plan laws task g is k.clauses k.components k.ordered how horizon k.holds,
+            (claims.no_step_plan laws task g is k.clauses k.components k.ordered how horizon k.holds, claims.no_plan laws task g is k.clauses k.components k.ordered how horizon k.holds),
           )
 
       step : (end : Ended) → status_of end ≡ 0 → ComesFor heard hears failed fails faults rises (judges domain problem horizon proof how) end → OfFiles heard hears domain problem (IsProvedNone how horizon)
       step end at (inl stops) = low_only [] end at domain problem stops
       step end at (inr (inl un)) = absurd (let five = ap status_of un.2 ∙ ap plain.status_of un.1.0 in omega (arith, five, at))
-      step end at (inr (inr taken)) = (taken.0, taken.1, taken.2, proved end at taken.0 taken.1 taken.3)
+      step end at (inr (inr taken)) = let r = proved end at taken.0 taken.1 taken.3 in (taken.0, taken.1, taken.2, r.0, r.1, r.2)
 
   pub is_told : TaskLaws → IsDue → (text domain problem : List ℕ) (horizon : ℕ) (how : Stepping) → status ≡ 0 → Printed before after text → requested words ≡ Some (formulas domain problem horizon how)
       → OfFiles heard hears domain problem (TellsFormula how horizon text)
@@ -224,7 +223,7 @@ module _ (heard hears : List Heard) (failed fails : List (List ℕ)) (faults ris
 
       step : (end : Ended) → status_of end ≡ 0 → text ≡ text_of end → ComesFor heard hears failed fails faults rises (formulas domain problem horizon how) end → OfFiles heard hears domain problem (TellsFormula how horizon text)
       step end at same (inl stops) = low_only [] end at domain problem stops
-      step end at same (inr taken) = (taken.0, taken.1, taken.2, told end at same taken.0 taken.1 taken.3)
+      step end at same (inr taken) = let r = told end at same taken.0 taken.1 taken.3 in (taken.0, taken.1, taken.2, r.0, r.1, r.2)
 
   -- ---- words and faults
 

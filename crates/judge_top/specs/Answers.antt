@@ -1,5 +1,5 @@
 -- What a domain and a problem, and a proof, come to for the judge.
-use Rattle.std.specs.Prelude.{◌≡◌, ◌<◌, ℕ, List, codes, Result, Ok, Err, Option, Some, None}
+use Rattle.std.specs.Prelude.{◌≡◌, ◌<◌, ℕ, Bool, List, codes, Result, Ok, Err, Option, Some, None}
 use Rattle.clause_base.specs.Formula.{Cnf, IsUnsatisfiable}
 use Rattle.cnf_text.specs.Text.{formula_text}
 use Rattle.gt_core.specs.Task.{Task}

@@ -1,5 +1,5 @@
 //! What the bytes of a domain and a problem, and a proof, come to.
-ghost use Rattle.std.specs.Prelude.{◌≤◌, length};
+ghost use Rattle.std.specs.Prelude.{◌≡◌, ◌≤◌, length};
 ghost use Rattle.plan_files.specs.Limits.{most_bytes};
 ghost use Rattle.judge_top.specs.Answers.{EndsWith, OnceReady, AnswersFormula, AnswersJudge, ended_by};
 

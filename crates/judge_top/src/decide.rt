@@ -6,7 +6,7 @@ ghost use Rattle.plan_files.specs.Files.{NotesAmong};
 ghost use Rattle.judge_words.specs.Requested.{requested, command_named};
 ghost use Rattle.judge_words.specs.Seen.{seen, horizon_of, formulas, judges};
 ghost use Rattle.judge_top.specs.Answers.{EndsWith};
-ghost use Rattle.judge_top.specs.Causes.{Around, ComesFor, Comes, names_in};
+ghost use Rattle.judge_top.specs.Causes.{ComesFor, Comes, names_in};
 
 use crate::answer::{answer_formula, answer_judge};
 use crate::verdict::open;
