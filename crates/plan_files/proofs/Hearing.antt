@@ -22,6 +22,10 @@ more_heard old middle new took more first second = second ∙ (ap (λ (xs : List
 pub handed_once : (old new took other : List Heard) → new ≡ old ++ took → new ≡ old ++ other → took ≡ other
 handed_once old new took other first second = append_cancel_left old took other (sym first ∙ second)
 
+-- nothing was handed over
+pub handed_none : (old took : List Heard) → old ≡ old ++ took → took ≡ []
+handed_none old took same = append_cancel_left old took [] (sym same ∙ sym (append-nil old))
+
 -- all of a file that is told, and a front of one
 pub so_whole : (told : Option (List ℕ)) (most : ℕ) (before after : List ℕ) → before ≡ [] → IfSome told (TookWhole most before after) → IfSome told (λ file. IsSo file true after)
 so_whole None most before after none took = tt

@@ -731,7 +731,7 @@ module _ (was now took : List Heard) (handed : now ≡ was ++ took) (old new : L
 
   pub batch : IsDue → (domain : List ℕ) (problems : List (List ℕ)) (n : Numbers) (turns : Turns) → requested words ≡ Some (batches domain problems n turns) → (status ≡ 5 → ⊥) → (status ≡ 6 → ⊥) → (status ≡ 8 → ⊥)
       → (parts : List Ending) × IsBatchOf took old new domain n problems parts × (status ≡ greatest (map status_of parts)) × (after ≡ appended before (parts_text 1 parts))
-  batch due domain problems n turns asked not_five not_six not_eight = its_parts due domain problems n turns asked not_five not_six not_eight
+  batch due domain problems n turns asked not_five not_six not_eight = let p = its_parts due domain problems n turns asked not_five not_six not_eight in (p.0, p.1, p.2.0, p.2.1)
 
   -- each of them keeps what is promised of `plan`
   one_is_so : Laws → (domain problem : List ℕ) (n : Numbers) (heard other : Heard) (part : Ending) → IsPartOf old new heard other (plans domain problem n) part → status_of part ≤ 2 → PartIsSo domain problem n heard other (text_of part) (status_of part)
@@ -760,14 +760,14 @@ module _ (was now took : List Heard) (handed : now ≡ was ++ took) (old new : L
   parts_are_so laws due domain problems n turns asked not_five not_six not_eight =
       let p = its_parts due domain problems n turns asked not_five not_six not_eight in
       let b = p.1 in
-      (p.0, b.first, b.others, b.all, all_are_so laws domain n b.first problems b.others p.0 b.are, p.2, p.3)
+      (p.0, b.first, b.others, b.all, all_are_so laws domain n b.first problems b.others p.0 b.are, p.2.0, p.2.1)
 
   pub as_alone : Laws → IsDue → (domain : List ℕ) (problems : List (List ℕ)) (n : Numbers) (turns : Turns) → requested words ≡ Some (batches domain problems n turns) → (status ≡ 5 → ⊥) → (status ≡ 6 → ⊥) → (status ≡ 8 → ⊥)
       → (parts : List Ending) × (status ≡ greatest (map status_of parts)) × (after ≡ appended before (parts_text 1 parts))
       × ((elsewhere : List Heard) (others was is : List (List ℕ)) (end : Ending) (place : ℕ) → AskForOnePart took elsewhere words place others → Comes elsewhere was is others end → HasRead end → slice_get parts place ≡ Some end)
   as_alone laws due domain problems n turns asked not_five not_six not_eight =
       let p = its_parts due domain problems n turns asked not_five not_six not_eight in
-      (p.0, p.2, p.3, λ elsewhere others was is end place ask comes reads. part_at laws took elsewhere old new was is words others domain problems n turns p.0 asked p.1 place end ask comes reads)
+      (p.0, p.2.0, p.2.1, λ elsewhere others was is end place ask comes reads. part_at laws took elsewhere old new was is words others domain problems n turns p.0 asked p.1 place end ask comes reads)
 
   pub complete : Laws → IsDue → (status ≡ 6 → ⊥) → (well : GoesWell words took old new) → (status ≡ 8) ⊎ ((end : Ending) × (status ≡ status_of end) × IsGood well.request end × (after ≡ appended before (text_of end)))
   complete laws due not_six well = elim (eqb_tells status 8) [
