@@ -24,4 +24,4 @@ returns g c =
     let r = c.in_ok-ready.ready in
     let f = c.in_ok-formula.formula in
     let known = subst (λ (t : Task). OfKnown t (IsFormula (places_by c.args.steps) (is_plan_by c.args.steps) c.args.horizon f)) c.task.ensures c.in_ok-formula.ensures.formula in
-    ready r.task r.grounded c.in_ok-ready.ensures.task c.in_ok-ready.ensures.ready (formula (tells c.args.steps c.args.horizon r.grounded.task f _ c.in_ok-text.text (c.as_bytes.ensures ∙ c.word_of.ensures) c.in_ok-text.ensures.text known))
+    ready r.task r.grounded c.in_ok-ready.ensures.task c.in_ok-ready.ensures.ready (formula (tells c.args.steps c.args.horizon r.grounded.task f _ c.in_ok-text.text (c.as_bytes.ensures.value ∙ c.word_of.ensures) c.in_ok-text.ensures.text known))

@@ -12,14 +12,14 @@ returns-in_err-files-clause-cause g c =
     handed _ _ (λ end h. inl (end, h.0, h.1, h.2, refl)) c.in_err-files.field-0.0 c.from_residual.result c.from_residual.ensures.1 c.in_err-files.ensures.stops
 
 pub two_of-requires-clause-fit : goal.two_of-requires-clause-fit
-two_of-requires-clause-fit g c κs within =
+two_of-requires-clause-fit g c =
     let taken = c.in_ok-files.ensures.taken in
     let d = c.args.domain.now in
     let p = c.args.problem.now in
     rw c.as_slice.ensures.value (taken_short (file_at (grounds d p)) 0 (d ∷ p ∷ []) taken.0 c.in_ok-files.files.items taken.2)
 
 pub two_of-requires-clause-count : goal.two_of-requires-clause-count
-two_of-requires-clause-count g c κs within =
+two_of-requires-clause-count g c =
     let taken = c.in_ok-files.ensures.taken in
     let d = c.args.domain.now in
     let p = c.args.problem.now in

@@ -10,7 +10,7 @@ returns-in_default-clause-refuted g c entries e =
 
 pub returns-in_default-2 : goal.returns-in_default-2
 returns-in_default-2 g c = record {
-  refuted = λ entries e. subst (λ (f : Cnf). IsUnsatisfiable f.clauses) c.reading.invariant.0 (c.in_ok-verdict.ensures.refuted entries e);
+  refuted = λ entries e. let is : c.in_ok-verdict.verdict ≡ Refuted entries = cc in subst (λ (f : Cnf). IsUnsatisfiable f.clauses) c.reading.invariant.0 (c.in_ok-verdict.ensures.refuted entries (ap Ok is));
   stops = tt;
   later = omega (arith, c.reading.invariant.2, c.next.ensures.later);
 }
