@@ -1,0 +1,7 @@
+use Rattle.std.proofs.Common.{subst}
+use Rattle.clause_base.specs.Formula.{Cnf, IsUnsatisfiable}
+use Rattle.lrat_judge.proofs.judge.Judge.take.Goals as goal
+
+pub returns-then-ne-clause-refuted : goal.returns-then-ne-clause-refuted
+returns-then-ne-clause-refuted c entries e =
+    subst (λ (f : Cnf). IsUnsatisfiable f.clauses) c.loop-line.invariant (c.in_ok-verdict.ensures.refuted entries e)

@@ -1,0 +1,5 @@
+use Rattle.std.proofs.Common.{length}
+use Rattle.lrat_text.proofs.line.Line.read_literals.Given as goal
+
+abbrev pub decreases-loop-told : goal.decreases-loop-told
+decreases-loop-told l = length l.words
