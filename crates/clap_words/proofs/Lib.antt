@@ -1,3 +1,6 @@
+pub mod Chain
+pub mod ListReaders
+pub mod Ranges
 mod Arguments
 mod PassedReaders
 mod NoFault

@@ -1,3 +1,4 @@
+pub mod Arguments
 pub mod Fit
 pub mod Passed
 pub mod Same

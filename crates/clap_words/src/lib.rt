@@ -9,10 +9,14 @@
 //! };
 //! serve(text(&matches, "file"), number(&matches, "lines", 1, 100))
 //! ```
+//!
+//! A command is made of its [`Argument`]s by [`with_all`].
 #![tactic(auto)]
 
+mod building;
 mod parsing;
 mod values;
 
+pub use building::{Argument, put, with_all};
 pub use parsing::{Memory, parse};
 pub use values::{number, text, texts};

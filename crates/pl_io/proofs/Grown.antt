@@ -1,7 +1,11 @@
 -- What is taken in two parts.
-use Rattle.std.proofs.Common.{◌≡◌, ◌≤◌, ℕ, ◌+◌, List, [], ◌++◌, Option, Some, None, take, drop, refl, ap, sym, ◌∙◌, append_assoc, length, ◌-◌, arith, length-drop}
-use Rattle.std.proofs.lemmas.List.{take_all, append-nil, length-append, length-take-le}
-use Rattle.std.proofs.Math.Seq.{take-add}
+use Rattle.std.proofs.Common.{◌≡◌, ◌≤◌, ℕ, ◌+◌, List, [], ◌++◌, Option, Some, None, take, drop, min, inl, inr, refl, ap, sym, ◌∙◌, append_assoc, length, ◌-◌, arith, length-drop}
+use Rattle.std.proofs.lemmas.List.{take_all, take-append-drop, append-nil, length-append, length-take-le}
+use Rattle.std.proofs.lemmas.List.{drop-drop}
+use Rattle.std.proofs.lemmas.Bool.{cases_lt}
+use Rattle.std.proofs.Math.Nat.{min-eq_left, min-eq_right}
+use Rattle.std.proofs.Math.ListN.{drop_of_length-le}
+use Rattle.std.proofs.Math.Seq.{take-add, drop-length}
 use Rattle.pl_io.specs.Outside.{appended, Took, TookWhole, TookFirst}
 
 -- a front, and then a front of what is left
@@ -32,3 +36,19 @@ first-fills most old new file took = omega (arith, ap length took.1, length-appe
 pub still-left : (before new chunk : List ℕ) (left kept total : ℕ) → new ≡ before ++ take kept chunk → kept ≤ length chunk → kept ≤ left → length before + left ≡ total → length new + (left - kept) ≡ total
 still-left before new chunk left kept total more inside few is =
     omega (arith, ap length more, length-append before (take kept chunk), length-take-le kept chunk inside, few, is)
+
+-- what is left of a file, from a place past its end too
+left_from : (bytes : List ℕ) (at : ℕ) → drop at bytes ≡ drop (min at (length bytes)) bytes
+left_from bytes at = elim (cases_lt at (length bytes)) [
+  | inl within ↦ ap (λ (n : ℕ). drop n bytes) (sym (min-eq_left (omega (arith, within))))
+  | inr past ↦ drop_of_length-le bytes past ∙ (sym (drop-length bytes) ∙ ap (λ (n : ℕ). drop n bytes) (sym (min-eq_right past)))
+]
+
+-- a piece that is taken, and what is left of the file after it
+pub piece_taken : (bytes into : List ℕ) (at start count : ℕ) → start ≡ min at (length bytes) → take count into ≡ take count (drop start bytes)
+    → drop at bytes ≡ take count into ++ drop (start + count) bytes
+piece_taken bytes into at start count is copied =
+    (left_from bytes at ∙ ap (λ (n : ℕ). drop n bytes) (sym is))
+    ∙ (sym (take-append-drop count (drop start bytes))
+    ∙ (ap (λ (xs : List ℕ). take count (drop start bytes) ++ xs) (drop-drop count start bytes)
+    ∙ ap (λ (xs : List ℕ). xs ++ drop (start + count) bytes) (sym copied)))

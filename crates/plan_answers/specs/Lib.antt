@@ -1,5 +1,5 @@
-pub mod Stepping
-pub mod Tasks
+pub use Rattle.plan_tasks.specs.Stepping
+pub use Rattle.plan_tasks.specs.Tasks
 pub mod Raced
 pub mod Generated
 pub mod Answers

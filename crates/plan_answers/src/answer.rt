@@ -13,16 +13,17 @@ ghost use Rattle.plan_files.specs.Ends.{EndsAs, StopsBy};
 use crate::certify::{answer_prove, answer_verify};
 use crate::generated::answer_gen;
 use crate::raced::raced;
-use crate::ready::read_ready;
 use crate::reported::reported;
-use crate::task::read_task;
 use action_order::publish::publish;
 use horizon_rates::Settings;
 use pd_model::{Calls, Pddl, Verdict};
 use pd_plan::{PlanFault, read_plan};
 use pl_io::Bytes;
 use plan_endings::{Ending, File, Kind};
+use plan_files::parts::{three_of, two_of};
 use plan_files::stop::{Stop, refuse};
+use plan_tasks::ready::read_ready;
+use plan_tasks::task::read_task;
 use plan_words::{Request, Stepping};
 use solver_pool::Gate;
 use std::alloc::Global;
@@ -86,33 +87,6 @@ pub fn answer<H: Threads + Wait + Sync, G: Gate>(
         }
         Request::Batch { .. } => unreachable!(),
     }
-}
-
-// The bytes of the two files of a request.
-fn two_of<'a>(_request: &Request<'_>, files: &'a [Bytes]) -> (&'a [u8], &'a [u8])
-    requires fit { AreShort (file_at (seen _request.now)) 0 files.now }
-    requires count { length files.now ≡ 2 }
-    ensures files { files.now ≡ result.0.now ∷ result.1.now ∷ [] }
-    ensures domain { length result.0.now ≤ most_bytes }
-    ensures problem { length result.1.now ≤ most_bytes }
-{
-    (files[0].as_slice(), files[1].as_slice())
-}
-
-// The bytes of the three files of a request.
-fn three_of<'a>(_request: &Request<'_>, files: &'a [Bytes]) -> (&'a [u8], &'a [u8], &'a [u8])
-    requires fit { AreShort (file_at (seen _request.now)) 0 files.now }
-    requires count { length files.now ≡ 3 }
-    ensures files { files.now ≡ result.0.now ∷ result.1.now ∷ result.2.now ∷ [] }
-    ensures domain { length result.0.now ≤ most_bytes }
-    ensures problem { length result.1.now ≤ most_bytes }
-    ensures third { length result.2.now ≤ most_of (third_of (seen _request.now)) }
-{
-    (
-        files[0].as_slice(),
-        files[1].as_slice(),
-        files[2].as_slice(),
-    )
 }
 
 // What a domain and a problem come to for the commands `plan` and `plan-all`.

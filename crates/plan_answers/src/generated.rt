@@ -8,7 +8,6 @@ ghost use Rattle.plan_answers.specs.Generated.{AnswersGenerated, RacesGenerated,
 ghost use Rattle.plan_files.specs.Ends.{EndsAs};
 
 use crate::raced::{outcome, raced};
-use crate::ready::read_ready;
 use horizon_rates::Settings;
 use pd_model::Memory;
 use pl_io::Bytes;
@@ -16,6 +15,7 @@ use plan_endings::Ending;
 use plan_files::stop::Stop;
 use plan_gen::{Kind, Made, generate};
 use plan_report::summary_text;
+use plan_tasks::ready::read_ready;
 use plan_words::{Show, Stepping};
 use race_end::RaceEnd;
 use report_lines::push_number;

@@ -7,15 +7,12 @@
 //! let ending = answer(rt, alloc, &request, &files, &OpenGate)?;    // for `plan`: the report of the race on the task
 //! ```
 //!
-//! A caller that runs several races side by side reads and grounds each task by [`ready::ready_with`], finds what is known of it by
+//! A caller that runs several races side by side reads and grounds each task by `ready_with` of plan_tasks, finds what is known of it by
 //! [`raced::known_of`], and tells of its race by [`reported::reported`].
 #![tactic(auto)]
 
 pub mod answer;
 mod certify;
 mod generated;
-mod ground;
 pub mod raced;
-pub mod ready;
 pub mod reported;
-pub mod task;

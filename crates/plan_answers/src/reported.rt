@@ -8,12 +8,12 @@ ghost use Rattle.plan_endings.specs.declared.ending.Ending.{Ending};
 ghost use Rattle.plan_files.specs.Ends.{OnlyMemory};
 
 use crate::raced::outcome;
-use crate::ready::Ready;
 use horizon_rates::Settings;
 use pl_io::Bytes;
 use plan_endings::Ending;
 use plan_files::stop::Stop;
 use plan_report::report_text;
+use plan_tasks::ready::Ready;
 use race_end::RaceEnd;
 use std::alloc::Global;
 

@@ -1,7 +1,7 @@
 //! How a run ends, with the exit status and the text due.
-ghost use Rattle.std.specs.Prelude.{◌≡◌, ◌<◌, ◌^◌, ◌∷◌, ◌++◌, [], OnOk, IfOk, IsOk, decimal};
+ghost use Rattle.std.specs.Prelude.{◌≡◌, ◌<◌, ◌^◌, ◌∷◌, ◌++◌, [], IsTrue, OnOk, IfOk, IsOk, decimal};
 ghost use Rattle.report_lines.specs.Lines.{joined};
-ghost use Rattle.plan_endings.specs.Ending.{status_of_race, status_of, text_of, bytes_of, word_of, kind_word, limit_word, IsSmall};
+ghost use Rattle.plan_endings.specs.Ending.{status_of_race, status_of, text_of, bytes_of, word_of, kind_word, limit_word, is_there, IsSmall};
 
 use pl_io::{Bytes, Memory};
 use report_lines::push_number;
@@ -136,11 +136,11 @@ impl Ending {
         }
     }
 
-    /// The text due, made whole. A text that is always the same takes no memory.
+    /// The text due, made whole. One that was made before, or is always the same, takes no memory.
     pub fn text(self, alloc: Global) -> Result<Due, Memory>
         ensures text { IfOk result (λ due. bytes_of due ≡ text_of self) }
         ensures small { OnOk result (IsSmall self) }
-        ensures usage { self ≡ Ending.Usage → IsOk result }
+        ensures there { IsTrue (is_there self) → IsOk result }
     {
         match self {
             Ending::Report { text, .. } => Ok(Due::Made(text)),
@@ -254,16 +254,22 @@ fn numbered(mut text: Vec<u8>, number: u64) -> Result<Due, Memory>
     Ok(Due::Made(Bytes::of(text)))
 }
 
-// The line of a text and a number.
-fn of_number(alloc: Global, front: &str, number: u64) -> Result<Due, Memory>
+/// The line of a text and a number.
+pub fn of_number(alloc: Global, front: &str, number: u64) -> Result<Due, Memory>
     ensures text { IfOk result (λ due. bytes_of due ≡ joined ((front.now ++ decimal number) ∷ [])) }
     ensures small { OnOk result (number < 2 ^ 64) }
 {
     numbered(Vec::from_slice(alloc, front.as_bytes())?, number)
 }
 
-// The line of two texts, each before a number.
-fn of_numbers(alloc: Global, front: &str, one: u64, middle: &str, two: u64) -> Result<Due, Memory>
+/// The line of two texts, each before a number.
+pub fn of_numbers(
+    alloc: Global,
+    front: &str,
+    one: u64,
+    middle: &str,
+    two: u64,
+) -> Result<Due, Memory>
     ensures text { IfOk result (λ due. bytes_of due ≡ joined ((front.now ++ (decimal one ++ (middle.now ++ decimal two))) ∷ [])) }
     ensures small { OnOk result ((one < 2 ^ 64) × (two < 2 ^ 64)) }
 {

@@ -11,5 +11,5 @@
 mod ending;
 mod parts;
 
-pub use ending::{Due, Ending, File, Kind, Limit, Outcome};
+pub use ending::{Due, Ending, File, Kind, Limit, Outcome, of_number, of_numbers};
 pub use parts::Growing;

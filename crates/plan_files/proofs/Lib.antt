@@ -1,2 +1,4 @@
 pub mod Stopped
 pub mod Taking
+pub mod Hearing
+pub mod Several

@@ -7,5 +7,6 @@
 #![tactic(auto)]
 
 pub mod first;
+pub mod parts;
 pub mod stop;
 pub mod take;

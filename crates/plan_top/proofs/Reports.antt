@@ -18,7 +18,9 @@ use Rattle.plan_endings.specs.declared.ending.Limit.TheVariants as limits
 use Rattle.plan_endings.specs.declared.ending.Ending.{Ending}
 use Rattle.plan_endings.specs.declared.ending.Ending.TheVariants.{Report, Listing, Reaches, Blocked, Short, Refused, TooLong, TooMany, TooLarge, ReadFault, Usage, Found, Open, Accepted, Rejected, NotEmpty, Parts}
 use Rattle.plan_endings.specs.Ending.{status_of, text_of, line_of, kind_word, limit_word, word_of, IsSmall}
-use Rattle.plan_top.specs.Headline.{Printed}
+use Rattle.plan_claims.specs.Headline.{Printed}
+use Rattle.plan_tasks.proofs.Printing.{front_cancels}
+pub use Rattle.plan_tasks.proofs.Printing.{printed_is}
 
 -- ---- endings that stop a run
 
@@ -113,17 +115,6 @@ stop_says_nothing say end stop small horizon word conflicts one says =
     let within = told.1 in omega (arith, within)
 
 -- ---- what a sink took
-
-front_cancels : (front xs ys : List ℕ) → front ++ xs ≡ front ++ ys → xs ≡ ys
-front_cancels [] xs ys e = e
-front_cancels (f ∷ fs) xs ys e = front_cancels fs xs ys (let tails : fs ++ xs ≡ fs ++ ys = cc in tails)
-
-pub printed_is : (old new : Option (List ℕ)) (text taken : List ℕ) → Printed old new text → new ≡ appended old taken → text ≡ taken
-printed_is None new text taken p e = absurd (let never : None ≡ Some p.0 = p.1 in cc)
-printed_is (Some before) new text taken p e =
-    let same : p.0 ≡ before = cc in
-    let all : Some (p.0 ++ text) ≡ Some (before ++ taken) = sym p.2 ∙ e in
-    front_cancels before text taken (let inner : p.0 ++ text ≡ before ++ taken = cc in rw same at inner)
 
 -- where nothing was written nothing is said
 pub nothing_said : {A : Type 0} (taken : Option (List ℕ)) (text : List ℕ) (horizon conflicts : ℕ) (word : List ℕ) → Printed taken taken text → Says text horizon word conflicts → A

@@ -25,8 +25,8 @@ use Rattle.plan_answers.specs.Answers.{AnswersPlan}
 use Rattle.plan_top.specs.declared.parts.Part.{Part}
 use Rattle.plan_top.specs.declared.parts.Part.TheVariants as parts
 use Rattle.plan_top.specs.declared.parts.Run.{Run}
-use Rattle.plan_answers.specs.declared.task.Reading.{Reading}
-use Rattle.plan_answers.specs.declared.task.Reading.TheVariants as readings
+use Rattle.plan_tasks.specs.declared.task.Reading.{Reading}
+use Rattle.plan_tasks.specs.declared.task.Reading.TheVariants as readings
 use Rattle.pd_sexp.specs.View.{view}
 use Rattle.pd_sexp.specs.Word.{has_words}
 

@@ -12,9 +12,9 @@ use crate::{Ending, File};
 use pd_sexp::Tree;
 use pl_io::Bytes;
 use plan_answers::raced::{Known, known_of};
-use plan_answers::ready::{Ready, ready_with};
-use plan_answers::task::{Reading, reading_of};
 use plan_files::stop::Stop;
+use plan_tasks::ready::{Ready, ready_with};
+use plan_tasks::task::{Reading, reading_of};
 use std::alloc::Global;
 use std::thread::Threads;
 

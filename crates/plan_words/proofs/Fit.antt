@@ -1,32 +1,24 @@
 -- Each command can be parsed, and gives its numbers.
-use Rattle.std.proofs.Common.{◌≡◌, ◌∙◌, ℕ, Bool, true, false, true≢false, List, [], ◌∷◌, map, Option, Some, None, is_some, slice_get, option_and_then, option_map, pos, refl, sym, ap, subst, codes, if◌then◌else◌, String, Global, string_bytes}
-use Rattle.std.specs.List.{list_any}
-use Rattle.std.proofs.lemmas.Option.{slice_get-map}
+use Rattle.std.proofs.Common.{◌≡◌, ◌∙◌, ℕ, Bool, true, false, true≢false, List, [], ◌∷◌, map, Option, Some, None, is_some, slice_get, option_and_then, refl, sym, ap, subst, codes, if◌then◌else◌, String, Global, string_bytes}
 use Rattle.std.specs.Prelude.{unwrap_or}
-use Rattle.clap.specs.Values.{same_text}
-use Rattle.clap.specs.ValueTests.{accepts}
 use Rattle.clap.specs.Walk.{Row, Rule, Text, arg_by_id}
 use Rattle.clap.specs.Simple.{App, matches_of}
 use Rattle.clap.specs.Takes.{takes}
 use Rattle.clap.specs.declared.builder.value_parser.ValueParser.{ValueParser}
-use Rattle.clap.specs.declared.builder.value_parser.ValueParser.TheVariants as reader
-use Rattle.clap.proofs.WalkLemmas.{list_any-map}
 use Rattle.plan_words.specs.declared.command.Name.{Name}
 use Rattle.plan_words.specs.declared.command.Name.TheVariants.{Plan, Check, Ground, Order, Gen, Prove, Verify, Batch}
 use Rattle.plan_words.specs.declared.command.Readers.{Readers}
 use Rattle.clap_words.specs.Same.{IsSame}
-use Rattle.plan_words.specs.Command.{AreReaders, TakesWords, command_of, lists, named, number, race_options, workers_option}
+use Rattle.clap_words.specs.Arguments.{number}
+use Rattle.plan_words.specs.Command.{AreReaders, command_of, lists, named, race_options, workers_option}
 use Rattle.clap_words.specs.Fit.{IsFit}
-use Rattle.clap_words.specs.Passed.{HasNumber, Passed}
+use Rattle.clap_words.specs.Passed.{Passed}
 use Rattle.plan_words.specs.Ranges.{Has, HasNumbers, HasSettings}
 use Rattle.plan_words.specs.Requested.{command_named, requested, requested_of}
 use Rattle.plan_words.specs.Seen.{Seen, counted, seen_in}
 use Rattle.plan_words.proofs.SameReaders.{as_lists}
-
--- one of the words passes
-one_passes : (words : List Text) (by : ValueParser) (t : Text) → TakesWords words by → list_any (λ w. same_text false w t) words ≡ true → accepts false by t ≡ true
-one_passes words (reader.Names names) t h e = list_any-map (λ w. same_text false w t) (λ n. n.now) names.now ∙ (ap (list_any (λ w. same_text false w t)) h ∙ e)
-one_passes words _ t h e = absurd h
+use Rattle.clap_words.proofs.ListReaders.{one_passes}
+use Rattle.clap_words.proofs.Ranges.{number_in, found_each}
 
 pub fit : (by : Readers) → AreReaders by → (name : Name) → IsFit (command_of by name)
 fit by are (Plan stepping) =
@@ -45,19 +37,6 @@ fit by are Batch =
     let a = one_passes _ by.algorithms (codes "a") are.algorithms refl in
     let t = one_passes _ by.turns (codes "forward") are.turns refl in
     record { simple = refl; leaf = refl; defaults = rw (a, t) refl; values = refl }
-
--- the one lemma for an argument with a range
-number_in : (rules : List Rule) (rows : List Row) → Passed rules rows → (id : Text) (r : Rule) (low high : ℕ) → arg_by_id rules id ≡ Some r
-    → r.parser ≡ Some (reader.Signed (pos low) (pos high)) → HasNumber low high id rows
-number_in rules rows passed id r low high finds by = let got = passed id r _ finds by in (got.0, got.1, got.2)
-
--- each of some arguments is found by its name, where all are
-found_each : (rules rs : List Rule) → map (λ (r : Rule). arg_by_id rules r.id) rs ≡ map (λ r. Some r) rs → (k : ℕ) (r : Rule) → slice_get rs k ≡ Some r → arg_by_id rules r.id ≡ Some r
-found_each rules rs all k r at =
-    let left = slice_get-map (λ (x : Rule). arg_by_id rules x.id) rs k ∙ ap (option_map (λ (x : Rule). arg_by_id rules x.id)) at in
-    let right = slice_get-map (λ (x : Rule). Some x) rs k ∙ ap (option_map (λ (x : Rule). Some x)) at in
-    let same : Some (arg_by_id rules r.id) ≡ Some (Some r) = sym left ∙ (ap (λ (l : List (Option Rule)). slice_get l k) all ∙ right) in
-    ap (λ (o : Option (Option Rule)). unwrap_or o None) same
 
 -- the numbers of a race, where its options are among the arguments
 race_of : (algorithms : ValueParser) (rules : List Rule) (rows : List Row) → Passed rules rows

@@ -1,4 +1,3 @@
-mod Chain
 mod Fit
 mod SameReaders
 mod Numbers

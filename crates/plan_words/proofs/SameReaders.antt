@@ -1,25 +1,12 @@
 -- Any readers of the lists make the same commands, but for where the lists lie.
-use Rattle.std.proofs.Common.{◌≡◌, ◌∙◌, List, [], ◌∷◌, map, refl, sym, ap}
-use Rattle.std.specs.Borrow.{Bor}
-use Rattle.clap.specs.Walk.{Text, texts}
-use Rattle.clap.specs.declared.builder.value_parser.ValueParser.{ValueParser}
-use Rattle.clap.specs.declared.builder.value_parser.ValueParser.TheVariants as reader
+use Rattle.std.proofs.Common.{refl}
 use Rattle.plan_words.specs.declared.command.Name.{Name}
 use Rattle.plan_words.specs.declared.command.Name.TheVariants.{Plan, Check, Ground, Order, Gen, Prove, Verify, Batch}
 use Rattle.plan_words.specs.declared.request.Stepping.TheVariants.{Exists, All}
 use Rattle.plan_words.specs.declared.command.Readers.{Readers}
-use Rattle.clap_words.specs.Same.{IsSame, reader_anywhere, somewhere}
-use Rattle.plan_words.specs.Command.{AreReaders, TakesWords, algorithm_words, command_of, kind_words, lists, show_words, turn_words}
-
-norm_texts : (xs : List (Bor Text)) → map (λ (n : Bor Text). somewhere n.now) xs ≡ map somewhere (texts xs)
-norm_texts [] = refl
-norm_texts (x ∷ xs) = ap (λ (rest : List (Bor Text)). somewhere x.now ∷ rest) (norm_texts xs)
-
-norm_lists : (words : List Text) (p q : ValueParser) → TakesWords words p → TakesWords words q → reader_anywhere p ≡ reader_anywhere q
-norm_lists words (reader.Names xs) (reader.Names ys) h k =
-    ap (λ (ns : List (Bor Text)). reader.Names (somewhere ns)) (norm_texts xs.now ∙ (ap (map somewhere) (h ∙ sym k) ∙ sym (norm_texts ys.now)))
-norm_lists words (reader.Names xs) q h k = absurd k
-norm_lists words p q h k = absurd h
+use Rattle.clap_words.specs.Same.{IsSame}
+use Rattle.clap_words.proofs.ListReaders.{norm_lists}
+use Rattle.plan_words.specs.Command.{AreReaders, algorithm_words, command_of, kind_words, lists, show_words, turn_words}
 
 same_commands : (by to : Readers) → AreReaders by → AreReaders to → (name : Name) → IsSame (command_of by name) (command_of to name)
 same_commands by to are too (Plan Exists) =

@@ -1,6 +1,7 @@
 use Rattle.std.proofs.Common.{[], ◌∷◌, map, codes}
-use Rattle.plan_words.specs.Command.{many_words, option, race_options, rule_for, word}
-use Rattle.plan_words.proofs.Chain.{three_added}
+use Rattle.clap_words.specs.Arguments.{many_words, option, rule_for, word}
+use Rattle.plan_words.specs.Command.{race_options}
+use Rattle.clap_words.proofs.Chain.{three_added}
 use Rattle.plan_words.proofs.command.put_batching.Goals as goal
 
 pub returns : goal.returns

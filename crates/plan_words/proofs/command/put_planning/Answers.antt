@@ -1,4 +1,4 @@
-use Rattle.plan_words.proofs.Chain.{then_added}
+use Rattle.clap_words.proofs.Chain.{then_added}
 use Rattle.plan_words.proofs.command.put_planning.Goals as goal
 
 pub returns : goal.returns

@@ -1,0 +1,56 @@
+//! How a run of the judge ends, with the exit status and the text due.
+ghost use Rattle.std.specs.Prelude.{◌≡◌, IfOk, IsOk};
+ghost use Rattle.plan_endings.specs.Ending.{bytes_of};
+ghost use Rattle.judge_endings.specs.Ended.{status_of, text_of};
+
+use pl_io::Memory;
+use plan_endings::{Due, Ending, of_number, of_numbers};
+use std::alloc::Global;
+
+/// How a run of the judge ends, but for want of memory and a write fault.
+#[derive(Drop)]
+pub enum Ended {
+    /// As a run of the planner may end: a text is told, a file is refused, could not be read or is too long, the task or the formula is
+    /// past a limit, or all lines of a proof follow and the last clause is not empty.
+    Plain(Ending),
+    /// A proof refutes the formula of a horizon, with so many entries.
+    Refuted { horizon: u32, entries: u64 },
+    /// This line of a proof, counted from 1, is the first that does not follow.
+    Rejected { line: u64 },
+    /// A line of a proof is none: the offset of its first byte.
+    Syntax { at: u64 },
+    /// The words are none that are taken.
+    Usage,
+}
+
+impl Ended {
+    /// The exit status.
+    pub fn status(&self) -> u8
+        ensures { result ≡ status_of self.now }
+    {
+        match self {
+            Ended::Plain(ending) => ending.status(),
+            Ended::Refuted { .. } => 0,
+            Ended::Rejected { .. } => 1,
+            Ended::Syntax { .. } => 3,
+            Ended::Usage => 7,
+        }
+    }
+
+    /// The text due, made whole. A text that is always the same takes no memory.
+    pub fn text(self, alloc: Global) -> Result<Due, Memory>
+        ensures text { IfOk result (λ due. bytes_of due ≡ text_of self) }
+        ensures usage { self ≡ Ended.Usage → IsOk result }
+    {
+        match self {
+            Ended::Plain(ending) => ending.text(alloc),
+            Ended::Refuted { horizon, entries } => {
+                let horizon = u64::from(horizon);
+                of_numbers(alloc, "; refuted horizon ", horizon, " entries ", entries)
+            }
+            Ended::Rejected { line } => of_number(alloc, "; rejected line ", line),
+            Ended::Syntax { at } => of_number(alloc, "; refused syntax proof ", at),
+            Ended::Usage => Ok(Due::Fixed("; usage: formula or judge\n")),
+        }
+    }
+}

@@ -1,0 +1,33 @@
+-- How the files of a run come to an ending.
+use Rattle.std.proofs.Common.{◌≡◌, ◌≤◌, ℕ, List, [], ◌∷◌, ◌++◌, refl, sym, ap, ◌∙◌, arith, inl, inr}
+use Rattle.pl_io.specs.Outside.{Heard, whole, Rose}
+use Rattle.plan_endings.specs.declared.ending.File.{File}
+use Rattle.plan_files.specs.Files.{AreTaken}
+use Rattle.plan_files.proofs.Hearing.{two_taken}
+use Rattle.plan_words.specs.declared.request.Stepping.{Stepping}
+use Rattle.judge_endings.specs.declared.ended.Ended.{Ended}
+use Rattle.judge_top.specs.Answers.{OnceReady, not_ready, ready, AnswersJudge, too_large, unread, judged}
+
+-- all of two files, under their names
+wholes : List ℕ → List ℕ → List (List ℕ) → List Heard
+wholes d p (first ∷ second ∷ []) = whole d first ∷ whole p second ∷ []
+wholes d p files = []
+
+-- two files that were taken are these
+pub both_taken : (file : ℕ → File) (d p : List ℕ) (heard hears took : List Heard) (files : List (List ℕ)) (first second : List ℕ) → hears ≡ heard ++ took → AreTaken file 0 (d ∷ p ∷ []) took files
+    → files ≡ first ∷ second ∷ [] → hears ≡ heard ++ whole d first ∷ whole p second ∷ []
+unfolding wholes
+both_taken file d p heard hears took files first second is taken are =
+    let two = two_taken file 0 d p took files taken in
+    let same : two.0 ∷ two.1 ∷ [] ≡ first ∷ second ∷ [] = sym two.2 ∙ are in
+    is ∙ (ap (λ (t : List Heard). heard ++ t) two.3 ∙ ap (λ (fs : List (List ℕ)). heard ++ wholes d p fs) same)
+
+-- a count that rose since rose from before
+pub rose_before : (before middle now : ℕ) → before ≤ middle → Rose middle now → Rose before now
+rose_before before middle now le rose = omega (arith, le, rose)
+
+pub judged_before : (first second : List ℕ) (s : Stepping) (h : ℕ) (before middle now : ℕ) → before ≤ middle → (end : Ended) → OnceReady first second (AnswersJudge s h middle now) end → OnceReady first second (AnswersJudge s h before now) end
+judged_before first second s h before middle now le end (not_ready plain stops e) = not_ready plain stops e
+judged_before first second s h before middle now le end (ready task g are is (too_large plain over e)) = ready task g are is (too_large plain over e)
+judged_before first second s h before middle now le end (ready task g are is (unread plain un e)) = ready task g are is (unread plain (un.0, rose_before before middle now le un.1) e)
+judged_before first second s h before middle now le end (ready task g are is (judged verdict e none)) = ready task g are is (judged verdict e none)

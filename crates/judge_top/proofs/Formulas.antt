@@ -1,0 +1,61 @@
+-- What is known of a form of a ground task is known of the task.
+use Rattle.std.proofs.Common.{◌≡◌, ◌<◌, ◌∙◌, ℕ, Bool, List, Result, Ok, Err, ap, subst}
+use Rattle.std.specs.Prelude.{IfOk}
+use Rattle.clause_base.specs.Formula.{Cnf, IsUnsatisfiable}
+use Rattle.gt_core.specs.Task.{Task}
+use Rattle.gt_core.specs.Clauses.{KnownClauses}
+use Rattle.gt_core.specs.Published.{IsPublished, order_of}
+use Rattle.step_laws.specs.Form.{OrderedTask, AreSets}
+use Rattle.step_encoding.specs.Numbers.{literals_of}
+use Rattle.two_invariants.specs.Closed.{AreInvariants}
+use Rattle.cnf_text.specs.Text.{formula_text}
+use Rattle.ordered_tasks.specs.Known.{form_of, formula_at}
+use Rattle.plan_words.specs.declared.request.Stepping.{Stepping}
+use Rattle.plan_tasks.specs.Stepping.{places_by, is_plan_by}
+use Rattle.plan_endings.specs.declared.ending.Ending.{Ending}
+use Rattle.plan_endings.specs.declared.ending.Ending.TheVariants.{Listing, TooLarge}
+use Rattle.plan_files.specs.declared.stop.Stop.{Stop}
+use Rattle.plan_files.specs.declared.stop.Stop.TheVariants.{Ends, Memory}
+use Rattle.plan_files.specs.Ends.{StopsBy}
+use Rattle.judge_endings.specs.declared.ended.Ended.{Ended}
+use Rattle.judge_endings.specs.declared.ended.Ended.TheVariants.{Plain}
+use Rattle.judge_top.specs.Answers.{OfKnown, IsFormula, TellsTooMany, HasNone, word_of}
+
+-- a task with clauses that are known of some facts, and components
+abbrev pub made_of : Task → KnownClauses → List (List ℕ) → OrderedTask
+made_of task known components = record { task = task; known = known; components = components }
+
+-- A task, its invariants, its published order, and a form of them, whose chains go there.
+module _ (places : Task → List (List ℕ) → List (List ℕ × ℕ)) (is_plan : Task → List ℕ → (ℕ → ℕ → Bool) → ℕ → Type 0) (task : Task) (known : KnownClauses) (components : List (List ℕ)) (facts : known.facts ≡ task.facts)
+    (invariants : AreInvariants task known.clauses) (published : IsPublished task known.clauses components) (form : OrderedTask) (made : form ≡ made_of task known components) (horizon : ℕ) where
+  same : form ≡ form_of task known.clauses components
+  same = made ∙ ap (λ (n : ℕ). made_of task (record { facts = n; clauses = known.clauses }) components) facts
+
+  pub of_known : (claim : OrderedTask → Type 0) → claim form → OfKnown task claim
+  of_known claim h = record { clauses = known.clauses; components = components; ordered = record { known = invariants; published = published }; holds = subst claim same h }
+
+  pub formulas : (r : Result Cnf Stop) → IfOk r (λ f. f ≡ formula_at places form horizon)
+      → IfOk r (λ f. IsUnsatisfiable f.clauses → (steps : List (List ℕ)) → AreSets is_plan form.task (order_of form.components) steps horizon → ⊥)
+      → IfOk r (λ f. OfKnown task (IsFormula places is_plan horizon f))
+  formulas (Ok f) is none = of_known (IsFormula places is_plan horizon f) (is, none)
+  formulas (Err e) is none = tt
+
+  pub too_many : {A : Type 0} (r : Result A Stop) → StopsBy (λ end. (count : ℕ) × (end ≡ TooLarge horizon count) × (4000000 < count) × (count ≡ literals_of (formula_at places form horizon))) r
+      → StopsBy (TellsTooMany places horizon task) r
+  too_many (Ok x) h = tt
+  too_many (Err (Ends end)) h = (h.0, h.1, of_known (λ form. (4000000 < h.0) × (h.0 ≡ literals_of (formula_at places form horizon))) (h.2, h.3))
+  too_many (Err Memory) h = tt
+
+-- the text of the formula of a task
+pub tells : (how : Stepping) (horizon : ℕ) (task : Task) (f : Cnf) (word text : List ℕ) → word ≡ word_of how → text ≡ formula_text word horizon f → OfKnown task (IsFormula (places_by how) (is_plan_by how) horizon f)
+    → OfKnown task (λ form. Plain (Listing text) ≡ Plain (Listing (formula_text (word_of how) horizon (formula_at (places_by how) form horizon))))
+tells how horizon task f word text is told known = record {
+  clauses = known.clauses;
+  components = known.components;
+  ordered = known.ordered;
+  holds = ap (λ (xs : List ℕ). Plain (Listing xs)) (told ∙ (ap (λ (w : List ℕ). formula_text w horizon f) is ∙ ap (formula_text (word_of how) horizon) known.holds.0));
+}
+
+-- where nothing satisfies the formula there is no plan of so many steps
+pub has_none : (how : Stepping) (horizon : ℕ) (task : Task) (f : Cnf) → OfKnown task (IsFormula (places_by how) (is_plan_by how) horizon f) → IsUnsatisfiable f.clauses → OfKnown task (HasNone how horizon)
+has_none how horizon task f known unsatisfiable = record { clauses = known.clauses; components = known.components; ordered = known.ordered; holds = known.holds.1 unsatisfiable }

@@ -1,0 +1,4 @@
+mod Handed
+mod Formulas
+mod Deciding
+mod Promises

@@ -1,0 +1,273 @@
+-- The promises of the top call, each from what it needs alone: mostly that its ending has a cause and that its text is written.
+use Rattle.std.proofs.Common.{◌≡◌, ◌≤◌, ◌+◌, ℕ, List, [], ◌∷◌, ◌++◌, Option, Some, None, refl, sym, ap, subst, ◌∙◌, arith, inl, inr, min}
+use Rattle.std.specs.Prelude.{Contains, ◌⊎◌}
+use Rattle.std.proofs.lemmas.Bool.Decides.{eqb_tells}
+use Rattle.pl_io.specs.Outside.{Heard, whole, Rose, appended}
+use Rattle.cnf_text.specs.Text.{formula_text}
+use Rattle.clause_base.specs.Formula.{Cnf}
+use Rattle.pd_task.specs.declared.error.PddlError.{PddlError}
+use Rattle.pd_task.specs.declared.error.PddlError.TheVariants as errors
+use Rattle.pd_model.specs.declared.parts.Parts.{Parts}
+use Rattle.grounding.specs.Grounded.{Grounded}
+use Rattle.ordered_tasks.specs.Known.{form_of, formula_at}
+use Rattle.lrat_judge.specs.declared.verdict.Verdict.{Verdict}
+use Rattle.lrat_judge.specs.declared.verdict.Verdict.TheVariants as verdicts
+use Rattle.plan_words.specs.Seen.{grounds}
+use Rattle.plan_words.specs.declared.request.Stepping.{Stepping}
+use Rattle.plan_endings.specs.Ending as plain
+use Rattle.plan_endings.specs.declared.ending.File.{File}
+use Rattle.plan_endings.specs.declared.ending.Ending.{Ending}
+use Rattle.plan_endings.specs.declared.ending.Ending.TheVariants.{Listing}
+use Rattle.plan_files.specs.Limits.{file_at}
+use Rattle.plan_files.specs.Files.{StopsFrom, RoseAmong}
+use Rattle.plan_tasks.specs.Stepping.{places_by}
+use Rattle.plan_tasks.specs.Tasks.{AreTask, IsReady, StopsTask, refused, past, RefusesTask, domain_tree, problem_tree, no_task, refusal_of}
+use Rattle.plan_tasks.specs.Claims.{Printed, OfFiles}
+use Rattle.plan_tasks.specs.Laws.{TaskLaws}
+use Rattle.plan_tasks.proofs.Claims as claims
+use Rattle.plan_tasks.proofs.Printing.{printed_is}
+use Rattle.judge_words.specs.Seen.{Seen, formulas, judges}
+use Rattle.judge_words.specs.Requested.{requested}
+use Rattle.judge_endings.specs.Ended.{status_of, text_of}
+use Rattle.judge_endings.specs.declared.ended.Ended.{Ended}
+use Rattle.judge_endings.specs.declared.ended.Ended.TheVariants.{Plain, Refuted, Rejected, Syntax, Usage}
+use Rattle.judge_top.specs.Answers.{OnceReady, not_ready, ready, AnswersFormula, AnswersJudge, too_large, formula, unread, judged, ended_by, IsUnread, OfKnown, HasNone, word_of}
+use Rattle.judge_top.specs.Causes.{Comes, no_request, asked, ComesFor, StopsAt, OfTaken, IsUnopened, HasFault, names_in, two_of}
+use Rattle.judge_top.specs.Headline.{IsProvedNone, TellsFormula}
+
+-- ---- statuses of what stops a run
+
+some_status : (k end : Ending) (n : ℕ) → Some k ≡ Some end → plain.status_of k ≡ n → plain.status_of end ≡ n
+some_status k end n e at = let same : k ≡ end = cc in subst (λ (x : Ending). plain.status_of x ≡ n) same at
+
+-- the ending that tells of the cause for which two trees are no task
+refusal_three : (cause : PddlError) (end : Ending) → refusal_of cause ≡ Some end → plain.status_of end ≡ 3
+refusal_three (errors.Shape file at) end e = some_status _ end 3 e refl
+refusal_three (errors.Unknown file at) end e = some_status _ end 3 e refl
+refusal_three (errors.Arity file at) end e = some_status _ end 3 e refl
+refusal_three (errors.Duplicate file at) end e = some_status _ end 3 e refl
+refusal_three (errors.Unsupported file at) end e = some_status _ end 3 e refl
+refusal_three errors.Memory end e = absurd (let never : None ≡ Some end = e in cc)
+
+refused_three : (domain problem : List ℕ) (end : Ending) → RefusesTask domain problem end → plain.status_of end ≡ 3
+refused_three domain problem end (domain_tree h) = ap plain.status_of h.2
+refused_three domain problem end (problem_tree first reads h) = ap plain.status_of h.2
+refused_three domain problem end (no_task first second reads also h) = refusal_three h.0 end h.2
+
+-- two files that are no task within the limits
+task_between : (domain problem : List ℕ) (end : Ending) → StopsTask domain problem end → (3 ≤ plain.status_of end) × (plain.status_of end ≤ 4)
+task_between domain problem end (refused r) = let three = refused_three domain problem end r in (omega (arith, three), omega (arith, three))
+task_between domain problem end (past task are over) = let four = ap plain.status_of over.2 in (omega (arith, four), omega (arith, four))
+
+-- a file that stops a run: it could not be read, or is too long
+files_between : (failed fails : List (List ℕ)) (files : ℕ → File) (place : ℕ) (names : List (List ℕ)) (took : List Heard) (end : Ending) → StopsFrom failed fails files place names took end
+    → ((plain.status_of end ≡ 5) × RoseAmong names failed fails) ⊎ (plain.status_of end ≡ 4)
+files_between failed fails files place [] took end h = absurd h
+files_between failed fails files place (name ∷ names) [] end (inl fault) = inl (ap plain.status_of fault.0, inl fault.1)
+files_between failed fails files place (name ∷ names) [] end (inr long) = inr (ap plain.status_of long.0)
+files_between failed fails files place (name ∷ names) (heard ∷ took) end (inl (inl fault)) = inl (ap plain.status_of fault.0, inl fault.1)
+files_between failed fails files place (name ∷ names) (heard ∷ took) end (inl (inr long)) = inr (ap plain.status_of long.0)
+files_between failed fails files place (name ∷ names) (heard ∷ took) end (inr more) = elim (files_between failed fails files (place + 1) names took end more.1) [
+  | inl h ↦ inl (h.0, inr h.1)
+  | inr h ↦ inr h
+]
+
+-- a verdict has a status of its own
+verdict_low : (horizon : ℕ) (verdict : Verdict) → status_of (ended_by horizon verdict) ≤ 3
+verdict_low horizon verdicts.More = omega arith
+verdict_low horizon (verdicts.Refuted entries) = omega arith
+verdict_low horizon (verdicts.Rejected line) = omega arith
+verdict_low horizon verdicts.NotEmpty = omega arith
+verdict_low horizon (verdicts.Syntax at) = omega arith
+
+-- where it is 0 the verdict is a refutation
+verdict_zero : (horizon : ℕ) (verdict : Verdict) → status_of (ended_by horizon verdict) ≡ 0 → (entries : ℕ) × (verdict ≡ verdicts.Refuted entries)
+verdict_zero horizon verdicts.More zero = absurd (omega arith)
+verdict_zero horizon (verdicts.Refuted entries) zero = (entries, refl)
+verdict_zero horizon (verdicts.Rejected line) zero = absurd (omega arith)
+verdict_zero horizon verdicts.NotEmpty zero = absurd (omega arith)
+verdict_zero horizon (verdicts.Syntax at) zero = absurd (omega arith)
+
+-- ---- statuses of what comes of words
+
+-- an ending has status 5 where a file of these names, or the proof, could not be read, else one of at most 4
+IsLow : List (List ℕ) → List (List ℕ) → List (List ℕ) → ℕ → ℕ → Ended → Type 0
+IsLow names failed fails faults rises end = ((status_of end ≡ 5) × (RoseAmong names failed fails ⊎ Rose faults rises)) ⊎ (status_of end ≤ 4)
+
+module _ (heard hears : List Heard) (failed fails : List (List ℕ)) (faults rises : ℕ) where
+  stop_low : (d p : List ℕ) (end : Ended) → StopsAt heard hears failed fails faults rises d p end → IsLow (d ∷ p ∷ []) failed fails faults rises end
+  unfolding IsLow
+  stop_low d p end h = elim (files_between failed fails (file_at (grounds d p)) 0 (d ∷ p ∷ []) h.1 h.0 h.3) [
+    | inl k ↦ inl (ap status_of h.4 ∙ k.0, inl k.1)
+    | inr four ↦ inr (let is = ap status_of h.4 in omega (arith, is, four))
+  ]
+
+  unread_low : (names : List (List ℕ)) (plain_end : Ending) (end : Ended) → IsUnread faults rises plain_end → end ≡ Plain plain_end → IsLow names failed fails faults rises end
+  unfolding IsLow
+  unread_low names plain_end end h e = inl (ap status_of e ∙ ap plain.status_of h.0, inr h.1)
+
+  not_ready_low : (domain problem : List ℕ) (plain_end : Ending) (end : Ended) → StopsTask domain problem plain_end → end ≡ Plain plain_end → (3 ≤ status_of end) × (status_of end ≤ 4)
+  not_ready_low domain problem plain_end end h e = let b = task_between domain problem plain_end h in let is = ap status_of e in (omega (arith, b.0, is), omega (arith, b.1, is))
+
+  formula_low : (names : List (List ℕ)) (first second : List ℕ) (s : Stepping) (h : ℕ) (end : Ended) → OnceReady first second (AnswersFormula s h) end → IsLow names failed fails faults rises end
+  unfolding IsLow
+  formula_low names first second s h end (not_ready plain_end stops e) = inr (not_ready_low first second plain_end end stops e).1
+  formula_low names first second s h end (ready task g are is (too_large plain_end over e)) = inr (let four = ap status_of e ∙ ap plain.status_of over.1 in omega (arith, four))
+  formula_low names first second s h end (ready task g are is (formula known)) = inr (let zero = ap status_of known.holds in omega (arith, zero))
+
+  judge_low : (names : List (List ℕ)) (first second : List ℕ) (s : Stepping) (h : ℕ) (end : Ended) → OnceReady first second (AnswersJudge s h faults rises) end → IsLow names failed fails faults rises end
+  unfolding IsLow
+  judge_low names first second s h end (not_ready plain_end stops e) = inr (not_ready_low first second plain_end end stops e).1
+  judge_low names first second s h end (ready task g are is (too_large plain_end over e)) = inr (let four = ap status_of e ∙ ap plain.status_of over.1 in omega (arith, four))
+  judge_low names first second s h end (ready task g are is (unread plain_end un e)) = unread_low names plain_end end un e
+  judge_low names first second s h end (ready task g are is (judged verdict e none)) = inr (let low = verdict_low h verdict in let same = ap status_of e in omega (arith, low, same))
+
+  request_low : (request : Seen) (end : Ended) → ComesFor heard hears failed fails faults rises request end → IsLow (two_of request) failed fails faults rises end
+  request_low (formulas d p h s) end (inl stops) = stop_low d p end stops
+  request_low (formulas d p h s) end (inr taken) = formula_low (d ∷ p ∷ []) taken.0 taken.1 s h end taken.3
+  request_low (judges d p h l s) end (inl stops) = stop_low d p end stops
+  request_low (judges d p h l s) end (inr (inl un)) = unread_low (d ∷ p ∷ []) un.0 end un.1 un.2
+  request_low (judges d p h l s) end (inr (inr taken)) = judge_low (d ∷ p ∷ []) taken.0 taken.1 s h end taken.3
+
+  names_of : (words : List (List ℕ)) (request : Seen) → requested words ≡ Some request → two_of request ≡ names_in words
+  names_of words request is = sym (ap (λ (o : Option Seen). elim o as (λ _. List (List ℕ)) [ None ↦ [] | Some r ↦ two_of r ]) is)
+
+  -- 7 where the words ask for nothing, 5 where a file or the proof could not be read alone
+  words_low : (words : List (List ℕ)) (end : Ended) → Comes heard hears failed fails faults rises words end
+      → ((status_of end ≡ 7) × (requested words ≡ None)) ⊎ (((status_of end ≡ 5) × HasFault failed fails faults rises words) ⊎ (status_of end ≤ 4))
+  unfolding IsLow
+  words_low words end (no_request none e) = inl (ap status_of e, none)
+  words_low words end (asked request is h) = elim (request_low request end h) [
+    | inl k ↦ inr (inl (k.0, subst (λ (ns : List (List ℕ)). RoseAmong ns failed fails ⊎ Rose faults rises) (names_of words request is) k.1))
+    | inr low ↦ inr (inr low)
+  ]
+
+  -- no ending that comes has a status of its own for a write fault or for want of memory
+  pub status_apart : (words : List (List ℕ)) (end : Ended) → Comes heard hears failed fails faults rises words end → (status_of end ≡ 6 → ⊥) × (status_of end ≡ 8 → ⊥)
+  status_apart words end h = elim (words_low words end h) [
+    | inl k ↦ (let seven = k.0 in (λ six. omega (arith, seven, six), λ eight. omega (arith, seven, eight)))
+    | inr (inl k) ↦ (let five = k.0 in (λ six. omega (arith, five, six), λ eight. omega (arith, five, eight)))
+    | inr (inr low) ↦ (λ six. omega (arith, low, six), λ eight. omega (arith, low, eight))
+  ]
+
+-- ---- what is promised
+
+-- the text that is told of the formula of a task
+listed_is : (text other : List ℕ) (end : Ended) → end ≡ Plain (Listing other) → text ≡ text_of end → text ≡ other
+listed_is text other end e is = is ∙ ap text_of e
+
+module _ (heard hears : List Heard) (failed fails : List (List ℕ)) (faults rises : ℕ) (words : List (List ℕ)) (before after : Option (List ℕ)) (status : ℕ) where
+  -- the status of an ending that comes, and its text, but for a write fault and want of memory
+  abbrev pub IsDue : Type 0
+  IsDue = (status ≡ 6 → ⊥) → (status ≡ 8 → ⊥) → (end : Ended) × (status ≡ status_of end) × Comes heard hears failed fails faults rises words end × (after ≡ appended before (text_of end))
+
+  due_at : (k : ℕ) → IsDue → status ≡ k → k ≤ 5 → (end : Ended) × (status_of end ≡ k) × Comes heard hears failed fails faults rises words end × (after ≡ appended before (text_of end))
+  due_at k due is low =
+      let d = due (λ six. absurd (omega arith)) (λ eight. absurd (omega arith)) in
+      (d.0, sym d.1 ∙ is, d.2, d.3)
+
+  -- what comes of words that ask for this
+  comes_for : (request : Seen) (end : Ended) → requested words ≡ Some request → Comes heard hears failed fails faults rises words end → ComesFor heard hears failed fails faults rises request end
+  comes_for request end is (no_request none e) = absurd (let never : None ≡ Some request = sym none ∙ is in cc)
+  comes_for request end is (asked other was h) =
+      let same : other ≡ request = (let both : Some other ≡ Some request = sym was ∙ is in cc) in
+      subst (λ (r : Seen). ComesFor heard hears failed fails faults rises r end) same h
+
+  low_only : {A : Type 0} (names : List (List ℕ)) (end : Ended) → status_of end ≡ 0 → (d p : List ℕ) → StopsAt heard hears failed fails faults rises d p end → A
+  unfolding IsLow
+  low_only names end zero d p h = elim (files_between failed fails (file_at (grounds d p)) 0 (d ∷ p ∷ []) h.1 h.0 h.3) [
+    | inl k ↦ absurd (let five = ap status_of h.4 ∙ k.0 in omega (arith, five, zero))
+    | inr four ↦ absurd (let is = ap status_of h.4 ∙ four in omega (arith, is, zero))
+  ]
+
+  pub is_judged : TaskLaws → IsDue → (domain problem proof : List ℕ) (horizon : ℕ) (how : Stepping) → status ≡ 0 → requested words ≡ Some (judges domain problem horizon proof how)
+      → OfFiles heard hears domain problem (IsProvedNone how horizon)
+  is_judged laws due domain problem proof horizon how zero is =
+      let d = due_at 0 due zero (omega arith) in
+      step d.0 d.1 (comes_for (judges domain problem horizon proof how) d.0 is d.2)
+    where
+      proved : (end : Ended) → status_of end ≡ 0 → (first second : List ℕ) → OnceReady first second (AnswersJudge how horizon faults rises) end
+          → (task : Parts) × AreTask first second task × IsProvedNone how horizon task
+      proved end at first second (not_ready plain_end stops e) = absurd (let b = task_between first second plain_end stops in let same = ap status_of e in omega (arith, b.0, same, at))
+      proved end at first second (ready task g are is (too_large plain_end over e)) = absurd (let four = ap status_of e ∙ ap plain.status_of over.1 in omega (arith, four, at))
+      proved end at first second (ready task g are is (unread plain_end un e)) = absurd (let five = ap status_of e ∙ ap plain.status_of un.0 in omega (arith, five, at))
+      proved end at first second (ready task g are is (judged verdict e none)) =
+          let v = verdict_zero horizon verdict (sym (ap status_of e) ∙ at) in
+          let k = none v.0 v.1 in (
+            task,
+            are,
+            (claims.no_step_plan laws task g is k.clauses k.components k.ordered how horizon k.holds, claims.no_plan laws task g is k.clauses k.components k.ordered how horizon k.holds),
+          )
+
+      step : (end : Ended) → status_of end ≡ 0 → ComesFor heard hears failed fails faults rises (judges domain problem horizon proof how) end → OfFiles heard hears domain problem (IsProvedNone how horizon)
+      step end at (inl stops) = low_only [] end at domain problem stops
+      step end at (inr (inl un)) = absurd (let five = ap status_of un.2 ∙ ap plain.status_of un.1.0 in omega (arith, five, at))
+      step end at (inr (inr taken)) = let r = proved end at taken.0 taken.1 taken.3 in (taken.0, taken.1, taken.2, r.0, r.1, r.2)
+
+  pub is_told : TaskLaws → IsDue → (text domain problem : List ℕ) (horizon : ℕ) (how : Stepping) → status ≡ 0 → Printed before after text → requested words ≡ Some (formulas domain problem horizon how)
+      → OfFiles heard hears domain problem (TellsFormula how horizon text)
+  is_told laws due text domain problem horizon how zero printed is =
+      let d = due_at 0 due zero (omega arith) in
+      step d.0 d.1 (printed_is before after text (text_of d.0) printed d.3) (comes_for (formulas domain problem horizon how) d.0 is d.2)
+    where
+      told : (end : Ended) → status_of end ≡ 0 → text ≡ text_of end → (first second : List ℕ) → OnceReady first second (AnswersFormula how horizon) end
+          → (task : Parts) × AreTask first second task × TellsFormula how horizon text task
+      told end at same first second (not_ready plain_end stops e) = absurd (let b = task_between first second plain_end stops in let s = ap status_of e in omega (arith, b.0, s, at))
+      told end at same first second (ready task g are is (too_large plain_end over e)) = absurd (let four = ap status_of e ∙ ap plain.status_of over.1 in omega (arith, four, at))
+      told end at same first second (ready task g are is (formula k)) = (
+        task,
+        are,
+        claims.of_grounded laws task g is k.clauses k.components k.ordered (λ h clauses components. text ≡ formula_text (word_of how) horizon (formula_at (places_by how) (form_of h.task clauses components) horizon))
+            (listed_is text _ end k.holds same),
+      )
+
+      step : (end : Ended) → status_of end ≡ 0 → text ≡ text_of end → ComesFor heard hears failed fails faults rises (formulas domain problem horizon how) end → OfFiles heard hears domain problem (TellsFormula how horizon text)
+      step end at same (inl stops) = low_only [] end at domain problem stops
+      step end at same (inr taken) = let r = told end at same taken.0 taken.1 taken.3 in (taken.0, taken.1, taken.2, r.0, r.1, r.2)
+
+  -- ---- words and faults
+
+  usage_only : (end : Ended) → status_of end ≡ 7 → Comes heard hears failed fails faults rises words end → requested words ≡ None
+  usage_only end seven h = elim (words_low heard hears failed fails faults rises words end h) [
+    | inl k ↦ k.1
+    | inr (inl k) ↦ absurd (let five = k.0 in omega (arith, five, seven))
+    | inr (inr low) ↦ absurd (omega (arith, low, seven))
+  ]
+
+  pub usage : IsDue → status ≡ 7 → requested words ≡ None
+  usage due seven = let d = due (λ six. absurd (omega arith)) (λ eight. absurd (omega arith)) in usage_only d.0 (sym d.1 ∙ seven) d.2
+
+  fault_of : (end : Ended) → status_of end ≡ 5 → Comes heard hears failed fails faults rises words end → HasFault failed fails faults rises words
+  fault_of end five h = elim (words_low heard hears failed fails faults rises words end h) [
+    | inl k ↦ absurd (let seven = k.0 in omega (arith, five, seven))
+    | inr (inl k) ↦ k.1
+    | inr (inr low) ↦ absurd (omega (arith, low, five))
+  ]
+
+  pub read_fault : IsDue → status ≡ 5 → HasFault failed fails faults rises words
+  read_fault due five = let d = due_at 5 due five (omega arith) in fault_of d.0 d.1 d.2
+
+  not_asked : requested words ≡ None → (end : Ended) → Comes heard hears failed fails faults rises words end → end ≡ Usage
+  not_asked none end (no_request also e) = e
+  not_asked none end (asked request is h) = absurd (let never : None ≡ Some request = sym none ∙ is in cc)
+
+  pub not_taken : IsDue → requested words ≡ None → Contains (6 ∷ 7 ∷ 8 ∷ []) status
+  not_taken due none = elim (eqb_tells status 6) [
+    | inl (t, six) ↦ (0, omega arith, sym six)
+    | inr (f, not_six) ↦ elim (eqb_tells status 8) [
+      | inl (t, eight) ↦ (2, omega arith, sym eight)
+      | inr (g, not_eight) ↦ other (due not_six not_eight)
+    ]
+  ]
+    where
+      other : ((end : Ended) × (status ≡ status_of end) × Comes heard hears failed fails faults rises words end × (after ≡ appended before (text_of end))) → Contains (6 ∷ 7 ∷ 8 ∷ []) status
+      other (end, is, comes, all) = (1, omega arith, sym (is ∙ ap status_of (not_asked none end comes)))
+
+  pub no_command : IsDue → requested words ≡ None → (status ≡ 8 → ⊥) → Contains (6 ∷ 7 ∷ []) status
+  no_command due none not_eight = elim (eqb_tells status 6) [
+    | inl (t, six) ↦ (0, omega arith, sym six)
+    | inr (f, not_six) ↦ other (due not_six not_eight)
+  ]
+    where
+      other : ((end : Ended) × (status ≡ status_of end) × Comes heard hears failed fails faults rises words end × (after ≡ appended before (text_of end))) → Contains (6 ∷ 7 ∷ []) status
+      other (end, is, comes, all) = (1, omega arith, sym (is ∙ ap status_of (not_asked none end comes)))

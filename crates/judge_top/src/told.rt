@@ -1,0 +1,36 @@
+//! The text of a formula.
+ghost use Rattle.std.specs.Prelude.{◌≡◌, IfOk};
+ghost use Rattle.cnf_text.specs.Text.{formula_text};
+ghost use Rattle.plan_files.specs.Ends.{OnlyMemory};
+ghost use Rattle.judge_top.specs.Answers.{word_of};
+
+use clause_base::formula::Formula;
+use cnf_text::text::Text;
+use pl_io::Bytes;
+use plan_files::stop::Stop;
+use plan_words::Stepping;
+use std::alloc::Global;
+
+/// The word for a kind of steps.
+pub fn word_of(steps: Stepping) -> &'static str
+    ensures { result.now ≡ word_of steps }
+{
+    match steps {
+        Stepping::Exists => "exists",
+        Stepping::All => "all",
+    }
+}
+
+/// The text of the formula of a horizon, made whole, so that nothing is written where there is no memory for it.
+pub fn told(alloc: Global, word: &[u8], horizon: u32, formula: &Formula) -> Result<Bytes, Stop>
+    ensures text { IfOk result (λ text. text ≡ formula_text word.now horizon formula.now) }
+    ensures memory { OnlyMemory result }
+{
+    let mut text = Text::of(word, horizon, formula);
+    let mut all = Vec::new(alloc);
+    let mut piece = Vec::new(alloc);
+    'telling: while text.next(&mut piece)? {
+        all.extend_from_slice(piece.as_slice())?;
+    }
+    Ok(Bytes::of(all))
+}

@@ -1,0 +1,124 @@
+//! The top call.
+ghost use Rattle.std.specs.Prelude.{◌≡◌, ◌≢◌, ◌≤◌, ℕ, List, [], ◌∷◌, map, string_bytes, Some, None, Contains};
+ghost use Rattle.pl_io.specs.Outside.{Agrees, appended, TakesFront, Rose, fault_count};
+ghost use Rattle.plan_words.specs.declared.request.Stepping.{Stepping};
+ghost use Rattle.plan_files.specs.Files.{NotesAmong};
+ghost use Rattle.plan_tasks.specs.Claims.{Printed, OfFiles};
+ghost use Rattle.judge_words.specs.Requested.{requested, command_named};
+ghost use Rattle.judge_words.specs.Seen.{formulas, judges};
+ghost use Rattle.judge_endings.specs.Ended.{status_of, text_of};
+ghost use Rattle.judge_endings.specs.declared.ended.Ended.{Ended};
+ghost use Rattle.judge_top.specs.Answers.{end_in};
+ghost use Rattle.judge_top.specs.Causes.{Comes, HasFault, names_in};
+ghost use Rattle.judge_top.specs.Headline.{IsProvedNone, TellsFormula};
+
+use crate::decide::decide;
+use crate::{Ended, Status};
+use judge_endings::written::written;
+use pl_io::{Shelf, Sink, Tape};
+use plan_files::stop::Stop;
+use plan_tasks::laws::laws;
+use std::alloc::Global;
+use std::thread::Threads;
+
+/// Reads the words, takes the domain and the problem from the shelf and a proof from the tape, decides, and writes the text due into the
+/// sink.
+///
+/// The words are those after the program's name: `formula DOMAIN PROBLEM HORIZON [--steps exists|all]` has the formula of the horizon told
+/// in DIMACS format, and `judge DOMAIN PROBLEM HORIZON PROOF [--steps exists|all]` the proof judged, which is LRAT text of any length.
+pub fn judge<H: Threads + Sync, S: Shelf, T: Tape, K: Sink>(
+    rt: &H,
+    alloc: Global,
+    words: &[String],
+    shelf: &mut S,
+    tape: &mut T,
+    sink: &mut K,
+) -> Status
+    // With status 0 the task has no step plan of so many steps, nor of fewer, and no plan of at most so many actions, whatever the
+    // proof's bytes were.
+    ensures judged { (domain problem proof : List ℕ) (horizon : ℕ) (how : Stepping) → result.0 ≡ 0
+        → requested (map string_bytes words.now) ≡ Some (judges domain problem horizon proof how)
+        → OfFiles (S.heard shelf.old) (S.heard shelf.new) domain problem (IsProvedNone how horizon) }
+
+    // With status 0 the text is that of the formula of the horizon.
+    ensures formula_told { (text domain problem : List ℕ) (horizon : ℕ) (how : Stepping) → result.0 ≡ 0 → Printed (K.taken sink.old) (K.taken sink.new) text
+        → requested (map string_bytes words.now) ≡ Some (formulas domain problem horizon how)
+        → OfFiles (S.heard shelf.old) (S.heard shelf.new) domain problem (TellsFormula how horizon text) }
+
+    // Each status has its cause, and with every status but 6 the bytes taken are exactly the text due.
+    ensures due { result.0 ≢ 6 → result.0 ≢ 8 → (end : Ended) × (result.0 ≡ status_of end)
+        × Comes (S.heard shelf.old) (S.heard shelf.new) (S.failed shelf.old) (S.failed shelf.new) (T.faults tape.old) (T.faults tape.new) (map string_bytes words.now) end
+        × (K.taken sink.new ≡ appended (K.taken sink.old) (text_of end)) }
+    ensures read_fault { result.0 ≡ 5
+        → HasFault (S.failed shelf.old) (S.failed shelf.new) (T.faults tape.old) (T.faults tape.new) (map string_bytes words.now) }
+    ensures write_fault { result.0 ≡ 6 → Rose (K.faults sink.old) (K.faults sink.new) }
+    ensures front { result.0 ≡ 6 → (end : Ended)
+        × Comes (S.heard shelf.old) (S.heard shelf.new) (S.failed shelf.old) (S.failed shelf.new) (T.faults tape.old) (T.faults tape.new) (map string_bytes words.now) end
+        × TakesFront (K.taken sink.old) (K.taken sink.new) (text_of end) }
+    ensures usage { result.0 ≡ 7 → requested (map string_bytes words.now) ≡ None }
+    ensures not_taken { requested (map string_bytes words.now) ≡ None → Contains (6 ∷ 7 ∷ 8 ∷ []) result.0 }
+    // Where the first word names no command, that is told whatever memory there is.
+    ensures no_command { command_named (map string_bytes words.now) ≡ None → Contains (6 ∷ 7 ∷ []) result.0 }
+    ensures untouched { requested (map string_bytes words.now) ≡ None → shelf.new ≡ shelf.old }
+
+    // With 8 the sink was not touched.
+    ensures nothing { result.0 ≡ 8 → sink.new ≡ sink.old }
+
+    // The domain and the problem are taken by the names that the words give, each at most once.
+    ensures noted { NotesAmong (names_in (map string_bytes words.now)) (S.failed shelf.old) (S.failed shelf.new) }
+
+    // What is handed over is what the shelf tells, where it tells that; what a shelf tells stays as it was, and no count of faults falls.
+    ensures agrees { Agrees (S.told shelf.old) (S.lacks shelf.old) (S.heard shelf.old) (S.heard shelf.new) }
+    ensures told { S.told shelf.new ≡ S.told shelf.old }
+    ensures lacks { S.lacks shelf.new ≡ S.lacks shelf.old }
+    ensures never_falls { (name : List ℕ) → fault_count name (S.failed shelf.old) ≤ fault_count name (S.failed shelf.new) }
+    ensures tape_faults { T.faults tape.old ≤ T.faults tape.new }
+    ensures faults { K.faults sink.old ≤ K.faults sink.new }
+{
+    laws();
+    answered(rt, alloc, words, shelf, tape, sink)
+}
+
+// Decides how the run ends, and writes the text of that.
+fn answered<H: Threads + Sync, S: Shelf, T: Tape, K: Sink>(
+    rt: &H,
+    alloc: Global,
+    words: &[String],
+    shelf: &mut S,
+    tape: &mut T,
+    sink: &mut K,
+) -> Status
+    ensures due { result.0 ≢ 6 → result.0 ≢ 8 → (end : Ended) × (result.0 ≡ status_of end)
+        × Comes (S.heard shelf.old) (S.heard shelf.new) (S.failed shelf.old) (S.failed shelf.new) (T.faults tape.old) (T.faults tape.new) (map string_bytes words.now) end
+        × (K.taken sink.new ≡ appended (K.taken sink.old) (text_of end)) }
+    ensures write_fault { result.0 ≡ 6 → Rose (K.faults sink.old) (K.faults sink.new) }
+    ensures front { result.0 ≢ 8 → (end : Ended)
+        × Comes (S.heard shelf.old) (S.heard shelf.new) (S.failed shelf.old) (S.failed shelf.new) (T.faults tape.old) (T.faults tape.new) (map string_bytes words.now) end
+        × TakesFront (K.taken sink.old) (K.taken sink.new) (text_of end) }
+    ensures nothing { result.0 ≡ 8 → sink.new ≡ sink.old }
+    ensures no_command { command_named (map string_bytes words.now) ≡ None → result.0 ≢ 8 }
+    ensures untouched { requested (map string_bytes words.now) ≡ None → shelf.new ≡ shelf.old }
+    ensures noted { NotesAmong (names_in (map string_bytes words.now)) (S.failed shelf.old) (S.failed shelf.new) }
+    ensures agrees { Agrees (S.told shelf.old) (S.lacks shelf.old) (S.heard shelf.old) (S.heard shelf.new) }
+    ensures told { S.told shelf.new ≡ S.told shelf.old }
+    ensures lacks { S.lacks shelf.new ≡ S.lacks shelf.old }
+    ensures never_falls { (name : List ℕ) → fault_count name (S.failed shelf.old) ≤ fault_count name (S.failed shelf.new) }
+    ensures tape_faults { T.faults tape.old ≤ T.faults tape.new }
+    ensures faults { K.faults sink.old ≤ K.faults sink.new }
+{
+    let Some(end) = end_of(decide(rt, alloc, words, shelf, tape)) else {
+        return Status(8);
+    };
+    written(alloc, end, sink)
+}
+
+// The ending, answered or handed on; none for want of memory.
+fn end_of(answer: Result<Ended, Stop>) -> Option<Ended>
+    ensures { result ≡ end_in answer }
+{
+    match answer {
+        Ok(end) => Some(end),
+        Err(Stop::Ends(end)) => Some(Ended::Plain(end)),
+        Err(Stop::Memory) => None,
+    }
+}

@@ -1,0 +1,17 @@
+//! What the crates below promise, gathered.
+ghost use Rattle.plan_claims.specs.Laws.{Laws};
+
+/// The laws on which the promises of the top call rest, for its proof; it does nothing.
+pub fn laws()
+    ensures { Laws }
+{
+    plan_words::laws::laws();
+    report_lines::laws();
+    gt_core::laws::laws();
+    two_invariants::laws::laws();
+    grounding::laws::laws();
+    step_plans::laws::laws();
+    plan_report::laws::laws();
+    proof_text::laws::laws();
+    plan_tasks::laws::laws();
+}

@@ -1,0 +1,4 @@
+pub mod Stepping
+pub mod Tasks
+pub mod Claims
+pub mod Laws
