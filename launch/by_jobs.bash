@@ -24,8 +24,7 @@ run_horizon() {
         esac
         return
     fi
-    solve "$at.cnf" >("$judge" judge "$domain" "$problem" "$n" - --steps "$steps" >"$at.judged" 2>/dev/null; echo $? >"$at.judge") \
-        >"$at.out"
+    solve "$at.cnf" >(judge_stream "$n") >"$at.out"
     ended=$?
     case $ended in
     10) take_model "$n" ;;
@@ -33,6 +32,12 @@ run_horizon() {
     *) settle "$n" open ;;
     esac
     rm -f -- "$at.cnf" "$at.out"
+}
+
+# judge_stream N: judges what comes in.
+judge_stream() {
+    "$judge" judge "$domain" "$problem" "$1" - --steps "$steps" >"$room/$1.judged" 2>/dev/null
+    echo $? >"$room/$1.judge"
 }
 
 # take_proof N: what the judge has come to.
@@ -54,7 +59,7 @@ take_model() {
     ended=$?
     if [ "$ended" = 7 ]; then
         # This judge reads no models: a script does, and the proved check says whether it is a plan.
-        "$root/launch/model_plan.py" "$program" "$domain" "$problem" "$1" "$at.cnf" "$at.out" >"$at.told" 2>/dev/null </dev/null &&
+        "$root/launch/model_plan.py" "$program" "$domain" "$problem" "$1" "$at.cnf" "$at.out" >"$at.told" &&
             "$program" check "$domain" "$problem" "$at.told" >/dev/null 2>&1 </dev/null
         ended=$?
     fi

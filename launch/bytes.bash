@@ -1,17 +1,17 @@
 # shellcheck shell=bash disable=SC2034,SC2154 # the parts set variables for one another
-# Which program may be run: one whose bytes have the SHA-256 that is kept, and that was seen to answer on this machine. To be read by
-# scripts that have set root, after places.bash.
+# Which program may be run: one whose bytes have the SHA-256 that is kept, and that was seen to answer on this machine. To be
+# read by scripts that have set root, after places.bash.
 #
-# PROGRAM.seen has a line for each machine on which this was seen (another may have an older C library), and the time stamp of the
-# program itself: where they differ by anything, all is looked at again.
+# PROGRAM.seen has a line for each machine on which this was seen (another may have an older C library), and the time stamp of
+# the program itself: where they differ by anything, all is looked at again.
 
 # sum_of FILE: its SHA-256.
 sum_of() {
     sha256sum <"$1" | cut -d ' ' -f 1
 }
 
-# has_answered PROGRAM: it was seen, on this machine, and was not changed since. Sets tied to whether it can be bound to the life of
-# its caller.
+# has_answered PROGRAM: it was seen, on this machine, and was not changed since. Sets tied to whether it can be bound to the
+# life of its caller.
 has_answered() {
     local seen name machine
     mangled "$1"

@@ -13,14 +13,24 @@ start_timer() {
     timer=$!
 }
 
-# split_budget WORD..: sets budget to the words' own one, or to nothing, and rest to the words without it.
+# split_budget WORD..: sets budget to the words' own one, or to nothing, and rest to the words without it. Where it stands twice,
+# which the program does not take, nothing is split.
 split_budget() {
+    local given=("$@")
     budget='' rest=()
     while [ $# -gt 0 ]; do
         case $1 in
         --) break ;;
-        --budget) budget=${2-} && shift ;;
-        --budget=*) budget=${1#*=} ;;
+        --budget | --budget=*)
+            if [ -n "$budget" ]; then
+                budget='' rest=("${given[@]}") twice=yes
+                return
+            fi
+            case $1 in
+            --budget) budget=${2-} && shift ;;
+            *) budget=${1#*=} ;;
+            esac
+            ;;
         *) rest+=("$1") ;;
         esac
         [ $# = 0 ] || shift
@@ -38,44 +48,58 @@ budgets_to() {
     steps+=("$1")
 }
 
-# run_by_clock WORD..: asks for growing budgets, so that what a shorter search has found is not lost: the report of a greater
-# budget is the same as far as the shorter one went. Shows the last report that ended. Sets status, 124 where time was short.
-run_by_clock() {
-    local budget rest steps next ended='' last=0
-    open_room || return
-    start_timer "$seconds"
+# budgets_for WORD..: sets steps to the budgets that are asked for in turn, and rest to the words beside them. Without a budget among
+# the words, the clock alone ends the search.
+budgets_for() {
+    local budget twice=no
     split_budget "$@"
-    if [[ " $(options_of "$1") " != *' --budget '* ]]; then
+    if [[ $twice == yes || " $(options_of "$1") " != *' --budget '* ]]; then
         steps=('')
     elif [[ ${budget:=1000000} =~ ^[0-9]{1,7}$ ]]; then
         budgets_to "$((10#$budget))"
     else
         steps=("$budget")
     fi
+}
+
+# run_by_clock WORD..: asks for growing budgets, so that what a shorter search has found is not lost: the report of a greater
+# budget is the same as far as the shorter one went. Shows the last report that ended. Sets status, 124 where time was short.
+run_by_clock() {
+    local rest steps next ended='' whole=no
+    open_room || return
+    budgets_for "$@"
+    start_timer "$seconds"
     for next in "${steps[@]}"; do
         run_program "${rest[0]}" ${next:+"--budget=$next"} "${rest[@]:1}" >"$room/next"
-        [ "$late" = no ] || break
+        [[ $late == no || $status -lt 128 ]] || break
         mv -f -- "$room/next" "$room/report"
-        ended=$next last=$status
-        [ "$status" = 2 ] || break
+        ended=$next
+        if [ "$next" = "${steps[-1]}" ] || ! is_unfinished; then
+            whole=yes
+            break
+        fi
+        [ "$late" = no ] || break
     done
     end_timer
     tell_clock "$ended"
-    [ -f "$room/report" ] || return
-    [ "$late" = yes ] || status=$last
-    show_report
+    [ ! -f "$room/report" ] || show_report
+}
+
+# is_unfinished: a greater budget may tell more. Of several problems one may be refused while the budget of another is spent.
+is_unfinished() {
+    [ "$status" = 2 ] || grep -q '^; unfinished' "$room/report"
 }
 
 # tell_clock BUDGET: what the report stands for that is shown. Sets status where time was short.
 tell_clock() {
-    if [ "$late" = yes ]; then
+    if [ "$whole" = no ]; then
         status=124
         if [ -f "$room/report" ]; then
             say "$seconds seconds are over: this is the report of a search with --budget $1, the greatest that ended"
         else
             say "$seconds seconds are over, and no search has ended by then"
         fi
-    elif [ -n "$1" ] && [ "$status" -le 2 ]; then
+    elif [ -n "$1" ] && [ "$status" -le 4 ]; then
         say "this is the report of a search with --budget $1"
     fi
 }

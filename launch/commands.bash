@@ -1,6 +1,6 @@
 # shellcheck shell=bash disable=SC2034,SC2154 # the parts set variables for one another
-# The commands. To be read by scripts that have set root. launch/help/commands.txt has each with what answers it: a program by its name,
-# or a script by its path.
+# The commands. To be read by scripts that have set root. launch/help/commands.txt has each with what answers it: a program by
+# its name, or a script by its path.
 
 # called: how a command is called here.
 called=dokyreva

@@ -38,6 +38,10 @@ tell_faults() {
     6) say "the report could not be written" ;;
     8) tell_memory ;;
     9) say "the system did not give the words" ;;
+    126 | 127)
+        say "the program could not be run (status $status)"
+        status=70
+        ;;
     *) [ "$status" -le 128 ] || say "the program was ended by signal $((status - 128))" ;;
     esac
     if [ "$1" = batch ] && [ "$status" -ge 3 ] && [ "$status" -le 5 ]; then
@@ -58,8 +62,8 @@ tell_memory() {
     fi
 }
 
-# tell_of_task COMMAND DOMAIN PROBLEM [FILE]: tells why the two files, or their task, are not taken. The command check, with a plan
-# that is empty, reads the files as all commands do; the command ground tells the limits of a task.
+# tell_of_task COMMAND DOMAIN PROBLEM [FILE]: tells why the two files, or their task, are not taken. The command check, with a
+# plan that is empty, reads the files as all commands do; the command ground tells the limits of a task.
 tell_of_task() {
     said='' answer=0
     [ $# -ge 3 ] || return
@@ -172,7 +176,8 @@ tell_limit() {
         "give parameters types with fewer objects, or part an action into several with fewer parameters" ;;
     facts) say "limit: $2 facts that actions can change, and 2048 may be: leave out objects that the goal does not need," \
         "or predicates with many arguments" ;;
-    actions) say "limit: $2 actions, and 16384 may be: give parameters types with fewer objects, or preconditions that never change" ;;
+    actions) say "limit: $2 actions, and 16384 may be: give parameters types with fewer objects," \
+        "or preconditions that never change" ;;
     effects) say "limit: $2 effects with a condition, and 65536 may be: give the variables of forall types with fewer objects" ;;
     literals) tell_literals "$2" "$3" "$4" ;;
     *) say "limit: the formula of a horizon has more than the 4000000 literals that one may have; the report names it:" \

@@ -1,10 +1,11 @@
 #!/usr/bin/env python3
-"""Makes a plan file of a model that a SAT solver has printed, where no proved program reads it; `check` says whether it is a plan.
+"""Makes a plan file of a model that a SAT solver has printed, where no proved program reads it; `check` says whether it is a
+plan.
 
     model_plan.py PROGRAM DOMAIN PROBLEM HORIZON FORMULA MODEL
 
-PROGRAM is the planner: its `ground` numbers the actions, its `order` tells in which order those of a step are executed. Action a of
-step t is the variable t * W + a + 1 of the formula, whose header tells W. Status 1 where MODEL has no values."""
+PROGRAM is the planner: its `ground` numbers the actions, its `order` tells in which order those of a step are executed.
+Action a of step t is the variable t * W + a + 1 of the formula, whose header tells W. Status 1 where MODEL has no values."""
 import subprocess, sys
 
 def lines_of(program, command, *files):

@@ -1,8 +1,8 @@
 # shellcheck shell=bash disable=SC2034,SC2154 # the parts set variables for one another
 # The options of the launcher itself, which the program does not take. To be read after words.bash.
 
-# take_own WORD..: sets words to those that are for the program, and memory, seconds and plan_file. Ends with 7 where one of its own
-# is not as it has to be.
+# take_own WORD..: sets words to those that are for the program, and memory, seconds and plan_file. Ends with 7 where one of
+# its own is not as it has to be.
 take_own() {
     words=() memory='' seconds='' plan_file=''
     while [ $# -gt 0 ]; do

@@ -1,7 +1,8 @@
-# Where a byte stands in a text: awk -v at=OFFSET -f place.awk, in the C locale. Prints the line and the column (bytes, from 1),
-# the word that begins there (of a list its head), the list's opening parenthesis if one stands there, how the lists stand before
-# it (depth, and whether a list has ended outside all others), the source line and the blanks that bring a caret below the byte. For
-# an offset at the end inside a list: where the outermost one begins, and the first section that begins in one, with that one.
+# Where a byte stands in a text: awk -v at=OFFSET -f place.awk, in the C locale. Prints the line and the column (bytes, from
+# 1), the word that begins there (of a list its head), the list's opening parenthesis if one stands there, how the lists stand
+# before it (depth, and whether a list has ended outside all others), the source line and the blanks that bring a caret below
+# the byte. For an offset at the end inside a list: where the outermost one begins, and the first section that begins in one,
+# with that one.
 
 # step_over LINE: walks through a line, as far as the offset.
 function step_over(text,  i, c, n) {

@@ -1,5 +1,6 @@
 # shellcheck shell=bash disable=SC2034,SC2154 # the parts set variables for one another
-# Where files may be kept: in out/ of this checkout, else in a folder of the user's own. To be read by scripts that have set root.
+# Where files may be kept: in out/ of this checkout, else in a folder of the user's own. To be read by scripts that have set
+# root.
 
 # use PART..: reads parts of the launcher.
 use() {

@@ -1,9 +1,9 @@
 # shellcheck shell=bash disable=SC2034,SC2154,SC2030,SC2031 # the parts set variables for one another
 # A quick build of the sources, of which nothing is proved. To be read after programs.bash.
 
-# build_quick NAME. The command rt try compiles a program without its proof, runs it once, and throws it away. While it compiles, the whole
-# program stands in its folder as a module of LLVM, of which the toolchain's own clang makes a program. Where that can not be
-# had, the program that rt try makes is taken, which is a hundred times slower.
+# build_quick NAME. The command rt try compiles a program without its proof, runs it once, and throws it away. While it
+# compiles, the whole program stands in its folder as a module of LLVM, of which the toolchain's own clang makes a program.
+# Where that can not be had, the program that rt try makes is taken, which is a hundred times slower.
 build_quick() (
     room=$(mktemp -d) || exit
     quick=$root/out/quick/$1

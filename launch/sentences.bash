@@ -24,7 +24,8 @@ tell_open() {
     tell_at "$1:$line:$column" "note: the outermost list that is open begins here"
     [ -n "$3" ] || return 0
     read -r line column inner <<<"$3"
-    tell_at "$1:$line:$column" "note: this section begins inside of the list of line ${inner% *}, column ${inner#* }: is that one to be closed before?"
+    inner="line ${inner% *}, column ${inner#* }"
+    tell_at "$1:$line:$column" "note: this section begins inside of the list of $inner: is that one to be closed before?"
 }
 
 # sentence_of KIND FILE

@@ -1,8 +1,8 @@
 # shellcheck shell=bash disable=SC2034,SC2154 # the parts set variables for one another
 # SAT solvers: which are there, and how each is called. To be read by ./plan-by and ./spread.
 
-# find_solver: sets way (lrat: it writes LRAT itself; drat: drat-trim makes that of its proof) and words, how the solver of this name
-# is called before the names of formula and proof. Ends with 70 where it is not there.
+# find_solver: sets way (lrat: it writes LRAT itself; drat: drat-trim makes that of its proof) and words, how the solver of
+# this name is called before the names of formula and proof. Ends with 70 where it is not there.
 find_solver() {
     case $solver in
     cadical)
@@ -38,8 +38,8 @@ is_cadical_with_lrat() {
     [[ $major =~ ^[0-9]+$ && $minor =~ ^[0-9]+$ ]] && [ $((major * 1000 + minor)) -ge 1007 ]
 }
 
-# solve FORMULA PROOF: runs the solver for as long as it may, with its lines on standard output. PROOF is where its LRAT goes. Ends
-# with 10 where it says that there is a model, 20 where there is none.
+# solve FORMULA PROOF: runs the solver for as long as it may, with its lines on standard output. PROOF is where its LRAT goes.
+# Ends with 10 where it says that there is a model, 20 where there is none.
 solve() {
     local ended
     if [ "$way" = lrat ]; then

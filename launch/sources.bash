@@ -9,24 +9,31 @@ sources_sum() (
         xargs -0 sha256sum | sha256sum | cut -d ' ' -f 1
 )
 
-# find_sources: sets sources to that sum; to nothing where there are no crates. It is worked out anew where git has changed its index,
-# or git or an editor a folder of the program's sources, since it was kept: a look at every file would take longer than a short run.
-# What is written into a file in its place, in no other way, is seen by look_through alone.
+# find_sources: sets sources to that sum; to nothing where there are no crates. It is worked out anew where git has changed
+# its index, or git or an editor a folder of the program's sources, since it was kept: a look at every file would take longer
+# than a short run. What is written into a file in its place, in no other way, is seen by look_through alone.
 find_sources() {
-    local place name
+    local place stamp
     sources=''
     [ -d "$root/crates" ] || return 0
-    mangled "$root"
     for place in "${places[@]}"; do
-        is_own "$place" && read_stamp "$place/$name.sources" && same_folders "$place/$name.sources" && return
+        stamp_of "$place"
+        is_own "$place" && read_stamp "$place" && same_folders "$place/$stamp" && return
     done
     look_through
 }
 
-# read_stamp FILE: sets sources to what was kept there of this checkout.
+# stamp_of PLACE: sets stamp to the name of the file in which a place keeps the sum: the user's own places are of many checkouts.
+stamp_of() {
+    local name=sources
+    [ "$1" = "$root/out" ] || mangled "$root"
+    stamp=$name.sum
+}
+
+# read_stamp PLACE: sets sources to what was kept there of this checkout.
 read_stamp() {
     local of=''
-    [ -r "$1" ] && { read -r sources && read -r of; } <"$1" && [ "$of" = "$root" ]
+    [ -r "$1/$stamp" ] && { read -r sources && read -r of; } <"$1/$stamp" && [[ $1 == "$root/out" || $of == "$root" ]]
 }
 
 # same_folders STAMP: no folder of the program's sources is newer than it, nor crates.txt, nor the index of git.
@@ -39,12 +46,12 @@ same_folders() {
 
 # look_through: sets sources, as the files are now, and keeps it.
 look_through() {
-    local place name begun=$EPOCHREALTIME
+    local place stamp begun=${EPOCHREALTIME:-$(date +%s)}
     sources=$(sources_sum)
-    mangled "$root"
     for place in "${places[@]}"; do
-        if keep_line "$place" "$name.sources" "$sources" "$root"; then
-            touch -d "@${begun/,/.}" -- "$place/$name.sources"
+        stamp_of "$place"
+        if keep_line "$place" "$stamp" "$sources" "$root"; then
+            touch -d "@${begun/,/.}" -- "$place/$stamp"
             return
         fi
     done
@@ -63,7 +70,8 @@ is_current() {
 put_program() {
     if mkdir -p -- "${2%/*}" && cp -- "$1" "$2.$$" && chmod 755 -- "$2.$$" &&
         printf '%s\n' "$3" >"$2.sources.$$" && sum_of "$2.$$" >"$2.sha256.$$" &&
-        rm -f -- "$2.sources" && mv -f -- "$2.$$" "$2" && mv -f -- "$2.sha256.$$" "$2.sha256" && mv -f -- "$2.sources.$$" "$2.sources"; then
+        rm -f -- "$2.sources" && mv -f -- "$2.$$" "$2" && mv -f -- "$2.sha256.$$" "$2.sha256" &&
+        mv -f -- "$2.sources.$$" "$2.sources"; then
         return
     fi
     rm -f -- "$2"*".$$"

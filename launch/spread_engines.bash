@@ -230,8 +230,8 @@ wait_slurm() {
     done
 }
 
-# ask_slurm: sets tasks to those that are left, and side to how many run; status 1 where none is left. An error other than that the
-# job is gone is asked again.
+# ask_slurm: sets tasks to those that are left, and side to how many run; status 1 where none is left. An error other than
+# that the job is gone is asked again.
 ask_slurm() {
     local said task state
     if said=$(squeue -r -h -j "$job" -o '%K %t' 2>&1); then
@@ -266,7 +266,8 @@ tell_failed() {
         task=${at##*_} task=${task%.out}
         if [ ! -s "$at" ]; then
             rm -f -- "$at"
-        elif { read -r n <"$folder/jobs/$task"; } 2>/dev/null && ! has_result "$folder" "$n" && ! is_needless "$folder" "$n"; then
+        elif { read -r n <"$folder/jobs/$task"; } 2>/dev/null && ! has_result "$folder" "$n" &&
+            ! is_needless "$folder" "$n"; then
             say "the job of horizon $n has left no result, and wrote ($at):"
             tail -n 5 -- "$at" | sed 's/^/  /' >&2
         fi

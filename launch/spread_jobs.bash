@@ -108,12 +108,12 @@ stop_run() {
 } 2>/dev/null
 
 # run_planner FOLDER N OUT WORD..: runs the planner within the limits, and ends it where the horizon has become needless or
-# the driver is gone. Sets status, seconds and megabytes; status 14 is want of time, 15 that it was needless. A look at how things
-# stand takes no process and one small file.
+# the driver is gone. Sets status, seconds and megabytes; status 14 is want of time, 15 that it was needless. A look at how
+# things stand takes no process and one small file.
 run_planner() {
     local folder=$1 n=$2 out=$3 ended=0 limit=$((memory * 1024 * 95 / 100)) until=$((minutes * 60 - 5)) begun=$SECONDS pause=0.02
     shift 3
-    (ulimit -v "$limit" && exec "${tie[@]}" "$folder/task/planner" "$@") >"$out" 2>/dev/null </dev/null 9>&- &
+    (ulimit -v "$limit"; exec "${tie[@]}" "$folder/task/planner" "$@") >"$out" 2>/dev/null </dev/null 9>&- &
     running=$!
     megabytes=0
     while kill -0 "$running" 2>/dev/null; do
@@ -165,8 +165,8 @@ run_plan() {
     [ "$status" = "$4" ] && [ -n "$(conflicts_told "$1/h/$2/out.$$" "$2" "$3")" ] && keep_file "$1/h/$2/out.$$" "$1/h/$2/$5"
 }
 
-# run_horizon FOLDER N [BUDGET]: nothing where it is needless or done. With a budget of its own an open horizon is no result. Where
-# the task is refused, refusal is the line that says so.
+# run_horizon FOLDER N [BUDGET]: nothing where it is needless or done. With a budget of its own an open horizon is no result.
+# Where the task is refused, refusal is the line that says so.
 run_horizon() {
     local folder=$1 n=$2 look=${3-} at=$1/h/$2 out=$1/h/$2/out.$$
     mkdir -p -- "$at"

@@ -29,7 +29,8 @@ start_program() {
     local tie=()
     [ "$tied" != yes ] || tie=(setpriv --pdeathsig KILL)
     if [ -n "$memory" ]; then
-        (ulimit -v $((memory * 1024)) && exec "${tie[@]}" "$program" "$@") <&0 &
+        # Where the system allows less, that is what there is.
+        (ulimit -v $((memory * 1024)) 2>/dev/null; exec "${tie[@]}" "$program" "$@") <&0 &
     else
         "${tie[@]}" "$program" "$@" <&0 &
     fi

@@ -1,7 +1,7 @@
 # shellcheck shell=bash disable=SC2034,SC2154 # the parts set variables for one another
-# The words that are taken, for those who ask and for those who miss one; all of it stands in launch/help: in NAME.txt a command's
-# synopsis, its summary, and what is to be said of it, with rows for options of its own and a line with the names of those that stand
-# in options.txt. To be read by scripts that have set root, after commands.bash.
+# The words that are taken, for those who ask and for those who miss one; all of it stands in launch/help: in NAME.txt a
+# command's synopsis, its summary, and what is to be said of it, with rows for options of its own and a line with the names of
+# those that stand in options.txt. To be read by scripts that have set root, after commands.bash.
 
 # options_of COMMAND: the options that it takes; all that there are where it is no command.
 options_of() {
@@ -100,8 +100,8 @@ nearest() {
         }'
 }
 
-# tell_refused WORD..: for words that are not taken, what was perhaps meant, and which commands there are. Where standard error is a
-# terminal, the help of the command too.
+# tell_refused WORD..: for words that are not taken, what was perhaps meant, and which commands there are. Where standard
+# error is a terminal, the help of the command too.
 tell_refused() {
     tell_nearest "$@"
     say "these words are not taken. Commands: ${commands// /, }, help; $called COMMAND --help tells the words of one"
