@@ -1,4 +1,4 @@
-use Rattle.std.proofs.Common.{arith, map, refl}
+use Rattle.std.proofs.Common.{arith, refl}
 use Rattle.pd_model.specs.declared.calls.Call.{Call}
 use Rattle.grounding.specs.Instance.{instance_of}
 use Rattle.grounding.specs.Simplify.{action_of}

@@ -1,4 +1,4 @@
-use Rattle.std.proofs.Common.{arith, ◌≡◌, ℕ, Ok, Err, Result, subst}
+use Rattle.std.proofs.Common.{arith, Ok, Err, Result}
 use Rattle.std.specs.Prelude.{◌≤◌, IfOk}
 use Rattle.grounding.specs.Grounded.{Grounded}
 use Rattle.grounding.specs.Limits.{most_tuples}

@@ -1,11 +1,10 @@
-use Rattle.std.proofs.Common.{arith, ◌≡◌, ◌∙◌, ap, sym, subst, length, List}
+use Rattle.std.proofs.Common.{arith, ◌≡◌, ◌∙◌, ap, sym, subst, length}
 use Rattle.std.specs.List.{list_all}
 use Rattle.grounding.specs.Instance.{instance_of}
 use Rattle.grounding.specs.Found.{may_be_true, grounded_by}
 use Rattle.grounding.specs.Simplify.{task_of}
 use Rattle.grounding.specs.Tuples.{saturated}
 use Rattle.gt_core.specs.Lawful.{conditional_in}
-use Rattle.gt_core.specs.Task.{Action}
 use Rattle.grounder.specs.Few.{HaveFew}
 use Rattle.grounder.proofs.Few.{kept_few, left_few}
 use Rattle.grounder.proofs.Saturated.{few_saturated, many_saturated}
