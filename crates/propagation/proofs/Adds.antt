@@ -1,5 +1,7 @@
 -- A new clause at the end: what holds of the tables once its watched literals are on their chains.
-use Rattle.std.proofs.Common.{arith, ◌≡◌, ◌≢◌, ◌==◌, ℕ, suc, ◌+◌, ◌*◌, ◌/◌, ◌%◌, ◌<◌, ◌≤◌, List, [], ◌∷◌, ◌++◌, length, take, set, get_or, ltb, leb, Bool, true, false, ◌&&◌, refl, sym, ap, ◌∙◌, subst, if◌then◌else◌, Some, ◌⊎◌, inl, inr, length-set, get_or-set_same, get_or-set_other}
+use Rattle.std.proofs.Common.{arith, ◌≡◌, ◌≢◌, ◌==◌, ℕ, suc, ◌+◌, ◌*◌, ◌/◌, ◌%◌, ◌<◌, ◌≤◌, List, [], ◌∷◌, ◌++◌, length, take, set, get_or, ltb, leb}
+use Rattle.std.proofs.Common.{Bool, true, false, ◌&&◌, refl, sym, ap, ◌∙◌, subst, if◌then◌else◌, Some, ◌⊎◌, inl, inr, length-set, get_or-set_same}
+use Rattle.std.proofs.Common.{get_or-set_other}
 use Rattle.std.specs.List.{list_any, filter}
 use Rattle.std.proofs.lemmas.Bool.Decides.{nat_tests}
 use Rattle.std.proofs.lemmas.List.{get_or_push, get_or_append_left, get_or_past, length_push}
@@ -60,25 +62,29 @@ own_long : (cl : List (List ℕ)) (k : List ℕ) (node : ℕ) → IsReal (cl ++ 
 own_long cl k node r e = subst (λ (xs : List ℕ). 2 ≤ length xs) (at_own cl k (node / 2) e) r.long
 
 -- the old nodes watch what they did
-pub literal_other : (cl : List (List ℕ)) (k : List ℕ) (wa : List Watched) (w : Watched) (node : ℕ) → (node / 2 ≡ length cl → ⊥) → literal_at (cl ++ k ∷ []) (set wa (length cl) w) node ≡ literal_at cl wa node
+pub literal_other : (cl : List (List ℕ)) (k : List ℕ) (wa : List Watched) (w : Watched) (node : ℕ) → (node / 2 ≡ length cl → ⊥)
+    → literal_at (cl ++ k ∷ []) (set wa (length cl) w) node ≡ literal_at cl wa node
 literal_other cl k wa w node ne =
     ap (λ (xs : List ℕ). get_or xs (place_of (set wa (length cl) w) node) 0) (at_other cl k (node / 2) ne)
     ∙ ap (λ (v : Watched). get_or (clause_at cl (node / 2)) (place_in v (node % 2 == 1)) 0) (get_or-set_other wa (length cl) (node / 2) w no_watches ne)
 
 -- and the new ones the chosen places
-pub literal_own : (cl : List (List ℕ)) (k : List ℕ) (wa : List Watched) (w : Watched) (node : ℕ) (second : Bool) → node / 2 ≡ length cl → (node % 2 == 1) ≡ second → length cl < length wa → literal_at (cl ++ k ∷ []) (set wa (length cl) w) node ≡ get_or k (place_in w second) 0
+pub literal_own : (cl : List (List ℕ)) (k : List ℕ) (wa : List Watched) (w : Watched) (node : ℕ) (second : Bool) → node / 2 ≡ length cl
+    → (node % 2 == 1) ≡ second → length cl < length wa → literal_at (cl ++ k ∷ []) (set wa (length cl) w) node ≡ get_or k (place_in w second) 0
 literal_own cl k wa w node second e s h =
     ap (λ (xs : List ℕ). get_or xs (place_of (set wa (length cl) w) node) 0) (at_own cl k (node / 2) e)
     ∙ ap (λ (x : ℕ). get_or k (place_in (get_or (set wa (length cl) w) x no_watches) (node % 2 == 1)) 0) e
     ∙ ap (λ (v : Watched). get_or k (place_in v (node % 2 == 1)) 0) (get_or-set_same wa (length cl) w no_watches h)
     ∙ ap (λ (b : Bool). get_or k (place_in w b) 0) s
 
-kept_other : (cl : List (List ℕ)) (kept : List Bool) (node : ℕ) → length kept ≡ length cl → (node / 2 ≡ length cl → ⊥) → IsNodeKept (kept ++ true ∷ []) node → IsNodeKept kept node
+kept_other : (cl : List (List ℕ)) (kept : List Bool) (node : ℕ) → length kept ≡ length cl → (node / 2 ≡ length cl → ⊥)
+    → IsNodeKept (kept ++ true ∷ []) node → IsNodeKept kept node
 kept_other cl kept node l ne m =
     let n : node / 2 ≡ length kept → ⊥ = (λ (e : node / 2 ≡ length kept). ne (e ∙ l)) in
     sym (get_other kept true false (node / 2) n) ∙ m
 
-pub placed_add : (cl : List (List ℕ)) (k : List ℕ) (wa : List Watched) (w : Watched) → AreTwoPlaces cl wa → length cl < length wa → w.first < length k → w.second < length k → (w.first ≡ w.second → ⊥) → AreTwoPlaces (cl ++ k ∷ []) (set wa (length cl) w)
+pub placed_add : (cl : List (List ℕ)) (k : List ℕ) (wa : List Watched) (w : Watched) → AreTwoPlaces cl wa → length cl < length wa → w.first < length k
+    → w.second < length k → (w.first ≡ w.second → ⊥) → AreTwoPlaces (cl ++ k ∷ []) (set wa (length cl) w)
 placed_add cl k wa w m lw fin sin ne = record {
   many = omega (arith, lw, length_push cl k, length-set wa (length cl) w);
   first_in = λ c h t. (chosen c h t (c == length cl) refl).0;
@@ -86,7 +92,10 @@ placed_add cl k wa w m lw fin sin ne = record {
   apart = λ c h t. (chosen c h t (c == length cl) refl).2;
 }
   where
-    chosen : (c : ℕ) → c < length (cl ++ k ∷ []) → 2 ≤ length (clause_at (cl ++ k ∷ []) c) → (b : Bool) → (c == length cl) ≡ b → ((get_or (set wa (length cl) w) c no_watches).first < length (clause_at (cl ++ k ∷ []) c)) × ((get_or (set wa (length cl) w) c no_watches).second < length (clause_at (cl ++ k ∷ []) c)) × ((get_or (set wa (length cl) w) c no_watches).first ≡ (get_or (set wa (length cl) w) c no_watches).second → ⊥)
+    chosen : (c : ℕ) → c < length (cl ++ k ∷ []) → 2 ≤ length (clause_at (cl ++ k ∷ []) c) → (b : Bool) → (c == length cl) ≡ b
+        → ((get_or (set wa (length cl) w) c no_watches).first < length
+        (clause_at (cl ++ k ∷ []) c)) × ((get_or (set wa (length cl) w) c no_watches).second < length
+        (clause_at (cl ++ k ∷ []) c)) × ((get_or (set wa (length cl) w) c no_watches).first ≡ (get_or (set wa (length cl) w) c no_watches).second → ⊥)
     chosen c h t true f =
         let e : c ≡ length cl = equal_of c (length cl) f in
         let v : get_or (set wa (length cl) w) c no_watches ≡ w = ap (λ (x : ℕ). get_or (set wa (length cl) w) x no_watches) e ∙ get_or-set_same wa (length cl) w no_watches lw in
@@ -105,7 +114,14 @@ placed_add cl k wa w m lw fin sin ne = record {
         (omega (arith, l, a, m.first_in c below two), omega (arith, l, b, m.second_in c below two), λ q. m.apart c below two (sym a ∙ q ∙ b))
 
 -- with the two nodes of the new clause on the chains of its watched literals
-pub listed_add : (cl : List (List ℕ)) (k : List ℕ) (wa : List Watched) (w : Watched) (heads heads' : List ℕ) (nodes nodes' : List Node) (spare : ℕ) (kept : List Bool) (a b : ℕ) (r : IsListed cl wa heads nodes spare (IsNodeKept kept) NoWhy) → length kept ≡ length cl → length cl < length wa → w.first < length k → w.second < length k → (w.first ≡ w.second → ⊥) → 2 ≤ length k → a ≡ get_or k w.first 0 → b ≡ get_or k w.second 0 → IsLinked heads' nodes' (placed (2 * length cl + 1) (Some b) (placed (2 * length cl) (Some a) r.on)) → length heads' ≡ length heads → 2 * (length cl + 1) ≤ length nodes' → blocking_of nodes' (2 * length cl) ≡ b → blocking_of nodes' (2 * length cl + 1) ≡ a → ((x : ℕ) → (x ≡ 2 * length cl → ⊥) → (x ≡ 2 * length cl + 1 → ⊥) → blocking_of nodes' x ≡ blocking_of nodes x) → IsListed (cl ++ k ∷ []) (set wa (length cl) w) heads' nodes' spare (IsNodeKept (kept ++ true ∷ [])) NoWhy
+pub listed_add : (cl : List (List ℕ)) (k : List ℕ) (wa : List Watched) (w : Watched) (heads heads' : List ℕ) (nodes nodes' : List Node) (spare : ℕ)
+    (kept : List Bool) (a b : ℕ) (r : IsListed cl wa heads nodes spare (IsNodeKept kept) NoWhy)
+    → length kept ≡ length cl → length cl < length wa → w.first < length k → w.second < length k → (w.first ≡ w.second → ⊥) → 2 ≤ length k
+    → a ≡ get_or k w.first 0 → b ≡ get_or k w.second 0
+    → IsLinked heads' nodes' (placed (2 * length cl + 1) (Some b) (placed (2 * length cl) (Some a) r.on)) → length heads' ≡ length heads
+    → 2 * (length cl + 1) ≤ length nodes' → blocking_of nodes' (2 * length cl) ≡ b → blocking_of nodes' (2 * length cl + 1) ≡ a
+    → ((x : ℕ) → (x ≡ 2 * length cl → ⊥) → (x ≡ 2 * length cl + 1 → ⊥) → blocking_of nodes' x ≡ blocking_of nodes x)
+    → IsListed (cl ++ k ∷ []) (set wa (length cl) w) heads' nodes' spare (IsNodeKept (kept ++ true ∷ [])) NoWhy
 listed_add cl k wa w heads heads' nodes nodes' spare kept a b r lk lw fin sin ne two ae be link lh ln first second others = record {
   on = placed (2 * length cl + 1) (Some b) (placed (2 * length cl) (Some a) r.on);
   linked = link;
@@ -135,21 +151,27 @@ listed_add cl k wa w heads heads' nodes nodes' spare kept a b r lk lw fin sin ne
     even : (x : ℕ) → (x == 2 * length cl) ≡ true → (x % 2 == 1) ≡ false
     even x f = let e : x ≡ 2 * length cl = equal_of x (2 * length cl) f in let m : x % 2 ≢ 1 = omega (arith, e) in grind (arith, nat_tests)
 
-    real_by : (x l : ℕ) (p : Bool) → (x == 2 * length cl + 1) ≡ p → (q : Bool) → (x == 2 * length cl) ≡ q → (if p then Some b else if q then Some a else r.on x) ≡ Some l → IsReal (cl ++ k ∷ []) x
+    real_by : (x l : ℕ) (p : Bool) → (x == 2 * length cl + 1) ≡ p → (q : Bool) → (x == 2 * length cl) ≡ q
+        → (if p then Some b else if q then Some a else r.on x) ≡ Some l → IsReal (cl ++ k ∷ []) x
     real_by x l true f q g e = real_own cl k x (odd_half x f) two
     real_by x l false f true g e = real_own cl k x (even_half x g) two
     real_by x l false f false g e = real_more cl k x (r.real x l e)
 
-    there_by : (x : ℕ) → IsReal (cl ++ k ∷ []) x → IsNodeKept (kept ++ true ∷ []) x → (p : Bool) → (x == 2 * length cl + 1) ≡ p → (q : Bool) → (x == 2 * length cl) ≡ q → ((if p then Some b else if q then Some a else r.on x) ≡ Some (literal_at (cl ++ k ∷ []) (set wa (length cl) w) x)) ⊎ (((if p then Some b else if q then Some a else r.on x) ≡ Some spare) × NoWhy x)
+    there_by : (x : ℕ) → IsReal (cl ++ k ∷ []) x → IsNodeKept (kept ++ true ∷ []) x → (p : Bool) → (x == 2 * length cl + 1) ≡ p → (q : Bool)
+        → (x == 2 * length cl) ≡ q
+        → ((if p then Some b else if q then Some a else r.on x) ≡ Some
+        (literal_at (cl ++ k ∷ []) (set wa (length cl) w) x)) ⊎ (((if p then Some b else if q then Some a else r.on x) ≡ Some spare) × NoWhy x)
     there_by x rx m true f q g = inl (ap (λ (y : ℕ). Some y) (be ∙ sym (literal_own cl k wa w x true (odd_half x f) (odd x f) lw)))
     there_by x rx m false f true g = inl (ap (λ (y : ℕ). Some y) (ae ∙ sym (literal_own cl k wa w x false (even_half x g) (even x g) lw)))
     there_by x rx m false f false g = old (r.there x (real_other cl k x rx (apart_from x f g)) (kept_other cl kept x lk (apart_from x f g) m))
       where
-        old : (r.on x ≡ Some (literal_at cl wa x)) ⊎ ((r.on x ≡ Some spare) × NoWhy x) → (r.on x ≡ Some (literal_at (cl ++ k ∷ []) (set wa (length cl) w) x)) ⊎ ((r.on x ≡ Some spare) × NoWhy x)
+        old : (r.on x ≡ Some (literal_at cl wa x)) ⊎ ((r.on x ≡ Some spare) × NoWhy x)
+            → (r.on x ≡ Some (literal_at (cl ++ k ∷ []) (set wa (length cl) w) x)) ⊎ ((r.on x ≡ Some spare) × NoWhy x)
         old (inl e) = inl (e ∙ ap (λ (y : ℕ). Some y) (sym (literal_other cl k wa w x (apart_from x f g))))
         old (inr v) = absurd v.1
 
-    notes_by : (x : ℕ) → IsReal (cl ++ k ∷ []) x → (p : Bool) → (x == 2 * length cl + 1) ≡ p → (q : Bool) → (x == 2 * length cl) ≡ q → has_literal (clause_at (cl ++ k ∷ []) (x / 2)) (blocking_of nodes' x) ≡ true
+    notes_by : (x : ℕ) → IsReal (cl ++ k ∷ []) x → (p : Bool) → (x == 2 * length cl + 1) ≡ p → (q : Bool) → (x == 2 * length cl) ≡ q
+        → has_literal (clause_at (cl ++ k ∷ []) (x / 2)) (blocking_of nodes' x) ≡ true
     notes_by x rx true f q g =
         ap (λ (xs : List ℕ). has_literal xs (blocking_of nodes' x)) (at_own cl k (x / 2) (odd_half x f))
         ∙ ap (λ (y : ℕ). has_literal k y) (ap (λ (y : ℕ). blocking_of nodes' y) (equal_of x (2 * length cl + 1) f) ∙ second ∙ ae)
@@ -164,7 +186,8 @@ listed_add cl k wa w heads heads' nodes nodes' spare kept a b r lk lw fin sin ne
         ∙ r.blockings x (real_other cl k x rx (apart_from x f g))
 
 -- the old clauses are as pending as they were
-pub pending_other : (cl : List (List ℕ)) (k : List ℕ) (kept : List Bool) (trail : List ℕ) (c : ℕ) → length kept ≡ length cl → (c ≡ length cl → ⊥) → is_pending_on (cl ++ k ∷ []) (kept ++ true ∷ []) trail c ≡ is_pending_on cl kept trail c
+pub pending_other : (cl : List (List ℕ)) (k : List ℕ) (kept : List Bool) (trail : List ℕ) (c : ℕ) → length kept ≡ length cl → (c ≡ length cl → ⊥)
+    → is_pending_on (cl ++ k ∷ []) (kept ++ true ∷ []) trail c ≡ is_pending_on cl kept trail c
 pending_other cl k kept trail c l ne =
     pending_at (cl ++ k ∷ []) (kept ++ true ∷ []) trail c
     ∙ ap (λ (b : Bool). b && is_pending (has_literal trail) (clause_at (cl ++ k ∷ []) c)) (get_other kept true false c (λ (e : c ≡ length kept). ne (e ∙ l)))
@@ -176,26 +199,38 @@ off_and true b e = e
 off_and false b e = refl
 
 -- the new one is not where its literals are not
-pub pending_own : (cl : List (List ℕ)) (k : List ℕ) (kept : List Bool) (trail : List ℕ) (c : ℕ) → c ≡ length cl → is_pending (has_literal trail) k ≡ false → is_pending_on (cl ++ k ∷ []) (kept ++ true ∷ []) trail c ≡ false
-pending_own cl k kept trail c e h = pending_at (cl ++ k ∷ []) (kept ++ true ∷ []) trail c ∙ off_and (get_or (kept ++ true ∷ []) c false) _ (ap (λ (xs : List ℕ). is_pending (has_literal trail) xs) (at_own cl k c e) ∙ h)
+pub pending_own : (cl : List (List ℕ)) (k : List ℕ) (kept : List Bool) (trail : List ℕ) (c : ℕ) → c ≡ length cl
+    → is_pending (has_literal trail) k ≡ false → is_pending_on (cl ++ k ∷ []) (kept ++ true ∷ []) trail c ≡ false
+pending_own cl k kept trail c e h = pending_at (cl ++ k ∷ []) (kept ++ true ∷ []) trail c ∙ off_and (get_or (kept ++ true ∷ []) c false) _
+    (ap (λ (xs : List ℕ). is_pending (has_literal trail) xs) (at_own cl k c e) ∙ h)
 
 off_by : (a b : Bool) → (a ≡ true → b ≡ true) → b ≡ false → a ≡ false
 off_by true b h e = let t : b ≡ true = h refl in sym t ∙ e
 off_by false b h e = refl
 
 -- the two literals that are not false for longest are both not false wherever two are
-pub own_free : (trail k : List ℕ) (m first second : ℕ) → second < length k → (second ≡ first → ⊥) → ((p : ℕ) → p < length k → Outlasts trail (get_or k first 0) (get_or k p 0)) → ((p : ℕ) → p < length k → (p ≡ first → ⊥) → Outlasts trail (get_or k second 0) (get_or k p 0)) → m ≤ length trail → has_two_free (has_literal (take m trail)) k ≡ true → (is_free (has_literal (take m trail)) (get_or k first 0) ≡ true) × (is_free (has_literal (take m trail)) (get_or k second 0) ≡ true)
+pub own_free : (trail k : List ℕ) (m first second : ℕ) → second < length k → (second ≡ first → ⊥)
+    → ((p : ℕ) → p < length k → Outlasts trail (get_or k first 0) (get_or k p 0))
+    → ((p : ℕ) → p < length k → (p ≡ first → ⊥) → Outlasts trail (get_or k second 0) (get_or k p 0)) → m ≤ length trail
+    → has_two_free (has_literal (take m trail)) k ≡ true
+    → (is_free (has_literal (take m trail)) (get_or k first 0) ≡ true) × (is_free (has_literal (take m trail)) (get_or k second 0) ≡ true)
 own_free trail k m first second sin ne most next h two = by (is_free (has_literal (take m trail)) (get_or k second 0)) refl
   where
-    by : (b : Bool) → is_free (has_literal (take m trail)) (get_or k second 0) ≡ b → (is_free (has_literal (take m trail)) (get_or k first 0) ≡ true) × (is_free (has_literal (take m trail)) (get_or k second 0) ≡ true)
+    by : (b : Bool) → is_free (has_literal (take m trail)) (get_or k second 0) ≡ b
+        → (is_free (has_literal (take m trail)) (get_or k first 0) ≡ true) × (is_free (has_literal (take m trail)) (get_or k second 0) ≡ true)
     by true e = (most second sin m h e, e)
     by false e =
-        let one = count_one (is_free (has_literal (take m trail))) k first (λ i g a. off_by (is_free (has_literal (take m trail)) (get_or k i 0)) (is_free (has_literal (take m trail)) (get_or k second 0)) (next i g a m h) e) in
+        let one = count_one (is_free (has_literal (take m trail))) k first
+        (λ i g a. off_by (is_free (has_literal (take m trail)) (get_or k i 0)) (is_free (has_literal (take m trail)) (get_or k second 0))
+        (next i g a m h) e) in
         let t = two_of (length (filter (is_free (has_literal (take m trail))) k)) two in
         absurd (omega (arith, one, t))
 
 -- so the watches are right in a prefix of the trail with the new clause too
-pub free_add : (cl : List (List ℕ)) (k : List ℕ) (wa wa' : List Watched) (kept : List Bool) (trail : List ℕ) → length kept ≡ length cl → ((node : ℕ) → (node / 2 ≡ length cl → ⊥) → literal_at (cl ++ k ∷ []) wa' node ≡ literal_at cl wa node) → AreFree cl wa kept trail → ((node : ℕ) → node / 2 ≡ length cl → 2 ≤ length k → has_two_free (has_literal trail) k ≡ true → is_free (has_literal trail) (literal_at (cl ++ k ∷ []) wa' node) ≡ true) → AreFree (cl ++ k ∷ []) wa' (kept ++ true ∷ []) trail
+pub free_add : (cl : List (List ℕ)) (k : List ℕ) (wa wa' : List Watched) (kept : List Bool) (trail : List ℕ) → length kept ≡ length cl
+    → ((node : ℕ) → (node / 2 ≡ length cl → ⊥) → literal_at (cl ++ k ∷ []) wa' node ≡ literal_at cl wa node) → AreFree cl wa kept trail
+    → ((node : ℕ) → node / 2 ≡ length cl → 2 ≤ length k → has_two_free (has_literal trail) k ≡ true → is_free (has_literal trail) (literal_at (cl ++ k ∷ []) wa' node) ≡ true)
+    → AreFree (cl ++ k ∷ []) wa' (kept ++ true ∷ []) trail
 free_add cl k wa wa' kept trail lk same free own node rx m none two = by (node / 2 == length cl) refl
   where
     by : (b : Bool) → (node / 2 == length cl) ≡ b → is_free (has_literal trail) (literal_at (cl ++ k ∷ []) wa' node) ≡ true
@@ -206,13 +241,18 @@ free_add cl k wa wa' kept trail lk same free own node rx m none two = by (node /
         let ne : node / 2 ≡ length cl → ⊥ = apart_of (node / 2) (length cl) f in
         let at = at_other cl k (node / 2) ne in
         ap (λ (l : ℕ). is_free (has_literal trail) l) (same node ne)
-        ∙ free node (real_other cl k node rx ne) (kept_other cl kept node lk ne m) (ap (λ (xs : List ℕ). list_any (has_literal trail) xs) (sym at) ∙ none) (ap (λ (xs : List ℕ). has_two_free (has_literal trail) xs) (sym at) ∙ two)
+        ∙ free node (real_other cl k node rx ne) (kept_other cl kept node lk ne m)
+        (ap (λ (xs : List ℕ). list_any (has_literal trail) xs) (sym at) ∙ none) (ap (λ (xs : List ℕ). has_two_free (has_literal trail) xs) (sym at) ∙ two)
 
 -- the quiet lengths, where those at which the new clause is pending are so no more
-pub quiets_add : (cl : List (List ℕ)) (k : List ℕ) (kept : List Bool) (trail : List ℕ) (quiet quiet' : List Bool) → length kept ≡ length cl → ((n : ℕ) → n < length trail → get_or quiet n false ≡ true → (c : ℕ) → is_pending_on cl kept (take n trail) c ≡ false) → ((n : ℕ) → n < length trail → get_or quiet' n false ≡ true → (get_or quiet n false ≡ true) × (is_pending (has_literal (take n trail)) k ≡ false)) → (n : ℕ) → n < length trail → get_or quiet' n false ≡ true → (c : ℕ) → is_pending_on (cl ++ k ∷ []) (kept ++ true ∷ []) (take n trail) c ≡ false
+pub quiets_add : (cl : List (List ℕ)) (k : List ℕ) (kept : List Bool) (trail : List ℕ) (quiet quiet' : List Bool) → length kept ≡ length cl
+    → ((n : ℕ) → n < length trail → get_or quiet n false ≡ true → (c : ℕ) → is_pending_on cl kept (take n trail) c ≡ false)
+    → ((n : ℕ) → n < length trail → get_or quiet' n false ≡ true → (get_or quiet n false ≡ true) × (is_pending (has_literal (take n trail)) k ≡ false))
+    → (n : ℕ) → n < length trail → get_or quiet' n false ≡ true → (c : ℕ) → is_pending_on (cl ++ k ∷ []) (kept ++ true ∷ []) (take n trail) c ≡ false
 quiets_add cl k kept trail quiet quiet' lk old now n h q c = by (c == length cl) refl (now n h q)
   where
-    by : (b : Bool) → (c == length cl) ≡ b → (get_or quiet n false ≡ true) × (is_pending (has_literal (take n trail)) k ≡ false) → is_pending_on (cl ++ k ∷ []) (kept ++ true ∷ []) (take n trail) c ≡ false
+    by : (b : Bool) → (c == length cl) ≡ b → (get_or quiet n false ≡ true) × (is_pending (has_literal (take n trail)) k ≡ false)
+        → is_pending_on (cl ++ k ∷ []) (kept ++ true ∷ []) (take n trail) c ≡ false
     by true f w = pending_own cl k kept (take n trail) c (equal_of c (length cl) f) w.1
     by false f w = pending_other cl k kept (take n trail) c lk (apart_of c (length cl) f) ∙ old n h w.0 c
 
@@ -223,7 +263,8 @@ rising_short x (y ∷ xs) n r h =
     let rest = rising_short y xs n r.1 (λ p g. h (suc p) (omega (arith, g))) in
     omega (arith, rest, r.0)
 
-pub fit_add : (cl : List (List ℕ)) (k : List ℕ) (codes : ℕ) → IsFit cl codes → ((p : ℕ) → p < length k → get_or k p 0 < codes) → length k ≤ 4294967295 → IsFit (cl ++ k ∷ []) codes
+pub fit_add : (cl : List (List ℕ)) (k : List ℕ) (codes : ℕ) → IsFit cl codes → ((p : ℕ) → p < length k → get_or k p 0 < codes) → length k ≤ 4294967295
+    → IsFit (cl ++ k ∷ []) codes
 fit_add cl k codes f below short = record {
   below = λ c p h. below_by c p h (c == length cl) refl;
   short = λ c. short_by c (c == length cl) refl;

@@ -1,5 +1,6 @@
 -- What a clause asks for tells whether it is pending, and what it leaves.
-use Rattle.std.proofs.Common.{arith, ◌≡◌, ◌≢◌, ◌==◌, ℕ, zero, suc, ◌+◌, ◌-◌, ◌%◌, ◌<◌, ◌≤◌, List, [], ◌∷◌, ◌++◌, length, take, set, get_or, leb, Bool, true, false, not, ◌||◌, ◌&&◌, if◌then◌else◌, refl, sym, ap, ◌∙◌, subst, Some, inl, inr}
+use Rattle.std.proofs.Common.{arith, ◌≡◌, ◌≢◌, ◌==◌, ℕ, zero, suc, ◌+◌, ◌-◌, ◌%◌, ◌<◌, ◌≤◌, List, [], ◌∷◌, ◌++◌, length, take, set, get_or, leb, Bool}
+use Rattle.std.proofs.Common.{true, false, not, ◌||◌, ◌&&◌, if◌then◌else◌, refl, sym, ap, ◌∙◌, subst, Some, inl, inr}
 use Rattle.std.specs.List.{list_any, filter}
 use Rattle.std.proofs.lemmas.Bool.Decides.{nat_tests}
 use Rattle.std.proofs.lemmas.List.{take_all}
@@ -16,7 +17,7 @@ use Rattle.propagation.specs.Visit.{Grows, IsFit}
 use Rattle.pair_index.specs.Pairs.{pair_in}
 use Rattle.propagation.specs.Added.{Outlasts}
 use Rattle.propagation.proofs.Filters.{clause_is, tests_one, count_one, count_two, pending_off, any_from_has, has_get, pending_at}
-use Rattle.propagation.proofs.Assigns.{equal_of, apart_of, opposite_twice, not_false, true_longer, true_in_take}
+use Rattle.propagation.proofs.Assigns.{equal_of, apart_of, opposite_twice, not_false, true_in_take}
 
 -- the literals of a clause that is read
 pub fit_read : (cl : List (List ℕ)) (codes k : ℕ) (xs : List ℕ) → IsFit cl codes → xs ≡ get_or cl k [] → (p : ℕ) → p < length xs → get_or xs p 0 < codes
@@ -32,7 +33,8 @@ off_of : (trail : List ℕ) (l : ℕ) → IsConsistent trail → is_free (has_li
 off_of trail l c f = ap (has_literal trail) (sym (opposite_twice l)) ∙ c (opposite l) (not_false (has_literal trail (opposite l)) f)
 
 -- a clause with a unit literal is pending where this is not true
-pub pending_by_unit : (trail clause : List ℕ) (unit : ℕ) → IsConsistent trail → IsUnit (has_literal trail) clause unit → is_pending (has_literal trail) clause ≡ not (has_literal trail unit)
+pub pending_by_unit : (trail clause : List ℕ) (unit : ℕ) → IsConsistent trail → IsUnit (has_literal trail) clause unit
+    → is_pending (has_literal trail) clause ≡ not (has_literal trail unit)
 pending_by_unit trail clause unit cons a = met (has_literal trail unit) refl
   where
     on : ℕ → Bool
@@ -110,7 +112,8 @@ consistent_push trail x c free l h = has-snoc trail x (opposite l) ∙ by (x == 
     by false f false g e = absurd (let w : ⊥ = cc in w)
 
 -- a literal that is not false for less than the whole trail is false
-pub false_past : (trail : List ℕ) (l until : ℕ) → ((n : ℕ) → n ≤ length trail → is_free (has_literal (take n trail)) l ≡ leb n until) → until + 1 ≤ length trail → is_free (has_literal trail) l ≡ false
+pub false_past : (trail : List ℕ) (l until : ℕ) → ((n : ℕ) → n ≤ length trail → is_free (has_literal (take n trail)) l ≡ leb n until)
+    → until + 1 ≤ length trail → is_free (has_literal trail) l ≡ false
 false_past trail l until lasts h =
     let t : leb (length trail) until ≡ false = grind (arith, nat_tests) in
     ap (λ (xs : List ℕ). is_free (has_literal xs) l) (sym (take_all (length trail) trail (omega arith))) ∙ lasts (length trail) (omega arith) ∙ t
@@ -129,7 +132,8 @@ false_after trail l other o f = by (is_free (has_literal trail) other) refl
     by false e = refl
 
 -- without a number that does not pass a set still has all that do, and nothing up to that number where it was the least
-pub cleaned_complete : (p s s' : ℕ → Bool) (n : ℕ) → p n ≡ false → ((k : ℕ) → p k ≡ true → s k ≡ true) → ((k : ℕ) → s' k ≡ (not (k == n) && s k)) → (k : ℕ) → p k ≡ true → s' k ≡ true
+pub cleaned_complete : (p s s' : ℕ → Bool) (n : ℕ) → p n ≡ false → ((k : ℕ) → p k ≡ true → s k ≡ true) → ((k : ℕ) → s' k ≡ (not (k == n) && s k))
+    → (k : ℕ) → p k ≡ true → s' k ≡ true
 cleaned_complete p s s' n off complete has k e = has k ∙ by (k == n) refl
   where
     by : (b : Bool) → (k == n) ≡ b → (not b && s k) ≡ true
@@ -166,7 +170,8 @@ pub unit_below : (cl : List (List ℕ)) (on : ℕ → Bool) (k unit codes : ℕ)
 unit_below cl on k unit codes fit a = omega (arith, fit.below k a.place a.inside, a.own)
 
 -- the unit literal of a pending clause is the one that is not false, or the first one where all are false
-pub unit_found : (on : ℕ → Bool) (xs : List ℕ) (i : ℕ) → i < length xs → is_free on (get_or xs i 0) ≡ true → is_pending on xs ≡ true → IsUnit on xs (get_or xs i 0)
+pub unit_found : (on : ℕ → Bool) (xs : List ℕ) (i : ℕ) → i < length xs → is_free on (get_or xs i 0) ≡ true → is_pending on xs ≡ true
+    → IsUnit on xs (get_or xs i 0)
 unit_found on xs i h f p = record { place = i; inside = h; own = refl; others = λ j g ne. by j g ne (is_free on (get_or xs j 0)) refl }
   where
     by : (j : ℕ) → j < length xs → (j ≡ i → ⊥) → (b : Bool) → is_free on (get_or xs j 0) ≡ b → b ≡ false
@@ -187,7 +192,8 @@ other_insert set set' n k h ne = h k ∙ ap (λ (b : Bool). b || set k) (off k n
     off a b f = let n : a ≢ b = f in grind (arith, nat_tests)
 
 -- a clause that is kept and pending is pending
-pub pending_kept : (cl : List (List ℕ)) (kept : List Bool) (trail : List ℕ) (k : ℕ) → is_pending_on cl kept trail k ≡ true → is_pending (has_literal trail) (clause_at cl k) ≡ true
+pub pending_kept : (cl : List (List ℕ)) (kept : List Bool) (trail : List ℕ) (k : ℕ) → is_pending_on cl kept trail k ≡ true
+    → is_pending (has_literal trail) (clause_at cl k) ≡ true
 pending_kept cl kept trail k p = by (get_or kept k false) (sym (pending_at cl kept trail k) ∙ p)
   where
     by : (b : Bool) → (b && is_pending (has_literal trail) (clause_at cl k)) ≡ true → is_pending (has_literal trail) (clause_at cl k) ≡ true
@@ -195,7 +201,10 @@ pending_kept cl kept trail k p = by (get_or kept k false) (sym (pending_at cl ke
     by false e = absurd (let w : ⊥ = cc in w)
 
 -- one pair more is marked
-pub marked_more : (pairs : List Pair) (n : ℕ) (on s s' : ℕ → Bool) → ((i : ℕ) → i < n → on (pair_in pairs i).other ≡ false → s (pair_in pairs i).number ≡ true) → Grows s s' → (on (pair_in pairs n).other ≡ false → s' (pair_in pairs n).number ≡ true) → (i : ℕ) → i < n + 1 → on (pair_in pairs i).other ≡ false → s' (pair_in pairs i).number ≡ true
+pub marked_more : (pairs : List Pair) (n : ℕ) (on s s' : ℕ → Bool)
+    → ((i : ℕ) → i < n → on (pair_in pairs i).other ≡ false → s (pair_in pairs i).number ≡ true) → Grows s s'
+    → (on (pair_in pairs n).other ≡ false → s' (pair_in pairs n).number ≡ true) → (i : ℕ) → i < n + 1 → on (pair_in pairs i).other ≡ false
+    → s' (pair_in pairs i).number ≡ true
 marked_more pairs n on s s' old grows own i h f = by (i == n) refl
   where
     by : (b : Bool) → (i == n) ≡ b → s' (pair_in pairs i).number ≡ true
@@ -219,7 +228,8 @@ none_left p (x ∷ xs) h =
     ap (λ (b : Bool). if b then x ∷ filter p xs else filter p xs) (h 0 (omega arith))
     ∙ none_left p xs (λ i g. h (suc i) (omega (arith, g)))
 
-one_left : (p : ℕ → Bool) (xs : List ℕ) (k : ℕ) → k < length xs → ((i : ℕ) → i < length xs → (i ≡ k → ⊥) → p (get_or xs i 0) ≡ false) → p (get_or xs k 0) ≡ true → filter p xs ≡ get_or xs k 0 ∷ []
+one_left : (p : ℕ → Bool) (xs : List ℕ) (k : ℕ) → k < length xs → ((i : ℕ) → i < length xs → (i ≡ k → ⊥) → p (get_or xs i 0) ≡ false)
+    → p (get_or xs k 0) ≡ true → filter p xs ≡ get_or xs k 0 ∷ []
 one_left p [] k g h e = absurd (omega arith)
 one_left p (x ∷ xs) zero g h e =
     ap (λ (b : Bool). if b then x ∷ filter p xs else filter p xs) e
@@ -241,19 +251,23 @@ left_none on clause unit a f = none_left (is_free on) clause (λ i g. at i g (i 
     at i g false e = a.others i g (apart_of i a.place e)
 
 -- so what a clause asks for tells whether it is pending, and what it leaves
-pub ask_true : (trail clause : List ℕ) (ask : ℕ) → IsConsistent trail → IsAsk (has_literal trail) clause ask → (ask ≡ 4294967295 → ⊥) → has_literal trail ask ≡ true → is_pending (has_literal trail) clause ≡ false
+pub ask_true : (trail clause : List ℕ) (ask : ℕ) → IsConsistent trail → IsAsk (has_literal trail) clause ask → (ask ≡ 4294967295 → ⊥)
+    → has_literal trail ask ≡ true → is_pending (has_literal trail) clause ≡ false
 ask_true trail clause ask cons (inl e) some t = absurd (some e.1)
 ask_true trail clause ask cons (inr u) some t = pending_by_unit trail clause ask cons u ∙ ap (λ (b : Bool). not b) t
 
-pub ask_open : (trail clause : List ℕ) (ask : ℕ) → IsConsistent trail → IsAsk (has_literal trail) clause ask → (ask ≡ 4294967295 → ⊥) → has_literal trail ask ≡ false → is_pending (has_literal trail) clause ≡ true
+pub ask_open : (trail clause : List ℕ) (ask : ℕ) → IsConsistent trail → IsAsk (has_literal trail) clause ask → (ask ≡ 4294967295 → ⊥)
+    → has_literal trail ask ≡ false → is_pending (has_literal trail) clause ≡ true
 ask_open trail clause ask cons (inl e) some f = absurd (some e.1)
 ask_open trail clause ask cons (inr u) some f = pending_by_unit trail clause ask cons u ∙ ap (λ (b : Bool). not b) f
 
-pub ask_left : (on : ℕ → Bool) (clause : List ℕ) (ask : ℕ) → IsAsk on clause ask → (ask ≡ 4294967295 → ⊥) → is_free on ask ≡ true → filter (is_free on) clause ≡ ask ∷ []
+pub ask_left : (on : ℕ → Bool) (clause : List ℕ) (ask : ℕ) → IsAsk on clause ask → (ask ≡ 4294967295 → ⊥) → is_free on ask ≡ true
+    → filter (is_free on) clause ≡ ask ∷ []
 ask_left on clause ask (inl e) some f = absurd (some e.1)
 ask_left on clause ask (inr u) some f = left_one on clause ask u f
 
-pub ask_none : (on : ℕ → Bool) (clause : List ℕ) (ask : ℕ) → IsAsk on clause ask → (ask ≡ 4294967295 → ⊥) → is_free on ask ≡ false → filter (is_free on) clause ≡ []
+pub ask_none : (on : ℕ → Bool) (clause : List ℕ) (ask : ℕ) → IsAsk on clause ask → (ask ≡ 4294967295 → ⊥) → is_free on ask ≡ false
+    → filter (is_free on) clause ≡ []
 ask_none on clause ask (inl e) some f = absurd (some e.1)
 ask_none on clause ask (inr u) some f = left_none on clause ask u f
 
@@ -262,6 +276,7 @@ pub ask_below : (cl : List (List ℕ)) (on : ℕ → Bool) (k ask codes : ℕ) �
 ask_below cl on k ask codes fit (inl e) some = absurd (some e.1)
 ask_below cl on k ask codes fit (inr u) some = unit_below cl on k ask codes fit u
 
-pub ask_empty : (cl : List (List ℕ)) (on : ℕ → Bool) (k ask codes : ℕ) → IsFit cl codes → codes ≤ 4294967294 → IsAsk on (clause_at cl k) ask → ask ≡ 4294967295 → clause_at cl k ≡ []
+pub ask_empty : (cl : List (List ℕ)) (on : ℕ → Bool) (k ask codes : ℕ) → IsFit cl codes → codes ≤ 4294967294 → IsAsk on (clause_at cl k) ask
+    → ask ≡ 4294967295 → clause_at cl k ≡ []
 ask_empty cl on k ask codes fit few (inl e) none = e.0
 ask_empty cl on k ask codes fit few (inr u) none = absurd (omega (arith, unit_below cl on k ask codes fit u, few, none))

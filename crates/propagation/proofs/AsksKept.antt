@@ -1,6 +1,6 @@
 -- What the members of a set ask for, as the set, the trail and the clauses change.
-use Rattle.std.proofs.Common.{arith, ◌≡◌, ◌≢◌, ◌==◌, ℕ, ◌+◌, ◌*◌, ◌<◌, ◌≤◌, List, [], ◌∷◌, ◌++◌, length, set, get_or, Bool, true, false, ◌||◌, refl, sym, ap, ◌∙◌, subst, ◌⊎◌, inl, inr, length-set, get_or-set_same, get_or-set_other}
-use Rattle.std.proofs.lemmas.Bool.Decides.{nat_tests}
+use Rattle.std.proofs.Common.{arith, ◌≡◌, ◌==◌, ℕ, ◌*◌, ◌<◌, ◌≤◌, List, [], ◌∷◌, ◌++◌, length, set, get_or, Bool, true, false, ◌||◌, refl, sym, ap}
+use Rattle.std.proofs.Common.{◌∙◌, subst, inl, inr, length-set, get_or-set_same, get_or-set_other}
 use Rattle.std.proofs.lemmas.List.{length_push}
 use Rattle.clause_base.specs.Clause.{has_literal}
 use Rattle.cdcl_rules.specs.State.{clause_at}
@@ -21,7 +21,8 @@ within_insert n number was is inside w has k h = by (k == number) refl (sym (has
     by false f e = w k e
 
 -- a clause is put into the set
-pub asks_put : (cl : List (List ℕ)) (trail : List ℕ) (number ask : ℕ) (old new : Pending) → HasAsks cl trail old → IsPut number ask old new → number < length cl → IsAsk (has_literal trail) (clause_at cl number) ask → HasAsks cl trail new
+pub asks_put : (cl : List (List ℕ)) (trail : List ℕ) (number ask : ℕ) (old new : Pending) → HasAsks cl trail old → IsPut number ask old new
+    → number < length cl → IsAsk (has_literal trail) (clause_at cl number) ask → HasAsks cl trail new
 asks_put cl trail number ask old new a p inside is = record {
   within = within_insert (length cl) number (words_have old.numbers) (words_have new.numbers) inside a.within p.has;
   are = λ k h. by k h (k == number) refl;
@@ -43,7 +44,9 @@ asks_put cl trail number ask old new a p inside is = record {
         subst (λ (x : ℕ). IsAsk (has_literal trail) (clause_at cl k) x) (sym v) (a.are k was)
 
 -- members are taken out
-pub asks_fewer : (cl : List (List ℕ)) (trail : List ℕ) (p : Pending) (words : List ℕ) → HasAsks cl trail p → ((k : ℕ) → words_have words k ≡ true → words_have p.numbers k ≡ true) → length words ≡ length p.numbers → HasAsks cl trail (record p { numbers = words })
+pub asks_fewer : (cl : List (List ℕ)) (trail : List ℕ) (p : Pending) (words : List ℕ) → HasAsks cl trail p
+    → ((k : ℕ) → words_have words k ≡ true → words_have p.numbers k ≡ true) → length words ≡ length p.numbers
+    → HasAsks cl trail (record p { numbers = words })
 asks_fewer cl trail p words a fewer room = record {
   within = λ k h. a.within k (fewer k h);
   are = λ k h. a.are k (fewer k h);
@@ -52,7 +55,8 @@ asks_fewer cl trail p words a fewer room = record {
 }
 
 -- all are
-pub asks_cleared : (cl : List (List ℕ)) (trail : List ℕ) (p : Pending) → ((k : ℕ) → words_have p.numbers k ≡ false) → length cl ≤ 64 * length p.numbers → length cl ≤ length p.asks.items → HasAsks cl trail p
+pub asks_cleared : (cl : List (List ℕ)) (trail : List ℕ) (p : Pending) → ((k : ℕ) → words_have p.numbers k ≡ false)
+    → length cl ≤ 64 * length p.numbers → length cl ≤ length p.asks.items → HasAsks cl trail p
 asks_cleared cl trail p none room long = record {
   within = λ k h. absurd (let z : true ≡ false = sym h ∙ none k in let w : ⊥ = cc in w);
   are = λ k h. absurd (let z : true ≡ false = sym h ∙ none k in let w : ⊥ = cc in w);
@@ -81,7 +85,8 @@ asks_wider cl trail old new a w = record {
 }
 
 -- there is a clause more, which is not in the set
-asks_more : (cl : List (List ℕ)) (k trail : List ℕ) (p : Pending) → HasAsks cl trail p → length cl < 64 * length p.numbers → length cl < length p.asks.items → HasAsks (cl ++ k ∷ []) trail p
+asks_more : (cl : List (List ℕ)) (k trail : List ℕ) (p : Pending) → HasAsks cl trail p → length cl < 64 * length p.numbers
+    → length cl < length p.asks.items → HasAsks (cl ++ k ∷ []) trail p
 asks_more cl k trail p a room long = record {
   within = λ n h. omega (arith, a.within n h, length_push cl k);
   are = λ n h.
@@ -92,7 +97,9 @@ asks_more cl k trail p a room long = record {
 }
 
 -- or is, if it may be pending
-pub asks_add : (cl : List (List ℕ)) (k trail : List ℕ) (number : ℕ) (entered : Entered) (old new : Pending) → HasAsks cl trail old → number ≡ length cl → number < 64 * length old.numbers → number < length old.asks.items → IsRaised trail number entered old new → (entered.low ≤ length trail → IsAsk (has_literal trail) k entered.ask) → HasAsks (cl ++ k ∷ []) trail new
+pub asks_add : (cl : List (List ℕ)) (k trail : List ℕ) (number : ℕ) (entered : Entered) (old new : Pending) → HasAsks cl trail old
+    → number ≡ length cl → number < 64 * length old.numbers → number < length old.asks.items → IsRaised trail number entered old new
+    → (entered.low ≤ length trail → IsAsk (has_literal trail) k entered.ask) → HasAsks (cl ++ k ∷ []) trail new
 asks_add cl k trail number entered old new a e room long (inl r) is =
     asks_put (cl ++ k ∷ []) trail number entered.ask old new (asks_more cl k trail old a (omega (arith, e, room)) (omega (arith, e, long))) r.1 (omega (arith, e, length_push cl k))
     (subst (λ (xs : List ℕ). IsAsk (has_literal trail) xs entered.ask) (sym (at_own cl k number e)) (is r.0))

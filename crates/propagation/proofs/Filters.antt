@@ -51,7 +51,8 @@ pub clause_past : (cl : List (List ℕ)) (k : ℕ) → length cl ≤ k → claus
 clause_past cl k h = clause_is cl k ∙ get_or_past cl k [] h
 
 -- a clause is pending by its number
-pub pending_at : (cl : List (List ℕ)) (kept : List Bool) (trail : List ℕ) (k : ℕ) → is_pending_on cl kept trail k ≡ (get_or kept k false && is_pending (has_literal trail) (clause_at cl k))
+pub pending_at : (cl : List (List ℕ)) (kept : List Bool) (trail : List ℕ) (k : ℕ)
+    → is_pending_on cl kept trail k ≡ (get_or kept k false && is_pending (has_literal trail) (clause_at cl k))
 pending_at cl kept trail k = refl
 
 abbrev pub bit : Bool → ℕ
@@ -99,7 +100,8 @@ count_some p (x ∷ xs) zero h e =
 count_some p (x ∷ xs) (suc i) h e = let k = count_some p xs i (omega arith) e in omega (arith, k, count_step p x xs)
 
 -- two places that pass
-pub count_two : (p : ℕ → Bool) (xs : List ℕ) (i j : ℕ) → i < length xs → j < length xs → (i ≡ j → ⊥) → p (get_or xs i 0) ≡ true → p (get_or xs j 0) ≡ true → 2 ≤ length (filter p xs)
+pub count_two : (p : ℕ → Bool) (xs : List ℕ) (i j : ℕ) → i < length xs → j < length xs → (i ≡ j → ⊥) → p (get_or xs i 0) ≡ true
+    → p (get_or xs j 0) ≡ true → 2 ≤ length (filter p xs)
 count_two p [] i j a b ne e f = absurd (omega arith)
 count_two p (x ∷ xs) zero zero a b ne e f = absurd (ne refl)
 count_two p (x ∷ xs) zero (suc j) a b ne e f =
@@ -129,7 +131,8 @@ pub any_from_has : (on : ℕ → Bool) (xs : List ℕ) (l : ℕ) → has_literal
 any_from_has on [] l h e = absurd (let w : ⊥ = cc in w)
 any_from_has on (x ∷ xs) l h e = by (x == l) refl h (any_from_has on xs l)
   where
-    by : (b : Bool) → (x == l) ≡ b → (b || has_literal xs l) ≡ true → (has_literal xs l ≡ true → on l ≡ true → list_any on xs ≡ true) → (on x || list_any on xs) ≡ true
+    by : (b : Bool) → (x == l) ≡ b → (b || has_literal xs l) ≡ true → (has_literal xs l ≡ true → on l ≡ true → list_any on xs ≡ true)
+        → (on x || list_any on xs) ≡ true
     by true f h k = let t : x ≡ l = grind (arith, nat_tests) in let o : on x ≡ true = ap on t ∙ e in rw o
     by false f h k = or (on x) (k h e)
       where
@@ -165,7 +168,8 @@ settled_true on set xs l c h e =
     }
 
 -- a clause in the set whose literals are all false but for one place is settled
-pub settled_one : (on set : ℕ → Bool) (xs : List ℕ) (k c : ℕ) → ((i : ℕ) → i < length xs → (i ≡ k → ⊥) → is_free on (get_or xs i 0) ≡ false) → set c ≡ true → IsSettled on set xs c
+pub settled_one : (on set : ℕ → Bool) (xs : List ℕ) (k c : ℕ) → ((i : ℕ) → i < length xs → (i ≡ k → ⊥) → is_free on (get_or xs i 0) ≡ false)
+    → set c ≡ true → IsSettled on set xs c
 settled_one on set xs k c h e =
     let n : length (filter (is_free on) xs) ≤ 1 = count_one (is_free on) xs k h in
     record {
@@ -174,7 +178,8 @@ settled_one on set xs k c h e =
     }
 
 -- two free places up to here are two in all
-pub two_by_here : (on : ℕ → Bool) (xs : List ℕ) (i : ℕ) (x : ℕ) → i < length xs → x ≡ get_or xs i 0 → length (filter (is_free on) (take i xs)) ≡ 1 → is_free on x ≡ true → false ≡ is_pending on xs
+pub two_by_here : (on : ℕ → Bool) (xs : List ℕ) (i : ℕ) (x : ℕ) → i < length xs → x ≡ get_or xs i 0 → length (filter (is_free on) (take i xs)) ≡ 1
+    → is_free on x ≡ true → false ≡ is_pending on xs
 two_by_here on xs i x h e n f =
     let m : length (filter (is_free on) (take (i + 1) xs)) ≡ length (filter (is_free on) (take i xs)) + bit (is_free on (get_or xs i 0)) = filter_length i h in
     let c : bit (is_free on (get_or xs i 0)) ≡ 1 = ap (λ (y : ℕ). bit (is_free on y)) (sym e) ∙ ap (λ (b : Bool). bit b) f in
@@ -182,5 +187,6 @@ two_by_here on xs i x h e n f =
     let t : 2 ≤ length (filter (is_free on) xs) = omega (arith, m, c, k, n) in
     sym (pending_off on xs t)
   where
-    filter_length : (i : ℕ) → i < length xs → length (filter (is_free on) (take (i + 1) xs)) ≡ length (filter (is_free on) (take i xs)) + bit (is_free on (get_or xs i 0))
+    filter_length : (i : ℕ) → i < length xs
+        → length (filter (is_free on) (take (i + 1) xs)) ≡ length (filter (is_free on) (take i xs)) + bit (is_free on (get_or xs i 0))
     filter_length i h = length-filter_more (is_free on) xs i 0 h

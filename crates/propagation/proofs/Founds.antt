@@ -19,7 +19,10 @@ use Rattle.propagation.proofs.Paired.{pair_pending}
 use Rattle.propagation.proofs.Slotted.{slot_pending}
 
 -- a clause in the lists of its two literals that is pending on the longer trail
-pair_found : (cl : List (List ℕ)) (kept : List Bool) (trail : List ℕ) (x : ℕ) (ps : List (List Pair)) (list : List Pair) (s s' : ℕ → Bool) (k : ℕ) → IsInPairs ps (clause_at cl k) k → list ≡ pairs_of ps (opposite x) → ((i : ℕ) → i < length list → has_literal (trail ++ x ∷ []) (pair_in list i).other ≡ false → s' (pair_in list i).number ≡ true) → Grows s s' → ((c : ℕ) → is_pending_on cl kept trail c ≡ true → s c ≡ true) → is_pending_on cl kept (trail ++ x ∷ []) k ≡ true → s' k ≡ true
+pair_found : (cl : List (List ℕ)) (kept : List Bool) (trail : List ℕ) (x : ℕ) (ps : List (List Pair)) (list : List Pair) (s s' : ℕ → Bool) (k : ℕ)
+    → IsInPairs ps (clause_at cl k) k → list ≡ pairs_of ps (opposite x)
+    → ((i : ℕ) → i < length list → has_literal (trail ++ x ∷ []) (pair_in list i).other ≡ false → s' (pair_in list i).number ≡ true) → Grows s s'
+    → ((c : ℕ) → is_pending_on cl kept trail c ≡ true → s c ≡ true) → is_pending_on cl kept (trail ++ x ∷ []) k ≡ true → s' k ≡ true
 pair_found cl kept trail x ps list s s' k i l marks grows old p = by (has_two_free (has_literal trail) (clause_at cl k)) refl
   where
     by : (b : Bool) → has_two_free (has_literal trail) (clause_at cl k) ≡ b → s' k ≡ true
@@ -34,7 +37,12 @@ few_free on xs short =
     let both = length-filter_both (is_free on) (λ (x : ℕ). not (is_free on x)) (λ (x : ℕ). refl) xs in
     ap (λ (b : Bool). not b) (tests_one (length (filter (is_free on) xs)) (omega (arith, short, both)))
 
-pub found_complete : (v : ℕ) (cl : List (List ℕ)) (kept : List Bool) (trail slots : List ℕ) (x : ℕ) (ps : List (List Pair)) (list : List Pair) (s s' : ℕ → Bool) → length kept ≡ length cl → IsPaired v cl slots ps → list ≡ pairs_of ps (opposite x) → ((i : ℕ) → i < length list → has_literal (trail ++ x ∷ []) (pair_in list i).other ≡ false → s' (pair_in list i).number ≡ true) → Grows s s' → ((c : ℕ) → is_pending_on cl kept trail c ≡ true → s c ≡ true) → ((n : ℕ) → is_pending_on (slot_clauses cl slots) (slot_flags kept slots) (trail ++ x ∷ []) n ≡ true → slot_set s' slots n ≡ true) → (k : ℕ) → is_pending_on cl kept (trail ++ x ∷ []) k ≡ true → s' k ≡ true
+pub found_complete : (v : ℕ) (cl : List (List ℕ)) (kept : List Bool) (trail slots : List ℕ) (x : ℕ) (ps : List (List Pair)) (list : List Pair) (s s' : ℕ → Bool)
+    → length kept ≡ length cl → IsPaired v cl slots ps → list ≡ pairs_of ps (opposite x)
+    → ((i : ℕ) → i < length list → has_literal (trail ++ x ∷ []) (pair_in list i).other ≡ false → s' (pair_in list i).number ≡ true) → Grows s s'
+    → ((c : ℕ) → is_pending_on cl kept trail c ≡ true → s c ≡ true)
+    → ((n : ℕ) → is_pending_on (slot_clauses cl slots) (slot_flags kept slots) (trail ++ x ∷ []) n ≡ true → slot_set s' slots n ≡ true) → (k : ℕ)
+    → is_pending_on cl kept (trail ++ x ∷ []) k ≡ true → s' k ≡ true
 found_complete v cl kept trail slots x ps list s s' many paired l marks grows old slotted k p =
     let h = kept_in kept k (is_pending (has_literal (trail ++ x ∷ [])) (clause_at cl k)) (sym (pending_at cl kept (trail ++ x ∷ []) k) ∙ p) in
     by (paired.found k (omega (arith, h, many)))

@@ -1,5 +1,7 @@
 -- The tables of a formula's clauses, as they are made and once they are.
-use Rattle.std.proofs.Common.{arith, ◌≡◌, ◌≢◌, ◌==◌, ℕ, zero, suc, ◌+◌, ◌-◌, ◌*◌, ◌<◌, ◌≤◌, List, [], ◌∷◌, ◌++◌, length, take, set, replicate, get_or, leb, ltb, Bool, true, false, not, ◌||◌, ◌&&◌, All, None, Some, refl, sym, ap, ◌∙◌, subst, ◌⊎◌, inl, inr, length-set, get_or-set_same, get_or-set_other}
+use Rattle.std.proofs.Common.{arith, ◌≡◌, ◌≢◌, ◌==◌, ℕ, zero, suc, ◌+◌, ◌-◌, ◌*◌, ◌<◌, ◌≤◌, List, [], ◌∷◌, ◌++◌, length, take, set, replicate, get_or}
+use Rattle.std.proofs.Common.{leb, ltb, Bool, true, false, not, ◌||◌, All, None, refl, sym, ap, ◌∙◌, subst, ◌⊎◌, inl, inr, length-set}
+use Rattle.std.proofs.Common.{get_or-set_same, get_or-set_other}
 use Rattle.std.proofs.lemmas.Bool.Decides.{nat_tests}
 use Rattle.std.proofs.lemmas.List.{map-append, length_push, get_or_push, get_or_append_left}
 use Rattle.std.proofs.lemmas.List.Elements.{All-get_or}
@@ -15,7 +17,7 @@ use Rattle.propagation.specs.declared.given.Given.{Given}
 use Rattle.propagation.specs.declared.pending.Pending.{Pending}
 use Rattle.propagation.specs.declared.tables.Tables.{Tables}
 use Rattle.propagation.specs.declared.visit.Lists.{Lists}
-use Rattle.propagation.specs.Asks.{IsAsk, IsPut, HasAsks}
+use Rattle.propagation.specs.Asks.{IsAsk, IsPut}
 use Rattle.propagation.specs.Added.{AreWider, RestsWith}
 use Rattle.propagation.specs.Given.{AreGiven, AreRising, IsBeside}
 use Rattle.propagation.specs.Pairs.{HasSlot, IsUnwatched, IsPaired}
@@ -30,7 +32,10 @@ use Rattle.propagation.proofs.Slotted.{slots_long, below_more}
 use Rattle.propagation.proofs.Wider.{rest_wider}
 
 -- the tables of no clause
-pub given_none : (codes : ℕ) (cl : List (List ℕ)) (g : Given) → g.slots.items ≡ [] → IsLinked g.lists.chains.heads.items g.lists.chains.nodes.items (λ k. None) → length g.lists.chains.heads.items ≡ codes + 1 → ((k : ℕ) → words_have g.lists.pending.numbers k ≡ false) → length cl ≤ 64 * length g.lists.pending.numbers → length cl ≤ length g.lists.pending.asks.items → AreGiven codes cl 0 g
+pub given_none : (codes : ℕ) (cl : List (List ℕ)) (g : Given) → g.slots.items ≡ []
+    → IsLinked g.lists.chains.heads.items g.lists.chains.nodes.items (λ k. None) → length g.lists.chains.heads.items ≡ codes + 1
+    → ((k : ℕ) → words_have g.lists.pending.numbers k ≡ false) → length cl ≤ 64 * length g.lists.pending.numbers
+    → length cl ≤ length g.lists.pending.asks.items → AreGiven codes cl 0 g
 given_none codes cl g e linked long none wide asks = record {
   slotted = λ s h. absurd (omega (arith, h, no_slots));
   few = omega (arith, no_slots);
@@ -89,15 +94,20 @@ given_two codes cl n g i two = record {
 }
 
 -- all up to a number have
-given_twos : (codes : ℕ) (cl : List (List ℕ)) (n k m : ℕ) (g : Given) → AreGiven codes cl n g → m ≡ n + k → ((c : ℕ) → n ≤ c → c < m → length (clause_at cl c) ≡ 2) → AreGiven codes cl m g
+given_twos : (codes : ℕ) (cl : List (List ℕ)) (n k m : ℕ) (g : Given) → AreGiven codes cl n g → m ≡ n + k
+    → ((c : ℕ) → n ≤ c → c < m → length (clause_at cl c) ≡ 2) → AreGiven codes cl m g
 given_twos codes cl n zero m g i e two = subst (λ (x : ℕ). AreGiven codes cl x g) (let f : n ≡ m = omega (arith, e) in f) i
 given_twos codes cl n (suc k) m g i e two =
     given_twos codes cl (n + 1) k m g (given_two codes cl n g i (two n (omega arith) (omega (arith, e)))) (omega (arith, e)) (λ c h l. two c (omega (arith, h)) l)
 
 -- those of a part up to a place before which there is no other of the places that are not passed by
-pub given_passed : (codes : ℕ) (cl : List (List ℕ)) (first next to index count : ℕ) (places : List ℕ) (g : Given) → AreGiven codes cl (first + next) g → next ≤ to → to ≤ count → ((j : ℕ) → IsBeside places count j → length (clause_at cl (first + j)) ≡ 2) → ((i : ℕ) → i < index → get_or places i 0 < next) → ((i : ℕ) → index ≤ i → i < length places → to ≤ get_or places i 0) → AreGiven codes cl (first + to) g
+pub given_passed : (codes : ℕ) (cl : List (List ℕ)) (first next to index count : ℕ) (places : List ℕ) (g : Given) → AreGiven codes cl (first + next) g
+    → next ≤ to → to ≤ count → ((j : ℕ) → IsBeside places count j → length (clause_at cl (first + j)) ≡ 2)
+    → ((i : ℕ) → i < index → get_or places i 0 < next) → ((i : ℕ) → index ≤ i → i < length places → to ≤ get_or places i 0)
+    → AreGiven codes cl (first + to) g
 given_passed codes cl first next to index count places g i up within twos past ahead =
-    given_twos codes cl (first + next) (to - next) (first + to) g i (omega (arith, up)) (λ c h l. subst (λ (n : ℕ). length (clause_at cl n) ≡ 2) (let e : first + (c - first) ≡ c = omega (arith, h) in e) (twos (c - first) (between c h l)))
+    given_twos codes cl (first + next) (to - next) (first + to) g i (omega (arith, up))
+    (λ c h l. subst (λ (n : ℕ). length (clause_at cl n) ≡ 2) (let e : first + (c - first) ≡ c = omega (arith, h) in e) (twos (c - first) (between c h l)))
   where
     between : (c : ℕ) → first + next ≤ c → c < first + to → IsBeside places count (c - first)
     between c h l = record {
@@ -110,14 +120,16 @@ given_passed codes cl first next to index count places g i up within twos past a
         by s g e false f = absurd (omega (arith, h, l, e, past s (past_of index s f)))
 
 -- the places from one on, and those up to it, are in order
-pub ahead_of : (places : List ℕ) (index to : ℕ) → AreRising places → to ≡ get_or places index 0 → (i : ℕ) → index ≤ i → i < length places → to ≤ get_or places i 0
+pub ahead_of : (places : List ℕ) (index to : ℕ) → AreRising places → to ≡ get_or places index 0 → (i : ℕ) → index ≤ i → i < length places
+    → to ≤ get_or places i 0
 ahead_of places index to rising e i h g = by (i == index) refl
   where
     by : (b : Bool) → (i == index) ≡ b → to ≤ get_or places i 0
     by true f = omega (arith, e, ap (λ (k : ℕ). get_or places k 0) (equal_of i index f))
     by false f = let ne : i ≢ index = apart_of i index f in omega (arith, e, rising index i (omega (arith, h, ne)) g)
 
-pub past_next : (places : List ℕ) (index to : ℕ) → AreRising places → index < length places → to ≡ get_or places index 0 → (i : ℕ) → i < index + 1 → get_or places i 0 < to + 1
+pub past_next : (places : List ℕ) (index to : ℕ) → AreRising places → index < length places → to ≡ get_or places index 0 → (i : ℕ) → i < index + 1
+    → get_or places i 0 < to + 1
 past_next places index to rising inside e i h = by (i == index) refl
   where
     by : (b : Bool) → (i == index) ≡ b → get_or places i 0 < to + 1
@@ -125,13 +137,16 @@ past_next places index to rising inside e i h = by (i == index) refl
     by false f = let ne : i ≢ index = apart_of i index f in omega (arith, e, rising i index (omega (arith, h, ne)) inside)
 
 -- it has fewer
-pub given_short : (codes : ℕ) (cl : List (List ℕ)) (n ask : ℕ) (g : Given) (p : Pending) → AreGiven codes cl n g → length (clause_at cl n) < 2 → n < length cl → ((on : ℕ → Bool) → IsAsk on (clause_at cl n) ask) → IsPut n ask g.lists.pending p → AreGiven codes cl (n + 1) (record g { lists = record g.lists { pending = p } })
+pub given_short : (codes : ℕ) (cl : List (List ℕ)) (n ask : ℕ) (g : Given) (p : Pending) → AreGiven codes cl n g → length (clause_at cl n) < 2
+    → n < length cl → ((on : ℕ → Bool) → IsAsk on (clause_at cl n) ask) → IsPut n ask g.lists.pending p
+    → AreGiven codes cl (n + 1) (record g { lists = record g.lists { pending = p } })
 given_short codes cl n ask g p i short inside is put = record {
   slotted = λ s h. omega (arith, i.slotted s h);
   few = omega (arith, i.few);
   rest = i.rest;
   longs = next_by (λ c. 2 < length (clause_at cl c) → HasSlot g.slots.items c) n i.longs (λ h. absurd (omega (arith, h, short)));
-  shorts = next_by (λ c. length (clause_at cl c) < 2 → words_have p.numbers c ≡ true) n (λ c h t. put.has c ∙ stays (c == n) (i.shorts c h t)) (λ h. put.has n ∙ ap (λ (b : Bool). b || words_have g.lists.pending.numbers n) same);
+  shorts = next_by (λ c. length (clause_at cl c) < 2 → words_have p.numbers c ≡ true) n (λ c h t. put.has c ∙ stays (c == n) (i.shorts c h t))
+      (λ h. put.has n ∙ ap (λ (b : Bool). b || words_have g.lists.pending.numbers n) same);
   only = λ c h. by c (c == n) refl (sym (put.has c) ∙ h);
   asks = λ c h on. asked c on (c == n) refl (sym (put.has c) ∙ h);
   room = omega (arith, i.room, put.room);
@@ -150,7 +165,8 @@ given_short codes cl n ask g p i short inside is put = record {
         let e : c ≡ n = equal_of c n f in (omega (arith, e), subst (λ (k : ℕ). length (clause_at cl k) < 2) (sym e) short)
     by c false f h = let o = i.only c h in (omega (arith, o.0), o.1)
 
-    asked : (c : ℕ) (on : ℕ → Bool) (b : Bool) → (c == n) ≡ b → (b || words_have g.lists.pending.numbers c) ≡ true → IsAsk on (clause_at cl c) (get_or p.asks.items c 0)
+    asked : (c : ℕ) (on : ℕ → Bool) (b : Bool) → (c == n) ≡ b → (b || words_have g.lists.pending.numbers c) ≡ true
+        → IsAsk on (clause_at cl c) (get_or p.asks.items c 0)
     asked c on true f h =
         let e : c ≡ n = equal_of c n f in
         let v : get_or p.asks.items c 0 ≡ ask =
@@ -163,11 +179,14 @@ given_short codes cl n ask g p i short inside is put = record {
         subst (λ (x : ℕ). IsAsk on (clause_at cl c) x) (sym v) (i.asks c h on)
 
 -- it has more, and the next slot
-pub given_long : (codes : ℕ) (cl : List (List ℕ)) (n : ℕ) (g g' : Given) → AreGiven codes cl n g → 2 < length (clause_at cl n) → g'.slots.items ≡ g.slots.items ++ n ∷ [] → g'.lists.pending ≡ g.lists.pending → RestsWith (clause_at cl n) (length g.slots.items) codes g.lists g'.lists → AreGiven codes cl (n + 1) g'
+pub given_long : (codes : ℕ) (cl : List (List ℕ)) (n : ℕ) (g g' : Given) → AreGiven codes cl n g → 2 < length (clause_at cl n)
+    → g'.slots.items ≡ g.slots.items ++ n ∷ [] → g'.lists.pending ≡ g.lists.pending
+    → RestsWith (clause_at cl n) (length g.slots.items) codes g.lists g'.lists → AreGiven codes cl (n + 1) g'
 given_long codes cl n g g' i long e same rests = record {
   slotted = rw e (below_more n g.slots.items n refl i.slotted);
   few = omega (arith, i.few, ap (λ (ss : List ℕ). length ss) e, length_push g.slots.items n);
-  rest = rw (e, map-append (λ (k : ℕ). clause_at cl k) g.slots.items (n ∷ []), flags) (rests (slot_clauses cl g.slots.items) (replicate (length g.slots.items) true) (slots_long cl g.slots.items) (long_flags (length g.slots.items)) i.rest);
+  rest = rw (e, map-append (λ (k : ℕ). clause_at cl k) g.slots.items (n ∷ []), flags)
+      (rests (slot_clauses cl g.slots.items) (replicate (length g.slots.items) true) (slots_long cl g.slots.items) (long_flags (length g.slots.items)) i.rest);
   longs = rw e (next_by (λ c. 2 < length (clause_at cl c) → HasSlot (g.slots.items ++ n ∷ []) c) n (λ c h t. stays c (i.longs c h t)) (λ h. record {
     slot = length g.slots.items;
     inside = omega (arith, length_push g.slots.items n);
@@ -195,7 +214,8 @@ given_long codes cl n g g' i long e same rests = record {
     }
 
 -- with more room
-pub given_wider : (codes : ℕ) (cl : List (List ℕ)) (n : ℕ) (g : Given) (l : Lists) → n ≤ length cl → AreGiven codes cl n g → AreWider g.lists l → AreGiven codes cl n (record g { lists = l })
+pub given_wider : (codes : ℕ) (cl : List (List ℕ)) (n : ℕ) (g : Given) (l : Lists) → n ≤ length cl → AreGiven codes cl n g → AreWider g.lists l
+    → AreGiven codes cl n (record g { lists = l })
 given_wider codes cl n g l few i w = record {
   slotted = i.slotted;
   few = i.few;
@@ -232,7 +252,9 @@ take_none : (n l : ℕ) → has_literal (take n []) l ≡ false
 take_none zero l = refl
 take_none (suc n) l = refl
 
-pub sound_given : (v : ℕ) (t : Tables) (g : Given) (trail : List ℕ) (quiet : List Bool) → v ≤ 2147483647 → length t.store ≤ 1073741824 → IsFit t.store (2 * v) → t.kept.items ≡ replicate (length t.store) true → t.slots.items ≡ g.slots.items → trail ≡ [] → AreGiven (2 * v) t.store (length t.store) g → length quiet ≡ v + 1 → AreSound v t g.lists trail quiet
+pub sound_given : (v : ℕ) (t : Tables) (g : Given) (trail : List ℕ) (quiet : List Bool) → v ≤ 2147483647 → length t.store ≤ 1073741824
+    → IsFit t.store (2 * v) → t.kept.items ≡ replicate (length t.store) true → t.slots.items ≡ g.slots.items → trail ≡ []
+    → AreGiven (2 * v) t.store (length t.store) g → length quiet ≡ v + 1 → AreSound v t g.lists trail quiet
 sound_given v t g trail quiet small few fit ek es et i size = record {
   small = small;
   tables = record {
@@ -255,7 +277,12 @@ sound_given v t g trail quiet small few fit ek es et i size = record {
     long = omega (arith, i.long);
   });
   complete = rw (et, ek) (λ k p.
-      i.shorts k (omega (arith, kept_in (replicate (length t.store) true) k (is_pending (has_literal []) (clause_at t.store k)) p, long_flags (length t.store))) (pending_is_short (clause_at t.store k) (pending_kept t.store (replicate (length t.store) true) [] k p)));
+      i.shorts k (omega (
+        arith,
+        kept_in (replicate (length t.store) true) k (is_pending (has_literal []) (clause_at t.store k)) p,
+        long_flags
+            (length t.store),
+      )) (pending_is_short (clause_at t.store k) (pending_kept t.store (replicate (length t.store) true) [] k p)));
   quiet_size = size;
   quiets = rw et (λ n h. absurd (omega (arith, h)));
 }
@@ -264,14 +291,16 @@ sound_given v t g trail quiet small few fit ek es et i size = record {
     long_flags zero = refl
     long_flags (suc k) = omega (arith, long_flags k)
 
-pub paired_given : (v : ℕ) (cl : List (List ℕ)) (g : Given) (ps : List (List Pair)) → AreGiven (2 * v) cl (length cl) g → IsIndex v cl ps → IsPaired v cl g.slots.items ps
+pub paired_given : (v : ℕ) (cl : List (List ℕ)) (g : Given) (ps : List (List Pair)) → AreGiven (2 * v) cl (length cl) g → IsIndex v cl ps
+    → IsPaired v cl g.slots.items ps
 paired_given v cl g ps made i = record {
   long = i.long;
   found = λ c h. by c h (leb 2 (length (clause_at cl c))) refl (length (clause_at cl c) == 2) refl;
   exact = i.exact;
 }
   where
-    by : (c : ℕ) → c < length cl → (a : Bool) → leb 2 (length (clause_at cl c)) ≡ a → (b : Bool) → (length (clause_at cl c) == 2) ≡ b → IsUnwatched ps (clause_at cl c) c ⊎ HasSlot g.slots.items c
+    by : (c : ℕ) → c < length cl → (a : Bool) → leb 2 (length (clause_at cl c)) ≡ a → (b : Bool) → (length (clause_at cl c) == 2) ≡ b
+        → IsUnwatched ps (clause_at cl c) c ⊎ HasSlot g.slots.items c
     by c h false e b f = inl (inr (past_of 2 (length (clause_at cl c)) e))
     by c h true e true f = inl (inl (i.found c h (equal_of (length (clause_at cl c)) 2 f)))
     by c h true e false f =

@@ -1,5 +1,6 @@
 -- Clauses of two literals by the lists of their literals.
-use Rattle.std.proofs.Common.{arith, ◌≡◌, ◌≢◌, ◌==◌, ℕ, zero, suc, ◌<◌, ◌≤◌, List, [], ◌∷◌, ◌++◌, length, set, get_or, leb, ltb, Bool, true, false, not, ◌||◌, if◌then◌else◌, refl, sym, ap, ◌∙◌, subst, ◌⊎◌, inl, inr}
+use Rattle.std.proofs.Common.{arith, ◌≡◌, ◌≢◌, ◌==◌, ℕ, zero, suc, ◌<◌, ◌≤◌, List, [], ◌∷◌, ◌++◌, length, set, get_or, leb, ltb, Bool, true, false}
+use Rattle.std.proofs.Common.{not, ◌||◌, if◌then◌else◌, refl, sym, ap, ◌∙◌, subst, ◌⊎◌, inl, inr}
 use Rattle.std.specs.List.{list_any, filter}
 use Rattle.std.proofs.lemmas.Bool.Decides.{nat_tests}
 use Rattle.std.proofs.lemmas.List.{get_or_push, get_or_append_left, length_push}
@@ -46,7 +47,8 @@ pair_within cl codes code p f o = (other o, inside (ltb p.number (length cl)) re
 exact_more : (cl : List (List ℕ)) (k : List ℕ) (ps : List (List Pair)) → AreExact cl ps → AreExact (cl ++ k ∷ []) ps
 exact_more cl k ps old code place h = by (old code place h)
   where
-    not_last : (xs : List ℕ) → clause_at cl (pair_in (pairs_of ps code) place).number ≡ xs → length xs ≡ 2 → (pair_in (pairs_of ps code) place).number ≡ length cl → ⊥
+    not_last : (xs : List ℕ) → clause_at cl (pair_in (pairs_of ps code) place).number ≡ xs → length xs ≡ 2
+        → (pair_in (pairs_of ps code) place).number ≡ length cl → ⊥
     not_last xs e l q = absurd (omega (arith, l, ap (λ (ys : List ℕ). length ys) e, ap (λ (ys : List ℕ). length ys) (clause_past cl (pair_in (pairs_of ps code) place).number (omega (arith, q)))))
 
     by : IsPairOf cl code (pair_in (pairs_of ps code) place) → IsPairOf (cl ++ k ∷ []) code (pair_in (pairs_of ps code) place)
@@ -54,7 +56,8 @@ exact_more cl k ps old code place h = by (old code place h)
     by (inr e) = inr (at_other cl k (pair_in (pairs_of ps code) place).number (not_last ((pair_in (pairs_of ps code) place).other ∷ code ∷ []) e refl) ∙ e)
 
 -- with a new clause that has a slot, or fewer than two literals
-pub paired_add : (v number codes : ℕ) (cl : List (List ℕ)) (k trail : List ℕ) (ps : List (List Pair)) (slots : List ℕ) (l : Lists) (slots' : List ℕ) (l' : Lists) → IsPaired v cl slots ps → number ≡ length cl → IsTaken k number codes trail slots l slots' l' → IsPaired v (cl ++ k ∷ []) slots' ps
+pub paired_add : (v number codes : ℕ) (cl : List (List ℕ)) (k trail : List ℕ) (ps : List (List Pair)) (slots : List ℕ) (l : Lists) (slots' : List ℕ) (l' : Lists)
+    → IsPaired v cl slots ps → number ≡ length cl → IsTaken k number codes trail slots l slots' l' → IsPaired v (cl ++ k ∷ []) slots' ps
 paired_add v number codes cl k trail ps slots l slots' l' i e taken = record {
   long = i.long;
   found = λ c h. by c h (c == length cl) refl;
@@ -91,7 +94,8 @@ paired_add v number codes cl k trail ps slots l slots' l' i e taken = record {
         old c ne (i.found c (omega (arith, h, length_push cl k, ne)))
 
 -- a clause in a marked list is in the set, unless its other literal is true
-marked : (ps : List (List Pair)) (list : List Pair) (code a b k : ℕ) (on s : ℕ → Bool) → HasPair ps a b k → list ≡ pairs_of ps code → ((i : ℕ) → i < length list → on (pair_in list i).other ≡ false → s (pair_in list i).number ≡ true) → a ≡ code → on b ≡ false → s k ≡ true
+marked : (ps : List (List Pair)) (list : List Pair) (code a b k : ℕ) (on s : ℕ → Bool) → HasPair ps a b k → list ≡ pairs_of ps code
+    → ((i : ℕ) → i < length list → on (pair_in list i).other ≡ false → s (pair_in list i).number ≡ true) → a ≡ code → on b ≡ false → s k ≡ true
 marked ps list code a b k on s h l set e none =
     let same : list ≡ pairs_of ps a = l ∙ ap (λ (x : ℕ). pairs_of ps x) (sym e) in
     let v : pair_in list h.place ≡ record { other = b; number = k } = ap (λ (xs : List Pair). pair_in xs h.place) same ∙ h.is in
@@ -114,7 +118,11 @@ both_off false true h = absurd (let w : ⊥ = cc in w)
 both_off false false h = (refl, refl)
 
 -- a clause of two literals that is pending once a literal is true, and was not, is in the set where its lists are marked
-pub pair_pending : (clause : List ℕ) (ps : List (List Pair)) (list : List Pair) (trail : List ℕ) (x k : ℕ) (s : ℕ → Bool) → IsInPairs ps clause k → list ≡ pairs_of ps (opposite x) → ((i : ℕ) → i < length list → has_literal (trail ++ x ∷ []) (pair_in list i).other ≡ false → s (pair_in list i).number ≡ true) → has_two_free (has_literal trail) clause ≡ true → list_any (has_literal (trail ++ x ∷ [])) clause ≡ false → has_two_free (has_literal (trail ++ x ∷ [])) clause ≡ false → s k ≡ true
+pub pair_pending : (clause : List ℕ) (ps : List (List Pair)) (list : List Pair) (trail : List ℕ) (x k : ℕ) (s : ℕ → Bool) → IsInPairs ps clause k
+    → list ≡ pairs_of ps (opposite x)
+    → ((i : ℕ) → i < length list → has_literal (trail ++ x ∷ []) (pair_in list i).other ≡ false → s (pair_in list i).number ≡ true)
+    → has_two_free (has_literal trail) clause ≡ true → list_any (has_literal (trail ++ x ∷ [])) clause ≡ false
+    → has_two_free (has_literal (trail ++ x ∷ [])) clause ≡ false → s k ≡ true
 pair_pending clause ps list trail x k s i l set free none less =
     by
     (both_free (is_free on) i.first i.second (ap (λ (xs : List ℕ). has_two_free on xs) (sym i.is) ∙ free))
@@ -127,7 +135,8 @@ pair_pending clause ps list trail x k s i l set free none less =
     on' : ℕ → Bool
     on' = has_literal (trail ++ x ∷ [])
 
-    by : (is_free on i.first ≡ true) × (is_free on i.second ≡ true) → (on' i.first ≡ false) × (on' i.second ≡ false) → (p : Bool) → (i.first == opposite x) ≡ p → (q : Bool) → (i.second == opposite x) ≡ q → s k ≡ true
+    by : (is_free on i.first ≡ true) × (is_free on i.second ≡ true) → (on' i.first ≡ false) × (on' i.second ≡ false) → (p : Bool)
+        → (i.first == opposite x) ≡ p → (q : Bool) → (i.second == opposite x) ≡ q → s k ≡ true
     by f n true g q h = marked ps list (opposite x) i.first i.second k on' s i.has l set (equal_of i.first (opposite x) g) n.1
     by f n false g true h = marked ps list (opposite x) i.second i.first k on' s i.back l set (equal_of i.second (opposite x) h) n.0
     by f n false g false h =
@@ -139,7 +148,8 @@ pair_pending clause ps list trail x k s i l set free none less =
         absurd (let w : ⊥ = cc in w)
 
 -- where one of its literals is false the clause of a pair asks for the other
-pub pair_ask : (cl : List (List ℕ)) (on : ℕ → Bool) (code : ℕ) (p : Pair) → IsPairOf cl code p → on (opposite code) ≡ true → IsAsk on (clause_at cl p.number) p.other
+pub pair_ask : (cl : List (List ℕ)) (on : ℕ → Bool) (code : ℕ) (p : Pair) → IsPairOf cl code p → on (opposite code) ≡ true
+    → IsAsk on (clause_at cl p.number) p.other
 pair_ask cl on code p (inl e) f = subst (λ (xs : List ℕ). IsAsk on xs p.other) (sym e) (inr (record { place = 1; inside = omega arith; own = refl; others = λ i h ne. by i h ne }))
   where
     by : (i : ℕ) → i < 2 → (i ≡ 1 → ⊥) → is_free on (get_or (code ∷ p.other ∷ []) i 0) ≡ false

@@ -1,5 +1,5 @@
 -- The clauses of the slots, and which of them are kept.
-use Rattle.std.proofs.Common.{arith, ◌≡◌, ◌==◌, ℕ, suc, ◌+◌, ◌<◌, ◌≤◌, List, [], ◌∷◌, ◌++◌, length, take, set, get_or, ltb, Bool, true, false, ◌&&◌, ◌||◌, refl, sym, ap, ◌∙◌, subst, ◌⊎◌, inl, inr}
+use Rattle.std.proofs.Common.{arith, ◌≡◌, ◌==◌, ℕ, suc, ◌+◌, ◌<◌, ◌≤◌, List, [], ◌∷◌, ◌++◌, length, take, set, get_or, ltb, Bool, true, false, ◌&&◌, ◌||◌, refl, sym, ap, ◌∙◌, subst, inl, inr}
 use Rattle.std.proofs.lemmas.Bool.Decides.{nat_tests}
 use Rattle.std.proofs.lemmas.List.{get_or-map, length-map, map-append, length_push, get_or_push}
 use Rattle.clause_base.specs.Clause.{has_literal}
@@ -32,7 +32,8 @@ fit_slots cl slots codes f = record { below = λ s p h. below s p h (ltb s (leng
     past : (s : ℕ) → ltb s (length slots) ≡ false → clause_at (slot_clauses cl slots) s ≡ []
     past s e = let h : length slots ≤ s = grind (arith, nat_tests) in clause_past (slot_clauses cl slots) s (omega (arith, h, slots_long cl slots))
 
-    below : (s p : ℕ) → p < length (clause_at (slot_clauses cl slots) s) → (b : Bool) → ltb s (length slots) ≡ b → get_or (clause_at (slot_clauses cl slots) s) p 0 < codes
+    below : (s p : ℕ) → p < length (clause_at (slot_clauses cl slots) s) → (b : Bool) → ltb s (length slots) ≡ b
+        → get_or (clause_at (slot_clauses cl slots) s) p 0 < codes
     below s p h true e =
         let g : s < length slots = grind (arith, nat_tests) in
         let at = slot_at cl slots s g in
@@ -48,20 +49,24 @@ fit_slots cl slots codes f = record { below = λ s p h. below s p h (ltb s (leng
     short s false e = omega (arith, ap (λ (xs : List ℕ). length xs) (past s e))
 
 -- a slot's clause is kept and pending where the clause with its number is
-pub slot_pending : (cl : List (List ℕ)) (kept : List Bool) (slots trail : List ℕ) (s : ℕ) → s < length slots → is_pending_on (slot_clauses cl slots) (slot_flags kept slots) trail s ≡ is_pending_on cl kept trail (get_or slots s 0)
+pub slot_pending : (cl : List (List ℕ)) (kept : List Bool) (slots trail : List ℕ) (s : ℕ) → s < length slots
+    → is_pending_on (slot_clauses cl slots) (slot_flags kept slots) trail s ≡ is_pending_on cl kept trail (get_or slots s 0)
 slot_pending cl kept slots trail s h =
     pending_at (slot_clauses cl slots) (slot_flags kept slots) trail s
     ∙ ap (λ (b : Bool). b && is_pending (has_literal trail) (clause_at (slot_clauses cl slots) s)) (flag_at kept slots s h)
     ∙ ap (λ (xs : List ℕ). get_or kept (get_or slots s 0) false && is_pending (has_literal trail) xs) (slot_at cl slots s h)
     ∙ sym (pending_at cl kept trail (get_or slots s 0))
 
-pub pending_slot_in : (cl : List (List ℕ)) (kept : List Bool) (slots trail : List ℕ) (s : ℕ) → is_pending_on (slot_clauses cl slots) (slot_flags kept slots) trail s ≡ true → s < length slots
+pub pending_slot_in : (cl : List (List ℕ)) (kept : List Bool) (slots trail : List ℕ) (s : ℕ)
+    → is_pending_on (slot_clauses cl slots) (slot_flags kept slots) trail s ≡ true → s < length slots
 pending_slot_in cl kept slots trail s p =
     let k = kept_in (slot_flags kept slots) s (is_pending (has_literal trail) (clause_at (slot_clauses cl slots) s)) (sym (pending_at (slot_clauses cl slots) (slot_flags kept slots) trail s) ∙ p) in
     omega (arith, k, flags_long kept slots)
 
 -- so where all that are pending are in a set, this is so of the slots too
-pub slots_complete : (cl : List (List ℕ)) (kept : List Bool) (slots trail : List ℕ) (set : ℕ → Bool) → ((k : ℕ) → is_pending_on cl kept trail k ≡ true → set k ≡ true) → (s : ℕ) → is_pending_on (slot_clauses cl slots) (slot_flags kept slots) trail s ≡ true → slot_set set slots s ≡ true
+pub slots_complete : (cl : List (List ℕ)) (kept : List Bool) (slots trail : List ℕ) (set : ℕ → Bool)
+    → ((k : ℕ) → is_pending_on cl kept trail k ≡ true → set k ≡ true) → (s : ℕ)
+    → is_pending_on (slot_clauses cl slots) (slot_flags kept slots) trail s ≡ true → slot_set set slots s ≡ true
 slots_complete cl kept slots trail set c s p =
     c (get_or slots s 0) (sym (slot_pending cl kept slots trail s (pending_slot_in cl kept slots trail s p)) ∙ p)
 
@@ -69,7 +74,8 @@ slots_complete cl kept slots trail set c s p =
 apart_by : (m n : ℕ) → m < n → m ≡ n → ⊥
 apart_by m n h e = absurd (omega (arith, h, e))
 
-pub slots_same : (cl : List (List ℕ)) (k : List ℕ) (slots : List ℕ) → AreSlotsBelow (length cl) slots → slot_clauses (cl ++ k ∷ []) slots ≡ slot_clauses cl slots
+pub slots_same : (cl : List (List ℕ)) (k : List ℕ) (slots : List ℕ) → AreSlotsBelow (length cl) slots
+    → slot_clauses (cl ++ k ∷ []) slots ≡ slot_clauses cl slots
 slots_same cl k [] h = refl
 slots_same cl k (m ∷ slots) h =
     ap (λ (xs : List ℕ). xs ∷ slot_clauses (cl ++ k ∷ []) slots) (at_other cl k m (apart_by m (length cl) (h 0 (omega arith))))
@@ -82,13 +88,15 @@ flags_same kept (m ∷ slots) h =
     ∙ ap (λ (rest : List Bool). get_or kept m false ∷ rest) (flags_same kept slots (λ s g. h (suc s) (omega (arith, g))))
 
 -- and with a slot of its own it is the last of them
-pub slots_more : (cl : List (List ℕ)) (k : List ℕ) (slots : List ℕ) (number : ℕ) → AreSlotsBelow (length cl) slots → number ≡ length cl → slot_clauses (cl ++ k ∷ []) (slots ++ number ∷ []) ≡ slot_clauses cl slots ++ k ∷ []
+pub slots_more : (cl : List (List ℕ)) (k : List ℕ) (slots : List ℕ) (number : ℕ) → AreSlotsBelow (length cl) slots → number ≡ length cl
+    → slot_clauses (cl ++ k ∷ []) (slots ++ number ∷ []) ≡ slot_clauses cl slots ++ k ∷ []
 slots_more cl k slots number h e =
     map-append (λ (n : ℕ). clause_at (cl ++ k ∷ []) n) slots (number ∷ [])
     ∙ ap (λ (xs : List (List ℕ)). xs ++ clause_at (cl ++ k ∷ []) number ∷ []) (slots_same cl k slots h)
     ∙ ap (λ (xs : List ℕ). slot_clauses cl slots ++ xs ∷ []) (at_own cl k number e)
 
-pub flags_more : (kept : List Bool) (slots : List ℕ) (number : ℕ) → AreSlotsBelow (length kept) slots → number ≡ length kept → slot_flags (kept ++ true ∷ []) (slots ++ number ∷ []) ≡ slot_flags kept slots ++ true ∷ []
+pub flags_more : (kept : List Bool) (slots : List ℕ) (number : ℕ) → AreSlotsBelow (length kept) slots → number ≡ length kept
+    → slot_flags (kept ++ true ∷ []) (slots ++ number ∷ []) ≡ slot_flags kept slots ++ true ∷ []
 flags_more kept slots number h e =
     map-append (λ (n : ℕ). get_or (kept ++ true ∷ []) n false) slots (number ∷ [])
     ∙ ap (λ (xs : List Bool). xs ++ get_or (kept ++ true ∷ []) number false ∷ []) (flags_same kept slots h)
@@ -98,7 +106,10 @@ below_as : (m n : ℕ) (slots : List ℕ) → m ≡ n → AreSlotsBelow m slots 
 below_as m n slots e h = subst (λ (x : ℕ). AreSlotsBelow x slots) e h
 
 -- a clause that was taken leaves the tables at rest
-pub taken_rest : (cl : List (List ℕ)) (k : List ℕ) (kept : List Bool) (number codes : ℕ) (trail slots : List ℕ) (l : Lists) (slots' : List ℕ) (l' : Lists) → length kept ≡ length cl → number ≡ length cl → AreSlotsBelow (length cl) slots → IsTaken k number codes trail slots l slots' l' → IsAtRest (slot_clauses cl slots) l.watched.items l.chains.heads.items l.chains.nodes.items codes (slot_flags kept slots) → IsAtRest (slot_clauses (cl ++ k ∷ []) slots') l'.watched.items l'.chains.heads.items l'.chains.nodes.items codes (slot_flags (kept ++ true ∷ []) slots')
+pub taken_rest : (cl : List (List ℕ)) (k : List ℕ) (kept : List Bool) (number codes : ℕ) (trail slots : List ℕ) (l : Lists) (slots' : List ℕ) (l' : Lists)
+    → length kept ≡ length cl → number ≡ length cl → AreSlotsBelow (length cl) slots → IsTaken k number codes trail slots l slots' l'
+    → IsAtRest (slot_clauses cl slots) l.watched.items l.chains.heads.items l.chains.nodes.items codes (slot_flags kept slots)
+    → IsAtRest (slot_clauses (cl ++ k ∷ []) slots') l'.watched.items l'.chains.heads.items l'.chains.nodes.items codes (slot_flags (kept ++ true ∷ []) slots')
 taken_rest cl k kept number codes trail slots l slots' l' lk e h (inl t) r =
     rw (t.slots_stay, t.lists_stay, slots_same cl k slots h, flags_same kept slots (below_as (length cl) (length kept) slots (sym lk) h)) r
 taken_rest cl k kept number codes trail slots l slots' l' lk e h (inr t) r =
@@ -106,7 +117,10 @@ taken_rest cl k kept number codes trail slots l slots' l' lk e h (inr t) r =
     (t.rests (slot_clauses cl slots) (slot_flags kept slots) (slots_long cl slots) (flags_long kept slots) r)
 
 -- and its watched literals right in each prefix of the trail
-pub taken_free : (cl : List (List ℕ)) (k : List ℕ) (kept : List Bool) (number codes : ℕ) (trail slots : List ℕ) (l : Lists) (slots' : List ℕ) (l' : Lists) (n : ℕ) → length kept ≡ length cl → number ≡ length cl → AreSlotsBelow (length cl) slots → IsTaken k number codes trail slots l slots' l' → n ≤ length trail → AreFree (slot_clauses cl slots) l.watched.items (slot_flags kept slots) (take n trail) → AreFree (slot_clauses (cl ++ k ∷ []) slots') l'.watched.items (slot_flags (kept ++ true ∷ []) slots') (take n trail)
+pub taken_free : (cl : List (List ℕ)) (k : List ℕ) (kept : List Bool) (number codes : ℕ) (trail slots : List ℕ) (l : Lists) (slots' : List ℕ) (l' : Lists) (n : ℕ)
+    → length kept ≡ length cl → number ≡ length cl → AreSlotsBelow (length cl) slots → IsTaken k number codes trail slots l slots' l'
+    → n ≤ length trail → AreFree (slot_clauses cl slots) l.watched.items (slot_flags kept slots) (take n trail)
+    → AreFree (slot_clauses (cl ++ k ∷ []) slots') l'.watched.items (slot_flags (kept ++ true ∷ []) slots') (take n trail)
 taken_free cl k kept number codes trail slots l slots' l' n lk e h (inl t) b f =
     rw (t.slots_stay, t.lists_stay, slots_same cl k slots h, flags_same kept slots (below_as (length cl) (length kept) slots (sym lk) h)) f
 taken_free cl k kept number codes trail slots l slots' l' n lk e h (inr t) b f =
@@ -127,11 +141,13 @@ below_more n slots number e h s g = by (s == length slots) refl
 below_wider : (n : ℕ) (slots : List ℕ) → AreSlotsBelow n slots → AreSlotsBelow (n + 1) slots
 below_wider n slots h s g = omega (arith, h s g)
 
-pub taken_below : (n : ℕ) (k : List ℕ) (number codes : ℕ) (trail slots : List ℕ) (l : Lists) (slots' : List ℕ) (l' : Lists) → number ≡ n → IsTaken k number codes trail slots l slots' l' → AreSlotsBelow n slots → AreSlotsBelow (n + 1) slots'
+pub taken_below : (n : ℕ) (k : List ℕ) (number codes : ℕ) (trail slots : List ℕ) (l : Lists) (slots' : List ℕ) (l' : Lists) → number ≡ n
+    → IsTaken k number codes trail slots l slots' l' → AreSlotsBelow n slots → AreSlotsBelow (n + 1) slots'
 taken_below n k number codes trail slots l slots' l' e (inl t) h = subst (λ (ss : List ℕ). AreSlotsBelow (n + 1) ss) (sym t.slots_stay) (below_wider n slots h)
 taken_below n k number codes trail slots l slots' l' e (inr t) h = subst (λ (ss : List ℕ). AreSlotsBelow (n + 1) ss) (sym t.slotted) (below_more n slots number e h)
 
-pub taken_few : (k : List ℕ) (number codes : ℕ) (trail slots : List ℕ) (l : Lists) (slots' : List ℕ) (l' : Lists) → IsTaken k number codes trail slots l slots' l' → length slots' ≤ length slots + 1
+pub taken_few : (k : List ℕ) (number codes : ℕ) (trail slots : List ℕ) (l : Lists) (slots' : List ℕ) (l' : Lists)
+    → IsTaken k number codes trail slots l slots' l' → length slots' ≤ length slots + 1
 taken_few k number codes trail slots l slots' l' (inl t) = omega (arith, ap (λ (ss : List ℕ). length ss) t.slots_stay)
 taken_few k number codes trail slots l slots' l' (inr t) = omega (arith, ap (λ (ss : List ℕ). length ss) t.slotted, length_push slots number)
 

@@ -2,14 +2,13 @@
 use Rattle.std.proofs.Common.{arith, ◌≡◌, ℕ, ◌*◌, ◌<◌, ◌≤◌, List, [], ◌∷◌, ◌++◌, length, get_or, leb, Bool, true, false, refl, sym, ap, ◌∙◌, subst}
 use Rattle.std.proofs.lemmas.List.{length_push}
 use Rattle.clause_base.specs.Clause.{has_literal, IsClause, HasVariablesBelow}
-use Rattle.number_bits.specs.Bits.{words_have}
 use Rattle.propagation.specs.declared.enter.Entered.{Entered}
 use Rattle.propagation.specs.declared.pending.Pending.{Pending}
 use Rattle.propagation.specs.declared.tables.Tables.{Tables}
 use Rattle.propagation.specs.declared.visit.Lists.{Lists}
-use Rattle.propagation.specs.Asks.{HasAsks, IsAsk}
-use Rattle.propagation.specs.Tables.{AreTables, clauses_in, flags_in}
-use Rattle.propagation.specs.Visit.{slot_clauses, slot_flags, AreSlotsBelow, IsAtRest}
+use Rattle.propagation.specs.Asks.{IsAsk}
+use Rattle.propagation.specs.Tables.{AreTables}
+use Rattle.propagation.specs.Visit.{AreSlotsBelow}
 use Rattle.propagation.specs.Sound.{AreSound}
 use Rattle.propagation.specs.Added.{IsTaken, IsQuietBelow, IsRaised}
 use Rattle.propagation.proofs.Assigns.{at_most_of, past_of}
@@ -19,7 +18,9 @@ use Rattle.propagation.proofs.Enters.{below_by, short_by, complete_add}
 use Rattle.propagation.proofs.Slotted.{taken_rest, taken_free, taken_below, taken_few}
 
 -- the flags of the lengths below the result stand where the new clause is not pending
-quiet_off : (quiet quiet' : List Bool) (low len n : ℕ) → n < len → get_or quiet' n false ≡ true → ((m : ℕ) → m < low → get_or quiet' m false ≡ get_or quiet m false) → ((m : ℕ) → low ≤ m → m < len → get_or quiet' m false ≡ false) → (get_or quiet n false ≡ true) × (n < low)
+quiet_off : (quiet quiet' : List Bool) (low len n : ℕ) → n < len → get_or quiet' n false ≡ true
+    → ((m : ℕ) → m < low → get_or quiet' m false ≡ get_or quiet m false) → ((m : ℕ) → low ≤ m → m < len → get_or quiet' m false ≡ false)
+    → (get_or quiet n false ≡ true) × (n < low)
 quiet_off quiet quiet' low len n h q below off = by (leb low n) refl
   where
     by : (b : Bool) → leb low n ≡ b → (get_or quiet n false ≡ true) × (n < low)
@@ -27,7 +28,8 @@ quiet_off quiet quiet' low len n h q below off = by (leb low n) refl
     by false e = (sym (below n (past_of low n e)) ∙ q, past_of low n e)
 
 -- what was done for a new clause
-pub record IsAddedTo (v : ℕ) (t : Tables) (l : Lists) (trail : List ℕ) (quiet : List Bool) (k : List ℕ) (number : ℕ) (entered : Entered) (t' : Tables) (l' : Lists) (p : Pending) (quiet' : List Bool) : Type 0 where
+pub record IsAddedTo (v : ℕ) (t : Tables) (l : Lists) (trail : List ℕ) (quiet : List Bool) (k : List ℕ) (number : ℕ) (entered : Entered) (t' : Tables)
+    (l' : Lists) (p : Pending) (quiet' : List Bool) : Type 0 where
   pub lawful : IsClause k
   pub below : HasVariablesBelow v k
   pub numbered : number ≡ length t.store
@@ -44,18 +46,22 @@ pub record IsAddedTo (v : ℕ) (t : Tables) (l : Lists) (trail : List ℕ) (quie
   pub same : (n : ℕ) → n < entered.low → get_or quiet' n false ≡ get_or quiet n false
   pub off : (n : ℕ) → entered.low ≤ n → n < length trail → get_or quiet' n false ≡ false
 
-tables_add : (v : ℕ) (t : Tables) (l : Lists) (trail : List ℕ) (quiet : List Bool) (k : List ℕ) (number : ℕ) (entered : Entered) (t' : Tables) (l' : Lists) (p : Pending) (quiet' : List Bool) → AreSound v t l trail quiet → IsAddedTo v t l trail quiet k number entered t' l' p quiet' → AreTables t' (2 * v)
+tables_add : (v : ℕ) (t : Tables) (l : Lists) (trail : List ℕ) (quiet : List Bool) (k : List ℕ) (number : ℕ) (entered : Entered) (t' : Tables) (l' : Lists) (p : Pending) (quiet' : List Bool)
+    → AreSound v t l trail quiet → IsAddedTo v t l trail quiet k number entered t' l' p quiet' → AreTables t' (2 * v)
 tables_add v t l trail quiet k number entered t' l' p quiet' i a = record {
   limit = i.tables.limit;
   fit = rw a.store (fit_add t.store k (2 * v) i.tables.fit (λ q b. below_by v q k a.below b) (short_by v k i.small a.lawful a.below));
   small = omega (arith, ap (λ (cs : List (List ℕ)). length cs) a.store, length_push t.store k, i.few);
   kept = omega (arith, ap (λ (ks : List Bool). length ks) a.kept, length_push t.kept.items true, i.tables.kept, ap (λ (cs : List (List ℕ)). length cs) a.store, length_push t.store k);
-  slotted = subst (λ (n : ℕ). AreSlotsBelow n t'.slots.items) (sym (ap (λ (cs : List (List ℕ)). length cs) a.store ∙ length_push t.store k)) (taken_below (length t.store) k number (2 * v) trail t.slots.items l t'.slots.items l' a.numbered a.taken i.tables.slotted);
+  slotted = subst (λ (n : ℕ). AreSlotsBelow n t'.slots.items) (sym (ap (λ (cs : List (List ℕ)). length cs) a.store ∙ length_push t.store k))
+      (taken_below (length t.store) k number (2 * v) trail t.slots.items l t'.slots.items l' a.numbered a.taken i.tables.slotted);
   few = omega (arith, i.few, i.slots_few, taken_few k number (2 * v) trail t.slots.items l t'.slots.items l' a.taken);
 }
 
 -- all that holds of the tables holds with the new clause
-pub sound_add : (v : ℕ) (t : Tables) (l : Lists) (trail : List ℕ) (quiet : List Bool) (k : List ℕ) (number : ℕ) (entered : Entered) (t' : Tables) (l' : Lists) (p : Pending) (quiet' : List Bool) → AreSound v t l trail quiet → IsAddedTo v t l trail quiet k number entered t' l' p quiet' → AreSound v t' (record l' { pending = p }) trail quiet'
+pub sound_add : (v : ℕ) (t : Tables) (l : Lists) (trail : List ℕ) (quiet : List Bool) (k : List ℕ) (number : ℕ) (entered : Entered) (t' : Tables) (l' : Lists) (p : Pending) (quiet' : List Bool)
+    → AreSound v t l trail quiet → IsAddedTo v t l trail quiet k number entered t' l' p quiet'
+    → AreSound v t' (record l' { pending = p }) trail quiet'
 sound_add v t l trail quiet k number entered t' l' p quiet' i a = record {
   small = i.small;
   tables = tables_add v t l trail quiet k number entered t' l' p quiet' i a;
@@ -67,5 +73,6 @@ sound_add v t l trail quiet k number entered t' l' p quiet' i a = record {
   asks = rw a.store (asks_add t.store k trail number entered l.pending p i.asks a.numbered a.room a.long a.raised a.ask);
   complete = rw (a.store, a.kept) (complete_add t.store k t.kept.items trail number entered l.pending p i.tables.kept a.numbered i.complete a.raised a.calm);
   quiet_size = a.size ∙ i.quiet_size;
-  quiets = rw (a.store, a.kept) (quiets_add t.store k t.kept.items trail quiet quiet' i.tables.kept i.quiets (λ n h q. let o = quiet_off quiet quiet' entered.low (length trail) n h q a.same a.off in (o.0, a.calm n (omega (arith, h)) o.1)));
+  quiets = rw (a.store, a.kept) (quiets_add t.store k t.kept.items trail quiet quiet' i.tables.kept i.quiets
+      (λ n h q. let o = quiet_off quiet quiet' entered.low (length trail) n h q a.same a.off in (o.0, a.calm n (omega (arith, h)) o.1)));
 }

@@ -1,10 +1,12 @@
 -- The tables where the trail is taken back: the watched literals stay right, and the set is found anew.
-use Rattle.std.proofs.Common.{arith, ◌≡◌, ℕ, ◌<◌, ◌≤◌, List, Bool, length, take, sym, ap, ◌∙◌, subst}
-use Rattle.std.proofs.lemmas.List.{take-take, length-take-le}
-use Rattle.cdcl_rules.specs.Learn.{backtracked}
+use Rattle.std.proofs.Common.{arith, ◌≡◌, ℕ, zero, suc, [], ◌∷◌, ◌≤◌, List, Bool, length, take, refl, sym, ap, ◌∙◌, subst}
+use Rattle.std.proofs.lemmas.List.{take-take, take-map, length-take-le, length-map}
 use Rattle.cdcl_rules.specs.declared.trail.Assigned.{Assigned}
 use Rattle.cdcl_trail.specs.Assignment.{literals}
-use Rattle.cdcl_trail.proofs.Assignments.{literals_back}
+use Rattle.cdcl_trail.proofs.Assignments.{literals_back, back_le}
+use Rattle.propagation.specs.declared.undo.Back.{Back}
+use Rattle.propagation.specs.declared.undo.Back.TheVariants.{Length, Level}
+use Rattle.propagation.specs.Back.{taken_back}
 use Rattle.propagation.specs.declared.pending.Pending.{Pending}
 use Rattle.propagation.specs.declared.tables.Tables.{Tables}
 use Rattle.propagation.specs.declared.visit.Lists.{Lists}
@@ -15,11 +17,32 @@ use Rattle.propagation.specs.Tables.{clauses_in, flags_in, pending_in}
 use Rattle.propagation.proofs.Asks.{consistent_take}
 
 -- a trail that is taken back is a prefix
-pub short_of : (level : ℕ) (old new : List Assigned) → new ≡ backtracked level old → literals new ≡ take (length new) (literals old)
-short_of level old new e = ap literals e ∙ sym (literals_back level old) ∙ ap (λ (es : List Assigned). take (length es) (literals old)) (sym e)
+take_taken : (n : ℕ) (xs : List ℕ) → take (length (take n xs)) xs ≡ take n xs
+take_taken zero xs = refl
+take_taken (suc n) [] = refl
+take_taken (suc n) (x ∷ xs) = ap (λ (ys : List ℕ). x ∷ ys) (take_taken n xs)
+
+pub short_of : (to : Back) (old new : List Assigned) → new ≡ taken_back to old → literals new ≡ take (length new) (literals old)
+short_of (Length n) old new e =
+    let t : literals new ≡ take n (literals old) = ap literals e ∙ sym (take-map (λ (a : Assigned). a.literal) n old) in
+    let l : length new ≡ length (take n (literals old)) = (let m = ap (λ (xs : List ℕ). length xs) t in omega (arith, m, length-map new (λ (a : Assigned). a.literal))) in
+    t ∙ sym (take_taken n (literals old)) ∙ ap (λ (i : ℕ). take i (literals old)) (sym l)
+short_of (Level level) old new e =
+    ap literals e ∙ sym (literals_back level old) ∙ ap (λ (es : List Assigned). take (length es) (literals old)) (sym e)
+
+take_le : (n : ℕ) (entries : List Assigned) → length (take n entries) ≤ length entries
+take_le zero entries = omega arith
+take_le (suc n) [] = omega arith
+take_le (suc n) (a ∷ entries) = omega (arith, take_le n entries)
+
+pub taken_le : (to : Back) (entries : List Assigned) → length (taken_back to entries) ≤ length entries
+taken_le (Length n) entries = take_le n entries
+taken_le (Level level) entries = back_le level entries
 
 -- on a shorter trail the watches are right with no work
-pub undo_sound : (v : ℕ) (t : Tables) (l : Lists) (trail : List ℕ) (quiet : List Bool) (m : ℕ) (trail' : List ℕ) (p : Pending) → AreSound v t l trail quiet → trail' ≡ take m trail → m ≤ length trail → HasAsks t.store trail' p → IsComplete (pending_in t trail') p → AreSound v t (record l { pending = p }) trail' quiet
+pub undo_sound : (v : ℕ) (t : Tables) (l : Lists) (trail : List ℕ) (quiet : List Bool) (m : ℕ) (trail' : List ℕ) (p : Pending)
+    → AreSound v t l trail quiet → trail' ≡ take m trail → m ≤ length trail → HasAsks t.store trail' p → IsComplete (pending_in t trail') p
+    → AreSound v t (record l { pending = p }) trail' quiet
 undo_sound v t l trail quiet m trail' p i e h asks complete = record {
   small = i.small;
   tables = i.tables;
@@ -41,7 +64,8 @@ undo_sound v t l trail quiet m trail' p i e h asks complete = record {
     shorter n b = ap (λ (xs : List ℕ). take n xs) e ∙ take-take n m trail b
 
 -- the set alone is another
-pub sound_set : (v : ℕ) (t : Tables) (l : Lists) (trail : List ℕ) (quiet : List Bool) (p : Pending) → AreSound v t l trail quiet → HasAsks t.store trail p → IsComplete (pending_in t trail) p → AreSound v t (record l { pending = p }) trail quiet
+pub sound_set : (v : ℕ) (t : Tables) (l : Lists) (trail : List ℕ) (quiet : List Bool) (p : Pending) → AreSound v t l trail quiet
+    → HasAsks t.store trail p → IsComplete (pending_in t trail) p → AreSound v t (record l { pending = p }) trail quiet
 sound_set v t l trail quiet p i asks complete = record {
   small = i.small;
   tables = i.tables;

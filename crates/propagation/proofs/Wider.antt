@@ -15,11 +15,14 @@ use Rattle.propagation.specs.Sound.{AreSound}
 use Rattle.propagation.specs.Added.{AreSame, AreWider}
 use Rattle.propagation.proofs.AsksKept.{asks_wider}
 
-literal_wider : (cl : List (List ℕ)) (l l' : Lists) (node : ℕ) → AreWider l l' → length cl ≤ length l.watched.items → IsReal cl node → literal_at cl l'.watched.items node ≡ literal_at cl l.watched.items node
+literal_wider : (cl : List (List ℕ)) (l l' : Lists) (node : ℕ) → AreWider l l' → length cl ≤ length l.watched.items → IsReal cl node
+    → literal_at cl l'.watched.items node ≡ literal_at cl l.watched.items node
 literal_wider cl l l' node w m real =
     ap (λ (v : Watched). get_or (clause_at cl (node / 2)) (place_in v (node % 2 == 1)) 0) (w.watches (node / 2) (omega (arith, real.below, m)))
 
-pub rest_wider : (cl : List (List ℕ)) (l l' : Lists) (spare : ℕ) (kept : List Bool) → IsAtRest cl l.watched.items l.chains.heads.items l.chains.nodes.items spare kept → AreWider l l' → IsAtRest cl l'.watched.items l'.chains.heads.items l'.chains.nodes.items spare kept
+pub rest_wider : (cl : List (List ℕ)) (l l' : Lists) (spare : ℕ) (kept : List Bool)
+    → IsAtRest cl l.watched.items l.chains.heads.items l.chains.nodes.items spare kept → AreWider l l'
+    → IsAtRest cl l'.watched.items l'.chains.heads.items l'.chains.nodes.items spare kept
 rest_wider cl l l' spare kept r w = record {
   on = r.on;
   linked = w.linked r.on r.linked;
@@ -39,7 +42,8 @@ rest_wider cl l l' spare kept r w = record {
     at : (c : ℕ) → c < length cl → get_or l'.watched.items c no_watches ≡ get_or l.watched.items c no_watches
     at c h = w.watches c (omega (arith, h, r.placed.many))
 
-    by : (node : ℕ) → IsReal cl node → (r.on node ≡ Some (literal_at cl l.watched.items node)) ⊎ ((r.on node ≡ Some spare) × NoWhy node) → (r.on node ≡ Some (literal_at cl l'.watched.items node)) ⊎ ((r.on node ≡ Some spare) × NoWhy node)
+    by : (node : ℕ) → IsReal cl node → (r.on node ≡ Some (literal_at cl l.watched.items node)) ⊎ ((r.on node ≡ Some spare) × NoWhy node)
+        → (r.on node ≡ Some (literal_at cl l'.watched.items node)) ⊎ ((r.on node ≡ Some spare) × NoWhy node)
     by node real (inl e) = inl (e ∙ ap (λ (c : ℕ). Some c) (sym (literal_wider cl l l' node w r.placed.many real)))
     by node real (inr v) = absurd v.1
 
@@ -47,7 +51,8 @@ complete_wider : (passes : ℕ → Bool) (p p' : Pending) → IsWider p p' → I
 complete_wider passes p p' w c k e = w.same k ∙ c k e
 
 -- there is more room
-sound_wider : (v : ℕ) (t : Tables) (l l' : Lists) (trail : List ℕ) (quiet : List Bool) → AreSound v t l trail quiet → AreWider l l' → AreSound v t l' trail quiet
+sound_wider : (v : ℕ) (t : Tables) (l l' : Lists) (trail : List ℕ) (quiet : List Bool) → AreSound v t l trail quiet → AreWider l l'
+    → AreSound v t l' trail quiet
 sound_wider v t l l' trail quiet i w = record {
   small = i.small;
   tables = i.tables;
@@ -63,7 +68,8 @@ sound_wider v t l l' trail quiet i w = record {
 }
 
 -- the tables that are read are the same
-pub sound_again : (v : ℕ) (t t' : Tables) (l : Lists) (trail : List ℕ) (quiet : List Bool) → AreSound v t l trail quiet → AreSame t t' → AreSound v t' l trail quiet
+pub sound_again : (v : ℕ) (t t' : Tables) (l : Lists) (trail : List ℕ) (quiet : List Bool) → AreSound v t l trail quiet → AreSame t t'
+    → AreSound v t' l trail quiet
 sound_again v t t' l trail quiet i e = record {
   small = i.small;
   tables = record {
@@ -86,5 +92,6 @@ sound_again v t t' l trail quiet i e = record {
 }
 
 -- and so where room was made
-pub sound_room : (v : ℕ) (t t' : Tables) (l l' : Lists) (trail : List ℕ) (quiet : List Bool) → AreSound v t l trail quiet → AreSame t t' → AreWider l l' → AreSound v t' l' trail quiet
+pub sound_room : (v : ℕ) (t t' : Tables) (l l' : Lists) (trail : List ℕ) (quiet : List Bool) → AreSound v t l trail quiet → AreSame t t'
+    → AreWider l l' → AreSound v t' l' trail quiet
 sound_room v t t' l l' trail quiet i e w = sound_again v t t' l' trail quiet (sound_wider v t l l' trail quiet i w) e

@@ -1,6 +1,7 @@
 pub mod Pending
 pub mod Visit
 pub mod Asks
+pub mod Back
 pub mod Front
 pub mod Pairs
 pub mod Tables

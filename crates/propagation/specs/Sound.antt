@@ -15,7 +15,8 @@ use Rattle.propagation.specs.Visit.{literal_at, IsReal, IsNodeKept, IsAtRest}
 -- where a clause has no true literal and two that are not false, its watched literals are not false
 abbrev pub AreFree : List (List ℕ) → List Watched → List Bool → List ℕ → Type 0
 AreFree clauses watched kept trail =
-    (node : ℕ) → IsReal clauses node → IsNodeKept kept node → list_any (has_literal trail) (clause_at clauses (node / 2)) ≡ false → has_two_free (has_literal trail) (clause_at clauses (node / 2)) ≡ true → is_free (has_literal trail) (literal_at clauses watched node) ≡ true
+    (node : ℕ) → IsReal clauses node → IsNodeKept kept node → list_any (has_literal trail) (clause_at clauses (node / 2)) ≡ false → has_two_free
+    (has_literal trail) (clause_at clauses (node / 2)) ≡ true → is_free (has_literal trail) (literal_at clauses watched node) ≡ true
 
 -- What holds of all tables, over a trail of literals and the flags of its lengths. The watched literals of each clause are right in
 -- each prefix of the trail (`free`), so that nothing is done for them where it is taken back; each clause that is kept and pending

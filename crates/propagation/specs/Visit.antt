@@ -47,7 +47,8 @@ pub record AreTwoPlaces (clauses : List (List ℕ)) (watched : List Watched) : T
   pub many : length clauses ≤ length watched
   pub first_in : (c : ℕ) → c < length clauses → 2 ≤ length (clause_at clauses c) → (slice_index_or watched c no_watches).first < length (clause_at clauses c)
   pub second_in : (c : ℕ) → c < length clauses → 2 ≤ length (clause_at clauses c) → (slice_index_or watched c no_watches).second < length (clause_at clauses c)
-  pub apart : (c : ℕ) → c < length clauses → 2 ≤ length (clause_at clauses c) → (slice_index_or watched c no_watches).first ≡ (slice_index_or watched c no_watches).second → ⊥
+  pub apart : (c : ℕ) → c < length clauses → 2 ≤ length (clause_at clauses c)
+      → (slice_index_or watched c no_watches).first ≡ (slice_index_or watched c no_watches).second → ⊥
 
 -- a node is of a clause with two literals or more
 pub record IsReal (clauses : List (List ℕ)) (node : ℕ) : Type 0 where

@@ -1,10 +1,11 @@
 //! The clauses that are watched on a trail, and what the first of them asks for that is kept and pending, as literals become true and
 //! are taken back and clauses come and go.
-ghost use Rattle.std.specs.Prelude.{◌≡◌, ℕ, ◌*◌, ◌/◌, ◌<◌, ◌++◌, ◌∷◌, [], None, length, replicate, true, false, slice_set, slice_index_or, IfOk, OnOk, OnErr};
+ghost use Rattle.std.specs.Prelude.{◌≡◌, ℕ, ◌*◌, ◌/◌, ◌<◌, ◌++◌, ◌∷◌, [], None, take, length, replicate, true, false, slice_set, slice_index_or, IfOk, OnOk, OnErr};
 ghost use Rattle.clause_base.specs.Clause.{IsClause, has_literal, HasVariablesBelow};
 ghost use Rattle.cdcl_rules.specs.State.{value_of};
 ghost use Rattle.cdcl_rules.specs.Learn.{backtracked};
 ghost use Rattle.cdcl_trail.specs.Assignment.{literals};
+ghost use Rattle.propagation.specs.Back.{taken_back};
 ghost use Rattle.propagation.specs.Front.{first_asked};
 ghost use Rattle.propagation.specs.Pending.{PropagatorView};
 
@@ -16,7 +17,7 @@ use crate::quiet::{no_quiet, raise};
 use crate::room::make_room;
 use crate::tables::Tables;
 use crate::take_slot::take_slot;
-use crate::undo::refresh;
+use crate::undo::{Back, refresh, take_back};
 use crate::visit::Lists;
 use cdcl_rules::event::Event;
 use cdcl_rules::trail::Assigned;
@@ -189,12 +190,12 @@ impl Propagator {
         next(&self.tables, &assignment, &mut self.lists.pending)
     }
 
-    /// Takes back what stands above a level of the trail. It takes no memory.
-    pub fn backtrack(&mut self, level: u32)
-        ensures { self.new ≡ record self.old { entries = backtracked level self.old.entries } }
+    /// Takes back what stands above a length or a level of the trail.
+    fn go_back(&mut self, to: Back)
+        ensures { self.new ≡ record self.old { entries = taken_back to self.old.entries } }
     {
         let before = self.trail.length();
-        self.trail.backtrack(level);
+        take_back(&mut self.trail, to);
         if self.trail.length() == before {
             return;
         }
@@ -205,6 +206,20 @@ impl Propagator {
             &assignment,
             &mut self.lists.pending,
         );
+    }
+
+    /// Takes back what stands above a level of the trail. It takes no memory.
+    pub fn backtrack(&mut self, level: u32)
+        ensures { self.new ≡ record self.old { entries = backtracked level self.old.entries } }
+    {
+        self.go_back(Back::Level(level));
+    }
+
+    /// Takes back what stands above a length of the trail. It takes no memory.
+    pub fn cut(&mut self, length: u32)
+        ensures { self.new ≡ record self.old { entries = take length self.old.entries } }
+    {
+        self.go_back(Back::Length(length));
     }
 
     /// Stops keeping a clause. It takes no memory.

@@ -1,6 +1,7 @@
-//! Which clauses are pending once the trail was taken back.
+//! Where the trail is taken back, and which clauses are pending then.
 ghost use Rattle.std.specs.Prelude.{◌≡◌, ℕ, ◌*◌, ◌<◌, ◌≤◌, length, true, false, slice_index_or};
 ghost use Rattle.propagation.specs.Asks.{HasAsks};
+ghost use Rattle.propagation.specs.Back.{taken_back};
 ghost use Rattle.propagation.specs.Front.{IsComplete};
 ghost use Rattle.propagation.specs.Tables.{AreTables, pending_in};
 
@@ -8,6 +9,27 @@ use crate::front::rescan;
 use crate::pending::Pending;
 use crate::tables::Tables;
 use cdcl_trail::assignment::Assignment;
+use cdcl_trail::trail::Trail;
+
+/// To where a trail is taken back.
+#[derive(Clone, Copy)]
+pub enum Back {
+    /// To a length, or not at all, where it is no longer than that.
+    Length(u32),
+    /// To the entries of a level and of those below.
+    Level(u32),
+}
+
+/// Takes back what stands above a length or a level of a trail.
+#[inline(always)]
+pub fn take_back(trail: &mut Trail, to: Back)
+    ensures { trail.new ≡ record trail.old { entries = taken_back to trail.old.entries } }
+{
+    match to {
+        Back::Length(length) => trail.cut(length),
+        Back::Level(level) => trail.backtrack(level),
+    }
+}
 
 /// Finds which clauses are pending on a trail that was taken back. Where nothing is pending at its length, as the flags tell, no
 /// clause is looked at.

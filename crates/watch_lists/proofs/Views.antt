@@ -8,7 +8,8 @@ use Rattle.cdcl_rules.specs.declared.trail.Assigned.{Assigned}
 use Rattle.cdcl_rules.specs.State.{is_on, value_of}
 use Rattle.cdcl_trail.specs.Assignment.{literals}
 use Rattle.cdcl_trail.proofs.Assignments.{has_is}
-use Rattle.watch_lists.specs.Pending.{WatchesView, WatchingView, without_reasons}
+use Rattle.propagation.specs.Pending.{PropagatorView}
+use Rattle.watch_lists.specs.Pending.{WatchesView, without_reasons}
 
 none_by : (p q : Bool) → p ≡ false → q ≡ false → (if p then Some true else if q then Some false else None) ≡ None
 none_by true q e f = cc
@@ -30,14 +31,16 @@ none_of es l off free = by (l % 2 == 0) refl
         none_by (is_on es (2 * (l / 2))) (is_on es (2 * (l / 2) + 1)) (ap (is_on es) t ∙ sym (has_is es (opposite l)) ∙ free) (ap (is_on es) u ∙ sym (has_is es l) ∙ off)
 
 -- one literal more is true
-pub view_push : (w w' : WatchingView) (v : WatchesView) (a : Assigned) → w' ≡ record w { entries = w.entries ++ a ∷ [] } → without_reasons w ≡ v → without_reasons w' ≡ record v { trail = v.trail ++ a.literal ∷ [] }
+pub view_push : (w w' : PropagatorView) (v : WatchesView) (a : Assigned) → w' ≡ record w { entries = w.entries ++ a ∷ [] } → without_reasons w ≡ v
+    → without_reasons w' ≡ record v { trail = v.trail ++ a.literal ∷ [] }
 view_push w w' v a e h =
     ap without_reasons e
     ∙ ap (λ (ls : List ℕ). let x : WatchesView = record { variables = w.variables; clauses = w.clauses; kept = w.kept; trail = ls } in x) (map_push (λ (x : Assigned). x.literal) w.entries a)
     ∙ ap (λ (x : WatchesView). record x { trail = x.trail ++ a.literal ∷ [] }) h
 
 -- the trail goes back
-pub view_cut : (w w' : WatchingView) (v : WatchesView) (n : ℕ) → w' ≡ record w { entries = take n w.entries } → without_reasons w ≡ v → without_reasons w' ≡ record v { trail = take n v.trail }
+pub view_cut : (w w' : PropagatorView) (v : WatchesView) (n : ℕ) → w' ≡ record w { entries = take n w.entries } → without_reasons w ≡ v
+    → without_reasons w' ≡ record v { trail = take n v.trail }
 view_cut w w' v n e h =
     ap without_reasons e
     ∙ ap (λ (ls : List ℕ). let x : WatchesView = record { variables = w.variables; clauses = w.clauses; kept = w.kept; trail = ls } in x) (sym (take-map (λ (x : Assigned). x.literal) n w.entries))

@@ -1,11 +1,3 @@
 pub mod Pending
-pub mod Visit
-pub mod Units
 pub mod Status
-pub mod Back
-pub mod Recent
-pub mod Pairs
-pub mod Sound
-pub mod Tables
-pub mod Added
-pub mod Given
+pub mod First

@@ -1,21 +1,13 @@
-use Rattle.std.specs.Prelude.{ℕ, List, Bool, not, length, nat_le}
+-- What a clause is that has literals which are not false, and clauses on a trail as their clients see them.
+use Rattle.std.specs.Prelude.{ℕ, ◌*◌, ◌<◌, List, Bool, not, length, slice_index}
 use Rattle.clause_base.specs.Literal.{opposite}
-use Rattle.clause_base.specs.Clause.{has_literal}
-use Rattle.cdcl_rules.specs.declared.trail.Assigned.{Assigned}
+use Rattle.cdcl_rules.specs.State.{clause_at}
 use Rattle.cdcl_trail.specs.Assignment.{literals}
-use Rattle.cdcl_rules.specs.Pending.{open_ones, is_pending_in}
+use Rattle.propagation.specs.Pending.{PropagatorView}
 
 -- a literal is not false, where these are true
 abbrev pub is_free : (ℕ → Bool) → ℕ → Bool
 is_free on l = not (on (opposite l))
-
--- a clause has two literals at least that are not false
-abbrev pub has_two_free : (ℕ → Bool) → List ℕ → Bool
-has_two_free on clause = not (nat_le (length (open_ones on clause)) 1)
-
--- the clause with a number is kept and pending on a trail of literals
-abbrev pub is_pending_on : List (List ℕ) → List Bool → List ℕ → ℕ → Bool
-is_pending_on clauses kept trail k = is_pending_in clauses kept (has_literal trail) k
 
 -- the clauses by number, which of them are kept, and the literals that are true, oldest first
 pub record WatchesView : Type 0 where
@@ -24,13 +16,10 @@ pub record WatchesView : Type 0 where
   pub kept : List Bool
   pub trail : List ℕ
 
--- the same with the entries of the trail, oldest first
-pub record WatchingView : Type 0 where
-  pub variables : ℕ
-  pub clauses : List (List ℕ)
-  pub kept : List Bool
-  pub entries : List Assigned
+-- the literals of the clauses are of so many variables
+abbrev pub AreBelow : ℕ → List (List ℕ) → Type 0
+AreBelow variables clauses = (c p : ℕ) → p < length (clause_at clauses c) → slice_index (clause_at clauses c) p < 2 * variables
 
 -- what is watched, where reasons do not matter
-abbrev pub without_reasons : WatchingView → WatchesView
-without_reasons w = record { variables = w.variables; clauses = w.clauses; kept = w.kept; trail = literals w.entries }
+abbrev pub without_reasons : PropagatorView → WatchesView
+without_reasons p = record { variables = p.variables; clauses = p.clauses; kept = p.kept; trail = literals p.entries }

@@ -1,32 +1,63 @@
 //! Which clause is the first that is kept and pending, as literals become true and are taken back and clauses come and go.
-ghost use Rattle.std.specs.Prelude.{◌≡◌, ◌*◌, ◌<◌, ◌++◌, ◌∷◌, [], take, length, replicate, true, false, slice_set, slice_index_or, IfOk, OnOk, OnErr, MatchOption};
+ghost use Rattle.std.specs.Prelude.{◌≡◌, ℕ, ◌*◌, ◌<◌, ◌++◌, ◌∷◌, [], take, length, replicate, true, false, slice_set, slice_index_or, IfOk, OnOk, OnErr, MatchOption};
 ghost use Rattle.clause_base.specs.Literal.{opposite};
 ghost use Rattle.clause_base.specs.Clause.{IsClause, has_literal, HasVariablesBelow};
 ghost use Rattle.cdcl_rules.specs.State.{clause_at};
 ghost use Rattle.cdcl_rules.specs.Pending.{is_pending_in, least_from, open_ones};
+ghost use Rattle.watch_lists.specs.First.{number_in};
 
-use crate::watching::Watching;
+use crate::scan::status_of;
+use crate::status::Status;
+use cdcl_rules::event::Event;
 use cdcl_rules::trail::Assigned;
 use clause_base::clause::Clause;
 use clause_base::formula::Formula;
 use clause_base::literal::Lit;
 use clause_base::memory::Memory;
+use let_go::let_go;
+use propagation::propagator::Propagator;
 use std::alloc::Global;
 use std::marker::Model;
 
-/// Clauses by number, which of them are kept, and the literals that are true, oldest first. A clause of two
-/// literals is in the lists of both, and of each other clause two literals are watched.
-#[derive(Drop)]
+/// Clauses by number, which of them are kept, the literals that are true, oldest first, and what the first clause asks for that is
+/// kept and pending.
 pub struct Watches {
-    watching: Watching,
+    propagator: Propagator,
+    first: Option<Event>,
 }
 
 impl Model for Watches {
-    ghost use Rattle.watch_lists.specs.Pending.{WatchesView, without_reasons};
+    ghost use Rattle.std.specs.Prelude.{◌≡◌, length};
+    ghost use Rattle.clause_base.specs.Clause.{has_literal};
+    ghost use Rattle.cdcl_trail.specs.Assignment.{literals};
+    ghost use Rattle.propagation.specs.Front.{first_asked};
+    ghost use Rattle.watch_lists.specs.Pending.{WatchesView, AreBelow, without_reasons};
 
     ghost Value = { WatchesView };
 
-    ghost view = { λ w. without_reasons w.watching };
+    ghost view = { λ w. without_reasons w.propagator };
+
+    // What is asked first is known, a literal of a clause has a truth, and each clause a flag.
+    ghost invariant = { λ w. (w.first ≡ first_asked w.propagator.clauses w.propagator.kept (has_literal (literals w.propagator.entries))) × AreBelow w.propagator.variables w.propagator.clauses × (length w.propagator.kept ≡ length w.propagator.clauses) };
+}
+
+/// Letting one go is one call, in which its parts go: whoever holds one proves one step.
+impl Drop for Watches {
+    fn drop(self) {
+        let_go!(self: Watches { propagator, first });
+    }
+}
+
+/// The number of the clause that an event is of.
+fn number_in(event: &Event) -> Option<u32>
+    ensures { result ≡ number_in event.now }
+{
+    match event {
+        Event::Conflict(number) => Some(*number),
+        Event::Force(_, number) => Some(*number),
+        Event::Decide(_) => None,
+        Event::Finish => None,
+    }
 }
 
 impl Watches {
@@ -34,8 +65,12 @@ impl Watches {
     pub fn new(alloc: Global, formula: &Formula) -> Result<Watches, Memory>
         ensures { IfOk result (λ w. w ≡ record { variables = formula.now.variables; clauses = formula.now.clauses; kept = replicate (length formula.now.clauses) true; trail = [] }) }
     {
-        let watching = Watching::new(alloc, formula)?;
-        Ok(Watches { watching })
+        // For the proof: how many clauses there are, and that their literals are of the variables.
+        let _many = formula.count();
+        let _below = formula.variables();
+        let mut propagator = Propagator::new(alloc, formula)?;
+        let first = propagator.next();
+        Ok(Watches { propagator, first })
     }
 
     /// Adds a clause with the next number, kept; it may be false or have one literal left. After want of memory, or where there
@@ -56,7 +91,9 @@ impl Watches {
         ensures ok { OnOk result (self.new ≡ record self.old { clauses = self.old.clauses ++ clause.now ∷ []; kept = self.old.kept ++ true ∷ [] }) }
         ensures err { OnErr result (self.new ≡ self.old) }
     {
-        self.watching.add_sorted(clause)
+        self.propagator.add_sorted(clause)?;
+        self.first = self.propagator.next();
+        Ok(())
     }
 
     /// Makes a literal true whose variable has no value. It takes no memory.
@@ -66,17 +103,19 @@ impl Watches {
         requires free { has_literal self.old.trail (opposite lit) ≡ false }
         ensures { self.new ≡ record self.old { trail = self.old.trail ++ lit ∷ [] } }
     {
-        self.watching.assign(Assigned {
+        self.propagator.assign(Assigned {
             literal: lit,
             reason: Some(0),
         });
+        self.first = self.propagator.next();
     }
 
     /// Takes back what stands above a length of the trail. It takes no memory.
     pub fn undo_to(&mut self, length: u32)
         ensures { self.new ≡ record self.old { trail = take length self.old.trail } }
     {
-        self.watching.cut(length);
+        self.propagator.cut(length);
+        self.first = self.propagator.next();
     }
 
     /// Stops keeping a clause. It takes no memory.
@@ -84,7 +123,8 @@ impl Watches {
         requires { slice_index_or self.old.kept number false ≡ true }
         ensures { self.new ≡ record self.old { kept = slice_set self.old.kept number false } }
     {
-        self.watching.remove(number);
+        self.propagator.remove(number);
+        self.first = self.propagator.next();
     }
 
     /// What a clause that is kept and pending leaves: its only literal that is not false, if there is one. It takes no memory.
@@ -92,13 +132,17 @@ impl Watches {
         requires { is_pending_in self.now.clauses self.now.kept (has_literal self.now.trail) number ≡ true }
         ensures { MatchOption result (open_ones (has_literal self.now.trail) (clause_at self.now.clauses number) ≡ []) (λ lit. open_ones (has_literal self.now.trail) (clause_at self.now.clauses number) ≡ lit ∷ []) }
     {
-        self.watching.left(number)
+        let assignment = self.propagator.trail().assignment();
+        status_of(&assignment, &self.propagator.store().clause(number)).left()
     }
 
     /// The least number of a kept clause that has no true literal and at most one that is not false. It takes no memory.
     pub fn least_pending(&self) -> Option<u32>
         ensures { result ≡ least_from (is_pending_in self.now.clauses self.now.kept (has_literal self.now.trail)) 0 (length self.now.clauses) }
     {
-        self.watching.least_pending()
+        match &self.first {
+            None => None,
+            Some(event) => number_in(event),
+        }
     }
 }

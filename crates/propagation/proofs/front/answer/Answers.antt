@@ -1,6 +1,5 @@
-use Rattle.std.proofs.Common.{arith, ◌≡◌, ◌*◌, ◌<◌, ℕ, List, [], ◌∙◌, ap, sym, not, Bool, true, false, ◌&&◌, refl, get_or}
+use Rattle.std.proofs.Common.{◌≡◌, ◌*◌, ◌<◌, ℕ, List, ◌∙◌, ap, sym, not, Bool, true, false, ◌&&◌, get_or}
 use Rattle.clause_base.specs.Clause.{has_literal}
-use Rattle.cdcl_rules.specs.declared.event.Event.{Event}
 use Rattle.cdcl_rules.specs.Event.{asked}
 use Rattle.cdcl_rules.specs.Pending.{is_pending, open_ones}
 use Rattle.cdcl_rules.specs.State.{clause_at}
@@ -30,7 +29,8 @@ returns-then-ask-eq-NO_LITERAL c =
     )
 
 below : (c : Else-ask-eq-NO_LITERAL) → c.args.ask < 2 * c.args.assignment.now.variables
-below c = ask_below c.args.tables.now.store (has_literal c.args.assignment.now.trail) c.args.number c.args.ask (2 * c.args.assignment.now.variables) c.requires.tables.fit c.requires.ask c.if-ask-eq-NO_LITERAL.false
+below c = ask_below c.args.tables.now.store (has_literal c.args.assignment.now.trail) c.args.number c.args.ask (2 * c.args.assignment.now.variables)
+    c.requires.tables.fit c.requires.ask c.if-ask-eq-NO_LITERAL.false
 
 pub is_true-requires : goal.is_true-requires
 is_true-requires c = below (goal.at.is_true-requires c).Else-ask-eq-NO_LITERAL
@@ -53,7 +53,8 @@ returns-then-is_false c =
     let xs = clause_at t.store c.args.number in
     let some = c.if-ask-eq-NO_LITERAL.false in
     let free : is_free (has_literal trail) c.args.ask ≡ false = ap (λ (b : Bool). not b) (sym c.is_false.ensures ∙ c.if-is_false.true) in (
-      kept_and (get_or t.kept.items c.args.number false) (is_pending (has_literal trail) xs) true (sym c.is_kept.ensures ∙ c.if-not-is_kept.false) (ask_open trail xs c.args.ask c.requires.consistent c.requires.ask some (sym c.is_true.ensures ∙ c.if-is_true.false)),
+      kept_and (get_or t.kept.items c.args.number false) (is_pending (has_literal trail) xs) true (sym c.is_kept.ensures ∙ c.if-not-is_kept.false)
+          (ask_open trail xs c.args.ask c.requires.consistent c.requires.ask some (sym c.is_true.ensures ∙ c.if-is_true.false)),
       sym (ap (λ (os : List ℕ). asked c.args.number os) (ask_none (has_literal trail) xs c.args.ask c.requires.ask some free)),
     )
 
@@ -64,6 +65,7 @@ returns-else-is_false c =
     let xs = clause_at t.store c.args.number in
     let some = c.if-ask-eq-NO_LITERAL.false in
     let free : is_free (has_literal trail) c.args.ask ≡ true = ap (λ (b : Bool). not b) (sym c.is_false.ensures ∙ c.if-is_false.false) in (
-      kept_and (get_or t.kept.items c.args.number false) (is_pending (has_literal trail) xs) true (sym c.is_kept.ensures ∙ c.if-not-is_kept.false) (ask_open trail xs c.args.ask c.requires.consistent c.requires.ask some (sym c.is_true.ensures ∙ c.if-is_true.false)),
+      kept_and (get_or t.kept.items c.args.number false) (is_pending (has_literal trail) xs) true (sym c.is_kept.ensures ∙ c.if-not-is_kept.false)
+          (ask_open trail xs c.args.ask c.requires.consistent c.requires.ask some (sym c.is_true.ensures ∙ c.if-is_true.false)),
       sym (ap (λ (os : List ℕ). asked c.args.number os) (ask_left (has_literal trail) xs c.args.ask c.requires.ask some free)),
     )

@@ -33,7 +33,8 @@ taking-preserved c =
     let was = words_have c.taking.pending.numbers in
     let is = words_have c.remove.new.self in
     record {
-      asks = asks_fewer c.args.tables.now.store c.args.assignment.now.trail c.taking.pending c.remove.new.self i.asks (cleaned_fewer was is c.in-Some.number has) (omega (arith, c.remove.ensures.room));
+      asks = asks_fewer c.args.tables.now.store c.args.assignment.now.trail c.taking.pending c.remove.new.self i.asks
+          (cleaned_fewer was is c.in-Some.number has) (omega (arith, c.remove.ensures.room));
       complete = cleaned_complete (pending_in c.args.tables.now c.args.assignment.now.trail) was is c.in-Some.number c.in-None-answer.ensures i.complete has;
       none = cleaned_least was is c.in-Some.number c.in-Some.ensures has;
       low = omega arith;

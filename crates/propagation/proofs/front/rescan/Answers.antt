@@ -1,4 +1,4 @@
-use Rattle.std.proofs.Common.{arith, ◌≡◌, ◌<◌, ◌∙◌, sym, ap, true, length, ℕ, List}
+use Rattle.std.proofs.Common.{arith, ◌≡◌, ◌∙◌, sym, ap, true, length, ℕ, List}
 use Rattle.clause_base.specs.Clause.{has_literal}
 use Rattle.cdcl_rules.specs.Pending.{is_pending}
 use Rattle.cdcl_rules.specs.State.{clause_at}
@@ -12,7 +12,8 @@ use Rattle.propagation.proofs.front.rescan.Goals as goal
 
 pub loop-number-init : goal.loop-number-init
 loop-number-init c = record {
-  asks = asks_cleared c.args.tables.now.store c.args.assignment.now.trail c.clear.new.self c.clear.ensures.none (omega (arith, c.clear.ensures.room, c.requires.room)) (omega (arith, ap (λ (xs : List ℕ). length xs) c.clear.ensures.asks, c.requires.long));
+  asks = asks_cleared c.args.tables.now.store c.args.assignment.now.trail c.clear.new.self c.clear.ensures.none
+      (omega (arith, c.clear.ensures.room, c.requires.room)) (omega (arith, ap (λ (xs : List ℕ). length xs) c.clear.ensures.asks, c.requires.long));
   complete = λ k h. absurd (omega (arith, h));
 }
 
@@ -22,7 +23,8 @@ loop-number-preserved c =
     let e = c.scan_one.ensures in
     record {
       asks = e.asks;
-      complete = below_more (λ k. pending_in c.args.tables.now c.args.assignment.now.trail k ≡ true → words_have c.scan_one.new.pending.numbers k ≡ true) c.loop-number.number (λ k h p. e.grows k (i.complete k h p)) e.own;
+      complete = below_more (λ k. pending_in c.args.tables.now c.args.assignment.now.trail k ≡ true → words_have c.scan_one.new.pending.numbers
+          k ≡ true) c.loop-number.number (λ k h p. e.grows k (i.complete k h p)) e.own;
     }
 
 pub returns-clause-complete : goal.returns-clause-complete

@@ -1,4 +1,4 @@
-use Rattle.std.proofs.Common.{arith, ◌≡◌, ◌<◌, ◌*◌, sym, ◌∙◌, ap, List, ℕ, subst, Bool, true, false, ◌&&◌, get_or, length}
+use Rattle.std.proofs.Common.{arith, ◌≡◌, ◌*◌, sym, ◌∙◌, ap, List, ℕ, subst, Bool, false, ◌&&◌, get_or}
 use Rattle.clause_base.specs.Clause.{has_literal}
 use Rattle.cdcl_rules.specs.Pending.{is_pending}
 use Rattle.cdcl_rules.specs.State.{clause_at}
@@ -30,7 +30,8 @@ pub returns-then-not-is_kept-clause-own : goal.returns-then-not-is_kept-clause-o
 returns-then-not-is_kept-clause-own c p =
     let t = c.args.tables.now in
     let off : get_or t.kept.items c.args.number false ≡ false = sym c.is_kept.ensures ∙ c.if-not-is_kept.true in
-    clash (sym p ∙ pending_at t.store t.kept.items c.args.assignment.now.trail c.args.number ∙ ap (λ (b : Bool). b && is_pending (has_literal c.args.assignment.now.trail) (clause_at t.store c.args.number)) off)
+    clash (sym p ∙ pending_at t.store t.kept.items c.args.assignment.now.trail c.args.number ∙ ap
+    (λ (b : Bool). b && is_pending (has_literal c.args.assignment.now.trail) (clause_at t.store c.args.number)) off)
 
 pub returns-then-is_pending-clause-own : goal.returns-then-is_pending-clause-own
 returns-then-is_pending-clause-own c p = own_insert (words_have c.args.pending.now.numbers) (words_have c.put.new.self.numbers) c.args.number c.put.ensures.has
@@ -48,4 +49,5 @@ pub returns-else-is_pending-clause-own : goal.returns-else-is_pending-clause-own
 returns-else-is_pending-clause-own c p =
     let here = (goal.at.returns-else-is_pending-clause-own c).After-clause-clause in
     let t = c.args.tables.now in
-    clash (sym (pending_kept t.store t.kept.items c.args.assignment.now.trail c.args.number p) ∙ ap (is_pending (has_literal c.args.assignment.now.trail)) (sym (read here)) ∙ sym c.is_pending.ensures ∙ c.if-is_pending.false)
+    clash (sym (pending_kept t.store t.kept.items c.args.assignment.now.trail c.args.number p) ∙ ap
+    (is_pending (has_literal c.args.assignment.now.trail)) (sym (read here)) ∙ sym c.is_pending.ensures ∙ c.if-is_pending.false)

@@ -1,4 +1,4 @@
-use Rattle.std.proofs.Common.{arith, ◌*◌, sym, ◌∙◌, ◌==◌, refl}
+use Rattle.std.proofs.Common.{arith, ◌*◌, sym, ◌∙◌}
 use Rattle.clause_base.specs.Clause.{has_literal}
 use Rattle.number_bits.specs.Bits.{words_have}
 use Rattle.propagation.proofs.Asks.{clash}

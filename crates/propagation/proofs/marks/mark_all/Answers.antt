@@ -1,4 +1,4 @@
-use Rattle.std.proofs.Common.{arith, ◌≡◌, true, false, ◌∙◌, subst}
+use Rattle.std.proofs.Common.{arith, ◌≡◌, true, false, subst}
 use Rattle.clause_base.specs.Clause.{has_literal}
 use Rattle.pair_index.specs.declared.pair.Pair.{Pair}
 use Rattle.number_bits.specs.Bits.{words_have}
@@ -18,7 +18,8 @@ loop-place-preserved c =
     let e = c.mark.ensures in
     let own = subst (λ (p : Pair). has_literal c.args.assignment.now.trail p.other ≡ false → words_have c.mark.new.pending.numbers p.number ≡ true) c.at.ensures e.in_set in
     record {
-      in_set = marked_more c.args.pairs.now c.loop-place.place (has_literal c.args.assignment.now.trail) (words_have c.loop-place.pending.numbers) (words_have c.mark.new.pending.numbers) i.in_set e.grows own;
+      in_set = marked_more c.args.pairs.now c.loop-place.place (has_literal c.args.assignment.now.trail) (words_have c.loop-place.pending.numbers)
+          (words_have c.mark.new.pending.numbers) i.in_set e.grows own;
       grows = λ k h. e.grows k (i.grows k h);
       asks = e.asks;
     }

@@ -2,7 +2,7 @@ use Rattle.std.proofs.Common.{arith, ◌≡◌, ◌*◌, ◌<◌, ℕ, List, [],
 use Rattle.std.proofs.lemmas.List.{get_or_read}
 use Rattle.clause_base.specs.Clause.{has_literal}
 use Rattle.propagation.specs.Pending.{is_free}
-use Rattle.propagation.specs.Asks.{IsUnit, IsAsk}
+use Rattle.propagation.specs.Asks.{IsAsk}
 use Rattle.propagation.proofs.Asks.{unit_found, unit_none, below_more}
 use Rattle.propagation.proofs.scan.ask_of.Goals as goal
 use Rattle.propagation.proofs.scan.ask_of.Goals.{After-lit}

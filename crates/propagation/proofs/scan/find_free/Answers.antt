@@ -30,6 +30,7 @@ loop-place-preserved c =
     let here : c.args.low ≤ i → (i ≡ c.args.skipped → ⊥) → is_free on (get_or c.args.clause.now i 0) ≡ false =
     elim c.else-not-is_false.branch [
       | else-not-is_false-via-then-not-is_false+else-place-skipped w ↦ λ l n. absurd (n (omega (arith, w.if-place-skipped.false)))
-      | else-not-is_false-via-else-not-is_false w ↦ λ l n. ap (is_free on) (sym (item (goal.at.loop-place-preserved c).After-lit)) ∙ ap (λ (b : Bool). not b) (sym c.is_false.ensures ∙ w.if-not-is_false.false)
+      | else-not-is_false-via-else-not-is_false w ↦ λ l n. ap (is_free on) (sym (item (goal.at.loop-place-preserved c).After-lit)) ∙ ap
+          (λ (b : Bool). not b) (sym c.is_false.ensures ∙ w.if-not-is_false.false)
     ] in
     λ p l h ne. below_more (λ (q : ℕ). c.args.low ≤ q → (q ≡ c.args.skipped → ⊥) → is_free on (get_or c.args.clause.now q 0) ≡ false) i (λ q g f n. c.loop-place.invariant q f g n) here p h l ne

@@ -7,4 +7,5 @@ is_kept-requires c = omega (arith, c.number_at.ensures, c.requires.below c.args.
 
 pub returns : goal.returns
 returns c =
-    c.is_kept.ensures ∙ ap (λ (n : ℕ). get_or c.args.tables.now.kept.items n false) c.number_at.ensures ∙ sym (flag_at c.args.tables.now.kept.items c.args.tables.now.slots.items c.args.slot c.requires.inside)
+    c.is_kept.ensures ∙ ap (λ (n : ℕ). get_or c.args.tables.now.kept.items n false) c.number_at.ensures ∙ sym
+    (flag_at c.args.tables.now.kept.items c.args.tables.now.slots.items c.args.slot c.requires.inside)

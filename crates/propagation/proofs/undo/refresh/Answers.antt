@@ -1,11 +1,12 @@
-use Rattle.std.proofs.Common.{arith, ap, List, ℕ, length, sym, ◌∙◌, ◌≡◌, ◌<◌, true, false, get_or}
+use Rattle.std.proofs.Common.{arith, ap, List, ℕ, length, sym, ◌∙◌, ◌<◌, false, get_or}
 use Rattle.std.proofs.lemmas.List.{get_or_read}
 use Rattle.propagation.proofs.AsksKept.{asks_cleared}
 use Rattle.propagation.proofs.Asks.{clash}
 use Rattle.propagation.proofs.undo.refresh.Goals as goal
 
 pub returns-then-is_quiet-clause-asks : goal.returns-then-is_quiet-clause-asks
-returns-then-is_quiet-clause-asks c = asks_cleared c.args.tables.now.store c.args.assignment.now.trail c.clear.new.self c.clear.ensures.none (omega (arith, c.clear.ensures.room, c.requires.room)) (omega (arith, ap (λ (xs : List ℕ). length xs) c.clear.ensures.asks, c.requires.long))
+returns-then-is_quiet-clause-asks c = asks_cleared c.args.tables.now.store c.args.assignment.now.trail c.clear.new.self c.clear.ensures.none
+    (omega (arith, c.clear.ensures.room, c.requires.room)) (omega (arith, ap (λ (xs : List ℕ). length xs) c.clear.ensures.asks, c.requires.long))
 
 pub returns-then-is_quiet-clause-complete : goal.returns-then-is_quiet-clause-complete
 returns-then-is_quiet-clause-complete c k p =

@@ -31,7 +31,8 @@ pub returns-then-is_some : goal.returns-then-is_some
 returns-then-is_some c =
     let read = (goal.at.returns-then-is_some c).After-lit in
     let free : is_free (has_literal c.args.assignment.now.trail) c.lit.inside.0 ≡ true = ap (λ (b : Bool). not b) (sym c.is_false.ensures ∙ c.if-not-is_false.true) in
-    read_second (has_literal c.args.assignment.now.trail) c.args.clause.now c.loop-place.place c.lit.inside.0 c.loop-place.left (inside read) (item read) c.loop-place.invariant (sym c.is_some.ensures ∙ c.if-is_some.true) free
+    read_second (has_literal c.args.assignment.now.trail) c.args.clause.now c.loop-place.place c.lit.inside.0 c.loop-place.left (inside read)
+    (item read) c.loop-place.invariant (sym c.is_some.ensures ∙ c.if-is_some.true) free
 
 pub loop-place-preserved : goal.loop-place-preserved
 loop-place-preserved c =
@@ -44,7 +45,9 @@ loop-place-preserved c =
       | then-not-is_false+else-is_some w ↦
           let free : is_free on c.lit.inside.0 ≡ true = ap (λ (b : Bool). not b) (sym c.is_false.ensures ∙ w.if-not-is_false.true) in
           let first : c.if-not-is_false.left ≡ Some c.lit.inside.0 = let s = w.left-is in let v = c.lit.view_is in cc in
-          subst (λ (o : Option ℕ). IsRead on xs (i + 1) o) (sym first) (read_first on xs i c.lit.inside.0 c.loop-place.left (inside read) (item read) c.loop-place.invariant (sym w.is_some.ensures ∙ w.if-is_some.false) off free)
+          subst (λ (o : Option ℕ). IsRead on xs (i + 1) o) (sym first)
+          (read_first on xs i c.lit.inside.0 c.loop-place.left (inside read) (item read) c.loop-place.invariant
+          (sym w.is_some.ensures ∙ w.if-is_some.false) off free)
       | else-not-is_false w ↦
           let free : is_free on c.lit.inside.0 ≡ false = ap (λ (b : Bool). not b) (sym c.is_false.ensures ∙ w.if-not-is_false.false) in
           let same : c.if-not-is_false.left ≡ c.loop-place.left = let s = w.left-is in cc in
@@ -53,10 +56,12 @@ loop-place-preserved c =
 
 pub returns-in-Some : goal.returns-in-Some
 returns-in-Some c =
-    let all = read_end (has_literal c.args.assignment.now.trail) c.args.clause.now c.loop-place.place c.loop-place.left c.loop-place.invariant (omega (arith, c.loop-place-test.false, c.len-place-end.ensures)) in
+    let all = read_end (has_literal c.args.assignment.now.trail) c.args.clause.now c.loop-place.place c.loop-place.left c.loop-place.invariant
+    (omega (arith, c.loop-place-test.false, c.len-place-end.ensures)) in
     (all.0, all.1 ∙ ap list_of c.in-Some.is)
 
 pub returns-in-None : goal.returns-in-None
 returns-in-None c =
-    let all = read_end (has_literal c.args.assignment.now.trail) c.args.clause.now c.loop-place.place c.loop-place.left c.loop-place.invariant (omega (arith, c.loop-place-test.false, c.len-place-end.ensures)) in
+    let all = read_end (has_literal c.args.assignment.now.trail) c.args.clause.now c.loop-place.place c.loop-place.left c.loop-place.invariant
+    (omega (arith, c.loop-place-test.false, c.len-place-end.ensures)) in
     (all.0, all.1 ∙ ap list_of c.in-None.is)

@@ -1,4 +1,4 @@
-use Rattle.std.proofs.Common.{arith, ◌≡◌, ◌+◌, ◌∙◌, List, ℕ, true, replicate, length, sym, ap, subst, Bool}
+use Rattle.std.proofs.Common.{arith, ◌≡◌, ◌∙◌, List, ℕ, true, replicate, length, sym, ap, subst}
 use Rattle.cdcl_rules.specs.State.{clause_at}
 use Rattle.propagation.specs.Added.{RestsWith}
 use Rattle.propagation.specs.Asks.{IsAsk}
@@ -26,7 +26,8 @@ returns-then-length-eq2 c =
 pub returns-then-length-lt2 : goal.returns-then-length-lt2
 returns-then-length-lt2 c =
     let here = (goal.at.returns-then-length-lt2 c).After-clause-clause in
-    given_short c.args.codes c.args.store.now c.args.number c.only_ask.result c.args.self.now c.put.new.self c.requires.given (omega (arith, ap (λ (xs : List ℕ). length xs) (read here), c.len-length.ensures, c.if-length-lt2.true)) c.requires.inside
+    given_short c.args.codes c.args.store.now c.args.number c.only_ask.result c.args.self.now c.put.new.self c.requires.given
+    (omega (arith, ap (λ (xs : List ℕ). length xs) (read here), c.len-length.ensures, c.if-length-lt2.true)) c.requires.inside
     (λ on. subst (λ (xs : List ℕ). IsAsk on xs c.only_ask.result) (read here) (c.only_ask.ensures on)) c.put.ensures
 
 pub put-requires-clause-number : goal.put-requires-clause-number
@@ -71,7 +72,8 @@ returns c =
     let store = c.args.store.now in
     let g = record c.args.self.now { lists = c.widen.new.self } in
     let g' = record c.args.self.now { slots = c.push.new.self; lists = c.enter_last.new.self } in
-    let rests = subst (λ (n : ℕ). RestsWith (clause_at store c.args.number) n c.args.codes g.lists g'.lists) (let f : c.len-slot.result ≡ length c.args.self.now.slots.items = omega (arith, c.len-slot.ensures) in f)
+    let rests = subst (λ (n : ℕ). RestsWith (clause_at store c.args.number) n c.args.codes g.lists g'.lists)
+    (let f : c.len-slot.result ≡ length c.args.self.now.slots.items = omega (arith, c.len-slot.ensures) in f)
     (subst (λ (xs : List ℕ). RestsWith xs c.len-slot.result c.args.codes g.lists g'.lists) (read here) c.enter_last.ensures.rest) in
     given_long c.args.codes store c.args.number g g' (wide (goal.at.returns c).After-widen)
     (omega (arith, ap (λ (xs : List ℕ). length xs) (read here), c.len-length.ensures, c.if-length-eq2.false, c.if-length-lt2.false)) c.in_ok-push.ensures.items c.enter_last.ensures.pending rests

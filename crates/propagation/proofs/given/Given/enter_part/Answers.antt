@@ -21,7 +21,8 @@ enter-requires-clause-given c =
     let i = c.loop-index.invariant in
     let places = c.args.others.now.places.items in
     given_passed c.args.codes c.args.store.now c.args.first c.loop-index.next c.index-place.result.now c.loop-index.index c.args.others.now.count places t i.given
-    (omega (arith, i.ahead c.loop-index.index (omega arith) (inside a), place_is a)) (omega (arith, below a)) c.requires.twos i.past (ahead_of places c.loop-index.index c.index-place.result.now c.requires.rising (place_is a))
+    (omega (arith, i.ahead c.loop-index.index (omega arith) (inside a), place_is a)) (omega (arith, below a)) c.requires.twos i.past
+    (ahead_of places c.loop-index.index c.index-place.result.now c.requires.rising (place_is a))
 
 pub overflow_add-next : goal.overflow_add-next
 overflow_add-next c = omega (arith, below (goal.at.overflow_add-next c).After-index-place, c.requires.inside, c.requires.few)

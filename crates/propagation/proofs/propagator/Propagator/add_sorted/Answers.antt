@@ -1,5 +1,4 @@
-use Rattle.std.proofs.Common.{arith, get_or, false, ◌≡◌, ◌*◌, ◌+◌, ◌<◌, ◌≤◌, ◌++◌, ◌∷◌, [], ℕ, List, ◌⊎◌, ◌∙◌, ap, Bool, true, length, sym, subst, refl}
-use Rattle.std.proofs.lemmas.List.{length_push}
+use Rattle.std.proofs.Common.{arith, get_or, false, ◌≡◌, ◌*◌, ◌<◌, ◌≤◌, ℕ, List, ◌∙◌, ap, length, sym, subst, refl}
 use Rattle.std.proofs.lemmas.Bool.{false≢true}
 use Rattle.clause_base.specs.Clause.{HasVariablesBelow, has_literal}
 use Rattle.cdcl_trail.specs.Assignment.{AssignmentView, literals}
@@ -23,8 +22,10 @@ below : (c : After-make_room) → HasVariablesBelow c.self.inside.variables c.ar
 below c = subst (λ (v : PropagatorView). HasVariablesBelow v.variables c.args.clause.now) (sym c.self.view_is) c.requires.below
 
 -- what holds once there is room, and nothing is added
-roomy : (c : After-make_room) → AreSound c.self.inside.variables c.make_room.new.tables c.make_room.new.lists (literals c.self.inside.trail.entries) c.self.inside.quiet.items
-roomy c = let w = c.self.inside in sound_room w.variables w.tables c.make_room.new.tables w.lists c.make_room.new.lists (literals w.trail.entries) w.quiet.items c.self.invariant.0 c.make_room.ensures.same c.make_room.ensures.wider
+roomy : (c : After-make_room)
+    → AreSound c.self.inside.variables c.make_room.new.tables c.make_room.new.lists (literals c.self.inside.trail.entries) c.self.inside.quiet.items
+roomy c = let w = c.self.inside in sound_room w.variables w.tables c.make_room.new.tables w.lists c.make_room.new.lists (literals w.trail.entries)
+    w.quiet.items c.self.invariant.0 c.make_room.ensures.same c.make_room.ensures.wider
 
 paired : (c : After-make_room) → IsPaired c.self.inside.variables c.make_room.new.tables.store c.make_room.new.tables.slots.items c.self.inside.pairs
 paired c = let e = c.make_room.ensures.same in rw (e.store, e.slots) c.self.invariant.1
@@ -57,7 +58,8 @@ invariant_of-self-in_err-push c =
     let h = (goal.at.invariant_of-self-in_err-push c).After-make_room in
     let w = c.self.inside in
     let t = c.make_room.new.tables in
-    let r = sound_again w.variables t (record t { store = c.push.new.self }) c.make_room.new.lists (literals w.trail.entries) w.quiet.items (roomy h) (record { store = c.in_err-push.ensures.err; kept = refl; slots = refl }) in
+    let r = sound_again w.variables t (record t { store = c.push.new.self }) c.make_room.new.lists (literals w.trail.entries) w.quiet.items (roomy h)
+    (record { store = c.in_err-push.ensures.err; kept = refl; slots = refl }) in
     (r, rw c.in_err-push.ensures.err (paired h), c.self.invariant.2)
 
 pub invariant_of-self-in_err-push-2 : goal.invariant_of-self-in_err-push-2
@@ -123,7 +125,8 @@ invariant_of-self-2 c =
     let r = roomy h in
     let number : c.count-number.result ≡ length t.store = c.count-number.ensures.value ∙ ap (λ (cs : List (List ℕ)). length cs) (sym e.store) in
     let taken = subst (λ (n : ℕ). IsTaken k c.count-number.result (2 * n) trail t.slots.items l c.take_slot.new.slots.items c.take_slot.new.lists) (over a)
-    (subst (λ (ys : List ℕ). IsTaken k c.count-number.result (2 * c.assignment-assignment.result.variables) ys t.slots.items l c.take_slot.new.slots.items c.take_slot.new.lists) (told a) c.take_slot.ensures.taken) in
+    (subst (λ (ys : List ℕ). IsTaken k c.count-number.result (2 * c.assignment-assignment.result.variables) ys t.slots.items l
+    c.take_slot.new.slots.items c.take_slot.new.lists) (told a) c.take_slot.ensures.taken) in
     let t' : Tables = record { store = c.push.new.self; kept = c.push-2.new.self; slots = c.take_slot.new.slots } in
     let done : IsAddedTo w.variables t l trail w.quiet.items k c.count-number.result c.in_ok-entered.entered t' c.take_slot.new.lists c.raise.new.pending c.raise.new.quiet.items = record {
       lawful = c.requires.lawful;
@@ -137,7 +140,9 @@ invariant_of-self-2 c =
       taken = taken;
       calm = subst (λ (ys : List ℕ). IsQuietBelow k ys c.in_ok-entered.entered.low) (told a) c.in_ok-entered.ensures.quiet;
       ask = subst (λ (ys : List ℕ). c.in_ok-entered.entered.low ≤ length ys → IsAsk (has_literal ys) k c.in_ok-entered.entered.ask) (told a) c.in_ok-entered.ensures.ask;
-      raised = subst (λ (p : Pending). IsRaised trail c.count-number.result c.in_ok-entered.entered p c.raise.new.pending) c.take_slot.ensures.pending (subst (λ (ys : List ℕ). IsRaised ys c.count-number.result c.in_ok-entered.entered c.take_slot.new.lists.pending c.raise.new.pending) (told a) c.raise.ensures.raised);
+      raised = subst (λ (p : Pending). IsRaised trail c.count-number.result c.in_ok-entered.entered p c.raise.new.pending) c.take_slot.ensures.pending
+          (subst (λ (ys : List ℕ). IsRaised ys c.count-number.result c.in_ok-entered.entered c.take_slot.new.lists.pending c.raise.new.pending)
+          (told a) c.raise.ensures.raised);
       size = c.raise.ensures.size;
       same = c.raise.ensures.below;
       off = subst (λ (ys : List ℕ). (n : ℕ) → c.in_ok-entered.entered.low ≤ n → n < length ys → get_or c.raise.new.quiet.items n false ≡ false) (told a) c.raise.ensures.off;

@@ -1,4 +1,4 @@
-use Rattle.std.proofs.Common.{arith, ◌≡◌, ◌<◌, ◌≤◌, ◌*◌, ◌/◌, ◌++◌, ◌∷◌, [], ℕ, List, Bool, ◌∙◌, ap, true, false, None, get_or, set, length, length-set, take, refl, sym, subst}
+use Rattle.std.proofs.Common.{arith, ◌≡◌, ◌*◌, ◌/◌, ◌++◌, ◌∷◌, [], ℕ, List, ◌∙◌, ap, true, None, get_or, set, length-set, sym, subst}
 use Rattle.clause_base.specs.Literal.{opposite}
 use Rattle.clause_base.specs.Clause.{has_literal}
 use Rattle.number_bits.specs.Bits.{words_have}
@@ -13,8 +13,8 @@ use Rattle.pair_index.specs.Pairs.{pairs_of, pair_in}
 use Rattle.propagation.specs.Asks.{IsConsistent, HasAsks}
 use Rattle.propagation.specs.Front.{IsComplete}
 use Rattle.propagation.specs.Pending.{PropagatorView}
-use Rattle.propagation.specs.Sound.{AreSound, AreFree}
-use Rattle.propagation.specs.Tables.{AreTables, clauses_in, flags_in, pending_in}
+use Rattle.propagation.specs.Sound.{AreSound}
+use Rattle.propagation.specs.Tables.{clauses_in, flags_in, pending_in}
 use Rattle.propagation.specs.Visit.{slot_set, IsFit, AllSettled, MovesToFree}
 use Rattle.propagation.proofs.Asks.{consistent_push, last_true}
 use Rattle.propagation.proofs.AsksKept.{asks_longer}
@@ -50,13 +50,16 @@ falsified_is c = c.falsified.view_is ∙ c.opposite-falsified.ensures
 falsified : (c : After-assignment-assignment) (l : ℕ) → l ≡ opposite c.args.entry.literal → has_literal c.assignment-assignment.result.trail (opposite l) ≡ true
 falsified c l op =
     let w = c.self.inside in
-    ap (λ (ys : List ℕ). has_literal ys (opposite l)) (told c) ∙ ap (λ (x : ℕ). has_literal (literals w.trail.entries ++ c.args.entry.literal ∷ []) x) (ap opposite op ∙ opposite_twice c.args.entry.literal) ∙ last_true (literals w.trail.entries) c.args.entry.literal
+    ap (λ (ys : List ℕ). has_literal ys (opposite l)) (told c) ∙ ap (λ (x : ℕ). has_literal (literals w.trail.entries ++ c.args.entry.literal ∷ []) x)
+    (ap opposite op ∙ opposite_twice c.args.entry.literal) ∙ last_true (literals w.trail.entries) c.args.entry.literal
 
 pub mark_pairs-requires-clause-fit : goal.mark_pairs-requires-clause-fit
-mark_pairs-requires-clause-fit c = subst (λ (n : ℕ). IsFit c.self.inside.tables.store (2 * n)) (sym (over (goal.at.mark_pairs-requires-clause-fit c).After-assignment-assignment)) c.self.invariant.0.tables.fit
+mark_pairs-requires-clause-fit c = subst (λ (n : ℕ). IsFit c.self.inside.tables.store (2 * n))
+    (sym (over (goal.at.mark_pairs-requires-clause-fit c).After-assignment-assignment)) c.self.invariant.0.tables.fit
 
 pub mark_pairs-requires-clause-falsified : goal.mark_pairs-requires-clause-falsified
-mark_pairs-requires-clause-falsified c = falsified (goal.at.mark_pairs-requires-clause-falsified c).After-assignment-assignment c.falsified.inside.0 (falsified_is (goal.at.mark_pairs-requires-clause-falsified c).After-falsified)
+mark_pairs-requires-clause-falsified c = falsified (goal.at.mark_pairs-requires-clause-falsified c).After-assignment-assignment c.falsified.inside.0
+    (falsified_is (goal.at.mark_pairs-requires-clause-falsified c).After-falsified)
 
 pub mark_pairs-requires-clause-exact : goal.mark_pairs-requires-clause-exact
 mark_pairs-requires-clause-exact c = c.self.invariant.1.exact c.falsified.inside.0
@@ -71,7 +74,8 @@ pub visit_all-requires-clause-spare : goal.visit_all-requires-clause-spare
 visit_all-requires-clause-spare c = ap (λ (n : ℕ). 2 * n) (sym (over (goal.at.visit_all-requires-clause-spare c).After-assignment-assignment))
 
 pub visit_all-requires-clause-falsified : goal.visit_all-requires-clause-falsified
-visit_all-requires-clause-falsified c = falsified (goal.at.visit_all-requires-clause-falsified c).After-assignment-assignment c.falsified.inside.0 (falsified_is (goal.at.visit_all-requires-clause-falsified c).After-falsified)
+visit_all-requires-clause-falsified c = falsified (goal.at.visit_all-requires-clause-falsified c).After-assignment-assignment c.falsified.inside.0
+    (falsified_is (goal.at.visit_all-requires-clause-falsified c).After-falsified)
 
 pub visit_all-requires-clause-tables : goal.visit_all-requires-clause-tables
 visit_all-requires-clause-tables c = c.self.invariant.0.tables
@@ -80,23 +84,32 @@ pub visit_all-requires-clause-rest : goal.visit_all-requires-clause-rest
 visit_all-requires-clause-rest c = c.self.invariant.0.rest
 
 -- what the visits leave, on the trail with the literal
-moves : (c : After-visit_all) → MovesToFree (clauses_in c.self.inside.tables) c.self.inside.lists.watched.items c.visit_all.new.self.watched.items (has_literal (literals c.self.inside.trail.entries ++ c.args.entry.literal ∷ []))
+moves : (c : After-visit_all)
+    → MovesToFree (clauses_in c.self.inside.tables) c.self.inside.lists.watched.items c.visit_all.new.self.watched.items
+    (has_literal (literals c.self.inside.trail.entries ++ c.args.entry.literal ∷ []))
 moves c =
     let w = c.self.inside in
-    let tr = ap (λ (t : AssignmentView). t.trail) c.assignment-assignment.ensures ∙ ap (λ (t : TrailView). literals t.entries) c.push.ensures ∙ map_push (λ (a : Assigned). a.literal) w.trail.entries c.args.entry in
+    let tr = ap (λ (t : AssignmentView). t.trail) c.assignment-assignment.ensures ∙ ap (λ (t : TrailView). literals t.entries) c.push.ensures
+    ∙ map_push (λ (a : Assigned). a.literal) w.trail.entries c.args.entry in
     subst (λ (ys : List ℕ). MovesToFree (clauses_in w.tables) w.lists.watched.items c.visit_all.new.self.watched.items (has_literal ys)) tr c.visit_all.ensures.moves
 
-settled : (c : After-visit_all) → AllSettled (clauses_in c.self.inside.tables) c.visit_all.new.self.watched.items (has_literal (literals c.self.inside.trail.entries ++ c.args.entry.literal ∷ [])) (slot_set (words_have c.visit_all.new.self.pending.numbers) c.self.inside.tables.slots.items) (opposite c.args.entry.literal) (flags_in c.self.inside.tables)
+settled : (c : After-visit_all)
+    → AllSettled (clauses_in c.self.inside.tables) c.visit_all.new.self.watched.items
+    (has_literal (literals c.self.inside.trail.entries ++ c.args.entry.literal ∷ []))
+    (slot_set (words_have c.visit_all.new.self.pending.numbers) c.self.inside.tables.slots.items) (opposite c.args.entry.literal)
+    (flags_in c.self.inside.tables)
 settled c =
     let w = c.self.inside in
     let wa = c.visit_all.new.self.watched.items in
     let set = words_have c.visit_all.new.self.pending.numbers in
     let op : c.falsified.inside.0 ≡ opposite c.args.entry.literal = c.falsified.view_is ∙ c.opposite-falsified.ensures in
-    let tr = ap (λ (t : AssignmentView). t.trail) c.assignment-assignment.ensures ∙ ap (λ (t : TrailView). literals t.entries) c.push.ensures ∙ map_push (λ (a : Assigned). a.literal) w.trail.entries c.args.entry in
+    let tr = ap (λ (t : AssignmentView). t.trail) c.assignment-assignment.ensures ∙ ap (λ (t : TrailView). literals t.entries) c.push.ensures
+    ∙ map_push (λ (a : Assigned). a.literal) w.trail.entries c.args.entry in
     subst (λ (ys : List ℕ). AllSettled (clauses_in w.tables) wa (has_literal ys) (slot_set set w.tables.slots.items) (opposite c.args.entry.literal) (flags_in w.tables)) tr
     (subst (λ (l : ℕ). AllSettled (clauses_in w.tables) wa (has_literal c.assignment-assignment.result.trail) (slot_set set w.tables.slots.items) l (flags_in w.tables)) op c.visit_all.ensures.settled)
 
-complete : (c : After-visit_all) → literals c.self.inside.trail.entries ++ c.args.entry.literal ∷ [] ≡ c.assignment-assignment.result.trail → IsComplete (pending_in c.self.inside.tables (literals c.self.inside.trail.entries ++ c.args.entry.literal ∷ [])) c.visit_all.new.self.pending
+complete : (c : After-visit_all) → literals c.self.inside.trail.entries ++ c.args.entry.literal ∷ [] ≡ c.assignment-assignment.result.trail
+    → IsComplete (pending_in c.self.inside.tables (literals c.self.inside.trail.entries ++ c.args.entry.literal ∷ [])) c.visit_all.new.self.pending
 complete c tr =
     let w = c.self.inside in
     let i = c.self.invariant.0 in
@@ -106,10 +119,13 @@ complete c tr =
     let is = words_have c.visit_all.new.self.pending.numbers in
     let e = c.visit_all.ensures in
     let op : c.falsified.inside.0 ≡ opposite c.args.entry.literal = c.falsified.view_is ∙ c.opposite-falsified.ensures in
-    let slotted = assign_complete (clauses_in w.tables) w.lists.watched.items c.visit_all.new.self.watched.items (flags_in w.tables) trail c.args.entry.literal (slot_set was slots) (slot_set is slots) (flags_long w.tables.kept.items slots ∙ sym (slots_long w.tables.store slots)) e.rest.placed
+    let slotted = assign_complete (clauses_in w.tables) w.lists.watched.items c.visit_all.new.self.watched.items (flags_in w.tables) trail
+    c.args.entry.literal (slot_set was slots) (slot_set is slots) (flags_long w.tables.kept.items slots ∙ sym (slots_long w.tables.store slots))
+    e.rest.placed
     (whole_free (clauses_in w.tables) w.lists.watched.items (flags_in w.tables) trail i.free) (moves c) (settled c)
     (λ k h. e.grows (get_or slots k 0) (c.mark_pairs.ensures.grows (get_or slots k 0) h)) (slots_complete w.tables.store w.tables.kept.items slots trail was i.complete) in
-    found_complete w.variables w.tables.store w.tables.kept.items trail slots c.args.entry.literal w.pairs (pairs_of w.pairs c.falsified.inside.0) was is i.tables.kept c.self.invariant.1 (ap (λ (l : ℕ). pairs_of w.pairs l) op)
+    found_complete w.variables w.tables.store w.tables.kept.items trail slots c.args.entry.literal w.pairs (pairs_of w.pairs c.falsified.inside.0) was
+    is i.tables.kept c.self.invariant.1 (ap (λ (l : ℕ). pairs_of w.pairs l) op)
     (λ k h none. e.grows _ (c.mark_pairs.ensures.in_set k h (ap (λ (ys : List ℕ). has_literal ys (pair_in (pairs_of w.pairs c.falsified.inside.0) k).other) (sym tr) ∙ none)))
     (λ k h. e.grows k (c.mark_pairs.ensures.grows k h)) i.complete slotted
 
@@ -131,12 +147,15 @@ invariant_of-self c =
       few = i.few;
       slots_few = i.slots_few;
       rest = e.rest;
-      free = assign_free (clauses_in w.tables) w.lists.watched.items l'.watched.items (flags_in w.tables) trail x (slot_set (words_have l'.pending.numbers) w.tables.slots.items) i.free (moves visited) (settled visited);
+      free = assign_free (clauses_in w.tables) w.lists.watched.items l'.watched.items (flags_in w.tables) trail x
+          (slot_set (words_have l'.pending.numbers) w.tables.slots.items) i.free (moves visited) (settled visited);
       consistent = consistent here;
       asks = subst (λ (ys : List ℕ). HasAsks w.tables.store ys l'.pending) (told here) e.asks;
       complete = complete visited (sym (told here));
       quiet_size = length-set w.quiet.items c.length-length.result c.is_none.result ∙ i.quiet_size;
-      quiets = assign_quiets w.tables.store w.tables.kept.items trail x w.quiet.items c.length-length.result c.least-least.result c.is_none.result (words_have w.lists.pending.numbers) long (omega (arith, c.length-length.ensures.short, c.self.invariant.2, i.quiet_size)) c.least-least.ensures c.is_none.ensures i.complete i.quiets;
+      quiets = assign_quiets w.tables.store w.tables.kept.items trail x w.quiet.items c.length-length.result c.least-least.result c.is_none.result
+          (words_have w.lists.pending.numbers) long (omega (arith, c.length-length.ensures.short, c.self.invariant.2, i.quiet_size))
+          c.least-least.ensures c.is_none.ensures i.complete i.quiets;
     } in (
       subst (λ (ys : List ℕ). AreSound w.variables w.tables l' ys flags) (sym (pushed here)) done,
       c.self.invariant.1,

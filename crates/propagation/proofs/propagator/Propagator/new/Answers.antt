@@ -28,8 +28,10 @@ invariant_of-result c =
     let small : v ≤ 2147483647 = omega (arith, c.variables-variables.ensures.small, c.variables-variables.ensures.value) in
     let trail = ap (λ (t : TrailView). literals t.entries) c.in_ok-trail.ensures in
     let kept = c.in_ok-kept.ensures.items_if_clones_equal (λ y h. h) ∙ ap (λ (n : ℕ). replicate n true) (sym all) in
-    let index = subst (λ (n : ℕ). IsIndex n store c.in_ok-pairs.pairs) (sym c.variables-variables.ensures.value) (subst (λ (cs : List (List ℕ)). IsIndex c.args.formula.now.variables cs c.in_ok-pairs.pairs) (sym c.in_ok-store.ensures) c.in_ok-pairs.ensures) in (
-      sound_given v t g (literals c.in_ok-trail.trail.entries) c.in_ok-quiet.quiet.items small (omega (arith, all, c.count-count.ensures.few, c.count-count.ensures.value)) f kept refl trail c.in_ok-given.ensures c.in_ok-quiet.ensures,
+    let index = subst (λ (n : ℕ). IsIndex n store c.in_ok-pairs.pairs) (sym c.variables-variables.ensures.value)
+    (subst (λ (cs : List (List ℕ)). IsIndex c.args.formula.now.variables cs c.in_ok-pairs.pairs) (sym c.in_ok-store.ensures) c.in_ok-pairs.ensures) in (
+      sound_given v t g (literals c.in_ok-trail.trail.entries) c.in_ok-quiet.quiet.items small
+          (omega (arith, all, c.count-count.ensures.few, c.count-count.ensures.value)) f kept refl trail c.in_ok-given.ensures c.in_ok-quiet.ensures,
       paired_given v store g c.in_ok-pairs.pairs c.in_ok-given.ensures index,
       ap (λ (t : TrailView). t.variables) c.in_ok-trail.ensures,
     )

@@ -1,4 +1,4 @@
-use Rattle.std.proofs.Common.{arith, ◌≡◌, ◌*◌, ◌∙◌, ap, sym, subst, ℕ, List, Option}
+use Rattle.std.proofs.Common.{◌≡◌, ◌*◌, ◌∙◌, ap, sym, subst, ℕ, List}
 use Rattle.clause_base.specs.Clause.{has_literal}
 use Rattle.cdcl_trail.specs.Assignment.{AssignmentView, literals}
 use Rattle.propagation.specs.Asks.{HasAsks, IsConsistent}
@@ -22,10 +22,12 @@ pub next-requires-clause-consistent : goal.next-requires-clause-consistent
 next-requires-clause-consistent c = subst IsConsistent (sym (told (goal.at.next-requires-clause-consistent c).After-assignment-assignment)) c.self.invariant.0.consistent
 
 pub next-requires-clause-asks : goal.next-requires-clause-asks
-next-requires-clause-asks c = subst (λ (xs : List ℕ). HasAsks c.self.inside.tables.store xs c.self.inside.lists.pending) (sym (told (goal.at.next-requires-clause-asks c).After-assignment-assignment)) c.self.invariant.0.asks
+next-requires-clause-asks c = subst (λ (xs : List ℕ). HasAsks c.self.inside.tables.store xs c.self.inside.lists.pending)
+    (sym (told (goal.at.next-requires-clause-asks c).After-assignment-assignment)) c.self.invariant.0.asks
 
 pub next-requires-clause-complete : goal.next-requires-clause-complete
-next-requires-clause-complete c = subst (λ (xs : List ℕ). IsComplete (pending_in c.self.inside.tables xs) c.self.inside.lists.pending) (sym (told (goal.at.next-requires-clause-complete c).After-assignment-assignment)) c.self.invariant.0.complete
+next-requires-clause-complete c = subst (λ (xs : List ℕ). IsComplete (pending_in c.self.inside.tables xs) c.self.inside.lists.pending)
+    (sym (told (goal.at.next-requires-clause-complete c).After-assignment-assignment)) c.self.invariant.0.complete
 
 pub invariant_of-self : goal.invariant_of-self
 invariant_of-self c =

@@ -4,7 +4,8 @@ use Rattle.cdcl_trail.specs.Mirrored.{TrailView}
 use Rattle.propagation.specs.Pending.{PropagatorView}
 use Rattle.propagation.proofs.propagator.Propagator.trail.Goals as goal
 
-same_view : (n m : ℕ) (es fs : List Assigned) → n ≡ m → es ≡ fs → (let x : TrailView = record { variables = n; entries = es } in x) ≡ (let y : TrailView = record { variables = m; entries = fs } in y)
+same_view : (n m : ℕ) (es fs : List Assigned) → n ≡ m → es ≡ fs
+    → (let x : TrailView = record { variables = n; entries = es } in x) ≡ (let y : TrailView = record { variables = m; entries = fs } in y)
 same_view n m es fs e f = cc
 
 pub returns : goal.returns

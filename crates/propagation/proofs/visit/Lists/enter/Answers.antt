@@ -10,7 +10,10 @@ use Rattle.propagation.proofs.visit.Lists.enter.Goals.{After-free_until}
 pub overflow_add-result : goal.overflow_add-result
 overflow_add-result c = let s = c.free_until.ensures.short in omega (arith, s, c.requires.small)
 
-entered : (c : After-free_until) → IsEntered c.args.clause.now c.args.slot c.args.assignment.now.trail c.args.self.now.watched.items c.to_watch-watched.result c.args.self.now.chains.heads.items c.args.self.now.chains.nodes.items c.link_two.new.self.heads.items c.link_two.new.self.nodes.items c.a.inside.0 c.b.inside.0
+entered : (c : After-free_until)
+    → IsEntered c.args.clause.now c.args.slot c.args.assignment.now.trail c.args.self.now.watched.items c.to_watch-watched.result
+    c.args.self.now.chains.heads.items c.args.self.now.chains.nodes.items c.link_two.new.self.heads.items c.link_two.new.self.nodes.items
+    c.a.inside.0 c.b.inside.0
 entered c = record {
   below = c.requires.room.in_watches;
   long = c.requires.two;
@@ -31,22 +34,29 @@ entered c = record {
 
 pub returns-clause-rest : goal.returns-clause-rest
 returns-clause-rest c =
-    rests_long c.args.clause.now c.args.slot c.args.assignment.now.trail c.args.self.now.watched.items c.to_watch-watched.result c.args.self.now.chains.heads.items c.args.self.now.chains.nodes.items c.link_two.new.self.heads.items c.link_two.new.self.nodes.items c.a.inside.0 c.b.inside.0 (2 * c.args.assignment.now.variables) (entered c)
+    rests_long c.args.clause.now c.args.slot c.args.assignment.now.trail c.args.self.now.watched.items c.to_watch-watched.result
+    c.args.self.now.chains.heads.items c.args.self.now.chains.nodes.items c.link_two.new.self.heads.items c.link_two.new.self.nodes.items
+    c.a.inside.0 c.b.inside.0 (2 * c.args.assignment.now.variables) (entered c)
 
 pub returns-clause-free : goal.returns-clause-free
 returns-clause-free c =
-    free_long c.args.clause.now c.args.slot c.args.assignment.now.trail c.args.self.now.watched.items c.to_watch-watched.result c.args.self.now.chains.heads.items c.args.self.now.chains.nodes.items c.link_two.new.self.heads.items c.link_two.new.self.nodes.items c.a.inside.0 c.b.inside.0 (entered c)
+    free_long c.args.clause.now c.args.slot c.args.assignment.now.trail c.args.self.now.watched.items c.to_watch-watched.result
+    c.args.self.now.chains.heads.items c.args.self.now.chains.nodes.items c.link_two.new.self.heads.items c.link_two.new.self.nodes.items
+    c.a.inside.0 c.b.inside.0 (entered c)
 
 pub returns-clause-quiet : goal.returns-clause-quiet
 returns-clause-quiet c =
-    quiet_long c.args.clause.now c.args.slot c.args.assignment.now.trail c.args.self.now.watched.items c.to_watch-watched.result c.args.self.now.chains.heads.items c.args.self.now.chains.nodes.items c.link_two.new.self.heads.items c.link_two.new.self.nodes.items c.a.inside.0 c.b.inside.0 c.free_until.result (entered c) c.free_until.ensures.lasts
+    quiet_long c.args.clause.now c.args.slot c.args.assignment.now.trail c.args.self.now.watched.items c.to_watch-watched.result
+    c.args.self.now.chains.heads.items c.args.self.now.chains.nodes.items c.link_two.new.self.heads.items c.link_two.new.self.nodes.items
+    c.a.inside.0 c.b.inside.0 c.free_until.result (entered c) c.free_until.ensures.lasts
 
 pub returns-clause-ask : goal.returns-clause-ask
 returns-clause-ask c h =
     let trail = c.args.assignment.now.trail in
     let e = entered c in
     let k = c.args.clause.now in
-    let off : is_free (has_literal trail) (get_or k c.to_watch-watched.result.second 0) ≡ false = ap (is_free (has_literal trail)) (sym e.second_is) ∙ false_past trail c.b.inside.0 c.free_until.result c.free_until.ensures.lasts h in
+    let off : is_free (has_literal trail) (get_or k c.to_watch-watched.result.second 0) ≡ false = ap (is_free (has_literal trail)) (sym e.second_is)
+    ∙ false_past trail c.b.inside.0 c.free_until.result c.free_until.ensures.lasts h in
     inr (record {
       place = c.to_watch-watched.result.first;
       inside = c.to_watch-watched.ensures.first_in;

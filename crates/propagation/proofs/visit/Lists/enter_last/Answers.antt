@@ -9,7 +9,8 @@ pub returns-clause-rest : goal.returns-clause-rest
 returns-clause-rest c =
     let k = c.args.clause.now in
     let w : Watched = record { first = c.len-length.result - 1; second = c.len-length.result - 2; from = 0 } in
-    let e : IsEntered k c.args.slot [] c.args.self.now.watched.items w c.args.self.now.chains.heads.items c.args.self.now.chains.nodes.items c.link_two.new.self.heads.items c.link_two.new.self.nodes.items c.a.inside.0 c.b.inside.0 = record {
+    let e : IsEntered k c.args.slot [] c.args.self.now.watched.items w c.args.self.now.chains.heads.items c.args.self.now.chains.nodes.items
+    c.link_two.new.self.heads.items c.link_two.new.self.nodes.items c.a.inside.0 c.b.inside.0 = record {
       below = c.requires.room.in_watches;
       long = c.requires.two;
       first_in = omega (arith, c.len-length.ensures, c.requires.two);
@@ -26,4 +27,5 @@ returns-clause-rest c =
       second_note = c.link_two.ensures.second;
       others = c.link_two.ensures.others;
     } in
-    rests_long k c.args.slot [] c.args.self.now.watched.items w c.args.self.now.chains.heads.items c.args.self.now.chains.nodes.items c.link_two.new.self.heads.items c.link_two.new.self.nodes.items c.a.inside.0 c.b.inside.0 c.args.codes e
+    rests_long k c.args.slot [] c.args.self.now.watched.items w c.args.self.now.chains.heads.items c.args.self.now.chains.nodes.items
+    c.link_two.new.self.heads.items c.link_two.new.self.nodes.items c.a.inside.0 c.b.inside.0 c.args.codes e

@@ -36,15 +36,21 @@ returns-in-None-clause-rest c =
     let e = c.in-None.ensures in
     let on = has_literal c.args.assignment.now.trail in
     let s = slot_set (words_have c.visits.self.pending.numbers) c.args.tables.now.slots.items in
-    listed_end (slot_clauses c.args.tables.now.store c.args.tables.now.slots.items) c.visits.self.watched.items c.visits.self.chains.heads.items c.rename.new.self.heads.items c.visits.self.chains.nodes.items c.rename.new.self.nodes.items c.args.spare c.args.code (slot_flags c.args.tables.now.kept.items c.args.tables.now.slots.items) on s r (fit_slots c.args.tables.now.store c.args.tables.now.slots.items c.args.spare c.requires.tables.fit)
-    (linked_after c.visits.self.chains.heads.items c.pop.new.self.heads.items c.rename.new.self.heads.items c.visits.self.chains.nodes.items c.pop.new.self.nodes.items c.rename.new.self.nodes.items c.args.spare c.args.code r.on e r.linked c.rename.ensures.linked)
+    listed_end (slot_clauses c.args.tables.now.store c.args.tables.now.slots.items) c.visits.self.watched.items c.visits.self.chains.heads.items
+    c.rename.new.self.heads.items c.visits.self.chains.nodes.items c.rename.new.self.nodes.items c.args.spare c.args.code
+    (slot_flags c.args.tables.now.kept.items c.args.tables.now.slots.items) on s r
+    (fit_slots c.args.tables.now.store c.args.tables.now.slots.items c.args.spare c.requires.tables.fit)
+    (linked_after c.visits.self.chains.heads.items c.pop.new.self.heads.items c.rename.new.self.heads.items c.visits.self.chains.nodes.items
+    c.pop.new.self.nodes.items c.rename.new.self.nodes.items c.args.spare c.args.code r.on e r.linked c.rename.ensures.linked)
     (c.rename.ensures.nodes ∙ e.nodes_stay) (c.rename.ensures.codes ∙ ap (λ (xs : List ℕ). length xs) e.heads_stay)
 
 pub returns-in-None-clause-settled : goal.returns-in-None-clause-settled
 returns-in-None-clause-settled c =
     let r = c.visits.invariant.listed in
     let e = c.in-None.ensures in
-    all_settled (slot_clauses c.args.tables.now.store c.args.tables.now.slots.items) c.visits.self.watched.items c.visits.self.chains.heads.items c.visits.self.chains.nodes.items c.args.spare c.args.code (slot_flags c.args.tables.now.kept.items c.args.tables.now.slots.items) (has_literal c.args.assignment.now.trail) (slot_set (words_have c.visits.self.pending.numbers) c.args.tables.now.slots.items) r (e.none r.on r.linked)
+    all_settled (slot_clauses c.args.tables.now.store c.args.tables.now.slots.items) c.visits.self.watched.items c.visits.self.chains.heads.items
+    c.visits.self.chains.nodes.items c.args.spare c.args.code (slot_flags c.args.tables.now.kept.items c.args.tables.now.slots.items)
+    (has_literal c.args.assignment.now.trail) (slot_set (words_have c.visits.self.pending.numbers) c.args.tables.now.slots.items) r (e.none r.on r.linked)
 
 pub visit-requires-clause-real : goal.visit-requires-clause-real
 visit-requires-clause-real c =
@@ -56,20 +62,30 @@ pub visit-requires-clause-own : goal.visit-requires-clause-own
 visit-requires-clause-own c m =
     let r = c.visits.invariant.listed in
     let p = c.in-Some.ensures.from r.on r.linked in
-    own_literal (slot_clauses c.args.tables.now.store c.args.tables.now.slots.items) c.visits.self.watched.items c.visits.self.chains.heads.items c.visits.self.chains.nodes.items c.args.spare c.args.code (slot_flags c.args.tables.now.kept.items c.args.tables.now.slots.items) c.in-Some.node (Stays (slot_clauses c.args.tables.now.store c.args.tables.now.slots.items) c.visits.self.watched.items (has_literal c.args.assignment.now.trail) (slot_set (words_have c.visits.self.pending.numbers) c.args.tables.now.slots.items) c.args.code) r c.requires.code p.0 m
+    own_literal (slot_clauses c.args.tables.now.store c.args.tables.now.slots.items) c.visits.self.watched.items c.visits.self.chains.heads.items
+    c.visits.self.chains.nodes.items c.args.spare c.args.code (slot_flags c.args.tables.now.kept.items c.args.tables.now.slots.items)
+    c.in-Some.node (Stays (slot_clauses c.args.tables.now.store c.args.tables.now.slots.items) c.visits.self.watched.items
+    (has_literal c.args.assignment.now.trail) (slot_set (words_have c.visits.self.pending.numbers) c.args.tables.now.slots.items) c.args.code) r
+    c.requires.code p.0 m
 
 pub visit-requires-clause-listed : goal.visit-requires-clause-listed
 visit-requires-clause-listed c =
     let r = c.visits.invariant.listed in
     let p = c.in-Some.ensures.from r.on r.linked in
-    listed_pop (slot_clauses c.args.tables.now.store c.args.tables.now.slots.items) c.visits.self.watched.items c.visits.self.chains.heads.items c.pop.new.self.heads.items c.visits.self.chains.nodes.items c.pop.new.self.nodes.items c.args.spare (slot_flags c.args.tables.now.kept.items c.args.tables.now.slots.items) c.in-Some.node (Stays (slot_clauses c.args.tables.now.store c.args.tables.now.slots.items) c.visits.self.watched.items (has_literal c.args.assignment.now.trail) (slot_set (words_have c.visits.self.pending.numbers) c.args.tables.now.slots.items) c.args.code) r p.1 c.in-Some.ensures.nodes_stay c.in-Some.ensures.codes
+    listed_pop (slot_clauses c.args.tables.now.store c.args.tables.now.slots.items) c.visits.self.watched.items c.visits.self.chains.heads.items
+    c.pop.new.self.heads.items c.visits.self.chains.nodes.items c.pop.new.self.nodes.items c.args.spare
+    (slot_flags c.args.tables.now.kept.items c.args.tables.now.slots.items) c.in-Some.node
+    (Stays (slot_clauses c.args.tables.now.store c.args.tables.now.slots.items) c.visits.self.watched.items
+    (has_literal c.args.assignment.now.trail) (slot_set (words_have c.visits.self.pending.numbers) c.args.tables.now.slots.items) c.args.code) r
+    p.1 c.in-Some.ensures.nodes_stay c.in-Some.ensures.codes
 
 pub visits-preserved : goal.visits-preserved
 visits-preserved c =
     let i = c.visits.invariant in
     record {
       listed = c.visit.ensures.listed;
-      moves = moves_on (slot_clauses c.args.tables.now.store c.args.tables.now.slots.items) c.args.self.now.watched.items c.visits.self.watched.items c.visit.new.self.watched.items (has_literal c.args.assignment.now.trail) i.moves c.visit.ensures.moves;
+      moves = moves_on (slot_clauses c.args.tables.now.store c.args.tables.now.slots.items) c.args.self.now.watched.items c.visits.self.watched.items
+          c.visit.new.self.watched.items (has_literal c.args.assignment.now.trail) i.moves c.visit.ensures.moves;
       grows = λ k h. c.visit.ensures.grows k (i.grows k h);
       asks = c.visit.ensures.asks;
     }

@@ -1,4 +1,3 @@
-use Rattle.std.proofs.Common.{◌≡◌, length}
 use Rattle.clause_base.specs.Clause.{has_literal}
 use Rattle.number_bits.specs.Bits.{words_have}
 use Rattle.watch_chains.specs.Linked.{chain_length}
@@ -8,7 +7,9 @@ use Rattle.propagation.proofs.visit.Lists.visit_all.Given as goal
 
 abbrev pub invariant-visits : goal.invariant-visits
 invariant-visits l = record {
-  listed : IsListed (slot_clauses l.tables.store l.tables.slots.items) l.self.watched.items l.self.chains.heads.items l.self.chains.nodes.items l.spare (IsNodeKept (slot_flags l.tables.kept.items l.tables.slots.items)) (Stays (slot_clauses l.tables.store l.tables.slots.items) l.self.watched.items (has_literal l.assignment.trail) (slot_set (words_have l.self.pending.numbers) l.tables.slots.items) l.code);
+  listed : IsListed (slot_clauses l.tables.store l.tables.slots.items) l.self.watched.items l.self.chains.heads.items l.self.chains.nodes.items l.spare
+      (IsNodeKept (slot_flags l.tables.kept.items l.tables.slots.items))
+      (Stays (slot_clauses l.tables.store l.tables.slots.items) l.self.watched.items (has_literal l.assignment.trail) (slot_set (words_have l.self.pending.numbers) l.tables.slots.items) l.code);
   moves : MovesToFree (slot_clauses l.tables.store l.tables.slots.items) l.initial.self.watched.items l.self.watched.items (has_literal l.assignment.trail);
   grows : Grows (words_have l.initial.self.pending.numbers) (words_have l.self.pending.numbers);
   asks : HasAsks l.tables.store l.assignment.trail l.self.pending;

@@ -1,15 +1,23 @@
-use Rattle.std.proofs.Common.{ap, ◌∙◌}
+use Rattle.std.proofs.Common.{◌≡◌, ◌∙◌, length, sym, ap, subst}
 use Rattle.clause_base.specs.Literal.{opposite}
 use Rattle.clause_base.specs.Clause.{has_literal}
-use Rattle.watch_lists.specs.Pending.{WatchesView}
+use Rattle.propagation.specs.Pending.{PropagatorView}
+use Rattle.watch_lists.specs.Pending.{WatchesView, AreBelow}
+use Rattle.watch_lists.proofs.Belows.{known}
 use Rattle.watch_lists.proofs.Views.{none_of, view_push}
 use Rattle.watch_lists.proofs.watches.Watches.assign.Goals as goal
 
 pub assign-requires-clause-opened : goal.assign-requires-clause-opened
 assign-requires-clause-opened c =
-    none_of c.self.inside.watching.entries c.args.lit
+    none_of c.self.inside.propagator.entries c.args.lit
     (ap (λ (v : WatchesView). has_literal v.trail c.args.lit) c.self.view_is ∙ c.requires.off)
     (ap (λ (v : WatchesView). has_literal v.trail (opposite c.args.lit)) c.self.view_is ∙ c.requires.free)
 
+pub invariant_of-self : goal.invariant_of-self
+invariant_of-self c =
+    let e = c.assign.ensures in
+    known c.assign.new.self c.next-self-inside.new.self c.next-self-inside.result c.next-self-inside.ensures.first c.next-self-inside.ensures.same
+    (subst (λ (q : PropagatorView). AreBelow q.variables q.clauses) (sym e) c.self.invariant.1) (subst (λ (q : PropagatorView). length q.kept ≡ length q.clauses) (sym e) c.self.invariant.2)
+
 pub returns : goal.returns
-returns c = view_push c.self.inside.watching c.assign.new.self c.args.self.now _ c.assign.ensures c.self.view_is
+returns c = view_push c.self.inside.propagator c.next-self-inside.new.self c.args.self.now _ (c.next-self-inside.ensures.same ∙ c.assign.ensures) c.self.view_is

@@ -1,9 +1,0 @@
-use Rattle.std.proofs.Common.{◌≡◌, ◌+◌, ◌*◌}
-use Rattle.watch_lists.specs.Given.{AreGiven}
-use Rattle.watch_lists.proofs.given.Given.enter_parts.Given as goal
-
-abbrev pub invariant-loop : goal.invariant-loop
-invariant-loop l = record {
-  next : l.next ≡ l.first + l.counter * l.others.count;
-  given : AreGiven l.codes l.store l.next l.self.slots.items l.self.lists.watched.items l.self.lists.chains.heads.items l.self.lists.chains.nodes.items l.self.lists.pending l.self.lists.units.items;
-}
