@@ -1,18 +1,18 @@
 -- What the run of a horizon comes to, by what is known of its states.
 use Rattle.std.proofs.Common.{◌≡◌, ◌∙◌, ℕ, Bool, true, false, List, Result, Ok, IfOk, length, nat_le, if◌then◌else◌, sym, ap, subst}
 use Rattle.std.proofs.lemmas.Result.{IfOk-at_ok}
-use Rattle.clause_base.specs.Formula.{Cnf}
+use Rattle.clause_base.specs.Formula.{Cnf, IsModel}
 use Rattle.clause_base.specs.Derivation.{IsRefutation}
 use Rattle.clause_base.specs.declared.log.Entry.{Entry}
 use Rattle.clause_base.specs.declared.memory.Memory.{Memory}
 use Rattle.cdcl_rules.specs.State.{State}
-use Rattle.cdcl_rules.specs.declared.standing.Standing.TheVariants.{Going, Refuted}
-use Rattle.horizon_run.specs.Run.{RunView, choice_in, IsMoved, IsReached}
+use Rattle.cdcl_rules.specs.declared.standing.Standing.TheVariants.{Going, Found, Refuted}
+use Rattle.horizon_run.specs.Run.{RunView, choice_in, truths_of, IsMoved, IsReached}
 use Rattle.proof_text.specs.Text.{proof_text}
 use Rattle.certificates.specs.Certificate.{IsSpelled, IsCertificate}
 use Rattle.certificates.specs.Proved.{most_bytes, certificate_of}
 use Rattle.certificates.specs.declared.prove.Proved.{Proved}
-use Rattle.certificates.specs.declared.prove.Proved.TheVariants.{Certificate, TooLong, Open}
+use Rattle.certificates.specs.declared.prove.Proved.TheVariants.{Certificate, TooLong}
 
 -- the log of a run that is refuted refutes its formula
 pub refutes : (run : RunView) → IsMoved run → IsReached (choice_in run) run.formula run.granted → run.state.standing ≡ Refuted
@@ -32,15 +32,21 @@ certifies run text horizon moved is refuted log same spelled = record {
   refutes = subst (λ (l : List Entry). IsRefutation run.formula.variables run.formula.clauses l) (sym same) (refutes run moved is refuted);
 }
 
--- what is a certificate or too long is not open
-certificate_or_none : (short : Bool) (text : List ℕ) (conflicts : ℕ) → Open conflicts ≡ (if short then Certificate text else TooLong) → ⊥
-certificate_or_none true text conflicts e = cc
-certificate_or_none false text conflicts e = cc
+-- what is a certificate or too long is nothing else
+certificate_or_none : (other : Proved) → ((text : List ℕ) → other ≡ Certificate text → ⊥) → (other ≡ TooLong → ⊥) → (short : Bool) (text : List ℕ) → other ≡ (if short then Certificate text else TooLong) → ⊥
+certificate_or_none other not_one not_long true text e = not_one text e
+certificate_or_none other not_one not_long false text e = not_long e
 
-pub no_open : {A : Type 0} (horizon : ℕ) (log : List Entry) (r : Result Proved Memory) (conflicts : ℕ) → r ≡ Ok (Open conflicts)
+pub no_other : {A : Type 0} (other : Proved) → ((text : List ℕ) → other ≡ Certificate text → ⊥) → (other ≡ TooLong → ⊥) → (horizon : ℕ) (log : List Entry) (r : Result Proved Memory) → r ≡ Ok other
     → IfOk r (λ p. p ≡ certificate_of horizon log) → A
-no_open horizon log r conflicts e is =
-    absurd (certificate_or_none (nat_le (length (proof_text horizon log)) most_bytes) (proof_text horizon log) conflicts (IfOk-at_ok (λ p. p ≡ certificate_of horizon log) e is))
+no_other other not_one not_long horizon log r e is =
+    absurd (certificate_or_none other not_one not_long (nat_le (length (proof_text horizon log)) most_bytes) (proof_text horizon log) (IfOk-at_ok (λ p. p ≡ certificate_of horizon log) e is))
+
+-- the values of a run that found a plan are a model of its formula
+pub found_model : (run : RunView) → IsMoved run → IsReached (choice_in run) run.formula run.granted → run.state.standing ≡ Found → IsModel run.formula (truths_of run.formula run.state)
+found_model run moved is found =
+    let there = ap (λ (r : RunView). r.state) moved in
+    subst (λ (s : State). IsModel run.formula (truths_of run.formula s)) (sym there) (is.found (ap (λ (s : State). s.standing) (sym there) ∙ found))
 
 -- a run that is going has used up what it was granted
 pub used_up : (run : RunView) → IsMoved run → IsReached (choice_in run) run.formula run.granted → run.state.standing ≡ Going

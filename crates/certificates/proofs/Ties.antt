@@ -1,6 +1,7 @@
 -- What is known of a form of a ground task is known of the task.
-use Rattle.std.proofs.Common.{◌≡◌, ◌≤◌, ◌<◌, ◌∙◌, ℕ, List, Result, Ok, Err, ap, subst}
+use Rattle.std.proofs.Common.{◌≡◌, ◌≤◌, ◌<◌, ◌∙◌, ℕ, Bool, List, Result, Ok, Err, ap, subst}
 use Rattle.std.specs.Prelude.{IfOk}
+use Rattle.clause_base.specs.Formula.{IsModel}
 use Rattle.clause_base.specs.declared.log.Entry.{Entry}
 use Rattle.gt_core.specs.Task.{Task}
 use Rattle.gt_core.specs.Clauses.{KnownClauses}
@@ -17,7 +18,7 @@ use Rattle.certificates.specs.Proved.{proved_of, Proves}
 use Rattle.certificates.specs.Judged.{IsJudged, Judges}
 use Rattle.certificates.specs.declared.error.ProofError.{ProofError}
 use Rattle.certificates.specs.declared.prove.Proved.{Proved}
-use Rattle.certificates.specs.declared.prove.Proved.TheVariants.{Certificate, Open}
+use Rattle.certificates.specs.declared.prove.Proved.TheVariants.{Certificate, Plan, Open}
 use Rattle.certificates.specs.declared.verify.Judged.{Judged}
 use Rattle.certificates.specs.declared.verify.Judged.TheVariants.{Accepted}
 
@@ -38,8 +39,9 @@ module _ (task : Task) (known : KnownClauses) (components : List (List ℕ)) (fa
 
   pub proves : (budget : ℕ) (r : Result Proved ProofError) → IfOk r (λ p. is_proved budget p form) → IfOk r (λ p. is_small form)
       → ((text : List ℕ) → r ≡ Ok (Certificate text) → IsCertificate (formula_at chain_places form) text horizon)
-      → ((conflicts : ℕ) → r ≡ Ok (Open conflicts) → conflicts ≡ budget) → IfOk r (Proves task horizon budget)
-  proves budget (Ok p) is small certified spent = record {
+      → ((conflicts : ℕ) → r ≡ Ok (Open conflicts) → conflicts ≡ budget) → ((conflicts : ℕ) → r ≡ Ok (Plan conflicts) → (values : List Bool) × IsModel (formula_at chain_places form horizon) values)
+      → IfOk r (Proves task horizon budget)
+  proves budget (Ok p) is small certified spent found = record {
     clauses = known.clauses;
     components = components;
     ordered = record { known = invariants; published = published };
@@ -47,8 +49,9 @@ module _ (task : Task) (known : KnownClauses) (components : List (List ℕ)) (fa
     is = subst (is_proved budget p) same is;
     certified = λ text e. subst (λ (f : OrderedTask). IsCertificate (formula_at chain_places f) text horizon) same (certified text (ap Ok e));
     spent = λ conflicts e. spent conflicts (ap Ok e);
+    found = λ conflicts e. subst (λ (f : OrderedTask). (values : List Bool) × IsModel (formula_at chain_places f horizon) values) same (found conflicts (ap Ok e));
   }
-  proves budget (Err e) is small certified spent = tt
+  proves budget (Err e) is small certified spent found = tt
 
   pub judges : (log : List Entry) (r : Result Judged ProofError) → IfOk r (IsJudged (formula_at chain_places form horizon) log) → IfOk r (λ j. is_small form)
       → ((entries : ℕ) → r ≡ Ok (Accepted entries) → (steps : List (List ℕ)) → AreSets IsStepPlan form.task (order_of form.components) steps horizon → ⊥)

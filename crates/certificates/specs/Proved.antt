@@ -1,5 +1,6 @@
 -- What the run of a horizon comes to, with its certificate.
-use Rattle.std.specs.Prelude.{◌≡◌, ◌≤◌, ℕ, List, length, nat_le, if◌then◌else◌}
+use Rattle.std.specs.Prelude.{◌≡◌, ◌≤◌, ℕ, Bool, List, length, nat_le, if◌then◌else◌}
+use Rattle.clause_base.specs.Formula.{IsModel}
 use Rattle.clause_base.specs.declared.log.Entry.{Entry}
 use Rattle.cdcl_rules.specs.State.{State}
 use Rattle.cdcl_rules.specs.declared.standing.Standing.{Standing}
@@ -32,8 +33,8 @@ proved_as horizon Going state = Open state.conflicts
 abbrev pub proved_of : ℕ → State → Proved
 proved_of horizon state = proved_as horizon state.standing state
 
--- The run of a horizon of a task comes to this once a budget of conflicts was granted. What it gives as a certificate is one, and
--- where it is open it has used up the budget.
+-- The run of a horizon of a task comes to this once a budget of conflicts was granted. What it gives as a certificate is one;
+-- where it is open it has used up the budget; and where it found a plan the formula of the horizon has a model.
 pub record Proves (task : Task) (horizon budget : ℕ) (proved : Proved) : Type 0 where
   pub clauses : List (ℕ × ℕ)
   pub components : List (List ℕ)
@@ -42,3 +43,4 @@ pub record Proves (task : Task) (horizon budget : ℕ) (proved : Proved) : Type 
   pub is : proved ≡ proved_of horizon (reached (choice_at chain_places (form_of task clauses components) horizon) (formula_at chain_places (form_of task clauses components) horizon) budget)
   pub certified : (text : List ℕ) → proved ≡ Certificate text → IsCertificate (formula_at chain_places (form_of task clauses components)) text horizon
   pub spent : (conflicts : ℕ) → proved ≡ Open conflicts → conflicts ≡ budget
+  pub found : (conflicts : ℕ) → proved ≡ Plan conflicts → (values : List Bool) × IsModel (formula_at chain_places (form_of task clauses components) horizon) values

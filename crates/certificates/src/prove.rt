@@ -1,5 +1,6 @@
 //! The certificate of a horizon, by its run.
-ghost use Rattle.std.specs.Prelude.{◌≡◌, ◌≤◌, ◌<◌, ℕ, List, Ok, Err, IfOk, false};
+ghost use Rattle.std.specs.Prelude.{◌≡◌, ◌≤◌, ◌<◌, ℕ, Bool, List, Ok, Err, IfOk, false};
+ghost use Rattle.clause_base.specs.Formula.{IsModel};
 ghost use Rattle.horizon_run.specs.Run.{choice_of, reached};
 ghost use Rattle.step_encoding.specs.Numbers.{literals_of};
 ghost use Rattle.certificates.specs.Known.{HasTooMany};
@@ -71,6 +72,7 @@ fn run_on<F: StepForm>(
     ensures small { IfOk result (λ p. literals_of (F.formula_of form.now horizon) ≤ 4000000) }
     ensures certified { (text : List ℕ) → result ≡ Ok (Proved.Certificate text) → IsCertificate (F.formula_of form.now) text horizon }
     ensures spent { (conflicts : ℕ) → result ≡ Ok (Proved.Open conflicts) → conflicts ≡ budget }
+    ensures found { (conflicts : ℕ) → result ≡ Ok (Proved.Plan conflicts) → (values : List Bool) × IsModel (F.formula_of form.now horizon) values }
     ensures literals { (count : ℕ) → result ≡ Err (ProofError.Literals count) → (4000000 < count) × (count ≡ literals_of (F.formula_of form.now horizon)) }
 {
     let count = form.size(horizon);
@@ -90,6 +92,7 @@ fn told(alloc: Global, horizon: u32, solving: &HorizonRun) -> Result<Proved, Mem
     ensures proved { IfOk result (λ p. p ≡ proved_of horizon solving.now.state) }
     ensures certified { (text : List ℕ) → result ≡ Ok (Proved.Certificate text) → IsCertificate (λ h. solving.now.formula) text horizon }
     ensures spent { (conflicts : ℕ) → result ≡ Ok (Proved.Open conflicts) → conflicts ≡ solving.now.granted }
+    ensures found { (conflicts : ℕ) → result ≡ Ok (Proved.Plan conflicts) → (values : List Bool) × IsModel solving.now.formula values }
 {
     match solving.standing() {
         Standing::Refuted => certificate(alloc, horizon, solving.log()),

@@ -1,6 +1,7 @@
 -- What the calls of a shelf and of a sink leave behind.
 use Rattle.std.specs.Prelude.{◌≡◌, ◌<◌, ◌≤◌, ◌⊎◌, ◌+◌, ◌-◌, ◌^◌, ℕ, List, [], ◌∷◌, ◌++◌, length, take, min, count_by}
-use Rattle.std.specs.Prelude.{Option, option_map, Result, OnErr}
+use Rattle.std.specs.Prelude.{Bool, true, false, IsTrue, Option, Some, None, IfSome, option_map, Result, OnErr}
+use Rattle.std.specs.List.{AllByRecursion}
 use Rattle.std.specs.Str.{bytes_eq}
 
 -- the list of faults is as it was, or has this name once more, at its end
@@ -26,6 +27,31 @@ TookWhole most old new file = (length file ≤ most) × (new ≡ old ++ file)
 -- the file has more bytes than these, and so many of its first ones were appended
 abbrev pub TookFirst : ℕ → List ℕ → List ℕ → List ℕ → Type 0
 TookFirst most old new file = (most < length file) × (new ≡ old ++ take most file)
+
+-- what a shelf handed over: the name, whether it was all of the file, and the bytes
+abbrev pub Heard : Type 0
+Heard = List ℕ × (Bool × List ℕ)
+
+-- all of a file was handed over under its name
+abbrev pub whole : List ℕ → List ℕ → Heard
+whole name bytes = (name, (true, bytes))
+
+-- some bytes were appended, and what was handed over is what it was, followed by them under this name
+abbrev pub Hears : Bool → List Heard → List Heard → List ℕ → List ℕ → List ℕ → Type 0
+Hears whole old new name before after = (bytes : List ℕ) × (after ≡ before ++ bytes) × (new ≡ old ++ (name, (whole, bytes)) ∷ [])
+
+-- the bytes are the file's, all of it, or a front and not all
+abbrev pub IsSo : List ℕ → Bool → List ℕ → Type 0
+IsSo file true bytes = bytes ≡ file
+IsSo file false bytes = (length bytes < length file) × (bytes ≡ take (length bytes) file)
+
+-- what was handed over is what is told of its name, where that is told, and the name is not told to be missing
+abbrev pub IsAsTold : (List ℕ → Option (List ℕ)) → (List ℕ → Bool) → Heard → Type 0
+IsAsTold told lacks heard = (IsTrue (lacks heard.0) → ⊥) × IfSome (told heard.0) (λ file. IsSo file heard.1.0 heard.1.1)
+
+-- what was handed over is what it was, and maybe more, each as it is told
+abbrev pub Agrees : (List ℕ → Option (List ℕ)) → (List ℕ → Bool) → List Heard → List Heard → Type 0
+Agrees told lacks old new = (took : List Heard) × (new ≡ old ++ took) × AllByRecursion (IsAsTold told lacks) took
 
 -- what a sink has taken once it took these bytes too, where it tells that
 abbrev pub appended : Option (List ℕ) → List ℕ → Option (List ℕ)

@@ -9,6 +9,7 @@ use std::alloc::Global;
 use std::fs::{self, OpenFile};
 use std::io::{ErrorKind, Read};
 use std::rt::Files;
+use transcript::Heard;
 
 /// How many bytes are asked of the system at a time.
 const CHUNK: usize = 16384;
@@ -19,17 +20,20 @@ pub struct FileShelf<'a, H> {
     rt: &'a H,
     alloc: Global,
     failed: Names,
+    heard: Heard,
 }
 
 impl<'a, H: Files> FileShelf<'a, H> {
     /// The files that the runtime `rt` reaches. It takes no memory; `alloc` serves the names of faults later.
     pub fn new(rt: &'a H, alloc: Global) -> FileShelf<'a, H>
-        ensures { ⟦<FileShelf<'a, H> as Shelf>⟧.failed result ≡ [] }
+        ensures failed { ⟦<FileShelf<'a, H> as Shelf>⟧.failed result ≡ [] }
+        ensures heard { ⟦<FileShelf<'a, H> as Shelf>⟧.heard result ≡ [] }
     {
         FileShelf {
             rt,
             alloc,
             failed: Names::of(Vec::new(alloc)),
+            heard: Heard::new(),
         }
     }
 
@@ -119,8 +123,19 @@ impl<'a, H: Files> Shelf for FileShelf<'a, H> {
 
     ghost failed = { λ shelf. shelf.failed };
 
+    ghost heard = { λ shelf. shelf.heard.entries };
+
     fn take(&mut self, name: &str, most: usize, into: &mut Vec<u8>) -> Result<Taken, TakeError> {
+        let before = into.len();
         match open_and_read(self.rt, name, most, into) {
+            Ok(Taken::Whole) => {
+                self.heard.note(name.as_bytes(), &into[before..]);
+                Ok(Taken::Whole)
+            }
+            Ok(Taken::Longer) => {
+                self.heard.note_front(name.as_bytes(), &into[before..]);
+                Ok(Taken::Longer)
+            }
             Err(TakeError::Failed) => Err(note(self.alloc, &mut self.failed, name)),
             other => other,
         }

@@ -1,6 +1,6 @@
 // What the planner asks of the world: a shelf to take files from, and a sink to put bytes into.
-ghost use Rattle.std.specs.Prelude.{◌≡◌, ◌<◌, ◌≤◌, ◌+◌, ◌++◌, ℕ, Bool, List, [], ◌∷◌, Option, length, take, IsTrue, IsOk, IsErr, OnOk, OnErr, IfOk, IfSome};
-ghost use Rattle.pl_io.specs.Outside.{Notes, Took, TookWhole, TookFirst, fault_count, FaultRose, HasCause, appended, TakesFront};
+ghost use Rattle.std.specs.Prelude.{◌≡◌, ◌<◌, ◌≤◌, ◌+◌, ◌++◌, ℕ, Bool, List, [], ◌∷◌, true, false, Option, length, take, IsTrue, IsOk, IsErr, OnOk, OnErr, IfOk, IfSome};
+ghost use Rattle.pl_io.specs.Outside.{Notes, Took, TookWhole, TookFirst, Heard, Hears, fault_count, FaultRose, HasCause, appended, TakesFront};
 
 use std::alloc::AllocError;
 
@@ -46,6 +46,11 @@ pub trait Shelf {
     /// The names at which the shelf failed, in the order of the calls: one entry for each fault.
     ghost failed: { Self → List (List ℕ) };
 
+    /// What the shelf handed over, in the order of the calls: the name that was asked for, whether it was all of the file,
+    /// and the bytes.
+    /// It is kept of every shelf, also of one that tells nothing.
+    ghost heard: { Self → List Heard };
+
     /// Appends the bytes of the file `name` to `into`, at most `most` of them.
     ///
     /// `Ok(Whole)`: all bytes of the file were appended. `Ok(Longer)`: the file has more than `most` bytes, and its first
@@ -65,6 +70,11 @@ pub trait Shelf {
         ensures whole_fits { result ≡ Ok Taken.Whole → length into.new.items ≤ length into.old.items + most }
         ensures longer { result ≡ Ok Taken.Longer → IfSome (told self.old name.now) (TookFirst most into.old.items into.new.items) }
         ensures longer_fills { result ≡ Ok Taken.Longer → length into.new.items ≡ length into.old.items + most }
+
+        // What is handed over is written down; what an error leaves in `into` is not.
+        ensures heard { result ≡ Ok Taken.Whole → Hears true (heard self.old) (heard self.new) name.now into.old.items into.new.items }
+        ensures heard_front { result ≡ Ok Taken.Longer → Hears false (heard self.old) (heard self.new) name.now into.old.items into.new.items }
+        ensures unheard { OnErr result (heard self.new ≡ heard self.old) }
 
         // The list of faults is as it was, or has this name once more at its end; so no count of faults falls.
         ensures notes { Notes (failed self.old) (failed self.new) name.now }

@@ -10,3 +10,4 @@ pub mod Packed
 pub mod Booked
 pub mod Told
 pub mod Comes
+pub mod Exhausted

@@ -11,3 +11,4 @@ pub mod Runs
 pub mod Tied
 pub mod Fresh
 pub mod Begun
+pub mod Exhausted

@@ -4,8 +4,9 @@ use Rattle.std.specs.List.{AllByRecursion}
 use Rattle.cdcl_rules.specs.declared.standing.Standing.{Standing}
 use Rattle.cdcl_rules.specs.declared.standing.Standing.TheVariants.{Going, Found, Refuted}
 use Rattle.cdcl_rules.specs.State.{State}
+use Rattle.clause_base.specs.Formula.{IsModel}
 use Rattle.rup_check.specs.Certificate.{Certifies}
-use Rattle.horizon_run.specs.Run.{reached}
+use Rattle.horizon_run.specs.Run.{reached, truths_of}
 use Rattle.race_end.specs.declared.line.LineEnd.{LineEnd}
 use Rattle.race_end.specs.declared.line.LineEnd.TheVariants as ends
 use Rattle.race_end.specs.declared.line.Line.{Line}
@@ -18,12 +19,12 @@ standing_of ends.Dropped = Going
 standing_of ends.Going = Going
 standing_of ends.Found = Found
 
--- the mark of a refuted horizon is that of its formula and of its solver's log
+-- the mark of a refuted horizon is that of its formula and of its solver's log; the values of a found one are a model of its formula
 abbrev pub IsMarked : RaceInput → ℕ → State → LineEnd → Type 0
 IsMarked input h state (ends.Refuted stamp) = Certifies stamp (input.formula h) state.log
 IsMarked input h state ends.Dropped = Unit {0}
 IsMarked input h state ends.Going = Unit {0}
-IsMarked input h state ends.Found = Unit {0}
+IsMarked input h state ends.Found = IsModel (input.formula h) (truths_of (input.formula h) state)
 
 -- the state of a line: that of its horizon after the line's conflicts
 abbrev pub state_of_line : RaceInput → Line → State

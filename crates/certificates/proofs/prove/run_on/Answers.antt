@@ -1,5 +1,6 @@
-use Rattle.std.proofs.Common.{◌≡◌, ◌∙◌, Ok, ap}
-use Rattle.certificates.specs.declared.prove.Proved.TheVariants.{Certificate}
+use Rattle.std.proofs.Common.{◌≡◌, ◌∙◌, Ok, ap, subst}
+use Rattle.clause_base.specs.Formula.{Cnf, IsModel}
+use Rattle.certificates.specs.declared.prove.Proved.TheVariants.{Certificate, Plan}
 use Rattle.certificates.proofs.Runs.{certificate_over, value_of}
 use Rattle.certificates.proofs.prove.run_on.Goals as goal
 
@@ -8,3 +9,9 @@ returns-clause-certified g c text e =
     let inner : c.in_ok-proved.proved ≡ Certificate text = value_of c.in_ok-proved.proved (Certificate text) e in
     certificate_over (λ h. c.go_on.new.self.formula) (g.F.StepForm.formula_of c.args.form.now) text c.args.horizon
     (c.go_on.ensures.formula ∙ c.in_ok-solving.ensures.formula) (c.in_ok-proved.ensures.certified text (ap Ok inner))
+
+pub returns-clause-found : goal.returns-clause-found
+returns-clause-found g c conflicts e =
+    let inner : c.in_ok-proved.proved ≡ Plan conflicts = value_of c.in_ok-proved.proved (Plan conflicts) e in
+    let model = c.in_ok-proved.ensures.found conflicts (ap Ok inner) in
+    (model.0, subst (λ (f : Cnf). IsModel f model.0) (c.go_on.ensures.formula ∙ c.in_ok-solving.ensures.formula) model.1)

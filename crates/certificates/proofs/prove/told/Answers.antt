@@ -5,7 +5,8 @@ use Rattle.cdcl_rules.specs.declared.standing.Standing.{Standing}
 use Rattle.cdcl_rules.specs.declared.standing.Standing.TheVariants.{Going, Found, Refuted}
 use Rattle.certificates.specs.Proved.{certificate_of, proved_as, proved_of}
 use Rattle.certificates.specs.declared.prove.Proved.TheVariants.{Plan, Open}
-use Rattle.certificates.proofs.Runs.{no_open, used_up, certifies}
+use Rattle.certificates.proofs.Runs.{no_other, used_up, certifies, found_model}
+use Rattle.horizon_run.specs.Run.{truths_of}
 use Rattle.certificates.proofs.prove.told.Goals as goal
 
 pub returns-in-Refuted : goal.returns-in-Refuted
@@ -19,7 +20,8 @@ returns-in-Refuted c =
     record {
       proved = IfOk-weaker c.certificate.result (λ p. p ≡ certificate_of h c.log.result.now) (λ p. p ≡ proved_of h run.state) (λ p e. e ∙ same) c.certificate.ensures.proved;
       certified = λ text e. certifies run text h (c.standing.ensures.moved c.requires.sane) (c.standing.ensures.reached run.granted) refuted c.log.result.now log (c.certificate.ensures.spelled text e);
-      spent = λ conflicts e. no_open h c.log.result.now c.certificate.result conflicts e c.certificate.ensures.proved;
+      spent = λ conflicts e. no_other (Open conflicts) (λ text k. cc) (λ k. cc) h c.log.result.now c.certificate.result e c.certificate.ensures.proved;
+      found = λ conflicts e. no_other (Plan conflicts) (λ text k. cc) (λ k. cc) h c.log.result.now c.certificate.result e c.certificate.ensures.proved;
     }
 
 pub returns-in-Found : goal.returns-in-Found
@@ -31,6 +33,7 @@ returns-in-Found c =
       proved = ap Plan c.conflicts.ensures.value ∙ ap (λ (s : Standing). proved_as h s run.state) (sym found);
       certified = λ text e. cc;
       spent = λ conflicts e. cc;
+      found = λ conflicts e. (truths_of run.formula run.state, found_model run (c.standing.ensures.moved c.requires.sane) (c.standing.ensures.reached run.granted) found);
     }
 
 pub returns-in-Going : goal.returns-in-Going
@@ -44,4 +47,5 @@ returns-in-Going c =
       proved = ap Open n ∙ ap (λ (s : Standing). proved_as h s run.state) (sym going);
       certified = λ text e. cc;
       spent = λ conflicts e. cc;
+      found = λ conflicts e. cc;
     }
