@@ -1,5 +1,5 @@
 -- The exit status and the text of each ending of a run.
-use Rattle.std.specs.Prelude.{ℕ, ◌+◌, ◌<◌, ◌^◌, List, [], ◌∷◌, ◌++◌, codes, decimal, map, max}
+use Rattle.std.specs.Prelude.{ℕ, ◌+◌, ◌<◌, ◌^◌, Bool, true, false, List, [], ◌∷◌, ◌++◌, codes, decimal, map, max}
 use Rattle.report_lines.specs.Lines.{joined}
 use Rattle.report_lines.specs.Horizons.{entry_line}
 use Rattle.plan_endings.specs.declared.ending.File.{File}
@@ -91,6 +91,17 @@ text_of (Report outcome text) = text
 text_of (Listing text) = text
 text_of (Parts status text) = text
 text_of end = joined (line_of end ∷ [])
+
+-- the text due is there: it was made, or is always the same
+abbrev pub is_there : Ending → Bool
+is_there (Report outcome text) = true
+is_there (Listing text) = true
+is_there (Parts status text) = true
+is_there Reaches = true
+is_there Short = true
+is_there Usage = true
+is_there NotEmpty = true
+is_there _ = false
 
 -- a place, an index or a count of a line is a number of the program
 abbrev pub IsSmall : Ending → Type 0

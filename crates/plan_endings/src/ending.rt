@@ -1,7 +1,7 @@
 //! How a run ends, with the exit status and the text due.
-ghost use Rattle.std.specs.Prelude.{◌≡◌, ◌<◌, ◌^◌, ◌∷◌, ◌++◌, [], OnOk, IfOk, IsOk, decimal};
+ghost use Rattle.std.specs.Prelude.{◌≡◌, ◌<◌, ◌^◌, ◌∷◌, ◌++◌, [], IsTrue, OnOk, IfOk, IsOk, decimal};
 ghost use Rattle.report_lines.specs.Lines.{joined};
-ghost use Rattle.plan_endings.specs.Ending.{status_of_race, status_of, text_of, bytes_of, word_of, kind_word, limit_word, IsSmall};
+ghost use Rattle.plan_endings.specs.Ending.{status_of_race, status_of, text_of, bytes_of, word_of, kind_word, limit_word, is_there, IsSmall};
 
 use pl_io::{Bytes, Memory};
 use report_lines::push_number;
@@ -136,11 +136,11 @@ impl Ending {
         }
     }
 
-    /// The text due, made whole. A text that is always the same takes no memory.
+    /// The text due, made whole. One that was made before, or is always the same, takes no memory.
     pub fn text(self, alloc: Global) -> Result<Due, Memory>
         ensures text { IfOk result (λ due. bytes_of due ≡ text_of self) }
         ensures small { OnOk result (IsSmall self) }
-        ensures usage { self ≡ Ending.Usage → IsOk result }
+        ensures there { IsTrue (is_there self) → IsOk result }
     {
         match self {
             Ending::Report { text, .. } => Ok(Due::Made(text)),

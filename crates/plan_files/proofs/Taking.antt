@@ -1,11 +1,11 @@
 -- What is known while the files of a request are taken, in order: what holds of the rest of them holds of all.
 use Rattle.std.proofs.Common.{◌≡◌, ◌<◌, ◌≤◌, ℕ, ◌+◌, Bool, List, [], ◌∷◌, ◌++◌, length, drop, Option, Some, None, refl, sym, ap, subst, ◌∙◌, arith, inl, inr, append_assoc, append-nil, length-append, add-one, suc}
-use Rattle.std.specs.Prelude.{IfSome, slice_get}
+use Rattle.std.specs.Prelude.{slice_get}
 use Rattle.std.proofs.Math.Seq.{drop-cons}
 use Rattle.std.proofs.Math.ListN.{drop_of_length-le}
 use Rattle.std.proofs.lemmas.Option.{slice_get_within, slice_get_cases, get_or_from_slice_get}
 use Rattle.std.proofs.lemmas.List.Sums.{sum_by-append}
-use Rattle.pl_io.specs.Outside.{Notes, fault_count}
+use Rattle.pl_io.specs.Outside.{Heard, Notes, fault_count}
 use Rattle.plan_words.specs.Among.{AreAmong}
 use Rattle.plan_endings.specs.declared.ending.Ending.{Ending}
 use Rattle.plan_endings.specs.declared.ending.Ending.TheVariants.{TooLong, ReadFault}
@@ -13,8 +13,8 @@ use Rattle.plan_endings.specs.declared.ending.File.{File}
 use Rattle.plan_files.specs.Ends.{EndsBy}
 use Rattle.plan_files.specs.declared.stop.Stop.{Stop}
 use Rattle.plan_files.specs.declared.stop.Stop.TheVariants.{Ends}
-use Rattle.plan_files.specs.Limits.{AreShort, most_of}
-use Rattle.plan_files.specs.Files.{Fits, FitFrom, Stops, IsTooLong, IsTaken, AreTaken, AreKept, OneEnds, Rises, NotesAmong}
+use Rattle.plan_files.specs.Limits.{AreShort}
+use Rattle.plan_files.specs.Files.{Stops, IsFront, IsKept, AreTaken, AreKept, OneEnds, Rises, NotesAmong}
 
 -- ---- what is left of a list
 
@@ -52,44 +52,43 @@ more_count name old more new e = rw e (longer name old more)
 pub never_falls : (names old new : List (List ℕ)) (name : List ℕ) → NotesAmong names old new → fault_count name old ≤ fault_count name new
 never_falls names old new name notes = more_count name old notes.0 new notes.1
 
--- ---- a file that fits
+-- ---- files that were taken
 
-told_fits : (told : Option (List ℕ)) (bytes : List ℕ) (most : ℕ) → IfSome told (λ file. bytes ≡ file) → length bytes ≤ most → IfSome told (λ file. length file ≤ most)
-told_fits None bytes most is fits = tt
-told_fits (Some file) bytes most is fits = subst (λ (xs : List ℕ). length xs ≤ most) is fits
+pub taken_short : (file : ℕ → File) (place : ℕ) (names : List (List ℕ)) (took : List Heard) (files : List (List ℕ)) → AreTaken file place names took files → AreShort file place files
+taken_short file place [] [] [] h = tt
+taken_short file place [] [] (f ∷ fs) h = absurd h
+taken_short file place [] (e ∷ es) files h = absurd h
+taken_short file place (n ∷ ns) [] files h = absurd h
+taken_short file place (n ∷ ns) (e ∷ es) [] h = absurd h
+taken_short file place (n ∷ ns) (e ∷ es) (f ∷ fs) h = (h.0.1, taken_short file (place + 1) ns es fs h.1)
 
-module _ (told : List ℕ → Option (List ℕ)) (lacks : List ℕ → Bool) where
-  pub taken_fits : (file : File) (name bytes : List ℕ) → IsTaken told lacks file name bytes → Fits told lacks file name
-  taken_fits file name bytes is = (is.there, told_fits (told name) bytes (most_of file) is.whole is.fits)
-
-  pub all_fit : (file : ℕ → File) (place : ℕ) (names files : List (List ℕ)) → AreTaken told lacks file place names files → FitFrom told lacks file place names
-  all_fit file place [] [] h = tt
-  all_fit file place [] (f ∷ fs) h = absurd h
-  all_fit file place (n ∷ ns) [] h = absurd h
-  all_fit file place (n ∷ ns) (f ∷ fs) h = (taken_fits (file place) n f h.0, all_fit file (place + 1) ns fs h.1)
-
-  pub taken_short : (file : ℕ → File) (place : ℕ) (names files : List (List ℕ)) → AreTaken told lacks file place names files → AreShort file place files
-  taken_short file place [] [] h = tt
-  taken_short file place [] (f ∷ fs) h = absurd h
-  taken_short file place (n ∷ ns) [] h = tt
-  taken_short file place (n ∷ ns) (f ∷ fs) h = (h.0.fits, taken_short file (place + 1) ns fs h.1)
-
-  pub taken_count : (file : ℕ → File) (place : ℕ) (names files : List (List ℕ)) → AreTaken told lacks file place names files → length files ≡ length names
-  taken_count file place [] [] h = refl
-  taken_count file place [] (f ∷ fs) h = absurd h
-  taken_count file place (n ∷ ns) [] h = absurd h
-  taken_count file place (n ∷ ns) (f ∷ fs) h = let e = taken_count file (place + 1) ns fs h.1 in omega arith
+-- as many as there are names
+pub kept_count : {X : Type 0} (is : File → List ℕ → Heard → X → Type 0) (file : ℕ → File) (place : ℕ) (names : List (List ℕ)) (took : List Heard) (files : List X) → AreKept is file place names took files → length files ≡ length names
+kept_count is file place [] [] [] h = refl
+kept_count is file place [] [] (f ∷ fs) h = absurd h
+kept_count is file place [] (e ∷ es) files h = absurd h
+kept_count is file place (n ∷ ns) [] files h = absurd h
+kept_count is file place (n ∷ ns) (e ∷ es) [] h = absurd h
+kept_count is file place (n ∷ ns) (e ∷ es) (f ∷ fs) h = let rest = kept_count is file (place + 1) ns es fs h.1 in omega (arith, rest)
 
 -- ---- a file that is too long
 
 -- a stop that tells so
-pub ended_long : (told : List ℕ → Option (List ℕ)) (lacks : List ℕ → Bool) (old new : List (List ℕ)) (file : File) (name : List ℕ) (stop : Stop) (end : Ending) (other : File) → stop ≡ Ends end → end ≡ TooLong other
-    → EndsBy (Stops told lacks old new file name) stop → IsTooLong told lacks file name
-ended_long told lacks old new file name stop end other is long h = step (subst (Stops told lacks old new file name) long (subst (EndsBy (Stops told lacks old new file name)) is h))
+pub ended_long : (old new : List (List ℕ)) (was now : List Heard) (file : File) (name : List ℕ) (stop : Stop) (end : Ending) (other : File) → stop ≡ Ends end → end ≡ TooLong other
+    → EndsBy (λ end. (took : List Heard) × (now ≡ was ++ took) × Stops old new file name took end) stop → (heard : Heard) × (now ≡ was ++ heard ∷ []) × IsFront file name heard
+ended_long old new was now file name stop end other is long h =
+    let e = subst (EndsBy (λ end. (took : List Heard) × (now ≡ was ++ took) × Stops old new file name took end)) is h in
+    step e.0 e.1 (subst (Stops old new file name e.0) long e.2)
   where
-    step : Stops told lacks old new file name (TooLong other) → IsTooLong told lacks file name
-    step (inl fault) = absurd (let never : TooLong other ≡ ReadFault file = fault.0 in cc)
-    step (inr more) = more.1
+    step : (took : List Heard) → now ≡ was ++ took → Stops old new file name took (TooLong other) → (heard : Heard) × (now ≡ was ++ heard ∷ []) × IsFront file name heard
+    step took handed (inl fault) = absurd (let never : TooLong other ≡ ReadFault file = fault.0 in cc)
+    step took handed (inr (same, (heard, one, front))) = (heard, handed ∙ ap (λ (xs : List Heard). was ++ xs) one, front)
+
+-- the ending of a file that ends the run goes before the files after it
+one_ends : (ends : File → List ℕ → List Heard → Ending → Type 0) (goes : File → List ℕ → Heard → Type 0) (file : ℕ → File) (place : ℕ) (name : List ℕ) (names : List (List ℕ)) (took : List Heard) (end : Ending)
+    → ends (file place) name took end → OneEnds ends goes file place (name ∷ names) took end
+one_ends ends goes file place name names [] end h = h
+one_ends ends goes file place name names (e ∷ es) end h = inl h
 
 -- ---- the faults that were noted so far
 
@@ -113,25 +112,25 @@ noted_next names old now next done name at notes so more among = step notes
 
 -- ---- the files that were taken so far
 
-module _ {X : Type 0} (is : File → List ℕ → X → Type 0) (goes : File → List ℕ → Type 0) (ends : List (List ℕ) → File → List ℕ → Ending → Type 0) (file : ℕ → File) (names old : List (List ℕ)) where
-  -- this was kept of so many files, and so many faults were noted
-  pub record SoFar (now : List (List ℕ)) (files : List X) : Type 0 where
+module _ {X : Type 0} (is : File → List ℕ → Heard → X → Type 0) (ends : List (List ℕ) → File → List ℕ → List Heard → Ending → Type 0) (file : ℕ → File) (names old : List (List ℕ)) where
+  -- this was handed over and kept of so many files, and so many faults were noted
+  pub record SoFar (now : List (List ℕ)) (took : List Heard) (files : List X) : Type 0 where
     pub noted : NotedSoFar names old now (length files)
-    pub taken : (others : List X) → AreKept is file (length files) (drop (length files) names) others → AreKept is file 0 names (files ++ others)
-    pub on : (new : List (List ℕ)) (end : Ending) → OneEnds (ends new) goes file (length files) (drop (length files) names) end → OneEnds (ends new) goes file 0 names end
+    pub taken : (more : List Heard) (others : List X) → AreKept is file (length files) (drop (length files) names) more others → AreKept is file 0 names (took ++ more) (files ++ others)
+    pub on : (new : List (List ℕ)) (more : List Heard) (end : Ending) → OneEnds (ends new) (IsKept is) file (length files) (drop (length files) names) more end → OneEnds (ends new) (IsKept is) file 0 names (took ++ more) end
 
-  pub none_taken : SoFar old []
-  none_taken = record { noted = none_noted names old; taken = λ others h. h; on = λ new end h. h }
+  pub none_taken : SoFar old [] []
+  none_taken = record { noted = none_noted names old; taken = λ more others h. h; on = λ new more end h. h }
 
-  module _ (now : List (List ℕ)) (files : List X) (so : SoFar now files) where
+  module _ (now : List (List ℕ)) (took : List Heard) (files : List X) (so : SoFar now took files) where
     pub noted_so : NotesAmong names old now
     noted_so = noted_at names old now (length files) so.noted
 
     pub rises_so : Rises old now
     rises_so name = never_falls names old now name noted_so
 
-    pub all_taken : slice_get names (length files) ≡ None → AreKept is file 0 names files
-    all_taken none = rw append-nil at (so.taken [] (rw (drop_none names (length files) none) tt))
+    pub all_taken : slice_get names (length files) ≡ None → AreKept is file 0 names took files
+    all_taken none = rw (append-nil took, append-nil files) at (so.taken [] [] (rw (drop_none names (length files) none) tt))
 
     -- with the next file
     module _ (next : List (List ℕ)) (name : List ℕ) (at : slice_get names (length files) ≡ Some name) (notes : Notes now next name) where
@@ -141,12 +140,12 @@ module _ {X : Type 0} (is : File → List ℕ → X → Type 0) (goes : File →
       pub noted_here : NotesAmong names old next
       noted_here = noted_at names old next (length files + 1) noted_more
 
-      pub ends_here : (end : Ending) → ends next (file (length files)) name end → OneEnds (ends next) goes file 0 names end
-      ends_here end h = so.on next end (rw (drop_at names (length files) name at) (inl h))
+      pub ends_here : (more : List Heard) (end : Ending) → ends next (file (length files)) name more end → OneEnds (ends next) (IsKept is) file 0 names (took ++ more) end
+      ends_here more end h = so.on next more end (rw (drop_at names (length files) name at) (one_ends (ends next) (IsKept is) file (length files) name (drop (length files + 1) names) more end h))
 
-      pub one_more : (x : X) → is (file (length files)) name x → goes (file (length files)) name → SoFar next (files ++ x ∷ [])
-      one_more x here on = record {
+      pub one_more : (heard : Heard) (x : X) → is (file (length files)) name heard x → SoFar next (took ++ heard ∷ []) (files ++ x ∷ [])
+      one_more heard x here = record {
         noted = rw (length_push files x) noted_more;
-        taken = λ others h. rw append_assoc (so.taken (x ∷ others) (rw (drop_at names (length files) name at) (here, rw (length_push files x) at h)));
-        on = λ new end h. so.on new end (rw (drop_at names (length files) name at) (inr (on, rw (length_push files x) at h)));
+        taken = λ more others h. rw (append_assoc took (heard ∷ []) more, append_assoc files (x ∷ []) others) (so.taken (heard ∷ more) (x ∷ others) (rw (drop_at names (length files) name at) (here, rw (length_push files x) at h)));
+        on = λ new more end h. rw (append_assoc took (heard ∷ []) more) (so.on new (heard ∷ more) end (rw (drop_at names (length files) name at) (inr ((x, here), rw (length_push files x) at h))));
       }

@@ -1,6 +1,6 @@
 -- Taking the files of a request from a shelf.
-use Rattle.std.specs.Prelude.{◌≡◌, ◌⊎◌, ◌<◌, ◌≤◌, ℕ, ◌+◌, List, [], ◌∷◌, ◌++◌, length, Bool, IsTrue, Option, Some, None, IfSome}
-use Rattle.pl_io.specs.Outside.{FaultRose, fault_count}
+use Rattle.std.specs.Prelude.{◌≡◌, ◌⊎◌, ◌≤◌, ℕ, ◌+◌, List, [], ◌∷◌, ◌++◌, length, false, Option, Some, None}
+use Rattle.pl_io.specs.Outside.{Heard, whole, IsSo, FaultRose, fault_count}
 use Rattle.plan_words.specs.Among.{AreAmong}
 use Rattle.plan_files.specs.Limits.{most_of}
 use Rattle.plan_endings.specs.declared.ending.File.{File}
@@ -16,83 +16,75 @@ abbrev pub RoseAmong : List (List ℕ) → List (List ℕ) → List (List ℕ) �
 RoseAmong [] old new = ⊥
 RoseAmong (name ∷ names) old new = FaultRose name old new ⊎ RoseAmong names old new
 
--- a file was taken: it is not told to be missing, its bytes are what is told of them, and they are no more than may be
-pub record IsTaken (told : List ℕ → Option (List ℕ)) (lacks : List ℕ → Bool) (file : File) (name bytes : List ℕ) : Type 0 where
-  pub there : IsTrue (lacks name) → ⊥
-  pub whole : IfSome (told name) (λ told. bytes ≡ told)
-  pub fits : length bytes ≤ most_of file
-
--- the claim holds of the bytes of the files of these names, where all of them are told
-abbrev pub OfTold : (List ℕ → Option (List ℕ)) → List (List ℕ) → (List (List ℕ) → Type 0) → Type 0
-OfTold told [] claim = claim []
-OfTold told (name ∷ names) claim = IfSome (told name) (λ bytes. OfTold told names (λ others. claim (bytes ∷ others)))
-
 -- no count of faults falls
 abbrev pub Rises : List (List ℕ) → List (List ℕ) → Type 0
 Rises old now = (name : List ℕ) → fault_count name old ≤ fault_count name now
 
--- the files of these names from a place on are such, each with what was kept of it
-abbrev pub AreKept : {X : Type 0} → (File → List ℕ → X → Type 0) → (ℕ → File) → ℕ → List (List ℕ) → List X → Type 0
-AreKept is file place [] [] = Unit {0}
-AreKept is file place [] (x ∷ others) = ⊥
-AreKept is file place (name ∷ names) [] = ⊥
-AreKept is file place (name ∷ names) (x ∷ others) = is (file place) name x × AreKept is file (place + 1) names others
+-- ---- what was handed over of a file
 
--- one of the files of these names from a place on, which are taken in order, ends the run so, and those before it let it go on
-abbrev pub OneEnds : (File → List ℕ → Ending → Type 0) → (File → List ℕ → Type 0) → (ℕ → File) → ℕ → List (List ℕ) → Ending → Type 0
-OneEnds ends goes file place [] end = ⊥
-OneEnds ends goes file place (name ∷ names) end = ends (file place) name end ⊎ (goes (file place) name × OneEnds ends goes file (place + 1) names end)
+-- all of the file, which are these bytes, and no more than it may have
+abbrev pub IsWhole : File → List ℕ → Heard → List ℕ → Type 0
+IsWhole file name heard bytes = (heard ≡ whole name bytes) × (length bytes ≤ most_of file)
 
--- What a shelf tells: the bytes of names, and of which names there is no file.
-module _ (told : List ℕ → Option (List ℕ)) (lacks : List ℕ → Bool) where
-  -- the file is not told to be missing, and what is told of its bytes meets the claim
-  abbrev pub IsThere : List ℕ → (List ℕ → Type 0) → Type 0
-  IsThere name claim = (IsTrue (lacks name) → ⊥) × IfSome (told name) claim
+-- as many bytes as it may have, and the file has more
+abbrev pub IsFront : File → List ℕ → Heard → Type 0
+IsFront file name heard = (front : List ℕ) × (heard ≡ (name, (false, front))) × (length front ≡ most_of file)
 
-  -- the file is there, and has no more bytes than it may have
-  abbrev pub Fits : File → List ℕ → Type 0
-  Fits file name = IsThere name (λ bytes. length bytes ≤ most_of file)
+-- all of it, or a front
+abbrev pub IsWholeOrFront : File → List ℕ → Heard → Option (List ℕ) → Type 0
+IsWholeOrFront file name heard (Some bytes) = IsWhole file name heard bytes
+IsWholeOrFront file name heard None = IsFront file name heard
 
-  -- the file is there, and has more
-  abbrev pub IsTooLong : File → List ℕ → Type 0
-  IsTooLong file name = IsThere name (λ bytes. most_of file < length bytes)
+-- something such was kept of it
+abbrev pub IsKept : {X : Type 0} → (File → List ℕ → Heard → X → Type 0) → File → List ℕ → Heard → Type 0
+IsKept {X = X} is file name heard = (x : X) × is file name heard x
 
-  -- the file was taken, or has more bytes than it may have
-  abbrev pub IsTakenOrLong : File → List ℕ → Option (List ℕ) → Type 0
-  IsTakenOrLong file name (Some bytes) = IsTaken told lacks file name bytes
-  IsTakenOrLong file name None = IsTooLong file name
+-- ---- what was handed over of files, in the order of their names
 
-  -- the file is not told to be missing
-  abbrev pub IsNotMissing : File → List ℕ → Type 0
-  IsNotMissing file name = IsTrue (lacks name) → ⊥
+-- of each of the files of these names from a place on this was handed over, and such was kept of it
+abbrev pub AreKept : {X : Type 0} → (File → List ℕ → Heard → X → Type 0) → (ℕ → File) → ℕ → List (List ℕ) → List Heard → List X → Type 0
+AreKept is file place [] [] [] = Unit {0}
+AreKept is file place (name ∷ names) (heard ∷ took) (x ∷ others) = is (file place) name heard x × AreKept is file (place + 1) names took others
+AreKept is file place _ _ _ = ⊥
 
-  -- each of the files from this place on fits
-  abbrev pub FitFrom : (ℕ → File) → ℕ → List (List ℕ) → Type 0
-  FitFrom file place [] = Unit {0}
-  FitFrom file place (name ∷ names) = Fits (file place) name × FitFrom file (place + 1) names
+-- all of each
+abbrev pub AreTaken : (ℕ → File) → ℕ → List (List ℕ) → List Heard → List (List ℕ) → Type 0
+AreTaken file place names took files = AreKept IsWhole file place names took files
 
-  -- the files of these names from a place on were taken
-  abbrev pub AreTaken : (ℕ → File) → ℕ → List (List ℕ) → List (List ℕ) → Type 0
-  AreTaken file place names files = AreKept (IsTaken told lacks) file place names files
+-- of each all, or a front
+abbrev pub AreTakenOrLong : (ℕ → File) → ℕ → List (List ℕ) → List Heard → List (Option (List ℕ)) → Type 0
+AreTakenOrLong file place names took files = AreKept IsWholeOrFront file place names took files
 
-  -- each of them was taken, or has more bytes than it may have
-  abbrev pub AreTakenOrLong : (ℕ → File) → ℕ → List (List ℕ) → List (Option (List ℕ)) → Type 0
-  AreTakenOrLong file place names files = AreKept IsTakenOrLong file place names files
+-- One of the files of these names from a place on, which are taken in order, ends the run so, and those before it let it go on. Of
+-- the files after it nothing was handed over.
+abbrev pub OneEnds : (File → List ℕ → List Heard → Ending → Type 0) → (File → List ℕ → Heard → Type 0) → (ℕ → File) → ℕ → List (List ℕ) → List Heard → Ending → Type 0
+OneEnds ends goes file place [] took end = ⊥
+OneEnds ends goes file place (name ∷ names) [] end = ends (file place) name [] end
+OneEnds ends goes file place (name ∷ names) (heard ∷ took) end =
+    ends (file place) name (heard ∷ took) end ⊎ (goes (file place) name heard × OneEnds ends goes file (place + 1) names took end)
 
--- The same, with its faults before and after.
-module _ (told : List ℕ → Option (List ℕ)) (lacks : List ℕ → Bool) (old new : List (List ℕ)) where
-  -- this file could not be read
-  abbrev pub IsFault : File → List ℕ → Ending → Type 0
-  IsFault file name end = (end ≡ ReadFault file) × FaultRose name old new
+-- what was handed over is of these files, in their order
+abbrev pub AreOf : List (List ℕ) → List Heard → Type 0
+AreOf files [] = Unit {0}
+AreOf [] (heard ∷ took) = ⊥
+AreOf (file ∷ files) (heard ∷ took) = IsSo file heard.1.0 heard.1.1 × AreOf files took
 
-  -- this file was not taken whole
-  abbrev pub Stops : File → List ℕ → Ending → Type 0
-  Stops file name end = IsFault file name end ⊎ ((end ≡ TooLong file) × IsTooLong told lacks file name)
+-- ---- why a file ends a run
+
+-- the faults of a shelf before and after
+module _ (old new : List (List ℕ)) where
+  -- the file could not be read, and nothing was handed over of it
+  abbrev pub IsFault : File → List ℕ → List Heard → Ending → Type 0
+  IsFault file name took end = (end ≡ ReadFault file) × FaultRose name old new × (took ≡ [])
+
+  -- that, or it has more bytes than it may have
+  abbrev pub Stops : File → List ℕ → List Heard → Ending → Type 0
+  Stops file name took end = IsFault file name took end ⊎ ((end ≡ TooLong file) × ((heard : Heard) × (took ≡ heard ∷ []) × IsFront file name heard))
 
   -- one of the files from a place on, which are taken in order, was not taken whole, and those before it were
-  abbrev pub StopsFrom : (ℕ → File) → ℕ → List (List ℕ) → Ending → Type 0
-  StopsFrom file place names end = OneEnds Stops (Fits told lacks) file place names end
+  abbrev pub StopsFrom : (ℕ → File) → ℕ → List (List ℕ) → List Heard → Ending → Type 0
+  StopsFrom file place names took end = OneEnds Stops (IsKept IsWhole) file place names took end
 
-  -- one of the files from a place on, which are taken in order, could not be read; those before it are there, whatever their lengths
-  abbrev pub FaultsFrom : (ℕ → File) → ℕ → List (List ℕ) → Ending → Type 0
-  FaultsFrom file place names end = OneEnds IsFault (IsNotMissing told lacks) file place names end
+  -- one of the files from a place on, which are taken in order, could not be read; those before it were, all of each or a front
+  abbrev pub FaultsFrom : (ℕ → File) → ℕ → List (List ℕ) → List Heard → Ending → Type 0
+  FaultsFrom file place names took end = OneEnds IsFault (IsKept IsWholeOrFront) file place names took end

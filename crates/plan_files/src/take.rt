@@ -1,12 +1,12 @@
 //! Taking files from the shelf.
-ghost use Rattle.std.specs.Prelude.{◌≡◌, ◌≤◌, ℕ, List, Bool, Option, OnOk, IfOk};
-ghost use Rattle.pl_io.specs.Outside.{Notes};
+ghost use Rattle.std.specs.Prelude.{◌≡◌, ◌≤◌, ◌++◌, ◌∷◌, [], ℕ, List, IfOk};
+ghost use Rattle.pl_io.specs.Outside.{Notes, Heard, Agrees};
 ghost use Rattle.plan_words.specs.Seen.{seen, files_of};
 ghost use Rattle.plan_files.specs.Limits.{file_at, third_of, most_of};
 ghost use Rattle.plan_files.specs.Ends.{StopsBy};
 ghost use Rattle.plan_endings.specs.declared.ending.File.{File as FileValue};
 ghost use Rattle.plan_endings.specs.declared.ending.Ending.{Ending as EndingValue};
-ghost use Rattle.plan_files.specs.Files.{Fits, IsFault, IsNotMissing, IsTaken, IsTakenOrLong, Stops, AreKept, OneEnds, Rises, NotesAmong};
+ghost use Rattle.plan_files.specs.Files.{IsFault, IsWhole, IsWholeOrFront, IsKept, Stops, AreKept, OneEnds, Rises, NotesAmong};
 
 use crate::stop::Stop;
 use pl_io::{Bytes, Shelf, TakeError, Taken};
@@ -16,29 +16,24 @@ use std::alloc::Global;
 
 /// What is kept of a file that a request names: its bytes; or, where it has more than it may have, nothing.
 pub trait Kept: Sized + Drop {
-    /// This is kept of the file of a name, by what a shelf tells.
-    ghost is_kept: { (List ℕ → Option (List ℕ)) → (List ℕ → Bool) → FileValue → List ℕ → Self → Type 0 };
+    /// This is kept of the file of a name, of which that was handed over.
+    ghost is_kept: { FileValue → List ℕ → Heard → Self → Type 0 };
 
-    /// A file of which something is kept is so.
-    ghost goes_on: { (List ℕ → Option (List ℕ)) → (List ℕ → Bool) → FileValue → List ℕ → Type 0 };
-
-    /// The file of a name ends the run so, by what a shelf tells and its faults before and after.
-    ghost ends_run: { (List ℕ → Option (List ℕ)) → (List ℕ → Bool) → List (List ℕ) → List (List ℕ) → FileValue → List ℕ → EndingValue → Type 0 };
+    /// The file of a name ends the run so, by the faults of a shelf before and after, once this was handed over of it.
+    ghost ends_run: { List (List ℕ) → List (List ℕ) → FileValue → List ℕ → List Heard → EndingValue → Type 0 };
 
     /// Takes the file of a name.
     fn take<S: Shelf>(alloc: Global, file: File, name: &str, shelf: &mut S) -> Result<Self, Stop>
         ensures told { S.told shelf.new ≡ S.told shelf.old }
         ensures lacks { S.lacks shelf.new ≡ S.lacks shelf.old }
         ensures notes { Notes (S.failed shelf.old) (S.failed shelf.new) name.now }
-        ensures kept { IfOk result (is_kept (S.told shelf.old) (S.lacks shelf.old) file name.now) }
-        ensures goes { OnOk result (goes_on (S.told shelf.old) (S.lacks shelf.old) file name.now) }
-        ensures ends { (before : List (List ℕ)) → Rises before (S.failed shelf.old) → StopsBy (ends_run (S.told shelf.old) (S.lacks shelf.old) before (S.failed shelf.new) file name.now) result };
+        ensures agrees { Agrees (S.told shelf.old) (S.lacks shelf.old) (S.heard shelf.old) (S.heard shelf.new) }
+        ensures kept { IfOk result (λ kept. (heard : Heard) × (S.heard shelf.new ≡ S.heard shelf.old ++ heard ∷ []) × is_kept file name.now heard kept) }
+        ensures ends { (before : List (List ℕ)) → Rises before (S.failed shelf.old) → StopsBy (λ end. (took : List Heard) × (S.heard shelf.new ≡ S.heard shelf.old ++ took) × ends_run before (S.failed shelf.new) file name.now took end) result };
 }
 
 impl Kept for Bytes {
-    ghost is_kept = { IsTaken };
-
-    ghost goes_on = { Fits };
+    ghost is_kept = { IsWhole };
 
     ghost ends_run = { Stops };
 
@@ -54,9 +49,7 @@ impl Kept for Bytes {
 }
 
 impl Kept for Option<Bytes> {
-    ghost is_kept = { IsTakenOrLong };
-
-    ghost goes_on = { IsNotMissing };
+    ghost is_kept = { IsWholeOrFront };
 
     ghost ends_run = { IsFault };
 
@@ -78,8 +71,10 @@ pub fn take_all<K: Kept, S: Shelf>(
     ensures told { S.told shelf.new ≡ S.told shelf.old }
     ensures lacks { S.lacks shelf.new ≡ S.lacks shelf.old }
     ensures noted { NotesAmong (files_of (seen request.now)) (S.failed shelf.old) (S.failed shelf.new) }
-    ensures taken { IfOk result (λ files. AreKept (K.is_kept (S.told shelf.old) (S.lacks shelf.old)) (file_at (seen request.now)) 0 (files_of (seen request.now)) files.items) }
-    ensures stops { StopsBy (OneEnds (K.ends_run (S.told shelf.old) (S.lacks shelf.old) (S.failed shelf.old) (S.failed shelf.new)) (K.goes_on (S.told shelf.old) (S.lacks shelf.old)) (file_at (seen request.now)) 0 (files_of (seen request.now))) result }
+    // What is handed over is what the shelf tells, where it tells that.
+    ensures agrees { Agrees (S.told shelf.old) (S.lacks shelf.old) (S.heard shelf.old) (S.heard shelf.new) }
+    ensures taken { IfOk result (λ files. (took : List Heard) × (S.heard shelf.new ≡ S.heard shelf.old ++ took) × AreKept K.is_kept (file_at (seen request.now)) 0 (files_of (seen request.now)) took files.items) }
+    ensures stops { StopsBy (λ end. (took : List Heard) × (S.heard shelf.new ≡ S.heard shelf.old ++ took) × OneEnds (K.ends_run (S.failed shelf.old) (S.failed shelf.new)) (IsKept K.is_kept) (file_at (seen request.now)) 0 (files_of (seen request.now)) took end) result }
 {
     let mut files = Vec::new(alloc);
     'taking: while let Some(name) = request.file(files.len()) {

@@ -1,8 +1,7 @@
 //! Writing the text of an ending.
-ghost use Rattle.std.specs.Prelude.{◌≡◌, ◌≢◌, ◌≤◌};
+ghost use Rattle.std.specs.Prelude.{◌≡◌, ◌≢◌, ◌≤◌, IsTrue};
 ghost use Rattle.pl_io.specs.Outside.{appended, TakesFront, Rose};
-ghost use Rattle.plan_endings.specs.Ending.{status_of, text_of, IsSmall};
-ghost use Rattle.plan_endings.specs.declared.ending.Ending.{Ending};
+ghost use Rattle.plan_endings.specs.Ending.{status_of, text_of, is_there, IsSmall};
 
 use crate::Status;
 use pl_io::{Sink, put_all};
@@ -17,7 +16,8 @@ pub fn written<K: Sink>(alloc: Global, ending: Ending, sink: &mut K) -> Status
     ensures write_fault { result.0 ≡ 6 → Rose (K.faults sink.old) (K.faults sink.new) }
     ensures front { result.0 ≢ 8 → IsSmall ending × TakesFront (K.taken sink.old) (K.taken sink.new) (text_of ending) }
     ensures nothing { result.0 ≡ 8 → sink.new ≡ sink.old }
-    ensures usage { ending ≡ Ending.Usage → result.0 ≢ 8 }
+    // A text that was made before, or is always the same, takes no memory.
+    ensures there { IsTrue (is_there ending) → result.0 ≢ 8 }
     ensures faults { K.faults sink.old ≤ K.faults sink.new }
 {
     let status = ending.status();

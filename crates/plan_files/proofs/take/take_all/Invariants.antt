@@ -1,4 +1,5 @@
-use Rattle.std.proofs.Common.{◌≡◌, ◌-◌, length}
+use Rattle.std.proofs.Common.{◌≡◌, ◌-◌, ◌++◌, List, length}
+use Rattle.pl_io.specs.Outside.{Heard, Agrees}
 use Rattle.plan_words.specs.Seen.{seen, files_of}
 use Rattle.plan_files.specs.Limits.{file_at}
 use Rattle.plan_files.proofs.Taking.{SoFar}
@@ -8,8 +9,9 @@ abbrev pub invariant-taking : goal.invariant-taking
 invariant-taking g l = record {
   told : g.S.Shelf.told l.shelf ≡ g.S.Shelf.told l.fn.shelf;
   lacks : g.S.Shelf.lacks l.shelf ≡ g.S.Shelf.lacks l.fn.shelf;
-  so : SoFar (g.K.Kept.is_kept (g.S.Shelf.told l.fn.shelf) (g.S.Shelf.lacks l.fn.shelf)) (g.K.Kept.goes_on (g.S.Shelf.told l.fn.shelf) (g.S.Shelf.lacks l.fn.shelf))
-      (g.K.Kept.ends_run (g.S.Shelf.told l.fn.shelf) (g.S.Shelf.lacks l.fn.shelf) (g.S.Shelf.failed l.fn.shelf)) (file_at (seen l.request)) (files_of (seen l.request)) (g.S.Shelf.failed l.fn.shelf) (g.S.Shelf.failed l.shelf) l.files.items;
+  agrees : Agrees (g.S.Shelf.told l.fn.shelf) (g.S.Shelf.lacks l.fn.shelf) (g.S.Shelf.heard l.fn.shelf) (g.S.Shelf.heard l.shelf);
+  so : (took : List Heard) × (g.S.Shelf.heard l.shelf ≡ g.S.Shelf.heard l.fn.shelf ++ took)
+      × SoFar g.K.Kept.is_kept (g.K.Kept.ends_run (g.S.Shelf.failed l.fn.shelf)) (file_at (seen l.request)) (files_of (seen l.request)) (g.S.Shelf.failed l.fn.shelf) (g.S.Shelf.failed l.shelf) took l.files.items;
 }
 
 abbrev pub decreases-taking : goal.decreases-taking
