@@ -1,6 +1,6 @@
 -- The parts of a batch: from its files to an ending for each problem.
-use Rattle.std.proofs.Common.{◌≡◌, ◌≤◌, ◌<◌, ℕ, ◌+◌, Bool, true, false, List, [], ◌∷◌, ◌++◌, length, Option, Some, None, refl, sym, subst, arith, inl, inr}
-use Rattle.std.specs.Prelude.{IsTrue, IfSome}
+use Rattle.std.proofs.Common.{◌≡◌, ◌≤◌, ◌<◌, ℕ, ◌+◌, Bool, true, false, List, [], ◌∷◌, ◌++◌, length, Option, Some, None, refl, sym, subst, arith, inl, inr, ◌∙◌}
+use Rattle.pl_io.specs.Outside.{Heard}
 use Rattle.std.specs.List.{AllByRecursion, AllZip}
 use Rattle.horizon_rates.specs.declared.settings.Settings.{Settings}
 use Rattle.plan_words.specs.Seen.{Seen, Numbers, numbers, plans, batches, files_of}
@@ -11,15 +11,15 @@ use Rattle.plan_endings.specs.declared.ending.Ending.TheVariants.{ReadFault}
 use Rattle.plan_endings.specs.declared.ending.File.{File}
 use Rattle.plan_endings.specs.declared.ending.File.TheVariants.{Domain, Problem}
 use Rattle.plan_files.specs.Limits.{most_of, most_bytes, file_at}
-use Rattle.plan_files.specs.Files.{FaultsFrom, IsTaken, IsTooLong, IsTakenOrLong, AreTakenOrLong}
+use Rattle.plan_files.specs.Files.{FaultsFrom, IsWhole, IsFront, IsWholeOrFront, AreTakenOrLong}
 use Rattle.plan_answers.specs.Tasks.{grounded}
-use Rattle.plan_top.specs.Causes.{HasRead, ComesFor, stopped, ArePartsOf, Comes, unread, in_parts, is_answer}
+use Rattle.plan_top.specs.Causes.{HasRead, stopped, IsPartOf, ArePartsOf, Comes, unread, in_parts, is_answer}
 use Rattle.plan_top.specs.Parts.{IsBatch, IsShort, AnswersPart, AnswersBatch, IsRunOf, IsPart, IsSound, ArePrepared, AnswersRun, open_in, woven}
 use Rattle.plan_top.specs.declared.parts.Part.{Part}
 use Rattle.plan_top.specs.declared.parts.Part.TheVariants as parts
 use Rattle.plan_top.specs.declared.parts.Run.{Run}
 use Rattle.plan_top.proofs.Complete.{batch_most}
-use Rattle.plan_files.proofs.Taking.{taken_fits}
+use Rattle.plan_files.proofs.Taking.{kept_count}
 use Rattle.plan_top.proofs.Told.{decides_answer, taken_comes}
 
 -- ---- files
@@ -29,83 +29,98 @@ answered_read domain problem n (ReadFault file) h = let never : false ≡ true =
 answered_read domain problem n end h = tt
 
 -- of a file with the same limit
-taken_as : (told : List ℕ → Option (List ℕ)) (lacks : List ℕ → Bool) (f g : File) (name bytes : List ℕ) → most_of f ≡ most_of g → IsTaken told lacks f name bytes → IsTaken told lacks g name bytes
-taken_as told lacks f g name bytes same is = record { there = is.there; whole = is.whole; fits = rw same at is.fits }
+whole_as : (f g : File) (name : List ℕ) (heard : Heard) (bytes : List ℕ) → most_of f ≡ most_of g → IsWhole f name heard bytes → IsWhole g name heard bytes
+whole_as f g name heard bytes same is = (is.0, rw same at is.1)
 
-long_as : (told : List ℕ → Option (List ℕ)) (lacks : List ℕ → Bool) (f g : File) (name : List ℕ) → most_of f ≡ most_of g → IsTooLong told lacks f name → IsTooLong told lacks g name
-long_as told lacks f g name same is = subst (λ (most : ℕ). (IsTrue (lacks name) → ⊥) × IfSome (told name) (λ bytes. most < length bytes)) same is
+front_as : (f g : File) (name : List ℕ) (heard : Heard) → most_of f ≡ most_of g → IsFront f name heard → IsFront g name heard
+front_as f g name heard same is = (is.0, is.1, is.2 ∙ same)
 
-met_short : (told : List ℕ → Option (List ℕ)) (lacks : List ℕ → Bool) (f : File) (name : List ℕ) (x : Option (List ℕ)) → most_of f ≡ most_bytes → IsTakenOrLong told lacks f name x → IsShort x
-met_short told lacks f name (Some bytes) same is = rw same at is.fits
-met_short told lacks f name None same is = tt
-
-met_count : (told : List ℕ → Option (List ℕ)) (lacks : List ℕ → Bool) (file : ℕ → File) (place : ℕ) (names : List (List ℕ)) (files : List (Option (List ℕ))) → AreTakenOrLong told lacks file place names files → length files ≡ length names
-met_count told lacks file place [] [] are = refl
-met_count told lacks file place [] (x ∷ xs) are = absurd are
-met_count told lacks file place (n ∷ ns) [] are = absurd are
-met_count told lacks file place (n ∷ ns) (x ∷ xs) are = let rest = met_count told lacks file (place + 1) ns xs are.1 in omega (arith, rest)
+met_short : (f : File) (name : List ℕ) (heard : Heard) (x : Option (List ℕ)) → most_of f ≡ most_bytes → IsWholeOrFront f name heard x → IsShort x
+met_short f name heard (Some bytes) same is = rw same at is.1
+met_short f name heard None same is = tt
 
 -- what two files come to that were taken, or have more bytes than they may have
-part_comes : (told : List ℕ → Option (List ℕ)) (lacks : List ℕ → Bool) (old new : List (List ℕ)) (domain problem : List ℕ) (settings : Settings) (f g : File) → most_of f ≡ most_bytes → most_of g ≡ most_bytes
-    → (first second : Option (List ℕ)) → IsTakenOrLong told lacks f domain first → IsTakenOrLong told lacks g problem second → (end : Ending) → AnswersPart settings first second end
-    → ComesFor told lacks old new (plans domain problem (numbers settings)) end × HasRead end
-part_comes told lacks old new domain problem settings f g one other None second first_is second_is end h =
-    (stopped (inl (inr (h, long_as told lacks f Domain domain one first_is))), subst HasRead (sym h) tt)
-part_comes told lacks old new domain problem settings f g one other (Some a) None first_is second_is end h = (
-  stopped (inr (taken_fits told lacks Domain domain a (taken_as told lacks f Domain domain a one first_is), inl (inr (h, long_as told lacks g Problem problem other second_is)))),
-  subst HasRead (sym h) tt,
-)
-part_comes told lacks old new domain problem settings f g one other (Some a) (Some b) first_is second_is end h =
-    let n = numbers settings in (
-      taken_comes told lacks old new (plans domain problem n) (a ∷ b ∷ []) (taken_as told lacks f Domain domain a one first_is, (taken_as told lacks g Problem problem b other second_is, tt)) end (settings, refl, h),
-      answered_read domain problem n end (decides_answer (plans domain problem n) (a ∷ b ∷ []) end (settings, refl, h)),
-    )
+part_comes : (old new : List (List ℕ)) (domain problem : List ℕ) (settings : Settings) (f g : File) → most_of f ≡ most_bytes → most_of g ≡ most_bytes
+    → (e o : Heard) (first second : Option (List ℕ)) → IsWholeOrFront f domain e first → IsWholeOrFront g problem o second → (end : Ending) → AnswersPart settings first second end
+    → IsPartOf old new e o (plans domain problem (numbers settings)) end
+part_comes old new domain problem settings f g one other e o None second first_is second_is end h = record {
+  took = e ∷ [];
+  rest = o ∷ [];
+  split = refl;
+  comes = stopped (inl (inr (h, (e, refl, front_as f Domain domain e one first_is))));
+  has_read = subst HasRead (sym h) tt;
+}
+part_comes old new domain problem settings f g one other e o (Some a) None first_is second_is end h = record {
+  took = e ∷ o ∷ [];
+  rest = [];
+  split = refl;
+  comes = stopped (inr ((a, whole_as f Domain domain e a one first_is), inl (inr (h, (o, refl, front_as g Problem problem o other second_is)))));
+  has_read = subst HasRead (sym h) tt;
+}
+part_comes old new domain problem settings f g one other e o (Some a) (Some b) first_is second_is end h =
+    let n = numbers settings in
+    record {
+      took = e ∷ o ∷ [];
+      rest = [];
+      split = refl;
+      comes = taken_comes (e ∷ o ∷ []) old new (plans domain problem n) (a ∷ b ∷ []) (whole_as f Domain domain e a one first_is, (whole_as g Problem problem o b other second_is, tt)) end (settings, refl, h);
+      has_read = answered_read domain problem n end (decides_answer (plans domain problem n) (a ∷ b ∷ []) end (settings, refl, h));
+    }
 
-module _ (told : List ℕ → Option (List ℕ)) (lacks : List ℕ → Bool) (old new : List (List ℕ)) (domain : List ℕ) (all : List (List ℕ)) (settings : Settings) (turns : Turns) where
+module _ (old new : List (List ℕ)) (domain : List ℕ) (all : List (List ℕ)) (settings : Settings) (turns : Turns) where
   -- the limit of each file
   limit_at : (place : ℕ) → most_of (file_at (batches domain all (numbers settings) turns) place) ≡ most_bytes
   limit_at place = batch_most domain all (numbers settings) turns place
 
-  pub all_short : (place : ℕ) (names : List (List ℕ)) (files : List (Option (List ℕ))) → AreTakenOrLong told lacks (file_at (batches domain all (numbers settings) turns)) place names files → AllByRecursion IsShort files
-  all_short place [] [] are = tt
-  all_short place [] (x ∷ xs) are = absurd are
-  all_short place (n ∷ ns) [] are = tt
-  all_short place (n ∷ ns) (x ∷ xs) are = (met_short told lacks (file_at (batches domain all (numbers settings) turns) place) n x (limit_at place) are.0, all_short (place + 1) ns xs are.1)
+  pub all_short : (place : ℕ) (names : List (List ℕ)) (took : List Heard) (files : List (Option (List ℕ))) → AreTakenOrLong (file_at (batches domain all (numbers settings) turns)) place names took files → AllByRecursion IsShort files
+  all_short place [] [] [] are = tt
+  all_short place [] [] (x ∷ xs) are = absurd are
+  all_short place [] (e ∷ es) files are = absurd are
+  all_short place (n ∷ ns) [] files are = absurd are
+  all_short place (n ∷ ns) (e ∷ es) [] are = absurd are
+  all_short place (n ∷ ns) (e ∷ es) (x ∷ xs) are = (met_short (file_at (batches domain all (numbers settings) turns) place) n e x (limit_at place) are.0, all_short (place + 1) ns es xs are.1)
 
-  parts_come : (first : Option (List ℕ)) → IsTakenOrLong told lacks Domain domain first → (place : ℕ) (problems : List (List ℕ)) (files : List (Option (List ℕ))) (parts : List Ending)
-      → AreTakenOrLong told lacks (file_at (batches domain all (numbers settings) turns)) place problems files → AllZip (AnswersPart settings first) files parts → ArePartsOf told lacks old new domain (numbers settings) problems parts
-  parts_come first is place [] [] [] are h = tt
-  parts_come first is place [] [] (e ∷ es) are h = absurd h
-  parts_come first is place [] (x ∷ xs) parts are h = absurd are
-  parts_come first is place (p ∷ ps) [] parts are h = absurd are
-  parts_come first is place (p ∷ ps) (x ∷ xs) [] are h = absurd h
-  parts_come first is place (p ∷ ps) (x ∷ xs) (e ∷ es) are h = (
-    part_comes told lacks old new domain p settings Domain (file_at (batches domain all (numbers settings) turns) place) refl (limit_at place) first x is are.0 e h.0,
-    parts_come first is (place + 1) ps xs es are.1 h.1,
+  parts_come : (e : Heard) (first : Option (List ℕ)) → IsWholeOrFront Domain domain e first → (place : ℕ) (problems : List (List ℕ)) (others : List Heard) (files : List (Option (List ℕ))) (parts : List Ending)
+      → AreTakenOrLong (file_at (batches domain all (numbers settings) turns)) place problems others files → AllZip (AnswersPart settings first) files parts → ArePartsOf old new domain (numbers settings) e problems others parts
+  parts_come e first is place [] [] [] [] are h = tt
+  parts_come e first is place [] [] [] (x ∷ xs) are h = absurd h
+  parts_come e first is place [] [] (x ∷ xs) parts are h = absurd are
+  parts_come e first is place [] (o ∷ os) files parts are h = absurd are
+  parts_come e first is place (p ∷ ps) [] files parts are h = absurd are
+  parts_come e first is place (p ∷ ps) (o ∷ os) [] parts are h = absurd are
+  parts_come e first is place (p ∷ ps) (o ∷ os) (x ∷ xs) [] are h = absurd h
+  parts_come e first is place (p ∷ ps) (o ∷ os) (x ∷ xs) (part ∷ parts) are h = (
+    part_comes old new domain p settings Domain (file_at (batches domain all (numbers settings) turns) place) refl (limit_at place) e o first x is are.0 part h.0,
+    parts_come e first is (place + 1) ps os xs parts are.1 h.1,
   )
 
   -- what the files come to comes of words that ask for the batch
-  pub batch_comes : (words : List (List ℕ)) → requested words ≡ Some (batches domain all (numbers settings) turns) → (first : Option (List ℕ)) (files : List (Option (List ℕ)))
-      → AreTakenOrLong told lacks (file_at (batches domain all (numbers settings) turns)) 0 (domain ∷ all) (first ∷ files) → (end : Ending) → AnswersBatch settings first files end → Comes told lacks old new words end
-  batch_comes words asked first files are end (parts, h, e) = in_parts domain all (numbers settings) turns asked parts (parts_come first are.0 1 all files parts are.1 h) e
+  pub batch_comes : (words : List (List ℕ)) → requested words ≡ Some (batches domain all (numbers settings) turns) → (took : List Heard) (first : Option (List ℕ)) (files : List (Option (List ℕ)))
+      → AreTakenOrLong (file_at (batches domain all (numbers settings) turns)) 0 (domain ∷ all) took (first ∷ files) → (end : Ending) → AnswersBatch settings first files end → Comes took old new words end
+  batch_comes words asked [] first files are end h = absurd are
+  batch_comes words asked (e ∷ es) first files are end (parts, h, is) =
+      in_parts domain all (numbers settings) turns asked parts (record { first = e; others = es; all = refl; are = parts_come e first are.0 1 all es files parts are.1 h }) is
 
 -- the same of a request for a batch
-module _ (told : List ℕ → Option (List ℕ)) (lacks : List ℕ → Bool) (old new : List (List ℕ)) (settings : Settings) (turns : Turns) (request : Seen) (is : IsBatch settings turns request) where
+module _ (took : List Heard) (old new : List (List ℕ)) (settings : Settings) (turns : Turns) (request : Seen) (is : IsBatch settings turns request) where
   -- its files were taken, or have more bytes than they may have
   abbrev AreMet : List (Option (List ℕ)) → Type 0
-  AreMet files = AreTakenOrLong told lacks (file_at request) 0 (files_of request) files
+  AreMet files = AreTakenOrLong (file_at request) 0 (files_of request) took files
 
-  met_batch : (files : List (Option (List ℕ))) → AreMet files → AreTakenOrLong told lacks (file_at (batches is.0 is.1 (numbers settings) turns)) 0 (is.0 ∷ is.1) files
-  met_batch files are = subst (λ (r : Seen). AreTakenOrLong told lacks (file_at r) 0 (files_of r) files) is.2 are
+  met_batch : (files : List (Option (List ℕ))) → AreMet files → AreTakenOrLong (file_at (batches is.0 is.1 (numbers settings) turns)) 0 (is.0 ∷ is.1) took files
+  met_batch files are = subst (λ (r : Seen). AreTakenOrLong (file_at r) 0 (files_of r) took files) is.2 are
+
+  met_count : (files : List (Option (List ℕ))) → AreMet files → length files ≡ length (is.0 ∷ is.1)
+  met_count files are = kept_count IsWholeOrFront (file_at (batches is.0 is.1 (numbers settings) turns)) 0 (is.0 ∷ is.1) took files (met_batch files are)
 
   pub some_files : (files : List (Option (List ℕ))) → AreMet files → 0 < length files
-  some_files files are = let count = met_count told lacks (file_at (batches is.0 is.1 (numbers settings) turns)) 0 (is.0 ∷ is.1) files (met_batch files are) in omega (arith, count)
+  some_files files are = let count = met_count files are in omega (arith, count)
 
   files_short : (files : List (Option (List ℕ))) → AreMet files → AllByRecursion IsShort files
-  files_short files are = all_short told lacks old new is.0 is.1 settings turns 0 (is.0 ∷ is.1) files (met_batch files are)
+  files_short files are = all_short old new is.0 is.1 settings turns 0 (is.0 ∷ is.1) took files (met_batch files are)
 
   files_few : (files : List (Option (List ℕ))) → AreMet files → length files ≤ 17
-  files_few files are = let count = met_count told lacks (file_at (batches is.0 is.1 (numbers settings) turns)) 0 (is.0 ∷ is.1) files (met_batch files are) in let few = is.3 in omega (arith, count, few)
+  files_few files are = let count = met_count files are in let few = is.3 in omega (arith, count, few)
 
   -- however they are named
   pub files_fit : (met files : List (Option (List ℕ))) → met ≡ files → AreMet met → AllByRecursion IsShort files × (length files ≤ 17)
@@ -116,11 +131,11 @@ module _ (told : List ℕ → Option (List ℕ)) (lacks : List ℕ → Bool) (ol
     asked_batch : requested words ≡ Some (batches is.0 is.1 (numbers settings) turns)
     asked_batch = subst (λ (r : Seen). requested words ≡ Some r) is.2 asked
 
-    pub request_comes : (first : Option (List ℕ)) (files : List (Option (List ℕ))) → AreMet (first ∷ files) → (end : Ending) → AnswersBatch settings first files end → Comes told lacks old new words end
-    request_comes first files are end h = batch_comes told lacks old new is.0 is.1 settings turns words asked_batch first files (met_batch (first ∷ files) are) end h
+    pub request_comes : (first : Option (List ℕ)) (files : List (Option (List ℕ))) → AreMet (first ∷ files) → (end : Ending) → AnswersBatch settings first files end → Comes took old new words end
+    request_comes first files are end h = batch_comes old new is.0 is.1 settings turns words asked_batch took first files (met_batch (first ∷ files) are) end h
 
-    pub request_unread : (end : Ending) → FaultsFrom told lacks old new (file_at request) 0 (files_of request) end → Comes told lacks old new words end
-    request_unread end h = unread is.0 is.1 (numbers settings) turns asked_batch (subst (λ (r : Seen). FaultsFrom told lacks old new (file_at r) 0 (files_of r) end) is.2 h)
+    pub request_unread : (end : Ending) → FaultsFrom old new (file_at request) 0 (files_of request) took end → Comes took old new words end
+    request_unread end h = unread is.0 is.1 (numbers settings) turns asked_batch (subst (λ (r : Seen). FaultsFrom old new (file_at r) 0 (files_of r) took end) is.2 h)
 
 -- ---- before the races
 

@@ -1,6 +1,7 @@
 -- Words and files that are in order are answered.
 use Rattle.std.proofs.Common.{◌≡◌, ◌<◌, ◌≤◌, ℕ, ◌+◌, ◌==◌, Bool, true, false, if◌then◌else◌, List, [], ◌∷◌, length, Option, Some, None, Ok, Err, refl, sym, subst, ap, ◌∙◌, arith, inl, inr}
 use Rattle.std.specs.List.{AllZip, AllByRecursion}
+use Rattle.pl_io.specs.Outside.{Heard, IsSo}
 use Rattle.pd_sexp.specs.Tree.{Tree}
 use Rattle.pd_sexp.specs.Fault.{Reads}
 use Rattle.pd_model.specs.declared.calls.Verdict.{Verdict}
@@ -29,7 +30,8 @@ use Rattle.plan_endings.specs.declared.ending.Ending.TheVariants.{Report, TooLar
 use Rattle.plan_endings.specs.declared.ending.File.{File}
 use Rattle.plan_endings.specs.declared.ending.File.TheVariants.{Domain, Problem}
 use Rattle.plan_files.specs.Limits.{most_bytes, AreShort, file_at, most_of}
-use Rattle.plan_files.specs.Files.{StopsFrom, FaultsFrom, RoseAmong}
+use Rattle.plan_files.specs.Files.{IsFront, AreOf, StopsFrom, FaultsFrom, RoseAmong}
+use Rattle.plan_files.proofs.Hearing.{front_long, taken_are, of_front}
 use Rattle.clause_base.specs.declared.log.Entry.{Entry}
 use Rattle.proof_text.specs.Place.{IsUnfitAt}
 use Rattle.proof_text.specs.Laws.{TextsAreFit}
@@ -42,14 +44,14 @@ use Rattle.plan_answers.specs.Tasks.{AreTask, RefusesTask, IsTreeFault, domain_t
 use Rattle.plan_answers.specs.Raced.{too_large, ended, outcome_of}
 use Rattle.plan_answers.specs.Generated.{AnswersGenerated, RacesGenerated, generated_report}
 use Rattle.plan_answers.specs.Answers.{OfTwo, OfThree, Decides, AnswersPlan, AnswersGround, AnswersOrder, AnswersCheck, AnswersProve, not_run, run, AnswersVerify, unfit, beyond, spelled, not_checked, checked, ending_of_run, ending_of_check, ending_of}
-use Rattle.plan_top.specs.Causes.{ComesFor, stopped, decided, ArePartsOf, Comes, no_request, of_one, unread, in_parts}
+use Rattle.plan_top.specs.Causes.{ComesFor, stopped, decided, ArePartsOf, IsBatchOf, Comes, no_request, of_one, unread, in_parts}
 use Rattle.plan_top.specs.Complete.{GoesWell, AreWithin, AreChecked, AreSpelled, AreInOrder, IsGoodAlone, IsGood}
 use Rattle.plan_endings.specs.Ending.{status_of}
 use Rattle.gt_core.specs.Lawful.{conditional_in}
 use Rattle.grounding.specs.Grounded.{Grounded, IsGrounded}
 use Rattle.grounding.specs.Limits.{IsWithin}
 use Rattle.grounding.proofs.Unique.{one_result}
-use Rattle.plan_top.proofs.Told.{at_some, of_told_at, one_request}
+use Rattle.plan_top.proofs.Told.{one_request}
 
 good_zero : (request : Seen) (end : Ending) → status_of end ≡ 0 → IsGoodAlone request end
 good_zero request end zero = inl (0, omega arith, sym zero)
@@ -178,28 +180,28 @@ verified_good request domain problem bytes end no_fault order (read task are h) 
     verify_good request order.0.0 g.0 bytes end no_fault g.1 g.2 order.1.0 order.1.1 order.1.2 (subst (λ (t : Parts). AnswersVerify t bytes end) same h)
 
 -- what is decided of two files, or of three, that are in order
-two_good : {X : Type 0} (order answers : List ℕ → List ℕ → Type 0) (files : List (List ℕ)) → ((a b : List ℕ) → order a b → answers a b → X) → OfTwo files order → OfTwo files answers → X
-two_good order answers [] good is h = absurd h
-two_good order answers (a ∷ []) good is h = absurd h
-two_good order answers (a ∷ (b ∷ [])) good is h = good a b is h
-two_good order answers (a ∷ (b ∷ (c ∷ others))) good is h = absurd h
+pub of_two : {X : Type 0} (order answers : List ℕ → List ℕ → Type 0) (files : List (List ℕ)) → ((a b : List ℕ) → order a b → answers a b → X) → OfTwo files order → OfTwo files answers → X
+of_two order answers [] good is h = absurd h
+of_two order answers (a ∷ []) good is h = absurd h
+of_two order answers (a ∷ (b ∷ [])) good is h = good a b is h
+of_two order answers (a ∷ (b ∷ (c ∷ others))) good is h = absurd h
 
-three_good : {X : Type 0} (order answers : List ℕ → List ℕ → List ℕ → Type 0) (files : List (List ℕ)) → ((a b c : List ℕ) → order a b c → answers a b c → X) → OfThree files order → OfThree files answers → X
-three_good order answers [] good is h = absurd h
-three_good order answers (a ∷ []) good is h = absurd h
-three_good order answers (a ∷ (b ∷ [])) good is h = absurd h
-three_good order answers (a ∷ (b ∷ (c ∷ []))) good is h = good a b c is h
-three_good order answers (a ∷ (b ∷ (c ∷ (d ∷ others)))) good is h = absurd h
+pub of_three : {X : Type 0} (order answers : List ℕ → List ℕ → List ℕ → Type 0) (files : List (List ℕ)) → ((a b c : List ℕ) → order a b c → answers a b c → X) → OfThree files order → OfThree files answers → X
+of_three order answers [] good is h = absurd h
+of_three order answers (a ∷ []) good is h = absurd h
+of_three order answers (a ∷ (b ∷ [])) good is h = absurd h
+of_three order answers (a ∷ (b ∷ (c ∷ []))) good is h = good a b c is h
+of_three order answers (a ∷ (b ∷ (c ∷ (d ∷ others)))) good is h = absurd h
 
 files_good : TextsAreFit → (request : Seen) (files : List (List ℕ)) (end : Ending) → AreInOrder request files → Decides request files end → IsGoodAlone request end
 files_good no_fault (plans_by steps d p n) files end order h =
-    two_good AreWithin _ files (λ a b o k. within_good (plans_by steps d p n) a b (AnswersPlan steps k.0) end o (λ task g. plan_good (plans_by steps d p n) steps k.0 task g end) k.2) order h
-files_good no_fault (grounds d p) files end order h = two_good AreWithin _ files (λ a b o k. within_good (grounds d p) a b AnswersGround end o (λ task g e. good_zero (grounds d p) end (ap status_of e)) k) order h
-files_good no_fault (orders d p) files end order h = two_good AreWithin _ files (λ a b o k. within_good (orders d p) a b AnswersOrder end o (λ task g e. good_zero (orders d p) end (ap status_of e.3)) k) order h
-files_good no_fault (checks d p l) files end order h = three_good AreChecked _ files (λ a b c o k. checked_good (checks d p l) a b c end o k) order h
+    of_two AreWithin _ files (λ a b o k. within_good (plans_by steps d p n) a b (AnswersPlan steps k.0) end o (λ task g. plan_good (plans_by steps d p n) steps k.0 task g end) k.2) order h
+files_good no_fault (grounds d p) files end order h = of_two AreWithin _ files (λ a b o k. within_good (grounds d p) a b AnswersGround end o (λ task g e. good_zero (grounds d p) end (ap status_of e)) k) order h
+files_good no_fault (orders d p) files end order h = of_two AreWithin _ files (λ a b o k. within_good (orders d p) a b AnswersOrder end o (λ task g e. good_zero (orders d p) end (ap status_of e.3)) k) order h
+files_good no_fault (checks d p l) files end order h = of_three AreChecked _ files (λ a b c o k. checked_good (checks d p l) a b c end o k) order h
 files_good no_fault (generates kind number n show) files end order h = shown_good (generates kind number n show) kind number h.1.0 show end order.1 h.1.2
-files_good no_fault (proves d p horizon budget) files end order h = two_good AreWithin _ files (λ a b o k. within_good (proves d p horizon budget) a b (AnswersProve horizon budget) end o (λ task g. prove_good d p horizon budget task g end) k) order h
-files_good no_fault (verifies d p c) files end order h = three_good AreSpelled _ files (λ a b l o k. verified_good (verifies d p c) a b l end no_fault o k) order h
+files_good no_fault (proves d p horizon budget) files end order h = of_two AreWithin _ files (λ a b o k. within_good (proves d p horizon budget) a b (AnswersProve horizon budget) end o (λ task g. prove_good d p horizon budget task g end) k) order h
+files_good no_fault (verifies d p c) files end order h = of_three AreSpelled _ files (λ a b l o k. verified_good (verifies d p c) a b l end no_fault o k) order h
 files_good no_fault (batches d ps n t) files end order h = absurd h
 
 -- ---- what a run comes to
@@ -224,73 +226,86 @@ good_alone (proves d p k b) end one h = h
 good_alone (verifies d p c) end one h = h
 good_alone (batches d ps n t) end one h = absurd one
 
-module _ (told : List ℕ → Option (List ℕ)) (lacks : List ℕ → Bool) (old new : List (List ℕ)) where
-  no_stop : (file : ℕ → File) (place : ℕ) (names files : List (List ℕ)) (end : Ending) → AllZip (λ name bytes. told name ≡ Some bytes) names files → AreShort file place files
-      → (RoseAmong names old new → ⊥) → StopsFrom told lacks old new file place names end → ⊥
-  no_stop file place [] files end are fit quiet h = h
-  no_stop file place (n ∷ ns) [] end are fit quiet h = are
-  no_stop file place (n ∷ ns) (f ∷ fs) end are fit quiet (inl (inl fault)) = quiet (inl fault.1)
-  no_stop file place (n ∷ ns) (f ∷ fs) end are fit quiet (inl (inr long)) =
-      absurd (let past = at_some (λ (b : List ℕ). most_of (file place) < length b) (told n) f are.0 long.1.1 in let short = fit.0 in omega (arith, past, short))
-  no_stop file place (n ∷ ns) (f ∷ fs) end are fit quiet (inr more) = no_stop file (place + 1) ns fs end are.1 fit.1 (λ rose. quiet (inr rose)) more.1
+module _ (old new : List (List ℕ)) where
+  no_stop : (file : ℕ → File) (place : ℕ) (names : List (List ℕ)) (took : List Heard) (files : List (List ℕ)) (end : Ending) → AreOf files took → AreShort file place files → (RoseAmong names old new → ⊥)
+      → StopsFrom old new file place names took end → ⊥
+  no_stop file place [] took files end of fit quiet h = h
+  no_stop file place (n ∷ ns) [] files end of fit quiet (inl fault) = quiet (inl fault.1)
+  no_stop file place (n ∷ ns) [] files end of fit quiet (inr (told, (heard, one, front))) = let never : [] ≡ heard ∷ [] = one in cc
+  no_stop file place (n ∷ ns) (e ∷ es) [] end of fit quiet h = of
+  no_stop file place (n ∷ ns) (e ∷ es) (f ∷ fs) end of fit quiet (inl (inl fault)) = quiet (inl fault.1)
+  no_stop file place (n ∷ ns) (e ∷ es) (f ∷ fs) end of fit quiet (inl (inr (told, (heard, one, front)))) =
+      let same : heard ≡ e = cc in
+      let long = front_long (file place) n e f (subst (IsFront (file place) n) same front) of.0 in
+      let short = fit.0 in
+      omega (arith, long, short)
+  no_stop file place (n ∷ ns) (e ∷ es) (f ∷ fs) end of fit quiet (inr more) = no_stop file (place + 1) ns es fs end of.1 fit.1 (λ rose. quiet (inr rose)) more.1
 
   -- files of one task that are in order
-  alone : TextsAreFit → (request : Seen) (files : List (List ℕ)) → AllZip (λ name bytes. told name ≡ Some bytes) (files_of request) files → AreShort (file_at request) 0 files → AreInOrder request files
-      → (RoseAmong (files_of request) old new → ⊥) → (end : Ending) → ComesFor told lacks old new request end → IsGoodAlone request end
-  alone no_fault request files are fit order quiet end (stopped h) = absurd (no_stop (file_at request) 0 (files_of request) files end are fit quiet h)
-  alone no_fault request files are fit order quiet end (decided fits answer h) =
-      files_good no_fault request files end order (of_told_at told (files_of request) files (λ fs. Decides request fs end) are h)
+  alone : TextsAreFit → (request : Seen) (took : List Heard) (files : List (List ℕ)) → AreOf files took → length files ≡ length (files_of request) → AreShort (file_at request) 0 files → AreInOrder request files
+      → (RoseAmong (files_of request) old new → ⊥) → (end : Ending) → ComesFor took old new request end → IsGoodAlone request end
+  alone no_fault request took files of count fit order quiet end (stopped h) = absurd (no_stop (file_at request) 0 (files_of request) took files end of fit quiet h)
+  alone no_fault request took files of count fit order quiet end (decided taken are answer h) =
+      files_good no_fault request files end order (subst (λ (fs : List (List ℕ)). Decides request fs end) (taken_are (file_at request) 0 (files_of request) took taken files are of count) h)
 
-  no_unread : (file : ℕ → File) (place : ℕ) (names : List (List ℕ)) (end : Ending) → (RoseAmong names old new → ⊥) → FaultsFrom told lacks old new file place names end → ⊥
-  no_unread file place [] end quiet h = h
-  no_unread file place (n ∷ ns) end quiet (inl fault) = quiet (inl fault.1)
-  no_unread file place (n ∷ ns) end quiet (inr more) = no_unread file (place + 1) ns end (λ rose. quiet (inr rose)) more.1
+  no_unread : (file : ℕ → File) (place : ℕ) (names : List (List ℕ)) (took : List Heard) (end : Ending) → (RoseAmong names old new → ⊥) → FaultsFrom old new file place names took end → ⊥
+  no_unread file place [] took end quiet h = h
+  no_unread file place (n ∷ ns) [] end quiet fault = quiet (inl fault.1)
+  no_unread file place (n ∷ ns) (e ∷ es) end quiet (inl fault) = quiet (inl fault.1)
+  no_unread file place (n ∷ ns) (e ∷ es) end quiet (inr more) = no_unread file (place + 1) ns es end (λ rose. quiet (inr rose)) more.1
 
   -- the parts of a batch of a domain that fits
-  module _ (no_fault : TextsAreFit) (domain first : List ℕ) (n : Numbers) (all : List (List ℕ)) (turns : Turns) (is : told domain ≡ Some first) (fits : length first ≤ most_bytes) where
-    parts_good : (place : ℕ) (problems texts : List (List ℕ)) (parts : List Ending) → AllZip (λ name bytes. told name ≡ Some bytes) problems texts
+  module _ (no_fault : TextsAreFit) (domain first : List ℕ) (n : Numbers) (all : List (List ℕ)) (turns : Turns) (heard : Heard) (is : IsSo first heard.1.0 heard.1.1) (fits : length first ≤ most_bytes) where
+    parts_good : (place : ℕ) (problems : List (List ℕ)) (others : List Heard) (texts : List (List ℕ)) (parts : List Ending) → AreOf texts others
         → AreShort (file_at (batches domain all n turns)) place texts → AllByRecursion (AreWithin first) texts → (RoseAmong (domain ∷ problems) old new → ⊥)
-        → ArePartsOf told lacks old new domain n problems parts → AllZip (λ problem part. IsGoodAlone (plans domain problem n) part) problems parts
-    parts_good place [] texts [] are fit order quiet comes = tt
-    parts_good place [] texts (x ∷ xs) are fit order quiet comes = absurd comes
-    parts_good place (p ∷ ps) texts [] are fit order quiet comes = absurd comes
-    parts_good place (p ∷ ps) [] (x ∷ xs) are fit order quiet comes = absurd are
-    parts_good place (p ∷ ps) (t ∷ ts) (x ∷ xs) are fit order quiet comes = (
-      alone no_fault (plans domain p n) (first ∷ t ∷ []) (is, (are.0, tt)) (fits, (rw (batch_most domain all n turns place) at fit.0, tt)) order.0
-          (λ rose. quiet (first_two rose)) x comes.0.0,
-      parts_good (place + 1) ps ts xs are.1 fit.1 order.1 (λ rose. quiet (others rose)) comes.1,
-    )
+        → ArePartsOf old new domain n heard problems others parts → AllZip (λ problem part. IsGoodAlone (plans domain problem n) part) problems parts
+    parts_good place [] [] texts [] of fit order quiet comes = tt
+    parts_good place [] [] texts (x ∷ xs) of fit order quiet comes = absurd comes
+    parts_good place [] (o ∷ os) texts parts of fit order quiet comes = absurd comes
+    parts_good place (p ∷ ps) [] texts parts of fit order quiet comes = absurd comes
+    parts_good place (p ∷ ps) (o ∷ os) texts [] of fit order quiet comes = absurd comes
+    parts_good place (p ∷ ps) (o ∷ os) [] (x ∷ xs) of fit order quiet comes = absurd of
+    parts_good place (p ∷ ps) (o ∷ os) (t ∷ ts) (x ∷ xs) of fit order quiet comes =
+        let here = comes.0 in (
+          alone no_fault (plans domain p n) here.took (first ∷ t ∷ [])
+              (of_front (first ∷ t ∷ []) here.took here.rest (subst (AreOf (first ∷ t ∷ [])) here.split (is, (of.0, tt)))) refl
+              (fits, (rw (batch_most domain all n turns place) at fit.0, tt)) order.0 (λ rose. quiet (first_two rose)) x here.comes,
+          parts_good (place + 1) ps os ts xs of.1 fit.1 order.1 (λ rose. quiet (others_rose rose)) comes.1,
+        )
       where
         first_two : RoseAmong (domain ∷ p ∷ []) old new → RoseAmong (domain ∷ p ∷ ps) old new
         first_two (inl h) = inl h
         first_two (inr (inl h)) = inr (inl h)
         first_two (inr (inr h)) = absurd h
 
-        others : RoseAmong (domain ∷ ps) old new → RoseAmong (domain ∷ p ∷ ps) old new
-        others (inl h) = inl h
-        others (inr h) = inr (inr h)
+        others_rose : RoseAmong (domain ∷ ps) old new → RoseAmong (domain ∷ p ∷ ps) old new
+        others_rose (inl h) = inl h
+        others_rose (inr h) = inr (inr h)
 
-  batch_good : TextsAreFit → (domain : List ℕ) (problems : List (List ℕ)) (n : Numbers) (turns : Turns) (files : List (List ℕ)) → AllZip (λ name bytes. told name ≡ Some bytes) (domain ∷ problems) files
+  batch_good : TextsAreFit → (domain : List ℕ) (problems : List (List ℕ)) (n : Numbers) (turns : Turns) (took : List Heard) (files : List (List ℕ)) → AreOf files took
       → AreShort (file_at (batches domain problems n turns)) 0 files → AreInOrder (batches domain problems n turns) files → (RoseAmong (domain ∷ problems) old new → ⊥)
-      → (parts : List Ending) → ArePartsOf told lacks old new domain n problems parts → AllZip (λ problem part. IsGoodAlone (plans domain problem n) part) problems parts
-  batch_good no_fault domain problems n turns [] are fit order quiet parts comes = absurd are
-  batch_good no_fault domain problems n turns (first ∷ texts) are fit order quiet parts comes =
-      parts_good no_fault domain first n problems turns are.0 fit.0 1 problems texts parts are.1 fit.1 order quiet comes
+      → (parts : List Ending) → IsBatchOf took old new domain n problems parts → AllZip (λ problem part. IsGoodAlone (plans domain problem n) part) problems parts
+  batch_good no_fault domain problems n turns took files of fit order quiet parts batch = step files (subst (AreOf files) batch.all of) fit order
+    where
+      step : (files : List (List ℕ)) → AreOf files (batch.first ∷ batch.others) → AreShort (file_at (batches domain problems n turns)) 0 files → AreInOrder (batches domain problems n turns) files
+          → AllZip (λ problem part. IsGoodAlone (plans domain problem n) part) problems parts
+      step [] of fit order = absurd of
+      step (first ∷ texts) of fit order = parts_good no_fault domain first n problems turns batch.first of.0 fit.0 1 problems batch.others texts parts of.1 fit.1 order quiet batch.are
 
-  pub complete : TextsAreFit → (words : List (List ℕ)) (w : GoesWell words told old new) (end : Ending) → Comes told lacks old new words end → IsGood w.request end
-  complete no_fault words w end (no_request none e) = absurd (let never : Some w.request ≡ None = sym w.asked ∙ none in cc)
-  complete no_fault words w end (of_one request asked one h) =
+  pub complete : TextsAreFit → (words : List (List ℕ)) (took : List Heard) (w : GoesWell words took old new) (end : Ending) → Comes took old new words end → IsGood w.request end
+  complete no_fault words took w end (no_request none nothing e) = absurd (let never : Some w.request ≡ None = sym w.asked ∙ none in cc)
+  complete no_fault words took w end (of_one request asked one h) =
       let is : request ≡ w.request = one_request words request w.request asked w.asked in
       subst (λ (r : Seen). IsGood r end) is
-      (good_alone request end one (subst (λ (r : Seen). ComesFor told lacks old new r end → IsGoodAlone r end) (sym is) (alone no_fault w.request w.files w.are_told w.fit w.in_order w.quiet end) h))
-  complete no_fault words w end (unread d ps n turns asked h) =
+      (good_alone request end one (subst (λ (r : Seen). ComesFor took old new r end → IsGoodAlone r end) (sym is) (alone no_fault w.request took w.files w.are_of w.count w.fit w.in_order w.quiet end) h))
+  complete no_fault words took w end (unread d ps n turns asked h) =
       let is : w.request ≡ batches d ps n turns = one_request words w.request (batches d ps n turns) w.asked asked in
-      absurd (no_unread (file_at (batches d ps n turns)) 0 (d ∷ ps) end (subst (λ (r : Seen). RoseAmong (files_of r) old new → ⊥) is w.quiet) h)
-  complete no_fault words w end (in_parts d ps n turns asked parts are e) =
+      absurd (no_unread (file_at (batches d ps n turns)) 0 (d ∷ ps) took end (subst (λ (r : Seen). RoseAmong (files_of r) old new → ⊥) is w.quiet) h)
+  complete no_fault words took w end (in_parts d ps n turns asked parts are e) =
       let is : w.request ≡ batches d ps n turns = one_request words w.request (batches d ps n turns) w.asked asked in
       subst (λ (r : Seen). IsGood r end) (sym is) (
         parts,
         e,
-        batch_good no_fault d ps n turns w.files (subst (λ (r : Seen). AllZip (λ name bytes. told name ≡ Some bytes) (files_of r) w.files) is w.are_told) (subst (λ (r : Seen). AreShort (file_at r) 0 w.files) is w.fit)
+        batch_good no_fault d ps n turns took w.files w.are_of (subst (λ (r : Seen). AreShort (file_at r) 0 w.files) is w.fit)
             (subst (λ (r : Seen). AreInOrder r w.files) is w.in_order) (subst (λ (r : Seen). RoseAmong (files_of r) old new → ⊥) is w.quiet) parts are,
       )

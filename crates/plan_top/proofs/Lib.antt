@@ -1,10 +1,9 @@
-pub mod Verdicts
 pub mod Told
 pub mod Reports
-pub mod Claims
 pub mod Complete
 mod OneTask
 mod OneReport
+mod Passing
 pub mod Lists
 pub mod RaceEnds
 pub mod Turns

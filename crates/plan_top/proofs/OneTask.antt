@@ -18,7 +18,7 @@ use Rattle.plan_endings.specs.declared.ending.Kind.{Kind}
 use Rattle.plan_endings.specs.declared.ending.Kind.TheVariants.{Syntax, Deep}
 use Rattle.plan_endings.specs.declared.ending.Ending.{Ending}
 use Rattle.plan_endings.specs.declared.ending.Ending.TheVariants.{Refused, TooMany}
-use Rattle.plan_answers.specs.Tasks.{AreTask, IsTreeFault, RefusesTree, RefusesTrees, RefusesTask, domain_tree, problem_tree, no_task, IsOver, TellsOver, IsReady, StopsTask, refused, past, OnceGrounded, not_grounded, grounded, refusal_of}
+use Rattle.plan_answers.specs.Tasks.{AreTask, IsTreeFault, RefusesTree, RefusesTrees, RefusesTask, domain_tree, problem_tree, no_task, IsOver, TellsOver, IsReady, StopsTask, refused, past, OnceRead, not_read, read, OnceGrounded, not_grounded, grounded, refusal_of}
 
 -- ---- trees and their faults
 
@@ -76,7 +76,7 @@ one_tree bytes t u r s = s.only t r.file
 one_reading : (domain problem : List ℕ) (s t u v : Tree) → Reads domain s → Reads problem t → Reads domain u → Reads problem v → reading s t ≡ reading u v
 one_reading domain problem s t u v rs rt ru rv = ap₂ reading (one_tree domain s u rs ru) (one_tree problem t v rt rv)
 
-one_task : (domain problem : List ℕ) (a b : Parts) → AreTask domain problem a → AreTask domain problem b → a ≡ b
+pub one_task : (domain problem : List ℕ) (a b : Parts) → AreTask domain problem a → AreTask domain problem b → a ≡ b
 one_task domain problem a b (s, t, rs, rt, p) (u, v, ru, rv, q) =
     let both : Ok a ≡ Ok b = sym p ∙ (one_reading domain problem s t u v rs rt ru rv ∙ q) in
     cc
@@ -100,12 +100,19 @@ module _ (domain problem : List ℕ) where
   one_refusal x y (no_task s t rs rt p) (problem_tree u r q) = absurd (no_tree_refusal problem Problem t y rt q)
   one_refusal x y (no_task s t rs rt p) (no_task u v ru rv q) = one_trees_refusal s t u v x y (one_reading domain problem s t u v rs rt ru rv) p q
 
-  no_refusal : (x : Ending) (a : Parts) → RefusesTask domain problem x → AreTask domain problem a → ⊥
+  pub no_refusal : (x : Ending) (a : Parts) → RefusesTask domain problem x → AreTask domain problem a → ⊥
   no_refusal x a (domain_tree p) (s, t, rs, rt, e) = no_tree_refusal domain Domain s x rs p
   no_refusal x a (problem_tree u r p) (s, t, rs, rt, e) = no_tree_refusal problem Problem t x rt p
   no_refusal x a (no_task u v ru rv (c, p, r)) (s, t, rs, rt, e) =
       let never : Ok a ≡ Err c = sym e ∙ (one_reading domain problem s t u v rs rt ru rv ∙ p) in
       cc
+
+  -- what two files come to that are only read is one ending, where it is for each task
+  pub once_read : (A B : Parts → Ending → Type 0) (x y : Ending) → ((task : Parts) → A task x → B task y → x ≡ y) → OnceRead domain problem A x → OnceRead domain problem B y → x ≡ y
+  once_read A B x y same (not_read p) (not_read q) = one_refusal x y p q
+  once_read A B x y same (not_read p) (read b too j) = absurd (no_refusal x b p too)
+  once_read A B x y same (read a are h) (not_read q) = absurd (no_refusal y a q are)
+  once_read A B x y same (read a are h) (read b too j) = same a h (subst (λ (t : Parts). B t y) (one_task domain problem b a too are) j)
 
 -- ---- grounding
 
@@ -137,14 +144,14 @@ module _ (one : OneResult) (task : Parts) where
   one_limit Effects Actions m n x y = absurd (omega (arith, y.over, x.actions, calls_same x.grounded y.grounded x.is y.is))
   one_limit Effects Effects m n x y = ap (TooMany Effects) (x.count_is ∙ (ap saturated (effects_same x.grounded y.grounded x.is y.is) ∙ sym y.count_is))
 
-  no_limit : (a : Limit) (m : ℕ) (g : Grounded) → IsOver a task m → IsGrounded task g → IsWithin task g → ⊥
+  pub no_limit : (a : Limit) (m : ℕ) (g : Grounded) → IsOver a task m → IsGrounded task g → IsWithin task g → ⊥
   no_limit Tuples m g x is fits = omega (arith, x.over, fits.tuples)
   no_limit Facts m g x is fits = omega (arith, x.over, fits.facts, facts_same x.grounded g x.is is)
   no_limit Actions m g x is fits = omega (arith, x.over, fits.actions, calls_same x.grounded g x.is is)
   no_limit Effects m g x is fits = omega (arith, x.over, fits.effects, effects_same x.grounded g x.is is)
 
   -- an ending that tells of a limit is one
-  one_over : (x y : Ending) → TellsOver task x → TellsOver task y → x ≡ y
+  pub one_over : (x y : Ending) → TellsOver task x → TellsOver task y → x ≡ y
   one_over x y (a, m, p, over) (b, n, q, too) = p ∙ (one_limit a b m n over too ∙ sym q)
 
 module _ (one : OneResult) (domain problem : List ℕ) where

@@ -1,7 +1,6 @@
--- What the bytes of files decide, the files of a shelf decide; and which answers they give.
-use Rattle.std.proofs.Common.{◌≡◌, ℕ, ◌+◌, Bool, true, List, [], ◌∷◌, Option, Some, None, subst, refl, ◌∙◌, sym, inl, inr}
-use Rattle.std.specs.Prelude.{IfSome}
-use Rattle.std.specs.List.{AllZip}
+-- What comes of the files that were handed over, and which answers their bytes give.
+use Rattle.std.proofs.Common.{◌≡◌, ℕ, ◌+◌, Bool, true, List, [], ◌∷◌, Some, None, subst, refl, ◌∙◌, sym, inl, inr}
+use Rattle.pl_io.specs.Outside.{Heard}
 use Rattle.horizon_rates.specs.declared.settings.Settings.{Settings}
 use Rattle.plan_endings.specs.declared.ending.File.{File}
 use Rattle.plan_endings.specs.declared.ending.File.TheVariants.{Domain, Problem}
@@ -28,7 +27,7 @@ use Rattle.plan_endings.specs.declared.ending.Ending.TheVariants.{Refused, TooMa
 use Rattle.plan_endings.specs.declared.ending.Limit.{Limit}
 use Rattle.plan_endings.specs.Ending.{batch_of}
 use Rattle.plan_files.specs.Limits.{file_at}
-use Rattle.plan_files.specs.Files.{AreTaken, FaultsFrom, OfTold}
+use Rattle.plan_files.specs.Files.{AreTaken, FaultsFrom}
 use Rattle.plan_words.specs.declared.request.Stepping.{Stepping}
 use Rattle.certificates.specs.declared.prove.Proved.{Proved}
 use Rattle.certificates.specs.declared.prove.Proved.TheVariants as proved
@@ -38,8 +37,7 @@ use Rattle.plan_answers.specs.Tasks.{RefusesTask, domain_tree, problem_tree, no_
 use Rattle.plan_answers.specs.Raced.{too_large, ended}
 use Rattle.plan_answers.specs.Generated.{AnswersGenerated, RacesGenerated}
 use Rattle.plan_answers.specs.Answers.{OfTwo, OfThree, Decides, AnswersPlan, AnswersGround, AnswersOrder, AnswersCheck, AnswersProve, not_run, run, AnswersVerify, unfit, beyond, spelled, not_checked, checked, ending_of_run, ending_of_check, refusal_of_plan, ending_of}
-use Rattle.plan_top.specs.Causes.{is_answer, HasRead, ComesFor, decided, ArePartsOf, Comes, no_request, of_one, unread, in_parts}
-use Rattle.plan_files.proofs.Taking.{all_fit}
+use Rattle.plan_top.specs.Causes.{is_answer, HasRead, ComesFor, decided, IsBatchOf, AskForBatch, Comes, no_request, of_one, unread, in_parts}
 
 -- ---- endings that tell of a file
 
@@ -164,92 +162,64 @@ decides_answer (proves d p h b) files end k = in_two _ files (λ first second o.
 decides_answer (verifies d p c) files end h = in_three _ files (λ first second third o. read_answer (verifies d p c) first second (λ task. AnswersVerify task third) end (λ task. verify_answer d p c task third end) o) h
 decides_answer (batches d ps n t) files end h = absurd h
 
--- ---- what is told
-
-at_told : (P : List ℕ → Type 0) (told : Option (List ℕ)) (bytes : List ℕ) → IfSome told (λ file. bytes ≡ file) → P bytes → IfSome told P
-at_told P None bytes is h = tt
-at_told P (Some file) bytes is h = subst P is h
-
-of_taken : (told : List ℕ → Option (List ℕ)) (lacks : List ℕ → Bool) (file : ℕ → File) (place : ℕ) (names files : List (List ℕ)) (claim : List (List ℕ) → Type 0) → AreTaken told lacks file place names files → claim files → OfTold told names claim
-of_taken told lacks file place [] [] claim are h = h
-of_taken told lacks file place [] (f ∷ fs) claim are h = absurd are
-of_taken told lacks file place (n ∷ ns) [] claim are h = absurd are
-of_taken told lacks file place (n ∷ ns) (f ∷ fs) claim are h =
-    at_told (λ bytes. OfTold told ns (λ others. claim (bytes ∷ others))) (told n) f are.0.whole (of_taken told lacks file (place + 1) ns fs (λ others. claim (f ∷ others)) are.1 h)
-
-told_weaker : (P Q : List ℕ → Type 0) (told : Option (List ℕ)) → ((bytes : List ℕ) → P bytes → Q bytes) → IfSome told P → IfSome told Q
-told_weaker P Q None weaker h = tt
-told_weaker P Q (Some bytes) weaker h = weaker bytes h
-
--- what follows from a claim on the bytes of two files, and of three
-pub two_weaker : (P Q : List ℕ → List ℕ → Type 0) (one two : Option (List ℕ)) → ((first second : List ℕ) → P first second → Q first second)
-    → IfSome one (λ first. IfSome two (λ second. P first second)) → IfSome one (λ first. IfSome two (λ second. Q first second))
-two_weaker P Q one two weaker = told_weaker (λ first. IfSome two (λ second. P first second)) (λ first. IfSome two (λ second. Q first second)) one
-    (λ first. told_weaker (λ second. P first second) (λ second. Q first second) two (weaker first))
-
-pub three_weaker : (P Q : List ℕ → List ℕ → List ℕ → Type 0) (one two three : Option (List ℕ)) → ((first second third : List ℕ) → P first second third → Q first second third)
-    → IfSome one (λ first. IfSome two (λ second. IfSome three (λ third. P first second third))) → IfSome one (λ first. IfSome two (λ second. IfSome three (λ third. Q first second third)))
-three_weaker P Q one two three weaker = two_weaker (λ first second. IfSome three (λ third. P first second third)) (λ first second. IfSome three (λ third. Q first second third)) one two
-    (λ first second. told_weaker (λ third. P first second third) (λ third. Q first second third) three (weaker first second))
-
-pub at_some : (P : List ℕ → Type 0) (o : Option (List ℕ)) (x : List ℕ) → o ≡ Some x → IfSome o P → P x
-at_some P o x is h = let at = subst (λ (u : Option (List ℕ)). IfSome u P) is h in at
-
--- a claim on files whose bytes are these
-pub of_told_at : (told : List ℕ → Option (List ℕ)) (names files : List (List ℕ)) (P : List (List ℕ) → Type 0) → AllZip (λ name bytes. told name ≡ Some bytes) names files → OfTold told names P → P files
-of_told_at told [] [] P are h = h
-of_told_at told [] (f ∷ fs) P are h = absurd are
-of_told_at told (n ∷ ns) [] P are h = absurd are
-of_told_at told (n ∷ ns) (f ∷ fs) P are h =
-    of_told_at told ns fs (λ others. P (f ∷ others)) are.1 (at_some (λ bytes. OfTold told ns (λ others. P (bytes ∷ others))) (told n) f are.0 h)
-
 -- ---- what a run comes to
+
+-- a file that could not be read is told
+unread_file : (old new : List (List ℕ)) (file : ℕ → File) (place : ℕ) (names : List (List ℕ)) (took : List Heard) (end : Ending) → FaultsFrom old new file place names took end → HasRead end → ⊥
+unread_file old new file place [] took end h has = h
+unread_file old new file place (name ∷ names) [] end fault has = subst HasRead fault.0 has
+unread_file old new file place (name ∷ names) (e ∷ es) end (inl fault) has = subst HasRead fault.0 has
+unread_file old new file place (name ∷ names) (e ∷ es) end (inr more) has = unread_file old new file (place + 1) names es end more.1 has
 
 -- words ask for one thing
 pub one_request : (words : List (List ℕ)) (request other : Seen) → requested words ≡ Some request → requested words ≡ Some other → request ≡ other
 one_request words request other asked also = let same : Some request ≡ Some other = sym asked ∙ also in cc
 
-module _ (told : List ℕ → Option (List ℕ)) (lacks : List ℕ → Bool) (old new : List (List ℕ)) where
+-- words that ask for no batch ask for one task
+pub one_unless : (words : List (List ℕ)) (request : Seen) → (AskForBatch words → ⊥) → requested words ≡ Some request → IsOfOne request
+one_unless words (plans_by steps d p n) no_batch asked = tt
+one_unless words (checks d p l) no_batch asked = tt
+one_unless words (grounds d p) no_batch asked = tt
+one_unless words (orders d p) no_batch asked = tt
+one_unless words (generates k m n s) no_batch asked = tt
+one_unless words (proves d p h b) no_batch asked = tt
+one_unless words (verifies d p c) no_batch asked = tt
+one_unless words (batches d ps n t) no_batch asked = no_batch (d, ps, n, t, asked)
+
+module _ (took : List Heard) (old new : List (List ℕ)) where
   -- of files that were taken, what their bytes decide comes of a request of one task
-  pub taken_comes : (request : Seen) (files : List (List ℕ)) → AreTaken told lacks (file_at request) 0 (files_of request) files → (end : Ending) → Decides request files end → ComesFor told lacks old new request end
-  taken_comes request files are end h =
-      decided (all_fit told lacks (file_at request) 0 (files_of request) files are) (decides_answer request files end h) (of_taken told lacks (file_at request) 0 (files_of request) files (λ fs. Decides request fs end) are h)
+  pub taken_comes : (request : Seen) (files : List (List ℕ)) → AreTaken (file_at request) 0 (files_of request) took files → (end : Ending) → Decides request files end → ComesFor took old new request end
+  taken_comes request files are end h = decided files are (decides_answer request files end h) h
 
-  -- a file that could not be read is told
-  unread_file : (file : ℕ → File) (place : ℕ) (names : List (List ℕ)) (end : Ending) → FaultsFrom told lacks old new file place names end → HasRead end → ⊥
-  unread_file file place [] end h has = h
-  unread_file file place (name ∷ names) end (inl fault) has = subst HasRead fault.0 has
-  unread_file file place (name ∷ names) end (inr more) has = unread_file file (place + 1) names end more.1 has
-
-  same_parts : (d domain : List ℕ) (ps problems : List (List ℕ)) (m n : Numbers) (also turns : Turns) (parts : List Ending) → batches d ps m also ≡ batches domain problems n turns
-      → ArePartsOf told lacks old new d m ps parts → ArePartsOf told lacks old new domain n problems parts
+  pub same_parts : (d domain : List ℕ) (ps problems : List (List ℕ)) (m n : Numbers) (also turns : Turns) (parts : List Ending) → batches d ps m also ≡ batches domain problems n turns
+      → IsBatchOf took old new d m ps parts → IsBatchOf took old new domain n problems parts
   same_parts d domain ps problems m n also turns parts same are =
       let one : d ≡ domain = cc in
       let two : ps ≡ problems = cc in
       let three : m ≡ n = cc in
-      subst (λ (x : List ℕ). ArePartsOf told lacks old new x n problems parts) one
-      (subst (λ (x : List (List ℕ)). ArePartsOf told lacks old new d n x parts) two (subst (λ (x : Numbers). ArePartsOf told lacks old new d x ps parts) three are))
+      subst (λ (x : List ℕ). IsBatchOf took old new x n problems parts) one
+      (subst (λ (x : List (List ℕ)). IsBatchOf took old new d n x parts) two (subst (λ (x : Numbers). IsBatchOf took old new d x ps parts) three are))
 
   module _ (words : List (List ℕ)) where
     -- an ending of words that ask for one task comes of that
-    pub asked_comes : (request : Seen) → IsOfOne request → requested words ≡ Some request → (end : Ending) → Comes told lacks old new words end → ComesFor told lacks old new request end
-    asked_comes request one asked end (no_request none e) = absurd (let never : Some request ≡ None = sym asked ∙ none in cc)
-    asked_comes request one asked end (of_one other other_asked other_one h) = subst (λ (r : Seen). ComesFor told lacks old new r end) (one_request words other request other_asked asked) h
+    pub asked_comes : (request : Seen) → IsOfOne request → requested words ≡ Some request → (end : Ending) → Comes took old new words end → ComesFor took old new request end
+    asked_comes request one asked end (no_request none nothing e) = absurd (let never : Some request ≡ None = sym asked ∙ none in cc)
+    asked_comes request one asked end (of_one other other_asked other_one h) = subst (λ (r : Seen). ComesFor took old new r end) (one_request words other request other_asked asked) h
     asked_comes request one asked end (unread d ps n turns batch h) = absurd (subst IsOfOne (one_request words request (batches d ps n turns) asked batch) one)
     asked_comes request one asked end (in_parts d ps n turns batch parts are e) = absurd (subst IsOfOne (one_request words request (batches d ps n turns) asked batch) one)
 
     -- one of words that ask for a batch comes of that
-    pub asked_parts : (domain : List ℕ) (problems : List (List ℕ)) (n : Numbers) (turns : Turns) → requested words ≡ Some (batches domain problems n turns) → (end : Ending) → HasRead end → Comes told lacks old new words end
-        → (parts : List Ending) × ArePartsOf told lacks old new domain n problems parts × (end ≡ batch_of parts)
-    asked_parts domain problems n turns asked end has (no_request none e) = absurd (let never : Some (batches domain problems n turns) ≡ None = sym asked ∙ none in cc)
+    pub asked_parts : (domain : List ℕ) (problems : List (List ℕ)) (n : Numbers) (turns : Turns) → requested words ≡ Some (batches domain problems n turns) → (end : Ending) → HasRead end → Comes took old new words end
+        → (parts : List Ending) × IsBatchOf took old new domain n problems parts × (end ≡ batch_of parts)
+    asked_parts domain problems n turns asked end has (no_request none nothing e) = absurd (let never : Some (batches domain problems n turns) ≡ None = sym asked ∙ none in cc)
     asked_parts domain problems n turns asked end has (of_one other other_asked one h) = absurd (subst IsOfOne (one_request words other (batches domain problems n turns) other_asked asked) one)
-    asked_parts domain problems n turns asked end has (unread d ps m also batch h) = absurd (unread_file (file_at (batches d ps m also)) 0 (d ∷ ps) end h has)
+    asked_parts domain problems n turns asked end has (unread d ps m also batch h) = absurd (unread_file old new (file_at (batches d ps m also)) 0 (d ∷ ps) took end h has)
     asked_parts domain problems n turns asked end has (in_parts d ps m also batch parts are e) =
         let same : batches d ps m also ≡ batches domain problems n turns = one_request words (batches d ps m also) (batches domain problems n turns) batch asked in
         (parts, same_parts d domain ps problems m n also turns parts same are, e)
 
-    pub not_asked_comes : requested words ≡ None → (end : Ending) → Comes told lacks old new words end → end ≡ Usage
-    not_asked_comes none end (no_request n e) = e
+    pub not_asked_comes : requested words ≡ None → (end : Ending) → Comes took old new words end → end ≡ Usage
+    not_asked_comes none end (no_request n nothing e) = e
     not_asked_comes none end (of_one request asked one h) = absurd (let never : Some request ≡ None = sym asked ∙ none in cc)
     not_asked_comes none end (unread d ps n turns asked h) = absurd (let never : Some (batches d ps n turns) ≡ None = sym asked ∙ none in cc)
     not_asked_comes none end (in_parts d ps n turns asked parts are e) = absurd (let never : Some (batches d ps n turns) ≡ None = sym asked ∙ none in cc)

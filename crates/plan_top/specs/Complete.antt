@@ -1,6 +1,7 @@
 -- Words and files that are in order, so that they are answered.
-use Rattle.std.specs.Prelude.{◌≡◌, ◌⊎◌, Contains, ℕ, List, [], ◌∷◌, Option, Some, Ok}
+use Rattle.std.specs.Prelude.{◌≡◌, ◌⊎◌, Contains, ℕ, List, [], ◌∷◌, length, Some, Ok}
 use Rattle.std.specs.List.{AllByRecursion, AllZip}
+use Rattle.pl_io.specs.Outside.{Heard}
 use Rattle.pd_model.specs.declared.calls.Call.{Call}
 use Rattle.pd_model.specs.declared.parts.Parts.{Parts}
 use Rattle.pd_plan.specs.PlanFile.{plan_file}
@@ -10,7 +11,7 @@ use Rattle.plan_gen.specs.Task.{domain_of, problem_of}
 use Rattle.plan_words.specs.Seen.{Seen, plans, plans_by, checks, grounds, orders, generates, proves, verifies, batches, files_of}
 use Rattle.plan_words.specs.Requested.{requested}
 use Rattle.plan_files.specs.Limits.{AreShort, file_at}
-use Rattle.plan_files.specs.Files.{RoseAmong}
+use Rattle.plan_files.specs.Files.{AreOf, RoseAmong}
 use Rattle.plan_answers.specs.Tasks.{AreTask}
 use Rattle.clause_base.specs.declared.log.Entry.{Entry}
 use Rattle.certificates.specs.Certificate.{IsSpelled}
@@ -52,13 +53,14 @@ AreInOrder (proves d p horizon budget) files = OfTwo files AreWithin
 AreInOrder (verifies d p c) files = OfThree files AreSpelled
 AreInOrder (batches d ps n t) files = OfFirst files AreWithin
 
--- The words ask for a request; the bytes of its files are told, within the limit and in order; and no fault of any was
--- noted.
-pub record GoesWell (words : List (List ℕ)) (told : List ℕ → Option (List ℕ)) (old new : List (List ℕ)) : Type 0 where
+-- The words ask for a request; what was handed over is of files that are within the limit and in order, one for each name; and no fault
+-- of any was noted.
+pub record GoesWell (words : List (List ℕ)) (took : List Heard) (old new : List (List ℕ)) : Type 0 where
   pub request : Seen
   pub files : List (List ℕ)
   pub asked : requested words ≡ Some request
-  pub are_told : AllZip (λ name bytes. told name ≡ Some bytes) (files_of request) files
+  pub are_of : AreOf files took
+  pub count : length files ≡ length (files_of request)
   pub fit : AreShort (file_at request) 0 files
   pub in_order : AreInOrder request files
   pub quiet : RoseAmong (files_of request) old new → ⊥

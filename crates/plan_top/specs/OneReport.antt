@@ -1,8 +1,9 @@
--- One report for every number of workers and every slice.
-use Rattle.std.specs.List.{AllZip}
-use Rattle.std.specs.Prelude.{◌≡◌, ℕ, List, Bool, Option, Some, slice_get}
+-- One ending for the same files: for every number of workers and every slice, in whatever turns, and whatever the files' names.
+use Rattle.std.specs.Prelude.{◌≡◌, ℕ, List, [], ◌∷◌, length, Some, slice_get}
+use Rattle.pl_io.specs.Outside.{Heard}
+use Rattle.plan_files.specs.Files.{AreOf}
 use Rattle.plan_gen.specs.declared.Kind.{Kind}
-use Rattle.plan_words.specs.Seen.{Numbers, plans, plans_by, generates, batches}
+use Rattle.plan_words.specs.Seen.{Seen, Numbers, plans, plans_by, checks, grounds, orders, generates, proves, verifies, batches, files_of}
 use Rattle.plan_words.specs.declared.request.Show.{Show}
 use Rattle.plan_words.specs.declared.request.Stepping.{Stepping}
 use Rattle.plan_words.specs.declared.request.Turns.{Turns}
@@ -14,93 +15,75 @@ use Rattle.plan_endings.specs.declared.ending.Ending.{Ending}
 abbrev pub AreSameRace : Numbers → Numbers → Type 0
 AreSameRace n m = record n { slice = m.slice; workers = m.workers } ≡ m
 
--- the files of these names have these bytes
-abbrev pub AreTold : (List ℕ → Option (List ℕ)) → List (List ℕ) → List (List ℕ) → Type 0
-AreTold told names files = AllZip (λ name bytes. told name ≡ Some bytes) names files
+-- requests of one task that are the same but for the names of their files, the slice and the workers
+pub data AreSameAlone (request other : Seen) : Type 0 where
+  plans_same : (how : Stepping) (d p e q : List ℕ) (n m : Numbers) → request ≡ plans_by how d p n → other ≡ plans_by how e q m → AreSameRace n m → AreSameAlone request other
+  generates_same : (kind : Kind) (number : ℕ) (show : Show) (n m : Numbers) → request ≡ generates kind number n show → other ≡ generates kind number m show → AreSameRace n m → AreSameAlone request other
+  checks_same : (d p l e q k : List ℕ) → request ≡ checks d p l → other ≡ checks e q k → AreSameAlone request other
+  grounds_same : (d p e q : List ℕ) → request ≡ grounds d p → other ≡ grounds e q → AreSameAlone request other
+  orders_same : (d p e q : List ℕ) → request ≡ orders d p → other ≡ orders e q → AreSameAlone request other
+  proves_same : (d p e q : List ℕ) (horizon budget : ℕ) → request ≡ proves d p horizon budget → other ≡ proves e q horizon budget → AreSameAlone request other
+  verifies_same : (d p c e q k : List ℕ) → request ≡ verifies d p c → other ≡ verifies e q k → AreSameAlone request other
 
--- words on one shelf, and others on another, ask for a plan of two files with the same bytes, which both shelves tell, by numbers
--- that are the same but for the slice and the workers
-pub record AskForOnePlan (told elsewhere : List ℕ → Option (List ℕ)) (words others : List (List ℕ)) : Type 0 where
-  pub steps : Stepping
-  pub domain : List ℕ
-  pub problem : List ℕ
-  pub numbers : Numbers
-  pub other_domain : List ℕ
-  pub other_problem : List ℕ
-  pub other_numbers : Numbers
-  pub first : List ℕ
-  pub second : List ℕ
-  pub asked : requested words ≡ Some (plans_by steps domain problem numbers)
-  pub others_asked : requested others ≡ Some (plans_by steps other_domain other_problem other_numbers)
-  pub same : AreSameRace numbers other_numbers
-  pub domain_told : told domain ≡ Some first
-  pub problem_told : told problem ≡ Some second
-  pub other_domain_told : elsewhere other_domain ≡ Some first
-  pub other_problem_told : elsewhere other_problem ≡ Some second
+-- such requests, or batches of as many problems that are the same but for that and their turns
+pub data AreSame (request other : Seen) : Type 0 where
+  alone : AreSameAlone request other → AreSame request other
+  batches_same : (d e : List ℕ) (ps qs : List (List ℕ)) (n m : Numbers) (turns also : Turns) → request ≡ batches d ps n turns → other ≡ batches e qs m also → length ps ≡ length qs → AreSameRace n m
+      → AreSame request other
 
--- words, and others, ask for one generated task by such numbers
-pub record AskForOneGenerated (words others : List (List ℕ)) : Type 0 where
-  pub kind : Kind
-  pub number : ℕ
-  pub show : Show
-  pub numbers : Numbers
-  pub other_numbers : Numbers
-  pub asked : requested words ≡ Some (generates kind number numbers show)
-  pub others_asked : requested others ≡ Some (generates kind number other_numbers show)
-  pub same : AreSameRace numbers other_numbers
+-- words and others ask for the same, and what was handed over for both is of the same files
+pub record AskForOne (took elsewhere : List Heard) (words others : List (List ℕ)) : Type 0 where
+  pub request : Seen
+  pub other : Seen
+  pub files : List (List ℕ)
+  pub asked : requested words ≡ Some request
+  pub others_asked : requested others ≡ Some other
+  pub same : AreSame request other
+  pub count : length files ≡ length (files_of request)
+  pub heard : AreOf files took
+  pub other_heard : AreOf files elsewhere
 
--- words on one shelf, and others on another, ask for a batch of files with the same bytes, which both shelves tell, by such numbers, in
--- whatever turns
-pub record AskForOneBatch (told elsewhere : List ℕ → Option (List ℕ)) (words others : List (List ℕ)) : Type 0 where
+-- Words ask for a batch, and others for `plan` on its domain and its problem at a place, counted from 0, by numbers that are the same but
+-- for the slice and the workers: what was handed over for both is of the same files.
+pub record AskForOnePart (took elsewhere : List Heard) (words : List (List ℕ)) (place : ℕ) (others : List (List ℕ)) : Type 0 where
   pub domain : List ℕ
   pub problems : List (List ℕ)
   pub numbers : Numbers
   pub turns : Turns
   pub other_domain : List ℕ
-  pub other_problems : List (List ℕ)
+  pub other_problem : List ℕ
   pub other_numbers : Numbers
-  pub other_turns : Turns
   pub first : List ℕ
   pub texts : List (List ℕ)
-  pub asked : requested words ≡ Some (batches domain problems numbers turns)
-  pub others_asked : requested others ≡ Some (batches other_domain other_problems other_numbers other_turns)
-  pub same : AreSameRace numbers other_numbers
-  pub domain_told : told domain ≡ Some first
-  pub problems_told : AreTold told problems texts
-  pub other_domain_told : elsewhere other_domain ≡ Some first
-  pub other_problems_told : AreTold elsewhere other_problems texts
-
--- words on one shelf, and others on another, ask for one race, or for one batch of them
-pub data AskForOneRace (told elsewhere : List ℕ → Option (List ℕ)) (words others : List (List ℕ)) : Type 0 where
-  one_plan : AskForOnePlan told elsewhere words others → AskForOneRace told elsewhere words others
-  one_generated : AskForOneGenerated words others → AskForOneRace told elsewhere words others
-  one_batch : AskForOneBatch told elsewhere words others → AskForOneRace told elsewhere words others
-
--- words on one shelf ask for a batch, and others on another for `plan` on files with the bytes of its domain and of its problem at a
--- place, counted from 0, by numbers that are the same but for the slice and the workers
-pub record AskForOnePart (told elsewhere : List ℕ → Option (List ℕ)) (words : List (List ℕ)) (place : ℕ) (others : List (List ℕ)) : Type 0 where
-  pub domain : List ℕ
-  pub problems : List (List ℕ)
-  pub numbers : Numbers
-  pub turns : Turns
-  pub problem : List ℕ
-  pub other_domain : List ℕ
-  pub other_problem : List ℕ
-  pub other_numbers : Numbers
-  pub first : List ℕ
   pub second : List ℕ
   pub asked : requested words ≡ Some (batches domain problems numbers turns)
-  pub at_place : slice_get problems place ≡ Some problem
   pub others_asked : requested others ≡ Some (plans other_domain other_problem other_numbers)
   pub same : AreSameRace numbers other_numbers
-  pub domain_told : told domain ≡ Some first
-  pub problem_told : told problem ≡ Some second
-  pub other_domain_told : elsewhere other_domain ≡ Some first
-  pub other_problem_told : elsewhere other_problem ≡ Some second
+  pub count : length texts ≡ length problems
+  pub heard : AreOf (first ∷ texts) took
+  pub at_place : slice_get texts place ≡ Some second
+  pub other_heard : AreOf (first ∷ second ∷ []) elsewhere
 
--- Runs on files with the same bytes by such words have one ending, but for a file that could not be read.
+-- Words ask to verify a file, and others for a certificate of a horizon: what was handed over for both is of one domain and one problem, and
+-- the file is this text.
+pub record AskToVerify (took elsewhere : List Heard) (words others : List (List ℕ)) (text : List ℕ) : Type 0 where
+  pub domain : List ℕ
+  pub problem : List ℕ
+  pub proof : List ℕ
+  pub other_domain : List ℕ
+  pub other_problem : List ℕ
+  pub horizon : ℕ
+  pub budget : ℕ
+  pub first : List ℕ
+  pub second : List ℕ
+  pub asked : requested words ≡ Some (verifies domain problem proof)
+  pub others_asked : requested others ≡ Some (proves other_domain other_problem horizon budget)
+  pub heard : AreOf (first ∷ second ∷ text ∷ []) took
+  pub other_heard : AreOf (first ∷ second ∷ []) elsewhere
+
+-- Runs on the same files by such words have one ending, but for a file that could not be read.
 abbrev pub OneEnding : Type 0
 OneEnding =
-    (told elsewhere : List ℕ → Option (List ℕ)) (lacks lacking : List ℕ → Bool) (old new before after : List (List ℕ)) (words others : List (List ℕ)) (end other : Ending)
-    → AskForOneRace told elsewhere words others → Comes told lacks old new words end → Comes elsewhere lacking before after others other
+    (took elsewhere : List Heard) (old new before after : List (List ℕ)) (words others : List (List ℕ)) (end other : Ending)
+    → AskForOne took elsewhere words others → Comes took old new words end → Comes elsewhere before after others other
     → HasRead end → HasRead other → end ≡ other

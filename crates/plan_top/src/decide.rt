@@ -1,11 +1,11 @@
 //! How a run ends, before anything is written.
-ghost use Rattle.std.specs.Prelude.{◌≡◌, ◌≤◌, ℕ, List, map, string_bytes, Some, None, Ok};
-ghost use Rattle.pl_io.specs.Outside.{fault_count};
+ghost use Rattle.std.specs.Prelude.{◌≡◌, ◌≤◌, ◌++◌, ℕ, List, map, string_bytes, Some, None, Ok};
+ghost use Rattle.pl_io.specs.Outside.{Heard, Agrees, fault_count};
 ghost use Rattle.plan_words.specs.OneTask.{IsOfOne};
 ghost use Rattle.plan_words.specs.Requested.{requested, command_named};
 ghost use Rattle.plan_words.specs.Seen.{IsSized, files_of, seen};
 ghost use Rattle.plan_files.specs.Files.{NotesAmong};
-ghost use Rattle.plan_top.specs.Causes.{Comes, names_in};
+ghost use Rattle.plan_top.specs.Causes.{Comes, AskForBatch, names_in};
 ghost use Rattle.plan_top.specs.Parts.{IsBatch};
 ghost use Rattle.plan_files.specs.Ends.{EndsAs};
 
@@ -33,7 +33,8 @@ pub fn decide<H: Threads + Wait + Sync, S: Shelf, G: Gate, D: Driver>(
     gate: &G,
     driver: &mut D,
 ) -> Result<Ending, Stop>
-    ensures cause { EndsAs (Comes (S.told shelf.old) (S.lacks shelf.old) (S.failed shelf.old) (S.failed shelf.new) (map string_bytes words.now)) result }
+    ensures cause { (took : List Heard) → S.heard shelf.new ≡ S.heard shelf.old ++ took → EndsAs (Comes took (S.failed shelf.old) (S.failed shelf.new) (map string_bytes words.now)) result }
+    ensures agrees { Agrees (S.told shelf.old) (S.lacks shelf.old) (S.heard shelf.old) (S.heard shelf.new) }
     ensures no_command { command_named (map string_bytes words.now) ≡ None → result ≡ Ok Ending.Usage }
     ensures untouched { requested (map string_bytes words.now) ≡ None → shelf.new ≡ shelf.old }
     ensures told { S.told shelf.new ≡ S.told shelf.old }
@@ -41,6 +42,7 @@ pub fn decide<H: Threads + Wait + Sync, S: Shelf, G: Gate, D: Driver>(
     ensures noted { NotesAmong (names_in (map string_bytes words.now)) (S.failed shelf.old) (S.failed shelf.new) }
     ensures never_falls { (name : List ℕ) → fault_count name (S.failed shelf.old) ≤ fault_count name (S.failed shelf.new) }
     ensures drives { D.faults driver.old ≤ D.faults driver.new }
+    ensures idle { (AskForBatch (map string_bytes words.now) → ⊥) → driver.new ≡ driver.old }
 {
     let Some(request) = read_words(alloc, words)? else {
         return Ok(Ending::Usage);
@@ -58,11 +60,13 @@ fn decide_request<H: Threads + Wait + Sync, S: Shelf, G: Gate, D: Driver>(
     driver: &mut D,
 ) -> Result<Ending, Stop>
     requires sized { IsSized (seen request.now) }
-    ensures cause { (words : List (List ℕ)) → requested words ≡ Some (seen request.now) → EndsAs (Comes (S.told shelf.old) (S.lacks shelf.old) (S.failed shelf.old) (S.failed shelf.new) words) result }
+    ensures cause { (took : List Heard) → S.heard shelf.new ≡ S.heard shelf.old ++ took → (words : List (List ℕ)) → requested words ≡ Some (seen request.now) → EndsAs (Comes took (S.failed shelf.old) (S.failed shelf.new) words) result }
+    ensures agrees { Agrees (S.told shelf.old) (S.lacks shelf.old) (S.heard shelf.old) (S.heard shelf.new) }
     ensures told { S.told shelf.new ≡ S.told shelf.old }
     ensures lacks { S.lacks shelf.new ≡ S.lacks shelf.old }
     ensures noted { NotesAmong (files_of (seen request.now)) (S.failed shelf.old) (S.failed shelf.new) }
     ensures drives { D.faults driver.old ≤ D.faults driver.new }
+    ensures idle { IsOfOne (seen request.now) → driver.new ≡ driver.old }
 {
     match request {
         Request::Batch {
@@ -84,7 +88,8 @@ fn decide_one<H: Threads + Wait + Sync, S: Shelf, G: Gate>(
 ) -> Result<Ending, Stop>
     requires sized { IsSized (seen request.now) }
     requires of_one { IsOfOne (seen request.now) }
-    ensures cause { (words : List (List ℕ)) → requested words ≡ Some (seen request.now) → EndsAs (Comes (S.told shelf.old) (S.lacks shelf.old) (S.failed shelf.old) (S.failed shelf.new) words) result }
+    ensures cause { (took : List Heard) → S.heard shelf.new ≡ S.heard shelf.old ++ took → (words : List (List ℕ)) → requested words ≡ Some (seen request.now) → EndsAs (Comes took (S.failed shelf.old) (S.failed shelf.new) words) result }
+    ensures agrees { Agrees (S.told shelf.old) (S.lacks shelf.old) (S.heard shelf.old) (S.heard shelf.new) }
     ensures told { S.told shelf.new ≡ S.told shelf.old }
     ensures lacks { S.lacks shelf.new ≡ S.lacks shelf.old }
     ensures noted { NotesAmong (files_of (seen request.now)) (S.failed shelf.old) (S.failed shelf.new) }
@@ -104,7 +109,8 @@ fn decide_batch<H: Threads + Wait + Sync, S: Shelf, D: Driver>(
     driver: &mut D,
 ) -> Result<Ending, Stop>
     requires { IsBatch settings.now turns (seen request.now) }
-    ensures cause { (words : List (List ℕ)) → requested words ≡ Some (seen request.now) → EndsAs (Comes (S.told shelf.old) (S.lacks shelf.old) (S.failed shelf.old) (S.failed shelf.new) words) result }
+    ensures cause { (took : List Heard) → S.heard shelf.new ≡ S.heard shelf.old ++ took → (words : List (List ℕ)) → requested words ≡ Some (seen request.now) → EndsAs (Comes took (S.failed shelf.old) (S.failed shelf.new) words) result }
+    ensures agrees { Agrees (S.told shelf.old) (S.lacks shelf.old) (S.heard shelf.old) (S.heard shelf.new) }
     ensures told { S.told shelf.new ≡ S.told shelf.old }
     ensures lacks { S.lacks shelf.new ≡ S.lacks shelf.old }
     ensures noted { NotesAmong (files_of (seen request.now)) (S.failed shelf.old) (S.failed shelf.new) }

@@ -4,7 +4,6 @@
 
 mod batch;
 mod decide;
-mod laws;
 mod parts;
 mod races;
 mod top;

@@ -1,12 +1,13 @@
 -- What a race that ended on a task means for the task and for its report.
-use Rattle.std.proofs.Common.{◌≡◌, ◌<◌, ◌≤◌, ℕ, ◌+◌, Bool, true, false, List, [], ◌∷◌, ◌++◌, map, length, get_or, codes, refl, sym, ap, subst, ◌∙◌, arith, Option, Some, None, if◌then◌else◌}
-use Rattle.std.specs.Prelude.{IsTrue, Contains, slice_get, slice_index_or}
+use Rattle.std.proofs.Common.{◌≡◌, ◌<◌, ◌≤◌, ℕ, zero, suc, ◌+◌, ◌^◌, Bool, true, false, List, [], ◌∷◌, ◌++◌, map, length, get_or, codes, refl, sym, ap, ap₂, subst, ◌∙◌, arith, Option, Some, None, if◌then◌else◌}
+use Rattle.std.specs.Prelude.{IsTrue, Contains, decimal, slice_get, slice_index_or}
 use Rattle.std.specs.List.{AllByRecursion, list_all}
-use Rattle.std.proofs.lemmas.List.Elements.{All-contains, All-map, All-from_recursion, All-contains_itself, Contains-append_right}
+use Rattle.std.proofs.lemmas.List.Elements.{All-contains, All-map, All-from_recursion, All-contains_itself, Contains-append_left, Contains-append_right}
+use Rattle.std.proofs.lemmas.Fmt.{decimal_is_IsNumeral}
 use Rattle.report_lines.specs.Lines.{lines_of}
 use Rattle.report_lines.specs.Horizons.{Entry, entry_line, report}
 use Rattle.clause_base.specs.Derivation.{IsRefutation}
-use Rattle.clause_base.specs.Formula.{assignment_of}
+use Rattle.clause_base.specs.Formula.{IsModel, assignment_of}
 use Rattle.cdcl_rules.specs.State.{State}
 use Rattle.gt_core.specs.Published.{IsPublished, order_of}
 use Rattle.gt_core.specs.Task.{Task}
@@ -20,32 +21,44 @@ use Rattle.pd_model.specs.declared.calls.Call.{Call}
 use Rattle.pd_model.specs.declared.parts.Parts.{Parts}
 use Rattle.grounding.specs.Grounded.{Grounded, IsGrounded}
 use Rattle.grounding.specs.Laws.{AreNumbers}
-use Rattle.step_laws.specs.Form.{OrderedTask, AreSets, member_at}
+use Rattle.step_laws.specs.Form.{OrderedTask, IsOrderedTask, AreSets, member_at, steps_at}
+use Rattle.step_laws.specs.Stepping.{IsStepping}
+use Rattle.step_encoding.specs.Laws.{by_components}
+use Rattle.all_steps.specs.Form.{by_both_ways}
+use Rattle.horizon_run.specs.Run.{truths_of}
 use Rattle.race_end.specs.declared.line.LineEnd.{LineEnd}
 use Rattle.race_end.specs.declared.line.LineEnd.TheVariants as ends
 use Rattle.race_end.specs.declared.line.Line.{Line}
 use Rattle.race_end.specs.declared.end.RaceEnd.{RaceEnd}
 use Rattle.race_end.specs.declared.end.RaceEnd.TheVariants as races
-use Rattle.race_end.specs.Ends.{Word, WordRefuted, WordDropped, WordOpen, WordPlan, LineView, EndView, Unfinished, word_of, line_view, end_view, lines_in, lines_of as lines_of_end, conflicts_in}
+use Rattle.race_end.specs.Ends.{Word, WordRefuted, WordDropped, WordOpen, WordPlan, LineView, EndView, Exhausted, Unfinished, word_of, line_view, end_view, lines_in, lines_of as lines_of_end, conflicts_in}
 use Rattle.race.specs.Input.{RaceInput}
+use Rattle.race.proofs.Exhausted.{last_is_refuted}
 use Rattle.race.specs.Lines.{IsLine, IsMarked, WhereRefuted, state_of_line, standing_of as standing_at}
 use Rattle.step_plans.specs.Plans.{AreStepPlan, IsStepPlanOf, AreListed, actions_in}
-use Rattle.plan_report.specs.Report.{word_text, entry_of, plan_line, conflicts_line, last_lines, report_of}
-use Rattle.plan_report.specs.Laws.{IsSmall, HasCalls, Tells}
+use Rattle.plan_report.specs.Report.{word_text, entry_of, plan_line, exhausted_line, conflicts_line, last_lines, report_of}
+use Rattle.plan_report.specs.Laws.{IsSmall, IsSmallLine, HasCalls, Tells}
 use Rattle.certificates.specs.Known.{IsOrdered, form_of, choice_at, formula_at}
-use Rattle.plan_top.specs.Laws.{Laws}
+use Rattle.plan_claims.specs.Laws.{Laws}
+use Rattle.plan_words.specs.Seen.{numbers}
 use Rattle.plan_words.specs.declared.request.Stepping.{Stepping}
 use Rattle.plan_words.specs.declared.request.Stepping.TheVariants.{Exists, All}
 use Rattle.plan_answers.specs.Stepping.{places_by, is_plan_by, bars_by}
 use Rattle.plan_answers.specs.Tasks.{IsReady}
 use Rattle.plan_answers.specs.Raced.{input_of, ComesTo}
-use Rattle.plan_top.specs.Headline.{OfGrounded, HasStepPlan, PlanRuns, HasAtLeast, NoStepPlan, NoPlan, IsSo, LineIsSo, standing_of, conflicts_of, line_words, SpendsAll}
+use Rattle.plan_claims.specs.Headline.{OfGrounded, HasStepPlan, PlanRuns, HasAtLeast, HasPlanOf, TellsExhausted, NoStepPlan, NoPlan, IsSo, LineIsSo, standing_of, conflicts_of, line_words, SpendsAll}
 
 -- ---- lines and the words in them
 
 -- what holds of each element holds of one that the list contains
 at_one : {X : Type 0} (P : X → Type 0) (xs : List X) (x : X) → AllByRecursion P xs → Contains xs x → P x
 at_one P xs x all one = All-contains P xs x (All-from_recursion P xs all) one
+
+-- what a list contains, its image contains
+contains_map : {X Y : Type 0} (f : X → Y) (xs : List X) (x : X) → Contains xs x → Contains (map f xs) (f x)
+contains_map f [] x (place, within, is) = absurd (omega (arith, within))
+contains_map f (y ∷ ys) x (zero, within, is) = (0, omega arith, ap f is)
+contains_map f (y ∷ ys) x (suc place, within, is) = let rest = contains_map f ys x (place, omega (arith, within), is) in (suc rest.0, omega (arith, rest.1), rest.2)
 
 -- a line of which this is the view
 abbrev Viewed : List Line → LineView → Type 0
@@ -78,6 +91,13 @@ derived_of input h state (ends.Refuted stamp) is marked = marked.refutation
 derived_of input h state ends.Dropped is marked = cc
 derived_of input h state ends.Going is marked = cc
 derived_of input h state ends.Found is marked = cc
+
+-- the values of a horizon that is told as found are a model of its formula
+found_model : (input : RaceInput) (h : ℕ) (state : State) (end : LineEnd) → word_text (word_of end) ≡ codes "plan" → IsMarked input h state end → IsModel (input.formula h) (truths_of (input.formula h) state)
+found_model input h state (ends.Refuted stamp) told marked = absurd (let never : 114 ≡ 112 = ap (λ (xs : List ℕ). get_or xs 0 0) told in omega (arith, never))
+found_model input h state ends.Dropped told marked = absurd (let never : 100 ≡ 112 = ap (λ (xs : List ℕ). get_or xs 0 0) told in omega (arith, never))
+found_model input h state ends.Going told marked = absurd (let never : 111 ≡ 112 = ap (λ (xs : List ℕ). get_or xs 0 0) told in omega (arith, never))
+found_model input h state ends.Found told marked = marked
 
 line_so : (input : RaceInput) (line : Line) → IsLine input line → IsSo (input.choose line.horizon) (input.formula line.horizon) (word_text (word_of line.end)) line.conflicts
 line_so input line is = record {
@@ -117,6 +137,11 @@ from_barred : (how : Stepping) (task : Task) (order : List ℕ) (sets : ℕ → 
 from_barred Exists task order sets n of = of.plan
 from_barred All task order sets n of = record { plan = of.plan; none = of.each }
 
+-- what the values of the formulas of a kind stand for
+stepping_by : (how : Stepping) → IsStepping (places_by how) (is_plan_by how)
+stepping_by Exists = by_components
+stepping_by All = by_both_ways
+
 bars_itself : NeverItself → (how : Stepping) (task : Task) (a : ℕ) → bars_by how task a a ≡ false
 bars_itself itself Exists task a = refl
 bars_itself itself All task a = itself task a
@@ -144,6 +169,24 @@ module _ (laws : Laws) (task : Parts) (g : Grounded) (ready : IsReady task g) (c
 
   pub of_grounded : (claim : Grounded → List (ℕ × ℕ) → List (List ℕ) → Type 0) → claim g clauses components → OfGrounded task claim
   of_grounded claim h = record { g = g; clauses = clauses; components = components; grounded = ready.grounded; ordered = ordered; only = only; holds = h }
+
+  -- ---- found horizons
+
+  is_form : IsOrderedTask (form_of g.task clauses components)
+  is_form = record {
+    lawful = laws.is_task task g ready.grounded ready.fits;
+    known = ordered.known.listed;
+    facts = refl;
+    hold = laws.hold g.task clauses ordered.known;
+    published = ordered.published;
+  }
+
+  -- the values that are a model of the formula of a horizon stand for a plan of so many steps
+  pub has_plan : (how : Stepping) (horizon : ℕ) (values : List Bool) → IsModel (formula_at (places_by how) (form_of g.task clauses components) horizon) values → HasPlanOf how horizon task
+  has_plan how horizon values model =
+      let form = form_of g.task clauses components in
+      of_grounded (λ h clauses components. (steps : List (List ℕ)) × AreSets (is_plan_by how) h.task (order_of components) steps horizon)
+      (steps_at form (places_by how g.task components) horizon (assignment_of values), (stepping_by how).plans form is_form horizon (assignment_of values) model.satisfies)
 
   -- ---- refuted horizons
 
@@ -193,6 +236,15 @@ module _ (laws : Laws) (how : Stepping) (settings : Settings) (task : Parts) (g 
         let at = at_one (λ (l : Line). WhereRefuted l.end (IsRefuted l.horizon)) (lines_of_end race) t.0 comes.refuted t.1 in
         subst IsRefuted t.2 (where_refuted t.0.end (IsRefuted t.0.horizon) t.3 at)
 
+    pub found_line : (horizon conflicts : ℕ) → Tells (lines_in (end_view race)) horizon (codes "plan") conflicts → HasPlanOf how horizon task
+    found_line horizon conflicts tells =
+        let t = told_line horizon (codes "plan") conflicts tells in
+        let input = input_of (places_by how) form settings in
+        let line = at_one (IsLine input) (lines_of_end race) t.0 comes.lines t.1 in
+        let state = state_of_line input t.0 in
+        subst (λ (h : ℕ). HasPlanOf how h task) t.2
+        (has_plan laws task g ready comes.clauses comes.components comes.ordered how t.0.horizon (truths_of (input.formula t.0.horizon) state) (found_model input t.0.horizon state t.0.end t.3 line.marked))
+
     pub line_is_so : (horizon : ℕ) (word : List ℕ) (conflicts : ℕ) → Tells (lines_in (end_view race)) horizon word conflicts → LineIsSo how horizon word conflicts task
     line_is_so horizon word conflicts tells =
         let t = told_line horizon word conflicts tells in
@@ -240,7 +292,31 @@ module _ (laws : Laws) (how : Stepping) (settings : Settings) (task : Parts) (g 
         subst (λ (ls : List (List ℕ)). Contains ls (plan_line horizon (length (actions_in steps)))) (sym back) (Contains-append_right entries (last_lines task g settings.budget planned) _ last) in
         let told = laws.steps task g settings.budget horizon steps (map line_view lines) ready.well small has_calls in
         let once = laws.once g.task comes.clauses comes.components steps comes.ordered.published is_listed in
-        ((c.0, read, c.2), of_grounded laws task g ready comes.clauses comes.components comes.ordered (HasStepPlan how text task) (steps, horizon, line, told, comes.plan, is_listed, once))
+        (c.0, read, c.2, of_grounded laws task g ready comes.clauses comes.components comes.ordered (HasStepPlan how text task c.0) (steps, horizon, line, told, c.1, comes.plan, is_listed, once))
+
+  -- ---- the last horizon
+
+  pub tells_exhausted : (horizon : ℕ) (lines : List Line) → ComesTo (places_by how) (is_plan_by how) g.task settings (races.Exhausted horizon lines) → IsSmall settings.budget (end_view (races.Exhausted horizon lines))
+      → TellsExhausted (report_of task g settings.budget (end_view (races.Exhausted horizon lines))) (numbers settings)
+  tells_exhausted horizon lines comes small =
+      let views = map line_view lines in
+      let text : List ℕ = report_of task g settings.budget (Exhausted horizon views) in
+      let last = last_is_refuted (input_of (places_by how) (form_of g.task comes.clauses comes.components) settings) horizon views comes.ended in
+      let back = laws.lines task g settings.budget (Exhausted horizon views) ready.well small tt in
+      let few : last.line.conflicts < 2 ^ 64 = (All-contains IsSmallLine views last.line small.lines last.told).1 in
+      let entries : List (List ℕ) = map entry_line (map entry_of views) in
+      let others = last_lines task g settings.budget (Exhausted horizon views) in
+      let of_all : (line : List ℕ) → Contains (entries ++ others) line → Contains (lines_of text) line = λ line there. subst (λ (ls : List (List ℕ)). Contains ls line) (sym back) there in
+      let entry : Entry = record { horizon = horizon; word = codes "refuted"; conflicts = last.line.conflicts } in
+      let is : entry_of last.line ≡ entry = ap₂ (λ (h : ℕ) (w : Word). record { horizon = h; word = word_text w; conflicts = last.line.conflicts }) last.horizon_is last.refuted in
+      let here : Contains entries (entry_line entry) = subst (λ (e : Entry). Contains entries (entry_line e)) is (contains_map entry_line (map entry_of views) (entry_of last.line) (contains_map entry_of views last.line last.told)) in
+      record {
+        horizon = horizon;
+        conflicts = last.line.conflicts;
+        told = of_all (exhausted_line horizon) (Contains-append_right entries others (exhausted_line horizon) (1, omega arith, refl));
+        refuted = (decimal horizon, decimal last.line.conflicts, decimal_is_IsNumeral horizon small.end, decimal_is_IsNumeral last.line.conflicts few, of_all (entry_line entry) (Contains-append_left entries others (entry_line entry) here));
+        listed_last = (settings, refl, last.listed_last);
+      }
 
   -- ---- the budget
 

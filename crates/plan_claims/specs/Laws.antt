@@ -1,22 +1,26 @@
 -- What the crates below promise of plans and reports, gathered.
 use Rattle.report_lines.specs.Laws.{FrontsSayNoMore, ReportsSayEntries}
-use Rattle.gt_core.specs.Laws.{PublishedIsUnique, NeverItself}
-use Rattle.two_invariants.specs.Laws.{OneListOfInvariants}
-use Rattle.grounding.specs.Laws.{OneResult, GroundedIsTask}
+use Rattle.gt_core.specs.Laws.{PublishedIsUnique, NeverItself, EachOrderRuns}
+use Rattle.two_invariants.specs.Laws.{InvariantsHold, OneListOfInvariants}
+use Rattle.grounding.specs.Laws.{OneResult, GroundedIsTask, ActionsAreCalls, GoalsAgree}
 use Rattle.plan_words.specs.Seen.{NumbersAreSettings}
 use Rattle.step_plans.specs.Laws.{StepPlansRun, ShortPlansAreStepPlans, OtherPlansAreLonger, SetsAreLists, ListedHaveActionsOnce, ListedAreInOrder, SetsAtPlacesAreListed}
-use Rattle.proof_text.specs.Laws.{OneSpelling, LinesAreRead, TextsAreFit}
+use Rattle.proof_text.specs.Laws.{OneSpelling, OnePlace, LinesAreRead, TextsAreFit}
 use Rattle.plan_report.specs.Laws.{LinesAreReadBack, PlansAreRead, StepsAreTold, HorizonsAreTold}
 
 pub record Laws : Type 0 where
   pub settings : NumbersAreSettings
   pub fronts : FrontsSayNoMore
   pub entries : ReportsSayEntries
+  pub hold : InvariantsHold
   pub invariants : OneListOfInvariants
   pub unique : PublishedIsUnique
   pub itself : NeverItself
+  pub each_order : EachOrderRuns
   pub one_result : OneResult
   pub is_task : GroundedIsTask
+  pub actions_are_calls : ActionsAreCalls
+  pub goals_agree : GoalsAgree
   pub run : StepPlansRun
   pub short : ShortPlansAreStepPlans
   pub longer : OtherPlansAreLonger
@@ -29,5 +33,6 @@ pub record Laws : Type 0 where
   pub steps : StepsAreTold
   pub horizons : HorizonsAreTold
   pub one_spelling : OneSpelling
+  pub one_place : OnePlace
   pub proof_lines : LinesAreRead
   pub no_fault : TextsAreFit

@@ -1,5 +1,5 @@
 //! What the crates below promise, gathered.
-ghost use Rattle.plan_top.specs.Laws.{Laws};
+ghost use Rattle.plan_claims.specs.Laws.{Laws};
 
 /// The laws on which the promises of the top call rest, for its proof; it does nothing.
 pub fn laws()

@@ -1,8 +1,9 @@
 -- What a report and a checked plan promise of the files.
-use Rattle.std.specs.List.{AllByRecursion}
-use Rattle.std.specs.Prelude.{◌≡◌, ◌≤◌, ℕ, ◌+◌, List, [], ◌∷◌, ◌++◌, map, length, codes, Bool, Option, Some, IfSome, Ok, Contains}
+use Rattle.std.specs.List.{AllByRecursion, AllZip}
+use Rattle.std.specs.Prelude.{◌≡◌, ◌≤◌, ℕ, ◌+◌, List, [], ◌∷◌, ◌++◌, map, length, codes, Bool, IsTrue, Option, Some, Ok, Contains}
+use Rattle.pl_io.specs.Outside.{Heard, whole}
 use Rattle.report_lines.specs.Lines.{lines_of}
-use Rattle.report_lines.specs.Horizons.{Entry, entry_line, report}
+use Rattle.report_lines.specs.Horizons.{Entry, Says, is_word, entry_line, report}
 use Rattle.clause_base.specs.Choice.{Known}
 use Rattle.clause_base.specs.Formula.{Cnf}
 use Rattle.clause_base.specs.Derivation.{IsRefutation}
@@ -13,12 +14,15 @@ use Rattle.pd_model.specs.Plan.{IsPlan}
 use Rattle.pd_model.specs.declared.calls.Call.{Call}
 use Rattle.pd_model.specs.declared.parts.Parts.{Parts}
 use Rattle.pd_plan.specs.PlanFile.{plan_file}
+use Rattle.gt_core.specs.Literal.{is_in}
+use Rattle.gt_core.specs.AllStep.{HasMembersOnce}
 use Rattle.gt_core.specs.Published.{order_of}
 use Rattle.grounding.specs.Grounded.{Grounded, IsGrounded}
+use Rattle.grounding.specs.Laws.{AreNumbers}
 use Rattle.task_text.specs.Text.{ground_text, order_text}
 use Rattle.race_end.specs.Ends.{Word, WordRefuted, WordDropped, WordOpen, WordPlan}
 use Rattle.step_plans.specs.Plans.{AreListed, HasActionsOnce, actions_in}
-use Rattle.plan_report.specs.Report.{word_text, plan_line, conflicts_line, calls_by_step}
+use Rattle.plan_report.specs.Report.{word_text, plan_line, exhausted_line, conflicts_line, calls_by_step}
 use Rattle.plan_report.specs.Laws.{TellsSteps}
 use Rattle.plan_words.specs.Seen.{Numbers, plans_by}
 use Rattle.plan_words.specs.Requested.{requested}
@@ -29,6 +33,8 @@ use Rattle.certificates.specs.Certificate.{IsCertificate}
 use Rattle.proof_text.specs.Text.{spaced, horizon_words}
 use Rattle.step_laws.specs.Form.{AreSets}
 use Rattle.step_clauses.specs.Variables.{chain_places}
+use Rattle.horizon_rates.specs.Horizons.{IsLastListed}
+use Rattle.plan_answers.specs.Answers.{OfSettings}
 use Rattle.plan_answers.specs.Stepping.{places_by, is_plan_by}
 use Rattle.plan_answers.specs.Tasks.{AreTask}
 
@@ -36,16 +42,24 @@ use Rattle.plan_answers.specs.Tasks.{AreTask}
 abbrev pub Printed : Option (List ℕ) → Option (List ℕ) → List ℕ → Type 0
 Printed old new text = (before : List ℕ) × (old ≡ Some before) × (new ≡ Some (before ++ text))
 
--- Two files of these names are a task of which the claim holds, where their bytes are told. (Files are at most one task.)
-abbrev pub OfFiles : (List ℕ → Option (List ℕ)) → List ℕ → List ℕ → (Parts → Type 0) → Type 0
-OfFiles told domain problem claim = IfSome (told domain) (λ first. IfSome (told problem) (λ second. (task : Parts) × AreTask first second task × claim task))
+-- What was handed over in between is two files of these names, all of each, which are a task of which the claim holds. (Files are at
+-- most one task.)
+abbrev pub OfFiles : List Heard → List Heard → List ℕ → List ℕ → (Parts → Type 0) → Type 0
+OfFiles old new domain problem claim =
+    (first second : List ℕ) × (new ≡ old ++ whole domain first ∷ whole problem second ∷ []) × (task : Parts) × AreTask first second task × claim task
+
+-- the same of a third file, of whose bytes the claim holds too
+abbrev pub OfThreeFiles : List Heard → List Heard → List ℕ → List ℕ → List ℕ → (List ℕ → Parts → Type 0) → Type 0
+OfThreeFiles old new domain problem other claim =
+    (first second third : List ℕ) × (new ≡ old ++ whole domain first ∷ whole problem second ∷ whole other third ∷ [])
+    × (task : Parts) × AreTask first second task × claim third task
 
 -- What is promised of a text that was printed for words that ask for a plan: of its steps, the text and the numbers, and of claims on
 -- the task of its files.
-abbrev pub OfPlans : List (List ℕ) → (List ℕ → Option (List ℕ)) → Option (List ℕ) → Option (List ℕ) → (Stepping → List ℕ → Numbers → ((Parts → Type 0) → Type 0) → Type 0) → Type 0
-OfPlans words told old new promise =
+abbrev pub OfPlans : List (List ℕ) → List Heard → List Heard → Option (List ℕ) → Option (List ℕ) → (Stepping → List ℕ → Numbers → ((Parts → Type 0) → Type 0) → Type 0) → Type 0
+OfPlans words was now old new promise =
     (how : Stepping) (text domain problem : List ℕ) (numbers : Numbers) → Printed old new text → requested words ≡ Some (plans_by how domain problem numbers)
-    → promise how text numbers (OfFiles told domain problem)
+    → promise how text numbers (OfFiles was now domain problem)
 
 -- What a task is grounded to, the clauses that are known of it, and its actions in published order, as their components:
 -- there are such, there are no others, and the claim holds of them.
@@ -61,19 +75,37 @@ pub record OfGrounded (task : Parts) (claim : Grounded → List (ℕ × ℕ) →
 -- ---- plans
 
 -- Under its step lines, which are as many as its line of the plan says, the text has the calls of a plan in these steps, each
--- step in published order; and a step has actions of the task, none of them twice.
-abbrev pub HasStepPlan : Stepping → List ℕ → Parts → Grounded → List (ℕ × ℕ) → List (List ℕ) → Type 0
-HasStepPlan how text task g clauses components =
+-- step in published order, and no others; and a step has actions of the task, none of them twice.
+abbrev pub HasStepPlan : Stepping → List ℕ → Parts → List Call → Grounded → List (ℕ × ℕ) → List (List ℕ) → Type 0
+HasStepPlan how text task calls g clauses components =
     (steps : List (List ℕ)) × (n : ℕ) × Contains (lines_of text) (plan_line n (length (actions_in steps))) × TellsSteps text (calls_by_step task g steps)
-    × AreSets (is_plan_by how) g.task (order_of components) steps n × AreListed (order_of components) steps × AllByRecursion (HasActionsOnce g.task) steps
+    × AreNumbers g calls (actions_in steps) × AreSets (is_plan_by how) g.task (order_of components) steps n × AreListed (order_of components) steps × AllByRecursion (HasActionsOnce g.task) steps
 
 -- the text is a plan file whose calls are a plan, and its steps are a step plan
 abbrev pub PlanRuns : Stepping → List ℕ → Parts → Type 0
-PlanRuns how text task = ((calls : List Call) × (plan_file task text ≡ Ok calls) × IsPlan task calls) × OfGrounded task (HasStepPlan how text task)
+PlanRuns how text task = (calls : List Call) × (plan_file task text ≡ Ok calls) × IsPlan task calls × OfGrounded task (HasStepPlan how text task calls)
+
+-- each list has the members of the set at its place, in some order
+abbrev pub AreOrders : List (List ℕ) → List (List ℕ) → Type 0
+AreOrders steps lists = AllZip (λ set list. HasMembersOnce (is_in set) list) steps lists
+
+-- The text has the calls of these steps, and in every order within their steps the calls are a plan.
+abbrev pub RunInEveryOrder : List ℕ → Parts → Grounded → Type 0
+RunInEveryOrder text task g =
+    (steps : List (List ℕ)) × TellsSteps text (calls_by_step task g steps)
+    × ((lists : List (List ℕ)) → AreOrders steps lists → (calls : List Call) × AreNumbers g calls (actions_in lists) × IsPlan task calls)
+
+-- the same of a task
+abbrev pub EveryOrderRuns : List ℕ → Parts → Type 0
+EveryOrderRuns text task = OfGrounded task (λ g clauses components. RunInEveryOrder text task g)
 
 -- each plan in these steps has at least so many
 abbrev pub HasAtLeast : Stepping → ℕ → Parts → Type 0
 HasAtLeast how n task = OfGrounded task (λ g clauses components. (sets : ℕ → ℕ → Bool) (k : ℕ) → is_plan_by how g.task (order_of components) sets k → n ≤ k)
+
+-- there is a plan in these steps that has so many
+abbrev pub HasPlanOf : Stepping → ℕ → Parts → Type 0
+HasPlanOf how n task = OfGrounded task (λ g clauses components. (steps : List (List ℕ)) × AreSets (is_plan_by how) g.task (order_of components) steps n)
 
 -- ---- horizons
 
@@ -84,6 +116,15 @@ NoStepPlan how horizon task = OfGrounded task (λ g clauses components. (sets : 
 -- no list of at most so many calls is a plan
 abbrev pub NoPlan : ℕ → Parts → Type 0
 NoPlan horizon task = (calls : List Call) → length calls ≤ horizon → IsPlan task calls → ⊥
+
+-- The text says that this is the horizon up to which the race went, that it is refuted, and it is the last horizon that is listed for
+-- these numbers.
+pub record TellsExhausted (text : List ℕ) (numbers : Numbers) : Type 0 where
+  pub horizon : ℕ
+  pub conflicts : ℕ
+  pub told : Contains (lines_of text) (exhausted_line horizon)
+  pub refuted : Says text horizon (codes "refuted") conflicts
+  pub listed_last : OfSettings numbers (λ settings. IsLastListed settings.rates horizon)
 
 -- how the solver of a horizon stands where a line has this word
 abbrev pub standing_of : Word → Standing
@@ -126,20 +167,34 @@ pub record SpendsAll (text : List ℕ) (budget : ℕ) : Type 0 where
   pub lines : lines_of text ≡ map entry_line entries ++ (conflicts_line budget budget ∷ codes "; unfinished" ∷ [])
   pub sum : conflicts_of entries ≡ budget
 
+-- ---- batches
+
+-- What `plan` promises of its text holds of a part of a batch, of whose domain and problem this was handed over.
+pub record PartIsSo (domain problem : List ℕ) (numbers : Numbers) (first other : Heard) (text : List ℕ) (status : ℕ) : Type 0 where
+  pub plan_runs : status ≡ 0 → OfFiles [] (first ∷ other ∷ []) domain problem (PlanRuns Exists text)
+  pub found_steps : (horizon conflicts : ℕ) → Says text horizon (codes "plan") conflicts → OfFiles [] (first ∷ other ∷ []) domain problem (HasPlanOf Exists horizon)
+  pub refuted_steps : (horizon conflicts : ℕ) → Says text horizon (codes "refuted") conflicts → OfFiles [] (first ∷ other ∷ []) domain problem (NoStepPlan Exists horizon)
+  pub refuted_plans : (horizon conflicts : ℕ) → Says text horizon (codes "refuted") conflicts → OfFiles [] (first ∷ other ∷ []) domain problem (NoPlan horizon)
+  pub least :
+      (horizon conflicts actions : ℕ) → Contains (lines_of text) (plan_line (horizon + 1) actions) → Says text horizon (codes "refuted") conflicts
+      → OfFiles [] (first ∷ other ∷ []) domain problem (HasAtLeast Exists (horizon + 1))
+  pub exhausted : status ≡ 1 → OfFiles [] (first ∷ other ∷ []) domain problem (λ task. TellsExhausted text numbers)
+  pub unfinished : status ≡ 2 → OfFiles [] (first ∷ other ∷ []) domain problem (λ task. SpendsAll text numbers.budget)
+  pub lines : (horizon conflicts : ℕ) (word : List ℕ) → IsTrue (is_word word) → Says text horizon word conflicts → OfFiles [] (first ∷ other ∷ []) domain problem (LineIsSo Exists horizon word conflicts)
+
 -- ---- certificates
 
 -- the text is a certificate that a horizon of the task has no plan
 abbrev pub Certifies : List ℕ → ℕ → Parts → Type 0
 Certifies text horizon task = OfGrounded task (λ g clauses components. IsCertificate (formula_at chain_places (form_of g.task clauses components)) text horizon)
 
+-- the text is a certificate for no horizon of the task
+abbrev pub CertifiesNothing : List ℕ → Parts → Type 0
+CertifiesNothing text task = OfGrounded task (λ g clauses components. (horizon : ℕ) → IsCertificate (formula_at chain_places (form_of g.task clauses components)) text horizon → ⊥)
+
 -- the first line of the text is `horizon N`
 abbrev pub IsOfHorizon : List ℕ → ℕ → Type 0
 IsOfHorizon text horizon = (rest : List (List ℕ)) × (lines_of text ≡ spaced (horizon_words horizon) ∷ rest)
-
--- three files of these names are a task and a certificate of which the claim holds, where their bytes are told
-abbrev pub OfProof : (List ℕ → Option (List ℕ)) → List ℕ → List ℕ → List ℕ → (List ℕ → Parts → Type 0) → Type 0
-OfProof told domain problem proof claim =
-    IfSome (told domain) (λ first. IfSome (told problem) (λ second. IfSome (told proof) (λ third. (task : Parts) × AreTask first second task × claim third task)))
 
 -- the text names a horizon that has no step plan of so many steps, nor of fewer, and no plan of at most so many actions
 abbrev pub ProvesNone : List ℕ → Parts → Type 0
@@ -147,11 +202,13 @@ ProvesNone text task = (horizon : ℕ) × IsOfHorizon text horizon × NoStepPlan
 
 -- ---- the other commands
 
--- three files of these names are a task and calls of it that are a plan, where their bytes are told
-abbrev pub CallsRun : (List ℕ → Option (List ℕ)) → List ℕ → List ℕ → List ℕ → Type 0
-CallsRun told domain problem plan =
-    IfSome (told domain) (λ first. IfSome (told problem) (λ second. IfSome (told plan) (λ third.
-    (task : Parts) × (calls : List Call) × AreTask first second task × (plan_file task third ≡ Ok calls) × IsPlan task calls)))
+-- the bytes are a plan file whose calls are a plan
+abbrev pub AreCallsOfPlan : List ℕ → Parts → Type 0
+AreCallsOfPlan text task = (calls : List Call) × (plan_file task text ≡ Ok calls) × IsPlan task calls
+
+-- the bytes are a plan file whose calls are no plan
+abbrev pub AreCallsOfNoPlan : List ℕ → Parts → Type 0
+AreCallsOfNoPlan text task = (calls : List Call) × (plan_file task text ≡ Ok calls) × (IsPlan task calls → ⊥)
 
 -- the text has the facts and the actions of a task
 abbrev pub TellsGround : List ℕ → Parts → Type 0

@@ -23,3 +23,13 @@ reaches_is_plan p index s (call ∷ calls) h = step (λ t e. reaches_is_plan p (
         → IsTrue (meets_goal p (elim o [ None ↦ None | Some t ↦ exec_all p t calls ]))
     step more None e = absurd (let never : Blocked index ≡ Reaches = e in cc)
     step more (Some t) e = more t e
+
+-- and a plan is what comes to reach it
+pub plan_reaches : (p : Parts) (index : ℕ) (s : List Atom) (calls : List Call) → IsTrue (meets_goal p (exec_all p s calls)) → verdict_from p index s calls ≡ Reaches
+plan_reaches p index s [] h = rw h refl
+plan_reaches p index s (call ∷ calls) h = step (λ t k. plan_reaches p (index + 1) t calls k) (exec p s call) h
+  where
+    step : ((t : List Atom) → IsTrue (meets_goal p (exec_all p t calls)) → verdict_from p (index + 1) t calls ≡ Reaches) → (o : Option (List Atom))
+        → IsTrue (meets_goal p (elim o [ None ↦ None | Some t ↦ exec_all p t calls ])) → elim o [ None ↦ Blocked index | Some t ↦ verdict_from p (index + 1) t calls ] ≡ Reaches
+    step more None k = absurd (let never : false ≡ true = k in cc)
+    step more (Some t) k = more t k
