@@ -1,4 +1,4 @@
-use Rattle.std.proofs.Common.{arith, ◌∙◌, ap, sym}
+use Rattle.std.proofs.Common.{arith}
 use Rattle.number_bytes.proofs.NumberLaws.{few_bytes}
 use Rattle.number_bytes.proofs.number.put_number.Goals as goal
 

@@ -1,6 +1,5 @@
-use Rattle.std.proofs.Common.{arith, ◌<◌, ◌^◌, ◌++◌, ℕ, length, get_or, refl}
+use Rattle.std.proofs.Common.{arith, ◌<◌, ◌^◌, ℕ, length, get_or, refl}
 use Rattle.std.proofs.lemmas.List.Elements.{All-more}
-use Rattle.number_bytes.specs.Numbers.{steps_of}
 use Rattle.number_bytes.proofs.NumbersLaws.{first_still, first_more, steps_next}
 use Rattle.number_bytes.proofs.numbers.put_numbers.Goals as goal
 
@@ -15,11 +14,11 @@ loop-number-preserved c =
     let put = c.put_step_within.ensures in
     record {
       told =
-          steps_next (c.args.bytes.now.items ++ steps_of 0 numbers) c.loop-number.bytes.items c.put_step_within.new.bytes.items numbers index c.loop-number.last (get_or numbers index 0) within
-              refl put.put c.loop-number.invariant.told;
+          steps_next _ c.loop-number.bytes.items c.put_step_within.new.bytes.items numbers index c.loop-number.last (get_or numbers index 0) within
+          refl put.put c.loop-number.invariant.told;
       small = All-more (λ (n : ℕ). n < 2 ^ 32) numbers index 0 within c.loop-number.invariant.small (c.type_inv.numbers index).fits;
       before =
-          first_still c.args.bytes.now.items c.loop-number.bytes.items c.put_step_within.new.bytes.items c.loop-number.invariant.before
-              (first_more c.loop-number.bytes.items c.put_step_within.new.bytes.items _ put.put);
+          first_still _ c.loop-number.bytes.items c.put_step_within.new.bytes.items c.loop-number.invariant.before
+          (first_more c.loop-number.bytes.items c.put_step_within.new.bytes.items _ put.put);
       room = omega (arith, c.loop-number.invariant.room, within, put.few, put.capacity);
     }

@@ -1,4 +1,4 @@
-use Rattle.std.proofs.Common.{arith, ◌++◌, List, ℕ, length, ap}
+use Rattle.std.proofs.Common.{arith, List, ℕ, length, ap}
 use Rattle.std.proofs.lemmas.List.{length-append}
 use Rattle.number_bytes.specs.Number.{bytes_of}
 use Rattle.number_bytes.proofs.NumberLaws.{five_bytes}
