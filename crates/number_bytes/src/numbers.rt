@@ -2,7 +2,7 @@ ghost use Rattle.std.specs.Prelude.{◌≡◌, ◌+◌, ◌∷◌, [], ◌++◌,
 ghost use Rattle.number_bytes.specs.Number.{bytes_of};
 ghost use Rattle.number_bytes.specs.Numbers.{numbers_of, after_numbers, step_to, steps_of};
 
-use crate::number::{put_within, take_number};
+use crate::number::{put_number, put_within, take_number};
 use crate::step::{step_from, step_to};
 use std::alloc::AllocError;
 use std::marker::Model;
@@ -79,6 +79,14 @@ pub fn after_numbers(bytes: &[u8], count: usize) -> &[u8]
         rest = take_number(rest).rest;
     }
     rest
+}
+
+/// Adds a number by its step from the one before it. After want of memory the bytes that stood before still stand first.
+pub fn put_step(bytes: &mut Vec<u8>, last: u32, number: u32) -> Result<(), AllocError>
+    ensures ok { OnOk result (bytes.new.items ≡ bytes.old.items ++ bytes_of (step_to last number)) }
+    ensures before { take (length bytes.old.items) bytes.new.items ≡ bytes.old.items }
+{
+    put_number(bytes, step_to(last, number))
 }
 
 /// How many bytes the step between two numbers takes at most.
