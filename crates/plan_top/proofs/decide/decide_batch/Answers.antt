@@ -10,8 +10,8 @@ use Rattle.plan_files.proofs.Hearing.{handed_once}
 use Rattle.plan_files.proofs.Stopped.{EndsAs-handed, EndsAs-weaker}
 use Rattle.plan_top.proofs.decide.decide_batch.Goals as goal
 
-pub take_first-requires : goal.take_first-requires
-take_first-requires g c =
+pub take_first-domain-requires : goal.take_first-domain-requires
+take_first-domain-requires g c =
     let taken = c.in_ok-files.ensures.taken in
     some_files taken.0 (g.S.Shelf.failed c.args.shelf.now) (g.S.Shelf.failed c.take_all.new.shelf) c.args.settings.now c.args.turns (seen c.args.request.now) c.requires c.in_ok-files.files.items taken.2
 
