@@ -1,6 +1,28 @@
--- What contracts see of a judge.
+-- What a judge knows of a proof.
+use Rattle.std.specs.Prelude.{◌≡◌, ℕ, List, length, min, true}
+use Rattle.std.specs.List.{list_any}
 use Rattle.clause_base.specs.Formula.{Cnf}
+use Rattle.clause_base.specs.Derivation.{IsDerivation, learns_empty}
+use Rattle.clause_base.specs.declared.log.Entry.{Entry}
+use Rattle.rup_check.specs.Taken.{CheckerView, HasTaken}
 
 -- the formula that it judges proofs for
 pub record Judged : Type 0 where
   pub formula : Cnf
+
+-- a count of 64 bits, which stands still at its end
+abbrev pub counted : ℕ → ℕ
+counted n = min n 18446744073709551615
+
+-- a checker has taken so many entries
+pub record HasCounted (checker : CheckerView) (entries : ℕ) : Type 0 where
+  pub log : List Entry
+  pub taken : HasTaken checker log
+  pub count : entries ≡ counted (length log)
+
+-- some derivation of so many entries, each of which adds a clause or drops one, learns the empty clause
+pub record IsRefutedBy (formula : Cnf) (entries : ℕ) : Type 0 where
+  pub log : List Entry
+  pub derived : IsDerivation formula.variables formula.clauses log
+  pub empty : list_any learns_empty log ≡ true
+  pub count : entries ≡ counted (length log)

@@ -1,7 +1,10 @@
 //! A line that was read, as entries for a checker.
 ghost use Rattle.std.specs.Prelude.{◌≡◌};
+ghost use Rattle.clause_base.specs.Clause.{IsClause};
+ghost use Rattle.lrat_judge.specs.Judged.{HasCounted};
 
 use clause_base::clause::Clause;
+use clause_base::literal::Lit;
 use clause_base::memory::Memory;
 use id_table::IdTable;
 use lrat_text::line::Line;
@@ -25,15 +28,50 @@ fn read_hints(hints: &mut Vec<u32>, ids: &IdTable, line: &Line) -> Result<bool, 
     Ok(true)
 }
 
-/// Takes the line as one that adds a clause, exactly where the clause is derived by the hints, and says whether it is.
+// Takes the entry that learns a clause by these hints, where it is derived, and says whether it is.
+fn learn_counted(
+    checker: &mut Checker<'_>,
+    clause: &[Lit],
+    hints: &[u32],
+    entries: &mut u64,
+) -> Result<bool, Memory>
+    requires lawful { IsClause clause.now }
+    requires counted { HasCounted checker.old entries.old }
+    ensures formula { checker.new.formula ≡ checker.old.formula }
+    ensures counted { HasCounted checker.new entries.new }
+{
+    if !checker.learn(clause, hints)? {
+        return Ok(false);
+    }
+    *entries = entries.saturating_add(1);
+    Ok(true)
+}
+
+// Takes the entry that drops the clause with this number, where it is kept, and says whether it is.
+fn forget_counted(checker: &mut Checker<'_>, number: u32, entries: &mut u64) -> bool
+    requires { HasCounted checker.old entries.old }
+    ensures formula { checker.new.formula ≡ checker.old.formula }
+    ensures counted { HasCounted checker.new entries.new }
+{
+    if !checker.forget(number) {
+        return false;
+    }
+    *entries = entries.saturating_add(1);
+    true
+}
+
+/// Takes the line as one that adds a clause, where the clause is derived by the hints, and says whether it is.
 pub fn learn(
     alloc: Global,
     checker: &mut Checker<'_>,
     ids: &mut IdTable,
     line: &Line,
     hints: &mut Vec<u32>,
+    entries: &mut u64,
 ) -> Result<bool, Memory>
-    ensures { checker.new.formula ≡ checker.old.formula }
+    requires { HasCounted checker.old entries.old }
+    ensures formula { checker.new.formula ≡ checker.old.formula }
+    ensures counted { HasCounted checker.new entries.new }
 {
     if line.foreign || !read_hints(hints, ids, line)? {
         return Ok(false);
@@ -44,21 +82,22 @@ pub fn learn(
     if !ids.push(line.id)? {
         return Ok(false);
     }
-    checker.learn(clause.as_slice(), hints)
+    learn_counted(checker, clause.as_slice(), hints, entries)
 }
 
 /// Takes the line as one that deletes clauses, and says whether each of its ids names one that was kept until then.
 pub fn forget(checker: &mut Checker<'_>, ids: &IdTable, line: &Line, entries: &mut u64) -> bool
-    ensures { checker.new.formula ≡ checker.old.formula }
+    requires { HasCounted checker.old entries.old }
+    ensures formula { checker.new.formula ≡ checker.old.formula }
+    ensures counted { HasCounted checker.new entries.new }
 {
     for id in &line.ids {
         let Some(number) = number_of(ids, *id) else {
             return false;
         };
-        if !checker.forget(number) {
+        if !forget_counted(checker, number, entries) {
             return false;
         }
-        *entries = entries.saturating_add(1);
     }
     true
 }

@@ -1,6 +1,7 @@
 //! Pieces of a text, cut into lines.
 ghost use Rattle.std.specs.Prelude.{◌≡◌, ◌<◌, ℕ, length, IfOk, IfSome};
 ghost use Rattle.clause_base.specs.Formula.{IsUnsatisfiable};
+ghost use Rattle.lrat_judge.specs.Judged.{IsRefutedBy};
 
 use crate::lines::Lines;
 use crate::verdict::Verdict;
@@ -47,6 +48,7 @@ impl<'a> Judge<'a> {
     fn take_end(&mut self, end: &[u8]) -> Result<Verdict, Memory>
         ensures formula { self.new.formula ≡ self.old.formula }
         ensures refuted { (entries : ℕ) → result ≡ Ok (Verdict.Refuted entries) → IsUnsatisfiable self.old.formula.clauses }
+        ensures entries { (entries : ℕ) → result ≡ Ok (Verdict.Refuted entries) → IsRefutedBy self.old.formula entries }
     {
         if self.front.is_empty() {
             return self.lines.take(end);
@@ -62,6 +64,7 @@ impl<'a> Judge<'a> {
     pub fn take(&mut self, piece: &[u8]) -> Result<Verdict, Memory>
         ensures formula { self.new.formula ≡ self.old.formula }
         ensures refuted { (entries : ℕ) → result ≡ Ok (Verdict.Refuted entries) → IsUnsatisfiable self.old.formula.clauses }
+        ensures entries { (entries : ℕ) → result ≡ Ok (Verdict.Refuted entries) → IsRefutedBy self.old.formula entries }
     {
         let mut rest = piece;
         while let Some((line, others)) = first_line(rest) {

@@ -1,6 +1,7 @@
 //! Lines, judged one after another.
 ghost use Rattle.std.specs.Prelude.{◌≡◌, ℕ, IfOk};
 ghost use Rattle.clause_base.specs.Formula.{IsUnsatisfiable};
+ghost use Rattle.lrat_judge.specs.Judged.{IsRefutedBy};
 
 use crate::entries::{forget, learn};
 use crate::verdict::Verdict;
@@ -26,11 +27,13 @@ pub struct Lines<'a> {
 }
 
 impl<'a> Model for Lines<'a> {
-    ghost use Rattle.lrat_judge.specs.Judged.{Judged};
+    ghost use Rattle.lrat_judge.specs.Judged.{Judged, HasCounted};
 
     ghost Value = { Judged };
 
     ghost view = { λ l. record { formula = l.checker.formula } };
+
+    ghost invariant = { λ l. HasCounted l.checker l.entries };
 }
 
 impl<'a> Lines<'a> {
@@ -63,13 +66,13 @@ impl<'a> Lines<'a> {
         if self.line.deletes {
             return Ok(forget(&mut self.checker, &self.ids, &self.line, &mut self.entries));
         }
-        self.entries = self.entries.saturating_add(1);
         learn(
             self.alloc,
             &mut self.checker,
             &mut self.ids,
             &self.line,
             &mut self.hints,
+            &mut self.entries,
         )
     }
 
@@ -77,6 +80,7 @@ impl<'a> Lines<'a> {
     pub fn take(&mut self, bytes: &[u8]) -> Result<Verdict, Memory>
         ensures formula { self.new.formula ≡ self.old.formula }
         ensures refuted { (entries : ℕ) → result ≡ Ok (Verdict.Refuted entries) → IsUnsatisfiable self.old.formula.clauses }
+        ensures entries { (entries : ℕ) → result ≡ Ok (Verdict.Refuted entries) → IsRefutedBy self.old.formula entries }
     {
         let at = self.at;
         self.at = at.saturating_add(bytes.len() as u64 + 1);
