@@ -118,7 +118,7 @@ FAMILIES = [
     ("an action with many conditions and effects", one_wide_action, [(12, 6), (1000, 200)]),
     ("conditional adds and deletes of one fact", adds_and_deletes, [(4,), (24,)]),
     ("a chain of facts beside other actions", long_chain, [(12, 4), (400, 40)]),
-    ("variables that no effect uses", unused_variables, [(6,), (64,)]),
+    ("variables that no effect uses", unused_variables, [(6,), (20,)]),
     ("conditions and literals under when", lambda count: many_under_when(count, False), [(12,), (3000,)]),
     ("the same under when", lambda count: many_under_when(count, True), [(12,), (3000,)]),
     ("forall in forall", nested, [(3, 4, 12), (25, 400, 10000)]),

@@ -9,7 +9,7 @@ ghost use Rattle.clause_log.specs.Held.{entry_bytes, log_bytes, AreFew, IsSmall,
 use clause_base::literal::Lit;
 use clause_base::memory::Memory;
 use number_bytes::number::put_number;
-use number_bytes::numbers::{put_numbers, put_step};
+use number_bytes::numbers::{MOST_STEP, put_numbers, put_step_within};
 use std::alloc::AllocError;
 
 /// Adds how many hints there are, and the hints. After want of memory the bytes that stood before still stand first.
@@ -29,9 +29,10 @@ fn put_literals(steps: &mut Vec<u8>, clause: &[Lit]) -> Result<(), AllocError>
     ensures small { OnOk result (All (λ n. n < 2 ^ 32) clause.now) }
     ensures before { take (length steps.old.items) steps.new.items ≡ steps.old.items }
 {
+    steps.reserve(MOST_STEP * clause.len())?;
     let mut last = 0;
     for lit in clause {
-        put_step(steps, last, lit.0)?;
+        put_step_within(steps, last, lit.0);
         last = lit.0;
     }
     Ok(())

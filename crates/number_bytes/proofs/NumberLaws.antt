@@ -1,5 +1,5 @@
 -- The bytes of a number, and the number back from them.
-use Rattle.std.proofs.Common.{arith, ◌≡◌, ℕ, zero, suc, ◌+◌, ◌-◌, ◌*◌, ◌/◌, ◌%◌, ◌^◌, ◌<◌, ◌≤◌, List, [], ◌∷◌, ◌++◌, length, Bool, true, false, if◌then◌else◌, refl, ap, sym, ◌∙◌, inl, inr}
+use Rattle.std.proofs.Common.{arith, ◌≡◌, ℕ, zero, suc, ◌+◌, ◌-◌, ◌*◌, ◌/◌, ◌%◌, ◌^◌, ◌<◌, ◌≤◌, List, [], ◌∷◌, ◌++◌, length, Bool, true, false, if◌then◌else◌, refl, ap, sym, ◌∙◌, inl, inr, append_assoc}
 use Rattle.std.specs.Prelude.{nat_lt}
 use Rattle.std.proofs.Math.Nat.{pow-suc, add-mod-mod, add_comm, mul_assoc, mul_comm, mul-add}
 use Rattle.std.proofs.lemmas.Nat.{mul-mod_first, mul-mod_second}
@@ -80,6 +80,35 @@ some_bytes n = by (nat_lt n 128)
     by : (b : Bool) → 1 ≤ length (if b then n ∷ [] else (n % 128 + 128) ∷ bytes_by 8 (n / 128))
     by true = omega arith
     by false = omega arith
+
+-- a number of so many times seven bits takes no more bytes
+bytes_by-few : (j k n : ℕ) → n < 128 ^ suc k → length (bytes_by j n) ≤ suc k
+bytes_by-few zero k n h = omega arith
+bytes_by-few (suc j) k n h = elim (cases_lt n 128) [
+  | inl low ↦ let e : nat_lt n 128 ≡ true = grind (arith, nat_tests) in rw e (omega arith)
+  | inr high ↦ let e : nat_lt n 128 ≡ false = grind (arith, nat_tests) in rw e (more k h high (λ (k : ℕ). bytes_by-few j k (n / 128)))
+]
+  where
+    more : (k : ℕ) → n < 128 ^ suc k → 128 ≤ n → ((k : ℕ) → n / 128 < 128 ^ suc k → length (bytes_by j (n / 128)) ≤ suc k) → suc (length (bytes_by j (n / 128))) ≤ suc k
+    more zero h high on = absurd (omega (arith, h, high))
+    more (suc k) h high on = let f = on k (rest_fits n (128 ^ suc k) (rw pow-suc at h)) in omega (arith, f)
+
+pub few_bytes : (n : ℕ) → n < 2 ^ 64 → length (bytes_of n) ≤ 10
+unfolding bytes_of
+few_bytes n h = let f = bytes_by-few 9 9 n (omega (arith, h)) in omega (arith, f)
+
+pub five_bytes : (n : ℕ) → n < 2 ^ 35 → length (bytes_of n) ≤ 5
+unfolding bytes_of
+five_bytes n h = let f = bytes_by-few 9 4 n (omega (arith, h)) in omega (arith, f)
+
+-- the lowest seven bits written, and the others still to write
+pub put_more : (now pushed old : List ℕ) (rest n : ℕ) → 128 ≤ rest → rest < 2 ^ 64 → pushed ≡ now ++ (rest % 128 + 128) ∷ [] → now ++ bytes_of rest ≡ old ++ bytes_of n
+    → pushed ++ bytes_of (rest / 128) ≡ old ++ bytes_of n
+put_more now pushed old rest n high fits p e =
+    ap (λ (xs : List ℕ). xs ++ bytes_of (rest / 128)) p
+    ∙ append_assoc now ((rest % 128 + 128) ∷ []) (bytes_of (rest / 128))
+    ∙ ap (λ (xs : List ℕ). now ++ xs) (sym (bytes_of-more rest high fits))
+    ∙ e
 
 -- a number that bytes begin with fits in 64 bits
 pub number_fits : (bytes : List ℕ) → number_of bytes < 2 ^ 64

@@ -1,6 +1,7 @@
 -- The bytes of numbers, and the numbers back from them.
 use Rattle.std.proofs.Common.{arith, ◌≡◌, ℕ, zero, suc, ◌+◌, ◌^◌, ◌<◌, ◌≤◌, List, [], ◌∷◌, ◌++◌, length, take, drop, get_or, append_assoc, All, refl, ap, sym, ◌∙◌}
 use Rattle.std.proofs.lemmas.List.{take-take, length-take, drop_more}
+use Rattle.std.proofs.Math.Seq.{take-append_seam}
 use Rattle.std.proofs.lemmas.Bool.Decides.{nat_tests}
 use Rattle.number_bytes.specs.Number.{bytes_of, number_of, after_number}
 use Rattle.number_bytes.specs.Numbers.{step_to, step_from, steps_of, numbers_of, after_numbers}
@@ -16,6 +17,10 @@ step_back last n h = grind (arith, nat_tests)
 
 step_fits : (last n : ℕ) → last < 2 ^ 32 → n < 2 ^ 32 → step_to last n < 2 ^ 64
 step_fits last n l h = grind (arith, nat_tests)
+
+-- a step takes 33 bits
+pub step_small : (last n : ℕ) → last < 2 ^ 32 → n < 2 ^ 32 → step_to last n < 2 ^ 33
+step_small last n l h = grind (arith, nat_tests)
 
 -- what holds of each number holds of each after the first
 All_rest : (n : ℕ) (numbers : List ℕ) → All (λ n. n < 2 ^ 32) (n ∷ numbers) → All (λ n. n < 2 ^ 32) numbers
@@ -53,8 +58,13 @@ first_still old now pushed n p =
     let fewer : length old ≤ length now = omega (arith, long, length-take (length old) now) in
     sym (take-take (length old) (length now) pushed fewer) ∙ ap (take (length old)) p ∙ n
 
+-- what stood first still does before what was added
+pub first_more : (old now more : List ℕ) → now ≡ old ++ more → take (length old) now ≡ old
+first_more old now more e = ap (take (length old)) e ∙ take-append_seam old more
+
 -- the bytes of one number more
-pub steps_next : (old now pushed numbers : List ℕ) (index last n : ℕ) → index < length numbers → n ≡ get_or numbers index 0 → pushed ≡ now ++ bytes_of (step_to last n) → now ++ steps_of last (drop index numbers) ≡ old → pushed ++ steps_of n (drop (index + 1) numbers) ≡ old
+pub steps_next : (old now pushed numbers : List ℕ) (index last n : ℕ) → index < length numbers → n ≡ get_or numbers index 0 → pushed ≡ now ++ bytes_of (step_to last n)
+    → now ++ steps_of last (drop index numbers) ≡ old → pushed ++ steps_of n (drop (index + 1) numbers) ≡ old
 steps_next old now pushed numbers index last n within g p e =
     let rest = drop (index + 1) numbers in
     ap (λ (xs : List ℕ). xs ++ steps_of n rest) p

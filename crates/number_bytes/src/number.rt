@@ -1,7 +1,10 @@
-ghost use Rattle.std.specs.Prelude.{◌≡◌, ◌++◌, length, take, OnOk};
+ghost use Rattle.std.specs.Prelude.{◌≡◌, ◌+◌, ◌++◌, ◌≤◌, length, take, vec_capacity, OnOk};
 ghost use Rattle.number_bytes.specs.Number.{number_of, after_number, bytes_of, bytes_by};
 
 use std::alloc::AllocError;
+
+/// How many bytes a number takes at most.
+const MOST: usize = 10;
 
 /// The number that some bytes begin with, and the bytes after it.
 #[derive(Clone, Copy)]
@@ -30,15 +33,27 @@ pub fn take_number(bytes: &[u8]) -> Taken<'_>
     Taken { number, rest }
 }
 
+/// Adds a number for whose bytes there is room. It takes no memory: a list of numbers makes room once for all of them.
+#[inline(always)]
+pub(crate) fn put_within(bytes: &mut Vec<u8>, number: u64)
+    requires { length bytes.old.items + length (bytes_of number) ≤ vec_capacity bytes.old }
+    ensures put { bytes.new.items ≡ bytes.old.items ++ bytes_of number }
+    ensures capacity { vec_capacity bytes.new ≡ vec_capacity bytes.old }
+{
+    let mut rest = number;
+    while rest >= 128 {
+        bytes.push_reserved((rest % 128 + 128) as u8);
+        rest /= 128;
+    }
+    bytes.push_reserved(rest as u8);
+}
+
 /// Adds a number. After want of memory the bytes that stood before still stand first.
 pub fn put_number(bytes: &mut Vec<u8>, number: u64) -> Result<(), AllocError>
     ensures ok { OnOk result (bytes.new.items ≡ bytes.old.items ++ bytes_of number) }
     ensures before { take (length bytes.old.items) bytes.new.items ≡ bytes.old.items }
 {
-    if number < 128 {
-        bytes.push(number as u8)?;
-        return Ok(());
-    }
-    bytes.push((number % 128 + 128) as u8)?;
-    put_number(bytes, number / 128)
+    bytes.reserve(MOST)?;
+    put_within(bytes, number);
+    Ok(())
 }

@@ -1,8 +1,8 @@
-ghost use Rattle.std.specs.Prelude.{◌≡◌, ◌∷◌, [], ◌++◌, ◌<◌, ◌^◌, length, take, All, OnOk, IfSome, IfNone, IsTrue, ◌↔◌};
+ghost use Rattle.std.specs.Prelude.{◌≡◌, ◌+◌, ◌∷◌, [], ◌++◌, ◌<◌, ◌≤◌, ◌^◌, length, take, vec_capacity, All, OnOk, IfSome, IfNone, IsTrue, ◌↔◌};
 ghost use Rattle.number_bytes.specs.Number.{bytes_of};
 ghost use Rattle.number_bytes.specs.Numbers.{numbers_of, after_numbers, step_to, steps_of};
 
-use crate::number::{put_number, take_number};
+use crate::number::{put_number, put_within, take_number};
 use crate::step::{step_from, step_to};
 use std::alloc::AllocError;
 use std::marker::Model;
@@ -89,15 +89,30 @@ pub fn put_step(bytes: &mut Vec<u8>, last: u32, number: u32) -> Result<(), Alloc
     put_number(bytes, step_to(last, number))
 }
 
+/// How many bytes the step between two numbers takes at most.
+pub const MOST_STEP: usize = 5;
+
+/// Adds a number by its step from the one before it, where there is room for five bytes. It takes no memory.
+#[inline(always)]
+pub fn put_step_within(bytes: &mut Vec<u8>, last: u32, number: u32)
+    requires { length bytes.old.items + 5 ≤ vec_capacity bytes.old }
+    ensures put { bytes.new.items ≡ bytes.old.items ++ bytes_of (step_to last number) }
+    ensures few { length bytes.new.items ≤ length bytes.old.items + 5 }
+    ensures capacity { vec_capacity bytes.new ≡ vec_capacity bytes.old }
+{
+    put_within(bytes, step_to(last, number));
+}
+
 /// Adds numbers. After want of memory the bytes that stood before still stand first.
 pub fn put_numbers(bytes: &mut Vec<u8>, numbers: &[u32]) -> Result<(), AllocError>
     ensures ok { OnOk result (bytes.new.items ≡ bytes.old.items ++ steps_of 0 numbers.now) }
     ensures small { OnOk result (All (λ n. n < 2 ^ 32) numbers.now) }
     ensures before { take (length bytes.old.items) bytes.new.items ≡ bytes.old.items }
 {
+    bytes.reserve(MOST_STEP * numbers.len())?;
     let mut last = 0;
     for number in numbers {
-        put_step(bytes, last, *number)?;
+        put_step_within(bytes, last, *number);
         last = *number;
     }
     Ok(())
