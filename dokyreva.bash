@@ -25,11 +25,17 @@ _dokyreva_values() {
         }' "$_dokyreva_help/$1.txt" "$_dokyreva_help/options.txt"
 }
 
+# _dokyreva_there NAME: whether there is a program of this name, or a script with this path.
+_dokyreva_there() {
+    local root=$_dokyreva_help/../..
+    [[ $1 == plan_prog || -d $root/crates/$1 || -f $root/release/$1.gz || -f $root/release/$1 || -f $root/$1 ]]
+}
+
 # _dokyreva_commands: the commands that there are here.
 _dokyreva_commands() {
-    local name by
-    while read -r name by; do
-        [[ $by == plan_prog || -f $_dokyreva_help/../../$by || -f $_dokyreva_help/../../release/$by.gz ]] && printf '%s ' "$name"
+    local name by needs
+    while read -r name by needs; do
+        _dokyreva_there "$by" && _dokyreva_there "${needs:-plan_prog}" && printf '%s ' "$name"
     done <"$_dokyreva_help/commands.txt"
     echo help
 }

@@ -48,8 +48,8 @@ budgets_to() {
     steps+=("$1")
 }
 
-# budgets_for WORD..: sets steps to the budgets that are asked for in turn, and rest to the words beside them. Without a budget among
-# the words, the clock alone ends the search.
+# budgets_for WORD..: sets steps to the budgets that are asked for in turn, and rest to the words beside them. Without a
+# budget among the words, the clock alone ends the search.
 budgets_for() {
     local budget twice=no
     split_budget "$@"

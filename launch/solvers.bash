@@ -25,6 +25,14 @@ find_solver() {
     [ "$way" = lrat ] || has_command drat-trim "the package drat-trim has it (Debian 13); cadical from 1.7 on needs none"
 }
 
+# add_seed: the words of the solver with the seed; where it takes none, SEED among them stands for it.
+add_seed() {
+    case $solver in
+    cadical | kissat) words+=("--seed=$seed") ;;
+    *) words=("${words[@]//SEED/$seed}") ;;
+    esac
+}
+
 # has_command NAME WHERE
 has_command() {
     command -v -- "$1" >/dev/null || wrong "there is no command $1: $2"

@@ -13,7 +13,9 @@ begin_folder() {
     if [ -f "$folder/task/SHA256SUMS" ]; then
         is_of_task domain "$domain" && is_of_task problem "$problem" ||
             wrong "the domain or the problem is another than that with which $folder was begun: take another folder"
-        if ! is_unchanged "$folder"; then
+        if [ -n "$judge" ] && [ ! -f "$folder/task/judge" ]; then
+            put_task || wrong "the folder $folder cannot be filled"
+        elif ! is_unchanged "$folder"; then
             say "a file in $folder/task was changed: all are put there anew"
             put_task || wrong "the folder $folder cannot be filled"
         fi
@@ -21,8 +23,9 @@ begin_folder() {
     else
         put_task || wrong "the folder $folder cannot be filled"
     fi
-    printf 'first=%s\nlast=%s\nbudget=%s\nmemory=%s\nminutes=%s\n' "$first" "$last" "$budget" "$memory" "$minutes" \
-        >"$folder/task/settings.$$" && keep_file "$folder/task/settings.$$" "$folder/task/settings" ||
+    printf 'first=%s\nlast=%s\nbudget=%s\nmemory=%s\nminutes=%s\nsolvers=%s\nseeds=%s\n' "$first" "$last" "$budget" "$memory" \
+        "$minutes" "$solvers" "$seeds" >"$folder/task/settings.$$" &&
+        keep_file "$folder/task/settings.$$" "$folder/task/settings" ||
         wrong "the folder $folder cannot be filled"
 }
 
@@ -46,8 +49,11 @@ is_of_task() {
 put_task() {
     cp -- "$domain" "$folder/task/domain" && cp -- "$problem" "$folder/task/problem" &&
         cp -- "$program" "$folder/task/planner" && chmod 755 -- "$folder/task/planner" &&
-        cp -- "$self" "$folder/task/spread" && cp -- "$root"/launch/{spread_jobs,nap}.bash "$folder/task/" &&
-        (cd -- "$folder/task" && sha256sum domain problem planner spread spread_jobs.bash nap.bash) >"$folder/task/sums.$$" &&
+        { [ -z "$judge" ] || { cp -- "$judge" "$folder/task/judge" && chmod 755 -- "$folder/task/judge"; }; } &&
+        cp -- "$self" "$folder/task/spread" && cp -- "$root"/launch/model_plan.py "$folder/task/" &&
+        cp -- "$root"/launch/{spread_jobs,spread_solvers,solvers,nap}.bash "$folder/task/" &&
+        (cd -- "$folder/task" && sha256sum domain problem planner spread ./*.bash model_plan.py ${judge:+judge}) \
+            >"$folder/task/sums.$$" &&
         keep_file "$folder/task/sums.$$" "$folder/task/SHA256SUMS"
 }
 
@@ -96,13 +102,27 @@ end_refused() {
     exit "$1"
 }
 
-# left_over: sets wanted to the horizons that have no result and may change the answer.
+# left_over: sets wanted to the horizons that have no result and may change the answer; where solvers search, each with each
+# seed and solver, the first of them for all horizons first.
 left_over() {
-    local n
+    local n seed solver
     wanted=()
-    for ((n = first; n <= last; n++)); do
-        has_result "$folder" "$n" || is_needless "$folder" "$n" || wanted+=("$n")
+    for ((seed = 1; seed <= seeds; seed++)); do
+        while read -r -d , solver; do
+            for ((n = first; n <= last; n++)); do
+                has_result "$folder" "$n" || is_needless "$folder" "$n" || add_unit
+            done
+        done <<<"$solvers,"
     done
+}
+
+# add_unit: one of wanted.
+add_unit() {
+    if [ -z "$solver" ]; then
+        wanted+=("$n")
+    elif ! was_open "$folder" "$n" "$solver" "$seed"; then
+        wanted+=("$n $seed $solver")
+    fi
 }
 
 # tell_progress RUNNING: on a terminal, one line that is written over.
@@ -160,6 +180,7 @@ run_engine() {
 run_local() {
     local n side=0
     for n in "${wanted[@]}"; do
+        ! has_result "$folder" "${n%% *}" && ! is_needless "$folder" "${n%% *}" || continue
         if [ "$side" -ge "$side_by_side" ]; then
             wait -n || unkept=70
             note_results
@@ -212,7 +233,7 @@ submit() {
         wrong "sbatch refuses the jobs"
     job=${said%%;*}
     echo "$job" >"$folder/jobs/id.$$" && keep_file "$folder/jobs/id.$$" "$folder/jobs/id"
-    say "job $job with ${#wanted[@]} horizons"
+    say "job $job with ${#wanted[@]} $([ -z "$solvers" ] && echo horizons || echo 'tasks, each a horizon, a solver and a seed')"
 }
 
 # wait_slurm: waits until no task of the job is left. Slurm is asked every 5 seconds in the first minute, then every 30.
@@ -253,8 +274,8 @@ ask_slurm() {
 drop_needless() {
     local task n gone=()
     for task in "${tasks[@]}"; do
-        { read -r n <"$folder/jobs/$task"; } 2>/dev/null || continue
-        ! is_needless "$folder" "$n" || gone+=("${job}_$task")
+        { read -r n _ <"$folder/jobs/$task"; } 2>/dev/null || continue
+        ! has_result "$folder" "$n" && ! is_needless "$folder" "$n" || gone+=("${job}_$task")
     done
     [ "${#gone[@]}" = 0 ] || scancel "${gone[@]}" 2>/dev/null
 }
@@ -266,7 +287,7 @@ tell_failed() {
         task=${at##*_} task=${task%.out}
         if [ ! -s "$at" ]; then
             rm -f -- "$at"
-        elif { read -r n <"$folder/jobs/$task"; } 2>/dev/null && ! has_result "$folder" "$n" &&
+        elif { read -r n _ <"$folder/jobs/$task"; } 2>/dev/null && ! has_result "$folder" "$n" &&
             ! is_needless "$folder" "$n"; then
             say "the job of horizon $n has left no result, and wrote ($at):"
             tail -n 5 -- "$at" | sed 's/^/  /' >&2

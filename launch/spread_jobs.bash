@@ -3,16 +3,19 @@
 #
 # FOLDER/task has the domain, the problem, the planner, these scripts, their SHA-256 and the settings; FOLDER/h/N has what is
 # known of horizon N: `result` (word, conflicts, seconds, megabytes, where, files with their sums), and a certificate, plan or
-# report; or `lost`, why there is none yet. FOLDER/bounds has the least horizon with a plan and the greatest that is refuted: all
-# that a job has to look at while it runs. Each file is written beside its place and then renamed, the result last.
+# report, or a solver's proof; or `lost`, why there is none yet. FOLDER/bounds has the least horizon with a plan and the
+# greatest that is refuted: all that a job has to look at while it runs. Each file is written beside its place and then
+# renamed, the result last.
 
-running='' tie=() parent=''
+running='' group='' tie=() parent='' solvers='' seeds=1
 
-# read_settings FOLDER: sets first, last, budget, memory and minutes.
+# read_settings FOLDER: sets first, last, budget, memory, minutes, and solvers and seeds.
 read_settings() {
     local line
     while read -r line; do
-        [[ ! $line =~ ^(first|last|budget|memory|minutes)=([0-9]+)$ ]] || printf -v "${BASH_REMATCH[1]}" %s "${BASH_REMATCH[2]}"
+        [[ ! $line =~ ^(first|last|budget|memory|minutes|seeds)=([0-9]+)$ ]] ||
+            printf -v "${BASH_REMATCH[1]}" %s "${BASH_REMATCH[2]}"
+        [[ $line != solvers=* ]] || solvers=${line#solvers=}
     done <"$1/task/settings"
 }
 
@@ -102,8 +105,10 @@ is_orphan() {
 
 # stop_run: ends the planner that runs, and removes what this process has half made.
 stop_run() {
+    [ -z "$group" ] || kill -KILL -- "-$group"
     [ -z "$running" ] || { kill -KILL "$running"; wait "$running"; }
-    running=''
+    [ -z "${work-}" ] || rm -rf -- "$work"
+    running='' group=''
     rm -f -- "$1"/h/*/*".$$" "$1"/task/*".$$" "$1"/*".$$" "$1"/jobs/*".$$"
 } 2>/dev/null
 
@@ -213,15 +218,21 @@ begin_runs() {
     "${tie[@]}" true 2>/dev/null || tie=()
 }
 
-# run_horizons FOLDER N..: one after another. Status 70 where not even why there is no result could be written.
+# run_horizons FOLDER UNIT..: one after another, a horizon, or a horizon with a solver and a seed. Status 70 where not even why
+# there is no result could be written.
 run_horizons() {
-    local folder=$1 n
+    local folder=$1 it n solver seed
     [ -n "${SLURM_JOB_ID-}" ] || parent=$PPID
     trap 'trap "" INT QUIT TERM HUP; stop_run "$folder"; exit 130' INT QUIT TERM HUP
     begin_runs
     read_settings "$folder"
-    for n in "${@:2}"; do
-        run_horizon "$folder" "$n"
+    for it in "${@:2}"; do
+        read -r n seed solver <<<"$it"
+        if [ -z "$seed" ]; then
+            run_horizon "$folder" "$n"
+        else
+            run_unit "$folder" "$n" "$solver" "$seed"
+        fi
     done
     return "${unkept:-0}"
 }

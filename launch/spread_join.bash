@@ -44,7 +44,11 @@ read_results() {
 answer_fault() {
     local said task=$1/task
     fault='' bad=-1
-    if [ "$certified" -ge 0 ]; then
+    if [ "$certified" -ge 0 ] && field_of "$1/h/$certified/result" file && [[ $field == proof.* ]]; then
+        proof_fault "$1" "$certified" "${field% *}"
+        bad=$certified
+        [ -z "$fault" ] || return
+    elif [ "$certified" -ge 0 ]; then
         said=$("$program" verify "$task/domain" "$task/problem" "$1/h/$certified/certificate" 2>/dev/null)
         if ! [[ $said =~ ^'; accepted horizon '$certified' entries '[0-9]+$ ]]; then
             fault="the certificate of horizon $certified is not accepted: ${said:-no answer}" bad=$certified
@@ -52,7 +56,8 @@ answer_fault() {
         fi
     fi
     if [ "$found" -ge 0 ]; then
-        if ! said=$("$program" check "$task/domain" "$task/problem" "$1/h/$found/plan" 2>/dev/null); then
+        field_of "$1/h/$found/result" file
+        if ! said=$("$program" check "$task/domain" "$task/problem" "$1/h/$found/${field% *}" 2>/dev/null); then
             fault="the plan of horizon $found does not reach the goal: ${said:-no answer}" bad=$found
         elif [ "$certified" -ge "$found" ]; then
             fault="horizon $certified is refuted, and horizon $found has a plan" bad=$certified
@@ -104,6 +109,8 @@ tell_table() {
                 "$(value_of "$at" megabytes)" "$(value_of "$at" where)"
         elif is_settled "$n"; then
             printf '%-8s %-9s\n' "$n" needless
+        elif compgen -G "$1/h/$n/open.*" >/dev/null; then
+            printf '%-8s %-9s\n' "$n" open
         elif [ -n "$lost" ]; then
             printf '%-8s %-9s %10s %8s %7s  %s\n' "$n" lost '' '' '' "$lost"
         else
@@ -112,11 +119,12 @@ tell_table() {
     done
 }
 
-# tell_answer: the sentences that follow. Sets ends.
+# tell_answer FOLDER: the sentences that follow. Sets ends.
 tell_answer() {
     local least=$((certified > reported ? certified : reported)) from
     if [ "$found" -ge 0 ]; then
-        echo "A plan of $found steps, which was checked: h/$found/plan"
+        field_of "$1/h/$found/result" file
+        echo "A plan of $found steps, which was checked: h/$found/${field% *}"
         ends=0
     elif [ "$least" = "$last" ]; then
         echo "Every horizon up to $last is refuted."
@@ -131,7 +139,9 @@ tell_answer() {
         ends=2
     fi
     if [ "$certified" -ge 0 ]; then
-        echo "No plan of at most $certified actions: the certificate of horizon $certified was checked," \
+        field_of "$1/h/$certified/result" file
+        [[ $field == proof.* ]] && field=proof || field=certificate
+        echo "No plan of at most $certified actions: the $field of horizon $certified was checked," \
             "and one is enough for all below it."
     fi
     if [ "$reported" -gt "$certified" ]; then
@@ -197,7 +207,7 @@ join_results() {
     answer_fault "$folder"
     [ -z "$fault" ] || wrong "$fault"
     tell_table "$folder"
-    tell_answer
+    tell_answer "$folder"
     if [ "$ends" = 2 ]; then
         lost=$(lost_status "$folder")
         ends=${lost:-${unkept:-2}}

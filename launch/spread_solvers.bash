@@ -1,0 +1,151 @@
+# shellcheck shell=bash disable=SC2034,SC2154 # the parts set variables for one another
+# Horizons that SAT solvers search: what a job of ./spread --solver does. Read after spread_jobs.bash and solvers.bash, by
+# ./spread and by its copy in a folder of results.
+#
+# A unit is a horizon, a solver and a seed. FOLDER/h/N has, where `judge` has accepted a proof, the proof as
+# proof.SOLVER.SEED.gz; where a unit had no answer in its time, open.SOLVER.SEED with the minutes.
+
+# unit_name SOLVER SEED: sets unit to what files of it are called.
+unit_name() {
+    unit=${1//[^A-Za-z0-9]/_}.$2
+}
+
+# was_open FOLDER N SOLVER SEED: it had no answer in as much time.
+was_open() {
+    local unit spent=''
+    unit_name "$3" "$4"
+    { read -r spent <"$1/h/$2/open.$unit"; } 2>/dev/null
+    [ "${spent:-0}" -ge "$minutes" ]
+}
+
+# run_unit FOLDER N SOLVER SEED: nothing where it is needless or done.
+run_unit() {
+    local folder=$1 n=$2 solver=$3 seed=$4 at=$1/h/$2 unit work ended=''
+    local seconds=$((minutes * 60 - 5))
+    unit_name "$3" "$4"
+    mkdir -p -- "$at"
+    has_result "$folder" "$n" || is_needless "$folder" "$n" || was_open "$@" && return
+    is_unchanged "$folder" || { lose "$folder" "$n" 'a file of the task was changed'; return; }
+    (find_solver) 2>/dev/null || { lose "$folder" "$n" "$(uname -n) has no solver $solver"; return; }
+    find_solver
+    add_seed
+    work=$(mktemp -d) || { lose "$folder" "$n" 'there is no folder for a formula'; return; }
+    if write_formula; then
+        search_within
+        take_unit || lose "$folder" "$n" 'the result could not be kept' || unkept=70
+    fi
+    rm -rf -- "$work"
+    rm -f -- "$at"/*."$$"
+}
+
+# write_formula: the formula of the horizon. What stands in the way is kept.
+write_formula() {
+    local ended line
+    "$folder/task/judge" formula "$folder/task/domain" "$folder/task/problem" "$n" >"$work/cnf" 2>/dev/null </dev/null
+    ended=$?
+    [ "$ended" != 0 ] || return 0
+    read -r line <"$work/cnf"
+    seconds=0 megabytes=0
+    case $ended:$line in
+    4:'; limit literals'*) put_result "$folder" "$n" limit 0 ;;
+    8:*) lose "$folder" "$n" memory ;;
+    *) lose "$folder" "$n" "the formula is refused: $line" ;;
+    esac
+    return 1
+}
+
+# search_within: runs the solver, and the judge behind it, in a group of their own, and ends them where the horizon is
+# settled, the time is over or the driver is gone. Sets ended to the solver's status, or to nothing.
+search_within() {
+    local begun=$SECONDS
+    set -m
+    (search) >/dev/null 2>&1 </dev/null 9>&- &
+    running=$!
+    set +m
+    group=$running
+    while kill -0 "$running" 2>/dev/null; do
+        [ $((SECONDS - begun)) -lt $((minutes * 60)) ] && ! has_result "$folder" "$n" && ! is_needless "$folder" "$n" &&
+            ! is_orphan || break
+        nap 0.2
+    done
+    { kill -KILL -- "-$group"; wait "$running"; } 2>/dev/null
+    running='' group=''
+    [ ! -s "$work/ended" ] || read -r ended <"$work/ended"
+    seconds=$((SECONDS - begun)) megabytes=0
+}
+
+# search: leaves in the work folder `ended`, the solver's status, and what it was: `out`, or `judge` with `judged` and the proof.
+search() {
+    local status
+    ulimit -v "$((memory * 1024 * 95 / 100))"
+    solve "$work/cnf" >(judge_and_keep) >"$work/out"
+    status=$?
+    while [ "$status" = 20 ] && [ ! -s "$work/judge" ]; do nap 0.02; done
+    echo "$status" >"$work/ended.part" && mv -f -- "$work/ended.part" "$work/ended"
+}
+
+# judge_and_keep: the proof that comes in, judged while it is written, and kept.
+judge_and_keep() {
+    local pipe=$work/pipe
+    mkfifo -- "$pipe"
+    gzip -1c <"$pipe" >"$work/proof.gz" &
+    tee -- "$pipe" | "$folder/task/judge" judge "$folder/task/domain" "$folder/task/problem" "$n" - >"$work/judged"
+    local judged=${PIPESTATUS[1]}
+    wait
+    echo "$judged" >"$work/judge"
+}
+
+# take_unit: what the judge has accepted is the result; all else is no answer.
+take_unit() {
+    local told=''
+    has_result "$folder" "$n" && return
+    case $ended in
+    20)
+        { read -r told <"$work/judged"; } 2>/dev/null
+        if [ "$(cat -- "$work/judge")" = 0 ] && [[ $told =~ ^'; refuted horizon '$n' entries '([0-9]+)$ ]]; then
+            cp -- "$work/proof.gz" "$at/proof.$$" && keep_file "$at/proof.$$" "$at/proof.$unit.gz" &&
+                put_result "$folder" "$n" refuted "${BASH_REMATCH[1]}" "proof.$unit.gz"
+            return
+        fi
+        ;;
+    10)
+        if read_model >"$at/plan.$$"; then
+            keep_file "$at/plan.$$" "$at/plan.$unit" && put_result "$folder" "$n" plan 0 "plan.$unit"
+            return
+        fi
+        ;;
+    esac
+    is_needless "$folder" "$n" || is_orphan || echo "$minutes" >"$at/open.$unit"
+}
+
+# read_model: the plan that a model is, by the judge, or where it reads none by a script and the proved check.
+read_model() {
+    local files=("$folder/task/domain" "$folder/task/problem") made=$work/plan ended
+    "$folder/task/judge" model "${files[@]}" "$n" "$work/out" >"$made" 2>/dev/null </dev/null
+    ended=$?
+    if [ "$ended" = 7 ]; then
+        "$folder/task/model_plan.py" "$folder/task/planner" "${files[@]}" "$n" "$work/cnf" "$work/out" >"$made" 2>/dev/null &&
+            "$folder/task/planner" check "${files[@]}" "$made" >/dev/null 2>&1
+        ended=$?
+    fi
+    [ "$ended" = 0 ] && cat -- "$made"
+}
+
+# need_judge: sets judge to the program of this checkout that judges.
+need_judge() {
+    local planner=$program
+    [ -z "$judge" ] || return 0
+    judge=${PLAN_BY_JUDGE-}
+    [ -z "$judge" ] || return 0
+    find_or_build judge_prog || exit
+    judge=$program program=$planner
+}
+
+# proof_fault FOLDER N PROOF: has the judge of this checkout read a proof. Sets fault where it does not accept it.
+proof_fault() {
+    local said
+    need_judge
+    said=$(gzip -dc -- "$1/h/$2/$3" 2>/dev/null | "$judge" judge "$1/task/domain" "$1/task/problem" "$2" - 2>/dev/null)
+    [[ $said =~ ^'; refuted horizon '$2' entries '[0-9]+$ ]] ||
+        fault="the proof of horizon $2 is not accepted: ${said:-no answer}"
+}
