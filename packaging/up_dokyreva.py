@@ -27,16 +27,20 @@ class Dokyreva(PDDLPlanner):
 
     @property
     def name(self):
+        """The name under which it is registered."""
         return "dokyreva"
 
     def _get_cmd(self, domain_filename, problem_filename, plan_filename):
+        """The words of the call."""
         return ["dokyreva", "plan", domain_filename, problem_filename, "--plan-file", plan_filename]
 
     def _result_status(self, problem, plan, retval=None, log_messages=None):
+        """What the exit status says."""
         return STATUSES.get(retval, Status.INTERNAL_ERROR)
 
     @staticmethod
     def supported_kind():
+        """Which problems it takes."""
         kind = ProblemKind()
         kind.set_problem_class("ACTION_BASED")
         for typing in ("FLAT_TYPING", "HIERARCHICAL_TYPING"):
@@ -49,4 +53,5 @@ class Dokyreva(PDDLPlanner):
 
     @staticmethod
     def supports(problem_kind):
+        """Whether it takes a problem of this kind."""
         return problem_kind <= Dokyreva.supported_kind()

@@ -14,7 +14,8 @@ section { border-top: 1px solid var(--line); padding: 1rem 0; } a { color: inher
 table { border-collapse: collapse; } th { text-align: left; font-weight: 500; }
 .parts { margin-bottom: 1rem; } .parts th { white-space: nowrap; }
 .parts th, .parts td { padding: .15rem .75rem .15rem 0; vertical-align: top; } .parts td { overflow-wrap: anywhere; }
-code { overflow-wrap: anywhere; font-size: .8125rem; } pre { background: var(--soft); padding: 1rem; overflow: auto; }
+code { overflow-wrap: anywhere; font-size: .8125rem; }
+pre { background: var(--soft); padding: 1rem; overflow: auto; font-size: .8125rem; }
 .bars { width: 100%; max-width: 45rem; }
 .bars th, .bars td { padding: .15rem .75rem .15rem 0; white-space: nowrap; vertical-align: middle; }
 .bars .n { text-align: right; font-variant-numeric: tabular-nums; } .bars .bar { width: 60%; }
