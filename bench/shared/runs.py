@@ -1,4 +1,4 @@
-"""Runs of a program, measured: what the scripts beside this file share."""
+"""Runs of a program, measured: what scripts of all folders share. In each stands a link to this file, so that they import it."""
 import ctypes, os, pathlib, signal, subprocess, sys, tempfile, threading, time
 from typing import NamedTuple
 
