@@ -7,10 +7,22 @@ start_timer() {
     trap 'late=yes; [ -z "$running" ] || kill -KILL "$running" 2>/dev/null' ALRM
     (
         trap - INT QUIT TERM HUP ALRM
-        nap "$1"
+        for ((k = 0; k < $1; k++)); do
+            nap 1
+            is_child_of $$ || exit
+        done
         kill -ALRM $$
     ) </dev/null >/dev/null 2>&1 &
     timer=$!
+}
+
+# is_child_of PROCESS: it has started this one, and is still there: its number may be that of another one later.
+is_child_of() {
+    local stat
+    read -r stat <"/proc/$BASHPID/stat"
+    stat=${stat##*) }
+    read -r _ stat _ <<<"$stat"
+    [ "$stat" = "$1" ]
 }
 
 # split_budget WORD..: sets budget to the words' own one, or to nothing, and rest to the words without it. Where it stands twice,
@@ -72,6 +84,11 @@ run_by_clock() {
     for next in "${steps[@]}"; do
         run_program "${rest[0]}" ${next:+"--budget=$next"} "${rest[@]:1}" >"$room/next"
         [[ $late == no || $status -lt 128 ]] || break
+        if [ -n "$ended" ] && [[ $status == 8 || $status -ge 126 ]]; then
+            say "a search with --budget $next ends with status $status"
+            status=2 whole=yes
+            break
+        fi
         mv -f -- "$room/next" "$room/report"
         ended=$next
         if [ "$next" = "${steps[-1]}" ] || ! is_unfinished; then

@@ -8,26 +8,26 @@ look_at() {
         return 1
     fi
     answers "$1" || return
-    note_answered "$1"
+    note_answered "$1" "$2"
     return 0
 }
 
-# note_answered PROGRAM: keeps that it was seen to answer, beside it or in a place of this user.
+# note_answered PROGRAM SUM: keeps that it was seen to answer, beside it or in a place of this user.
 note_answered() {
     local place name
-    note_seen "$1" "$1.seen" && return
+    note_seen "$1" "$1.seen" "$2" && return
     mangled "$1"
     for place in "${places[@]:1}"; do
-        make_place "$place" && note_seen "$1" "$place/$name.seen" && return
+        make_place "$place" && note_seen "$1" "$place/$name.seen" "$2" && return
     done
 }
 
-# note_seen PROGRAM FILE: adds a line; a file that is of another program, or that many machines have filled, is begun anew.
+# note_seen PROGRAM FILE SUM: adds a line; a file that is of another program, or that many machines have filled, is begun anew.
 note_seen() {
     local lines=()
     [[ ! -r $2 || $1 -nt $2 || $1 -ot $2 ]] || mapfile -t lines <"$2"
     [ "${#lines[@]}" -lt 64 ] || lines=()
-    if printf '%s\n' "${lines[@]}" "$tied ${HOSTNAME-}" >"$2.$$" && touch -r "$1" -- "$2.$$" && mv -f -- "$2.$$" "$2"; then
+    if printf '%s\n' "${lines[@]}" "$tied $3 ${HOSTNAME-}" >"$2.$$" && touch -r "$1" -- "$2.$$" && mv -f -- "$2.$$" "$2"; then
         return
     fi
     rm -f -- "$2.$$"

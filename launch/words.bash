@@ -49,6 +49,7 @@ tell_words() {
     echo "$called COMMAND WORD..; $called COMMAND --help tells more of one"
     for name in $commands; do
         { IFS= read -r synopsis && IFS= read -r summary; } <"$root/launch/help/$name.txt"
+        [ "${#synopsis}" -le 45 ] || synopsis=${synopsis%% \[--*}
         printf '  %-45s %s\n' "$synopsis" "$summary"
     done
     echo "Options, with what may stand for each and its default"

@@ -1,6 +1,6 @@
 """Inputs that someone who means harm might send: spoilt files of tasks, random tasks, nearly right words, spoilt certificates,
 and small tasks that cost more than they ask for. For bench/reference/hostile."""
-import itertools, random, re
+import itertools, re
 from typing import NamedTuple
 
 TOKEN = re.compile(rb"[()]|[^\s()]+|\s+")
