@@ -6,17 +6,14 @@
 called=dokyreva
 [ ! -d "$root/crates" ] || called=./dokyreva
 
-# find_commands: sets commands, and answerer by command. A program that is not there answers nothing.
-find_commands() {
-    local name by needs
-    commands='' answerer=()
+# is_command WORD: it is one, and by is set to what answers it, else to nothing. A program that is not there answers nothing.
+is_command() {
+    local name needs
     while read -r name by needs; do
-        is_there "$by" && is_there "${needs:-plan_prog}" || continue
-        commands+=" $name" answerer[$name]=$by
+        [ "$name" = "$1" ] && is_there "$by" && is_there "${needs:-plan_prog}" && return
     done <"$root/launch/help/commands.txt"
-    commands=${commands# }
+    return 1
 }
-declare -gA answerer
 
 # is_there ANSWERER
 is_there() {
@@ -25,11 +22,6 @@ is_there() {
     *_prog) [ -d "$root/crates/$1" ] || [ -f "$root/release/$1.gz" ] || [ -f "$root/release/$1" ] ;;
     *) [ -f "$root/$1" ] ;;
     esac
-}
-
-# is_command WORD
-is_command() {
-    [[ -n $1 && $1 != *' '* && " $commands " == *" $1 "* ]]
 }
 
 # asks_help WORD..: whether help is asked for among the words.

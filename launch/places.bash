@@ -1,6 +1,6 @@
 # shellcheck shell=bash disable=SC2034,SC2154 # the parts set variables for one another
 # Where files may be kept: in out/ of this checkout, else in a folder of the user's own. To be read by scripts that have set
-# root.
+# root. A start reads places, programs, commands and watch; what it seldom needs stands in other parts, which are read then.
 
 # use PART..: reads parts of the launcher.
 use() {
@@ -12,7 +12,7 @@ use() {
 find_places() {
     local cache=${XDG_CACHE_HOME:-${HOME:+$HOME/.cache}}
     temporary=${TMPDIR:-/tmp}
-    [ -d "$temporary" ] && [ -w "$temporary" ] || temporary=/tmp
+    [[ -d $temporary && -w $temporary ]] || temporary=/tmp
     export TMPDIR=$temporary
     places=("$root/out" ${cache:+"$cache/dokyreva"} "$temporary/dokyreva-$EUID")
 }
@@ -23,26 +23,6 @@ is_own() {
     [ "$1" != "$root/out" ] || return 0
     [ -d "$1" ] && [ ! -L "$1" ] && [ -O "$1" ] || return
     [[ $1 != "$temporary"/* ]] || [ "$(stat -c %a -- "$1" 2>/dev/null)" = 700 ]
-}
-
-# make_place FOLDER: it is there and can be written.
-make_place() {
-    if [ "$1" = "$root/out" ]; then
-        mkdir -p -- "$1" 2>/dev/null
-    else
-        (umask 077 && mkdir -p -- "$1") 2>/dev/null
-    fi
-    is_own "$1" && [ -w "$1" ]
-}
-
-# keep_line PLACE NAME LINE..: keeps lines in a file of a place, whole or not at all.
-keep_line() {
-    make_place "$1" || return
-    if printf '%s\n' "${@:3}" >"$1/$2.$$" && mv -f -- "$1/$2.$$" "$1/$2"; then
-        return
-    fi 2>/dev/null
-    rm -f -- "$1/$2.$$"
-    return 1
 }
 
 # mangled PATH: sets name to one that a file may have, of its last letters.

@@ -1,5 +1,20 @@
 # shellcheck shell=bash disable=SC2034,SC2154,SC2030,SC2031 # the parts set variables for one another
-# A quick build of the sources, of which nothing is proved. To be read after programs.bash.
+# A quick build of the sources, of which nothing is proved. To be read after programs.bash, keep.bash and sources.bash.
+
+# build_program NAME: builds the program, and sets program and what. Says what stands in the way, and ends then.
+build_program() {
+    [ -z "$why" ] || say "$why"
+    if ! command -v rt >/dev/null; then
+        [ -n "$why" ] || say "no program is built of these sources, and there is no command rt to build one:" \
+            "put the toolchain's bin on the PATH"
+        return 70
+    fi
+    say "building the quick program, which is not proved; this takes about a minute"
+    if ! build_quick "$1" || ! find_program "$1"; then
+        say "the quick program could not be built"
+        return 70
+    fi
+}
 
 # build_quick NAME. The command rt try compiles a program without its proof, runs it once, and throws it away. While it
 # compiles, the whole program stands in its folder as a module of LLVM, of which the toolchain's own clang makes a program.

@@ -1,6 +1,14 @@
 # shellcheck shell=bash disable=SC2034,SC2154 # the parts set variables for one another
 # What the programs are made of, and the stamps of what was made of it. To be read by scripts that have set root, after
-# places.bash and bytes.bash.
+# places.bash, keep.bash and programs.bash.
+
+# program_names: the programs that there are sources of.
+program_names() {
+    local name
+    for name in plan_prog judge_prog; do
+        [ ! -d "$root/crates/$name" ] || echo "$name"
+    done
+}
 
 # sources_sum: the SHA-256 of crates.txt and of all that stands in the src, specs and proofs of crates, with its names.
 sources_sum() (
@@ -9,51 +17,30 @@ sources_sum() (
         xargs -0 sha256sum | sha256sum | cut -d ' ' -f 1
 )
 
-# find_sources: sets sources to that sum; to nothing where there are no crates. It is worked out anew where git has changed
-# its index, or git or an editor a folder of the program's sources, since it was kept: a look at every file would take longer
-# than a short run. What is written into a file in its place, in no other way, is seen by look_through alone.
-find_sources() {
-    local place stamp
-    sources=''
-    [ -d "$root/crates" ] || return 0
-    for place in "${places[@]}"; do
-        stamp_of "$place"
-        is_own "$place" && read_stamp "$place" && same_folders "$place/$stamp" && return
-    done
-    look_through
-}
-
-# stamp_of PLACE: sets stamp to the name of the file in which a place keeps the sum: the user's own places are of many checkouts.
-stamp_of() {
-    local name=sources
-    [ "$1" = "$root/out" ] || mangled "$root"
-    stamp=$name.sum
-}
-
-# read_stamp PLACE: sets sources to what was kept there of this checkout.
-read_stamp() {
-    local of=''
-    [ -r "$1/$stamp" ] && { read -r sources && read -r of; } <"$1/$stamp" && [[ $1 == "$root/out" || $of == "$root" ]]
-}
-
-# same_folders STAMP: no folder of the program's sources is newer than it, nor crates.txt, nor the index of git.
-same_folders() {
-    local it
-    for it in "$root"/{crates.txt,.git/index,crates} "$root"/crates/*/{src,specs}; do
-        [[ ! $it -nt $1 ]] || return 1
-    done
-}
-
-# look_through: sets sources, as the files are now, and keeps it.
+# look_through: sets sources, as the files are now, and keeps it with the names of what find_sources watches.
 look_through() {
-    local place stamp begun=${EPOCHREALTIME:-$(date +%s)}
+    local place stamp begun=${EPOCHREALTIME:-$(date +%s)} watched
+    watched_names
     sources=$(sources_sum)
     for place in "${places[@]}"; do
         stamp_of "$place"
-        if keep_line "$place" "$stamp" "$sources" "$root"; then
+        if keep_line "$place" "$stamp" "$sources" "$watched" "$root"; then
             touch -d "@${begun/,/.}" -- "$place/$stamp"
             return
         fi
+    done
+}
+
+# watched_names: sets watched to the names, below root, of what has another time once a source was put in the place of an old
+# one, added, or taken away: the folders src and specs of the crates, and that of a crate which lacks one of them.
+watched_names() {
+    local crate part
+    watched='crates.txt .git/index crates'
+    for crate in "$root"/crates/*; do
+        crate=crates/${crate##*/}
+        for part in src specs; do
+            if [ -d "$root/$crate/$part" ]; then watched+=" $crate/$part"; else watched+=" $crate"; fi
+        done
     done
 }
 

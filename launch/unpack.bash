@@ -1,5 +1,5 @@
 # shellcheck shell=bash disable=SC2034,SC2154 # the parts set variables for one another
-# Programs that are unpacked, or looked at anew. To be read after programs.bash.
+# Programs that are unpacked, or looked at anew. To be read after programs.bash and keep.bash.
 
 # look_at PROGRAM SUM: whether its bytes have this sum and it answers here; else why is set. Sets tied.
 look_at() {

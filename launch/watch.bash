@@ -12,12 +12,17 @@ end_by_signal() {
 
 # stop_all: nothing that was started runs on, and no file is left.
 stop_all() {
+    [ -z "$running$watcher$timer$leftover$room" ] || end_all
+}
+
+# end_all: the same, where there is something.
+end_all() {
     local process
     for process in $running $watcher $timer; do
         kill -KILL "$process"
     done
     # shellcheck disable=SC2086 # numbers, or nothing
-    wait $running $watcher $timer
+    [ -z "$running$watcher$timer" ] || wait $running $watcher $timer
     running='' watcher='' timer=''
     [ -z "$leftover" ] || rm -f -- "$leftover"
     [ -z "$room" ] || rm -rf -- "$room"

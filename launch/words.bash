@@ -3,6 +3,16 @@
 # command's synopsis, its summary, and what is to be said of it, with rows for options of its own and a line with the names of
 # those that stand in options.txt. To be read by scripts that have set root, after commands.bash.
 
+# find_commands: sets commands to all that are answered here.
+find_commands() {
+    local name by needs
+    commands=''
+    while read -r name by needs; do
+        is_there "$by" && is_there "${needs:-plan_prog}" && commands+=" $name"
+    done <"$root/launch/help/commands.txt"
+    commands=${commands# }
+}
+
 # options_of COMMAND: the options that it takes; all that there are where it is no command.
 options_of() {
     local line taken=''
@@ -46,6 +56,7 @@ tell_help() {
 # tell_words: all commands, options and statuses.
 tell_words() {
     local name
+    find_commands
     echo "$called COMMAND WORD..; $called COMMAND --help tells more of one"
     for name in $commands; do
         { IFS= read -r synopsis && IFS= read -r summary; } <"$root/launch/help/$name.txt"
@@ -66,6 +77,7 @@ tell_version() {
     [ ! -e "$root/.git" ] || described=$(git -C "$root" describe --always --dirty 2>/dev/null)
     echo "dokyreva${number:+ $number}${described:+ ($described)}"
     if [ -d "$root/crates" ]; then
+        use keep sources
         look_through
         echo "sources $sources"
     elif [ -r "$root/release/SOURCES" ]; then
@@ -104,6 +116,7 @@ nearest() {
 # tell_refused WORD..: for words that are not taken, what was perhaps meant, and which commands there are. Where standard
 # error is a terminal, the help of the command too.
 tell_refused() {
+    find_commands
     tell_nearest "$@"
     say "these words are not taken. Commands: ${commands// /, }, help; $called COMMAND --help tells the words of one"
     if [ -t 2 ]; then
