@@ -52,12 +52,13 @@ words_on_pipe() {
     esac
 }
 
-# keep_module FOLDER PROCESS: keeps the module that rt try compiles, once it is whole: its object is begun after it.
+# keep_module FOLDER PROCESS: keeps the module that rt try compiles, once it is whole: its object is begun after it. Some toolchains
+# compile a module of some hundred bytes before it, which is no program.
 keep_module() {
     local module
     while kill -0 "$2" 2>/dev/null; do
         for module in "$1"/*/*/module.bc; do
-            if compgen -G "${module%/*}/*.o*" >/dev/null; then
+            if [ "$(stat -c %s -- "$module")" -gt 100000 ] && compgen -G "${module%/*}/*.o*" >/dev/null; then
                 ln -- "$module" "$1/module.bc" 2>/dev/null || cp -- "$module" "$1/module.bc"
                 return
             fi
