@@ -214,3 +214,13 @@ not_falling ids r i j h within = elim (cases_lt i j) [
   | inl less ↦ let rising = r i j less within in omega (arith, rising)
   | inr more ↦ let same : i ≡ j = omega (arith, h, more) in let here = ap (λ (k : ℕ). get_or ids k 0) same in omega (arith, here)
 ]
+
+-- each id is below the next
+pub all_rising : (d : ℕ) (later whole : List ℕ) → ids d later ≡ whole → Follow d later → (i j : ℕ) → i < j → j < length whole → get_or whole i 0 < get_or whole j 0
+all_rising d later whole w f i j less within = subst (λ (xs : List ℕ). j < length xs → get_or xs i 0 < get_or xs j 0) w (λ inside. elim (found d later j (get_or (ids d later) j 0) inside refl) [
+  | early h s ↦ let first = dense_at d later i (omega (arith, less, h)) in omega (arith, first, s, less)
+  | late k p h g ↦ elim (found d later i (get_or (ids d later) i 0) (omega (arith, less, inside)) refl) [
+    | early h1 s1 ↦ let above = f.above k h in omega (arith, above, g, s1, h1)
+    | late k1 p1 h1 g1 ↦ let rising = f.rising k1 k (omega (arith, p, p1, less)) h in omega (arith, rising, g, g1)
+  ]
+]) within

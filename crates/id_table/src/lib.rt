@@ -3,7 +3,7 @@
 
 ghost use Rattle.std.specs.Prelude.{◌≡◌, ◌++◌, ◌∷◌, [], ◌<◌, ◌≤◌, ℕ, true, false, Some, length, slice_get, slice_index, IfSome, IfNone};
 ghost use Rattle.std.specs.List.{range_with_len};
-ghost use Rattle.id_table.specs.Ids.{Rises, Follow};
+ghost use Rattle.id_table.specs.Ids.{Rises, Follow, place_of};
 
 use std::alloc::{AllocError, Global};
 use std::marker::Model;
@@ -101,6 +101,7 @@ impl IdTable {
     pub fn find(&self, id: u64) -> Option<u64>
         ensures some { IfSome result (λ place. slice_get self.now place ≡ Some id) }
         ensures none { IfNone result ((place : ℕ) → slice_get self.now place ≡ Some id → ⊥) }
+        ensures first { result ≡ place_of self.now id }
     {
         let dense = self.dense;
         if id == 0 {

@@ -10,6 +10,7 @@ use Rattle.pl_io.specs.Outside.{Rose}
 use Rattle.pl_io.specs.declared.outside.TakeError.{TakeError}
 use Rattle.pl_io.specs.declared.outside.TakeError.TheVariants as takes
 use Rattle.step_laws.specs.Form.{OrderedTask, AreSets}
+use Rattle.step_encoding.specs.Limits.{most_literals}
 use Rattle.step_encoding.specs.Numbers.{literals_of}
 use Rattle.ordered_tasks.specs.Known.{IsOrdered, form_of, formula_at}
 use Rattle.lrat_judge.specs.declared.verdict.Verdict.{Verdict}
@@ -50,7 +51,7 @@ module _ (places : Task → List (List ℕ) → List (List ℕ × ℕ)) where
   -- the formula of a horizon has too many literals, of which the ending tells
   abbrev pub TellsTooMany : ℕ → Task → Ending → Type 0
   TellsTooMany horizon task end =
-      (count : ℕ) × (end ≡ TooLarge horizon count) × OfKnown task (λ form. (4000000 < count) × (count ≡ literals_of (formula_at places form horizon)))
+      (count : ℕ) × (end ≡ TooLarge horizon count) × OfKnown task (λ form. (most_literals < count) × (count ≡ literals_of (formula_at places form horizon)))
 
   -- this is the formula of a horizon; where nothing satisfies it, no lists of actions are a plan of so many steps
   abbrev pub IsFormula : (Task → List ℕ → (ℕ → ℕ → Bool) → ℕ → Type 0) → ℕ → Cnf → OrderedTask → Type 0

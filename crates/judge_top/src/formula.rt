@@ -1,7 +1,7 @@
 //! The formula of a horizon of a ground task, for plans in steps of a kind.
 ghost use Rattle.std.specs.Prelude.{◌≡◌, ◌≤◌, ◌<◌, ℕ, List, IfOk};
 ghost use Rattle.clause_base.specs.Formula.{IsUnsatisfiable};
-ghost use Rattle.step_encoding.specs.Numbers.{literals_of};
+ghost use Rattle.step_encoding.specs.{Limits.most_literals, Numbers.literals_of};
 ghost use Rattle.plan_endings.specs.declared.ending.Ending.TheVariants.{TooLarge};
 ghost use Rattle.plan_files.specs.Ends.{StopsBy};
 ghost use Rattle.plan_tasks.specs.Stepping.{places_by, is_plan_by};
@@ -21,7 +21,7 @@ use step_encoding::form::{FormError, StepForm};
 use step_encoding::placed::{Placed, Placing};
 use two_invariants::find;
 
-/// The formula of a horizon of a task; or the run stops, where it has more than 4,000,000 literals.
+/// The formula of a horizon of a task; or the run stops, where it has more than `MOST_LITERALS` literals.
 pub fn formula_by<H: Threads + Sync>(
     rt: &H,
     alloc: Global,
@@ -61,7 +61,7 @@ fn formula_of<F: StepForm>(alloc: Global, form: &F, horizon: u32) -> Result<Form
     requires { horizon ≤ 255 }
     ensures formula { IfOk result (λ formula. formula ≡ F.formula_of form.now horizon) }
     ensures refutes { IfOk result (λ formula. IsUnsatisfiable formula.clauses → (steps : List (List ℕ)) → F.is_plan form.now horizon steps → ⊥) }
-    ensures stops { StopsBy (λ end. (count : ℕ) × (end ≡ TooLarge horizon count) × (4000000 < count) × (count ≡ literals_of (F.formula_of form.now horizon))) result }
+    ensures stops { StopsBy (λ end. (count : ℕ) × (end ≡ TooLarge horizon count) × (most_literals < count) × (count ≡ literals_of (F.formula_of form.now horizon))) result }
 {
     let _lawful = form.size(horizon);
     match form.formula(alloc, horizon) {
