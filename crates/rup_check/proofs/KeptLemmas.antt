@@ -6,7 +6,8 @@ use Rattle.std.proofs.Math.Bool.{or-false}
 use Rattle.std.proofs.Math.Seq.{take-suc}
 use Rattle.std.proofs.lemmas.List.Folds.{list_any-append}
 use Rattle.std.proofs.lemmas.Bool.Decides.{nat_tests}
-use Rattle.std.proofs.lemmas.List.{get_or_past, get_or_append_left, get_or-set_same, get_or-set_other, length-set}
+use Rattle.std.proofs.lemmas.List.{get_or_past, get_or_append_left, get_or-set_other, length-set}
+use Rattle.std.proofs.lemmas.Grind.{get_or-set_at}
 use Rattle.std.proofs.lemmas.Option.{slice_get_past}
 use Rattle.std.proofs.Math.Seq.{get_or-append_seam}
 use Rattle.clause_base.specs.Literal.{opposite}
@@ -15,6 +16,7 @@ use Rattle.clause_base.specs.Derivation.{Effect, Conflicts, Forces, Loose, effec
 use Rattle.clause_base.specs.declared.log.Entry.{Entry}
 use Rattle.clause_base.specs.declared.log.Entry.TheVariants.{Learn, Drop}
 use Rattle.clause_base.proofs.ClauseLemmas.{below_from_test}
+use Rattle.clause_base.proofs.RepeatLemmas.{get_left}
 use Rattle.rup_check.specs.Kept.{is_dropped, kept_named, is_derived_by, IsKnownAfter}
 use Rattle.rup_check.specs.Taken.{NamesBelow}
 
@@ -63,16 +65,28 @@ append_none (x ∷ xs) = ap (λ (r : List (List ℕ)). x ∷ r) (append_none xs)
 
 -- the clause at the end of some more is at its place, and the others are at theirs
 get_next : (clauses : List (List ℕ)) (clause : List ℕ) (n : ℕ) → (if n == length clauses then Some clause else slice_get clauses n) ≡ slice_get (clauses ++ clause ∷ []) n
-get_next [] clause zero = refl
-get_next [] clause (suc n) = refl
-get_next (x ∷ clauses) clause zero = refl
-get_next (x ∷ clauses) clause (suc n) = get_next clauses clause n
+get_next clauses clause n = by (n == length clauses) refl
+  where
+    beside : (b : Bool) → nat_lt n (length clauses) ≡ b → (n == length clauses) ≡ false → slice_get clauses n ≡ slice_get (clauses ++ clause ∷ []) n
+    beside true e f = sym (get_left clauses (clause ∷ []) n (grind (arith, nat_tests)))
+    beside false e f =
+        let long : length (clauses ++ clause ∷ []) ≡ length clauses + 1 = length-append clauses (clause ∷ []) in
+        let apart : (n ≡ length clauses) → ⊥ = grind (arith, nat_tests) in
+        let past : length clauses ≤ n = grind (arith, nat_tests) in
+        slice_get_past clauses n past ∙ sym (slice_get_past (clauses ++ clause ∷ []) n (omega (arith, long, apart, past)))
 
-kept_of : Bool → Option (List ℕ) → Option (List ℕ)
+    by : (b : Bool) → (n == length clauses) ≡ b → (if b then Some clause else slice_get clauses n) ≡ slice_get (clauses ++ clause ∷ []) n
+    by true e = let same : n ≡ length clauses = grind (arith, nat_tests) in sym (ap (slice_get (clauses ++ clause ∷ [])) same ∙ get_end clauses clause)
+    by false e = beside (nat_lt n (length clauses)) refl e
+
+abbrev kept_of : Bool → Option (List ℕ) → Option (List ℕ)
 kept_of dropped o = if not dropped then o else None
 
+apart : false ≡ true → ⊥
+apart e = cc
+
 learn_kept : (clause : List ℕ) (new gone : Bool) (o : Option (List ℕ)) → (new ≡ true → gone ≡ false) → (if new then Some clause else kept_of gone o) ≡ kept_of gone (if new then Some clause else o)
-learn_kept clause true true o h = let e = h refl in cc
+learn_kept clause true true o h = let e : false ≡ true = sym (h refl) in absurd (apart e)
 learn_kept clause true false o h = refl
 learn_kept clause false gone o h = refl
 
@@ -89,8 +103,8 @@ module _ (clauses : List (List ℕ)) (earlier : List Entry) where
   -- the next number, and what each number names after one more entry
   next_kept : (entry : Entry) (n : ℕ) → (length all ≤ n → list_any (drops n) earlier ≡ false) → named_next (length all) entry (clause_kept clauses earlier) n ≡ clause_kept clauses (earlier ++ entry ∷ []) n
   next_kept (Learn clause hints) n later =
-      let apart : (n == length all) ≡ true → list_any (drops n) earlier ≡ false = λ e. later (let same : n ≡ length all = grind (arith, nat_tests) in omega (arith, same)) in
-      learn_kept clause (n == length all) (list_any (drops n) earlier) (slice_get all n) apart
+      let none : (n == length all) ≡ true → list_any (drops n) earlier ≡ false = λ e. later (let same : n ≡ length all = grind (arith, nat_tests) in omega (arith, same)) in
+      learn_kept clause (n == length all) (list_any (drops n) earlier) (slice_get all n) none
       ∙ ap (kept_of (list_any (drops n) earlier)) (get_next all clause n)
       ∙ ap (λ (b : Bool). kept_of b (slice_get (all ++ clause ∷ []) n)) (sym (any-append (drops n) earlier (Learn clause hints) ∙ or-false (list_any (drops n) earlier)))
       ∙ ap (λ (cs : List (List ℕ)). kept_of (list_any (drops n) (earlier ++ Learn clause hints ∷ [])) (slice_get cs n)) (sym (append_twice clauses (clauses_of earlier) (clause ∷ [])) ∙ ap (λ (cs : List (List ℕ)). clauses ++ cs) (sym (clauses_of-append earlier (Learn clause hints ∷ []))))
@@ -210,11 +224,8 @@ learn_named clauses dropped now learned more clause d m n =
     ap (λ (bs : List Bool). kept_named clauses bs more n) d ∙ ap (λ (os : List (Option (List ℕ))). kept_named clauses dropped os n) m
     ∙ by (nat_lt n (length clauses)) refl (n == length clauses + length learned) refl
   where
-    own : Option (List ℕ)
-    own = if is_dropped dropped n then None else slice_get clauses n
-
     by : (low : Bool) → nat_lt n (length clauses) ≡ low → (new : Bool) → (n == length clauses + length learned) ≡ new
-        → (if low then own else slice_index_or (learned ++ Some clause ∷ []) (n - length clauses) None) ≡ (if new then Some clause else (if low then own else slice_index_or learned (n - length clauses) None))
+        → (if low then (if is_dropped dropped n then None else slice_get clauses n) else slice_index_or (learned ++ Some clause ∷ []) (n - length clauses) None) ≡ (if new then Some clause else (if low then (if is_dropped dropped n then None else slice_get clauses n) else slice_index_or learned (n - length clauses) None))
     by true e true f = let none : ⊥ = grind (arith, nat_tests) in absurd none
     by true e false f = refl
     by false e true f =
@@ -233,21 +244,25 @@ learn_named clauses dropped now learned more clause d m n =
             get_or_past (learned ++ Some clause ∷ []) (n - length clauses) None (omega (arith, long, apart, above, past)) ∙ sym (get_or_past learned (n - length clauses) None past)
 
 dropped_set : (dropped : List Bool) (number other : ℕ) → number < length dropped → is_dropped (set dropped number true) other ≡ (if number == other then true else is_dropped dropped other)
-dropped_set [] number other h = let none : ⊥ = omega (arith, h) in absurd none
-dropped_set (b ∷ dropped) zero zero h = refl
-dropped_set (b ∷ dropped) zero (suc other) h = refl
-dropped_set (b ∷ dropped) (suc number) zero h = refl
-dropped_set (b ∷ dropped) (suc number) (suc other) h = dropped_set dropped number other (omega (arith, h))
+dropped_set dropped number other h = by (number == other) refl
+  where
+    by : (b : Bool) → (number == other) ≡ b → is_dropped (set dropped number true) other ≡ (if b then true else is_dropped dropped other)
+    by true e = let same : other ≡ number = grind (arith, nat_tests) in get_or-set_at dropped number other true false same h
+    by false e = let other_one : (other ≡ number) → ⊥ = grind (arith, nat_tests) in get_or-set_other dropped number other true false other_one
 
 learned_set : (learned : List (Option (List ℕ))) (number other : ℕ) → slice_index_or (set learned number None) other None ≡ (if number == other then None else slice_index_or learned other None)
-learned_set [] zero zero = refl
-learned_set [] zero (suc other) = refl
-learned_set [] (suc number) zero = refl
-learned_set [] (suc number) (suc other) = learned_set [] number other
-learned_set (o ∷ learned) zero zero = refl
-learned_set (o ∷ learned) zero (suc other) = refl
-learned_set (o ∷ learned) (suc number) zero = refl
-learned_set (o ∷ learned) (suc number) (suc other) = learned_set learned number other
+learned_set learned number other = by (number == other) refl
+  where
+    here : other ≡ number → (b : Bool) → nat_lt number (length learned) ≡ b → slice_index_or (set learned number None) other None ≡ None
+    here same true e = get_or-set_at learned number other None None same (grind (arith, nat_tests))
+    here same false e =
+        let long : length (set learned number None) ≡ length learned = length-set learned number None in
+        let past : length learned ≤ number = grind (arith, nat_tests) in
+        get_or_past (set learned number None) other None (omega (arith, long, past, same))
+
+    by : (b : Bool) → (number == other) ≡ b → slice_index_or (set learned number None) other None ≡ (if b then None else slice_index_or learned other None)
+    by true e = here (grind (arith, nat_tests)) (nat_lt number (length learned)) refl
+    by false e = let other_one : (other ≡ number) → ⊥ = grind (arith, nat_tests) in get_or-set_other learned number other None None other_one
 
 -- what numbers name where a clause of the formula was dropped
 pub drop_named : (clauses : List (List ℕ)) (dropped now : List Bool) (learned : List (Option (List ℕ))) (number : ℕ) → number < length clauses → length dropped ≡ length clauses → now ≡ set dropped number true
@@ -269,14 +284,11 @@ pub removed_named : (clauses : List (List ℕ)) (dropped : List Bool) (learned n
     → (other : ℕ) → kept_named clauses dropped now other ≡ (if number == other then None else kept_named clauses dropped learned other)
 removed_named clauses dropped learned now number past d other =
     ap (λ (os : List (Option (List ℕ))). kept_named clauses dropped os other) d
-    ∙ ap (λ (o : Option (List ℕ)). if nat_lt other (length clauses) then own else o) (learned_set learned (number - length clauses) (other - length clauses))
+    ∙ ap (λ (o : Option (List ℕ)). if nat_lt other (length clauses) then (if is_dropped dropped other then None else slice_get clauses other) else o) (learned_set learned (number - length clauses) (other - length clauses))
     ∙ by (nat_lt other (length clauses)) refl (number == other) refl (number - length clauses == other - length clauses) refl
   where
-    own : Option (List ℕ)
-    own = if is_dropped dropped other then None else slice_get clauses other
-
     by : (low : Bool) → nat_lt other (length clauses) ≡ low → (same : Bool) → (number == other) ≡ same → (beside : Bool) → (number - length clauses == other - length clauses) ≡ beside
-        → (if low then own else (if beside then None else slice_index_or learned (other - length clauses) None)) ≡ (if same then None else (if low then own else slice_index_or learned (other - length clauses) None))
+        → (if low then (if is_dropped dropped other then None else slice_get clauses other) else (if beside then None else slice_index_or learned (other - length clauses) None)) ≡ (if same then None else (if low then (if is_dropped dropped other then None else slice_get clauses other) else slice_index_or learned (other - length clauses) None))
     by true e true f beside g = let none : ⊥ = grind (arith, nat_tests) in absurd none
     by true e false f beside g = refl
     by false e true f true g = refl

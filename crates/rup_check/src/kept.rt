@@ -29,6 +29,7 @@ impl Kept {
     }
 
     /// The kept clause that a number names.
+    #[inline(always)]
     pub fn clause<'a>(&'a self, formula: &'a Formula, number: u32) -> Option<View<'a>>
         ensures { result ≡ kept_named formula.now.clauses self.now.dropped.items self.now.learned number }
     {

@@ -2,8 +2,8 @@ use Rattle.std.proofs.Common.{arith, ◌∙◌, ◌∷◌, [], ◌++◌, ◌<◌
 use Rattle.clause_pages.proofs.PageLaws.{long_view, page_more, clauses_more}
 use Rattle.clause_pages.proofs.page.Page.push.Goals as goal
 
-pub invariant_of-self-2 : goal.invariant_of-self-2
-invariant_of-self-2 c =
+pub invariant_of-self-in-Ok : goal.invariant_of-self-in-Ok
+invariant_of-self-in-Ok c =
     let i = c.self.inside in
     let long = long_view i.lists i.slots.items in
     let same = ap length c.self.view_is in
