@@ -1,10 +1,9 @@
-ghost use Rattle.std.specs.Prelude.{◌≡◌, [], ◌/◌, ◌<◌, ◌≤◌, fold, IfOk, OnOk};
-ghost use Rattle.clause_base.specs.Clause.{has_literal, put, HasVariablesBelow};
+ghost use Rattle.std.specs.Prelude.{◌≡◌, [], ◌/◌, ◌<◌, ◌≤◌, IfOk, OnOk};
+ghost use Rattle.clause_base.specs.Clause.{has_literal, put};
 
 use clause_base::literal::Lit;
 use clause_base::memory::Memory;
 use lit_marks::marks::Marks;
-use number_bytes::numbers::Numbers;
 use std::alloc::Global;
 use std::marker::Model;
 
@@ -55,19 +54,6 @@ impl Falsified {
         ensures variables { self.new.variables ≡ self.old.variables }
     {
         self.marks.put(lit)
-    }
-
-    /// Takes the literals of a clause, which are told by their codes, as false.
-    pub fn falsify_all(&mut self, clause: &Numbers<'_>) -> Result<(), Memory>
-        requires { HasVariablesBelow self.old.variables clause.now }
-        ensures falsified { OnOk result (self.new.falsified ≡ fold put self.old.falsified clause.now) }
-        ensures variables { self.new.variables ≡ self.old.variables }
-    {
-        let mut left = clause.copy();
-        while let Some(code) = left.next() {
-            self.falsify(Lit(code))?;
-        }
-        Ok(())
     }
 
     /// Takes no literal as false any more. Only those that were are looked at.

@@ -1,21 +1,20 @@
 -- A checker that has taken some entries takes one more.
-use Rattle.std.proofs.Common.{arith, ◌≡◌, ◌==◌, ℕ, zero, suc, ◌+◌, ◌-◌, ◌<◌, List, [], ◌∷◌, ◌++◌, length, take, Bool, true, false, ◌||◌, ◌&&◌, Option, Some, All, IsTrue, Result, Ok, replicate, get_or, refl, sym, ap, ◌∙◌, subst, length-append}
+use Rattle.std.proofs.Common.{arith, ◌≡◌, ◌==◌, ℕ, zero, suc, ◌+◌, ◌-◌, ◌<◌, List, [], ◌∷◌, ◌++◌, length, take, if◌then◌else◌, None, Bool, true, false, ◌||◌, ◌&&◌, Option, Some, All, IsTrue, Result, Ok, replicate, get_or, refl, sym, ap, ◌∙◌, subst, length-append}
 use Rattle.std.specs.List.{slice_get}
 use Rattle.std.specs.Option.{IsSomeAnd}
 use Rattle.std.proofs.Math.Bool.{or-false}
 use Rattle.std.proofs.lemmas.Bool.Decides.{nat_tests}
-use Rattle.std.proofs.lemmas.List.Elements.{All-append, All-nil}
 use Rattle.clause_base.specs.Clause.{HasVariablesBelow}
-use Rattle.clause_base.specs.Formula.{Cnf, IsUnsatisfiable}
+use Rattle.clause_base.specs.Formula.{Cnf, IsUnsatisfiable, IsWithinVariables}
 use Rattle.clause_base.specs.Derivation.{IsDerivation, IsDerivedAt, EndsEmpty, is_derived_after, learns_empty, clauses_of, drops}
 use Rattle.clause_base.specs.declared.log.Entry.{Entry}
-use Rattle.clause_base.specs.declared.log.Entry.TheVariants.{Drop}
+use Rattle.clause_base.specs.declared.log.Entry.TheVariants.{Learn, Drop}
 use Rattle.clause_base.specs.declared.memory.Memory.{Memory}
 use Rattle.clause_base.proofs.Refutation.{unsatisfiable_from_refutation}
 use Rattle.hint_effects.specs.Falsified.{FalsifiedView}
-use Rattle.rup_check.specs.Kept.{is_dropped, is_derived_by}
-use Rattle.rup_check.specs.Taken.{CheckerView, HasTaken, IsSound}
-use Rattle.rup_check.proofs.KeptLemmas.{is_derived_by-known, known-more, known-none, any-append, below-derived, long_next, take_more}
+use Rattle.rup_check.specs.Kept.{kept_named, is_derived_by, IsKnownAfter}
+use Rattle.rup_check.specs.Taken.{CheckerView, HasTaken, IsSound, NamesBelow}
+use Rattle.rup_check.proofs.KeptLemmas.{named_next, is_derived_by-known, known-more, known-none, any-append, below-next, below-none, learn_named, take_more}
 
 get_end : (log : List Entry) (entry : Entry) → slice_get (log ++ entry ∷ []) (length log) ≡ Some entry
 get_end [] entry = refl
@@ -65,16 +64,21 @@ ends_more log entry t =
     subst (λ (o : Option Entry). IsSomeAnd o (λ last. IsTrue (learns_empty last))) (sym (ap (slice_get (log ++ entry ∷ [])) last ∙ get_end log entry)) t
 
 -- what is decided is what derivations ask
-pub answer_is : (checker : CheckerView) (log : List Entry) (entry : Entry) (b : Bool) → HasTaken checker log → b ≡ is_derived_by checker.formula.variables checker.formula.clauses checker.learned checker.dropped entry → b ≡ is_derived_after checker.formula.variables checker.formula.clauses log (Some entry)
-answer_is checker log entry b h t = t ∙ is_derived_by-known checker.formula.variables checker.formula.clauses log checker.learned checker.dropped entry h.known
+pub answer_is : (checker : CheckerView) (log : List Entry) (entry : Entry) (b : Bool) → HasTaken checker log → b ≡ is_derived_by checker.formula.variables checker.formula.clauses checker.dropped checker.learned entry → b ≡ is_derived_after checker.formula.variables checker.formula.clauses log (Some entry)
+answer_is checker log entry b h t = t ∙ is_derived_by-known checker.formula.variables checker.formula.clauses log checker.dropped checker.learned entry h.known
+
+-- what each number names once an entry was taken
+abbrev pub NamesNext : CheckerView → CheckerView → Entry → Type 0
+NamesNext checker next entry = (number : ℕ) → kept_named checker.formula.clauses next.dropped next.learned number
+    ≡ named_next (length checker.formula.clauses + length checker.learned) entry (kept_named checker.formula.clauses checker.dropped checker.learned) number
 
 -- a checker becomes another by an entry that is derived
 pub record IsNext (checker next : CheckerView) (entry : Entry) : Type 0 where
   pub formula : next.formula ≡ checker.formula
-  pub derived : is_derived_by checker.formula.variables checker.formula.clauses checker.learned checker.dropped entry ≡ true
-  pub learned : next.learned ≡ checker.learned ++ clauses_of (entry ∷ [])
-  pub dropped : (number : ℕ) → is_dropped next.dropped number ≡ (is_dropped checker.dropped number || drops number entry)
-  pub long : length next.dropped ≡ length checker.dropped + length (clauses_of (entry ∷ []))
+  pub derived : is_derived_by checker.formula.variables checker.formula.clauses checker.dropped checker.learned entry ≡ true
+  pub named : NamesNext checker next entry
+  pub count : length next.learned ≡ length checker.learned + length (clauses_of (entry ∷ []))
+  pub long : length next.dropped ≡ length checker.dropped
   pub refuted : next.refuted ≡ (checker.refuted || learns_empty entry)
 
 derived_next : (checker next : CheckerView) (entry : Entry) (log : List Entry) → IsNext checker next entry → HasTaken checker log → IsDerivation checker.formula.variables checker.formula.clauses (log ++ entry ∷ [])
@@ -85,7 +89,7 @@ derived_next checker next entry log n h =
 pub taken_next : (checker next : CheckerView) (entry : Entry) (log : List Entry) → IsNext checker next entry → HasTaken checker log → HasTaken next (log ++ entry ∷ [])
 taken_next checker next entry log n h = record {
   derived = subst (λ (f : Cnf). IsDerivation f.variables f.clauses (log ++ entry ∷ [])) (sym n.formula) (derived_next checker next entry log n h);
-  known = known-more log entry checker.learned next.learned checker.dropped next.dropped h.known n.learned n.dropped;
+  known = subst (λ (f : Cnf). IsKnownAfter f.clauses (log ++ entry ∷ []) next.dropped next.learned) (sym n.formula) (known-more checker.formula.variables checker.formula.clauses log entry checker.dropped next.dropped checker.learned next.learned h.known n.derived n.named n.count);
   refuted = n.refuted ∙ ap (λ (b : Bool). b || learns_empty entry) h.refuted ∙ sym (any-append learns_empty log entry);
 }
 
@@ -98,26 +102,23 @@ unsatisfiable_next checker next entry n s t = by checker.refuted refl (learns_em
     by false e false f u = cc
 
 pub sound_next : (checker next : CheckerView) (entry : Entry) → IsNext checker next entry → IsSound checker → IsSound next
-sound_next checker next entry n s =
-    let below : All (HasVariablesBelow checker.formula.variables) (checker.learned ++ clauses_of (entry ∷ [])) =
-    All-append (HasVariablesBelow checker.formula.variables) checker.learned (clauses_of (entry ∷ [])) s.below (below-derived checker.formula.variables checker.formula.clauses checker.learned checker.dropped entry n.derived) in
-    record {
-      log = s.log ++ entry ∷ [];
-      taken = taken_next checker next entry s.log n s.taken;
-      unsatisfiable = λ t. subst (λ (f : Cnf). IsUnsatisfiable f.clauses) (sym n.formula) (unsatisfiable_next checker next entry n s (sym n.refuted ∙ t));
-      long = subst (λ (f : Cnf). length next.dropped ≡ length f.clauses + length next.learned) (sym n.formula) (long_next checker.formula.clauses checker.learned next.learned (clauses_of (entry ∷ [])) checker.dropped next.dropped s.long n.learned n.long);
-      below = subst (λ (f : Cnf). All (HasVariablesBelow f.variables) next.learned) (sym n.formula) (subst (λ (xss : List (List ℕ)). All (HasVariablesBelow checker.formula.variables) xss) (sym n.learned) below);
-    }
+sound_next checker next entry n s = record {
+  log = s.log ++ entry ∷ [];
+  taken = taken_next checker next entry s.log n s.taken;
+  unsatisfiable = λ t. subst (λ (f : Cnf). IsUnsatisfiable f.clauses) (sym n.formula) (unsatisfiable_next checker next entry n s (sym n.refuted ∙ t));
+  long = n.long ∙ s.long ∙ ap (λ (f : Cnf). length f.clauses) (sym n.formula);
+  below = subst (λ (f : Cnf). NamesBelow f.variables f.clauses next.dropped next.learned) (sym n.formula) (below-next checker.formula.variables checker.formula.clauses entry checker.dropped next.dropped checker.learned next.learned n.derived n.named s.below);
+}
 
 -- what taking an entry or not makes of a checker
 pub record IsAfter (checker next : CheckerView) (entry : Entry) (result : Result Bool Memory) (taken : Bool) : Type 0 where
   pub formula : next.formula ≡ checker.formula
-  pub derived : taken ≡ is_derived_by checker.formula.variables checker.formula.clauses checker.learned checker.dropped entry
-  pub learned : result ≡ Ok true → next.learned ≡ checker.learned ++ clauses_of (entry ∷ [])
-  pub dropped : result ≡ Ok true → (number : ℕ) → is_dropped next.dropped number ≡ (is_dropped checker.dropped number || drops number entry)
-  pub long : result ≡ Ok true → length next.dropped ≡ length checker.dropped + length (clauses_of (entry ∷ []))
-  pub same_learned : (result ≡ Ok true → ⊥) → next.learned ≡ checker.learned
+  pub derived : taken ≡ is_derived_by checker.formula.variables checker.formula.clauses checker.dropped checker.learned entry
+  pub named : result ≡ Ok true → NamesNext checker next entry
+  pub count : result ≡ Ok true → length next.learned ≡ length checker.learned + length (clauses_of (entry ∷ []))
+  pub long : result ≡ Ok true → length next.dropped ≡ length checker.dropped
   pub same_dropped : (result ≡ Ok true → ⊥) → next.dropped ≡ checker.dropped
+  pub same_learned : (result ≡ Ok true → ⊥) → next.learned ≡ checker.learned
   pub refuted : next.refuted ≡ (checker.refuted || (taken && learns_empty entry))
 
 false_ok : ◌≡◌ {A = Result Bool Memory} (Ok false) (Ok true) → ⊥
@@ -126,13 +127,9 @@ false_ok e = cc
 pub true_ok : (b : Bool) → b ≡ true → ◌≡◌ {A = Result Bool Memory} (Ok b) (Ok true)
 true_ok b e = ap (λ (x : Bool). Ok x) e
 
-ok_true : (b : Bool) → ◌≡◌ {A = Result Bool Memory} (Ok b) (Ok true) → b ≡ true
+pub ok_true : (b : Bool) → ◌≡◌ {A = Result Bool Memory} (Ok b) (Ok true) → b ≡ true
 ok_true true e = refl
 ok_true false e = absurd (false_ok e)
-
-nothing_more : (xss : List (List ℕ)) → xss ≡ xss ++ []
-nothing_more [] = refl
-nothing_more (xs ∷ xss) = ap (λ (yss : List (List ℕ)). xs ∷ yss) (nothing_more xss)
 
 keeps : (refuted taken : Bool) → refuted ≡ (refuted || (taken && false))
 keeps true true = refl
@@ -141,15 +138,18 @@ keeps false true = refl
 keeps false false = refl
 
 -- taking an entry that drops a clause, or not
-pub forget_after : (checker next : CheckerView) (number : ℕ) (taken : Bool) → next.formula ≡ checker.formula → taken ≡ is_derived_by checker.formula.variables checker.formula.clauses checker.learned checker.dropped (Drop number) → next.learned ≡ checker.learned → (taken ≡ true → (other : ℕ) → is_dropped next.dropped other ≡ (is_dropped checker.dropped other || (number == other))) → length next.dropped ≡ length checker.dropped → ((taken ≡ true → ⊥) → next.dropped ≡ checker.dropped) → next.refuted ≡ checker.refuted → IsAfter checker next (Drop number) (Ok taken) taken
-forget_after checker next number taken f t l d n s r = record {
+pub forget_after : (checker next : CheckerView) (number : ℕ) (taken : Bool) → next.formula ≡ checker.formula → taken ≡ is_derived_by checker.formula.variables checker.formula.clauses checker.dropped checker.learned (Drop number)
+    → (taken ≡ true → (other : ℕ) → kept_named checker.formula.clauses next.dropped next.learned other ≡ (if number == other then None else kept_named checker.formula.clauses checker.dropped checker.learned other))
+    → length next.dropped ≡ length checker.dropped → length next.learned ≡ length checker.learned
+    → ((taken ≡ true → ⊥) → next.dropped ≡ checker.dropped) → ((taken ≡ true → ⊥) → next.learned ≡ checker.learned) → next.refuted ≡ checker.refuted → IsAfter checker next (Drop number) (Ok taken) taken
+forget_after checker next number taken f t d n c s l r = record {
   formula = f;
   derived = t;
-  learned = λ e. l ∙ nothing_more checker.learned;
-  dropped = λ e. d (ok_true taken e);
-  long = λ e. omega (arith, n);
-  same_learned = λ e. l;
+  named = λ e. d (ok_true taken e);
+  count = λ e. omega (arith, c);
+  long = λ e. n;
   same_dropped = λ e. s (λ h. e (true_ok taken h));
+  same_learned = λ e. l (λ h. e (true_ok taken h));
   refuted = r ∙ keeps checker.refuted taken;
 }
 
@@ -157,18 +157,33 @@ next_true : (checker next : CheckerView) (entry : Entry) → IsAfter checker nex
 next_true checker next entry a = record {
   formula = a.formula;
   derived = sym a.derived;
-  learned = a.learned refl;
-  dropped = a.dropped refl;
+  named = a.named refl;
+  count = a.count refl;
   long = a.long refl;
   refuted = a.refuted;
 }
 
+-- taking an entry that learns a clause, or not
+pub learn_after : (checker next : CheckerView) (clause hints : List ℕ) (taken : Bool) → next.formula ≡ checker.formula → taken ≡ is_derived_by checker.formula.variables checker.formula.clauses checker.dropped checker.learned (Learn clause hints)
+    → next.dropped ≡ checker.dropped → (taken ≡ true → next.learned ≡ checker.learned ++ Some clause ∷ []) → ((taken ≡ true → ⊥) → next.learned ≡ checker.learned)
+    → next.refuted ≡ (checker.refuted || (taken && (length clause == 0))) → IsAfter checker next (Learn clause hints) (Ok taken) taken
+learn_after checker next clause hints taken f t d m l r = record {
+  formula = f;
+  derived = t;
+  named = λ e. learn_named checker.formula.clauses checker.dropped next.dropped checker.learned next.learned clause d (m (ok_true taken e));
+  count = λ e. ap length (m (ok_true taken e)) ∙ length-append checker.learned (Some clause ∷ []);
+  long = λ e. ap length d;
+  same_dropped = λ e. d;
+  same_learned = λ e. l (λ h. e (true_ok taken h));
+  refuted = r;
+}
+
 same_false : (checker next : CheckerView) (entry : Entry) → IsAfter checker next entry (Ok false) false → next ≡ checker
 same_false checker next entry a =
-    let learned = a.same_learned false_ok in
     let dropped = a.same_dropped false_ok in
+    let learned = a.same_learned false_ok in
     let refuted : next.refuted ≡ checker.refuted = a.refuted ∙ or-false checker.refuted in
-    λ i. record { formula = a.formula i; learned = learned i; dropped = dropped i; refuted = refuted i }
+    λ i. record { formula = a.formula i; dropped = dropped i; learned = learned i; refuted = refuted i }
 
 pub sound_after : (checker next : CheckerView) (entry : Entry) (taken : Bool) → IsAfter checker next entry (Ok taken) taken → IsSound checker → IsSound next
 sound_after checker next entry true a s = sound_next checker next entry (next_true checker next entry a) s
@@ -186,27 +201,24 @@ long_none (suc n) = ap (λ (m : ℕ). suc m) (long_none n)
 no_entry : (variables : ℕ) (clauses : List (List ℕ)) → IsDerivation variables clauses []
 no_entry variables clauses k h = let none : ⊥ = omega (arith, h) in absurd none
 
-pub taken_none : (formula : Cnf) (learned : List (List ℕ)) (dropped : List Bool) (n : ℕ) → learned ≡ [] → dropped ≡ replicate n false → HasTaken (record { formula = formula; learned = learned; dropped = dropped; refuted = false }) []
-taken_none formula learned dropped n e f = record {
+pub taken_none : (formula : Cnf) (dropped : List Bool) (learned : List (Option (List ℕ))) (n : ℕ) → dropped ≡ replicate n false → learned ≡ [] → HasTaken (record { formula = formula; dropped = dropped; learned = learned; refuted = false }) []
+taken_none formula dropped learned n e f = record {
   derived = no_entry formula.variables formula.clauses;
-  known = known-none n learned dropped e f;
+  known = known-none formula.clauses n dropped learned e f;
   refuted = refl;
 }
 
 not_true : false ≡ true → ⊥
 not_true e = cc
 
-pub sound_none : (formula : Cnf) (learned : List (List ℕ)) (dropped : List Bool) (n : ℕ) → n ≡ length formula.clauses → learned ≡ [] → dropped ≡ replicate n false → IsSound (record { formula = formula; learned = learned; dropped = dropped; refuted = false })
-sound_none formula learned dropped n c e f =
-    let long : length dropped ≡ n = ap (λ (bs : List Bool). length bs) f ∙ long_none n in
-    let short : length learned ≡ 0 = ap (λ (xss : List (List ℕ)). length xss) e in
-    record {
-      log = [];
-      taken = taken_none formula learned dropped n e f;
-      unsatisfiable = λ t. absurd (not_true t);
-      long = omega (arith, c, long, short);
-      below = subst (λ (xss : List (List ℕ)). All (HasVariablesBelow formula.variables) xss) (sym e) (All-nil (HasVariablesBelow formula.variables));
-    }
+pub sound_none : (formula : Cnf) (dropped : List Bool) (learned : List (Option (List ℕ))) (n : ℕ) → n ≡ length formula.clauses → IsWithinVariables formula → dropped ≡ replicate n false → learned ≡ [] → IsSound (record { formula = formula; dropped = dropped; learned = learned; refuted = false })
+sound_none formula dropped learned n c w e f = record {
+  log = [];
+  taken = taken_none formula dropped learned n e f;
+  unsatisfiable = λ t. absurd (not_true t);
+  long = ap length e ∙ long_none n ∙ c;
+  below = below-none formula.variables formula.clauses n dropped learned e f w;
+}
 
 abbrev pub none_marked : ℕ → FalsifiedView
 none_marked n = record { variables = n; falsified = [] }

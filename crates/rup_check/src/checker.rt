@@ -1,11 +1,11 @@
-ghost use Rattle.std.specs.Prelude.{◌≡◌, ◌∷◌, [], ◌++◌, ◌+◌, ◌||◌, ◌&&◌, ◌==◌, ℕ, List, true, length, All, Some, IfOk, IsTrue};
-ghost use Rattle.clause_base.specs.Clause.{IsClause, HasVariablesBelow};
+ghost use Rattle.std.specs.Prelude.{◌≡◌, ◌∷◌, [], ◌++◌, ◌||◌, ◌&&◌, ◌==◌, ℕ, List, true, length, Some, None, if◌then◌else◌, IfOk, IsTrue};
+ghost use Rattle.clause_base.specs.Clause.{IsClause};
 ghost use Rattle.clause_base.specs.Formula.{IsUnsatisfiable};
 ghost use Rattle.clause_base.specs.Derivation.{is_derived_after};
 ghost use Rattle.clause_base.specs.declared.log.Entry.{Entry};
 ghost use Rattle.clause_base.specs.declared.log.Entry.TheVariants.{Learn as learn_entry, Drop as drop_entry};
-ghost use Rattle.rup_check.specs.Kept.{is_dropped, is_derived_by};
-ghost use Rattle.rup_check.specs.Taken.{HasTaken};
+ghost use Rattle.rup_check.specs.Kept.{kept_named, is_derived_by};
+ghost use Rattle.rup_check.specs.Taken.{HasTaken, NamesBelow};
 
 use crate::entry::is_learnable;
 use crate::kept::Kept;
@@ -17,7 +17,7 @@ use std::alloc::Global;
 use std::marker::Model;
 
 /// A checker of derivations from a formula that takes one entry after another and keeps none of them: it has the clauses
-/// that they learned, and which numbers they dropped.
+/// that they learned but for those that they dropped.
 #[derive(Drop)]
 pub struct Checker<'a> {
     formula: &'a Formula,
@@ -32,9 +32,9 @@ impl<'a> Model for Checker<'a> {
 
     ghost Value = { CheckerView };
 
-    ghost view = { λ c. record { formula = c.formula.now; learned = c.kept.learned; dropped = c.kept.dropped.items; refuted = c.refuted } };
+    ghost view = { λ c. record { formula = c.formula.now; dropped = c.kept.dropped.items; learned = c.kept.learned; refuted = c.refuted } };
 
-    ghost invariant = { λ c. IsSound (record { formula = c.formula.now; learned = c.kept.learned; dropped = c.kept.dropped.items; refuted = c.refuted }) × (c.marks ≡ record { variables = c.formula.now.variables; falsified = [] }) };
+    ghost invariant = { λ c. IsSound (record { formula = c.formula.now; dropped = c.kept.dropped.items; learned = c.kept.learned; refuted = c.refuted }) × (c.marks ≡ record { variables = c.formula.now.variables; falsified = [] }) };
 }
 
 /// Takes the entry that learns a clause as the next one where it is derived, and says whether it is. Else what is known is unchanged.
@@ -46,15 +46,12 @@ fn learn_derived(
     hints: &[u32],
 ) -> Result<bool, Memory>
     requires marks { marks.old ≡ record { variables = formula.now.variables; falsified = [] } }
-    requires below { All (HasVariablesBelow formula.now.variables) kept.old.learned }
-    requires lawful { IsClause clause.now }
+    requires named { NamesBelow formula.now.variables formula.now.clauses kept.old.dropped.items kept.old.learned }
     ensures marks { marks.new ≡ marks.old }
-    ensures answer { IfOk result (λ b. b ≡ is_derived_by formula.now.variables formula.now.clauses kept.old.learned kept.old.dropped.items (learn_entry clause.now hints.now)) }
-    ensures learned { result ≡ Ok true → kept.new.learned ≡ kept.old.learned ++ clause.now ∷ [] }
-    ensures dropped { result ≡ Ok true → (number : ℕ) → is_dropped kept.new.dropped.items number ≡ is_dropped kept.old.dropped.items number }
-    ensures long { result ≡ Ok true → length kept.new.dropped.items ≡ length kept.old.dropped.items + 1 }
-    ensures same_learned { (result ≡ Ok true → ⊥) → kept.new.learned ≡ kept.old.learned }
-    ensures same_dropped { (result ≡ Ok true → ⊥) → kept.new.dropped.items ≡ kept.old.dropped.items }
+    ensures answer { IfOk result (λ b. b ≡ is_derived_by formula.now.variables formula.now.clauses kept.old.dropped.items kept.old.learned (learn_entry clause.now hints.now)) }
+    ensures dropped { kept.new.dropped.items ≡ kept.old.dropped.items }
+    ensures learned { result ≡ Ok true → kept.new.learned ≡ kept.old.learned ++ Some clause.now ∷ [] }
+    ensures same { (result ≡ Ok true → ⊥) → kept.new.learned ≡ kept.old.learned }
 {
     let _below = formula.variables();
     if !is_learnable(marks, formula, kept, clause, hints)? {
@@ -67,17 +64,18 @@ fn learn_derived(
 /// Takes the entry that drops a clause as the next one where the number names a kept one, and says whether it does. Else what
 /// is known is unchanged.
 fn forget_derived(formula: &Formula, kept: &mut Kept, number: u32) -> bool
-    requires long { length kept.old.dropped.items ≡ length formula.now.clauses + length kept.old.learned }
-    ensures answer { result ≡ is_derived_by formula.now.variables formula.now.clauses kept.old.learned kept.old.dropped.items (drop_entry number) }
-    ensures learned { kept.new.learned ≡ kept.old.learned }
-    ensures dropped { result ≡ true → (other : ℕ) → is_dropped kept.new.dropped.items other ≡ (is_dropped kept.old.dropped.items other || (number == other)) }
+    requires long { length kept.old.dropped.items ≡ length formula.now.clauses }
+    ensures answer { result ≡ is_derived_by formula.now.variables formula.now.clauses kept.old.dropped.items kept.old.learned (drop_entry number) }
+    ensures named { result ≡ true → (other : ℕ) → kept_named formula.now.clauses kept.new.dropped.items kept.new.learned other ≡ (if number == other then None else kept_named formula.now.clauses kept.old.dropped.items kept.old.learned other) }
     ensures long { length kept.new.dropped.items ≡ length kept.old.dropped.items }
-    ensures same { (result ≡ true → ⊥) → kept.new.dropped.items ≡ kept.old.dropped.items }
+    ensures count { length kept.new.learned ≡ length kept.old.learned }
+    ensures same_dropped { (result ≡ true → ⊥) → kept.new.dropped.items ≡ kept.old.dropped.items }
+    ensures same_learned { (result ≡ true → ⊥) → kept.new.learned ≡ kept.old.learned }
 {
     if kept.clause(formula, number).is_none() {
         return false;
     }
-    kept.forget(number);
+    kept.forget(formula, number);
     true
 }
 

@@ -1,8 +1,9 @@
-ghost use Rattle.std.specs.Prelude.{◌≡◌, ◌++◌, [], All, fold, IfOk, OnOk};
+ghost use Rattle.std.specs.Prelude.{◌≡◌, [], fold, IfOk, OnOk};
 ghost use Rattle.clause_base.specs.Clause.{HasVariablesBelow, has_variables_below, put};
 ghost use Rattle.clause_base.specs.Derivation.{leads_to_conflict};
 ghost use Rattle.clause_base.specs.declared.log.Entry.TheVariants.{Learn as learn_entry};
 ghost use Rattle.rup_check.specs.Kept.{kept_named, is_derived_by};
+ghost use Rattle.rup_check.specs.Taken.{NamesBelow};
 
 use crate::kept::Kept;
 use crate::left::Left;
@@ -20,8 +21,8 @@ fn leads_to_conflict(
     kept: &Kept,
     hints: &[u32],
 ) -> Result<bool, Memory>
-    requires { All (HasVariablesBelow marks.old.variables) (formula.now.clauses ++ kept.now.learned) }
-    ensures answer { IfOk result (λ b. b ≡ leads_to_conflict (kept_named formula.now.clauses kept.now.learned kept.now.dropped.items) marks.old.falsified hints.now) }
+    requires { NamesBelow marks.old.variables formula.now.clauses kept.now.dropped.items kept.now.learned }
+    ensures answer { IfOk result (λ b. b ≡ leads_to_conflict (kept_named formula.now.clauses kept.now.dropped.items kept.now.learned) marks.old.falsified hints.now) }
     ensures variables { marks.new.variables ≡ marks.old.variables }
 {
     let mut left = Left::of(hints);
@@ -60,9 +61,9 @@ fn leads_from(
     hints: &[u32],
 ) -> Result<bool, Memory>
     requires empty { marks.old.falsified ≡ [] }
-    requires named { All (HasVariablesBelow marks.old.variables) (formula.now.clauses ++ kept.now.learned) }
+    requires named { NamesBelow marks.old.variables formula.now.clauses kept.now.dropped.items kept.now.learned }
     requires below { HasVariablesBelow marks.old.variables clause.now }
-    ensures answer { IfOk result (λ b. b ≡ leads_to_conflict (kept_named formula.now.clauses kept.now.learned kept.now.dropped.items) clause.now hints.now) }
+    ensures answer { IfOk result (λ b. b ≡ leads_to_conflict (kept_named formula.now.clauses kept.now.dropped.items kept.now.learned) clause.now hints.now) }
     ensures variables { marks.new.variables ≡ marks.old.variables }
 {
     falsify_all(marks, clause)?;
@@ -79,9 +80,9 @@ fn follows(
     hints: &[u32],
 ) -> Result<bool, Memory>
     requires empty { marks.old.falsified ≡ [] }
-    requires named { All (HasVariablesBelow marks.old.variables) (formula.now.clauses ++ kept.now.learned) }
+    requires named { NamesBelow marks.old.variables formula.now.clauses kept.now.dropped.items kept.now.learned }
     requires below { HasVariablesBelow marks.old.variables clause.now }
-    ensures answer { IfOk result (λ b. b ≡ leads_to_conflict (kept_named formula.now.clauses kept.now.learned kept.now.dropped.items) clause.now hints.now) }
+    ensures answer { IfOk result (λ b. b ≡ leads_to_conflict (kept_named formula.now.clauses kept.now.dropped.items kept.now.learned) clause.now hints.now) }
     ensures kept { marks.new ≡ marks.old }
 {
     let answer = leads_from(marks, formula, kept, clause, hints);
@@ -113,8 +114,8 @@ pub fn is_learnable(
 ) -> Result<bool, Memory>
     requires empty { marks.old.falsified ≡ [] }
     requires over { marks.old.variables ≡ formula.now.variables }
-    requires named { All (HasVariablesBelow formula.now.variables) (formula.now.clauses ++ kept.now.learned) }
-    ensures answer { IfOk result (λ b. b ≡ is_derived_by formula.now.variables formula.now.clauses kept.now.learned kept.now.dropped.items (learn_entry clause.now hints.now)) }
+    requires named { NamesBelow formula.now.variables formula.now.clauses kept.now.dropped.items kept.now.learned }
+    ensures answer { IfOk result (λ b. b ≡ is_derived_by formula.now.variables formula.now.clauses kept.now.dropped.items kept.now.learned (learn_entry clause.now hints.now)) }
     ensures kept { marks.new ≡ marks.old }
 {
     if !fits(clause, formula.variables()) {

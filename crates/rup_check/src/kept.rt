@@ -1,47 +1,48 @@
-ghost use Rattle.std.specs.Prelude.{◌≡◌, ◌∷◌, [], ◌+◌, ◌++◌, ◌<◌, ◌||◌, ◌==◌, ℕ, Bool, false, length, replicate, slice_get, IfOk, OnOk, OnErr};
-ghost use Rattle.clause_base.specs.Clause.{IsClause};
+ghost use Rattle.std.specs.Prelude.{◌≡◌, ◌∷◌, [], ◌+◌, ◌++◌, ◌==◌, ℕ, false, Some, None, length, replicate, slice_index_or, if◌then◌else◌, IfOk, OnOk, OnErr, IsSome};
 ghost use Rattle.rup_check.specs.Kept.{kept_named, is_dropped};
 
-use clause_base::clause_list::ClauseList;
 use clause_base::formula::Formula;
 use clause_base::literal::Lit;
 use clause_base::memory::Memory;
 use clause_base::view::View;
+use clause_pages::pages::Pages;
 use std::alloc::Global;
 
-/// What is known after some entries: the clauses that they learned, and for each number so far whether it was dropped.
+/// What is known after some entries: for each clause of the formula whether it was dropped, and the clauses that the entries
+/// learned but for those that were dropped.
 #[derive(Drop)]
 pub struct Kept {
-    pub learned: ClauseList,
     pub dropped: Vec<bool>,
+    pub learned: Pages,
 }
 
 impl Kept {
     /// What is known before the first entry, over so many clauses: all are kept.
     pub fn new(alloc: Global, clauses: u32) -> Result<Kept, Memory>
-        ensures learned { IfOk result (λ kept. kept.learned ≡ []) }
         ensures dropped { IfOk result (λ kept. kept.dropped.items ≡ replicate clauses false) }
+        ensures learned { IfOk result (λ kept. kept.learned ≡ []) }
     {
         Ok(Kept {
-            learned: ClauseList::new(alloc),
             dropped: vec![in alloc; false; clauses as usize]?,
+            learned: Pages::new(alloc),
         })
     }
 
     /// The kept clause that a number names.
+    #[inline(always)]
     pub fn clause<'a>(&'a self, formula: &'a Formula, number: u32) -> Option<View<'a>>
-        ensures { result ≡ kept_named formula.now.clauses self.now.learned self.now.dropped.items number }
+        ensures { result ≡ kept_named formula.now.clauses self.now.dropped.items self.now.learned number }
     {
-        if self.is_dropped(number) {
-            None
-        } else if number < formula.count() {
-            Some(formula.clause(number))
-        } else {
-            self.learned_clause(number - formula.count())
+        if number >= formula.count() {
+            return self.learned_clause(number - formula.count());
         }
+        if self.is_dropped(number) {
+            return None;
+        }
+        Some(formula.clause(number))
     }
 
-    /// Whether a number was dropped.
+    /// Whether the clause of the formula with this number was dropped.
     fn is_dropped(&self, number: u32) -> bool
         ensures { result ≡ is_dropped self.now.dropped.items number }
     {
@@ -51,42 +52,37 @@ impl Kept {
         }
     }
 
-    /// The learned clause with this number among the learned ones.
+    /// The learned clause with this number among the learned ones, where it is kept.
     fn learned_clause(&self, number: u32) -> Option<View<'_>>
-        ensures { result ≡ slice_get self.now.learned number }
+        ensures { result ≡ slice_index_or self.now.learned number None }
     {
-        if (number as usize) < self.learned.count() {
-            Some(View::of(self.learned.clause(number as usize)))
-        } else {
-            None
-        }
+        let lits = self.learned.get(number as usize)?;
+        Some(View::of(lits))
     }
 
     /// Takes the entry that learns a clause as the next one. After want of memory what is known is unchanged.
     pub fn learn(&mut self, clause: &[Lit]) -> Result<(), Memory>
-        requires { IsClause clause.now }
-        ensures learned { OnOk result (self.new.learned ≡ self.old.learned ++ clause.now ∷ []) }
-        ensures dropped { OnOk result ((number : ℕ) → is_dropped self.new.dropped.items number ≡ is_dropped self.old.dropped.items number) }
-        ensures long { OnOk result (length self.new.dropped.items ≡ length self.old.dropped.items + 1) }
-        ensures same_learned { OnErr result (self.new.learned ≡ self.old.learned) }
-        ensures same_dropped { OnErr result (self.new.dropped.items ≡ self.old.dropped.items) }
+        ensures dropped { self.new.dropped.items ≡ self.old.dropped.items }
+        ensures learned { OnOk result (self.new.learned ≡ self.old.learned ++ Some clause.now ∷ []) }
+        ensures same { OnErr result (self.new.learned ≡ self.old.learned) }
     {
-        let count = self.dropped.len();
-        self.dropped.push(false)?;
-        if let Err(error) = self.learned.add_sorted(clause) {
-            self.dropped.truncate(count);
-            return Err(error);
-        }
+        self.learned.push(clause)?;
         Ok(())
     }
 
-    /// Takes the entry that drops the clause with this number, one so far, as the next one.
-    pub fn forget(&mut self, number: u32)
-        requires { number < length self.old.dropped.items }
-        ensures learned { self.new.learned ≡ self.old.learned }
-        ensures dropped { (other : ℕ) → is_dropped self.new.dropped.items other ≡ (is_dropped self.old.dropped.items other || (number == other)) }
+    /// Takes the entry that drops the kept clause with this number as the next one.
+    pub fn forget(&mut self, formula: &Formula, number: u32)
+        requires long { length self.old.dropped.items ≡ length formula.now.clauses }
+        requires kept { IsSome (kept_named formula.now.clauses self.old.dropped.items self.old.learned number) }
+        ensures named { (other : ℕ) → kept_named formula.now.clauses self.new.dropped.items self.new.learned other ≡ (if number == other then None else kept_named formula.now.clauses self.old.dropped.items self.old.learned other) }
         ensures long { length self.new.dropped.items ≡ length self.old.dropped.items }
+        ensures count { length self.new.learned ≡ length self.old.learned }
     {
-        self.dropped[number as usize] = true;
+        let count = formula.count();
+        if number < count {
+            self.dropped[number as usize] = true;
+        } else {
+            self.learned.remove((number - count) as usize);
+        }
     }
 }

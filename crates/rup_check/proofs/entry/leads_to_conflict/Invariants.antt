@@ -5,7 +5,7 @@ use Rattle.rup_check.proofs.entry.leads_to_conflict.Given as goal
 
 abbrev pub invariant-loop-hint : goal.invariant-loop-hint
 invariant-loop-hint l = record {
-  answer : leads_to_conflict (kept_named l.formula.clauses l.kept.learned l.kept.dropped.items) l.marks.falsified l.left ≡ leads_to_conflict (kept_named l.formula.clauses l.kept.learned l.kept.dropped.items) l.initial.marks.falsified l.hints;
+  answer : leads_to_conflict (kept_named l.formula.clauses l.kept.dropped.items l.kept.learned) l.marks.falsified l.left ≡ leads_to_conflict (kept_named l.formula.clauses l.kept.dropped.items l.kept.learned) l.initial.marks.falsified l.hints;
   variables : l.marks.variables ≡ l.initial.marks.variables;
 }
 
