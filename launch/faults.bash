@@ -83,7 +83,8 @@ tell_of_run() {
     case $1 in
     check) path=${files[2]-} && { can_be_read "$path" plan || return; } ;;
     verify) path=${files[2]-} && { can_be_read "$path" proof || return; } ;;
-    judge | model) path=${files[3]-} && { can_be_read "$path" proof || return; } ;;
+    judge) path=${files[3]-} && { can_be_read "$path" proof || return; } ;;
+    model) path=${files[3]-} && { can_be_read "$path" model || return; } ;;
     esac
     if [ "$SECONDS" -ge 20 ] || ! ask 30 "$@" || [ "$answer" != "$status" ]; then
         said="; limit of a horizon"
@@ -143,7 +144,10 @@ tell_line() {
     *) path=$4 ;;
     esac
     case $word in
-    refused) tell_place "$path" "$kind" "$which" "$at" ;;
+    refused)
+        [ "$5:$which" != judge:proof ] || which=LRAT
+        tell_place "$path" "$kind" "$which" "$at"
+        ;;
     read) tell_unread "$path" "$which" ;;
     limit) tell_length "$path" "$which" "$5" ;;
     esac
@@ -180,7 +184,7 @@ tell_limit() {
         "or preconditions that never change" ;;
     effects) say "limit: $2 effects with a condition, and 65536 may be: give the variables of forall types with fewer objects" ;;
     literals) tell_literals "$2" "$3" "$4" ;;
-    *) say "limit: the formula of a horizon has more than the 4000000 literals that one may have; the report names it:" \
+    *) say "limit: the formula of a horizon has more than the $(literals_of "$4") literals that one may have; the report names it:" \
         "a smaller --max-horizon ends before it" ;;
     esac
 }
@@ -194,5 +198,13 @@ tell_literals() {
         [ "$2" = 0 ] || advice="--max-horizon $(($2 - 1)) ends before it, with what is known by then"
         ;;
     esac
-    say "limit: the formula of horizon $2 has $1 literals, and 4000000 may be: $advice"
+    say "limit: the formula of horizon $2 has $1 literals, and $(literals_of "$3") may be: $advice"
+}
+
+# literals_of COMMAND: how many literals a formula of it may have.
+literals_of() {
+    case $1 in
+    formula | judge | model) echo 16000000 ;;
+    *) echo 4000000 ;;
+    esac
 }

@@ -52,6 +52,9 @@ sentence_of() {
 sentence_of_syntax() {
     case $1:$at_end:$depth:$ended in
     proof:*) echo 'this line is none of a certificate, or of another spelling than the one that prove writes' ;;
+    LRAT:*) echo 'this line is none of a proof in the text form of LRAT, or is cut off' ;;
+    model:yes:*) echo 'the values, lines that begin with v, have no 0 at their end' ;;
+    model:*) echo 'a solver prints no such line of a model, or a value in it is the contrary of one before it' ;;
     *:yes:0:*) echo 'the file has no list' ;;
     *:yes:*) echo 'the file ends inside a list, which is not closed' ;;
     plan:no:*) sentence_of_call ;;
