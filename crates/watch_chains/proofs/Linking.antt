@@ -1,4 +1,6 @@
-use Rattle.std.proofs.Common.{arith, ◌≡◌, ◌≢◌, ◌==◌, eqb, ℕ, zero, suc, ◌<◌, ◌≤◌, List, [], ◌∷◌, length, set, get_or, Bool, true, false, ◌||◌, refl, sym, ap, ◌∙◌, subst, if◌then◌else◌, Option, Some, None, length-set, get_or-set_same, get_or-set_other, ◌++◌, length-append}
+use Rattle.std.proofs.Common.{arith, ◌≡◌, ◌≢◌, ◌==◌, eqb, ℕ, zero, suc, ◌<◌, ◌≤◌, List, [], ◌∷◌, length, set, get_or, Bool, true, false, ◌||◌, refl}
+use Rattle.std.proofs.Common.{sym, ap, ◌∙◌, subst, if◌then◌else◌, Option, Some, None, length-set, get_or-set_same, get_or-set_other, ◌++◌}
+use Rattle.std.proofs.Common.{length-append}
 use Rattle.std.specs.List.{AllByRecursion, IsDistinct}
 use Rattle.std.proofs.lemmas.Bool.Decides.{nat_tests}
 use Rattle.std.proofs.lemmas.Map.Keys.{IsDistinct-cons}
@@ -68,14 +70,16 @@ pub chosen : (P : List ℕ → Type 0) (b : Bool) (xs ys : List ℕ) → (b ≡ 
 chosen P true xs ys f g = f refl
 chosen P false xs ys f g = g refl
 
-pub has_not : (heads : List ℕ) (nodes : List Node) (on : ℕ → Option ℕ) (m : IsLinked heads nodes on) (nd l : ℕ) → on nd ≡ None → l < length heads → has (m.chain l) nd ≡ false
+pub has_not : (heads : List ℕ) (nodes : List Node) (on : ℕ → Option ℕ) (m : IsLinked heads nodes on) (nd l : ℕ) → on nd ≡ None → l < length heads
+    → has (m.chain l) nd ≡ false
 has_not heads nodes on m nd l o h = by (has (m.chain l) nd) refl
   where
     by : (b : Bool) → has (m.chain l) nd ≡ b → b ≡ false
     by true f = let g : on nd ≡ Some l = m.only l nd h f in let z : None ≡ Some l = sym o ∙ g in cc
     by false f = refl
 
-pub linked_link : (heads : List ℕ) (nodes : List Node) (on : ℕ → Option ℕ) (nd l : ℕ) (v : Node) → l < length heads → nd < length nodes → on nd ≡ None → v.next ≡ get_or heads l 0 → IsLinked heads nodes on
+pub linked_link : (heads : List ℕ) (nodes : List Node) (on : ℕ → Option ℕ) (nd l : ℕ) (v : Node) → l < length heads → nd < length nodes → on nd ≡ None
+    → v.next ≡ get_or heads l 0 → IsLinked heads nodes on
     → IsLinked (set heads l nd) (set nodes nd v) (placed nd (Some l) on)
 linked_link heads nodes on nd l v h k o n m =
     let lh = length-set heads l nd in
@@ -87,11 +91,13 @@ linked_link heads nodes on nd l v h k o n m =
           (λ t. let e : i ≡ l = grind (arith, nat_tests) in (
             ap (λ (j : ℕ). get_or (set heads l nd) j 0) e ∙ get_or-set_same heads l nd 0 h,
             omega (arith, ln, k),
-            subst (λ (y : ℕ). IsChain (set nodes nd v) y (m.chain l)) (sym (ap (λ (y : Node). y.next) own ∙ n)) (chain-set nodes nd v (get_or heads l 0) (m.chain l) (m.linked l h) (has_not heads nodes on m nd l o h)),
+            subst (λ (y : ℕ). IsChain (set nodes nd v) y (m.chain l)) (sym (ap (λ (y : Node). y.next) own ∙ n))
+                (chain-set nodes nd v (get_or heads l 0) (m.chain l) (m.linked l h) (has_not heads nodes on m nd l o h)),
           ))
           (λ t. let ne : i ≢ l = grind (arith, nat_tests) in
           let b' : i < length heads = omega (arith, b, lh) in
-          subst (λ (y : ℕ). IsChain (set nodes nd v) y (m.chain i)) (sym (get_or-set_other heads l i nd 0 ne)) (chain-set nodes nd v (get_or heads i 0) (m.chain i) (m.linked i b') (has_not heads nodes on m nd i o b')));
+          subst (λ (y : ℕ). IsChain (set nodes nd v) y (m.chain i)) (sym (get_or-set_other heads l i nd 0 ne))
+          (chain-set nodes nd v (get_or heads i 0) (m.chain i) (m.linked i b') (has_not heads nodes on m nd i o b')));
       once = λ i b. let b' : i < length heads = omega (arith, b, lh) in
           chosen HasNoneTwice (i == l) (nd ∷ m.chain l) (m.chain i) (λ t. (has_not heads nodes on m nd l o h, m.once l h)) (λ t. m.once i b');
       only = λ i j b e. let b' : i < length heads = omega (arith, b, lh) in only_by i j b' (i == l) refl (j == nd) refl e;
@@ -99,7 +105,8 @@ linked_link heads nodes on nd l v h k o n m =
       few = omega (arith, m.few, ln);
     }
   where
-    only_by : (i j : ℕ) → i < length heads → (p : Bool) → (i == l) ≡ p → (q : Bool) → (j == nd) ≡ q → has (if p then nd ∷ m.chain l else m.chain i) j ≡ true → (if q then Some l else on j) ≡ Some i
+    only_by : (i j : ℕ) → i < length heads → (p : Bool) → (i == l) ≡ p → (q : Bool) → (j == nd) ≡ q
+        → has (if p then nd ∷ m.chain l else m.chain i) j ≡ true → (if q then Some l else on j) ≡ Some i
     only_by i j b true f true g e = let t : i ≡ l = grind (arith, nat_tests) in ap (λ (x : ℕ). Some x) (sym t)
     only_by i j b true f false g e =
         let t : i ≡ l = grind (arith, nat_tests) in
@@ -110,7 +117,8 @@ linked_link heads nodes on nd l v h k o n m =
         let z : None ≡ Some i = sym o ∙ a in absurd (let w : ⊥ = cc in w)
     only_by i j b false f false g e = m.only i j b e
 
-    whole_by : (i j : ℕ) → (q : Bool) → (j == nd) ≡ q → (if q then Some l else on j) ≡ Some i → (i < length (set heads l nd)) × (has (with_chain l (nd ∷ m.chain l) m.chain i) j ≡ true)
+    whole_by : (i j : ℕ) → (q : Bool) → (j == nd) ≡ q → (if q then Some l else on j) ≡ Some i
+        → (i < length (set heads l nd)) × (has (with_chain l (nd ∷ m.chain l) m.chain i) j ≡ true)
     whole_by i j true g e =
         let t : l ≡ i = cc in
         let f : (i == l) ≡ true = grind (arith, nat_tests) in
@@ -139,10 +147,12 @@ linked_none heads e = record {
 chain-more : (nodes more : List Node) (a : ℕ) (xs : List ℕ) → IsChain nodes a xs → IsChain (nodes ++ more) a xs
 chain-more nodes more a [] h = h
 chain-more nodes more a (x ∷ xs) h =
-    (h.0, omega (arith, h.1, length-append nodes more), subst (λ (y : ℕ). IsChain (nodes ++ more) y xs) (ap (λ (y : Node). y.next) (sym (get_or_append_left nodes more no_node x h.1))) (chain-more nodes more (next_of nodes x) xs h.2))
+    let same : next_of nodes x ≡ next_of (nodes ++ more) x = ap (λ (y : Node). y.next) (sym (get_or_append_left nodes more no_node x h.1)) in
+    (h.0, omega (arith, h.1, length-append nodes more), subst (λ (y : ℕ). IsChain (nodes ++ more) y xs) same (chain-more nodes more (next_of nodes x) xs h.2))
 
 -- more nodes, on no chain
-pub linked_more : (heads : List ℕ) (nodes more : List Node) (on : ℕ → Option ℕ) → length (nodes ++ more) ≤ 4294967295 → IsLinked heads nodes on → IsLinked heads (nodes ++ more) on
+pub linked_more : (heads : List ℕ) (nodes more : List Node) (on : ℕ → Option ℕ) → length (nodes ++ more) ≤ 4294967295 → IsLinked heads nodes on
+    → IsLinked heads (nodes ++ more) on
 linked_more heads nodes more on few m = record {
   chain = m.chain;
   linked = λ l b. chain-more nodes more (get_or heads l 0) (m.chain l) (m.linked l b);

@@ -216,7 +216,8 @@ walk_drop heads nodes on code x v rest place next w more b n vn = by w.done w.ch
     by (y ∷ ys) c e =
         let nodes' = set nodes place.before v in
         let ln = length-set nodes place.before v in
-        let q : w.linked.chain code ≡ y ∷ (ys ++ x ∷ rest) = chain_same nodes (get_or heads code 0) (w.linked.chain code) (y ∷ (ys ++ x ∷ rest)) w.linked.few (w.linked.linked code w.inside) c in
+        let q : w.linked.chain code ≡ y ∷ (ys ++ x ∷ rest) = chain_same nodes (get_or heads code 0) (w.linked.chain code) (y ∷ (ys ++ x ∷ rest))
+        w.linked.few (w.linked.linked code w.inside) c in
         let once : HasNoneTwice (y ∷ (ys ++ x ∷ rest)) = subst HasNoneTwice q (w.linked.once code w.inside) in
         let own : IsChain nodes' (get_or heads code 0) (y ∷ (ys ++ rest)) = subst (λ (z : ℕ). IsChain (set nodes z v) (get_or heads code 0) (y ∷ (ys ++ rest))) (sym e)
         (chain_skip nodes (get_or heads code 0) y ys rest x v c once vn) in
@@ -224,7 +225,8 @@ walk_drop heads nodes on code x v rest place next w more b n vn = by w.done w.ch
         (ap (λ (xs : List ℕ). has xs place.before) q ∙ ap (λ (z : ℕ). has (y ∷ (ys ++ x ∷ rest)) z) e ∙ last_in y ys (x ∷ rest)) in
         let m = linked_without heads heads nodes nodes' on code x (y ∷ ys) rest w.linked w.inside q refl ln own
         (λ i l ne. chain-set nodes place.before v (get_or heads i 0) (w.linked.chain i) (w.linked.linked i l) (elsewhere on_before i l ne (has (w.linked.chain i) place.before) refl)) in
-        walk_of heads nodes' (placed x None on) code (y ∷ ys) rest next m w.inside own (b ∙ e) (n ∙ chain_head nodes (next_of nodes x) rest (chain_part nodes (get_or heads code 0) (y ∷ ys) (x ∷ rest) c).2)
+        walk_of heads nodes' (placed x None on) code (y ∷ ys) rest next m w.inside own (b ∙ e)
+        (n ∙ chain_head nodes (next_of nodes x) rest (chain_part nodes (get_or heads code 0) (y ∷ ys) (x ∷ rest) c).2)
       where
         elsewhere : on place.before ≡ Some code → (i : ℕ) → i < length heads → (i ≡ code → ⊥) → (t : Bool) → has (w.linked.chain i) place.before ≡ t
             → has (w.linked.chain i) place.before ≡ false

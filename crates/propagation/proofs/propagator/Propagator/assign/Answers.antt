@@ -73,8 +73,14 @@ mark_pairs-requires-clause-asks c =
 pub visit_all-requires-clause-code : goal.visit_all-requires-clause-code
 visit_all-requires-clause-code c =
     let here = goal.at.visit_all-requires-clause-code c in
-    omega (arith, falsified_is here.After-falsified, half_opposite c.args.entry.literal, c.requires.below, over here.After-assignment-assignment,
-        ap (λ (v : PropagatorView). v.variables) c.self.view_is)
+    omega (
+      arith,
+      falsified_is here.After-falsified,
+      half_opposite c.args.entry.literal,
+      c.requires.below,
+      over here.After-assignment-assignment,
+      ap (λ (v : PropagatorView). v.variables) c.self.view_is,
+    )
 
 pub visit_all-requires-clause-falsified : goal.visit_all-requires-clause-falsified
 visit_all-requires-clause-falsified c = falsified (goal.at.visit_all-requires-clause-falsified c).After-assignment-assignment c.falsified.inside.0

@@ -125,7 +125,8 @@ returns-then-is_true-2-clause-visited c rest v =
 pub find_other-requires-clause-below : goal.find_other-requires-clause-below
 find_other-requires-clause-below c p g =
     let e = c.slot_clause-clause.ensures in
-    let l = (fit_slots c.args.tables.now.store c.args.tables.now.slots.items (2 * c.args.assignment.now.variables) c.requires.tables.fit).below (c.args.place.node / 2) p (subst (λ (xs : List ℕ). p < length xs) e g) in
+    let fit = fit_slots c.args.tables.now.store c.args.tables.now.slots.items (2 * c.args.assignment.now.variables) c.requires.tables.fit in
+    let l = fit.below (c.args.place.node / 2) p (subst (λ (xs : List ℕ). p < length xs) e g) in
     omega (arith, l, ap (λ (xs : List ℕ). get_or xs p 0) e)
 
 pub find_other-requires-clause-short : goal.find_other-requires-clause-short
@@ -144,7 +145,7 @@ found c =
     let e = c.slot_clause-clause.ensures in (
       subst (λ (xs : List ℕ). place < length xs) e c.in-Some.ensures.inside,
       c.free.view_is ∙ get_or_read c.slot_clause-clause.result place c.get-free.result c.in-Some.ensures.inside c.get-free.ensures.item 0
-      ∙ ap (λ (xs : List ℕ). get_or xs place 0) e,
+          ∙ ap (λ (xs : List ℕ). get_or xs place 0) e,
     )
 
 pub move_to-requires-clause-to : goal.move_to-requires-clause-to
@@ -199,7 +200,8 @@ returns-in-Some-clause-visited c rest v =
     let below : nd / 2 < length wa = omega (arith, here.below, v.listed.placed.many) in
     let other = moved_is at.After-free in
     let f = found at.After-free in
-    let ne : c.in-Some.found ≡ place_in (get_or wa (nd / 2) no_watches) (not second) → ⊥ = (λ (e : c.in-Some.found ≡ place_in (get_or wa (nd / 2) no_watches) (not second)). c.in-Some.ensures.other (e ∙ sym b.place)) in
+    let ne : c.in-Some.found ≡ place_in (get_or wa (nd / 2) no_watches) (not second) → ⊥ =
+    (λ (e : c.in-Some.found ≡ place_in (get_or wa (nd / 2) no_watches) (not second)). c.in-Some.ensures.other (e ∙ sym b.place)) in
     let m = c.move_to.ensures in
     let apart = not_code (has_literal c.args.assignment.now.trail) c.args.code c.free.inside.0 c.requires.falsified (free_is at.After-free) in
     visited_move cl wa (set wa (nd / 2) w') c.note.new.self.heads.items c.move_to.new.self.heads.items c.note.new.self.nodes.items c.move_to.new.self.nodes.items
@@ -222,7 +224,8 @@ returns-in-Some-clause-moves c =
 number_in : (c : After-lit) → get_or c.args.tables.now.slots.items (c.args.place.node / 2) 0 < length c.args.tables.now.store
 number_in c =
     let v = c.requires.visited.1 in
-    c.requires.tables.slotted (c.args.place.node / 2) (omega (arith, (v.listed.real c.args.place.node c.args.code v.walk.ahead.0).below, slots_long c.args.tables.now.store c.args.tables.now.slots.items))
+    c.requires.tables.slotted (c.args.place.node / 2)
+    (omega (arith, (v.listed.real c.args.place.node c.args.code v.walk.ahead.0).below, slots_long c.args.tables.now.store c.args.tables.now.slots.items))
 
 pub number_at-requires : goal.number_at-requires
 number_at-requires c =
@@ -250,7 +253,8 @@ returns-in-None-clause-visited c rest v =
     let is = words_have c.put.new.self.numbers in
     let has = insert_at was is c.number_at.result (get_or slots (nd / 2) 0) c.number_at.ensures c.put.ensures.has in
     let v' = noted at.After-note rest (beside at.After-lit).has v in
-    let none = subst (λ (xs : List ℕ). (p : ℕ) → p < length xs → (p ≡ c.at-other.result → ⊥) → is_free on (get_or xs p 0) ≡ false) c.slot_clause-clause.ensures c.in-None.ensures.none in
+    let none = subst (λ (xs : List ℕ). (p : ℕ) → p < length xs → (p ≡ c.at-other.result → ⊥) → is_free on (get_or xs p 0) ≡ false)
+    c.slot_clause-clause.ensures c.in-None.ensures.none in
     visited_stay cl c.args.self.now.watched.items c.note.new.self.heads.items c.note.new.self.nodes.items (2 * c.args.assignment.now.variables)
     (slot_flags c.args.tables.now.kept.items slots) on (slot_set was slots) (slot_set is slots) c.args.code nd rest c.args.place c.after-in-None.result v'
     (c.after-in-None.ensures v'.listed.on c.args.code rest v'.walk) (λ k h. grows_insert was is (get_or slots (nd / 2) 0) has (get_or slots k 0) h)
