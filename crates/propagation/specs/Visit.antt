@@ -65,11 +65,11 @@ abbrev pub IsNodeKept : List Bool → ℕ → Type 0
 IsNodeKept kept node = slice_index_or kept (node / 2) false ≡ true
 
 -- each node of a kept clause is on the chain of its watched literal
-pub record IsAtRest (clauses : List (List ℕ)) (watched : List Watched) (heads : List ℕ) (nodes : List Node) (codes : ℕ) (kept : List Bool) : Type 0 where
+pub record IsAtRest (clauses : List (List ℕ)) (watched : List Watched) (heads : List ℕ) (nodes : List Node) (limit : ℕ) (kept : List Bool) : Type 0 where
   pub on : ℕ → Option ℕ
   pub linked : IsLinked heads nodes on
   pub placed : AreTwoPlaces clauses watched
-  pub codes : length heads ≡ codes
+  pub codes : length heads ≡ limit
   pub many : 2 * length clauses ≤ length nodes
   pub real : (node l : ℕ) → on node ≡ Some l → IsReal clauses node
   pub there : (node : ℕ) → IsReal clauses node → IsNodeKept kept node → on node ≡ Some (literal_at clauses watched node)

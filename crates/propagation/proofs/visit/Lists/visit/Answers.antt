@@ -1,4 +1,4 @@
-use Rattle.std.proofs.Common.{arith, ◌≡◌, ◌<◌, ◌/◌, ◌%◌, ◌==◌, ℕ, ◌∙◌, ap, not, Bool, true, false, get_or, set, length, List, ◌∷◌, sym, refl, inl, inr, subst}
+use Rattle.std.proofs.Common.{arith, ◌≡◌, ◌<◌, ◌/◌, ◌%◌, ◌*◌, ◌==◌, ℕ, ◌∙◌, ap, not, Bool, true, false, get_or, set, length, List, ◌∷◌, sym, refl, inl, inr, subst}
 use Rattle.std.proofs.lemmas.List.{get_or_read}
 use Rattle.clause_base.specs.Literal.{opposite}
 use Rattle.clause_base.specs.Clause.{has_literal}
@@ -58,7 +58,7 @@ is_slot_kept-requires-clause-inside c =
     omega (arith, (real (goal.at.is_slot_kept-requires-clause-inside c).After-blocking-blocking).below, slots_long c.args.tables.now.store c.args.tables.now.slots.items)
 
 pub drop_at-requires : goal.drop_at-requires
-drop_at-requires c = (c.requires.visited.1.listed.on, c.requires.visited.0, c.requires.visited.1.walk)
+drop_at-requires c = record { walk = (c.requires.visited.1.listed.on, c.requires.visited.0, c.requires.visited.1.walk) }
 
 pub returns-then-not-is_slot_kept-clause-visited : goal.returns-then-not-is_slot_kept-clause-visited
 returns-then-not-is_slot_kept-clause-visited c rest v =

@@ -17,8 +17,8 @@ visits-init c =
       asks = c.requires.asks;
     }
 
-pub visit-requires-clause-visited : goal.visit-requires-clause-visited
-visit-requires-clause-visited c =
+pub visit-place-requires-clause-visited : goal.visit-place-requires-clause-visited
+visit-place-requires-clause-visited c =
     let v = c.visits.invariant.visited in
     visited_node _ _ _ _ _ _ _ _ _ v.0 c.visits.place v.1 c.visits-test.true
 
@@ -35,8 +35,8 @@ visits-preserved c =
       asks = c.visit-place.ensures.asks;
     }
 
-pub visits-decreases : goal.visits-decreases
-visits-decreases c =
+pub visits-smaller : goal.visits-smaller
+visits-smaller c =
     let v = c.visits.invariant.visited in
     let next = visited_node _ _ _ _ _ _ _ _ _ v.0 c.visits.place v.1 c.visits-test.true in
     let after = c.visit-place.ensures.visited next.0 next.1 in
