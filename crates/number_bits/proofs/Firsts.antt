@@ -1,5 +1,5 @@
 -- A set that keeps its least member beside the others, as one list of words.
-use Rattle.std.proofs.Common.{arith, inl, inr, ◌≡◌, ◌≢◌, ◌==◌, ℕ, ◌*◌, ◌/◌, ◌%◌, ◌<◌, ◌≤◌, min, max, leb, List, length, get_or, set, Bool, true, false, not, ◌||◌, ◌&&◌, refl, sym, ap, ◌∙◌, eqb, Option, Some, None}
+use Rattle.std.proofs.Common.{arith, inl, inr, ◌≡◌, ◌≢◌, ◌==◌, ℕ, ◌*◌, ◌/◌, ◌%◌, ◌<◌, ◌≤◌, min, max, leb, ltb, List, length, get_or, set, Bool, true, false, not, ◌||◌, ◌&&◌, refl, sym, ap, ◌∙◌, eqb, Option, Some, None}
 use Rattle.std.proofs.lemmas.Bool.Decides.{nat_tests}
 use Rattle.std.specs.Option.{option_eq}
 use Rattle.std.specs.Prelude.{if◌then◌else◌}
@@ -46,6 +46,15 @@ first_least words (Some n) i = (
   has_with words n n i.inside ∙ ap (λ (b : Bool). b || words_have words n) (tests_equal n n refl),
   λ j h. has_with words n j i.inside ∙ ap (λ (b : Bool). b || words_have words j) (tests_apart j n (λ (e : j ≡ n). absurd (omega (arith, e, h)))) ∙ i.past j (omega (arith, h)),
 )
+
+-- a set has one least member
+pub least_same : (p : ℕ → Bool) (a b : ℕ) → IsLeast p (Some a) → IsLeast p (Some b) → a ≡ b
+least_same p a b i j = by (ltb a b) refl (ltb b a) refl
+  where
+    by : (s : Bool) → ltb a b ≡ s → (t : Bool) → ltb b a ≡ t → a ≡ b
+    by true f t g = let h : a < b = grind (arith, nat_tests) in let z : true ≡ false = sym i.0 ∙ j.1 a h in absurd (let w : ⊥ = cc in w)
+    by false f true g = let h : b < a = grind (arith, nat_tests) in let z : true ≡ false = sym j.0 ∙ i.1 b h in absurd (let w : ⊥ = cc in w)
+    by false f false g = grind (arith, nat_tests)
 
 -- words that have the same members beside the same least one
 pub first_same : (words words' : List ℕ) (least : Option ℕ) → IsInside words least → length words ≤ length words' → ((k : ℕ) → words_have words' k ≡ words_have words k) → (k : ℕ) → words_have (words_with words' least) k ≡ words_have (words_with words least) k

@@ -114,6 +114,18 @@ impl<S: NumberSet> NumberSet for First<S> {
 }
 
 impl<S: NumberSet> First<S> {
+    /// Takes the least number out of the set, if it has one. Where it is known that a number is the least, this costs less than
+    /// to take out that number.
+    #[inline(always)]
+    pub fn remove_least(&mut self)
+        ensures has { (n : ℕ) → IsLeast (words_have self.old) (Some n) → (k : ℕ) → words_have self.new k ≡ (not (k == n) && words_have self.old k) }
+        ensures room { length self.new ≡ length self.old }
+    {
+        if let Some(least) = self.least {
+            self.least = take_next(&mut self.others, least);
+        }
+    }
+
     /// A set without room over one that is empty.
     pub fn new(alloc: Global, above: S) -> First<S>
         requires { (k : ℕ) → S.has above k ≡ false }

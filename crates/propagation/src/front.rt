@@ -65,7 +65,7 @@ pub fn next(tables: &Tables, assignment: &Assignment, pending: &mut Pending) -> 
                 match answer(tables, assignment, number, ask) {
                     Some(event) => return Some(event),
                     None => {
-                        pending.numbers.remove(number);
+                        pending.numbers.remove_least();
                         low = number as u64 + 1;
                     }
                 }

@@ -32,6 +32,7 @@ fn mark(store: &Store, pair: Pair, assignment: &Assignment, falsified: u32, pend
 }
 
 /// Puts the clauses of a list of pairs of a false literal into the set whose other literal is not true.
+#[inline(always)]
 fn mark_all(
     store: &Store,
     pairs: &PairList,
@@ -75,6 +76,7 @@ fn mark_list(
 }
 
 /// Puts the clauses of two literals of a false literal into the set whose other literal is not true.
+#[inline(always)]
 pub fn mark_pairs(
     store: &Store,
     index: &PairIndex,

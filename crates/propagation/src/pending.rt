@@ -125,7 +125,7 @@ impl Pending {
             match self.numbers.least() {
                 None => return,
                 Some(number) => {
-                    self.numbers.remove(number);
+                    self.numbers.remove_least();
                     low = number as u64 + 1;
                 }
             }

@@ -23,18 +23,15 @@ answer-requires-clause-ask c =
     let read = get_or_read c.taking.pending.asks.items c.in-Some.number c.index-ask.result.now (omega (arith, inside, a.long)) c.index-ask.ensures 0 in
     subst (λ (x : ℕ). IsAsk (has_literal c.args.assignment.now.trail) (clause_at c.args.tables.now.store c.in-Some.number) x) (sym read) (a.are c.in-Some.number c.in-Some.ensures.0)
 
-pub remove-requires : goal.remove-requires
-remove-requires c = omega (arith, c.taking.invariant.asks.within c.in-Some.number c.in-Some.ensures.0, c.taking.invariant.asks.room)
-
 pub taking-preserved : goal.taking-preserved
 taking-preserved c =
     let i = c.taking.invariant in
-    let has = c.remove.ensures.has in
+    let has = c.remove_least.ensures.has c.in-Some.number c.in-Some.ensures in
     let was = words_have c.taking.pending.numbers in
-    let is = words_have c.remove.new.self in
+    let is = words_have c.remove_least.new.self in
     record {
-      asks = asks_fewer c.args.tables.now.store c.args.assignment.now.trail c.taking.pending c.remove.new.self i.asks
-          (cleaned_fewer was is c.in-Some.number has) (omega (arith, c.remove.ensures.room));
+      asks = asks_fewer c.args.tables.now.store c.args.assignment.now.trail c.taking.pending c.remove_least.new.self i.asks
+          (cleaned_fewer was is c.in-Some.number has) (omega (arith, c.remove_least.ensures.room));
       complete = cleaned_complete (pending_in c.args.tables.now c.args.assignment.now.trail) was is c.in-Some.number c.in-None-answer.ensures i.complete has;
       none = cleaned_least was is c.in-Some.number c.in-Some.ensures has;
       low = omega arith;
