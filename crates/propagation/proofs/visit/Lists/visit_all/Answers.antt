@@ -49,3 +49,15 @@ pub returns-clause-settled : goal.returns-clause-settled
 returns-clause-settled c =
     let v = c.visits.invariant.visited in
     all_settled _ _ _ _ _ _ _ _ _ c.visits.place (visited_end _ _ _ _ _ _ _ _ _ v.0 c.visits.place v.1 c.visits-test.false)
+
+pub visit-place-requires-clause-asks : goal.visit-place-requires-clause-asks
+visit-place-requires-clause-asks c = c.visits.invariant.asks
+
+pub returns-clause-moves : goal.returns-clause-moves
+returns-clause-moves c = c.visits.invariant.moves
+
+pub returns-clause-grows : goal.returns-clause-grows
+returns-clause-grows c = c.visits.invariant.grows
+
+pub returns-clause-asks : goal.returns-clause-asks
+returns-clause-asks c = c.visits.invariant.asks
