@@ -1,5 +1,5 @@
 use Rattle.std.proofs.Common.{arith, ◌≡◌, ◌≢◌, ◌==◌, ℕ, suc, ◌/◌, ◌%◌, ◌<◌, ◌≤◌, List, [], ◌∷◌, length, set, get_or, Bool, true, false, not, ◌||◌}
-use Rattle.std.proofs.Common.{refl, sym, ap, ◌∙◌, subst, if◌then◌else◌, Option, Some, None, ◌⊎◌, inl, inr, length-set, get_or-set_same}
+use Rattle.std.proofs.Common.{refl, sym, ap, ◌∙◌, subst, if◌then◌else◌, Some, None, ◌⊎◌, inl, inr, length-set, get_or-set_same}
 use Rattle.std.proofs.Common.{get_or-set_other}
 use Rattle.std.proofs.lemmas.Bool.Decides.{nat_tests}
 use Rattle.clause_base.specs.Clause.{has_literal}
@@ -137,18 +137,6 @@ beside_of cl wa node other w xs l beside m real rw0 ro rx rl rb =
 
 some_same : (a b : ℕ) → Some a ≡ Some b → a ≡ b
 some_same a b e = cc
-
--- the node at the place of a walk is of a clause
-pub real_here : (cl : List (List ℕ)) (wa : List Watched) (heads : List ℕ) (nodes : List Node) (codes : ℕ) (kept : List Bool) (on set : ℕ → Bool)
-    (code nd : ℕ) (rest : List ℕ) (place : Place) → IsVisiting cl wa heads nodes codes kept on set code (nd ∷ rest) place → IsReal cl nd
-real_here cl wa heads nodes codes kept on set code nd rest place v = v.listed.real nd code v.walk.ahead.0
-
--- and where that is kept, it watches the literal of the chain
-pub own_here : (cl : List (List ℕ)) (wa : List Watched) (heads : List ℕ) (nodes : List Node) (codes : ℕ) (kept : List Bool) (on set : ℕ → Bool)
-    (code nd : ℕ) (rest : List ℕ) (place : Place) → IsVisiting cl wa heads nodes codes kept on set code (nd ∷ rest) place → IsNodeKept kept nd
-    → literal_at cl wa nd ≡ code
-own_here cl wa heads nodes codes kept on set code nd rest place v m =
-    let o = v.walk.ahead.0 in some_same (literal_at cl wa nd) code (sym (v.listed.there nd (v.listed.real nd code o) m) ∙ o)
 
 -- past the node at the place of a walk
 ahead_of : (nd node : ℕ) (rest : List ℕ) (A : Type 0) → (node ≡ nd → ⊥) → (has (nd ∷ rest) node ≡ true) ⊎ A → (has rest node ≡ true) ⊎ A

@@ -6,7 +6,7 @@ use Rattle.std.proofs.lemmas.Bool.Decides.{nat_tests}
 use Rattle.std.proofs.lemmas.Map.Keys.{IsDistinct-cons}
 use Rattle.std.proofs.lemmas.Map.Steps.{length-le_from_distinct_below}
 use Rattle.watch_chains.specs.declared.chains.Node.{Node}
-use Rattle.std.proofs.lemmas.List.{get_or_read, get_or_append_left}
+use Rattle.std.proofs.lemmas.List.{get_or_append_left}
 use Rattle.watch_chains.specs.Linked.{no_node, next_of, has, IsChain, HasNoneTwice, IsLinked, placed}
 use Rattle.watch_chains.specs.Walk.{steps}
 
@@ -161,7 +161,3 @@ linked_more heads nodes more on few m = record {
   whole = m.whole;
   few = few;
 }
-
--- a node that is on a chain is one of the nodes
-pub on_below : (heads : List ℕ) (nodes : List Node) (on : ℕ → Option ℕ) (k l : ℕ) → IsLinked heads nodes on → on k ≡ Some l → k < length nodes
-on_below heads nodes on k l m e = let w = m.whole l k e in chain_below nodes (get_or heads l 0) (m.chain l) (m.linked l w.0) k w.1

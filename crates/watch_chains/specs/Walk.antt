@@ -1,5 +1,5 @@
 -- A walk along a chain: it stands at a node, or at the end, and knows the node before it.
-use Rattle.std.specs.Prelude.{◌≡◌, ℕ, zero, suc, ◌<◌, ◌==◌, List, [], ◌∷◌, ◌++◌, length, slice_index, Bool, true, Option, Some, if◌then◌else◌}
+use Rattle.std.specs.Prelude.{◌≡◌, ℕ, zero, suc, ◌<◌, ◌==◌, List, [], ◌∷◌, ◌++◌, length, slice_index, true, Option, Some, if◌then◌else◌}
 use Rattle.watch_chains.specs.declared.chains.Node.{Node}
 use Rattle.watch_chains.specs.declared.chains.Place.{Place}
 use Rattle.watch_chains.specs.Linked.{has, next_of, IsChain, IsLinked}

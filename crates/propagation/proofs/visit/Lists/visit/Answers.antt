@@ -4,14 +4,13 @@ use Rattle.clause_base.specs.Literal.{opposite}
 use Rattle.clause_base.specs.Clause.{has_literal}
 use Rattle.number_bits.specs.Bits.{words_have}
 use Rattle.propagation.specs.declared.visit.Watched.{Watched}
-use Rattle.propagation.specs.declared.visit.Lists.{Lists}
 use Rattle.propagation.specs.Pending.{is_free}
 use Rattle.propagation.specs.Asks.{IsUnit, IsAsk}
 use Rattle.cdcl_rules.specs.State.{clause_at}
 use Rattle.propagation.specs.Tables.{clauses_in}
-use Rattle.propagation.specs.Visit.{no_watches, place_in, literal_at, slot_clauses, slot_flags, slot_set, Grows, IsReal, AreVisited, IsVisiting, IsNodeKept}
+use Rattle.propagation.specs.Visit.{no_watches, place_in, slot_flags, slot_set, IsReal, AreVisited, IsVisiting}
 use Rattle.propagation.proofs.Filters.{settled_one, settled_true}
-use Rattle.propagation.proofs.Visits.{has_below, visited_stay, visited_noted, visited_drop, visited_move, real_here, own_here, moves_own, others_stay, own_moved, placed_moved}
+use Rattle.propagation.proofs.Visits.{has_below, visited_stay, visited_noted, visited_drop, visited_move, moves_own, others_stay, own_moved, placed_moved}
 use Rattle.propagation.proofs.Visits.{Beside, beside_of, grows_insert, own_insert}
 use Rattle.propagation.proofs.Slotted.{fit_slots, slots_long, slot_at, insert_at}
 use Rattle.propagation.proofs.AsksKept.{asks_put}

@@ -1,8 +1,6 @@
-use Rattle.std.proofs.Common.{arith, ◌≡◌, ℕ, ◌∙◌, ◌∷◌, [], inl, inr, refl, ap, sym, subst, length, List}
+use Rattle.std.proofs.Common.{arith, inl, refl}
 use Rattle.clause_base.specs.Clause.{has_literal}
-use Rattle.number_bits.specs.Bits.{words_have}
 use Rattle.propagation.specs.Tables.{clauses_in}
-use Rattle.propagation.specs.Visit.{slot_clauses, slot_flags, slot_set, AreVisited}
 use Rattle.propagation.proofs.Visits.{moves_on, all_settled, visited_node, visited_end}
 use Rattle.propagation.proofs.visit.Lists.visit_all.Goals as goal
 

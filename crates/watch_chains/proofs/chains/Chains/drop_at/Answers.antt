@@ -1,4 +1,4 @@
-use Rattle.std.proofs.Common.{arith, ◌≡◌, ◌∷◌, refl}
+use Rattle.std.proofs.Common.{arith, ◌∷◌, refl}
 use Rattle.watch_chains.proofs.Walks.{walk_below, before_below, walk_drop_first, walk_drop, next_read}
 use Rattle.watch_chains.proofs.chains.Chains.drop_at.Goals as goal
 

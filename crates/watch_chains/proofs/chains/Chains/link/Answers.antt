@@ -1,4 +1,3 @@
-use Rattle.std.proofs.Common.{◌≡◌}
 use Rattle.std.proofs.lemmas.List.{get_or_read}
 use Rattle.watch_chains.proofs.Linking.{linked_link}
 use Rattle.watch_chains.proofs.Walks.{walk_link}

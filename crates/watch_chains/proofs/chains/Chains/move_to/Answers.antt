@@ -1,4 +1,4 @@
-use Rattle.std.proofs.Common.{arith, ◌≡◌, None, Some}
+use Rattle.std.proofs.Common.{arith, None}
 use Rattle.watch_chains.specs.Linked.{placed}
 use Rattle.watch_chains.proofs.Walks.{walk_below, placed_none}
 use Rattle.watch_chains.proofs.chains.Chains.move_to.Goals as goal

@@ -1,4 +1,3 @@
-use Rattle.std.proofs.Common.{◌≡◌}
 use Rattle.watch_chains.proofs.Walks.{linked_note, walk_note, next_read}
 use Rattle.watch_chains.proofs.chains.Chains.note.Goals as goal
 
