@@ -1,6 +1,6 @@
 -- A new clause at the end: what holds of the tables once its watched literals are on their chains.
 use Rattle.std.proofs.Common.{arith, ◌≡◌, ◌≢◌, ◌==◌, ℕ, suc, ◌+◌, ◌*◌, ◌/◌, ◌%◌, ◌<◌, ◌≤◌, List, [], ◌∷◌, ◌++◌, length, take, set, get_or, ltb, leb}
-use Rattle.std.proofs.Common.{Bool, true, false, ◌&&◌, refl, sym, ap, ◌∙◌, subst, if◌then◌else◌, Some, ◌⊎◌, inl, inr, length-set, get_or-set_same}
+use Rattle.std.proofs.Common.{Bool, true, false, ◌&&◌, refl, sym, ap, ◌∙◌, subst, if◌then◌else◌, Some, length-set, get_or-set_same}
 use Rattle.std.proofs.Common.{get_or-set_other}
 use Rattle.std.specs.List.{list_any, filter}
 use Rattle.std.proofs.lemmas.Bool.Decides.{nat_tests}
@@ -12,7 +12,7 @@ use Rattle.propagation.specs.declared.visit.Watched.{Watched}
 use Rattle.propagation.specs.Pending.{is_free, has_two_free, is_pending_on}
 use Rattle.cdcl_rules.specs.Pending.{is_pending}
 use Rattle.cdcl_rules.specs.State.{clause_at}
-use Rattle.propagation.specs.Visit.{no_watches, place_in, place_of, literal_at, IsFit, AreTwoPlaces, IsReal, IsListed, IsNodeKept, NoWhy}
+use Rattle.propagation.specs.Visit.{no_watches, place_in, place_of, literal_at, IsFit, AreTwoPlaces, IsReal, IsAtRest, IsNodeKept}
 use Rattle.propagation.specs.Sound.{AreFree}
 use Rattle.propagation.specs.Added.{Outlasts}
 use Rattle.propagation.proofs.Filters.{clause_is, count_one, has_get, two_of, pending_at}
@@ -115,13 +115,13 @@ placed_add cl k wa w m lw fin sin ne = record {
 
 -- with the two nodes of the new clause on the chains of its watched literals
 pub listed_add : (cl : List (List ℕ)) (k : List ℕ) (wa : List Watched) (w : Watched) (heads heads' : List ℕ) (nodes nodes' : List Node) (spare : ℕ)
-    (kept : List Bool) (a b : ℕ) (r : IsListed cl wa heads nodes spare (IsNodeKept kept) NoWhy)
+    (kept : List Bool) (a b : ℕ) (r : IsAtRest cl wa heads nodes spare kept)
     → length kept ≡ length cl → length cl < length wa → w.first < length k → w.second < length k → (w.first ≡ w.second → ⊥) → 2 ≤ length k
     → a ≡ get_or k w.first 0 → b ≡ get_or k w.second 0
     → IsLinked heads' nodes' (placed (2 * length cl + 1) (Some b) (placed (2 * length cl) (Some a) r.on)) → length heads' ≡ length heads
     → 2 * (length cl + 1) ≤ length nodes' → blocking_of nodes' (2 * length cl) ≡ b → blocking_of nodes' (2 * length cl + 1) ≡ a
     → ((x : ℕ) → (x ≡ 2 * length cl → ⊥) → (x ≡ 2 * length cl + 1 → ⊥) → blocking_of nodes' x ≡ blocking_of nodes x)
-    → IsListed (cl ++ k ∷ []) (set wa (length cl) w) heads' nodes' spare (IsNodeKept (kept ++ true ∷ [])) NoWhy
+    → IsAtRest (cl ++ k ∷ []) (set wa (length cl) w) heads' nodes' spare (kept ++ true ∷ [])
 listed_add cl k wa w heads heads' nodes nodes' spare kept a b r lk lw fin sin ne two ae be link lh ln first second others = record {
   on = placed (2 * length cl + 1) (Some b) (placed (2 * length cl) (Some a) r.on);
   linked = link;
@@ -159,16 +159,12 @@ listed_add cl k wa w heads heads' nodes nodes' spare kept a b r lk lw fin sin ne
 
     there_by : (x : ℕ) → IsReal (cl ++ k ∷ []) x → IsNodeKept (kept ++ true ∷ []) x → (p : Bool) → (x == 2 * length cl + 1) ≡ p → (q : Bool)
         → (x == 2 * length cl) ≡ q
-        → ((if p then Some b else if q then Some a else r.on x) ≡ Some
-        (literal_at (cl ++ k ∷ []) (set wa (length cl) w) x)) ⊎ (((if p then Some b else if q then Some a else r.on x) ≡ Some spare) × NoWhy x)
-    there_by x rx m true f q g = inl (ap (λ (y : ℕ). Some y) (be ∙ sym (literal_own cl k wa w x true (odd_half x f) (odd x f) lw)))
-    there_by x rx m false f true g = inl (ap (λ (y : ℕ). Some y) (ae ∙ sym (literal_own cl k wa w x false (even_half x g) (even x g) lw)))
-    there_by x rx m false f false g = old (r.there x (real_other cl k x rx (apart_from x f g)) (kept_other cl kept x lk (apart_from x f g) m))
-      where
-        old : (r.on x ≡ Some (literal_at cl wa x)) ⊎ ((r.on x ≡ Some spare) × NoWhy x)
-            → (r.on x ≡ Some (literal_at (cl ++ k ∷ []) (set wa (length cl) w) x)) ⊎ ((r.on x ≡ Some spare) × NoWhy x)
-        old (inl e) = inl (e ∙ ap (λ (y : ℕ). Some y) (sym (literal_other cl k wa w x (apart_from x f g))))
-        old (inr v) = absurd v.1
+        → (if p then Some b else if q then Some a else r.on x) ≡ Some (literal_at (cl ++ k ∷ []) (set wa (length cl) w) x)
+    there_by x rx m true f q g = ap (λ (y : ℕ). Some y) (be ∙ sym (literal_own cl k wa w x true (odd_half x f) (odd x f) lw))
+    there_by x rx m false f true g = ap (λ (y : ℕ). Some y) (ae ∙ sym (literal_own cl k wa w x false (even_half x g) (even x g) lw))
+    there_by x rx m false f false g =
+        r.there x (real_other cl k x rx (apart_from x f g)) (kept_other cl kept x lk (apart_from x f g) m)
+        ∙ ap (λ (y : ℕ). Some y) (sym (literal_other cl k wa w x (apart_from x f g)))
 
     notes_by : (x : ℕ) → IsReal (cl ++ k ∷ []) x → (p : Bool) → (x == 2 * length cl + 1) ≡ p → (q : Bool) → (x == 2 * length cl) ≡ q
         → has_literal (clause_at (cl ++ k ∷ []) (x / 2)) (blocking_of nodes' x) ≡ true

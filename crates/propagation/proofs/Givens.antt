@@ -33,7 +33,7 @@ use Rattle.propagation.proofs.Wider.{rest_wider}
 
 -- the tables of no clause
 pub given_none : (codes : ℕ) (cl : List (List ℕ)) (g : Given) → g.slots.items ≡ []
-    → IsLinked g.lists.chains.heads.items g.lists.chains.nodes.items (λ k. None) → length g.lists.chains.heads.items ≡ codes + 1
+    → IsLinked g.lists.chains.heads.items g.lists.chains.nodes.items (λ k. None) → length g.lists.chains.heads.items ≡ codes
     → ((k : ℕ) → words_have g.lists.pending.numbers k ≡ false) → length cl ≤ 64 * length g.lists.pending.numbers
     → length cl ≤ length g.lists.pending.asks.items → AreGiven codes cl 0 g
 given_none codes cl g e linked long none wide asks = record {

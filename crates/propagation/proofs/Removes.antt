@@ -6,11 +6,10 @@ use Rattle.propagation.specs.declared.visit.Lists.{Lists}
 use Rattle.propagation.specs.Pending.{is_pending_on}
 use Rattle.cdcl_rules.specs.Pending.{is_pending}
 use Rattle.cdcl_rules.specs.State.{clause_at}
-use Rattle.propagation.specs.Visit.{slot_clauses, slot_flags, IsNodeKept, NoWhy}
+use Rattle.propagation.specs.Visit.{slot_flags}
 use Rattle.propagation.specs.Sound.{AreSound}
 use Rattle.propagation.specs.Tables.{AreTables}
 use Rattle.propagation.proofs.Filters.{pending_at}
-use Rattle.propagation.proofs.Visits.{relisted}
 
 kept_before : (kept : List Bool) (n k : ℕ) → get_or (set kept n false) k false ≡ true → get_or kept k false ≡ true
 kept_before [] n k e = e
@@ -58,9 +57,16 @@ removed_sound v t t' l trail quiet n i store slots kept = record {
   tables = tables_removed t t' (2 * v) n i.tables store slots kept;
   few = rw store i.few;
   slots_few = rw (store, slots) i.slots_few;
-  rest = rw (store, slots, kept) (relisted (slot_clauses t.store t.slots.items) l.watched.items l.chains.heads.items l.chains.nodes.items (2 * v)
-      (IsNodeKept (slot_flags t.kept.items t.slots.items)) NoWhy (IsNodeKept (slot_flags (set t.kept.items n false) t.slots.items)) NoWhy i.rest
-      (λ node real must. i.rest.there node real (flags_before t.kept.items t.slots.items n _ must)));
+  rest = rw (store, slots, kept) (record {
+    on = i.rest.on;
+    linked = i.rest.linked;
+    placed = i.rest.placed;
+    codes = i.rest.codes;
+    many = i.rest.many;
+    real = i.rest.real;
+    there = λ node real must. i.rest.there node real (flags_before t.kept.items t.slots.items n _ must);
+    blockings = i.rest.blockings;
+  });
   free = rw (store, slots, kept) (λ m h node real must. i.free m h node real (flags_before t.kept.items t.slots.items n _ must));
   consistent = i.consistent;
   asks = rw store i.asks;

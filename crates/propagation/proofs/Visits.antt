@@ -1,17 +1,19 @@
 use Rattle.std.proofs.Common.{arith, ◌≡◌, ◌≢◌, ◌==◌, ℕ, suc, ◌/◌, ◌%◌, ◌<◌, ◌≤◌, List, [], ◌∷◌, length, set, get_or, Bool, true, false, not, ◌||◌}
-use Rattle.std.proofs.Common.{refl, sym, ap, ◌∙◌, subst, if◌then◌else◌, Option, Some, None, ◌⊎◌, inl, inr, length-set, get_or-set_same}
+use Rattle.std.proofs.Common.{refl, sym, ap, ◌∙◌, subst, if◌then◌else◌, Some, None, ◌⊎◌, inl, inr, length-set, get_or-set_same}
 use Rattle.std.proofs.Common.{get_or-set_other}
 use Rattle.std.proofs.lemmas.Bool.Decides.{nat_tests}
 use Rattle.clause_base.specs.Clause.{has_literal}
 use Rattle.watch_chains.specs.declared.chains.Node.{Node}
-use Rattle.watch_chains.specs.Linked.{IsLinked, IsAtEnd, blocking_of, placed, renamed}
+use Rattle.watch_chains.specs.declared.chains.Place.{Place}
+use Rattle.watch_chains.specs.Linked.{blocking_of, has, placed}
+use Rattle.watch_chains.specs.Walk.{IsWalk}
 use Rattle.propagation.specs.declared.visit.Watched.{Watched}
 use Rattle.std.proofs.lemmas.List.{get_or_read}
-use Rattle.propagation.proofs.Filters.{has_get, settled_true}
+use Rattle.propagation.proofs.Filters.{has_get}
 use Rattle.propagation.specs.Pending.{is_free}
 use Rattle.cdcl_rules.specs.State.{clause_at}
-use Rattle.propagation.specs.Visit.{no_watches, place_in, place_of, literal_at, IsFit, AreTwoPlaces, IsReal, IsListed, IsNodeKept, IsOther, NoWhy}
-use Rattle.propagation.specs.Visit.{IsAtRest, IsSettled, Stays, MovesToFree, Grows, AllSettled}
+use Rattle.propagation.specs.Visit.{no_watches, place_in, place_of, literal_at, AreTwoPlaces, IsReal, IsNodeKept, IsSettled, MovesToFree, Grows, AllSettled}
+use Rattle.propagation.specs.Visit.{IsVisiting}
 
 -- a literal of a clause is below the codes
 pub has_below : (xs : List ℕ) (codes l : ℕ) → ((p : ℕ) → p < length xs → get_or xs p 0 < codes) → has_literal xs l ≡ true → l < codes
@@ -21,68 +23,6 @@ has_below (x ∷ xs) codes l h e = by (x == l) refl e (has_below xs codes l (λ 
     by : (b : Bool) → (x == l) ≡ b → (b || has_literal xs l) ≡ true → (has_literal xs l ≡ true → l < codes) → x < codes → l < codes
     by true f e on g = let t : x ≡ l = grind (arith, nat_tests) in omega (arith, t, g)
     by false f e on g = on e
-
--- one node is linked, and the others stay
-pub listed_link : (cl : List (List ℕ)) (wa wa' : List Watched) (heads heads' : List ℕ) (nodes nodes' : List Node) (spare : ℕ) (kept : List Bool)
-    (node code blocking : ℕ) (Why Why' : ℕ → Type 0) (r : IsListed cl wa heads nodes spare (IsOther kept node) Why)
-    → r.on node ≡ None → IsLinked heads' nodes' (placed node (Some code) r.on) → AreTwoPlaces cl wa' → length heads' ≡ length heads
-    → length nodes' ≡ length nodes → blocking_of nodes' node ≡ blocking → ((k : ℕ) → (k ≡ node → ⊥) → blocking_of nodes' k ≡ blocking_of nodes k)
-    → IsReal cl node → has_literal (clause_at cl (node / 2)) blocking ≡ true
-    → ((k : ℕ) → IsReal cl k → (k ≡ node → ⊥) → literal_at cl wa' k ≡ literal_at cl wa k) → ((k : ℕ) → IsReal cl k → (k ≡ node → ⊥) → Why k → Why' k)
-    → (IsNodeKept kept node → (code ≡ literal_at cl wa' node) ⊎ ((code ≡ spare) × Why' node))
-    → IsListed cl wa' heads' nodes' spare (IsNodeKept kept) Why'
-listed_link cl wa wa' heads heads' nodes nodes' spare kept node code blocking Why Why' r off link place lh ln own others real in_clause same why here = record {
-  on = placed node (Some code) r.on;
-  linked = link;
-  placed = place;
-  codes = lh ∙ r.codes;
-  many = omega (arith, ln, r.many);
-  real = λ k l e. real_by k l (k == node) refl e;
-  there = λ k rk m. there_by k rk m (k == node) refl;
-  blockings = λ k rk. notes_by k rk (k == node) refl;
-}
-  where
-    real_by : (k l : ℕ) (b : Bool) → (k == node) ≡ b → (if b then Some code else r.on k) ≡ Some l → IsReal cl k
-    real_by k l true f e = let t : node ≡ k = grind (arith, nat_tests) in subst (λ (x : ℕ). IsReal cl x) t real
-    real_by k l false f e = r.real k l e
-
-    here_by : (code ≡ literal_at cl wa' node) ⊎ ((code ≡ spare) × Why' node)
-        → (Some code ≡ Some (literal_at cl wa' node)) ⊎ ((Some code ≡ Some spare) × Why' node)
-    here_by (inl e) = inl (ap (λ (x : ℕ). Some x) e)
-    here_by (inr w) = inr (ap (λ (x : ℕ). Some x) w.0, w.1)
-
-    there_by : (k : ℕ) → IsReal cl k → IsNodeKept kept k → (b : Bool) → (k == node) ≡ b
-        → ((if b then Some code else r.on k) ≡ Some (literal_at cl wa' k)) ⊎ (((if b then Some code else r.on k) ≡ Some spare) × Why' k)
-    there_by k rk m true f =
-        let t : node ≡ k = grind (arith, nat_tests) in
-        subst (λ (x : ℕ). (Some code ≡ Some (literal_at cl wa' x)) ⊎ ((Some code ≡ Some spare) × Why' x)) t (here_by (here (subst (λ (x : ℕ). IsNodeKept kept x) (sym t) m)))
-    there_by k rk m false f =
-        let ne : k ≢ node = grind (arith, nat_tests) in old (r.there k rk (m, ne)) ne
-      where
-        old : (r.on k ≡ Some (literal_at cl wa k)) ⊎ ((r.on k ≡ Some spare) × Why k) → k ≢ node
-            → (r.on k ≡ Some (literal_at cl wa' k)) ⊎ ((r.on k ≡ Some spare) × Why' k)
-        old (inl e) ne = inl (e ∙ ap (λ (x : ℕ). Some x) (sym (same k rk ne)))
-        old (inr w) ne = inr (w.0, why k rk ne w.1)
-
-    notes_by : (k : ℕ) → IsReal cl k → (b : Bool) → (k == node) ≡ b → has_literal (clause_at cl (k / 2)) (blocking_of nodes' k) ≡ true
-    notes_by k rk true f =
-        let t : node ≡ k = grind (arith, nat_tests) in
-        subst (λ (x : ℕ). has_literal (clause_at cl (x / 2)) (blocking_of nodes' x) ≡ true) t (ap (λ (x : ℕ). has_literal (clause_at cl (node / 2)) x) own ∙ in_clause)
-    notes_by k rk false f =
-        let ne : k ≢ node = grind (arith, nat_tests) in
-        ap (λ (x : ℕ). has_literal (clause_at cl (k / 2)) x) (others k ne) ∙ r.blockings k rk
-
--- a node goes back to the spare chain, where a literal of its clause is true
-pub listed_true : (cl : List (List ℕ)) (wa : List Watched) (heads heads' : List ℕ) (nodes nodes' : List Node) (spare : ℕ) (kept : List Bool)
-    (node blocking code : ℕ) (on set : ℕ → Bool) (r : IsListed cl wa heads nodes spare (IsOther kept node) (Stays cl wa on set code))
-    → r.on node ≡ None → IsLinked heads' nodes' (placed node (Some spare) r.on) → length heads' ≡ length heads → length nodes' ≡ length nodes
-    → blocking_of nodes' node ≡ blocking → ((k : ℕ) → (k ≡ node → ⊥) → blocking_of nodes' k ≡ blocking_of nodes k) → IsReal cl node
-    → (IsNodeKept kept node → literal_at cl wa node ≡ code) → has_literal (clause_at cl (node / 2)) blocking ≡ true → on blocking ≡ true
-    → IsListed cl wa heads' nodes' spare (IsNodeKept kept) (Stays cl wa on set code)
-listed_true cl wa heads heads' nodes nodes' spare kept node blocking code on set r off link lh ln own others real watches h t =
-    listed_link cl wa wa heads heads' nodes nodes' spare kept node spare blocking (Stays cl wa on set code) (Stays cl wa on set code) r off link
-    r.placed lh ln own others real h (λ k q ne. refl) (λ k q ne w. w)
-    (λ m. inr (refl, (watches m, settled_true on set (clause_at cl (node / 2)) blocking (node / 2) h t)))
 
 -- a moved watch leaves the other nodes' literals
 pub others_stay : (cl : List (List ℕ)) (wa : List Watched) (w' : Watched) (node : ℕ) → node / 2 < length wa
@@ -198,59 +138,176 @@ beside_of cl wa node other w xs l beside m real rw0 ro rx rl rb =
 some_same : (a b : ℕ) → Some a ≡ Some b → a ≡ b
 some_same a b e = cc
 
--- without the node that was taken from its chain
-pub listed_pop : (cl : List (List ℕ)) (wa : List Watched) (heads heads' : List ℕ) (nodes nodes' : List Node) (spare : ℕ) (kept : List Bool) (node : ℕ)
-    (Why : ℕ → Type 0) (r : IsListed cl wa heads nodes spare (IsNodeKept kept) Why)
-    → IsLinked heads' nodes' (placed node None r.on) → nodes' ≡ nodes → length heads' ≡ length heads
-    → (x : IsListed cl wa heads' nodes' spare (IsOther kept node) Why) × (x.on node ≡ None)
-listed_pop cl wa heads heads' nodes nodes' spare kept node Why r link e lh = (
-  record {
-    on = placed node None r.on;
-    linked = link;
-    placed = r.placed;
-    codes = lh ∙ r.codes;
-    many = omega (arith, r.many, ap (λ (xs : List Node). length xs) e);
-    real = λ k l f. real_by k l (k == node) f;
-    there = λ k rk m. there_by k rk m.0 m.1 (k == node) refl;
-    blockings = λ k rk. ap (λ (xs : List Node). has_literal (clause_at cl (k / 2)) (blocking_of xs k)) e ∙ r.blockings k rk;
-  },
-  (let t : (node == node) ≡ true = grind (arith, nat_tests) in ap (λ (b : Bool). if b then None else r.on node) t),
-)
+-- past the node at the place of a walk
+ahead_of : (nd node : ℕ) (rest : List ℕ) (A : Type 0) → (node ≡ nd → ⊥) → (has (nd ∷ rest) node ≡ true) ⊎ A → (has rest node ≡ true) ⊎ A
+ahead_of nd node rest A ne (inr a) = inr a
+ahead_of nd node rest A ne (inl h) = inl (by (node == nd) refl h)
   where
-    real_by : (k l : ℕ) (b : Bool) → (if b then None else r.on k) ≡ Some l → IsReal cl k
-    real_by k l true f = absurd (let w : ⊥ = cc in w)
-    real_by k l false f = r.real k l f
+    by : (b : Bool) → (node == nd) ≡ b → (b || has rest node) ≡ true → has rest node ≡ true
+    by true f e = let t : node ≡ nd = grind (arith, nat_tests) in absurd (ne t)
+    by false f e = e
 
-    there_by : (k : ℕ) → IsReal cl k → IsNodeKept kept k → (k ≡ node → ⊥) → (b : Bool) → (k == node) ≡ b
-        → ((if b then None else r.on k) ≡ Some (literal_at cl wa k)) ⊎ (((if b then None else r.on k) ≡ Some spare) × Why k)
-    there_by k rk m ne true f = let t : k ≡ node = grind (arith, nat_tests) in absurd (ne t)
-    there_by k rk m ne false f = r.there k rk m
-
--- which nodes have to be on a chain, and why one may be on the spare chain
-pub relisted : (cl : List (List ℕ)) (wa : List Watched) (heads : List ℕ) (nodes : List Node) (spare : ℕ) (Must Why Must' Why' : ℕ → Type 0) (r : IsListed cl wa heads nodes spare Must Why)
-    → ((k : ℕ) → IsReal cl k → Must' k → (r.on k ≡ Some (literal_at cl wa k)) ⊎ ((r.on k ≡ Some spare) × Why' k))
-    → IsListed cl wa heads nodes spare Must' Why'
-relisted cl wa heads nodes spare Must Why Must' Why' r there = record
-    { on = r.on; linked = r.linked; placed = r.placed; codes = r.codes; many = r.many; real = r.real; there = there; blockings = r.blockings }
-
--- a node of a clause that is not kept may be on no chain
-pub listed_drop : (cl : List (List ℕ)) (wa : List Watched) (heads : List ℕ) (nodes : List Node) (spare : ℕ) (kept : List Bool) (node : ℕ) (Why : ℕ → Type 0)
-    → IsListed cl wa heads nodes spare (IsOther kept node) Why → get_or kept (node / 2) false ≡ false
-    → IsListed cl wa heads nodes spare (IsNodeKept kept) Why
-listed_drop cl wa heads nodes spare kept node Why r e = relisted cl wa heads nodes spare (IsOther kept node) Why (IsNodeKept kept) Why r (λ k rk m. r.there k rk (m, λ (t : k ≡ node). not_kept k m t))
+-- the node stays, and its clause is settled
+pub visited_stay : (cl : List (List ℕ)) (wa : List Watched) (heads : List ℕ) (nodes : List Node) (codes : ℕ) (kept : List Bool) (on set set' : ℕ → Bool)
+    (code nd : ℕ) (rest : List ℕ) (place next : Place) (v : IsVisiting cl wa heads nodes codes kept on set code (nd ∷ rest) place)
+    → IsWalk heads nodes v.listed.on code rest next → Grows set set' → (IsNodeKept kept nd → IsSettled on set' (clause_at cl (nd / 2)) (nd / 2))
+    → IsVisiting cl wa heads nodes codes kept on set' code rest next
+visited_stay cl wa heads nodes codes kept on set set' code nd rest place next v walk grows own = record {
+  listed = v.listed;
+  walk = walk;
+  settled = λ node e m. by node e m (node == nd) refl;
+}
   where
-    not_kept : (k : ℕ) → IsNodeKept kept k → k ≡ node → ⊥
-    not_kept k m t = let z : true ≡ false = sym m ∙ ap (λ (x : ℕ). get_or kept (x / 2) false) t ∙ e in let w : ⊥ = cc in w
+    wider : (node : ℕ) → (has rest node ≡ true) ⊎ IsSettled on set (clause_at cl (node / 2)) (node / 2)
+        → (has rest node ≡ true) ⊎ IsSettled on set' (clause_at cl (node / 2)) (node / 2)
+    wider node (inl h) = inl h
+    wider node (inr h) = inr (settled_grows on set set' (clause_at cl (node / 2)) (node / 2) grows h)
 
--- a kept node on the visited chain watches its literal
-pub own_literal : (cl : List (List ℕ)) (wa : List Watched) (heads : List ℕ) (nodes : List Node) (spare code : ℕ) (kept : List Bool) (node : ℕ)
-    (Why : ℕ → Type 0) (r : IsListed cl wa heads nodes spare (IsNodeKept kept) Why)
-    → code < spare → r.on node ≡ Some code → IsNodeKept kept node → literal_at cl wa node ≡ code
-own_literal cl wa heads nodes spare code kept node Why r b e m = by (r.there node (r.real node code e) m)
+    by : (node : ℕ) → v.listed.on node ≡ Some code → IsNodeKept kept node → (b : Bool) → (node == nd) ≡ b
+        → (has rest node ≡ true) ⊎ IsSettled on set' (clause_at cl (node / 2)) (node / 2)
+    by node e m true f =
+        let t : nd ≡ node = grind (arith, nat_tests) in
+        inr (subst (λ (x : ℕ). IsSettled on set' (clause_at cl (x / 2)) (x / 2)) t (own (subst (λ (x : ℕ). IsNodeKept kept x) (sym t) m)))
+    by node e m false f =
+        let ne : node ≢ nd = grind (arith, nat_tests) in
+        wider node (ahead_of nd node rest (IsSettled on set (clause_at cl (node / 2)) (node / 2)) ne (v.settled node e m))
+
+-- a node has another blocking literal
+pub visited_noted : (cl : List (List ℕ)) (wa : List Watched) (heads heads' : List ℕ) (nodes nodes' : List Node) (codes : ℕ) (kept : List Bool) (on set : ℕ → Bool)
+    (code nd blocking : ℕ) (rest : List ℕ) (place : Place) (v : IsVisiting cl wa heads nodes codes kept on set code rest place)
+    → IsWalk heads' nodes' v.listed.on code rest place → heads' ≡ heads → length nodes' ≡ length nodes → blocking_of nodes' nd ≡ blocking
+    → ((k : ℕ) → (k ≡ nd → ⊥) → blocking_of nodes' k ≡ blocking_of nodes k) → has_literal (clause_at cl (nd / 2)) blocking ≡ true
+    → IsVisiting cl wa heads' nodes' codes kept on set code rest place
+visited_noted cl wa heads heads' nodes nodes' codes kept on set code nd blocking rest place v walk lh ln own others h = record {
+  listed = record {
+    on = v.listed.on;
+    linked = walk.linked;
+    placed = v.listed.placed;
+    codes = ap (λ (xs : List ℕ). length xs) lh ∙ v.listed.codes;
+    many = omega (arith, ln, v.listed.many);
+    real = v.listed.real;
+    there = v.listed.there;
+    blockings = λ k rk. notes_by k rk (k == nd) refl;
+  };
+  walk = walk;
+  settled = v.settled;
+}
   where
-    by : (r.on node ≡ Some (literal_at cl wa node)) ⊎ ((r.on node ≡ Some spare) × Why node) → literal_at cl wa node ≡ code
-    by (inl f) = some_same (literal_at cl wa node) code (sym f ∙ e)
-    by (inr w) = let z : spare ≡ code = some_same spare code (sym w.0 ∙ e) in absurd (omega (arith, z, b))
+    notes_by : (k : ℕ) → IsReal cl k → (b : Bool) → (k == nd) ≡ b → has_literal (clause_at cl (k / 2)) (blocking_of nodes' k) ≡ true
+    notes_by k rk true f =
+        let t : nd ≡ k = grind (arith, nat_tests) in
+        subst (λ (x : ℕ). has_literal (clause_at cl (x / 2)) (blocking_of nodes' x) ≡ true) t (ap (λ (x : ℕ). has_literal (clause_at cl (nd / 2)) x) own ∙ h)
+    notes_by k rk false f =
+        let ne : k ≢ nd = grind (arith, nat_tests) in
+        ap (λ (x : ℕ). has_literal (clause_at cl (k / 2)) x) (others k ne) ∙ v.listed.blockings k rk
+
+none_some : (code : ℕ) → None ≡ Some code → ⊥
+none_some code e = let w : ⊥ = cc in w
+
+-- the node of a clause that is not kept is on no chain any more
+pub visited_drop : (cl : List (List ℕ)) (wa : List Watched) (heads heads' : List ℕ) (nodes nodes' : List Node) (codes : ℕ) (kept : List Bool) (on set : ℕ → Bool)
+    (code nd : ℕ) (rest : List ℕ) (place next : Place) (v : IsVisiting cl wa heads nodes codes kept on set code (nd ∷ rest) place)
+    → IsWalk heads' nodes' (placed nd None v.listed.on) code rest next → length heads' ≡ length heads → length nodes' ≡ length nodes
+    → ((k : ℕ) → blocking_of nodes' k ≡ blocking_of nodes k) → get_or kept (nd / 2) false ≡ false
+    → IsVisiting cl wa heads' nodes' codes kept on set code rest next
+visited_drop cl wa heads heads' nodes nodes' codes kept on set code nd rest place next v walk lh ln same off = record {
+  listed = record {
+    on = placed nd None v.listed.on;
+    linked = walk.linked;
+    placed = v.listed.placed;
+    codes = lh ∙ v.listed.codes;
+    many = omega (arith, ln, v.listed.many);
+    real = λ k l e. real_by k l (k == nd) e;
+    there = λ k rk m. there_by k rk m (k == nd) refl;
+    blockings = λ k rk. ap (λ (x : ℕ). has_literal (clause_at cl (k / 2)) x) (same k) ∙ v.listed.blockings k rk;
+  };
+  walk = walk;
+  settled = λ k e m. settled_by k m (k == nd) refl e;
+}
+  where
+    real_by : (k l : ℕ) (b : Bool) → (if b then None else v.listed.on k) ≡ Some l → IsReal cl k
+    real_by k l true e = absurd (none_some l e)
+    real_by k l false e = v.listed.real k l e
+
+    not_kept : (k : ℕ) → IsNodeKept kept k → k ≡ nd → ⊥
+    not_kept k m t = let z : true ≡ false = sym m ∙ ap (λ (x : ℕ). get_or kept (x / 2) false) t ∙ off in let w : ⊥ = cc in w
+
+    there_by : (k : ℕ) → IsReal cl k → IsNodeKept kept k → (b : Bool) → (k == nd) ≡ b → (if b then None else v.listed.on k) ≡ Some (literal_at cl wa k)
+    there_by k rk m true f = let t : k ≡ nd = grind (arith, nat_tests) in absurd (not_kept k m t)
+    there_by k rk m false f = v.listed.there k rk m
+
+    settled_by : (k : ℕ) → IsNodeKept kept k → (b : Bool) → (k == nd) ≡ b → (if b then None else v.listed.on k) ≡ Some code
+        → (has rest k ≡ true) ⊎ IsSettled on set (clause_at cl (k / 2)) (k / 2)
+    settled_by k m true f e = absurd (none_some code e)
+    settled_by k m false f e =
+        let ne : k ≢ nd = grind (arith, nat_tests) in ahead_of nd k rest (IsSettled on set (clause_at cl (k / 2)) (k / 2)) ne (v.settled k e m)
+
+-- the node is on the chain of the literal that its clause watches from now on
+pub visited_move : (cl : List (List ℕ)) (wa wa' : List Watched) (heads heads' : List ℕ) (nodes nodes' : List Node) (codes : ℕ) (kept : List Bool) (on set : ℕ → Bool)
+    (code nd to : ℕ) (rest : List ℕ) (place next : Place) (v : IsVisiting cl wa heads nodes codes kept on set code (nd ∷ rest) place)
+    → IsWalk heads' nodes' (placed nd (Some to) (placed nd None v.listed.on)) code rest next → length heads' ≡ length heads → length nodes' ≡ length nodes
+    → ((k : ℕ) → blocking_of nodes' k ≡ blocking_of nodes k) → AreTwoPlaces cl wa' → to ≡ literal_at cl wa' nd → (to ≡ code → ⊥)
+    → ((k : ℕ) → IsReal cl k → (k ≡ nd → ⊥) → literal_at cl wa' k ≡ literal_at cl wa k)
+    → IsVisiting cl wa' heads' nodes' codes kept on set code rest next
+visited_move cl wa wa' heads heads' nodes nodes' codes kept on set code nd to rest place next v walk lh ln same two own other others = record {
+  listed = record {
+    on = placed nd (Some to) (placed nd None v.listed.on);
+    linked = walk.linked;
+    placed = two;
+    codes = lh ∙ v.listed.codes;
+    many = omega (arith, ln, v.listed.many);
+    real = λ k l e. real_by k l (k == nd) refl e;
+    there = λ k rk m. there_by k rk m (k == nd) refl;
+    blockings = λ k rk. ap (λ (x : ℕ). has_literal (clause_at cl (k / 2)) x) (same k) ∙ v.listed.blockings k rk;
+  };
+  walk = walk;
+  settled = λ k e m. settled_by k m (k == nd) refl e;
+}
+  where
+    here : IsReal cl nd
+    here = v.listed.real nd code v.walk.ahead.0
+
+    real_by : (k l : ℕ) (b : Bool) → (k == nd) ≡ b → (if b then Some to else if b then None else v.listed.on k) ≡ Some l → IsReal cl k
+    real_by k l true f e = let t : nd ≡ k = grind (arith, nat_tests) in subst (λ (x : ℕ). IsReal cl x) t here
+    real_by k l false f e = v.listed.real k l e
+
+    there_by : (k : ℕ) → IsReal cl k → IsNodeKept kept k → (b : Bool) → (k == nd) ≡ b
+        → (if b then Some to else if b then None else v.listed.on k) ≡ Some (literal_at cl wa' k)
+    there_by k rk m true f =
+        let t : nd ≡ k = grind (arith, nat_tests) in ap (λ (x : ℕ). Some x) (own ∙ ap (λ (x : ℕ). literal_at cl wa' x) t)
+    there_by k rk m false f =
+        let ne : k ≢ nd = grind (arith, nat_tests) in v.listed.there k rk m ∙ ap (λ (x : ℕ). Some x) (sym (others k rk ne))
+
+    settled_by : (k : ℕ) → IsNodeKept kept k → (b : Bool) → (k == nd) ≡ b → (if b then Some to else if b then None else v.listed.on k) ≡ Some code
+        → (has rest k ≡ true) ⊎ IsSettled on set (clause_at cl (k / 2)) (k / 2)
+    settled_by k m true f e = absurd (other (some_same to code e))
+    settled_by k m false f e =
+        let ne : k ≢ nd = grind (arith, nat_tests) in ahead_of nd k rest (IsSettled on set (clause_at cl (k / 2)) (k / 2)) ne (v.settled k e m)
+
+-- a walk that is not at the end stands at a node
+pub visited_node : (cl : List (List ℕ)) (wa : List Watched) (heads : List ℕ) (nodes : List Node) (codes : ℕ) (kept : List Bool) (on set : ℕ → Bool)
+    (code : ℕ) (rest : List ℕ) (place : Place) → IsVisiting cl wa heads nodes codes kept on set code rest place → (place.node ≡ 4294967295 → ⊥)
+    → (more : List ℕ) × IsVisiting cl wa heads nodes codes kept on set code (place.node ∷ more) place
+visited_node cl wa heads nodes codes kept on set code [] place v ne = absurd (ne v.walk.node)
+visited_node cl wa heads nodes codes kept on set code (x ∷ more) place v ne =
+    (more, subst (λ (y : ℕ). IsVisiting cl wa heads nodes codes kept on set code (y ∷ more) place) (sym v.walk.node) v)
+
+-- a walk that is at the end has nothing ahead
+pub visited_end : (cl : List (List ℕ)) (wa : List Watched) (heads : List ℕ) (nodes : List Node) (codes : ℕ) (kept : List Bool) (on set : ℕ → Bool)
+    (code : ℕ) (rest : List ℕ) (place : Place) → IsVisiting cl wa heads nodes codes kept on set code rest place → place.node ≡ 4294967295
+    → IsVisiting cl wa heads nodes codes kept on set code [] place
+visited_end cl wa heads nodes codes kept on set code [] place v e = v
+visited_end cl wa heads nodes codes kept on set code (x ∷ more) place v e =
+    let real = v.listed.real x code v.walk.ahead.0 in absurd (omega (arith, e, v.walk.node, real.below, v.listed.many, v.walk.linked.few))
+
+-- at the end of the chain all clauses are settled that watch its literal
+pub all_settled : (cl : List (List ℕ)) (wa : List Watched) (heads : List ℕ) (nodes : List Node) (codes : ℕ) (kept : List Bool) (on set : ℕ → Bool)
+    (code : ℕ) (place : Place) → IsVisiting cl wa heads nodes codes kept on set code [] place → AllSettled cl wa on set code kept
+all_settled cl wa heads nodes codes kept on set code place v k rk m e = by (v.settled k (v.listed.there k rk m ∙ ap (λ (x : ℕ). Some x) e) m)
+  where
+    by : (has [] k ≡ true) ⊎ IsSettled on set (clause_at cl (k / 2)) (k / 2) → IsSettled on set (clause_at cl (k / 2)) (k / 2)
+    by (inl h) = absurd (let w : ⊥ = cc in w)
+    by (inr h) = h
 
 pub moves_on : (cl : List (List ℕ)) (a b c : List Watched) (on : ℕ → Bool) → MovesToFree cl a b on → MovesToFree cl b c on → MovesToFree cl a c on
 moves_on cl a b c on f g k rk = by (f k rk) (g k rk)
@@ -261,67 +318,3 @@ moves_on cl a b c on f g k rk = by (f k rk) (g k rk)
     by (inl p) (inl q) = inl (q ∙ p)
     by (inr p) (inl q) = inr (ap (λ (x : ℕ). is_free on x) q ∙ p)
     by p (inr q) = inr q
-
--- before the visits
-pub listed_start : (cl : List (List ℕ)) (wa : List Watched) (heads : List ℕ) (nodes : List Node) (spare : ℕ) (kept : List Bool) (Why : ℕ → Type 0)
-    → IsAtRest cl wa heads nodes spare kept → IsListed cl wa heads nodes spare (IsNodeKept kept) Why
-listed_start cl wa heads nodes spare kept Why r = relisted cl wa heads nodes spare (IsNodeKept kept) NoWhy (IsNodeKept kept) Why r (λ k rk m. by k (r.there k rk m))
-  where
-    by : (k : ℕ) → (r.on k ≡ Some (literal_at cl wa k)) ⊎ ((r.on k ≡ Some spare) × ⊥) → (r.on k ≡ Some (literal_at cl wa k)) ⊎ ((r.on k ≡ Some spare) × Why k)
-    by k (inl e) = inl e
-    by k (inr w) = absurd w.1
-
--- after the visits, once the spare chain has the visited code
-pub listed_end : (cl : List (List ℕ)) (wa : List Watched) (heads heads' : List ℕ) (nodes nodes' : List Node) (spare code : ℕ) (kept : List Bool)
-    (on set : ℕ → Bool) (r : IsListed cl wa heads nodes spare (IsNodeKept kept) (Stays cl wa on set code))
-    → IsFit cl spare → IsLinked heads' nodes' (renamed spare code r.on) → nodes' ≡ nodes → length heads' ≡ length heads
-    → IsAtRest cl wa heads' nodes' spare kept
-listed_end cl wa heads heads' nodes nodes' spare code kept on set r fit link e lh = record {
-  on = renamed spare code r.on;
-  linked = link;
-  placed = r.placed;
-  codes = lh ∙ r.codes;
-  many = omega (arith, r.many, ap (λ (xs : List Node). length xs) e);
-  real = λ k l f. real_by k l (r.on k) refl f;
-  there = λ k rk m. inl (there_by k rk (r.there k rk m));
-  blockings = λ k rk. ap (λ (xs : List Node). has_literal (clause_at cl (k / 2)) (blocking_of xs k)) e ∙ r.blockings k rk;
-}
-  where
-    real_by : (k l : ℕ) (o : Option ℕ) → r.on k ≡ o
-        → elim o as (λ _. Option ℕ) [ None ↦ None | Some x ↦ if x == spare then Some code else Some x ] ≡ Some l → IsReal cl k
-    real_by k l None f g = absurd (let w : ⊥ = cc in w)
-    real_by k l (Some x) f g = r.real k x f
-
-    at : (k x : ℕ) → r.on k ≡ Some x → (b : Bool) → (x == spare) ≡ b → renamed spare code r.on k ≡ (if b then Some code else Some x)
-    at k x f b g = ap (λ (o : Option ℕ). elim o as (λ _. Option ℕ) [ None ↦ None | Some y ↦ if y == spare then Some code else Some y ]) f ∙ ap (λ (c : Bool). if c then Some code else Some x) g
-
-    place : (s : Bool) (c : ℕ) → c < length cl → 2 ≤ length (clause_at cl c) → place_in (get_or wa c no_watches) s < length (clause_at cl c)
-    place s c b two = other_in cl wa c s r.placed b two
-
-    there_by : (k : ℕ) → IsReal cl k → (r.on k ≡ Some (literal_at cl wa k)) ⊎ ((r.on k ≡ Some spare) × Stays cl wa on set code k)
-        → renamed spare code r.on k ≡ Some (literal_at cl wa k)
-    there_by k rk (inl f) =
-        let b = fit.below (k / 2) (place_of wa k) (place (k % 2 == 1) (k / 2) rk.below rk.long) in
-        let ne : literal_at cl wa k ≢ spare = omega (arith, b) in
-        let g : (literal_at cl wa k == spare) ≡ false = grind (arith, nat_tests) in
-        at k (literal_at cl wa k) f false g
-    there_by k rk (inr w) =
-        let g : (spare == spare) ≡ true = grind (arith, nat_tests) in
-        at k spare w.0 true g ∙ ap (λ (x : ℕ). Some x) (sym w.1.0)
-
--- where the visited chain is at its end all clauses are settled
-pub all_settled : (cl : List (List ℕ)) (wa : List Watched) (heads : List ℕ) (nodes : List Node) (spare code : ℕ) (kept : List Bool)
-    (on set : ℕ → Bool) (r : IsListed cl wa heads nodes spare (IsNodeKept kept) (Stays cl wa on set code))
-    → ((k : ℕ) → r.on k ≡ Some code → ⊥) → AllSettled cl wa on set code kept
-all_settled cl wa heads nodes spare code kept on set r none k rk m e = by (r.there k rk m)
-  where
-    by : (r.on k ≡ Some (literal_at cl wa k)) ⊎ ((r.on k ≡ Some spare) × Stays cl wa on set code k) → IsSettled on set (clause_at cl (k / 2)) (k / 2)
-    by (inl f) = absurd (none k (f ∙ ap (λ (x : ℕ). Some x) e))
-    by (inr w) = w.1.1
-
--- the spare chain is renamed once the visited one is at its end
-pub linked_after : (h h1 h2 : List ℕ) (n n1 n2 : List Node) (spare code : ℕ) (on : ℕ → Option ℕ) → IsAtEnd h n h1 n1 code → IsLinked h n on
-    → ((o : ℕ → Option ℕ) → IsLinked h1 n1 o → ((k : ℕ) → o k ≡ Some code → ⊥) → IsLinked h2 n2 (renamed spare code o))
-    → IsLinked h2 n2 (renamed spare code on)
-linked_after h h1 h2 n n1 n2 spare code on e m f =
-    f on (subst (λ (hs : List ℕ). IsLinked hs n1 on) (sym e.heads_stay) (subst (λ (ns : List Node). IsLinked h ns on) (sym e.nodes_stay) m)) (e.none on m)

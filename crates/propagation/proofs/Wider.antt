@@ -1,5 +1,5 @@
 -- Tables with more room say what they did.
-use Rattle.std.proofs.Common.{arith, ◌≡◌, ◌==◌, ℕ, ◌*◌, ◌/◌, ◌%◌, ◌<◌, ◌≤◌, List, length, take, get_or, Bool, sym, ap, ◌∙◌, subst, Some, ◌⊎◌, inl, inr}
+use Rattle.std.proofs.Common.{arith, ◌≡◌, ◌==◌, ℕ, ◌*◌, ◌/◌, ◌%◌, ◌<◌, ◌≤◌, List, length, take, get_or, Bool, sym, ap, ◌∙◌, subst, Some}
 use Rattle.clause_base.specs.Clause.{has_literal}
 use Rattle.propagation.specs.declared.pending.Pending.{Pending}
 use Rattle.propagation.specs.declared.tables.Tables.{Tables}
@@ -7,7 +7,7 @@ use Rattle.propagation.specs.declared.visit.Lists.{Lists}
 use Rattle.propagation.specs.declared.visit.Watched.{Watched}
 use Rattle.propagation.specs.Pending.{is_free}
 use Rattle.cdcl_rules.specs.State.{clause_at}
-use Rattle.propagation.specs.Visit.{no_watches, place_in, literal_at, IsReal, NoWhy, IsAtRest}
+use Rattle.propagation.specs.Visit.{no_watches, place_in, literal_at, IsReal, IsAtRest}
 use Rattle.propagation.specs.Asks.{IsWider}
 use Rattle.propagation.specs.Front.{IsComplete}
 use Rattle.propagation.specs.Tables.{clauses_in, flags_in, pending_in}
@@ -35,17 +35,12 @@ rest_wider cl l l' spare kept r w = record {
   codes = w.codes ∙ r.codes;
   many = omega (arith, r.many, w.more_nodes);
   real = r.real;
-  there = λ node real must. by node real (r.there node real must);
+  there = λ node real must. r.there node real must ∙ ap (λ (c : ℕ). Some c) (sym (literal_wider cl l l' node w r.placed.many real));
   blockings = λ node real. ap (λ (x : ℕ). has_literal (clause_at cl (node / 2)) x) (w.blockings node (omega (arith, real.below, r.many))) ∙ r.blockings node real;
 }
   where
     at : (c : ℕ) → c < length cl → get_or l'.watched.items c no_watches ≡ get_or l.watched.items c no_watches
     at c h = w.watches c (omega (arith, h, r.placed.many))
-
-    by : (node : ℕ) → IsReal cl node → (r.on node ≡ Some (literal_at cl l.watched.items node)) ⊎ ((r.on node ≡ Some spare) × NoWhy node)
-        → (r.on node ≡ Some (literal_at cl l'.watched.items node)) ⊎ ((r.on node ≡ Some spare) × NoWhy node)
-    by node real (inl e) = inl (e ∙ ap (λ (c : ℕ). Some c) (sym (literal_wider cl l l' node w r.placed.many real)))
-    by node real (inr v) = absurd v.1
 
 complete_wider : (passes : ℕ → Bool) (p p' : Pending) → IsWider p p' → IsComplete passes p → IsComplete passes p'
 complete_wider passes p p' w c k e = w.same k ∙ c k e

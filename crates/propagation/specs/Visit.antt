@@ -1,10 +1,15 @@
-use Rattle.std.specs.Prelude.{◌≡◌, ℕ, ◌+◌, ◌*◌, ◌/◌, ◌%◌, ◌<◌, ◌≤◌, ◌==◌, ◌⊎◌, List, length, Bool, true, false, Option, Some, slice_index, slice_index_or, map, if◌then◌else◌}
+use Rattle.std.specs.Prelude.{◌≡◌, ℕ, ◌*◌, ◌/◌, ◌%◌, ◌<◌, ◌≤◌, ◌==◌, ◌⊎◌, List, length, Bool, true, false, Option, Some, slice_index, slice_index_or, map, if◌then◌else◌}
 use Rattle.std.specs.List.{list_any}
 use Rattle.clause_base.specs.Clause.{has_literal}
 use Rattle.cdcl_rules.specs.State.{clause_at}
 use Rattle.watch_chains.specs.declared.chains.Node.{Node}
-use Rattle.watch_chains.specs.Linked.{IsLinked, blocking_of}
+use Rattle.watch_chains.specs.declared.chains.Place.{Place}
+use Rattle.watch_chains.specs.Linked.{IsLinked, blocking_of, has}
+use Rattle.watch_chains.specs.Walk.{IsWalk}
+use Rattle.number_bits.specs.Bits.{words_have}
 use Rattle.propagation.specs.declared.visit.Watched.{Watched}
+use Rattle.propagation.specs.declared.visit.Lists.{Lists}
+use Rattle.propagation.specs.declared.tables.Tables.{Tables}
 use Rattle.propagation.specs.Pending.{is_free, has_two_free}
 use Rattle.cdcl_rules.specs.Pending.{is_pending}
 
@@ -55,37 +60,25 @@ pub record IsReal (clauses : List (List ℕ)) (node : ℕ) : Type 0 where
   pub below : node / 2 < length clauses
   pub long : 2 ≤ length (clause_at clauses (node / 2))
 
--- each node that has to be on a chain is on that of its watched literal, or on the spare chain for a reason
-pub record IsListed (clauses : List (List ℕ)) (watched : List Watched) (heads : List ℕ) (nodes : List Node) (spare : ℕ) (Must Why : ℕ → Type 0) : Type 0 where
-  pub on : ℕ → Option ℕ
-  pub linked : IsLinked heads nodes on
-  pub placed : AreTwoPlaces clauses watched
-  pub codes : length heads ≡ spare + 1
-  pub many : 2 * length clauses ≤ length nodes
-  pub real : (node l : ℕ) → on node ≡ Some l → IsReal clauses node
-  pub there : (node : ℕ) → IsReal clauses node → Must node → (on node ≡ Some (literal_at clauses watched node)) ⊎ ((on node ≡ Some spare) × Why node)
-  pub blockings : (node : ℕ) → IsReal clauses node → has_literal (clause_at clauses (node / 2)) (blocking_of nodes node) ≡ true
-
 -- the clause with a number is kept
 abbrev pub IsNodeKept : List Bool → ℕ → Type 0
 IsNodeKept kept node = slice_index_or kept (node / 2) false ≡ true
 
-abbrev pub NoWhy : ℕ → Type 0
-NoWhy node = ⊥
-
--- between the visits
-abbrev pub IsAtRest : List (List ℕ) → List Watched → List ℕ → List Node → ℕ → List Bool → Type 0
-IsAtRest clauses watched heads nodes spare kept = IsListed clauses watched heads nodes spare (IsNodeKept kept) NoWhy
+-- each node of a kept clause is on the chain of its watched literal
+pub record IsAtRest (clauses : List (List ℕ)) (watched : List Watched) (heads : List ℕ) (nodes : List Node) (limit : ℕ) (kept : List Bool) : Type 0 where
+  pub on : ℕ → Option ℕ
+  pub linked : IsLinked heads nodes on
+  pub placed : AreTwoPlaces clauses watched
+  pub codes : length heads ≡ limit
+  pub many : 2 * length clauses ≤ length nodes
+  pub real : (node l : ℕ) → on node ≡ Some l → IsReal clauses node
+  pub there : (node : ℕ) → IsReal clauses node → IsNodeKept kept node → on node ≡ Some (literal_at clauses watched node)
+  pub blockings : (node : ℕ) → IsReal clauses node → has_literal (clause_at clauses (node / 2)) (blocking_of nodes node) ≡ true
 
 -- a clause that may watch a false literal: it has no two that are not false, and where it is pending it is in the set
 pub record IsSettled (on : ℕ → Bool) (set : ℕ → Bool) (clause : List ℕ) (c : ℕ) : Type 0 where
   pub not_loose : list_any on clause ≡ false → has_two_free on clause ≡ false
   pub in_set : is_pending on clause ≡ true → set c ≡ true
-
--- why a visited node stays: it watches the literal of the visited chain, and its clause is settled
-abbrev pub Stays : List (List ℕ) → List Watched → (ℕ → Bool) → (ℕ → Bool) → ℕ → ℕ → Type 0
-Stays clauses watched on set code node =
-    (literal_at clauses watched node ≡ code) × IsSettled on set (clause_at clauses (node / 2)) (node / 2)
 
 -- each node watches what it did, or a literal that is not false
 abbrev pub MovesToFree : List (List ℕ) → List Watched → List Watched → (ℕ → Bool) → Type 0
@@ -96,11 +89,21 @@ MovesToFree clauses watched watched' on =
 abbrev pub Grows : (ℕ → Bool) → (ℕ → Bool) → Type 0
 Grows set set' = (k : ℕ) → set k ≡ true → set' k ≡ true
 
--- the node whose turn it is, and which is on no chain
-abbrev pub IsOther : List Bool → ℕ → ℕ → Type 0
-IsOther kept node k = IsNodeKept kept k × (k ≡ node → ⊥)
-
 -- after a visit each kept clause that still watches the literal is settled
 abbrev pub AllSettled : List (List ℕ) → List Watched → (ℕ → Bool) → (ℕ → Bool) → ℕ → List Bool → Type 0
 AllSettled clauses watched on set code kept =
     (node : ℕ) → IsReal clauses node → IsNodeKept kept node → literal_at clauses watched node ≡ code → IsSettled on set (clause_at clauses (node / 2)) (node / 2)
+
+-- A walk along the chain of a literal that is false: each node of a kept clause is on the chain of its watched literal at any time, and
+-- the clauses behind the place of the walk that are kept and stay there are settled. So all are once the walk is at the end.
+pub record IsVisiting (clauses : List (List ℕ)) (watched : List Watched) (heads : List ℕ) (nodes : List Node) (codes : ℕ) (kept : List Bool) (on set : ℕ → Bool) (code : ℕ) (rest : List ℕ) (place : Place) : Type 0 where
+  pub listed : IsAtRest clauses watched heads nodes codes kept
+  pub walk : IsWalk heads nodes listed.on code rest place
+  pub settled : (node : ℕ) → listed.on node ≡ Some code → IsNodeKept kept node
+      → (has rest node ≡ true) ⊎ IsSettled on set (clause_at clauses (node / 2)) (node / 2)
+
+-- so do the tables of a propagator stand at a place of a walk
+abbrev pub AreVisited : Tables → Lists → List ℕ → ℕ → ℕ → List ℕ → Place → Type 0
+AreVisited t l trail codes code rest place =
+    IsVisiting (slot_clauses t.store t.slots.items) l.watched.items l.chains.heads.items l.chains.nodes.items codes (slot_flags t.kept.items t.slots.items)
+    (has_literal trail) (slot_set (words_have l.pending.numbers) t.slots.items) code rest place

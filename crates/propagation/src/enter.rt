@@ -49,7 +49,7 @@ impl Lists {
         requires below { (p : ℕ) → p < length clause.now → slice_index clause.now p < 2 * assignment.now.variables }
         requires short { length clause.now ≤ 4294967295 }
         requires two { 2 ≤ length clause.now }
-        requires codes { length self.old.chains.heads.items ≡ 2 * assignment.now.variables + 1 }
+        requires codes { length self.old.chains.heads.items ≡ 2 * assignment.now.variables }
         requires room { HasSlotRoom slot self.old }
         requires loose { IsLoose slot self.old }
         ensures rest { RestsWith clause.now slot (2 * assignment.now.variables) self.old self.new }
@@ -75,7 +75,7 @@ impl Lists {
         requires below { (p : ℕ) → p < length clause.now → slice_index clause.now p < codes }
         requires short { length clause.now ≤ 4294967295 }
         requires two { 2 ≤ length clause.now }
-        requires codes { length self.old.chains.heads.items ≡ codes + 1 }
+        requires codes { length self.old.chains.heads.items ≡ codes }
         requires room { HasSlotRoom slot self.old }
         requires loose { IsLoose slot self.old }
         ensures rest { RestsWith clause.now slot codes self.old self.new }

@@ -71,12 +71,12 @@ fn no_lists(alloc: Global, count: u32, longs: usize, codes: u32) -> Result<Lists
     ensures watched { IfOk result (λ l. l.watched.items ≡ []) }
     ensures pending { IfOk result (λ l. (k : ℕ) → words_have l.pending.numbers k ≡ false) }
     ensures linked { IfOk result (λ l. IsLinked l.chains.heads.items l.chains.nodes.items (λ k. None)) }
-    ensures codes { IfOk result (λ l. length l.chains.heads.items ≡ codes + 1) }
+    ensures codes { IfOk result (λ l. length l.chains.heads.items ≡ codes) }
     ensures room { IfOk result (λ l. count ≤ 64 * length l.pending.numbers) }
     ensures asks { IfOk result (λ l. length l.pending.asks.items ≡ count) }
 {
     Ok(Lists {
-        chains: Chains::new(alloc, codes + 1, longs.saturating_add(longs))?,
+        chains: Chains::new(alloc, codes, longs.saturating_add(longs))?,
         watched: Vec::with_capacity(alloc, longs)?,
         pending: Pending::new(alloc, count)?,
     })
@@ -91,7 +91,7 @@ impl Given {
         ensures watched { IfOk result (λ g. g.lists.watched.items ≡ []) }
         ensures pending { IfOk result (λ g. (k : ℕ) → words_have g.lists.pending.numbers k ≡ false) }
         ensures linked { IfOk result (λ g. IsLinked g.lists.chains.heads.items g.lists.chains.nodes.items (λ k. None)) }
-        ensures codes { IfOk result (λ g. length g.lists.chains.heads.items ≡ codes + 1) }
+        ensures codes { IfOk result (λ g. length g.lists.chains.heads.items ≡ codes) }
         ensures room { IfOk result (λ g. count ≤ 64 * length g.lists.pending.numbers) }
         ensures asks { IfOk result (λ g. length g.lists.pending.asks.items ≡ count) }
     {

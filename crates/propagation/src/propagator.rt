@@ -175,9 +175,7 @@ impl Propagator {
             falsified.0,
             &mut self.lists.pending,
         );
-        let spare = 2 * self.variables;
-        self.lists
-            .visit_all(&self.tables, &assignment, spare, falsified.0);
+        self.lists.visit_all(&self.tables, &assignment, falsified.0);
     }
 
     /// What the first clause asks for that is kept and pending: a conflict, or its only literal that is not false. It takes no

@@ -26,7 +26,7 @@ pub fn take_slot(
     requires short { length clause.now ≤ 4294967295 }
     requires few { length slots.old.items ≤ 2147483647 }
     requires capacity { length slots.old.items < vec_capacity slots.old }
-    requires codes { length lists.old.chains.heads.items ≡ 2 * assignment.now.variables + 1 }
+    requires codes { length lists.old.chains.heads.items ≡ 2 * assignment.now.variables }
     requires room { HasSlotRoom (length slots.old.items) lists.old }
     requires loose { IsLoose (length slots.old.items) lists.old }
     ensures ok { IsOk result }

@@ -1,4 +1,4 @@
-use Rattle.std.specs.Prelude.{◌≡◌, ℕ, zero, suc, ◌+◌, ◌<◌, ◌≤◌, ◌==◌, List, [], ◌∷◌, length, slice_index, slice_index_or, Bool, true, false, Option, Some, None, if◌then◌else◌}
+use Rattle.std.specs.Prelude.{◌≡◌, ℕ, ◌+◌, ◌<◌, ◌≤◌, ◌==◌, List, [], ◌∷◌, length, slice_index, slice_index_or, Bool, true, false, Option, Some, None, if◌then◌else◌}
 use Rattle.std.specs.List.{list_any}
 use Rattle.watch_chains.specs.declared.chains.Node.{Node}
 
@@ -39,33 +39,6 @@ pub record IsLinked (heads : List ℕ) (nodes : List Node) (on : ℕ → Option 
 -- where the nodes are once one is put elsewhere
 abbrev pub placed : ℕ → Option ℕ → (ℕ → Option ℕ) → ℕ → Option ℕ
 placed node code on k = if k == node then code else on k
-
--- where the nodes are once a chain has another code
-abbrev pub renamed : ℕ → ℕ → (ℕ → Option ℕ) → ℕ → Option ℕ
-renamed from to on k = elim (on k) [ None ↦ None | Some l ↦ if l == from then Some to else Some l ]
-
--- how many nodes come from a number on, counted up to a bound
-abbrev pub steps : List Node → ℕ → ℕ → ℕ
-steps nodes zero a = 0
-steps nodes (suc n) a = if a == 4294967295 then 0 else suc (steps nodes n (next_of nodes a))
-
--- how many nodes a chain has
-unfoldable pub chain_length : List ℕ → List Node → ℕ → ℕ
-chain_length heads nodes l = steps nodes (length nodes) (slice_index heads l)
-
--- what taking a node from the front of a chain leaves
-pub record IsPopped (heads : List ℕ) (nodes : List Node) (heads' : List ℕ) (nodes' : List Node) (code node : ℕ) : Type 0 where
-  pub from : (on : ℕ → Option ℕ) → IsLinked heads nodes on → (on node ≡ Some code) × IsLinked heads' nodes' (placed node None on)
-  pub below : node < length nodes
-  pub shorter : chain_length heads' nodes' code < chain_length heads nodes code
-  pub nodes_stay : nodes' ≡ nodes
-  pub codes : length heads' ≡ length heads
-
--- the chain has no nodes
-pub record IsAtEnd (heads : List ℕ) (nodes : List Node) (heads' : List ℕ) (nodes' : List Node) (code : ℕ) : Type 0 where
-  pub none : (on : ℕ → Option ℕ) → IsLinked heads nodes on → (k : ℕ) → on k ≡ Some code → ⊥
-  pub heads_stay : heads' ≡ heads
-  pub nodes_stay : nodes' ≡ nodes
 
 -- a node stands on no chain
 pub record IsLoose (heads : List ℕ) (nodes : List Node) (node : ℕ) : Type 0 where

@@ -1,16 +1,24 @@
-ghost use Rattle.std.specs.Prelude.{◌≡◌, ℕ, ◌<◌, ◌≤◌, ◌+◌, ◌++◌, ◌∷◌, [], Option, Some, None, length, IfOk, OnOk, OnErr, MatchOption, slice_index, vec_capacity};
-ghost use Rattle.watch_chains.specs.Linked.{IsLinked, IsLoose, ArePairLoose, IsPopped, IsAtEnd, placed, renamed, chain_length, blocking_of};
+ghost use Rattle.std.specs.Prelude.{◌≡◌, ℕ, ◌<◌, ◌≤◌, ◌+◌, ◌++◌, ◌∷◌, [], List, Option, Some, None, length, IfOk, OnOk, OnErr, MatchOption, slice_index, vec_capacity};
+ghost use Rattle.watch_chains.specs.Linked.{IsLinked, IsLoose, ArePairLoose, placed, blocking_of};
+ghost use Rattle.watch_chains.specs.Walk.{IsWalk, StandsAt};
 
 use std::alloc::{AllocError, Global};
 
 /// Where a chain ends.
-const END: u32 = 4_294_967_295;
+pub const END: u32 = 4_294_967_295;
 
 /// A node of a chain: the node after it, and a blocking literal: where that is true, nothing need be done for the node.
 #[derive(Clone, Copy)]
 pub struct Node {
     pub next: u32,
     pub blocking: u32,
+}
+
+/// A place on a chain: a node, or the end, and the node before it, if there is one.
+#[derive(Clone, Copy)]
+pub struct Place {
+    pub before: u32,
+    pub node: u32,
 }
 
 /// For each code the first node of its chain, and the nodes.
@@ -54,35 +62,97 @@ impl Chains {
         Ok(())
     }
 
-    /// Takes the first node from a chain.
-    pub fn pop(&mut self, code: u32) -> Option<u32>
-        requires code { code < length self.old.heads.items }
-        requires linked { (on : ℕ → Option ℕ) × IsLinked self.old.heads.items self.old.nodes.items on }
-        ensures { MatchOption result (IsAtEnd self.old.heads.items self.old.nodes.items self.new.heads.items self.new.nodes.items code) (λ node. IsPopped self.old.heads.items self.old.nodes.items self.new.heads.items self.new.nodes.items code node) }
+    /// The place of the first node of a chain.
+    #[inline(always)]
+    pub fn first(&self, code: u32) -> Place
+        requires { code < length self.now.heads.items }
+        ensures { (on : ℕ → Option ℕ) → IsLinked self.now.heads.items self.now.nodes.items on → StandsAt self.now.heads.items self.now.nodes.items on code result }
     {
-        let node = self.heads[code as usize];
-        if node == END {
-            return None;
+        Place {
+            before: END,
+            node: self.heads[code as usize],
         }
-        self.heads[code as usize] = self.nodes[node as usize].next;
-        Some(node)
+    }
+
+    /// The place after one with a node.
+    #[inline(always)]
+    pub fn after(&self, place: Place) -> Place
+        requires { place.node < length self.now.nodes.items }
+        ensures { (on : ℕ → Option ℕ) (code : ℕ) (rest : List ℕ) → IsWalk self.now.heads.items self.now.nodes.items on code (place.node ∷ rest) place → IsWalk self.now.heads.items self.now.nodes.items on code rest result }
+    {
+        let next = self.nodes[place.node as usize].next;
+        Place {
+            before: place.node,
+            node: next,
+        }
+    }
+
+    /// Takes the node at a place from its chain. The result is the place of the one after it.
+    #[inline(always)]
+    pub fn drop_at(&mut self, place: Place, code: u32) -> Place
+        requires walk { (on : ℕ → Option ℕ) × (rest : List ℕ) × IsWalk self.old.heads.items self.old.nodes.items on code (place.node ∷ rest) place }
+        ensures walk { (on : ℕ → Option ℕ) (rest : List ℕ) → IsWalk self.old.heads.items self.old.nodes.items on code (place.node ∷ rest) place → IsWalk self.new.heads.items self.new.nodes.items (placed place.node None on) code rest result }
+        ensures blockings { (k : ℕ) → blocking_of self.new.nodes.items k ≡ blocking_of self.old.nodes.items k }
+        ensures codes { length self.new.heads.items ≡ length self.old.heads.items }
+        ensures nodes { length self.new.nodes.items ≡ length self.old.nodes.items }
+    {
+        let next = self.nodes[place.node as usize].next;
+        if place.before == END {
+            self.heads[code as usize] = next;
+        } else {
+            self.nodes[place.before as usize].next = next;
+        }
+        Place {
+            before: place.before,
+            node: next,
+        }
     }
 
     /// Puts a node that is on no chain at the front of one.
-    pub fn link(&mut self, node: u32, code: u32, blocking: u32)
+    #[inline(always)]
+    pub fn link(&mut self, node: u32, code: u32)
         requires code { code < length self.old.heads.items }
         requires node { node < length self.old.nodes.items }
         requires off { IsLoose self.old.heads.items self.old.nodes.items node }
         ensures linked { (on : ℕ → Option ℕ) → IsLinked self.old.heads.items self.old.nodes.items on → on node ≡ None → IsLinked self.new.heads.items self.new.nodes.items (placed node (Some code) on) }
-        ensures lengths { (l : ℕ) → l < length self.old.heads.items → (l ≡ code → ⊥) → chain_length self.new.heads.items self.new.nodes.items l ≡ chain_length self.old.heads.items self.old.nodes.items l }
-        ensures own { blocking_of self.new.nodes.items node ≡ blocking }
-        ensures others { (k : ℕ) → (k ≡ node → ⊥) → blocking_of self.new.nodes.items k ≡ blocking_of self.old.nodes.items k }
+        ensures walk { (on : ℕ → Option ℕ) (l : ℕ) (rest : List ℕ) (place : Place) → IsWalk self.old.heads.items self.old.nodes.items on l rest place → on node ≡ None → (l ≡ code → ⊥) → IsWalk self.new.heads.items self.new.nodes.items (placed node (Some code) on) l rest place }
+        ensures blockings { (k : ℕ) → blocking_of self.new.nodes.items k ≡ blocking_of self.old.nodes.items k }
         ensures codes { length self.new.heads.items ≡ length self.old.heads.items }
         ensures nodes { length self.new.nodes.items ≡ length self.old.nodes.items }
     {
         let next = self.heads[code as usize];
-        self.nodes[node as usize] = Node { next, blocking };
+        self.nodes[node as usize].next = next;
         self.heads[code as usize] = node;
+    }
+
+    /// Moves the node at a place to the front of another chain. The result is the place of the one that was after it.
+    #[inline(always)]
+    pub fn move_to(&mut self, place: Place, code: u32, to: u32) -> Place
+        requires to { to < length self.old.heads.items }
+        requires other { code ≡ to → ⊥ }
+        requires walk { (on : ℕ → Option ℕ) × (rest : List ℕ) × IsWalk self.old.heads.items self.old.nodes.items on code (place.node ∷ rest) place }
+        ensures walk { (on : ℕ → Option ℕ) (rest : List ℕ) → IsWalk self.old.heads.items self.old.nodes.items on code (place.node ∷ rest) place → IsWalk self.new.heads.items self.new.nodes.items (placed place.node (Some to) (placed place.node None on)) code rest result }
+        ensures blockings { (k : ℕ) → blocking_of self.new.nodes.items k ≡ blocking_of self.old.nodes.items k }
+        ensures codes { length self.new.heads.items ≡ length self.old.heads.items }
+        ensures nodes { length self.new.nodes.items ≡ length self.old.nodes.items }
+    {
+        let next = self.drop_at(place, code);
+        self.link(place.node, to);
+        next
+    }
+
+    /// Gives a node another blocking literal.
+    #[inline(always)]
+    pub fn note(&mut self, node: u32, blocking: u32)
+        requires { node < length self.old.nodes.items }
+        ensures linked { (on : ℕ → Option ℕ) → IsLinked self.old.heads.items self.old.nodes.items on → IsLinked self.new.heads.items self.new.nodes.items on }
+        ensures walk { (on : ℕ → Option ℕ) (code : ℕ) (rest : List ℕ) (place : Place) → IsWalk self.old.heads.items self.old.nodes.items on code rest place → IsWalk self.new.heads.items self.new.nodes.items on code rest place }
+        ensures own { blocking_of self.new.nodes.items node ≡ blocking }
+        ensures others { (k : ℕ) → (k ≡ node → ⊥) → blocking_of self.new.nodes.items k ≡ blocking_of self.old.nodes.items k }
+        ensures heads { self.new.heads.items ≡ self.old.heads.items }
+        ensures nodes { length self.new.nodes.items ≡ length self.old.nodes.items }
+    {
+        self.nodes[node as usize].blocking = blocking;
     }
 
     /// Puts two nodes with successive numbers, which are on no chain, at the front of two, each with the other's code as its
@@ -99,21 +169,10 @@ impl Chains {
         ensures codes { length self.new.heads.items ≡ length self.old.heads.items }
         ensures nodes { length self.new.nodes.items ≡ length self.old.nodes.items }
     {
-        self.link(node, code, beside);
-        self.link(node + 1, beside, code);
-    }
-
-    /// Moves a whole chain to a code that has none.
-    pub fn rename(&mut self, from: u32, to: u32)
-        requires from { from < length self.old.heads.items }
-        requires to { to < length self.old.heads.items }
-        requires other { from ≡ to → ⊥ }
-        ensures linked { (on : ℕ → Option ℕ) → IsLinked self.old.heads.items self.old.nodes.items on → ((k : ℕ) → on k ≡ Some to → ⊥) → IsLinked self.new.heads.items self.new.nodes.items (renamed from to on) }
-        ensures nodes { self.new.nodes.items ≡ self.old.nodes.items }
-        ensures codes { length self.new.heads.items ≡ length self.old.heads.items }
-    {
-        self.heads[to as usize] = self.heads[from as usize];
-        self.heads[from as usize] = END;
+        self.link(node, code);
+        self.link(node + 1, beside);
+        self.note(node, beside);
+        self.note(node + 1, code);
     }
 
     /// The blocking literal of a node.

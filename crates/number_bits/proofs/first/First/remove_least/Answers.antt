@@ -1,6 +1,6 @@
 use Rattle.std.proofs.Common.{ap, sym, subst, ◌≡◌, ◌∙◌, ◌==◌, ◌&&◌, not, List, ℕ, Some}
 use Rattle.number_bits.specs.Bits.{words_have, words_with, IsFirst, IsLeast}
-use Rattle.number_bits.proofs.Firsts.{first_out, first_least, least_same, past_taken}
+use Rattle.number_bits.proofs.Firsts.{first_out, first_least, least_same}
 use Rattle.number_bits.proofs.first.First.remove_least.Goals as goal
 
 pub returns-in-Some-clause-has : goal.returns-in-Some-clause-has

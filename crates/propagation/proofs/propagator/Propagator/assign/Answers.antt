@@ -14,8 +14,8 @@ use Rattle.propagation.specs.Asks.{IsConsistent, HasAsks}
 use Rattle.propagation.specs.Front.{IsComplete}
 use Rattle.propagation.specs.Pending.{PropagatorView}
 use Rattle.propagation.specs.Sound.{AreSound}
-use Rattle.propagation.specs.Tables.{clauses_in, flags_in, pending_in}
-use Rattle.propagation.specs.Visit.{slot_set, IsFit, AllSettled, MovesToFree}
+use Rattle.propagation.specs.Tables.{AreTables, clauses_in, flags_in, pending_in}
+use Rattle.propagation.specs.Visit.{slot_set, IsAtRest, IsFit, AllSettled, MovesToFree}
 use Rattle.propagation.proofs.Asks.{consistent_push, last_true}
 use Rattle.propagation.proofs.AsksKept.{asks_longer}
 use Rattle.propagation.proofs.Assigns.{opposite_twice, assign_complete, assign_free, assign_quiets, whole_free}
@@ -70,18 +70,31 @@ mark_pairs-requires-clause-asks c =
     subst (λ (ys : List ℕ). HasAsks w.tables.store ys w.lists.pending) (sym (told (goal.at.mark_pairs-requires-clause-asks c).After-assignment-assignment))
     (asks_longer w.tables.store (literals w.trail.entries) c.args.entry.literal w.lists.pending c.self.invariant.0.asks)
 
-pub visit_all-requires-clause-spare : goal.visit_all-requires-clause-spare
-visit_all-requires-clause-spare c = ap (λ (n : ℕ). 2 * n) (sym (over (goal.at.visit_all-requires-clause-spare c).After-assignment-assignment))
+pub visit_all-requires-clause-code : goal.visit_all-requires-clause-code
+visit_all-requires-clause-code c =
+    let here = goal.at.visit_all-requires-clause-code c in
+    omega (
+      arith,
+      falsified_is here.After-falsified,
+      half_opposite c.args.entry.literal,
+      c.requires.below,
+      over here.After-assignment-assignment,
+      ap (λ (v : PropagatorView). v.variables) c.self.view_is,
+    )
 
 pub visit_all-requires-clause-falsified : goal.visit_all-requires-clause-falsified
 visit_all-requires-clause-falsified c = falsified (goal.at.visit_all-requires-clause-falsified c).After-assignment-assignment c.falsified.inside.0
     (falsified_is (goal.at.visit_all-requires-clause-falsified c).After-falsified)
 
 pub visit_all-requires-clause-tables : goal.visit_all-requires-clause-tables
-visit_all-requires-clause-tables c = c.self.invariant.0.tables
+visit_all-requires-clause-tables c =
+    subst (λ (n : ℕ). AreTables c.self.inside.tables (2 * n)) (sym (over (goal.at.visit_all-requires-clause-tables c).After-assignment-assignment)) c.self.invariant.0.tables
 
 pub visit_all-requires-clause-rest : goal.visit_all-requires-clause-rest
-visit_all-requires-clause-rest c = c.self.invariant.0.rest
+visit_all-requires-clause-rest c =
+    let w = c.self.inside in
+    subst (λ (n : ℕ). IsAtRest (clauses_in w.tables) w.lists.watched.items w.lists.chains.heads.items w.lists.chains.nodes.items (2 * n) (flags_in w.tables))
+    (sym (over (goal.at.visit_all-requires-clause-rest c).After-assignment-assignment)) c.self.invariant.0.rest
 
 -- what the visits leave, on the trail with the literal
 moves : (c : After-visit_all)
@@ -146,7 +159,7 @@ invariant_of-self c =
       tables = i.tables;
       few = i.few;
       slots_few = i.slots_few;
-      rest = e.rest;
+      rest = subst (λ (n : ℕ). IsAtRest (clauses_in w.tables) l'.watched.items l'.chains.heads.items l'.chains.nodes.items (2 * n) (flags_in w.tables)) (over here) e.rest;
       free = assign_free (clauses_in w.tables) w.lists.watched.items l'.watched.items (flags_in w.tables) trail x
           (slot_set (words_have l'.pending.numbers) w.tables.slots.items) i.free (moves visited) (settled visited);
       consistent = consistent here;

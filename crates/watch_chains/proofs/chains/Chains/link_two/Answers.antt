@@ -1,4 +1,4 @@
-use Rattle.std.proofs.Common.{arith, ◌≡◌, ◌==◌, ℕ, ◌+◌, false, Bool, Option, Some, None, ap, ◌∙◌, if◌then◌else◌}
+use Rattle.std.proofs.Common.{arith, ◌≡◌, ◌==◌, ℕ, ◌+◌, false, Bool, Option, Some, None, List, length, ap, ◌∙◌, if◌then◌else◌}
 use Rattle.std.proofs.lemmas.Bool.Decides.{nat_tests}
 use Rattle.watch_chains.specs.Linked.{placed}
 use Rattle.watch_chains.proofs.chains.Chains.link_two.Goals as goal
@@ -33,10 +33,11 @@ pub returns : goal.returns
 returns c =
     let node = c.args.node in
     record {
-      linked = λ on l first second. c.link-2.ensures.linked (placed node (Some c.args.code) on) (c.link.ensures.linked on l first) (next_apart node (Some c.args.code) on second);
-      first = c.link-2.ensures.others node (λ e. absurd (omega (arith, e))) ∙ c.link.ensures.own;
-      second = c.link-2.ensures.own;
-      others = λ k apart next. c.link-2.ensures.others k next ∙ c.link.ensures.others k apart;
-      codes = c.link-2.ensures.codes ∙ c.link.ensures.codes;
-      nodes = c.link-2.ensures.nodes ∙ c.link.ensures.nodes;
+      linked = λ on l first second. c.note-2.ensures.linked _ (c.note.ensures.linked _ (c.link-2.ensures.linked (placed node (Some c.args.code) on)
+          (c.link.ensures.linked on l first) (next_apart node (Some c.args.code) on second)));
+      first = c.note-2.ensures.others node (λ e. absurd (omega (arith, e))) ∙ c.note.ensures.own;
+      second = c.note-2.ensures.own;
+      others = λ k apart next. c.note-2.ensures.others k next ∙ c.note.ensures.others k apart ∙ c.link-2.ensures.blockings k ∙ c.link.ensures.blockings k;
+      codes = ap (λ (xs : List ℕ). length xs) c.note-2.ensures.heads ∙ ap (λ (xs : List ℕ). length xs) c.note.ensures.heads ∙ c.link-2.ensures.codes ∙ c.link.ensures.codes;
+      nodes = c.note-2.ensures.nodes ∙ c.note.ensures.nodes ∙ c.link-2.ensures.nodes ∙ c.link.ensures.nodes;
     }
