@@ -1,5 +1,8 @@
 //! The words of a line, which blanks part.
-ghost use Rattle.std.specs.Prelude.{◌≡◌, ◌<◌, ◌≤◌, IfSome, length};
+ghost use Rattle.std.specs.Prelude.{◌≡◌, ◌<◌, ◌==◌, ◌+◌, ◌*◌, ◌-◌, ◌≤◌, ◌∷◌, List, [], ℕ, Bool, IfSome, IfNone, IsSomeAnd, Some, None, true, false, codes, slice_index, drop, length, nat_lt, if◌then◌else◌};
+ghost use Rattle.std.specs.Char.{is_ascii_digit};
+ghost use Rattle.lrat_text.specs.Words.{is_blank, words_of, natural_of, first_number, begins_with};
+ghost use Rattle.lrat_text.specs.Cut.{after_blanks, digits_front, after_digits, word_front, after_word, ends_word};
 
 use std::marker::Model;
 
@@ -10,46 +13,49 @@ pub struct Signed {
     pub number: u64,
 }
 
-/// The bytes of a line, from a place on. Contracts see the list of them.
+/// The bytes of a line, from a place on. Contracts see the words of them.
 #[derive(Drop)]
 pub struct Words<'a> {
-    bytes: &'a [u8],
-    place: usize,
+    rest: &'a [u8],
 }
 
 impl<'a> Model for Words<'a> {
-    ghost use Rattle.std.specs.Prelude.{◌≤◌, List, ℕ, drop, length};
+    ghost use Rattle.std.specs.Prelude.{List, ℕ};
+    ghost use Rattle.lrat_text.specs.Words.{words_of};
 
-    ghost Value = { List ℕ };
+    ghost Value = { List (List ℕ) };
 
-    ghost view = { λ w. drop w.place w.bytes.now };
-
-    ghost invariant = { λ w. w.place ≤ length w.bytes.now };
+    ghost view = { λ w. words_of w.rest.now };
 }
 
 // Whether a byte is a blank: a space, a tab or a carriage return.
 #[inline]
-fn is_blank(byte: u8) -> bool {
+fn is_blank(byte: u8) -> bool
+    ensures { result ≡ is_blank byte }
+{
     byte == b' ' || byte == b'\t' || byte == b'\r'
 }
 
-// The place of the first byte from this place on that is no blank.
-fn after_blanks(bytes: &[u8], from: usize) -> usize
-    requires { from ≤ length bytes.now }
-    ensures before { from ≤ result }
-    ensures within { result ≤ length bytes.now }
+// What follows the blanks at the front of a text.
+fn after_blanks(bytes: &[u8]) -> &[u8]
+    ensures { result.now ≡ after_blanks bytes.now }
 {
-    let mut place = from;
-    while place < bytes.len() && is_blank(bytes[place]) {
-        place += 1;
+    let mut rest = bytes;
+    while let Some((byte, more)) = rest.split_first() {
+        if !is_blank(*byte) {
+            return rest;
+        }
+        rest = more;
     }
-    place
+    rest
 }
 
-// Whether a word ends at a place: the line does, or a blank stands there.
+// Whether a word ends at the front of a text: there is nothing, or a blank.
 #[inline]
-fn ends_word(bytes: &[u8], place: usize) -> bool {
-    match bytes.get(place) {
+fn ends_word(bytes: &[u8]) -> bool
+    ensures { result ≡ ends_word bytes.now }
+{
+    match bytes.first() {
         Some(byte) => is_blank(*byte),
         None => true,
     }
@@ -57,67 +63,140 @@ fn ends_word(bytes: &[u8], place: usize) -> bool {
 
 // The number with one digit more; none from 2^64 on.
 #[inline]
-fn with_digit(number: u64, digit: u8) -> Option<u64> {
-    number.checked_mul(10)?.checked_add(u64::from(digit))
+fn with_digit(number: u64, byte: u8) -> Option<u64>
+    requires { is_ascii_digit byte ≡ true }
+    ensures some { IfSome result (λ n. n ≡ number * 10 + (byte - 48)) }
+    ensures small { IfSome result (λ n. n < 18446744073709551616) }
+    ensures none { IfNone result (18446744073709551616 ≤ number * 10 + (byte - 48)) }
+{
+    number.checked_mul(10)?.checked_add(u64::from(byte - b'0'))
 }
 
-// The number whose digits begin at a place, and the place after them; none where there is no digit, a zero before a digit, or
-// a number that is too large.
-fn digits_at(bytes: &[u8], from: usize) -> Option<(u64, usize)>
-    requires { from ≤ length bytes.now }
-    ensures before { IfSome result (λ r. from < r.1) }
-    ensures within { IfSome result (λ r. r.1 ≤ length bytes.now) }
+// The digit at the front of a text, and what follows it.
+#[inline]
+fn next_digit(text: &[u8]) -> Option<(u8, &[u8])>
+    ensures some { IfSome result (λ read. (text.now ≡ read.0 ∷ read.1.now) × (is_ascii_digit read.0 ≡ true)) }
+    ensures none { IfNone result ((digits_front text.now ≡ []) × (after_digits text.now ≡ text.now)) }
 {
-    let mut place = from;
-    let mut number = 0;
-    while place < bytes.len() && bytes[place].is_ascii_digit() {
-        number = with_digit(number, bytes[place] - b'0')?;
-        place += 1;
+    let (first, more) = text.split_first()?;
+    if first.is_ascii_digit() {
+        Some((*first, more))
+    } else {
+        None
     }
-    if place == from || (bytes[from] == b'0' && from + 1 < place) {
+}
+
+// Whether so many digits have a zero before others.
+#[inline]
+fn has_leading_zero(digits: &[u8], count: usize) -> bool
+    requires { count ≤ length digits.now }
+    ensures yes { result ≡ true → (1 < count) × (slice_index digits.now 0 ≡ 48) }
+    ensures no { result ≡ false → slice_index digits.now 0 ≡ 48 → count ≤ 1 }
+{
+    1 < count && digits[0] == b'0'
+}
+
+// The number that the digits at the front of a text write, and what follows them; none where there is no digit, a zero before a
+// digit, or a number that is too large.
+fn digits_of(bytes: &[u8]) -> Option<(u64, &[u8])>
+    ensures some { IfSome result (λ read. (natural_of (digits_front bytes.now) ≡ Some read.0) × (read.1.now ≡ after_digits bytes.now)) }
+    ensures none { IfNone result (natural_of (digits_front bytes.now) ≡ None) }
+{
+    let mut rest = bytes;
+    let mut number = 0;
+    while let Some((digit, more)) = next_digit(rest) {
+        number = with_digit(number, digit)?;
+        rest = more;
+    }
+    let count = bytes.len() - rest.len();
+    if count == 0 {
         return None;
     }
-    Some((number, place))
+    if has_leading_zero(bytes, count) {
+        return None;
+    }
+    Some((number, rest))
+}
+
+// The number that is the word at the front of a text, without a sign, and what follows it.
+fn natural_of(text: &[u8]) -> Option<(u64, &[u8])>
+    ensures some { IfSome result (λ read. (natural_of (word_front text.now) ≡ Some read.0) × (read.1.now ≡ after_word text.now)) }
+    ensures none { IfNone result (natural_of (word_front text.now) ≡ None) }
+{
+    let (number, rest) = digits_of(text)?;
+    if ends_word(rest) {
+        Some((number, rest))
+    } else {
+        None
+    }
+}
+
+// What follows a byte at the front of a text, where it stands there.
+#[inline]
+fn after_byte(text: &[u8], byte: u8) -> Option<&[u8]>
+    ensures some { IfSome result (λ more. text.now ≡ byte ∷ more.now) }
+    ensures none { IfNone result ((more : List ℕ) → text.now ≡ byte ∷ more → ⊥) }
+{
+    let (first, more) = text.split_first()?;
+    if *first == byte { Some(more) } else { None }
 }
 
 impl<'a> Words<'a> {
     /// All bytes of a line.
     pub fn of(bytes: &'a [u8]) -> Words<'a>
-        ensures { result ≡ bytes.now }
+        ensures { result ≡ words_of bytes.now }
     {
-        Words { bytes, place: 0 }
+        Words { rest: bytes }
     }
 
-    /// The number that is the next word. Where there is none, the words left are not told.
+    /// The number that is the next word, which is then passed. Where there is none, the words left are not told.
     pub fn number(&mut self) -> Option<Signed>
-        ensures { IfSome result (λ _. length self.new < length self.old) }
+        ensures number { result ≡ first_number self.old }
+        ensures passed { IfSome result (λ _. self.new ≡ drop 1 self.old) }
+        ensures fewer { IfSome result (λ _. length self.new < length self.old) }
     {
-        let bytes = self.bytes;
-        let begin = after_blanks(bytes, self.place);
-        let minus = bytes.get(begin) == Some(&b'-');
-        let (number, end) = digits_at(bytes, if minus { begin + 1 } else { begin })?;
-        if !ends_word(bytes, end) {
-            return None;
+        let word = after_blanks(self.rest);
+        match after_byte(word, b'-') {
+            None => {
+                let (number, rest) = natural_of(word)?;
+                self.rest = rest;
+                Some(Signed {
+                    minus: false,
+                    number,
+                })
+            }
+            Some(digits) => {
+                let (number, rest) = natural_of(digits)?;
+                if number == 0 {
+                    return None;
+                }
+                self.rest = rest;
+                Some(Signed {
+                    minus: true,
+                    number,
+                })
+            }
         }
-        self.place = end;
-        Some(Signed { minus, number })
     }
 
     /// Whether the next word is `d`, which is then passed.
     pub fn is_deletion(&mut self) -> bool
-        ensures { length self.new ≤ length self.old }
+        ensures is { result ≡ begins_with (codes "d") self.old }
+        ensures passed { self.new ≡ (if result then drop 1 self.old else self.old) }
     {
-        let bytes = self.bytes;
-        let begin = after_blanks(bytes, self.place);
-        if bytes.get(begin) != Some(&b'd') || !ends_word(bytes, begin + 1) {
-            return false;
+        if let Some(more) = after_byte(after_blanks(self.rest), b'd') {
+            if ends_word(more) {
+                self.rest = more;
+                return true;
+            }
         }
-        self.place = begin + 1;
-        true
+        false
     }
 
     /// Whether no word is left.
-    pub fn is_over(&self) -> bool {
-        after_blanks(self.bytes, self.place) == self.bytes.len()
+    pub fn is_over(&self) -> bool
+        ensures { result ≡ (length self.now == 0) }
+    {
+        after_blanks(self.rest).is_empty()
     }
 }

@@ -1,8 +1,9 @@
-use Rattle.std.proofs.Common.{◌≤◌, ◌-◌, length}
+use Rattle.std.proofs.Common.{◌≡◌, length}
+use Rattle.lrat_text.specs.Cut.{after_blanks}
 use Rattle.lrat_text.proofs.words.after_blanks.Given as goal
 
-abbrev pub invariant-loop-place : goal.invariant-loop-place
-invariant-loop-place l = (l.from ≤ l.place) × (l.place ≤ length l.bytes)
+abbrev pub invariant-loop-byte : goal.invariant-loop-byte
+invariant-loop-byte l = after_blanks l.rest ≡ after_blanks l.bytes
 
-abbrev pub decreases-loop-place : goal.decreases-loop-place
-decreases-loop-place l = length l.bytes - l.place
+abbrev pub decreases-loop-byte : goal.decreases-loop-byte
+decreases-loop-byte l = length l.rest

@@ -1,5 +1,12 @@
-use Rattle.std.proofs.Common.{length}
+use Rattle.std.proofs.Common.{List, length}
+use Rattle.lrat_text.specs.declared.words.Signed.{Signed}
+use Rattle.lrat_text.specs.Reading.{ReadsLiterals}
+use Rattle.lrat_text.proofs.LineLaws.{Passes}
 use Rattle.lrat_text.proofs.line.Line.read_literals.Given as goal
+
+-- some literals were read
+abbrev pub invariant-loop-told : goal.invariant-loop-told
+invariant-loop-told l = (passed : List Signed) × Passes l.fn.words l.words passed × ReadsLiterals l.fn.self l.self passed
 
 abbrev pub decreases-loop-told : goal.decreases-loop-told
 decreases-loop-told l = length l.words
