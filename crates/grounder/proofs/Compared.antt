@@ -1,4 +1,4 @@
--- What `cmp` answers at numbers, lists, atoms and effects is the order of the definitions, and to put a key into a
+-- What `cmp` answers at numbers, lists and effects is the order of the definitions, and to put a key into a
 -- set is to put it into a sorted list.
 use Rattle.std.proofs.Common.{arith, ◌≡◌, ℕ, ◌==◌, List, [], ◌∷◌, Bool, true, false, cond, ◌&&◌, ◌||◌, refl, ap, sym, ◌∙◌}
 use Rattle.std.specs.Prelude.{nat_lt}
@@ -10,10 +10,8 @@ use Rattle.std.specs.BTreeSet.{insert_key}
 use Rattle.std.proofs.lemmas.Bool.Decides.{nat_tests}
 use Rattle.gt_core.specs.Task.{Effect}
 use Rattle.gt_core.specs.Lawful.{list_less, effect_less}
-use Rattle.pd_model.specs.declared.atoms.Atom.{Atom}
-use Rattle.pd_model.specs.Order.{atom_cmp}
-use Rattle.grounding.specs.Sorted.{atom_less, insert_in}
-use Rattle.atom_join.proofs.Order.{by_first, less_list, less_atom}
+use Rattle.grounding.specs.Sorted.{insert_in}
+use Rattle.atom_join.proofs.Order.{by_first, less_list}
 use Rattle.grounder.specs.declared.effects.Keyed.{Keyed}
 use Rattle.grounder.specs.Putting.{effect_at, effects_at}
 
@@ -36,9 +34,6 @@ lists_gt [] [] = refl
 lists_gt [] (y ∷ ys) = refl
 lists_gt (x ∷ xs) [] = refl
 lists_gt (x ∷ xs) (y ∷ ys) = first_gt x y (list_less ys xs) (slice_cmp nat_cmp xs ys) (lists_gt xs ys)
-
-pub atoms_lt : (a b : Atom) → atom_less a b ≡ is_lt (atom_cmp a b)
-atoms_lt a b = sym (less_atom a b)
 
 numbers_lt : (b c : Bool) → b ≡ is_lt (cond b Less (cond c Equal Greater))
 numbers_lt true c = refl

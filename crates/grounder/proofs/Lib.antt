@@ -1,5 +1,4 @@
 pub mod Compared
-pub mod Searched
 pub mod Placed
 pub mod Saturated
 pub mod Tupled

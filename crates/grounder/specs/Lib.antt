@@ -4,3 +4,4 @@ pub mod Putting
 pub mod Few
 pub mod Found
 pub mod Counted
+pub mod Numbered

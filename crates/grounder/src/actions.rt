@@ -10,25 +10,25 @@ use crate::literals::may_be_true;
 use pd_model::{Call, Calls, Cond, Memory};
 
 /// Whether no literal wants a constant atom to be false.
-fn all_may_be_true(known: &Known, objects: &[u32], conds: &[Cond]) -> Result<bool, Memory>
+fn all_may_be_true(known: &Known, objects: &[u32], conds: &[Cond]) -> bool
     requires { IsKnown known.now }
-    ensures { IfOk result (λ answer. answer ≡ list_all (may_be_true known.now.domains.now known.now.facts) (literals_of objects.now conds.now)) }
+    ensures { result ≡ list_all (may_be_true known.now.domains.now known.now.facts) (literals_of objects.now conds.now) }
 {
     for cond in conds {
-        if !may_be_true(known, objects, cond)? {
-            return Ok(false);
+        if !may_be_true(known, objects, cond) {
+            return false;
         }
     }
-    Ok(true)
+    true
 }
 
 /// Whether a kept call is an action: its precondition wants no constant atom to be false.
-fn is_able(known: &Known, call: &Call) -> Result<bool, Memory>
+fn is_able(known: &Known, call: &Call) -> bool
     requires { IsKnown known.now }
-    ensures { IfOk result (λ answer. answer ≡ list_all (may_be_true known.now.domains.now known.now.facts) (instance_of known.now.domains.now call.now).precondition) }
+    ensures { result ≡ list_all (may_be_true known.now.domains.now known.now.facts) (instance_of known.now.domains.now call.now).precondition }
 {
     let Some(schema) = known.domains.schemas().as_slice().get(call.schema as usize) else {
-        return Ok(true);
+        return true;
     };
     all_may_be_true(known, call.objects.as_slice(), schema.pre.as_slice())
 }
@@ -40,7 +40,7 @@ pub(crate) fn actions_of(known: &Known, kept: Calls) -> Result<Calls, Memory>
 {
     let mut calls = Vec::new(known.alloc);
     for call in kept.into_vec() {
-        if is_able(known, &call)? {
+        if is_able(known, &call) {
             calls.push(call)?;
         }
     }

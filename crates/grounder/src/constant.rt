@@ -3,7 +3,6 @@ ghost use Rattle.std.specs.Prelude.{◌≡◌, ◌≤◌, false, not, IfOk, OnOk
 ghost use Rattle.std.specs.List.{list_any, filter};
 ghost use Rattle.pd_model.specs.State.{is_in};
 ghost use Rattle.grounding.specs.Instance.{change_of, changes_of, instance_of};
-ghost use Rattle.grounding.specs.Sorted.{IsSorted, atom_less};
 ghost use Rattle.grounding.specs.Found.{deletes, is_constant};
 ghost use Rattle.grounding.specs.Limits.{most_tuples};
 ghost use Rattle.grounding.specs.Tuples.{tuples_in};
@@ -13,24 +12,23 @@ ghost use Rattle.grounder.specs.Few.{HasFewTuples, HasFew, HaveFew};
 
 use crate::bindings::bindings_of;
 use crate::literals::all_may_hold;
-use atom_join::Domains;
-use pd_model::{Atom, Atoms, Call, Calls, Effect, Memory, State, instance_of};
+use atom_join::{AtomTable, Domains};
+use pd_model::{Atoms, Call, Calls, Effect, Memory, State, instance_of};
 use reachability::{Reached, reach};
 use std::alloc::Global;
 
 /// Takes out the atom of an instance of a delete, where it is possible.
 fn leave_out_deleted(
     alloc: Global,
-    reached: &[Atom],
+    reached: &AtomTable,
     objects: &[u32],
     effect: &Effect,
     constant: &mut State,
 ) -> Result<(), Memory>
-    requires sorted { IsSorted atom_less reached.now }
-    requires delete { effect.now.adds ≡ false }
+    requires { effect.now.adds ≡ false }
     ensures { OnOk result (LeavesOut (λ a. deletes reached.now a (change_of effect.now objects.now)) constant.old constant.new) }
 {
-    if all_may_hold(alloc, reached, objects, effect.cond.as_slice())? {
+    if all_may_hold(reached, objects, effect.cond.as_slice()) {
         constant.remove(&instance_of(alloc, objects, &effect.atom)?);
     }
     Ok(())
@@ -40,13 +38,12 @@ fn leave_out_deleted(
 fn leave_out_effect(
     alloc: Global,
     domains: &Domains,
-    reached: &[Atom],
+    reached: &AtomTable,
     objects: &[u32],
     effect: &Effect,
     constant: &mut State,
 ) -> Result<(), Memory>
-    requires sorted { IsSorted atom_less reached.now }
-    requires few { HasFewTuples domains.now effect.now }
+    requires { HasFewTuples domains.now effect.now }
     ensures { OnOk result (LeavesOut (λ a. list_any (deletes reached.now a) (changes_of domains.now objects.now effect.now)) constant.old constant.new) }
 {
     if effect.adds {
@@ -68,12 +65,11 @@ fn leave_out_effect(
 fn leave_out_call(
     alloc: Global,
     domains: &Domains,
-    reached: &[Atom],
+    reached: &AtomTable,
     call: &Call,
     constant: &mut State,
 ) -> Result<(), Memory>
-    requires sorted { IsSorted atom_less reached.now }
-    requires few { HasFew domains.now call.now }
+    requires { HasFew domains.now call.now }
     ensures { OnOk result (LeavesOut (λ a. list_any (deletes reached.now a) (instance_of domains.now call.now).changes) constant.old constant.new) }
 {
     let Some(schema) = domains.schemas().as_slice().get(call.schema as usize) else {
@@ -94,20 +90,14 @@ fn leave_out_call(
 
 /// The constant atoms: the initial ones that no possible delete of a kept call names.
 fn constant_atoms(alloc: Global, domains: &Domains, reached: &Reached) -> Result<State, Memory>
-    requires sorted { IsSorted atom_less reached.now.atoms }
-    requires few { HaveFew domains.now reached.now.calls }
+    requires { HaveFew domains.now reached.now.calls }
     ensures { IfOk result (λ constant. HasExactly (is_constant domains.now reached.now.atoms reached.now.calls) constant) }
 {
+    let atoms = AtomTable::of(alloc, reached.atoms.as_slice())?;
     let mut constant = State::new(alloc);
     constant.add_all(domains.init().as_slice())?;
     for call in reached.calls.as_slice() {
-        leave_out_call(
-            alloc,
-            domains,
-            reached.atoms.as_slice(),
-            call,
-            &mut constant,
-        )?;
+        leave_out_call(alloc, domains, &atoms, call, &mut constant)?;
     }
     Ok(constant)
 }

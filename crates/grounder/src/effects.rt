@@ -13,7 +13,7 @@ use crate::places::place_in;
 use crate::simplify::{fact_literal, simplified};
 use gt_core::eff::{Eff, Effs};
 use gt_core::lits::Lits;
-use pd_model::{Effect, Memory, instance_of};
+use pd_model::{Effect, Memory};
 use std::alloc::Global;
 use std::collections::BTreeSet;
 
@@ -34,12 +34,11 @@ fn put_effect(
     requires { IsKnown known.now }
     ensures { OnOk result (effects_at into.new.keys ≡ put_change known.now.domains.now known.now.facts (change_of effect.now objects.now) (effects_at into.old.keys)) }
 {
-    let atom = instance_of(known.alloc, objects, &effect.atom)?;
-    let Some(place) = place_in(known.facts.as_slice(), &atom) else {
+    let Some(place) = place_in(&known.facts, objects, &effect.atom) else {
         return Ok(());
     };
     let conds = effect.cond.as_slice();
-    if any_never(known, objects, conds)? {
+    if any_never(known, objects, conds) {
         return Ok(());
     }
     let literal = fact_literal(place, effect.adds);

@@ -9,24 +9,26 @@ ghost use Rattle.grounding.specs.Limits.{most_tuples, most_facts, IsWithin, IsOv
 ghost use Rattle.grounding.specs.Tuples.{tuples_in};
 ghost use Rattle.grounder.specs.Few.{HasFew, HaveFew};
 ghost use Rattle.grounder.specs.Counted.{HasCounted};
+ghost use Rattle.grounder.specs.Found.{AreFound};
+ghost use Rattle.grounder.specs.Numbered.{grounded_with};
 ghost use Rattle.grounder.specs.Known.{IsKnown};
 
 use crate::actions::actions_of;
 use crate::conditional::Counted;
-use crate::constant::found_in;
+use crate::constant::{Found, found_in};
 use crate::effects::effects_of;
 use crate::known::Known;
 use crate::literals::any_never;
 use crate::simplify::simplified;
 use crate::tuples::count_tuples;
-use atom_join::Domains;
+use atom_join::{AtomTable, Domains};
 use grounding::laws::laws;
 use gt_core::act::{Act, Acts};
 use gt_core::eff::Effs;
 use gt_core::lits::{Bits, Lits};
 use gt_core::task::Task;
 use let_go::let_go;
-use pd_model::{Atom, Atoms, Call, Calls, Memory, Pddl, State};
+use pd_model::{Atom, Atoms, Call, Calls, Memory, Pddl};
 use std::alloc::Global;
 use std::marker::Model;
 
@@ -118,7 +120,7 @@ fn initial_values(known: &Known) -> Result<Bits, Memory>
     requires { IsKnown known.now }
     ensures { IfOk result (λ values. values ≡ values_in known.now.facts known.now.domains.now.init) }
 {
-    let facts = known.facts.as_slice();
+    let facts = known.facts.atoms();
     let mut values = Vec::with_capacity(known.alloc, facts.len())?;
     for atom in facts {
         values.push(known.initial.has(atom))?;
@@ -127,20 +129,22 @@ fn initial_values(known: &Known) -> Result<Bits, Memory>
 }
 
 /// A task with its facts and its initial atoms.
-fn known_of<'a>(alloc: Global, domains: &'a Domains<'a>, facts: Atoms) -> Result<Known<'a>, Memory>
-    requires sorted { IsSorted atom_less facts }
-    requires few { length facts ≤ most_facts }
+fn known_of<'a>(
+    alloc: Global,
+    domains: &'a Domains<'a>,
+    facts: &'a [Atom],
+) -> Result<Known<'a>, Memory>
+    requires sorted { IsSorted atom_less facts.now }
+    requires few { length facts.now ≤ most_facts }
     ensures known { IfOk result (λ known. IsKnown known) }
     ensures domains { IfOk result (λ known. known.domains.now ≡ domains.now) }
-    ensures facts { IfOk result (λ known. known.facts ≡ facts) }
+    ensures facts { IfOk result (λ known. known.facts ≡ facts.now) }
 {
-    let mut initial = State::new(alloc);
-    initial.add_all(domains.init().as_slice())?;
     Ok(Known {
         alloc,
         domains,
-        facts,
-        initial,
+        facts: AtomTable::of(alloc, facts)?,
+        initial: AtomTable::of(alloc, domains.init().as_slice())?,
     })
 }
 
@@ -154,9 +158,65 @@ fn task_of(known: &Known, calls: &[Call], acts: Acts) -> Result<Task, Memory>
     let init = initial_values(known)?;
     let conds = known.domains.goal().as_slice();
     let goal = simplified(known, &[], conds)?;
-    let hopeless = any_never(known, &[], conds)?;
-    let facts = known.facts.as_slice().len() as u32;
+    let hopeless = any_never(known, &[], conds);
+    let facts = known.facts.atoms().len() as u32;
     Ok(Task::new(facts, init, goal, hopeless, acts))
+}
+
+/// The calls of the actions, and the task over numbers.
+struct Numbered {
+    calls: Calls,
+    task: Task,
+}
+
+/// Letting one go is one call, in which its parts go: whoever holds one proves one step.
+impl Drop for Numbered {
+    fn drop(self) {
+        let_go!(self: Numbered { calls, task });
+    }
+}
+
+impl Numbered {
+    /// The same with its facts.
+    fn with(self, facts: Atoms) -> Grounded
+        ensures { result ≡ grounded_with facts self }
+    {
+        let Numbered { calls, task } = self;
+        Grounded { facts, calls, task }
+    }
+}
+
+/// The actions and the task of these facts and kept calls.
+fn make_numbered(
+    alloc: Global,
+    domains: &Domains,
+    facts: &[Atom],
+    kept: Calls,
+) -> Result<Numbered, GroundError>
+    requires tuples { tuples_in domains.now ≤ most_tuples }
+    requires found { AreFound domains.now facts.now kept }
+    requires facts { length facts.now ≤ most_facts }
+    ensures grounded { IfOk result (λ n. IsGrounded domains.now (grounded_with facts.now n)) }
+    ensures within { IfOk result (λ n. IsWithin domains.now (grounded_with facts.now n)) }
+    ensures tuples { (n : ℕ) → result ≡ Err (GroundError.Tuples n) → IsOverTuples domains.now n }
+    ensures facts { (n : ℕ) → result ≡ Err (GroundError.Facts n) → IsOverFacts domains.now n }
+    ensures actions { (n : ℕ) → result ≡ Err (GroundError.Actions n) → IsOverActions domains.now n }
+    ensures effects { (n : ℕ) → result ≡ Err (GroundError.Effects n) → IsOverEffects domains.now n }
+{
+    laws();
+    let known = known_of(alloc, domains, facts)?;
+    let calls = actions_of(&known, kept)?;
+    let count = calls.as_slice().len() as u64;
+    if count > 16384 {
+        return Err(GroundError::Actions { count });
+    }
+    let counted = acts_of(&known, calls.as_slice())?;
+    let count = counted.conditional;
+    if count > 65536 {
+        return Err(GroundError::Effects { count });
+    }
+    let task = task_of(&known, calls.as_slice(), Acts::of(counted.acts))?;
+    Ok(Numbered { calls, task })
 }
 
 /// The same of a task that is within the limit on tuples.
@@ -170,28 +230,15 @@ fn ground_over(alloc: Global, domains: &Domains) -> Result<Grounded, GroundError
     ensures effects { (n : ℕ) → result ≡ Err (GroundError.Effects n) → IsOverEffects domains.now n }
 {
     laws();
-    let found = found_in(alloc, domains)?;
-    let count = found.facts.as_slice().len() as u64;
+    let Found { facts, kept } = found_in(alloc, domains)?;
+    let count = facts.as_slice().len() as u64;
     if count > 2048 {
         return Err(GroundError::Facts { count });
     }
-    let known = known_of(alloc, domains, found.facts)?;
-    let calls = actions_of(&known, found.kept)?;
-    let count = calls.as_slice().len() as u64;
-    if count > 16384 {
-        return Err(GroundError::Actions { count });
+    match make_numbered(alloc, domains, facts.as_slice(), kept) {
+        Ok(numbered) => Ok(numbered.with(facts)),
+        Err(error) => Err(error),
     }
-    let counted = acts_of(&known, calls.as_slice())?;
-    let count = counted.conditional;
-    if count > 65536 {
-        return Err(GroundError::Effects { count });
-    }
-    let task = task_of(&known, calls.as_slice(), Acts::of(counted.acts))?;
-    Ok(Grounded {
-        facts: known.facts,
-        calls,
-        task,
-    })
 }
 
 /// The task that a task as it is written stands for, over numbered facts and actions.

@@ -1,7 +1,6 @@
 //! What is known while literals are simplified.
 
-use atom_join::Domains;
-use pd_model::{Atoms, State};
+use atom_join::{AtomTable, Domains};
 use std::alloc::Global;
 
 /// The task with the objects that fit its types, the facts, in order, and the initial atoms, and where memory comes from. Of
@@ -10,6 +9,6 @@ use std::alloc::Global;
 pub(crate) struct Known<'a> {
     pub(crate) alloc: Global,
     pub(crate) domains: &'a Domains<'a>,
-    pub(crate) facts: Atoms,
-    pub(crate) initial: State,
+    pub(crate) facts: AtomTable<'a>,
+    pub(crate) initial: AtomTable<'a>,
 }

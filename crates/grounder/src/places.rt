@@ -1,26 +1,16 @@
-//! Look-ups in sorted lists of atoms.
+//! Look-ups of facts.
 ghost use Rattle.std.specs.Prelude.{◌≡◌};
-ghost use Rattle.pd_model.specs.State.{is_in};
+ghost use Rattle.pd_model.specs.Instance.{instance};
 ghost use Rattle.grounding.specs.Sorted.{IsSorted, atom_less};
 ghost use Rattle.grounding.specs.Simplify.{place_in};
 
-use pd_model::Atom;
+use atom_join::AtomTable;
+use pd_model::Pattern;
 
-/// The place of an atom, counted from 0, where the list has it.
-pub(crate) fn place_in(atoms: &[Atom], atom: &Atom) -> Option<usize>
-    requires { IsSorted atom_less atoms.now }
-    ensures { result ≡ place_in atoms.now atom.now }
+/// The place of the fact, counted from 0, that a pattern stands for with these objects, where it stands for one.
+pub(crate) fn place_in(facts: &AtomTable, objects: &[u32], pattern: &Pattern) -> Option<usize>
+    requires { IsSorted atom_less facts.now }
+    ensures { result ≡ place_in facts.now (instance objects.now pattern.now) }
 {
-    match atoms.binary_search(atom) {
-        Ok(place) => Some(place),
-        Err(_) => None,
-    }
-}
-
-/// Whether the list has the atom.
-pub(crate) fn has(atoms: &[Atom], atom: &Atom) -> bool
-    requires { IsSorted atom_less atoms.now }
-    ensures { result ≡ is_in atom.now atoms.now }
-{
-    place_in(atoms, atom).is_some()
+    facts.place(objects, pattern)
 }

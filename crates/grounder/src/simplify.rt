@@ -8,7 +8,7 @@ ghost use Rattle.grounder.specs.Putting.{put_literal};
 use crate::known::Known;
 use crate::places::place_in;
 use gt_core::lits::Lits;
-use pd_model::{Cond, Memory, instance_of};
+use pd_model::{Cond, Memory};
 use std::collections::BTreeSet;
 
 /// The fact literal of the fact at a place: it says that the fact is true, or that it is false.
@@ -21,19 +21,16 @@ pub(crate) fn fact_literal(place: usize, want: bool) -> u32
 }
 
 /// The fact literal of a literal, where its atom is a fact.
-fn number_of(known: &Known, objects: &[u32], cond: &Cond) -> Result<Option<u32>, Memory>
+fn number_of(known: &Known, objects: &[u32], cond: &Cond) -> Option<u32>
     requires { IsKnown known.now }
-    ensures { IfOk result (λ number. number ≡ number_of known.now.facts (literal_of objects.now cond.now)) }
+    ensures { result ≡ number_of known.now.facts (literal_of objects.now cond.now) }
 {
     match cond {
-        Cond::Has { atom, want } => {
-            let atom = instance_of(known.alloc, objects, atom)?;
-            match place_in(known.facts.as_slice(), &atom) {
-                Some(place) => Ok(Some(fact_literal(place, *want))),
-                None => Ok(None),
-            }
-        }
-        Cond::Same { .. } => Ok(None),
+        Cond::Has { atom, want } => match place_in(&known.facts, objects, atom) {
+            Some(place) => Some(fact_literal(place, *want)),
+            None => None,
+        },
+        Cond::Same { .. } => None,
     }
 }
 
@@ -54,7 +51,7 @@ pub(crate) fn simplified(known: &Known, objects: &[u32], conds: &[Cond]) -> Resu
 {
     let mut set = BTreeSet::new(known.alloc);
     for i in (0..conds.len()).rev() {
-        let literal = number_of(known, objects, &conds[i])?;
+        let literal = number_of(known, objects, &conds[i]);
         put_literal(literal, &mut set)?;
     }
     let literals: Vec<u32> = set.into_iter().collect(known.alloc)?;

@@ -2,8 +2,8 @@ use Rattle.grounder.proofs.Few.{kept_few}
 use Rattle.grounder.proofs.Assembled.{left_facts}
 use Rattle.grounder.proofs.constant.found_in.Goals as goal
 
-pub constant_atoms-requires-clause-few : goal.constant_atoms-requires-clause-few
-constant_atoms-requires-clause-few c = kept_few c.args.domains.now c.in_ok-reached.reached.calls c.requires (λ d h. (c.in_ok-reached.ensures.least.calls d).0 h)
+pub constant_atoms-requires : goal.constant_atoms-requires
+constant_atoms-requires c = kept_few c.args.domains.now c.in_ok-reached.reached.calls c.requires (λ d h. (c.in_ok-reached.ensures.least.calls d).0 h)
 
 pub returns : goal.returns
 returns c = record {

@@ -7,15 +7,15 @@ use Rattle.grounder.proofs.effects.put_effect.Goals as goal
 
 pub fact_literal-literal-requires : goal.fact_literal-literal-requires
 fact_literal-literal-requires c =
-    let at = placed c.args.known.now.facts c.as_slice.result.now c.in_ok-atom.atom c.place_in.result c.in-Some.place c.as_slice.ensures c.place_in.ensures c.in-Some.is in
+    let at = placed c.args.known.now.facts _ c.place_in.result c.in-Some.place c.place_in.ensures c.in-Some.is in
     omega (arith, at.below, c.requires.few)
 
 pub returns : goal.returns
 returns c =
     let facts = c.args.known.now.facts in
     let change = change_of c.args.effect.now c.args.objects.now in
-    let at = rw c.in_ok-atom.ensures at (placed facts c.as_slice.result.now c.in_ok-atom.atom c.place_in.result c.in-Some.place c.as_slice.ensures c.place_in.ensures c.in-Some.is) in
-    let never = rw c.as_slice-conds.ensures at (sym c.in_ok-any_never.ensures ∙ c.if-branch.false) in
+    let at = placed facts change.atom c.place_in.result c.in-Some.place c.place_in.ensures c.in-Some.is in
+    let never = rw c.as_slice-conds.ensures at (sym c.any_never.ensures ∙ c.if-any_never.false) in
     let condition = rw c.as_slice-conds.ensures at (c.into_vec-condition.ensures ∙ c.in_ok-simplified.ensures) in
     ap effects_at c.in_ok-insert.ensures.keys
     ∙ left_put c.args.known.now.domains.now facts change c.args.into.now.keys (record { literal = c.fact_literal-literal.result; condition = c.into_vec-condition.result })

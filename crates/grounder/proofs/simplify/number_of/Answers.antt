@@ -4,5 +4,5 @@ use Rattle.grounder.proofs.simplify.number_of.Goals as goal
 
 pub fact_literal-requires : goal.fact_literal-requires
 fact_literal-requires c =
-    let at = placed c.args.known.now.facts c.as_slice.result.now c.in_ok-atom-in-Has.atom c.place_in.result c.in-Some.place c.as_slice.ensures c.place_in.ensures c.in-Some.is in
+    let at = placed c.args.known.now.facts _ c.place_in.result c.in-Some.place c.place_in.ensures c.in-Some.is in
     omega (arith, at.below, c.requires.few)
