@@ -1,11 +1,10 @@
 use Rattle.std.proofs.Common.{arith, ◌≡◌, ◌==◌, ℕ, zero, suc, ◌+◌, ◌*◌, ◌/◌, ◌<◌, ◌≤◌, List, [], ◌∷◌, length, Bool, true, false, not, ◌&&◌, ◌||◌, refl, ap, sym, ◌∙◌, ◌⊎◌, inl, inr, subst, Vec, Global}
 use Rattle.std.specs.Prelude.{if◌then◌else◌, slice_index}
 use Rattle.std.specs.List.{list_any, AllByRecursion, AllZip, range_with_len}
-use Rattle.std.proofs.lemmas.Bool.Decides.{nat_tests}
 use Rattle.gt_core.specs.Task.{Action, Task}
 use Rattle.gt_core.specs.Lawful.{is_task, is_action}
 use Rattle.gt_core.specs.Active.{EffectWithin}
-use Rattle.gt_core.proofs.Basics.{Among, passing, any_at, or_split, or_left, or_right, and_split, and_both, cases, same_test, test_same, same_if, and_same, apart, each_at, each_from, all_at}
+use Rattle.gt_core.proofs.Basics.{Among, passing, any_at, or_split, or_left, or_right, and_split, and_both, cases, test_same, same_if, and_same, apart, each_at, each_from, all_at}
 use Rattle.gt_core.proofs.Within.{lawful, literals_within, effects_within, among_at}
 use Rattle.known_literals.specs.Rows.{clause_in, AreRows, total}
 use Rattle.bit_rows.specs.Bits.{row_has}

@@ -1,6 +1,5 @@
-use Rattle.std.proofs.Common.{◌≡◌, ℕ, ◌<◌, ◌≤◌, ◌-◌, ◌+◌, ◌*◌, ◌/◌, ◌∙◌, List, length, ap, sym, arith, rules, Result, IfOk, subst, Vec, Global}
+use Rattle.std.proofs.Common.{◌≡◌, ℕ, ◌<◌, ◌-◌, ◌+◌, ◌*◌, ◌∙◌, List, length, ap, sym, arith, rules, Result, IfOk, subst, Vec, Global}
 use Rattle.std.specs.List.{range_with_len, AllZip}
-use Rattle.std.specs.Int.{div_ceil}
 use Rattle.std.specs.declared.alloc.AllocError.{AllocError}
 use Rattle.std.proofs.lemmas.Grind.{div_ceil_times}
 use Rattle.std.proofs.lemmas.Slice.Zip.{AllZip-long}
@@ -8,7 +7,7 @@ use Rattle.std.proofs.lemmas.List.FromFn.{length-range_with_len}
 use Rattle.rayon.specs.Numbers.{nat_range}
 use Rattle.rayon.proofs.ListFacts.{AllZip-weaken, IfOk-then}
 use Rattle.rayon.proofs.ToStd.{nat_range-All}
-use Rattle.invariant_rounds.specs.Losses.{AreLosses, AreAllLosses}
+use Rattle.invariant_rounds.specs.Losses.{AreLosses}
 use Rattle.invariant_rounds.proofs.Oks.{collected}
 use Rattle.invariant_rounds.proofs.round.all_losses.Goals as goal
 
