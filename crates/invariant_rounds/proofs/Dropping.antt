@@ -1,12 +1,14 @@
-use Rattle.std.proofs.Common.{arith, ◌≡◌, ◌==◌, ℕ, ◌<◌, ◌≤◌, List, [], length, get_or, set, Bool, true, false, not, ◌&&◌, ◌||◌, refl, ap, sym, ◌∙◌, ◌⊎◌, inl, inr, subst, get_or-set_same, get_or-set_other}
+use Rattle.std.proofs.Common.{arith, ◌≡◌, ◌==◌, ℕ, ◌+◌, ◌<◌, ◌≤◌, List, [], length, get_or, set, Bool, true, false, not, ◌&&◌, ◌||◌, refl, ap, sym, ◌∙◌, ◌⊎◌, inl, inr, subst, get_or-set_same, get_or-set_other}
 use Rattle.std.specs.Prelude.{nat_lt}
-use Rattle.std.proofs.lemmas.Bool.{le-ltb as ge_test}
+use Rattle.std.proofs.lemmas.Bool.{le-ltb as ge_test, lt-ltb as lt_test, cases_lt, or_parts}
+use Rattle.std.proofs.lemmas.Bool.Decides.{nat_tests}
 use Rattle.std.proofs.lemmas.List.{get_or_read}
 use Rattle.bit_rows.specs.Bits.{row_has}
 use Rattle.gt_core.specs.Literal.{opposite}
-use Rattle.gt_core.proofs.Basics.{apart, cases, or_left, same_test, test_same}
+use Rattle.gt_core.proofs.Basics.{apart, cases, or_left, or_split, same_test, test_same}
 use Rattle.known_literals.specs.Rows.{clause_in, row_at}
 use Rattle.invariant_rounds.specs.Losses.{IsDropped}
+use Rattle.known_literals.proofs.Steps.{past_rows}
 use Rattle.invariant_rounds.proofs.Grouping.{and_one}
 
 -- Clauses are dropped from the rows of both their literals.
@@ -87,14 +89,6 @@ row_dropped one two a b row lits has stale = record {
     new : (l : ℕ) → (row == l) ≡ true → ((opposite row == opposite l) || a (opposite l)) ≡ true
     new l e = or_left _ _ (same_test (opposite row) (opposite l) (ap opposite (test_same row l e)))
 
--- one more list with something or nothing
-pub one_more_dropped : (old now one rest : Bool) → now ≡ (old || one) → (now || rest) ≡ (old || (one || rest))
-one_more_dropped old now one rest e = ap (λ (b : Bool). b || rest) e ∙ nested old one rest
-  where
-    nested : (a b c : Bool) → ((a || b) || c) ≡ (a || (b || c))
-    nested true b c = refl
-    nested false b c = refl
-
 -- literals were taken out of one row
 pub row_less : (rows : List (List ℕ)) (row : ℕ) (r : List ℕ) (out : ℕ → Bool) → row < length rows → ((b : ℕ) → row_has r b ≡ (row_has (row_at rows row) b && not (out b))) → (a b : ℕ) → clause_in (set rows row r) a b ≡ (clause_in rows a b && not ((row == a) && out b))
 row_less rows row r out inside less a b = by (row == a) refl
@@ -106,3 +100,70 @@ row_less rows row r out inside less a b = by (row == a) refl
     by : (t : Bool) → (row == a) ≡ t → clause_in (set rows row r) a b ≡ (clause_in rows a b && not (t && out b))
     by true e = subst (λ (n : ℕ). clause_in (set rows row r) n b ≡ (clause_in rows n b && not (out b))) (test_same row a e) (ap (λ (xs : List ℕ). row_has xs b) (get_or-set_same rows row r [] inside) ∙ less b)
     by false e = ap (λ (xs : List ℕ). row_has xs b) (get_or-set_other rows row a r [] (λ (s : a ≡ row). apart (row == a) (same_test row a (sym s)) e)) ∙ kept (clause_in rows a b)
+
+-- literals came into one row
+pub row_more : (rows : List (List ℕ)) (row : ℕ) (r : List ℕ) (more : ℕ → Bool) → row < length rows → ((b : ℕ) → row_has r b ≡ (row_has (row_at rows row) b || more b)) → (a b : ℕ) → clause_in (set rows row r) a b ≡ (clause_in rows a b || ((row == a) && more b))
+row_more rows row r more inside has a b = by (row == a) refl
+  where
+    kept : (x : Bool) → x ≡ (x || false)
+    kept true = refl
+    kept false = refl
+
+    by : (t : Bool) → (row == a) ≡ t → clause_in (set rows row r) a b ≡ (clause_in rows a b || (t && more b))
+    by true e = subst (λ (n : ℕ). clause_in (set rows row r) n b ≡ (clause_in rows n b || more b)) (test_same row a e) (ap (λ (xs : List ℕ). row_has xs b) (get_or-set_same rows row r [] inside) ∙ has b)
+    by false e = ap (λ (xs : List ℕ). row_has xs b) (get_or-set_other rows row a r [] (λ (s : a ≡ row). apart (row == a) (same_test row a (sym s)) e)) ∙ kept (clause_in rows a b)
+
+-- ---- lost clauses, a row a literal
+
+-- a flag that one more test may set
+pub some_of : {P : Type 0} (x y z : Bool) → z ≡ (x || y) → (x ≡ true → P) → (y ≡ true → P) → z ≡ true → P
+some_of {P} x y z e f g t = by (or_split x y (sym e ∙ t))
+  where
+    by : (x ≡ true) ⊎ (y ≡ true) → P
+    by (inl h) = f h
+    by (inr h) = g h
+
+pub none_of : (x y z : Bool) → z ≡ (x || y) → z ≡ false → (x ≡ false) × (y ≡ false)
+none_of x y z e f = or_parts x y (sym e ∙ f)
+
+module _ (V : ℕ → ℕ → Bool) (l : ℕ) where
+  -- the rows below a number, and one more
+  next_row : (a b : ℕ) → (nat_lt a (l + 1) && V a b) ≡ ((nat_lt a l && V a b) || ((l == a) && V l b))
+  next_row a b = by (l == a) refl
+    where
+      own : (x v : Bool) → v ≡ ((x && v) || v)
+      own true true = refl
+      own true false = refl
+      own false v = refl
+
+      other : (x : Bool) → x ≡ (x || false)
+      other true = refl
+      other false = refl
+
+      by : (t : Bool) → (l == a) ≡ t → (nat_lt a (l + 1) && V a b) ≡ ((nat_lt a l && V a b) || (t && V l b))
+      by true e =
+          let same : l ≡ a = test_same l a e in
+          ap (λ (t : Bool). t && V a b) (lt_test a (l + 1) (omega arith)) ∙ own (nat_lt a l) (V a b) ∙ ap (λ (n : ℕ). (nat_lt a l && V a b) || V n b) (sym same)
+      by false e = ap (λ (t : Bool). t && V a b) (grind (arith, nat_tests)) ∙ other (nat_lt a l && V a b)
+
+  pub row_lost : (a b : ℕ) (first cur new : Bool) → cur ≡ (first && not ((nat_lt a l && V a b) || (nat_lt b l && V b a))) → new ≡ (cur && not (((l == a) && V l b) || ((l == b) && V l a)))
+      → new ≡ (first && not ((nat_lt a (l + 1) && V a b) || (nat_lt b (l + 1) && V b a)))
+  row_lost a b first cur new old one =
+      one ∙ ap (λ (x : Bool). x && not (((l == a) && V l b) || ((l == b) && V l a))) old
+      ∙ regroup first (nat_lt a l && V a b) (nat_lt b l && V b a) ((l == a) && V l b) ((l == b) && V l a)
+      ∙ (λ i. first && not (sym (next_row a b) i || sym (next_row b a) i))
+    where
+      regroup : (f p q r s : Bool) → ((f && not (p || q)) && not (r || s)) ≡ (f && not ((p || r) || (q || s)))
+      regroup f p q r s = grind arith
+
+-- all rows
+pub rows_lost : (lost : List (List ℕ)) (l : ℕ) → length lost ≤ l → (a b : ℕ) → (nat_lt a l && clause_in lost a b) ≡ clause_in lost a b
+rows_lost lost l le a b = by (cases_lt a l)
+  where
+    none : (x v : Bool) → v ≡ false → (x && v) ≡ v
+    none true v e = refl
+    none false v e = sym e
+
+    by : (a < l) ⊎ (l ≤ a) → (nat_lt a l && clause_in lost a b) ≡ clause_in lost a b
+    by (inl h) = ap (λ (t : Bool). t && clause_in lost a b) (lt_test a l h)
+    by (inr h) = none (nat_lt a l) _ (past_rows lost a b (omega arith))

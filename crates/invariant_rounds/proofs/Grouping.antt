@@ -5,7 +5,7 @@ use Rattle.std.proofs.lemmas.Bool.{cases_lt, lt-ltb as lt_test, le-ltb as ge_tes
 use Rattle.bit_rows.specs.Bits.{row_has, IsLeastFrom}
 use Rattle.gt_core.specs.Literal.{opposite}
 use Rattle.gt_core.specs.Task.{Effect}
-use Rattle.gt_core.proofs.Basics.{or_split, not_true, same_test, test_same}
+use Rattle.gt_core.proofs.Basics.{or_split, or_left, or_right, not_true, same_test, test_same}
 use Rattle.known_literals.specs.Tested.{EffectFits}
 use Rattle.invariant_rounds.specs.Groups.{effect_with, group_with, GroupFits}
 use Rattle.invariant_rounds.specs.declared.groups.Group.{Group}
@@ -221,3 +221,9 @@ some_in p (Some k) h e = (k, h.1)
 
 pub none_lost : (b c o p q r : Bool) → p ≡ false → b ≡ (b || (c && (o && ((p && q) && r))))
 none_lost b c o p q r h = grind arith
+
+-- what one element passes, some element does
+pub any_among : {A : Type 0} (p : A → Bool) (xs : List A) (i : ℕ) (x : A) → i < length xs → x ≡ get_or xs i x → p x ≡ true → list_any p xs ≡ true
+any_among p [] i x lt at t = absurd (omega arith)
+any_among p (y ∷ ys) zero x lt at t = or_left _ _ (ap p (sym at) ∙ t)
+any_among p (y ∷ ys) (suc i) x lt at t = or_right _ _ (any_among p ys i x (omega arith) at t)

@@ -11,10 +11,10 @@ use Rattle.gt_core.proofs.Literals.{opposite_twice}
 use Rattle.known_literals.specs.Breaks.{is_add}
 use Rattle.known_literals.specs.Rows.{row_at, IsPart}
 use Rattle.known_literals.specs.Tested.{with_more, has_no_pair}
-use Rattle.invariant_rounds.specs.Groups.{group_with, may_take_by, may_lose, GroupFits}
+use Rattle.invariant_rounds.specs.Groups.{group_with, may_take_by, may_lose, is_sure_by, GroupFits}
 use Rattle.known_literals.proofs.Steps.{opposite_below}
 use Rattle.invariant_rounds.specs.Numbers.{finds}
-use Rattle.invariant_rounds.specs.Index.{IsNumbered, IsGroupOf, gives_in, AreGivers, IsGiver, takes_in, AreTakers}
+use Rattle.invariant_rounds.specs.Index.{IsNumbered, IsGroupOf, gives_in, AreGivers, IsGiver, takes_in, AreTakers, IsFirm}
 use Rattle.invariant_rounds.specs.declared.groups.Group.{Group}
 use Rattle.invariant_rounds.specs.declared.givers.Givers.{Givers}
 use Rattle.invariant_rounds.specs.declared.takers.Takers.{Takers}
@@ -241,3 +241,29 @@ module _ (facts size : ℕ) (rows : List (List ℕ)) (groups : List Group) (here
           let first = one m ∙ stays (s0 m) (row_has takers.plain m) (not (is_add m && given m)) h.0 (λ p q. lose (plain_lost p q)) in
           let second = two m ∙ stays (s1 m) (row_has own.opposites m) (not (is_add m && given m)) first (λ p q. lose (own_lost p q)) in
           not_off (s3 m) (λ f. lose (lost m second f))
+
+-- what is known and taken by no group is sure
+module _ (facts size : ℕ) (rows : List (List ℕ)) (groups : List Group) (here : ℕ → Bool) (takers : Takers) (fits : AllByRecursion (GroupFits size) groups) (are : AreTakers facts rows here groups (length groups) takers) where
+  never_lost : (m : ℕ) → row_has takers.plain m ≡ false → row_has takers.by.literals m ≡ false → may_lose facts rows (group_with groups) here m ≡ true → ⊥
+  never_lost m p n lose =
+      let r = placed (λ (g : Group). row_has g.literals (opposite m) && may_take_by facts (group_with groups) (with_more rows here g.condition.items) m) groups lose in
+      let h = and_split (row_has r.one.literals (opposite m)) _ r.passes in
+      let g_fits = each_at (GroupFits size) groups r.one fits (among_place groups r.number r.one r.at) in
+      by r.one r.number h.1 (are.each r.number r.one (slice_get_within groups r.number r.one r.at) r.at m (g_fits.turned m ∙ h.0))
+    where
+      by : (g : Group) (k : ℕ) → may_take_by facts (group_with groups) (with_more rows here g.condition.items) m ≡ true
+          → (row_has takers.plain m ≡ true) ⊎ ((has_no_pair facts (with_more rows here g.condition.items) ≡ false) ⊎ (finds takers.by m k ≡ true)) → ⊥
+      by g k may (inl t) = apart (row_has takers.plain m) t p
+      by g k may (inr (inl dead)) = apart _ (and_split _ _ may).0 dead
+      by g k may (inr (inr found)) = apart (row_has takers.by.literals m) (and_split _ _ found).0 n
+
+  pub firm_sure : (m : ℕ) → IsFirm takers here m → is_sure_by facts rows (group_with groups) here m ≡ true
+  firm_sure m firm = and_both _ _ (or_left (here m) _ firm.0) (ap not (not_true _ (never_lost m firm.1 firm.2)))
+
+-- what is sure is not broken
+pub kept_sure : (old clause lits may sure : Bool) → (lits ≡ true → clause ≡ true → sure ≡ true) → old ≡ (old || (clause && (lits && (may && not sure))))
+kept_sure true clause lits may sure h = refl
+kept_sure false false lits may sure h = refl
+kept_sure false true false may sure h = refl
+kept_sure false true true false sure h = refl
+kept_sure false true true true sure h = ap not (sym (h refl refl))

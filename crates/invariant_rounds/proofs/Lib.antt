@@ -9,3 +9,4 @@ pub mod Dropping
 pub mod Contradicted
 pub mod RoundLaw
 pub mod Oks
+pub mod Firm

@@ -1,26 +1,25 @@
-use Rattle.std.proofs.Common.{arith, ◌≡◌, ◌==◌, ℕ, suc, ◌+◌, ◌*◌, ◌/◌, ◌<◌, ◌≤◌, List, [], ◌∷◌, length, Bool, true, false, not, ◌&&◌, ◌||◌, refl, ap, sym, ◌∙◌, ◌⊎◌, inl, inr, subst}
+use Rattle.std.proofs.Common.{arith, ◌≡◌, ◌==◌, ℕ, zero, suc, ◌+◌, ◌*◌, ◌/◌, ◌<◌, ◌≤◌, List, [], ◌∷◌, length, Bool, true, false, not, ◌&&◌, ◌||◌, refl, ap, sym, ◌∙◌, ◌⊎◌, inl, inr, subst, Vec, Global}
 use Rattle.std.specs.Prelude.{if◌then◌else◌, slice_index}
 use Rattle.std.specs.List.{list_any, AllByRecursion, AllZip, range_with_len}
-use Rattle.std.proofs.lemmas.Bool.Decides.{nat_tests}
 use Rattle.gt_core.specs.Task.{Action, Task}
 use Rattle.gt_core.specs.Lawful.{is_task, is_action}
 use Rattle.gt_core.specs.Active.{EffectWithin}
-use Rattle.gt_core.proofs.Basics.{Among, passing, any_at, or_split, or_left, or_right, and_split, and_both, cases, same_test, test_same, same_if, and_same, apart, each_at, each_from, all_at}
+use Rattle.gt_core.proofs.Basics.{Among, passing, any_at, or_split, or_left, or_right, and_split, and_both, cases, test_same, same_if, and_same, apart, each_at, each_from, all_at}
 use Rattle.gt_core.proofs.Within.{lawful, literals_within, effects_within, among_at}
 use Rattle.known_literals.specs.Rows.{clause_in, AreRows, total}
 use Rattle.bit_rows.specs.Bits.{row_has}
 use Rattle.known_literals.specs.Tested.{AreKnown, ActionFits, AreRowsOf, IsSetOf, breaks_by, act_at}
-use Rattle.invariant_rounds.specs.Losses.{are_lost, IsLossOf, AreLossesOf, LossFits}
+use Rattle.invariant_rounds.specs.Losses.{are_lost, IsBroken, AreLosses, AreAllLosses}
 use Rattle.invariant_rounds.specs.Rounds.{breaks_any, clause_count, IsRound}
 use Rattle.known_literals.specs.Renewed.{IsTested, IsSettled, WereKnown}
 use Rattle.gt_core.specs.Literal.{opposite}
 use Rattle.known_literals.specs.declared.known.Known.{Known}
-use Rattle.invariant_rounds.specs.declared.broken.Loss.{Loss}
 use Rattle.known_literals.proofs.Lists.{all_map}
 use Rattle.known_literals.proofs.Closing.{total_below, total_less}
 use Rattle.known_literals.proofs.Exact.{row_within, none_within}
 use Rattle.known_literals.proofs.Steps.{opposite_below}
-use Rattle.std.proofs.lemmas.Bool.{or_parts}
+use Rattle.std.proofs.lemmas.Bool.{cases_lt}
+use Rattle.gt_core.proofs.Lists.{each_number}
 
 -- A round drops what some action breaks, and nothing else; where it drops nothing, what is left are the invariants.
 
@@ -45,114 +44,79 @@ actions_fit task t = each_from _ task.actions (λ x i. action_fits task.facts x 
 pub fits_at : (size : ℕ) (xs : List Action) (a : ℕ) → AllByRecursion (ActionFits size) xs → a < length xs → ActionFits size (act_at xs a)
 fits_at size xs a all lt = each_at (ActionFits size) xs (act_at xs a) all (among_at xs a _ lt)
 
--- ---- lists of losses, one an action
+-- ---- what listed actions break
 
--- the actions with some numbers
-abbrev pub picked : List Action → List ℕ → List Action
-picked acts [] = []
-picked acts (a ∷ todo) = act_at acts a ∷ picked acts todo
+module _ (facts : ℕ) (known : Known) (clauses : List (List ℕ)) (acts : List Action) (todo : List ℕ) where
+  abbrev breaks_at : ℕ → ℕ → ℕ → Bool
+  breaks_at i l m = breaks_by facts known (act_at acts (slice_index todo i)) l m
 
-pub zip_picked : {B : Type 0} (P : Action → B → Type 0) (acts : List Action) (f : ℕ → ℕ) (todo : List ℕ) (k : ℕ) (ls : List B) → ((i : ℕ) → f (k + i) ≡ slice_index todo i) → AllZip (λ i l. P (act_at acts (f i)) l) (range_with_len k (length todo)) ls → AllZip P (picked acts todo) ls
-zip_picked P acts f [] k [] same z = tt
-zip_picked P acts f [] k (l ∷ ls) same z = z
-zip_picked P acts f (a ∷ todo) k [] same z = z
-zip_picked P acts f (a ∷ todo) k (l ∷ ls) same z = (
-  subst (λ (b : ℕ). P (act_at acts b) l) (ap f (omega arith) ∙ same 0) z.0,
-  zip_picked P acts f todo (k + 1) ls (λ i. ap f (omega arith) ∙ same (suc i)) z.1,
-)
+  -- nothing is lost where none was tested
+  pub no_losses : (low high : ℕ) (lost : List (List ℕ)) → high ≤ low → length lost ≡ 2 * facts → ((l m : ℕ) → clause_in lost l m ≡ false) → AreLosses facts known clauses acts todo low high lost
+  no_losses low high lost le long none = record {
+    long = long;
+    only = λ l m t. absurd (apart (clause_in lost l m) t (none l m));
+    all = λ i ge lt within l m v b. absurd (omega (arith, le, ge, lt));
+  }
 
-pub zip_of : {B : Type 0} (it : B → List Loss) (n facts : ℕ) (given rows : List (List ℕ)) (xs acts : List Action) (known : Known) (todo : List ℕ) (lists : List B) → n ≡ facts → given ≡ rows → xs ≡ acts
-    → AllZip (λ i l. AreLossesOf n known given (act_at xs (slice_index todo i)) (it l)) (range_with_len 0 (length todo)) lists
-    → AllZip (λ x l. AreLossesOf facts known rows x (it l)) (picked acts todo) lists
-zip_of {B} it n facts given rows xs acts known todo lists e f h z =
-    let Zip : ℕ → List (List ℕ) → List Action → Type 0 = λ k r ys. AllZip (λ i (l : B). AreLossesOf k known r (act_at ys (slice_index todo i)) (it l)) (range_with_len 0 (length todo)) lists in
-    zip_picked (λ x (l : B). AreLossesOf facts known rows x (it l)) acts (slice_index todo) todo 0 lists (λ i. ap (slice_index todo) (omega arith))
-    (subst (λ (k : ℕ). Zip k rows acts) e (subst (λ (r : List (List ℕ)). Zip n r acts) f (subst (λ (ys : List Action). Zip n given ys) h z)))
-
--- a number that is listed picks its action, and each that is picked has one
-picked_at : (acts : List Action) (todo : List ℕ) (a : ℕ) → list_any (λ b. b == a) todo ≡ true → Among (act_at acts a) (picked acts todo)
-picked_at acts [] a t = absurd (let e : false ≡ true = t in cc)
-picked_at acts (b ∷ todo) a t = by (or_split (b == a) _ t) (picked_at acts todo a)
-  where
-    by : ((b == a) ≡ true) ⊎ (list_any (λ c. c == a) todo ≡ true) → (list_any (λ c. c == a) todo ≡ true → Among (act_at acts a) (picked acts todo)) → Among (act_at acts a) (picked acts (b ∷ todo))
-    by (inl e) more = inl (ap (act_at acts) (sym (test_same b a e)))
-    by (inr h) more = inr (more h)
-
-among_picked : (acts : List Action) (todo : List ℕ) (x : Action) → AllByRecursion (λ a. a < length acts) todo → Among x (picked acts todo) → Among x acts
-among_picked acts [] x all i = absurd i
-among_picked acts (a ∷ todo) x all (inl e) = subst (λ (y : Action). Among y acts) (sym e) (among_at acts a _ all.0)
-among_picked acts (a ∷ todo) x all (inr i) = among_picked acts todo x all.1 i
-
-module _ {B : Type 0} (it : B → List Loss) (facts : ℕ) (known : Known) (clauses : List (List ℕ)) where
-  abbrev lost_in_some : List B → ℕ → ℕ → Bool
-  lost_in_some lists a b = list_any (λ l. are_lost (it l) a b || are_lost (it l) b a) lists
-
-  any_lost : (xs : List Action) (ls : List B) → AllZip (λ x l. AreLossesOf facts known clauses x (it l)) xs ls → (a b : ℕ)
-      → lost_in_some ls a b ≡ list_any (λ x. (clause_in clauses a b && breaks_by facts known x a b) || (clause_in clauses b a && breaks_by facts known x b a)) xs
-  any_lost [] [] z a b = refl
-  any_lost [] (l ∷ ls) z a b = absurd z
-  any_lost (x ∷ xs) [] z a b = absurd z
-  any_lost (x ∷ xs) (l ∷ ls) z a b = λ i. (z.0.lost a b i || z.0.lost b a i) || any_lost xs ls z.1 a b i
-
-  kept_by : (p q : Action → Bool) (xs : List Action) (c d : Bool) → c ≡ d → (c && not (list_any (λ x. (c && p x) || (d && q x)) xs)) ≡ (c && not (list_any (λ x. p x || q x) xs))
-  kept_by p q xs true true e = refl
-  kept_by p q xs true false e = cc
-  kept_by p q xs false d e = refl
-
-  -- what stays where all losses are dropped
-  pub kept_is : (xs : List Action) (ls : List B) → AllZip (λ x l. AreLossesOf facts known clauses x (it l)) xs ls → (a b : ℕ) → clause_in clauses a b ≡ clause_in clauses b a
-      → (clause_in clauses a b && not (lost_in_some ls a b)) ≡ (clause_in clauses a b && not (breaks_any facts known xs a b))
-  kept_is xs ls z a b either =
-      ap (λ (t : Bool). clause_in clauses a b && not t) (any_lost xs ls z a b)
-      ∙ kept_by (λ x. breaks_by facts known x a b) (λ x. breaks_by facts known x b a) xs (clause_in clauses a b) (clause_in clauses b a) either
-
-  pub record Dropped (xs : List Action) : Type 0 where
-    pub l : ℕ
-    pub m : ℕ
-    pub below : l < 2 * facts
-    pub clause : clause_in clauses l m ≡ true
-    pub broken : breaks_any facts known xs l m ≡ true
-
-  one_loss : (x : Action) (xs : List Action) (losses : List Loss) → AreLossesOf facts known clauses x losses → not (length losses == 0) ≡ true → Dropped (x ∷ xs)
-  one_loss x xs [] are t = absurd (let e : false ≡ true = t in cc)
-  one_loss x xs (s ∷ losses) are t =
-      let first = are.each.0 in
-      let m = first.some.0 in
-      let lost : are_lost (s ∷ losses) s.literal m ≡ true = or_left _ _ (and_both (s.literal == s.literal) _ (same_test s.literal s.literal refl) first.some.1) in
-      let both = and_split _ _ (sym (are.lost s.literal m) ∙ lost) in
-      record { l = s.literal; m = m; below = first.literal; clause = both.0; broken = or_left _ _ (or_left _ _ both.1) }
-
-  -- a list with a loss has a clause that is dropped
-  pub some_loss : (xs : List Action) (ls : List B) → AllZip (λ x l. AreLossesOf facts known clauses x (it l)) xs ls → list_any (λ l. not (length (it l) == 0)) ls ≡ true → Dropped xs
-  some_loss [] [] z t = absurd (let e : false ≡ true = t in cc)
-  some_loss [] (l ∷ ls) z t = absurd z
-  some_loss (x ∷ xs) [] z t = absurd z
-  some_loss (x ∷ xs) (l ∷ ls) z t = by (or_split _ _ t) (some_loss xs ls z.1)
+  -- one more action is tested
+  pub one_more_action : (low i : ℕ) (old new : List (List ℕ)) → i < length todo → AreLosses facts known clauses acts todo low i old → length new ≡ length old
+      → ((l m : ℕ) → clause_in new l m ≡ (clause_in old l m || (clause_in clauses l m && breaks_at i l m))) → AreLosses facts known clauses acts todo low (i + 1) new
+  one_more_action low i old new lt are long has = record {
+    long = long ∙ are.long;
+    only = λ l m t. by l m (or_split _ _ (sym (has l m) ∙ t));
+    all = λ k ge lk within l m v b. step k ge within l m v b (cases_lt k i) lk;
+  }
     where
-      by : (not (length (it l) == 0) ≡ true) ⊎ (list_any (λ k. not (length (it k) == 0)) ls ≡ true) → (list_any (λ k. not (length (it k) == 0)) ls ≡ true → Dropped xs) → Dropped (x ∷ xs)
-      by (inl h) ih = one_loss x xs (it l) z.0 h
-      by (inr h) ih = (let d = ih h in record { l = d.l; m = d.m; below = d.below; clause = d.clause; broken = or_right _ _ d.broken })
+      by : (l m : ℕ) → (clause_in old l m ≡ true) ⊎ ((clause_in clauses l m && breaks_at i l m) ≡ true) → IsBroken facts known clauses acts todo l m
+      by l m (inl h) = are.only l m h
+      by l m (inr h) = let p = and_split _ _ h in (p.0, i, lt, p.1)
 
-  none_at : (losses : List Loss) (a b : ℕ) → not (length losses == 0) ≡ false → (are_lost losses a b || are_lost losses b a) ≡ false
-  none_at [] a b f = refl
-  none_at (s ∷ losses) a b f = absurd (let some : (length (s ∷ losses) == 0) ≡ false = grind (arith, nat_tests) in cc)
+      step : (k : ℕ) → low ≤ k → k < length todo → (l m : ℕ) → clause_in clauses l m ≡ true → breaks_at k l m ≡ true → (k < i) ⊎ (i ≤ k) → k < i + 1 → clause_in new l m ≡ true
+      step k ge within l m v b (inl h) lk = has l m ∙ or_left _ _ (are.all k ge h within l m v b)
+      step k ge within l m v b (inr h) lk =
+          let e : k ≡ i = omega (arith, h, lk) in
+          has l m ∙ or_right (clause_in old l m) _ (and_both _ _ v (subst (λ (n : ℕ). breaks_at n l m ≡ true) e b))
 
-  -- without a loss nothing is dropped
-  pub none_lost : (ls : List B) (a b : ℕ) → list_any (λ l. not (length (it l) == 0)) ls ≡ false → lost_in_some ls a b ≡ false
-  none_lost [] a b f = refl
-  none_lost (l ∷ ls) a b f =
-      let p = or_parts _ _ f in
-      λ i. none_at (it l) a b p.0 i || none_lost ls a b p.1 i
+  -- all of a piece were tested
+  pub losses_to : (low i high : ℕ) (lost : List (List ℕ)) → AreLosses facts known clauses acts todo low i lost → ((k : ℕ) → k < high → k < length todo → k < i) → AreLosses facts known clauses acts todo low high lost
+  losses_to low i high lost are end = record {
+    long = are.long;
+    only = are.only;
+    all = λ k ge lk within l m v b. are.all k ge (end k lk within) within l m v b;
+  }
 
-  fits_of : AreRows facts clauses → (losses : List Loss) → AllByRecursion (IsLossOf (2 * facts) clauses) losses → AllByRecursion (LossFits (2 * facts)) losses
-  fits_of rows losses each = all_map _ _ (λ s h. record { literal = h.literal; from = λ m t. rows.within s.literal m (h.part m t) }) losses each
+-- ---- pieces of a list
 
-  -- each loss is of literals of the task
-  pub all_fit : AreRows facts clauses → (xs : List Action) (ls : List B) → AllZip (λ x l. AreLossesOf facts known clauses x (it l)) xs ls → AllByRecursion (λ l. AllByRecursion (LossFits (2 * facts)) (it l)) ls
-  all_fit rows [] [] z = tt
-  all_fit rows [] (l ∷ ls) z = absurd z
-  all_fit rows (x ∷ xs) [] z = absurd z
-  all_fit rows (x ∷ xs) (l ∷ ls) z = (fits_of rows (it l) z.0.each, all_fit rows xs ls z.1)
+zip_each : {B : Type 0} (P : ℕ → B → Type 0) (Q : B → Type 0) (k n : ℕ) (ts : List B) → ((p : ℕ) (t : B) → P p t → Q t) → AllZip P (range_with_len k n) ts → AllByRecursion Q ts
+zip_each P Q k zero [] f z = tt
+zip_each P Q k zero (t ∷ ts) f z = absurd z
+zip_each P Q k (suc n) [] f z = absurd z
+zip_each P Q k (suc n) (t ∷ ts) f z = (f k t z.0, zip_each P Q (k + 1) n ts f z.1)
+
+zip_at : {B : Type 0} (P : ℕ → B → Type 0) (k n p : ℕ) (ts : List B) → AllZip P (range_with_len k n) ts → p < n → (t : B) × Among t ts × P (k + p) t
+zip_at P k zero p ts z lt = absurd (omega (arith, lt))
+zip_at P k (suc n) p [] z lt = absurd z
+zip_at P k (suc n) zero (t ∷ ts) z lt = (t, inl refl, subst (λ (x : ℕ). P x t) (omega arith) z.0)
+zip_at P k (suc n) (suc p) (t ∷ ts) z lt = let r = zip_at P (k + 1) n p ts z.1 (omega (arith, lt)) in (r.0, inr r.1, subst (λ (x : ℕ). P x r.0) (omega arith) r.2)
+
+listed_at : (todo : List ℕ) (a : ℕ) → list_any (λ b. b == a) todo ≡ true → (i : ℕ) × (i < length todo) × (slice_index todo i ≡ a)
+listed_at [] a t = absurd (let e : false ≡ true = t in cc)
+listed_at (b ∷ todo) a t = by (or_split (b == a) _ t) (listed_at todo a)
+  where
+    by : ((b == a) ≡ true) ⊎ (list_any (λ c. c == a) todo ≡ true) → (list_any (λ c. c == a) todo ≡ true → (i : ℕ) × (i < length todo) × (slice_index todo i ≡ a)) → (i : ℕ) × (i < length (b ∷ todo)) × (slice_index (b ∷ todo) i ≡ a)
+    by (inl e) more = (0, omega arith, test_same b a e)
+    by (inr h) more = let r = more h in (suc r.0, (let lt = r.1 in omega arith), r.2)
+
+-- rows of each piece are of literals of the task, and of clauses that are broken
+pub each_piece : (facts : ℕ) (known : Known) (clauses : List (List ℕ)) (acts : List Action) (todo : List ℕ) (tables : List (Vec (List ℕ) Global)) → AreAllLosses facts known clauses acts todo tables
+    → AllByRecursion (λ t. (length t.items ≡ 2 * facts) × ((l m : ℕ) → clause_in t.items l m ≡ true → IsBroken facts known clauses acts todo l m)) tables
+each_piece facts known clauses acts todo tables all =
+    zip_each (λ p (t : Vec (List ℕ) Global). AreLosses facts known clauses acts todo (2048 * p) (2048 * p + 2048) t.items) _ 0 (length tables) tables (λ p t h. (h.long, h.only)) all.pieces
+
+pub pieces_fit : (facts : ℕ) (known : Known) (clauses : List (List ℕ)) (acts : List Action) (todo : List ℕ) (tables : List (Vec (List ℕ) Global)) → AreRows facts clauses → AreAllLosses facts known clauses acts todo tables
+    → AllByRecursion (λ t. (length t.items ≡ length clauses) × ((l m : ℕ) → clause_in t.items l m ≡ true → m < length clauses)) tables
+pieces_fit facts known clauses acts todo tables rows all =
+    all_map _ _ (λ t h. (h.0 ∙ sym rows.long, λ l m v. subst (λ (n : ℕ). m < n) (sym rows.long) (rows.within l m (h.1 l m v).0))) tables (each_piece facts known clauses acts todo tables all)
 
 -- the rows of what is known
 pub known_rows : (V : ℕ → ℕ → Bool) (facts : ℕ) (known : Known) (asked : ℕ → Bool) → ((l m : ℕ) → V l m ≡ true → (l < 2 * facts) × (m < 2 * facts)) → AreKnown V (2 * facts) asked known → AreRowsOf (2 * facts) known.rows.items
@@ -214,14 +178,12 @@ and_not_false true false e = refl
 and_not_false false false e = refl
 and_not_false p true e = cc
 
--- the actions that are not tested break nothing
-module _ (task : Task) (known : Known) (clauses : List (List ℕ)) (todo : List ℕ) (tested : IsTested task known clauses todo) (either : (l m : ℕ) → clause_in clauses l m ≡ clause_in clauses m l) where
+module _ (task : Task) (known : Known) (clauses : List (List ℕ)) (todo : List ℕ) (rows : AreRows task.facts clauses) (tested : IsTested task known clauses todo) (either : (l m : ℕ) → clause_in clauses l m ≡ clause_in clauses m l)
+    (tables : List (Vec (List ℕ) Global)) (all : AreAllLosses task.facts known clauses task.actions todo tables) where
   abbrev breaks_clause : ℕ → ℕ → Action → Bool
   breaks_clause l m x = breaks_by task.facts known x l m || breaks_by task.facts known x m l
 
-  pub picked_all : (l m : ℕ) → breaks_any task.facts known (picked task.actions todo) l m ≡ true → breaks_any task.facts known task.actions l m ≡ true
-  picked_all l m t = let p = passing (breaks_clause l m) (picked task.actions todo) t in any_at (breaks_clause l m) task.actions p.one (among_picked task.actions todo p.one tested.numbers p.among) p.passes
-
+  -- an action that is not tested breaks nothing
   unbroken : (x : Action) (l m : ℕ) → IsSettled task.facts known clauses x → clause_in clauses l m ≡ true → breaks_clause l m x ≡ true → ⊥
   unbroken x l m settled v t = by (or_split (breaks_by task.facts known x l m) (breaks_by task.facts known x m l) t)
     where
@@ -229,34 +191,58 @@ module _ (task : Task) (known : Known) (clauses : List (List ℕ)) (todo : List 
       by (inl b) = apart (clause_in clauses l m && breaks_by task.facts known x l m) (and_both _ _ v b) (settled l m)
       by (inr b) = apart (clause_in clauses m l && breaks_by task.facts known x m l) (and_both _ _ (either m l ∙ v) b) (settled m l)
 
-  pub all_picked : (l m : ℕ) → clause_in clauses l m ≡ true → breaks_any task.facts known task.actions l m ≡ true → breaks_any task.facts known (picked task.actions todo) l m ≡ true
-  all_picked l m v t =
+  -- what is lost is a clause that some action breaks
+  broken_lost : (l m : ℕ) → are_lost tables l m ≡ true → (clause_in clauses l m ≡ true) × (breaks_any task.facts known task.actions l m ≡ true)
+  broken_lost l m t =
+      let p = passing (λ (t : Vec (List ℕ) Global). clause_in t.items l m || clause_in t.items m l) tables t in
+      let own = each_at (λ (t : Vec (List ℕ) Global). (length t.items ≡ 2 * task.facts) × ((l m : ℕ) → clause_in t.items l m ≡ true → IsBroken task.facts known clauses task.actions todo l m)) tables p.one (each_piece task.facts known clauses task.actions todo tables all) p.among in
+      by p.one.items (or_split (clause_in p.one.items l m) (clause_in p.one.items m l) p.passes) own.1
+    where
+      some : (i : ℕ) → i < length todo → breaks_clause l m (act_at task.actions (slice_index todo i)) ≡ true → breaks_any task.facts known task.actions l m ≡ true
+      some i lt b = any_at (breaks_clause l m) task.actions (act_at task.actions (slice_index todo i)) (among_at task.actions (slice_index todo i) _ (each_number (λ a. a < length task.actions) todo _ 0 tested.numbers lt)) b
+
+      by : (one : List (List ℕ)) → (clause_in one l m ≡ true) ⊎ (clause_in one m l ≡ true) → ((l m : ℕ) → clause_in one l m ≡ true → IsBroken task.facts known clauses task.actions todo l m) → (clause_in clauses l m ≡ true) × (breaks_any task.facts known task.actions l m ≡ true)
+      by one (inl h) only = let b = only l m h in (b.0, some b.1 b.2 (or_left _ _ b.3))
+      by one (inr h) only = let b = only m l h in (either l m ∙ b.0, some b.1 b.2 (or_right (breaks_by task.facts known (act_at task.actions (slice_index todo b.1)) l m) _ b.3))
+
+  -- a clause that some action breaks is lost
+  lost_broken : (l m : ℕ) → clause_in clauses l m ≡ true → breaks_any task.facts known task.actions l m ≡ true → are_lost tables l m ≡ true
+  lost_broken l m v t =
       let p = passing (breaks_clause l m) task.actions t in
       let n = at_number task.actions p.one p.among in
-      by p.one p.passes n.0 n.2 (tested.settled n.0 n.1)
+      by n.0 (subst (λ (x : Action). breaks_clause l m x ≡ true) n.2 p.passes) (tested.settled n.0 n.1)
     where
-      by : (x : Action) → breaks_clause l m x ≡ true → (a : ℕ) → x ≡ act_at task.actions a → (list_any (λ b. b == a) todo ≡ true) ⊎ IsSettled task.facts known clauses (act_at task.actions a) → breaks_any task.facts known (picked task.actions todo) l m ≡ true
-      by x h a e (inl listed) = any_at (breaks_clause l m) (picked task.actions todo) (act_at task.actions a) (picked_at task.actions todo a listed) (ap (breaks_clause l m) (sym e) ∙ h)
-      by x h a e (inr settled) = absurd (unbroken (act_at task.actions a) l m settled v (ap (breaks_clause l m) (sym e) ∙ h))
+      listed : (i : ℕ) → i < length todo → breaks_clause l m (act_at task.actions (slice_index todo i)) ≡ true → are_lost tables l m ≡ true
+      listed i lt b =
+          let piece = zip_at (λ p (t : Vec (List ℕ) Global). AreLosses task.facts known clauses task.actions todo (2048 * p) (2048 * p + 2048) t.items) 0 (length tables) (i / 2048) tables all.pieces (let e = all.enough in omega (arith, e, lt)) in
+          let low : 2048 * (0 + i / 2048) ≤ i = omega arith in
+          let high : i < 2048 * (0 + i / 2048) + 2048 = omega arith in
+          any_at (λ (t : Vec (List ℕ) Global). clause_in t.items l m || clause_in t.items m l) tables piece.0 piece.1 (both piece.0.items (piece.2.all i low high lt) (or_split (breaks_by task.facts known (act_at task.actions (slice_index todo i)) l m) _ b))
+        where
+          both : (one : List (List ℕ)) → ((l m : ℕ) → clause_in clauses l m ≡ true → breaks_by task.facts known (act_at task.actions (slice_index todo i)) l m ≡ true → clause_in one l m ≡ true)
+              → (breaks_by task.facts known (act_at task.actions (slice_index todo i)) l m ≡ true) ⊎ (breaks_by task.facts known (act_at task.actions (slice_index todo i)) m l ≡ true) → (clause_in one l m || clause_in one m l) ≡ true
+          both one has (inl h) = or_left _ _ (has l m v h)
+          both one has (inr h) = or_right (clause_in one l m) _ (has m l (either m l ∙ v) h)
 
-  pub same_kept : (l m : ℕ) → (clause_in clauses l m && not (breaks_any task.facts known (picked task.actions todo) l m)) ≡ (clause_in clauses l m && not (breaks_any task.facts known task.actions l m))
-  same_kept l m = and_same (clause_in clauses l m) _ _ (λ v. ap not (same_if _ _ (picked_all l m) (all_picked l m v)))
+      by : (a : ℕ) → breaks_clause l m (act_at task.actions a) ≡ true → (list_any (λ b. b == a) todo ≡ true) ⊎ IsSettled task.facts known clauses (act_at task.actions a) → are_lost tables l m ≡ true
+      by a b (inl h) = let i = listed_at todo a h in listed i.0 i.1 (subst (λ (n : ℕ). breaks_clause l m (act_at task.actions n) ≡ true) (sym i.2) b)
+      by a b (inr settled) = absurd (unbroken (act_at task.actions a) l m settled v b)
 
--- a round by lists of losses
-pub round_is : {B : Type 0} (it : B → List Loss) (task : Task) (before after : List (List ℕ)) (known : Known) (todo : List ℕ) (lists : List B) (dropped : Bool)
-    → AreRows task.facts before → ((l m : ℕ) → clause_in before l m ≡ clause_in before m l) → IsTested task known before todo
-    → AllZip (λ x l. AreLossesOf task.facts known before x (it l)) (picked task.actions todo) lists
-    → ((a b : ℕ) → clause_in after a b ≡ (clause_in before a b && not (list_any (λ l. are_lost (it l) a b || are_lost (it l) b a) lists)))
-    → dropped ≡ list_any (λ l. not (length (it l) == 0)) lists → IsRound task known before after dropped
-round_is it task before after known todo lists dropped rows either tested zip has is =
-    let kept = λ (l m : ℕ). has l m ∙ kept_is it task.facts known before (picked task.actions todo) lists zip l m (either l m) ∙ same_kept task known before todo tested either l m in
-    record {
-      kept = kept;
-      fewer = λ t. (let d = some_loss it task.facts known before (picked task.actions todo) lists zip (sym is ∙ t) in
-          count_less (2 * task.facts) before after (λ l m h. (and_split _ _ (sym (kept l m) ∙ h)).0) d.l d.m d.below (rows.within d.l d.m d.clause) d.clause
-          (kept d.l d.m ∙ and_not_true (clause_in before d.l d.m) (breaks_any task.facts known task.actions d.l d.m) (picked_all task known before todo tested either d.l d.m d.broken)));
-      same = λ f l m. has l m ∙ and_not_false (clause_in before l m) _ (none_lost it task.facts known before lists l m (sym is ∙ f));
-    }
+  -- a round
+  pub round_is : (after : List (List ℕ)) (dropped : Bool) → ((a b : ℕ) → clause_in after a b ≡ (clause_in clauses a b && not (are_lost tables a b)))
+      → (dropped ≡ true → (a b : ℕ) × (are_lost tables a b ≡ true)) → (dropped ≡ false → (a b : ℕ) → are_lost tables a b ≡ false) → IsRound task known clauses after dropped
+  round_is after dropped has some none =
+      let kept : (l m : ℕ) → clause_in after l m ≡ (clause_in clauses l m && not (breaks_any task.facts known task.actions l m)) = λ l m.
+      has l m ∙ and_same (clause_in clauses l m) _ _ (λ v. ap not (same_if _ _ (λ t. (broken_lost l m t).1) (lost_broken l m v))) in
+      record {
+        kept = kept;
+        fewer = λ t. (let d = some t in
+            let b = broken_lost d.0 d.1 d.2 in
+            let within = both_within task.facts clauses rows either d.0 d.1 b.0 in
+            count_less (2 * task.facts) clauses after (λ l m h. (and_split _ _ (sym (kept l m) ∙ h)).0) d.0 d.1 within.0 within.1 b.0
+            (kept d.0 d.1 ∙ and_not_true (clause_in clauses d.0 d.1) (breaks_any task.facts known task.actions d.0 d.1) b.1));
+        same = λ f l m. has l m ∙ and_not_false (clause_in clauses l m) _ (none f l m);
+      }
 
 -- after a round no action breaks what is left, by what was known
 pub all_settled : (task : Task) (known : Known) (before after : List (List ℕ)) (dropped : Bool) → ((l m : ℕ) → clause_in before l m ≡ clause_in before m l) → IsRound task known before after dropped → (x : Action) → Among x task.actions → IsSettled task.facts known after x

@@ -9,8 +9,6 @@ use Rattle.gt_core.proofs.Basics.{passing, or_split, and_split, same_test, test_
 use Rattle.gt_core.proofs.Literals.{opposite_twice}
 use Rattle.known_literals.specs.Rows.{row_at, clause_in, AreRows}
 use Rattle.known_literals.specs.Tested.{IsSetOf, AreRowsOf, with_more}
-use Rattle.invariant_rounds.specs.Losses.{is_lost, are_lost}
-use Rattle.invariant_rounds.specs.declared.broken.Loss.{Loss}
 use Rattle.invariant_rounds.specs.First.{is_first}
 use Rattle.known_literals.proofs.Steps.{past_rows}
 
@@ -76,16 +74,3 @@ first_are_rows facts s rows few long each = record {
   long = long;
   within = λ l m t. ltb-true m (2 * facts) (and_split _ _ (and_split _ _ (sym (first_everywhere facts s rows long each l m) ∙ t)).1).0;
 }
-
--- ---- losses
-
--- one more loss is dropped
-pub drops_more : (losses : List Loss) (i : ℕ) (loss : Loss) (a b : ℕ) (r after : Bool) → i < length losses → loss ≡ get_or losses i loss → after ≡ (r && not (is_lost loss a b || is_lost loss b a))
-    → (after && not (are_lost (drop (i + 1) losses) a b || are_lost (drop (i + 1) losses) b a)) ≡ (r && not (are_lost (drop i losses) a b || are_lost (drop i losses) b a))
-drops_more losses i loss a b r after l at e =
-    ap (λ (x : Bool). x && not (are_lost (drop (i + 1) losses) a b || are_lost (drop (i + 1) losses) b a)) e
-    ∙ regroup r (is_lost loss a b) (is_lost loss b a) (are_lost (drop (i + 1) losses) a b) (are_lost (drop (i + 1) losses) b a)
-    ∙ (λ j. r && not (sym (any_rest (λ s. is_lost s a b) losses i loss l at) j || sym (any_rest (λ s. is_lost s b a) losses i loss l at) j))
-  where
-    regroup : (r p q s t : Bool) → ((r && not (p || q)) && not (s || t)) ≡ (r && not ((p || s) || (q || t)))
-    regroup r p q s t = grind arith

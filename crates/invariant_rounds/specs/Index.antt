@@ -52,3 +52,7 @@ pub record AreTakers (facts : ℕ) (rows : List (List ℕ)) (set : ℕ → Bool)
   pub lists : 0 < length takers.by.lists.items
   pub plain : (m : ℕ) → row_has takers.plain m ≡ true → group_with groups (opposite m) (λ c. length c == 0) ≡ true
   pub each : (n : ℕ) (g : Group) → n < upto → IsNumbered groups n g → IsTaker facts rows set g n takers
+
+-- a literal is known that no group takes
+abbrev pub IsFirm : Takers → (ℕ → Bool) → ℕ → Type 0
+IsFirm takers known m = (known m ≡ true) × (row_has takers.plain m ≡ false) × (row_has takers.by.literals m ≡ false)

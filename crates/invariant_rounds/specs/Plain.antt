@@ -9,6 +9,10 @@ use Rattle.known_literals.specs.Breaks.{is_add}
 abbrev pub adds_plainly : List Effect → ℕ → Bool
 adds_plainly effects m = list_any (λ e. e.literal == m) effects
 
+-- an effect has the opposite of a literal
+abbrev pub has_opposite : List Effect → ℕ → Bool
+has_opposite effects m = list_any (λ e. opposite e.literal == m) effects
+
 -- an add overrules a delete
 abbrev pub takes_plainly : (ℕ → Bool) → List Effect → ℕ → Bool
 takes_plainly given effects m = list_any (λ e. (opposite e.literal == m) && not (is_add m && given m)) effects

@@ -1,13 +1,12 @@
 //! Broken clauses are dropped.
 
 ghost use Rattle.std.specs.Prelude.{◌≡◌, ℕ, ◌*◌, ◌<◌, ◌≤◌, ◌==◌, ◌&&◌, ◌||◌, true, false, not, length};
-ghost use Rattle.std.specs.List.{AllByRecursion, list_any};
 ghost use Rattle.bit_rows.specs.Bits.{row_has, room};
 ghost use Rattle.gt_core.specs.Literal.{opposite};
 ghost use Rattle.known_literals.specs.Rows.{clause_in, row_at};
-ghost use Rattle.invariant_rounds.specs.Losses.{is_lost, are_lost, LossFits, IsDropped};
+ghost use Rattle.known_literals.specs.Tested.{IsSetOf};
+ghost use Rattle.invariant_rounds.specs.Losses.{IsDropped};
 
-use crate::broken::Loss;
 use bit_rows::row::BitRow;
 use gt_core::lits::opposite;
 
@@ -58,34 +57,48 @@ fn take_out_of_all(rows: &mut Vec<BitRow>, others: &BitRow, lit: u32, stale: &mu
     }
 }
 
-/// Drops the clauses of a literal with others. The opposites of the literals whose clauses become fewer are put into
-/// `stale`.
-fn drop_loss(rows: &mut Vec<BitRow>, loss: &Loss, stale: &mut BitRow)
+/// Drops the clauses of a literal with others. Whether there are others. The opposites of the literals whose clauses
+/// become fewer are put into `stale`.
+fn drop_row(rows: &mut Vec<BitRow>, l: u32, others: &BitRow, stale: &mut BitRow) -> bool
     requires few { length rows.old.items ≤ 4096 }
     requires even { (l : ℕ) → l < length rows.old.items → opposite l < room stale.old }
-    requires fits { LossFits (length rows.old.items) loss.now }
+    requires l { l < length rows.old.items }
+    requires within { IsSetOf (length rows.old.items) (row_has others.now) }
     requires either { (a b : ℕ) → clause_in rows.old.items a b ≡ clause_in rows.old.items b a }
     ensures long { length rows.new.items ≡ length rows.old.items }
     ensures room { room stale.new ≡ room stale.old }
-    ensures has { (a b : ℕ) → clause_in rows.new.items a b ≡ (clause_in rows.old.items a b && not (is_lost loss.now a b || is_lost loss.now b a)) }
+    ensures has { (a b : ℕ) → clause_in rows.new.items a b ≡ (clause_in rows.old.items a b && not (((l == a) && row_has others.now b) || ((l == b) && row_has others.now a))) }
     ensures dropped { IsDropped rows.old.items rows.new.items (row_has stale.old) (row_has stale.new) }
+    ensures some { result ≡ true → (m : ℕ) × (row_has others.now m ≡ true) }
+    ensures none { result ≡ false → (m : ℕ) → row_has others.now m ≡ false }
 {
-    take_out_of_all(rows, &loss.from, loss.literal, stale);
-    take_all_out(rows, loss.literal, &loss.from, stale);
+    if others.least(0).is_none() {
+        return false;
+    }
+    take_out_of_all(rows, others, l, stale);
+    take_all_out(rows, l, others, stale);
+    true
 }
 
-/// Drops the clauses of some losses. The opposites of the literals whose clauses become fewer are put into `stale`.
-pub fn drop_losses(rows: &mut Vec<BitRow>, losses: &[Loss], stale: &mut BitRow)
+/// Drops clauses that are lost, a row a literal. Whether there are some. The opposites of the literals whose clauses
+/// become fewer are put into `stale`.
+pub fn drop_lost(rows: &mut Vec<BitRow>, lost: &[BitRow], stale: &mut BitRow) -> bool
     requires few { length rows.old.items ≤ 4096 }
     requires even { (l : ℕ) → l < length rows.old.items → opposite l < room stale.old }
-    requires fit { AllByRecursion (LossFits (length rows.old.items)) losses.now }
+    requires long { length lost.now ≡ length rows.old.items }
+    requires within { (l m : ℕ) → clause_in lost.now l m ≡ true → m < length rows.old.items }
     requires either { (a b : ℕ) → clause_in rows.old.items a b ≡ clause_in rows.old.items b a }
     ensures long { length rows.new.items ≡ length rows.old.items }
     ensures room { room stale.new ≡ room stale.old }
-    ensures has { (a b : ℕ) → clause_in rows.new.items a b ≡ (clause_in rows.old.items a b && not (are_lost losses.now a b || are_lost losses.now b a)) }
+    ensures has { (a b : ℕ) → clause_in rows.new.items a b ≡ (clause_in rows.old.items a b && not (clause_in lost.now a b || clause_in lost.now b a)) }
     ensures dropped { IsDropped rows.old.items rows.new.items (row_has stale.old) (row_has stale.new) }
+    ensures some { result ≡ true → (a b : ℕ) × (clause_in lost.now a b ≡ true) }
+    ensures none { result ≡ false → (a b : ℕ) → clause_in lost.now a b ≡ false }
 {
-    for loss in losses {
-        drop_loss(rows, loss, stale);
+    let mut dropped = false;
+    for l in 0..lost.len() {
+        let more = drop_row(rows, l as u32, &lost[l], stale);
+        dropped = dropped || more;
     }
+    dropped
 }

@@ -8,6 +8,7 @@ mod drop;
 pub mod first;
 mod givers;
 mod groups;
+mod harmless;
 mod plain;
 pub mod round;
 mod takers;

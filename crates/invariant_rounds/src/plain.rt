@@ -7,11 +7,10 @@ ghost use Rattle.bit_rows.specs.Bits.{row_has};
 ghost use Rattle.gt_core.specs.Literal.{opposite};
 ghost use Rattle.known_literals.specs.Breaks.{is_add};
 ghost use Rattle.known_literals.specs.Rows.{clause_in, AreRows};
-ghost use Rattle.invariant_rounds.specs.Losses.{are_lost, IsLossOf};
 ghost use Rattle.known_literals.specs.Tested.{EffectFits};
 ghost use Rattle.invariant_rounds.specs.Plain.{adds_plainly, takes_plainly, breaks_plainly};
 
-use crate::broken::{Loss, push_loss};
+use crate::broken::add_loss;
 use crate::takers::take_one;
 use bit_rows::row::BitRow;
 use gt_core::eff::Eff;
@@ -49,46 +48,47 @@ fn take_opposites(effects: &[Eff], given: &BitRow, sure: &mut BitRow)
     }
 }
 
-/// Appends the clauses that effects break.
-fn push_broken(
-    alloc: Global,
+/// Adds the clauses that effects break.
+fn add_broken(
     facts: u32,
     clauses: &[BitRow],
     effects: &[Eff],
     given: &BitRow,
     sure: &BitRow,
-    losses: &mut Vec<Loss>,
+    lost: &mut Vec<BitRow>,
 ) -> Result<(), AllocError>
     requires clauses { AreRows facts clauses.now }
     requires effects { AllByRecursion (EffectFits (2 * facts)) effects.now }
-    ensures lost { OnOk result ((l m : ℕ) → are_lost losses.new.items l m ≡ (are_lost losses.old.items l m || (clause_in clauses.now l m && (takes_plainly (row_has given.now) effects.now l && not (row_has sure.now m))))) }
-    ensures each { OnOk result (AllByRecursion (IsLossOf (2 * facts) clauses.now) losses.old.items → AllByRecursion (IsLossOf (2 * facts) clauses.now) losses.new.items) }
+    requires rows { length lost.old.items ≡ 2 * facts }
+    ensures long { length lost.new.items ≡ length lost.old.items }
+    ensures lost { OnOk result ((l m : ℕ) → clause_in lost.new.items l m ≡ (clause_in lost.old.items l m || (clause_in clauses.now l m && (takes_plainly (row_has given.now) effects.now l && not (row_has sure.now m))))) }
 {
     for effect in effects {
-        push_loss(alloc, clauses, given, sure, opposite(effect.lit()), losses)?;
+        add_loss(clauses, given, sure, opposite(effect.lit()), lost)?;
     }
     Ok(())
 }
 
-/// The clauses that effects without condition break where a set is known before the action, which is used up.
-pub fn plain_losses(
+/// Adds the clauses that effects without condition break where a set is known before the action, which is used up.
+pub fn add_plain_losses(
     alloc: Global,
     facts: u32,
     clauses: &[BitRow],
     effects: &[Eff],
     set: &mut BitRow,
-) -> Result<Vec<Loss>, AllocError>
+    lost: &mut Vec<BitRow>,
+) -> Result<(), AllocError>
     requires clauses { AreRows facts clauses.now }
     requires effects { AllByRecursion (EffectFits (2 * facts)) effects.now }
-    ensures lost { IfOk result (λ losses. (l m : ℕ) → are_lost losses.items l m ≡ (clause_in clauses.now l m && breaks_plainly (row_has set.old) effects.now l m)) }
-    ensures each { IfOk result (λ losses. AllByRecursion (IsLossOf (2 * facts) clauses.now) losses.items) }
+    requires rows { length lost.old.items ≡ 2 * facts }
+    ensures long { length lost.new.items ≡ length lost.old.items }
+    ensures lost { OnOk result ((l m : ℕ) → clause_in lost.new.items l m ≡ (clause_in lost.old.items l m || (clause_in clauses.now l m && breaks_plainly (row_has set.old) effects.now l m))) }
 {
     let mut given = BitRow::new(alloc);
     given.make_room(clauses.len())?;
     insert_literals(effects, &mut given)?;
     set.unite(&given)?;
     take_opposites(effects, &given, set);
-    let mut losses = Vec::new(alloc);
-    push_broken(alloc, facts, clauses, effects, &given, set, &mut losses)?;
-    Ok(losses)
+    add_broken(facts, clauses, effects, &given, set, lost)?;
+    Ok(())
 }

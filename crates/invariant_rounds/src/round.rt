@@ -1,18 +1,18 @@
 //! One round: some actions are tested, and what they break is dropped.
 
-ghost use Rattle.std.specs.Prelude.{◌≡◌, ℕ, ◌*◌, ◌<◌, ◌≤◌, ◌==◌, ◌&&◌, ◌||◌, true, false, not, length, slice_index, IfOk, OnOk};
-ghost use Rattle.std.specs.List.{AllZip, AllByRecursion, list_any, range_with_len};
+ghost use Rattle.std.specs.Prelude.{◌≡◌, ℕ, ◌+◌, ◌*◌, ◌<◌, ◌≤◌, ◌&&◌, true, false, not, length, IfOk, OnOk};
+ghost use Rattle.std.specs.List.{AllByRecursion};
 ghost use Rattle.bit_rows.specs.Bits.{row_has, room};
 ghost use Rattle.gt_core.specs.Literal.{opposite};
 ghost use Rattle.known_literals.specs.Rows.{clause_in, AreRows};
-ghost use Rattle.known_literals.specs.Tested.{ActionFits, AreRowsOf, IsSetOf, AreKnown, act_at};
+ghost use Rattle.known_literals.specs.Tested.{AreKnown};
 ghost use Rattle.known_literals.specs.Renewed.{IsTested};
-ghost use Rattle.invariant_rounds.specs.Losses.{are_lost, LossFits, AreLossesOf, CanTest, IsDropped};
+ghost use Rattle.invariant_rounds.specs.Losses.{are_lost, AreLosses, AreAllLosses, CanTest, IsDropped};
 ghost use Rattle.invariant_rounds.specs.Rounds.{IsRound};
 
-use crate::broken::{Loss, losses_of};
-use crate::drop::drop_losses;
-use bit_rows::row::BitRow;
+use crate::broken::add_losses_of;
+use crate::drop::drop_lost;
+use bit_rows::row::{BitRow, empty_rows};
 use gt_core::act::Act;
 use gt_core::task::Task;
 use known_literals::known::Known;
@@ -20,10 +20,43 @@ use rayon::prelude::*;
 use std::alloc::{AllocError, Global};
 use std::thread::Threads;
 
-/// How many actions are worth a thread of their own: to start one takes as long as testing some hundred.
-const LEAST_PIECE: usize = 2048;
+/// How many actions put what they break into the same rows: as many as are worth a thread of their own, since to start
+/// one takes as long as testing some hundred.
+const PIECE: usize = 2048;
 
-/// What each of some actions breaks, tested in parallel.
+/// What the actions of one piece break, the one with the number `piece`.
+fn piece_losses(
+    alloc: Global,
+    facts: u32,
+    known: &Known,
+    clauses: &[BitRow],
+    acts: &[Act],
+    todo: &[usize],
+    piece: usize,
+) -> Result<Vec<BitRow>, AllocError>
+    requires can { CanTest facts known.now clauses.now acts.now todo.now }
+    requires piece { 2048 * piece < length todo.now }
+    ensures { IfOk result (λ lost. AreLosses facts known.now clauses.now acts.now todo.now (2048 * piece) (2048 * piece + 2048) lost.items) }
+{
+    let low = PIECE * piece;
+    let count = PIECE.min(todo.len() - low);
+    let mut lost = empty_rows(alloc, 2 * facts as usize)?;
+    let mut room = BitRow::new(alloc);
+    for i in low..low + count {
+        add_losses_of(
+            alloc,
+            facts,
+            known,
+            clauses,
+            &acts[todo[i]],
+            &mut lost,
+            &mut room,
+        )?;
+    }
+    Ok(lost)
+}
+
+/// What some actions break, tested in parallel: rows for each piece of them.
 fn all_losses(
     rt: &(impl Threads + Sync),
     alloc: Global,
@@ -32,42 +65,39 @@ fn all_losses(
     clauses: &[BitRow],
     acts: &[Act],
     todo: &[usize],
-) -> Result<Vec<Vec<Loss>>, AllocError>
-    requires rows { AreRowsOf (2 * facts) known.now.rows.items }
-    requires none { IsSetOf (2 * facts) (row_has known.now.none) }
-    requires clauses { AreRows facts clauses.now }
-    requires acts { AllByRecursion (ActionFits (2 * facts)) acts.now }
-    requires todo { AllByRecursion (λ a. a < length acts.now) todo.now }
-    ensures { IfOk result (λ lists. AllZip (λ i list. AreLossesOf facts known.now clauses.now (act_at acts.now (slice_index todo.now i)) list.items) (range_with_len 0 (length todo.now)) lists.items) }
+) -> Result<Vec<Vec<BitRow>>, AllocError>
+    requires can { CanTest facts known.now clauses.now acts.now todo.now }
+    ensures { IfOk result (λ tables. AreAllLosses facts known.now clauses.now acts.now todo.now tables.items) }
 {
-    (0..todo.len())
+    (0..todo.len().div_ceil(PIECE))
         .into_par_iter()
-        .with_min_len(LEAST_PIECE)
+        .with_min_len(1)
         .map(
-            |i: usize| -> Result<Vec<Loss>, AllocError>
-                requires { CanTest facts known.now clauses.now acts.now todo.now i }
-                ensures { IfOk result (λ list. AreLossesOf facts known.entry.now clauses.entry.now (act_at acts.entry.now (slice_index todo.entry.now i)) list.items) }
-            { losses_of(alloc, facts, known, clauses, &acts[todo[i]]) },
+            |p: usize| -> Result<Vec<BitRow>, AllocError>
+                requires { CanTest facts known.now clauses.now acts.now todo.now × (2048 * p < length todo.now) }
+                ensures { IfOk result (λ t. AreLosses facts known.entry.now clauses.entry.now acts.entry.now todo.entry.now (2048 * p) (2048 * p + 2048) t.items) }
+            { piece_losses(alloc, facts, known, clauses, acts, todo, p) },
         )
         .collect::<Result<Vec<_>, AllocError>>(rt, alloc)?
 }
 
-/// Drops what lists of losses say. Whether there was something to drop. The opposites of the literals whose clauses
+/// Drops what rows of lost clauses say. Whether there was something to drop. The opposites of the literals whose clauses
 /// become fewer are put into `stale`.
-fn drop_all(rows: &mut Vec<BitRow>, lists: &[Vec<Loss>], stale: &mut BitRow) -> bool
+fn drop_all(rows: &mut Vec<BitRow>, tables: &[Vec<BitRow>], stale: &mut BitRow) -> bool
     requires few { length rows.old.items ≤ 4096 }
     requires even { (l : ℕ) → l < length rows.old.items → opposite l < room stale.old }
-    requires fit { AllByRecursion (λ list. AllByRecursion (LossFits (length rows.old.items)) list.items) lists.now }
+    requires fit { AllByRecursion (λ t. (length t.items ≡ length rows.old.items) × ((l m : ℕ) → clause_in t.items l m ≡ true → m < length rows.old.items)) tables.now }
     requires either { (a b : ℕ) → clause_in rows.old.items a b ≡ clause_in rows.old.items b a }
     ensures long { length rows.new.items ≡ length rows.old.items }
-    ensures has { (a b : ℕ) → clause_in rows.new.items a b ≡ (clause_in rows.old.items a b && not (list_any (λ list. are_lost list.items a b || are_lost list.items b a) lists.now)) }
-    ensures dropped { result ≡ list_any (λ list. not (length list.items == 0)) lists.now }
+    ensures has { (a b : ℕ) → clause_in rows.new.items a b ≡ (clause_in rows.old.items a b && not (are_lost tables.now a b)) }
     ensures stale { IsDropped rows.old.items rows.new.items (row_has stale.old) (row_has stale.new) }
+    ensures some { result ≡ true → (a b : ℕ) × (are_lost tables.now a b ≡ true) }
+    ensures none { result ≡ false → (a b : ℕ) → are_lost tables.now a b ≡ false }
 {
     let mut dropped = false;
-    for list in lists {
-        dropped = dropped || !list.is_empty();
-        drop_losses(rows, list.as_slice(), stale);
+    for table in tables {
+        let more = drop_lost(rows, table.as_slice(), stale);
+        dropped = dropped || more;
     }
     dropped
 }
@@ -94,6 +124,6 @@ pub fn drop_broken(
 {
     let facts = task.facts();
     stale.make_room(2 * facts as usize)?;
-    let lists = all_losses(rt, alloc, facts, known, rows.as_slice(), task.acts(), todo)?;
-    Ok(drop_all(rows, lists.as_slice(), stale))
+    let tables = all_losses(rt, alloc, facts, known, rows.as_slice(), task.acts(), todo)?;
+    Ok(drop_all(rows, tables.as_slice(), stale))
 }

@@ -1,47 +1,55 @@
-use Rattle.std.proofs.Common.{arith, ◌≡◌, ◌∙◌, ◌==◌, ◌&&◌, ◌||◌, ap, sym, subst, not, Bool, ℕ, ◌+◌, List, [], length, drop, Vec, Global}
-use Rattle.std.specs.List.{list_any}
-use Rattle.std.specs.Vec.{vec_len}
+use Rattle.std.proofs.Common.{arith, ◌≡◌, ◌∙◌, ◌&&◌, ◌||◌, ap, sym, subst, not, Bool, true, false, ℕ, ◌+◌, List, [], drop, Vec, Global}
 use Rattle.std.proofs.lemmas.List.{drop_all}
 use Rattle.gt_core.proofs.Basics.{or_left}
 use Rattle.known_literals.specs.Rows.{clause_in}
 use Rattle.invariant_rounds.specs.Losses.{are_lost}
-use Rattle.invariant_rounds.specs.declared.broken.Loss.{Loss}
-use Rattle.invariant_rounds.proofs.Grouping.{lost_more, and_one}
+use Rattle.invariant_rounds.proofs.Grouping.{lost_more, and_one, any_among}
 use Rattle.invariant_rounds.proofs.Steps.{any_rest}
-use Rattle.invariant_rounds.proofs.Dropping.{still_either, dropped_twice, one_more_dropped}
+use Rattle.invariant_rounds.proofs.Dropping.{still_either, dropped_twice, some_of, none_of}
 use Rattle.invariant_rounds.proofs.round.drop_all.Goals as goal
 use Rattle.invariant_rounds.proofs.round.drop_all.Goals.{then-dropped, else-dropped}
 
-abbrev lost_in : ℕ → ℕ → Vec Loss Global → Bool
-lost_in a b list = are_lost list.items a b || are_lost list.items b a
+abbrev lost_in : ℕ → ℕ → Vec (List ℕ) Global → Bool
+lost_in a b t = clause_in t.items a b || clause_in t.items b a
 
-abbrev has_some : Vec Loss Global → Bool
-has_some list = not (length list.items == 0)
-
-pub loop-list-preserved : goal.loop-list-preserved
-loop-list-preserved c =
-    let i = c.loop-list.invariant in
-    let cur = c.loop-list.rows.items in
-    let new = c.drop_losses.new.rows.items in
-    let has : (a b : ℕ) → clause_in new a b ≡ (clause_in cur a b && not (lost_in a b c.list-item.result)) = λ a b.
-    subst (λ (ls : List Loss). clause_in new a b ≡ (clause_in cur a b && not (are_lost ls a b || are_lost ls b a))) c.as_slice.ensures.value (c.drop_losses.ensures.has a b) in
-    let size : vec_len c.list-item.result ≡ length c.list-item.result.items = let ok = c.list-item.result.ok in omega arith in
-    let now : c.if-dropped.dropped ≡ (c.loop-list.dropped || has_some c.list-item.result) = elim c.if-dropped.branch [
-      | then-dropped w ↦ w.dropped-is ∙ w.if-dropped.true ∙ sym (or_left c.loop-list.dropped _ w.if-dropped.true)
-      | else-dropped w ↦ w.dropped-is ∙ ap not w.is_empty.ensures ∙ ap (λ (n : ℕ). not (n == 0)) size ∙ ap (λ (b : Bool). b || has_some c.list-item.result) (sym w.if-dropped.false)
+pub loop-table-preserved : goal.loop-table-preserved
+loop-table-preserved c =
+    let i = c.loop-table.invariant in
+    let cur = c.loop-table.rows.items in
+    let new = c.drop_lost-more.new.rows.items in
+    let table = c.table-item.result in
+    let more = c.drop_lost-more.result in
+    let value = c.as_slice.ensures.value in
+    let has : (a b : ℕ) → clause_in new a b ≡ (clause_in cur a b && not (lost_in a b table)) = λ a b.
+    subst (λ (t : List (List ℕ)). clause_in new a b ≡ (clause_in cur a b && not (clause_in t a b || clause_in t b a))) value (c.drop_lost-more.ensures.has a b) in
+    let now : c.if-dropped.dropped ≡ (c.loop-table.dropped || more) = elim c.if-dropped.branch [
+      | then-dropped w ↦ w.dropped-is ∙ w.if-dropped.true ∙ sym (or_left c.loop-table.dropped _ w.if-dropped.true)
+      | else-dropped w ↦ w.dropped-is ∙ ap (λ (b : Bool). b || more) (sym w.if-dropped.false)
     ] in
+    let here : more ≡ true → (a b : ℕ) × (are_lost c.args.tables.now a b ≡ true) = λ r.
+    let s = c.drop_lost-more.ensures.some r in
+    (s.0, s.1, any_among (lost_in s.0 s.1) c.args.tables.now c.loop-table.table-index table c.loop-table-test.true c.table-item.is (or_left _ _ (subst (λ (t : List (List ℕ)). clause_in t s.0 s.1 ≡ true) value s.2))) in
     record {
-      long = c.drop_losses.ensures.long ∙ i.long;
-      room = c.drop_losses.ensures.room ∙ i.room;
-      either = still_either cur new (are_lost c.list-item.result.items) i.either has;
-      has = λ a b. lost_more (lost_in a b) c.args.lists.now c.loop-list.list-index c.list-item.result (clause_in cur a b) (clause_in new a b) c.loop-list-test.true c.list-item.is (has a b) ∙ i.has a b;
-      dropped = one_more_dropped c.loop-list.dropped c.if-dropped.dropped (has_some c.list-item.result) (list_any has_some (drop (c.loop-list.list-index + 1) c.args.lists.now)) now
-          ∙ ap (λ (b : Bool). c.loop-list.dropped || b) (sym (any_rest has_some c.args.lists.now c.loop-list.list-index c.list-item.result c.loop-list-test.true c.list-item.is)) ∙ i.dropped;
-      fewer = dropped_twice _ cur new _ _ _ i.fewer c.drop_losses.ensures.dropped;
+      long = c.drop_lost-more.ensures.long ∙ i.long;
+      room = c.drop_lost-more.ensures.room ∙ i.room;
+      either = still_either cur new (clause_in table.items) i.either has;
+      has = λ a b. lost_more (lost_in a b) c.args.tables.now c.loop-table.table-index table (clause_in cur a b) (clause_in new a b) c.loop-table-test.true c.table-item.is (has a b) ∙ i.has a b;
+      fewer = dropped_twice _ cur new _ _ _ i.fewer c.drop_lost-more.ensures.dropped;
+      some = some_of c.loop-table.dropped more c.if-dropped.dropped now i.some here;
+      none = λ f a b.
+          let p = none_of c.loop-table.dropped more c.if-dropped.dropped now f in
+          let off : (x y : ℕ) → clause_in table.items x y ≡ false = λ x y. subst (λ (t : List (List ℕ)). clause_in t x y ≡ false) value (c.drop_lost-more.ensures.none p.1 x y) in
+          i.none p.0 a b ∙ any_rest (lost_in a b) c.args.tables.now c.loop-table.table-index table c.loop-table-test.true c.table-item.is
+          ∙ (λ j. (off a b j || off b a j) || are_lost (drop (c.loop-table.table-index + 1) c.args.tables.now) a b);
     }
 
 pub returns-clause-has : goal.returns-clause-has
 returns-clause-has c = λ a b.
-    let cur = clause_in c.loop-list.rows.items a b in
-    let none : drop c.loop-list.list-index c.args.lists.now ≡ [] = drop_all c.loop-list.list-index c.args.lists.now (let f = c.loop-list-test.false in omega arith) in
-    sym (and_one cur) ∙ ap (λ (ls : List (Vec Loss Global)). cur && not (list_any (lost_in a b) ls)) (sym none) ∙ c.loop-list.invariant.has a b
+    let cur = clause_in c.loop-table.rows.items a b in
+    let none : drop c.loop-table.table-index c.args.tables.now ≡ [] = drop_all c.loop-table.table-index c.args.tables.now (let f = c.loop-table-test.false in omega arith) in
+    sym (and_one cur) ∙ ap (λ (ts : List (Vec (List ℕ) Global)). cur && not (are_lost ts a b)) (sym none) ∙ c.loop-table.invariant.has a b
+
+pub returns-clause-none : goal.returns-clause-none
+returns-clause-none c = λ f a b.
+    let none : drop c.loop-table.table-index c.args.tables.now ≡ [] = drop_all c.loop-table.table-index c.args.tables.now (let e = c.loop-table-test.false in omega arith) in
+    c.loop-table.invariant.none f a b ∙ ap (λ (ts : List (Vec (List ℕ) Global)). are_lost ts a b) none

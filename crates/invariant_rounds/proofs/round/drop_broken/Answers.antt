@@ -1,31 +1,34 @@
-use Rattle.std.proofs.Common.{arith, ◌*◌, ◌<◌, sym, subst, ℕ, List, length, Vec, Global, ◌∙◌}
-use Rattle.std.specs.List.{AllByRecursion}
+use Rattle.std.proofs.Common.{arith, ◌*◌, ◌<◌, ◌≡◌, sym, refl, subst, true, ℕ, List, length, Vec, Global, ◌∙◌}
 use Rattle.bit_rows.specs.Bits.{row_has}
+use Rattle.std.specs.List.{AllByRecursion}
 use Rattle.gt_core.specs.Task.{Action}
-use Rattle.known_literals.specs.Tested.{ActionFits}
-use Rattle.invariant_rounds.specs.Losses.{LossFits}
-use Rattle.invariant_rounds.specs.declared.broken.Loss.{Loss}
-use Rattle.invariant_rounds.proofs.RoundLaw.{known_fit, actions_fit, zip_of, all_fit, round_is, picked}
-use Rattle.known_literals.proofs.Steps.{opposite_below}
+use Rattle.known_literals.specs.Rows.{clause_in}
+use Rattle.known_literals.specs.declared.known.Known.{Known}
 use Rattle.gt_core.proofs.Basics.{and_split}
+use Rattle.gt_core.proofs.Lists.{each_number}
+use Rattle.known_literals.proofs.Steps.{opposite_below}
+use Rattle.invariant_rounds.specs.Losses.{CanTest, AreAllLosses}
+use Rattle.invariant_rounds.proofs.RoundLaw.{known_fit, actions_fit, fits_at, pieces_fit, round_is}
 use Rattle.invariant_rounds.proofs.round.drop_broken.Goals as goal
 
-pub all_losses-requires-clause-rows : goal.all_losses-requires-clause-rows
-all_losses-requires-clause-rows g c κs within =
-    (known_fit c.facts-facts.result c.args.task.now.facts c.args.rows.now.items c.args.known.now (row_has c.args.asked.now) c.facts-facts.ensures.facts c.requires.rows c.requires.either c.requires.known).0
-
-pub all_losses-requires-clause-none : goal.all_losses-requires-clause-none
-all_losses-requires-clause-none g c κs within =
-    (known_fit c.facts-facts.result c.args.task.now.facts c.args.rows.now.items c.args.known.now (row_has c.args.asked.now) c.facts-facts.ensures.facts c.requires.rows c.requires.either c.requires.known).1
-
-pub all_losses-requires-clause-acts : goal.all_losses-requires-clause-acts
-all_losses-requires-clause-acts g c κs within =
-    subst (λ (xs : List Action). AllByRecursion (ActionFits (2 * c.facts-facts.result)) xs) (sym c.acts.ensures.acts)
-    (subst (λ (n : ℕ). AllByRecursion (ActionFits (2 * n)) c.args.task.now.actions) (sym c.facts-facts.ensures.facts) (actions_fit c.args.task.now c.facts-facts.ensures.lawful))
-
-pub all_losses-requires-clause-todo : goal.all_losses-requires-clause-todo
-all_losses-requires-clause-todo g c κs within =
-    subst (λ (xs : List Action). AllByRecursion (λ a. a < length xs) c.args.todo.now) (sym c.acts.ensures.acts) c.requires.tested.numbers
+pub all_losses-requires-clause-can : goal.all_losses-requires-clause-can
+all_losses-requires-clause-can g c κs within =
+    let task = c.args.task.now in
+    let todo = c.args.todo.now in
+    let n = c.facts-facts.result in
+    let known = c.args.known.now in
+    let fit = known_fit task.facts task.facts c.args.rows.now.items known (row_has c.args.asked.now) refl c.requires.rows c.requires.either c.requires.known in
+    let number : (i : ℕ) → i < length todo → _ = λ i lt. each_number (λ a. a < length task.actions) todo _ 0 c.requires.tested.numbers lt in
+    let can : CanTest task.facts known c.args.rows.now.items task.actions todo = record {
+      numbers = number;
+      rows = fit.0;
+      none = fit.1;
+      lawful = c.requires.rows;
+      fits = λ i lt. fits_at (2 * task.facts) task.actions _ (actions_fit task c.facts-facts.ensures.lawful) (number i lt);
+    } in
+    subst (λ (k : ℕ). CanTest k known c.as_slice.result.now c.acts.result.now todo) (sym c.facts-facts.ensures.facts)
+    (subst (λ (r : List (List ℕ)). CanTest task.facts known r c.acts.result.now todo) (sym c.as_slice.ensures.value)
+    (subst (λ (xs : List Action). CanTest task.facts known c.args.rows.now.items xs todo) (sym c.acts.ensures.acts) can))
 
 pub drop_all-requires-clause-even : goal.drop_all-requires-clause-even
 drop_all-requires-clause-even g c l lt =
@@ -35,22 +38,26 @@ drop_all-requires-clause-even g c l lt =
     let same = c.facts-facts.ensures.facts in
     omega arith
 
-abbrev it : Vec Loss Global → List Loss
-it v = v.items
+losses : (n facts : ℕ) (given rows : List (List ℕ)) (xs acts : List Action) (known : Known) (todo : List ℕ) (tables : List (Vec (List ℕ) Global)) → n ≡ facts → given ≡ rows → xs ≡ acts
+    → AreAllLosses n known given xs todo tables → AreAllLosses facts known rows acts todo tables
+losses n facts given rows xs acts known todo tables e f h z =
+    subst (λ (k : ℕ). AreAllLosses k known rows acts todo tables) e (subst (λ (r : List (List ℕ)). AreAllLosses n known r acts todo tables) f (subst (λ (ys : List Action). AreAllLosses n known given ys todo tables) h z))
 
 pub drop_all-requires-clause-fit : goal.drop_all-requires-clause-fit
 drop_all-requires-clause-fit g c =
     let facts = c.args.task.now.facts in
-    let each = zip_of it c.facts-facts.result c.args.task.now.facts c.as_slice.result.now c.args.rows.now.items c.acts.result.now c.args.task.now.actions c.args.known.now c.args.todo.now c.in_ok-lists.lists.items c.facts-facts.ensures.facts c.as_slice.ensures.value c.acts.ensures.acts c.in_ok-lists.ensures in
-    let fit = all_fit it facts c.args.known.now c.args.rows.now.items c.requires.rows (picked c.args.task.now.actions c.args.todo.now) c.in_ok-lists.lists.items each in
-    subst (λ (n : ℕ). AllByRecursion (λ (v : Vec Loss Global). AllByRecursion (LossFits n) v.items) c.as_slice-2.result.now) (sym c.requires.rows.long)
-    (subst (λ (ls : List (Vec Loss Global)). AllByRecursion (λ (v : Vec Loss Global). AllByRecursion (LossFits (2 * facts)) v.items) ls) (sym c.as_slice-2.ensures.value) fit)
+    let tables = c.in_ok-tables.tables.items in
+    let all = losses c.facts-facts.result facts c.as_slice.result.now c.args.rows.now.items c.acts.result.now c.args.task.now.actions c.args.known.now c.args.todo.now tables c.facts-facts.ensures.facts c.as_slice.ensures.value c.acts.ensures.acts c.in_ok-tables.ensures in
+    let fit = pieces_fit facts c.args.known.now c.args.rows.now.items c.args.task.now.actions c.args.todo.now tables c.requires.rows all in
+    subst (λ (ts : List (Vec (List ℕ) Global)). AllByRecursion (λ t. (length t.items ≡ length c.args.rows.now.items) × ((l m : ℕ) → clause_in t.items l m ≡ true → m < length c.args.rows.now.items)) ts) (sym c.as_slice-2.ensures.value) fit
 
 pub returns-clause-round : goal.returns-clause-round
 returns-clause-round g c =
-    let each = zip_of it c.facts-facts.result c.args.task.now.facts c.as_slice.result.now c.args.rows.now.items c.acts.result.now c.args.task.now.actions c.args.known.now c.args.todo.now c.in_ok-lists.lists.items c.facts-facts.ensures.facts c.as_slice.ensures.value c.acts.ensures.acts c.in_ok-lists.ensures in
-    round_is it c.args.task.now c.args.rows.now.items _ c.args.known.now c.args.todo.now c.in_ok-lists.lists.items c.drop_all.result c.requires.rows c.requires.either c.requires.tested each
-    (rw c.as_slice-2.ensures.value at c.drop_all.ensures.has) (rw c.as_slice-2.ensures.value at c.drop_all.ensures.dropped)
+    let facts = c.args.task.now.facts in
+    let tables = c.in_ok-tables.tables.items in
+    let all = losses c.facts-facts.result facts c.as_slice.result.now c.args.rows.now.items c.acts.result.now c.args.task.now.actions c.args.known.now c.args.todo.now tables c.facts-facts.ensures.facts c.as_slice.ensures.value c.acts.ensures.acts c.in_ok-tables.ensures in
+    round_is c.args.task.now c.args.known.now c.args.rows.now.items c.args.todo.now c.requires.rows c.requires.tested c.requires.either tables all _ c.drop_all.result
+    (rw c.as_slice-2.ensures.value at c.drop_all.ensures.has) (rw c.as_slice-2.ensures.value at c.drop_all.ensures.some) (rw c.as_slice-2.ensures.value at c.drop_all.ensures.none)
 
 pub returns-clause-rows : goal.returns-clause-rows
 returns-clause-rows g c = record {

@@ -1,23 +1,22 @@
-use Rattle.std.proofs.Common.{◌≡◌, ◌∙◌, ◌*◌, ◌<◌, ◌==◌, ◌&&◌, ap, sym, subst, refl, true, false, not, length, Bool, ℕ, List}
+use Rattle.std.proofs.Common.{◌≡◌, ◌∙◌, ◌*◌, ◌<◌, ◌==◌, ◌&&◌, ◌||◌, ap, sym, subst, refl, true, false, not, length, Bool, ℕ, List}
 use Rattle.std.specs.List.{AllByRecursion, list_all}
 use Rattle.bit_rows.specs.Bits.{row_has, IsPairAcross}
 use Rattle.gt_core.specs.Literal.{opposite}
 use Rattle.gt_core.specs.Task.{Effect}
 use Rattle.known_literals.specs.Rows.{clause_in}
 use Rattle.known_literals.specs.Tested.{EffectFits, AreRowsOf, with_more, has_no_pair, breaks_by}
-use Rattle.invariant_rounds.specs.Losses.{AreLossesOf}
-use Rattle.invariant_rounds.specs.Plain.{breaks_plainly}
-use Rattle.invariant_rounds.specs.declared.broken.Loss.{Loss}
+use Rattle.invariant_rounds.specs.Plain.{breaks_plainly, has_opposite}
 use Rattle.invariant_rounds.specs.Groups.{effect_with, group_with, breaks_under, GroupFits}
 use Rattle.invariant_rounds.specs.declared.groups.Group.{Group}
 use Rattle.invariant_rounds.proofs.Contradicted.{breaks_nothing}
 use Rattle.invariant_rounds.proofs.Steps.{more_within}
+use Rattle.invariant_rounds.proofs.Firm.{not_broken, nothing_more}
 use Rattle.known_literals.proofs.Exact.{pair_test_is}
 use Rattle.invariant_rounds.proofs.PlainEffects.{breaks_the_same}
-use Rattle.invariant_rounds.proofs.broken.losses_of.Goals as goal
+use Rattle.invariant_rounds.proofs.broken.add_losses_of.Goals as goal
 
-pub group_losses-requires-clause-before : goal.group_losses-requires-clause-before
-group_losses-requires-clause-before c =
+pub add_all_groups-requires-clause-before : goal.add_all_groups-requires-clause-before
+add_all_groups-requires-clause-before c =
     let known = c.args.known.now in
     let value = c.as_slice-rows.ensures.value in
     record {
@@ -31,37 +30,31 @@ group_losses-requires-clause-before c =
           (c.in_ok-groups.ensures.fit (2 * c.args.facts) (subst (λ (es : List Effect). AllByRecursion (EffectFits (2 * c.args.facts)) es) (sym c.effects-effects.ensures) c.requires.act.effects));
     }
 
-pub returns-then-has_pair : goal.returns-then-has_pair
-returns-then-has_pair c =
+pub returns-then-has_pair-clause-lost : goal.returns-then-has_pair-clause-lost
+returns-then-has_pair-clause-lost c = λ l m.
     let known = c.args.known.now in
     let x = c.args.act.now in
     let none = row_has known.none in
     let value = c.as_slice-rows.ensures.value in
     let set : row_has c.in_ok-set.set ≡ with_more known.rows.items none x.precondition = (λ i m. c.in_ok-set.ensures m i) ∙ (λ i. with_more (value i) none (c.pre.ensures i)) in
     let pair = subst (λ (s : ℕ → Bool). IsPairAcross s s true) set c.if-has_pair.ensures in
-    let nothing = breaks_nothing c.args.facts known x c.requires.rows c.requires.none pair in
-    subst (λ (losses : List Loss). AreLossesOf c.args.facts known c.args.clauses.now x losses) (sym c.new.ensures.items) (record {
-      lost = λ l m. and_off (clause_in c.args.clauses.now l m) (breaks_by c.args.facts known x l m) (nothing l m);
-      each = tt;
-    })
+    off (clause_in c.args.lost.now.items l m) (clause_in c.args.clauses.now l m) (breaks_by c.args.facts known x l m) (breaks_nothing c.args.facts known x c.requires.rows c.requires.none pair l m)
   where
-    and_off : (a b : Bool) → b ≡ false → false ≡ (a && b)
-    and_off true b e = sym e
-    and_off false b e = refl
+    off : (o a b : Bool) → b ≡ false → o ≡ (o || (a && b))
+    off true a b e = refl
+    off false true b e = sym e
+    off false false b e = refl
 
-pub returns : goal.returns
-returns c =
+pub returns-clause-lost : goal.returns-clause-lost
+returns-clause-lost c = λ l m.
     let none = row_has c.args.known.now.none in
     let value = c.as_slice-rows.ensures.value in
     let set : row_has c.in_ok-set.set ≡ with_more c.args.known.now.rows.items none c.args.act.now.precondition = (λ i m. c.in_ok-set.ensures m i) ∙ (λ i. with_more (value i) none (c.pre.ensures i)) in
     let has : group_with c.as_slice.result.now ≡ effect_with c.args.act.now.effects = (λ i. group_with (c.as_slice.ensures.value i)) ∙ (λ i l test. c.in_ok-groups.ensures.same l test i) ∙ (λ i. effect_with (c.effects-effects.ensures i)) in
-    record {
-      lost = λ l m. c.in_ok-losses.ensures.lost l m ∙ (λ i. clause_in c.args.clauses.now l m && has i (opposite l) (breaks_under c.args.facts (value i) (has i) (set i) l m));
-      each = c.in_ok-losses.ensures.each;
-    }
+    c.in_ok-add_all_groups.ensures.lost l m ∙ (λ i. clause_in c.args.lost.now.items l m || (clause_in c.args.clauses.now l m && has i (opposite l) (breaks_under c.args.facts (value i) (has i) (set i) l m)))
 
-pub returns-then-are_plain : goal.returns-then-are_plain
-returns-then-are_plain c =
+pub returns-then-are_plain-clause-lost : goal.returns-then-are_plain-clause-lost
+returns-then-are_plain-clause-lost c = λ l m.
     let facts = c.args.facts in
     let known = c.args.known.now in
     let x = c.args.act.now in
@@ -73,10 +66,22 @@ returns-then-are_plain c =
     let free : has_no_pair facts (with_more rows none x.precondition) ≡ true =
     ap (has_no_pair facts) (sym set) ∙ sym (pair_test_is facts (row_has c.in_ok-set.set) c.has_pair.result within c.has_pair.ensures) ∙ ap not c.if-has_pair.false in
     let plain : list_all (λ (e : Effect). length e.condition == 0) x.effects ≡ true = ap (list_all (λ (e : Effect). length e.condition == 0)) (sym c.effects-effects.ensures) ∙ sym c.are_plain.ensures ∙ c.if-are_plain.true in
-    record {
-      lost = λ l m.
-          c.in_ok-plain.ensures.lost l m
-          ∙ (λ i. clause_in c.args.clauses.now l m && breaks_plainly (set i) (c.effects-effects.ensures i) l m)
-          ∙ ap (λ (b : Bool). clause_in c.args.clauses.now l m && b) (breaks_the_same facts rows (with_more rows none x.precondition) x.effects plain free l m);
-      each = c.in_ok-plain.ensures.each;
-    }
+    let old = clause_in c.args.lost.now.items l m in
+    c.in_ok-add_plain_losses.ensures.lost l m
+    ∙ (λ i. old || (clause_in c.args.clauses.now l m && breaks_plainly (set i) (c.effects-effects.ensures i) l m))
+    ∙ ap (λ (b : Bool). old || (clause_in c.args.clauses.now l m && b)) (breaks_the_same facts rows (with_more rows none x.precondition) x.effects plain free l m)
+
+pub are_harmless-requires-clause-effects : goal.are_harmless-requires-clause-effects
+are_harmless-requires-clause-effects c = subst (λ (es : List Effect). AllByRecursion (EffectFits (2 * c.args.facts)) es) (sym c.effects-effects.ensures) c.requires.act.effects
+
+pub returns-then-harmless-clause-lost : goal.returns-then-harmless-clause-lost
+returns-then-harmless-clause-lost c = λ l m.
+    let known = c.args.known.now in
+    let x = c.args.act.now in
+    let none = row_has known.none in
+    let value = c.as_slice-rows.ensures.value in
+    let set : row_has c.in_ok-set.set ≡ with_more known.rows.items none x.precondition = (λ i m. c.in_ok-set.ensures m i) ∙ (λ i. with_more (value i) none (c.pre.ensures i)) in
+    let firm = subst (λ (es : List Effect). (l m : ℕ) → has_opposite es l ≡ true → clause_in c.args.clauses.now l m ≡ true → (row_has c.in_ok-set.set m && not (has_opposite es m)) ≡ true) c.effects-effects.ensures (c.in_ok-harmless.ensures c.if-harmless.true) in
+    nothing_more (clause_in c.args.lost.now.items l m) (clause_in c.args.clauses.now l m) (breaks_by c.args.facts known x l m)
+    (not_broken c.args.facts known.rows.items x.effects (with_more known.rows.items none x.precondition) c.args.clauses.now
+    (subst (λ (s : ℕ → Bool). (l m : ℕ) → has_opposite x.effects l ≡ true → clause_in c.args.clauses.now l m ≡ true → (s m && not (has_opposite x.effects m)) ≡ true) set firm) l m)

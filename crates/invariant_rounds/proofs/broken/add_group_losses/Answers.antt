@@ -1,18 +1,17 @@
-use Rattle.std.proofs.Common.{arith, ◌≡◌, ◌∙◌, ◌*◌, ◌<◌, ◌⊎◌, inl, inr, ap, sym, not, true, length, ◌&&◌, ◌||◌, Bool, ℕ}
+use Rattle.std.proofs.Common.{arith, ◌≡◌, ◌∙◌, ◌*◌, ◌<◌, ◌⊎◌, inl, inr, ap, sym, subst, not, true, length, ◌&&◌, ◌||◌, Bool, ℕ}
 use Rattle.std.specs.List.{list_all}
 use Rattle.bit_rows.specs.Bits.{row_has}
 use Rattle.gt_core.specs.Literal.{opposite}
 use Rattle.known_literals.specs.Breaks.{is_add}
 use Rattle.known_literals.specs.Rows.{clause_in}
 use Rattle.known_literals.specs.Tested.{with_more, has_no_pair}
-use Rattle.invariant_rounds.specs.Losses.{are_lost}
-use Rattle.invariant_rounds.specs.Groups.{group_with, may_lose, is_sure_by}
+use Rattle.invariant_rounds.specs.Groups.{group_with, may_lose, may_take_by, is_sure_by}
 use Rattle.known_literals.proofs.Exact.{pair_test_is}
 use Rattle.invariant_rounds.proofs.Steps.{more_within, and_true}
 use Rattle.gt_core.proofs.Basics.{or_split}
 use Rattle.invariant_rounds.proofs.Grouping.{none_lost}
-use Rattle.invariant_rounds.proofs.Indexing.{givers_more, takers_more, more_of, given_within, told_twice}
-use Rattle.invariant_rounds.proofs.broken.push_group_losses.Goals as goal
+use Rattle.invariant_rounds.proofs.Indexing.{givers_more, takers_more, more_of, given_within, told_twice, firm_sure, kept_sure}
+use Rattle.invariant_rounds.proofs.broken.add_group_losses.Goals as goal
 
 pub fill_given-requires-clause-set : goal.fill_given-requires-clause-set
 fill_given-requires-clause-set c m t =
@@ -76,7 +75,7 @@ returns-then-has_pair-clause-lost c = λ l m.
     let has = group_with c.args.before.now.groups.now in
     let here : row_has c.in_ok-known.known ≡ with_more rows set cond = (λ i k. c.in_ok-known.ensures k i) ∙ (λ i. with_more rows set (c.as_slice.ensures.value i)) in
     let free = pair_test_is facts (row_has c.in_ok-known.known) c.has_pair.result (λ k t. more_within (2 * facts) rows set cond c.requires.before.rows c.requires.before.set k (sym (ap (λ (s : ℕ → Bool). s k) here) ∙ t)) c.has_pair.ensures in
-    none_lost (are_lost c.args.losses.now.items l m) (clause_in c.args.clauses.now l m) (row_has c.args.group.now.literals (opposite l)) (has_no_pair facts (with_more rows set cond)) (not (is_add l && has l (list_all (with_more rows set cond)))) (not (is_sure_by facts rows has (with_more rows set cond) m))
+    none_lost (clause_in c.args.lost.now.items l m) (clause_in c.args.clauses.now l m) (row_has c.args.group.now.literals (opposite l)) (has_no_pair facts (with_more rows set cond)) (not (is_add l && has l (list_all (with_more rows set cond)))) (not (is_sure_by facts rows has (with_more rows set cond) m))
     (ap (has_no_pair facts) (sym here) ∙ sym free ∙ ap not c.if-has_pair.true)
 
 pub returns-clause-lost : goal.returns-clause-lost
@@ -86,7 +85,7 @@ returns-clause-lost c = λ l m.
     let set = row_has c.args.before.now.set.now in
     let cond = c.args.group.now.condition.items in
     let has = group_with c.args.before.now.groups.now in
-    let old = are_lost c.args.losses.now.items l m in
+    let old = clause_in c.args.lost.now.items l m in
     let clause = clause_in c.args.clauses.now l m in
     let lits = row_has c.args.group.now.literals (opposite l) in
     let here : row_has c.in_ok-known.known ≡ with_more rows set cond = (λ i k. c.in_ok-known.ensures k i) ∙ (λ i. with_more rows set (c.as_slice.ensures.value i)) in
@@ -97,13 +96,33 @@ returns-clause-lost c = λ l m.
     ∙ (λ i. c.in_ok-unite.ensures.has m i && not (may_lose facts rows has (row_has c.in_ok-known.known) m))
     ∙ (λ i. (c.in_ok-sure.ensures m i || c.in_ok-fill_given.ensures m i) && not (may_lose facts rows has (row_has c.in_ok-known.known) m))
     ∙ (λ i. is_sure_by facts rows has (here i) m) in
-    c.in_ok-push_losses.ensures.lost l m
+    c.in_ok-add_losses.ensures.lost l m
     ∙ (λ i. old || (clause && (c.requires.group.turned l i && (not (is_add l && given i) && not (sure i)))))
     ∙ ap (λ (b : Bool). old || (clause && (lits && (b && not (is_sure_by facts rows has (with_more rows set cond) m)))))
     (and_true (has_no_pair facts (with_more rows set cond)) (not (is_add l && has l (list_all (with_more rows set cond)))) (ap (has_no_pair facts) (sym here) ∙ sym free ∙ ap not c.if-has_pair.false))
 
-pub push_losses-requires-clause-lits : goal.push_losses-requires-clause-lits
-push_losses-requires-clause-lits c = c.requires.group.within
+pub add_losses-requires-clause-lits : goal.add_losses-requires-clause-lits
+add_losses-requires-clause-lits c = c.requires.group.within
 
-pub push_losses-requires-clause-clauses : goal.push_losses-requires-clause-clauses
-push_losses-requires-clause-clauses c = c.requires.clauses
+pub add_losses-requires-clause-clauses : goal.add_losses-requires-clause-clauses
+add_losses-requires-clause-clauses c = c.requires.clauses
+
+pub is_harmless-requires-clause-few : goal.is_harmless-requires-clause-few
+is_harmless-requires-clause-few c = let few = c.requires.clauses.few in let long = c.requires.clauses.long in omega arith
+
+pub is_harmless-requires-clause-lits : goal.is_harmless-requires-clause-lits
+is_harmless-requires-clause-lits c = λ m t. subst (λ (n : ℕ). m < n) (sym c.requires.clauses.long) (c.requires.group.within m t)
+
+pub returns-then-harmless-clause-lost : goal.returns-then-harmless-clause-lost
+returns-then-harmless-clause-lost c = λ l m.
+    let facts = c.args.before.now.facts in
+    let rows = c.args.before.now.rows.now in
+    let groups = c.args.before.now.groups.now in
+    let set = row_has c.args.before.now.set.now in
+    let cond = c.args.group.now.condition.items in
+    let has = group_with groups in
+    let here : row_has c.in_ok-known.known ≡ with_more rows set cond = (λ i k. c.in_ok-known.ensures k i) ∙ (λ i. with_more rows set (c.as_slice.ensures.value i)) in
+    let takers = takers_more facts rows set (row_has c.in_ok-known.known) groups (length groups) c.args.takers.now (λ k t. c.in_ok-known.ensures k ∙ more_of rows set c.as_slice.result.now k t) c.requires.takers in
+    kept_sure (clause_in c.args.lost.now.items l m) (clause_in c.args.clauses.now l m) (row_has c.args.group.now.literals (opposite l)) (may_take_by facts has (with_more rows set cond) l) (is_sure_by facts rows has (with_more rows set cond) m)
+    (λ i v. (λ j. is_sure_by facts rows has (sym here j) m) ∙ firm_sure facts (2 * facts) rows groups (row_has c.in_ok-known.known) c.args.takers.now c.requires.before.groups takers m
+    (c.in_ok-harmless.ensures c.if-harmless.true l m (c.requires.group.turned l ∙ i) v))

@@ -1,12 +1,11 @@
-use Rattle.std.proofs.Common.{◌≡◌, ◌&&◌, not, ◌*◌, ap, Bool, ℕ, true, refl, subst, ◌||◌, ◌∙◌, inl, inr, false, sym}
+use Rattle.std.proofs.Common.{◌≡◌, ◌&&◌, not, ap, Bool, ℕ, true, refl, subst, ◌||◌, ◌∙◌, inl, inr, false, sym}
 use Rattle.bit_rows.specs.Bits.{row_has}
 use Rattle.known_literals.specs.Breaks.{is_add}
 use Rattle.known_literals.specs.Rows.{clause_in}
-use Rattle.invariant_rounds.specs.Losses.{are_lost}
 use Rattle.invariant_rounds.proofs.Grouping.{lost_next, own_part, part_none}
 use Rattle.std.specs.Prelude.{nat_lt}
 use Rattle.std.proofs.lemmas.Bool.{cases_lt, lt-ltb}
-use Rattle.invariant_rounds.proofs.broken.push_losses.Goals as goal
+use Rattle.invariant_rounds.proofs.broken.add_losses.Goals as goal
 
 pub loop-l-preserved : goal.loop-l-preserved
 loop-l-preserved c =
@@ -15,11 +14,11 @@ loop-l-preserved c =
           let clause : Bool = clause_in c.args.clauses.now a m in
           let lits : Bool = row_has c.args.lits.now a in
           let t : Bool = not (is_add a && row_has c.args.given.now a) && not (row_has c.args.sure.now m) in
-          lost_next c.loop-l.from c.in-Some.l a (clause && (lits && t)) (clause && t) (are_lost c.args.losses.now.items a m) (are_lost c.loop-l.losses.items a m) (are_lost c.push_loss.new.losses.items a m) h.0
-          (c.loop-l.invariant.lost a m) (c.in_ok-push_loss.ensures.lost a m)
+          lost_next c.loop-l.from c.in-Some.l a (clause && (lits && t)) (clause && t) (clause_in c.args.lost.now.items a m) (clause_in c.loop-l.lost.items a m) (clause_in c.add_loss.new.lost.items a m) h.0
+          (c.loop-l.invariant.lost a m) (c.in_ok-add_loss.ensures.lost a m)
           (λ e. ap (λ (b : Bool). clause && b) (own_part lits t (subst (λ (k : ℕ). row_has c.args.lits.now k ≡ true) e h.1)))
           (λ low lt. part_none clause lits t (h.2 a low lt));
-      each = λ all. c.in_ok-push_loss.ensures.each (2 * c.args.facts) (c.requires.lits c.in-Some.l h.1) (c.loop-l.invariant.each all);
+      long = c.add_loss.ensures.long ∙ c.loop-l.invariant.long;
     }
 
 -- a test that fails where it is asked for, and is not asked for elsewhere
@@ -32,7 +31,7 @@ returns-clause-lost c a m =
     let clause : Bool = clause_in c.args.clauses.now a m in
     let lits : Bool = row_has c.args.lits.now a in
     let t : Bool = not (is_add a && row_has c.args.given.now a) && not (row_has c.args.sure.now m) in
-    let old : Bool = are_lost c.args.losses.now.items a m in
+    let old : Bool = clause_in c.args.lost.now.items a m in
     c.loop-l.invariant.lost a m ∙ elim (cases_lt a c.loop-l.from) [
       | inl l ↦ ap (λ (b : Bool). old || (b && (clause && (lits && t)))) (lt-ltb a c.loop-l.from l)
       | inr g ↦ asked_or_not old (nat_lt a c.loop-l.from) (clause && (lits && t)) (part_none clause lits t (c.in_default.ensures a g))

@@ -4,14 +4,13 @@ use Rattle.gt_core.specs.Literal.{opposite}
 use Rattle.gt_core.specs.Task.{Effect}
 use Rattle.known_literals.specs.Breaks.{is_add}
 use Rattle.known_literals.specs.Rows.{clause_in}
-use Rattle.invariant_rounds.specs.Losses.{are_lost}
 use Rattle.known_literals.specs.Tested.{EffectFits}
 use Rattle.invariant_rounds.proofs.Grouping.{all_read}
 use Rattle.invariant_rounds.proofs.PlainEffects.{broken_more, in_order}
-use Rattle.invariant_rounds.proofs.plain.push_broken.Goals as goal
+use Rattle.invariant_rounds.proofs.plain.add_broken.Goals as goal
 
-pub push_loss-requires : goal.push_loss-requires
-push_loss-requires c =
+pub add_loss-requires-clause-clauses : goal.add_loss-requires-clause-clauses
+add_loss-requires-clause-clauses c =
     subst (λ (n : ℕ). c.opposite.result < n) (sym c.requires.clauses.long)
     (subst (λ (k : ℕ). k < 2 * c.args.facts) (sym (c.opposite.ensures ∙ ap opposite c.lit.ensures))
     (all_read (EffectFits (2 * c.args.facts)) c.args.effects.now c.loop-effect.effect-index c.effect-item.result c.requires.effects c.loop-effect-test.true c.effect-item.is).literal)
@@ -22,17 +21,19 @@ loop-effect-preserved c =
     let lit = c.opposite.ensures ∙ ap opposite c.lit.ensures in
     record {
       lost = λ a m.
-          let old = are_lost c.loop-effect.losses.items a m in
+          let old = clause_in c.loop-effect.lost.items a m in
           let clause = clause_in c.args.clauses.now a m in
           let t : Bool = not (is_add a && row_has c.args.given.now a) in
           let s : Bool = not (row_has c.args.sure.now m) in
           broken_more (λ (f : Effect). (opposite f.literal == a) && not (is_add a && row_has c.args.given.now a)) c.args.effects.now c.loop-effect.effect-index e clause s
-          old (are_lost c.push_loss.new.losses.items a m) c.loop-effect-test.true c.effect-item.is
-          (c.in_ok-push_loss.ensures.lost a m ∙ ap (λ (k : ℕ). old || ((k == a) && (clause && (t && s)))) lit ∙ in_order old (opposite e.literal == a) clause t s)
+          old (clause_in c.add_loss.new.lost.items a m) c.loop-effect-test.true c.effect-item.is
+          (c.in_ok-add_loss.ensures.lost a m ∙ ap (λ (k : ℕ). old || ((k == a) && (clause && (t && s)))) lit ∙ in_order old (opposite e.literal == a) clause t s)
           ∙ c.loop-effect.invariant.lost a m;
-      each = λ all.
-          c.in_ok-push_loss.ensures.each (2 * c.args.facts)
-          (subst (λ (k : ℕ). k < 2 * c.args.facts) (sym lit)
-          (all_read (EffectFits (2 * c.args.facts)) c.args.effects.now c.loop-effect.effect-index e c.requires.effects c.loop-effect-test.true c.effect-item.is).literal)
-          (c.loop-effect.invariant.each all);
+      long = c.add_loss.ensures.long ∙ c.loop-effect.invariant.long;
     }
+
+pub add_loss-requires-clause-rows : goal.add_loss-requires-clause-rows
+add_loss-requires-clause-rows c =
+    subst (λ (n : ℕ). c.opposite.result < n) (sym (c.loop-effect.invariant.long ∙ c.requires.rows))
+    (subst (λ (k : ℕ). k < 2 * c.args.facts) (sym (c.opposite.ensures ∙ ap opposite c.lit.ensures))
+    (all_read (EffectFits (2 * c.args.facts)) c.args.effects.now c.loop-effect.effect-index c.effect-item.result c.requires.effects c.loop-effect-test.true c.effect-item.is).literal)

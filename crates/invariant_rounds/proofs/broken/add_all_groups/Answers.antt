@@ -4,15 +4,14 @@ use Rattle.std.proofs.lemmas.Option.{slice_get_read}
 use Rattle.bit_rows.specs.Bits.{row_has}
 use Rattle.gt_core.specs.Literal.{opposite}
 use Rattle.known_literals.specs.Rows.{clause_in}
-use Rattle.invariant_rounds.specs.Losses.{are_lost}
 use Rattle.invariant_rounds.specs.Groups.{group_with, breaks_under, GroupFits}
 use Rattle.invariant_rounds.specs.declared.groups.Group.{Group}
 use Rattle.invariant_rounds.proofs.Grouping.{groups_more, all_read}
 use Rattle.invariant_rounds.proofs.Indexing.{from_place}
-use Rattle.invariant_rounds.proofs.broken.group_losses.Goals as goal
+use Rattle.invariant_rounds.proofs.broken.add_all_groups.Goals as goal
 
-pub push_group_losses-requires-clause-one : goal.push_group_losses-requires-clause-one
-push_group_losses-requires-clause-one c = λ l test e.
+pub add_group_losses-requires-clause-one : goal.add_group_losses-requires-clause-one
+add_group_losses-requires-clause-one c = λ l test e.
     from_place (λ (g : Group). row_has g.literals l && test g.condition.items) c.args.before.now.groups.now c.loop-group.group-index c.group-item.result
     (slice_get_read c.args.before.now.groups.now (length c.args.before.now.groups.now) c.loop-group.group-index c.group-item.result refl c.loop-group-test.true c.group-item.is) e
 
@@ -20,16 +19,16 @@ pub loop-group-preserved : goal.loop-group-preserved
 loop-group-preserved c = record {
   lost = λ a m.
       groups_more (λ (g : Group). row_has g.literals (opposite a) && breaks_under c.args.before.now.facts c.args.before.now.rows.now (group_with c.args.before.now.groups.now) (row_has c.args.before.now.set.now) a m g.condition.items)
-      c.args.before.now.groups.now c.loop-group.group-index c.group-item.result (clause_in c.args.clauses.now a m) (are_lost c.loop-group.losses.items a m) (are_lost c.push_group_losses.new.losses.items a m)
-      c.loop-group-test.true c.group-item.is (c.in_ok-push_group_losses.ensures.lost a m)
+      c.args.before.now.groups.now c.loop-group.group-index c.group-item.result (clause_in c.args.clauses.now a m) (clause_in c.loop-group.lost.items a m) (clause_in c.add_group_losses.new.lost.items a m)
+      c.loop-group-test.true c.group-item.is (c.in_ok-add_group_losses.ensures.lost a m)
       ∙ c.loop-group.invariant.lost a m;
-  each = c.in_ok-push_group_losses.ensures.each c.loop-group.invariant.each;
+  long = c.add_group_losses.ensures.long ∙ c.loop-group.invariant.long;
 }
 
 pub returns-clause-lost : goal.returns-clause-lost
 returns-clause-lost c = λ l m.
     let groups = c.args.before.now.groups.now in
-    let lost = are_lost c.loop-group.losses.items l m in
+    let lost = clause_in c.loop-group.lost.items l m in
     let clause = clause_in c.args.clauses.now l m in
     let breaks = breaks_under c.args.before.now.facts c.args.before.now.rows.now (group_with groups) (row_has c.args.before.now.set.now) l m in
     let none : drop c.loop-group.group-index groups ≡ [] = drop_of_length-le groups c.loop-group-test.false in
@@ -40,5 +39,5 @@ returns-clause-lost c = λ l m.
     ends false true = refl
     ends false false = refl
 
-pub push_group_losses-requires-clause-group : goal.push_group_losses-requires-clause-group
-push_group_losses-requires-clause-group c = all_read (GroupFits (2 * c.args.before.now.facts)) c.args.before.now.groups.now c.loop-group.group-index c.group-item.result c.requires.before.groups c.loop-group-test.true c.group-item.is
+pub add_group_losses-requires-clause-group : goal.add_group_losses-requires-clause-group
+add_group_losses-requires-clause-group c = all_read (GroupFits (2 * c.args.before.now.facts)) c.args.before.now.groups.now c.loop-group.group-index c.group-item.result c.requires.before.groups c.loop-group-test.true c.group-item.is

@@ -1,9 +1,8 @@
 use Rattle.std.proofs.Common.{◌≡◌, ◌∙◌, ◌&&◌, ◌||◌, ap, not, Bool}
 use Rattle.bit_rows.specs.Bits.{row_has}
 use Rattle.known_literals.specs.Rows.{clause_in}
-use Rattle.invariant_rounds.specs.Losses.{are_lost}
 use Rattle.invariant_rounds.specs.Plain.{adds_plainly, takes_plainly}
-use Rattle.invariant_rounds.proofs.plain.plain_losses.Goals as goal
+use Rattle.invariant_rounds.proofs.plain.add_plain_losses.Goals as goal
 
 pub returns-clause-lost : goal.returns-clause-lost
 returns-clause-lost c = λ l m.
@@ -15,4 +14,4 @@ returns-clause-lost c = λ l m.
     c.take_opposites.ensures m
     ∙ (λ i. c.in_ok-unite.ensures.has m i && not (takes_plainly (row_has c.insert_literals.new.row) effects m))
     ∙ (λ i. (set m || given i m) && not (takes_plainly (given i) effects m)) in
-    c.in_ok-push_broken.ensures.lost l m ∙ (λ i. are_lost (c.new-losses.ensures.items i) l m || (clause && (takes_plainly (given i) effects l && not (sure i))))
+    c.in_ok-add_broken.ensures.lost l m ∙ (λ i. clause_in c.args.lost.now.items l m || (clause && (takes_plainly (given i) effects l && not (sure i))))

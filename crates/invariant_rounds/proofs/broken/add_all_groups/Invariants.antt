@@ -1,0 +1,13 @@
+use Rattle.std.proofs.Common.{◌≡◌, ◌||◌, ◌&&◌, ℕ, drop, length}
+use Rattle.bit_rows.specs.Bits.{row_has}
+use Rattle.gt_core.specs.Literal.{opposite}
+use Rattle.known_literals.specs.Rows.{clause_in}
+use Rattle.invariant_rounds.specs.Groups.{group_with, breaks_under}
+use Rattle.invariant_rounds.proofs.broken.add_all_groups.Given as goal
+
+abbrev pub invariant-loop-group : goal.invariant-loop-group
+invariant-loop-group l = record {
+  long : length l.lost.items ≡ length l.initial.lost.items;
+  lost : (a m : ℕ) → (clause_in l.lost.items a m || (clause_in l.clauses a m && group_with (drop l.group-index l.before.groups.now) (opposite a) (breaks_under l.before.facts l.before.rows.now (group_with l.before.groups.now) (row_has l.before.set.now) a m)))
+      ≡ (clause_in l.initial.lost.items a m || (clause_in l.clauses a m && group_with l.before.groups.now (opposite a) (breaks_under l.before.facts l.before.rows.now (group_with l.before.groups.now) (row_has l.before.set.now) a m)));
+}

@@ -1,0 +1,8 @@
+use Rattle.std.proofs.Common.{◌≡◌, true, ℕ, drop}
+use Rattle.bit_rows.specs.Bits.{row_has}
+use Rattle.known_literals.specs.Rows.{clause_in}
+use Rattle.invariant_rounds.specs.Plain.{has_opposite}
+use Rattle.invariant_rounds.proofs.harmless.are_opposites_among.Given as goal
+
+abbrev pub invariant-loop-effect : goal.invariant-loop-effect
+invariant-loop-effect l = (k m : ℕ) → clause_in l.clauses k m ≡ true → has_opposite l.effects k ≡ true → (has_opposite (drop l.effect-index l.effects) k ≡ true → row_has l.set m ≡ true) → row_has l.set m ≡ true

@@ -1,0 +1,6 @@
+use Rattle.std.proofs.Common.{◌*◌}
+use Rattle.invariant_rounds.specs.Losses.{AreLosses}
+use Rattle.invariant_rounds.proofs.round.piece_losses.Given as goal
+
+abbrev pub invariant-loop-i : goal.invariant-loop-i
+invariant-loop-i l = AreLosses l.facts l.known l.clauses l.acts l.todo (2048 * l.piece) l.i l.lost.items
