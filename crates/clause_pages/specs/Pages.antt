@@ -1,5 +1,5 @@
 -- Pages of numbers, one after another.
-use Rattle.std.specs.Prelude.{◌≡◌, ℕ, ◌≤◌, List, [], ◌∷◌, ◌++◌, length}
+use Rattle.std.specs.Prelude.{◌≡◌, ◌≤◌, List, [], ◌∷◌, ◌++◌, length}
 
 -- the items of all pages
 abbrev pub joined : {A : Type 0} → List (List A) → List A

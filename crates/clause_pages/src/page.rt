@@ -6,8 +6,14 @@ use list_of::FlatLists;
 use std::alloc::{AllocError, Global};
 use std::marker::Model;
 
+/// How many numbers a page has at most.
+pub const PAGE: usize = 128;
+
 /// The slot of a clause that was taken out.
 const GONE: u8 = 255;
+
+/// How many clauses have to be gone before a page that still grows is packed.
+const MANY: usize = 32;
 
 /// At most 128 clauses, each with its number from 0 on. Contracts see the list of them, with `None` for one that was taken out.
 #[derive(Drop)]
@@ -30,16 +36,16 @@ impl Model for Page {
 }
 
 impl Page {
-    /// The page without clauses. It takes no memory.
-    pub fn new(alloc: Global) -> Page
-        ensures { result ≡ [] }
+    /// The page without clauses.
+    pub fn new(alloc: Global) -> Result<Page, AllocError>
+        ensures { IfOk result (λ page. page ≡ []) }
     {
-        Page {
+        Ok(Page {
             alloc,
             lists: FlatLists::new(alloc),
-            slots: Vec::new(alloc),
+            slots: Vec::with_capacity(alloc, PAGE)?,
             left: 0,
-        }
+        })
     }
 
     /// How many numbers there are.
@@ -98,7 +104,7 @@ impl Page {
     fn packed(&self) -> Result<Page, AllocError>
         ensures { IfOk result (λ page. page ≡ self.now) }
     {
-        let mut page = Page::new(self.alloc);
+        let mut page = Page::new(self.alloc)?;
         for number in 0..self.len() {
             match self.get(number) {
                 Some(clause) => page.push(clause)?,
@@ -108,11 +114,18 @@ impl Page {
         Ok(page)
     }
 
-    /// Gives room back where fewer than half of the clauses that stand here are left. For want of memory all stays as it is.
+    /// Whether more than half of the clauses that stand here are gone: of a page that still grows, so many that packing it is paid
+    /// by them.
+    fn is_due(&self) -> bool {
+        let gone = self.lists.len().saturating_sub(self.left);
+        gone > self.left && (gone >= MANY || self.slots.len() == PAGE)
+    }
+
+    /// Gives room back where it is due. For want of memory all stays as it is.
     fn pack(&mut self)
         ensures { self.new ≡ self.old }
     {
-        if self.left < self.lists.len() / 2 {
+        if self.is_due() {
             if let Ok(page) = self.packed() {
                 *self = page;
             }

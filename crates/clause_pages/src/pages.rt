@@ -2,13 +2,10 @@
 ghost use Rattle.std.specs.Prelude.{◌≡◌, ◌∷◌, [], ◌++◌, ◌<◌, Ok, true, false, Some, None, length, set, slice_index_or, IfSome, IfNone, OnOk, OnErr};
 ghost use Rattle.clause_pages.specs.Pages.{joined, AreFull, AreWhole};
 
-use crate::page::Page;
+use crate::page::{PAGE, Page};
 use clause_base::literal::Lit;
 use std::alloc::{AllocError, Global};
 use std::marker::Model;
-
-/// How many numbers a page has.
-const PAGE: usize = 128;
 
 /// Clauses, each with its number from 0 on. Contracts see the list of them, with `None` for one that was taken out.
 #[derive(Drop)]
@@ -82,7 +79,7 @@ impl Pages {
         if push_last(&mut self.pages, clause)? {
             return Ok(());
         }
-        let mut page = Page::new(self.alloc);
+        let mut page = Page::new(self.alloc)?;
         page.push(clause)?;
         self.pages.push(page)?;
         Ok(())

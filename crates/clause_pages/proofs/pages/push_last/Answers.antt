@@ -1,4 +1,4 @@
-use Rattle.std.proofs.Common.{arith, ◌≡◌, ◌-◌, ◌+◌, ◌<◌, [], Some, length}
+use Rattle.std.proofs.Common.{arith, ◌-◌, ◌<◌, [], Some, length}
 use Rattle.std.proofs.lemmas.List.{get_or_read}
 use Rattle.clause_pages.proofs.PagesLaws.{last_whole_by, last_more_by}
 use Rattle.clause_pages.proofs.pages.push_last.Goals as goal

@@ -1,4 +1,4 @@
-use Rattle.std.proofs.Common.{arith, ◌∙◌, ◌∷◌, [], ◌++◌, ◌<◌, length, ap, List, ℕ, Option, None}
+use Rattle.std.proofs.Common.{arith, ◌∙◌, ◌∷◌, [], ◌++◌, length, ap, List, ℕ, Option, None}
 use Rattle.clause_pages.specs.Page.{clauses_at}
 use Rattle.clause_pages.proofs.PageLaws.{long_view, page_gone, clauses_gone}
 use Rattle.clause_pages.proofs.page.Page.push_gone.Goals as goal
