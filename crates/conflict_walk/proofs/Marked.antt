@@ -1,5 +1,5 @@
 -- A clause by marks over a trail, where a literal is put in or taken out.
-use Rattle.std.proofs.Common.{arith, ◌≡◌, ◌==◌, ℕ, zero, suc, ◌+◌, ◌*◌, ◌/◌, ◌<◌, ◌≤◌, List, [], ◌∷◌, length, map, set, take, get_or, replicate, ◌%◌, Bool, true, false, not, ◌||◌, ◌&&◌, refl, sym, ap, ◌∙◌, subst, filter, All, zero-add, ◌⊎◌, inl, inr}
+use Rattle.std.proofs.Common.{arith, ◌≡◌, ◌==◌, ℕ, zero, suc, ◌+◌, ◌*◌, ◌/◌, ◌<◌, ◌≤◌, List, [], ◌∷◌, length, map, set, take, get_or, replicate, ◌%◌, Some, None, Bool, true, false, not, ◌||◌, ◌&&◌, refl, sym, ap, ◌∙◌, subst, filter, fold, if◌then◌else◌, All, zero-add, ◌⊎◌, inl, inr}
 use Rattle.std.specs.List.{range_with_len}
 use Rattle.std.proofs.lemmas.List.{length-map, get_or_past}
 use Rattle.std.proofs.lemmas.Bool.{cases_lt}
@@ -113,6 +113,14 @@ remove_seen w m words less position l s o on e = left_literals w (seen w m) (see
 pub counted_mark : (w : TrailView) (m : MarksView) (position l : ℕ) → StandsAt w position l → AreMarks w m → words_have m.words position ≡ true → is_now w.entries l ≡ true → 1 ≤ m.count
 counted_mark w m position l s o on now = counted_one w (seen w m) (seen w m) l refl o.over s.below (seen_at w m position l s ∙ on) now
 
+-- one literal of a clause of which all but one are put in
+pub other_next : (ls new lits rest : List ℕ) (l but : ℕ) → lits ≡ l ∷ rest → new ≡ (if l == but then ls else put ls l) → fold put ls (filter (λ m. not (m == but)) lits) ≡ fold put new (filter (λ m. not (m == but)) rest)
+other_next ls new lits rest l but e f = ap (λ (xs : List ℕ). fold put ls (filter (λ m. not (m == but)) xs)) e ∙ by (l == but) refl ∙ ap (λ (xs : List ℕ). fold put xs (filter (λ m. not (m == but)) rest)) (sym f)
+  where
+    by : (b : Bool) → (l == but) ≡ b → fold put ls (filter (λ m. not (m == but)) (l ∷ rest)) ≡ fold put (if l == but then ls else put ls l) (filter (λ m. not (m == but)) rest)
+    by true s = rw s
+    by false s = rw s
+
 -- The marks are taken out into a set by code, the latest first.
 
 pub record IsTaken (trail : List ℕ) (has has0 codes codes0 : ℕ → Bool) (bound : ℕ) : Type 0 where
@@ -151,6 +159,9 @@ taken_next trail has left has0 codes more codes0 bound p code t latest h o e f =
     back : (j : ℕ) → has j ≡ ((j == 0 + p) || left j)
     back j = back_by (j == p) (has j) (left j) (λ s. ap has (test_same j p s) ∙ latest.1) (e j) ∙ ap (λ (x : ℕ). (j == x) || left j) (sym (zero-add p))
 
+    later : (a c : ℕ) → a ≤ c → (c ≡ a → ⊥) → a < c
+    later a c g d = omega (arith, g, d)
+
     off : (q : ℕ) → p ≤ q → (b : Bool) → (q == p) ≡ b → (not b && has q) ≡ false
     off q g true s = refl
     off q g false s = by (cases_lt q bound)
@@ -161,9 +172,6 @@ taken_next trail has left has0 codes more codes0 bound p code t latest h o e f =
         by : (q < bound) ⊎ (bound ≤ q) → has q ≡ false
         by (inl l) = latest.2 q (later p q g after) l
         by (inr l) = t.beyond q l
-
-    later : (a c : ℕ) → a ≤ c → (c ≡ a → ⊥) → a < c
-    later a c g d = omega (arith, g, d)
 
 -- where none is left the set has them all
 pub taken_all : (trail : List ℕ) (has has0 codes codes0 : ℕ → Bool) (bound : ℕ) → IsTaken trail has has0 codes codes0 bound → IsLatest has bound None → ((p : ℕ) → has p ≡ false) × ((l : ℕ) → codes l ≡ (codes0 l || is_marked has0 0 trail l))
@@ -214,13 +222,13 @@ read_out n trail lits has b r e = rising_unique lits (places 0 (table (2 * n) tr
 
 -- No marks.
 
-no_word : (n i : ℕ) → get_or (replicate n 0) i 0 ≡ 0
-no_word zero i = refl
-no_word (suc n) zero = refl
-no_word (suc n) (suc i) = no_word n i
+no_word : (w n i : ℕ) → get_or (replicate n w) i w ≡ w
+no_word w zero i = refl
+no_word w (suc n) zero = refl
+no_word w (suc n) (suc i) = no_word w n i
 
 pub no_marks : (n k : ℕ) → words_have (replicate n 0) k ≡ false
-no_marks n k = ap (λ (w : ℕ). word_has w (k % 64)) (no_word n (k / 64)) ∙ zero_has (k % 64)
+no_marks n k = ap (λ (w : ℕ). word_has w (k % 64)) (no_word 0 n (k / 64)) ∙ zero_has (k % 64)
 
 places_off : (f : ℕ → Bool) (v w n : ℕ) → ((k : ℕ) → f k ≡ false) → places v (map f (range_with_len w n)) ≡ []
 places_off f v w zero h = refl

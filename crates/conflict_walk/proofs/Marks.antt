@@ -123,7 +123,7 @@ table_put n trail p q i l h o b e =
     (λ j s. f j ∙ ap (λ (c : Bool). c || is_marked p 0 trail j) (same_test (opposite (get_or trail i 0)) j (omega (arith, o, s))))
     (λ k d. f k ∙ ap (λ (c : Bool). c || is_marked p 0 trail k) (apart_code k (0 + l) (opposite (get_or trail i 0)) d (omega (arith, o))))
 
-back_by : (same was now : Bool) → (same ≡ true → was ≡ true) → now ≡ (not same && was) → was ≡ (same || now)
+pub back_by : (same was now : Bool) → (same ≡ true → was ≡ true) → now ≡ (not same && was) → was ≡ (same || now)
 back_by true was now h e = h refl
 back_by false was now h e = sym e
 

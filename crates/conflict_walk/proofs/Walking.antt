@@ -81,3 +81,11 @@ walk_at clauses trail es n has index p a hints stop o below apart latest l same 
     (λ q f g. mark_is n trail has q below apart (omega (arith, g, l)) ∙ latest.2 q (omega (arith, f)) g)
     ∙ step_back clauses trail trail (p + 1) a c true stop o (omega arith) (omega (arith, inside)) refl read on s r
     ∙ ap (λ (k : ℕ). if stop then c else elim o as (λ _. Learned) [ None ↦ c | Some r ↦ walk clauses trail (reverse (take k trail)) (record { clause = resolvent c.clause a.literal (clause_at clauses r); hints = r ∷ hints }) ]) back
+
+-- where it stops there
+pub walk_stops : (clauses : List (List ℕ)) (trail : List Assigned) (n : ℕ) (has : ℕ → Bool) (index p : ℕ) (hints : List ℕ) → All (λ a. a.literal / 2 < n) trail → AreApart (literals trail) → IsLatest has index (Some p) → index ≤ length trail
+    → (not (decision_count trail == 0) && (length (current trail (places 0 (table (2 * n) (literals trail) has))) == 1)) ≡ true
+    → walk clauses trail (reverse (take index trail)) (record { clause = places 0 (table (2 * n) (literals trail) has); hints = hints }) ≡ record { clause = places 0 (table (2 * n) (literals trail) has); hints = hints }
+walk_stops clauses trail n has index p hints below apart latest l s =
+    let a : Assigned = get_or trail p no_entry in
+    walk_at clauses trail trail n has index p a hints true a.reason below apart latest l refl (get_or_default trail p no_entry a (omega (arith, latest.0, l))) s refl

@@ -1,5 +1,5 @@
 //! The latest of the positions that are marked.
-ghost use Rattle.std.specs.Prelude.{◌≡◌, ◌*◌, ◌<◌, ◌==◌, ◌/◌, true, false, length};
+ghost use Rattle.std.specs.Prelude.{◌≡◌, ℕ, ◌*◌, ◌<◌, true, false, length};
 ghost use Rattle.number_bits.specs.Bits.{word_has, words_have};
 ghost use Rattle.conflict_walk.specs.Resolvent.{IsLatest};
 

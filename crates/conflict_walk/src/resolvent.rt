@@ -1,18 +1,17 @@
 //! The clause that the walk is at. Each clause that is put in is resolved with it on one literal.
-ghost use Rattle.std.specs.Prelude.{◌≡◌, ◌*◌, ◌+◌, ◌<◌, ◌≤◌, ◌==◌, ◌||◌, [], true, false, not, length, map, filter, fold, slice_index, IfOk, OnOk};
+ghost use Rattle.std.specs.Prelude.{◌≡◌, ℕ, ◌*◌, ◌+◌, ◌<◌, ◌≤◌, ◌==◌, ◌||◌, ◌⊎◌, [], if◌then◌else◌, true, false, not, length, map, filter, fold, slice_index, IfOk, OnOk};
 ghost use Rattle.clause_base.specs.{Literal.opposite, Clause.put};
 ghost use Rattle.cdcl_rules.specs.{State.is_on, Trail.AllFalse, Learn.resolvent};
 ghost use Rattle.number_bits.specs.Bits.{words_have};
 ghost use Rattle.conflict_walk.specs.{Resolvent.literals, Resolvent.seen, Resolvent.is_marked, Resolvent.AreMarks, Resolvent.IsClear, Resolvent.IsLatest, Walk.OthersFalse};
 
 use crate::latest::{has_mark, latest};
-use crate::order::Codes;
+use crate::order::{Codes, put_code};
 use cdcl_trail::lookup::Lookup;
 use clause_base::literal::Lit;
 use clause_base::memory::Memory;
 use clause_base::view::View;
 use number_bits::flat::{clear_bit, set_bit};
-use number_bits::set::NumberSet;
 use std::alloc::Global;
 use std::marker::Model;
 
@@ -101,6 +100,19 @@ impl Resolvent {
         }
     }
 
+    /// Puts a literal in that is false, unless it is another one.
+    #[inline(always)]
+    fn put_other(&mut self, trail: &Lookup, lit: Lit, but: Lit)
+        requires over { AreMarks trail.now self.old }
+        requires other { (lit ≡ but) ⊎ (is_on trail.now.entries (opposite lit) ≡ true) }
+        ensures over { AreMarks trail.now self.new }
+        ensures put { literals (seen trail.now self.new) ≡ (if lit == but then literals (seen trail.now self.old) else put (literals (seen trail.now self.old)) lit) }
+    {
+        if lit != but {
+            self.put(trail, lit);
+        }
+    }
+
     /// Puts false literals in.
     #[inline(always)]
     pub fn put_all(&mut self, trail: &Lookup, lits: &View)
@@ -123,10 +135,7 @@ impl Resolvent {
         ensures put { literals (seen trail.now self.new) ≡ fold put (literals (seen trail.now self.old)) (filter (λ l. not (l == but)) lits.now) }
     {
         for place in 0..lits.len() {
-            let lit = lits.get(place);
-            if lit != but {
-                self.put(trail, lit);
-            }
+            self.put_other(trail, lits.get(place), but);
         }
     }
 
@@ -158,7 +167,7 @@ impl Resolvent {
         while let Some(position) = latest(self.marks.as_slice(), bound) {
             clear_bit(&mut self.marks, position);
             let entry = entries[position as usize];
-            codes.insert(entry.literal.opposite().0);
+            put_code(codes, entry.literal.opposite());
             bound = position;
         }
         self.count = 0;

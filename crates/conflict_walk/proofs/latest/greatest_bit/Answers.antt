@@ -1,7 +1,7 @@
 use Rattle.std.proofs.Common.{arith, ◌-◌, refl, w64}
 use Rattle.std.specs.Int.{leading_zeros}
 use Rattle.std.proofs.lemmas.Nat.{leading_top}
-use Rattle.conflict_walk.proofs.Latest.{top_bit}
+use Rattle.conflict_walk.proofs.Sought.{top_bit}
 use Rattle.conflict_walk.proofs.latest.greatest_bit.Goals as goal
 
 pub overflow_sub-result : goal.overflow_sub-result

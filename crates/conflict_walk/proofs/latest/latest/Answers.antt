@@ -1,18 +1,16 @@
-use Rattle.std.proofs.Common.{arith, ◌-◌, ◌+◌, ◌*◌, ◌%◌, ◌&&◌, Bool, not, ap, ◌∙◌, refl}
-use Rattle.std.proofs.lemmas.List.{get_or_read}
+use Rattle.std.proofs.Common.{arith, ◌-◌, ◌+◌, ◌*◌, ◌/◌, ◌<◌, length, get_or, ◌&&◌, Bool, not, ap, ◌∙◌, refl}
 use Rattle.number_bits.specs.Bits.{word_has}
-use Rattle.conflict_walk.proofs.Latest.{sought_first, sought_next, sought_none, sought_found}
+use Rattle.conflict_walk.proofs.Sought.{sought_first, sought_next, sought_none, sought_found}
 use Rattle.conflict_walk.proofs.latest.latest.Goals as goal
 
 pub loop-word-init : goal.loop-word-init
 loop-word-init c =
     let words = c.args.words.now in
     let place = c.args.bound / 64 in
-    let inside = omega (arith, c.requires) in
+    let inside : place < length words = omega (arith, c.requires) in
     record {
       inside = inside;
-      sought = sought_first words c.args.bound place c.index-last.result.now c.without-word.result refl (get_or_read words place c.index-last.result.now inside c.index-last.ensures 0)
-          (λ k. c.without-word.ensures k ∙ ap (λ (b : Bool). word_has c.index-last.result.now k && not b) (c.from_bit.ensures k));
+      sought = sought_first words c.args.bound place (get_or words place 0) c.without-word.result refl refl (λ k. c.without-word.ensures k ∙ ap (λ (b : Bool). word_has (get_or words place 0) k && not b) (c.from_bit.ensures k));
     }
 
 pub returns-then-place-eq0 : goal.returns-then-place-eq0
@@ -22,11 +20,10 @@ pub loop-word-preserved : goal.loop-word-preserved
 loop-word-preserved c =
     let words = c.args.words.now in
     let place = c.loop-word.place in
-    let inside = omega (arith, c.loop-word.invariant.inside, c.if-place-eq0.false) in
+    let inside : place - 1 < length words = omega (arith, c.loop-word.invariant.inside, c.if-place-eq0.false) in
     record {
       inside = inside;
-      sought = sought_next words c.args.bound place c.loop-word.word (place - 1) c.index-word.result.now c.loop-word.invariant.sought c.loop-word-test.true (omega (arith, c.if-place-eq0.false))
-          (get_or_read words (place - 1) c.index-word.result.now inside c.index-word.ensures 0);
+      sought = sought_next words c.args.bound place c.loop-word.word (place - 1) (get_or words (place - 1) 0) c.loop-word.invariant.sought c.loop-word-test.true (omega (arith, c.if-place-eq0.false)) refl;
     }
 
 pub returns : goal.returns

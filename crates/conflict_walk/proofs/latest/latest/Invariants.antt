@@ -1,5 +1,5 @@
 use Rattle.std.proofs.Common.{◌<◌, length}
-use Rattle.conflict_walk.proofs.Latest.{IsSought}
+use Rattle.conflict_walk.proofs.Sought.{IsSought}
 use Rattle.conflict_walk.proofs.latest.latest.Given as goal
 
 -- what is marked before the bound is in the words below, or among the bits that are left of this one

@@ -6,8 +6,8 @@ use Rattle.cdcl_rules.specs.State.{clause_at}
 use Rattle.cdcl_rules.specs.Learn.{Learned, walk, resolvent}
 use Rattle.number_bits.specs.Bits.{words_have}
 use Rattle.conflict_walk.specs.Resolvent.{literals, seen}
-use Rattle.conflict_walk.proofs.Steps.{learned_same, stop_at, forced_at}
-use Rattle.conflict_walk.proofs.Walking.{walk_at, walk_end, literal_at}
+use Rattle.conflict_walk.proofs.Steps.{learned_same, stop_at}
+use Rattle.conflict_walk.proofs.Walking.{walk_at, walk_end, walk_stops}
 use Rattle.conflict_walk.proofs.walk.walk_back.Goals as goal
 
 pub latest-requires : goal.latest-requires
@@ -17,13 +17,8 @@ pub returns-then-stops-clause-walked : goal.returns-then-stops-clause-walked
 returns-then-stops-clause-walked c =
     let i = c.walking.invariant in
     let w = c.args.trail.now in
-    let p = c.in-Some.position in
-    let a = c.index-entries-position.result in
-    let hints = reverse c.walking.hints.items in
-    let clause = literals (seen w c.walking.resolvent) in
-    let stop = stop_at w.entries clause c.args.level c.count.result true c.requires.level (c.count.ensures ∙ i.over.over.counted) (sym c.stops.ensures ∙ c.if-stops.true) in
-    let here = walk_at c.args.store.now w.entries c.entries-entries.result.now w.variables (words_have c.walking.resolvent.words) c.walking.index p a hints true _ c.entries-entries.ensures.below c.entries-entries.ensures.apart c.in-Some.ensures i.within c.entries-entries.ensures.value c.index-entries-position.is stop refl in
-    i.walked ∙ here
+    let stop = stop_at w.entries (literals (seen w c.walking.resolvent)) c.args.level c.count.result true c.requires.level (c.count.ensures ∙ i.over.over.counted) (sym c.stops.ensures ∙ c.if-stops.true) in
+    i.walked ∙ walk_stops c.args.store.now w.entries w.variables (words_have c.walking.resolvent.words) c.walking.index c.in-Some.position (reverse c.walking.hints.items) c.entries-entries.ensures.below c.entries-entries.ensures.apart c.in-Some.ensures i.within stop
 
 pub returns-in-None-clause-walked : goal.returns-in-None-clause-walked
 returns-in-None-clause-walked c =
@@ -39,7 +34,7 @@ returns-in-None-clause-walked c =
 
 pub walking-preserved : goal.walking-preserved
 walking-preserved c =
-    let r = c.in-Some-2.reason in
+    let r = c.in-Some-reason.reason in
     let i = c.walking.invariant in
     let w = c.args.trail.now in
     let p = c.in-Some.position in
@@ -47,9 +42,9 @@ walking-preserved c =
     let hints = reverse c.walking.hints.items in
     let clause = literals (seen w c.walking.resolvent) in
     let stop = stop_at w.entries clause c.args.level c.count.result false c.requires.level (c.count.ensures ∙ i.over.over.counted) (sym c.stops.ensures ∙ c.if-stops.false) in
-    let here = walk_at c.args.store.now w.entries c.entries-entries.result.now w.variables (words_have c.walking.resolvent.words) c.walking.index p a hints false (Some r) c.entries-entries.ensures.below c.entries-entries.ensures.apart c.in-Some.ensures i.within c.entries-entries.ensures.value c.index-entries-position.is stop c.in-Some-2.is in
+    let here = walk_at c.args.store.now w.entries c.entries-entries.result.now w.variables (words_have c.walking.resolvent.words) c.walking.index p a hints false (Some r) c.entries-entries.ensures.below c.entries-entries.ensures.apart c.in-Some.ensures i.within c.entries-entries.ensures.value c.index-entries-position.is stop c.in-Some-reason.is in
     let new : resolvent clause a.literal (clause_at c.args.store.now r) ≡ literals (seen w c.resolve.new.self) = sym (c.resolve.ensures.resolved ∙ ap (resolvent clause a.literal) (c.clause.ensures ∙ sym (unwrap_or-slice_get c.args.store.now r []))) in
-    let more : r ∷ hints ≡ reverse c.push.new.self.items = sym (ap reverse c.in_ok-push.ensures.items ∙ reverse-append c.walking.hints.items (r ∷ [])) in
+    let more : r ∷ hints ≡ reverse c.push.new.self.items = sym (ap reverse c.in_ok-push-in-Some-reason.ensures.items ∙ reverse-append c.walking.hints.items (r ∷ [])) in
     record {
       within = omega (arith, i.within, c.in-Some.ensures.0);
       over = c.resolve.ensures.over;

@@ -23,7 +23,7 @@ returns-then-has_mark-clause-put c =
     let p = c.position-position.result in
     let stands : StandsAt w p c.args.lit = record { apart = c.entries-known.ensures.apart; within = c.position-position.ensures.within; place = c.position-position.ensures.place; below = c.position-position.ensures.below } in
     let on = sym (ap (λ (ws : List ℕ). words_have ws p) c.as_slice.ensures.value) ∙ sym c.has_mark.ensures ∙ c.if-has_mark.true in
-    put_marked w (record { words = t.marks.items; count = t.count }) p c.args.lit stands on ∙ ap (λ (m : MarksView). put (literals (seen w m)) c.args.lit) c.self.view_is
+    subst (λ (m : MarksView). literals (seen w m) ≡ put (literals (seen w m)) c.args.lit) c.self.view_is (put_marked w (record { words = t.marks.items; count = t.count }) p c.args.lit stands on)
 
 pub overflow_add-self : goal.overflow_add-self
 overflow_add-self c =
@@ -48,7 +48,7 @@ returns-then-is_current-clause-put c =
     let t = c.self.inside in
     let p = c.position-position.result in
     let stands : StandsAt w p c.args.lit = record { apart = c.entries-known.ensures.apart; within = c.position-position.ensures.within; place = c.position-position.ensures.place; below = c.position-position.ensures.below } in
-    put_seen w (record { words = t.marks.items; count = t.count }) _ _ p c.args.lit stands (viewed w c.self.view_is c.requires.over) c.set_bit.ensures.has
+    put_seen w (record { words = t.marks.items; count = t.count }) c.set_bit.new.words.items t.count p c.args.lit stands (viewed w c.self.view_is c.requires.over) c.set_bit.ensures.has
     ∙ ap (λ (m : MarksView). put (literals (seen w m)) c.args.lit) c.self.view_is
 
 pub returns-else-is_current-clause-over : goal.returns-else-is_current-clause-over
@@ -67,5 +67,5 @@ returns-else-is_current-clause-put c =
     let t = c.self.inside in
     let p = c.position-position.result in
     let stands : StandsAt w p c.args.lit = record { apart = c.entries-known.ensures.apart; within = c.position-position.ensures.within; place = c.position-position.ensures.place; below = c.position-position.ensures.below } in
-    put_seen w (record { words = t.marks.items; count = t.count }) _ _ p c.args.lit stands (viewed w c.self.view_is c.requires.over) c.set_bit.ensures.has
+    put_seen w (record { words = t.marks.items; count = t.count }) c.set_bit.new.words.items t.count p c.args.lit stands (viewed w c.self.view_is c.requires.over) c.set_bit.ensures.has
     ∙ ap (λ (m : MarksView). put (literals (seen w m)) c.args.lit) c.self.view_is

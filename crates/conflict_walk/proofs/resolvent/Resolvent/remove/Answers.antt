@@ -41,7 +41,7 @@ returns-then-is_current-clause-removed c =
     let l = opposite (get_or (true_ones w.entries) p 0) in
     let s = stands w p c.entries-known.ensures.apart c.entries-known.ensures.below c.requires.within in
     let on = ap (λ (m : MarksView). words_have m.words p) c.self.view_is ∙ c.requires.marked in
-    remove_seen w m _ _ p l s (viewed w c.self.view_is c.requires.over) on c.clear_bit.ensures.has
+    remove_seen w m c.clear_bit.new.words.items c.self.inside.count p l s (viewed w c.self.view_is c.requires.over) on c.clear_bit.ensures.has
     ∙ ap (λ (m : MarksView). filter (λ k. not (k == l)) (literals (seen w m))) c.self.view_is
 
 pub returns-else-is_current-clause-over : goal.returns-else-is_current-clause-over
@@ -63,5 +63,5 @@ returns-else-is_current-clause-removed c =
     let l = opposite (get_or (true_ones w.entries) p 0) in
     let s = stands w p c.entries-known.ensures.apart c.entries-known.ensures.below c.requires.within in
     let on = ap (λ (m : MarksView). words_have m.words p) c.self.view_is ∙ c.requires.marked in
-    remove_seen w m _ _ p l s (viewed w c.self.view_is c.requires.over) on c.clear_bit.ensures.has
+    remove_seen w m c.clear_bit.new.words.items c.self.inside.count p l s (viewed w c.self.view_is c.requires.over) on c.clear_bit.ensures.has
     ∙ ap (λ (m : MarksView). filter (λ k. not (k == l)) (literals (seen w m))) c.self.view_is
