@@ -1,5 +1,5 @@
 -- Where the entry stands that made a literal false, and where the current level begins.
-use Rattle.std.proofs.Common.{arith, ◌≡◌, ◌==◌, ltb, ℕ, ◌+◌, ◌-◌, ◌/◌, ◌<◌, ◌≤◌, List, length, take, get_or, true, sym, ap, ◌∙◌, subst, refl}
+use Rattle.std.proofs.Common.{arith, ◌≡◌, ltb, ℕ, ◌+◌, ◌-◌, ◌/◌, ◌<◌, List, length, take, get_or, true, sym, ap, ◌∙◌, subst, refl}
 use Rattle.std.specs.Prelude.{nat_le}
 use Rattle.std.proofs.lemmas.Bool.Decides.{nat_tests}
 use Rattle.clause_base.specs.Literal.{opposite}
@@ -31,7 +31,8 @@ found n v l es positions start m on half =
 
 pub found_view : (n v l : ℕ) (es : List Assigned) (positions : List ℕ) (start : ℕ) (w : TrailView) → IsLookedUp n es positions start
     → (let x : TrailView = record { variables = n; entries = es } in x) ≡ w → is_on w.entries (opposite l) ≡ true → v ≡ l / 2
-    → (let p = get_or positions v 0 in (l / 2 < w.variables) × (p < length w.entries) × (get_or (literals w.entries) p 0 ≡ opposite l) × (decision_count (take (p + 1) w.entries) ≡ level_of w.entries l))
+    → (let p = get_or positions v 0 in (l / 2 < w.variables) × (p < length w.entries) × (get_or (literals w.entries) p 0 ≡ opposite l) ×
+    (decision_count (take (p + 1) w.entries) ≡ level_of w.entries l))
 found_view n v l es positions start w m view on half =
     let here : is_on es (opposite l) ≡ true = ap (λ (w : TrailView). is_on w.entries (opposite l)) view ∙ on in
     let p = get_or positions v 0 in

@@ -3,7 +3,6 @@ use Rattle.std.proofs.Common.{arith, ◌≡◌, ◌==◌, ℕ, zero, suc, ◌+�
 use Rattle.std.specs.List.{range_with_len}
 use Rattle.std.proofs.lemmas.List.{length-map, get_or_past}
 use Rattle.std.proofs.lemmas.Bool.{cases_lt}
-use Rattle.std.proofs.lemmas.Bool.Decides.{nat_tests}
 use Rattle.clause_base.specs.Literal.{opposite}
 use Rattle.clause_base.specs.Clause.{put, has_literal, IsRising}
 use Rattle.clause_base.proofs.ClauseLemmas.{IsBefore, rising-cons}
@@ -21,7 +20,7 @@ use Rattle.word_bits.proofs.WordLaw.{zero_has}
 use Rattle.number_bits.specs.Bits.{words_have, word_has}
 use Rattle.lit_marks.specs.Marks.{places, at}
 use Rattle.lit_marks.proofs.Places.{bit, put_again, in_places, IsFrom, from_places}
-use Rattle.conflict_walk.specs.Resolvent.{MarksView, AreMarks, IsClear, IsLatest, IsOver, seen, is_marked}
+use Rattle.conflict_walk.specs.Resolvent.{MarksView, AreMarks, IsClear, IsLatest, seen, is_marked}
 use Rattle.conflict_walk.proofs.Marks.{table, table_at, table_len, table_put, table_remove, marked_at, marked_none, marked_more, back_by}
 use Rattle.conflict_walk.proofs.Resolvents.{is_now, put_literals, left_literals, over_put, over_remove, counted_one}
 use Rattle.conflict_walk.proofs.Walking.{code_below, entry_below}

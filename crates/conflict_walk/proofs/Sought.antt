@@ -1,5 +1,5 @@
 -- The latest marked position, word by word.
-use Rattle.std.proofs.Common.{arith, ◌≡◌, ◌==◌, ℕ, suc, ◌+◌, ◌-◌, ◌*◌, ◌/◌, ◌%◌, ◌^◌, ◌<◌, ◌≤◌, List, length, get_or, Bool, true, false, not, ◌&&◌, refl, sym, ap, ◌∙◌, subst, Option, Some, None, ◌⊎◌, inl, inr, w64}
+use Rattle.std.proofs.Common.{arith, ◌≡◌, ◌==◌, ℕ, suc, ◌+◌, ◌-◌, ◌*◌, ◌/◌, ◌%◌, ◌^◌, ◌<◌, ◌≤◌, List, get_or, Bool, true, false, not, ◌&&◌, refl, sym, ap, ◌∙◌, Some, None, ◌⊎◌, inl, inr, w64}
 use Rattle.std.specs.Prelude.{nat_le}
 use Rattle.std.specs.Int.{leading_zeros}
 use Rattle.std.proofs.Math.Nat.{pow-suc}

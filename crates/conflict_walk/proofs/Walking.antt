@@ -1,5 +1,5 @@
 -- The walk from one marked entry to the next: the entries between are passed over.
-use Rattle.std.proofs.Common.{arith, ◌≡◌, ◌==◌, ℕ, zero, suc, ◌+◌, ◌-◌, ◌*◌, ◌/◌, ◌<◌, ◌≤◌, List, [], ◌∷◌, length, map, take, reverse, get_or, Bool, true, false, not, ◌&&◌, refl, sym, ap, ◌∙◌, if◌then◌else◌, Option, Some, None, All}
+use Rattle.std.proofs.Common.{arith, ◌≡◌, ◌==◌, ℕ, zero, suc, ◌+◌, ◌-◌, ◌*◌, ◌/◌, ◌<◌, ◌≤◌, List, ◌∷◌, length, take, reverse, get_or, Bool, true, false, not, ◌&&◌, refl, sym, ap, ◌∙◌, if◌then◌else◌, Option, Some, None, All}
 use Rattle.std.proofs.lemmas.List.{get_or-map, get_or_default, length-map}
 use Rattle.clause_base.specs.Literal.{opposite}
 use Rattle.cdcl_rules.specs.declared.trail.Assigned.{Assigned}
@@ -9,7 +9,6 @@ use Rattle.cdcl_rules.proofs.Members.{is_in}
 use Rattle.cdcl_trail.specs.Assignment.{literals}
 use Rattle.cdcl_trail.specs.Mirrored.{AreApart}
 use Rattle.cdcl_trail.proofs.Mirrors.{half_opposite}
-use Rattle.number_bits.specs.Bits.{words_have}
 use Rattle.lit_marks.specs.Marks.{places}
 use Rattle.lit_marks.proofs.Places.{in_places}
 use Rattle.conflict_walk.specs.Resolvent.{IsLatest}

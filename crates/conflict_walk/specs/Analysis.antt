@@ -1,4 +1,4 @@
-use Rattle.std.specs.Prelude.{◌≡◌, ℕ, ◌*◌, ◌≤◌, List, Bool, false, length}
+use Rattle.std.specs.Prelude.{◌≡◌, ℕ, ◌*◌, ◌≤◌, List, false, length}
 use Rattle.number_bits.specs.Bits.{words_have}
 use Rattle.conflict_walk.specs.Resolvent.{MarksView, IsClear}
 

@@ -1,7 +1,6 @@
-use Rattle.std.proofs.Common.{arith, ◌≡◌, ◌-◌, ◌<◌, ◌≤◌, ◌*◌, ◌∙◌, ℕ, List, [], ◌∷◌, true, false, reverse, take, length, sym, ap, subst, Some, None}
+use Rattle.std.proofs.Common.{arith, ◌≡◌, ◌∙◌, [], ◌∷◌, true, false, reverse, take, sym, ap, Some, None}
 use Rattle.std.proofs.lemmas.List.{reverse-append}
 use Rattle.std.proofs.lemmas.Option.{unwrap_or-slice_get}
-use Rattle.cdcl_rules.specs.declared.trail.Assigned.{Assigned}
 use Rattle.cdcl_rules.specs.State.{clause_at}
 use Rattle.cdcl_rules.specs.Learn.{Learned, walk, resolvent}
 use Rattle.number_bits.specs.Bits.{words_have}

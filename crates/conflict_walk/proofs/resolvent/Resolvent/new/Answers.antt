@@ -1,4 +1,4 @@
-use Rattle.std.proofs.Common.{arith, refl, ◌≡◌, ◌+◌, ◌/◌, ℕ, List, false, length, ◌∙◌, ap, sym, subst}
+use Rattle.std.proofs.Common.{arith, refl, ◌+◌, ◌/◌, ℕ, List, length, ◌∙◌, ap}
 use Rattle.std.proofs.lemmas.List.{length-replicate}
 use Rattle.number_bits.specs.Bits.{words_have}
 use Rattle.conflict_walk.proofs.Marked.{no_marks}

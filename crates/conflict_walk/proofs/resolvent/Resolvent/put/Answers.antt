@@ -1,10 +1,9 @@
-use Rattle.std.proofs.Common.{arith, ◌≡◌, ◌<◌, ◌≤◌, ◌*◌, ◌/◌, ◌==◌, ◌∙◌, ℕ, List, Bool, true, false, length, sym, ap, subst, refl}
+use Rattle.std.proofs.Common.{arith, ◌≡◌, ◌==◌, ◌∙◌, ℕ, List, true, false, length, sym, ap, subst, refl}
 use Rattle.clause_base.specs.Clause.{put}
 use Rattle.cdcl_rules.specs.State.{decision_count}
-use Rattle.cdcl_trail.specs.Mirrored.{TrailView}
 use Rattle.number_bits.specs.Bits.{words_have}
-use Rattle.conflict_walk.specs.Resolvent.{MarksView, AreMarks, literals, seen}
-use Rattle.conflict_walk.proofs.Resolvents.{count_small, is_now}
+use Rattle.conflict_walk.specs.Resolvent.{MarksView, literals, seen}
+use Rattle.conflict_walk.proofs.Resolvents.{count_small}
 use Rattle.conflict_walk.proofs.Marked.{StandsAt, put_marked, put_over, put_seen, viewed, room_at}
 use Rattle.conflict_walk.proofs.resolvent.Resolvent.put.Goals as goal
 

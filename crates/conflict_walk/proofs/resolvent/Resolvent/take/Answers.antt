@@ -1,12 +1,12 @@
-use Rattle.std.proofs.Common.{arith, ◌≡◌, ◌<◌, ◌≤◌, ◌*◌, ◌/◌, ◌||◌, ◌∙◌, ℕ, List, Bool, Some, None, length, get_or, sym, ap, subst, refl}
+use Rattle.std.proofs.Common.{arith, ◌<◌, ◌||◌, ◌∙◌, ℕ, List, Some, None, length, get_or, sym, ap, subst, refl}
 use Rattle.std.proofs.lemmas.List.{length-map}
 use Rattle.clause_base.specs.Literal.{opposite}
 use Rattle.cdcl_rules.specs.declared.trail.Assigned.{Assigned}
 use Rattle.cdcl_trail.specs.Assignment.{literals}
 use Rattle.number_bits.specs.Bits.{words_have}
-use Rattle.conflict_walk.specs.Resolvent.{MarksView, AreMarks, IsLatest, is_marked}
+use Rattle.conflict_walk.specs.Resolvent.{MarksView, IsLatest, is_marked}
 use Rattle.conflict_walk.proofs.Walking.{literal_at, entry_below, code_below}
-use Rattle.conflict_walk.proofs.Marked.{IsTaken, taken_next, taken_all, viewed}
+use Rattle.conflict_walk.proofs.Marked.{taken_next, taken_all, viewed}
 use Rattle.conflict_walk.proofs.resolvent.Resolvent.take.Goals as goal
 
 pub loop-position-init : goal.loop-position-init
