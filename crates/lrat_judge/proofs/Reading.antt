@@ -8,7 +8,7 @@ use Rattle.lrat_text.specs.Line.{LineView, line_of}
 use Rattle.lrat_judge.specs.Judged.{Judged, counted}
 use Rattle.lrat_judge.specs.Follow.{Known, known_first, follow}
 use Rattle.lrat_judge.specs.Verdicts.{Outcome, Ends, Goes, outcome_known, outcome_line, judged, whole_lines, last_part, verdict_so_far, verdict_at_end, verdict_ended, verdict_of}
-use Rattle.lrat_judge.specs.Reached.{IsBefore, Comes, HasRead, has_no_end, StandsAt}
+use Rattle.lrat_judge.specs.Reached.{IsBefore, Comes, HasRead, has_no_end}
 use Rattle.lrat_judge.specs.declared.verdict.Verdict.{Verdict}
 use Rattle.lrat_judge.specs.declared.verdict.Verdict.TheVariants.{More, Refuted, Rejected, NotEmpty, Syntax}
 use Rattle.lrat_judge.proofs.Texts.{lines_on, last_on, lines_same, last_more}

@@ -1,5 +1,5 @@
 -- What a judge says of a line is its outcome's.
-use Rattle.std.proofs.Common.{arith, ◌≡◌, ◌+◌, ℕ, List, [], ◌∷◌, length, Bool, true, false, Option, Some, None, Result, Ok, Err, refl, sym, ap, ◌∙◌, subst}
+use Rattle.std.proofs.Common.{arith, ◌≡◌, ◌+◌, ℕ, List, [], ◌∷◌, length, true, false, Option, Some, None, Result, Ok, Err, refl, sym, ap, ◌∙◌, subst}
 use Rattle.std.specs.Prelude.{IfOk}
 use Rattle.std.specs.List.{list_any}
 use Rattle.clause_base.specs.declared.memory.Memory.{Memory}
@@ -10,7 +10,7 @@ use Rattle.lrat_text.specs.Line.{LineView, line_of}
 use Rattle.lrat_judge.specs.Judged.{Judged, counted}
 use Rattle.lrat_judge.specs.Follow.{Known, follow}
 use Rattle.lrat_judge.specs.Verdicts.{Outcome, Ends, Goes, outcome_known, outcome_line}
-use Rattle.lrat_judge.specs.Reached.{StandsAt, Stands, IsBefore, Comes}
+use Rattle.lrat_judge.specs.Reached.{Stands, Comes}
 use Rattle.lrat_judge.specs.declared.verdict.Verdict.{Verdict}
 use Rattle.lrat_judge.specs.declared.verdict.Verdict.TheVariants.{More, Refuted, Rejected, Syntax}
 use Rattle.lrat_judge.proofs.Entering.{not_stood, stood}

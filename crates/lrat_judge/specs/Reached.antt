@@ -1,9 +1,7 @@
 -- How far a judge has come in a text.
-use Rattle.std.specs.Prelude.{◌≡◌, ◌==◌, not, ℕ, ◌+◌, List, [], ◌++◌, length, Bool, true, false, Option, Some, None, Result, IfOk}
+use Rattle.std.specs.Prelude.{◌≡◌, ◌==◌, not, ℕ, ◌+◌, List, ◌++◌, length, Bool, true, false, Option, Some, None}
 use Rattle.std.specs.List.{list_all}
-use Rattle.clause_base.specs.Formula.{Cnf}
 use Rattle.clause_base.specs.declared.log.Entry.{Entry}
-use Rattle.clause_base.specs.declared.memory.Memory.{Memory}
 use Rattle.rup_check.specs.Taken.{CheckerView, HasTaken}
 use Rattle.lrat_judge.specs.Judged.{Judged, counted}
 use Rattle.lrat_judge.specs.Follow.{Known, known_first}

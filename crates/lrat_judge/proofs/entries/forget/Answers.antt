@@ -1,5 +1,4 @@
-use Rattle.std.proofs.Common.{◌≡◌, ◌∙◌, ◌<◌, ◌≤◌, Bool, length, List, ℕ, Some, None, sym, ap, refl, subst, get_or}
-use Rattle.clause_base.specs.declared.log.Entry.{Entry}
+use Rattle.std.proofs.Common.{◌∙◌, ◌<◌, ◌≤◌, Bool, length, List, ℕ, sym, ap, refl, subst, get_or}
 use Rattle.clause_base.specs.declared.log.Entry.TheVariants.{Drop}
 use Rattle.lrat_judge.specs.Follow.{number_named, with_entry}
 use Rattle.lrat_judge.specs.Reached.{Enters}

@@ -1,4 +1,4 @@
-use Rattle.std.proofs.Common.{◌≡◌, ◌==◌, ◌∙◌, ℕ, List, length, sym, ap}
+use Rattle.std.proofs.Common.{◌==◌, ◌∙◌, ℕ, List, length, sym, ap}
 use Rattle.std.proofs.lemmas.Bool.{eqb-true}
 use Rattle.lrat_judge.specs.Judged.{Judged}
 use Rattle.lrat_judge.specs.declared.verdict.Verdict.TheVariants.{Syntax}

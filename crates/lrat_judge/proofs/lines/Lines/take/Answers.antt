@@ -1,6 +1,6 @@
-use Rattle.std.proofs.Common.{◌≡◌, ◌∙◌, ◌+◌, ℕ, Bool, true, sym, ap, Ok, subst, arith, rules}
+use Rattle.std.proofs.Common.{◌≡◌, ◌∙◌, Bool, true, sym, ap, Ok, subst, arith, rules}
 use Rattle.lrat_text.specs.Line.{line_of}
-use Rattle.lrat_judge.specs.Judged.{Judged, counted}
+use Rattle.lrat_judge.specs.Judged.{Judged}
 use Rattle.lrat_judge.specs.Follow.{follow}
 use Rattle.lrat_judge.specs.Reached.{IsBefore, Stands}
 use Rattle.lrat_judge.proofs.Taking.{syntax_comes, rejected_comes, refuted_comes, more_comes}
