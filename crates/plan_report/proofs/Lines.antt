@@ -56,7 +56,7 @@ exhausted_remark horizon h = rw (decimal_line horizon h) refl
 pub step_remark : (number : ℕ) → number < 2 ^ 64 → is_remark (step_line number) ≡ true
 step_remark number n = rw (decimal_line number n) refl
 
-end_remark : (end : EndView) → IsSmallEnd end → is_remark (end_line end) ≡ true
+pub end_remark : (end : EndView) → IsSmallEnd end → is_remark (end_line end) ≡ true
 end_remark (Planned horizon steps lines) small = plan_remark horizon (length (actions_in steps)) small.0 small.1
 end_remark (Exhausted horizon lines) small = exhausted_remark horizon small
 end_remark (Unfinished lines) small = refl
@@ -105,7 +105,7 @@ steps_remarks p g are begin number (set ∷ sets) calls few numbers is =
     (set_remarks p g are begin set (actions_in sets) calls (step_lines (number + 1) (calls_by_step p g sets))
     (λ others n i. steps_remarks p g are begin (number + 1) sets others (omega arith) n i) numbers is)
 
-plan_remarks : (p : Parts) (g : Grounded) → AreLines p → Begin p → (end : EndView) → IsSmallEnd end → HasCalls p g end → list_all is_remark (plan_lines p g end) ≡ true
+pub plan_remarks : (p : Parts) (g : Grounded) → AreLines p → Begin p → (end : EndView) → IsSmallEnd end → HasCalls p g end → list_all is_remark (plan_lines p g end) ≡ true
 plan_remarks p g are begin (Planned horizon steps lines) small has = steps_remarks p g are begin 1 steps has.0 (let few = small.2 in omega (arith, few)) has.1 has.2
 plan_remarks p g are begin (Exhausted horizon lines) small has = refl
 plan_remarks p g are begin (Unfinished lines) small has = refl

@@ -10,16 +10,18 @@ use Rattle.report_lines.proofs.Entries.{entry_is_line}
 use Rattle.pd_sexp.specs.Bytes.{semicolon, line_feed}
 use Rattle.pd_model.specs.Fits.{is_call}
 use Rattle.pd_model.specs.Text.{call_text}
+use Rattle.pd_model.specs.WellFormed.{IsWellFormed}
 use Rattle.pd_model.specs.declared.calls.Call.{Call}
 use Rattle.pd_model.specs.declared.parts.Parts.{Parts}
 use Rattle.pd_plan.specs.PlanFile.{plan_file}
 use Rattle.pd_plan.specs.PlanText.{SpellsAnywhere}
+use Rattle.pd_plan.specs.Laws.{NothingIsSpelled, CommentsAddNone, CallsAreSpelled, SpelledAreRead}
 use Rattle.grounding.specs.Grounded.{Grounded}
 use Rattle.grounding.specs.Laws.{AreNumbers}
 use Rattle.race_end.specs.Ends.{LineView, Planned, conflicts_in}
 use Rattle.step_plans.specs.Plans.{actions_in}
-use Rattle.plan_report.specs.Report.{entry_of, step_lines, action_text, calls_by_step, last_lines, report_of}
-use Rattle.plan_report.specs.Laws.{IsSmall}
+use Rattle.plan_report.specs.Report.{entry_of, step_lines, action_text, calls_by_step, plan_text, last_lines, report_of}
+use Rattle.plan_report.specs.Laws.{IsSmallPlan, IsSmall}
 use Rattle.plan_report.proofs.Lines.{call_is, are_entries, conflicts_remark, plan_remark, step_remark}
 
 -- what is known of texts of comments and calls, a line each
@@ -28,6 +30,9 @@ pub record Reads (p : Parts) : Type 0 where
   pub comment : (line rest : List ℕ) (calls : List Call) → IsTrue (is_line line) → SpellsAnywhere p rest calls → SpellsAnywhere p (semicolon ∷ line ++ line_feed ∷ rest) calls
   pub call : (call : Call) (rest : List ℕ) (calls : List Call) → IsTrue (is_call p call) → SpellsAnywhere p rest calls → SpellsAnywhere p (call_text p call ++ line_feed ∷ rest) (call ∷ calls)
   pub reads : (bytes : List ℕ) (calls : List Call) → SpellsAnywhere p bytes calls → plan_file p bytes ≡ Ok calls
+
+pub spelled_by : NothingIsSpelled → CommentsAddNone → CallsAreSpelled → SpelledAreRead → (p : Parts) → IsWellFormed p → Reads p
+spelled_by nothing comment call reads p well = record { nothing = nothing p; comment = comment p; call = λ one rest calls. call p one rest calls well; reads = reads p }
 
 module _ (p : Parts) (g : Grounded) (r : Reads p) where
   -- a line that is a remark, and begins with a semicolon
@@ -59,12 +64,23 @@ module _ (p : Parts) (g : Grounded) (r : Reads p) where
       remark_then (codes " step " ++ decimal number) _ calls (step_remark number (omega arith))
       (set_then set (actions_in sets) calls (step_lines (number + 1) (calls_by_step p g sets)) (λ others n i. steps_then (number + 1) sets others (omega arith) n i) numbers is)
 
+  text_spelled :
+      (horizon : ℕ) (steps : List (List ℕ)) (calls : List Call) → IsSmallPlan horizon steps → AreNumbers g calls (actions_in steps) → list_all (is_call p) calls ≡ true
+      → SpellsAnywhere p (plan_text p g horizon steps) calls
+  text_spelled horizon steps calls small numbers is =
+      let few = small.2 in
+      remark_then (codes " plan of " ++ (decimal horizon ++ (codes " steps with " ++ (decimal (length (actions_in steps)) ++ codes " actions")))) _ calls (plan_remark horizon (length (actions_in steps)) small.0 small.1)
+      (steps_then 1 steps calls (omega (arith, few)) numbers is)
+
+  pub text_read :
+      (horizon : ℕ) (steps : List (List ℕ)) (calls : List Call) → IsSmallPlan horizon steps → AreNumbers g calls (actions_in steps) → list_all (is_call p) calls ≡ true
+      → plan_file p (plan_text p g horizon steps) ≡ Ok calls
+  text_read horizon steps calls small numbers is = r.reads (plan_text p g horizon steps) calls (text_spelled horizon steps calls small numbers is)
+
   pub plan_read :
       (budget horizon : ℕ) (steps : List (List ℕ)) (lines : List LineView) (calls : List Call) → IsSmall budget (Planned horizon steps lines) → AreNumbers g calls (actions_in steps)
       → list_all (is_call p) calls ≡ true → plan_file p (report_of p g budget (Planned horizon steps lines)) ≡ Ok calls
   plan_read budget horizon steps lines calls small numbers is =
-      let few = small.end.2 in
-      let steps_spelled = steps_then 1 steps calls (omega (arith, few)) numbers is in
-      let end_spelled = remark_then (codes " plan of " ++ (decimal horizon ++ (codes " steps with " ++ (decimal (length (actions_in steps)) ++ codes " actions")))) _ calls (plan_remark horizon (length (actions_in steps)) small.end.0 small.end.1) steps_spelled in
+      let end_spelled = text_spelled horizon steps calls small.end numbers is in
       let all_spelled = remark_then (codes " conflicts " ++ (decimal (conflicts_in lines) ++ (codes " of " ++ decimal budget))) _ calls (conflicts_remark (conflicts_in lines) budget small.sum small.few) end_spelled in
       r.reads (report_of p g budget (Planned horizon steps lines)) calls (entries_then (map entry_of lines) (last_lines p g budget (Planned horizon steps lines)) calls (are_entries lines small.lines) all_spelled)

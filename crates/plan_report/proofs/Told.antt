@@ -4,15 +4,19 @@ use Rattle.std.specs.Prelude.{IsTrue, All, Contains}
 use Rattle.std.specs.List.{list_all}
 use Rattle.std.proofs.lemmas.List.Elements.{All-contains, All-cons, All-nil, All-contains_itself}
 use Rattle.report_lines.specs.Lines.{lines_of}
-use Rattle.report_lines.specs.Horizons.{Says, Entry, entry_line, is_word}
+use Rattle.report_lines.specs.Horizons.{Says, Entry, IsEntry, entry_line, is_word}
 use Rattle.report_lines.specs.Laws.{LinesReadBack, ReportsSayEntries}
 use Rattle.report_lines.proofs.Entries.{all_lines}
+use Rattle.pd_model.specs.Fits.{is_call}
+use Rattle.pd_model.specs.declared.calls.Call.{Call}
 use Rattle.pd_model.specs.declared.parts.Parts.{Parts}
 use Rattle.grounding.specs.Grounded.{Grounded}
+use Rattle.grounding.specs.Laws.{AreNumbers}
 use Rattle.race_end.specs.Ends.{LineView, EndView, Planned, lines_in, conflicts_in}
-use Rattle.plan_report.specs.Report.{entry_of, conflicts_line, end_line, calls_by_step, last_lines, report_of}
-use Rattle.plan_report.specs.Laws.{IsSmall, HasCalls, TellsSteps, Tells, is_step}
-use Rattle.plan_report.proofs.Lines.{AreLines, Begin, all_append, all_remarks, are_entries}
+use Rattle.step_plans.specs.Plans.{actions_in}
+use Rattle.plan_report.specs.Report.{entry_of, conflicts_line, end_line, calls_by_step, told_lines, plan_text, last_lines, report_of}
+use Rattle.plan_report.specs.Laws.{IsSmallPlan, IsSmall, HasCalls, TellsSteps, Tells, is_step}
+use Rattle.plan_report.proofs.Lines.{AreLines, Begin, all_append, end_remark, plan_remarks, all_remarks, are_entries}
 
 pub read_back :
     (p : Parts) (g : Grounded) → LinesReadBack → AreLines p → Begin p → (budget : ℕ) (end : EndView) → IsSmall budget end → HasCalls p g end
@@ -20,6 +24,14 @@ pub read_back :
 read_back p g back are begin budget end small has =
     back (map entry_line (map entry_of (lines_in end)) ++ last_lines p g budget end)
     (all_lines (map entry_of (lines_in end)) (last_lines p g budget end) (are_entries (lines_in end) small.lines) (all_remarks p g are begin budget end small has))
+
+-- the lines of a plan's text too
+pub text_back :
+    (p : Parts) (g : Grounded) → LinesReadBack → AreLines p → Begin p → (horizon : ℕ) (steps : List (List ℕ)) (calls : List Call) → IsSmallPlan horizon steps → AreNumbers g calls (actions_in steps)
+    → list_all (is_call p) calls ≡ true → lines_of (plan_text p g horizon steps) ≡ told_lines p g horizon steps
+text_back p g back are begin horizon steps calls small numbers is =
+    let end : EndView = Planned horizon steps [] in
+    back (told_lines p g horizon steps) (all_lines [] (told_lines p g horizon steps) (All-nil IsEntry) (rw (end_remark end small, plan_remarks p g are begin end small (calls, numbers, is)) refl))
 
 -- ---- steps
 

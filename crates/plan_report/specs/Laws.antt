@@ -13,7 +13,7 @@ use Rattle.grounding.specs.Grounded.{Grounded}
 use Rattle.grounding.specs.Laws.{AreNumbers}
 use Rattle.race_end.specs.Ends.{LineView, EndView, Planned, Exhausted, Unfinished, lines_in, conflicts_in}
 use Rattle.step_plans.specs.Plans.{actions_in}
-use Rattle.plan_report.specs.Report.{word_text, entry_of, step_lines, calls_by_step, last_lines, report_of}
+use Rattle.plan_report.specs.Report.{word_text, entry_of, step_lines, calls_by_step, told_lines, plan_text, last_lines, report_of}
 
 -- ---- what is known of an end
 
@@ -30,9 +30,13 @@ IsSmallLine line = (line.horizon < 2 ^ 64) × (line.conflicts < 2 ^ 64)
 abbrev pub AreSmall : List LineView → Type 0
 AreSmall lines = All IsSmallLine lines
 
--- and so are those of how a race ended
+-- so are those of a plan of so many steps
+abbrev pub IsSmallPlan : ℕ → List (List ℕ) → Type 0
+IsSmallPlan horizon steps = (horizon < 2 ^ 64) × (length (actions_in steps) < 2 ^ 64) × (length steps < 2 ^ 64)
+
+-- and those of how a race ended
 abbrev pub IsSmallEnd : EndView → Type 0
-IsSmallEnd (Planned horizon steps lines) = (horizon < 2 ^ 64) × (length (actions_in steps) < 2 ^ 64) × (length steps < 2 ^ 64)
+IsSmallEnd (Planned horizon steps lines) = IsSmallPlan horizon steps
 IsSmallEnd (Exhausted horizon lines) = horizon < 2 ^ 64
 IsSmallEnd (Unfinished lines) = Unit {0}
 
@@ -78,6 +82,20 @@ StepsAreTold =
     (p : Parts) (g : Grounded) (budget horizon : ℕ) (steps : List (List ℕ)) (lines : List LineView)
     → IsWellFormed p → IsSmall budget (Planned horizon steps lines) → HasCalls p g (Planned horizon steps lines)
     → TellsSteps (report_of p g budget (Planned horizon steps lines)) (calls_by_step p g steps)
+
+-- the text of a plan without a race is a plan file of the plan's calls
+abbrev pub PlanTextsAreRead : Type 0
+PlanTextsAreRead =
+    (p : Parts) (g : Grounded) (horizon : ℕ) (steps : List (List ℕ)) (calls : List Call)
+    → IsWellFormed p → IsSmallPlan horizon steps → AreNumbers g calls (actions_in steps) → IsTrue (list_all (is_call p) calls)
+    → plan_file p (plan_text p g horizon steps) ≡ Ok calls
+
+-- and its lines are read back
+abbrev pub PlanTextsAreReadBack : Type 0
+PlanTextsAreReadBack =
+    (p : Parts) (g : Grounded) (horizon : ℕ) (steps : List (List ℕ)) (calls : List Call)
+    → IsWellFormed p → IsSmallPlan horizon steps → AreNumbers g calls (actions_in steps) → IsTrue (list_all (is_call p) calls)
+    → lines_of (plan_text p g horizon steps) ≡ told_lines p g horizon steps
 
 -- the lines tell this of a horizon
 abbrev pub Tells : List LineView → ℕ → List ℕ → ℕ → Type 0

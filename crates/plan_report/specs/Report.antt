@@ -57,6 +57,13 @@ action_text p g a = call_text p (call_at g a)
 abbrev pub calls_by_step : Parts → Grounded → List (List ℕ) → List (List (List ℕ))
 calls_by_step p g steps = map (map (action_text p g)) steps
 
+-- the lines of a plan of so many steps, and its text, where no race is told of
+abbrev pub told_lines : Parts → Grounded → ℕ → List (List ℕ) → List (List ℕ)
+told_lines p g horizon steps = plan_line horizon (length (actions_in steps)) ∷ step_lines 1 (calls_by_step p g steps)
+
+abbrev pub plan_text : Parts → Grounded → ℕ → List (List ℕ) → List ℕ
+plan_text p g horizon steps = joined (told_lines p g horizon steps)
+
 -- the lines of the steps of a plan
 abbrev pub plan_lines : Parts → Grounded → EndView → List (List ℕ)
 plan_lines p g (Planned horizon steps lines) = step_lines 1 (calls_by_step p g steps)

@@ -11,5 +11,5 @@ mod report;
 mod text;
 
 pub use linear_plans::linearise;
-pub use report::{report_text, summary_text};
+pub use report::{plan_text, report_text, summary_text};
 pub use text::Text;

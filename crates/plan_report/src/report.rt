@@ -1,13 +1,15 @@
 //! The text of a report.
 ghost use Rattle.std.specs.Prelude.{◌≡◌, ◌<◌, ◌^◌, ◌∷◌, ◌++◌, [], length, OnOk, IfOk};
+ghost use Rattle.std.specs.List.{AllByRecursion};
 ghost use Rattle.report_lines.specs.Lines.{joined};
 ghost use Rattle.race_end.specs.Ends.{end_view, lines_of, lines_in, conflicts_in};
-ghost use Rattle.plan_report.specs.Report.{conflicts_line, end_line, plan_line, exhausted_line, plan_lines, report_of, summary_of};
-ghost use Rattle.plan_report.specs.Laws.{HasActionsBelow, IsSmallEnd, IsSmall};
+ghost use Rattle.plan_report.specs.Report.{conflicts_line, end_line, plan_line, exhausted_line, plan_lines, plan_text, report_of, summary_of};
+ghost use Rattle.plan_report.specs.Laws.{HasActionsBelow, IsSmallPlan, IsSmallEnd, IsSmall};
 
 use crate::calls::{actions_of, push_steps};
 use crate::horizons::{conflicts_of, push_horizons};
 use crate::text::Text;
+use action_order::numbers::ActNumbers;
 use grounder::Grounded;
 use pd_model::{Memory, Pddl};
 use race_end::{Line, RaceEnd};
@@ -110,6 +112,26 @@ pub fn report_text(
     push_conflicts(conflicts_of(lines), budget, &mut text)?;
     push_end(alloc, end, &mut text)?;
     push_plan_lines(pddl, grounded, end, &mut text)?;
+    Ok(Text::of(text))
+}
+
+/// The text of a plan of so many steps, as a report has it: the line of the plan, and the calls of each step, as they are listed. The
+/// only error is want of memory.
+pub fn plan_text(
+    alloc: Global,
+    pddl: &Pddl,
+    grounded: &Grounded,
+    horizon: u32,
+    steps: &[ActNumbers],
+) -> Result<Text, Memory>
+    requires { AllByRecursion (λ set. AllByRecursion (λ a. a < length grounded.now.calls) set) steps.now }
+    ensures text { IfOk result (λ text. text ≡ plan_text pddl.now grounded.now horizon steps.now) }
+    ensures small { OnOk result (IsSmallPlan horizon steps.now) }
+{
+    let actions = actions_of(alloc, steps)?;
+    let mut text = Vec::new(alloc);
+    push_plan(horizon, actions.len(), &mut text)?;
+    push_steps(pddl, grounded, steps, &mut text)?;
     Ok(Text::of(text))
 }
 
