@@ -37,7 +37,7 @@ use Rattle.judge_endings.specs.declared.ended.Ended.{Ended}
 use Rattle.judge_endings.specs.declared.ended.Ended.TheVariants.{Plain, Refuted, Rejected, Syntax, Unread, Usage}
 use Rattle.judge_top.specs.Answers.{OnceReady, not_ready, ready, AnswersFormula, AnswersJudge, AnswersModel, too_large, formula, unread, judged, model, ended_by, IsUnread, OfKnown, HasNone, TellsTooMany, word_of}
 use Rattle.judge_top.specs.declared.model.Told.{Told}
-use Rattle.judge_top.specs.declared.model.Told.TheVariants as told
+use Rattle.judge_top.specs.declared.model.Told.TheVariants as tolds
 use Rattle.judge_top.specs.Causes.{Answers, Comes, no_request, asked, ComesFor, StopsAt, OfTaken, IsUnopened, HasFault, names_in, two_of}
 use Rattle.judge_top.specs.Headline.{IsProvedNone, PlanRunsIn, TellsFormula}
 
@@ -132,10 +132,10 @@ module _ (heard hears : List Heard) (failed fails : List (List ℕ)) (faults ris
   unfolding IsLow
   model_low names first second s h end (not_ready plain_end stops e) = inr (not_ready_low first second plain_end end stops e).1
   model_low names first second s h end (ready task g are is (too_large plain_end over e)) = inr (let four = ap status_of e ∙ ap plain.status_of over.1 in omega (arith, four))
-  model_low names first second s h end (ready task g are is (model told.Unread known small e)) = inl (ap status_of e, inr known.holds)
-  model_low names first second s h end (ready task g are is (model (told.NoText at) known small e)) = inr (let three = ap status_of e in omega (arith, three))
-  model_low names first second s h end (ready task g are is (model (told.NoModel clause) known small e)) = inr (let one = ap status_of e in omega (arith, one))
-  model_low names first second s h end (ready task g are is (model (told.Plan steps) known small e)) = inr (let zero = ap status_of e in omega (arith, zero))
+  model_low names first second s h end (ready task g are is (model tolds.Unread known small e)) = inl (ap status_of e, inr known.holds)
+  model_low names first second s h end (ready task g are is (model (tolds.NoText at) known small e)) = inr (let three = ap status_of e in omega (arith, three))
+  model_low names first second s h end (ready task g are is (model (tolds.NoModel clause) known small e)) = inr (let one = ap status_of e in omega (arith, one))
+  model_low names first second s h end (ready task g are is (model (tolds.Plan steps) known small e)) = inr (let zero = ap status_of e in omega (arith, zero))
 
   answers_low : (names : List (List ℕ)) (request : Seen) (first second : List ℕ) (end : Ended) → Answers faults rises request end first second → IsLow names failed fails faults rises end
   unfolding IsLow
@@ -259,10 +259,10 @@ module _ (heard hears : List Heard) (failed fails : List (List ℕ)) (faults ris
     where
       planned : (end : Ended) → status_of end ≡ 0 → text ≡ text_of end → (task : Parts) (g : Grounded) → IsReady task g → AnswersModel how horizon faults rises task g end → PlanRunsIn how horizon text task
       planned end at same task g is (too_large plain_end over e) = not_limit how horizon g end at plain_end over e
-      planned end at same task g is (model told.Unread known small e) = absurd (let five = ap status_of e in omega (arith, five, at))
-      planned end at same task g is (model (told.NoText place) known small e) = absurd (let three = ap status_of e in omega (arith, three, at))
-      planned end at same task g is (model (told.NoModel clause) known small e) = absurd (let one = ap status_of e in omega (arith, one, at))
-      planned end at same task g is (model (told.Plan steps) known small e) =
+      planned end at same task g is (model tolds.Unread known small e) = absurd (let five = ap status_of e in omega (arith, five, at))
+      planned end at same task g is (model (tolds.NoText place) known small e) = absurd (let three = ap status_of e in omega (arith, three, at))
+      planned end at same task g is (model (tolds.NoModel clause) known small e) = absurd (let one = ap status_of e in omega (arith, one, at))
+      planned end at same task g is (model (tolds.Plan steps) known small e) =
           let values = known.holds.0 in
           let stands = known.holds.2 in
           let runs = model_runs laws task g is known.clauses known.components known.ordered how horizon values known.holds.1 (subst (IsSmallPlan horizon) stands small) in
