@@ -10,6 +10,7 @@ use Rattle.gt_core.specs.Step.{IsStepPlan}
 use Rattle.horizon_run.specs.Run.{reached, choice_of}
 use Rattle.step_clauses.specs.Variables.{layout_of, chain_places}
 use Rattle.step_laws.specs.Form.{OrderedTask, AreSets}
+use Rattle.step_encoding.specs.Limits.{planner_literals}
 use Rattle.step_encoding.specs.Numbers.{literals_of}
 use Rattle.two_invariants.specs.Closed.{AreInvariants}
 use Rattle.certificates.specs.Known.{form_of, formula_at, HasTooMany}
@@ -32,7 +33,7 @@ module _ (task : Task) (known : KnownClauses) (components : List (List ℕ)) (fa
   same = made ∙ ap (λ (n : ℕ). made_of task (record { facts = n; clauses = known.clauses }) components) facts
 
   abbrev is_small : OrderedTask → Type 0
-  is_small f = literals_of (formula_at chain_places f horizon) ≤ 4000000
+  is_small f = literals_of (formula_at chain_places f horizon) ≤ planner_literals
 
   abbrev is_proved : ℕ → Proved → OrderedTask → Type 0
   is_proved budget p f = p ≡ proved_of horizon (reached (choice_of task (layout_of f.task (chain_places f.task f.components) horizon)) (formula_at chain_places f horizon) budget)
@@ -66,7 +67,7 @@ module _ (task : Task) (known : KnownClauses) (components : List (List ℕ)) (fa
   }
   judges log (Err e) is small none = tt
 
-  pub too_many : (count : ℕ) → (4000000 < count) × (count ≡ literals_of (formula_at chain_places form horizon)) → HasTooMany task horizon count
+  pub too_many : (count : ℕ) → (planner_literals < count) × (count ≡ literals_of (formula_at chain_places form horizon)) → HasTooMany task horizon count
   too_many count many = record {
     clauses = known.clauses;
     components = components;

@@ -8,6 +8,7 @@ use Rattle.gt_core.specs.Published.{order_of}
 use Rattle.gt_core.specs.Step.{IsStepPlan}
 use Rattle.step_clauses.specs.Variables.{chain_places}
 use Rattle.step_laws.specs.Form.{AreSets}
+use Rattle.step_encoding.specs.Limits.{planner_literals}
 use Rattle.step_encoding.specs.Numbers.{literals_of}
 use Rattle.certificates.specs.Known.{IsOrdered, form_of, formula_at}
 use Rattle.certificates.specs.declared.verify.Judged.{Judged}
@@ -24,6 +25,6 @@ pub record Judges (task : Task) (horizon : ℕ) (log : List Entry) (judged : Jud
   pub clauses : List (ℕ × ℕ)
   pub components : List (List ℕ)
   pub ordered : IsOrdered task clauses components
-  pub small : literals_of (formula_at chain_places (form_of task clauses components) horizon) ≤ 4000000
+  pub small : literals_of (formula_at chain_places (form_of task clauses components) horizon) ≤ planner_literals
   pub is : IsJudged (formula_at chain_places (form_of task clauses components) horizon) log judged
   pub none : (entries : ℕ) → judged ≡ Accepted entries → (steps : List (List ℕ)) → AreSets IsStepPlan task (order_of components) steps horizon → ⊥

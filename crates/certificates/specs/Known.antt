@@ -4,6 +4,7 @@ use Rattle.clause_base.specs.Choice.{Known}
 use Rattle.gt_core.specs.Task.{Task}
 use Rattle.step_clauses.specs.Variables.{layout_of, chain_places}
 use Rattle.step_laws.specs.Form.{OrderedTask}
+use Rattle.step_encoding.specs.Limits.{planner_literals}
 use Rattle.step_encoding.specs.Numbers.{literals_of}
 use Rattle.horizon_run.specs.Run.{choice_of}
 pub use Rattle.ordered_tasks.specs.Known.{IsOrdered, form_of, formula_at}
@@ -19,5 +20,5 @@ pub record HasTooMany (task : Task) (horizon : ℕ) (count : ℕ) : Type 0 where
   pub clauses : List (ℕ × ℕ)
   pub components : List (List ℕ)
   pub ordered : IsOrdered task clauses components
-  pub over : 4000000 < count
+  pub over : planner_literals < count
   pub count_is : count ≡ literals_of (formula_at chain_places (form_of task clauses components) horizon)

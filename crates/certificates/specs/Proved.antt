@@ -8,6 +8,7 @@ use Rattle.cdcl_rules.specs.declared.standing.Standing.TheVariants.{Going, Found
 use Rattle.gt_core.specs.Task.{Task}
 use Rattle.horizon_run.specs.Run.{reached}
 use Rattle.step_clauses.specs.Variables.{chain_places}
+use Rattle.step_encoding.specs.Limits.{planner_literals}
 use Rattle.step_encoding.specs.Numbers.{literals_of}
 use Rattle.proof_text.specs.Text.{proof_text}
 use Rattle.certificates.specs.Known.{IsOrdered, form_of, choice_at, formula_at}
@@ -39,7 +40,7 @@ pub record Proves (task : Task) (horizon budget : ℕ) (proved : Proved) : Type 
   pub clauses : List (ℕ × ℕ)
   pub components : List (List ℕ)
   pub ordered : IsOrdered task clauses components
-  pub small : literals_of (formula_at chain_places (form_of task clauses components) horizon) ≤ 4000000
+  pub small : literals_of (formula_at chain_places (form_of task clauses components) horizon) ≤ planner_literals
   pub is : proved ≡ proved_of horizon (reached (choice_at chain_places (form_of task clauses components) horizon) (formula_at chain_places (form_of task clauses components) horizon) budget)
   pub certified : (text : List ℕ) → proved ≡ Certificate text → IsCertificate (formula_at chain_places (form_of task clauses components)) text horizon
   pub spent : (conflicts : ℕ) → proved ≡ Open conflicts → conflicts ≡ budget

@@ -2,7 +2,7 @@
 ghost use Rattle.std.specs.Prelude.{◌≡◌, ◌≤◌, ◌<◌, ℕ, Bool, List, Ok, Err, IfOk, false};
 ghost use Rattle.clause_base.specs.Formula.{IsModel};
 ghost use Rattle.horizon_run.specs.Run.{choice_of, reached};
-ghost use Rattle.step_encoding.specs.Numbers.{literals_of};
+ghost use Rattle.step_encoding.specs.{Limits.planner_literals, Numbers.literals_of};
 ghost use Rattle.certificates.specs.Known.{HasTooMany};
 ghost use Rattle.certificates.specs.Certificate.{IsSpelled, IsCertificate};
 ghost use Rattle.certificates.specs.Proved.{certificate_of, proved_of, Proves};
@@ -19,6 +19,7 @@ use std::alloc::Global;
 use std::thread::Threads;
 use step_encoding::exists::ExistsForm;
 use step_encoding::form::StepForm;
+use step_encoding::limits::PLANNER_LITERALS;
 use two_invariants::find;
 
 /// How many bytes a certificate may have.
@@ -38,7 +39,7 @@ pub enum Proved {
 }
 
 /// What the run of a horizon of a task comes to that is granted a budget of conflicts. `Literals` comes exactly where the
-/// horizon's formula has more than 4,000,000 literals.
+/// horizon's formula has more than `PLANNER_LITERALS` literals.
 pub fn prove(
     rt: &(impl Threads + Sync),
     alloc: Global,
@@ -69,14 +70,14 @@ fn run_on<F: StepForm>(
     requires horizon { horizon ≤ 255 }
     requires budget { budget ≤ 1000000 }
     ensures proved { IfOk result (λ p. p ≡ proved_of horizon (reached (choice_of task.now (F.layout_of form.now horizon)) (F.formula_of form.now horizon) budget)) }
-    ensures small { IfOk result (λ p. literals_of (F.formula_of form.now horizon) ≤ 4000000) }
+    ensures small { IfOk result (λ p. literals_of (F.formula_of form.now horizon) ≤ planner_literals) }
     ensures certified { (text : List ℕ) → result ≡ Ok (Proved.Certificate text) → IsCertificate (F.formula_of form.now) text horizon }
     ensures spent { (conflicts : ℕ) → result ≡ Ok (Proved.Open conflicts) → conflicts ≡ budget }
     ensures found { (conflicts : ℕ) → result ≡ Ok (Proved.Plan conflicts) → (values : List Bool) × IsModel (F.formula_of form.now horizon) values }
-    ensures literals { (count : ℕ) → result ≡ Err (ProofError.Literals count) → (4000000 < count) × (count ≡ literals_of (F.formula_of form.now horizon)) }
+    ensures literals { (count : ℕ) → result ≡ Err (ProofError.Literals count) → (planner_literals < count) × (count ≡ literals_of (F.formula_of form.now horizon)) }
 {
     let count = form.size(horizon);
-    if count > 4_000_000 {
+    if count > PLANNER_LITERALS {
         return Err(ProofError::Literals { count });
     }
     let mut solving = HorizonRun::new(alloc, task, form, horizon)?;

@@ -1,6 +1,6 @@
 //! The checker on a certificate.
 ghost use Rattle.std.specs.Prelude.{◌≡◌, ◌≤◌, ◌<◌, ℕ, List, length, Ok, Err, IfOk};
-ghost use Rattle.step_encoding.specs.Numbers.{literals_of};
+ghost use Rattle.step_encoding.specs.{Limits.planner_literals, Numbers.literals_of};
 ghost use Rattle.certificates.specs.Known.{HasTooMany};
 ghost use Rattle.certificates.specs.Judged.{IsJudged, Judges};
 
@@ -12,7 +12,8 @@ use rup_check::check::{CheckError, check};
 use std::alloc::Global;
 use std::thread::Threads;
 use step_encoding::exists::ExistsForm;
-use step_encoding::form::{FormError, StepForm};
+use step_encoding::form::StepForm;
+use step_encoding::limits::PLANNER_LITERALS;
 use two_invariants::find;
 
 /// What the checker says of a certificate.
@@ -27,7 +28,7 @@ pub enum Judged {
 }
 
 /// What the checker says of a certificate over the formula of its horizon of a task. `Literals` comes exactly where that formula
-/// has more than 4,000,000 literals. No solver is run.
+/// has more than `PLANNER_LITERALS` literals. No solver is run.
 pub fn verify(
     rt: &(impl Threads + Sync),
     alloc: Global,
@@ -50,15 +51,16 @@ fn judge<F: StepForm>(alloc: Global, form: &F, proof: &Proof) -> Result<Judged, 
     requires horizon { proof.now.horizon ≤ 255 }
     requires few { length proof.now.log ≤ 16777216 }
     ensures judged { IfOk result (IsJudged (F.formula_of form.now proof.now.horizon) proof.now.log) }
-    ensures small { IfOk result (λ j. literals_of (F.formula_of form.now proof.now.horizon) ≤ 4000000) }
+    ensures small { IfOk result (λ j. literals_of (F.formula_of form.now proof.now.horizon) ≤ planner_literals) }
     ensures none { (entries : ℕ) → result ≡ Ok (Judged.Accepted entries) → (steps : List (List ℕ)) → F.is_plan form.now proof.now.horizon steps → ⊥ }
-    ensures literals { (count : ℕ) → result ≡ Err (ProofError.Literals count) → (4000000 < count) × (count ≡ literals_of (F.formula_of form.now proof.now.horizon)) }
+    ensures literals { (count : ℕ) → result ≡ Err (ProofError.Literals count) → (planner_literals < count) × (count ≡ literals_of (F.formula_of form.now proof.now.horizon)) }
 {
-    let _lawful = form.size(0);
-    let formula = match form.formula(alloc, proof.horizon) {
-        Ok(formula) => formula,
-        Err(FormError::Literals { count }) => return Err(ProofError::Literals { count }),
-        Err(FormError::Memory) => return Err(ProofError::Memory),
+    let count = form.size(proof.horizon);
+    if count > PLANNER_LITERALS {
+        return Err(ProofError::Literals { count });
+    }
+    let Ok(formula) = form.formula(alloc, proof.horizon) else {
+        return Err(ProofError::Memory);
     };
     let _few = formula.count();
     match check(alloc, &formula, &proof.log) {

@@ -4,7 +4,7 @@ ghost use Rattle.cdcl_rules.specs.{State.value_of, Run.after};
 ghost use Rattle.cdcl_laws.specs.Sound.{made_true};
 ghost use Rattle.goal_choice.specs.Means.{gathered_of};
 ghost use Rattle.rup_check.specs.Certificate.{Certifies};
-ghost use Rattle.step_encoding.specs.Numbers.{literals_of};
+ghost use Rattle.step_encoding.specs.{Limits.planner_literals, Numbers.literals_of};
 ghost use Rattle.horizon_run.specs.Run.{choice_in, choice_of, moved_to, truths_of, IsMoved, IsNew, IsReached, AddsUp, Stays};
 
 use cdcl_core::solver::Solver;
@@ -60,7 +60,7 @@ impl HorizonRun {
     ) -> Result<HorizonRun, Memory>
         requires form_of { F.task form.now ≡ task.now }
         requires horizon { n ≤ 255 }
-        requires size { literals_of (F.formula_of form.now n) ≤ 4000000 }
+        requires size { literals_of (F.formula_of form.now n) ≤ planner_literals }
         ensures start { IfOk result (λ run. IsNew run) }
         ensures formula { IfOk result (λ run. run.formula ≡ F.formula_of form.now n) }
         ensures choice { IfOk result (λ run. choice_in run ≡ choice_of task.now (F.layout_of form.now n)) }
@@ -78,7 +78,7 @@ impl HorizonRun {
     ) -> Result<HorizonRun, Memory>
         requires supporters { supporters.now ≡ gathered_of (F.task form.now) }
         requires horizon { n ≤ 255 }
-        requires size { literals_of (F.formula_of form.now n) ≤ 4000000 }
+        requires size { literals_of (F.formula_of form.now n) ≤ planner_literals }
         ensures start { IfOk result (λ run. IsNew run) }
         ensures formula { IfOk result (λ run. run.formula ≡ F.formula_of form.now n) }
         ensures choice { IfOk result (λ run. choice_in run ≡ choice_of (F.task form.now) (F.layout_of form.now n)) }

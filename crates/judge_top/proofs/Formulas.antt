@@ -7,6 +7,7 @@ use Rattle.gt_core.specs.Task.{Task}
 use Rattle.gt_core.specs.Clauses.{KnownClauses}
 use Rattle.gt_core.specs.Published.{IsPublished, order_of}
 use Rattle.step_laws.specs.Form.{OrderedTask, AreSets, steps_at}
+use Rattle.step_encoding.specs.Limits.{most_literals}
 use Rattle.step_encoding.specs.Numbers.{literals_of}
 use Rattle.two_invariants.specs.Closed.{AreInvariants}
 use Rattle.cnf_text.specs.Text.{formula_text}
@@ -48,7 +49,7 @@ module _ (places : Task → List (List ℕ) → List (List ℕ × ℕ)) (is_plan
   pub too_many : {A : Type 0} (r : Result A Stop) → StopsBy (IsTooMany (formula_at places form horizon) horizon) r
       → StopsBy (TellsTooMany places horizon task) r
   too_many (Ok x) h = tt
-  too_many (Err (Ends end)) h = (h.0, h.1, of_known (λ form. (4000000 < h.0) × (h.0 ≡ literals_of (formula_at places form horizon))) (h.2, h.3))
+  too_many (Err (Ends end)) h = (h.0, h.1, of_known (λ form. (most_literals < h.0) × (h.0 ≡ literals_of (formula_at places form horizon))) (h.2, h.3))
   too_many (Err Memory) h = tt
 
   pub told_known : (before now : ℕ) (r : Result Told Stop) → IfOk r (IsToldOf (formula_at places form horizon) (λ values. steps_at form (places form.task form.components) horizon (assignment_of values)) before now)

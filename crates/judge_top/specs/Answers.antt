@@ -11,6 +11,7 @@ use Rattle.pl_io.specs.Outside.{Rose}
 use Rattle.pl_io.specs.declared.outside.TakeError.{TakeError}
 use Rattle.pl_io.specs.declared.outside.TakeError.TheVariants as takes
 use Rattle.step_laws.specs.Form.{OrderedTask, AreSets, steps_at}
+use Rattle.step_encoding.specs.Limits.{most_literals}
 use Rattle.step_encoding.specs.Numbers.{literals_of}
 use Rattle.ordered_tasks.specs.Known.{IsOrdered, form_of, formula_at}
 use Rattle.model_text.specs.FirstFalse.{IsFirstFalse}
@@ -48,7 +49,7 @@ end_in (Err Memory) = None
 
 -- a formula, of this horizon, has too many literals, of which the ending tells
 abbrev pub IsTooMany : Cnf → ℕ → Ending → Type 0
-IsTooMany formula horizon end = (count : ℕ) × (end ≡ TooLarge horizon count) × (4000000 < count) × (count ≡ literals_of formula)
+IsTooMany formula horizon end = (count : ℕ) × (end ≡ TooLarge horizon count) × (most_literals < count) × (count ≡ literals_of formula)
 
 -- the claim holds of a task with what is known of it and its order
 pub record OfKnown (task : Task) (claim : OrderedTask → Type 0) : Type 0 where
@@ -62,7 +63,7 @@ module _ (places : Task → List (List ℕ) → List (List ℕ × ℕ)) where
   -- the formula of a horizon has too many literals, of which the ending tells
   abbrev pub TellsTooMany : ℕ → Task → Ending → Type 0
   TellsTooMany horizon task end =
-      (count : ℕ) × (end ≡ TooLarge horizon count) × OfKnown task (λ form. (4000000 < count) × (count ≡ literals_of (formula_at places form horizon)))
+      (count : ℕ) × (end ≡ TooLarge horizon count) × OfKnown task (λ form. (most_literals < count) × (count ≡ literals_of (formula_at places form horizon)))
 
   -- this is the formula of a horizon; where nothing satisfies it, no lists of actions are a plan of so many steps
   abbrev pub IsFormula : (Task → List ℕ → (ℕ → ℕ → Bool) → ℕ → Type 0) → ℕ → Cnf → OrderedTask → Type 0

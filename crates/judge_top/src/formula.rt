@@ -1,7 +1,7 @@
 //! The formula of a horizon of a ground task, for plans in steps of a kind.
 ghost use Rattle.std.specs.Prelude.{◌≡◌, ◌≤◌, ◌<◌, ℕ, List, IfOk};
 ghost use Rattle.clause_base.specs.Formula.{IsUnsatisfiable};
-ghost use Rattle.step_encoding.specs.Numbers.{literals_of};
+ghost use Rattle.step_encoding.specs.{Limits.most_literals, Numbers.literals_of};
 ghost use Rattle.plan_files.specs.Ends.{StopsBy};
 ghost use Rattle.plan_tasks.specs.Stepping.{places_by, is_plan_by};
 ghost use Rattle.judge_top.specs.Answers.{OfKnown, IsFormula, IsTooMany, TellsTooMany};
@@ -20,7 +20,7 @@ use step_encoding::form::{FormError, StepForm};
 use step_encoding::placed::{Placed, Placing};
 use two_invariants::find;
 
-/// The formula of a horizon of a task; or the run stops, where it has more than 4,000,000 literals.
+/// The formula of a horizon of a task; or the run stops, where it has more than `MOST_LITERALS` literals.
 pub fn formula_by<H: Threads + Sync>(
     rt: &H,
     alloc: Global,
@@ -60,7 +60,7 @@ pub fn formula_of<F: StepForm>(alloc: Global, form: &F, horizon: u32) -> Result<
     requires { horizon ≤ 255 }
     ensures formula { IfOk result (λ formula. formula ≡ F.formula_of form.now horizon) }
     ensures refutes { IfOk result (λ formula. IsUnsatisfiable formula.clauses → (steps : List (List ℕ)) → F.is_plan form.now horizon steps → ⊥) }
-    ensures small { IfOk result (λ formula. literals_of (F.formula_of form.now horizon) ≤ 4000000) }
+    ensures small { IfOk result (λ formula. literals_of (F.formula_of form.now horizon) ≤ most_literals) }
     ensures stops { StopsBy (IsTooMany (F.formula_of form.now horizon) horizon) result }
 {
     let _lawful = form.size(horizon);

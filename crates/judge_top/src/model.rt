@@ -4,7 +4,7 @@ ghost use Rattle.clause_base.specs.Formula.{IsModel};
 ghost use Rattle.pl_io.specs.Outside.{Rose};
 ghost use Rattle.plan_files.specs.Ends.{StopsBy};
 ghost use Rattle.plan_tasks.specs.Stepping.{places_by};
-ghost use Rattle.step_encoding.specs.Numbers.{literals_of};
+ghost use Rattle.step_encoding.specs.{Limits.most_literals, Numbers.literals_of};
 ghost use Rattle.judge_top.specs.Answers.{OfKnown, IsTold, IsToldOf, IsBelow, IsGiven, IsTooMany, TellsTooMany};
 
 use crate::formula::formula_of;
@@ -106,7 +106,7 @@ fn told_values<F: StepForm>(
     values: &[bool],
 ) -> Result<Told, Memory>
     requires horizon { horizon ≤ 255 }
-    requires small { literals_of (F.formula_of form.now horizon) ≤ 4000000 }
+    requires small { literals_of (F.formula_of form.now horizon) ≤ most_literals }
     requires formula { formula.now ≡ F.formula_of form.now horizon }
     requires long { length values.now ≡ formula.now.variables }
     ensures told { (before now : ℕ) → IfOk result (IsToldOf (F.formula_of form.now horizon) (F.stands_for form.now horizon) before now) }
@@ -164,8 +164,8 @@ fn told_in<P: Placing, H: Threads + Sync, T: Tape>(
     told_of(alloc, &form, horizon, tape)
 }
 
-/// What is made of the text of a model that is open, for a horizon of a task; or the run stops, where its formula has more than 4,000,000
-/// literals.
+/// What is made of the text of a model that is open, for a horizon of a task; or the run stops, where its formula is past the
+/// limit.
 pub fn told_by<H: Threads + Sync, T: Tape>(
     rt: &H,
     alloc: Global,

@@ -5,7 +5,7 @@
 ghost use Rattle.std.specs.Prelude.{◌≡◌, ◌≤◌, IfOk};
 ghost use Rattle.gt_core.specs.Published.{IsPublished};
 ghost use Rattle.gt_core.specs.Reached.{HoldsWherever};
-ghost use Rattle.step_encoding.specs.Numbers.{literals_of};
+ghost use Rattle.step_encoding.specs.{Limits.most_literals, Numbers.literals_of};
 
 use crate::known::{kept_order, pairs_of};
 use crate::lines::{Out, put, put_all};
@@ -66,7 +66,7 @@ fn put_formula(out: &mut Out, formula: &Formula) {
 /// Writes how many variables a horizon has of each kind.
 fn put_layout<F: StepForm>(out: &mut Out, form: &F, n: u32)
     requires horizon { n ≤ 255 }
-    requires size { literals_of (F.formula_of form.now n) ≤ 4000000 }
+    requires size { literals_of (F.formula_of form.now n) ≤ most_literals }
 {
     let z = form.layout(n);
     put(out, "layout", &[]);

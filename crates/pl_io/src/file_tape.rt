@@ -7,6 +7,7 @@ use crate::{TakeError, Tape};
 use std::fs;
 use std::io::{ErrorKind, Read};
 use std::rt::Files;
+use transcript::Sent;
 
 /// What is open.
 #[derive(Drop)]
@@ -24,6 +25,8 @@ pub struct FileTape<'a, H: Files + Input> {
     source: Source<H::File, H::Reader>,
     pieces: u64,
     faults: u64,
+    name: Sent,
+    given: Sent,
 }
 
 impl<'a, H: Files + Input> FileTape<'a, H> {
@@ -36,6 +39,8 @@ impl<'a, H: Files + Input> FileTape<'a, H> {
             source: Source::Nothing,
             pieces: u64::MAX,
             faults: 0,
+            name: Sent::new(),
+            given: Sent::new(),
         }
     }
 }
@@ -104,6 +109,8 @@ impl<'a, H: Files + Input> Tape for FileTape<'a, H> {
 
     ghost left = { λ _. None };
 
+    ghost given = { λ tape. (tape.name.bytes, tape.given.bytes) };
+
     ghost pieces = { λ tape. tape.pieces };
 
     ghost faults = { λ tape. tape.faults };
@@ -114,6 +121,9 @@ impl<'a, H: Files + Input> Tape for FileTape<'a, H> {
         match open_source(self.rt, name) {
             Ok(source) => {
                 self.source = source;
+                self.name = Sent::new();
+                self.name.note(name.as_bytes());
+                self.given = Sent::new();
                 Ok(())
             }
             Err(error) => Err(count_fault(error, &mut self.faults)),
@@ -126,7 +136,10 @@ impl<'a, H: Files + Input> Tape for FileTape<'a, H> {
         }
         self.pieces -= 1;
         match read_source(&mut self.source, into) {
-            Ok(count) => Ok(count),
+            Ok(count) => {
+                self.given.note(&into[..count]);
+                Ok(count)
+            }
             Err(error) => Err(count_fault(error, &mut self.faults)),
         }
     }

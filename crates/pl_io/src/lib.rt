@@ -2,8 +2,8 @@
 //!
 //! Code that reads or writes is generic over [`Shelf`] and [`Sink`], so that one contract speaks of the program and of a
 //! run in memory. [`MemShelf`] and [`MemSink`] tell what they hold; [`FileShelf`] and [`OutSink`] stand before the
-//! system's files and the standard output: the one tells no content, the other what the system counted as taken. Of every shelf
-//! it is written down, for clauses alone and without memory, what it handed over. [`put_all`] is a whole caller of a sink.
+//! system's files and the standard output: the one tells no content, the other what the system counted as taken. Of every shelf and
+//! of every tape it is written down, for clauses alone and without memory, what it handed over. [`put_all`] is a whole caller of a sink.
 #![tactic(auto)]
 
 mod faults;

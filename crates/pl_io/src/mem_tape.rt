@@ -5,6 +5,7 @@ ghost use Rattle.pl_io.specs.Outside.{Rose};
 ghost use Rattle.pl_io.specs.Tape.{file_told};
 
 use crate::{NamedFile, TakeError, Tape};
+use transcript::Sent;
 
 /// One file in memory, of which each piece has at most so many bytes. A take at or after a place in it fails, where there is one.
 #[derive(Drop)]
@@ -14,6 +15,8 @@ pub struct MemTape {
     failing: Option<usize>,
     at: usize,
     faults: u64,
+    name: Sent,
+    given: Sent,
 }
 
 impl MemTape {
@@ -29,6 +32,8 @@ impl MemTape {
             failing,
             at: 0,
             faults: 0,
+            name: Sent::new(),
+            given: Sent::new(),
         }
     }
 
@@ -45,6 +50,8 @@ impl Tape for MemTape {
 
     ghost left = { λ tape. Some (drop tape.at tape.file.bytes) };
 
+    ghost given = { λ tape. (tape.name.bytes, tape.given.bytes) };
+
     ghost pieces = { λ tape. length tape.file.bytes - tape.at };
 
     ghost faults = { λ tape. tape.faults };
@@ -55,6 +62,9 @@ impl Tape for MemTape {
             return Err(TakeError::Failed);
         }
         self.at = 0;
+        self.name = Sent::new();
+        self.name.note(name.as_bytes());
+        self.given = Sent::new();
         Ok(())
     }
 
@@ -69,6 +79,7 @@ impl Tape for MemTape {
         let at = self.at.min(bytes.len());
         let count = copy_front(&bytes[at..], self.most.max(1), into);
         self.at = at + count;
+        self.given.note(&into[..count]);
         Ok(count)
     }
 }

@@ -1,6 +1,7 @@
 // Files that are taken piece by piece, from front to back, so that a file of any length and a pipe will do.
-ghost use Rattle.std.specs.Prelude.{◌≡◌, ◌<◌, ◌≤◌, ◌++◌, ℕ, List, [], Option, option_map, length, take, OnOk, IfOk, IfSome};
+ghost use Rattle.std.specs.Prelude.{◌≡◌, ◌<◌, ◌≤◌, ◌++◌, ℕ, List, [], Option, option_map, length, take, OnOk, OnErr, IfOk, IfSome};
 ghost use Rattle.pl_io.specs.Outside.{Rose};
+ghost use Rattle.pl_io.specs.Tape.{Given, given_more};
 
 use crate::TakeError;
 
@@ -11,6 +12,10 @@ pub trait Tape {
 
     /// What is left of the file that was opened last, where the tape tells it.
     ghost left: { Self → Option (List ℕ) };
+
+    /// The name of the file that was opened last, and the bytes of it that were handed over since, in their order. It is kept of every
+    /// tape, also of one that tells nothing.
+    ghost given: { Self → Given };
 
     /// How many pieces there are at most before the end or a fault.
     ghost pieces: { Self → ℕ };
@@ -24,6 +29,7 @@ pub trait Tape {
     fn open(&mut self, name: &str) -> Result<(), TakeError>
         ensures told { told self.new ≡ told self.old }
         ensures left { OnOk result (left self.new ≡ told self.old name.now) }
+        ensures given { OnOk result (given self.new ≡ (name.now, [])) }
         ensures later { faults self.old ≤ faults self.new }
         ensures cause { result ≡ Err TakeError.Failed → Rose (faults self.old) (faults self.new) };
 
@@ -36,6 +42,8 @@ pub trait Tape {
         ensures room { length into.new ≡ length into.old }
         ensures bound { IfOk result (λ count. count ≤ length into.new) }
         ensures taken { IfOk result (λ count. left self.old ≡ option_map (λ after. take count into.new ++ after) (left self.new)) }
+        ensures given { IfOk result (λ count. given self.new ≡ given_more (given self.old) (take count into.new)) }
+        ensures ungiven { OnErr result (given self.new ≡ given self.old) }
         ensures end { result ≡ Ok 0 → IfSome (left self.old) (λ before. before ≡ []) }
         ensures fewer { IfOk result (λ count. 0 < count → pieces self.new < pieces self.old) }
         ensures later { faults self.old ≤ faults self.new }

@@ -7,6 +7,7 @@ use Rattle.gt_core.specs.Laws.{PublishedIsUnique}
 use Rattle.two_invariants.specs.Laws.{OneListOfInvariants}
 use Rattle.step_laws.specs.Form.{OrderedTask}
 use Rattle.step_clauses.specs.Variables.{chain_places}
+use Rattle.step_encoding.specs.Limits.{planner_literals}
 use Rattle.step_encoding.specs.Numbers.{literals_of}
 use Rattle.clause_base.specs.Formula.{Cnf}
 use Rattle.clause_base.specs.declared.log.Entry.{Entry}
@@ -168,7 +169,7 @@ module _ (invariants : OneListOfInvariants) (unique : PublishedIsUnique) where
   one_count : (task : Task) (h k l : ℕ) → HasTooMany task h k → HasTooMany task h l → TooLarge h k ≡ TooLarge h l
   one_count task h k l m n = ap (TooLarge h) (one_size task h k m n.clauses n.components n.ordered ∙ sym n.count_is)
 
-  pub not_small : {A : Type 0} (task : Task) (h k : ℕ) → HasTooMany task h k → (cs : List (ℕ × ℕ)) (a : List (List ℕ)) → IsOrdered task cs a → literals_of (formula_at chain_places (form_of task cs a) h) ≤ 4000000 → A
+  pub not_small : {A : Type 0} (task : Task) (h k : ℕ) → HasTooMany task h k → (cs : List (ℕ × ℕ)) (a : List (List ℕ)) → IsOrdered task cs a → literals_of (formula_at chain_places (form_of task cs a) h) ≤ planner_literals → A
   not_small task h k m cs a is small = let size = one_size task h k m cs a is in let over = m.over in absurd (omega (arith, size, over, small))
 
   one_proof : (h b : ℕ) (task : Parts) (g : Grounded) (x y : Ending) → AnswersProve h b task g x → AnswersProve h b task g y → x ≡ y

@@ -12,6 +12,7 @@ use Rattle.grounding.specs.Grounded.{Grounded}
 use Rattle.proof_text.specs.Text.{proof_text}
 use Rattle.proof_text.specs.Place.{IsUnfitAt}
 use Rattle.step_clauses.specs.Variables.{chain_places}
+use Rattle.step_encoding.specs.Limits.{planner_literals}
 use Rattle.step_encoding.specs.Numbers.{literals_of}
 use Rattle.step_laws.specs.Form.{OrderedTask}
 use Rattle.certificates.specs.Known.{IsOrdered, form_of, formula_at}
@@ -45,7 +46,7 @@ pub record IsWritten (g : Grounded) (horizon : ℕ) (text : List ℕ) : Type 0 w
   pub clauses : List (ℕ × ℕ)
   pub components : List (List ℕ)
   pub ordered : IsOrdered g.task clauses components
-  pub small : literals_of (formula_at chain_places (form_of g.task clauses components) horizon) ≤ 4000000
+  pub small : literals_of (formula_at chain_places (form_of g.task clauses components) horizon) ≤ planner_literals
   pub cert : IsCertificate (formula_at chain_places (form_of g.task clauses components)) text horizon
   pub short : length text ≤ most_bytes
 

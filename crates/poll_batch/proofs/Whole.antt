@@ -4,6 +4,7 @@ use Rattle.std.specs.List.{AllByRecursion, AllZip}
 use Rattle.gt_core.specs.Task.{Task}
 use Rattle.horizon_rates.specs.declared.settings.Settings.{Settings}
 use Rattle.step_encoding.specs.declared.form.StepForm.{Ghosts}
+use Rattle.step_encoding.specs.Limits.{planner_literals}
 use Rattle.step_encoding.specs.Numbers.{literals_of}
 use Rattle.race_end.specs.declared.end.RaceEnd.{RaceEnd}
 use Rattle.race_end.specs.Ends.{end_view, lines_of}
@@ -30,7 +31,7 @@ pub whole : {F : Type 0} (g : Ghosts F) (form : F) (settings : Settings) (task :
     → IfOk r (λ end. WherePlanned end (g.is_plan form))
     → IfOk r (λ end. WherePlanned end (λ h steps. length steps ≡ h))
     → IfOk r (λ end. WherePlanned end (λ h steps. AreActions task steps))
-    → ((h n : ℕ) → r ≡ Err (Literals h n) → (race_of (input_of g form settings) ≡ TooLarge h) × (n ≡ literals_of (g.formula_of form h)) × (4000000 < n))
+    → ((h n : ℕ) → r ≡ Err (Literals h n) → (race_of (input_of g form settings) ≡ TooLarge h) × (n ≡ literals_of (g.formula_of form h)) × (planner_literals < n))
     → Gives g form settings r
 whole g form settings task (Ok end) of gives lines refuted sums modelled plan long members literals = record {
   gives = gives;

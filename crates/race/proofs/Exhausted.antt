@@ -6,6 +6,7 @@ use Rattle.horizon_rates.specs.Horizons.{horizon_at, listed}
 use Rattle.horizon_rates.proofs.HorizonLaws.{up_to-Some, listed-first}
 use Rattle.cdcl_rules.specs.declared.standing.Standing.{Standing}
 use Rattle.cdcl_rules.specs.declared.standing.Standing.TheVariants.{Going, Found, Refuted}
+use Rattle.step_encoding.specs.Limits.{planner_literals}
 use Rattle.step_encoding.specs.Numbers.{literals_of}
 use Rattle.race_end.specs.Ends.{WordRefuted, LineView, EndView, Planned, Exhausted, Unfinished}
 use Rattle.race.specs.Input.{RaceInput}
@@ -34,7 +35,7 @@ EndsListed input race = (race.live ≡ []) ⊎ HasLast input race.live race.next
 
 fitting_is : (input : RaceInput) (o : Option ℕ) (k : ℕ) → fitting input o ≡ Some k → o ≡ Some k
 fitting_is input None k e = absurd (let never : None ≡ Some k = e in cc)
-fitting_is input (Some x) k e = step (nat_le (literals_of (input.formula x)) 4000000) e
+fitting_is input (Some x) k e = step (nat_le (literals_of (input.formula x)) planner_literals) e
   where
     step : (b : Bool) → (if b then Some x else None) ≡ Some k → Some x ≡ Some k
     step true e = e

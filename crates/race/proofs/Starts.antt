@@ -4,6 +4,7 @@ use Rattle.std.proofs.lemmas.List.{map-append}
 use Rattle.std.proofs.lemmas.Bool.Decides.{nat_tests}
 use Rattle.clause_base.specs.Choice.{Known}
 use Rattle.clause_base.specs.Formula.{Cnf}
+use Rattle.step_encoding.specs.Limits.{planner_literals}
 use Rattle.step_encoding.specs.Numbers.{literals_of}
 use Rattle.horizon_rates.specs.Horizons.{listed, horizon_at}
 use Rattle.horizon_rates.specs.Window.{WindowState}
@@ -41,7 +42,7 @@ taken w w' None h none is took at narrow = absurd (elim (none.0 refl) [ inl wide
 
 -- a new run is one of the input
 pub is_run : (input : RaceInput) (h : ℕ) (run : RunView) → input.choose h ≡ choice_in run → run.formula ≡ input.formula h → (input.formula h).name ≡ h
-    → h ≤ 255 → literals_of (input.formula h) ≤ 4000000 → IsNew run → ((k : ℕ) → IsReached (choice_in run) run.formula k) → IsRunOf input run
+    → h ≤ 255 → literals_of (input.formula h) ≤ planner_literals → IsNew run → ((k : ℕ) → IsReached (choice_in run) run.formula k) → IsRunOf input run
 is_run input h run chosen formula name low small new reached =
     let named : run.formula.name ≡ h = ap (λ (f : Cnf). f.name) formula ∙ name in
     record {
@@ -178,8 +179,8 @@ fill-grows : (input : RaceInput) (n : ℕ) (race : RaceState) → length race.li
 fill-grows input zero race = omega arith
 fill-grows input (suc n) race = fill-grows-by input n race (fitting input (listed input.rates race.next)) refl (λ x. fill-grows input n (started input x race))
 
-is_large : (input : RaceInput) (o : Option ℕ) (h : ℕ) → o ≡ Some h → fitting input o ≡ None → 4000000 < literals_of (input.formula h)
-is_large input (Some x) h e none = let same : x ≡ h = cc in subst (λ (y : ℕ). 4000000 < literals_of (input.formula y)) same (grind (arith, nat_tests, none))
+is_large : (input : RaceInput) (o : Option ℕ) (h : ℕ) → o ≡ Some h → fitting input o ≡ None → planner_literals < literals_of (input.formula h)
+is_large input (Some x) h e none = let same : x ≡ h = cc in subst (λ (y : ℕ). planner_literals < literals_of (input.formula y)) same (grind (arith, nat_tests, none))
 is_large input None h e none = cc
 
 -- what too_large finds: no horizon is live, and h is listed next
@@ -193,7 +194,7 @@ stopped input [] next closed h e = record { empty = refl; next = e }
 stopped input (r ∷ rs) next closed h e = cc
 
 large-next : (input : RaceInput) (race : RaceState) (h n : ℕ) (o : Option ℕ) → fitting input (listed input.rates race.next) ≡ o
-    → IsStopped input (fill input (suc n) race) h → 4000000 < literals_of (input.formula h)
+    → IsStopped input (fill input (suc n) race) h → planner_literals < literals_of (input.formula h)
 large-next input race h n (Some x) e s =
     let there : IsStopped input (fill input n (started input x race)) h = subst (λ (r : RaceState). IsStopped input r h) (step-some input race n x e) s in
     let more = fill-grows input n (started input x race) in
@@ -204,12 +205,12 @@ large-next input race h n None e s =
     is_large input (listed input.rates race.next) h here.next e
 
 large-at : (input : RaceInput) (race : RaceState) (h n : ℕ) → input.rates.width - length race.live ≡ n → IsStopped input (fill input n race) h
-    → 4000000 < literals_of (input.formula h)
+    → planner_literals < literals_of (input.formula h)
 large-at input race h zero free s = let wide = input.rates.width_in_range.0 in absurd (omega (arith, free, s.empty, wide))
 large-at input race h (suc n) free s = large-next input race h n (fitting input (listed input.rates race.next)) refl s
 
 -- a horizon that could not be started has a formula that is too large
-pub large : (input : RaceInput) (race : RaceState) (h : ℕ) → too_large input (filled input race) ≡ Some h → 4000000 < literals_of (input.formula h)
+pub large : (input : RaceInput) (race : RaceState) (h : ℕ) → too_large input (filled input race) ≡ Some h → planner_literals < literals_of (input.formula h)
 unfolding filled
 large input race h e =
     let end = fill input (input.rates.width - length race.live) race in

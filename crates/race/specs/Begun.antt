@@ -3,6 +3,7 @@ use Rattle.std.specs.Prelude.{◌≡◌, ℕ, ◌+◌, ◌-◌, ◌≤◌, ◌<�
 use Rattle.horizon_rates.specs.declared.settings.Settings.{Settings}
 use Rattle.horizon_rates.specs.Ledger.{left_of, SumsToBudget}
 use Rattle.step_encoding.specs.declared.form.StepForm.{Ghosts}
+use Rattle.step_encoding.specs.Limits.{planner_literals}
 use Rattle.step_encoding.specs.Numbers.{literals_of}
 use Rattle.horizon_run.specs.Run.{RunView}
 use Rattle.race_end.specs.declared.end.RaceEnd.{RaceEnd}
@@ -66,7 +67,7 @@ pub record HasRun (input : RaceInput) (begun : Begun) (runs : List RunView) : Ty
 
 -- a horizon whose formula is too large, while none is live
 abbrev pub TellsLarge : RaceInput → RaceError → Type 0
-TellsLarge input (errors.Literals h count) = (race_of input ≡ TooLarge h) × (count ≡ literals_of (input.formula h)) × (4000000 < count)
+TellsLarge input (errors.Literals h count) = (race_of input ≡ TooLarge h) × (count ≡ literals_of (input.formula h)) × (planner_literals < count)
 TellsLarge input errors.Memory = Unit {0}
 
 module _ {F : Type 0} (g : Ghosts F) (form : F) (settings : Settings) where

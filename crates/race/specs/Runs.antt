@@ -4,6 +4,7 @@ use Rattle.std.specs.List.{AllByRecursion}
 use Rattle.std.specs.List.Sorted.{IsStrictlyIncreasing}
 use Rattle.cdcl_rules.specs.declared.standing.Standing.TheVariants.{Found, Refuted}
 use Rattle.solver_pool.specs.Job.{JobView}
+use Rattle.step_encoding.specs.Limits.{planner_literals}
 use Rattle.step_encoding.specs.Numbers.{literals_of}
 use Rattle.horizon_run.specs.Run.{RunView, choice_in, moved_to, IsMoved, IsReached}
 use Rattle.race.specs.Input.{RaceInput}
@@ -21,7 +22,7 @@ pub record IsRunOf (input : RaceInput) (run : RunView) : Type 0 where
   pub chosen : input.choose run.formula.name ≡ choice_in run
   pub formula : input.formula run.formula.name ≡ run.formula
   pub low : run.formula.name ≤ 255
-  pub small : literals_of run.formula ≤ 4000000
+  pub small : literals_of run.formula ≤ planner_literals
   pub moved : IsMoved run
   pub reached : (k : ℕ) → IsReached (choice_in run) run.formula k
 

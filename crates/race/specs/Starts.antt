@@ -1,15 +1,16 @@
 -- How a round begins: the window takes the next listed horizons, as long as there is a free place, the list goes on and the
 -- formula is not too large.
 use Rattle.std.specs.Prelude.{ℕ, zero, suc, ◌+◌, ◌-◌, [], ◌∷◌, ◌++◌, length, Option, Some, None, if◌then◌else◌, nat_le}
+use Rattle.step_encoding.specs.Limits.{planner_literals}
 use Rattle.step_encoding.specs.Numbers.{literals_of}
 use Rattle.horizon_rates.specs.Horizons.{listed}
 use Rattle.race.specs.Input.{RaceInput}
 use Rattle.race.specs.State.{RaceState, live_at}
 
--- a horizon whose formula has at most 4,000,000 literals
+-- a horizon whose formula has no more literals than the planner takes
 abbrev pub fitting : RaceInput → Option ℕ → Option ℕ
 fitting input None = None
-fitting input (Some h) = if nat_le (literals_of (input.formula h)) 4000000 then Some h else None
+fitting input (Some h) = if nat_le (literals_of (input.formula h)) planner_literals then Some h else None
 
 abbrev pub started : RaceInput → ℕ → RaceState → RaceState
 started input h race = record race { live = race.live ++ live_at input h 0 ∷ []; next = race.next + 1 }

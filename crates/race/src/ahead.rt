@@ -16,13 +16,14 @@ use std::alloc::Global;
 use std::thread;
 use std::thread::Threads;
 use step_encoding::form::StepForm;
+use step_encoding::limits::PLANNER_LITERALS;
 
 /// The horizon at a place of the list, where it is not below another one and its formula is not too large.
 fn small_at<F: StepForm>(form: &F, rates: &Rates, first: u32, place: u32) -> Option<u32>
     ensures { IfSome result (IsSmall F.StepForm form.now) }
 {
     let horizon = rates.nth(place)?;
-    if horizon < first || form.size(horizon) > 4_000_000 {
+    if horizon < first || form.size(horizon) > PLANNER_LITERALS {
         return None;
     }
     Some(horizon)

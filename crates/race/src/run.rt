@@ -2,7 +2,7 @@
 
 ghost use Rattle.std.specs.Prelude.{◌≡◌, ℕ, ◌+◌, ◌<◌, List, IfOk, IfErr, length};
 ghost use Rattle.goal_choice.specs.Means.{gathered_of};
-ghost use Rattle.step_encoding.specs.Numbers.{literals_of};
+ghost use Rattle.step_encoding.specs.{Limits.planner_literals, Numbers.literals_of};
 ghost use Rattle.race_end.specs.Ends.{end_view, lines_of};
 ghost use Rattle.race.specs.Input.{input_of};
 ghost use Rattle.race.specs.Race.{race_of, Ended, TooLarge};
@@ -83,7 +83,7 @@ pub fn race<F: StepForm + Sync, G: Gate, H: Threads + Wait + Sync>(
     ensures members { IfOk result (λ end. WherePlanned end (λ h steps. AreActions task.now steps)) }
 
     ensures literals { (horizon count : ℕ) → result ≡ Err (RaceError.Literals horizon count)
-        → (race_of (input_of F.StepForm form.now settings.now) ≡ TooLarge horizon) × (count ≡ literals_of (F.formula_of form.now horizon)) × (4000000 < count) }
+        → (race_of (input_of F.StepForm form.now settings.now) ≡ TooLarge horizon) × (count ≡ literals_of (F.formula_of form.now horizon)) × (planner_literals < count) }
 {
     let supporters = Supporters::new(alloc, task)?;
     let mut racing = Racing::new(alloc, settings);

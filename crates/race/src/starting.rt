@@ -3,7 +3,7 @@
 ghost use Rattle.std.specs.Prelude.{◌≡◌, ◌≤◌, ◌<◌, length, nat_lt, if◌then◌else◌, None, Some, IfSome, IfOk, IfErr, OnOk};
 ghost use Rattle.std.specs.List.{AllByRecursion};
 ghost use Rattle.horizon_rates.specs.Horizons.{listed};
-ghost use Rattle.step_encoding.specs.Numbers.{literals_of};
+ghost use Rattle.step_encoding.specs.{Limits.planner_literals, Numbers.literals_of};
 ghost use Rattle.horizon_run.specs.Run.{choice_of};
 ghost use Rattle.race.specs.{Begun.IsBegun, Begun.TellsLarge, Fresh.IsFresh, Fresh.IsFreshOf, Input.RaceInput, Input.input_of, Runs.AreLow, Runs.MayAdvance};
 ghost use Rattle.race.specs.{Starts.started, Starts.fitting, Starts.filled, Starts.too_large, Tied.race_state, Tied.IsTied, Tied.IsBetween, Tied.KeepsBooks};
@@ -18,6 +18,7 @@ use horizon_rates::{Rates, Settings};
 use horizon_run::HorizonRun;
 use std::alloc::Global;
 use step_encoding::form::StepForm;
+use step_encoding::limits::PLANNER_LITERALS;
 
 impl Racing {
     /// The horizon that may start next: the next listed one, where there is a free place and its formula is not too large.
@@ -28,7 +29,7 @@ impl Racing {
         requires formula { input.formula ≡ F.formula_of form.now }
         ensures value { result ≡ (if nat_lt (length self.now.runs.items) input.rates.width then fitting input (listed input.rates self.now.window.next) else None) }
         ensures low { IfSome result (λ h. h ≤ 255) }
-        ensures small { IfSome result (λ h. literals_of (F.formula_of form.now h) ≤ 4000000) }
+        ensures small { IfSome result (λ h. literals_of (F.formula_of form.now h) ≤ planner_literals) }
         ensures listed { IfSome result (λ h. listed self.now.window.rates self.now.window.next ≡ Some h) }
         ensures narrow { IfSome result (λ h. length self.now.window.live < self.now.window.rates.width) }
     {
@@ -36,7 +37,7 @@ impl Racing {
             return None;
         }
         let horizon = self.window.next_listed()?;
-        if form.size(horizon) > 4_000_000 {
+        if form.size(horizon) > PLANNER_LITERALS {
             return None;
         }
         Some(horizon)
@@ -51,7 +52,7 @@ impl Racing {
         requires formula { input.formula ≡ F.formula_of form.now }
         requires run { IsFreshOf F.StepForm form.now horizon run }
         requires horizon { horizon ≤ 255 }
-        requires small { literals_of (F.formula_of form.now horizon) ≤ 4000000 }
+        requires small { literals_of (F.formula_of form.now horizon) ≤ planner_literals }
         requires listed { listed self.old.window.rates self.old.window.next ≡ Some horizon }
         requires narrow { length self.old.window.live < self.old.window.rates.width }
         ensures tied { OnOk result (IsTied input self.new) }

@@ -10,6 +10,7 @@ use Rattle.step_clauses.proofs.InRange.{IsInRange}
 use Rattle.step_clauses.proofs.SizeLaw.{size_law}
 use Rattle.step_laws.specs.Form.{OrderedTask, IsOrderedTask}
 use Rattle.step_chains.specs.Chains.{LinkedChains, AreChains}
+use Rattle.step_encoding.specs.Limits.{most_literals}
 use Rattle.step_encoding.specs.Numbers.{literals_of}
 use Rattle.step_encoding.specs.Kept.{AreKept}
 use Rattle.step_encoding.proofs.Whole.{layout_fits}
@@ -17,10 +18,10 @@ use Rattle.step_encoding.proofs.Whole.{layout_fits}
 -- What a form keeps is what its layouts and formulas have.
 
 -- the formula of any horizon has at least one time, and with a step it has one and two times
-least : (n f g s k size : ℕ) → size ≡ f + g + n * s + (n + 1) * k → size ≤ 4000000 → f + g + k ≤ 4000000
+least : (n f g s k size : ℕ) → size ≡ f + g + n * s + (n + 1) * k → size ≤ most_literals → f + g + k ≤ most_literals
 least n f g s k size e le = omega arith
 
-smallest : (n f g s k size : ℕ) → size ≡ f + g + n * s + (n + 1) * k → size ≤ 4000000 → 0 < n → f + g + s + 2 * k ≤ 4000000
+smallest : (n f g s k size : ℕ) → size ≡ f + g + n * s + (n + 1) * k → size ≤ most_literals → 0 < n → f + g + s + 2 * k ≤ most_literals
 smallest zero f g s k size e le lt = absurd (omega arith)
 smallest (suc m) f g s k size e le lt = omega arith
 
@@ -38,9 +39,9 @@ module _ (places : Task → List (List ℕ) → List (List ℕ × ℕ)) where
   formula_at f n = literals_of (formula_of f.task f.known.clauses (at f) n)
 
   module _ (in_range : (form : OrderedTask) → IsOrderedTask form → IsInRange form.task form.known.clauses (places form.task form.components)) where
-    pub numbers_fit : (form now : OrderedTask) (n actions conditional chains facts : ℕ) → form ≡ now → IsOrderedTask form → n ≤ 255 → literals_of (formula_of now.task now.known.clauses (at now) n) ≤ 4000000 → actions ≡ length form.task.actions → conditional ≡ conditional_in form.task.actions → chains ≡ chain_variables_in form.task (at form) → facts ≡ form.task.facts → n * (actions + conditional + chains) + (n + 1) * facts ≤ 2147483647
+    pub numbers_fit : (form now : OrderedTask) (n actions conditional chains facts : ℕ) → form ≡ now → IsOrderedTask form → n ≤ 255 → literals_of (formula_of now.task now.known.clauses (at now) n) ≤ most_literals → actions ≡ length form.task.actions → conditional ≡ conditional_in form.task.actions → chains ≡ chain_variables_in form.task (at form) → facts ≡ form.task.facts → n * (actions + conditional + chains) + (n + 1) * facts ≤ 2147483647
     numbers_fit form now n actions conditional chains facts e is le small a b c d =
-        rw (a, b, c, d) (layout_fits form.task form.known.clauses (at form) is.lawful (in_range form is) n le (subst (λ (f : OrderedTask). formula_at f n ≤ 4000000) (sym e) small))
+        rw (a, b, c, d) (layout_fits form.task form.known.clauses (at form) is.lawful (in_range form is) n le (subst (λ (f : OrderedTask). formula_at f n ≤ most_literals) (sym e) small))
 
     pub size_from : (form now : OrderedTask) (n facts goals k m per_step per_time : ℕ) → form ≡ now → IsOrderedTask form → facts ≡ form.task.facts → goals ≡ length form.task.goal → k ≡ n → m ≡ n → per_step ≡ literals_in (one_step form.task (at form)) → per_time ≡ literals_in (one_time form.known.clauses) → facts + goals + k * per_step + (m + 1) * per_time ≡ literals_of (formula_of now.task now.known.clauses (at now) n)
     size_from form now n facts goals k m per_step per_time e is a b c d f g =
@@ -51,19 +52,19 @@ module _ (places : Task → List (List ℕ) → List (List ℕ × ℕ)) where
     whole_at form now n e is = ap (λ (f : OrderedTask). formula_at f n) (sym e) ∙ size_law form.task form.known.clauses (at form) n (in_range form is)
 
     -- the clauses that a form keeps are those of its formulas that are not too large
-    step_kept : (form now : OrderedTask) (n effects per_step per_time : ℕ) (linked : LinkedChains) (step known : List (List ℕ)) → form ≡ now → AreKept places form effects linked per_step per_time step known → literals_of (formula_of now.task now.known.clauses (at now) n) ≤ 4000000 → 0 < n → step ≡ one_step now.task (at now)
+    step_kept : (form now : OrderedTask) (n effects per_step per_time : ℕ) (linked : LinkedChains) (step known : List (List ℕ)) → form ≡ now → AreKept places form effects linked per_step per_time step known → literals_of (formula_of now.task now.known.clauses (at now) n) ≤ most_literals → 0 < n → step ≡ one_step now.task (at now)
     step_kept form now n effects per_step per_time linked step known e is small some =
         let w = whole_at form now n e is.ordered in
         is.step_is (smallest n form.task.facts (length form.task.goal) per_step per_time _ (w ∙ rw (is.step_size, is.known_size)) small some)
         ∙ ap (λ (f : OrderedTask). one_step f.task (at f)) e
 
-    time_kept : (form now : OrderedTask) (n effects per_step per_time : ℕ) (linked : LinkedChains) (step known : List (List ℕ)) → form ≡ now → AreKept places form effects linked per_step per_time step known → literals_of (formula_of now.task now.known.clauses (at now) n) ≤ 4000000 → known ≡ one_time now.known.clauses
+    time_kept : (form now : OrderedTask) (n effects per_step per_time : ℕ) (linked : LinkedChains) (step known : List (List ℕ)) → form ≡ now → AreKept places form effects linked per_step per_time step known → literals_of (formula_of now.task now.known.clauses (at now) n) ≤ most_literals → known ≡ one_time now.known.clauses
     time_kept form now n effects per_step per_time linked step known e is small =
         let w = whole_at form now n e is.ordered in
         is.known_is (least n form.task.facts (length form.task.goal) per_step per_time _ (w ∙ rw (is.step_size, is.known_size)) small)
         ∙ ap (λ (f : OrderedTask). one_time f.known.clauses) e
 
-    pub has_parts : (form now : OrderedTask) (n effects per_step per_time : ℕ) (linked : LinkedChains) (step known : List (List ℕ)) → form ≡ now → AreKept places form effects linked per_step per_time step known → literals_of (formula_of now.task now.known.clauses (at now) n) ≤ 4000000 → HasParts places now n step known
+    pub has_parts : (form now : OrderedTask) (n effects per_step per_time : ℕ) (linked : LinkedChains) (step known : List (List ℕ)) → form ≡ now → AreKept places form effects linked per_step per_time step known → literals_of (formula_of now.task now.known.clauses (at now) n) ≤ most_literals → HasParts places now n step known
     has_parts form now n effects per_step per_time linked step known e is small = record {
       within = in_range now (subst IsOrderedTask e is.ordered);
       step_is = λ some. step_kept form now n effects per_step per_time linked step known e is small some;

@@ -15,6 +15,7 @@ use Rattle.step_clauses.specs.Shift.{one_step, one_time}
 use Rattle.step_clauses.proofs.InRange.{IsInRange}
 use Rattle.step_clauses.proofs.SizeLaw.{size_law}
 use Rattle.step_clauses.proofs.FewLaw.{step_few, time_few}
+use Rattle.step_encoding.specs.Limits.{most_literals}
 use Rattle.step_encoding.specs.Parts.{step_part, time_part, StepsFit, TimesFit}
 use Rattle.step_encoding.proofs.Parts.{goal_parts}
 use Rattle.step_encoding.proofs.Whole.{whole_parts, step_added, step_fits, time_added, time_fits}
@@ -80,7 +81,7 @@ module _ (task : Task) (pairs : List (ℕ × ℕ)) (places : List (List ℕ × �
   steps_few steps (suc m) e h = mul-le-mul_left (suc m) (let l = ap length (h (omega arith)) in let f = step_few task places in omega arith)
 
   -- a formula of few literals has few clauses
-  pub clauses_few : (z : Layout) (t : Task) (steps times : List (List ℕ)) → z ≡ layout_of task places n → t ≡ task → (0 < n → steps ≡ one_step task places) → times ≡ one_time pairs → literals_in (formula_of task pairs places n).clauses ≤ 4000000 → t.facts + 1 + length t.goal + z.horizon * length steps + (z.horizon + 1) * length times ≤ 1073741824
+  pub clauses_few : (z : Layout) (t : Task) (steps times : List (List ℕ)) → z ≡ layout_of task places n → t ≡ task → (0 < n → steps ≡ one_step task places) → times ≡ one_time pairs → literals_in (formula_of task pairs places n).clauses ≤ most_literals → t.facts + 1 + length t.goal + z.horizon * length steps + (z.horizon + 1) * length times ≤ 1073741824
   clauses_few z t steps times ez et es ek small =
       let law = size_law task pairs places n in_range in
       let a = steps_few steps n refl es in
@@ -90,5 +91,5 @@ module _ (task : Task) (pairs : List (ℕ × ℕ)) (places : List (List ℕ × �
       let g : length t.goal ≡ length task.goal = ap (λ (x : Task). length x.goal) et in
       rw (h, f, g) (sum_few task.facts (length task.goal) _ _ _ _ _ law small a b)
     where
-      sum_few : (facts goal s k s2 k2 size : ℕ) → size ≡ facts + goal + s + k → size ≤ 4000000 → s2 ≤ s → k2 ≤ k → facts + 1 + goal + s2 + k2 ≤ 1073741824
+      sum_few : (facts goal s k s2 k2 size : ℕ) → size ≡ facts + goal + s + k → size ≤ most_literals → s2 ≤ s → k2 ≤ k → facts + 1 + goal + s2 + k2 ≤ 1073741824
       sum_few facts goal s k s2 k2 size e le x y = omega arith

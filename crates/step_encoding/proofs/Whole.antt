@@ -23,6 +23,7 @@ use Rattle.step_clauses.proofs.SizeLaw.{size_law, chains_within_size}
 use Rattle.step_clauses.proofs.Sorted.{set_few}
 use Rattle.step_clauses.proofs.Within.{step_within, known_within}
 use Rattle.step_laws.specs.Form.{OrderedTask, IsOrderedTask}
+use Rattle.step_encoding.specs.Limits.{most_literals}
 use Rattle.step_laws.proofs.Ranges.{member_below}
 use Rattle.std.proofs.lemmas.List.Elements.{filter-append}
 
@@ -132,7 +133,7 @@ product_le a b s t h k =
     omega (arith, m, n, x, y)
 
 -- where a formula has few literals, its variables have codes in 32 bits
-pub layout_fits : (task : Task) (pairs : List (ℕ × ℕ)) (places : List (List ℕ × ℕ)) → is_task task ≡ true → IsInRange task pairs places → (n : ℕ) → n ≤ 255 → literals_in (formula_of task pairs places n).clauses ≤ 4000000 → variables (layout_of task places n) ≤ 2147483647
+pub layout_fits : (task : Task) (pairs : List (ℕ × ℕ)) (places : List (List ℕ × ℕ)) → is_task task ≡ true → IsInRange task pairs places → (n : ℕ) → n ≤ 255 → literals_in (formula_of task pairs places n).clauses ≤ most_literals → variables (layout_of task places n) ≤ 2147483647
 layout_fits task pairs places is in_range n le small =
     let law = size_law task pairs places n in_range in
     let l = lawful task is in
@@ -143,10 +144,10 @@ layout_fits task pairs places is in_range n le small =
     let d = product_le (n + 1) 256 task.facts 2048 (omega arith) l.facts in
     sum_fits n (length task.actions) (conditional_in task.actions) (chain_variables_in task places) ((n + 1) * task.facts) (n * literals_in (one_step task places)) a b c (bound _ _ _ _ _ law small) d
   where
-    bound : (size f g s k : ℕ) → size ≡ f + g + s + k → size ≤ 4000000 → s ≤ 4000000
+    bound : (size f g s k : ℕ) → size ≡ f + g + s + k → size ≤ most_literals → s ≤ most_literals
     bound size f g s k e h = omega arith
 
-    sum_fits : (n a c x f s : ℕ) → n * a ≤ 255 * 16384 → n * c ≤ 255 * 65536 → n * x ≤ s → s ≤ 4000000 → f ≤ 256 * 2048 → n * (a + c + x) + f ≤ 2147483647
+    sum_fits : (n a c x f s : ℕ) → n * a ≤ 255 * 16384 → n * c ≤ 255 * 65536 → n * x ≤ s → s ≤ most_literals → f ≤ 256 * 2048 → n * (a + c + x) + f ≤ 2147483647
     sum_fits n a c x f s h i j k l = omega arith
 
 -- a goal has few literals

@@ -5,6 +5,7 @@ use Rattle.step_clauses.specs.Coded.{literals_in}
 use Rattle.step_clauses.specs.Shift.{one_step, one_time}
 use Rattle.step_chains.specs.Chains.{LinkedChains, AreChains}
 use Rattle.step_laws.specs.Form.{OrderedTask, IsOrderedTask}
+use Rattle.step_encoding.specs.Limits.{most_literals}
 
 -- what a form whose chains go to these places keeps beside what it stands on: its chains, the number of conditional effects,
 -- how many literals one step and one time have, and the clauses of one step and of one time, each where the smallest formula
@@ -17,5 +18,5 @@ pub record AreKept (places : Task → List (List ℕ) → List (List ℕ × ℕ)
   pub known_size : per_time ≡ literals_in (one_time form.known.clauses)
   pub step_few : per_step ≤ 17592186044416
   pub known_few : per_time ≤ 8589934592
-  pub step_is : form.task.facts + length form.task.goal + per_step + 2 * per_time ≤ 4000000 → step ≡ one_step form.task (places form.task form.components)
-  pub known_is : form.task.facts + length form.task.goal + per_time ≤ 4000000 → known ≡ one_time form.known.clauses
+  pub step_is : form.task.facts + length form.task.goal + per_step + 2 * per_time ≤ most_literals → step ≡ one_step form.task (places form.task form.components)
+  pub known_is : form.task.facts + length form.task.goal + per_time ≤ most_literals → known ≡ one_time form.known.clauses

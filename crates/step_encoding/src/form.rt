@@ -5,7 +5,7 @@ ghost use Rattle.std.specs.List.{AllByRecursion};
 ghost use Rattle.gt_core.specs.Task.{Task};
 ghost use Rattle.gt_core.specs.Layout.{Layout as LayoutNumbers};
 ghost use Rattle.clause_base.specs.Formula.{Cnf, IsModel, IsUnsatisfiable};
-ghost use Rattle.step_encoding.specs.Numbers.{HasNumbersOf, literals_of};
+ghost use Rattle.step_encoding.specs.{Limits.most_literals, Numbers.HasNumbersOf, Numbers.literals_of};
 
 use crate::steps::Steps;
 use clause_base::formula::Formula;
@@ -16,7 +16,7 @@ use std::alloc::Global;
 /// Why there is no formula.
 #[derive(Clone, Copy, PartialEq, Eq)]
 pub enum FormError {
-    /// The formula has more than 4,000,000 literals.
+    /// The formula has more than `MOST_LITERALS` literals.
     Literals { count: u64 },
     /// There was no memory for the formula.
     Memory,
@@ -64,10 +64,10 @@ pub trait StepForm {
     /// Where no assignment satisfies the formula there is no plan.
     ghost refutes: { (form : Self) (n : ℕ) → is_form form → IsUnsatisfiable (formula_of form n).clauses → (steps : List (List ℕ)) → is_plan form n steps → ⊥ };
 
-    /// The layout of a horizon of which the formula has at most 4,000,000 literals.
+    /// The layout of a horizon of which the formula has at most `MOST_LITERALS` literals.
     fn layout(&self, n: u32) -> Layout
         requires horizon { n ≤ 255 }
-        requires size { literals_of (formula_of self.now n) ≤ 4000000 }
+        requires size { literals_of (formula_of self.now n) ≤ most_literals }
         ensures { result ≡ layout_of self.now n };
 
     /// How many literals the formula of a horizon has. It takes no memory, and does not build the formula.
@@ -76,18 +76,18 @@ pub trait StepForm {
         ensures size { result ≡ literals_of (formula_of self.now n) }
         ensures lawful { is_form self.now };
 
-    /// The formula of a horizon. `Literals` comes exactly where it has more than 4,000,000 of them, with their count.
+    /// The formula of a horizon. `Literals` comes exactly where it has more than `MOST_LITERALS` of them, with their count.
     fn formula(&self, alloc: Global, n: u32) -> Result<Formula, FormError>
         requires { n ≤ 255 }
         ensures formula { IfOk result (λ formula. formula ≡ formula_of self.now n) }
-        ensures small { IsOk result → literals_of (formula_of self.now n) ≤ 4000000 }
-        ensures literals { (count : ℕ) → result ≡ Err (FormError.Literals count) → (4000000 < count) × (count ≡ literals_of (formula_of self.now n)) }
-        ensures memory { result ≡ Err FormError.Memory → literals_of (formula_of self.now n) ≤ 4000000 };
+        ensures small { IsOk result → literals_of (formula_of self.now n) ≤ most_literals }
+        ensures literals { (count : ℕ) → result ≡ Err (FormError.Literals count) → (most_literals < count) × (count ≡ literals_of (formula_of self.now n)) }
+        ensures memory { result ≡ Err FormError.Memory → literals_of (formula_of self.now n) ≤ most_literals };
 
     /// The steps that a satisfying assignment stands for.
     fn steps_of(&self, alloc: Global, n: u32, values: &[bool]) -> Result<Steps, Memory>
         requires horizon { n ≤ 255 }
-        requires size { literals_of (formula_of self.now n) ≤ 4000000 }
+        requires size { literals_of (formula_of self.now n) ≤ most_literals }
         requires model { IsModel (formula_of self.now n) values.now }
         ensures { IfOk result (λ steps. steps ≡ stands_for self.now n values.now) };
 }

@@ -11,6 +11,7 @@ pub mod ends;
 pub mod exists;
 pub mod form;
 pub mod joining;
+pub mod limits;
 pub mod placed;
 pub mod steps;
 mod truth;

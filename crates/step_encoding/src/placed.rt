@@ -10,11 +10,12 @@ ghost use Rattle.step_clauses.specs.Coded.{formula_of};
 ghost use Rattle.step_clauses.specs.Shift.{one_step, one_time};
 ghost use Rattle.step_chains.specs.Chains.{AreChains};
 ghost use Rattle.step_laws.specs.{Form.IsOrderedTask, Form.AreSets, Form.steps_at, Stepping.IsStepping};
-ghost use Rattle.step_encoding.specs.Numbers.{literals_of};
+ghost use Rattle.step_encoding.specs.{Limits.most_literals, Numbers.literals_of};
 ghost use Rattle.step_encoding.specs.Laws.{numbers_of, plans_of, refutes_of, sets_of, members_of};
 
 use crate::form::{FormError, StepForm};
 use crate::joining;
+use crate::limits::MOST_LITERALS;
 use crate::steps::Steps;
 use crate::truth::true_actions;
 use action_order::order::Order;
@@ -53,9 +54,6 @@ pub trait Placing: Drop {
         ensures { IfOk result (λ c. AreChains task.now (places task.now order.now) c) };
 }
 
-/// How many literals a formula has at most.
-const MOST_LITERALS: u64 = 4_000_000;
-
 /// The clauses of one step, where a formula with so many literals is not too large, in memory that formulas share.
 fn kept_step(
     alloc: Global,
@@ -64,7 +62,7 @@ fn kept_step(
     literals: u64,
 ) -> Result<SharedList, Memory>
     requires actions { chains.now.actions ≡ length task.now.actions }
-    ensures { IfOk result (λ step. literals ≤ 4000000 → (places : List (List ℕ × ℕ)) → AreChains task.now places chains.now → step ≡ one_step task.now places) }
+    ensures { IfOk result (λ step. literals ≤ most_literals → (places : List (List ℕ × ℕ)) → AreChains task.now places chains.now → step ≡ one_step task.now places) }
 {
     if literals > MOST_LITERALS {
         return Ok(SharedList::own(ClauseList::new(alloc)));
@@ -76,7 +74,7 @@ fn kept_step(
 /// The clauses of the known pairs at one time, where a formula with so many literals is not too large, in memory that
 /// formulas share.
 fn kept_time(alloc: Global, pairs: &Pairs, literals: u64) -> Result<SharedList, Memory>
-    ensures { IfOk result (λ known. literals ≤ 4000000 → known ≡ one_time pairs.now.clauses) }
+    ensures { IfOk result (λ known. literals ≤ most_literals → known ≡ one_time pairs.now.clauses) }
 {
     if literals > MOST_LITERALS {
         return Ok(SharedList::own(ClauseList::new(alloc)));
@@ -156,7 +154,7 @@ impl<'a, P: Placing> Placed<'a, P> {
     fn built(&self, alloc: Global, layout: &Layout) -> Result<Formula, Memory>
         requires horizon { layout.now.horizon ≤ 255 }
         requires layout { layout.now ≡ layout_of self.now.task (P.places self.now.task self.now.components) layout.now.horizon }
-        requires small { literals_of (formula_of self.now.task self.now.known.clauses (P.places self.now.task self.now.components) layout.now.horizon) ≤ 4000000 }
+        requires small { literals_of (formula_of self.now.task self.now.known.clauses (P.places self.now.task self.now.components) layout.now.horizon) ≤ most_literals }
         ensures { IfOk result (λ formula. formula ≡ formula_of self.now.task self.now.known.clauses (P.places self.now.task self.now.components) layout.now.horizon) }
     {
         let formula = joining::formula(alloc, self.task, layout, &self.step, &self.known)?;

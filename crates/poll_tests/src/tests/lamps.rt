@@ -14,6 +14,7 @@ use std::alloc::Global;
 use std::process::Abort;
 use step_encoding::exists::ExistsForm;
 use step_encoding::form::StepForm;
+use step_encoding::limits::PLANNER_LITERALS;
 
 /// A lamp, with an action that turns it on, and the goal that it is on.
 fn lamp(rt: &impl Abort, alloc: Global, on: bool) -> Task {
@@ -64,7 +65,7 @@ fn run_of<F: StepForm>(rt: &impl Abort, alloc: Global, task: &Task, form: &F, n:
     requires { F.task form.now ≡ task.now }
 {
     let n = u32::from(n);
-    assert!(rt; form.size(n) <= 4_000_000);
+    assert!(rt; form.size(n) <= PLANNER_LITERALS);
     HorizonRun::new(alloc, task, form, n)
         .ok()
         .expect(rt, "memory")

@@ -1,6 +1,7 @@
 use Rattle.std.proofs.Common.{◌≡◌, ℕ, ◌≤◌, ◌∙◌, Option, sym, ap, refl, subst}
 use Rattle.clause_base.specs.Choice.{Known}
 use Rattle.clause_base.specs.Formula.{Cnf}
+use Rattle.step_encoding.specs.Limits.{planner_literals}
 use Rattle.step_encoding.specs.Numbers.{literals_of}
 use Rattle.horizon_run.specs.Run.{RunView, choice_in}
 use Rattle.race.specs.Runs.{IsRunOf}
@@ -37,7 +38,7 @@ returns-clause-tied g c =
     let told = c.requires.1.1.1.1.1.0 in
     let same = formula-same g after in
     let name : (g.input.formula c.args.horizon).name ≡ c.args.horizon = ap (λ (f : Cnf). f.name) same ∙ (g.F.StepForm.numbers c.args.form.now c.args.horizon).name in
-    let small = subst (λ (f : Cnf). literals_of f ≤ 4000000) (sym same) c.requires.1.1.1.1.1.1.1.0 in
+    let small = subst (λ (f : Cnf). literals_of f ≤ planner_literals) (sym same) c.requires.1.1.1.1.1.1.1.0 in
     let r : IsRunOf g.input c.args.run = is_run g.input c.args.horizon c.args.run (chosen g after) (told.formula ∙ sym same) name c.requires.1.1.1.1.1.1.0 small told.new c.standing-reached.ensures.reached in
     tied-start g.input _ _ _ _ c.requires.1.0 (starts g after) (named g after) r (ap (λ (x : RunView). x.granted) told.new) c.requires.1.1.1.1.1.1.1.1.0
 
