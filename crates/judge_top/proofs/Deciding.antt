@@ -6,7 +6,8 @@ use Rattle.plan_files.specs.Files.{AreTaken}
 use Rattle.plan_files.proofs.Hearing.{two_taken}
 use Rattle.plan_words.specs.declared.request.Stepping.{Stepping}
 use Rattle.judge_endings.specs.declared.ended.Ended.{Ended}
-use Rattle.judge_top.specs.Answers.{OnceReady, not_ready, ready, AnswersJudge, too_large, unread, judged}
+use Rattle.judge_top.specs.Answers.{OnceReady, not_ready, ready, AnswersJudge, AnswersModel, too_large, unread, judged, model}
+use Rattle.judge_top.specs.declared.model.Told.TheVariants as told
 
 -- all of two files, under their names
 wholes : List ℕ → List ℕ → List (List ℕ) → List Heard
@@ -31,3 +32,15 @@ judged_before first second s h before middle now le end (not_ready plain stops e
 judged_before first second s h before middle now le end (ready task g are is (too_large plain over e)) = ready task g are is (too_large plain over e)
 judged_before first second s h before middle now le end (ready task g are is (unread plain un e)) = ready task g are is (unread plain (un.0, rose_before before middle now le un.1) e)
 judged_before first second s h before middle now le end (ready task g are is (judged verdict e none)) = ready task g are is (judged verdict e none)
+
+pub model_before : (first second : List ℕ) (s : Stepping) (h : ℕ) (before middle now : ℕ) → before ≤ middle → (end : Ended) → OnceReady first second (AnswersModel s h middle now) end → OnceReady first second (AnswersModel s h before now) end
+model_before first second s h before middle now le end (not_ready plain stops e) = not_ready plain stops e
+model_before first second s h before middle now le end (ready task g are is (too_large plain over e)) = ready task g are is (too_large plain over e)
+model_before first second s h before middle now le end (ready task g are is (model told.Unread known small e)) =
+    ready task g are is (model told.Unread (record { clauses = known.clauses; components = known.components; ordered = known.ordered; holds = rose_before before middle now le known.holds }) small e)
+model_before first second s h before middle now le end (ready task g are is (model (told.NoText at) known small e)) =
+    ready task g are is (model (told.NoText at) (record { clauses = known.clauses; components = known.components; ordered = known.ordered; holds = tt }) small e)
+model_before first second s h before middle now le end (ready task g are is (model (told.NoModel clause) known small e)) =
+    ready task g are is (model (told.NoModel clause) (record { clauses = known.clauses; components = known.components; ordered = known.ordered; holds = known.holds }) small e)
+model_before first second s h before middle now le end (ready task g are is (model (told.Plan steps) known small e)) =
+    ready task g are is (model (told.Plan steps) (record { clauses = known.clauses; components = known.components; ordered = known.ordered; holds = known.holds }) small e)
