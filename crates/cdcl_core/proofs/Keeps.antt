@@ -27,7 +27,7 @@ use Rattle.cdcl_laws.proofs.Start.{start_sound}
 use Rattle.clause_base.specs.Derivation.{clause_kept}
 use Rattle.cdcl_trail.specs.Mirrored.{TrailView}
 use Rattle.conflict_walk.specs.Clauses.{ClausesView, all_clauses}
-use Rattle.conflict_walk.specs.Resolvent.{ResolventView, IsEmptied}
+use Rattle.conflict_walk.specs.Analysis.{AnalysisView, IsReady}
 use Rattle.propagation.specs.Pending.{PropagatorView}
 use Rattle.cdcl_core.specs.Search.{SearchView, IsKept, IsNextEvent, state_of, asked_first}
 use Rattle.cdcl_core.proofs.Watching.{search_of}
@@ -43,11 +43,10 @@ given_clauses f = record { formula = f; log = []; kept = replicate (length f.cla
 pub start_is : (f : Cnf) → state_of (given_clauses f) [] Going ≡ start_of f
 start_is f = ap (λ (cs : List (List ℕ)). let s : State = record { variables = f.variables; given = length f.clauses; clauses = cs; kept = replicate (length f.clauses) true; trail = []; conflicts = 0; log = []; standing = Going } in s) (append-nil f.clauses)
 
-pub kept_start : (f : Cnf) (clauses : ClausesView) (propagator : PropagatorView) (resolvent : ResolventView) → clauses ≡ given_clauses f → propagator ≡ record { variables = f.variables; clauses = f.clauses; kept = replicate (length f.clauses) true; entries = [] } → IsEmptied resolvent → length resolvent.on ≡ 2 * f.variables → All IsClause f.clauses → IsWithinVariables f → IsKept clauses propagator resolvent Going false
-kept_start f clauses propagator resolvent l m e w c b = rw (l, m) (record {
+pub kept_start : (f : Cnf) (clauses : ClausesView) (propagator : PropagatorView) (analysis : AnalysisView) → clauses ≡ given_clauses f → propagator ≡ record { variables = f.variables; clauses = f.clauses; kept = replicate (length f.clauses) true; entries = [] } → IsReady f.variables analysis → All IsClause f.clauses → IsWithinVariables f → IsKept clauses propagator analysis Going false
+kept_start f clauses propagator analysis l m e c b = rw (l, m) (record {
   over = refl;
-  wide = w;
-  empty = λ h. e;
+  ready = λ h. e;
   going = λ h. let z : false ≡ true = h in cc;
   sound = subst (IsSound f) (sym (start_is f)) (start_sound f c b);
   mirrored = λ h g. ap (λ (cs : List (List ℕ)). let v : PropagatorView = record { variables = f.variables; clauses = cs; kept = replicate (length f.clauses) true; entries = [] } in v) (sym (append-nil f.clauses));

@@ -12,7 +12,7 @@ use Rattle.cdcl_rules.specs.declared.event.Event.{Event}
 use Rattle.cdcl_rules.specs.declared.event.Event.TheVariants.{Conflict, Force, Decide, Finish}
 use Rattle.cdcl_rules.specs.State.{State, is_on, value_of, values_from, values_of}
 use Rattle.cdcl_rules.specs.Learn.{backtracked, backjump_level, learned}
-use Rattle.cdcl_rules.specs.Run.{apply, trail_after, is_restart}
+use Rattle.cdcl_rules.specs.Run.{apply, trail_after, is_restart, is_conflict}
 use Rattle.cdcl_rules.specs.Trail.{IsTrail}
 use Rattle.cdcl_rules.proofs.Trails.{trail_apart, is_on-reverse, backtracked_is}
 use Rattle.cdcl_core.specs.Search.{SearchView}
@@ -73,17 +73,16 @@ told_are_values named n trail t = from_same trail 0 n (λ v. value_same trail v 
         trail_apart named (reverse trail) (2 * v) t (is_on-reverse trail (2 * v) ∙ e) (ap (is_on (reverse trail)) o ∙ is_on-reverse trail (2 * v + 1) ∙ f)
 
 -- What was told stands as the trail grows.
-grown : (knows : List ℕ → Type 0) (kept : ℕ) (trail rest : List Assigned) → IsToldUpTo knows kept trail → IsToldUpTo knows (min kept (length (trail ++ rest))) (trail ++ rest)
+grown : (knows : List ℕ → Type 0) (kept : ℕ) (trail rest : List Assigned) → IsToldUpTo knows kept trail → IsToldUpTo knows kept (trail ++ rest)
 grown knows kept trail rest i =
     let w = i.within in
     let long = length-append trail rest in
-    let m : min kept (length (trail ++ rest)) ≡ kept = omega (arith, w, long) in
-    subst (λ (k : ℕ). IsToldUpTo knows k (trail ++ rest)) (sym m) (record {
+    record {
       told = i.told;
       known = i.known;
       within = omega (arith, w, long);
       same = i.same ∙ sym (ap (take kept) (map-append (λ (a : Assigned). a.literal) trail rest) ∙ take-append-le kept (literals trail) (literals rest) (let l = length-map trail (λ (a : Assigned). a.literal) in omega (arith, l, w)));
-    })
+    }
 
 -- and as it goes back
 shrunk : (knows : List ℕ → Type 0) (kept : ℕ) (trail rest : List Assigned) → IsToldUpTo knows kept (trail ++ rest) → IsToldUpTo knows (min kept (length trail)) trail
@@ -111,19 +110,23 @@ gone_back knows kept s clause i = by (length clause == 0) (if is_restart s then 
     by true level = same_length knows kept s.trail i
     by false level = let r = backtracked_is level s.trail in shrunk knows kept (backtracked level s.trail) r.0 (subst (IsToldUpTo knows kept) r.1 i)
 
--- what was told stands after an event
-pub told_after : (knows : List ℕ → Type 0) (kept : ℕ) (s : State) (e : Event) → IsToldUpTo knows kept s.trail → IsToldUpTo knows (min kept (length (apply s e).trail)) (apply s e).trail
+-- what was told stands after an event: only a conflict takes literals back
+abbrev pub kept_after : Event → ℕ → ℕ → ℕ
+kept_after e kept length = if is_conflict e then min kept length else kept
+
+told_after : (knows : List ℕ → Type 0) (kept : ℕ) (s : State) (e : Event) → IsToldUpTo knows kept s.trail → IsToldUpTo knows (kept_after e kept (length (apply s e).trail)) (apply s e).trail
 told_after knows kept s (Conflict n) i = gone_back knows kept s (learned s.clauses s.trail n).clause i
 told_after knows kept s (Force l n) i = grown knows kept s.trail (record { literal = l; reason = Some n } ∷ []) i
 told_after knows kept s (Decide l) i = grown knows kept s.trail (record { literal = l; reason = None } ∷ []) i
-told_after knows kept s Finish i = same_length knows kept s.trail i
+told_after knows kept s Finish i = i
 
 -- and after what an event leaves, where there was memory
-pub told_on : {T E : Type 0} → (knows : List ℕ → Type 0) (kept now : ℕ) (e : Event) (old new : SearchView) (r : Result T E) → OnOk r (new ≡ record old { state = apply old.state e }) → OnErr r (new.spoilt ≡ true) → now ≡ min kept (length new.state.trail) → (old.spoilt ≡ false → IsToldUpTo knows kept old.state.trail) → new.spoilt ≡ false → IsToldUpTo knows now new.state.trail
+pub told_on : {T E : Type 0} → (knows : List ℕ → Type 0) (kept now : ℕ) (e : Event) (old new : SearchView) (r : Result T E) → OnOk r (new ≡ record old { state = apply old.state e }) → OnErr r (new.spoilt ≡ true) → now ≡ kept_after e kept (length new.state.trail)
+    → (old.spoilt ≡ false → IsToldUpTo knows kept old.state.trail) → new.spoilt ≡ false → IsToldUpTo knows now new.state.trail
 told_on knows kept now e old new (Ok x) ok err m h sane =
     let s : old.spoilt ≡ false = sym (ap (λ (v : SearchView). v.spoilt) ok) ∙ sane in
     let t : apply old.state e ≡ new.state = sym (ap (λ (v : SearchView). v.state) ok) in
-    subst (λ (k : ℕ). IsToldUpTo knows k new.state.trail) (sym m) (subst (λ (x : State). IsToldUpTo knows (min kept (length x.trail)) x.trail) t (told_after knows kept old.state e (h s)))
+    subst (λ (k : ℕ). IsToldUpTo knows k new.state.trail) (sym m) (subst (λ (x : State). IsToldUpTo knows (kept_after e kept (length x.trail)) x.trail) t (told_after knows kept old.state e (h s)))
 told_on knows kept now e old new (Err x) ok err m h sane = let z : true ≡ false = sym err ∙ sane in cc
 
 -- one more literal on a trail

@@ -20,7 +20,7 @@ use Rattle.cdcl_rules.proofs.Tests.{and_split}
 use Rattle.cdcl_trail.specs.Assignment.{literals}
 use Rattle.cdcl_trail.proofs.Assignments.{has_is}
 use Rattle.conflict_walk.specs.Clauses.{ClausesView, all_clauses}
-use Rattle.conflict_walk.specs.Resolvent.{ResolventView}
+use Rattle.conflict_walk.specs.Analysis.{AnalysisView}
 use Rattle.conflict_walk.proofs.Placed.{learned_learn, learned_drops}
 use Rattle.propagation.specs.Front.{asked_at, first_asked}
 use Rattle.propagation.specs.Pending.{PropagatorView}
@@ -94,11 +94,11 @@ abbrev pub search_of : ClausesView → List Assigned → Standing → Bool → S
 search_of clauses trail standing spoilt = record { formula = clauses.formula; state = state_of clauses trail standing; spoilt = spoilt }
 
 -- what a search watches that is going on, and not spoilt: all its clauses, on its trail
-pub watched_going : {clauses : ClausesView} {w : PropagatorView} {r : ResolventView} {standing : Standing} {spoilt : Bool} {v : SearchView} → IsKept clauses w r standing spoilt
+pub watched_going : {clauses : ClausesView} {w : PropagatorView} {r : AnalysisView} {standing : Standing} {spoilt : Bool} {v : SearchView} → IsKept clauses w r standing spoilt
     → search_of clauses w.entries standing spoilt ≡ v → v.spoilt ≡ false → is_going v.state.standing ≡ true → w ≡ watched clauses w.entries
 watched_going kept is sane going = kept.mirrored (ap (λ (s : SearchView). s.spoilt) is ∙ sane) (ap (λ (s : SearchView). is_going s.state.standing) is ∙ going)
 
-pub watched_all : {clauses : ClausesView} {w : PropagatorView} {r : ResolventView} {standing : Standing} {spoilt : Bool} {v : SearchView} → IsKept clauses w r standing spoilt
+pub watched_all : {clauses : ClausesView} {w : PropagatorView} {r : AnalysisView} {standing : Standing} {spoilt : Bool} {v : SearchView} → IsKept clauses w r standing spoilt
     → search_of clauses w.entries standing spoilt ≡ v → v.spoilt ≡ false → is_going v.state.standing ≡ true → w.clauses ≡ all_clauses clauses
 watched_all kept is sane going = ap (λ (w : PropagatorView). w.clauses) (watched_going kept is sane going)
 

@@ -15,7 +15,7 @@ use Rattle.cdcl_rules.specs.Run.{is_restart, is_going, is_conflict}
 use Rattle.cdcl_rules.specs.Open.{Opens}
 use Rattle.cdcl_laws.specs.Sound.{IsSound}
 use Rattle.conflict_walk.specs.Clauses.{ClausesView, all_clauses}
-use Rattle.conflict_walk.specs.Resolvent.{ResolventView, IsEmptied}
+use Rattle.conflict_walk.specs.Analysis.{AnalysisView, IsReady}
 use Rattle.propagation.specs.Pending.{PropagatorView}
 
 -- a search for an assignment, as its clients see it
@@ -58,12 +58,11 @@ abbrev pub AreKept : List Bool → List ℕ → Type 0
 AreKept kept [] = Unit {0}
 AreKept kept (n ∷ numbers) = (is_kept kept n ≡ true) × AreKept (slice_set kept n false) numbers
 
--- what a search keeps: a sound state, a trail over the formula's variables and a resolvent that is empty unless it is spoilt; as
+-- what a search keeps: a sound state, a trail over the formula's variables and what it needs for a conflict unless it is spoilt; as
 -- long as it is going its clauses are watched on its trail
-pub record IsKept (clauses : ClausesView) (propagator : PropagatorView) (resolvent : ResolventView) (standing : Standing) (spoilt : Bool) : Type 0 where
+pub record IsKept (clauses : ClausesView) (propagator : PropagatorView) (analysis : AnalysisView) (standing : Standing) (spoilt : Bool) : Type 0 where
   pub over : propagator.variables ≡ clauses.formula.variables
-  pub wide : length resolvent.on ≡ 2 * clauses.formula.variables
-  pub empty : spoilt ≡ false → IsEmptied resolvent
+  pub ready : spoilt ≡ false → IsReady clauses.formula.variables analysis
   pub going : spoilt ≡ true → standing ≡ Going
   pub sound : IsSound clauses.formula (state_of clauses propagator.entries standing)
   pub mirrored : spoilt ≡ false → is_going standing ≡ true → propagator ≡ watched clauses propagator.entries

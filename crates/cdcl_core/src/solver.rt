@@ -217,9 +217,12 @@ impl<C: Chooser> Solver<C> {
         ensures chooser { self.new.chooser ≡ self.old.chooser }
         ensures spoilt { OnErr result (self.new.spoilt ≡ true) }
     {
+        let takes_back = event.is_conflict();
         let done = self.search.apply(event);
-        let length = self.search.entries().len();
-        self.kept = self.kept.min(length);
+        if takes_back {
+            let length = self.search.entries().len();
+            self.kept = self.kept.min(length);
+        }
         done
     }
 

@@ -1,3 +1,4 @@
 pub mod Assignments
 pub mod Levels
 pub mod Mirrors
+pub mod Lookups

@@ -40,7 +40,7 @@ count_fits n (a ∷ es) o b =
     let g : open_count (reverse (a ∷ es)) 0 n ≡ open_count (reverse es ++ a ∷ []) 0 n = ap (λ (t : List Assigned). open_count t 0 n) r in
     omega (arith, h, f, g)
 
-on_below : (n : ℕ) (es : List Assigned) → All (λ a. a.literal / 2 < n) es → ForAll n es
+pub on_below : (n : ℕ) (es : List Assigned) → All (λ a. a.literal / 2 < n) es → ForAll n es
 on_below n [] b l e = cc
 on_below n (a ∷ es) b l e = by (a.literal == l) refl (on_below n es (λ k d h. b (suc k) d (omega arith)) l) (b 0 a (omega arith))
   where

@@ -1,7 +1,8 @@
-use Rattle.std.specs.Prelude.{◌≡◌, ℕ, ◌+◌, ◌/◌, ◌<◌, ◌≤◌, List, [], ◌∷◌, length, reverse, slice_index, All, Option, Some, None}
+use Rattle.std.specs.Prelude.{◌≡◌, ℕ, ◌+◌, ◌/◌, ◌<◌, ◌≤◌, ◌==◌, nat_le, List, [], ◌∷◌, length, reverse, take, slice_index, All, Option, Some, None}
 use Rattle.cdcl_rules.specs.declared.trail.Assigned.{Assigned}
 use Rattle.clause_base.specs.Choice.{Known}
-use Rattle.cdcl_rules.specs.State.{value_of, values_of}
+use Rattle.cdcl_rules.specs.State.{value_of, values_of, decision_count}
+use Rattle.cdcl_trail.specs.Assignment.{literals}
 
 -- a trail over so many variables
 pub record TrailView : Type 0 where
@@ -36,6 +37,22 @@ pub record IsMirrored (n : ℕ) (entries : List Assigned) (values : Known) (star
 pub record IsPlaced (n : ℕ) (trail : List ℕ) (positions : List ℕ) : Type 0 where
   pub size : length positions ≡ n
   pub positions_are : (i : ℕ) → i < length trail → slice_index positions (slice_index trail i / 2) ≡ i
+
+-- the current level begins at this position: an entry is of it just where it does not stand before
+abbrev pub IsStart : List Assigned → ℕ → Type 0
+IsStart entries start = (p : ℕ) → p < length entries → nat_le start p ≡ (decision_count (take (p + 1) entries) == decision_count entries)
+
+-- no literal stands at two positions: a mark at a position is a mark of one literal
+abbrev pub AreApart : List ℕ → Type 0
+AreApart trail = (i j : ℕ) → i < length trail → j < length trail → slice_index trail i ≡ slice_index trail j → i ≡ j
+
+-- what is asked of the tables by which entries are found from their literals
+pub record IsLookedUp (n : ℕ) (entries : List Assigned) (positions : List ℕ) (start : ℕ) : Type 0 where
+  pub placed : IsPlaced n (literals entries) positions
+  pub start_is : IsStart entries start
+  pub below : All (λ a. a.literal / 2 < n) entries
+  pub short : length entries ≤ n
+  pub small : n ≤ 2147483647
 
 -- so many of some numbers, which rise, are below a bound
 pub record IsCount (numbers : List ℕ) (bound count : ℕ) : Type 0 where

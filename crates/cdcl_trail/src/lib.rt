@@ -3,4 +3,5 @@
 #![tactic(auto)]
 
 pub mod assignment;
+pub mod lookup;
 pub mod trail;

@@ -3,9 +3,10 @@ ghost use Rattle.clause_base.specs.Literal.{opposite};
 ghost use Rattle.cdcl_rules.specs.State.{is_on, value_of, values_of, decision_count};
 ghost use Rattle.cdcl_rules.specs.Learn.{backtracked, level_of};
 ghost use Rattle.cdcl_trail.specs.Assignment.{literals};
-ghost use Rattle.cdcl_trail.specs.Mirrored.{TrailView, begun, IsOnce, IsCount, AreRising};
+ghost use Rattle.cdcl_trail.specs.Mirrored.{TrailView, begun, IsOnce, IsCount, AreRising, IsStart};
 
 use crate::assignment::Assignment;
+use crate::lookup::Lookup;
 use cdcl_rules::trail::Assigned;
 use clause_base::literal::Lit;
 use clause_base::memory::Memory;
@@ -188,6 +189,31 @@ impl Trail {
         let length = self.length_with(lit);
         let level = self.starts.len();
         level == 0 || self.starts[level - 1] < length
+    }
+
+    /// The position where the current level begins; 0 where there is no decision.
+    fn start(&self) -> u32
+        ensures { IsStart self.now.entries result }
+    {
+        let level = self.starts.len();
+        if level == 0 {
+            return 0;
+        }
+        self.starts[level - 1]
+    }
+
+    /// The trail as a walk over it reads it.
+    #[inline(always)]
+    pub fn lookup(&self) -> Lookup<'_>
+        ensures { result ≡ self.now }
+    {
+        let start = self.start();
+        Lookup::of(
+            self.variables,
+            self.entries.as_slice(),
+            self.positions.as_slice(),
+            start,
+        )
     }
 
     /// Lets a chooser's search for the least variable without a value begin where it should. The trail stays as it is.

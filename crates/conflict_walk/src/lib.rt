@@ -4,6 +4,8 @@
 
 pub mod backjump;
 pub mod clauses;
+mod latest;
 pub mod learn;
+pub mod order;
 pub mod resolvent;
 pub mod walk;

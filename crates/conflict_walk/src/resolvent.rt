@@ -1,65 +1,64 @@
 //! The clause that the walk is at. Each clause that is put in is resolved with it on one literal.
-ghost use Rattle.std.specs.Prelude.{◌≡◌, ◌*◌, ◌≤◌, ◌==◌, [], true, not, length, filter, fold, IfOk, OnOk};
+ghost use Rattle.std.specs.Prelude.{◌≡◌, ℕ, ◌*◌, ◌+◌, ◌<◌, ◌≤◌, ◌==◌, ◌||◌, ◌⊎◌, [], if◌then◌else◌, true, false, not, length, map, filter, fold, slice_index, IfOk, OnOk};
 ghost use Rattle.clause_base.specs.{Literal.opposite, Clause.put};
 ghost use Rattle.cdcl_rules.specs.{State.is_on, Trail.AllFalse, Learn.resolvent};
-ghost use Rattle.lit_marks.specs.Marks.{at};
-ghost use Rattle.conflict_walk.specs.{Resolvent.literals, Resolvent.IsEmptied, Resolvent.IsOver, Walk.OthersFalse};
+ghost use Rattle.number_bits.specs.Bits.{words_have};
+ghost use Rattle.conflict_walk.specs.{Resolvent.literals, Resolvent.seen, Resolvent.is_marked, Resolvent.AreMarks, Resolvent.IsClear, Resolvent.IsLatest, Walk.OthersFalse};
 
-use cdcl_trail::trail::Trail;
+use crate::latest::{has_mark, latest};
+use crate::order::{Codes, put_code};
+use cdcl_trail::lookup::Lookup;
 use clause_base::literal::Lit;
 use clause_base::memory::Memory;
 use clause_base::view::View;
-use lit_marks::marks::Marks;
+use number_bits::flat::{clear_bit, set_bit};
 use std::alloc::Global;
 use std::marker::Model;
 
-/// A clause in the making, with the number of its literals that are of the current level.
+/// A clause in the making, whose literals are all false: for each position of the trail whether the entry there made one of them so,
+/// and how many of these are of the current level.
 pub struct Resolvent {
-    draft: Marks,
+    marks: Vec<u64>,
     count: u32,
 }
 
 impl Model for Resolvent {
-    ghost use Rattle.conflict_walk.specs.Resolvent.{ResolventView};
+    ghost use Rattle.conflict_walk.specs.Resolvent.{MarksView};
 
-    ghost Value = { ResolventView };
+    ghost Value = { MarksView };
 
-    ghost view = { λ r. record { on = r.draft; count = r.count } };
+    ghost view = { λ r. record { words = r.marks.items; count = r.count } };
 }
 
 /// Letting one go is one call, in which its parts go: whoever holds one proves one step.
 impl Drop for Resolvent {
     fn drop(self) {
-        let Resolvent { draft: _, count: _ } = self;
+        let Resolvent { marks: _, count: _ } = self;
     }
 }
 
 impl Resolvent {
     /// The resolvent without literals, over so many variables.
     pub fn new(alloc: Global, variables: u32) -> Result<Resolvent, Memory>
-        requires { variables ≤ 2147483647 }
-        ensures empty { IfOk result (λ r. IsEmptied r) }
-        ensures len { IfOk result (λ r. length r.on ≡ 2 * variables) }
+        ensures { IfOk result (λ r. IsClear variables r) }
     {
         Ok(Resolvent {
-            draft: Marks::new(alloc, variables)?,
+            marks: vec![in alloc; 0; variables as usize / 64 + 1]?,
             count: 0,
         })
     }
 
-    /// Whether the opposite of a true literal is in.
-    pub fn has_opposite(&self, trail: &Trail, lit: Lit) -> bool
-        requires over { IsOver trail.now self.now }
-        requires is_true { is_on trail.now.entries lit ≡ true }
-        ensures { result ≡ at self.now.on (opposite lit) }
+    /// The latest marked position before a bound, if there is one.
+    #[inline(always)]
+    pub fn latest(&self, bound: u32) -> Option<u32>
+        requires { bound < 64 * length self.now.words }
+        ensures { IsLatest (words_have self.now.words) bound result }
     {
-        let opposite = lit.opposite();
-        // for the proof: a false literal is one of the trail's variables
-        let _current = trail.is_current(opposite);
-        self.draft.has(opposite)
+        latest(self.marks.as_slice(), bound)
     }
 
     /// How many literals are of the current level.
+    #[inline]
     pub fn count(&self) -> u32
         ensures { result ≡ self.now.count }
     {
@@ -67,89 +66,110 @@ impl Resolvent {
     }
 
     /// Puts a false literal in.
-    fn put(&mut self, trail: &Trail, lit: Lit) -> Result<(), Memory>
-        requires over { IsOver trail.now self.old }
+    #[inline(always)]
+    fn put(&mut self, trail: &Lookup, lit: Lit)
+        requires over { AreMarks trail.now self.old }
         requires is_false { is_on trail.now.entries (opposite lit) ≡ true }
-        ensures over { OnOk result (IsOver trail.now self.new) }
-        ensures len { length self.new.on ≡ length self.old.on }
-        ensures put { OnOk result (literals self.new ≡ put (literals self.old) lit) }
+        ensures over { AreMarks trail.now self.new }
+        ensures put { literals (seen trail.now self.new) ≡ put (literals (seen trail.now self.old)) lit }
     {
-        let current = trail.is_current(lit);
-        if self.draft.has(lit) {
-            return Ok(());
+        let _known = trail.entries();
+        let position = trail.position(lit);
+        if has_mark(self.marks.as_slice(), position) {
+            return;
         }
-        self.draft.put(lit)?;
-        if current {
+        set_bit(&mut self.marks, position);
+        if trail.is_current(position) {
             self.count += 1;
         }
-        Ok(())
     }
 
-    /// Takes a literal out that is in.
-    fn remove(&mut self, trail: &Trail, lit: Lit)
-        requires over { IsOver trail.now self.old }
-        requires in_draft { at self.old.on lit ≡ true }
-        ensures over { IsOver trail.now self.new }
-        ensures len { length self.new.on ≡ length self.old.on }
-        ensures removed { literals self.new ≡ filter (λ l. not (l == lit)) (literals self.old) }
+    /// Takes the literal out whose mark is at a position.
+    #[inline(always)]
+    fn remove(&mut self, trail: &Lookup, position: u32)
+        requires over { AreMarks trail.now self.old }
+        requires within { position < length trail.now.entries }
+        requires marked { words_have self.old.words position ≡ true }
+        ensures over { AreMarks trail.now self.new }
+        ensures removed { literals (seen trail.now self.new) ≡ filter (λ l. not (l == opposite (slice_index (map (λ a. a.literal) trail.now.entries) position))) (literals (seen trail.now self.old)) }
     {
-        self.draft.remove(lit);
-        if trail.is_current(lit) {
+        let _known = trail.entries();
+        clear_bit(&mut self.marks, position);
+        if trail.is_current(position) {
             self.count -= 1;
         }
     }
 
+    /// Puts a literal in that is false, unless it is another one.
+    #[inline(always)]
+    fn put_other(&mut self, trail: &Lookup, lit: Lit, but: Lit)
+        requires over { AreMarks trail.now self.old }
+        requires other { (lit ≡ but) ⊎ (is_on trail.now.entries (opposite lit) ≡ true) }
+        ensures over { AreMarks trail.now self.new }
+        ensures put { literals (seen trail.now self.new) ≡ (if lit == but then literals (seen trail.now self.old) else put (literals (seen trail.now self.old)) lit) }
+    {
+        if lit != but {
+            self.put(trail, lit);
+        }
+    }
+
     /// Puts false literals in.
-    pub fn put_all(&mut self, trail: &Trail, lits: &View) -> Result<(), Memory>
-        requires over { IsOver trail.now self.old }
+    #[inline(always)]
+    pub fn put_all(&mut self, trail: &Lookup, lits: &View)
+        requires over { AreMarks trail.now self.old }
         requires all_false { AllFalse trail.now.entries lits.now }
-        ensures over { OnOk result (IsOver trail.now self.new) }
-        ensures len { length self.new.on ≡ length self.old.on }
-        ensures put { OnOk result (literals self.new ≡ fold put (literals self.old) lits.now) }
+        ensures over { AreMarks trail.now self.new }
+        ensures put { literals (seen trail.now self.new) ≡ fold put (literals (seen trail.now self.old)) lits.now }
     {
         for place in 0..lits.len() {
-            self.put(trail, lits.get(place))?;
+            self.put(trail, lits.get(place));
         }
-        Ok(())
     }
 
     /// Puts literals in, all but one; the others are false.
-    fn put_others(&mut self, trail: &Trail, lits: &View, but: Lit) -> Result<(), Memory>
-        requires over { IsOver trail.now self.old }
+    #[inline(always)]
+    fn put_others(&mut self, trail: &Lookup, lits: &View, but: Lit)
+        requires over { AreMarks trail.now self.old }
         requires others { OthersFalse trail.now.entries lits.now but }
-        ensures over { OnOk result (IsOver trail.now self.new) }
-        ensures len { length self.new.on ≡ length self.old.on }
-        ensures put { OnOk result (literals self.new ≡ fold put (literals self.old) (filter (λ l. not (l == but)) lits.now)) }
+        ensures over { AreMarks trail.now self.new }
+        ensures put { literals (seen trail.now self.new) ≡ fold put (literals (seen trail.now self.old)) (filter (λ l. not (l == but)) lits.now) }
     {
         for place in 0..lits.len() {
-            let lit = lits.get(place);
-            if lit != but {
-                self.put(trail, lit)?;
-            }
+            self.put_other(trail, lits.get(place), but);
         }
-        Ok(())
     }
 
-    /// Resolves on a literal whose opposite is in with the clause that forced it.
-    pub fn resolve(&mut self, trail: &Trail, forced: Lit, reason: &View) -> Result<(), Memory>
-        requires over { IsOver trail.now self.old }
-        requires in_draft { at self.old.on (opposite forced) ≡ true }
+    /// Resolves with the clause that forced the literal of the entry at a position, which is marked.
+    #[inline(always)]
+    pub fn resolve(&mut self, trail: &Lookup, position: u32, forced: Lit, reason: &View)
+        requires over { AreMarks trail.now self.old }
+        requires within { position < length trail.now.entries }
+        requires forced { slice_index (map (λ a. a.literal) trail.now.entries) position ≡ forced }
+        requires marked { words_have self.old.words position ≡ true }
         requires others { OthersFalse trail.now.entries reason.now forced }
-        ensures over { OnOk result (IsOver trail.now self.new) }
-        ensures len { length self.new.on ≡ length self.old.on }
-        ensures resolved { OnOk result (literals self.new ≡ resolvent (literals self.old) forced reason.now) }
+        ensures over { AreMarks trail.now self.new }
+        ensures resolved { literals (seen trail.now self.new) ≡ resolvent (literals (seen trail.now self.old)) forced reason.now }
     {
-        self.remove(trail, forced.opposite());
-        self.put_others(trail, reason, forced)
+        self.remove(trail, position);
+        self.put_others(trail, reason, forced);
     }
 
-    /// Takes all literals out, in order of their codes, into a vector that is written over.
-    pub fn take(&mut self, lits: &mut Vec<Lit>) -> Result<(), Memory>
-        ensures taken { OnOk result (lits.new.items ≡ literals self.old) }
-        ensures emptied { OnOk result (IsEmptied self.new) }
-        ensures len { length self.new.on ≡ length self.old.on }
+    /// Takes all literals out, into a set by code.
+    pub fn take(&mut self, trail: &Lookup, codes: &mut Codes)
+        requires over { AreMarks trail.now self.old }
+        requires room { 2 * trail.now.variables ≤ 64 * length codes.old.words }
+        ensures clear { IsClear trail.now.variables self.new }
+        ensures room { length codes.new.words ≡ length codes.old.words }
+        ensures codes { (l : ℕ) → words_have codes.new.words l ≡ (words_have codes.old.words l || is_marked (words_have self.old.words) 0 (map (λ a. a.literal) trail.now.entries) l) }
     {
+        let entries = trail.entries();
+        let mut bound = entries.len() as u32;
+        while let Some(position) = latest(self.marks.as_slice(), bound) {
+            clear_bit(&mut self.marks, position);
+            let entry = entries[position as usize];
+            put_code(codes, entry.literal.opposite());
+            bound = position;
+        }
         self.count = 0;
-        self.draft.take(lits)
     }
 }

@@ -1,15 +1,17 @@
 //! The walk along the trail, from its end to the first unique implication point (Marques-Silva and Sakallah, 1999).
 ghost use Rattle.std.specs.Prelude.{◌≡◌, [], reverse, length, OnOk};
+ghost use Rattle.cdcl_rules.specs.State.{decision_count};
 ghost use Rattle.cdcl_rules.specs.Learn.{walk};
-ghost use Rattle.conflict_walk.specs.Resolvent.{literals, IsOver};
+ghost use Rattle.conflict_walk.specs.Resolvent.{literals, seen, AreMarks};
 ghost use Rattle.conflict_walk.specs.Walk.{stops, IsReasoned};
 
 use crate::resolvent::Resolvent;
-use cdcl_trail::trail::Trail;
+use cdcl_trail::lookup::Lookup;
 use clause_base::memory::Memory;
 use watch_store::store::Store;
 
 /// Whether the walk stops at an entry whose negation is in the clause.
+#[inline]
 fn stops(level: u32, count: u32) -> bool
     ensures { result ≡ stops level count }
 {
@@ -22,32 +24,31 @@ pub(crate) fn walk_back(
     hints: &mut Vec<u32>,
     resolvent: &mut Resolvent,
     store: &Store,
-    trail: &Trail,
+    trail: &Lookup,
+    level: u32,
 ) -> Result<(), Memory>
-    requires over { IsOver trail.now resolvent.old }
+    requires over { AreMarks trail.now resolvent.old }
     requires reasoned { IsReasoned store.now trail.now.entries }
-    ensures walked { OnOk result (walk store.now trail.now.entries (reverse trail.now.entries) (record { clause = literals resolvent.old; hints = [] }) ≡ record { clause = literals resolvent.new; hints = reverse hints.new.items }) }
-    ensures len { length resolvent.new.on ≡ length resolvent.old.on }
+    requires level { level ≡ decision_count trail.now.entries }
+    ensures over { OnOk result (AreMarks trail.now resolvent.new) }
+    ensures walked { OnOk result (walk store.now trail.now.entries (reverse trail.now.entries) (record { clause = literals (seen trail.now resolvent.old); hints = [] }) ≡ record { clause = literals (seen trail.now resolvent.new); hints = reverse hints.new.items }) }
 {
     let entries = trail.entries();
-    let level = trail.level();
     hints.clear();
-    let mut index = entries.len();
-    'walking: while index > 0 {
-        index -= 1;
-        let entry = entries[index];
-        if resolvent.has_opposite(trail, entry.literal) {
-            if stops(level, resolvent.count()) {
-                return Ok(());
-            }
-            match entry.reason {
-                None => return Ok(()),
-                Some(reason) => {
-                    resolvent.resolve(trail, entry.literal, &store.clause(reason))?;
-                    hints.push(reason)?;
-                }
+    let mut index = entries.len() as u32;
+    'walking: while let Some(position) = resolvent.latest(index) {
+        if stops(level, resolvent.count()) {
+            return Ok(());
+        }
+        let entry = entries[position as usize];
+        match entry.reason {
+            None => return Ok(()),
+            Some(reason) => {
+                resolvent.resolve(trail, position, entry.literal, &store.clause(reason));
+                hints.push(reason)?;
             }
         }
+        index = position;
     }
     Ok(())
 }

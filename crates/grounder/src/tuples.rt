@@ -10,6 +10,9 @@ fn product_of(p: &Pddl, kinds: &[u32]) -> u64
 {
     let mut product: u64 = 1;
     for kind in kinds {
+        if product == 0 {
+            return 0;
+        }
         product = product.saturating_mul(p.fitting_count(*kind) as u64);
     }
     product

@@ -1,1 +1,5 @@
 pub mod Counted
+pub mod Texts
+pub mod Entering
+pub mod Reading
+pub mod Taking

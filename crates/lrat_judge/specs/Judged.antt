@@ -6,9 +6,16 @@ use Rattle.clause_base.specs.Derivation.{IsDerivation, learns_empty}
 use Rattle.clause_base.specs.declared.log.Entry.{Entry}
 use Rattle.rup_check.specs.Taken.{CheckerView, HasTaken}
 
--- the formula that it judges proofs for
+-- the formula that it judges proofs for, what its checker knows, the ids of the clauses, the offset and the count of the lines so far and of
+-- the entries so far, and the bytes of the line that is not whole yet
 pub record Judged : Type 0 where
   pub formula : Cnf
+  pub checker : CheckerView
+  pub ids : List ℕ
+  pub at : ℕ
+  pub count : ℕ
+  pub entries : ℕ
+  pub front : List ℕ
 
 -- a count of 64 bits, which stands still at its end
 abbrev pub counted : ℕ → ℕ

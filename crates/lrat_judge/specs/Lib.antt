@@ -1,1 +1,4 @@
 pub mod Judged
+pub mod Follow
+pub mod Verdicts
+pub mod Reached

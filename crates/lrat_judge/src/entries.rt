@@ -1,7 +1,13 @@
 //! A line that was read, as entries for a checker.
-ghost use Rattle.std.specs.Prelude.{◌≡◌};
+ghost use Rattle.std.specs.Prelude.{◌≡◌, ℕ, List, true, false, Some, None, Ok, length, option_map, IfOk};
 ghost use Rattle.clause_base.specs.Clause.{IsClause};
-ghost use Rattle.lrat_judge.specs.Judged.{HasCounted};
+ghost use Rattle.clause_base.specs.declared.log.Entry.{Entry};
+ghost use Rattle.clause_base.specs.declared.log.Entry.TheVariants.{Learn as learn_entry, Drop as drop_entry};
+ghost use Rattle.lrat_text.specs.Line.{LineView, IsHeld};
+ghost use Rattle.rup_check.specs.Taken.{HasTaken};
+ghost use Rattle.lrat_judge.specs.Judged.{HasCounted, counted};
+ghost use Rattle.lrat_judge.specs.Follow.{Known, number_named, numbers_named, with_entry, with_clause, without};
+ghost use Rattle.lrat_judge.specs.Reached.{StandsAt, Stands, Enters};
 
 use clause_base::clause::Clause;
 use clause_base::literal::Lit;
@@ -12,12 +18,17 @@ use rup_check::checker::Checker;
 use std::alloc::Global;
 
 // The number of the clause that an id names, from 0: the formula's come first.
-fn number_of(ids: &IdTable, id: u64) -> Option<u32> {
+fn number_of(ids: &IdTable, id: u64) -> Option<u32>
+    ensures { result ≡ number_named ids.now id }
+{
     u32::try_from(ids.find(id)?).ok()
 }
 
 // Makes a vector hold the numbers that the ids of a line name, and says whether each names one.
-fn read_hints(hints: &mut Vec<u32>, ids: &IdTable, line: &Line) -> Result<bool, Memory> {
+fn read_hints(hints: &mut Vec<u32>, ids: &IdTable, line: &Line) -> Result<bool, Memory>
+    ensures named { result ≡ Ok true → numbers_named ids.now line.now.ids.items ≡ Some hints.new.items }
+    ensures unnamed { result ≡ Ok false → numbers_named ids.now line.now.ids.items ≡ None }
+{
     hints.clear();
     for id in &line.ids {
         let Some(number) = number_of(ids, *id) else {
@@ -39,6 +50,8 @@ fn learn_counted(
     requires counted { HasCounted checker.old entries.old }
     ensures formula { checker.new.formula ≡ checker.old.formula }
     ensures counted { HasCounted checker.new entries.new }
+    ensures exact { (log : List Entry) → HasTaken checker.old log → entries.old ≡ counted (length log)
+        → IfOk result (λ taken. Enters taken checker.new entries.new (with_entry checker.old.formula log (learn_entry clause.now hints.now))) }
 {
     if !checker.learn(clause, hints)? {
         return Ok(false);
@@ -52,6 +65,8 @@ fn forget_counted(checker: &mut Checker<'_>, number: u32, entries: &mut u64) -> 
     requires { HasCounted checker.old entries.old }
     ensures formula { checker.new.formula ≡ checker.old.formula }
     ensures counted { HasCounted checker.new entries.new }
+    ensures exact { (log : List Entry) → HasTaken checker.old log → entries.old ≡ counted (length log)
+        → Enters result checker.new entries.new (with_entry checker.old.formula log (drop_entry number)) }
 {
     if !checker.forget(number) {
         return false;
@@ -72,8 +87,13 @@ pub fn learn(
     requires { HasCounted checker.old entries.old }
     ensures formula { checker.new.formula ≡ checker.old.formula }
     ensures counted { HasCounted checker.new entries.new }
+    ensures exact { (known : Known) (view : LineView) → StandsAt checker.old ids.old entries.old known → IsHeld view line.now
+        → IfOk result (λ follows. Stands follows checker.new ids.new entries.new (with_clause checker.old.formula known view)) }
 {
-    if line.foreign || !read_hints(hints, ids, line)? {
+    if line.foreign {
+        return Ok(false);
+    }
+    if !read_hints(hints, ids, line)? {
         return Ok(false);
     }
     let Some(clause) = Clause::of(alloc, &line.lits)? else {
@@ -90,6 +110,8 @@ pub fn forget(checker: &mut Checker<'_>, ids: &IdTable, line: &Line, entries: &m
     requires { HasCounted checker.old entries.old }
     ensures formula { checker.new.formula ≡ checker.old.formula }
     ensures counted { HasCounted checker.new entries.new }
+    ensures exact { (log : List Entry) → HasTaken checker.old log → entries.old ≡ counted (length log)
+        → Enters result checker.new entries.new (without checker.old.formula ids.now line.now.ids.items log) }
 {
     for id in &line.ids {
         let Some(number) = number_of(ids, *id) else {

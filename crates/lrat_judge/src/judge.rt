@@ -1,7 +1,11 @@
 //! Pieces of a text, cut into lines.
-ghost use Rattle.std.specs.Prelude.{◌≡◌, ◌<◌, ℕ, length, IfOk, IfSome};
+ghost use Rattle.std.specs.Prelude.{◌≡◌, ◌≢◌, ◌<◌, ◌+◌, ◌++◌, ◌∷◌, [], ℕ, List, true, length, IfOk, IfSome, IfNone};
 ghost use Rattle.clause_base.specs.Formula.{IsUnsatisfiable};
 ghost use Rattle.lrat_judge.specs.Judged.{IsRefutedBy};
+ghost use Rattle.lrat_text.specs.Line.{line_of};
+ghost use Rattle.lrat_judge.specs.Follow.{Known};
+ghost use Rattle.lrat_judge.specs.Verdicts.{outcome_line, verdict_of};
+ghost use Rattle.lrat_judge.specs.Reached.{IsBefore, Comes, HasRead, has_no_end};
 
 use crate::lines::Lines;
 use crate::verdict::Verdict;
@@ -22,21 +26,28 @@ impl<'a> Model for Judge<'a> {
 
     ghost Value = { Judged };
 
-    ghost view = { λ j. j.lines };
+    ghost view = { λ j. record { formula = j.lines.formula; checker = j.lines.checker; ids = j.lines.ids; at = j.lines.at; count = j.lines.count; entries = j.lines.entries; front = j.front.items } };
 }
 
 // The first line of a text, without its LF, and what follows it; none where there is no LF.
 fn first_line(text: &[u8]) -> Option<(&[u8], &[u8])>
-    ensures { IfSome result (λ parts. length parts.1.now < length text.now) }
+    ensures fewer { IfSome result (λ parts. length parts.1.now < length text.now) }
+    ensures some { IfSome result (λ parts. (has_no_end parts.0.now ≡ true) × (text.now ≡ parts.0.now ++ 10 ∷ parts.1.now)) }
+    ensures none { IfNone result (has_no_end text.now ≡ true) }
 {
-    let place = text.iter().position(|byte| *byte == b'\n')?;
-    Some((&text[..place], &text[place + 1..]))
+    for (place, byte) in text.iter().enumerate() {
+        if *byte == b'\n' {
+            return Some((&text[..place], &text[place + 1..]));
+        }
+    }
+    None
 }
 
 impl<'a> Judge<'a> {
     /// A judge that has taken no text.
     pub fn new(alloc: Global, formula: &'a Formula) -> Result<Judge<'a>, Memory>
-        ensures { IfOk result (λ judge. judge.formula ≡ formula.now) }
+        ensures formula { IfOk result (λ judge. judge.formula ≡ formula.now) }
+        ensures read { IfOk result (λ judge. HasRead judge []) }
     {
         Ok(Judge {
             front: Vec::new(alloc),
@@ -49,8 +60,11 @@ impl<'a> Judge<'a> {
         ensures formula { self.new.formula ≡ self.old.formula }
         ensures refuted { (entries : ℕ) → result ≡ Ok (Verdict.Refuted entries) → IsUnsatisfiable self.old.formula.clauses }
         ensures entries { (entries : ℕ) → result ≡ Ok (Verdict.Refuted entries) → IsRefutedBy self.old.formula entries }
+        ensures comes { (known : Known) (at count : ℕ) → IsBefore self.old known at count
+            → IfOk result (λ verdict. Comes (outcome_line self.old.formula known at count (line_of (self.old.front ++ end.now))) verdict self.new (at + length (self.old.front ++ end.now) + 1) (count + 1)) }
+        ensures front { result ≡ Ok Verdict.More → self.new.front ≡ [] }
     {
-        if self.front.is_empty() {
+        if self.front.as_slice().is_empty() {
             return self.lines.take(end);
         }
         self.front.extend_from_slice(end)?;
@@ -65,14 +79,16 @@ impl<'a> Judge<'a> {
         ensures formula { self.new.formula ≡ self.old.formula }
         ensures refuted { (entries : ℕ) → result ≡ Ok (Verdict.Refuted entries) → IsUnsatisfiable self.old.formula.clauses }
         ensures entries { (entries : ℕ) → result ≡ Ok (Verdict.Refuted entries) → IsRefutedBy self.old.formula entries }
+        ensures verdict { (text : List ℕ) → HasRead self.old text → IfOk result (λ verdict. verdict ≢ Verdict.More → verdict ≡ verdict_of self.old.formula (text ++ piece.now)) }
+        ensures read { (text : List ℕ) → HasRead self.old text → result ≡ Ok Verdict.More → HasRead self.new (text ++ piece.now) }
     {
         let mut rest = piece;
         while let Some((line, others)) = first_line(rest) {
             let verdict = self.take_end(line)?;
-            if verdict != Verdict::More {
-                return Ok(verdict);
+            match verdict {
+                Verdict::More => rest = others,
+                _ => return Ok(verdict),
             }
-            rest = others;
         }
         self.front.extend_from_slice(rest)?;
         Ok(Verdict::More)
@@ -80,9 +96,10 @@ impl<'a> Judge<'a> {
 
     /// What is known where the text ends after the pieces so far.
     pub fn finish(&self) -> Verdict
-        ensures { (entries : ℕ) → result ≡ Verdict.Refuted entries → IsUnsatisfiable self.now.formula.clauses }
+        ensures refuted { (entries : ℕ) → result ≡ Verdict.Refuted entries → IsUnsatisfiable self.now.formula.clauses }
+        ensures verdict { (text : List ℕ) → HasRead self.now text → result ≡ verdict_of self.now.formula text }
     {
-        if self.front.is_empty() {
+        if self.front.as_slice().is_empty() {
             Verdict::NotEmpty
         } else {
             Verdict::Syntax {

@@ -1,7 +1,11 @@
 //! Lines, judged one after another.
-ghost use Rattle.std.specs.Prelude.{◌≡◌, ℕ, IfOk};
+ghost use Rattle.std.specs.Prelude.{◌≡◌, ◌+◌, ℕ, List, [], length, IfOk};
 ghost use Rattle.clause_base.specs.Formula.{IsUnsatisfiable};
-ghost use Rattle.lrat_judge.specs.Judged.{IsRefutedBy};
+ghost use Rattle.lrat_judge.specs.Judged.{IsRefutedBy, HasCounted};
+ghost use Rattle.lrat_text.specs.Line.{LineView, IsHeld, line_of};
+ghost use Rattle.lrat_judge.specs.Follow.{Known, known_first, follow};
+ghost use Rattle.lrat_judge.specs.Verdicts.{outcome_line};
+ghost use Rattle.lrat_judge.specs.Reached.{StandsAt, Stands, IsBefore, Comes};
 
 use crate::entries::{forget, learn};
 use crate::verdict::Verdict;
@@ -27,19 +31,42 @@ pub struct Lines<'a> {
 }
 
 impl<'a> Model for Lines<'a> {
+    ghost use Rattle.std.specs.Prelude.{[]};
     ghost use Rattle.lrat_judge.specs.Judged.{Judged, HasCounted};
 
     ghost Value = { Judged };
 
-    ghost view = { λ l. record { formula = l.checker.formula } };
+    ghost view = { λ l. record { formula = l.checker.formula; checker = l.checker; ids = l.ids; at = l.at; count = l.count; entries = l.entries; front = [] } };
 
     ghost invariant = { λ l. HasCounted l.checker l.entries };
+}
+
+// Takes the line that was read, exactly where it follows, and says whether it does.
+fn take_read(
+    alloc: Global,
+    checker: &mut Checker<'_>,
+    ids: &mut IdTable,
+    line: &Line,
+    hints: &mut Vec<u32>,
+    entries: &mut u64,
+) -> Result<bool, Memory>
+    requires { HasCounted checker.old entries.old }
+    ensures formula { checker.new.formula ≡ checker.old.formula }
+    ensures counted { HasCounted checker.new entries.new }
+    ensures exact { (known : Known) (view : LineView) → StandsAt checker.old ids.old entries.old known → IsHeld view line.now
+        → IfOk result (λ follows. Stands follows checker.new ids.new entries.new (follow checker.old.formula known view)) }
+{
+    if line.deletes {
+        return Ok(forget(checker, ids, line, entries));
+    }
+    learn(alloc, checker, ids, line, hints, entries)
 }
 
 impl<'a> Lines<'a> {
     /// Before the first line.
     pub fn new(alloc: Global, formula: &'a Formula) -> Result<Lines<'a>, Memory>
-        ensures { IfOk result (λ lines. lines.formula ≡ formula.now) }
+        ensures formula { IfOk result (λ lines. lines.formula ≡ formula.now) }
+        ensures before { IfOk result (λ lines. IsBefore lines (known_first formula.now) 0 0) }
     {
         let checker = Checker::new(alloc, formula)?;
         Ok(Lines {
@@ -55,25 +82,10 @@ impl<'a> Lines<'a> {
     }
 
     /// The offset at which the next line begins.
-    pub fn at(&self) -> u64 {
-        self.at
-    }
-
-    // Takes the line that was read, exactly where it follows, and says whether it does.
-    fn take_read(&mut self) -> Result<bool, Memory>
-        ensures { self.new.formula ≡ self.old.formula }
+    pub fn at(&self) -> u64
+        ensures { result ≡ self.now.at }
     {
-        if self.line.deletes {
-            return Ok(forget(&mut self.checker, &self.ids, &self.line, &mut self.entries));
-        }
-        learn(
-            self.alloc,
-            &mut self.checker,
-            &mut self.ids,
-            &self.line,
-            &mut self.hints,
-            &mut self.entries,
-        )
+        self.at
     }
 
     /// Takes the bytes of the next line, without its LF.
@@ -81,6 +93,8 @@ impl<'a> Lines<'a> {
         ensures formula { self.new.formula ≡ self.old.formula }
         ensures refuted { (entries : ℕ) → result ≡ Ok (Verdict.Refuted entries) → IsUnsatisfiable self.old.formula.clauses }
         ensures entries { (entries : ℕ) → result ≡ Ok (Verdict.Refuted entries) → IsRefutedBy self.old.formula entries }
+        ensures comes { (known : Known) (at count : ℕ) → IsBefore self.old known at count
+            → IfOk result (λ verdict. Comes (outcome_line self.old.formula known at count (line_of bytes.now)) verdict self.new (at + length bytes.now + 1) (count + 1)) }
     {
         let at = self.at;
         self.at = at.saturating_add(bytes.len() as u64 + 1);
@@ -88,7 +102,14 @@ impl<'a> Lines<'a> {
         if !self.line.read(bytes)? {
             return Ok(Verdict::Syntax { at });
         }
-        if !self.take_read()? {
+        if !take_read(
+            self.alloc,
+            &mut self.checker,
+            &mut self.ids,
+            &self.line,
+            &mut self.hints,
+            &mut self.entries,
+        )? {
             return Ok(Verdict::Rejected { line: self.count });
         }
         if self.checker.is_refuted() {

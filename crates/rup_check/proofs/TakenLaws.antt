@@ -1,12 +1,11 @@
 -- A checker that has taken some entries takes one more.
-use Rattle.std.proofs.Common.{arith, ◌≡◌, ◌==◌, ℕ, zero, suc, ◌+◌, ◌-◌, ◌<◌, List, [], ◌∷◌, ◌++◌, length, take, if◌then◌else◌, None, Bool, true, false, ◌||◌, ◌&&◌, Option, Some, All, IsTrue, Result, Ok, replicate, get_or, refl, sym, ap, ◌∙◌, subst, length-append}
+use Rattle.std.proofs.Common.{arith, ◌≡◌, ◌==◌, ℕ, zero, suc, ◌+◌, ◌-◌, ◌<◌, List, [], ◌∷◌, ◌++◌, length, take, if◌then◌else◌, None, Bool, true, false, ◌||◌, ◌&&◌, Option, Some, IsTrue, Result, Ok, replicate, get_or, refl, sym, ap, ◌∙◌, subst, length-append}
 use Rattle.std.specs.List.{slice_get}
 use Rattle.std.specs.Option.{IsSomeAnd}
 use Rattle.std.proofs.Math.Bool.{or-false}
 use Rattle.std.proofs.lemmas.Bool.Decides.{nat_tests}
-use Rattle.clause_base.specs.Clause.{HasVariablesBelow}
 use Rattle.clause_base.specs.Formula.{Cnf, IsUnsatisfiable, IsWithinVariables}
-use Rattle.clause_base.specs.Derivation.{IsDerivation, IsDerivedAt, EndsEmpty, is_derived_after, learns_empty, clauses_of, drops}
+use Rattle.clause_base.specs.Derivation.{IsDerivation, IsDerivedAt, EndsEmpty, is_derived_after, learns_empty, clauses_of}
 use Rattle.clause_base.specs.declared.log.Entry.{Entry}
 use Rattle.clause_base.specs.declared.log.Entry.TheVariants.{Learn, Drop}
 use Rattle.clause_base.specs.declared.memory.Memory.{Memory}

@@ -1,52 +1,57 @@
-use Rattle.std.proofs.Common.{arith, ◌≡◌, ◌-◌, ℕ, List, [], ◌∷◌, true, false, reverse, take, sym, ◌∙◌, ap, Some, None, refl}
+use Rattle.std.proofs.Common.{arith, ◌≡◌, ◌∙◌, [], ◌∷◌, true, false, reverse, take, sym, ap, Some, None}
 use Rattle.std.proofs.lemmas.List.{reverse-append}
 use Rattle.std.proofs.lemmas.Option.{unwrap_or-slice_get}
-use Rattle.clause_base.specs.Literal.{opposite}
 use Rattle.cdcl_rules.specs.State.{clause_at}
 use Rattle.cdcl_rules.specs.Learn.{Learned, walk, resolvent}
-use Rattle.conflict_walk.specs.Resolvent.{ResolventView, literals}
-use Rattle.lit_marks.proofs.Places.{in_places}
-use Rattle.conflict_walk.proofs.Steps.{step_back, learned_same, stop_at}
+use Rattle.number_bits.specs.Bits.{words_have}
+use Rattle.conflict_walk.specs.Resolvent.{literals, seen}
+use Rattle.conflict_walk.proofs.Steps.{learned_same, stop_at}
+use Rattle.conflict_walk.proofs.Walking.{walk_at, walk_end, walk_stops}
 use Rattle.conflict_walk.proofs.walk.walk_back.Goals as goal
 
--- what the walk has come to
-abbrev reached : ResolventView → List ℕ → Learned
-reached r hints = record { clause = literals r; hints = reverse hints }
+pub latest-requires : goal.latest-requires
+latest-requires c = let room = c.walking.invariant.over.room in omega (arith, c.walking.invariant.within, room, c.entries-entries.ensures.short)
 
 pub returns-then-stops-clause-walked : goal.returns-then-stops-clause-walked
 returns-then-stops-clause-walked c =
     let i = c.walking.invariant in
-    let stop = stop_at c.args.trail.now.entries (literals c.walking.resolvent) c.level-level.result c.count.result true c.level-level.ensures (c.count.ensures ∙ i.over.counted) (sym c.stops.ensures ∙ c.if-stops.true) in
-    i.walked ∙ step_back c.args.store.now c.args.trail.now.entries _ c.walking.index c.index-entries-index.result (reached c.walking.resolvent c.walking.hints.items) true true _ c.walking-test.true i.within c.entries-entries.ensures.value c.index-entries-index.is (in_places c.walking.resolvent.on (opposite c.index-entries-index.result.literal) ∙ sym c.has_opposite.ensures ∙ c.if-has_opposite.true) stop refl
+    let w = c.args.trail.now in
+    let stop = stop_at w.entries (literals (seen w c.walking.resolvent)) c.args.level c.count.result true c.requires.level (c.count.ensures ∙ i.over.over.counted) (sym c.stops.ensures ∙ c.if-stops.true) in
+    i.walked ∙ walk_stops c.args.store.now w.entries w.variables (words_have c.walking.resolvent.words) c.walking.index c.in-Some.position (reverse c.walking.hints.items) c.entries-entries.ensures.below c.entries-entries.ensures.apart c.in-Some.ensures i.within stop
 
 pub returns-in-None-clause-walked : goal.returns-in-None-clause-walked
 returns-in-None-clause-walked c =
     let i = c.walking.invariant in
-    let stop = stop_at c.args.trail.now.entries (literals c.walking.resolvent) c.level-level.result c.count.result false c.level-level.ensures (c.count.ensures ∙ i.over.counted) (sym c.stops.ensures ∙ c.if-stops.false) in
-    i.walked ∙ step_back c.args.store.now c.args.trail.now.entries _ c.walking.index c.index-entries-index.result (reached c.walking.resolvent c.walking.hints.items) true false None c.walking-test.true i.within c.entries-entries.ensures.value c.index-entries-index.is (in_places c.walking.resolvent.on (opposite c.index-entries-index.result.literal) ∙ sym c.has_opposite.ensures ∙ c.if-has_opposite.true) stop c.in-None.is
-
-pub walking-preserved-in-Continue-branch-2 : goal.walking-preserved-in-Continue-branch-2
-walking-preserved-in-Continue-branch-2 c =
-    let i = c.walking.invariant in
-    let r = c.in-Some.reason in
-    let here = reached c.walking.resolvent c.walking.hints.items in
-    let new : resolvent here.clause c.index-entries-index.result.literal (clause_at c.args.store.now r) ≡ literals c.resolve.new.self = sym (c.in_ok-resolve-in-Some.ensures.resolved ∙ ap (resolvent here.clause c.index-entries-index.result.literal) (c.clause.ensures ∙ sym (unwrap_or-slice_get c.args.store.now r []))) in
-    let hints : r ∷ here.hints ≡ reverse c.push.new.self.items = sym (ap reverse c.in_ok-push-in-Some.ensures.items ∙ reverse-append c.walking.hints.items (r ∷ [])) in
-    let stop = stop_at c.args.trail.now.entries (literals c.walking.resolvent) c.level-level.result c.count.result false c.level-level.ensures (c.count.ensures ∙ i.over.counted) (sym c.stops.ensures ∙ c.if-stops.false) in
-    record {
-      within = omega (arith, i.within);
-      over = c.in_ok-resolve-in-Some.ensures.over;
-      size = c.in_ok-resolve-in-Some.ensures.len ∙ i.size;
-      walked = i.walked ∙ step_back c.args.store.now c.args.trail.now.entries _ c.walking.index c.index-entries-index.result here true false (Some r) c.walking-test.true i.within c.entries-entries.ensures.value c.index-entries-index.is (in_places c.walking.resolvent.on (opposite c.index-entries-index.result.literal) ∙ sym c.has_opposite.ensures ∙ c.if-has_opposite.true) stop c.in-Some.is
-          ∙ ap (λ (d : Learned). walk c.args.store.now c.args.trail.now.entries (reverse (take (c.walking.index - 1) c.args.trail.now.entries)) d) (learned_same (resolvent here.clause c.index-entries-index.result.literal (clause_at c.args.store.now r)) (literals c.resolve.new.self) (r ∷ here.hints) (reverse c.push.new.self.items) new hints);
-    }
+    let w = c.args.trail.now in
+    let p = c.in-Some.position in
+    let a = c.index-entries-position.result in
+    let hints = reverse c.walking.hints.items in
+    let clause = literals (seen w c.walking.resolvent) in
+    let stop = stop_at w.entries clause c.args.level c.count.result false c.requires.level (c.count.ensures ∙ i.over.over.counted) (sym c.stops.ensures ∙ c.if-stops.false) in
+    let here = walk_at c.args.store.now w.entries c.entries-entries.result.now w.variables (words_have c.walking.resolvent.words) c.walking.index p a hints false None c.entries-entries.ensures.below c.entries-entries.ensures.apart c.in-Some.ensures i.within c.entries-entries.ensures.value c.index-entries-position.is stop c.in-None.is in
+    i.walked ∙ here
 
 pub walking-preserved : goal.walking-preserved
 walking-preserved c =
+    let r = c.in-Some-reason.reason in
     let i = c.walking.invariant in
+    let w = c.args.trail.now in
+    let p = c.in-Some.position in
+    let a = c.index-entries-position.result in
+    let hints = reverse c.walking.hints.items in
+    let clause = literals (seen w c.walking.resolvent) in
+    let stop = stop_at w.entries clause c.args.level c.count.result false c.requires.level (c.count.ensures ∙ i.over.over.counted) (sym c.stops.ensures ∙ c.if-stops.false) in
+    let here = walk_at c.args.store.now w.entries c.entries-entries.result.now w.variables (words_have c.walking.resolvent.words) c.walking.index p a hints false (Some r) c.entries-entries.ensures.below c.entries-entries.ensures.apart c.in-Some.ensures i.within c.entries-entries.ensures.value c.index-entries-position.is stop c.in-Some-reason.is in
+    let new : resolvent clause a.literal (clause_at c.args.store.now r) ≡ literals (seen w c.resolve.new.self) = sym (c.resolve.ensures.resolved ∙ ap (resolvent clause a.literal) (c.clause.ensures ∙ sym (unwrap_or-slice_get c.args.store.now r []))) in
+    let more : r ∷ hints ≡ reverse c.push.new.self.items = sym (ap reverse c.in_ok-push-in-Some-reason.ensures.items ∙ reverse-append c.walking.hints.items (r ∷ [])) in
     record {
-      within = omega (arith, i.within);
-      over = i.over;
-      size = i.size;
-      walked = i.walked ∙ step_back c.args.store.now c.args.trail.now.entries _ c.walking.index c.index-entries-index.result (reached c.walking.resolvent c.walking.hints.items) false _ _ c.walking-test.true i.within c.entries-entries.ensures.value c.index-entries-index.is (in_places c.walking.resolvent.on (opposite c.index-entries-index.result.literal) ∙ sym c.has_opposite.ensures ∙ c.if-has_opposite.false) refl refl;
+      within = omega (arith, i.within, c.in-Some.ensures.0);
+      over = c.resolve.ensures.over;
+      walked = i.walked ∙ here ∙ ap (λ (d : Learned). walk c.args.store.now w.entries (reverse (take p w.entries)) d) (learned_same (resolvent clause a.literal (clause_at c.args.store.now r)) (literals (seen w c.resolve.new.self)) (r ∷ hints) (reverse c.push.new.self.items) new more);
     }
+
+pub returns-clause-walked : goal.returns-clause-walked
+returns-clause-walked c =
+    let i = c.walking.invariant in
+    let w = c.args.trail.now in
+    i.walked ∙ walk_end c.args.store.now w.entries w.variables (words_have c.walking.resolvent.words) c.walking.index (reverse c.walking.hints.items) c.entries-entries.ensures.below c.entries-entries.ensures.apart c.in_default.ensures i.within

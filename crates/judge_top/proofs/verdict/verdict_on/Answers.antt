@@ -6,7 +6,7 @@ use Rattle.judge_top.proofs.verdict.verdict_on.Goals as goal
 pub returns-in_default-clause-refuted : goal.returns-in_default-clause-refuted
 returns-in_default-clause-refuted g c entries e =
     let is : c.finish.result ≡ Refuted entries = cc in
-    subst (λ (f : Cnf). IsUnsatisfiable f.clauses) c.reading.invariant.0 (c.finish.ensures entries is)
+    subst (λ (f : Cnf). IsUnsatisfiable f.clauses) c.reading.invariant.0 (c.finish.ensures.refuted entries is)
 
 pub returns-in_default-2 : goal.returns-in_default-2
 returns-in_default-2 g c = record {

@@ -27,8 +27,7 @@ invariant_of-self c =
     let s = subst (λ (v : SearchView). IsSound v.formula (record v.state { trail = v.state.trail ++ a ∷ [] })) (sym c.self.view_is) c.requires.sound in
     record {
       over = ap (λ (v : PropagatorView). v.variables) c.assign.ensures ∙ i.over;
-      wide = i.wide;
-      empty = i.empty;
+      ready = i.ready;
       going = i.going;
       sound = subst (λ (xs : List Assigned). IsSound t.clauses.formula (state_of t.clauses xs t.standing)) (sym es) s;
       mirrored = λ h g. watched_assign t.clauses t.propagator.entries t.propagator c.assign.new.self a m c.assign.ensures ∙ ap (λ (xs : List Assigned). watched t.clauses xs) (sym es);

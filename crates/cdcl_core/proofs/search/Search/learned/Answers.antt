@@ -1,10 +1,11 @@
-use Rattle.std.proofs.Common.{◌∙◌, ◌<◌, ℕ, List, length, subst, sym}
+use Rattle.std.proofs.Common.{◌∙◌, ◌<◌, ℕ, List, length, ap, subst, sym}
 use Rattle.cdcl_rules.specs.declared.event.Event.TheVariants.{Conflict}
 use Rattle.clause_base.specs.Clause.{IsRising}
 use Rattle.cdcl_rules.specs.State.{clause_at}
 use Rattle.cdcl_rules.specs.Trail.{AllFalse}
 use Rattle.cdcl_rules.specs.Learn.{Learned}
 use Rattle.cdcl_trail.specs.Mirrored.{TrailView}
+use Rattle.conflict_walk.specs.Analysis.{IsReady}
 use Rattle.conflict_walk.specs.Clauses.{all_clauses}
 use Rattle.conflict_walk.specs.Walk.{IsReasoned}
 use Rattle.cdcl_core.specs.Search.{SearchView, IsNextEvent, state_of}
@@ -12,6 +13,13 @@ use Rattle.cdcl_core.proofs.Keeps.{conflict_is, learned_is}
 use Rattle.cdcl_core.proofs.Watching.{watched_all}
 use Rattle.cdcl_core.proofs.Reasons.{sound_reasoned}
 use Rattle.cdcl_core.proofs.search.Search.learned.Goals as goal
+
+pub learn-requires-clause-ready : goal.learn-requires-clause-ready
+learn-requires-clause-ready c =
+    let t = c.self.inside in
+    let sane = ap (λ (v : SearchView). v.spoilt) c.self.view_is ∙ c.requires.sane in
+    let over = ap (λ (v : TrailView). v.variables) c.trail.ensures ∙ c.self.invariant.over in
+    subst (λ (n : ℕ). IsReady n t.analysis) (sym over) (c.self.invariant.ready sane)
 
 pub learn-requires-clause-reasoned : goal.learn-requires-clause-reasoned
 learn-requires-clause-reasoned c =

@@ -1,11 +1,10 @@
-use Rattle.std.proofs.Common.{◌≡◌, ◌==◌, drop, fold, length, filter, not}
+use Rattle.std.proofs.Common.{◌≡◌, ◌==◌, drop, fold, filter, not}
 use Rattle.clause_base.specs.Clause.{put}
-use Rattle.conflict_walk.specs.Resolvent.{literals, IsOver}
+use Rattle.conflict_walk.specs.Resolvent.{literals, seen, AreMarks}
 use Rattle.conflict_walk.proofs.resolvent.Resolvent.put_others.Given as goal
 
 abbrev pub invariant-loop-place : goal.invariant-loop-place
 invariant-loop-place l = record {
-  over : IsOver l.trail l.self;
-  size : length l.self.on ≡ length l.initial.self.on;
-  rest : fold put (literals l.initial.self) (filter (λ m. not (m == l.but)) l.lits) ≡ fold put (literals l.self) (filter (λ m. not (m == l.but)) (drop l.place l.lits));
+  over : AreMarks l.trail l.self;
+  rest : fold put (literals (seen l.trail l.initial.self)) (filter (λ m. not (m == l.but)) l.lits) ≡ fold put (literals (seen l.trail l.self)) (filter (λ m. not (m == l.but)) (drop l.place l.lits));
 }
