@@ -2,6 +2,7 @@
 use Rattle.std.proofs.Common.{◌≡◌, ◌<◌, ◌∙◌, ℕ, Bool, List, length, Result, Ok, Err, ap, subst}
 use Rattle.std.specs.Prelude.{IfOk}
 use Rattle.std.specs.List.{AllByRecursion}
+use Rattle.std.proofs.lemmas.List.{length-map}
 use Rattle.clause_base.specs.Formula.{Cnf, IsUnsatisfiable, assignment_of}
 use Rattle.gt_core.specs.Task.{Task}
 use Rattle.gt_core.specs.Clauses.{KnownClauses}

@@ -253,7 +253,7 @@ module _ (heard hears : List Heard) (failed fails : List (List ℕ)) (faults ris
           claims.of_grounded laws task g is k.clauses k.components k.ordered (λ h clauses components. text ≡ formula_text (word_of how) horizon (formula_at (places_by how) (form_of h.task clauses components) horizon))
           (listed_is text _ end k.holds same)
 
-  pub is_planned : PlanLaws → IsDue → (text domain problem model : List ℕ) (horizon : ℕ) (how : Stepping) → status ≡ 0 → Printed before after text → requested words ≡ Some (models domain problem horizon model how)
+  pub is_planned : PlanLaws → IsDue → (text domain problem name : List ℕ) (horizon : ℕ) (how : Stepping) → status ≡ 0 → Printed before after text → requested words ≡ Some (models domain problem horizon name how)
       → OfFiles heard hears domain problem (PlanRunsIn how horizon text)
   is_planned laws due text domain problem name horizon how zero printed is = of_request (models domain problem horizon name how) (PlanRunsIn how horizon text) due zero is step
     where

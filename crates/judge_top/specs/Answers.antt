@@ -126,10 +126,10 @@ IsGiven variables before now (given.Values reader) = length reader ≡ variables
 -- What was made of a model's text, over a formula, where values stand for these steps: it could not be read; it is none; some values
 -- of its variables leave a clause untrue, and this is the first; or these are the steps that a model of it stands for.
 abbrev pub IsToldOf : Cnf → (List Bool → List (List ℕ)) → ℕ → ℕ → Told → Type 0
-IsToldOf formula stands before now told.Unread = Rose before now
-IsToldOf formula stands before now (told.NoText at) = Unit {0}
-IsToldOf formula stands before now (told.NoModel clause) = (values : List Bool) × (length values ≡ formula.variables) × IsFirstFalse (assignment_of values) formula.clauses clause
-IsToldOf formula stands before now (told.Plan steps) = (values : List Bool) × IsModel formula values × (steps ≡ stands values)
+IsToldOf cnf stands before now told.Unread = Rose before now
+IsToldOf cnf stands before now (told.NoText at) = Unit {0}
+IsToldOf cnf stands before now (told.NoModel clause) = (values : List Bool) × (length values ≡ cnf.variables) × IsFirstFalse (assignment_of values) cnf.clauses clause
+IsToldOf cnf stands before now (told.Plan steps) = (values : List Bool) × IsModel cnf values × (steps ≡ stands values)
 
 -- the same over the formula of a horizon
 abbrev pub IsTold : (Task → List (List ℕ) → List (List ℕ × ℕ)) → ℕ → ℕ → ℕ → Told → OrderedTask → Type 0

@@ -26,12 +26,16 @@ module _ (faults rises : ℕ) where
   abbrev pub IsUnopened : Ended → Type 0
   IsUnopened end = (plain : Ending) × IsUnread faults rises plain × (end ≡ Plain plain)
 
+  -- what they come to with a model: it could not be opened, or they, and it, decide the ending
+  abbrev pub OfModel : Stepping → ℕ → Ended → List ℕ → List ℕ → Type 0
+  OfModel s h end first second = ((end ≡ Unread) × Rose faults rises) ⊎ OnceReady first second (AnswersModel s h faults rises) end
+
   -- What the bytes of the domain and of the problem come to: the proof, or the model, could not be opened, or they, and it, decide the
   -- ending.
   abbrev pub Answers : Seen → Ended → List ℕ → List ℕ → Type 0
   Answers (formulas d p h s) end first second = OnceReady first second (AnswersFormula s h) end
   Answers (judges d p h l s) end first second = IsUnopened end ⊎ OnceReady first second (AnswersJudge s h faults rises) end
-  Answers (models d p h m s) end first second = ((end ≡ Unread) × Rose faults rises) ⊎ OnceReady first second (AnswersModel s h faults rises) end
+  Answers (models d p h m s) end first second = OfModel s h end first second
 
 -- What the shelf handed over before a run and after it, the names at which it failed, and the counts of the tape's faults.
 module _ (heard hears : List Heard) (failed fails : List (List ℕ)) (faults rises : ℕ) where

@@ -6,17 +6,17 @@ ghost use Rattle.plan_files.specs.Limits.{most_bytes};
 ghost use Rattle.judge_words.specs.Requested.{requested, command_named};
 ghost use Rattle.judge_words.specs.Seen.{seen, horizon_of};
 ghost use Rattle.judge_top.specs.Answers.{EndsWith};
-ghost use Rattle.judge_top.specs.Causes.{Answers, ComesFor, Comes, names_in, two_of};
+ghost use Rattle.judge_top.specs.Causes.{Answers, OfModel, ComesFor, Comes, names_in, two_of};
 
 use crate::answer::{answer_formula, answer_judge, answer_model};
-use crate::model::open_model;
 use crate::verdict::open;
 use judge_endings::Ended;
 use judge_words::{Request, read_words};
-use pl_io::{Bytes, Shelf, Tape};
+use pl_io::{Bytes, Shelf, TakeError, Tape};
 use plan_files::parts::two_of;
 use plan_files::stop::Stop;
 use plan_files::take::take_all;
+use plan_words::Stepping;
 use std::alloc::Global;
 use std::thread::Threads;
 
@@ -104,11 +104,30 @@ fn answer<H: Threads + Sync, T: Tape>(
             model,
             stepping,
             ..
-        } => {
-            if !open_model(tape, model)? {
-                return Ok(Ended::Unread);
-            }
-            answer_model(rt, alloc, first, second, *horizon, *stepping, tape)
-        }
+        } => { answer_opened(rt, alloc, first, second, *horizon, *stepping, model, tape) }
+    }
+}
+
+// The same of the file of a model, which is opened first.
+fn answer_opened<H: Threads + Sync, T: Tape>(
+    rt: &H,
+    alloc: Global,
+    first: &[u8],
+    second: &[u8],
+    horizon: u32,
+    steps: Stepping,
+    model: &str,
+    tape: &mut T,
+) -> Result<Ended, Stop>
+    requires domain_fits { length first.now ≤ most_bytes }
+    requires problem_fits { length second.now ≤ most_bytes }
+    requires horizon { horizon ≤ 255 }
+    ensures cause { EndsWith (λ end. OfModel (T.faults tape.old) (T.faults tape.new) steps horizon end first.now second.now) result }
+    ensures tape_faults { T.faults tape.old ≤ T.faults tape.new }
+{
+    match tape.open(model) {
+        Ok(()) => answer_model(rt, alloc, first, second, horizon, steps, tape),
+        Err(TakeError::Failed) => Ok(Ended::Unread),
+        Err(TakeError::Memory) => Err(Stop::Memory),
     }
 }

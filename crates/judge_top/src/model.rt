@@ -1,5 +1,5 @@
 //! What is made of the text of a model that a tape gives.
-ghost use Rattle.std.specs.Prelude.{◌≡◌, ◌≤◌, ◌<◌, length, IfOk, Ok, Bool, List};
+ghost use Rattle.std.specs.Prelude.{◌≡◌, ◌≤◌, ◌<◌, ℕ, length, IfOk};
 ghost use Rattle.clause_base.specs.Formula.{IsModel};
 ghost use Rattle.pl_io.specs.Outside.{Rose};
 ghost use Rattle.plan_files.specs.Ends.{StopsBy};
@@ -51,18 +51,6 @@ pub enum Given {
     NoText { at: u64 },
     /// Its values.
     Values(Reader),
-}
-
-/// Opens the text of a model, and says whether it could be.
-pub fn open_model<T: Tape>(tape: &mut T, name: &str) -> Result<bool, Memory>
-    ensures unread { result ≡ Ok Bool.false → Rose (T.faults tape.old) (T.faults tape.new) }
-    ensures later { T.faults tape.old ≤ T.faults tape.new }
-{
-    match tape.open(name) {
-        Ok(()) => Ok(true),
-        Err(TakeError::Failed) => Ok(false),
-        Err(TakeError::Memory) => Err(Memory),
-    }
 }
 
 // What the text that was read to its end is.
