@@ -19,6 +19,13 @@ pub enum Ended {
     Rejected { line: u64 },
     /// A line of a proof is none: the offset of its first byte.
     Syntax { at: u64 },
+    /// This clause of a formula, counted from 0, is the first that the values of a model's file do not make true.
+    NoModel { clause: u32 },
+    /// A model's file is none: the offset of the first byte of its first line that is none or contradicts the lines before it, or how
+    /// long the file is, where its values have no end.
+    NoText { at: u64 },
+    /// A model's file could not be read.
+    Unread,
     /// The words are none that are taken.
     Usage,
 }
@@ -31,8 +38,9 @@ impl Ended {
         match self {
             Ended::Plain(ending) => ending.status(),
             Ended::Refuted { .. } => 0,
-            Ended::Rejected { .. } => 1,
-            Ended::Syntax { .. } => 3,
+            Ended::Rejected { .. } | Ended::NoModel { .. } => 1,
+            Ended::Syntax { .. } | Ended::NoText { .. } => 3,
+            Ended::Unread => 5,
             Ended::Usage => 7,
         }
     }
@@ -50,7 +58,13 @@ impl Ended {
             }
             Ended::Rejected { line } => of_number(alloc, "; rejected line ", line),
             Ended::Syntax { at } => of_number(alloc, "; refused syntax proof ", at),
-            Ended::Usage => Ok(Due::Fixed("; usage: formula or judge\n")),
+            Ended::NoModel { clause } => {
+                let clause = u64::from(clause) + 1;
+                of_number(alloc, "; no model clause ", clause)
+            }
+            Ended::NoText { at } => of_number(alloc, "; refused syntax model ", at),
+            Ended::Unread => Ok(Due::Fixed("; read fault model\n")),
+            Ended::Usage => Ok(Due::Fixed("; usage: formula, judge or model\n")),
         }
     }
 }

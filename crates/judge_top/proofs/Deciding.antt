@@ -1,12 +1,19 @@
 -- How the files of a run come to an ending.
-use Rattle.std.proofs.Common.{◌≡◌, ◌≤◌, ℕ, List, [], ◌∷◌, ◌++◌, refl, sym, ap, ◌∙◌, arith, inl, inr}
+use Rattle.std.proofs.Common.{◌≡◌, ◌≤◌, ℕ, List, [], ◌∷◌, ◌++◌, refl, sym, ap, ap₂, subst, ◌∙◌, arith, inl, inr}
 use Rattle.pl_io.specs.Outside.{Heard, whole, Rose}
 use Rattle.plan_endings.specs.declared.ending.File.{File}
-use Rattle.plan_files.specs.Files.{AreTaken}
+use Rattle.plan_files.specs.Limits.{file_at}
+use Rattle.plan_files.specs.Files.{AreTaken, StopsFrom}
+use Rattle.plan_words.specs.Seen.{grounds}
+use Rattle.plan_endings.specs.declared.ending.Ending.{Ending}
+use Rattle.judge_words.specs.Seen.{Seen, domain_of, problem_of}
+use Rattle.judge_endings.specs.declared.ended.Ended.TheVariants.{Plain}
+use Rattle.judge_top.specs.Causes.{Answers, ComesFor, two_of}
 use Rattle.plan_files.proofs.Hearing.{two_taken}
 use Rattle.plan_words.specs.declared.request.Stepping.{Stepping}
 use Rattle.judge_endings.specs.declared.ended.Ended.{Ended}
-use Rattle.judge_top.specs.Answers.{OnceReady, not_ready, ready, AnswersJudge, too_large, unread, judged}
+use Rattle.judge_top.specs.Answers.{OnceReady, not_ready, ready, AnswersJudge, AnswersModel, too_large, unread, judged, model}
+use Rattle.judge_top.specs.declared.model.Told.TheVariants as told
 
 -- all of two files, under their names
 wholes : List ℕ → List ℕ → List (List ℕ) → List Heard
@@ -31,3 +38,33 @@ judged_before first second s h before middle now le end (not_ready plain stops e
 judged_before first second s h before middle now le end (ready task g are is (too_large plain over e)) = ready task g are is (too_large plain over e)
 judged_before first second s h before middle now le end (ready task g are is (unread plain un e)) = ready task g are is (unread plain (un.0, rose_before before middle now le un.1) e)
 judged_before first second s h before middle now le end (ready task g are is (judged verdict e none)) = ready task g are is (judged verdict e none)
+
+pub model_before : (first second : List ℕ) (s : Stepping) (h : ℕ) (before middle now : ℕ) → before ≤ middle → (end : Ended) → OnceReady first second (AnswersModel s h middle now) end → OnceReady first second (AnswersModel s h before now) end
+model_before first second s h before middle now le end (not_ready plain stops e) = not_ready plain stops e
+model_before first second s h before middle now le end (ready task g are is (too_large plain over e)) = ready task g are is (too_large plain over e)
+model_before first second s h before middle now le end (ready task g are is (model told.Unread known small e)) =
+    ready task g are is (model told.Unread (record { clauses = known.clauses; components = known.components; ordered = known.ordered; holds = rose_before before middle now le known.holds }) small e)
+model_before first second s h before middle now le end (ready task g are is (model (told.NoText at) known small e)) =
+    ready task g are is (model (told.NoText at) (record { clauses = known.clauses; components = known.components; ordered = known.ordered; holds = tt }) small e)
+model_before first second s h before middle now le end (ready task g are is (model (told.NoModel clause) known small e)) =
+    ready task g are is (model (told.NoModel clause) (record { clauses = known.clauses; components = known.components; ordered = known.ordered; holds = known.holds }) small e)
+model_before first second s h before middle now le end (ready task g are is (model (told.Plan steps) known small e)) =
+    ready task g are is (model (told.Plan steps) (record { clauses = known.clauses; components = known.components; ordered = known.ordered; holds = known.holds }) small e)
+
+-- ---- the names of the two files, as a request gives them
+
+abbrev IsStopped : List Heard → List Heard → List (List ℕ) → List (List ℕ) → List ℕ → List ℕ → Ending → Type 0
+IsStopped heard hears failed fails d p end = (took : List Heard) × (hears ≡ heard ++ took) × StopsFrom failed fails (file_at (grounds d p)) 0 (d ∷ p ∷ []) took end
+
+module _ (request : Seen) (d p : List ℕ) (domain : d ≡ domain_of request) (problem : p ≡ problem_of request) where
+  pub two_named : d ∷ p ∷ [] ≡ two_of request
+  two_named = ap₂ (λ (x y : List ℕ). x ∷ y ∷ []) domain problem
+
+  module _ (heard hears : List Heard) (failed fails : List (List ℕ)) (faults rises : ℕ) where
+    pub stops_for : (end : Ending) → IsStopped heard hears failed fails d p end → ComesFor heard hears failed fails faults rises request (Plain end)
+    stops_for end h =
+        let k = subst (λ (x : List ℕ). IsStopped heard hears failed fails x (problem_of request) end) domain (subst (λ (y : List ℕ). IsStopped heard hears failed fails d y end) problem h) in
+        inl (end, k.0, k.1, k.2, refl)
+
+    pub taken_for : (end : Ended) (first second : List ℕ) → hears ≡ heard ++ whole d first ∷ whole p second ∷ [] → Answers faults rises request end first second → ComesFor heard hears failed fails faults rises request end
+    taken_for end first second is h = inr (first, second, is ∙ ap₂ (λ (x y : List ℕ). heard ++ whole x first ∷ whole y second ∷ []) domain problem, h)

@@ -1,11 +1,13 @@
 -- What is known of a form of a ground task is known of the task.
-use Rattle.std.proofs.Common.{◌≡◌, ◌<◌, ◌∙◌, ℕ, Bool, List, Result, Ok, Err, ap, subst}
+use Rattle.std.proofs.Common.{◌≡◌, ◌<◌, ◌∙◌, ℕ, Bool, List, length, Result, Ok, Err, ap, subst}
 use Rattle.std.specs.Prelude.{IfOk}
-use Rattle.clause_base.specs.Formula.{Cnf, IsUnsatisfiable}
+use Rattle.std.specs.List.{AllByRecursion}
+use Rattle.std.proofs.lemmas.List.{length-map}
+use Rattle.clause_base.specs.Formula.{Cnf, IsUnsatisfiable, assignment_of}
 use Rattle.gt_core.specs.Task.{Task}
 use Rattle.gt_core.specs.Clauses.{KnownClauses}
 use Rattle.gt_core.specs.Published.{IsPublished, order_of}
-use Rattle.step_laws.specs.Form.{OrderedTask, AreSets}
+use Rattle.step_laws.specs.Form.{OrderedTask, AreSets, steps_at}
 use Rattle.step_encoding.specs.Limits.{most_literals}
 use Rattle.step_encoding.specs.Numbers.{literals_of}
 use Rattle.two_invariants.specs.Closed.{AreInvariants}
@@ -20,7 +22,11 @@ use Rattle.plan_files.specs.declared.stop.Stop.TheVariants.{Ends, Memory}
 use Rattle.plan_files.specs.Ends.{StopsBy}
 use Rattle.judge_endings.specs.declared.ended.Ended.{Ended}
 use Rattle.judge_endings.specs.declared.ended.Ended.TheVariants.{Plain}
-use Rattle.judge_top.specs.Answers.{OfKnown, IsFormula, TellsTooMany, HasNone, word_of}
+use Rattle.judge_top.specs.Answers.{OfKnown, IsFormula, IsTooMany, TellsTooMany, IsToldOf, IsTold, IsBelow, HasNone, word_of}
+use Rattle.judge_top.specs.declared.model.Told.{Told}
+use Rattle.judge_top.specs.declared.model.Told.TheVariants as told
+use Rattle.grounding.specs.Grounded.{Grounded, IsGrounded}
+use Rattle.pd_model.specs.declared.parts.Parts.{Parts}
 
 -- a task with clauses that are known of some facts, and components
 abbrev pub made_of : Task → KnownClauses → List (List ℕ) → OrderedTask
@@ -41,11 +47,25 @@ module _ (places : Task → List (List ℕ) → List (List ℕ × ℕ)) (is_plan
   formulas (Ok f) is none = of_known (IsFormula places is_plan horizon f) (is, none)
   formulas (Err e) is none = tt
 
-  pub too_many : {A : Type 0} (r : Result A Stop) → StopsBy (λ end. (count : ℕ) × (end ≡ TooLarge horizon count) × (most_literals < count) × (count ≡ literals_of (formula_at places form horizon))) r
+  pub too_many : {A : Type 0} (r : Result A Stop) → StopsBy (IsTooMany (formula_at places form horizon) horizon) r
       → StopsBy (TellsTooMany places horizon task) r
   too_many (Ok x) h = tt
   too_many (Err (Ends end)) h = (h.0, h.1, of_known (λ form. (most_literals < h.0) × (h.0 ≡ literals_of (formula_at places form horizon))) (h.2, h.3))
   too_many (Err Memory) h = tt
+
+  pub told_known : (before now : ℕ) (r : Result Told Stop) → IfOk r (IsToldOf (formula_at places form horizon) (λ values. steps_at form (places form.task form.components) horizon (assignment_of values)) before now)
+      → IfOk r (λ said. OfKnown task (IsTold places horizon before now said))
+  told_known before now (Ok said) is = of_known (IsTold places horizon before now said) is
+  told_known before now (Err e) is = tt
+
+-- the actions of a ground task have calls
+pub calls_below : (task : Parts) (g : Grounded) → IsGrounded task g → (said : Told) → IsBelow (length g.task.actions) said → IsBelow (length g.calls) said
+calls_below task g is told.Unread below = tt
+calls_below task g is (told.NoText at) below = tt
+calls_below task g is (told.NoModel clause) below = tt
+calls_below task g is (told.Plan steps) below =
+    let long : length g.task.actions ≡ length g.calls = ap (λ (t : Task). length t.actions) is.task ∙ length-map g.calls _ in
+    subst (λ (n : ℕ). AllByRecursion (λ (set : List ℕ). AllByRecursion (λ (a : ℕ). a < n) set) steps) long below
 
 -- the text of the formula of a task
 pub tells : (how : Stepping) (horizon : ℕ) (task : Task) (f : Cnf) (word text : List ℕ) → word ≡ word_of how → text ≡ formula_text word horizon f → OfKnown task (IsFormula (places_by how) (is_plan_by how) horizon f)

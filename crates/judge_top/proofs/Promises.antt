@@ -25,15 +25,21 @@ use Rattle.plan_tasks.specs.Tasks.{AreTask, IsReady, StopsTask, refused, past, R
 use Rattle.plan_tasks.specs.Claims.{Printed, OfFiles}
 use Rattle.plan_tasks.specs.Laws.{TaskLaws}
 use Rattle.plan_tasks.proofs.Claims as claims
+use Rattle.plan_report.specs.Report.{plan_text}
+use Rattle.plan_report.specs.Laws.{IsSmallPlan}
+use Rattle.told_plans.specs.Laws.{PlanLaws}
+use Rattle.told_plans.proofs.Runs.{model_runs}
 use Rattle.plan_tasks.proofs.Printing.{printed_is}
-use Rattle.judge_words.specs.Seen.{Seen, formulas, judges}
+use Rattle.judge_words.specs.Seen.{Seen, formulas, judges, models, domain_of, problem_of}
 use Rattle.judge_words.specs.Requested.{requested}
 use Rattle.judge_endings.specs.Ended.{status_of, text_of}
 use Rattle.judge_endings.specs.declared.ended.Ended.{Ended}
-use Rattle.judge_endings.specs.declared.ended.Ended.TheVariants.{Plain, Refuted, Rejected, Syntax, Usage}
-use Rattle.judge_top.specs.Answers.{OnceReady, not_ready, ready, AnswersFormula, AnswersJudge, too_large, formula, unread, judged, ended_by, IsUnread, OfKnown, HasNone, word_of}
-use Rattle.judge_top.specs.Causes.{Comes, no_request, asked, ComesFor, StopsAt, OfTaken, IsUnopened, HasFault, names_in, two_of}
-use Rattle.judge_top.specs.Headline.{IsProvedNone, TellsFormula}
+use Rattle.judge_endings.specs.declared.ended.Ended.TheVariants.{Plain, Refuted, Rejected, Syntax, Unread, Usage}
+use Rattle.judge_top.specs.Answers.{OnceReady, not_ready, ready, AnswersFormula, AnswersJudge, AnswersModel, too_large, formula, unread, judged, model, ended_by, IsUnread, OfKnown, HasNone, TellsTooMany, word_of}
+use Rattle.judge_top.specs.declared.model.Told.{Told}
+use Rattle.judge_top.specs.declared.model.Told.TheVariants as tolds
+use Rattle.judge_top.specs.Causes.{Answers, Comes, no_request, asked, ComesFor, StopsAt, OfTaken, IsUnopened, HasFault, names_in, two_of}
+use Rattle.judge_top.specs.Headline.{IsProvedNone, PlanRunsIn, TellsFormula}
 
 -- ---- statuses of what stops a run
 
@@ -122,12 +128,26 @@ module _ (heard hears : List Heard) (failed fails : List (List ℕ)) (faults ris
   judge_low names first second s h end (ready task g are is (unread plain_end un e)) = unread_low names plain_end end un e
   judge_low names first second s h end (ready task g are is (judged verdict e none)) = inr (let low = verdict_low h verdict in let same = ap status_of e in omega (arith, low, same))
 
+  model_low : (names : List (List ℕ)) (first second : List ℕ) (s : Stepping) (h : ℕ) (end : Ended) → OnceReady first second (AnswersModel s h faults rises) end → IsLow names failed fails faults rises end
+  unfolding IsLow
+  model_low names first second s h end (not_ready plain_end stops e) = inr (not_ready_low first second plain_end end stops e).1
+  model_low names first second s h end (ready task g are is (too_large plain_end over e)) = inr (let four = ap status_of e ∙ ap plain.status_of over.1 in omega (arith, four))
+  model_low names first second s h end (ready task g are is (model tolds.Unread known small e)) = inl (ap status_of e, inr known.holds)
+  model_low names first second s h end (ready task g are is (model (tolds.NoText at) known small e)) = inr (let three = ap status_of e in omega (arith, three))
+  model_low names first second s h end (ready task g are is (model (tolds.NoModel clause) known small e)) = inr (let one = ap status_of e in omega (arith, one))
+  model_low names first second s h end (ready task g are is (model (tolds.Plan steps) known small e)) = inr (let zero = ap status_of e in omega (arith, zero))
+
+  answers_low : (names : List (List ℕ)) (request : Seen) (first second : List ℕ) (end : Ended) → Answers faults rises request end first second → IsLow names failed fails faults rises end
+  unfolding IsLow
+  answers_low names (formulas d p h s) first second end k = formula_low names first second s h end k
+  answers_low names (judges d p h l s) first second end (inl un) = unread_low names un.0 end un.1 un.2
+  answers_low names (judges d p h l s) first second end (inr k) = judge_low names first second s h end k
+  answers_low names (models d p h m s) first second end (inl un) = inl (ap status_of un.0, inr un.1)
+  answers_low names (models d p h m s) first second end (inr k) = model_low names first second s h end k
+
   request_low : (request : Seen) (end : Ended) → ComesFor heard hears failed fails faults rises request end → IsLow (two_of request) failed fails faults rises end
-  request_low (formulas d p h s) end (inl stops) = stop_low d p end stops
-  request_low (formulas d p h s) end (inr taken) = formula_low (d ∷ p ∷ []) taken.0 taken.1 s h end taken.3
-  request_low (judges d p h l s) end (inl stops) = stop_low d p end stops
-  request_low (judges d p h l s) end (inr (inl un)) = unread_low (d ∷ p ∷ []) un.0 end un.1 un.2
-  request_low (judges d p h l s) end (inr (inr taken)) = judge_low (d ∷ p ∷ []) taken.0 taken.1 s h end taken.3
+  request_low request end (inl stops) = stop_low (domain_of request) (problem_of request) end stops
+  request_low request end (inr taken) = answers_low (two_of request) request taken.0 taken.1 end taken.3
 
   names_of : (words : List (List ℕ)) (request : Seen) → requested words ≡ Some request → two_of request ≡ names_in words
   names_of words request is = sym (ap (λ (o : Option Seen). elim o as (λ _. List (List ℕ)) [ None ↦ [] | Some r ↦ two_of r ]) is)
@@ -173,57 +193,85 @@ module _ (heard hears : List Heard) (failed fails : List (List ℕ)) (faults ris
       let same : other ≡ request = (let both : Some other ≡ Some request = sym was ∙ is in cc) in
       subst (λ (r : Seen). ComesFor heard hears failed fails faults rises r end) same h
 
-  low_only : {A : Type 0} (names : List (List ℕ)) (end : Ended) → status_of end ≡ 0 → (d p : List ℕ) → StopsAt heard hears failed fails faults rises d p end → A
-  unfolding IsLow
-  low_only names end zero d p h = elim (files_between failed fails (file_at (grounds d p)) 0 (d ∷ p ∷ []) h.1 h.0 h.3) [
+  low_only : {A : Type 0} (end : Ended) → status_of end ≡ 0 → (d p : List ℕ) → StopsAt heard hears failed fails faults rises d p end → A
+  low_only end zero d p h = elim (files_between failed fails (file_at (grounds d p)) 0 (d ∷ p ∷ []) h.1 h.0 h.3) [
     | inl k ↦ absurd (let five = ap status_of h.4 ∙ k.0 in omega (arith, five, zero))
     | inr four ↦ absurd (let is = ap status_of h.4 ∙ four in omega (arith, is, zero))
   ]
 
+  -- with 0 the two files of a request are a task, of which holds what its answer gives
+  of_request : (request : Seen) (claim : Parts → Type 0) → IsDue → status ≡ 0 → requested words ≡ Some request
+      → ((end : Ended) → status_of end ≡ 0 → after ≡ appended before (text_of end) → (first second : List ℕ) → Answers faults rises request end first second → (task : Parts) × AreTask first second task × claim task)
+      → OfFiles heard hears (domain_of request) (problem_of request) claim
+  of_request request claim due zero is gives =
+      let d = due_at 0 due zero (omega arith) in
+      step d.0 d.1 d.3 (comes_for request d.0 is d.2)
+    where
+      step : (end : Ended) → status_of end ≡ 0 → after ≡ appended before (text_of end) → ComesFor heard hears failed fails faults rises request end → OfFiles heard hears (domain_of request) (problem_of request) claim
+      step end at printed (inl stops) = low_only end at (domain_of request) (problem_of request) stops
+      step end at printed (inr taken) = let r = gives end at printed taken.0 taken.1 taken.3 in (taken.0, taken.1, taken.2, r.0, r.1, r.2)
+
+  -- so do they where they are ready
+  of_ready : (claim : Parts → Type 0) (answers : Parts → Grounded → Ended → Type 0) (end : Ended) → status_of end ≡ 0 → (first second : List ℕ) → OnceReady first second answers end
+      → ((task : Parts) (g : Grounded) → IsReady task g → answers task g end → claim task) → (task : Parts) × AreTask first second task × claim task
+  of_ready claim answers end at first second (not_ready plain_end stops e) gives = absurd (let b = task_between first second plain_end stops in let same = ap status_of e in omega (arith, b.0, same, at))
+  of_ready claim answers end at first second (ready task g are is k) gives = (task, are, gives task g is k)
+
+  -- no limit, and no fault of the tape, has that status
+  not_limit : {A : Type 0} (how : Stepping) (horizon : ℕ) (g : Grounded) (end : Ended) → status_of end ≡ 0 → (plain_end : Ending) → TellsTooMany (places_by how) horizon g.task plain_end → end ≡ Plain plain_end → A
+  not_limit how horizon g end at plain_end over e = absurd (let four = ap status_of e ∙ ap plain.status_of over.1 in omega (arith, four, at))
+
+  not_unread : {A : Type 0} (end : Ended) → status_of end ≡ 0 → (plain_end : Ending) → IsUnread faults rises plain_end → end ≡ Plain plain_end → A
+  not_unread end at plain_end un e = absurd (let five = ap status_of e ∙ ap plain.status_of un.0 in omega (arith, five, at))
+
   pub is_judged : TaskLaws → IsDue → (domain problem proof : List ℕ) (horizon : ℕ) (how : Stepping) → status ≡ 0 → requested words ≡ Some (judges domain problem horizon proof how)
       → OfFiles heard hears domain problem (IsProvedNone how horizon)
-  is_judged laws due domain problem proof horizon how zero is =
-      let d = due_at 0 due zero (omega arith) in
-      step d.0 d.1 (comes_for (judges domain problem horizon proof how) d.0 is d.2)
+  is_judged laws due domain problem proof horizon how zero is = of_request (judges domain problem horizon proof how) (IsProvedNone how horizon) due zero is step
     where
-      proved : (end : Ended) → status_of end ≡ 0 → (first second : List ℕ) → OnceReady first second (AnswersJudge how horizon faults rises) end
-          → (task : Parts) × AreTask first second task × IsProvedNone how horizon task
-      proved end at first second (not_ready plain_end stops e) = absurd (let b = task_between first second plain_end stops in let same = ap status_of e in omega (arith, b.0, same, at))
-      proved end at first second (ready task g are is (too_large plain_end over e)) = absurd (let four = ap status_of e ∙ ap plain.status_of over.1 in omega (arith, four, at))
-      proved end at first second (ready task g are is (unread plain_end un e)) = absurd (let five = ap status_of e ∙ ap plain.status_of un.0 in omega (arith, five, at))
-      proved end at first second (ready task g are is (judged verdict e none)) =
+      proved : (end : Ended) → status_of end ≡ 0 → (task : Parts) (g : Grounded) → IsReady task g → AnswersJudge how horizon faults rises task g end → IsProvedNone how horizon task
+      proved end at task g is (too_large plain_end over e) = not_limit how horizon g end at plain_end over e
+      proved end at task g is (unread plain_end un e) = not_unread end at plain_end un e
+      proved end at task g is (judged verdict e none) =
           let v = verdict_zero horizon verdict (sym (ap status_of e) ∙ at) in
-          let k = none v.0 v.1 in (
-            task,
-            are,
-            (claims.no_step_plan laws task g is k.clauses k.components k.ordered how horizon k.holds, claims.no_plan laws task g is k.clauses k.components k.ordered how horizon k.holds),
-          )
+          let k = none v.0 v.1 in
+          (claims.no_step_plan laws task g is k.clauses k.components k.ordered how horizon k.holds, claims.no_plan laws task g is k.clauses k.components k.ordered how horizon k.holds)
 
-      step : (end : Ended) → status_of end ≡ 0 → ComesFor heard hears failed fails faults rises (judges domain problem horizon proof how) end → OfFiles heard hears domain problem (IsProvedNone how horizon)
-      step end at (inl stops) = low_only [] end at domain problem stops
-      step end at (inr (inl un)) = absurd (let five = ap status_of un.2 ∙ ap plain.status_of un.1.0 in omega (arith, five, at))
-      step end at (inr (inr taken)) = let r = proved end at taken.0 taken.1 taken.3 in (taken.0, taken.1, taken.2, r.0, r.1, r.2)
+      step : (end : Ended) → status_of end ≡ 0 → after ≡ appended before (text_of end) → (first second : List ℕ) → Answers faults rises (judges domain problem horizon proof how) end first second
+          → (task : Parts) × AreTask first second task × IsProvedNone how horizon task
+      step end at printed first second (inl un) = not_unread end at un.0 un.1 un.2
+      step end at printed first second (inr k) = of_ready (IsProvedNone how horizon) (AnswersJudge how horizon faults rises) end at first second k (proved end at)
 
   pub is_told : TaskLaws → IsDue → (text domain problem : List ℕ) (horizon : ℕ) (how : Stepping) → status ≡ 0 → Printed before after text → requested words ≡ Some (formulas domain problem horizon how)
       → OfFiles heard hears domain problem (TellsFormula how horizon text)
   is_told laws due text domain problem horizon how zero printed is =
-      let d = due_at 0 due zero (omega arith) in
-      step d.0 d.1 (printed_is before after text (text_of d.0) printed d.3) (comes_for (formulas domain problem horizon how) d.0 is d.2)
+      of_request (formulas domain problem horizon how) (TellsFormula how horizon text) due zero is
+      (λ end at put first second k. of_ready (TellsFormula how horizon text) (AnswersFormula how horizon) end at first second k (told end at (printed_is before after text (text_of end) printed put)))
     where
-      told : (end : Ended) → status_of end ≡ 0 → text ≡ text_of end → (first second : List ℕ) → OnceReady first second (AnswersFormula how horizon) end
-          → (task : Parts) × AreTask first second task × TellsFormula how horizon text task
-      told end at same first second (not_ready plain_end stops e) = absurd (let b = task_between first second plain_end stops in let s = ap status_of e in omega (arith, b.0, s, at))
-      told end at same first second (ready task g are is (too_large plain_end over e)) = absurd (let four = ap status_of e ∙ ap plain.status_of over.1 in omega (arith, four, at))
-      told end at same first second (ready task g are is (formula k)) = (
-        task,
-        are,
-        claims.of_grounded laws task g is k.clauses k.components k.ordered (λ h clauses components. text ≡ formula_text (word_of how) horizon (formula_at (places_by how) (form_of h.task clauses components) horizon))
-            (listed_is text _ end k.holds same),
-      )
+      told : (end : Ended) → status_of end ≡ 0 → text ≡ text_of end → (task : Parts) (g : Grounded) → IsReady task g → AnswersFormula how horizon task g end → TellsFormula how horizon text task
+      told end at same task g is (too_large plain_end over e) = not_limit how horizon g end at plain_end over e
+      told end at same task g is (formula k) =
+          claims.of_grounded laws task g is k.clauses k.components k.ordered (λ h clauses components. text ≡ formula_text (word_of how) horizon (formula_at (places_by how) (form_of h.task clauses components) horizon))
+          (listed_is text _ end k.holds same)
 
-      step : (end : Ended) → status_of end ≡ 0 → text ≡ text_of end → ComesFor heard hears failed fails faults rises (formulas domain problem horizon how) end → OfFiles heard hears domain problem (TellsFormula how horizon text)
-      step end at same (inl stops) = low_only [] end at domain problem stops
-      step end at same (inr taken) = let r = told end at same taken.0 taken.1 taken.3 in (taken.0, taken.1, taken.2, r.0, r.1, r.2)
+  pub is_planned : PlanLaws → IsDue → (text domain problem name : List ℕ) (horizon : ℕ) (how : Stepping) → status ≡ 0 → Printed before after text → requested words ≡ Some (models domain problem horizon name how)
+      → OfFiles heard hears domain problem (PlanRunsIn how horizon text)
+  is_planned laws due text domain problem name horizon how zero printed is = of_request (models domain problem horizon name how) (PlanRunsIn how horizon text) due zero is step
+    where
+      planned : (end : Ended) → status_of end ≡ 0 → text ≡ text_of end → (task : Parts) (g : Grounded) → IsReady task g → AnswersModel how horizon faults rises task g end → PlanRunsIn how horizon text task
+      planned end at same task g is (too_large plain_end over e) = not_limit how horizon g end at plain_end over e
+      planned end at same task g is (model tolds.Unread known small e) = absurd (let five = ap status_of e in omega (arith, five, at))
+      planned end at same task g is (model (tolds.NoText place) known small e) = absurd (let three = ap status_of e in omega (arith, three, at))
+      planned end at same task g is (model (tolds.NoModel clause) known small e) = absurd (let one = ap status_of e in omega (arith, one, at))
+      planned end at same task g is (model (tolds.Plan steps) known small e) =
+          let values = known.holds.0 in
+          let stands = known.holds.2 in
+          let runs = model_runs laws task g is known.clauses known.components known.ordered how horizon values known.holds.1 (subst (IsSmallPlan horizon) stands small) in
+          subst (λ (xs : List ℕ). PlanRunsIn how horizon xs task) (sym (listed_is text _ end e same ∙ ap (plan_text task g horizon) stands)) runs
+
+      step : (end : Ended) → status_of end ≡ 0 → after ≡ appended before (text_of end) → (first second : List ℕ) → Answers faults rises (models domain problem horizon name how) end first second
+          → (task : Parts) × AreTask first second task × PlanRunsIn how horizon text task
+      step end at put first second (inl un) = absurd (let five = ap status_of un.0 in omega (arith, five, at))
+      step end at put first second (inr k) = of_ready (PlanRunsIn how horizon text) (AnswersModel how horizon faults rises) end at first second k (planned end at (printed_is before after text (text_of end) printed put))
 
   -- ---- words and faults
 

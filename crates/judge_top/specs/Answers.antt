@@ -1,6 +1,7 @@
 -- What a domain and a problem, and a proof, come to for the judge.
-use Rattle.std.specs.Prelude.{◌≡◌, ◌<◌, ℕ, Bool, List, codes, Result, Ok, Err, Option, Some, None}
-use Rattle.clause_base.specs.Formula.{Cnf, IsUnsatisfiable}
+use Rattle.std.specs.Prelude.{◌≡◌, ◌<◌, ℕ, Bool, List, length, codes, Result, Ok, Err, Option, Some, None}
+use Rattle.std.specs.List.{AllByRecursion}
+use Rattle.clause_base.specs.Formula.{Cnf, IsModel, IsUnsatisfiable, assignment_of}
 use Rattle.cnf_text.specs.Text.{formula_text}
 use Rattle.gt_core.specs.Task.{Task}
 use Rattle.gt_core.specs.Published.{order_of}
@@ -9,10 +10,13 @@ use Rattle.pd_model.specs.declared.parts.Parts.{Parts}
 use Rattle.pl_io.specs.Outside.{Rose}
 use Rattle.pl_io.specs.declared.outside.TakeError.{TakeError}
 use Rattle.pl_io.specs.declared.outside.TakeError.TheVariants as takes
-use Rattle.step_laws.specs.Form.{OrderedTask, AreSets}
+use Rattle.step_laws.specs.Form.{OrderedTask, AreSets, steps_at}
 use Rattle.step_encoding.specs.Limits.{most_literals}
 use Rattle.step_encoding.specs.Numbers.{literals_of}
 use Rattle.ordered_tasks.specs.Known.{IsOrdered, form_of, formula_at}
+use Rattle.model_text.specs.FirstFalse.{IsFirstFalse}
+use Rattle.plan_report.specs.Report.{plan_text}
+use Rattle.plan_report.specs.Laws.{IsSmallPlan}
 use Rattle.lrat_judge.specs.declared.verdict.Verdict.{Verdict}
 use Rattle.lrat_judge.specs.declared.verdict.Verdict.TheVariants as verdicts
 use Rattle.plan_words.specs.declared.request.Stepping.{Stepping}
@@ -25,7 +29,11 @@ use Rattle.plan_files.specs.declared.stop.Stop.TheVariants.{Ends, Memory}
 use Rattle.plan_tasks.specs.Stepping.{places_by, is_plan_by}
 use Rattle.plan_tasks.specs.Tasks.{AreTask, IsReady, StopsTask}
 use Rattle.judge_endings.specs.declared.ended.Ended.{Ended}
-use Rattle.judge_endings.specs.declared.ended.Ended.TheVariants.{Plain, Refuted, Rejected, Syntax}
+use Rattle.judge_endings.specs.declared.ended.Ended.TheVariants.{Plain, Refuted, Rejected, Syntax, NoModel, NoText, Unread}
+use Rattle.judge_top.specs.declared.model.Given.{Given}
+use Rattle.judge_top.specs.declared.model.Given.TheVariants as given
+use Rattle.judge_top.specs.declared.model.Told.{Told}
+use Rattle.judge_top.specs.declared.model.Told.TheVariants as told
 
 -- the ending, answered or handed on as one of the planner's, is of this kind; of want of memory nothing is said
 abbrev pub EndsWith : (Ended → Type 0) → Result Ended Stop → Type 0
@@ -38,6 +46,10 @@ abbrev pub end_in : Result Ended Stop → Option Ended
 end_in (Ok end) = Some end
 end_in (Err (Ends end)) = Some (Plain end)
 end_in (Err Memory) = None
+
+-- a formula, of this horizon, has too many literals, of which the ending tells
+abbrev pub IsTooMany : Cnf → ℕ → Ending → Type 0
+IsTooMany formula horizon end = (count : ℕ) × (end ≡ TooLarge horizon count) × (most_literals < count) × (count ≡ literals_of formula)
 
 -- the claim holds of a task with what is known of it and its order
 pub record OfKnown (task : Task) (claim : OrderedTask → Type 0) : Type 0 where
@@ -102,3 +114,47 @@ pub data AnswersJudge (how : Stepping) (horizon : ℕ) (before now : ℕ) (task 
   unread : (plain : Ending) → IsUnread before now plain → end ≡ Plain plain → AnswersJudge how horizon before now task g end
   judged : (verdict : Verdict) → end ≡ ended_by horizon verdict → ((entries : ℕ) → verdict ≡ verdicts.Refuted entries → OfKnown g.task (HasNone how horizon))
       → AnswersJudge how horizon before now task g end
+
+-- ---- models
+
+-- what was read of a model's text, of the values of so many variables
+abbrev pub IsGiven : ℕ → ℕ → ℕ → Given → Type 0
+IsGiven variables before now given.Unread = Rose before now
+IsGiven variables before now (given.NoText at) = Unit {0}
+IsGiven variables before now (given.Values reader) = length reader ≡ variables
+
+-- What was made of a model's text, over a formula, where values stand for these steps: it could not be read; it is none; some values
+-- of its variables leave a clause untrue, and this is the first; or these are the steps that a model of it stands for.
+abbrev pub IsToldOf : Cnf → (List Bool → List (List ℕ)) → ℕ → ℕ → Told → Type 0
+IsToldOf cnf stands before now told.Unread = Rose before now
+IsToldOf cnf stands before now (told.NoText at) = Unit {0}
+IsToldOf cnf stands before now (told.NoModel clause) = (values : List Bool) × (length values ≡ cnf.variables) × IsFirstFalse (assignment_of values) cnf.clauses clause
+IsToldOf cnf stands before now (told.Plan steps) = (values : List Bool) × IsModel cnf values × (steps ≡ stands values)
+
+-- the same over the formula of a horizon
+abbrev pub IsTold : (Task → List (List ℕ) → List (List ℕ × ℕ)) → ℕ → ℕ → ℕ → Told → OrderedTask → Type 0
+IsTold places horizon before now said form =
+    IsToldOf (formula_at places form horizon) (λ values. steps_at form (places form.task form.components) horizon (assignment_of values)) before now said
+
+-- the actions of its steps, where there are such, are below a number
+abbrev pub IsBelow : ℕ → Told → Type 0
+IsBelow n (told.Plan steps) = AllByRecursion (λ set. AllByRecursion (λ a. a < n) set) steps
+IsBelow n _ = Unit {0}
+
+-- the numbers of its text, where it is a plan, are numbers of 64 bits
+abbrev pub IsSmallTold : ℕ → Told → Type 0
+IsSmallTold horizon (told.Plan steps) = IsSmallPlan horizon steps
+IsSmallTold horizon _ = Unit {0}
+
+-- how a run ends with it: steps are told as a plan
+abbrev pub ended_with : Parts → Grounded → ℕ → Told → Ended
+ended_with task g horizon told.Unread = Unread
+ended_with task g horizon (told.NoText at) = NoText at
+ended_with task g horizon (told.NoModel clause) = NoModel clause
+ended_with task g horizon (told.Plan steps) = Plain (Listing (plan_text task g horizon steps))
+
+-- what a model's text comes to: the formula is past the limit, or this was made of it
+pub data AnswersModel (how : Stepping) (horizon : ℕ) (before now : ℕ) (task : Parts) (g : Grounded) (end : Ended) : Type 0 where
+  too_large : (plain : Ending) → TellsTooMany (places_by how) horizon g.task plain → end ≡ Plain plain → AnswersModel how horizon before now task g end
+  model : (said : Told) → OfKnown g.task (IsTold (places_by how) horizon before now said) → IsSmallTold horizon said → end ≡ ended_with task g horizon said
+      → AnswersModel how horizon before now task g end

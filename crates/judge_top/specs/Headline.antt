@@ -6,6 +6,7 @@ use Rattle.plan_words.specs.declared.request.Stepping.{Stepping}
 use Rattle.plan_tasks.specs.Stepping.{places_by}
 use Rattle.ordered_tasks.specs.Known.{form_of, formula_at}
 use Rattle.plan_tasks.specs.Claims.{OfGrounded, NoStepPlan, NoPlan}
+pub use Rattle.told_plans.specs.Claims.{PlanRunsIn}
 use Rattle.judge_top.specs.Answers.{word_of}
 
 -- the task has no step plan of so many steps, nor of fewer, and no plan of at most so many actions

@@ -1,17 +1,20 @@
-//! What the bytes of a domain and a problem, and a proof, come to.
-ghost use Rattle.std.specs.Prelude.{◌≡◌, ◌≤◌, length};
+//! What the bytes of a domain and a problem, and a proof or a model, come to.
+ghost use Rattle.std.specs.Prelude.{◌≡◌, ◌≤◌, length, IfOk};
 ghost use Rattle.plan_files.specs.Limits.{most_bytes};
-ghost use Rattle.judge_top.specs.Answers.{EndsWith, OnceReady, AnswersFormula, AnswersJudge, ended_by};
+ghost use Rattle.plan_files.specs.Ends.{OnlyMemory};
+ghost use Rattle.judge_top.specs.Answers.{EndsWith, OnceReady, AnswersFormula, AnswersJudge, AnswersModel, IsBelow, IsSmallTold, ended_by, ended_with};
 
 use crate::formula::formula_by;
+use crate::model::{Told, told_by};
 use crate::told::{told, word_of};
 use crate::verdict::verdict_on;
 use judge_endings::Ended;
 use lrat_judge::verdict::Verdict;
-use pl_io::Tape;
+use pl_io::{Bytes, Tape};
 use plan_endings::Ending;
 use plan_files::stop::Stop;
-use plan_tasks::ready::read_ready;
+use plan_report::plan_text;
+use plan_tasks::ready::{Ready, read_ready};
 use plan_words::Stepping;
 use std::alloc::Global;
 use std::thread::Threads;
@@ -67,5 +70,46 @@ fn ended(horizon: u32, verdict: Verdict) -> Ended
         Verdict::Rejected { line } => Ended::Rejected { line },
         Verdict::Syntax { at } => Ended::Syntax { at },
         Verdict::NotEmpty | Verdict::More => Ended::Plain(Ending::NotEmpty),
+    }
+}
+
+/// What a domain, a problem and the text of a model that is open come to for the command `model`.
+pub fn answer_model<H: Threads + Sync, T: Tape>(
+    rt: &H,
+    alloc: Global,
+    domain: &[u8],
+    problem: &[u8],
+    horizon: u32,
+    steps: Stepping,
+    tape: &mut T,
+) -> Result<Ended, Stop>
+    requires domain_fits { length domain.now ≤ most_bytes }
+    requires problem_fits { length problem.now ≤ most_bytes }
+    requires horizon { horizon ≤ 255 }
+    ensures ended { EndsWith (OnceReady domain.now problem.now (AnswersModel steps horizon (T.faults tape.old) (T.faults tape.new))) result }
+    ensures later { T.faults tape.old ≤ T.faults tape.new }
+{
+    let ready = read_ready(alloc, domain, problem)?;
+    let told = told_by(rt, alloc, steps, ready.grounded.task(), horizon, tape)?;
+    let end = ended_told(alloc, &ready, horizon, told)?;
+    Ok(end)
+}
+
+// How a run ends with what was made of a model's text.
+fn ended_told(alloc: Global, ready: &Ready, horizon: u32, told: Told) -> Result<Ended, Stop>
+    requires { IsBelow (length ready.now.grounded.calls) told }
+    ensures ended { IfOk result (λ end. end ≡ ended_with ready.now.task ready.now.grounded horizon told) }
+    ensures small { IfOk result (λ end. IsSmallTold horizon told) }
+    ensures memory { OnlyMemory result }
+{
+    match told {
+        Told::Unread => Ok(Ended::Unread),
+        Told::NoText { at } => Ok(Ended::NoText { at }),
+        Told::NoModel { clause } => Ok(Ended::NoModel { clause }),
+        Told::Plan(steps) => {
+            let steps = steps.as_slice();
+            let text = plan_text(alloc, &ready.task, &ready.grounded, horizon, steps)?;
+            Ok(Ended::Plain(Ending::Listing(Bytes::of(text.into_vec()))))
+        }
     }
 }

@@ -1,18 +1,18 @@
 //! How a run ends, before anything is written.
-ghost use Rattle.std.specs.Prelude.{◌≡◌, ◌≤◌, ◌∷◌, [], ℕ, List, map, string_bytes, Some, None, Ok};
+ghost use Rattle.std.specs.Prelude.{◌≡◌, ◌≤◌, ℕ, List, length, map, string_bytes, None, Ok};
 ghost use Rattle.pl_io.specs.Outside.{Agrees, fault_count};
-ghost use Rattle.plan_words.specs.Seen.{grounds};
 ghost use Rattle.plan_files.specs.Files.{NotesAmong};
+ghost use Rattle.plan_files.specs.Limits.{most_bytes};
 ghost use Rattle.judge_words.specs.Requested.{requested, command_named};
-ghost use Rattle.judge_words.specs.Seen.{seen, horizon_of, formulas, judges};
+ghost use Rattle.judge_words.specs.Seen.{seen, horizon_of};
 ghost use Rattle.judge_top.specs.Answers.{EndsWith};
-ghost use Rattle.judge_top.specs.Causes.{ComesFor, Comes, names_in};
+ghost use Rattle.judge_top.specs.Causes.{Answers, OfModel, ComesFor, Comes, names_in, two_of};
 
-use crate::answer::{answer_formula, answer_judge};
+use crate::answer::{answer_formula, answer_judge, answer_model};
 use crate::verdict::open;
 use judge_endings::Ended;
 use judge_words::{Request, read_words};
-use pl_io::{Bytes, Shelf, Tape};
+use pl_io::{Bytes, Shelf, TakeError, Tape};
 use plan_files::parts::two_of;
 use plan_files::stop::Stop;
 use plan_files::take::take_all;
@@ -40,74 +40,94 @@ pub fn decide<H: Threads + Sync, S: Shelf, T: Tape>(
 {
     match read_words(alloc, words)? {
         None => Ok(Ended::Usage),
-        Some(
-            Request::Formula {
-                domain,
-                problem,
-                horizon,
-                stepping,
-            },
-        ) => decide_formula(rt, alloc, domain, problem, horizon, stepping, shelf),
-        Some(
-            Request::Judge {
-                domain,
-                problem,
-                horizon,
-                proof,
-                stepping,
-            },
-        ) => decide_judge(
-            rt, alloc, domain, problem, horizon, proof, stepping, shelf, tape,
-        ),
+        Some(request) => decide_request(rt, alloc, &request, shelf, tape),
     }
 }
 
-// The same where a formula is asked for.
-fn decide_formula<H: Threads + Sync, S: Shelf>(
+// The same for what the words ask for.
+fn decide_request<H: Threads + Sync, S: Shelf, T: Tape>(
     rt: &H,
     alloc: Global,
-    domain: &str,
-    problem: &str,
-    horizon: u32,
-    steps: Stepping,
-    shelf: &mut S,
-) -> Result<Ended, Stop>
-    requires { horizon ≤ 255 }
-    ensures cause { (faults rises : ℕ) → EndsWith (ComesFor (S.heard shelf.old) (S.heard shelf.new) (S.failed shelf.old) (S.failed shelf.new) faults rises (formulas domain.now problem.now horizon steps)) result }
-    ensures told { S.told shelf.new ≡ S.told shelf.old }
-    ensures lacks { S.lacks shelf.new ≡ S.lacks shelf.old }
-    ensures agrees { Agrees (S.told shelf.old) (S.lacks shelf.old) (S.heard shelf.old) (S.heard shelf.new) }
-    ensures noted { NotesAmong (domain.now ∷ problem.now ∷ []) (S.failed shelf.old) (S.failed shelf.new) }
-{
-    let request = plan_words::Request::Ground { domain, problem };
-    let files = take_all::<Bytes, S>(alloc, &request, shelf)?;
-    let (first, second) = two_of(&request, files.as_slice());
-    answer_formula(rt, alloc, first, second, horizon, steps)
-}
-
-// The same where a proof is judged.
-fn decide_judge<H: Threads + Sync, S: Shelf, T: Tape>(
-    rt: &H,
-    alloc: Global,
-    domain: &str,
-    problem: &str,
-    horizon: u32,
-    proof: &str,
-    steps: Stepping,
+    request: &Request<'_>,
     shelf: &mut S,
     tape: &mut T,
 ) -> Result<Ended, Stop>
-    requires { horizon ≤ 255 }
-    ensures cause { EndsWith (ComesFor (S.heard shelf.old) (S.heard shelf.new) (S.failed shelf.old) (S.failed shelf.new) (T.faults tape.old) (T.faults tape.new) (judges domain.now problem.now horizon proof.now steps)) result }
+    requires { horizon_of (seen request.now) ≤ 255 }
+    ensures cause { EndsWith (ComesFor (S.heard shelf.old) (S.heard shelf.new) (S.failed shelf.old) (S.failed shelf.new) (T.faults tape.old) (T.faults tape.new) (seen request.now)) result }
     ensures told { S.told shelf.new ≡ S.told shelf.old }
     ensures lacks { S.lacks shelf.new ≡ S.lacks shelf.old }
     ensures agrees { Agrees (S.told shelf.old) (S.lacks shelf.old) (S.heard shelf.old) (S.heard shelf.new) }
-    ensures noted { NotesAmong (domain.now ∷ problem.now ∷ []) (S.failed shelf.old) (S.failed shelf.new) }
+    ensures noted { NotesAmong (two_of (seen request.now)) (S.failed shelf.old) (S.failed shelf.new) }
     ensures tape_faults { T.faults tape.old ≤ T.faults tape.new }
 {
-    let request = plan_words::Request::Ground { domain, problem };
-    let files = take_all::<Bytes, S>(alloc, &request, shelf)?;
-    let (first, second) = two_of(&request, files.as_slice());
-    open(tape, proof)?;
-    answer_judge(rt, alloc, first, second, horizon, steps, tape)
+    let both = plan_words::Request::Ground {
+        domain: request.domain(),
+        problem: request.problem(),
+    };
+    let files = take_all::<Bytes, S>(alloc, &both, shelf)?;
+    let (first, second) = two_of(&both, files.as_slice());
+    answer(rt, alloc, request, first, second, tape)
+}
+
+// What the bytes of the domain and of the problem, and the file on the tape, come to.
+fn answer<H: Threads + Sync, T: Tape>(
+    rt: &H,
+    alloc: Global,
+    request: &Request<'_>,
+    first: &[u8],
+    second: &[u8],
+    tape: &mut T,
+) -> Result<Ended, Stop>
+    requires domain_fits { length first.now ≤ most_bytes }
+    requires problem_fits { length second.now ≤ most_bytes }
+    requires horizon { horizon_of (seen request.now) ≤ 255 }
+    ensures cause { EndsWith (λ end. Answers (T.faults tape.old) (T.faults tape.new) (seen request.now) end first.now second.now) result }
+    ensures tape_faults { T.faults tape.old ≤ T.faults tape.new }
+{
+    match request {
+        Request::Formula {
+            horizon,
+            stepping,
+            ..
+        } => { answer_formula(rt, alloc, first, second, *horizon, *stepping) }
+        Request::Judge {
+            horizon,
+            proof,
+            stepping,
+            ..
+        } => {
+            open(tape, proof)?;
+            answer_judge(rt, alloc, first, second, *horizon, *stepping, tape)
+        }
+        Request::Model {
+            horizon,
+            model,
+            stepping,
+            ..
+        } => { answer_opened(rt, alloc, first, second, *horizon, *stepping, model, tape) }
+    }
+}
+
+// The same of the file of a model, which is opened first.
+fn answer_opened<H: Threads + Sync, T: Tape>(
+    rt: &H,
+    alloc: Global,
+    first: &[u8],
+    second: &[u8],
+    horizon: u32,
+    steps: Stepping,
+    model: &str,
+    tape: &mut T,
+) -> Result<Ended, Stop>
+    requires domain_fits { length first.now ≤ most_bytes }
+    requires problem_fits { length second.now ≤ most_bytes }
+    requires horizon { horizon ≤ 255 }
+    ensures cause { EndsWith (λ end. OfModel (T.faults tape.old) (T.faults tape.new) steps horizon end first.now second.now) result }
+    ensures tape_faults { T.faults tape.old ≤ T.faults tape.new }
+{
+    match tape.open(model) {
+        Ok(()) => answer_model(rt, alloc, first, second, horizon, steps, tape),
+        Err(TakeError::Failed) => Ok(Ended::Unread),
+        Err(TakeError::Memory) => Err(Stop::Memory),
+    }
 }

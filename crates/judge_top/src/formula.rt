@@ -2,10 +2,9 @@
 ghost use Rattle.std.specs.Prelude.{◌≡◌, ◌≤◌, ◌<◌, ℕ, List, IfOk};
 ghost use Rattle.clause_base.specs.Formula.{IsUnsatisfiable};
 ghost use Rattle.step_encoding.specs.{Limits.most_literals, Numbers.literals_of};
-ghost use Rattle.plan_endings.specs.declared.ending.Ending.TheVariants.{TooLarge};
 ghost use Rattle.plan_files.specs.Ends.{StopsBy};
 ghost use Rattle.plan_tasks.specs.Stepping.{places_by, is_plan_by};
-ghost use Rattle.judge_top.specs.Answers.{OfKnown, IsFormula, TellsTooMany};
+ghost use Rattle.judge_top.specs.Answers.{OfKnown, IsFormula, IsTooMany, TellsTooMany};
 
 use action_order::publish::publish;
 use all_steps::form::BothWays;
@@ -56,12 +55,13 @@ fn formula_in<P: Placing, H: Threads + Sync>(
     formula_of(alloc, &form, horizon)
 }
 
-// The formula of a horizon of a form.
-fn formula_of<F: StepForm>(alloc: Global, form: &F, horizon: u32) -> Result<Formula, Stop>
+/// The formula of a horizon of a form.
+pub fn formula_of<F: StepForm>(alloc: Global, form: &F, horizon: u32) -> Result<Formula, Stop>
     requires { horizon ≤ 255 }
     ensures formula { IfOk result (λ formula. formula ≡ F.formula_of form.now horizon) }
     ensures refutes { IfOk result (λ formula. IsUnsatisfiable formula.clauses → (steps : List (List ℕ)) → F.is_plan form.now horizon steps → ⊥) }
-    ensures stops { StopsBy (λ end. (count : ℕ) × (end ≡ TooLarge horizon count) × (most_literals < count) × (count ≡ literals_of (F.formula_of form.now horizon))) result }
+    ensures small { IfOk result (λ formula. literals_of (F.formula_of form.now horizon) ≤ most_literals) }
+    ensures stops { StopsBy (IsTooMany (F.formula_of form.now horizon) horizon) result }
 {
     let _lawful = form.size(horizon);
     match form.formula(alloc, horizon) {

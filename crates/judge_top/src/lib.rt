@@ -7,6 +7,7 @@
 mod answer;
 mod decide;
 mod formula;
+mod model;
 mod told;
 mod top;
 mod verdict;

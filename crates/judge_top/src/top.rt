@@ -5,19 +5,18 @@ ghost use Rattle.plan_words.specs.declared.request.Stepping.{Stepping};
 ghost use Rattle.plan_files.specs.Files.{NotesAmong};
 ghost use Rattle.plan_tasks.specs.Claims.{Printed, OfFiles};
 ghost use Rattle.judge_words.specs.Requested.{requested, command_named};
-ghost use Rattle.judge_words.specs.Seen.{formulas, judges};
+ghost use Rattle.judge_words.specs.Seen.{formulas, judges, models};
 ghost use Rattle.judge_endings.specs.Ended.{status_of, text_of};
 ghost use Rattle.judge_endings.specs.declared.ended.Ended.{Ended};
 ghost use Rattle.judge_top.specs.Answers.{end_in};
 ghost use Rattle.judge_top.specs.Causes.{Comes, HasFault, names_in};
-ghost use Rattle.judge_top.specs.Headline.{IsProvedNone, TellsFormula};
+ghost use Rattle.judge_top.specs.Headline.{IsProvedNone, PlanRunsIn, TellsFormula};
 
 use crate::decide::decide;
 use crate::{Ended, Status};
 use judge_endings::written::written;
 use pl_io::{Shelf, Sink, Tape};
 use plan_files::stop::Stop;
-use plan_tasks::laws::laws;
 use std::alloc::Global;
 use std::thread::Threads;
 
@@ -25,7 +24,8 @@ use std::thread::Threads;
 /// sink.
 ///
 /// The words are those after the program's name: `formula DOMAIN PROBLEM HORIZON [--steps exists|all]` has the formula of the horizon told
-/// in DIMACS format, and `judge DOMAIN PROBLEM HORIZON PROOF [--steps exists|all]` the proof judged, which is LRAT text of any length.
+/// in DIMACS format, `judge DOMAIN PROBLEM HORIZON PROOF [--steps exists|all]` the proof judged, which is LRAT text of any length, and
+/// `model DOMAIN PROBLEM HORIZON MODEL [--steps exists|all]` the plan told that the values of a model stand for, which a solver printed.
 pub fn judge<H: Threads + Sync, S: Shelf, T: Tape, K: Sink>(
     rt: &H,
     alloc: Global,
@@ -44,6 +44,12 @@ pub fn judge<H: Threads + Sync, S: Shelf, T: Tape, K: Sink>(
     ensures formula_told { (text domain problem : List ℕ) (horizon : ℕ) (how : Stepping) → result.0 ≡ 0 → Printed (K.taken sink.old) (K.taken sink.new) text
         → requested (map string_bytes words.now) ≡ Some (formulas domain problem horizon how)
         → OfFiles (S.heard shelf.old) (S.heard shelf.new) domain problem (TellsFormula how horizon text) }
+
+    // With status 0 the text is a plan file whose calls lead from the initial state to the goal, and its steps are a step plan of so many
+    // steps of that kind, whatever the model's bytes were.
+    ensures planned { (text domain problem model : List ℕ) (horizon : ℕ) (how : Stepping) → result.0 ≡ 0 → Printed (K.taken sink.old) (K.taken sink.new) text
+        → requested (map string_bytes words.now) ≡ Some (models domain problem horizon model how)
+        → OfFiles (S.heard shelf.old) (S.heard shelf.new) domain problem (PlanRunsIn how horizon text) }
 
     // Each status has its cause, and with every status but 6 the bytes taken are exactly the text due.
     ensures due { result.0 ≢ 6 → result.0 ≢ 8 → (end : Ended) × (result.0 ≡ status_of end)
@@ -75,7 +81,7 @@ pub fn judge<H: Threads + Sync, S: Shelf, T: Tape, K: Sink>(
     ensures tape_faults { T.faults tape.old ≤ T.faults tape.new }
     ensures faults { K.faults sink.old ≤ K.faults sink.new }
 {
-    laws();
+    told_plans::laws::laws();
     answered(rt, alloc, words, shelf, tape, sink)
 }
 

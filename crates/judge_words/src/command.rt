@@ -14,6 +14,7 @@ use std::alloc::{AllocError, Global};
 pub(crate) enum Name {
     Formula,
     Judge,
+    Model,
 }
 
 static STEPS: [&str; 2] = ["exists", "all"];
@@ -25,6 +26,7 @@ pub(crate) fn name_of(word: &str) -> Option<Name>
     match word {
         "formula" => Some(Name::Formula),
         "judge" => Some(Name::Judge),
+        "model" => Some(Name::Model),
         _ => None,
     }
 }
@@ -43,6 +45,7 @@ fn word_for(name: Name) -> &'static str
     match name {
         Name::Formula => "formula",
         Name::Judge => "judge",
+        Name::Model => "model",
     }
 }
 
@@ -63,8 +66,10 @@ pub(crate) fn command_for<'a>(
             Argument::Read("horizon", ValueParser::Signed(0, 255)),
         ],
     )?;
-    if let Name::Judge = name {
-        put(&mut arguments, &[Argument::Word("proof")])?;
+    match name {
+        Name::Formula => {}
+        Name::Judge => put(&mut arguments, &[Argument::Word("proof")])?,
+        Name::Model => put(&mut arguments, &[Argument::Word("model")])?,
     }
     put(&mut arguments, &[Argument::Long("steps", by, "exists")])?;
     with_all(alloc, word_for(name), arguments.as_slice())

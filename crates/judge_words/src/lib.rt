@@ -7,6 +7,7 @@
 //! match read_words(alloc, words)? {
 //!     Some(Request::Formula { domain, problem, horizon, stepping }) => ..,
 //!     Some(Request::Judge { domain, problem, horizon, proof, stepping }) => ..,
+//!     Some(Request::Model { domain, problem, horizon, model, stepping }) => ..,
 //!     None => usage(),
 //! }
 //! ```

@@ -44,5 +44,12 @@ pub(crate) fn request_in<'a>(name: Name, matches: &ArgMatches<'a>) -> Request<'a
             proof: text(matches, "proof"),
             stepping,
         },
+        Name::Model => Request::Model {
+            domain,
+            problem,
+            horizon,
+            model: text(matches, "model"),
+            stepping,
+        },
     }
 }

@@ -1,12 +1,15 @@
 use Rattle.std.proofs.Common.{refl, arith}
-use Rattle.judge_top.proofs.Promises.{is_judged, is_told, read_fault, usage, not_taken, no_command}
+use Rattle.judge_top.proofs.Promises.{is_judged, is_planned, is_told, read_fault, usage, not_taken, no_command}
 use Rattle.judge_top.proofs.top.judge.Goals as goal
 
 pub returns-clause-judged : goal.returns-clause-judged
-returns-clause-judged g c = is_judged _ _ _ _ _ _ _ _ _ _ c.laws.ensures c.answered.ensures.due
+returns-clause-judged g c = is_judged _ _ _ _ _ _ _ _ _ _ c.laws.ensures.of_tasks c.answered.ensures.due
 
 pub returns-clause-formula_told : goal.returns-clause-formula_told
-returns-clause-formula_told g c = is_told _ _ _ _ _ _ _ _ _ _ c.laws.ensures c.answered.ensures.due
+returns-clause-formula_told g c = is_told _ _ _ _ _ _ _ _ _ _ c.laws.ensures.of_tasks c.answered.ensures.due
+
+pub returns-clause-planned : goal.returns-clause-planned
+returns-clause-planned g c = is_planned _ _ _ _ _ _ _ _ _ _ c.laws.ensures c.answered.ensures.due
 
 pub returns-clause-read_fault : goal.returns-clause-read_fault
 returns-clause-read_fault g c = read_fault _ _ _ _ _ _ _ _ _ _ c.answered.ensures.due

@@ -1,0 +1,36 @@
+use Rattle.std.proofs.Common.{refl, subst}
+use Rattle.gt_core.specs.Task.{Task}
+use Rattle.plan_tasks.specs.Stepping.{places_by}
+use Rattle.plan_tasks.specs.Tasks.{StopsTask}
+use Rattle.judge_top.specs.Answers.{OnceReady, not_ready, ready, AnswersModel, too_large, model, OfKnown, IsTold, TellsTooMany}
+use Rattle.judge_top.proofs.Handed.{handed}
+use Rattle.judge_top.proofs.Formulas.{calls_below}
+use Rattle.judge_top.proofs.answer.answer_model.Goals as goal
+
+pub returns-in_err-ready-clause-ended : goal.returns-in_err-ready-clause-ended
+returns-in_err-ready-clause-ended g c =
+    handed (StopsTask c.args.domain.now c.args.problem.now) _ (λ end h. not_ready end h refl)
+    c.in_err-ready.field-0.0 c.from_residual.result c.from_residual.ensures.1 c.in_err-ready.ensures.stops
+
+pub returns-in_err-told-clause-ended : goal.returns-in_err-told-clause-ended
+returns-in_err-told-clause-ended g c =
+    let r = c.in_ok-ready.ready in
+    handed (TellsTooMany (places_by c.args.steps) c.args.horizon r.grounded.task) _
+    (λ end h. ready r.task r.grounded c.in_ok-ready.ensures.task c.in_ok-ready.ensures.ready (too_large end h refl))
+    c.in_err-told.field-0.0 c.from_residual-in_err-told.result c.from_residual-in_err-told.ensures.1 (rw c.task.ensures at c.in_err-told.ensures.stops)
+
+pub ended_told-requires : goal.ended_told-requires
+ended_told-requires g c =
+    let r = c.in_ok-ready.ready in
+    calls_below r.task r.grounded c.in_ok-ready.ensures.ready.grounded c.in_ok-told.told (rw c.task.ensures at c.in_ok-told.ensures.members)
+
+pub returns-in_err-end-clause-ended : goal.returns-in_err-end-clause-ended
+returns-in_err-end-clause-ended g c =
+    handed _ _ (λ end h. absurd h) c.in_err-end.field-0.0 c.from_residual-in_err-end.result c.from_residual-in_err-end.ensures.1 c.in_err-end.ensures.memory
+
+pub returns-clause-ended : goal.returns-clause-ended
+returns-clause-ended g c =
+    let r = c.in_ok-ready.ready in
+    let said = c.in_ok-told.told in
+    let known = rw c.task.ensures at c.in_ok-told.ensures.told in
+    ready r.task r.grounded c.in_ok-ready.ensures.task c.in_ok-ready.ensures.ready (model said known c.in_ok-end.ensures.small c.in_ok-end.ensures.ended)

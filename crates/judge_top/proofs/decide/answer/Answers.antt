@@ -1,0 +1,12 @@
+use Rattle.std.proofs.Common.{refl, inl, inr}
+use Rattle.judge_top.proofs.Deciding.{judged_before}
+use Rattle.judge_top.proofs.Handed.{handed, weaker}
+use Rattle.judge_top.proofs.decide.answer.Goals as goal
+
+pub returns-in_err-open-in-Judge-clause-cause : goal.returns-in_err-open-in-Judge-clause-cause
+returns-in_err-open-in-Judge-clause-cause g c =
+    rw c.in-Judge.is (handed _ _ (λ end h. inl (end, h, refl)) c.in_err-open-in-Judge.field-0.0 c.from_residual.result c.from_residual.ensures.1 c.in_err-open-in-Judge.ensures.stops)
+
+pub returns-in_ok-open-in-Judge-clause-cause : goal.returns-in_ok-open-in-Judge-clause-cause
+returns-in_ok-open-in-Judge-clause-cause g c =
+    rw c.in-Judge.is (weaker _ _ (λ end h. inr (judged_before _ _ c.in-Judge.stepping c.in-Judge.horizon _ _ _ c.open.ensures.later end h)) c.answer_judge.result c.answer_judge.ensures.ended)
