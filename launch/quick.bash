@@ -55,10 +55,11 @@ words_on_pipe() {
 # keep_module FOLDER PROCESS: keeps the module that rt try compiles, once it is whole: its object is begun after it. Some toolchains
 # compile a module of some hundred bytes before it, which is no program.
 keep_module() {
-    local module
+    local module size
     while kill -0 "$2" 2>/dev/null; do
         for module in "$1"/*/*/module.bc; do
-            if [ "$(stat -c %s -- "$module")" -gt 100000 ] && compgen -G "${module%/*}/*.o*" >/dev/null; then
+            size=$(stat -c %s -- "$module" 2>/dev/null)
+            if [ "${size:-0}" -gt 100000 ] && compgen -G "${module%/*}/*.o*" >/dev/null; then
                 ln -- "$module" "$1/module.bc" 2>/dev/null || cp -- "$module" "$1/module.bc"
                 return
             fi
