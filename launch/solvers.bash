@@ -11,7 +11,7 @@ find_solver() {
         ! is_cadical_with_lrat || { words+=(--lrat) && way=lrat; }
         ;;
     kissat)
-        has_command kissat 'its source is at https://github.com/arminbiere/kissat'
+        has_command kissat 'the package kissat has it (Debian 13)'
         words=(kissat -q --no-binary) way=drat
         ! kissat --help 2>/dev/null | grep -q -e --factor || words+=(--factor=false)
         ;;
