@@ -153,6 +153,7 @@ end_all() {
 # stop_all: the call is interrupted.
 stop_all() {
     trap '' INT QUIT TERM HUP
+    end_nap
     end_all
     exit 130
 }

@@ -6,3 +6,9 @@ nap() {
     [ -n "${still-}" ] || exec {still}<> <(:)
     read -r -t "$1" -u "$still" _
 }
+
+# end_nap: the first thing that a trap does. One that comes while nap waits runs inside of its read, and where the time of that
+# read is over bash leaves the trap's commands at the next thing that they read. Another read takes its place.
+end_nap() {
+    nap 0.01
+}

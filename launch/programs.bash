@@ -30,12 +30,12 @@ find_or_build() {
 # changed its index, or git or an editor a folder of the program's sources, since it was kept: a look at every file would take
 # longer than a short run. What is written into a file in its place, in no other way, is seen by look_through alone.
 find_sources() {
-    local place stamp watched
+    local place stamp
     sources=''
     [ -d "$root/crates" ] || return 0
     for place in "${places[@]}"; do
         stamp_of "$place"
-        is_own "$place" && read_stamp "$place" && same_times "$place/$stamp" && return
+        is_own "$place" && read_stamp "$place" && same_folders "$place/$stamp" && return
     done
     use keep sources
     look_through
@@ -48,18 +48,18 @@ stamp_of() {
     stamp=$name.sum
 }
 
-# read_stamp PLACE: sets sources to what was kept there of this checkout, and watched to the names of what may be no newer.
+# read_stamp PLACE: sets sources to what was kept there of this checkout.
 read_stamp() {
     local of
-    [ -r "$1/$stamp" ] && { read -r sources && read -r watched && read -r of; } <"$1/$stamp" || return
-    [[ $1 == "$root/out" || $of == "$root" ]]
+    [ -r "$1/$stamp" ] && { read -r sources && read -r of; } <"$1/$stamp" && [[ $1 == "$root/out" || $of == "$root" ]]
 }
 
-# same_times STAMP: none of what is watched is newer than it.
-same_times() {
+# same_folders STAMP: no folder of the program's sources is newer than it, nor crates.txt, nor the index of git.
+same_folders() {
     local it
-    for it in $watched; do
-        [[ ! $root/$it -nt $1 ]] || return
+    [[ ! $root/crates.txt -nt $1 && ! $root/.git/index -nt $1 && ! $root/crates -nt $1 ]] || return
+    for it in "$root"/crates/*; do
+        [[ ! $it/src -nt $1 && ! $it/specs -nt $1 ]] || return
     done
 }
 

@@ -17,30 +17,16 @@ sources_sum() (
         xargs -0 sha256sum | sha256sum | cut -d ' ' -f 1
 )
 
-# look_through: sets sources, as the files are now, and keeps it with the names of what find_sources watches.
+# look_through: sets sources, as the files are now, and keeps it.
 look_through() {
-    local place stamp begun=${EPOCHREALTIME:-$(date +%s)} watched
-    watched_names
+    local place stamp begun=${EPOCHREALTIME:-$(date +%s)}
     sources=$(sources_sum)
     for place in "${places[@]}"; do
         stamp_of "$place"
-        if keep_line "$place" "$stamp" "$sources" "$watched" "$root"; then
+        if keep_line "$place" "$stamp" "$sources" "$root"; then
             touch -d "@${begun/,/.}" -- "$place/$stamp"
             return
         fi
-    done
-}
-
-# watched_names: sets watched to the names, below root, of what has another time once a source was put in the place of an old
-# one, added, or taken away: the folders src and specs of the crates, and that of a crate which lacks one of them.
-watched_names() {
-    local crate part
-    watched='crates.txt .git/index crates'
-    for crate in "$root"/crates/*; do
-        crate=crates/${crate##*/}
-        for part in src specs; do
-            if [ -d "$root/$crate/$part" ]; then watched+=" $crate/$part"; else watched+=" $crate"; fi
-        done
     done
 }
 

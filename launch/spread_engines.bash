@@ -145,6 +145,7 @@ clear_progress() {
 # stop_spread: ends all jobs, leaves nothing half made, and ends with 130.
 stop_spread() {
     trap '' INT QUIT TERM HUP
+    end_nap
     clear_progress
     [ -z "$job" ] || scancel "$job" 2>/dev/null
     [ -z "$running" ] || kill -KILL "$running" 2>/dev/null

@@ -223,7 +223,7 @@ begin_runs() {
 run_horizons() {
     local folder=$1 it n solver seed
     [ -n "${SLURM_JOB_ID-}" ] || parent=$PPID
-    trap 'trap "" INT QUIT TERM HUP; stop_run "$folder"; exit 130' INT QUIT TERM HUP
+    trap 'trap "" INT QUIT TERM HUP; end_nap; stop_run "$folder"; exit 130' INT QUIT TERM HUP
     begin_runs
     read_settings "$folder"
     for it in "${@:2}"; do
