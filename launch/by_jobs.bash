@@ -42,33 +42,31 @@ judge_stream() {
 
 # take_proof N: what the judge has come to.
 take_proof() {
-    local at=$room/$1
+    local at=$room/$1 came
     until [ -s "$at.judge" ]; do nap 0.02; done
     mv -f -- "$at.judged" "$at.told"
-    if [ "$(cat -- "$at.judge")" = 0 ] && [[ $(cat -- "$at.told") =~ ^'; refuted horizon '$1' entries '[0-9]+$ ]]; then
+    came="$(cat -- "$at.judge") $(cat -- "$at.told")"
+    if [[ $came =~ ^0\ '; refuted horizon '$1' entries '[0-9]+$ ]]; then
         settle "$1" refuted
-    else
+    elif [[ $came == [13]\ * ]]; then
         settle "$1" rejected
+    else
+        settle "$1" lost
     fi
 }
 
 # take_model N: the plan of what the solver has printed, if it is one.
 take_model() {
-    local at=$room/$1 ended
+    local at=$room/$1
     "$judge" model "$domain" "$problem" "$1" "$at.out" --steps "$steps" >"$at.told" 2>/dev/null </dev/null
-    ended=$?
-    if [ "$ended" = 7 ]; then
-        # This judge reads no models: a script does, and the proved check says whether it is a plan.
-        "$root/launch/model_plan.py" "$program" "$domain" "$problem" "$1" "$at.cnf" "$at.out" >"$at.told" &&
-            "$program" check "$domain" "$problem" "$at.told" >/dev/null 2>&1 </dev/null
-        ended=$?
-    fi
-    if [ "$ended" = 0 ]; then
+    case $? in
+    0)
         mv -f -- "$at.told" "$at.plan"
         settle "$1" plan
-    else
-        settle "$1" rejected
-    fi
+        ;;
+    1 | 3) settle "$1" rejected ;;
+    *) settle "$1" lost ;;
+    esac
 }
 
 # run_horizons: as many side by side as was asked for, from the lowest on. Sets state by horizon.

@@ -50,9 +50,8 @@ put_task() {
     cp -- "$domain" "$folder/task/domain" && cp -- "$problem" "$folder/task/problem" &&
         cp -- "$program" "$folder/task/planner" && chmod 755 -- "$folder/task/planner" &&
         { [ -z "$judge" ] || { cp -- "$judge" "$folder/task/judge" && chmod 755 -- "$folder/task/judge"; }; } &&
-        cp -- "$self" "$folder/task/spread" && cp -- "$root"/launch/model_plan.py "$folder/task/" &&
-        cp -- "$root"/launch/{spread_jobs,spread_solvers,solvers,nap}.bash "$folder/task/" &&
-        (cd -- "$folder/task" && sha256sum domain problem planner spread ./*.bash model_plan.py ${judge:+judge}) \
+        cp -- "$self" "$folder/task/spread" && cp -- "$root"/launch/{spread_jobs,spread_solvers,solvers,nap}.bash "$folder/task/" &&
+        (cd -- "$folder/task" && sha256sum domain problem planner spread ./*.bash ${judge:+judge}) \
             >"$folder/task/sums.$$" &&
         keep_file "$folder/task/sums.$$" "$folder/task/SHA256SUMS"
 }

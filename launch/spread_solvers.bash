@@ -109,26 +109,14 @@ take_unit() {
         fi
         ;;
     10)
-        if read_model >"$at/plan.$$"; then
+        if "$folder/task/judge" model "$folder/task/domain" "$folder/task/problem" "$n" "$work/out" \
+            >"$at/plan.$$" 2>/dev/null </dev/null; then
             keep_file "$at/plan.$$" "$at/plan.$unit" && put_result "$folder" "$n" plan 0 "plan.$unit"
             return
         fi
         ;;
     esac
     is_needless "$folder" "$n" || is_orphan || echo "$minutes" >"$at/open.$unit"
-}
-
-# read_model: the plan that a model is, by the judge, or where it reads none by a script and the proved check.
-read_model() {
-    local files=("$folder/task/domain" "$folder/task/problem") made=$work/plan ended
-    "$folder/task/judge" model "${files[@]}" "$n" "$work/out" >"$made" 2>/dev/null </dev/null
-    ended=$?
-    if [ "$ended" = 7 ]; then
-        "$folder/task/model_plan.py" "$folder/task/planner" "${files[@]}" "$n" "$work/cnf" "$work/out" >"$made" 2>/dev/null &&
-            "$folder/task/planner" check "${files[@]}" "$made" >/dev/null 2>&1
-        ended=$?
-    fi
-    [ "$ended" = 0 ] && cat -- "$made"
 }
 
 # need_judge: sets judge to the program of this checkout that judges.
