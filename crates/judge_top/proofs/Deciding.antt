@@ -1,6 +1,7 @@
 -- How the files of a run come to an ending.
 use Rattle.std.proofs.Common.{◌≡◌, ◌≤◌, ℕ, List, [], ◌∷◌, ◌++◌, refl, sym, ap, ap₂, subst, ◌∙◌, arith, inl, inr}
 use Rattle.pl_io.specs.Outside.{Heard, whole, Rose}
+use Rattle.pl_io.specs.Tape.{Given}
 use Rattle.plan_endings.specs.declared.ending.File.{File}
 use Rattle.plan_files.specs.Limits.{file_at}
 use Rattle.plan_files.specs.Files.{AreTaken, StopsFrom}
@@ -33,11 +34,11 @@ both_taken file d p heard hears took files first second is taken are =
 pub rose_before : (before middle now : ℕ) → before ≤ middle → Rose middle now → Rose before now
 rose_before before middle now le rose = omega (arith, le, rose)
 
-pub judged_before : (first second : List ℕ) (s : Stepping) (h : ℕ) (before middle now : ℕ) → before ≤ middle → (end : Ended) → OnceReady first second (AnswersJudge s h middle now) end → OnceReady first second (AnswersJudge s h before now) end
-judged_before first second s h before middle now le end (not_ready plain stops e) = not_ready plain stops e
-judged_before first second s h before middle now le end (ready task g are is (too_large plain over e)) = ready task g are is (too_large plain over e)
-judged_before first second s h before middle now le end (ready task g are is (unread plain un e)) = ready task g are is (unread plain (un.0, rose_before before middle now le un.1) e)
-judged_before first second s h before middle now le end (ready task g are is (judged verdict e none)) = ready task g are is (judged verdict e none)
+pub judged_before : (first second : List ℕ) (s : Stepping) (h : ℕ) (before middle now : ℕ) (bytes : List ℕ) → before ≤ middle → (end : Ended) → OnceReady first second (AnswersJudge s h middle now bytes) end → OnceReady first second (AnswersJudge s h before now bytes) end
+judged_before first second s h before middle now bytes le end (not_ready plain stops e) = not_ready plain stops e
+judged_before first second s h before middle now bytes le end (ready task g are is (too_large plain over e)) = ready task g are is (too_large plain over e)
+judged_before first second s h before middle now bytes le end (ready task g are is (unread plain un e)) = ready task g are is (unread plain (un.0, rose_before before middle now le un.1) e)
+judged_before first second s h before middle now bytes le end (ready task g are is (judged verdict e so none)) = ready task g are is (judged verdict e so none)
 
 pub model_before : (first second : List ℕ) (s : Stepping) (h : ℕ) (before middle now : ℕ) → before ≤ middle → (end : Ended) → OnceReady first second (AnswersModel s h middle now) end → OnceReady first second (AnswersModel s h before now) end
 model_before first second s h before middle now le end (not_ready plain stops e) = not_ready plain stops e
@@ -60,11 +61,11 @@ module _ (request : Seen) (d p : List ℕ) (domain : d ≡ domain_of request) (p
   pub two_named : d ∷ p ∷ [] ≡ two_of request
   two_named = ap₂ (λ (x y : List ℕ). x ∷ y ∷ []) domain problem
 
-  module _ (heard hears : List Heard) (failed fails : List (List ℕ)) (faults rises : ℕ) where
-    pub stops_for : (end : Ending) → IsStopped heard hears failed fails d p end → ComesFor heard hears failed fails faults rises request (Plain end)
+  module _ (heard hears : List Heard) (failed fails : List (List ℕ)) (faults rises : ℕ) (given : Given) where
+    pub stops_for : (end : Ending) → IsStopped heard hears failed fails d p end → ComesFor heard hears failed fails faults rises given request (Plain end)
     stops_for end h =
         let k = subst (λ (x : List ℕ). IsStopped heard hears failed fails x (problem_of request) end) domain (subst (λ (y : List ℕ). IsStopped heard hears failed fails d y end) problem h) in
         inl (end, k.0, k.1, k.2, refl)
 
-    pub taken_for : (end : Ended) (first second : List ℕ) → hears ≡ heard ++ whole d first ∷ whole p second ∷ [] → Answers faults rises request end first second → ComesFor heard hears failed fails faults rises request end
+    pub taken_for : (end : Ended) (first second : List ℕ) → hears ≡ heard ++ whole d first ∷ whole p second ∷ [] → Answers faults rises given request end first second → ComesFor heard hears failed fails faults rises given request end
     taken_for end first second is h = inr (first, second, is ∙ ap₂ (λ (x y : List ℕ). heard ++ whole x first ∷ whole y second ∷ []) domain problem, h)

@@ -12,6 +12,8 @@ use Rattle.step_encoding.specs.Limits.{most_literals}
 use Rattle.step_encoding.specs.Numbers.{literals_of}
 use Rattle.two_invariants.specs.Closed.{AreInvariants}
 use Rattle.cnf_text.specs.Text.{formula_text}
+use Rattle.lrat_judge.specs.Verdicts.{verdict_of}
+use Rattle.lrat_judge.specs.declared.verdict.Verdict.{Verdict}
 use Rattle.ordered_tasks.specs.Known.{form_of, formula_at}
 use Rattle.plan_words.specs.declared.request.Stepping.{Stepping}
 use Rattle.plan_tasks.specs.Stepping.{places_by, is_plan_by}
@@ -22,7 +24,7 @@ use Rattle.plan_files.specs.declared.stop.Stop.TheVariants.{Ends, Memory}
 use Rattle.plan_files.specs.Ends.{StopsBy}
 use Rattle.judge_endings.specs.declared.ended.Ended.{Ended}
 use Rattle.judge_endings.specs.declared.ended.Ended.TheVariants.{Plain}
-use Rattle.judge_top.specs.Answers.{OfKnown, IsFormula, IsTooMany, TellsTooMany, IsToldOf, IsTold, IsBelow, HasNone, word_of}
+use Rattle.judge_top.specs.Answers.{OfKnown, IsFormula, IsTooMany, TellsTooMany, IsToldOf, IsTold, IsBelow, HasNone, word_of, IsVerdict}
 use Rattle.judge_top.specs.declared.model.Told.{Told}
 use Rattle.judge_top.specs.declared.model.Told.TheVariants as told
 use Rattle.grounding.specs.Grounded.{Grounded, IsGrounded}
@@ -80,3 +82,7 @@ tells how horizon task f word text is told known = record {
 -- where nothing satisfies the formula there is no plan of so many steps
 pub has_none : (how : Stepping) (horizon : ℕ) (task : Task) (f : Cnf) → OfKnown task (IsFormula (places_by how) (is_plan_by how) horizon f) → IsUnsatisfiable f.clauses → OfKnown task (HasNone how horizon)
 has_none how horizon task f known unsatisfiable = record { clauses = known.clauses; components = known.components; ordered = known.ordered; holds = known.holds.1 unsatisfiable }
+
+-- the verdict for the formula is that for the formula of the horizon
+pub is_verdict : (how : Stepping) (horizon : ℕ) (task : Task) (f : Cnf) (bytes : List ℕ) (verdict : Verdict) → OfKnown task (IsFormula (places_by how) (is_plan_by how) horizon f) → verdict ≡ verdict_of f bytes → OfKnown task (IsVerdict how horizon bytes verdict)
+is_verdict how horizon task f bytes verdict known is = record { clauses = known.clauses; components = known.components; ordered = known.ordered; holds = is ∙ ap (λ (g : Cnf). verdict_of g bytes) known.holds.0 }

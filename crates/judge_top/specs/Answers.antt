@@ -17,6 +17,7 @@ use Rattle.ordered_tasks.specs.Known.{IsOrdered, form_of, formula_at}
 use Rattle.model_text.specs.FirstFalse.{IsFirstFalse}
 use Rattle.plan_report.specs.Report.{plan_text}
 use Rattle.plan_report.specs.Laws.{IsSmallPlan}
+use Rattle.lrat_judge.specs.Verdicts.{verdict_of}
 use Rattle.lrat_judge.specs.declared.verdict.Verdict.{Verdict}
 use Rattle.lrat_judge.specs.declared.verdict.Verdict.TheVariants as verdicts
 use Rattle.plan_words.specs.declared.request.Stepping.{Stepping}
@@ -107,13 +108,17 @@ ended_by horizon _ = Plain NotEmpty
 abbrev pub HasNone : Stepping → ℕ → OrderedTask → Type 0
 HasNone how horizon form = (steps : List (List ℕ)) → AreSets (is_plan_by how) form.task (order_of form.components) steps horizon → ⊥
 
--- what a proof comes to: the formula is past the limit, the proof could not be read, or this is the verdict on it; where that is a
--- refutation there is no plan of so many steps
-pub data AnswersJudge (how : Stepping) (horizon : ℕ) (before now : ℕ) (task : Parts) (g : Grounded) (end : Ended) : Type 0 where
-  too_large : (plain : Ending) → TellsTooMany (places_by how) horizon g.task plain → end ≡ Plain plain → AnswersJudge how horizon before now task g end
-  unread : (plain : Ending) → IsUnread before now plain → end ≡ Plain plain → AnswersJudge how horizon before now task g end
-  judged : (verdict : Verdict) → end ≡ ended_by horizon verdict → ((entries : ℕ) → verdict ≡ verdicts.Refuted entries → OfKnown g.task (HasNone how horizon))
-      → AnswersJudge how horizon before now task g end
+-- the verdict is the one on these bytes for the formula of a horizon
+abbrev pub IsVerdict : Stepping → ℕ → List ℕ → Verdict → OrderedTask → Type 0
+IsVerdict how horizon bytes verdict form = verdict ≡ verdict_of (formula_at (places_by how) form horizon) bytes
+
+-- what a proof of these bytes comes to: the formula is past the limit, the proof could not be read, or this is the verdict on it; where
+-- that is a refutation there is no plan of so many steps
+pub data AnswersJudge (how : Stepping) (horizon : ℕ) (before now : ℕ) (bytes : List ℕ) (task : Parts) (g : Grounded) (end : Ended) : Type 0 where
+  too_large : (plain : Ending) → TellsTooMany (places_by how) horizon g.task plain → end ≡ Plain plain → AnswersJudge how horizon before now bytes task g end
+  unread : (plain : Ending) → IsUnread before now plain → end ≡ Plain plain → AnswersJudge how horizon before now bytes task g end
+  judged : (verdict : Verdict) → end ≡ ended_by horizon verdict → OfKnown g.task (IsVerdict how horizon bytes verdict) → ((entries : ℕ) → verdict ≡ verdicts.Refuted entries → OfKnown g.task (HasNone how horizon))
+      → AnswersJudge how horizon before now bytes task g end
 
 -- ---- models
 

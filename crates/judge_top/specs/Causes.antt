@@ -1,6 +1,7 @@
 -- When each ending of a run of the judge comes.
 use Rattle.std.specs.Prelude.{◌≡◌, ◌⊎◌, ℕ, List, [], ◌∷◌, ◌++◌, Option, Some, None}
 use Rattle.pl_io.specs.Outside.{Heard, whole, Rose}
+use Rattle.pl_io.specs.Tape.{Given}
 use Rattle.plan_words.specs.Seen.{grounds}
 use Rattle.plan_words.specs.declared.request.Stepping.{Stepping}
 use Rattle.plan_files.specs.Limits.{file_at}
@@ -30,15 +31,18 @@ module _ (faults rises : ℕ) where
   abbrev pub OfModel : Stepping → ℕ → Ended → List ℕ → List ℕ → Type 0
   OfModel s h end first second = ((end ≡ Unread) × Rose faults rises) ⊎ OnceReady first second (AnswersModel s h faults rises) end
 
+-- The same, and what the tape handed over since a file was opened last.
+module _ (faults rises : ℕ) (given : Given) where
   -- What the bytes of the domain and of the problem come to: the proof, or the model, could not be opened, or they, and it, decide the
   -- ending.
   abbrev pub Answers : Seen → Ended → List ℕ → List ℕ → Type 0
   Answers (formulas d p h s) end first second = OnceReady first second (AnswersFormula s h) end
-  Answers (judges d p h l s) end first second = IsUnopened end ⊎ OnceReady first second (AnswersJudge s h faults rises) end
-  Answers (models d p h m s) end first second = OfModel s h end first second
+  Answers (judges d p h l s) end first second = IsUnopened faults rises end ⊎ ((given.0 ≡ l) × OnceReady first second (AnswersJudge s h faults rises given.1) end)
+  Answers (models d p h m s) end first second = OfModel faults rises s h end first second
 
--- What the shelf handed over before a run and after it, the names at which it failed, and the counts of the tape's faults.
-module _ (heard hears : List Heard) (failed fails : List (List ℕ)) (faults rises : ℕ) where
+-- What the shelf handed over before a run and after it, the names at which it failed, the counts of the tape's faults, and what the tape
+-- handed over.
+module _ (heard hears : List Heard) (failed fails : List (List ℕ)) (faults rises : ℕ) (given : Given) where
   -- two files of these names stop a run: one of them was not taken whole
   abbrev pub StopsAt : List ℕ → List ℕ → Ended → Type 0
   StopsAt domain problem end =
@@ -50,7 +54,7 @@ module _ (heard hears : List Heard) (failed fails : List (List ℕ)) (faults ris
 
   -- When an ending comes for a request: the domain or the problem stops it, or both were taken whole and come to it.
   abbrev pub ComesFor : Seen → Ended → Type 0
-  ComesFor request end = StopsAt (domain_of request) (problem_of request) end ⊎ OfTaken (domain_of request) (problem_of request) (Answers faults rises request end)
+  ComesFor request end = StopsAt (domain_of request) (problem_of request) end ⊎ OfTaken (domain_of request) (problem_of request) (Answers faults rises given request end)
 
   -- When an ending comes for the words of a command line: they ask for nothing, or it comes for what they ask for.
   pub data Comes (words : List (List ℕ)) (end : Ended) : Type 0 where

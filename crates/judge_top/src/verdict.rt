@@ -1,7 +1,9 @@
 //! The verdict on a proof that a tape gives.
-ghost use Rattle.std.specs.Prelude.{◌≡◌, ◌≤◌, ◌<◌, ℕ, length, Ok, IfOk, IfSome};
+ghost use Rattle.std.specs.Prelude.{◌≡◌, ◌≤◌, ◌<◌, ℕ, [], length, take, Ok, None, OnOk, IfOk, IfSome};
 ghost use Rattle.clause_base.specs.Formula.{IsUnsatisfiable};
 ghost use Rattle.pl_io.specs.Outside.{Rose};
+ghost use Rattle.pl_io.specs.Tape.{given_more};
+ghost use Rattle.lrat_judge.specs.Verdicts.{verdict_of};
 ghost use Rattle.plan_files.specs.Ends.{StopsBy};
 ghost use Rattle.judge_top.specs.Answers.{IsUnread, stop_of};
 
@@ -28,6 +30,7 @@ fn stop_of(error: TakeError) -> Stop
 
 /// Opens the file of a proof.
 pub fn open<T: Tape>(tape: &mut T, name: &str) -> Result<(), Stop>
+    ensures given { OnOk result (T.given tape.new ≡ (name.now, [])) }
     ensures stops { StopsBy (IsUnread (T.faults tape.old) (T.faults tape.new)) result }
     ensures later { T.faults tape.old ≤ T.faults tape.new }
 {
@@ -42,6 +45,9 @@ fn next<T: Tape>(tape: &mut T, piece: &mut [u8]) -> Result<Option<usize>, Stop>
     requires { 0 < length piece.old }
     ensures room { length piece.new ≡ length piece.old }
     ensures bound { IfOk result (λ o. IfSome o (λ count. count ≤ length piece.new)) }
+    ensures given { IfOk result (λ o. IfSome o (λ count. T.given tape.new ≡ given_more (T.given tape.old) (take count piece.new))) }
+    ensures named { (T.given tape.new).0 ≡ (T.given tape.old).0 }
+    ensures end { result ≡ Ok None → T.given tape.new ≡ given_more (T.given tape.old) [] }
     ensures fewer { IfOk result (λ o. IfSome o (λ count. T.pieces tape.new < T.pieces tape.old)) }
     ensures stops { StopsBy (IsUnread (T.faults tape.old) (T.faults tape.new)) result }
     ensures later { T.faults tape.old ≤ T.faults tape.new }
@@ -56,6 +62,8 @@ fn next<T: Tape>(tape: &mut T, piece: &mut [u8]) -> Result<Option<usize>, Stop>
 /// What the judge says of the proof that is open, over a formula: of a proof that is read to its end, or to the first line that tells.
 pub fn verdict_on<T: Tape>(alloc: Global, formula: &Formula, tape: &mut T) -> Result<Verdict, Stop>
     ensures refuted { (entries : ℕ) → result ≡ Ok (Verdict.Refuted entries) → IsUnsatisfiable formula.now.clauses }
+    ensures verdict { (T.given tape.old).1 ≡ [] → IfOk result (λ verdict. verdict ≡ verdict_of formula.now (T.given tape.new).1) }
+    ensures named { (T.given tape.new).0 ≡ (T.given tape.old).0 }
     ensures stops { StopsBy (IsUnread (T.faults tape.old) (T.faults tape.new)) result }
     ensures later { T.faults tape.old ≤ T.faults tape.new }
 {

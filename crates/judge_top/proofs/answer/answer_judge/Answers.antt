@@ -4,7 +4,7 @@ use Rattle.plan_tasks.specs.Stepping.{places_by, is_plan_by}
 use Rattle.plan_tasks.specs.Tasks.{StopsTask}
 use Rattle.judge_top.specs.Answers.{OnceReady, not_ready, ready, AnswersJudge, too_large, unread, judged, IsUnread, OfKnown, IsFormula, TellsTooMany}
 use Rattle.judge_top.proofs.Handed.{handed}
-use Rattle.judge_top.proofs.Formulas.{has_none}
+use Rattle.judge_top.proofs.Formulas.{has_none, is_verdict}
 use Rattle.judge_top.proofs.answer.answer_judge.Goals as goal
 
 pub returns-in_err-ready-clause-ended : goal.returns-in_err-ready-clause-ended
@@ -32,4 +32,4 @@ returns-clause-ended g c =
     let f = c.in_ok-formula.formula in
     let known = subst (λ (t : Task). OfKnown t (IsFormula (places_by c.args.steps) (is_plan_by c.args.steps) c.args.horizon f)) c.task.ensures c.in_ok-formula.ensures.formula in
     ready r.task r.grounded c.in_ok-ready.ensures.task c.in_ok-ready.ensures.ready
-    (judged c.in_ok-verdict.verdict c.ended.ensures (λ entries e. has_none c.args.steps c.args.horizon r.grounded.task f known (c.in_ok-verdict.ensures.refuted entries (ap Ok e))))
+    (judged c.in_ok-verdict.verdict c.ended.ensures (is_verdict c.args.steps c.args.horizon r.grounded.task f (g.T.Tape.given c.verdict_on.new.tape).1 c.in_ok-verdict.verdict known (c.in_ok-verdict.ensures.verdict c.requires.opened)) (λ entries e. has_none c.args.steps c.args.horizon r.grounded.task f known (c.in_ok-verdict.ensures.refuted entries (ap Ok e))))

@@ -1,4 +1,5 @@
-use Rattle.std.proofs.Common.{refl, inl, inr}
+use Rattle.std.proofs.Common.{◌≡◌, ◌∙◌, [], ap, refl, inl, inr}
+use Rattle.pl_io.specs.Tape.{Given}
 use Rattle.judge_top.proofs.Deciding.{judged_before}
 use Rattle.judge_top.proofs.Handed.{handed, weaker}
 use Rattle.judge_top.proofs.decide.answer.Goals as goal
@@ -7,6 +8,9 @@ pub returns-in_err-open-in-Judge-clause-cause : goal.returns-in_err-open-in-Judg
 returns-in_err-open-in-Judge-clause-cause g c =
     rw c.in-Judge.is (handed _ _ (λ end h. inl (end, h, refl)) c.in_err-open-in-Judge.field-0.0 c.from_residual.result c.from_residual.ensures.1 c.in_err-open-in-Judge.ensures.stops)
 
+pub answer_judge-requires-clause-opened : goal.answer_judge-requires-clause-opened
+answer_judge-requires-clause-opened g c lifetimes within = ap (λ (given : Given). given.1) c.in_ok-open-in-Judge.ensures.given
+
 pub returns-in_ok-open-in-Judge-clause-cause : goal.returns-in_ok-open-in-Judge-clause-cause
 returns-in_ok-open-in-Judge-clause-cause g c =
-    rw c.in-Judge.is (weaker _ _ (λ end h. inr (judged_before _ _ c.in-Judge.stepping c.in-Judge.horizon _ _ _ c.open.ensures.later end h)) c.answer_judge.result c.answer_judge.ensures.ended)
+    rw c.in-Judge.is (weaker _ _ (λ end h. inr (c.answer_judge.ensures.named ∙ ap (λ (given : Given). given.0) c.in_ok-open-in-Judge.ensures.given, judged_before _ _ c.in-Judge.stepping c.in-Judge.horizon _ _ _ _ c.open.ensures.later end h)) c.answer_judge.result c.answer_judge.ensures.ended)
