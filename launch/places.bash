@@ -10,11 +10,13 @@ use() {
     for part; do . "$root/launch/$part.bash"; done
 }
 
-# find_places: sets places to the folders in which something may be kept, and TMPDIR to a folder that is there.
+# find_places: sets places to the folders in which something may be kept, TMPDIR to a folder that is there, and how programs
+# keep their memory.
 find_places() {
     local cache=${XDG_CACHE_HOME:-${HOME:+$HOME/.cache}}
     temporary=${TMPDIR:-/tmp}
     [[ -d $temporary && -w $temporary ]] || temporary=/tmp
     export TMPDIR=$temporary
+    keep_tables
     places=("$root/out" ${cache:+"$cache/dokyreva"} "$temporary/dokyreva-$EUID")
 }

@@ -159,3 +159,10 @@ find_machine() {
     machine=${HOSTNAME-}
     [ -n "$machine" ] || [ ! -r /proc/sys/kernel/hostname ] || read -r machine </proc/sys/kernel/hostname
 }
+
+# keep_tables: what the program gives back it may use again, and large tables are given back exactly: less time is spent in the
+# system, and less memory held, than by the rules that glibc goes by itself. Whoever has set such rules keeps them.
+keep_tables() {
+    [ -z "${MALLOC_TRIM_THRESHOLD_-}${MALLOC_MMAP_THRESHOLD_-}${GLIBC_TUNABLES-}" ] || return 0
+    export MALLOC_TRIM_THRESHOLD_=268435456 MALLOC_MMAP_THRESHOLD_=524288
+}

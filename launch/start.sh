@@ -59,6 +59,7 @@ end_ready() {
 status=''
 # (where standard input is closed, it is left to bash)
 if is_plain "$@" && is_ready && { :; } 2>/dev/null <&0; then
+    keep_tables
     echo 'dokyreva: this is the proved program of the release' >&2
     run_ready "$@"
     [ "$status" -gt 2 ] || exit "$status"
