@@ -63,6 +63,9 @@ impl<'a> Reader<'a> {
 
     /// Takes the next entry out, where one is left, and tells what it does. Its numbers are decoded once: a clause that is
     /// learned and its hints go into vectors that are written over. After want of memory no entry is taken out.
+    /// In a program this is a call of its own too: written into the check of a log, its loops would leave too few registers to
+    /// those over the hints' literals.
+    #[inline(never)]
     #[tactic(auto, using(crate::proofs::HeldLaws::not_all_read))]
     pub fn take_into(&mut self, clause: &mut Vec<Lit>, hints: &mut Vec<u32>) -> Result<Kind, Memory>
         requires { 0 < length self.old }
