@@ -1,6 +1,6 @@
 use Rattle.std.proofs.Common.{◌≡◌, ◌+◌, ◌*◌, ◌%◌, ◌^◌, length}
 use Rattle.number_bytes.specs.Number.{number_of, after_number}
-use Rattle.number_bytes.proofs.number.take_number.Given as goal
+use Rattle.number_bytes.proofs.number.take_long.Given as goal
 
 abbrev pub invariant-loop-byte : goal.invariant-loop-byte
 invariant-loop-byte l = record {

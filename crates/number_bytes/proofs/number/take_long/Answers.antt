@@ -1,7 +1,7 @@
 use Rattle.std.proofs.Common.{◌≡◌, ◌∙◌, ◌∷◌, ◌+◌, ◌-◌, ◌*◌, ◌%◌, ◌^◌, ℕ, ap, arith, rules, sym, refl}
 use Rattle.number_bytes.specs.Number.{number_of, after_number}
 use Rattle.number_bytes.proofs.NumberLaws.{number_fits, weighed, number_more, after_more}
-use Rattle.number_bytes.proofs.number.take_number.Goals as goal
+use Rattle.number_bytes.proofs.number.take_long.Goals as goal
 
 pub loop-byte-init : goal.loop-byte-init
 loop-byte-init c =
