@@ -54,6 +54,7 @@ fn learn_derived(
     ensures learned { result ≡ Ok true → kept.new.learned ≡ kept.old.learned ++ Some clause.now ∷ [] }
     ensures same { (result ≡ Ok true → ⊥) → kept.new.learned ≡ kept.old.learned }
 {
+    // For the proof: the formula's literals are of its variables.
     let _below = formula.variables();
     if !is_learnable(marks, formula, kept, clause, hints)? {
         return Ok(false);
