@@ -99,7 +99,6 @@ impl Formula {
             return write_out(self, alloc, &part);
         }
         let part = part.share(alloc)?;
-        // For the proof: the part's literals are of the formula's variables.
         let _below = part.count();
         let Formula {
             name,
@@ -213,7 +212,6 @@ impl Formula {
         ensures fits { variables_of result.repeated.now ≤ self.now.variables }
         ensures lawful { IsRepeatable result.repeated.now }
     {
-        // For the proof: what is repeated are clauses of one step and of one time.
         let _lawful = self.repeated.horizon();
         Parts {
             told: &self.told,
