@@ -38,6 +38,7 @@ use Rattle.plan_answers.specs.Answers.{OfSettings}
 use Rattle.plan_answers.specs.Stepping.{places_by, is_plan_by}
 use Rattle.plan_answers.specs.Tasks.{AreTask}
 pub use Rattle.plan_tasks.specs.Claims.{Printed, OfFiles, OfGrounded, HasAtLeast, NoStepPlan, NoPlan}
+pub use Rattle.told_plans.specs.Claims.{PlanRuns}
 
 -- what was handed over in between is two files that are a task, and a third file, of whose bytes the claim holds too
 abbrev pub OfThreeFiles : List Heard → List Heard → List ℕ → List ℕ → List ℕ → (List ℕ → Parts → Type 0) → Type 0
@@ -53,17 +54,6 @@ OfPlans words was now old new promise =
     → promise how text numbers (OfFiles was now domain problem)
 
 -- ---- plans
-
--- Under its step lines, which are as many as its line of the plan says, the text has the calls of a plan in these steps, each
--- step in published order, and no others; and a step has actions of the task, none of them twice.
-abbrev pub HasStepPlan : Stepping → List ℕ → Parts → List Call → Grounded → List (ℕ × ℕ) → List (List ℕ) → Type 0
-HasStepPlan how text task calls g clauses components =
-    (steps : List (List ℕ)) × (n : ℕ) × Contains (lines_of text) (plan_line n (length (actions_in steps))) × TellsSteps text (calls_by_step task g steps)
-    × AreNumbers g calls (actions_in steps) × AreSets (is_plan_by how) g.task (order_of components) steps n × AreListed (order_of components) steps × AllByRecursion (HasActionsOnce g.task) steps
-
--- the text is a plan file whose calls are a plan, and its steps are a step plan
-abbrev pub PlanRuns : Stepping → List ℕ → Parts → Type 0
-PlanRuns how text task = (calls : List Call) × (plan_file task text ≡ Ok calls) × IsPlan task calls × OfGrounded task (HasStepPlan how text task calls)
 
 -- each list has the members of the set at its place, in some order
 abbrev pub AreOrders : List (List ℕ) → List (List ℕ) → Type 0
