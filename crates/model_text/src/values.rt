@@ -30,8 +30,8 @@ impl Model for Values {
 
 // Marks a place of a row, where that is free in the other row.
 fn mark(row: &mut Vec<bool>, other: &[bool], place: usize) -> bool
-    requires { place < length row.old }
-    requires { length other.now ≡ length row.old }
+    requires within { place < length row.old }
+    requires long { length other.now ≡ length row.old }
     ensures marked { result ≡ true → (get_or other.now place false ≡ false) × (row.new.items ≡ set row.old.items place true) }
     ensures taken { result ≡ false → get_or other.now place false ≡ true }
 {
