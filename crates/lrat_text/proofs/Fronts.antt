@@ -13,13 +13,13 @@ FrontsAt text i = (word_front text ≡ take i text ++ word_front (drop i text)) 
 
 -- one byte more that is no blank
 pub front_more : (text : List ℕ) (i : ℕ) → i < length text → is_blank (get_or text i 0) ≡ false → FrontsAt text i → FrontsAt text (i + 1)
-front_more text i less no h =
+front_more text i less plain h =
     let b = get_or text i 0 in
     let rest = drop (suc i) text in
     let one : suc i ≡ i + 1 = omega arith in
     let at = drop-cons text i 0 less in
-    let word : word_front (b ∷ rest) ≡ b ∷ word_front rest = rw no refl in
-    let after : after_word (b ∷ rest) ≡ after_word rest = rw no refl in (
+    let word : word_front (b ∷ rest) ≡ b ∷ word_front rest = rw plain refl in
+    let after : after_word (b ∷ rest) ≡ after_word rest = rw plain refl in (
       h.0
           ∙ ap (λ (t : List ℕ). take i text ++ word_front t) at
           ∙ ap (λ (t : List ℕ). take i text ++ t) word
@@ -54,15 +54,15 @@ front_whole text i all h =
 pub next_word : (bytes text : List ℕ) → text ≡ after_blanks bytes → (word rest : List ℕ) → word ≡ word_front text → rest ≡ after_word text → (length word ≡ 0 → ⊥) → words_of bytes ≡ word ∷ words_of rest
 next_word bytes [] is word rest w r some = absurd (some (ap (λ (t : List ℕ). length t) w))
 next_word bytes (b ∷ more) is word rest w r some =
-    let no = front_no_blank bytes b more (sym is) in
-    let front : word_front (b ∷ more) ≡ b ∷ word_front more = rw no refl in
-    let after : after_word (b ∷ more) ≡ after_word more = rw no refl in
+    let plain = front_no_blank bytes b more (sym is) in
+    let front : word_front (b ∷ more) ≡ b ∷ word_front more = rw plain refl in
+    let after : after_word (b ∷ more) ≡ after_word more = rw plain refl in
     words_at bytes b more (sym is) ∙ ap (λ (t : List ℕ). t ∷ words_of (after_word more)) (sym (w ∙ front)) ∙ ap (λ (t : List ℕ). word ∷ words_of t) (sym (r ∙ after))
 
 -- there is none where it is empty
 pub no_word : (bytes text : List ℕ) → text ≡ after_blanks bytes → length (word_front text) ≡ 0 → words_of bytes ≡ []
 no_word bytes [] is none = words_none bytes (sym is)
 no_word bytes (b ∷ more) is none =
-    let no = front_no_blank bytes b more (sym is) in
-    let front : word_front (b ∷ more) ≡ b ∷ word_front more = rw no refl in
+    let plain = front_no_blank bytes b more (sym is) in
+    let front : word_front (b ∷ more) ≡ b ∷ word_front more = rw plain refl in
     let long = ap (λ (t : List ℕ). length t) front in absurd (let never : ⊥ = omega (arith, none, long) in never)

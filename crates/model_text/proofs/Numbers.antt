@@ -2,7 +2,7 @@
 use Rattle.std.proofs.Common.{◌≡◌, ◌==◌, ◌&&◌, ◌<◌, ◌≤◌, not, ℕ, List, [], ◌∷◌, ◌++◌, length, drop, Bool, true, false, Option, Some, None, option_map, refl, sym, ap, subst, ◌∙◌, arith, inl, inr}
 use Rattle.std.specs.Prelude.{nat_le, codes, option_and_then}
 use Rattle.std.specs.Str.{bytes_eq}
-use Rattle.std.proofs.lemmas.Bool.{eq-eqb}
+use Rattle.std.proofs.lemmas.Bool.{eq-eqb, eqb-true}
 use Rattle.std.proofs.lemmas.Bool.Decides.{eqb_tells}
 use Rattle.lrat_text.specs.declared.words.Signed.{Signed}
 use Rattle.lrat_text.specs.Words.{words_of, number_of, first_number}
@@ -35,11 +35,11 @@ module _ (variables : ℕ) (told : Told) where
 
   literal_after : (n : Signed) → told.ended ≡ false → (n.number ≡ 0 → ⊥) → may n ≡ true → with_number variables told n ≡ Some (record { literals = told.literals ++ n ∷ []; ended = false })
   unfolding with_number
-  literal_after n going some yes = rw (going, not_zero n.number some, yes) refl
+  literal_after n going some may_is = rw (going, not_zero n.number some, may_is) refl
 
   literal_none : (n : Signed) → told.ended ≡ false → (n.number ≡ 0 → ⊥) → may n ≡ false → with_number variables told n ≡ None
   unfolding with_number
-  literal_none n going some no = rw (going, not_zero n.number some, no) refl
+  literal_none n going some may_not = rw (going, not_zero n.number some, may_not) refl
 
   -- a literal that a table takes, or not
   pub literal_goes : (n : Signed) (answer : Bool) (reader : ReaderView) → told.ended ≡ false → (n.number ≡ 0 → ⊥) → reader.ended ≡ false
@@ -52,7 +52,7 @@ module _ (variables : ℕ) (told : Told) where
 
   pub words_over : (words : List (List ℕ)) → (length words == 0) ≡ true → from_words variables told words ≡ Some told
   words_over [] e = refl
-  words_over (word ∷ words) e = absurd (let never : false ≡ true = e in cc)
+  words_over (word ∷ words) e = absurd (let none = eqb-true (length (word ∷ words)) 0 e in omega (arith, none))
 
   pub words_bad : (words : List (List ℕ)) → (length words == 0) ≡ false → first_number words ≡ None → from_words variables told words ≡ None
   words_bad [] e none = absurd (let never : true ≡ false = e in cc)
@@ -95,8 +95,14 @@ module _ (variables : ℕ) (told : Told) where
     pub found_told : (answer : Bool) (reader : ReaderView) → bytes_eq word (codes "c") ≡ false → bytes_eq word (codes "v") ≡ false → answer ≡ (bytes_eq word (codes "s") && is_satisfiable words) → HasTold variables told reader
         → Goes answer variables reader (line_told line)
     unfolding numbers_told
-    found_told true reader c v s has = subst (Goes true variables reader) (sym (ap line_told is ∙ rw (c, v, sym s) refl)) (refl, has)
-    found_told false reader c v s has = subst (Goes false variables reader) (sym (ap line_told is ∙ rw (c, v, sym s) refl)) refl
+    found_told true reader c v s has =
+        let found : line_told (word ∷ words) ≡ Some told = rw (c, v, sym s) refl in
+        let same : line_told line ≡ Some told = ap line_told is ∙ found in
+        subst (Goes true variables reader) (sym same) (refl, has)
+    found_told false reader c v s has =
+        let none : line_told (word ∷ words) ≡ None = rw (c, v, sym s) refl in
+        let same : line_told line ≡ None = ap line_told is ∙ none in
+        subst (Goes false variables reader) (sym same) refl
 
 -- where that is none, or this
 pub goes_none : (variables : ℕ) (reader : ReaderView) (o : Option Told) → o ≡ None → Goes false variables reader o

@@ -1,5 +1,5 @@
 //! The values of variables.
-ghost use Rattle.std.specs.Prelude.{◌≡◌, ◌<◌, ◌++◌, ◌∷◌, ◌&&◌, [], not, ℕ, List, true, false, nat_le, length, get_or, IfOk};
+ghost use Rattle.std.specs.Prelude.{◌≡◌, ◌<◌, ◌++◌, ◌∷◌, ◌&&◌, [], not, ℕ, List, true, false, nat_le, length, get_or, set, IfOk};
 ghost use Rattle.lrat_text.specs.declared.words.Signed.{Signed};
 ghost use Rattle.model_text.specs.Text.{tells};
 ghost use Rattle.model_text.specs.Stands.{Marks, Holds};
@@ -30,8 +30,8 @@ impl Model for Values {
 
 // Marks a place of a row, where that is free in the other row.
 fn mark(row: &mut Vec<bool>, other: &[bool], place: usize) -> bool
-    requires within { place < length row.old }
-    requires long { length other.now ≡ length row.old }
+    requires within { place < length row.old.items }
+    requires long { length other.now ≡ length row.old.items }
     ensures marked { result ≡ true → (get_or other.now place false ≡ false) × (row.new.items ≡ set row.old.items place true) }
     ensures taken { result ≡ false → get_or other.now place false ≡ true }
 {
@@ -54,6 +54,7 @@ impl Values {
     }
 
     /// Takes a literal, of a number that is not 0, and says whether there is such a variable, and the opposite was not told.
+    #[tactic(auto, using(crate::proofs::Marks::refused_past, crate::proofs::Marks::refused_minus, crate::proofs::Marks::refused_plain, crate::proofs::Marks::taken_minus, crate::proofs::Marks::taken_plain))]
     pub fn tell(&mut self, told: Signed) -> bool
         requires { 0 < told.number }
         ensures taken { (variables : ℕ) (literals : List Signed) → Holds variables literals self.old → result ≡ true

@@ -11,6 +11,6 @@ returns-then-count-eq0-clause-none c =
 pub returns-clause-some : goal.returns-clause-some
 returns-clause-some c =
     let text = c.after_blanks-text.result.now in
-    let some = λ e. c.if-count-eq0.false (sym c.split_at.ensures.front_len ∙ e) in
+    let some : length c.split_at.result.0.now ≡ 0 → ⊥ = λ e. c.if-count-eq0.false (sym c.split_at.ensures.front_len ∙ e) in
     sym c.self.view_is
     ∙ next_word c.self.inside.rest.now text c.after_blanks-text.ensures c.split_at.result.0.now c.split_at.result.1.now (c.split_at.ensures.front ∙ c.word_length-count.ensures.front) (c.split_at.ensures.back ∙ c.word_length-count.ensures.rest) some
