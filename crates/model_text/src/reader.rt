@@ -83,7 +83,7 @@ impl Reader {
         if self.lines.is_ended() {
             return None;
         }
-        Some(at.saturating_add(self.front.len() as u64))
+        Some(at.saturating_add(self.front.as_slice().len() as u64))
     }
 
     /// The values that were told, variable by variable; a variable of which none was told is false.

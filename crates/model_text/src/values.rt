@@ -32,6 +32,7 @@ impl Model for Values {
 fn mark(row: &mut Vec<bool>, other: &[bool], place: usize) -> bool
     requires within { place < length row.old.items }
     requires long { length other.now ≡ length row.old.items }
+    ensures long { length row.new.items ≡ length row.old.items }
     ensures marked { result ≡ true → (get_or other.now place false ≡ false) × (row.new.items ≡ set row.old.items place true) }
     ensures taken { result ≡ false → get_or other.now place false ≡ true }
 {

@@ -25,6 +25,6 @@ returns-clause-refused c variables text read =
     let front = c.deref.ensures.value ∙ ap (λ (v : ReaderView). v.front) c.self.view_is in
     let goes = subst (λ (line : List ℕ). Goes true variables c.take.new.self (with_line variables read.told line)) front (c.if-not-take.ensures.goes variables read.told (record { holds = has.holds; ended = has.ended })) in
     let at : c.at-at.result ≡ counted read.at = c.at-at.ensures ∙ (ap (λ (v : ReaderView). v.at) c.self.view_is ∙ read.at_is) in
-    let long : c.len.result ≡ length (last_part text) = c.len.ensures ∙ (ap (λ (v : ReaderView). length v.front) c.self.view_is ∙ ap (λ (t : List ℕ). length t) read.front) in
+    let long : length c.as_slice.result.now ≡ length (last_part text) = ap (λ (t : List ℕ). length t) c.as_slice.ensures.value ∙ (ap (λ (v : ReaderView). length v.front) c.self.view_is ∙ ap (λ (t : List ℕ). length t) read.front) in
     let begins = read.begins in
     end_open variables text c.args.self.now read c.take.new.self goes c.saturating_add.result (sym c.is_ended.ensures ∙ c.if-is_ended.false) (omega (arith, at, long, begins))

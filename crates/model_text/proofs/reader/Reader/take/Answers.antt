@@ -30,7 +30,7 @@ returns-clause-read c variables text read e =
     let s = c.loop-line.invariant variables text read in
     let rest = c.loop-line.rest.now in
     let items = c.in_ok-extend_from_slice.ensures.items in
-    let is = ap (λ (front : List ℕ). record { table = c.self.inside.lines.table; ended = c.self.inside.lines.ended; at = c.self.inside.lines.at; front = front }) items
-    ∙ ap (λ (v : ReaderView). record { table = v.table; ended = v.ended; at = v.at; front = v.front ++ rest }) c.self.view_is in
-    let now : ReaderView = record { table = c.self.inside.lines.table; ended = c.self.inside.lines.ended; at = c.self.inside.lines.at; front = c.extend_from_slice.new.self.items } in
+    let is = ap (λ (front : List ℕ). record { table = c.self-2.inside.lines.table; ended = c.self-2.inside.lines.ended; at = c.self-2.inside.lines.at; front = front }) items
+    ∙ ap (λ (v : ReaderView). record { table = v.table; ended = v.ended; at = v.at; front = v.front ++ rest }) c.self-2.view_is in
+    let now : ReaderView = record { table = c.self-2.inside.lines.table; ended = c.self-2.inside.lines.ended; at = c.self-2.inside.lines.at; front = c.extend_from_slice.new.self.items } in
     subst (λ (t : List ℕ). HasRead variables t now) (sym s.1) (held_on variables s.0 c.loop-line.self s.2 now rest c.in_default.ensures.none is)
