@@ -1,7 +1,7 @@
 -- What a race that ended on a task means for the task and for its report.
-use Rattle.std.proofs.Common.{◌≡◌, ◌<◌, ◌≤◌, ℕ, zero, suc, ◌+◌, ◌^◌, Bool, true, false, List, [], ◌∷◌, ◌++◌, map, length, get_or, codes, refl, sym, ap, ap₂, subst, ◌∙◌, arith, Option, Some, None, if◌then◌else◌}
-use Rattle.std.specs.Prelude.{IsTrue, Contains, decimal, slice_get, slice_index_or}
-use Rattle.std.specs.List.{AllByRecursion, list_all}
+use Rattle.std.proofs.Common.{◌≡◌, ◌<◌, ℕ, zero, suc, ◌+◌, ◌^◌, Bool, List, [], ◌∷◌, ◌++◌, map, length, get_or, codes, refl, sym, ap, ap₂, subst, ◌∙◌, arith}
+use Rattle.std.specs.Prelude.{Contains, decimal, slice_index_or}
+use Rattle.std.specs.List.{AllByRecursion}
 use Rattle.std.proofs.lemmas.List.Elements.{All-contains, All-map, All-from_recursion, All-contains_itself, Contains-append_left, Contains-append_right}
 use Rattle.std.proofs.lemmas.Fmt.{decimal_is_IsNumeral}
 use Rattle.report_lines.specs.Lines.{lines_of}
@@ -9,22 +9,14 @@ use Rattle.report_lines.specs.Horizons.{Entry, entry_line, report}
 use Rattle.clause_base.specs.Derivation.{IsRefutation}
 use Rattle.clause_base.specs.Formula.{IsModel, assignment_of}
 use Rattle.cdcl_rules.specs.State.{State}
-use Rattle.gt_core.specs.Published.{IsPublished, order_of}
-use Rattle.gt_core.specs.Task.{Task}
-use Rattle.gt_core.specs.Laws.{NeverItself}
+use Rattle.gt_core.specs.Published.{order_of}
 use Rattle.horizon_rates.specs.declared.settings.Settings.{Settings}
-use Rattle.pd_model.specs.Fits.{is_call}
-use Rattle.pd_model.specs.Exec.{exec_schema}
-use Rattle.pd_model.specs.Plan.{IsPlan, exec_all, meets_goal}
-use Rattle.pd_model.specs.declared.atoms.Atom.{Atom}
+use Rattle.pd_model.specs.Plan.{IsPlan}
 use Rattle.pd_model.specs.declared.calls.Call.{Call}
 use Rattle.pd_model.specs.declared.parts.Parts.{Parts}
-use Rattle.grounding.specs.Grounded.{Grounded, IsGrounded}
+use Rattle.grounding.specs.Grounded.{Grounded}
 use Rattle.grounding.specs.Laws.{AreNumbers}
-use Rattle.step_laws.specs.Form.{OrderedTask, IsOrderedTask, AreSets, member_at, steps_at}
-use Rattle.step_laws.specs.Stepping.{IsStepping}
-use Rattle.step_encoding.specs.Laws.{by_components}
-use Rattle.all_steps.specs.Form.{by_both_ways}
+use Rattle.step_laws.specs.Form.{OrderedTask, AreSets, steps_at}
 use Rattle.horizon_run.specs.Run.{truths_of}
 use Rattle.race_end.specs.declared.line.LineEnd.{LineEnd}
 use Rattle.race_end.specs.declared.line.LineEnd.TheVariants as ends
@@ -35,7 +27,7 @@ use Rattle.race_end.specs.Ends.{Word, WordRefuted, WordDropped, WordOpen, WordPl
 use Rattle.race.specs.Input.{RaceInput}
 use Rattle.race.proofs.Exhausted.{last_is_refuted}
 use Rattle.race.specs.Lines.{IsLine, IsMarked, WhereRefuted, state_of_line, standing_of as standing_at}
-use Rattle.step_plans.specs.Plans.{AreStepPlan, IsStepPlanOf, AreListed, actions_in}
+use Rattle.step_plans.specs.Plans.{AreListed, actions_in}
 use Rattle.plan_report.specs.Report.{word_text, entry_of, plan_line, exhausted_line, conflicts_line, last_lines, report_of}
 use Rattle.plan_report.specs.Laws.{IsSmall, IsSmallLine, HasCalls, Tells}
 use Rattle.certificates.specs.Known.{IsOrdered, form_of, choice_at, formula_at}
@@ -45,8 +37,7 @@ use Rattle.told_plans.proofs.Runs as runs
 use Rattle.plan_tasks.proofs.Claims.{as_barred}
 use Rattle.plan_words.specs.Seen.{numbers}
 use Rattle.plan_words.specs.declared.request.Stepping.{Stepping}
-use Rattle.plan_words.specs.declared.request.Stepping.TheVariants.{Exists, All}
-use Rattle.plan_answers.specs.Stepping.{places_by, is_plan_by, bars_by}
+use Rattle.plan_answers.specs.Stepping.{places_by, is_plan_by}
 use Rattle.plan_answers.specs.Tasks.{IsReady}
 use Rattle.plan_answers.specs.Raced.{input_of, ComesTo}
 use Rattle.plan_claims.specs.Headline.{OfGrounded, PlanRuns, HasAtLeast, HasPlanOf, TellsExhausted, NoStepPlan, NoPlan, IsSo, LineIsSo, standing_of, conflicts_of, line_words, SpendsAll}

@@ -1,6 +1,6 @@
 -- What a report and a checked plan promise of the files.
 use Rattle.std.specs.List.{AllByRecursion, AllZip}
-use Rattle.std.specs.Prelude.{◌≡◌, ◌≤◌, ℕ, ◌+◌, List, [], ◌∷◌, ◌++◌, map, length, codes, Bool, IsTrue, Option, Some, Ok, Contains}
+use Rattle.std.specs.Prelude.{◌≡◌, ℕ, ◌+◌, List, [], ◌∷◌, ◌++◌, map, length, codes, IsTrue, Option, Some, Ok, Contains}
 use Rattle.pl_io.specs.Outside.{Heard, whole}
 use Rattle.report_lines.specs.Lines.{lines_of}
 use Rattle.report_lines.specs.Horizons.{Entry, Says, is_word, entry_line, report}
@@ -21,7 +21,7 @@ use Rattle.grounding.specs.Grounded.{Grounded, IsGrounded}
 use Rattle.grounding.specs.Laws.{AreNumbers}
 use Rattle.task_text.specs.Text.{ground_text, order_text}
 use Rattle.race_end.specs.Ends.{Word, WordRefuted, WordDropped, WordOpen, WordPlan}
-use Rattle.step_plans.specs.Plans.{AreListed, HasActionsOnce, actions_in}
+use Rattle.step_plans.specs.Plans.{actions_in}
 use Rattle.plan_report.specs.Report.{word_text, plan_line, exhausted_line, conflicts_line, calls_by_step}
 use Rattle.plan_report.specs.Laws.{TellsSteps}
 use Rattle.plan_words.specs.Seen.{Numbers, plans_by}
