@@ -245,7 +245,9 @@ module _ (heard hears : List Heard) (failed fails : List (List ℕ)) (tape : Tap
   of_request : (n : ℕ) (request : Seen) (claim : Parts → Type 0) → n ≤ 3 → IsDue → status ≡ n → requested words ≡ Some request
       → ((end : Ended) → status_of end ≡ n → after ≡ appended before (text_of end) → (first second : List ℕ) → Answers tape request end first second → (task : Parts) × AreTask first second task × claim task)
       → OfFiles heard hears (domain_of request) (problem_of request) claim
-  of_request n request claim low due at is gives = of_taken n request (λ first second. (task : Parts) × AreTask first second task × claim task) low due at is gives
+  of_request n request claim low due at is gives =
+      let t = of_taken n request (λ first second. (task : Parts) × AreTask first second task × claim task) low due at is gives in
+      (t.0, t.1, t.2, t.3.0, t.3.1, t.3.2)
 
   -- so do they where they are ready
   of_ready : (n : ℕ) (claim : Parts → Type 0) (answers : Parts → Grounded → Ended → Type 0) (end : Ended) → n ≤ 1 → status_of end ≡ n → (first second : List ℕ) → OnceReady first second answers end

@@ -78,7 +78,8 @@ fn read_given<T: Tape>(alloc: Global, variables: u32, tape: &mut T) -> Result<Gi
         match tape.take(&mut piece) {
             Ok(0) => return Ok(finished(reader)),
             Ok(count) => {
-                if let Some(at) = reader.take(&piece[..count])? {
+                let refused = reader.take(&piece[..count])?;
+                if let Some(at) = refused {
                     return Ok(Given::NoText { at });
                 }
             }
