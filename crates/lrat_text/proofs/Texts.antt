@@ -1,11 +1,10 @@
 -- The lines of a text that goes on.
-use Rattle.std.proofs.Common.{arith, ◌≡◌, ◌==◌, ◌+◌, ◌-◌, ◌<◌, ◌≤◌, inl, inr, suc, take, drop, get_or, length-drop, ℕ, List, [], ◌∷◌, ◌++◌, length, Bool, true, false, refl, sym, ap, ◌∙◌}
+use Rattle.std.proofs.Common.{arith, ◌≡◌, ◌==◌, ◌+◌, ◌-◌, ◌<◌, ◌≤◌, inl, inr, suc, take, drop, get_or, length-drop, append_assoc, ℕ, List, [], ◌∷◌, ◌++◌, length, Bool, true, false, refl, sym, ap, ◌∙◌}
 use Rattle.std.proofs.lemmas.List.{take_all, take-append-drop}
 use Rattle.std.proofs.Math.Seq.{drop-cons}
 use Rattle.std.proofs.lemmas.Bool.Decides.{eqb_tells}
 use Rattle.std.proofs.lemmas.Grind.{take_at_read}
-use Rattle.lrat_judge.specs.Verdicts.{put_first, whole_lines, last_part}
-use Rattle.lrat_judge.specs.Reached.{has_no_end}
+use Rattle.lrat_text.specs.Lines.{put_first, whole_lines, last_part, has_no_end}
 
 -- the first byte of a text without an end of a line is none
 first_no_end : (b : ℕ) (text : List ℕ) → has_no_end (b ∷ text) ≡ true → ((b == 10) ≡ false) × (has_no_end text ≡ true)
@@ -92,6 +91,10 @@ last_more (b ∷ text) rest e = by (last_more text rest e) (b == 10) refl
             → elim ls as (λ _. List ℕ) [ [] ↦ b ∷ (text ++ rest) | l ∷ more ↦ last_part (text ++ rest) ] ≡ (elim ls as (λ _. List ℕ) [ [] ↦ b ∷ text | l ∷ more ↦ last_part text ]) ++ rest
         lines [] g = refl
         lines (l ∷ ls) g = more
+
+-- the text up to the end of a line, and after it
+pub text_on : (text end others : List ℕ) → (text ++ (end ++ 10 ∷ [])) ++ others ≡ text ++ (end ++ 10 ∷ others)
+text_on text end others = append_assoc text (end ++ 10 ∷ []) others ∙ ap (λ (t : List ℕ). text ++ t) (append_assoc end (10 ∷ []) others)
 
 -- ---- the first line of a text
 
