@@ -12,9 +12,9 @@ pub loop-place-preserved : goal.loop-place-preserved
 loop-place-preserved c =
     let p = c.args.known.now.domains.now in
     let facts = c.args.known.now.facts in
-    passed_more (λ (d : Call). list_all (may_be_true p facts) (instance_of p d).precondition) c.args.kept.now c.loop-place.place (call_with c.at.result.0 c.at.result.1.now)
-    c.loop-place.calls.items c.add_able.new.into.items c.at.ensures c.loop-place.invariant c.in_ok-add_able.ensures
+    passed_more (λ (d : Call). list_all (may_be_true p facts) (instance_of p d).precondition) c.args.kept.now c.loop-place.place (call_with c.at-schema.result.0 c.at-schema.result.1.now)
+    c.loop-place.calls.items c.add_able.new.into.items c.at-schema.ensures c.loop-place.invariant c.in_ok-add_able.ensures
 
 pub returns : goal.returns
 returns c =
-    c.of.ensures ∙ c.loop-place.invariant ∙ ap (λ cs. actions_of c.args.known.now.domains.now c.args.known.now.facts cs) (take_all c.loop-place.place c.args.kept.now (omega (arith, c.len.ensures)))
+    c.of.ensures ∙ c.loop-place.invariant ∙ ap (λ cs. actions_of c.args.known.now.domains.now c.args.known.now.facts cs) (take_all c.loop-place.place c.args.kept.now (omega (arith, c.len-place-end.ensures)))

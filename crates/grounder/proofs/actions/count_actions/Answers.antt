@@ -12,12 +12,12 @@ pub loop-place-preserved : goal.loop-place-preserved
 loop-place-preserved c =
     let p = c.args.known.now.domains.now in
     let facts = c.args.known.now.facts in
-    let x = call_with c.at.result.0 c.at.result.1.now in
+    let x = call_with c.at-schema.result.0 c.at-schema.result.1.now in
     record {
       count = counted_more (λ (d : Call). list_all (may_be_true p facts) (instance_of p d).precondition) c.args.kept.now c.loop-place.place x c.is_able.result c.loop-place.count c.counted.result
-          c.at.ensures c.is_able.ensures c.loop-place.invariant.count c.counted.ensures;
+          c.at-schema.ensures c.is_able.ensures c.loop-place.invariant.count c.counted.ensures;
       few = counted_few c.is_able.result c.loop-place.place c.loop-place.count c.counted.result c.loop-place.invariant.few c.counted.ensures;
     }
 
 pub returns : goal.returns
-returns c = c.loop-place.invariant.count ∙ ap (λ cs. length (actions_of c.args.known.now.domains.now c.args.known.now.facts cs)) (take_all c.loop-place.place c.args.kept.now (omega (arith, c.len.ensures)))
+returns c = c.loop-place.invariant.count ∙ ap (λ cs. length (actions_of c.args.known.now.domains.now c.args.known.now.facts cs)) (take_all c.loop-place.place c.args.kept.now (omega (arith, c.len-place-end.ensures)))

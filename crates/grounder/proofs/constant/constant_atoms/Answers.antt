@@ -16,16 +16,16 @@ pub leave_out_call-requires : goal.leave_out_call-requires
 leave_out_call-requires c =
     let calls = c.args.reached.now.calls in
     let i = c.loop-place.place in
-    let x = call_with c.at.result.0 c.at.result.1.now in
-    each_read (HasFew c.args.domains.now) calls i x (slice_get_within calls i x c.at.ensures) (sym (get_or_from_slice_get calls i x x c.at.ensures)) c.requires
+    let x = call_with c.at-schema.result.0 c.at-schema.result.1.now in
+    each_read (HasFew c.args.domains.now) calls i x (slice_get_within calls i x c.at-schema.ensures) (sym (get_or_from_slice_get calls i x x c.at-schema.ensures)) c.requires
 
 pub loop-place-preserved : goal.loop-place-preserved
 loop-place-preserved c =
     let p = c.args.domains.now in
     let calls = c.args.reached.now.calls in
     let i = c.loop-place.place in
-    let x = call_with c.at.result.0 c.at.result.1.now in
+    let x = call_with c.at-schema.result.0 c.at-schema.result.1.now in
     let f = λ (xs : List Atom) (a : Atom) (d : Call). list_any (deletes xs a) (instance_of p d).changes in
     left_more (f c.args.reached.now.atoms) calls i x p.init c.loop-place.constant c.leave_out_call.new.constant
-    (slice_get_within calls i x c.at.ensures) (sym (get_or_from_slice_get calls i x x c.at.ensures)) c.loop-place.invariant
+    (slice_get_within calls i x c.at-schema.ensures) (sym (get_or_from_slice_get calls i x x c.at-schema.ensures)) c.loop-place.invariant
     (subst (λ (xs : List Atom). LeavesOut (λ a. f xs a x) c.loop-place.constant c.leave_out_call.new.constant) (c.in_ok-atoms.ensures ∙ c.as_slice.ensures) c.in_ok-leave_out_call.ensures)

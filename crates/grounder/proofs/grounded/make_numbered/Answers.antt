@@ -30,7 +30,7 @@ task_of-requires-clause-task c =
     rw (of_task, c.as_slice-2.ensures) (c.laws.ensures.grounded_is_task c.args.domains.now (grounded_by c.args.domains.now c.in_ok-known.known.facts c.in_ok-calls.calls) is (record {
       tuples = c.requires.tuples;
       facts = omega (arith, c.requires.facts, ap length c.in_ok-known.ensures.facts);
-      actions = few_actions c.in_ok-known.known.domains.now c.in_ok-known.known.facts c.args.kept c.in_ok-calls.calls c.in_ok-calls.ensures (omega (arith, c.count_actions.ensures));
+      actions = few_actions c.in_ok-known.known.domains.now c.in_ok-known.known.facts c.args.kept c.in_ok-calls.calls c.in_ok-calls.ensures (omega (arith, c.count_actions-count.ensures));
       effects = few_saturated 65536 _ _ (omega arith) count c.if-count-gt65536.false;
     }))
 
@@ -48,7 +48,7 @@ returns-then-count-gt65536-clause-effects c =
       is = is;
       tuples = c.requires.tuples;
       facts = omega (arith, c.requires.facts, ap length c.in_ok-known.ensures.facts);
-      actions = few_actions c.in_ok-known.known.domains.now c.in_ok-known.known.facts c.args.kept c.in_ok-calls.calls c.in_ok-calls.ensures (omega (arith, c.count_actions.ensures));
+      actions = few_actions c.in_ok-known.known.domains.now c.in_ok-known.known.facts c.args.kept c.in_ok-calls.calls c.in_ok-calls.ensures (omega (arith, c.count_actions-count.ensures));
       over = many_saturated 65536 _ _ count c.if-count-gt65536.true;
       count_is = (let same : n ≡ c.in_ok-counted.counted.conditional = cc in same ∙ count);
     }
@@ -68,6 +68,6 @@ returns-then-count-gt16384-clause-actions c =
       is = found_is c.laws.ensures.least_is_grounded c.args.domains.now c.in_ok-known.known.domains.now c.args.facts.now c.in_ok-known.known.facts c.args.kept calls of_task c.in_ok-known.ensures.facts c.requires.found refl;
       tuples = c.requires.tuples;
       facts = omega (arith, c.requires.facts, ap length c.in_ok-known.ensures.facts);
-      over = omega (arith, c.count_actions.ensures);
-      count_is = (let same : n ≡ c.count_actions.result = cc in same ∙ c.count_actions.ensures);
+      over = omega (arith, c.count_actions-count.ensures);
+      count_is = (let same : n ≡ c.count_actions-count.result = cc in same ∙ c.count_actions-count.ensures);
     }
