@@ -14,9 +14,9 @@ loop-place-preserved c =
     let facts = c.args.known.now.facts in
     let x = call_with c.at-schema.result.0 c.at-schema.result.1.now in
     record {
-      count = counted_more (λ (d : Call). list_all (may_be_true p facts) (instance_of p d).precondition) c.args.kept.now c.loop-place.place x c.is_able.result c.loop-place.count c.counted.result
-          c.at-schema.ensures c.is_able.ensures c.loop-place.invariant.count c.counted.ensures;
-      few = counted_few c.is_able.result c.loop-place.place c.loop-place.count c.counted.result c.loop-place.invariant.few c.counted.ensures;
+      count = counted_more (λ (d : Call). list_all (may_be_true p facts) (instance_of p d).precondition) c.args.kept.now c.loop-place.place x c.is_able.result c.loop-place.count c.counted-count.result
+          c.at-schema.ensures c.is_able.ensures c.loop-place.invariant.count c.counted-count.ensures;
+      few = counted_few c.is_able.result c.loop-place.place c.loop-place.count c.counted-count.result c.loop-place.invariant.few c.counted-count.ensures;
     }
 
 pub returns : goal.returns
