@@ -1,7 +1,7 @@
 -- Numbers and effects that are sorted, each once, are the sorted sets of the definitions.
-use Rattle.std.proofs.Common.{rules, arith, ◌≡◌, ℕ, zero, suc, ◌<◌, ◌==◌, List, [], ◌∷◌, Bool, true, false, cond, ◌&&◌, refl, ap, sym, ◌∙◌, subst, map, length, inl, inr, IsTrue}
+use Rattle.std.proofs.Common.{rules, arith, ◌≡◌, ℕ, zero, suc, ◌<◌, ◌==◌, List, [], ◌∷◌, Bool, true, false, cond, ◌&&◌, ◌||◌, refl, ap, sym, ◌∙◌, subst, map, length, inl, inr, IsTrue}
 use Rattle.std.specs.Prelude.{nat_lt, nat_eq, slice_index_or}
-use Rattle.std.specs.List.{dedup, Contains, AllByRecursion}
+use Rattle.std.specs.List.{list_any, dedup, Contains, AllByRecursion}
 use Rattle.std.specs.List.Sorted.{IsStrictlySortedBy, IsPermutation}
 use Rattle.std.specs.List.Sorted as sort
 use Rattle.std.specs.declared.cmp.Ordering.{Ordering}

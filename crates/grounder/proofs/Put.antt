@@ -1,5 +1,5 @@
 -- Literals and effects that are added one after the other.
-use Rattle.std.proofs.Common.{arith, ◌≡◌, ℕ, ◌+◌, ◌*◌, ◌<◌, ◌≤◌, List, [], ◌∷◌, ◌++◌, Bool, true, false, cond, length, get_or, take, refl, ap, sym, ◌∙◌, map, Option, Some, None, append_assoc}
+use Rattle.std.proofs.Common.{arith, ◌≡◌, ℕ, ◌+◌, ◌*◌, ◌<◌, ◌≤◌, List, [], ◌∷◌, ◌++◌, Bool, true, false, cond, length, get_or, take, refl, ap, sym, subst, ◌∙◌, map, Option, Some, None, append_assoc}
 use Rattle.std.specs.Prelude.{not, ◌&&◌, slice_get}
 use Rattle.std.specs.List.{filter, filter_map, flat_map, cons_option}
 use Rattle.std.proofs.lemmas.List.{take_more, take_all, append-nil, map-append}
@@ -15,7 +15,7 @@ use Rattle.pd_model.specs.declared.calls.Call.{Call}
 use Rattle.pd_model.specs.declared.conds.Cond.{Cond}
 use Rattle.pd_model.specs.declared.effects.Effect.{Effect as Lifted}
 use Rattle.pd_model.specs.declared.schemas.Schema.{Schema}
-use Rattle.grounding.specs.Instance.{Change, change_of, changes_of, literal_of, literals_of, instance_at, instance_of}
+use Rattle.grounding.specs.Instance.{GroundLiteral, Change, change_of, changes_of, literal_of, literals_of, instance_at, instance_of}
 use Rattle.grounding.specs.Sorted.{sorted_set}
 use Rattle.grounding.specs.Simplify.{place, fact_literal, number_of, simplified, any_never, is_left, effect_of, action_of}
 use Rattle.grounder.specs.declared.bindings.Bindings.{Bindings}
