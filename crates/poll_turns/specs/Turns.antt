@@ -1,5 +1,6 @@
 -- Futures that are polled in turn.
 use Rattle.std.specs.Global.{Vec}
+use Rattle.std.specs.declared.alloc.AllocError.{AllocError}
 use Rattle.std.specs.Prelude.{Result, IfOk, ℕ, ◌<◌, ◌≤◌, ◌+◌, ◌-◌, List, [], ◌∷◌, length, slice_index_or, Contains}
 use Rattle.std.specs.List.{All, AllByRecursion, AllZip}
 use Rattle.futures.specs.Joined.{IsLive, MayGive}
@@ -25,7 +26,7 @@ module _ {F A : Type 0} where
   GivesAll gives all ends = AllZip (MayGive gives) all.slots.items ends
 
   -- the same of ends that want of memory may keep from being given
-  abbrev pub MayEnd : {E : Type 0} → (F → A → Type 0) → InTurns F A → Result (Vec A) E → Type 0
+  abbrev pub MayEnd : (F → A → Type 0) → InTurns F A → Result (Vec A) AllocError → Type 0
   MayEnd gives all result = IfOk result (λ ends. GivesAll gives all ends.items)
 
   -- how many more polls of a slot are left: that in which its future is ready, and those before it in which it is pending

@@ -23,12 +23,18 @@ returns-in-Ok-On-clause-fewer g c =
     let settings = c.self.inside.settings in
     let next = rw c.in-Ok-On.field-0-is at c.in-Ok-On.ensures.next in
     let tied = subst (λ (p : Phase). IsTied settings.slice (input_of g.F.StepForm form settings) p) (sym c.put.ensures) next.0 in
-    let below = subst (λ (p : Phase). IsBelow (numbers_at c.self.inside.phase) (numbers_at p)) (sym c.put.ensures) next.2 in
-    rw c.yield_now.ensures.pending (falls settings.budget (numbers_at c.self.inside.phase) (numbers_at c.put.new.place) below (bounded settings.slice (input_of g.F.StepForm form settings) c.put.new.place tied))
+    let after = subst (λ (p : Phase). IsBelow (numbers_at c.replace-phase.result) (numbers_at p)) (sym c.put.ensures) next.2 in
+    let below = subst (λ (b : Phase). IsBelow (numbers_at b) (numbers_at c.put.new.place)) c.replace-phase.ensures.value after in
+    rw c.yield_now.ensures.pending
+    (rw (← c.self.view_is)
+    (falls settings.budget (numbers_at c.self.inside.phase) (numbers_at c.put.new.place) below (bounded settings.slice (input_of g.F.StepForm form settings) c.put.new.place tied)))
 
 pub returns-in-Ok-On-clause-one : goal.returns-in-Ok-On-clause-one
 returns-in-Ok-On-clause-one g c =
-    let settings = c.self.inside.settings in
-    let before = c.self.inside.phase in
+    let slice = c.self.inside.settings.slice in
     let next = rw c.in-Ok-On.field-0-is at c.in-Ok-On.ensures.next in
-    rw c.yield_now.ensures.pending (subst (λ (p : Phase). DoesOne settings.slice (numbers_at before) (numbers_at p) (runs_at before) (runs_at p)) (sym c.put.ensures) next.3)
+    let was = c.replace-phase.result in
+    let after = subst (λ (p : Phase). DoesOne slice (numbers_at was) (numbers_at p) (runs_at was) (runs_at p)) (sym c.put.ensures) next.3 in
+    rw c.yield_now.ensures.pending
+    (rw (← c.self.view_is)
+    (subst (λ (b : Phase). DoesOne slice (numbers_at b) (numbers_at c.put.new.place) (runs_at b) (runs_at c.put.new.place)) c.replace-phase.ensures.value after))

@@ -20,6 +20,6 @@ returns-clause-fewer g c =
     let old = c.args.self.now.slots.items in
     let new = c.poll_each.new.slots.items in
     let left = g.A.Bounded.polls_left in
-    let undone = λ all. c.are_done.ensures.undone c.if-are_done.false (subst (λ ss. AllByRecursion IsDone ss) (sym c.as_slice.ensures.value) all) in
+    let undone : AllByRecursion IsDone new → ⊥ = λ all. c.are_done.ensures.undone c.if-are_done.false (subst (λ ss. AllByRecursion IsDone ss) (sym c.as_slice.ensures.value) all) in
     rw c.yield_now.ensures.pending
     (λ places. fewer left g.A.Future.can_poll old new c.poll_each.ensures.many (at_each left old new c.args.self.now.turns.now places c.poll_each.ensures.falls) c.poll_each.ensures.live undone)
