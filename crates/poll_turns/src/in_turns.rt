@@ -159,8 +159,8 @@ impl<'t, A: Bounded<Output: Drop>> Future for InTurns<'t, A, A::Output> {
 
 /// Drives futures that were not polled yet to their ends, by one future, and gives what each gave, in the order of the list. Each
 /// poll of the one goes through `turns`, which are places of the list counted from 0, and polls each future that is not ready yet at
-/// each of its turns. Where each place has a turn, only so many polls are pending. `Driver` comes only where the driver's count of faults rose, or stands at its last value; the futures are gone then. It
-/// may wait.
+/// each of its turns. Where each place has a turn, only so many polls are pending. `Driver` comes only where the driver's count of
+/// faults rose, or stands at its last value; the futures are gone then. It may wait.
 pub fn drive_in_turns<A: Bounded<Output: Drop>, D: Driver>(
     alloc: Global,
     driver: &mut D,
