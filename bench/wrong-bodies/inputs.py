@@ -1,6 +1,6 @@
 """The inputs on which wrong bodies are run, each with what is due of it: the rows of bench/check, cases, and random inputs of which
 an ordinary program tells what is due."""
-import importlib.machinery, importlib.util, os, pathlib, random, subprocess, sys
+import importlib.machinery, importlib.util, pathlib, random, subprocess, sys, tempfile
 from typing import NamedTuple
 
 CHECK = pathlib.Path(__file__).resolve().parent.parent / "check"
@@ -22,21 +22,27 @@ class Input(NamedTuple):
         room = [f"--fsize={self.room}"] if self.room is not None and self.room >= 0 else []
         return ["prlimit", f"--cpu={seconds}", f"--as={memory}", *room, str(program), *self.words]
 
+    def out(self):
+        """What the run writes into: a file, or a device that is full where the room is below 0."""
+        return open("/dev/full", "w+b") if self.room is not None and self.room < 0 else tempfile.TemporaryFile()
+
     def differs(self, program, number, seconds=60, memory=3 << 30, hits=None):
-        """Whether a run with the body of a number comes to something else than what is due. An output of a bounded room is a file; a
-        write past it fails and sends no signal, since Python leaves that one ignored."""
+        """Whether a run with the body of a number comes to something else than what is due. A write past the room sends no signal, since
+        Python leaves that one ignored."""
         env = {"WRONG_BODY": str(number)} | ({"WRONG_HITS": str(hits)} if hits else {})
         given = {"cwd": self.folder, "stdin": subprocess.DEVNULL, "stderr": subprocess.DEVNULL, "restore_signals": False, "env": env}
-        with open("/dev/full" if self.room is not None and self.room < 0 else os.devnull, "wb") as device:
-            out = device if self.room is not None and self.room < 0 else subprocess.PIPE
-            with subprocess.Popen(self.command(program, seconds, memory), stdout=out, **given) as run:
-                try:
-                    text = run.communicate(timeout=2 * seconds)[0] or b""
-                except subprocess.TimeoutExpired:
-                    run.kill()
-                    return True
-        comments = self.words[0] == "formula" and self.shows.startswith("compare")
-        return (without_comments(text) if comments else text, run.returncode) != (self.text, self.status)
+        with self.out() as out:
+            try:
+                status = subprocess.run(self.command(program, seconds, memory), stdout=out, timeout=2 * seconds, **given).returncode
+            except subprocess.TimeoutExpired:
+                return True
+            text = b"" if self.room == -1 else told(out)
+        return (without_comments(text) if self.shows == "compare formula" else text, status) != (self.text, self.status)
+
+def told(out):
+    """All that stands in a file."""
+    out.seek(0)
+    return out.read()
 
 def without_comments(text):
     """The lines of a formula that are no comments."""
