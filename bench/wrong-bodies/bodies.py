@@ -1,5 +1,5 @@
 """The wrong bodies of the bench, as edits of the sources, and what is known of each: what the scripts of this folder share."""
-import pathlib, re
+import functools, pathlib, re
 from typing import NamedTuple
 
 ROOT = pathlib.Path(__file__).resolve().parent.parent.parent
@@ -76,6 +76,7 @@ def functions(file, text):
     starts = [(at, re.match(r"(\s*)(?:pub(?:\([^)]*\))? )?(?:const )?(?:async )?(?:unsafe )?fn (\w+)", line)) for at, line in enumerate(lines)]
     return [Place(file, lines, at, it[1], it[2]) for at, it in starts if it]
 
+@functools.cache
 def places(crate, edit):
     """The functions whose bodies an edit changes, or none where it changes anything else."""
     found = []
