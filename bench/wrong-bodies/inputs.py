@@ -1,11 +1,12 @@
 """The inputs on which wrong bodies are run, each with what is due of it: the rows of bench/check, cases, and random inputs of which
 an ordinary program tells what is due."""
-import importlib.machinery, importlib.util, pathlib, random, subprocess, sys, tempfile
+import importlib.machinery, importlib.util, os, pathlib, random, select, subprocess, sys, tempfile
 from typing import NamedTuple
 
 CHECK = pathlib.Path(__file__).resolve().parent.parent / "check"
 GROUPS = {"plan_prog": "reader words order check ground plan prove verify batch plan-all".split(), "judge_prog": ["formula"]}
 MOST_RUNS = 24
+LOOKS = 5
 
 class Input(NamedTuple):
     """A run of a program: what shows it, the words, the folder, how many bytes it may write where that is bounded, and what is due
@@ -31,13 +32,30 @@ class Input(NamedTuple):
         Python leaves that one ignored."""
         env = {"WRONG_BODY": str(number)} | ({"WRONG_HITS": str(hits)} if hits else {})
         given = {"cwd": self.folder, "stdin": subprocess.DEVNULL, "stderr": subprocess.DEVNULL, "restore_signals": False, "env": env}
-        with self.out() as out:
-            try:
-                status = subprocess.run(self.command(program, seconds, memory), stdout=out, timeout=2 * seconds, **given).returncode
-            except subprocess.TimeoutExpired:
+        with self.out() as out, subprocess.Popen(self.command(program, seconds, memory), stdout=out, **given) as run:
+            if not ends(run):
                 return True
             text = b"" if self.room == -1 else told(out)
-        return (without_comments(text) if self.shows == "compare formula" else text, status) != (self.text, self.status)
+        return (without_comments(text) if self.shows == "compare formula" else text, run.returncode) != (self.text, self.status)
+
+def ends(run):
+    """Whether a run ends; one whose threads all sleep at each of some looks is ended."""
+    asleep, watch = 0, os.pidfd_open(run.pid)
+    while not select.select([watch], [], [], 2)[0] and asleep < LOOKS:
+        asleep = asleep + 1 if sleeps(run.pid) else 0
+    os.close(watch)
+    if asleep == LOOKS:
+        run.kill()
+    run.wait()
+    return asleep < LOOKS
+
+def sleeps(process):
+    """Whether each thread of a process waits for something."""
+    try:
+        stats = [it.read_text() for it in pathlib.Path(f"/proc/{process}/task").glob("*/stat")]
+    except OSError:
+        return False
+    return all(it.rpartition(")")[2].split()[0] == "S" for it in stats)
 
 def told(out):
     """All that stands in a file."""
