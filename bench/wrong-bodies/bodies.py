@@ -6,7 +6,8 @@ ROOT = pathlib.Path(__file__).resolve().parent.parent.parent
 BODIES = ROOT / "bench/wrong-bodies"
 TABLE = BODIES / "verdicts.tsv"
 COLUMNS = "crate\tbody\tprover\tgoal\tseconds\tseen by\twhy\n"
-UNSEEN = ("-", "nothing", "not called", "not in the program")
+ABSENT = "not in the program"
+UNSEEN = ("-", "nothing", "not called", ABSENT)
 VERDICTS = ("countermodel", "negation proved", "seen", "unproved", "proved")
 
 def pairs(text):
@@ -149,4 +150,5 @@ def sums(table):
     words = [row.verdict() for row in table.values()]
     rest = [row for row in table.values() if row.verdict() == "unproved"]
     run, told = sum(row.seen == "nothing" for row in rest), sum(row.why != "" for row in rest)
-    return f"{len(words)} bodies: " + ", ".join(f"{words.count(it)} {it}" for it in VERDICTS) + f"; of the unproved {run} were run and seen by nothing, and of {told} a reader says why."
+    counts = ", ".join(f"{words.count(it)} {it}" for it in VERDICTS)
+    return f"{len(words)} bodies: {counts}; of the unproved {run} were run and seen by nothing, and of {told} a reader says why."
