@@ -25,9 +25,10 @@ note_answered() {
 # note_seen PROGRAM FILE SUM: adds a line; a file that is of another program, or that many machines have filled, is begun anew.
 note_seen() {
     local lines=()
+    find_machine
     [[ ! -r $2 || $1 -nt $2 || $1 -ot $2 ]] || mapfile -t lines <"$2"
     [ "${#lines[@]}" -lt 64 ] || lines=()
-    if printf '%s\n' "${lines[@]}" "$tied $3 ${HOSTNAME-}" >"$2.$$" && touch -r "$1" -- "$2.$$" && mv -f -- "$2.$$" "$2"; then
+    if printf '%s\n' "${lines[@]}" "$tied $3 $machine" >"$2.$$" && touch -r "$1" -- "$2.$$" && mv -f -- "$2.$$" "$2"; then
         return
     fi
     rm -f -- "$2.$$"

@@ -1,0 +1,97 @@
+# shellcheck shell=bash disable=SC2034,SC2154 # the parts of launch/ set variables for one another
+# main.bash ROOT STATUS WORD..: answers the words of a call of the planner; STATUS is nothing, or that with which the program has
+# ended on them already.
+set -u
+shopt -s nullglob
+
+root=$1 ended=$2
+shift 2
+
+say() {
+    printf 'dokyreva: %s\n' "$*" >&2
+}
+
+. "$root/launch/places.bash"
+use programs commands watch
+
+# run_words: runs the program on the words.
+run_words() {
+    [ -z "$plan_file$seconds" ] || use clock words
+    [ -z "$plan_file" ] || begin_plan_file
+    if [ -n "$seconds" ]; then
+        run_by_clock "${words[@]}"
+    elif [ -n "$plan_file" ]; then
+        run_kept "${words[@]}"
+    else
+        run_program "${words[@]}"
+    fi
+    [ -z "$plan_file" ] || end_plan_file
+}
+
+# tell_end: tells what the status comes from.
+tell_end() {
+    if [ "$status" = 7 ]; then
+        use words
+        tell_refused "${words[@]}"
+    elif [ "$status" -gt 2 ] && [ "$status" != 124 ]; then
+        use words clock faults sentences
+        tell_faults "${words[@]}"
+    fi
+}
+
+# warn: on a terminal, what is odd in the files, before a plan is searched.
+warn() {
+    [ -t 2 ] && [[ ${words[0]-} == plan || ${words[0]-} == plan-all ]] && [ -x "$root/launch/lint.py" ] || return
+    use faults
+    files_of "${words[@]:1}"
+    [ "${#files[@]}" = 2 ] || return
+    DOKYREVA_PROGRAM=$program timeout --foreground 5 "$root/launch/lint.py" --quiet "${files[@]}" >&2 2>/dev/null </dev/null
+}
+
+by=''
+case ${1-} in
+help | --help | -h | --version)
+    find_places
+    use words
+    if [ "$1" = --version ] && [ $# = 1 ]; then
+        tell_version
+        exit 0
+    elif [ $# = 1 ]; then
+        tell_words
+        exit 0
+    elif [ "$1" = help ] && [ $# = 2 ] && is_command "$2"; then
+        tell_help "$2" "$called "
+        exit 0
+    fi
+    ;;
+*)
+    if is_command "${1-}" && asks_help "${@:2}"; then
+        use words
+        tell_help "$1" "$called "
+        exit 0
+    fi
+    ;;
+esac
+find_places
+by=${by:-plan_prog}
+if [[ $by != *_prog ]]; then
+    find_or_build plan_prog || exit
+    DOKYREVA_COMMAND=$1 DOKYREVA_PROGRAM=$program exec "$root/$by" "${@:2}"
+fi
+words=("$@") memory='' seconds='' plan_file=''
+if [[ " $*" == *' --memory'* || " $*" == *' --seconds'* || " $*" == *' --plan-file'* ]]; then
+    use own
+    take_own "$@"
+fi
+find_or_build "$by" || exit
+SECONDS=0
+if [ -n "$ended" ]; then
+    status=$ended
+else
+    say "this is $what"
+    warn
+    run_words
+fi
+tell_end
+stop_all
+exit "$status"
