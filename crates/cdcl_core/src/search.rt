@@ -62,6 +62,7 @@ impl Search {
         ensures { IfOk result (λ s. s ≡ record { formula = formula; state = start_of formula; spoilt = false }) }
     {
         let variables = formula.variables();
+        // For the proof: each clause of the formula is lawful.
         let _lawful = formula.count();
         Ok(Search {
             alloc,

@@ -95,6 +95,7 @@ impl<C: Chooser> Solver<C> {
         ensures solved { result ≡ Standing.Found → IsSolution self.now.formula self.now.state.trail }
         ensures refuted { result ≡ Standing.Refuted → EndsEmpty self.now.state.log }
     {
+        // For the proof: the state is sound, and has at most 1,073,741,824 conflicts.
         let _sound = self.search.conflicts();
         self.search.standing()
     }
@@ -117,6 +118,7 @@ impl<C: Chooser> Solver<C> {
         ensures short_log { length self.now.state.log ≤ 2 * self.now.state.conflicts }
     {
         runs_are_sound();
+        // For the proof: the state is sound, and has at most 1,073,741,824 conflicts.
         let _sound = self.search.conflicts();
         self.search.log()
     }
@@ -268,6 +270,7 @@ impl<C: Chooser> Solver<C> {
         ensures spoilt { OnErr result (self.new.spoilt ≡ true) }
         ensures stays { self.old.spoilt ≡ true → self.new ≡ self.old }
     {
+        // For the proof: the state is sound, and has at most 1,073,741,824 conflicts.
         let _sound = self.search.conflicts();
         if self.is_spoilt() {
             return Err(Memory);

@@ -62,6 +62,7 @@ fn judge<F: StepForm>(alloc: Global, form: &F, proof: &Proof) -> Result<Judged, 
     let Ok(formula) = form.formula(alloc, proof.horizon) else {
         return Err(ProofError::Memory);
     };
+    // For the proof: a formula has at most 1,073,741,824 clauses.
     let _few = formula.count();
     match check(alloc, &formula, &proof.log) {
         Ok(checked) => Ok(Judged::Accepted {

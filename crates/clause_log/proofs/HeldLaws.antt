@@ -174,3 +174,7 @@ drops_small (m ∷ before) n s h = (s.0, drops_small before n s.1 h)
 pub both_by : (r : Result (Unit {0}) AllocError) (last now old a b : List ℕ) → now ≡ old ++ a → OnOk r (last ≡ now ++ b) → OnOk r (last ≡ old ++ (a ++ b))
 both_by (Ok u) last now old a b n l = l ∙ ap (λ (xs : List ℕ). xs ++ b) n ∙ append_assoc old a b
 both_by (Err e) last now old a b n l = tt
+
+-- where entries are left to read their count is not 0
+pub not_all_read : (k : ℕ) (bytes : List ℕ) (log : List Entry) → entries_of k bytes ≡ log → 0 < length log → k ≡ 0 → ⊥
+not_all_read k bytes log e some none = let long : length log ≡ 0 = sym (ap length e) ∙ ap (λ (n : ℕ). length (entries_of n bytes)) none in omega (arith, long, some)

@@ -1,9 +1,12 @@
 -- An entry of a log where it stands.
+use Rattle.std.specs.Prelude.{ℕ, List}
 use Rattle.clause_base.specs.Clause.{IsClause}
 use Rattle.clause_base.specs.declared.log.Entry.{Entry}
 use Rattle.clause_base.specs.declared.log.Entry.TheVariants as entry
 use Rattle.clause_log.specs.declared.reader.Step.{Step}
 use Rattle.clause_log.specs.declared.reader.Step.TheVariants.{Learn, Drop}
+use Rattle.clause_log.specs.declared.reader.Kind.{Kind}
+use Rattle.clause_log.specs.declared.reader.Kind.TheVariants as kind
 
 -- the entry
 abbrev pub told : Step → Entry
@@ -14,3 +17,13 @@ told (Drop number) = entry.Drop number
 abbrev pub IsLawful : Step → Type 0
 IsLawful (Learn clause hints) = IsClause clause
 IsLawful (Drop number) = Unit {0}
+
+-- the entry that does this, with this clause and these hints if it learns one
+abbrev pub told_by : Kind → List ℕ → List ℕ → Entry
+told_by kind.Learn clause hints = entry.Learn clause hints
+told_by (kind.Drop number) clause hints = entry.Drop number
+
+-- the literals are a clause, if it learns one
+abbrev pub IsLawfulBy : Kind → List ℕ → Type 0
+IsLawfulBy kind.Learn clause = IsClause clause
+IsLawfulBy (kind.Drop number) clause = Unit {0}

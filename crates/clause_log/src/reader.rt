@@ -1,10 +1,13 @@
-ghost use Rattle.std.specs.Prelude.{◌≡◌, ◌∷◌, [], ◌<◌, length, IfSome, IfNone};
+ghost use Rattle.std.specs.Prelude.{◌≡◌, ◌∷◌, [], ◌<◌, length, IfOk, OnErr, IfSome, IfNone};
 ghost use Rattle.number_bytes.specs.Numbers.{numbers_of, after_numbers};
 ghost use Rattle.clause_log.specs.Held.{entries_of, AreSmall};
-ghost use Rattle.clause_log.specs.Step.{told, IsLawful};
+ghost use Rattle.clause_log.specs.Step.{told, told_by, IsLawful, IsLawfulBy};
 
+use crate::steps::take_literals;
+use clause_base::literal::Lit;
+use clause_base::memory::Memory;
 use number_bytes::number::take_number;
-use number_bytes::numbers::{Numbers, after_numbers};
+use number_bytes::numbers::{Numbers, after_numbers, take_numbers};
 use std::marker::Model;
 
 /// An entry of a log where it stands.
@@ -19,6 +22,15 @@ pub enum Step<'a> {
     Drop {
         number: u32,
     },
+}
+
+/// What an entry does, where its clause and its hints stand apart from it.
+#[derive(Clone, Copy)]
+pub enum Kind {
+    /// The clause is learned by the hints.
+    Learn,
+    /// The clause with this number is dropped.
+    Drop { number: u32 },
 }
 
 /// The entries of a log, from the next one on. Contracts see the list of them.
@@ -49,16 +61,35 @@ impl<'a> Reader<'a> {
         Reader { left, steps }
     }
 
-    /// Takes the next entry out, where one is left.
-    pub fn take(&mut self) -> Step<'a>
+    /// Takes the next entry out, where one is left, and tells what it does. Its numbers are decoded once: a clause that is
+    /// learned and its hints go into vectors that are written over. After want of memory no entry is taken out.
+    /// In a program this is a call of its own too: written into the check of a log, its loops would leave too few registers to
+    /// those over the hints' literals.
+    #[inline(never)]
+    #[tactic(auto, using(crate::proofs::HeldLaws::not_all_read))]
+    pub fn take_into(&mut self, clause: &mut Vec<Lit>, hints: &mut Vec<u32>) -> Result<Kind, Memory>
         requires { 0 < length self.old }
-        ensures next { self.old ≡ told result ∷ self.new }
-        ensures lawful { IsLawful result }
+        ensures next { IfOk result (λ kind. self.old ≡ told_by kind clause.new.items hints.new.items ∷ self.new) }
+        ensures lawful { IfOk result (λ kind. IsLawfulBy kind clause.new.items) }
+        ensures err { OnErr result (self.new ≡ self.old) }
     {
-        match self.next() {
-            Some(step) => step,
-            None => unreachable!(),
+        if self.left == 0 {
+            unreachable!()
         }
+        let head = take_number(self.steps);
+        let half = head.number / 2;
+        if head.number % 2 != 0 {
+            self.left -= 1;
+            self.steps = head.rest;
+            let number = (half % 4294967296) as u32;
+            return Ok(Kind::Drop { number });
+        }
+        let literals = take_numbers(head.rest, half as usize, hints)?;
+        let size = take_number(literals);
+        let rest = take_literals(size.rest, size.number as usize, clause)?;
+        self.left -= 1;
+        self.steps = rest;
+        Ok(Kind::Learn)
     }
 
     /// Takes the next entry out.

@@ -1,7 +1,7 @@
 //! The bytes of entries.
-ghost use Rattle.std.specs.Prelude.{◌≡◌, ◌++◌, ◌<◌, ◌*◌, ◌^◌, length, map, take, All, OnOk, OnErr};
+ghost use Rattle.std.specs.Prelude.{◌≡◌, ◌++◌, ◌<◌, ◌*◌, ◌^◌, length, map, take, All, IfOk, OnOk, OnErr};
 ghost use Rattle.number_bytes.specs.Number.{bytes_of};
-ghost use Rattle.number_bytes.specs.Numbers.{steps_of};
+ghost use Rattle.number_bytes.specs.Numbers.{steps_of, numbers_of, after_numbers};
 ghost use Rattle.clause_base.specs.Clause.{IsClause};
 ghost use Rattle.clause_base.specs.declared.log.Entry.TheVariants.{Learn, Drop};
 ghost use Rattle.clause_log.specs.Held.{entry_bytes, log_bytes, AreFew, IsSmall, AreSmall};
@@ -9,7 +9,7 @@ ghost use Rattle.clause_log.specs.Held.{entry_bytes, log_bytes, AreFew, IsSmall,
 use clause_base::literal::Lit;
 use clause_base::memory::Memory;
 use number_bytes::number::put_number;
-use number_bytes::numbers::{MOST_STEP, put_numbers, put_step_within};
+use number_bytes::numbers::{MOST_STEP, put_numbers, put_step_within, take_step};
 use std::alloc::AllocError;
 
 /// Adds how many hints there are, and the hints. After want of memory the bytes that stood before still stand first.
@@ -36,6 +36,28 @@ fn put_literals(steps: &mut Vec<u8>, clause: &[Lit]) -> Result<(), AllocError>
         last = lit.0;
     }
     Ok(())
+}
+
+/// Reads so many literals, with which the bytes begin, into a vector that is written over, and gives the bytes after them.
+pub fn take_literals<'a>(
+    bytes: &'a [u8],
+    count: usize,
+    lits: &mut Vec<Lit>,
+) -> Result<&'a [u8], AllocError>
+    ensures literals { OnOk result (lits.new.items ≡ numbers_of count 0 bytes.now) }
+    ensures rest { IfOk result (λ rest. rest.now ≡ after_numbers count bytes.now) }
+{
+    lits.clear();
+    lits.reserve(count)?;
+    let mut last = 0;
+    let mut rest = bytes;
+    for _ in 0..count {
+        let next = take_step(rest, last);
+        last = next.number;
+        rest = next.rest;
+        lits.push_reserved(Lit(last));
+    }
+    Ok(rest)
 }
 
 /// Adds how many literals there are, and the literals. After want of memory the bytes that stood before still stand first.

@@ -73,6 +73,7 @@ impl Resolvent {
         ensures over { AreMarks trail.now self.new }
         ensures put { literals (seen trail.now self.new) ≡ put (literals (seen trail.now self.old)) lit }
     {
+        // For the proof: each entry of the trail is of one of the variables.
         let _known = trail.entries();
         let position = trail.position(lit);
         if has_mark(self.marks.as_slice(), position) {
@@ -93,6 +94,7 @@ impl Resolvent {
         ensures over { AreMarks trail.now self.new }
         ensures removed { literals (seen trail.now self.new) ≡ filter (λ l. not (l == opposite (slice_index (map (λ a. a.literal) trail.now.entries) position))) (literals (seen trail.now self.old)) }
     {
+        // For the proof: each entry of the trail is of one of the variables.
         let _known = trail.entries();
         clear_bit(&mut self.marks, position);
         if trail.is_current(position) {

@@ -28,6 +28,7 @@ fn first_with(variables: &[u32], values: &Values, start: u32, value: Option<bool
     requires rising { IsNonDecreasing variables.now }
     ensures { result ≡ least_variable values.now value start variables.now }
 {
+    // For the proof: there are at most 2,147,483,647 variables.
     let _small = values.variables();
     for variable in variables {
         if has_value(values, start + *variable, value) {
@@ -42,6 +43,7 @@ fn least_of_all(variables: &[u32], values: &Values, start: u32, value: Option<bo
     requires { AllByRecursion (λ v. start + v < length values.now) variables.now }
     ensures { result ≡ least_variable values.now value start variables.now }
 {
+    // For the proof: there are at most 2,147,483,647 variables.
     let _small = values.variables();
     let mut least = None;
     let mut i = variables.len();

@@ -29,6 +29,7 @@ fn is_false_at(means: &Supporters, values: &Values, time: u32, lit: u32) -> bool
     ensures { result ≡ is_false_at means.now.layout values.now time lit }
 {
     let layout = means.layout();
+    // For the proof: the layout is lawful, so what it numbers are variables of the formula.
     let _all = layout.variables();
     let variable = layout.fact(time, lit / 2);
     has_value(values, variable, Some(lit % 2 != 0))

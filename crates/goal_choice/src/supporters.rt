@@ -81,6 +81,7 @@ impl Supporters {
     pub fn new(alloc: Global, task: &Task) -> Result<Supporters, Memory>
         ensures { IfOk result (λ s. s ≡ gathered_of task.now) }
     {
+        // For the proof: the task is lawful.
         let _lawful = task.facts();
         let layout = one_layout(task, 0);
         let index = index_of(alloc, &layout, task)?;

@@ -1,6 +1,7 @@
 -- What lists of the objects that fit types stand for.
-use Rattle.std.proofs.Common.{◌≡◌, List, [], ◌++◌, ℕ, map, ap, sym}
+use Rattle.std.proofs.Common.{◌≡◌, ◌∙◌, List, [], ◌++◌, ℕ, map, ap, sym}
 use Rattle.std.specs.List.{list_any}
+use Rattle.std.proofs.lemmas.List.{append-nil}
 use Rattle.gt_core.specs.Task.{Effect}
 use Rattle.pd_model.specs.Fits.{tuples}
 use Rattle.pd_model.specs.declared.atoms.Atom.{Atom}
@@ -8,7 +9,7 @@ use Rattle.pd_model.specs.declared.effects.Effect.{Effect as Lifted}
 use Rattle.pd_model.specs.declared.parts.Parts.{Parts}
 use Rattle.grounding.specs.Instance.{change_of, changes_of}
 use Rattle.grounding.specs.Found.{deletes}
-use Rattle.grounder.specs.Putting.{put_changes, LeavesOut}
+use Rattle.grounder.specs.Putting.{left_effects, LeavesOut}
 use Rattle.grounder.proofs.Leaving.{left_none}
 
 -- an effect whose `forall` no tuple fits has no instance
@@ -18,5 +19,5 @@ no_changes p objects e none = ap (map (λ more. change_of e (objects ++ more))) 
 pub none_left_out : (p : Parts) (reached : List Atom) (objects : List ℕ) (e : Lifted) (s : List Atom) → tuples p e.over ≡ [] → LeavesOut (λ a. list_any (deletes reached a) (changes_of p objects e)) s s
 none_left_out p reached objects e s none = left_none (λ a. list_any (deletes reached a) (changes_of p objects e)) s (λ a. ap (list_any (deletes reached a)) (no_changes p objects e none))
 
-pub nothing_put : (p : Parts) (facts : List Atom) (objects : List ℕ) (e : Lifted) (effects : List Effect) → tuples p e.over ≡ [] → effects ≡ put_changes p facts (changes_of p objects e) effects
-nothing_put p facts objects e effects none = sym (ap (λ cs. put_changes p facts cs effects) (no_changes p objects e none))
+pub nothing_added : (p : Parts) (facts : List Atom) (objects : List ℕ) (e : Lifted) (effects : List Effect) → tuples p e.over ≡ [] → effects ≡ effects ++ left_effects p facts (changes_of p objects e)
+nothing_added p facts objects e effects none = sym (append-nil effects) ∙ ap (λ cs. effects ++ left_effects p facts cs) (sym (no_changes p objects e none))

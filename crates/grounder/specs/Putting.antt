@@ -1,19 +1,18 @@
--- Sets that grow by one element after the other.
-use Rattle.std.specs.Prelude.{ℕ, ◌≡◌, List, [], ◌∷◌, Bool, not, ◌&&◌, map, nat_lt, Option, Some, None, if◌then◌else◌}
+-- What grows or shrinks by one element after the other.
+use Rattle.std.specs.Prelude.{ℕ, ◌≡◌, List, [], ◌∷◌, ◌++◌, Bool, not, ◌&&◌, map, Option, Some, None, if◌then◌else◌}
+use Rattle.std.specs.List.{filter}
 use Rattle.gt_core.specs.Task.{Effect}
-use Rattle.gt_core.specs.Lawful.{effect_less}
 use Rattle.pd_model.specs.State.{is_in}
 use Rattle.pd_model.specs.declared.atoms.Atom.{Atom}
 use Rattle.pd_model.specs.declared.parts.Parts.{Parts}
 use Rattle.grounding.specs.Instance.{Change}
-use Rattle.grounding.specs.Sorted.{insert_in}
 use Rattle.grounding.specs.Simplify.{is_left, effect_of}
 use Rattle.grounder.specs.declared.effects.Keyed.{Keyed}
 
--- a literal, where there is one, is put into a sorted set
-abbrev pub put_literal : Option ℕ → List ℕ → List ℕ
-put_literal None literals = literals
-put_literal (Some l) literals = insert_in nat_lt l literals
+-- a literal, where there is one, comes last
+abbrev pub add_literal : Option ℕ → List ℕ → List ℕ
+add_literal None literals = literals
+add_literal (Some l) literals = literals ++ l ∷ []
 
 -- the effect that is kept so
 abbrev pub effect_at : Keyed → Effect
@@ -22,14 +21,13 @@ effect_at k = record { condition = k.condition.items; literal = k.literal }
 abbrev pub effects_at : List Keyed → List Effect
 effects_at keys = map effect_at keys
 
--- the effect of a change is put into a sorted set where it is left
-abbrev pub put_change : Parts → List Atom → Change → List Effect → List Effect
-put_change p facts c effects = if is_left p facts c then insert_in effect_less (effect_of facts c) effects else effects
+-- the effect of a change comes last where it is left
+abbrev pub add_change : Parts → List Atom → Change → List Effect → List Effect
+add_change p facts c effects = if is_left p facts c then effects ++ effect_of facts c ∷ [] else effects
 
--- those of changes, the last one first
-abbrev pub put_changes : Parts → List Atom → List Change → List Effect → List Effect
-put_changes p facts [] effects = effects
-put_changes p facts (c ∷ changes) effects = put_change p facts c (put_changes p facts changes effects)
+-- the effects of changes that are left, in their order
+abbrev pub left_effects : Parts → List Atom → List Change → List Effect
+left_effects p facts changes = map (effect_of facts) (filter (is_left p facts) changes)
 
 -- the atoms that fail a test are left
 abbrev pub LeavesOut : (Atom → Bool) → List Atom → List Atom → Type 0

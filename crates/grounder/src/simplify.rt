@@ -3,13 +3,12 @@ ghost use Rattle.std.specs.Prelude.{◌≡◌, ◌<◌, ◌+◌, ◌*◌, IfOk, 
 ghost use Rattle.grounding.specs.Instance.{literal_of, literals_of};
 ghost use Rattle.grounding.specs.Simplify.{number_of, simplified};
 ghost use Rattle.grounder.specs.Known.{IsKnown};
-ghost use Rattle.grounder.specs.Putting.{put_literal};
+ghost use Rattle.grounder.specs.Putting.{add_literal};
 
 use crate::known::Known;
 use crate::places::place_in;
 use gt_core::lits::Lits;
 use pd_model::{Cond, Memory};
-use std::collections::BTreeSet;
 
 /// The fact literal of the fact at a place: it says that the fact is true, or that it is false.
 pub(crate) fn fact_literal(place: usize, want: bool) -> u32
@@ -34,12 +33,12 @@ fn number_of(known: &Known, objects: &[u32], cond: &Cond) -> Option<u32>
     }
 }
 
-/// Puts a literal into a set, where there is one.
-fn put_literal(literal: Option<u32>, into: &mut BTreeSet<u32>) -> Result<(), Memory>
-    ensures { OnOk result (into.new.keys ≡ put_literal literal into.old.keys) }
+/// Adds a literal, where there is one.
+fn add_literal(literal: Option<u32>, into: &mut Vec<u32>) -> Result<(), Memory>
+    ensures { OnOk result (into.new.items ≡ add_literal literal into.old.items) }
 {
     if let Some(literal) = literal {
-        into.insert(literal)?;
+        into.push(literal)?;
     }
     Ok(())
 }
@@ -49,11 +48,11 @@ pub(crate) fn simplified(known: &Known, objects: &[u32], conds: &[Cond]) -> Resu
     requires { IsKnown known.now }
     ensures { IfOk result (λ literals. literals ≡ simplified known.now.facts (literals_of objects.now conds.now)) }
 {
-    let mut set = BTreeSet::new(known.alloc);
-    for i in (0..conds.len()).rev() {
-        let literal = number_of(known, objects, &conds[i]);
-        put_literal(literal, &mut set)?;
+    let mut literals = Vec::new(known.alloc);
+    for cond in conds {
+        add_literal(number_of(known, objects, cond), &mut literals)?;
     }
-    let literals: Vec<u32> = set.into_iter().collect(known.alloc)?;
+    literals.sort_unstable();
+    literals.dedup();
     Ok(Lits::of(literals))
 }

@@ -86,10 +86,13 @@ impl HorizonRun {
         let Ok(formula) = form.formula(alloc, n) else {
             return Err(Memory);
         };
+        // For the proof: the formula's clauses are lawful, and few.
         let _clauses = formula.count();
+        // For the proof: the formula's literals are of its variables.
         let _variables = formula.variables();
         let chooser = GoalChooser::sharing(alloc, supporters, form.layout(n))?;
         let mut solver = Solver::new(alloc, formula, chooser)?;
+        // For the proof: the state is sound, and has at most 1,073,741,824 conflicts.
         let _sound = solver.conflicts();
         solver.advance(0)?;
         Ok(HorizonRun { solver, granted: 0 })
@@ -149,6 +152,7 @@ impl HorizonRun {
         ensures few { result ≤ 1073741824 }
         ensures derivation { IsDerivation self.now.formula.variables self.now.formula.clauses self.now.state.log }
     {
+        // For the proof: the log is a derivation, with at most two entries for a conflict.
         let _log = self.solver.log();
         self.solver.conflicts()
     }
@@ -183,7 +187,9 @@ impl HorizonRun {
         ensures values { IfOk result (λ values. values.items ≡ truths_of self.now.formula self.now.state) }
         ensures model { IsModel self.now.formula (truths_of self.now.formula self.now.state) }
     {
+        // For the proof: a found state satisfies the formula.
         let _found = self.solver.standing();
+        // For the proof: the formula's literals are of its variables.
         let _variables = self.solver.formula().variables();
         let mut values = Vec::new(alloc);
         for v in 0..self.solver.formula().variables() {
@@ -198,9 +204,12 @@ impl HorizonRun {
         ensures certified { IfOk result (λ checked. Certifies checked self.now.formula self.now.state.log) }
         ensures refutation { IsRefutation self.now.formula.variables self.now.formula.clauses self.now.state.log }
     {
+        // For the proof: the log of a refuted run ends with the empty clause.
         let _refuted = self.solver.standing();
+        // For the proof: as many clauses were learned as there were conflicts.
         let _counted = self.solver.conflicts();
         let formula = self.solver.formula();
+        // For the proof: a formula has at most 1,073,741,824 clauses.
         let _few = formula.count();
         match check(alloc, formula, self.solver.log()) {
             Ok(checked) => Ok(checked),

@@ -63,6 +63,7 @@ pub fn formula_of<F: StepForm>(alloc: Global, form: &F, horizon: u32) -> Result<
     ensures small { IfOk result (λ formula. literals_of (F.formula_of form.now horizon) ≤ most_literals) }
     ensures stops { StopsBy (IsTooMany (F.formula_of form.now horizon) horizon) result }
 {
+    // For the proof: the form is lawful, so its laws hold.
     let _lawful = form.size(horizon);
     match form.formula(alloc, horizon) {
         Ok(formula) => Ok(formula),

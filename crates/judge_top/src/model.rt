@@ -100,6 +100,7 @@ fn told_values<F: StepForm>(
     ensures told { (before now : ℕ) → IfOk result (IsToldOf (F.formula_of form.now horizon) (F.stands_for form.now horizon) before now) }
     ensures members { IfOk result (IsBelow (length (F.task form.now).actions)) }
 {
+    // For the proof: the form is lawful, so its laws hold.
     let _lawful = form.size(horizon);
     if let Some(clause) = first_false(formula, values) {
         return Ok(Told::NoModel { clause });

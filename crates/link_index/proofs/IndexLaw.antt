@@ -1,4 +1,4 @@
-use Rattle.std.proofs.Common.{arith, ◌≡◌, ◌==◌, ◌≢◌, ℕ, zero, suc, ◌+◌, ◌*◌, ◌/◌, ◌%◌, ◌<◌, ◌≤◌, List, [], ◌∷◌, ◌++◌, length, take, drop, get_or, set, replicate, nat_lt, Bool, true, false, ◌||◌, if◌then◌else◌, refl, sym, ap, ◌∙◌, subst}
+use Rattle.std.proofs.Common.{arith, ◌≡◌, ◌==◌, ◌≢◌, ℕ, zero, suc, ◌+◌, ◌*◌, ◌/◌, ◌%◌, ◌<◌, ◌≤◌, List, [], ◌∷◌, ◌++◌, length, take, drop, get_or, set, replicate, nat_lt, Bool, true, false, ◌||◌, ◌&&◌, not, if◌then◌else◌, refl, sym, ap, ◌∙◌, subst}
 use Rattle.std.specs.List.{list_any, AllByRecursion}
 use Rattle.std.proofs.lemmas.List.{drop_more, drop_all, take_more, append-nil, get_or-set_same, get_or-set_other}
 use Rattle.std.proofs.lemmas.Bool.Decides.{nat_tests}
@@ -11,7 +11,7 @@ use Rattle.bit_rows.specs.Bits.{row_has}
 use Rattle.gt_core.proofs.Basics.{apart, same_test, test_same, same_if, or_none}
 use Rattle.link_index.specs.declared.link.Link.{Link}
 use Rattle.link_index.specs.Links.{link_of, links_of, touches}
-use Rattle.link_index.specs.Index.{entry, IsAway, IsNew, HasEntries, Marks, IsIndexOf, AreTouched}
+use Rattle.link_index.specs.Index.{entry, IsAway, IsNew, HasEntries, Marks, IsIndexOf, AreTouched, HasNoOther}
 use Rattle.std.proofs.Math.Bool.{or-false}
 
 -- An index of links as it grows: by one mark, by the marks of one action, by one action after the other.
@@ -50,7 +50,7 @@ nothing_else false false z h = refl
 cons_same : {A : Type 0} (x y : A) (xs ys : List A) → x ∷ xs ≡ y ∷ ys → (x ≡ y) × (xs ≡ ys)
 cons_same x y xs ys e = (cc, cc)
 
-not_nil : {A : Type 0} (xs : List A) (x : A) → [] ≡ xs ++ x ∷ [] → ⊥
+pub not_nil : {A : Type 0} (xs : List A) (x : A) → [] ≡ xs ++ x ∷ [] → ⊥
 not_nil [] x e = cc
 not_nil (y ∷ xs) x e = cc
 
@@ -334,3 +334,60 @@ nothing_at (suc m) (suc j) = nothing_at m j
 -- lists of which all are empty
 pub none_touched : (touched : List ℕ) (n : ℕ) (lists : List (List Link)) → lists ≡ replicate n [] → AreTouched touched lists
 none_touched touched n lists e k t = ap (λ (xs : List (List Link)). get_or xs k []) e ∙ nothing_at n k
+
+-- Rows that have no other literal.
+
+pub other_same : (touched touched2 : List ℕ) (lists : List (List Link)) → ((k : ℕ) → row_has touched2 k ≡ row_has touched k) → HasNoOther touched lists → HasNoOther touched2 lists
+other_same touched touched2 lists same h k t = h k (sym (same k) ∙ t)
+
+-- no literal at all
+pub no_other : (touched : List ℕ) (lists : List (List Link)) → ((k : ℕ) → row_has touched k ≡ false) → HasNoOther touched lists
+no_other touched lists none k t = absurd (apart (row_has touched k) t (none k))
+
+-- another literal's list stays
+stays_there : (lists : List (List Link)) (i k : ℕ) (row : List Link) → (i == k) ≡ false → get_or (set lists i row) k [] ≡ get_or lists k []
+stays_there lists i k row e = get_or-set_other lists i k row [] (λ q. apart (i == k) (same_test i k (sym q)) e)
+
+-- the literal's list is not empty
+pub other_more : (touched touched2 : List ℕ) (lists : List (List Link)) (i : ℕ) (row : List Link) → i < length lists → ((k : ℕ) → row_has touched2 k ≡ ((i == k) || row_has touched k)) → row ≢ [] → HasNoOther touched lists → HasNoOther touched2 (set lists i row)
+other_more touched touched2 lists i row lt has some h k t none = by (i == k) refl
+  where
+    by : (b : Bool) → (i == k) ≡ b → ⊥
+    by true e = some (sym (get_or-set_same lists i row [] lt) ∙ ap (λ (j : ℕ). get_or (set lists i row) j []) (test_same i k e) ∙ none)
+    by false e = h k (sym (ap (λ (b : Bool). b || row_has touched k) e) ∙ sym (has k) ∙ t) (sym (stays_there lists i k row e) ∙ none)
+
+in_and_out : (b x : Bool) → (not b && (b || x)) ≡ (not b && x)
+in_and_out true x = refl
+in_and_out false x = refl
+
+-- the literal was put in and taken out again
+pub taken_out : (touched touched2 touched3 : List ℕ) (i : ℕ) → ((k : ℕ) → row_has touched2 k ≡ ((i == k) || row_has touched k)) → ((k : ℕ) → row_has touched3 k ≡ (not (i == k) && row_has touched2 k)) → (k : ℕ) → row_has touched3 k ≡ (not (i == k) && row_has touched k)
+taken_out touched touched2 touched3 i has out k = out k ∙ ap (λ (b : Bool). not (i == k) && b) (has k) ∙ in_and_out (i == k) (row_has touched k)
+
+-- the literal is not in the row, and its list is empty
+pub touched_less : (touched touched3 : List ℕ) (lists : List (List Link)) (i : ℕ) (row : List Link) → i < length lists → ((k : ℕ) → row_has touched3 k ≡ (not (i == k) && row_has touched k)) → row ≡ [] → AreTouched touched lists → AreTouched touched3 (set lists i row)
+touched_less touched touched3 lists i row lt has e h k t = by (i == k) refl
+  where
+    by : (b : Bool) → (i == k) ≡ b → get_or (set lists i row) k [] ≡ []
+    by true f = ap (λ (j : ℕ). get_or (set lists i row) j []) (sym (test_same i k f)) ∙ get_or-set_same lists i row [] lt ∙ e
+    by false f = stays_there lists i k row f ∙ h k (sym (ap (λ (b : Bool). not b && row_has touched k) f) ∙ sym (has k) ∙ t)
+
+pub other_less : (touched touched3 : List ℕ) (lists : List (List Link)) (i : ℕ) (row : List Link) → ((k : ℕ) → row_has touched3 k ≡ (not (i == k) && row_has touched k)) → HasNoOther touched lists → HasNoOther touched3 (set lists i row)
+other_less touched touched3 lists i row has h k t none = by (i == k) refl
+  where
+    by : (b : Bool) → (i == k) ≡ b → ⊥
+    by true f = absurd (apart (row_has touched3 k) t (has k ∙ ap (λ (b : Bool). not b && row_has touched k) f))
+    by false f = h k (sym (ap (λ (b : Bool). not b && row_has touched k) f) ∙ sym (has k) ∙ t) (sym (stays_there lists i k row f) ∙ none)
+
+-- the literal was put in, its list was left as this row is, and the literal was taken out again where that is empty
+module _ (touched touched2 touched3 : List ℕ) (lists : List (List Link)) (i : ℕ) (lt : i < length lists) (has : (k : ℕ) → row_has touched2 k ≡ ((i == k) || row_has touched k))
+    (old : AreTouched touched lists) (no_more : HasNoOther touched lists) where
+  pub left_as : (row : List Link) → (row ≢ [] → (k : ℕ) → row_has touched3 k ≡ row_has touched2 k) → (row ≡ [] → (k : ℕ) → row_has touched3 k ≡ (not (i == k) && row_has touched2 k))
+      → AreTouched touched3 (set lists i row) × HasNoOther touched3 (set lists i row)
+  left_as [] stays goes =
+      let out = taken_out touched touched2 touched3 i has (goes refl) in
+      (touched_less touched touched3 lists i [] lt out refl old, other_less touched touched3 lists i [] out no_more)
+  left_as (x ∷ xs) stays goes =
+      let some : x ∷ xs ≢ [] = λ e. cc in
+      let same = stays some in
+      (touched_same touched2 touched3 (set lists i (x ∷ xs)) same (touched_more touched touched2 lists i (x ∷ xs) lt has old), other_same touched2 touched3 (set lists i (x ∷ xs)) same (other_more touched touched2 lists i (x ∷ xs) lt has some no_more))

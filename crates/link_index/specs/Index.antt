@@ -1,5 +1,5 @@
 -- For each fact literal, the links of the actions that touch it: an index that grows by one action after the other.
-use Rattle.std.specs.Prelude.{◌≡◌, ℕ, ◌*◌, ◌<◌, ◌==◌, List, [], ◌∷◌, ◌++◌, Bool, false, ◌||◌, if◌then◌else◌, length, slice_index_or}
+use Rattle.std.specs.Prelude.{◌≡◌, ℕ, ◌*◌, ◌<◌, ◌==◌, List, [], ◌∷◌, ◌++◌, Bool, false, true, ◌≢◌, ◌||◌, if◌then◌else◌, length, slice_index_or}
 use Rattle.std.specs.List.{AllByRecursion}
 use Rattle.bit_rows.specs.Bits.{row_has}
 use Rattle.gt_core.specs.Task.{Task}
@@ -38,3 +38,7 @@ pub record IsIndexOf (task : Task) (members : List ℕ) (index : List (List Link
 -- a row of bits has each literal of which the list is not empty
 abbrev pub AreTouched : List ℕ → List (List Link) → Type 0
 AreTouched row lists = (l : ℕ) → row_has row l ≡ false → slice_index_or lists l [] ≡ []
+
+-- and no other literal
+abbrev pub HasNoOther : List ℕ → List (List Link) → Type 0
+HasNoOther row lists = (l : ℕ) → row_has row l ≡ true → slice_index_or lists l [] ≢ []

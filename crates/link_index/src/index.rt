@@ -1,5 +1,5 @@
 //! For each fact literal, the actions that touch it.
-ghost use Rattle.std.specs.Prelude.{◌≡◌, ℕ, ◌+◌, ◌*◌, ◌/◌, ◌<◌, ◌≤◌, ◌==◌, ◌||◌, false, true, [], length, replicate, slice_index_or, if◌then◌else◌, IfOk, OnOk};
+ghost use Rattle.std.specs.Prelude.{◌≡◌, ◌≢◌, ℕ, ◌+◌, ◌*◌, ◌/◌, ◌<◌, ◌≤◌, ◌==◌, ◌||◌, ◌&&◌, not, false, true, [], length, replicate, slice_index_or, if◌then◌else◌, IfOk, OnOk};
 ghost use Rattle.std.specs.List.{list_any, AllByRecursion};
 ghost use Rattle.bit_rows.specs.Bits.{row_has};
 ghost use Rattle.gt_core.specs.Literal.{opposite, is_in};
@@ -7,7 +7,7 @@ ghost use Rattle.gt_core.specs.Lawful.{is_task};
 ghost use Rattle.gt_core.specs.Interference.{takes, reads};
 ghost use Rattle.gt_core.specs.Active.{EffectWithin};
 ghost use Rattle.gt_core.specs.Published.{Pairwise};
-ghost use Rattle.link_index.specs.Index.{Marks, AreTouched};
+ghost use Rattle.link_index.specs.Index.{Marks, AreTouched, HasNoOther};
 
 use crate::link::{Link, Links, mark};
 use bit_rows::row::BitRow;
@@ -38,13 +38,13 @@ impl Drop for LinkIndex {
 impl Model for LinkIndex {
     ghost use Rattle.std.specs.Prelude.{List};
     ghost use Rattle.link_index.specs.declared.link.Link.{Link};
-    ghost use Rattle.link_index.specs.Index.{AreTouched};
+    ghost use Rattle.link_index.specs.Index.{AreTouched, HasNoOther};
 
     ghost Value = { List (List Link) };
 
     ghost view = { λ i. i.lists.items };
 
-    ghost invariant = { λ i. AreTouched i.touched i.lists.items };
+    ghost invariant = { λ i. AreTouched i.touched i.lists.items × HasNoOther i.touched i.lists.items };
 }
 
 /// How many fact literals a task has.
@@ -74,6 +74,7 @@ fn next_touched(touched: &BitRow, from: u32, end: u32) -> u32
     ensures from { from ≤ result }
     ensures within { result ≤ end }
     ensures none { (k : ℕ) → from ≤ k → k < result → row_has touched.now k ≡ false }
+    ensures some { result < end → row_has touched.now result ≡ true }
 {
     match touched.least(from) {
         Some(lit) => { if lit < end { lit } else { end } }
@@ -96,23 +97,36 @@ fn clear_touched(lists: &mut Vec<Links>, touched: &BitRow, count: u32)
     }
 }
 
+/// Takes a literal out of a row where its list is empty.
+fn take_out_if_empty(links: &Links, touched: &mut BitRow, lit: u32)
+    ensures some { links.now ≢ [] → (k : ℕ) → row_has touched.new k ≡ row_has touched.old k }
+    ensures none { links.now ≡ [] → (k : ℕ) → row_has touched.new k ≡ (not (lit == k) && row_has touched.old k) }
+{
+    if links.as_slice().is_empty() {
+        touched.remove(lit);
+    }
+}
+
 /// Notes that an action takes a literal, or reads it.
 fn mark_in(lists: &mut Vec<Links>, touched: &mut BitRow, lit: u32, link: Link) -> Result<(), Memory>
     requires some { (link.takes || link.reads) ≡ true }
     requires lit { lit < length lists.old.items }
     requires touched { AreTouched touched.old lists.old.items }
+    requires no_other { HasNoOther touched.old lists.old.items }
     ensures long { length lists.new.items ≡ length lists.old.items }
     ensures touched { AreTouched touched.new lists.new.items }
+    ensures no_other { HasNoOther touched.new lists.new.items }
     ensures marks { OnOk result (Marks link.action (λ l. if lit == l then link.takes else false) (λ l. if lit == l then link.reads else false) lists.old.items lists.new.items) }
 {
     touched.insert(lit)?;
-    mark(
-        &mut lists[lit as usize],
-        link.action,
-        link.takes,
-        link.reads,
-    )?;
-    Ok(())
+    let links = &mut lists[lit as usize];
+    match mark(links, link.action, link.takes, link.reads) {
+        Ok(()) => Ok(()),
+        Err(Memory) => {
+            take_out_if_empty(links, touched, lit);
+            Err(Memory)
+        }
+    }
 }
 
 impl LinkIndex {
@@ -144,6 +158,7 @@ impl LinkIndex {
         ensures from { from ≤ result }
         ensures within { result ≤ end }
         ensures none { (k : ℕ) → from ≤ k → k < result → slice_index_or self.now k [] ≡ [] }
+        ensures touched { result < end → slice_index_or self.now result [] ≢ [] }
     {
         next_touched(&self.touched, from, end)
     }

@@ -1,5 +1,5 @@
 //! The actions that touch one fact literal.
-ghost use Rattle.std.specs.Prelude.{◌≡◌, ◌||◌, true, ◌++◌, List, Bool, OnOk};
+ghost use Rattle.std.specs.Prelude.{◌≡◌, ◌≢◌, [], ◌||◌, true, ◌++◌, List, Bool, OnOk};
 ghost use Rattle.link_index.specs.declared.link.Link.{Link as LinkValue};
 ghost use Rattle.link_index.specs.Index.{entry, IsAway};
 
@@ -35,7 +35,8 @@ pub(crate) type Links = ListOf<Link>;
 /// was.
 pub(crate) fn mark(links: &mut Links, action: u32, takes: bool, reads: bool) -> Result<(), Memory>
     requires { (takes || reads) ≡ true }
-    ensures { OnOk result ((base : List LinkValue) (t r : Bool) → IsAway action base → links.old ≡ base ++ entry action t r → links.new ≡ base ++ entry action (t || takes) (r || reads)) }
+    ensures some { OnOk result (links.new ≢ []) }
+    ensures marked { OnOk result ((base : List LinkValue) (t r : Bool) → IsAway action base → links.old ≡ base ++ entry action t r → links.new ≡ base ++ entry action (t || takes) (r || reads)) }
 {
     let link = Link {
         action,

@@ -1,11 +1,7 @@
-use Rattle.std.proofs.Common.{replicate, arith, ◌≡◌, ◌==◌, ℕ, zero, suc, ◌+◌, ◌<◌, ◌≤◌, List, [], ◌∷◌, length, set, get_or, Bool, true, false, not, ◌||◌, refl, sym, ap, subst, ◌∙◌, filter, if◌then◌else◌, nat_lt, ◌++◌, ◌≢◌, get_or-set_same, get_or-set_other, length-set, zero-add}
-use Rattle.std.specs.List.{sum_by}
+use Rattle.std.proofs.Common.{replicate, arith, ◌≡◌, ◌==◌, ℕ, zero, suc, ◌+◌, ◌<◌, ◌≤◌, List, [], ◌∷◌, length, set, Bool, true, false, not, ◌||◌, refl, sym, ap, subst, ◌∙◌, filter, if◌then◌else◌, nat_lt, ◌++◌, ◌≢◌, get_or-set_same, get_or-set_other, length-set, zero-add}
 use Rattle.std.proofs.Math.Bool.{or-true, or-false}
 use Rattle.std.proofs.lemmas.List.{nil_from_length}
 use Rattle.std.proofs.lemmas.List.Folds.{list_any-append}
-use Rattle.std.specs.List.Sorted.{IsNonDecreasing, IsPermutation}
-use Rattle.std.proofs.lemmas.List.Sorted.{sum_by-IsPermutation}
-use Rattle.std.proofs.lemmas.List.Sums.{sum_by-cons}
 use Rattle.std.proofs.lemmas.Bool.Decides.{nat_tests}
 use Rattle.clause_base.specs.Clause.{put, has_literal}
 use Rattle.lit_marks.specs.Marks.{places, at, Covers}
@@ -87,82 +83,6 @@ abbrev pub bit : Bool → ℕ
 bit true = 1
 bit false = 0
 
-abbrev pub count : ℕ → List ℕ → ℕ
-count m [] = 0
-count m (l ∷ ls) = bit (l == m) + count m ls
-
-pub count-push : (m : ℕ) (ls : List ℕ) (l : ℕ) → count m (ls ++ l ∷ []) ≡ count m ls + bit (l == m)
-count-push m [] l = omega arith
-count-push m (k ∷ ls) l = let h = count-push m ls l in omega arith
-
-count_none : (v k : ℕ) (ls : List ℕ) → k < v → IsFrom v ls → count k ls ≡ 0
-count_none v k [] h f = refl
-count_none v k (l ∷ ls) h f = let e : (l == k) ≡ false = grind (arith, nat_tests, f.0) in rw e (omega (arith, count_none v k ls h f.1))
-
--- each true place is there once
-pub count-places : (v : ℕ) (on : List Bool) (k : ℕ) → count (v + k) (places v on) ≡ bit (at on k)
-count-places v [] k = refl
-count-places v (true ∷ on) zero =
-    let e : (v == v + 0) ≡ true = grind (arith, nat_tests) in
-    rw e (omega (arith, count_none (v + 1) (v + 0) (places (v + 1) on) (omega arith) (from_places (v + 1) on)))
-count-places v (false ∷ on) zero = count_none (v + 1) (v + 0) (places (v + 1) on) (omega arith) (from_places (v + 1) on)
-count-places v (true ∷ on) (suc k) =
-    let e : (v == v + suc k) ≡ false = grind (arith, nat_tests) in
-    let s : v + suc k ≡ v + 1 + k = omega arith in
-    rw e (omega (arith, ap (λ j. count j (places (v + 1) on)) s ∙ count-places (v + 1) on k))
-count-places v (false ∷ on) (suc k) = let s : v + suc k ≡ v + 1 + k = omega arith in ap (λ j. count j (places (v + 1) on)) s ∙ count-places (v + 1) on k
-
--- each number is at or past the one before it
-abbrev pub IsOrdered : List ℕ → Type 0
-IsOrdered [] = Unit {0}
-IsOrdered (l ∷ ls) = IsFrom l ls × IsOrdered ls
-
-ordered_places : (v : ℕ) (on : List Bool) → IsOrdered (places v on)
-ordered_places v [] = tt
-ordered_places v (true ∷ on) = (from_less v (v + 1) (places (v + 1) on) (omega arith) (from_places (v + 1) on), ordered_places (v + 1) on)
-ordered_places v (false ∷ on) = ordered_places (v + 1) on
-
-from_index : (v : ℕ) (ls : List ℕ) → ((j : ℕ) → j < length ls → v ≤ get_or ls j 0) → IsFrom v ls
-from_index v [] h = tt
-from_index v (l ∷ ls) h = (h 0 (omega arith), from_index v ls (λ j b. h (suc j) (omega arith)))
-
-pub ordered_from : (ls : List ℕ) → IsNonDecreasing ls → IsOrdered ls
-ordered_from [] h = tt
-ordered_from (l ∷ ls) h = (
-  from_index l ls (λ j b. h 0 (suc j) 0 (omega arith) (omega arith)),
-  ordered_from ls (λ i j d b c. h (suc i) (suc j) d (omega arith) (omega arith)),
-)
-
-own_count : (x : ℕ) (xs : List ℕ) → 0 < count x (x ∷ xs)
-own_count x xs = let e : (x == x) ≡ true = grind (arith, nat_tests) in rw e (omega arith)
-
-head_le : (x y : ℕ) (xs ys : List ℕ) → IsFrom y ys → count x (x ∷ xs) ≡ count x (y ∷ ys) → (x < y → ⊥)
-head_le x y xs ys f e h =
-    let none : count x (y ∷ ys) ≡ 0 = count_none y x (y ∷ ys) h (omega arith, f) in
-    let own = own_count x xs in
-    absurd (omega (arith, own, e, none))
-
-tail_count : (x y : ℕ) (xs ys : List ℕ) → x ≡ y → ((m : ℕ) → count m (x ∷ xs) ≡ count m (y ∷ ys)) → (m : ℕ) → count m xs ≡ count m ys
-tail_count x y xs ys s e m =
-    let h = e m in
-    let b : bit (x == m) ≡ bit (y == m) = ap (λ (k : ℕ). bit (k == m)) s in
-    omega (arith, h, b)
-
--- two ordered lists with each number as often are one
-pub same_ordered : (xs ys : List ℕ) → IsOrdered xs → IsOrdered ys → ((m : ℕ) → count m xs ≡ count m ys) → xs ≡ ys
-same_ordered [] [] a b e = refl
-same_ordered [] (y ∷ ys) a b e = let h = own_count y ys in let k = e y in absurd (omega (arith, h, k))
-same_ordered (x ∷ xs) [] a b e = let h = own_count x xs in let k = e x in absurd (omega (arith, h, k))
-same_ordered (x ∷ xs) (y ∷ ys) a b e =
-    let p = head_le x y xs ys b.0 (e x) in
-    let q = head_le y x ys xs a.0 (sym (e y)) in
-    let s : x ≡ y = omega (arith, p, q) in
-    let t = same_ordered xs ys a.1 b.1 (tail_count x y xs ys s e) in
-    ap (λ (k : ℕ). k ∷ xs) s ∙ ap (λ (ks : List ℕ). y ∷ ks) t
-
-pub sorted_places : (ls : List ℕ) (on : List Bool) → IsNonDecreasing ls → ((m : ℕ) → count m ls ≡ bit (at on m)) → ls ≡ places 0 on
-sorted_places ls on h e = same_ordered ls (places 0 on) (ordered_from ls h) (ordered_places 0 on) (λ m. e m ∙ sym (ap (λ j. count j (places 0 on)) (omega arith) ∙ count-places 0 on m))
-
 covers_in : (touched : List ℕ) (lit m : ℕ) (same : Bool) → (lit == m) ≡ same → has_literal (touched ++ lit ∷ []) m ≡ true → (same ≡ false) → has_literal touched m ≡ true
 covers_in touched lit m true e h f = cc
 covers_in touched lit m false e h f = or_false_right (has_literal touched m) (lit == m) e (sym (has-push touched lit m) ∙ h)
@@ -181,17 +101,6 @@ pub at-set : (on : List Bool) (i m : ℕ) (b same : Bool) → i < length on → 
 at-set on i m b true h e = let s : m ≡ i = grind (arith, nat_tests) in rw (s) (get_or-set_same on i b false h)
 at-set on i m b false h e = let s : m ≢ i = λ (z : m ≡ i). grind (arith, nat_tests) in get_or-set_other on i m b false s
 
-off_other : (on : List Bool) (lit m : ℕ) (same : Bool) → (lit == m) ≡ same → at on lit ≡ false → at on m ≡ true → same ≡ false
-off_other on lit m true e f t = let s : lit ≡ m = grind (arith, nat_tests) in let g : at on m ≡ false = ap (at on) (sym s) ∙ f in cc
-off_other on lit m false e f t = refl
-
--- the last of those touched that is off need not be among them
-pub covers_off : (all touched : List ℕ) (lit : ℕ) (on : List Bool) → all ≡ touched ++ lit ∷ [] → Covers all on → at on lit ≡ false → Covers touched on
-covers_off all touched lit on e covers f = let c = subst (λ ls. Covers ls on) e covers in record {
-  covered = λ m t. covers_in touched lit m (lit == m) refl (c.covered m t) (off_other on lit m (lit == m) refl f t);
-  within = λ m h. c.within m (in_more touched lit m h);
-}
-
 pub covers_last : (all touched : List ℕ) (lit : ℕ) (on : List Bool) → all ≡ touched ++ lit ∷ [] → Covers all on → lit < length on
 covers_last all touched lit on e covers = (subst (λ ls. Covers ls on) e covers).within lit (in_last touched lit)
 
@@ -208,16 +117,6 @@ covers_set all touched lit on e covers =
       covered = λ m t. let s = set_false on lit m (lit == m) h refl t in covers_in touched lit m (lit == m) refl (c.covered m s.1) s.0;
       within = λ m k. let n = length-set on lit false in omega (arith, n, c.within m (in_more touched lit m k));
     }
-
-counts_by : (ls : List ℕ) (lit m : ℕ) (on : List Bool) (same : Bool) → (lit == m) ≡ same → lit < length on → at on lit ≡ true → count m (ls ++ lit ∷ []) + bit (at (set on lit false) m) ≡ count m ls + bit (at on m)
-counts_by ls lit m on true e h t =
-    let s : lit ≡ m = grind (arith, nat_tests) in
-    let o : at on m ≡ true = ap (at on) (sym s) ∙ t in
-    rw (count-push m ls lit, at-set on lit m false true h e, e, o) (omega arith)
-counts_by ls lit m on false e h t = rw (count-push m ls lit, at-set on lit m false false h e, e) (omega arith)
-
-pub counts_step : (ls : List ℕ) (lit m : ℕ) (on : List Bool) → lit < length on → at on lit ≡ true → count m (ls ++ lit ∷ []) + bit (at (set on lit false) m) ≡ count m ls + bit (at on m)
-counts_step ls lit m on h t = counts_by ls lit m on (lit == m) refl h t
 
 all_off : (b : Bool) → (b ≡ true → ⊥) → bit b ≡ 0
 all_off true h = absurd (h refl)
@@ -237,16 +136,6 @@ none_places v (false ∷ on) h = none_places (v + 1) on (λ m. h (suc m))
 -- where nothing is left of those touched nothing is in
 pub emptied : (touched : List ℕ) (on : List Bool) → Covers touched on → length touched ≡ 0 → places 0 on ≡ []
 emptied touched on c e = none_places 0 on (none_in on (nothing_left touched on c e))
-
-count-sum : (m : ℕ) (ls : List ℕ) → count m ls ≡ sum_by (λ x. bit (x == m)) ls
-count-sum m [] = refl
-count-sum m (l ∷ ls) = rw (sum_by-cons) (ap (λ n. bit (l == m) + n) (count-sum m ls))
-
-pub count-permutation : (m : ℕ) (xs ys : List ℕ) → IsPermutation xs ys → count m ys ≡ count m xs
-count-permutation m xs ys p = count-sum m ys ∙ sum_by-IsPermutation (λ x. bit (x == m)) xs ys p ∙ sym (count-sum m xs)
-
-pub taken : (ls sorted touched : List ℕ) (on on0 : List Bool) → Covers touched on → length touched ≡ 0 → ((m : ℕ) → count m ls + bit (at on m) ≡ bit (at on0 m)) → IsPermutation ls sorted → IsNonDecreasing sorted → sorted ≡ places 0 on0
-taken ls sorted touched on on0 c l e p n = sorted_places sorted on0 n (λ m. let z = none_in on (nothing_left touched on c l) m in let h = e m in let q = count-permutation m ls sorted p in omega arith)
 
 -- a table without marks
 pub places_none : (v n : ℕ) → places v (replicate n false) ≡ []

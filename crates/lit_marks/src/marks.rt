@@ -1,4 +1,4 @@
-ghost use Rattle.std.specs.Prelude.{◌≡◌, ◌<◌, ◌≤◌, ◌*◌, [], false, true, length, slice_set, IfOk, OnOk, OnErr};
+ghost use Rattle.std.specs.Prelude.{◌≡◌, ◌<◌, ◌≤◌, ◌*◌, [], true, length, slice_set, IfOk, OnOk, OnErr};
 ghost use Rattle.clause_base.specs.Clause.{has_literal, put};
 ghost use Rattle.lit_marks.specs.Marks.{places, at};
 
@@ -56,31 +56,6 @@ impl Marks {
     {
         self.touched.push(lit)?;
         self.on[lit.0 as usize] = true;
-        Ok(())
-    }
-
-    /// Takes a literal out.
-    pub fn remove(&mut self, lit: Lit)
-        requires { lit < length self.old }
-        ensures { self.new ≡ slice_set self.old lit false }
-    {
-        self.on[lit.0 as usize] = false;
-    }
-
-    /// Takes all literals out, in order of their codes, into a vector that is written over.
-    pub fn take(&mut self, lits: &mut Vec<Lit>) -> Result<(), Memory>
-        ensures taken { OnOk result (lits.new.items ≡ places 0 self.old) }
-        ensures emptied { OnOk result (places 0 self.new ≡ []) }
-        ensures len { length self.new ≡ length self.old }
-    {
-        lits.clear();
-        while let Some(lit) = self.touched.pop() {
-            if self.on[lit.0 as usize] {
-                self.on[lit.0 as usize] = false;
-                lits.push(lit)?;
-            }
-        }
-        lits.sort_unstable();
         Ok(())
     }
 

@@ -72,3 +72,17 @@ steps_next old now pushed numbers index last n within g p e =
     ∙ ap (λ (m : ℕ). now ++ steps_of last (m ∷ rest)) g
     ∙ sym (ap (λ (ns : List ℕ). now ++ steps_of last ns) (drop_more numbers index 0 within))
     ∙ e
+
+-- one number more of those that are read
+pub numbers_next : (whole now pushed rest after : List ℕ) (count left last n : ℕ) → count ≡ suc left → pushed ≡ now ++ n ∷ [] → n ≡ step_from last (number_of rest) → after ≡ after_number rest
+    → now ++ numbers_of count last rest ≡ whole → pushed ++ numbers_of left n after ≡ whole
+numbers_next whole now pushed rest after count left last n c p e a h =
+    (λ i. p i ++ numbers_of left n (a i))
+    ∙ append_assoc now (n ∷ []) (numbers_of left n (after_number rest))
+    ∙ ap (λ (m : ℕ). now ++ m ∷ numbers_of left m (after_number rest)) e
+    ∙ sym (ap (λ (k : ℕ). now ++ numbers_of k last rest) c)
+    ∙ h
+
+-- the bytes after one number more
+pub after_next : (whole rest after : List ℕ) (count left : ℕ) → count ≡ suc left → after ≡ after_number rest → after_numbers count rest ≡ whole → after_numbers left after ≡ whole
+after_next whole rest after count left c a h = ap (after_numbers left) a ∙ sym (ap (λ (k : ℕ). after_numbers k rest) c) ∙ h

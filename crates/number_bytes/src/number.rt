@@ -14,7 +14,23 @@ pub struct Taken<'a> {
 }
 
 /// Reads the number that the bytes begin with: 0 where there are none.
+#[inline(always)]
 pub fn take_number(bytes: &[u8]) -> Taken<'_>
+    ensures number { result.number ≡ number_of bytes.now }
+    ensures rest { result.rest.now ≡ after_number bytes.now }
+{
+    // most numbers take one byte, which needs no loop
+    if let Some((byte, rest)) = bytes.split_first() {
+        if *byte < 128 {
+            let number = u64::from(*byte);
+            return Taken { number, rest };
+        }
+    }
+    take_long(bytes)
+}
+
+/// Reads the number that the bytes begin with, byte by byte: 0 where there are none.
+fn take_long(bytes: &[u8]) -> Taken<'_>
     ensures number { result.number ≡ number_of bytes.now }
     ensures rest { result.rest.now ≡ after_number bytes.now }
 {

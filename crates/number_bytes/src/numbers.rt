@@ -1,6 +1,6 @@
-ghost use Rattle.std.specs.Prelude.{◌≡◌, ◌+◌, ◌∷◌, [], ◌++◌, ◌<◌, ◌≤◌, ◌^◌, length, take, vec_capacity, All, OnOk, IfSome, IfNone, IsTrue, ◌↔◌};
-ghost use Rattle.number_bytes.specs.Number.{bytes_of};
-ghost use Rattle.number_bytes.specs.Numbers.{numbers_of, after_numbers, step_to, steps_of};
+ghost use Rattle.std.specs.Prelude.{◌≡◌, ◌+◌, ◌∷◌, [], ◌++◌, ◌<◌, ◌≤◌, ◌^◌, length, take, vec_capacity, All, OnOk, IfOk, IfSome, IfNone, IsTrue, ◌↔◌};
+ghost use Rattle.number_bytes.specs.Number.{bytes_of, number_of, after_number};
+ghost use Rattle.number_bytes.specs.Numbers.{numbers_of, after_numbers, step_to, step_from, steps_of};
 
 use crate::number::{put_number, put_within, take_number};
 use crate::step::{step_from, step_to};
@@ -62,12 +62,54 @@ impl<'a> Numbers<'a> {
         if self.left == 0 {
             return None;
         }
-        let taken = take_number(self.bytes);
-        self.bytes = taken.rest;
+        let next = take_step(self.bytes, self.last);
+        self.bytes = next.rest;
         self.left -= 1;
-        self.last = step_from(self.last, taken.number);
+        self.last = next.number;
         Some(self.last)
     }
+}
+
+/// A number of a list, and the bytes after it.
+#[derive(Clone, Copy)]
+pub struct Next<'a> {
+    pub number: u32,
+    pub rest: &'a [u8],
+}
+
+/// Reads the step that the bytes begin with, and tells the number that it leads to from the one before it.
+#[inline(always)]
+pub fn take_step(bytes: &[u8], last: u32) -> Next<'_>
+    ensures number { result.number ≡ step_from last (number_of bytes.now) }
+    ensures rest { result.rest.now ≡ after_number bytes.now }
+{
+    let taken = take_number(bytes);
+    Next {
+        number: step_from(last, taken.number),
+        rest: taken.rest,
+    }
+}
+
+/// Reads so many numbers, with which the bytes begin, into a vector that is written over, and gives the bytes after them.
+pub fn take_numbers<'a>(
+    bytes: &'a [u8],
+    count: usize,
+    numbers: &mut Vec<u32>,
+) -> Result<&'a [u8], AllocError>
+    ensures numbers { OnOk result (numbers.new.items ≡ numbers_of count 0 bytes.now) }
+    ensures rest { IfOk result (λ rest. rest.now ≡ after_numbers count bytes.now) }
+{
+    numbers.clear();
+    numbers.reserve(count)?;
+    let mut last = 0;
+    let mut rest = bytes;
+    for _ in 0..count {
+        let next = take_step(rest, last);
+        last = next.number;
+        rest = next.rest;
+        numbers.push_reserved(last);
+    }
+    Ok(rest)
 }
 
 /// The bytes after so many numbers.

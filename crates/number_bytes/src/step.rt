@@ -14,6 +14,7 @@ pub fn step_to(last: u32, number: u32) -> u64
 }
 
 /// The number that a step leads to.
+#[inline(always)]
 pub fn step_from(last: u32, step: u64) -> u32
     ensures { result ≡ step_from last step }
 {

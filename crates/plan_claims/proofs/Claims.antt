@@ -1,7 +1,7 @@
 -- What a race that ended on a task means for the task and for its report.
-use Rattle.std.proofs.Common.{◌≡◌, ◌<◌, ◌≤◌, ℕ, zero, suc, ◌+◌, ◌^◌, Bool, true, false, List, [], ◌∷◌, ◌++◌, map, length, get_or, codes, refl, sym, ap, ap₂, subst, ◌∙◌, arith, Option, Some, None, if◌then◌else◌}
-use Rattle.std.specs.Prelude.{IsTrue, Contains, decimal, slice_get, slice_index_or}
-use Rattle.std.specs.List.{AllByRecursion, list_all}
+use Rattle.std.proofs.Common.{◌≡◌, ◌<◌, ℕ, zero, suc, ◌+◌, ◌^◌, Bool, List, [], ◌∷◌, ◌++◌, map, length, get_or, codes, refl, sym, ap, ap₂, subst, ◌∙◌, arith}
+use Rattle.std.specs.Prelude.{Contains, decimal, slice_index_or}
+use Rattle.std.specs.List.{AllByRecursion}
 use Rattle.std.proofs.lemmas.List.Elements.{All-contains, All-map, All-from_recursion, All-contains_itself, Contains-append_left, Contains-append_right}
 use Rattle.std.proofs.lemmas.Fmt.{decimal_is_IsNumeral}
 use Rattle.report_lines.specs.Lines.{lines_of}
@@ -9,22 +9,14 @@ use Rattle.report_lines.specs.Horizons.{Entry, entry_line, report}
 use Rattle.clause_base.specs.Derivation.{IsRefutation}
 use Rattle.clause_base.specs.Formula.{IsModel, assignment_of}
 use Rattle.cdcl_rules.specs.State.{State}
-use Rattle.gt_core.specs.Published.{IsPublished, order_of}
-use Rattle.gt_core.specs.Task.{Task}
-use Rattle.gt_core.specs.Laws.{NeverItself}
+use Rattle.gt_core.specs.Published.{order_of}
 use Rattle.horizon_rates.specs.declared.settings.Settings.{Settings}
-use Rattle.pd_model.specs.Fits.{is_call}
-use Rattle.pd_model.specs.Exec.{exec_schema}
-use Rattle.pd_model.specs.Plan.{IsPlan, exec_all, meets_goal}
-use Rattle.pd_model.specs.declared.atoms.Atom.{Atom}
+use Rattle.pd_model.specs.Plan.{IsPlan}
 use Rattle.pd_model.specs.declared.calls.Call.{Call}
 use Rattle.pd_model.specs.declared.parts.Parts.{Parts}
-use Rattle.grounding.specs.Grounded.{Grounded, IsGrounded}
+use Rattle.grounding.specs.Grounded.{Grounded}
 use Rattle.grounding.specs.Laws.{AreNumbers}
-use Rattle.step_laws.specs.Form.{OrderedTask, IsOrderedTask, AreSets, member_at, steps_at}
-use Rattle.step_laws.specs.Stepping.{IsStepping}
-use Rattle.step_encoding.specs.Laws.{by_components}
-use Rattle.all_steps.specs.Form.{by_both_ways}
+use Rattle.step_laws.specs.Form.{OrderedTask, AreSets, steps_at}
 use Rattle.horizon_run.specs.Run.{truths_of}
 use Rattle.race_end.specs.declared.line.LineEnd.{LineEnd}
 use Rattle.race_end.specs.declared.line.LineEnd.TheVariants as ends
@@ -35,20 +27,20 @@ use Rattle.race_end.specs.Ends.{Word, WordRefuted, WordDropped, WordOpen, WordPl
 use Rattle.race.specs.Input.{RaceInput}
 use Rattle.race.proofs.Exhausted.{last_is_refuted}
 use Rattle.race.specs.Lines.{IsLine, IsMarked, WhereRefuted, state_of_line, standing_of as standing_at}
-use Rattle.step_plans.specs.Plans.{AreStepPlan, IsStepPlanOf, AreListed, actions_in}
+use Rattle.step_plans.specs.Plans.{AreListed, actions_in}
 use Rattle.plan_report.specs.Report.{word_text, entry_of, plan_line, exhausted_line, conflicts_line, last_lines, report_of}
 use Rattle.plan_report.specs.Laws.{IsSmall, IsSmallLine, HasCalls, Tells}
 use Rattle.certificates.specs.Known.{IsOrdered, form_of, choice_at, formula_at}
 use Rattle.plan_claims.specs.Laws.{Laws}
 use Rattle.plan_tasks.proofs.Claims as low
+use Rattle.told_plans.proofs.Runs as runs
 use Rattle.plan_tasks.proofs.Claims.{as_barred}
 use Rattle.plan_words.specs.Seen.{numbers}
 use Rattle.plan_words.specs.declared.request.Stepping.{Stepping}
-use Rattle.plan_words.specs.declared.request.Stepping.TheVariants.{Exists, All}
-use Rattle.plan_answers.specs.Stepping.{places_by, is_plan_by, bars_by}
+use Rattle.plan_answers.specs.Stepping.{places_by, is_plan_by}
 use Rattle.plan_answers.specs.Tasks.{IsReady}
 use Rattle.plan_answers.specs.Raced.{input_of, ComesTo}
-use Rattle.plan_claims.specs.Headline.{OfGrounded, HasStepPlan, PlanRuns, HasAtLeast, HasPlanOf, TellsExhausted, NoStepPlan, NoPlan, IsSo, LineIsSo, standing_of, conflicts_of, line_words, SpendsAll}
+use Rattle.plan_claims.specs.Headline.{OfGrounded, PlanRuns, HasAtLeast, HasPlanOf, TellsExhausted, NoStepPlan, NoPlan, IsSo, LineIsSo, standing_of, conflicts_of, line_words, SpendsAll}
 
 -- ---- lines and the words in them
 
@@ -112,28 +104,10 @@ line_so input line is = record {
 
 -- ---- plans
 
--- calls that are executed are calls of the task
-calls_fit : (p : Parts) (s : List Atom) (calls : List Call) → IsTrue (meets_goal p (exec_all p s calls)) → list_all (is_call p) calls ≡ true
-calls_fit p s [] h = refl
-calls_fit p s (call ∷ calls) h = step (is_call p call) refl (exec_schema p s call.objects (slice_get p.schemas call.schema)) (λ t. calls_fit p t calls) h
-  where
-    step : (b : Bool) → is_call p call ≡ b → (o : Option (List Atom)) → ((t : List Atom) → IsTrue (meets_goal p (exec_all p t calls)) → list_all (is_call p) calls ≡ true)
-        → IsTrue (meets_goal p (elim (if b then o else None) [ None ↦ None | Some t ↦ exec_all p t calls ])) → list_all (is_call p) (call ∷ calls) ≡ true
-    step true e None more k = absurd (let never : false ≡ true = k in cc)
-    step true e (Some t) more k = rw e (more t k)
-    step false e o more k = absurd (let never : false ≡ true = k in cc)
-
 -- the conflicts of entries are those of the lines
 conflicts_same : (lines : List LineView) → conflicts_of (map entry_of lines) ≡ conflicts_in lines
 conflicts_same [] = refl
 conflicts_same (line ∷ lines) = ap (λ (n : ℕ). line.conflicts + n) (conflicts_same lines)
-
--- ---- plans in steps of a kind
-
--- what the values of the formulas of a kind stand for
-stepping_by : (how : Stepping) → IsStepping (places_by how) (is_plan_by how)
-stepping_by Exists = by_components
-stepping_by All = by_both_ways
 
 -- the word of a line is one of the four
 words_in : (lines : List LineView) → AllByRecursion (λ e. Contains line_words e.word) (map entry_of lines)
@@ -153,21 +127,12 @@ module _ (laws : Laws) (task : Parts) (g : Grounded) (ready : IsReady task g) (c
 
   -- ---- found horizons
 
-  is_form : IsOrderedTask (form_of g.task clauses components)
-  is_form = record {
-    lawful = laws.is_task task g ready.grounded ready.fits;
-    known = ordered.known.listed;
-    facts = refl;
-    hold = laws.hold g.task clauses ordered.known;
-    published = ordered.published;
-  }
-
   -- the values that are a model of the formula of a horizon stand for a plan of so many steps
   pub has_plan : (how : Stepping) (horizon : ℕ) (values : List Bool) → IsModel (formula_at (places_by how) (form_of g.task clauses components) horizon) values → HasPlanOf how horizon task
   has_plan how horizon values model =
       let form = form_of g.task clauses components in
       of_grounded (λ h clauses components. (steps : List (List ℕ)) × AreSets (is_plan_by how) h.task (order_of components) steps horizon)
-      (steps_at form (places_by how g.task components) horizon (assignment_of values), (stepping_by how).plans form is_form horizon (assignment_of values) model.satisfies)
+      (steps_at form (places_by how g.task components) horizon (assignment_of values), runs.model_is_plan laws.of_plans task g ready clauses components ordered how horizon values model)
 
   -- ---- refuted horizons
 
@@ -236,30 +201,24 @@ module _ (laws : Laws) (how : Stepping) (settings : Settings) (task : Parts) (g 
         let s = comes.steps in
         subst (AreListed (order_of comes.components)) (sym s.2) (laws.listed (form_of g.task comes.clauses comes.components) (places_by how g.task comes.components) horizon (assignment_of s.0))
 
-    is_plan : AreStepPlan g.task (order_of comes.components) steps horizon
-    is_plan = let p = comes.plan in record { long = p.long; plan = (as_barred how g.task (order_of comes.components) (member_at steps) horizon p.plan).plan }
-
     its_calls : (calls : List Call) × AreNumbers g calls (actions_in steps) × IsPlan task calls
-    its_calls =
-        let r = laws.run task g comes.clauses comes.components steps horizon ready.grounded (laws.is_task task g ready.grounded ready.fits) comes.ordered.published is_plan in
-        (r.0, subst (AreNumbers g r.0) (laws.in_order (order_of comes.components) steps is_listed) r.1, r.2)
+    its_calls = runs.its_calls laws.of_plans task g ready comes.clauses comes.components comes.ordered how horizon steps comes.plan is_listed
 
     pub has_calls : HasCalls task g planned
-    has_calls = let c = its_calls in (c.0, c.1, calls_fit task task.init c.0 c.2)
+    has_calls = let c = its_calls in (c.0, c.1, runs.calls_fit task task.init c.0 c.2)
 
     pub plan_runs : IsSmall settings.budget planned → PlanRuns how (report_of task g settings.budget planned) task
     plan_runs small =
         let c = its_calls in
         let text : List ℕ = report_of task g settings.budget planned in
-        let read = laws.plans task g settings.budget horizon steps (map line_view lines) c.0 ready.well small c.1 (calls_fit task task.init c.0 c.2) in
+        let read = laws.plans task g settings.budget horizon steps (map line_view lines) c.0 ready.well small c.1 (runs.calls_fit task task.init c.0 c.2) in
         let back = laws.lines task g settings.budget planned ready.well small has_calls in
         let entries : List (List ℕ) = map entry_line (map entry_of (map line_view lines)) in
         let last : Contains (last_lines task g settings.budget planned) (plan_line horizon (length (actions_in steps))) = (1, omega arith, refl) in
         let line : Contains (lines_of text) (plan_line horizon (length (actions_in steps))) =
         subst (λ (ls : List (List ℕ)). Contains ls (plan_line horizon (length (actions_in steps)))) (sym back) (Contains-append_right entries (last_lines task g settings.budget planned) _ last) in
         let told = laws.steps task g settings.budget horizon steps (map line_view lines) ready.well small has_calls in
-        let once = laws.once g.task comes.clauses comes.components steps comes.ordered.published is_listed in
-        (c.0, read, c.2, of_grounded laws task g ready comes.clauses comes.components comes.ordered (HasStepPlan how text task c.0) (steps, horizon, line, told, c.1, comes.plan, is_listed, once))
+        (horizon, runs.runs_in laws.of_plans task g ready comes.clauses comes.components comes.ordered how horizon steps comes.plan is_listed text c.0 c.1 c.2 read line told)
 
   -- ---- the last horizon
 

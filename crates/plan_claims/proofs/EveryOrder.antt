@@ -1,7 +1,6 @@
 -- The steps of an all-step plan run in every order, and their calls are a plan of the files in every order.
 use Rattle.std.proofs.Common.{◌≡◌, ◌<◌, ◌/◌, ℕ, ◌+◌, Bool, true, List, [], ◌∷◌, length, map, arith, refl, sym, ap, subst, ◌∙◌, Option, Some}
 use Rattle.std.specs.Prelude.{IsTrue}
-use Rattle.std.specs.List.{AllZip, flat_map}
 use Rattle.gt_core.specs.Literal.{is_in, holds, all_hold}
 use Rattle.gt_core.specs.Task.{Task, initial_state}
 use Rattle.gt_core.specs.Lawful.{is_task}
@@ -22,11 +21,11 @@ use Rattle.horizon_rates.specs.declared.settings.Settings.{Settings}
 use Rattle.race_end.specs.declared.line.Line.{Line}
 use Rattle.race_end.specs.declared.end.RaceEnd.TheVariants as races
 use Rattle.race_end.specs.Ends.{line_view, end_view}
-use Rattle.step_laws.specs.Form.{AreSets, member_at}
+use Rattle.step_laws.specs.Form.{member_at}
 use Rattle.step_laws.proofs.SetAt.{set_next}
 use Rattle.step_plans.specs.Plans.{actions_in}
-use Rattle.plan_report.specs.Report.{report_of, calls_by_step}
-use Rattle.plan_report.specs.Laws.{IsSmall, TellsSteps}
+use Rattle.plan_report.specs.Report.{report_of}
+use Rattle.plan_report.specs.Laws.{IsSmall}
 use Rattle.plan_words.specs.declared.request.Stepping.TheVariants.{All}
 use Rattle.plan_answers.specs.Stepping.{places_by, is_plan_by}
 use Rattle.plan_answers.specs.Tasks.{IsReady}

@@ -1,6 +1,6 @@
 -- What a report and a checked plan promise of the files.
 use Rattle.std.specs.List.{AllByRecursion, AllZip}
-use Rattle.std.specs.Prelude.{◌≡◌, ◌≤◌, ℕ, ◌+◌, List, [], ◌∷◌, ◌++◌, map, length, codes, Bool, IsTrue, Option, Some, Ok, Contains}
+use Rattle.std.specs.Prelude.{◌≡◌, ℕ, ◌+◌, List, [], ◌∷◌, ◌++◌, map, length, codes, IsTrue, Option, Some, Ok, Contains}
 use Rattle.pl_io.specs.Outside.{Heard, whole}
 use Rattle.report_lines.specs.Lines.{lines_of}
 use Rattle.report_lines.specs.Horizons.{Entry, Says, is_word, entry_line, report}
@@ -21,7 +21,7 @@ use Rattle.grounding.specs.Grounded.{Grounded, IsGrounded}
 use Rattle.grounding.specs.Laws.{AreNumbers}
 use Rattle.task_text.specs.Text.{ground_text, order_text}
 use Rattle.race_end.specs.Ends.{Word, WordRefuted, WordDropped, WordOpen, WordPlan}
-use Rattle.step_plans.specs.Plans.{AreListed, HasActionsOnce, actions_in}
+use Rattle.step_plans.specs.Plans.{actions_in}
 use Rattle.plan_report.specs.Report.{word_text, plan_line, exhausted_line, conflicts_line, calls_by_step}
 use Rattle.plan_report.specs.Laws.{TellsSteps}
 use Rattle.plan_words.specs.Seen.{Numbers, plans_by}
@@ -38,6 +38,7 @@ use Rattle.plan_answers.specs.Answers.{OfSettings}
 use Rattle.plan_answers.specs.Stepping.{places_by, is_plan_by}
 use Rattle.plan_answers.specs.Tasks.{AreTask}
 pub use Rattle.plan_tasks.specs.Claims.{Printed, OfFiles, OfGrounded, HasAtLeast, NoStepPlan, NoPlan}
+pub use Rattle.told_plans.specs.Claims.{PlanRuns}
 
 -- what was handed over in between is two files that are a task, and a third file, of whose bytes the claim holds too
 abbrev pub OfThreeFiles : List Heard → List Heard → List ℕ → List ℕ → List ℕ → (List ℕ → Parts → Type 0) → Type 0
@@ -53,17 +54,6 @@ OfPlans words was now old new promise =
     → promise how text numbers (OfFiles was now domain problem)
 
 -- ---- plans
-
--- Under its step lines, which are as many as its line of the plan says, the text has the calls of a plan in these steps, each
--- step in published order, and no others; and a step has actions of the task, none of them twice.
-abbrev pub HasStepPlan : Stepping → List ℕ → Parts → List Call → Grounded → List (ℕ × ℕ) → List (List ℕ) → Type 0
-HasStepPlan how text task calls g clauses components =
-    (steps : List (List ℕ)) × (n : ℕ) × Contains (lines_of text) (plan_line n (length (actions_in steps))) × TellsSteps text (calls_by_step task g steps)
-    × AreNumbers g calls (actions_in steps) × AreSets (is_plan_by how) g.task (order_of components) steps n × AreListed (order_of components) steps × AllByRecursion (HasActionsOnce g.task) steps
-
--- the text is a plan file whose calls are a plan, and its steps are a step plan
-abbrev pub PlanRuns : Stepping → List ℕ → Parts → Type 0
-PlanRuns how text task = (calls : List Call) × (plan_file task text ≡ Ok calls) × IsPlan task calls × OfGrounded task (HasStepPlan how text task calls)
 
 -- each list has the members of the set at its place, in some order
 abbrev pub AreOrders : List (List ℕ) → List (List ℕ) → Type 0

@@ -5,12 +5,14 @@ use Rattle.two_invariants.specs.Laws.{InvariantsHold, OneListOfInvariants}
 use Rattle.grounding.specs.Laws.{OneResult, GroundedIsTask, ActionsAreCalls, GoalsAgree}
 use Rattle.plan_words.specs.Seen.{NumbersAreSettings}
 use Rattle.plan_tasks.specs.Laws.{TaskLaws}
+use Rattle.told_plans.specs.Laws.{PlanLaws}
 use Rattle.step_plans.specs.Laws.{StepPlansRun, ShortPlansAreStepPlans, OtherPlansAreLonger, SetsAreLists, ListedHaveActionsOnce, ListedAreInOrder, SetsAtPlacesAreListed}
 use Rattle.proof_text.specs.Laws.{OneSpelling, OnePlace, LinesAreRead, TextsAreFit}
 use Rattle.plan_report.specs.Laws.{LinesAreReadBack, PlansAreRead, StepsAreTold, HorizonsAreTold}
 
 pub record Laws : Type 0 where
   pub of_tasks : TaskLaws
+  pub of_plans : PlanLaws
   pub settings : NumbersAreSettings
   pub fronts : FrontsSayNoMore
   pub entries : ReportsSayEntries

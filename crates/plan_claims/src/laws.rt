@@ -14,4 +14,5 @@ pub fn laws()
     plan_report::laws::laws();
     proof_text::laws::laws();
     plan_tasks::laws::laws();
+    told_plans::laws::laws();
 }

@@ -77,6 +77,7 @@ pub(crate) fn task_of(alloc: Global, domain: &Tree, problem: &Tree) -> Result<Pd
 {
     match read_pddl(alloc, domain, problem) {
         Ok(task) => {
+            // For the proof: the task is well formed.
             let _types = task.types();
             Ok(task)
         }

@@ -1,18 +1,18 @@
 -- A new clause at the end: what holds of the tables once its watched literals are on their chains.
-use Rattle.std.proofs.Common.{arith, ◌≡◌, ◌≢◌, ◌==◌, ℕ, suc, ◌+◌, ◌*◌, ◌/◌, ◌%◌, ◌<◌, ◌≤◌, List, [], ◌∷◌, ◌++◌, length, take, set, get_or, ltb, leb}
-use Rattle.std.proofs.Common.{Bool, true, false, ◌&&◌, refl, sym, ap, ◌∙◌, subst, if◌then◌else◌, Some, length-set, get_or-set_same}
-use Rattle.std.proofs.Common.{get_or-set_other}
+use Rattle.std.proofs.Common.{arith, ◌≡◌, ◌≢◌, ◌==◌, ℕ, suc, ◌+◌, ◌-◌, ◌*◌, ◌/◌, ◌%◌, ◌<◌, ◌≤◌, List, [], ◌∷◌, ◌++◌, length, take, get_or, ltb, leb}
+use Rattle.std.proofs.Common.{Bool, true, false, ◌&&◌, refl, sym, ap, ◌∙◌, subst, if◌then◌else◌, Some}
 use Rattle.std.specs.List.{list_any, filter}
 use Rattle.std.proofs.lemmas.Bool.Decides.{nat_tests}
 use Rattle.std.proofs.lemmas.List.{get_or_push, get_or_append_left, get_or_past, length_push}
-use Rattle.clause_base.specs.Clause.{has_literal, IsRising}
+use Rattle.clause_base.specs.Literal.{opposite}
+use Rattle.clause_base.specs.Clause.{has_literal, IsClause, IsRising}
+use Rattle.cdcl_trail.proofs.Mirrors.{half_opposite}
 use Rattle.watch_chains.specs.declared.chains.Node.{Node}
 use Rattle.watch_chains.specs.Linked.{IsLinked, blocking_of, placed}
-use Rattle.propagation.specs.declared.visit.Watched.{Watched}
 use Rattle.propagation.specs.Pending.{is_free, has_two_free, is_pending_on}
 use Rattle.cdcl_rules.specs.Pending.{is_pending}
 use Rattle.cdcl_rules.specs.State.{clause_at}
-use Rattle.propagation.specs.Visit.{no_watches, place_in, place_of, literal_at, IsFit, AreTwoPlaces, IsReal, IsAtRest, IsNodeKept}
+use Rattle.propagation.specs.Visit.{literal_at, IsFit, IsReal, IsAtRest, IsNodeKept}
 use Rattle.propagation.specs.Sound.{AreFree}
 use Rattle.propagation.specs.Added.{Outlasts}
 use Rattle.propagation.proofs.Filters.{clause_is, count_one, has_get, two_of, pending_at}
@@ -62,20 +62,27 @@ own_long : (cl : List (List ℕ)) (k : List ℕ) (node : ℕ) → IsReal (cl ++ 
 own_long cl k node r e = subst (λ (xs : List ℕ). 2 ≤ length xs) (at_own cl k (node / 2) e) r.long
 
 -- the old nodes watch what they did
-pub literal_other : (cl : List (List ℕ)) (k : List ℕ) (wa : List Watched) (w : Watched) (node : ℕ) → (node / 2 ≡ length cl → ⊥)
-    → literal_at (cl ++ k ∷ []) (set wa (length cl) w) node ≡ literal_at cl wa node
-literal_other cl k wa w node ne =
-    ap (λ (xs : List ℕ). get_or xs (place_of (set wa (length cl) w) node) 0) (at_other cl k (node / 2) ne)
-    ∙ ap (λ (v : Watched). get_or (clause_at cl (node / 2)) (place_in v (node % 2 == 1)) 0) (get_or-set_other wa (length cl) (node / 2) w no_watches ne)
+pub literal_other : (cl : List (List ℕ)) (nodes nodes' : List Node) (node : ℕ)
+    → ((x : ℕ) → (x ≡ 2 * length cl → ⊥) → (x ≡ 2 * length cl + 1 → ⊥) → blocking_of nodes' x ≡ blocking_of nodes x) → (node / 2 ≡ length cl → ⊥)
+    → literal_at nodes' node ≡ literal_at nodes node
+literal_other cl nodes nodes' node others ne = others (opposite node) (λ e. ne (sym (half_opposite node) ∙ (let h : opposite node / 2 ≡ length cl = omega (arith, e) in h)))
+    (λ e. ne (sym (half_opposite node) ∙ (let h : opposite node / 2 ≡ length cl = omega (arith, e) in h)))
 
--- and the new ones the chosen places
-pub literal_own : (cl : List (List ℕ)) (k : List ℕ) (wa : List Watched) (w : Watched) (node : ℕ) (second : Bool) → node / 2 ≡ length cl
-    → (node % 2 == 1) ≡ second → length cl < length wa → literal_at (cl ++ k ∷ []) (set wa (length cl) w) node ≡ get_or k (place_in w second) 0
-literal_own cl k wa w node second e s h =
-    ap (λ (xs : List ℕ). get_or xs (place_of (set wa (length cl) w) node) 0) (at_own cl k (node / 2) e)
-    ∙ ap (λ (x : ℕ). get_or k (place_in (get_or (set wa (length cl) w) x no_watches) (node % 2 == 1)) 0) e
-    ∙ ap (λ (v : Watched). get_or k (place_in v (node % 2 == 1)) 0) (get_or-set_same wa (length cl) w no_watches h)
-    ∙ ap (λ (b : Bool). get_or k (place_in w b) 0) s
+-- and the new ones the chosen literals
+pub literal_own : (nodes' : List Node) (n a b node : ℕ) (second : Bool) → node / 2 ≡ n → (node % 2 == 1) ≡ second → blocking_of nodes' (2 * n) ≡ b
+    → blocking_of nodes' (2 * n + 1) ≡ a → literal_at nodes' node ≡ (if second then b else a)
+literal_own nodes' n a b node true e s first other =
+    let t : node % 2 ≡ 1 = grind (arith, nat_tests) in
+    let f : node % 2 ≢ 0 = omega (arith, t) in
+    let g : (node % 2 == 0) ≡ false = grind (arith, nat_tests) in
+    let h : node - 1 ≡ 2 * n = omega (arith, e, t) in
+    ap (λ (x : ℕ). blocking_of nodes' x) (ap (λ (q : Bool). if q then node + 1 else node - 1) g ∙ h) ∙ first
+literal_own nodes' n a b node false e s first other =
+    let t : node % 2 ≢ 1 = grind (arith, nat_tests) in
+    let f : node % 2 ≡ 0 = omega (arith, t) in
+    let g : (node % 2 == 0) ≡ true = grind (arith, nat_tests) in
+    let h : node + 1 ≡ 2 * n + 1 = omega (arith, e, f) in
+    ap (λ (x : ℕ). blocking_of nodes' x) (ap (λ (q : Bool). if q then node + 1 else node - 1) g ∙ h) ∙ other
 
 kept_other : (cl : List (List ℕ)) (kept : List Bool) (node : ℕ) → length kept ≡ length cl → (node / 2 ≡ length cl → ⊥)
     → IsNodeKept (kept ++ true ∷ []) node → IsNodeKept kept node
@@ -83,54 +90,25 @@ kept_other cl kept node l ne m =
     let n : node / 2 ≡ length kept → ⊥ = (λ (e : node / 2 ≡ length kept). ne (e ∙ l)) in
     sym (get_other kept true false (node / 2) n) ∙ m
 
-pub placed_add : (cl : List (List ℕ)) (k : List ℕ) (wa : List Watched) (w : Watched) → AreTwoPlaces cl wa → length cl < length wa → w.first < length k
-    → w.second < length k → (w.first ≡ w.second → ⊥) → AreTwoPlaces (cl ++ k ∷ []) (set wa (length cl) w)
-placed_add cl k wa w m lw fin sin ne = record {
-  many = omega (arith, lw, length_push cl k, length-set wa (length cl) w);
-  first_in = λ c h t. (chosen c h t (c == length cl) refl).0;
-  second_in = λ c h t. (chosen c h t (c == length cl) refl).1;
-  apart = λ c h t. (chosen c h t (c == length cl) refl).2;
-}
-  where
-    chosen : (c : ℕ) → c < length (cl ++ k ∷ []) → 2 ≤ length (clause_at (cl ++ k ∷ []) c) → (b : Bool) → (c == length cl) ≡ b
-        → ((get_or (set wa (length cl) w) c no_watches).first < length
-        (clause_at (cl ++ k ∷ []) c)) × ((get_or (set wa (length cl) w) c no_watches).second < length
-        (clause_at (cl ++ k ∷ []) c)) × ((get_or (set wa (length cl) w) c no_watches).first ≡ (get_or (set wa (length cl) w) c no_watches).second → ⊥)
-    chosen c h t true f =
-        let e : c ≡ length cl = equal_of c (length cl) f in
-        let v : get_or (set wa (length cl) w) c no_watches ≡ w = ap (λ (x : ℕ). get_or (set wa (length cl) w) x no_watches) e ∙ get_or-set_same wa (length cl) w no_watches lw in
-        let l : length (clause_at (cl ++ k ∷ []) c) ≡ length k = ap (λ (xs : List ℕ). length xs) (at_own cl k c e) in
-        let a = ap (λ (x : Watched). x.first) v in
-        let b = ap (λ (x : Watched). x.second) v in
-        (omega (arith, l, a, fin), omega (arith, l, b, sin), λ q. ne (sym a ∙ q ∙ b))
-    chosen c h t false f =
-        let n : c ≢ length cl = apart_of c (length cl) f in
-        let v : get_or (set wa (length cl) w) c no_watches ≡ get_or wa c no_watches = get_or-set_other wa (length cl) c w no_watches n in
-        let l : length (clause_at (cl ++ k ∷ []) c) ≡ length (clause_at cl c) = ap (λ (xs : List ℕ). length xs) (at_other cl k c n) in
-        let a = ap (λ (x : Watched). x.first) v in
-        let b = ap (λ (x : Watched). x.second) v in
-        let below : c < length cl = omega (arith, h, length_push cl k, n) in
-        let two : 2 ≤ length (clause_at cl c) = omega (arith, t, l) in
-        (omega (arith, l, a, m.first_in c below two), omega (arith, l, b, m.second_in c below two), λ q. m.apart c below two (sym a ∙ q ∙ b))
-
 -- with the two nodes of the new clause on the chains of its watched literals
-pub listed_add : (cl : List (List ℕ)) (k : List ℕ) (wa : List Watched) (w : Watched) (heads heads' : List ℕ) (nodes nodes' : List Node) (spare : ℕ)
-    (kept : List Bool) (a b : ℕ) (r : IsAtRest cl wa heads nodes spare kept)
-    → length kept ≡ length cl → length cl < length wa → w.first < length k → w.second < length k → (w.first ≡ w.second → ⊥) → 2 ≤ length k
-    → a ≡ get_or k w.first 0 → b ≡ get_or k w.second 0
+pub listed_add : (cl : List (List ℕ)) (k : List ℕ) (froms froms' heads heads' : List ℕ) (nodes nodes' : List Node) (spare : ℕ)
+    (kept : List Bool) (p q a b : ℕ) (r : IsAtRest cl froms heads nodes spare kept)
+    → length kept ≡ length cl → length cl < length froms' → p < length k → q < length k → (a ≡ b → ⊥) → 2 ≤ length k
+    → a ≡ get_or k p 0 → b ≡ get_or k q 0
     → IsLinked heads' nodes' (placed (2 * length cl + 1) (Some b) (placed (2 * length cl) (Some a) r.on)) → length heads' ≡ length heads
     → 2 * (length cl + 1) ≤ length nodes' → blocking_of nodes' (2 * length cl) ≡ b → blocking_of nodes' (2 * length cl + 1) ≡ a
     → ((x : ℕ) → (x ≡ 2 * length cl → ⊥) → (x ≡ 2 * length cl + 1 → ⊥) → blocking_of nodes' x ≡ blocking_of nodes x)
-    → IsAtRest (cl ++ k ∷ []) (set wa (length cl) w) heads' nodes' spare (kept ++ true ∷ [])
-listed_add cl k wa w heads heads' nodes nodes' spare kept a b r lk lw fin sin ne two ae be link lh ln first second others = record {
+    → IsAtRest (cl ++ k ∷ []) froms' heads' nodes' spare (kept ++ true ∷ [])
+listed_add cl k froms froms' heads heads' nodes nodes' spare kept p q a b r lk lw fin sin ne two ae be link lh ln first second others = record {
   on = placed (2 * length cl + 1) (Some b) (placed (2 * length cl) (Some a) r.on);
   linked = link;
-  placed = placed_add cl k wa w r.placed lw fin sin ne;
+  long = omega (arith, lw, length_push cl k);
   codes = lh ∙ r.codes;
   many = omega (arith, ln, length_push cl k);
   real = λ x l e. real_by x l (x == 2 * length cl + 1) refl (x == 2 * length cl) refl e;
   there = λ x rx m. there_by x rx m (x == 2 * length cl + 1) refl (x == 2 * length cl) refl;
   blockings = λ x rx. notes_by x rx (x == 2 * length cl + 1) refl (x == 2 * length cl) refl;
+  apart = λ x rx e. split_by x rx (x == 2 * length cl + 1) refl (x == 2 * length cl) refl e;
 }
   where
     apart_from : (x : ℕ) → (x == 2 * length cl + 1) ≡ false → (x == 2 * length cl) ≡ false → x / 2 ≡ length cl → ⊥
@@ -151,6 +129,23 @@ listed_add cl k wa w heads heads' nodes nodes' spare kept a b r lk lw fin sin ne
     even : (x : ℕ) → (x == 2 * length cl) ≡ true → (x % 2 == 1) ≡ false
     even x f = let e : x ≡ 2 * length cl = equal_of x (2 * length cl) f in let m : x % 2 ≢ 1 = omega (arith, e) in grind (arith, nat_tests)
 
+    own : (x : ℕ) (s : Bool) → x / 2 ≡ length cl → (x % 2 == 1) ≡ s → literal_at nodes' x ≡ (if s then b else a)
+    own x s h g = literal_own nodes' (length cl) a b x s h g first second
+
+    at_odd : (x : ℕ) → (x == 2 * length cl + 1) ≡ true → blocking_of nodes' x ≡ a
+    at_odd x f = ap (λ (y : ℕ). blocking_of nodes' y) (equal_of x (2 * length cl + 1) f) ∙ second
+
+    at_even : (x : ℕ) → (x == 2 * length cl) ≡ true → blocking_of nodes' x ≡ b
+    at_even x f = ap (λ (y : ℕ). blocking_of nodes' y) (equal_of x (2 * length cl) f) ∙ first
+
+    split_by : (x : ℕ) → IsReal (cl ++ k ∷ []) x → (u : Bool) → (x == 2 * length cl + 1) ≡ u → (v : Bool) → (x == 2 * length cl) ≡ v
+        → blocking_of nodes' x ≡ blocking_of nodes' (opposite x) → ⊥
+    split_by x rx true f v g e = ne (sym (at_odd x f) ∙ e ∙ own x true (odd_half x f) (odd x f))
+    split_by x rx false f true g e = ne (sym (own x false (even_half x g) (even x g)) ∙ sym e ∙ at_even x g)
+    split_by x rx false f false g e =
+        r.apart x (real_other cl k x rx (apart_from x f g))
+        (sym (others x (apart_of x (2 * length cl) g) (apart_of x (2 * length cl + 1) f)) ∙ e ∙ literal_other cl nodes nodes' x others (apart_from x f g))
+
     real_by : (x l : ℕ) (p : Bool) → (x == 2 * length cl + 1) ≡ p → (q : Bool) → (x == 2 * length cl) ≡ q
         → (if p then Some b else if q then Some a else r.on x) ≡ Some l → IsReal (cl ++ k ∷ []) x
     real_by x l true f q g e = real_own cl k x (odd_half x f) two
@@ -159,23 +154,23 @@ listed_add cl k wa w heads heads' nodes nodes' spare kept a b r lk lw fin sin ne
 
     there_by : (x : ℕ) → IsReal (cl ++ k ∷ []) x → IsNodeKept (kept ++ true ∷ []) x → (p : Bool) → (x == 2 * length cl + 1) ≡ p → (q : Bool)
         → (x == 2 * length cl) ≡ q
-        → (if p then Some b else if q then Some a else r.on x) ≡ Some (literal_at (cl ++ k ∷ []) (set wa (length cl) w) x)
-    there_by x rx m true f q g = ap (λ (y : ℕ). Some y) (be ∙ sym (literal_own cl k wa w x true (odd_half x f) (odd x f) lw))
-    there_by x rx m false f true g = ap (λ (y : ℕ). Some y) (ae ∙ sym (literal_own cl k wa w x false (even_half x g) (even x g) lw))
+        → (if p then Some b else if q then Some a else r.on x) ≡ Some (literal_at nodes' x)
+    there_by x rx m true f q g = ap (λ (y : ℕ). Some y) (sym (own x true (odd_half x f) (odd x f)))
+    there_by x rx m false f true g = ap (λ (y : ℕ). Some y) (sym (own x false (even_half x g) (even x g)))
     there_by x rx m false f false g =
         r.there x (real_other cl k x rx (apart_from x f g)) (kept_other cl kept x lk (apart_from x f g) m)
-        ∙ ap (λ (y : ℕ). Some y) (sym (literal_other cl k wa w x (apart_from x f g)))
+        ∙ ap (λ (y : ℕ). Some y) (sym (literal_other cl nodes nodes' x others (apart_from x f g)))
 
     notes_by : (x : ℕ) → IsReal (cl ++ k ∷ []) x → (p : Bool) → (x == 2 * length cl + 1) ≡ p → (q : Bool) → (x == 2 * length cl) ≡ q
         → has_literal (clause_at (cl ++ k ∷ []) (x / 2)) (blocking_of nodes' x) ≡ true
     notes_by x rx true f q g =
         ap (λ (xs : List ℕ). has_literal xs (blocking_of nodes' x)) (at_own cl k (x / 2) (odd_half x f))
-        ∙ ap (λ (y : ℕ). has_literal k y) (ap (λ (y : ℕ). blocking_of nodes' y) (equal_of x (2 * length cl + 1) f) ∙ second ∙ ae)
-        ∙ has_get k w.first fin
+        ∙ ap (λ (y : ℕ). has_literal k y) (at_odd x f ∙ ae)
+        ∙ has_get k p fin
     notes_by x rx false f true g =
         ap (λ (xs : List ℕ). has_literal xs (blocking_of nodes' x)) (at_own cl k (x / 2) (even_half x g))
-        ∙ ap (λ (y : ℕ). has_literal k y) (ap (λ (y : ℕ). blocking_of nodes' y) (equal_of x (2 * length cl) g) ∙ first ∙ be)
-        ∙ has_get k w.second sin
+        ∙ ap (λ (y : ℕ). has_literal k y) (at_even x g ∙ be)
+        ∙ has_get k q sin
     notes_by x rx false f false g =
         ap (λ (xs : List ℕ). has_literal xs (blocking_of nodes' x)) (at_other cl k (x / 2) (apart_from x f g))
         ∙ ap (λ (y : ℕ). has_literal (clause_at cl (x / 2)) y) (others x (apart_of x (2 * length cl) g) (apart_of x (2 * length cl + 1) f))
@@ -223,13 +218,13 @@ own_free trail k m first second sin ne most next h two = by (is_free (has_litera
         absurd (omega (arith, one, t))
 
 -- so the watches are right in a prefix of the trail with the new clause too
-pub free_add : (cl : List (List ℕ)) (k : List ℕ) (wa wa' : List Watched) (kept : List Bool) (trail : List ℕ) → length kept ≡ length cl
-    → ((node : ℕ) → (node / 2 ≡ length cl → ⊥) → literal_at (cl ++ k ∷ []) wa' node ≡ literal_at cl wa node) → AreFree cl wa kept trail
-    → ((node : ℕ) → node / 2 ≡ length cl → 2 ≤ length k → has_two_free (has_literal trail) k ≡ true → is_free (has_literal trail) (literal_at (cl ++ k ∷ []) wa' node) ≡ true)
-    → AreFree (cl ++ k ∷ []) wa' (kept ++ true ∷ []) trail
-free_add cl k wa wa' kept trail lk same free own node rx m none two = by (node / 2 == length cl) refl
+pub free_add : (cl : List (List ℕ)) (k : List ℕ) (nodes nodes' : List Node) (kept : List Bool) (trail : List ℕ) → length kept ≡ length cl
+    → ((node : ℕ) → (node / 2 ≡ length cl → ⊥) → literal_at nodes' node ≡ literal_at nodes node) → AreFree cl nodes kept trail
+    → ((node : ℕ) → node / 2 ≡ length cl → 2 ≤ length k → has_two_free (has_literal trail) k ≡ true → is_free (has_literal trail) (literal_at nodes' node) ≡ true)
+    → AreFree (cl ++ k ∷ []) nodes' (kept ++ true ∷ []) trail
+free_add cl k nodes nodes' kept trail lk same free own node rx m none two = by (node / 2 == length cl) refl
   where
-    by : (b : Bool) → (node / 2 == length cl) ≡ b → is_free (has_literal trail) (literal_at (cl ++ k ∷ []) wa' node) ≡ true
+    by : (b : Bool) → (node / 2 == length cl) ≡ b → is_free (has_literal trail) (literal_at nodes' node) ≡ true
     by true f =
         let e : node / 2 ≡ length cl = equal_of (node / 2) (length cl) f in
         own node e (own_long cl k node rx e) (ap (λ (xs : List ℕ). has_two_free (has_literal trail) xs) (sym (at_own cl k (node / 2) e)) ∙ two)
@@ -260,10 +255,11 @@ rising_short x (y ∷ xs) n r h =
     omega (arith, rest, r.0)
 
 pub fit_add : (cl : List (List ℕ)) (k : List ℕ) (codes : ℕ) → IsFit cl codes → ((p : ℕ) → p < length k → get_or k p 0 < codes) → length k ≤ 4294967295
-    → IsFit (cl ++ k ∷ []) codes
-fit_add cl k codes f below short = record {
+    → IsClause k → IsFit (cl ++ k ∷ []) codes
+fit_add cl k codes f below short lawful = record {
   below = λ c p h. below_by c p h (c == length cl) refl;
   short = λ c. short_by c (c == length cl) refl;
+  lawful = λ c. lawful_by c (c == length cl) refl;
 }
   where
     below_by : (c p : ℕ) → p < length (clause_at (cl ++ k ∷ []) c) → (b : Bool) → (c == length cl) ≡ b → get_or (clause_at (cl ++ k ∷ []) c) p 0 < codes
@@ -281,6 +277,10 @@ fit_add cl k codes f below short = record {
     short_by : (c : ℕ) (b : Bool) → (c == length cl) ≡ b → length (clause_at (cl ++ k ∷ []) c) ≤ 4294967295
     short_by c true g = let l = ap (λ (xs : List ℕ). length xs) (at_own cl k c (equal_of c (length cl) g)) in omega (arith, l, short)
     short_by c false g = let l = ap (λ (xs : List ℕ). length xs) (at_other cl k c (apart_of c (length cl) g)) in omega (arith, l, f.short c)
+
+    lawful_by : (c : ℕ) (b : Bool) → (c == length cl) ≡ b → IsClause (clause_at (cl ++ k ∷ []) c)
+    lawful_by c true g = subst IsClause (sym (at_own cl k c (equal_of c (length cl) g))) lawful
+    lawful_by c false g = subst IsClause (sym (at_other cl k c (apart_of c (length cl) g))) (f.lawful c)
 
 -- a kept clause has a flag
 pub kept_in : (kept : List Bool) (k : ℕ) (b : Bool) → (get_or kept k false && b) ≡ true → k < length kept

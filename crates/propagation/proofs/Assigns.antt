@@ -9,11 +9,11 @@ use Rattle.clause_base.specs.Clause.{has_literal}
 use Rattle.std.specs.Option.{is_some}
 use Rattle.number_bits.specs.Bits.{IsLeast}
 use Rattle.cdcl_trail.proofs.Assignments.{has-snoc}
-use Rattle.propagation.specs.declared.visit.Watched.{Watched}
+use Rattle.watch_chains.specs.declared.chains.Node.{Node}
 use Rattle.propagation.specs.Pending.{is_free, has_two_free, is_pending_on}
 use Rattle.cdcl_rules.specs.Pending.{is_pending}
 use Rattle.cdcl_rules.specs.State.{clause_at}
-use Rattle.propagation.specs.Visit.{no_watches, place_in, place_of, literal_at, AreTwoPlaces, IsReal, IsNodeKept, MovesToFree, Grows, AllSettled}
+use Rattle.propagation.specs.Visit.{literal_at, IsReal, IsNodeKept, MovesToFree, Grows, AllSettled}
 use Rattle.propagation.specs.Sound.{AreFree}
 use Rattle.propagation.proofs.Filters.{count_two, count_weaker, any_weaker, two_of, tests_two, pending_at}
 
@@ -103,55 +103,55 @@ free_after trail x l f ne = ap (λ (b : Bool). not b) (has-snoc trail x (opposit
     by false e false g = refl
 
 -- after a visit a watched literal of a clause that was loose is free, or is the one that became false
-watch_after : (cl : List (List ℕ)) (wa wa' : List Watched) (kept : List Bool) (trail : List ℕ) (x node : ℕ) → AreFree cl wa kept trail
-    → MovesToFree cl wa wa' (has_literal (trail ++ x ∷ [])) → IsReal cl node → IsNodeKept kept node
+watch_after : (cl : List (List ℕ)) (nodes nodes' : List Node) (kept : List Bool) (trail : List ℕ) (x node : ℕ) → AreFree cl nodes kept trail
+    → MovesToFree cl nodes nodes' (has_literal (trail ++ x ∷ [])) → IsReal cl node → IsNodeKept kept node
     → list_any (has_literal trail) (clause_at cl (node / 2)) ≡ false → has_two_free (has_literal trail) (clause_at cl (node / 2)) ≡ true
-    → (literal_at cl wa' node ≡ opposite x → ⊥) → is_free (has_literal (trail ++ x ∷ [])) (literal_at cl wa' node) ≡ true
-watch_after cl wa wa' kept trail x node free moves real m none two ne = by (moves node real)
+    → (literal_at nodes' node ≡ opposite x → ⊥) → is_free (has_literal (trail ++ x ∷ [])) (literal_at nodes' node) ≡ true
+watch_after cl nodes nodes' kept trail x node free moves real m none two ne = by (moves node real)
   where
-    by : (literal_at cl wa' node ≡ literal_at cl wa node) ⊎ (is_free (has_literal (trail ++ x ∷ [])) (literal_at cl wa' node) ≡ true)
-        → is_free (has_literal (trail ++ x ∷ [])) (literal_at cl wa' node) ≡ true
-    by (inl e) = free_after trail x (literal_at cl wa' node) (ap (λ (l : ℕ). is_free (has_literal trail) l) e ∙ free node real m none two) ne
+    by : (literal_at nodes' node ≡ literal_at nodes node) ⊎ (is_free (has_literal (trail ++ x ∷ [])) (literal_at nodes' node) ≡ true)
+        → is_free (has_literal (trail ++ x ∷ [])) (literal_at nodes' node) ≡ true
+    by (inl e) = free_after trail x (literal_at nodes' node) (ap (λ (l : ℕ). is_free (has_literal trail) l) e ∙ free node real m none two) ne
     by (inr f) = f
 
 -- the watches stay right in each shorter trail, and are so in the longer one
-pub assign_free : (cl : List (List ℕ)) (wa wa' : List Watched) (kept : List Bool) (trail : List ℕ) (x : ℕ) (s : ℕ → Bool)
-    → ((n : ℕ) → n ≤ length trail → AreFree cl wa kept (take n trail)) → MovesToFree cl wa wa' (has_literal (trail ++ x ∷ []))
-    → AllSettled cl wa' (has_literal (trail ++ x ∷ [])) s (opposite x) kept → (n : ℕ) → n ≤ length (trail ++ x ∷ [])
-    → AreFree cl wa' kept (take n (trail ++ x ∷ []))
-assign_free cl wa wa' kept trail x s free moves settled n h node real m = by (leb n (length trail)) refl
+pub assign_free : (cl : List (List ℕ)) (nodes nodes' : List Node) (kept : List Bool) (trail : List ℕ) (x : ℕ) (s : ℕ → Bool)
+    → ((n : ℕ) → n ≤ length trail → AreFree cl nodes kept (take n trail)) → MovesToFree cl nodes nodes' (has_literal (trail ++ x ∷ []))
+    → AllSettled cl nodes' (has_literal (trail ++ x ∷ [])) s (opposite x) kept → (n : ℕ) → n ≤ length (trail ++ x ∷ [])
+    → AreFree cl nodes' kept (take n (trail ++ x ∷ []))
+assign_free cl nodes nodes' kept trail x s free moves settled n h node real m = by (leb n (length trail)) refl
   where
     by : (b : Bool) → leb n (length trail) ≡ b → list_any (has_literal (take n (trail ++ x ∷ []))) (clause_at cl (node / 2)) ≡ false
         → has_two_free (has_literal (take n (trail ++ x ∷ []))) (clause_at cl (node / 2)) ≡ true
-        → is_free (has_literal (take n (trail ++ x ∷ []))) (literal_at cl wa' node) ≡ true
+        → is_free (has_literal (take n (trail ++ x ∷ []))) (literal_at nodes' node) ≡ true
     by true f =
         let g : n ≤ length trail = at_most_of n (length trail) f in
         let Q : List ℕ → Type 0 = λ ys. list_any (has_literal ys) (clause_at cl (node / 2)) ≡ false → has_two_free (has_literal ys)
-        (clause_at cl (node / 2)) ≡ true → is_free (has_literal ys) (literal_at cl wa' node) ≡ true in
+        (clause_at cl (node / 2)) ≡ true → is_free (has_literal ys) (literal_at nodes' node) ≡ true in
         subst Q (sym (take-append-le n trail (x ∷ []) g)) (short g (moves node real))
       where
         short : n ≤ length trail
-            → (literal_at cl wa' node ≡ literal_at cl wa node) ⊎ (is_free (has_literal (trail ++ x ∷ [])) (literal_at cl wa' node) ≡ true)
+            → (literal_at nodes' node ≡ literal_at nodes node) ⊎ (is_free (has_literal (trail ++ x ∷ [])) (literal_at nodes' node) ≡ true)
             → list_any (has_literal (take n trail)) (clause_at cl (node / 2)) ≡ false
             → has_two_free (has_literal (take n trail)) (clause_at cl (node / 2)) ≡ true
-            → is_free (has_literal (take n trail)) (literal_at cl wa' node) ≡ true
+            → is_free (has_literal (take n trail)) (literal_at nodes' node) ≡ true
         short g (inl e) none two = ap (λ (l : ℕ). is_free (has_literal (take n trail)) l) e ∙ free n g node real m none two
-        short g (inr e) none two = free_weaker (has_literal (take n trail)) (has_literal (trail ++ x ∷ [])) (λ l t. true_longer trail x l (true_in_take n trail l t)) (literal_at cl wa' node) e
+        short g (inr e) none two = free_weaker (has_literal (take n trail)) (has_literal (trail ++ x ∷ [])) (λ l t. true_longer trail x l (true_in_take n trail l t)) (literal_at nodes' node) e
     by false f =
         let g : length trail < n = past_of n (length trail) f in
         let e : take n (trail ++ x ∷ []) ≡ trail ++ x ∷ [] = take_all n (trail ++ x ∷ []) (omega (arith, g, length-append trail (x ∷ []))) in
         let Q : List ℕ → Type 0 = λ ys. list_any (has_literal ys) (clause_at cl (node / 2)) ≡ false → has_two_free (has_literal ys)
-        (clause_at cl (node / 2)) ≡ true → is_free (has_literal ys) (literal_at cl wa' node) ≡ true in
+        (clause_at cl (node / 2)) ≡ true → is_free (has_literal ys) (literal_at nodes' node) ≡ true in
         subst Q (sym e) long
       where
-        whole : AreFree cl wa kept trail
-        whole = subst (λ (ys : List ℕ). AreFree cl wa kept ys) (take_all (length trail) trail (omega arith)) (free (length trail) (omega arith))
+        whole : AreFree cl nodes kept trail
+        whole = subst (λ (ys : List ℕ). AreFree cl nodes kept ys) (take_all (length trail) trail (omega arith)) (free (length trail) (omega arith))
 
         long : list_any (has_literal (trail ++ x ∷ [])) (clause_at cl (node / 2)) ≡ false
             → has_two_free (has_literal (trail ++ x ∷ [])) (clause_at cl (node / 2)) ≡ true
-            → is_free (has_literal (trail ++ x ∷ [])) (literal_at cl wa' node) ≡ true
+            → is_free (has_literal (trail ++ x ∷ [])) (literal_at nodes' node) ≡ true
         long none two =
-            watch_after cl wa wa' kept trail x node whole moves real m
+            watch_after cl nodes nodes' kept trail x node whole moves real m
             (none_weaker (has_literal trail) (has_literal (trail ++ x ∷ [])) (true_longer trail x) (clause_at cl (node / 2)) none)
             (two_weaker (has_literal trail) (has_literal (trail ++ x ∷ [])) (true_longer trail x) (clause_at cl (node / 2)) two)
             (λ e. let t = settled node real m e in let z : true ≡ false = sym two ∙ t.not_loose none in let w : ⊥ = cc in w)
@@ -195,12 +195,25 @@ pending_earlier cl kept trail x k p f =
     let g = not_false (leb (length (filter (is_free (has_literal trail)) xs)) 1) f in
     pending_at cl kept trail k ∙ (let e : (get_or kept k false && (not (list_any (has_literal trail) xs) && leb (length (filter (is_free (has_literal trail)) xs)) 1)) ≡ true = rw (r.0, n, g) in e)
 
+-- the two literals that a clause watches stand at two of its places
+pub record TwoWatched (xs : List ℕ) (a b : ℕ) : Type 0 where
+  pub first : ℕ
+  pub second : ℕ
+  pub first_in : first < length xs
+  pub second_in : second < length xs
+  pub apart : first ≡ second → ⊥
+  pub first_is : get_or xs first 0 ≡ a
+  pub second_is : get_or xs second 0 ≡ b
+
+abbrev pub AreTwoWatched : List (List ℕ) → List Node → Type 0
+AreTwoWatched cl nodes = (c : ℕ) → c < length cl → 2 ≤ length (clause_at cl c) → TwoWatched (clause_at cl c) (literal_at nodes (2 * c)) (literal_at nodes (2 * c + 1))
+
 -- every slot's clause that is pending on the longer trail is in the set
-pub assign_complete : (cl : List (List ℕ)) (wa wa' : List Watched) (kept : List Bool) (trail : List ℕ) (x : ℕ) (s s' : ℕ → Bool)
-    → length kept ≡ length cl → AreTwoPlaces cl wa' → AreFree cl wa kept trail → MovesToFree cl wa wa' (has_literal (trail ++ x ∷ []))
-    → AllSettled cl wa' (has_literal (trail ++ x ∷ [])) s' (opposite x) kept → Grows s s'
+pub assign_complete : (cl : List (List ℕ)) (nodes nodes' : List Node) (kept : List Bool) (trail : List ℕ) (x : ℕ) (s s' : ℕ → Bool)
+    → length kept ≡ length cl → AreTwoWatched cl nodes' → AreFree cl nodes kept trail → MovesToFree cl nodes nodes' (has_literal (trail ++ x ∷ []))
+    → AllSettled cl nodes' (has_literal (trail ++ x ∷ [])) s' (opposite x) kept → Grows s s'
     → ((k : ℕ) → is_pending_on cl kept trail k ≡ true → s k ≡ true) → (k : ℕ) → is_pending_on cl kept (trail ++ x ∷ []) k ≡ true → s' k ≡ true
-assign_complete cl wa wa' kept trail x s s' many place free moves settled grows old k p =
+assign_complete cl nodes nodes' kept trail x s s' many two_watched free moves settled grows old k p =
     let r = pending_parts cl kept (trail ++ x ∷ []) k p in
     by (has_two_free on xs) refl r.0 (and_true (get_or kept k false) (is_pending on' xs) (sym (pending_at cl kept (trail ++ x ∷ []) k) ∙ p)).1 r.1 r.2
   where
@@ -214,8 +227,8 @@ assign_complete cl wa wa' kept trail x s s' many place free moves settled grows 
     on' = has_literal (trail ++ x ∷ [])
 
     in_range : (b : Bool) → get_or kept k false ≡ true → leb (length kept) k ≡ b → k < length cl
-    in_range true f g = let h : length kept ≤ k = grind (arith, nat_tests) in let z : true ≡ false = sym f ∙ get_or_past kept k false h in absurd (let w : ⊥ = cc in w)
-    in_range false f g = let h : k < length kept = grind (arith, nat_tests) in omega (arith, h, many)
+    in_range true f g = let z : true ≡ false = sym f ∙ get_or_past kept k false (at_most_of (length kept) k g) in absurd (let w : ⊥ = cc in w)
+    in_range false f g = omega (arith, past_of (length kept) k g, many)
 
     by : (b : Bool) → has_two_free on xs ≡ b → get_or kept k false ≡ true → is_pending on' xs ≡ true → list_any on' xs ≡ false
         → has_two_free on' xs ≡ false → s' k ≡ true
@@ -224,7 +237,7 @@ assign_complete cl wa wa' kept trail x s s' many place free moves settled grows 
         let t = two_of (length (filter (is_free on) xs)) f in
         let c = count_le (is_free on) xs in
         loose kk p none two (none_weaker on on' (true_longer trail x) xs none) f (omega (arith, t, c)) (in_range (leb (length kept) k) kk refl)
-        (literal_at cl wa' (2 * k) == opposite x) refl (literal_at cl wa' (2 * k + 1) == opposite x) refl
+        (literal_at nodes' (2 * k) == opposite x) refl (literal_at nodes' (2 * k + 1) == opposite x) refl
       where
         half0 : 2 * k / 2 ≡ k
         half0 = omega arith
@@ -239,54 +252,40 @@ assign_complete cl wa wa' kept trail x s s' many place free moves settled grows 
         keep node h e = ap (λ (c : ℕ). get_or kept c false) h ∙ e
 
         here : (node : ℕ) → node / 2 ≡ k → 2 ≤ length (clause_at cl k) → k < length cl → get_or kept k false ≡ true
-            → is_pending (has_literal (trail ++ x ∷ [])) (clause_at cl k) ≡ true → literal_at cl wa' node ≡ opposite x → s' k ≡ true
+            → is_pending (has_literal (trail ++ x ∷ [])) (clause_at cl k) ≡ true → literal_at nodes' node ≡ opposite x → s' k ≡ true
         here node h t b kk p e =
             let r = settled node (real node h t b) (keep node h kk) e in
             ap s' (sym h) ∙ r.in_set (ap (λ (c : ℕ). is_pending (has_literal (trail ++ x ∷ [])) (clause_at cl c)) h ∙ p)
 
-        opened : (node place : ℕ) → node / 2 ≡ k → 2 ≤ length (clause_at cl k) → k < length cl → get_or kept k false ≡ true
+        opened : (node : ℕ) → node / 2 ≡ k → 2 ≤ length (clause_at cl k) → k < length cl → get_or kept k false ≡ true
             → list_any (has_literal trail) (clause_at cl k) ≡ false → has_two_free (has_literal trail) (clause_at cl k) ≡ true
-            → (literal_at cl wa' node ≡ opposite x → ⊥) → place_of wa' node ≡ place
-            → is_free (has_literal (trail ++ x ∷ [])) (get_or (clause_at cl k) place 0) ≡ true
-        opened node place h t b kk n f ne q =
-            let w = watch_after cl wa wa' kept trail x node free moves (real node h t b) (keep node h kk)
+            → (literal_at nodes' node ≡ opposite x → ⊥) → is_free (has_literal (trail ++ x ∷ [])) (literal_at nodes' node) ≡ true
+        opened node h t b kk n f ne =
+            watch_after cl nodes nodes' kept trail x node free moves (real node h t b) (keep node h kk)
             (ap (λ (c : ℕ). list_any (has_literal trail) (clause_at cl c)) h ∙ n)
-            (ap (λ (c : ℕ). has_two_free (has_literal trail) (clause_at cl c)) h ∙ f) ne in
-            ap (λ (c : ℕ). is_free (has_literal (trail ++ x ∷ [])) (get_or (clause_at cl c) place 0)) (sym h) ∙ ap
-            (λ (c : ℕ). is_free (has_literal (trail ++ x ∷ [])) (get_or (clause_at cl (node / 2)) c 0)) (sym q) ∙ w
-
-        first_place : place_of wa' (2 * k) ≡ (get_or wa' k no_watches).first
-        first_place =
-            let e : 2 * k % 2 ≢ 1 = omega arith in
-            let g : (2 * k % 2 == 1) ≡ false = grind (arith, nat_tests) in
-            ap (λ (b : Bool). place_in (get_or wa' (2 * k / 2) no_watches) b) g ∙ ap (λ (c : ℕ). (get_or wa' c no_watches).first) half0
-
-        second_place : place_of wa' (2 * k + 1) ≡ (get_or wa' k no_watches).second
-        second_place =
-            let e : (2 * k + 1) % 2 ≡ 1 = omega arith in
-            let g : ((2 * k + 1) % 2 == 1) ≡ true = grind (arith, nat_tests) in
-            ap (λ (b : Bool). place_in (get_or wa' ((2 * k + 1) / 2) no_watches) b) g ∙ ap (λ (c : ℕ). (get_or wa' c no_watches).second) half1
+            (ap (λ (c : ℕ). has_two_free (has_literal trail) (clause_at cl c)) h ∙ f) ne
 
         loose : get_or kept k false ≡ true → is_pending (has_literal (trail ++ x ∷ [])) (clause_at cl k) ≡ true
             → list_any (has_literal (trail ++ x ∷ [])) (clause_at cl k) ≡ false
             → has_two_free (has_literal (trail ++ x ∷ [])) (clause_at cl k) ≡ false → list_any (has_literal trail) (clause_at cl k) ≡ false
             → has_two_free (has_literal trail) (clause_at cl k) ≡ true → 2 ≤ length (clause_at cl k) → k < length cl → (p0 : Bool)
-            → (literal_at cl wa' (2 * k) == opposite x) ≡ p0 → (p1 : Bool) → (literal_at cl wa' (2 * k + 1) == opposite x) ≡ p1 → s' k ≡ true
-        loose kk p none two n f t b true e0 p1 e1 = here (2 * k) half0 t b kk p (equal_of (literal_at cl wa' (2 * k)) (opposite x) e0)
-        loose kk p none two n f t b false e0 true e1 = here (2 * k + 1) half1 t b kk p (equal_of (literal_at cl wa' (2 * k + 1)) (opposite x) e1)
+            → (literal_at nodes' (2 * k) == opposite x) ≡ p0 → (p1 : Bool) → (literal_at nodes' (2 * k + 1) == opposite x) ≡ p1 → s' k ≡ true
+        loose kk p none two n f t b true e0 p1 e1 = here (2 * k) half0 t b kk p (equal_of (literal_at nodes' (2 * k)) (opposite x) e0)
+        loose kk p none two n f t b false e0 true e1 = here (2 * k + 1) half1 t b kk p (equal_of (literal_at nodes' (2 * k + 1)) (opposite x) e1)
         loose kk p none two n f t b false e0 false e1 =
-            let n0 = apart_of (literal_at cl wa' (2 * k)) (opposite x) e0 in
-            let n1 = apart_of (literal_at cl wa' (2 * k + 1)) (opposite x) e1 in
-            let o0 = opened (2 * k) (get_or wa' k no_watches).first half0 t b kk n f n0 first_place in
-            let o1 = opened (2 * k + 1) (get_or wa' k no_watches).second half1 t b kk n f n1 second_place in
-            let c = count_two (is_free (has_literal (trail ++ x ∷ []))) (clause_at cl k) (get_or wa' k no_watches).first
-            (get_or wa' k no_watches).second (place.first_in k b t) (place.second_in k b t) (place.apart k b t) o0 o1 in
+            let n0 = apart_of (literal_at nodes' (2 * k)) (opposite x) e0 in
+            let n1 = apart_of (literal_at nodes' (2 * k + 1)) (opposite x) e1 in
+            let o0 = opened (2 * k) half0 t b kk n f n0 in
+            let o1 = opened (2 * k + 1) half1 t b kk n f n1 in
+            let w = two_watched k b t in
+            let c = count_two (is_free (has_literal (trail ++ x ∷ []))) (clause_at cl k) w.first w.second w.first_in w.second_in w.apart
+            (ap (λ (l : ℕ). is_free (has_literal (trail ++ x ∷ [])) l) w.first_is ∙ o0) (ap (λ (l : ℕ). is_free (has_literal (trail ++ x ∷ [])) l) w.second_is ∙ o1) in
             let d : has_two_free (has_literal (trail ++ x ∷ [])) (clause_at cl k) ≡ true = tests_two (length (filter (is_free (has_literal (trail ++ x ∷ []))) (clause_at cl k))) c in
             let z : true ≡ false = sym d ∙ two in absurd (let w : ⊥ = cc in w)
 
-pub whole_free : (cl : List (List ℕ)) (wa : List Watched) (kept : List Bool) (trail : List ℕ)
-    → ((n : ℕ) → n ≤ length trail → AreFree cl wa kept (take n trail)) → AreFree cl wa kept trail
-whole_free cl wa kept trail free = subst (λ (ys : List ℕ). AreFree cl wa kept ys) (take_all (length trail) trail (omega arith)) (free (length trail) (omega arith))
+pub whole_free : (cl : List (List ℕ)) (nodes : List Node) (kept : List Bool) (trail : List ℕ)
+    → ((n : ℕ) → n ≤ length trail → AreFree cl nodes kept (take n trail)) → AreFree cl nodes kept trail
+whole_free cl nodes kept trail free = subst (λ (ys : List ℕ). AreFree cl nodes kept ys) (take_all (length trail) trail (omega arith)) (free (length trail) (omega arith))
 
 -- where the set has no least number nothing is pending
 none_pending : (p s : ℕ → Bool) → ((k : ℕ) → p k ≡ true → s k ≡ true) → IsLeast s None → (k : ℕ) → p k ≡ false

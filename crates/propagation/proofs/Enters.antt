@@ -1,6 +1,6 @@
 -- What a new clause brings: its nodes on their chains, its watched literals right in each prefix of the trail, and the prefixes
 -- in which it is not pending.
-use Rattle.std.proofs.Common.{arith, ◌≡◌, ◌==◌, ℕ, ◌+◌, ◌*◌, ◌/◌, ◌%◌, ◌<◌, ◌≤◌, List, [], ◌∷◌, ◌++◌, length, take, set, get_or, leb, Bool, true}
+use Rattle.std.proofs.Common.{arith, ◌≡◌, ◌==◌, ℕ, ◌+◌, ◌*◌, ◌/◌, ◌%◌, ◌<◌, ◌≤◌, List, [], ◌∷◌, ◌++◌, length, take, get_or, leb, Bool, true}
 use Rattle.std.proofs.Common.{false, refl, sym, ap, ◌∙◌, subst, Option, Some, None, ◌||◌, inl, inr}
 use Rattle.std.proofs.lemmas.List.{take_all}
 use Rattle.std.proofs.lemmas.List.Elements.{All-get_or}
@@ -11,7 +11,6 @@ use Rattle.watch_chains.specs.Linked.{IsLinked, ArePairLoose, blocking_of, place
 use Rattle.number_bits.specs.Bits.{words_have}
 use Rattle.propagation.specs.declared.pending.Pending.{Pending}
 use Rattle.propagation.specs.declared.enter.Entered.{Entered}
-use Rattle.propagation.specs.declared.visit.Watched.{Watched}
 use Rattle.propagation.specs.Pending.{is_free, has_two_free, is_pending_on}
 use Rattle.propagation.specs.Visit.{literal_at, IsAtRest}
 use Rattle.propagation.specs.Sound.{AreFree}
@@ -19,19 +18,23 @@ use Rattle.propagation.specs.Added.{Outlasts, IsQuietBelow, IsRaised}
 use Rattle.propagation.specs.Front.{IsComplete}
 use Rattle.propagation.proofs.Filters.{count_two, pending_off}
 use Rattle.propagation.proofs.Assigns.{equal_of, apart_of, tests_at_most}
+use Rattle.propagation.proofs.Visits.{once}
 use Rattle.propagation.proofs.Adds.{listed_add, literal_other, literal_own, own_free, free_add, rising_short, pending_other, pending_own}
 
 -- what was done to the tables for a clause of two literals or more
-pub record IsEntered (k : List ℕ) (number : ℕ) (trail : List ℕ) (wa : List Watched) (w : Watched) (heads : List ℕ) (nodes : List Node) (heads' : List ℕ) (nodes' : List Node) (a b : ℕ) : Type 0 where
-  pub below : number < length wa
+pub record IsEntered (k : List ℕ) (number : ℕ) (trail : List ℕ) (froms' heads : List ℕ) (nodes : List Node) (heads' : List ℕ) (nodes' : List Node) (a b : ℕ) : Type 0 where
+  pub below : number < length froms'
+  pub lawful : IsClause k
+  pub first : ℕ
+  pub second : ℕ
   pub long : 2 ≤ length k
-  pub first_in : w.first < length k
-  pub second_in : w.second < length k
-  pub apart : w.second ≡ w.first → ⊥
-  pub most : (p : ℕ) → p < length k → Outlasts trail (get_or k w.first 0) (get_or k p 0)
-  pub next : (p : ℕ) → p < length k → (p ≡ w.first → ⊥) → Outlasts trail (get_or k w.second 0) (get_or k p 0)
-  pub first_is : a ≡ get_or k w.first 0
-  pub second_is : b ≡ get_or k w.second 0
+  pub first_in : first < length k
+  pub second_in : second < length k
+  pub apart : second ≡ first → ⊥
+  pub most : (p : ℕ) → p < length k → Outlasts trail (get_or k first 0) (get_or k p 0)
+  pub next : (p : ℕ) → p < length k → (p ≡ first → ⊥) → Outlasts trail (get_or k second 0) (get_or k p 0)
+  pub first_is : a ≡ get_or k first 0
+  pub second_is : b ≡ get_or k second 0
   pub linked : (on : ℕ → Option ℕ) → IsLinked heads nodes on → on (2 * number) ≡ None → on (2 * number + 1) ≡ None
       → IsLinked heads' nodes' (placed (2 * number + 1) (Some b) (placed (2 * number) (Some a) on))
   pub codes : length heads' ≡ length heads
@@ -41,72 +44,70 @@ pub record IsEntered (k : List ℕ) (number : ℕ) (trail : List ℕ) (wa : List
   pub others : (x : ℕ) → (x ≡ 2 * number → ⊥) → (x ≡ 2 * number + 1 → ⊥) → blocking_of nodes' x ≡ blocking_of nodes x
 
 -- a node of no clause is on no chain
-off_past : (cl : List (List ℕ)) (wa : List Watched) (heads : List ℕ) (nodes : List Node) (spare : ℕ) (kept : List Bool) (node : ℕ) (r : IsAtRest cl wa heads nodes spare kept)
+off_past : (cl : List (List ℕ)) (froms heads : List ℕ) (nodes : List Node) (spare : ℕ) (kept : List Bool) (node : ℕ) (r : IsAtRest cl froms heads nodes spare kept)
     → 2 * length cl ≤ node → r.on node ≡ None
-off_past cl wa heads nodes spare kept node r h = by (r.on node) refl
+off_past cl froms heads nodes spare kept node r h = by (r.on node) refl
   where
     by : (o : Option ℕ) → r.on node ≡ o → o ≡ None
     by None e = refl
     by (Some l) e = let real = r.real node l e in absurd (omega (arith, real.below, h))
 
-pub pair_loose : (cl : List (List ℕ)) (wa : List Watched) (heads : List ℕ) (nodes : List Node) (spare : ℕ) (kept : List Bool) (number : ℕ) (r : IsAtRest cl wa heads nodes spare kept)
+pub pair_loose : (cl : List (List ℕ)) (froms heads : List ℕ) (nodes : List Node) (spare : ℕ) (kept : List Bool) (number : ℕ) (r : IsAtRest cl froms heads nodes spare kept)
     → number ≡ length cl → ArePairLoose heads nodes (2 * number)
-pair_loose cl wa heads nodes spare kept number r e = record {
+pair_loose cl froms heads nodes spare kept number r e = record {
   on = r.on;
   linked = r.linked;
-  first = off_past cl wa heads nodes spare kept (2 * number) r (omega (arith, e));
-  second = off_past cl wa heads nodes spare kept (2 * number + 1) r (omega (arith, e));
+  first = off_past cl froms heads nodes spare kept (2 * number) r (omega (arith, e));
+  second = off_past cl froms heads nodes spare kept (2 * number + 1) r (omega (arith, e));
 }
 
-rests_at : (k trail : List ℕ) (wa : List Watched) (w : Watched) (heads : List ℕ) (nodes : List Node) (heads' : List ℕ) (nodes' : List Node) (a b codes : ℕ) (cl : List (List ℕ)) (kept : List Bool)
-    → IsEntered k (length cl) trail wa w heads nodes heads' nodes' a b → length kept ≡ length cl → IsAtRest cl wa heads nodes codes kept
-    → IsAtRest (cl ++ k ∷ []) (set wa (length cl) w) heads' nodes' codes (kept ++ true ∷ [])
-rests_at k trail wa w heads nodes heads' nodes' a b codes cl kept e lk r =
-    listed_add cl k wa w heads heads' nodes nodes' codes kept a b r lk e.below e.first_in e.second_in (λ q. e.apart (sym q)) e.long e.first_is e.second_is
-    (e.linked r.on r.linked (off_past cl wa heads nodes codes kept (2 * length cl) r (omega arith)) (off_past cl wa heads nodes codes kept (2 * length cl + 1) r (omega arith)))
+-- no two places of a clause have one literal
+split : (k : List ℕ) (number : ℕ) (trail froms' heads : List ℕ) (nodes : List Node) (heads' : List ℕ) (nodes' : List Node) (a b : ℕ)
+    → IsEntered k number trail froms' heads nodes heads' nodes' a b → a ≡ b → ⊥
+split k number trail froms' heads nodes heads' nodes' a b e q =
+    e.apart (once k e.second e.first e.lawful.rising e.second_in e.first_in (sym e.second_is ∙ sym q ∙ e.first_is))
+
+pub rests_long : (k : List ℕ) (number : ℕ) (trail froms froms' heads : List ℕ) (nodes : List Node) (heads' : List ℕ) (nodes' : List Node) (a b codes : ℕ)
+    → IsEntered k number trail froms' heads nodes heads' nodes' a b → (cl : List (List ℕ)) (kept : List Bool) → length cl ≡ number
+    → length kept ≡ number → IsAtRest cl froms heads nodes codes kept → IsAtRest (cl ++ k ∷ []) froms' heads' nodes' codes (kept ++ true ∷ [])
+rests_long k number trail froms froms' heads nodes heads' nodes' a b codes entered cl kept lc lk r =
+    let e = subst (λ (n : ℕ). IsEntered k n trail froms' heads nodes heads' nodes' a b) (sym lc) entered in
+    listed_add cl k froms froms' heads heads' nodes nodes' codes kept e.first e.second a b r (lk ∙ sym lc) e.below e.first_in e.second_in
+    (split k (length cl) trail froms' heads nodes heads' nodes' a b e) e.long e.first_is e.second_is
+    (e.linked r.on r.linked (off_past cl froms heads nodes codes kept (2 * length cl) r (omega arith)) (off_past cl froms heads nodes codes kept (2 * length cl + 1) r (omega arith)))
     e.codes e.room e.first_note e.second_note e.others
 
-pub rests_long : (k : List ℕ) (number : ℕ) (trail : List ℕ) (wa : List Watched) (w : Watched) (heads : List ℕ) (nodes : List Node) (heads' : List ℕ) (nodes' : List Node) (a b codes : ℕ)
-    → IsEntered k number trail wa w heads nodes heads' nodes' a b → (cl : List (List ℕ)) (kept : List Bool) → length cl ≡ number
-    → length kept ≡ number → IsAtRest cl wa heads nodes codes kept → IsAtRest (cl ++ k ∷ []) (set wa number w) heads' nodes' codes (kept ++ true ∷ [])
-rests_long k number trail wa w heads nodes heads' nodes' a b codes e cl kept lc lk r =
-    subst (λ (n : ℕ). IsAtRest (cl ++ k ∷ []) (set wa n w) heads' nodes' codes (kept ++ true ∷ [])) lc
-    (rests_at k trail wa w heads nodes heads' nodes' a b codes cl kept (subst (λ (n : ℕ). IsEntered k n trail wa w heads nodes heads' nodes' a b) (sym lc) e) (lk ∙ sym lc) r)
-
-free_at : (k trail : List ℕ) (wa : List Watched) (w : Watched) (heads : List ℕ) (nodes : List Node) (heads' : List ℕ) (nodes' : List Node) (a b : ℕ) (cl : List (List ℕ)) (kept : List Bool) (n : ℕ)
-    → IsEntered k (length cl) trail wa w heads nodes heads' nodes' a b → length kept ≡ length cl → n ≤ length trail
-    → AreFree cl wa kept (take n trail) → AreFree (cl ++ k ∷ []) (set wa (length cl) w) (kept ++ true ∷ []) (take n trail)
-free_at k trail wa w heads nodes heads' nodes' a b cl kept n e lk h f =
-    free_add cl k wa (set wa (length cl) w) kept (take n trail) lk (literal_other cl k wa w) f own
+pub free_long : (k : List ℕ) (number : ℕ) (trail froms' heads : List ℕ) (nodes : List Node) (heads' : List ℕ) (nodes' : List Node) (a b : ℕ)
+    → IsEntered k number trail froms' heads nodes heads' nodes' a b → (cl : List (List ℕ)) (kept : List Bool) (n : ℕ) → length cl ≡ number
+    → length kept ≡ number → n ≤ length trail → AreFree cl nodes kept (take n trail) → AreFree (cl ++ k ∷ []) nodes' (kept ++ true ∷ []) (take n trail)
+free_long k number trail froms' heads nodes heads' nodes' a b entered cl kept n lc lk h f =
+    free_add cl k nodes nodes' kept (take n trail) (lk ∙ sym lc) (λ node ne. literal_other cl nodes nodes' node e.others ne) f own
   where
+    e : IsEntered k (length cl) trail froms' heads nodes heads' nodes' a b
+    e = subst (λ (m : ℕ). IsEntered k m trail froms' heads nodes heads' nodes' a b) (sym lc) entered
+
     own : (node : ℕ) → node / 2 ≡ length cl → 2 ≤ length k → has_two_free (has_literal (take n trail)) k ≡ true
-        → is_free (has_literal (take n trail)) (literal_at (cl ++ k ∷ []) (set wa (length cl) w) node) ≡ true
-    own node q two t = by (node % 2 == 1) refl (own_free trail k n w.first w.second e.second_in e.apart e.most e.next h t)
+        → is_free (has_literal (take n trail)) (literal_at nodes' node) ≡ true
+    own node q two t = by (node % 2 == 1) refl (own_free trail k n e.first e.second e.second_in e.apart e.most e.next h t)
       where
         by : (s : Bool) → (node % 2 == 1) ≡ s
-            → (is_free (has_literal (take n trail)) (get_or k w.first 0) ≡ true) × (is_free (has_literal (take n trail)) (get_or k w.second 0) ≡ true)
-            → is_free (has_literal (take n trail)) (literal_at (cl ++ k ∷ []) (set wa (length cl) w) node) ≡ true
-        by true s o = ap (λ (l : ℕ). is_free (has_literal (take n trail)) l) (literal_own cl k wa w node true q s e.below) ∙ o.1
-        by false s o = ap (λ (l : ℕ). is_free (has_literal (take n trail)) l) (literal_own cl k wa w node false q s e.below) ∙ o.0
-
-pub free_long : (k : List ℕ) (number : ℕ) (trail : List ℕ) (wa : List Watched) (w : Watched) (heads : List ℕ) (nodes : List Node) (heads' : List ℕ) (nodes' : List Node) (a b : ℕ)
-    → IsEntered k number trail wa w heads nodes heads' nodes' a b → (cl : List (List ℕ)) (kept : List Bool) (n : ℕ) → length cl ≡ number
-    → length kept ≡ number → n ≤ length trail → AreFree cl wa kept (take n trail)
-    → AreFree (cl ++ k ∷ []) (set wa number w) (kept ++ true ∷ []) (take n trail)
-free_long k number trail wa w heads nodes heads' nodes' a b e cl kept n lc lk h f =
-    subst (λ (m : ℕ). AreFree (cl ++ k ∷ []) (set wa m w) (kept ++ true ∷ []) (take n trail)) lc
-    (free_at k trail wa w heads nodes heads' nodes' a b cl kept n (subst (λ (m : ℕ). IsEntered k m trail wa w heads nodes heads' nodes' a b) (sym lc) e) (lk ∙ sym lc) h f)
+            → (is_free (has_literal (take n trail)) (get_or k e.first 0) ≡ true) × (is_free (has_literal (take n trail)) (get_or k e.second 0) ≡ true)
+            → is_free (has_literal (take n trail)) (literal_at nodes' node) ≡ true
+        by true s o =
+            ap (λ (l : ℕ). is_free (has_literal (take n trail)) l) (literal_own nodes' (length cl) a b node true q s e.first_note e.second_note ∙ e.second_is) ∙ o.1
+        by false s o =
+            ap (λ (l : ℕ). is_free (has_literal (take n trail)) l) (literal_own nodes' (length cl) a b node false q s e.first_note e.second_note ∙ e.first_is) ∙ o.0
 
 -- as long as the second is not false, two are not
-pub quiet_long : (k : List ℕ) (number : ℕ) (trail : List ℕ) (wa : List Watched) (w : Watched) (heads : List ℕ) (nodes : List Node) (heads' : List ℕ) (nodes' : List Node) (a b until : ℕ)
-    → IsEntered k number trail wa w heads nodes heads' nodes' a b
+pub quiet_long : (k : List ℕ) (number : ℕ) (trail froms' heads : List ℕ) (nodes : List Node) (heads' : List ℕ) (nodes' : List Node) (a b until : ℕ)
+    → IsEntered k number trail froms' heads nodes heads' nodes' a b
     → ((n : ℕ) → n ≤ length trail → is_free (has_literal (take n trail)) b ≡ leb n until) → IsQuietBelow k trail (until + 1)
-quiet_long k number trail wa w heads nodes heads' nodes' a b until e lasts n h l =
+quiet_long k number trail froms' heads nodes heads' nodes' a b until e lasts n h l =
     let m : n ≤ until = omega (arith, l) in
     let on = has_literal (take n trail) in
-    let second : is_free on (get_or k w.second 0) ≡ true = ap (λ (x : ℕ). is_free on x) (sym e.second_is) ∙ lasts n h ∙ tests_at_most n until m in
-    let first = e.most w.second e.second_in n h second in
-    pending_off on k (count_two (is_free on) k w.second w.first e.second_in e.first_in e.apart second first)
+    let second : is_free on (get_or k e.second 0) ≡ true = ap (λ (x : ℕ). is_free on x) (sym e.second_is) ∙ lasts n h ∙ tests_at_most n until m in
+    let first = e.most e.second e.second_in n h second in
+    pending_off on k (count_two (is_free on) k e.second e.first e.second_in e.first_in e.apart second first)
 
 pub below_by : (v p : ℕ) (k : List ℕ) → HasVariablesBelow v k → p < length k → get_or k p 0 < 2 * v
 below_by v p k h l = let a = All-get_or (λ (x : ℕ). x / 2 < v) k p 0 l h in omega (arith, a)

@@ -3,7 +3,7 @@ use Rattle.std.specs.List.{list_any, filter}
 use Rattle.std.proofs.lemmas.Bool.Decides.{nat_tests}
 use Rattle.std.proofs.lemmas.List.{get_or_past}
 use Rattle.std.proofs.lemmas.List.Filters.{length-filter_more}
-use Rattle.clause_base.specs.Clause.{has_literal}
+use Rattle.clause_base.specs.Clause.{IsClause, has_literal}
 use Rattle.std.proofs.lemmas.Option.{unwrap_or-slice_get}
 use Rattle.propagation.specs.Pending.{is_free, is_pending_on}
 use Rattle.cdcl_rules.specs.Pending.{is_pending}
@@ -49,6 +49,9 @@ clause_long cl k clause n e f = ap (λ (xs : List ℕ). length xs) (clause_is cl
 -- past the last clause there is the empty one
 pub clause_past : (cl : List (List ℕ)) (k : ℕ) → length cl ≤ k → clause_at cl k ≡ []
 clause_past cl k h = clause_is cl k ∙ get_or_past cl k [] h
+
+pub none_lawful : IsClause []
+none_lawful = record { rising = tt; no_pair = refl }
 
 -- a clause is pending by its number
 pub pending_at : (cl : List (List ℕ)) (kept : List Bool) (trail : List ℕ) (k : ℕ)

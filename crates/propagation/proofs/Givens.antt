@@ -23,7 +23,7 @@ use Rattle.propagation.specs.Given.{AreGiven, AreRising, IsBeside}
 use Rattle.propagation.specs.Pairs.{HasSlot, IsUnwatched, IsPaired}
 use Rattle.propagation.specs.Visit.{slot_clauses, slot_flags, AreSlotsBelow, IsFit, IsReal}
 use Rattle.propagation.specs.Sound.{AreSound}
-use Rattle.propagation.proofs.Filters.{clause_is, clause_past, pending_off}
+use Rattle.propagation.proofs.Filters.{clause_is, clause_past, none_lawful, pending_off}
 use Rattle.propagation.proofs.Assigns.{equal_of, apart_of, at_most_of, past_of}
 use Rattle.propagation.proofs.Adds.{kept_in}
 use Rattle.propagation.proofs.Asks.{consistent_none, pending_kept}
@@ -42,17 +42,13 @@ given_none codes cl g e linked long none wide asks = record {
   rest = record {
     on = λ k. None;
     linked = linked;
-    placed = record {
-      many = omega (arith, none_slotted);
-      first_in = λ c h t. absurd (omega (arith, h, none_slotted));
-      second_in = λ c h t. absurd (omega (arith, h, none_slotted));
-      apart = λ c h t e. absurd (omega (arith, h, none_slotted));
-    };
+    long = omega (arith, none_slotted);
     codes = long;
     many = omega (arith, none_slotted);
     real = λ node l e. absurd (let w : ⊥ = cc in w);
     there = λ node real must. absurd (no_node node real);
     blockings = λ node real. absurd (no_node node real);
+    apart = λ node real e. no_node node real;
   };
   longs = λ c h. absurd (omega (arith, h));
   shorts = λ c h. absurd (omega (arith, h));
@@ -307,11 +303,12 @@ paired_given v cl g ps made i = record {
         let ne : length (clause_at cl c) ≢ 2 = apart_of (length (clause_at cl c)) 2 f in
         inr (made.longs c h (omega (arith, at_most_of 2 (length (clause_at cl c)) e, ne)))
 
--- the clauses of a formula are short enough, and their literals are below the codes
+-- the clauses of a formula are in a clause's form and short enough, and their literals are below the codes
 pub fit_given : (v : ℕ) (cl : List (List ℕ)) → v ≤ 2147483647 → All IsClause cl → All (HasVariablesBelow v) cl → IsFit cl (2 * v)
 fit_given v cl small lawful below = record {
   below = λ c p h. below_at c p h (ltb c (length cl)) refl;
   short = λ c. short_at c (ltb c (length cl)) refl;
+  lawful = λ c. lawful_at c (ltb c (length cl)) refl;
 }
   where
     is : (c : ℕ) → clause_at cl c ≡ get_or cl c []
@@ -334,3 +331,7 @@ fit_given v cl small lawful below = record {
     short_at c false e =
         let g : length cl ≤ c = grind (arith, nat_tests) in
         omega (arith, ap (λ (xs : List ℕ). length xs) (clause_past cl c g))
+
+    lawful_at : (c : ℕ) (b : Bool) → ltb c (length cl) ≡ b → IsClause (clause_at cl c)
+    lawful_at c true e = let g : c < length cl = grind (arith, nat_tests) in law c g
+    lawful_at c false e = let g : length cl ≤ c = grind (arith, nat_tests) in subst IsClause (sym (clause_past cl c g)) none_lawful

@@ -60,12 +60,13 @@ removed_sound v t t' l trail quiet n i store slots kept = record {
   rest = rw (store, slots, kept) (record {
     on = i.rest.on;
     linked = i.rest.linked;
-    placed = i.rest.placed;
+    long = i.rest.long;
     codes = i.rest.codes;
     many = i.rest.many;
     real = i.rest.real;
     there = λ node real must. i.rest.there node real (flags_before t.kept.items t.slots.items n _ must);
     blockings = i.rest.blockings;
+    apart = i.rest.apart;
   });
   free = rw (store, slots, kept) (λ m h node real must. i.free m h node real (flags_before t.kept.items t.slots.items n _ must));
   consistent = i.consistent;

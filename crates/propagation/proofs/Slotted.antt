@@ -2,7 +2,7 @@
 use Rattle.std.proofs.Common.{arith, ◌≡◌, ◌==◌, ℕ, suc, ◌+◌, ◌<◌, ◌≤◌, List, [], ◌∷◌, ◌++◌, length, take, set, get_or, ltb, Bool, true, false, ◌&&◌, ◌||◌, refl, sym, ap, ◌∙◌, subst, inl, inr}
 use Rattle.std.proofs.lemmas.Bool.Decides.{nat_tests}
 use Rattle.std.proofs.lemmas.List.{get_or-map, length-map, map-append, length_push, get_or_push}
-use Rattle.clause_base.specs.Clause.{has_literal}
+use Rattle.clause_base.specs.Clause.{IsClause, has_literal}
 use Rattle.cdcl_rules.specs.Pending.{is_pending}
 use Rattle.propagation.specs.declared.visit.Lists.{Lists}
 use Rattle.propagation.specs.Pending.{is_pending_on}
@@ -10,7 +10,7 @@ use Rattle.cdcl_rules.specs.State.{clause_at}
 use Rattle.propagation.specs.Visit.{slot_clauses, slot_flags, slot_set, AreSlotsBelow, IsFit, IsAtRest}
 use Rattle.propagation.specs.Sound.{AreFree}
 use Rattle.propagation.specs.Added.{IsTaken}
-use Rattle.propagation.proofs.Filters.{clause_is, clause_past, pending_at}
+use Rattle.propagation.proofs.Filters.{clause_is, clause_past, none_lawful, pending_at}
 use Rattle.propagation.proofs.Adds.{get_other, at_other, at_own, kept_in}
 
 -- a slot's clause and flag are those of its number
@@ -27,7 +27,11 @@ pub flags_long : (kept : List Bool) (slots : List ℕ) → length (slot_flags ke
 flags_long kept slots = length-map slots (λ (n : ℕ). get_or kept n false)
 
 pub fit_slots : (cl : List (List ℕ)) (slots : List ℕ) (codes : ℕ) → IsFit cl codes → IsFit (slot_clauses cl slots) codes
-fit_slots cl slots codes f = record { below = λ s p h. below s p h (ltb s (length slots)) refl; short = λ s. short s (ltb s (length slots)) refl }
+fit_slots cl slots codes f = record {
+  below = λ s p h. below s p h (ltb s (length slots)) refl;
+  short = λ s. short s (ltb s (length slots)) refl;
+  lawful = λ s. lawful s (ltb s (length slots)) refl;
+}
   where
     past : (s : ℕ) → ltb s (length slots) ≡ false → clause_at (slot_clauses cl slots) s ≡ []
     past s e = let h : length slots ≤ s = grind (arith, nat_tests) in clause_past (slot_clauses cl slots) s (omega (arith, h, slots_long cl slots))
@@ -47,6 +51,11 @@ fit_slots cl slots codes f = record { below = λ s p h. below s p h (ltb s (leng
         let g : s < length slots = grind (arith, nat_tests) in
         let l = ap (λ (xs : List ℕ). length xs) (slot_at cl slots s g) in omega (arith, l, f.short (get_or slots s 0))
     short s false e = omega (arith, ap (λ (xs : List ℕ). length xs) (past s e))
+
+    lawful : (s : ℕ) (b : Bool) → ltb s (length slots) ≡ b → IsClause (clause_at (slot_clauses cl slots) s)
+    lawful s true e =
+        let g : s < length slots = grind (arith, nat_tests) in subst IsClause (sym (slot_at cl slots s g)) (f.lawful (get_or slots s 0))
+    lawful s false e = subst IsClause (sym (past s e)) none_lawful
 
 -- a slot's clause is kept and pending where the clause with its number is
 pub slot_pending : (cl : List (List ℕ)) (kept : List Bool) (slots trail : List ℕ) (s : ℕ) → s < length slots
@@ -108,8 +117,8 @@ below_as m n slots e h = subst (λ (x : ℕ). AreSlotsBelow x slots) e h
 -- a clause that was taken leaves the tables at rest
 pub taken_rest : (cl : List (List ℕ)) (k : List ℕ) (kept : List Bool) (number codes : ℕ) (trail slots : List ℕ) (l : Lists) (slots' : List ℕ) (l' : Lists)
     → length kept ≡ length cl → number ≡ length cl → AreSlotsBelow (length cl) slots → IsTaken k number codes trail slots l slots' l'
-    → IsAtRest (slot_clauses cl slots) l.watched.items l.chains.heads.items l.chains.nodes.items codes (slot_flags kept slots)
-    → IsAtRest (slot_clauses (cl ++ k ∷ []) slots') l'.watched.items l'.chains.heads.items l'.chains.nodes.items codes (slot_flags (kept ++ true ∷ []) slots')
+    → IsAtRest (slot_clauses cl slots) l.froms.items l.chains.heads.items l.chains.nodes.items codes (slot_flags kept slots)
+    → IsAtRest (slot_clauses (cl ++ k ∷ []) slots') l'.froms.items l'.chains.heads.items l'.chains.nodes.items codes (slot_flags (kept ++ true ∷ []) slots')
 taken_rest cl k kept number codes trail slots l slots' l' lk e h (inl t) r =
     rw (t.slots_stay, t.lists_stay, slots_same cl k slots h, flags_same kept slots (below_as (length cl) (length kept) slots (sym lk) h)) r
 taken_rest cl k kept number codes trail slots l slots' l' lk e h (inr t) r =
@@ -119,8 +128,8 @@ taken_rest cl k kept number codes trail slots l slots' l' lk e h (inr t) r =
 -- and its watched literals right in each prefix of the trail
 pub taken_free : (cl : List (List ℕ)) (k : List ℕ) (kept : List Bool) (number codes : ℕ) (trail slots : List ℕ) (l : Lists) (slots' : List ℕ) (l' : Lists) (n : ℕ)
     → length kept ≡ length cl → number ≡ length cl → AreSlotsBelow (length cl) slots → IsTaken k number codes trail slots l slots' l'
-    → n ≤ length trail → AreFree (slot_clauses cl slots) l.watched.items (slot_flags kept slots) (take n trail)
-    → AreFree (slot_clauses (cl ++ k ∷ []) slots') l'.watched.items (slot_flags (kept ++ true ∷ []) slots') (take n trail)
+    → n ≤ length trail → AreFree (slot_clauses cl slots) l.chains.nodes.items (slot_flags kept slots) (take n trail)
+    → AreFree (slot_clauses (cl ++ k ∷ []) slots') l'.chains.nodes.items (slot_flags (kept ++ true ∷ []) slots') (take n trail)
 taken_free cl k kept number codes trail slots l slots' l' n lk e h (inl t) b f =
     rw (t.slots_stay, t.lists_stay, slots_same cl k slots h, flags_same kept slots (below_as (length cl) (length kept) slots (sym lk) h)) f
 taken_free cl k kept number codes trail slots l slots' l' n lk e h (inr t) b f =

@@ -50,7 +50,7 @@ tables_add : (v : ℕ) (t : Tables) (l : Lists) (trail : List ℕ) (quiet : List
     → AreSound v t l trail quiet → IsAddedTo v t l trail quiet k number entered t' l' p quiet' → AreTables t' (2 * v)
 tables_add v t l trail quiet k number entered t' l' p quiet' i a = record {
   limit = i.tables.limit;
-  fit = rw a.store (fit_add t.store k (2 * v) i.tables.fit (λ q b. below_by v q k a.below b) (short_by v k i.small a.lawful a.below));
+  fit = rw a.store (fit_add t.store k (2 * v) i.tables.fit (λ q b. below_by v q k a.below b) (short_by v k i.small a.lawful a.below) a.lawful);
   small = omega (arith, ap (λ (cs : List (List ℕ)). length cs) a.store, length_push t.store k, i.few);
   kept = omega (arith, ap (λ (ks : List Bool). length ks) a.kept, length_push t.kept.items true, i.tables.kept, ap (λ (cs : List (List ℕ)). length cs) a.store, length_push t.store k);
   slotted = subst (λ (n : ℕ). AreSlotsBelow n t'.slots.items) (sym (ap (λ (cs : List (List ℕ)). length cs) a.store ∙ length_push t.store k))

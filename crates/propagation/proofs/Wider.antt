@@ -1,13 +1,15 @@
 -- Tables with more room say what they did.
-use Rattle.std.proofs.Common.{arith, ◌≡◌, ◌==◌, ℕ, ◌*◌, ◌/◌, ◌%◌, ◌<◌, ◌≤◌, List, length, take, get_or, Bool, sym, ap, ◌∙◌, subst, Some}
+use Rattle.std.proofs.Common.{arith, ◌≡◌, ℕ, ◌*◌, ◌/◌, ◌≤◌, List, length, take, Bool, sym, ap, ◌∙◌, Some}
+use Rattle.clause_base.specs.Literal.{opposite}
 use Rattle.clause_base.specs.Clause.{has_literal}
+use Rattle.cdcl_trail.proofs.Mirrors.{half_opposite}
+use Rattle.watch_chains.specs.Linked.{blocking_of}
 use Rattle.propagation.specs.declared.pending.Pending.{Pending}
 use Rattle.propagation.specs.declared.tables.Tables.{Tables}
 use Rattle.propagation.specs.declared.visit.Lists.{Lists}
-use Rattle.propagation.specs.declared.visit.Watched.{Watched}
 use Rattle.propagation.specs.Pending.{is_free}
 use Rattle.cdcl_rules.specs.State.{clause_at}
-use Rattle.propagation.specs.Visit.{no_watches, place_in, literal_at, IsReal, IsAtRest}
+use Rattle.propagation.specs.Visit.{literal_at, IsReal, IsAtRest}
 use Rattle.propagation.specs.Asks.{IsWider}
 use Rattle.propagation.specs.Front.{IsComplete}
 use Rattle.propagation.specs.Tables.{clauses_in, flags_in, pending_in}
@@ -15,32 +17,28 @@ use Rattle.propagation.specs.Sound.{AreSound}
 use Rattle.propagation.specs.Added.{AreSame, AreWider}
 use Rattle.propagation.proofs.AsksKept.{asks_wider}
 
-literal_wider : (cl : List (List ℕ)) (l l' : Lists) (node : ℕ) → AreWider l l' → length cl ≤ length l.watched.items → IsReal cl node
-    → literal_at cl l'.watched.items node ≡ literal_at cl l.watched.items node
-literal_wider cl l l' node w m real =
-    ap (λ (v : Watched). get_or (clause_at cl (node / 2)) (place_in v (node % 2 == 1)) 0) (w.watches (node / 2) (omega (arith, real.below, m)))
+-- a node of a clause is in the table of nodes, and so is the other one of its slot
+literal_wider : (cl : List (List ℕ)) (l l' : Lists) (node : ℕ) → AreWider l l' → 2 * length cl ≤ length l.chains.nodes.items → IsReal cl node
+    → literal_at l'.chains.nodes.items node ≡ literal_at l.chains.nodes.items node
+literal_wider cl l l' node w m real = w.blockings (opposite node) (omega (arith, real.below, half_opposite node, m))
 
 pub rest_wider : (cl : List (List ℕ)) (l l' : Lists) (spare : ℕ) (kept : List Bool)
-    → IsAtRest cl l.watched.items l.chains.heads.items l.chains.nodes.items spare kept → AreWider l l'
-    → IsAtRest cl l'.watched.items l'.chains.heads.items l'.chains.nodes.items spare kept
+    → IsAtRest cl l.froms.items l.chains.heads.items l.chains.nodes.items spare kept → AreWider l l'
+    → IsAtRest cl l'.froms.items l'.chains.heads.items l'.chains.nodes.items spare kept
 rest_wider cl l l' spare kept r w = record {
   on = r.on;
   linked = w.linked r.on r.linked;
-  placed = record {
-    many = omega (arith, r.placed.many, w.more_watches);
-    first_in = λ c h two. subst (λ (v : Watched). v.first < length (clause_at cl c)) (sym (at c h)) (r.placed.first_in c h two);
-    second_in = λ c h two. subst (λ (v : Watched). v.second < length (clause_at cl c)) (sym (at c h)) (r.placed.second_in c h two);
-    apart = λ c h two e. r.placed.apart c h two (ap (λ (v : Watched). v.first) (sym (at c h)) ∙ e ∙ ap (λ (v : Watched). v.second) (at c h));
-  };
+  long = omega (arith, r.long, w.more_froms);
   codes = w.codes ∙ r.codes;
   many = omega (arith, r.many, w.more_nodes);
   real = r.real;
-  there = λ node real must. r.there node real must ∙ ap (λ (c : ℕ). Some c) (sym (literal_wider cl l l' node w r.placed.many real));
-  blockings = λ node real. ap (λ (x : ℕ). has_literal (clause_at cl (node / 2)) x) (w.blockings node (omega (arith, real.below, r.many))) ∙ r.blockings node real;
+  there = λ node real must. r.there node real must ∙ ap (λ (c : ℕ). Some c) (sym (literal_wider cl l l' node w r.many real));
+  blockings = λ node real. ap (λ (x : ℕ). has_literal (clause_at cl (node / 2)) x) (same node real) ∙ r.blockings node real;
+  apart = λ node real e. r.apart node real (sym (same node real) ∙ e ∙ literal_wider cl l l' node w r.many real);
 }
   where
-    at : (c : ℕ) → c < length cl → get_or l'.watched.items c no_watches ≡ get_or l.watched.items c no_watches
-    at c h = w.watches c (omega (arith, h, r.placed.many))
+    same : (node : ℕ) → IsReal cl node → blocking_of l'.chains.nodes.items node ≡ blocking_of l.chains.nodes.items node
+    same node real = w.blockings node (omega (arith, real.below, r.many))
 
 complete_wider : (passes : ℕ → Bool) (p p' : Pending) → IsWider p p' → IsComplete passes p → IsComplete passes p'
 complete_wider passes p p' w c k e = w.same k ∙ c k e
@@ -54,7 +52,7 @@ sound_wider v t l l' trail quiet i w = record {
   few = i.few;
   slots_few = i.slots_few;
   rest = rest_wider (clauses_in t) l l' (2 * v) (flags_in t) i.rest w;
-  free = λ n h node real must none two. ap (λ (x : ℕ). is_free (has_literal (take n trail)) x) (literal_wider (clauses_in t) l l' node w i.rest.placed.many real) ∙ i.free n h node real must none two;
+  free = λ n h node real must none two. ap (λ (x : ℕ). is_free (has_literal (take n trail)) x) (literal_wider (clauses_in t) l l' node w i.rest.many real) ∙ i.free n h node real must none two;
   consistent = i.consistent;
   asks = asks_wider t.store trail l.pending l'.pending i.asks w.pending;
   complete = complete_wider (pending_in t trail) l.pending l'.pending w.pending i.complete;

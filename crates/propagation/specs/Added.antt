@@ -1,5 +1,5 @@
 -- A new clause: room for it in the tables, and what its watched literals are chosen by.
-use Rattle.std.specs.Prelude.{◌≡◌, ℕ, ◌+◌, ◌*◌, ◌<◌, ◌≤◌, ◌⊎◌, List, [], ◌∷◌, ◌++◌, length, take, Bool, true, false, Option, slice_index_or}
+use Rattle.std.specs.Prelude.{◌≡◌, ℕ, ◌+◌, ◌*◌, ◌<◌, ◌≤◌, ◌⊎◌, List, [], ◌∷◌, ◌++◌, length, take, Bool, true, false, Option}
 use Rattle.clause_base.specs.Clause.{has_literal}
 use Rattle.cdcl_rules.specs.Pending.{is_pending}
 use Rattle.watch_chains.specs.Linked.{IsLinked, ArePairLoose, blocking_of}
@@ -9,7 +9,7 @@ use Rattle.propagation.specs.declared.tables.Tables.{Tables}
 use Rattle.propagation.specs.declared.visit.Lists.{Lists}
 use Rattle.propagation.specs.Asks.{IsPut, IsWider}
 use Rattle.propagation.specs.Pending.{is_free}
-use Rattle.propagation.specs.Visit.{no_watches, IsAtRest}
+use Rattle.propagation.specs.Visit.{IsAtRest}
 use Rattle.propagation.specs.Sound.{AreFree}
 
 -- in each prefix of the trail in which the other literal is not false, this one is not false either
@@ -19,7 +19,7 @@ Outlasts trail l other = (n : ℕ) → n ≤ length trail → is_free (has_liter
 -- the tables have room for a slot, and for a clause with a number too
 pub record HasSlotRoom (slot : ℕ) (l : Lists) : Type 0 where
   pub in_nodes : 2 * slot + 1 < length l.chains.nodes.items
-  pub in_watches : slot < length l.watched.items
+  pub in_froms : slot < length l.froms.items
 
 pub record HasRoom (number slot : ℕ) (l : Lists) : Type 0 where
   pub in_numbers : number < 64 * length l.pending.numbers
@@ -33,7 +33,7 @@ pub record HasRoomBelow (number slot : ℕ) (l : Lists) : Type 0 where
   pub numbers : number ≤ 64 * length l.pending.numbers
   pub asks : number ≤ length l.pending.asks.items
   pub nodes : 2 * slot ≤ length l.chains.nodes.items
-  pub watches : slot ≤ length l.watched.items
+  pub froms : slot ≤ length l.froms.items
 
 -- the two nodes of a slot are on no chain
 abbrev pub IsLoose : ℕ → Lists → Type 0
@@ -45,8 +45,7 @@ pub record AreWider (l l' : Lists) : Type 0 where
   pub codes : length l'.chains.heads.items ≡ length l.chains.heads.items
   pub blockings : (k : ℕ) → k < length l.chains.nodes.items → blocking_of l'.chains.nodes.items k ≡ blocking_of l.chains.nodes.items k
   pub more_nodes : length l.chains.nodes.items ≤ length l'.chains.nodes.items
-  pub watches : (c : ℕ) → c < length l.watched.items → slice_index_or l'.watched.items c no_watches ≡ slice_index_or l.watched.items c no_watches
-  pub more_watches : length l.watched.items ≤ length l'.watched.items
+  pub more_froms : length l.froms.items ≤ length l'.froms.items
   pub pending : IsWider l.pending l'.pending
 
 -- the clauses, which of them are kept and the slots are the same
@@ -58,14 +57,14 @@ pub record AreSame (t t' : Tables) : Type 0 where
 -- with a slot more, whose nodes are on their chains, the tables are at rest
 abbrev pub RestsWith : List ℕ → ℕ → ℕ → Lists → Lists → Type 0
 RestsWith clause slot codes l l' =
-    (clauses : List (List ℕ)) (kept : List Bool) → length clauses ≡ slot → length kept ≡ slot → IsAtRest clauses l.watched.items l.chains.heads.items l.chains.nodes.items codes kept
-    → IsAtRest (clauses ++ clause ∷ []) l'.watched.items l'.chains.heads.items l'.chains.nodes.items codes (kept ++ true ∷ [])
+    (clauses : List (List ℕ)) (kept : List Bool) → length clauses ≡ slot → length kept ≡ slot → IsAtRest clauses l.froms.items l.chains.heads.items l.chains.nodes.items codes kept
+    → IsAtRest (clauses ++ clause ∷ []) l'.froms.items l'.chains.heads.items l'.chains.nodes.items codes (kept ++ true ∷ [])
 
 -- with a slot more the watched literals are right in each prefix of the trail in which they were
 abbrev pub FreeWith : List ℕ → ℕ → List ℕ → Lists → Lists → Type 0
 FreeWith clause slot trail l l' =
-    (clauses : List (List ℕ)) (kept : List Bool) (n : ℕ) → length clauses ≡ slot → length kept ≡ slot → n ≤ length trail → AreFree clauses l.watched.items kept (take n trail)
-    → AreFree (clauses ++ clause ∷ []) l'.watched.items (kept ++ true ∷ []) (take n trail)
+    (clauses : List (List ℕ)) (kept : List Bool) (n : ℕ) → length clauses ≡ slot → length kept ≡ slot → n ≤ length trail → AreFree clauses l.chains.nodes.items kept (take n trail)
+    → AreFree (clauses ++ clause ∷ []) l'.chains.nodes.items (kept ++ true ∷ []) (take n trail)
 
 -- in the prefixes of the trail below a length a clause is not pending
 abbrev pub IsQuietBelow : List ℕ → List ℕ → ℕ → Type 0

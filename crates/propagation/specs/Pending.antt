@@ -1,5 +1,5 @@
 -- What a clause is that has literals which are not false, and a propagator as its clients see it.
-use Rattle.std.specs.Prelude.{ℕ, List, Bool, not, length, nat_le}
+use Rattle.std.specs.Prelude.{◌≡◌, ℕ, ◌<◌, ◌≤◌, List, Bool, false, not, length, nat_le, slice_index}
 use Rattle.clause_base.specs.Literal.{opposite}
 use Rattle.clause_base.specs.Clause.{has_literal}
 use Rattle.cdcl_rules.specs.declared.trail.Assigned.{Assigned}
@@ -8,6 +8,15 @@ use Rattle.cdcl_rules.specs.Pending.{open_ones, is_pending_in}
 -- a literal is not false, where these are true
 abbrev pub is_free : (ℕ → Bool) → ℕ → Bool
 is_free on l = not (on (opposite l))
+
+-- of a clause the literals at these places, or all, are false but for this one
+abbrev pub AreFalseFrom : List ℕ → List ℕ → ℕ → ℕ → ℕ → Type 0
+AreFalseFrom trail clause skipped low high =
+    (p : ℕ) → low ≤ p → p < high → (slice_index clause p ≡ skipped → ⊥) → is_free (has_literal trail) (slice_index clause p) ≡ false
+
+abbrev pub AreFalseBut : List ℕ → List ℕ → ℕ → Type 0
+AreFalseBut trail clause skipped =
+    (p : ℕ) → p < length clause → (slice_index clause p ≡ skipped → ⊥) → is_free (has_literal trail) (slice_index clause p) ≡ false
 
 -- a clause has two literals at least that are not false
 abbrev pub has_two_free : (ℕ → Bool) → List ℕ → Bool

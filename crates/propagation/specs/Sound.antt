@@ -4,7 +4,7 @@ use Rattle.std.specs.List.{list_any}
 use Rattle.clause_base.specs.Clause.{has_literal}
 use Rattle.propagation.specs.declared.tables.Tables.{Tables}
 use Rattle.propagation.specs.declared.visit.Lists.{Lists}
-use Rattle.propagation.specs.declared.visit.Watched.{Watched}
+use Rattle.watch_chains.specs.declared.chains.Node.{Node}
 use Rattle.propagation.specs.Asks.{IsConsistent, HasAsks}
 use Rattle.propagation.specs.Front.{IsComplete}
 use Rattle.propagation.specs.Pending.{is_free, has_two_free}
@@ -13,10 +13,10 @@ use Rattle.cdcl_rules.specs.State.{clause_at}
 use Rattle.propagation.specs.Visit.{literal_at, IsReal, IsNodeKept, IsAtRest}
 
 -- where a clause has no true literal and two that are not false, its watched literals are not false
-abbrev pub AreFree : List (List ℕ) → List Watched → List Bool → List ℕ → Type 0
-AreFree clauses watched kept trail =
+abbrev pub AreFree : List (List ℕ) → List Node → List Bool → List ℕ → Type 0
+AreFree clauses nodes kept trail =
     (node : ℕ) → IsReal clauses node → IsNodeKept kept node → list_any (has_literal trail) (clause_at clauses (node / 2)) ≡ false → has_two_free
-    (has_literal trail) (clause_at clauses (node / 2)) ≡ true → is_free (has_literal trail) (literal_at clauses watched node) ≡ true
+    (has_literal trail) (clause_at clauses (node / 2)) ≡ true → is_free (has_literal trail) (literal_at nodes node) ≡ true
 
 -- What holds of all tables, over a trail of literals and the flags of its lengths. The watched literals of each clause are right in
 -- each prefix of the trail (`free`), so that nothing is done for them where it is taken back; each clause that is kept and pending
@@ -27,8 +27,8 @@ pub record AreSound (variables : ℕ) (t : Tables) (l : Lists) (trail : List ℕ
   pub tables : AreTables t (2 * variables)
   pub few : length t.store ≤ 2147483647
   pub slots_few : length t.slots.items ≤ length t.store
-  pub rest : IsAtRest (clauses_in t) l.watched.items l.chains.heads.items l.chains.nodes.items (2 * variables) (flags_in t)
-  pub free : (n : ℕ) → n ≤ length trail → AreFree (clauses_in t) l.watched.items (flags_in t) (take n trail)
+  pub rest : IsAtRest (clauses_in t) l.froms.items l.chains.heads.items l.chains.nodes.items (2 * variables) (flags_in t)
+  pub free : (n : ℕ) → n ≤ length trail → AreFree (clauses_in t) l.chains.nodes.items (flags_in t) (take n trail)
   pub consistent : IsConsistent trail
   pub asks : HasAsks t.store trail l.pending
   pub complete : IsComplete (pending_in t trail) l.pending

@@ -1,6 +1,6 @@
 //! The least clause that is kept and pending. Each clause that is so is in the set; a member that is not is taken out where it is the
 //! least: one that is not kept, or whose asked literal is true.
-ghost use Rattle.std.specs.Prelude.{◌≡◌, ℕ, ◌*◌, ◌<◌, ◌≤◌, length, true, slice_index};
+ghost use Rattle.std.specs.Prelude.{◌≡◌, ◌*◌, ◌<◌, ◌≤◌, length, true};
 ghost use Rattle.clause_base.specs.Clause.{has_literal};
 ghost use Rattle.number_bits.specs.Bits.{words_have};
 ghost use Rattle.propagation.specs.Asks.{HasAsks, IsAsk, IsConsistent};

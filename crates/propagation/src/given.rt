@@ -68,7 +68,7 @@ fn room_for(horizon: u32, once: usize, step: &Others, time: &Others) -> usize {
 fn no_lists(alloc: Global, count: u32, longs: usize, codes: u32) -> Result<Lists, Memory>
     requires codes { codes ≤ 4294967294 }
     requires few { count ≤ 1073741824 }
-    ensures watched { IfOk result (λ l. l.watched.items ≡ []) }
+    ensures froms { IfOk result (λ l. l.froms.items ≡ []) }
     ensures pending { IfOk result (λ l. (k : ℕ) → words_have l.pending.numbers k ≡ false) }
     ensures linked { IfOk result (λ l. IsLinked l.chains.heads.items l.chains.nodes.items (λ k. None)) }
     ensures codes { IfOk result (λ l. length l.chains.heads.items ≡ codes) }
@@ -77,7 +77,7 @@ fn no_lists(alloc: Global, count: u32, longs: usize, codes: u32) -> Result<Lists
 {
     Ok(Lists {
         chains: Chains::new(alloc, codes, longs.saturating_add(longs))?,
-        watched: Vec::with_capacity(alloc, longs)?,
+        froms: Vec::with_capacity(alloc, longs)?,
         pending: Pending::new(alloc, count)?,
     })
 }
@@ -88,7 +88,7 @@ impl Given {
         requires codes { codes ≤ 4294967294 }
         requires few { count ≤ 1073741824 }
         ensures slots { IfOk result (λ g. g.slots.items ≡ []) }
-        ensures watched { IfOk result (λ g. g.lists.watched.items ≡ []) }
+        ensures froms { IfOk result (λ g. g.lists.froms.items ≡ []) }
         ensures pending { IfOk result (λ g. (k : ℕ) → words_have g.lists.pending.numbers k ≡ false) }
         ensures linked { IfOk result (λ g. IsLinked g.lists.chains.heads.items g.lists.chains.nodes.items (λ k. None)) }
         ensures codes { IfOk result (λ g. length g.lists.chains.heads.items ≡ codes) }

@@ -1,6 +1,6 @@
 //! The clauses that are watched on a trail, and what the first of them asks for that is kept and pending, as literals become true and
 //! are taken back and clauses come and go.
-ghost use Rattle.std.specs.Prelude.{◌≡◌, ℕ, ◌*◌, ◌/◌, ◌<◌, ◌++◌, ◌∷◌, [], None, take, length, replicate, true, false, slice_set, slice_index_or, IfOk, OnOk, OnErr};
+ghost use Rattle.std.specs.Prelude.{◌≡◌, ◌*◌, ◌/◌, ◌<◌, ◌++◌, ◌∷◌, [], None, take, length, replicate, true, false, slice_set, slice_index_or, IfOk, OnOk, OnErr};
 ghost use Rattle.clause_base.specs.Clause.{IsClause, has_literal, HasVariablesBelow};
 ghost use Rattle.cdcl_rules.specs.State.{value_of};
 ghost use Rattle.cdcl_rules.specs.Learn.{backtracked};

@@ -1,12 +1,11 @@
 //! Room in each table for one more clause and one more slot. After want of memory a table may have it already, and nothing else
 //! has changed.
-ghost use Rattle.std.specs.Prelude.{◌≡◌, ℕ, ◌+◌, ◌*◌, ◌<◌, ◌≤◌, Option, length, slice_index_or, vec_capacity, OnOk};
+ghost use Rattle.std.specs.Prelude.{◌≡◌, ℕ, ◌+◌, ◌*◌, ◌<◌, ◌≤◌, Option, length, vec_capacity, OnOk};
 ghost use Rattle.watch_chains.specs.Linked.{IsLinked, blocking_of};
-ghost use Rattle.propagation.specs.Visit.{no_watches};
 ghost use Rattle.propagation.specs.Added.{AreSame, AreWider, HasRoom, HasRoomBelow};
 
 use crate::tables::Tables;
-use crate::visit::{Lists, Watched};
+use crate::visit::Lists;
 use std::alloc::AllocError;
 use watch_chains::chains::Chains;
 
@@ -26,19 +25,14 @@ fn widen_nodes(chains: &mut Chains, slot: u32) -> Result<(), AllocError>
     Ok(())
 }
 
-/// Makes room for the watched places of a slot, where there is room for those of all slots before it.
-fn widen_watches(watched: &mut Vec<Watched>, slot: u32) -> Result<(), AllocError>
-    requires many { slot ≤ length watched.old.items }
-    ensures room { OnOk result (slot < length watched.new.items) }
-    ensures more { length watched.old.items ≤ length watched.new.items }
-    ensures same { (c : ℕ) → c < length watched.old.items → slice_index_or watched.new.items c no_watches ≡ slice_index_or watched.old.items c no_watches }
+/// Makes room for where the search in a slot's clause goes on, where there is room for those of all slots before it.
+fn widen_froms(froms: &mut Vec<u32>, slot: u32) -> Result<(), AllocError>
+    requires many { slot ≤ length froms.old.items }
+    ensures room { OnOk result (slot < length froms.new.items) }
+    ensures more { length froms.old.items ≤ length froms.new.items }
 {
-    if watched.len() <= slot as usize {
-        watched.push(Watched {
-            first: 0,
-            second: 0,
-            from: 0,
-        })?;
+    if froms.len() <= slot as usize {
+        froms.push(0)?;
     }
     Ok(())
 }
@@ -52,7 +46,7 @@ impl Lists {
     {
         self.pending.widen(number)?;
         widen_nodes(&mut self.chains, slot)?;
-        widen_watches(&mut self.watched, slot)
+        widen_froms(&mut self.froms, slot)
     }
 }
 

@@ -2,7 +2,7 @@
 ghost use Rattle.std.specs.Prelude.{◌≡◌, ℕ, ◌*◌, ◌<◌, ◌≤◌, Bool, length, true, false, slice_index, MatchOption, IfSome};
 ghost use Rattle.clause_base.specs.Clause.{has_literal};
 ghost use Rattle.propagation.specs.Asks.{IsAsk};
-ghost use Rattle.propagation.specs.Pending.{is_free};
+ghost use Rattle.propagation.specs.Pending.{AreFalseBut, AreFalseFrom, is_free};
 ghost use Rattle.cdcl_rules.specs.Pending.{is_pending};
 
 use crate::pending::NO_LITERAL;
@@ -62,7 +62,7 @@ pub fn only_ask(clause: &View) -> u32
     only.0
 }
 
-/// A place from `low` up to `high`, other than `skipped`, whose literal is not false.
+/// A place from `low` up to `high` whose literal is not false and not the skipped one.
 pub fn find_free(
     assignment: &Assignment,
     clause: &View,
@@ -72,25 +72,25 @@ pub fn find_free(
 ) -> Option<u32>
     requires below { (p : ℕ) → p < length clause.now → slice_index clause.now p < 2 * assignment.now.variables }
     requires high { high ≤ length clause.now }
-    ensures none { MatchOption result ((p : ℕ) → low ≤ p → p < high → (p ≡ skipped → ⊥) → is_free (has_literal assignment.now.trail) (slice_index clause.now p) ≡ false) (λ p. is_free (has_literal assignment.now.trail) (slice_index clause.now p) ≡ true) }
-    ensures other { IfSome result (λ p. p ≡ skipped → ⊥) }
+    ensures none { MatchOption result (AreFalseFrom assignment.now.trail clause.now skipped low high) (λ p. is_free (has_literal assignment.now.trail) (slice_index clause.now p) ≡ true) }
+    ensures other { IfSome result (λ p. slice_index clause.now p ≡ skipped → ⊥) }
     ensures inside { IfSome result (λ p. p < length clause.now) }
 {
     for place in low..high {
         let lit = clause.get(place as usize);
-        if !assignment.is_false(lit.0) && place != skipped {
+        if !assignment.is_false(lit.0) && lit.0 != skipped {
             return Some(place);
         }
     }
     None
 }
 
-/// A place other than `skipped` whose literal is not false, sought from `from` on and then from the front.
+/// A place whose literal is not false and not the skipped one, sought from `from` on and then from the front.
 pub fn find_other(assignment: &Assignment, clause: &View, skipped: u32, from: u32) -> Option<u32>
     requires below { (p : ℕ) → p < length clause.now → slice_index clause.now p < 2 * assignment.now.variables }
     requires short { length clause.now ≤ 4294967295 }
-    ensures none { MatchOption result ((p : ℕ) → p < length clause.now → (p ≡ skipped → ⊥) → is_free (has_literal assignment.now.trail) (slice_index clause.now p) ≡ false) (λ p. is_free (has_literal assignment.now.trail) (slice_index clause.now p) ≡ true) }
-    ensures other { IfSome result (λ p. p ≡ skipped → ⊥) }
+    ensures none { MatchOption result (AreFalseBut assignment.now.trail clause.now skipped) (λ p. is_free (has_literal assignment.now.trail) (slice_index clause.now p) ≡ true) }
+    ensures other { IfSome result (λ p. slice_index clause.now p ≡ skipped → ⊥) }
     ensures inside { IfSome result (λ p. p < length clause.now) }
 {
     let length = clause.len() as u32;

@@ -1,5 +1,5 @@
 //! The slots of clauses that are watched: each has the number of one.
-ghost use Rattle.std.specs.Prelude.{◌≡◌, ◌<◌, ◌≤◌, length, false, slice_index_or};
+ghost use Rattle.std.specs.Prelude.{◌≡◌, ◌<◌, length, false, slice_index_or};
 ghost use Rattle.cdcl_rules.specs.State.{clause_at};
 ghost use Rattle.propagation.specs.Visit.{AreSlotsBelow};
 ghost use Rattle.propagation.specs.Tables.{clauses_in, flags_in};

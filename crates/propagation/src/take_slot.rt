@@ -1,7 +1,7 @@
 //! How an added clause is found again: by a slot, where it has two literals or more. One of fewer is pending from the beginning,
 //! wherever it is not true, and is not sought.
-ghost use Rattle.std.specs.Prelude.{◌≡◌, ℕ, ◌+◌, ◌*◌, ◌<◌, ◌≤◌, length, slice_index, vec_capacity, IfOk, IsOk};
-ghost use Rattle.clause_base.specs.Clause.{has_literal};
+ghost use Rattle.std.specs.Prelude.{◌≡◌, ℕ, ◌*◌, ◌<◌, ◌≤◌, length, slice_index, vec_capacity, IfOk, IsOk};
+ghost use Rattle.clause_base.specs.Clause.{IsClause, has_literal};
 ghost use Rattle.propagation.specs.Asks.{IsAsk};
 ghost use Rattle.propagation.specs.Added.{HasSlotRoom, IsLoose, IsTaken, IsQuietBelow};
 
@@ -23,6 +23,7 @@ pub fn take_slot(
 ) -> Result<Entered, AllocError>
     requires small { assignment.now.variables ≤ 2147483647 }
     requires below { (p : ℕ) → p < length clause.now → slice_index clause.now p < 2 * assignment.now.variables }
+    requires lawful { IsClause clause.now }
     requires short { length clause.now ≤ 4294967295 }
     requires few { length slots.old.items ≤ 2147483647 }
     requires capacity { length slots.old.items < vec_capacity slots.old }

@@ -150,6 +150,7 @@ impl Begun {
         requires { HasRun (input_of F.StepForm form.now settings.now) self runs.items }
         ensures { IfOk result (Comes F.StepForm form.now settings.now (self.rounds + 1)) }
     {
+        // For the proof: the form is lawful, so its laws hold.
         let _lawful = form.size(0);
         self.judge(alloc, form, settings, runs)
     }

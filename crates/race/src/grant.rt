@@ -34,5 +34,6 @@ pub(crate) fn book(ledger: &mut Ledger, granted: u64, before: u64, after: u64)
     ensures sums { SumsToBudget ledger.new }
 {
     ledger.enter(granted as u32, (after - before) as u32);
+    // For the proof: what was granted and what is left are the budget.
     let _sums = ledger.left();
 }

@@ -120,6 +120,7 @@ impl Racing {
         ensures fewer { OnOk result (length self.new.runs.items < length self.old.runs.items) }
         ensures rounds { self.new.rounds ≡ self.old.rounds }
     {
+        // For the proof: the live horizons are a window of the listed ones, so they rise.
         let _rising = self.window.count();
         let run = self.runs.remove(0);
         let horizon = run.horizon();

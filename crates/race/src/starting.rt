@@ -61,6 +61,7 @@ impl Racing {
         ensures books { OnOk result (KeepsBooks self.old self.new) }
     {
         let _form = form;
+        // For the proof: the run is where so many conflicts have it.
         let _reached = run.standing();
         self.window.take_next();
         self.runs.push(run)?;

@@ -92,6 +92,7 @@ pub(crate) fn advance_all<G: Gate, H: Threads + Wait + Sync>(
     ensures { IfOk result (λ out. out.items ≡ moved_all runs.items grants.now) }
 {
     let jobs = Jobs::new(jobs_of(alloc, runs, grants)?);
+    // For the proof: where the jobs rise, no two have one horizon.
     let _rising = jobs.are_rising();
     match round(rt, alloc, jobs, settings.workers, settings.slice, gate) {
         Ok(back) => runs_of(alloc, back.into_vec()),

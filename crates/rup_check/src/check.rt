@@ -1,9 +1,7 @@
-ghost use Rattle.std.specs.Prelude.{◌≡◌, ℕ, ◌+◌, ◌<◌, ◌^◌, length, IfOk, IfSome, IfNone, OnOk, IsOkUnless, IsTrue, ◌↔◌};
+ghost use Rattle.std.specs.Prelude.{◌≡◌, ℕ, ◌+◌, ◌<◌, ◌^◌, length, IfOk, OnOk, IsOkUnless};
 ghost use Rattle.clause_base.specs.Formula.{IsUnsatisfiable};
-ghost use Rattle.clause_base.specs.Derivation.{IsDerivation, EndsEmpty, IsFirstUnderived, IsRefutation, learns_empty};
-ghost use Rattle.clause_log.specs.Step.{told};
+ghost use Rattle.clause_base.specs.Derivation.{IsDerivation, EndsEmpty, IsFirstUnderived, IsRefutation};
 ghost use Rattle.rup_check.specs.Certificate.{Certifies};
-ghost use Rattle.rup_check.specs.Ends.{ends_by};
 
 use crate::checker::Checker;
 use crate::steps::{Room, learns_empty, take_step};
@@ -70,34 +68,32 @@ impl From<Memory> for CheckError {
     }
 }
 
-/// Whether there is a last entry and it learns the empty clause.
-fn ends_empty(log: &Log) -> bool
-    ensures { IsTrue result ↔ EndsEmpty log.now }
-{
-    let mut empty = false;
-    let mut reader = log.entries();
-    while let Some(step) = reader.next() {
-        empty = learns_empty(&step);
-    }
-    empty
-}
-
-/// The first of the entries that is not derived.
-fn first_underived(alloc: Global, formula: &Formula, log: &Log) -> Result<Option<u32>, Memory>
+/// Goes through a log from its first entry to its last, or to the first that is not derived.
+fn go_through(alloc: Global, formula: &Formula, log: &Log) -> Result<(), CheckError>
     requires { length formula.now.clauses + length log.now < 2 ^ 32 }
-    ensures found { IfOk result (λ first. IfSome first (IsFirstUnderived formula.now.variables formula.now.clauses log.now)) }
-    ensures none { IfOk result (λ first. IfNone first (IsDerivation formula.now.variables formula.now.clauses log.now)) }
+    ensures refuted { OnOk result (IsRefutation formula.now.variables formula.now.clauses log.now) }
+    ensures accepted { IsRefutation formula.now.variables formula.now.clauses log.now → IsOkUnless result CheckError.Memory }
+    ensures rejected { (e : ℕ) → result ≡ Err (CheckError.Rejected e) → IsFirstUnderived formula.now.variables formula.now.clauses log.now e }
+    ensures not_empty { result ≡ Err CheckError.NotEmpty → IsDerivation formula.now.variables formula.now.clauses log.now × (EndsEmpty log.now → ⊥) }
 {
     let mut checker = Checker::new(alloc, formula)?;
     let mut room = Room::new(alloc);
     let mut reader = log.entries();
+    let mut ends_empty = false;
     for number in 0..log.len() {
-        let step = reader.take();
-        if !take_step(&mut checker, &mut room, &step)? {
-            return Ok(Some(number as u32));
+        let kind = reader.take_into(&mut room.lits, &mut room.hints)?;
+        if !take_step(&mut checker, kind, &room)? {
+            return Err(CheckError::Rejected {
+                entry: number as u32,
+            });
         }
+        ends_empty = learns_empty(kind, &room);
     }
-    Ok(None)
+    if ends_empty {
+        Ok(())
+    } else {
+        Err(CheckError::NotEmpty)
+    }
 }
 
 /// Checks that a log derives the empty clause from a formula: each learned clause by its hints (reverse unit propagation:
@@ -113,12 +109,7 @@ pub fn check(alloc: Global, formula: &Formula, log: &Log) -> Result<Checked, Che
     ensures rejected { (e : ℕ) → result ≡ Err (CheckError.Rejected e) → IsFirstUnderived formula.now.variables formula.now.clauses log.now e }
     ensures not_empty { result ≡ Err CheckError.NotEmpty → IsDerivation formula.now.variables formula.now.clauses log.now × (EndsEmpty log.now → ⊥) }
 {
-    if let Some(entry) = first_underived(alloc, formula, log)? {
-        return Err(CheckError::Rejected { entry });
-    }
-    if !ends_empty(log) {
-        return Err(CheckError::NotEmpty);
-    }
+    go_through(alloc, formula, log)?;
     Ok(Checked {
         name: formula.name(),
         entries: log.len() as u32,

@@ -47,12 +47,14 @@ fn learn_derived(
 ) -> Result<bool, Memory>
     requires marks { marks.old ≡ record { variables = formula.now.variables; falsified = [] } }
     requires named { NamesBelow formula.now.variables formula.now.clauses kept.old.dropped.items kept.old.learned }
+    requires long { length kept.old.dropped.items ≡ length formula.now.clauses }
     ensures marks { marks.new ≡ marks.old }
     ensures answer { IfOk result (λ b. b ≡ is_derived_by formula.now.variables formula.now.clauses kept.old.dropped.items kept.old.learned (learn_entry clause.now hints.now)) }
     ensures dropped { kept.new.dropped.items ≡ kept.old.dropped.items }
     ensures learned { result ≡ Ok true → kept.new.learned ≡ kept.old.learned ++ Some clause.now ∷ [] }
     ensures same { (result ≡ Ok true → ⊥) → kept.new.learned ≡ kept.old.learned }
 {
+    // For the proof: the formula's literals are of its variables.
     let _below = formula.variables();
     if !is_learnable(marks, formula, kept, clause, hints)? {
         return Ok(false);

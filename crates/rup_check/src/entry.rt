@@ -1,4 +1,4 @@
-ghost use Rattle.std.specs.Prelude.{◌≡◌, [], fold, IfOk, OnOk};
+ghost use Rattle.std.specs.Prelude.{◌≡◌, [], fold, length, IfOk, OnOk};
 ghost use Rattle.clause_base.specs.Clause.{HasVariablesBelow, has_variables_below, put};
 ghost use Rattle.clause_base.specs.Derivation.{leads_to_conflict};
 ghost use Rattle.clause_base.specs.declared.log.Entry.TheVariants.{Learn as learn_entry};
@@ -21,7 +21,8 @@ fn leads_to_conflict(
     kept: &Kept,
     hints: &[u32],
 ) -> Result<bool, Memory>
-    requires { NamesBelow marks.old.variables formula.now.clauses kept.now.dropped.items kept.now.learned }
+    requires named { NamesBelow marks.old.variables formula.now.clauses kept.now.dropped.items kept.now.learned }
+    requires long { length kept.now.dropped.items ≡ length formula.now.clauses }
     ensures answer { IfOk result (λ b. b ≡ leads_to_conflict (kept_named formula.now.clauses kept.now.dropped.items kept.now.learned) marks.old.falsified hints.now) }
     ensures variables { marks.new.variables ≡ marks.old.variables }
 {
@@ -62,6 +63,7 @@ fn leads_from(
 ) -> Result<bool, Memory>
     requires empty { marks.old.falsified ≡ [] }
     requires named { NamesBelow marks.old.variables formula.now.clauses kept.now.dropped.items kept.now.learned }
+    requires long { length kept.now.dropped.items ≡ length formula.now.clauses }
     requires below { HasVariablesBelow marks.old.variables clause.now }
     ensures answer { IfOk result (λ b. b ≡ leads_to_conflict (kept_named formula.now.clauses kept.now.dropped.items kept.now.learned) clause.now hints.now) }
     ensures variables { marks.new.variables ≡ marks.old.variables }
@@ -81,6 +83,7 @@ fn follows(
 ) -> Result<bool, Memory>
     requires empty { marks.old.falsified ≡ [] }
     requires named { NamesBelow marks.old.variables formula.now.clauses kept.now.dropped.items kept.now.learned }
+    requires long { length kept.now.dropped.items ≡ length formula.now.clauses }
     requires below { HasVariablesBelow marks.old.variables clause.now }
     ensures answer { IfOk result (λ b. b ≡ leads_to_conflict (kept_named formula.now.clauses kept.now.dropped.items kept.now.learned) clause.now hints.now) }
     ensures kept { marks.new ≡ marks.old }
@@ -115,6 +118,7 @@ pub fn is_learnable(
     requires empty { marks.old.falsified ≡ [] }
     requires over { marks.old.variables ≡ formula.now.variables }
     requires named { NamesBelow formula.now.variables formula.now.clauses kept.now.dropped.items kept.now.learned }
+    requires long { length kept.now.dropped.items ≡ length formula.now.clauses }
     ensures answer { IfOk result (λ b. b ≡ is_derived_by formula.now.variables formula.now.clauses kept.now.dropped.items kept.now.learned (learn_entry clause.now hints.now)) }
     ensures kept { marks.new ≡ marks.old }
 {

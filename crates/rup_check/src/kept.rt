@@ -1,5 +1,5 @@
 ghost use Rattle.std.specs.Prelude.{◌≡◌, ◌∷◌, [], ◌+◌, ◌++◌, ◌==◌, ℕ, false, Some, None, length, replicate, slice_index_or, if◌then◌else◌, IfOk, OnOk, OnErr, IsSome};
-ghost use Rattle.rup_check.specs.Kept.{kept_named, is_dropped};
+ghost use Rattle.rup_check.specs.Kept.{kept_named};
 
 use clause_base::formula::Formula;
 use clause_base::literal::Lit;
@@ -28,28 +28,21 @@ impl Kept {
         })
     }
 
-    /// The kept clause that a number names.
+    /// The kept clause that a number names. The table of what was dropped is as long as the formula, so that the formula is
+    /// asked for the clause alone.
     #[inline(always)]
     pub fn clause<'a>(&'a self, formula: &'a Formula, number: u32) -> Option<View<'a>>
+        requires { length self.now.dropped.items ≡ length formula.now.clauses }
         ensures { result ≡ kept_named formula.now.clauses self.now.dropped.items self.now.learned number }
     {
-        if number >= formula.count() {
-            return self.learned_clause(number - formula.count());
+        let count = self.dropped.len();
+        if number as usize >= count {
+            return self.learned_clause(number - count as u32);
         }
-        if self.is_dropped(number) {
+        if self.dropped[number as usize] {
             return None;
         }
         Some(formula.clause(number))
-    }
-
-    /// Whether the clause of the formula with this number was dropped.
-    fn is_dropped(&self, number: u32) -> bool
-        ensures { result ≡ is_dropped self.now.dropped.items number }
-    {
-        match self.dropped.get(number as usize) {
-            Some(dropped) => *dropped,
-            None => false,
-        }
     }
 
     /// The learned clause with this number among the learned ones, where it is kept.

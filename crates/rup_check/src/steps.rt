@@ -1,22 +1,21 @@
-//! The entries of a log, where they stand as bytes, handed to a checker.
-ghost use Rattle.std.specs.Prelude.{◌≡◌, ◌∷◌, [], ◌++◌, List, true, Some, IfOk, OnOk};
+//! The entries of a log, as they are read one after another, handed to a checker.
+ghost use Rattle.std.specs.Prelude.{◌≡◌, ◌∷◌, [], ◌++◌, List, true, Some, IfOk};
 ghost use Rattle.clause_base.specs.Derivation.{is_derived_after, learns_empty};
 ghost use Rattle.clause_base.specs.declared.log.Entry.{Entry};
-ghost use Rattle.clause_log.specs.Step.{told, IsLawful};
+ghost use Rattle.clause_log.specs.Step.{told_by, IsLawfulBy};
 ghost use Rattle.rup_check.specs.Taken.{HasTaken};
 
 use crate::checker::Checker;
 use clause_base::literal::Lit;
 use clause_base::memory::Memory;
-use clause_log::reader::Step;
-use number_bytes::numbers::Numbers;
+use clause_log::reader::Kind;
 use std::alloc::Global;
 
-/// Room in which an entry is read.
+/// Room in which an entry is read, of one that learns a clause its literals and its hints.
 #[derive(Drop)]
 pub struct Room {
-    lits: Vec<Lit>,
-    hints: Vec<u32>,
+    pub lits: Vec<Lit>,
+    pub hints: Vec<u32>,
 }
 
 impl Room {
@@ -29,57 +28,25 @@ impl Room {
     }
 }
 
-/// Makes a vector hold the literals of a clause, which are told by their codes.
-fn read_into(lits: &mut Vec<Lit>, clause: &Numbers<'_>) -> Result<(), Memory>
-    ensures { OnOk result (lits.new.items ≡ clause.now) }
-{
-    lits.clear();
-    let mut left = clause.copy();
-    while let Some(code) = left.next() {
-        lits.push(Lit(code))?;
-    }
-    Ok(())
-}
-
-/// Makes a vector hold numbers.
-fn read_numbers(numbers: &mut Vec<u32>, told: &Numbers<'_>) -> Result<(), Memory>
-    ensures { OnOk result (numbers.new.items ≡ told.now) }
-{
-    numbers.clear();
-    let mut left = told.copy();
-    while let Some(number) = left.next() {
-        numbers.push(number)?;
-    }
-    Ok(())
-}
-
 /// Whether an entry learns the empty clause.
-pub fn learns_empty(step: &Step<'_>) -> bool
-    ensures { result ≡ learns_empty (told step.now) }
+pub fn learns_empty(kind: Kind, room: &Room) -> bool
+    ensures { result ≡ learns_empty (told_by kind room.now.lits.items room.now.hints.items) }
 {
-    match step {
-        Step::Learn { clause, hints: _ } => clause.len() == 0,
-        Step::Drop { number: _ } => false,
+    match kind {
+        Kind::Learn => room.lits.len() == 0,
+        Kind::Drop { number: _ } => false,
     }
 }
 
 /// Takes an entry as the next one, exactly where it is derived, and says whether it is.
-pub fn take_step(
-    checker: &mut Checker<'_>,
-    room: &mut Room,
-    step: &Step<'_>,
-) -> Result<bool, Memory>
-    requires { IsLawful step.now }
+pub fn take_step(checker: &mut Checker<'_>, kind: Kind, room: &Room) -> Result<bool, Memory>
+    requires { IsLawfulBy kind room.now.lits.items }
     ensures formula { checker.new.formula ≡ checker.old.formula }
-    ensures answer { (log : List Entry) → HasTaken checker.old log → IfOk result (λ taken. taken ≡ is_derived_after checker.old.formula.variables checker.old.formula.clauses log (Some (told step.now))) }
-    ensures taken { (log : List Entry) → HasTaken checker.old log → result ≡ Ok true → HasTaken checker.new (log ++ told step.now ∷ []) }
+    ensures answer { (log : List Entry) → HasTaken checker.old log → IfOk result (λ taken. taken ≡ is_derived_after checker.old.formula.variables checker.old.formula.clauses log (Some (told_by kind room.now.lits.items room.now.hints.items))) }
+    ensures taken { (log : List Entry) → HasTaken checker.old log → result ≡ Ok true → HasTaken checker.new (log ++ told_by kind room.now.lits.items room.now.hints.items ∷ []) }
 {
-    match step {
-        Step::Learn { clause, hints } => {
-            read_into(&mut room.lits, clause)?;
-            read_numbers(&mut room.hints, hints)?;
-            checker.learn(&room.lits, &room.hints)
-        }
-        Step::Drop { number } => Ok(checker.forget(*number)),
+    match kind {
+        Kind::Learn => checker.learn(&room.lits, &room.hints),
+        Kind::Drop { number } => Ok(checker.forget(number)),
     }
 }

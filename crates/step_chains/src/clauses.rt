@@ -35,6 +35,7 @@ fn not_action(layout: &Layout, action: u32) -> Lit
     requires action { action < layout.now.actions }
     ensures { result ≡ code (Not (action_at layout.now 0 action)) }
 {
+    // For the proof: the layout is lawful, so what it numbers are variables of the formula.
     let _all = layout.variables();
     Lit::of(layout.action(0, action), false)
 }
@@ -45,6 +46,7 @@ fn chain_lit(layout: &Layout, chain: u32, value: bool) -> Lit
     requires chain { chain < layout.now.chains }
     ensures { result ≡ code (if value then Is (chain_at layout.now 0 chain) else Not (chain_at layout.now 0 chain)) }
 {
+    // For the proof: the layout is lawful, so what it numbers are variables of the formula.
     let _all = layout.variables();
     Lit::of(layout.chain(0, chain), value)
 }

@@ -29,6 +29,7 @@ fn initial_value(task: &Task, fact: u32) -> bool
     requires { fact < task.now.facts }
     ensures { result ≡ initial_state task.now fact }
 {
+    // For the proof: the task is lawful.
     let _facts = task.facts();
     task.init()[fact as usize]
 }
@@ -67,6 +68,7 @@ pub fn add_goal(task: &Task, layout: &Layout, formula: &mut Formula) -> Result<(
     ensures added { OnOk result (formula.new ≡ added formula.old (map (λ l. code (literal_over (fact_at layout.now layout.now.horizon) l) ∷ []) task.now.goal)) }
     ensures few { OnOk result (length formula.new.clauses ≤ length formula.old.clauses + length task.now.goal) }
 {
+    // For the proof: the task is lawful.
     let _facts = task.facts();
     for lit in task.goal() {
         let fact = fact_lit(layout, layout.horizon, *lit / 2, *lit % 2 == 0);

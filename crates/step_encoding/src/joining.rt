@@ -45,6 +45,7 @@ fn repeated(
     ensures long { IfOk result (λ part. length (repeated part) ≡ layout.now.horizon * length step.now + (layout.now.horizon + 1) * length known.now) }
     ensures variables { IfOk result (λ part. variables_of part ≡ variables layout.now) }
 {
+    // For the proof: the layout is lawful, so what it numbers are variables of the formula.
     let _all = layout.variables();
     let time = known.copy(alloc)?;
     if layout.horizon == 0 {

@@ -128,7 +128,9 @@ impl<'a, P: Placing> Placed<'a, P> {
         requires published { IsPublished task.now pairs.now.clauses order.now }
         ensures { IfOk result (λ form. form ≡ record { task = task.now; known = pairs.now; components = order.now }) }
     {
+        // For the proof: the task is lawful.
         let _facts = task.facts();
+        // For the proof: the known clauses are lawful.
         let _count = pairs.count();
         let chains = P::find(alloc, task, order)?;
         let step_size = step_size(task, &chains);

@@ -19,6 +19,7 @@ pub(crate) fn action_variable(layout: &Layout, a: u32) -> u32
     ensures value { result ≡ action_at layout.now 0 a }
     ensures small { result ≤ 2147483647 }
 {
+    // For the proof: the layout is lawful, so what it numbers are variables of the formula.
     let _all = layout.variables();
     layout.action(0, a)
 }
@@ -30,6 +31,7 @@ pub(crate) fn conditional_variable(layout: &Layout, j: u32) -> u32
     ensures value { result ≡ conditional_at layout.now 0 j }
     ensures small { result ≤ 2147483647 }
 {
+    // For the proof: the layout is lawful, so what it numbers are variables of the formula.
     let _all = layout.variables();
     layout.conditional(0, j)
 }
@@ -41,6 +43,7 @@ pub fn fact_lit(layout: &Layout, time: u32, fact: u32, value: bool) -> Lit
     ensures code { result ≡ code (if value then Is (fact_at layout.now time fact) else Not (fact_at layout.now time fact)) }
     ensures within { result / 2 < variables layout.now }
 {
+    // For the proof: the layout is lawful, so what it numbers are variables of the formula.
     let _all = layout.variables();
     let variable = layout.fact(time, fact);
     if value {

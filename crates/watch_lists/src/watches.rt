@@ -67,6 +67,7 @@ impl Watches {
     {
         // For the proof: how many clauses there are, and that their literals are of the variables.
         let _many = formula.count();
+        // For the proof: the formula's literals are of its variables.
         let _below = formula.variables();
         let mut propagator = Propagator::new(alloc, formula)?;
         let first = propagator.next();

@@ -1,7 +1,8 @@
-use Rattle.std.proofs.Common.{◌≡◌, drop}
+use Rattle.std.proofs.Common.{◌≡◌, take}
+use Rattle.std.specs.Prelude.{filter_map}
 use Rattle.grounding.specs.Instance.{literals_of}
-use Rattle.grounding.specs.Simplify.{simplified}
+use Rattle.grounding.specs.Simplify.{number_of}
 use Rattle.grounder.proofs.simplify.simplified.Given as goal
 
-abbrev pub invariant-loop-i : goal.invariant-loop-i
-invariant-loop-i l = l.set.keys ≡ simplified l.known.facts (literals_of l.objects (drop l.i l.conds))
+abbrev pub invariant-loop-cond : goal.invariant-loop-cond
+invariant-loop-cond l = l.literals.items ≡ filter_map (number_of l.known.facts) (literals_of l.objects (take l.cond-index l.conds))

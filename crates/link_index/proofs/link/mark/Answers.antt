@@ -3,8 +3,8 @@ use Rattle.link_index.specs.declared.link.Link.{Link}
 use Rattle.link_index.proofs.IndexLaw.{marked_again}
 use Rattle.link_index.proofs.link.mark.Goals as goal
 
-pub returns-then-last-action : goal.returns-then-last-action
-returns-then-last-action c base t r away old =
+pub returns-then-last-action-clause-marked : goal.returns-then-last-action-clause-marked
+returns-then-last-action-clause-marked c base t r away old =
     let h = c.in-Some.ensures.some in
     let g = c.joined.ensures in
     let j = c.in_ok-push-2.ensures.ok in

@@ -1,4 +1,5 @@
 use Rattle.std.proofs.Common.{arith, ◌≡◌, ◌∙◌, List, ℕ, true, replicate, length, sym, ap, subst}
+use Rattle.clause_base.specs.Clause.{IsClause}
 use Rattle.cdcl_rules.specs.State.{clause_at}
 use Rattle.propagation.specs.Added.{RestsWith}
 use Rattle.propagation.specs.Asks.{IsAsk}
@@ -46,11 +47,15 @@ widen-requires c =
       numbers = omega (arith, c.requires.inside, g.room);
       asks = omega (arith, c.requires.inside, g.long);
       nodes = omega (arith, g.rest.many, long, c.len-slot.ensures);
-      watches = omega (arith, g.rest.placed.many, long, c.len-slot.ensures);
+      froms = omega (arith, g.rest.long, long, c.len-slot.ensures);
     }
 
 pub enter_last-requires-clause-below : goal.enter_last-requires-clause-below
 enter_last-requires-clause-below c = fit_read c.args.store.now c.args.codes c.args.number c.clause-clause.result c.requires.fit c.clause-clause.ensures
+
+pub enter_last-requires-clause-lawful : goal.enter_last-requires-clause-lawful
+enter_last-requires-clause-lawful c =
+    subst IsClause (sym (read (goal.at.enter_last-requires-clause-lawful c).After-clause-clause)) (c.requires.fit.lawful c.args.number)
 
 pub enter_last-requires-clause-short : goal.enter_last-requires-clause-short
 enter_last-requires-clause-short c =
@@ -63,7 +68,7 @@ pub enter_last-requires-clause-loose : goal.enter_last-requires-clause-loose
 enter_last-requires-clause-loose c =
     let slots = c.args.self.now.slots.items in
     let w = c.widen.new.self in
-    pair_loose (slot_clauses c.args.store.now slots) w.watched.items w.chains.heads.items w.chains.nodes.items c.args.codes (replicate (length slots) true) c.len-slot.result
+    pair_loose (slot_clauses c.args.store.now slots) w.froms.items w.chains.heads.items w.chains.nodes.items c.args.codes (replicate (length slots) true) c.len-slot.result
     (wide (goal.at.enter_last-requires-clause-loose c).After-widen).rest (omega (arith, c.len-slot.ensures, slots_long c.args.store.now slots))
 
 pub returns : goal.returns

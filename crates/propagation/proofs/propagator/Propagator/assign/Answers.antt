@@ -15,11 +15,12 @@ use Rattle.propagation.specs.Front.{IsComplete}
 use Rattle.propagation.specs.Pending.{PropagatorView}
 use Rattle.propagation.specs.Sound.{AreSound}
 use Rattle.propagation.specs.Tables.{AreTables, clauses_in, flags_in, pending_in}
-use Rattle.propagation.specs.Visit.{slot_set, IsAtRest, IsFit, AllSettled, MovesToFree}
+use Rattle.propagation.specs.Visit.{slot_set, IsAtRest, IsFit, AreSettled, MovesToFree}
 use Rattle.propagation.proofs.Asks.{consistent_push, last_true}
 use Rattle.propagation.proofs.AsksKept.{asks_longer}
 use Rattle.propagation.proofs.Assigns.{opposite_twice, assign_complete, assign_free, assign_quiets, whole_free}
 use Rattle.propagation.proofs.Founds.{found_complete}
+use Rattle.propagation.proofs.Visits.{two_watched}
 use Rattle.propagation.proofs.Slotted.{slots_long, flags_long, slots_complete}
 use Rattle.propagation.proofs.propagator.Propagator.assign.Goals as goal
 use Rattle.propagation.proofs.propagator.Propagator.assign.Goals.{After-assignment-assignment, After-falsified, After-visit_all}
@@ -93,33 +94,29 @@ visit_all-requires-clause-tables c =
 pub visit_all-requires-clause-rest : goal.visit_all-requires-clause-rest
 visit_all-requires-clause-rest c =
     let w = c.self.inside in
-    subst (λ (n : ℕ). IsAtRest (clauses_in w.tables) w.lists.watched.items w.lists.chains.heads.items w.lists.chains.nodes.items (2 * n) (flags_in w.tables))
+    subst (λ (n : ℕ). IsAtRest (clauses_in w.tables) w.lists.froms.items w.lists.chains.heads.items w.lists.chains.nodes.items (2 * n) (flags_in w.tables))
     (sym (over (goal.at.visit_all-requires-clause-rest c).After-assignment-assignment)) c.self.invariant.0.rest
 
 -- what the visits leave, on the trail with the literal
 moves : (c : After-visit_all)
-    → MovesToFree (clauses_in c.self.inside.tables) c.self.inside.lists.watched.items c.visit_all.new.self.watched.items
+    → MovesToFree (clauses_in c.self.inside.tables) c.self.inside.lists.chains.nodes.items c.visit_all.new.self.chains.nodes.items
     (has_literal (literals c.self.inside.trail.entries ++ c.args.entry.literal ∷ []))
 moves c =
     let w = c.self.inside in
     let tr = ap (λ (t : AssignmentView). t.trail) c.assignment-assignment.ensures ∙ ap (λ (t : TrailView). literals t.entries) c.push.ensures
     ∙ map_push (λ (a : Assigned). a.literal) w.trail.entries c.args.entry in
-    subst (λ (ys : List ℕ). MovesToFree (clauses_in w.tables) w.lists.watched.items c.visit_all.new.self.watched.items (has_literal ys)) tr c.visit_all.ensures.moves
+    subst (λ (ys : List ℕ). MovesToFree (clauses_in w.tables) w.lists.chains.nodes.items c.visit_all.new.self.chains.nodes.items (has_literal ys)) tr c.visit_all.ensures.moves
 
 settled : (c : After-visit_all)
-    → AllSettled (clauses_in c.self.inside.tables) c.visit_all.new.self.watched.items
-    (has_literal (literals c.self.inside.trail.entries ++ c.args.entry.literal ∷ []))
-    (slot_set (words_have c.visit_all.new.self.pending.numbers) c.self.inside.tables.slots.items) (opposite c.args.entry.literal)
-    (flags_in c.self.inside.tables)
+    → AreSettled c.self.inside.tables c.visit_all.new.self (literals c.self.inside.trail.entries ++ c.args.entry.literal ∷ []) (opposite c.args.entry.literal)
 settled c =
     let w = c.self.inside in
-    let wa = c.visit_all.new.self.watched.items in
-    let set = words_have c.visit_all.new.self.pending.numbers in
+    let new = c.visit_all.new.self in
     let op : c.falsified.inside.0 ≡ opposite c.args.entry.literal = c.falsified.view_is ∙ c.opposite-falsified.ensures in
     let tr = ap (λ (t : AssignmentView). t.trail) c.assignment-assignment.ensures ∙ ap (λ (t : TrailView). literals t.entries) c.push.ensures
     ∙ map_push (λ (a : Assigned). a.literal) w.trail.entries c.args.entry in
-    subst (λ (ys : List ℕ). AllSettled (clauses_in w.tables) wa (has_literal ys) (slot_set set w.tables.slots.items) (opposite c.args.entry.literal) (flags_in w.tables)) tr
-    (subst (λ (l : ℕ). AllSettled (clauses_in w.tables) wa (has_literal c.assignment-assignment.result.trail) (slot_set set w.tables.slots.items) l (flags_in w.tables)) op c.visit_all.ensures.settled)
+    subst (λ (ys : List ℕ). AreSettled w.tables new ys (opposite c.args.entry.literal)) tr
+    (subst (λ (l : ℕ). AreSettled w.tables new c.assignment-assignment.result.trail l) op c.visit_all.ensures.settled)
 
 complete : (c : After-visit_all) → literals c.self.inside.trail.entries ++ c.args.entry.literal ∷ [] ≡ c.assignment-assignment.result.trail
     → IsComplete (pending_in c.self.inside.tables (literals c.self.inside.trail.entries ++ c.args.entry.literal ∷ [])) c.visit_all.new.self.pending
@@ -132,10 +129,11 @@ complete c tr =
     let is = words_have c.visit_all.new.self.pending.numbers in
     let e = c.visit_all.ensures in
     let op : c.falsified.inside.0 ≡ opposite c.args.entry.literal = c.falsified.view_is ∙ c.opposite-falsified.ensures in
-    let slotted = assign_complete (clauses_in w.tables) w.lists.watched.items c.visit_all.new.self.watched.items (flags_in w.tables) trail
+    let slotted = assign_complete (clauses_in w.tables) w.lists.chains.nodes.items c.visit_all.new.self.chains.nodes.items (flags_in w.tables) trail
     c.args.entry.literal (slot_set was slots) (slot_set is slots) (flags_long w.tables.kept.items slots ∙ sym (slots_long w.tables.store slots))
-    e.rest.placed
-    (whole_free (clauses_in w.tables) w.lists.watched.items (flags_in w.tables) trail i.free) (moves c) (settled c)
+    (two_watched (clauses_in w.tables) c.visit_all.new.self.froms.items c.visit_all.new.self.chains.heads.items c.visit_all.new.self.chains.nodes.items
+    (2 * c.assignment-assignment.result.variables) (flags_in w.tables) e.rest)
+    (whole_free (clauses_in w.tables) w.lists.chains.nodes.items (flags_in w.tables) trail i.free) (moves c) (settled c)
     (λ k h. e.grows (get_or slots k 0) (c.mark_pairs.ensures.grows (get_or slots k 0) h)) (slots_complete w.tables.store w.tables.kept.items slots trail was i.complete) in
     found_complete w.variables w.tables.store w.tables.kept.items trail slots c.args.entry.literal w.pairs (pairs_of w.pairs c.falsified.inside.0) was
     is i.tables.kept c.self.invariant.1 (ap (λ (l : ℕ). pairs_of w.pairs l) op)
@@ -159,8 +157,8 @@ invariant_of-self c =
       tables = i.tables;
       few = i.few;
       slots_few = i.slots_few;
-      rest = subst (λ (n : ℕ). IsAtRest (clauses_in w.tables) l'.watched.items l'.chains.heads.items l'.chains.nodes.items (2 * n) (flags_in w.tables)) (over here) e.rest;
-      free = assign_free (clauses_in w.tables) w.lists.watched.items l'.watched.items (flags_in w.tables) trail x
+      rest = subst (λ (n : ℕ). IsAtRest (clauses_in w.tables) l'.froms.items l'.chains.heads.items l'.chains.nodes.items (2 * n) (flags_in w.tables)) (over here) e.rest;
+      free = assign_free (clauses_in w.tables) w.lists.chains.nodes.items l'.chains.nodes.items (flags_in w.tables) trail x
           (slot_set (words_have l'.pending.numbers) w.tables.slots.items) i.free (moves visited) (settled visited);
       consistent = consistent here;
       asks = subst (λ (ys : List ℕ). HasAsks w.tables.store ys l'.pending) (told here) e.asks;

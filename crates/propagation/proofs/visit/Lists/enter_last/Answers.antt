@@ -1,6 +1,5 @@
-use Rattle.std.proofs.Common.{arith, ◌≡◌, ◌-◌, ◌∙◌, [], refl}
+use Rattle.std.proofs.Common.{arith, ◌≡◌, ◌-◌, ◌∙◌, [], set, refl, length-set}
 use Rattle.std.proofs.lemmas.List.{get_or_read}
-use Rattle.propagation.specs.declared.visit.Watched.{Watched}
 use Rattle.propagation.proofs.Enters.{IsEntered, rests_long}
 use Rattle.propagation.proofs.Falls.{outlasts_none}
 use Rattle.propagation.proofs.visit.Lists.enter_last.Goals as goal
@@ -8,10 +7,13 @@ use Rattle.propagation.proofs.visit.Lists.enter_last.Goals as goal
 pub returns-clause-rest : goal.returns-clause-rest
 returns-clause-rest c =
     let k = c.args.clause.now in
-    let w : Watched = record { first = c.len-length.result - 1; second = c.len-length.result - 2; from = 0 } in
-    let e : IsEntered k c.args.slot [] c.args.self.now.watched.items w c.args.self.now.chains.heads.items c.args.self.now.chains.nodes.items
+    let froms = set c.args.self.now.froms.items c.args.slot 0 in
+    let e : IsEntered k c.args.slot [] froms c.args.self.now.chains.heads.items c.args.self.now.chains.nodes.items
     c.link_two.new.self.heads.items c.link_two.new.self.nodes.items c.a.inside.0 c.b.inside.0 = record {
-      below = c.requires.room.in_watches;
+      below = omega (arith, c.requires.room.in_froms, length-set c.args.self.now.froms.items c.args.slot 0);
+      lawful = c.requires.lawful;
+      first = c.len-length.result - 1;
+      second = c.len-length.result - 2;
       long = c.requires.two;
       first_in = omega (arith, c.len-length.ensures, c.requires.two);
       second_in = omega (arith, c.len-length.ensures, c.requires.two);
@@ -27,5 +29,5 @@ returns-clause-rest c =
       second_note = c.link_two.ensures.second;
       others = c.link_two.ensures.others;
     } in
-    rests_long k c.args.slot [] c.args.self.now.watched.items w c.args.self.now.chains.heads.items c.args.self.now.chains.nodes.items
+    rests_long k c.args.slot [] c.args.self.now.froms.items froms c.args.self.now.chains.heads.items c.args.self.now.chains.nodes.items
     c.link_two.new.self.heads.items c.link_two.new.self.nodes.items c.a.inside.0 c.b.inside.0 c.args.codes e

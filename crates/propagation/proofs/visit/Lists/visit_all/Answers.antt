@@ -27,8 +27,8 @@ visits-preserved c =
     let next = visited_node _ _ _ _ _ _ _ _ _ v.0 c.visits.place v.1 c.visits-test.true in
     record {
       visited = (next.0, c.visit-place.ensures.visited next.0 next.1);
-      moves = moves_on (clauses_in c.args.tables.now) c.args.self.now.watched.items c.visits.self.watched.items
-          c.visit-place.new.self.watched.items (has_literal c.args.assignment.now.trail) i.moves c.visit-place.ensures.moves;
+      moves = moves_on (clauses_in c.args.tables.now) c.args.self.now.chains.nodes.items c.visits.self.chains.nodes.items
+          c.visit-place.new.self.chains.nodes.items (has_literal c.args.assignment.now.trail) i.moves c.visit-place.ensures.moves;
       grows = λ k h. c.visit-place.ensures.grows k (i.grows k h);
       asks = c.visit-place.ensures.asks;
     }

@@ -10,7 +10,7 @@ use Rattle.propagation.proofs.visit.Lists.visit_all.Given as goal
 abbrev pub invariant-visits : goal.invariant-visits
 invariant-visits l = record {
   visited : (rest : List ℕ) × AreVisited l.tables l.self l.assignment.trail (2 * l.assignment.variables) l.code rest l.place;
-  moves : MovesToFree (clauses_in l.tables) l.initial.self.watched.items l.self.watched.items (has_literal l.assignment.trail);
+  moves : MovesToFree (clauses_in l.tables) l.initial.self.chains.nodes.items l.self.chains.nodes.items (has_literal l.assignment.trail);
   grows : Grows (words_have l.initial.self.pending.numbers) (words_have l.self.pending.numbers);
   asks : HasAsks l.tables.store l.assignment.trail l.self.pending;
 }
