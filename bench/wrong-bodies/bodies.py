@@ -117,12 +117,12 @@ class Row(NamedTuple):
     why: str = ""
 
     def verdict(self):
-        """One of VERDICTS, of which the last two are no evidence."""
+        """One of VERDICTS, of which the last two are no evidence. A body that no clause can refuse counts as proved."""
         if self.prover in VERDICTS[:2]:
             return self.prover
         if self.seen not in UNSEEN:
             return "seen"
-        return "proved" if self.prover == "proved" else "unproved"
+        return "proved" if self.prover == "proved" or self.why.startswith("stays: ") else "unproved"
 
 def names(bodies):
     """The bodies that words name, by crate: those of a crate, CRATE/BODY, or all."""
