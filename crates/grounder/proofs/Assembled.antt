@@ -1,5 +1,5 @@
 -- What was found makes a grounded task.
-use Rattle.std.proofs.Common.{◌≡◌, List, sym, ◌∙◌, subst}
+use Rattle.std.proofs.Common.{◌≡◌, ◌≤◌, List, length, sym, ◌∙◌, subst}
 use Rattle.std.specs.Prelude.{not}
 use Rattle.std.specs.List.{filter}
 use Rattle.gt_core.specs.Task.{Task}
@@ -11,6 +11,7 @@ use Rattle.grounding.specs.Sorted.{atom_less, IsSorted}
 use Rattle.grounding.specs.Grounded.{IsGrounded}
 use Rattle.grounding.specs.Simplify.{task_of}
 use Rattle.grounding.specs.Found.{is_constant, facts_of, actions_of, grounded_by}
+use Rattle.grounding.specs.Limits.{most_actions}
 use Rattle.grounding.specs.Laws.{LeastIsGrounded}
 use Rattle.grounder.specs.Found.{AreFound}
 use Rattle.grounder.specs.Putting.{HasExactly}
@@ -39,3 +40,7 @@ found_is law p q found facts kept calls same known are able =
 pub with_task : (p : Parts) (facts : List Atom) (calls : List Call) (task : Task) → IsGrounded p (grounded_by p facts calls) → task ≡ task_of p facts calls
     → IsGrounded p (record { facts = facts; calls = calls; task = task })
 with_task p facts calls task is e = subst (λ (t : Task). IsGrounded p (record { facts = facts; calls = calls; task = t })) (sym e) is
+
+-- the count of the actions that were listed
+pub few_actions : (q : Parts) (facts : List Atom) (kept calls : List Call) → calls ≡ actions_of q facts kept → length (actions_of q facts kept) ≤ most_actions → length calls ≤ most_actions
+few_actions q facts kept calls same few = subst (λ (cs : List Call). length cs ≤ most_actions) (sym same) few

@@ -1,7 +1,7 @@
 -- Numbers and effects that are sorted, each once, are the sorted sets of the definitions.
-use Rattle.std.proofs.Common.{rules, arith, ◌≡◌, ℕ, zero, suc, ◌<◌, ◌==◌, List, [], ◌∷◌, Bool, true, false, cond, ◌&&◌, refl, ap, sym, ◌∙◌, subst, map, length, inl, inr, IsTrue}
+use Rattle.std.proofs.Common.{rules, arith, ◌≡◌, ℕ, zero, suc, ◌<◌, ◌==◌, List, [], ◌∷◌, Bool, true, false, cond, ◌&&◌, ◌||◌, refl, ap, sym, ◌∙◌, subst, map, length, inl, inr, IsTrue}
 use Rattle.std.specs.Prelude.{nat_lt, nat_eq, slice_index_or}
-use Rattle.std.specs.List.{dedup, Contains, AllByRecursion}
+use Rattle.std.specs.List.{list_any, dedup, Contains, AllByRecursion}
 use Rattle.std.specs.List.Sorted.{IsStrictlySortedBy, IsPermutation}
 use Rattle.std.specs.List.Sorted as sort
 use Rattle.std.specs.declared.cmp.Ordering.{Ordering}
@@ -25,6 +25,7 @@ use Rattle.grounding.specs.Sorted.{IsSorted, sorted_set}
 use Rattle.grounding.proofs.Orders.{IsOrder, numbers, effects}
 use Rattle.grounding.proofs.Sets.{unique, is_sorted, sorted_among, among_sorted}
 use Rattle.atom_join.proofs.Order.{by_first, less_list}
+use Rattle.atom_join.proofs.Rising.{deduped_rise}
 use Rattle.grounder.specs.declared.effects.Keyed.{Keyed}
 use Rattle.grounder.specs.Putting.{effect_at, effects_at}
 
@@ -69,25 +70,9 @@ module _ {X : Type 0} (E : X → X → Bool) (laws : IsEquivalence E) (old order
 
 -- ---- numbers
 
-number_less : (x y : ℕ) → is_lt (nat_cmp x y) ≡ nat_lt x y
-number_less x y = by (nat_lt x y) (x == y)
-  where
-    by : (a b : Bool) → is_lt (cond a Less (cond b Equal Greater)) ≡ a
-    by true b = refl
-    by false true = refl
-    by false false = refl
-
-all_above : (x : ℕ) (ys : List ℕ) → AllByRecursion (λ y. nat_cmp x y ≡ Less) ys → AllByRecursion (λ y. IsTrue (nat_lt x y)) ys
-all_above x [] h = tt
-all_above x (y ∷ ys) h = (sym (number_less x y) ∙ ap is_lt h.0, all_above x ys h.1)
-
-numbers_rise : (xs : List ℕ) → IsStrictlySortedBy nat_cmp xs → IsSorted nat_lt xs
-numbers_rise [] h = tt
-numbers_rise (x ∷ xs) h = (all_above x xs (sorted_head nat_cmp x xs h), numbers_rise xs (sorted_tail nat_cmp x xs h))
-
 pub numbers_sorted : (old ordered new : List ℕ) → IsPermutation old ordered → sort.IsSorted nat_cmp ordered → new ≡ dedup nat_eq ordered → new ≡ sorted_set nat_lt old
 numbers_sorted old ordered new permuted order is =
-    sorted_is nat_lt numbers old new (subst (IsSorted nat_lt) (sym is) (numbers_rise _ (IsStrictlySortedBy-dedup nat_cmp_total unsigned_ties ordered order)))
+    sorted_is nat_lt numbers old new (subst (IsSorted nat_lt) (sym is) (deduped_rise ordered order))
     (left_was nat_eq nat_eq_equiv old ordered new permuted is)
     (λ x a. let h = was_left nat_eq nat_eq_equiv old ordered new permuted is x a in subst (λ (y : ℕ). Among y new) (sym (eqb-true x h.0 h.2)) h.1)
 

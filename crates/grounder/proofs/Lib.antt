@@ -1,3 +1,4 @@
+pub mod Bare
 pub mod Compared
 pub mod Placed
 pub mod Saturated
@@ -8,3 +9,4 @@ pub mod Assembled
 pub mod Listed
 pub mod Few
 pub mod Counting
+pub mod Able

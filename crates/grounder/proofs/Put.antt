@@ -1,5 +1,5 @@
 -- Literals and effects that are added one after the other.
-use Rattle.std.proofs.Common.{arith, ◌≡◌, ℕ, ◌+◌, ◌*◌, ◌<◌, ◌≤◌, List, [], ◌∷◌, ◌++◌, Bool, true, false, cond, length, get_or, take, refl, ap, sym, ◌∙◌, map, Option, Some, None, append_assoc}
+use Rattle.std.proofs.Common.{arith, ◌≡◌, ℕ, ◌+◌, ◌*◌, ◌<◌, ◌≤◌, List, [], ◌∷◌, ◌++◌, Bool, true, false, cond, length, get_or, take, refl, ap, sym, subst, ◌∙◌, map, Option, Some, None, append_assoc}
 use Rattle.std.specs.Prelude.{not, ◌&&◌, slice_get}
 use Rattle.std.specs.List.{filter, filter_map, flat_map, cons_option}
 use Rattle.std.proofs.lemmas.List.{take_more, take_all, append-nil, map-append}
@@ -10,18 +10,19 @@ use Rattle.gt_core.specs.Lawful.{effect_less}
 use Rattle.pd_model.specs.declared.atoms.Atom.{Atom}
 use Rattle.pd_model.specs.declared.parts.Parts.{Parts}
 use Rattle.pd_model.specs.State.{is_in}
-use Rattle.pd_model.specs.Fits.{fitting, tuples}
+use Rattle.pd_model.specs.Fits.{fitting}
 use Rattle.pd_model.specs.declared.calls.Call.{Call}
 use Rattle.pd_model.specs.declared.conds.Cond.{Cond}
 use Rattle.pd_model.specs.declared.effects.Effect.{Effect as Lifted}
 use Rattle.pd_model.specs.declared.schemas.Schema.{Schema}
-use Rattle.grounding.specs.Instance.{Change, change_of, changes_of, literal_of, literals_of, instance_at, instance_of}
+use Rattle.grounding.specs.Instance.{GroundLiteral, Change, change_of, changes_of, literal_of, literals_of, instance_at, instance_of}
 use Rattle.grounding.specs.Sorted.{sorted_set}
 use Rattle.grounding.specs.Simplify.{place, fact_literal, number_of, simplified, any_never, is_left, effect_of, action_of}
 use Rattle.grounder.specs.declared.bindings.Bindings.{Bindings}
 use Rattle.grounder.specs.declared.effects.Keyed.{Keyed}
 use Rattle.grounder.specs.Bindings.{size, tuple_at, AreBindings}
 use Rattle.grounder.specs.Putting.{add_literal, effect_at, effects_at, add_change, left_effects}
+use Rattle.grounder.proofs.Bare.{bare_changes}
 use Rattle.grounder.proofs.Tupled.{count_is, change_at}
 
 -- one more literal
@@ -67,18 +68,11 @@ pub literal_is : (facts : List Atom) (a : Atom) (i : ℕ) (adds : Bool) → plac
 literal_is facts a i true e = ap (λ (n : ℕ). 2 * n) (sym e)
 literal_is facts a i false e = ap (λ (n : ℕ). 2 * n + 1) (sym e)
 
--- an effect under no `forall` has one change
-bare_changes : (p : Parts) (objects : List ℕ) (e : Lifted) → e.over ≡ [] → changes_of p objects e ≡ change_of e objects ∷ []
-bare_changes p objects e bare = (λ i. map (λ more. change_of e (objects ++ more)) (tuples p (bare i))) ∙ ap (λ (os : List ℕ). change_of e os ∷ []) (append-nil objects)
-
+-- the change of an effect under no `forall`
 pub bare_added : (p : Parts) (facts : List Atom) (objects : List ℕ) (e : Lifted) (old new : List Effect) → length e.over ≡ 0 → new ≡ add_change p facts (change_of e objects) old
     → new ≡ old ++ left_effects p facts (changes_of p objects e)
 bare_added p facts objects e old new bare one =
-    one ∙ one_added p facts (change_of e objects) old ∙ ap (λ (cs : List Change). old ++ left_effects p facts cs) (sym (bare_changes p objects e (none e.over bare)))
-  where
-    none : (xs : List ℕ) → length xs ≡ 0 → xs ≡ []
-    none [] h = refl
-    none (x ∷ xs) h = absurd (omega (arith, h))
+    one ∙ one_added p facts (change_of e objects) old ∙ ap (λ (cs : List Change). old ++ left_effects p facts cs) (sym (bare_changes p objects e bare))
 
 -- a loop over the changes of an effect
 pub change_added : (p : Parts) (facts : List Atom) (objects : List ℕ) (e : Lifted) (b : Bindings) → AreBindings p e.over b → (n : ℕ) → n < b.count

@@ -6,6 +6,7 @@ ghost use Rattle.grounding.specs.Instance.{change_of, changes_of, instance_of};
 ghost use Rattle.grounding.specs.Found.{deletes, is_constant};
 ghost use Rattle.grounding.specs.Limits.{most_tuples};
 ghost use Rattle.grounding.specs.Tuples.{tuples_in};
+ghost use Rattle.reachability.specs.Derived.{call_with};
 ghost use Rattle.grounder.specs.Found.{AreFound};
 ghost use Rattle.grounder.specs.Putting.{LeavesOut, HasExactly};
 ghost use Rattle.grounder.specs.Few.{HasFewTuples, HasFew, HaveFew};
@@ -13,8 +14,8 @@ ghost use Rattle.grounder.specs.Few.{HasFewTuples, HasFew, HaveFew};
 use crate::bindings::bindings_of;
 use crate::literals::all_may_hold;
 use atom_join::{AtomTable, Domains};
-use pd_model::{Atoms, Call, Calls, Effect, Memory, State, instance_of};
-use reachability::{Reached, reach};
+use pd_model::{Atoms, Effect, Memory, State, instance_of};
+use reachability::{CallRows, Reached, reach};
 use std::alloc::Global;
 
 /// Takes out the atom of an instance of a delete, where it is possible.
@@ -50,6 +51,9 @@ fn leave_out_effect(
         return Ok(());
     }
     let over = effect.over.as_slice();
+    if over.is_empty() {
+        return leave_out_deleted(alloc, reached, objects, effect, constant);
+    }
     if !domains.have_objects(over) {
         return Ok(());
     }
@@ -66,24 +70,18 @@ fn leave_out_call(
     alloc: Global,
     domains: &Domains,
     reached: &AtomTable,
-    call: &Call,
+    schema: u32,
+    objects: &[u32],
     constant: &mut State,
 ) -> Result<(), Memory>
-    requires { HasFew domains.now call.now }
-    ensures { OnOk result (LeavesOut (λ a. list_any (deletes reached.now a) (instance_of domains.now call.now).changes) constant.old constant.new) }
+    requires { HasFew domains.now (call_with schema objects.now) }
+    ensures { OnOk result (LeavesOut (λ a. list_any (deletes reached.now a) (instance_of domains.now (call_with schema objects.now)).changes) constant.old constant.new) }
 {
-    let Some(schema) = domains.schemas().as_slice().get(call.schema as usize) else {
+    let Some(schema) = domains.schemas().as_slice().get(schema as usize) else {
         return Ok(());
     };
     for effect in schema.effects.as_slice() {
-        leave_out_effect(
-            alloc,
-            domains,
-            reached,
-            call.objects.as_slice(),
-            effect,
-            constant,
-        )?;
+        leave_out_effect(alloc, domains, reached, objects, effect, constant)?;
     }
     Ok(())
 }
@@ -96,8 +94,9 @@ fn constant_atoms(alloc: Global, domains: &Domains, reached: &Reached) -> Result
     let atoms = AtomTable::of(alloc, reached.atoms.as_slice())?;
     let mut constant = State::new(alloc);
     constant.add_all(domains.init().as_slice())?;
-    for call in reached.calls.as_slice() {
-        leave_out_call(alloc, domains, &atoms, call, &mut constant)?;
+    for place in 0..reached.calls.len() {
+        let (schema, objects) = reached.calls.at(place);
+        leave_out_call(alloc, domains, &atoms, schema, objects, &mut constant)?;
     }
     Ok(constant)
 }
@@ -119,7 +118,7 @@ fn facts_of(alloc: Global, atoms: Atoms, constant: &State) -> Result<Atoms, Memo
 #[derive(Drop)]
 pub(crate) struct Found {
     pub(crate) facts: Atoms,
-    pub(crate) kept: Calls,
+    pub(crate) kept: CallRows,
 }
 
 /// What the search finds of a task that is within the limit on tuples.

@@ -13,7 +13,7 @@ ghost use Rattle.grounder.specs.Found.{AreFound};
 ghost use Rattle.grounder.specs.Numbered.{grounded_with};
 ghost use Rattle.grounder.specs.Known.{IsKnown};
 
-use crate::actions::actions_of;
+use crate::actions::{actions_of, count_actions};
 use crate::conditional::Counted;
 use crate::constant::{Found, found_in};
 use crate::effects::effects_of;
@@ -29,6 +29,7 @@ use gt_core::lits::{Bits, Lits};
 use gt_core::task::Task;
 use let_go::let_go;
 use pd_model::{Atom, Atoms, Call, Calls, Memory, Pddl};
+use reachability::CallRows;
 use std::alloc::Global;
 use std::marker::Model;
 
@@ -191,7 +192,7 @@ fn make_numbered(
     alloc: Global,
     domains: &Domains,
     facts: &[Atom],
-    kept: Calls,
+    kept: CallRows,
 ) -> Result<Numbered, GroundError>
     requires tuples { tuples_in domains.now ≤ most_tuples }
     requires found { AreFound domains.now facts.now kept }
@@ -205,11 +206,11 @@ fn make_numbered(
 {
     laws();
     let known = known_of(alloc, domains, facts)?;
-    let calls = actions_of(&known, kept)?;
-    let count = calls.as_slice().len() as u64;
+    let count = count_actions(&known, &kept) as u64;
     if count > 16384 {
         return Err(GroundError::Actions { count });
     }
+    let calls = actions_of(&known, &kept)?;
     let counted = acts_of(&known, calls.as_slice())?;
     let count = counted.conditional;
     if count > 65536 {

@@ -1,7 +1,9 @@
 -- How the files of a run come to an ending.
 use Rattle.std.proofs.Common.{◌≡◌, ◌≤◌, ℕ, List, [], ◌∷◌, ◌++◌, refl, sym, ap, ap₂, subst, ◌∙◌, arith, inl, inr}
 use Rattle.pl_io.specs.Outside.{Heard, whole, Rose}
-use Rattle.pl_io.specs.Tape.{Given}
+use Rattle.step_laws.specs.Form.{OrderedTask}
+use Rattle.ordered_tasks.specs.Known.{form_of}
+use Rattle.plan_tasks.specs.Stepping.{places_by}
 use Rattle.plan_endings.specs.declared.ending.File.{File}
 use Rattle.plan_files.specs.Limits.{file_at}
 use Rattle.plan_files.specs.Files.{AreTaken, StopsFrom}
@@ -13,7 +15,8 @@ use Rattle.judge_top.specs.Causes.{Answers, ComesFor, two_of}
 use Rattle.plan_files.proofs.Hearing.{two_taken}
 use Rattle.plan_words.specs.declared.request.Stepping.{Stepping}
 use Rattle.judge_endings.specs.declared.ended.Ended.{Ended}
-use Rattle.judge_top.specs.Answers.{OnceReady, not_ready, ready, AnswersJudge, AnswersModel, too_large, unread, judged, model}
+use Rattle.judge_top.specs.Answers.{TapeRun, tape_run, OnceReady, not_ready, ready, IsTold, AnswersJudge, AnswersModel, too_large, unread, judged, model}
+use Rattle.judge_top.specs.declared.model.Told.{Told}
 use Rattle.judge_top.specs.declared.model.Told.TheVariants as told
 
 -- all of two files, under their names
@@ -34,23 +37,28 @@ both_taken file d p heard hears took files first second is taken are =
 pub rose_before : (before middle now : ℕ) → before ≤ middle → Rose middle now → Rose before now
 rose_before before middle now le rose = omega (arith, le, rose)
 
-pub judged_before : (first second : List ℕ) (s : Stepping) (h : ℕ) (before middle now : ℕ) (bytes : List ℕ) → before ≤ middle → (end : Ended) → OnceReady first second (AnswersJudge s h middle now bytes) end → OnceReady first second (AnswersJudge s h before now bytes) end
-judged_before first second s h before middle now bytes le end (not_ready plain stops e) = not_ready plain stops e
-judged_before first second s h before middle now bytes le end (ready task g are is (too_large plain over e)) = ready task g are is (too_large plain over e)
-judged_before first second s h before middle now bytes le end (ready task g are is (unread plain un e)) = ready task g are is (unread plain (un.0, rose_before before middle now le un.1) e)
-judged_before first second s h before middle now bytes le end (ready task g are is (judged verdict e so none)) = ready task g are is (judged verdict e so none)
+-- what a tape did, from a count of its faults on
+abbrev pub since : ℕ → TapeRun → TapeRun
+since before tape = tape_run before tape.rises tape.given
 
-pub model_before : (first second : List ℕ) (s : Stepping) (h : ℕ) (before middle now : ℕ) → before ≤ middle → (end : Ended) → OnceReady first second (AnswersModel s h middle now) end → OnceReady first second (AnswersModel s h before now) end
-model_before first second s h before middle now le end (not_ready plain stops e) = not_ready plain stops e
-model_before first second s h before middle now le end (ready task g are is (too_large plain over e)) = ready task g are is (too_large plain over e)
-model_before first second s h before middle now le end (ready task g are is (model told.Unread known small e)) =
-    ready task g are is (model told.Unread (record { clauses = known.clauses; components = known.components; ordered = known.ordered; holds = rose_before before middle now le known.holds }) small e)
-model_before first second s h before middle now le end (ready task g are is (model (told.NoText at) known small e)) =
-    ready task g are is (model (told.NoText at) (record { clauses = known.clauses; components = known.components; ordered = known.ordered; holds = tt }) small e)
-model_before first second s h before middle now le end (ready task g are is (model (told.NoModel clause) known small e)) =
-    ready task g are is (model (told.NoModel clause) (record { clauses = known.clauses; components = known.components; ordered = known.ordered; holds = known.holds }) small e)
-model_before first second s h before middle now le end (ready task g are is (model (told.Plan steps) known small e)) =
-    ready task g are is (model (told.Plan steps) (record { clauses = known.clauses; components = known.components; ordered = known.ordered; holds = known.holds }) small e)
+pub judged_before : (first second : List ℕ) (s : Stepping) (h : ℕ) (before : ℕ) (tape : TapeRun) → before ≤ tape.faults → (end : Ended) → OnceReady first second (AnswersJudge s h tape) end → OnceReady first second (AnswersJudge s h (since before tape)) end
+judged_before first second s h before tape le end (not_ready plain stops e) = not_ready plain stops e
+judged_before first second s h before tape le end (ready task g are is (too_large plain over e)) = ready task g are is (too_large plain over e)
+judged_before first second s h before tape le end (ready task g are is (unread plain un e)) = ready task g are is (unread plain (un.0, rose_before before tape.faults tape.rises le un.1) e)
+judged_before first second s h before tape le end (ready task g are is (judged verdict e so none)) = ready task g are is (judged verdict e so none)
+
+told_before : (s : Stepping) (h before : ℕ) (tape : TapeRun) → before ≤ tape.faults → (said : Told) (form : OrderedTask) → IsTold (places_by s) h tape said form → IsTold (places_by s) h (since before tape) said form
+told_before s h before tape le told.Unread form k = rose_before before tape.faults tape.rises le k
+told_before s h before tape le (told.NoText at) form k = k
+told_before s h before tape le (told.NoModel clause) form k = k
+told_before s h before tape le (told.Plan steps) form k = k
+
+pub model_before : (first second : List ℕ) (s : Stepping) (h before : ℕ) (tape : TapeRun) → before ≤ tape.faults → (end : Ended) → OnceReady first second (AnswersModel s h tape) end → OnceReady first second (AnswersModel s h (since before tape)) end
+model_before first second s h before tape le end (not_ready plain stops e) = not_ready plain stops e
+model_before first second s h before tape le end (ready task g are is (too_large plain over e)) = ready task g are is (too_large plain over e)
+model_before first second s h before tape le end (ready task g are is (model said known small e)) =
+    ready task g are is
+    (model said (record { clauses = known.clauses; components = known.components; ordered = known.ordered; holds = told_before s h before tape le said (form_of g.task known.clauses known.components) known.holds }) small e)
 
 -- ---- the names of the two files, as a request gives them
 
@@ -61,11 +69,11 @@ module _ (request : Seen) (d p : List ℕ) (domain : d ≡ domain_of request) (p
   pub two_named : d ∷ p ∷ [] ≡ two_of request
   two_named = ap₂ (λ (x y : List ℕ). x ∷ y ∷ []) domain problem
 
-  module _ (heard hears : List Heard) (failed fails : List (List ℕ)) (faults rises : ℕ) (given : Given) where
-    pub stops_for : (end : Ending) → IsStopped heard hears failed fails d p end → ComesFor heard hears failed fails faults rises given request (Plain end)
+  module _ (heard hears : List Heard) (failed fails : List (List ℕ)) (tape : TapeRun) where
+    pub stops_for : (end : Ending) → IsStopped heard hears failed fails d p end → ComesFor heard hears failed fails tape request (Plain end)
     stops_for end h =
         let k = subst (λ (x : List ℕ). IsStopped heard hears failed fails x (problem_of request) end) domain (subst (λ (y : List ℕ). IsStopped heard hears failed fails d y end) problem h) in
         inl (end, k.0, k.1, k.2, refl)
 
-    pub taken_for : (end : Ended) (first second : List ℕ) → hears ≡ heard ++ whole d first ∷ whole p second ∷ [] → Answers faults rises given request end first second → ComesFor heard hears failed fails faults rises given request end
+    pub taken_for : (end : Ended) (first second : List ℕ) → hears ≡ heard ++ whole d first ∷ whole p second ∷ [] → Answers tape request end first second → ComesFor heard hears failed fails tape request end
     taken_for end first second is h = inr (first, second, is ∙ ap₂ (λ (x y : List ℕ). heard ++ whole x first ∷ whole y second ∷ []) domain problem, h)

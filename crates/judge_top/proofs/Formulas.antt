@@ -24,7 +24,7 @@ use Rattle.plan_files.specs.declared.stop.Stop.TheVariants.{Ends, Memory}
 use Rattle.plan_files.specs.Ends.{StopsBy}
 use Rattle.judge_endings.specs.declared.ended.Ended.{Ended}
 use Rattle.judge_endings.specs.declared.ended.Ended.TheVariants.{Plain}
-use Rattle.judge_top.specs.Answers.{OfKnown, IsFormula, IsTooMany, TellsTooMany, IsToldOf, IsTold, IsBelow, HasNone, word_of, IsVerdict}
+use Rattle.judge_top.specs.Answers.{TapeRun, OfKnown, IsFormula, IsTooMany, TellsTooMany, IsToldOf, IsTold, IsBelow, HasNone, word_of, IsVerdict}
 use Rattle.judge_top.specs.declared.model.Told.{Told}
 use Rattle.judge_top.specs.declared.model.Told.TheVariants as told
 use Rattle.grounding.specs.Grounded.{Grounded, IsGrounded}
@@ -55,10 +55,10 @@ module _ (places : Task → List (List ℕ) → List (List ℕ × ℕ)) (is_plan
   too_many (Err (Ends end)) h = (h.0, h.1, of_known (λ form. (most_literals < h.0) × (h.0 ≡ literals_of (formula_at places form horizon))) (h.2, h.3))
   too_many (Err Memory) h = tt
 
-  pub told_known : (before now : ℕ) (r : Result Told Stop) → IfOk r (IsToldOf (formula_at places form horizon) (λ values. steps_at form (places form.task form.components) horizon (assignment_of values)) before now)
-      → IfOk r (λ said. OfKnown task (IsTold places horizon before now said))
-  told_known before now (Ok said) is = of_known (IsTold places horizon before now said) is
-  told_known before now (Err e) is = tt
+  pub told_known : (tape : TapeRun) (r : Result Told Stop) → IfOk r (IsToldOf (formula_at places form horizon) (λ values. steps_at form (places form.task form.components) horizon (assignment_of values)) tape)
+      → IfOk r (λ said. OfKnown task (IsTold places horizon tape said))
+  told_known tape (Ok said) is = of_known (IsTold places horizon tape said) is
+  told_known tape (Err e) is = tt
 
 -- the actions of a ground task have calls
 pub calls_below : (task : Parts) (g : Grounded) → IsGrounded task g → (said : Told) → IsBelow (length g.task.actions) said → IsBelow (length g.calls) said

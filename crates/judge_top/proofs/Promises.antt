@@ -3,7 +3,6 @@ use Rattle.std.proofs.Common.{◌≡◌, ◌==◌, ◌≤◌, ◌+◌, ◌-◌, 
 use Rattle.std.specs.Prelude.{Contains, ◌⊎◌}
 use Rattle.std.proofs.lemmas.Bool.Decides.{eqb_tells}
 use Rattle.pl_io.specs.Outside.{Heard, whole, Rose, appended}
-use Rattle.pl_io.specs.Tape.{Given}
 use Rattle.cnf_text.specs.Text.{formula_text}
 use Rattle.clause_base.specs.Formula.{Cnf}
 use Rattle.pd_task.specs.declared.error.PddlError.{PddlError}
@@ -38,11 +37,11 @@ use Rattle.judge_words.specs.Requested.{requested}
 use Rattle.judge_endings.specs.Ended.{status_of, text_of}
 use Rattle.judge_endings.specs.declared.ended.Ended.{Ended}
 use Rattle.judge_endings.specs.declared.ended.Ended.TheVariants.{Plain, Refuted, Rejected, Syntax, Unread, Usage}
-use Rattle.judge_top.specs.Answers.{OnceReady, not_ready, ready, AnswersFormula, AnswersJudge, AnswersModel, too_large, formula, unread, judged, model, ended_by, IsUnread, OfKnown, HasNone, TellsTooMany, word_of}
+use Rattle.judge_top.specs.Answers.{TapeRun, OnceReady, not_ready, ready, AnswersFormula, AnswersJudge, AnswersModel, too_large, formula, unread, judged, model, ended_by, IsUnread, OfKnown, HasNone, TellsTooMany, word_of}
 use Rattle.judge_top.specs.declared.model.Told.{Told}
 use Rattle.judge_top.specs.declared.model.Told.TheVariants as tolds
 use Rattle.judge_top.specs.Causes.{Answers, Comes, no_request, asked, ComesFor, StopsAt, OfTaken, IsUnopened, HasFault, names_in, two_of}
-use Rattle.judge_top.specs.Headline.{IsProvedNone, PlanRunsIn, TellsFormula, OfVerdict, IsAccepted, IsRejected}
+use Rattle.judge_top.specs.Headline.{IsProvedNone, PlanRunsIn, TellsFormula, OfVerdict, IsAccepted, IsRejected, IsNoProof, OrNoTask, TellsModel, TellsNoModel, TellsNoText, IsModelTold, IsNoModelTold, IsNoTextTold}
 
 -- ---- statuses of what stops a run
 
@@ -97,6 +96,14 @@ verdict_zero horizon (verdicts.Rejected line) zero = absurd (omega arith)
 verdict_zero horizon verdicts.NotEmpty zero = absurd (omega arith)
 verdict_zero horizon (verdicts.Syntax at) zero = absurd (omega arith)
 
+-- where it is 3 the verdict is that a line is none
+verdict_three : (horizon : ℕ) (verdict : Verdict) → status_of (ended_by horizon verdict) ≡ 3 → (at : ℕ) × (verdict ≡ verdicts.Syntax at)
+verdict_three horizon verdicts.More three = absurd (omega (arith, three))
+verdict_three horizon (verdicts.Refuted entries) three = absurd (omega (arith, three))
+verdict_three horizon (verdicts.Rejected line) three = absurd (omega (arith, three))
+verdict_three horizon verdicts.NotEmpty three = absurd (omega (arith, three))
+verdict_three horizon (verdicts.Syntax at) three = (at, refl)
+
 -- the verdict on a text that has ended is not that it goes on
 never_more : (text : List ℕ) (verdict : Verdict) → verdict_ended text verdict ≡ verdicts.More → ⊥
 never_more text verdicts.More e = by (length (last_part text) == 0) refl
@@ -123,35 +130,35 @@ verdict_one horizon (verdicts.Syntax at) ended one = absurd (omega (arith, one))
 IsLow : List (List ℕ) → List (List ℕ) → List (List ℕ) → ℕ → ℕ → Ended → Type 0
 IsLow names failed fails faults rises end = ((status_of end ≡ 5) × (RoseAmong names failed fails ⊎ Rose faults rises)) ⊎ (status_of end ≤ 4)
 
-module _ (heard hears : List Heard) (failed fails : List (List ℕ)) (faults rises : ℕ) (given : Given) where
-  stop_low : (d p : List ℕ) (end : Ended) → StopsAt heard hears failed fails faults rises given d p end → IsLow (d ∷ p ∷ []) failed fails faults rises end
+module _ (heard hears : List Heard) (failed fails : List (List ℕ)) (tape : TapeRun) where
+  stop_low : (d p : List ℕ) (end : Ended) → StopsAt heard hears failed fails tape d p end → IsLow (d ∷ p ∷ []) failed fails tape.faults tape.rises end
   unfolding IsLow
   stop_low d p end h = elim (files_between failed fails (file_at (grounds d p)) 0 (d ∷ p ∷ []) h.1 h.0 h.3) [
     | inl k ↦ inl (ap status_of h.4 ∙ k.0, inl k.1)
     | inr four ↦ inr (let is = ap status_of h.4 in omega (arith, is, four))
   ]
 
-  unread_low : (names : List (List ℕ)) (plain_end : Ending) (end : Ended) → IsUnread faults rises plain_end → end ≡ Plain plain_end → IsLow names failed fails faults rises end
+  unread_low : (names : List (List ℕ)) (plain_end : Ending) (end : Ended) → IsUnread tape.faults tape.rises plain_end → end ≡ Plain plain_end → IsLow names failed fails tape.faults tape.rises end
   unfolding IsLow
   unread_low names plain_end end h e = inl (ap status_of e ∙ ap plain.status_of h.0, inr h.1)
 
   not_ready_low : (domain problem : List ℕ) (plain_end : Ending) (end : Ended) → StopsTask domain problem plain_end → end ≡ Plain plain_end → (3 ≤ status_of end) × (status_of end ≤ 4)
   not_ready_low domain problem plain_end end h e = let b = task_between domain problem plain_end h in let is = ap status_of e in (omega (arith, b.0, is), omega (arith, b.1, is))
 
-  formula_low : (names : List (List ℕ)) (first second : List ℕ) (s : Stepping) (h : ℕ) (end : Ended) → OnceReady first second (AnswersFormula s h) end → IsLow names failed fails faults rises end
+  formula_low : (names : List (List ℕ)) (first second : List ℕ) (s : Stepping) (h : ℕ) (end : Ended) → OnceReady first second (AnswersFormula s h) end → IsLow names failed fails tape.faults tape.rises end
   unfolding IsLow
   formula_low names first second s h end (not_ready plain_end stops e) = inr (not_ready_low first second plain_end end stops e).1
   formula_low names first second s h end (ready task g are is (too_large plain_end over e)) = inr (let four = ap status_of e ∙ ap plain.status_of over.1 in omega (arith, four))
   formula_low names first second s h end (ready task g are is (formula known)) = inr (let zero = ap status_of known.holds in omega (arith, zero))
 
-  judge_low : (names : List (List ℕ)) (first second : List ℕ) (s : Stepping) (h : ℕ) (end : Ended) → OnceReady first second (AnswersJudge s h faults rises given.1) end → IsLow names failed fails faults rises end
+  judge_low : (names : List (List ℕ)) (first second : List ℕ) (s : Stepping) (h : ℕ) (end : Ended) → OnceReady first second (AnswersJudge s h tape) end → IsLow names failed fails tape.faults tape.rises end
   unfolding IsLow
   judge_low names first second s h end (not_ready plain_end stops e) = inr (not_ready_low first second plain_end end stops e).1
   judge_low names first second s h end (ready task g are is (too_large plain_end over e)) = inr (let four = ap status_of e ∙ ap plain.status_of over.1 in omega (arith, four))
   judge_low names first second s h end (ready task g are is (unread plain_end un e)) = unread_low names plain_end end un e
   judge_low names first second s h end (ready task g are is (judged verdict e so none)) = inr (let low = verdict_low h verdict in let same = ap status_of e in omega (arith, low, same))
 
-  model_low : (names : List (List ℕ)) (first second : List ℕ) (s : Stepping) (h : ℕ) (end : Ended) → OnceReady first second (AnswersModel s h faults rises) end → IsLow names failed fails faults rises end
+  model_low : (names : List (List ℕ)) (first second : List ℕ) (s : Stepping) (h : ℕ) (end : Ended) → OnceReady first second (AnswersModel s h tape) end → IsLow names failed fails tape.faults tape.rises end
   unfolding IsLow
   model_low names first second s h end (not_ready plain_end stops e) = inr (not_ready_low first second plain_end end stops e).1
   model_low names first second s h end (ready task g are is (too_large plain_end over e)) = inr (let four = ap status_of e ∙ ap plain.status_of over.1 in omega (arith, four))
@@ -160,15 +167,15 @@ module _ (heard hears : List Heard) (failed fails : List (List ℕ)) (faults ris
   model_low names first second s h end (ready task g are is (model (tolds.NoModel clause) known small e)) = inr (let one = ap status_of e in omega (arith, one))
   model_low names first second s h end (ready task g are is (model (tolds.Plan steps) known small e)) = inr (let zero = ap status_of e in omega (arith, zero))
 
-  answers_low : (names : List (List ℕ)) (request : Seen) (first second : List ℕ) (end : Ended) → Answers faults rises given request end first second → IsLow names failed fails faults rises end
+  answers_low : (names : List (List ℕ)) (request : Seen) (first second : List ℕ) (end : Ended) → Answers tape request end first second → IsLow names failed fails tape.faults tape.rises end
   unfolding IsLow
   answers_low names (formulas d p h s) first second end k = formula_low names first second s h end k
   answers_low names (judges d p h l s) first second end (inl un) = unread_low names un.0 end un.1 un.2
   answers_low names (judges d p h l s) first second end (inr k) = judge_low names first second s h end k.1
   answers_low names (models d p h m s) first second end (inl un) = inl (ap status_of un.0, inr un.1)
-  answers_low names (models d p h m s) first second end (inr k) = model_low names first second s h end k
+  answers_low names (models d p h m s) first second end (inr k) = model_low names first second s h end k.1
 
-  request_low : (request : Seen) (end : Ended) → ComesFor heard hears failed fails faults rises given request end → IsLow (two_of request) failed fails faults rises end
+  request_low : (request : Seen) (end : Ended) → ComesFor heard hears failed fails tape request end → IsLow (two_of request) failed fails tape.faults tape.rises end
   request_low request end (inl stops) = stop_low (domain_of request) (problem_of request) end stops
   request_low request end (inr taken) = answers_low (two_of request) request taken.0 taken.1 end taken.3
 
@@ -176,17 +183,17 @@ module _ (heard hears : List Heard) (failed fails : List (List ℕ)) (faults ris
   names_of words request is = sym (ap (λ (o : Option Seen). elim o as (λ _. List (List ℕ)) [ None ↦ [] | Some r ↦ two_of r ]) is)
 
   -- 7 where the words ask for nothing, 5 where a file or the proof could not be read alone
-  words_low : (words : List (List ℕ)) (end : Ended) → Comes heard hears failed fails faults rises given words end
-      → ((status_of end ≡ 7) × (requested words ≡ None)) ⊎ (((status_of end ≡ 5) × HasFault failed fails faults rises words) ⊎ (status_of end ≤ 4))
+  words_low : (words : List (List ℕ)) (end : Ended) → Comes heard hears failed fails tape words end
+      → ((status_of end ≡ 7) × (requested words ≡ None)) ⊎ (((status_of end ≡ 5) × HasFault failed fails tape.faults tape.rises words) ⊎ (status_of end ≤ 4))
   unfolding IsLow
   words_low words end (no_request none e) = inl (ap status_of e, none)
   words_low words end (asked request is h) = elim (request_low request end h) [
-    | inl k ↦ inr (inl (k.0, subst (λ (ns : List (List ℕ)). RoseAmong ns failed fails ⊎ Rose faults rises) (names_of words request is) k.1))
+    | inl k ↦ inr (inl (k.0, subst (λ (ns : List (List ℕ)). RoseAmong ns failed fails ⊎ Rose tape.faults tape.rises) (names_of words request is) k.1))
     | inr low ↦ inr (inr low)
   ]
 
   -- no ending that comes has a status of its own for a write fault or for want of memory
-  pub status_apart : (words : List (List ℕ)) (end : Ended) → Comes heard hears failed fails faults rises given words end → (status_of end ≡ 6 → ⊥) × (status_of end ≡ 8 → ⊥)
+  pub status_apart : (words : List (List ℕ)) (end : Ended) → Comes heard hears failed fails tape words end → (status_of end ≡ 6 → ⊥) × (status_of end ≡ 8 → ⊥)
   status_apart words end h = elim (words_low words end h) [
     | inl k ↦ (let seven = k.0 in (λ six. omega (arith, seven, six), λ eight. omega (arith, seven, eight)))
     | inr (inl k) ↦ (let five = k.0 in (λ six. omega (arith, five, six), λ eight. omega (arith, five, eight)))
@@ -199,40 +206,48 @@ module _ (heard hears : List Heard) (failed fails : List (List ℕ)) (faults ris
 listed_is : (text other : List ℕ) (end : Ended) → end ≡ Plain (Listing other) → text ≡ text_of end → text ≡ other
 listed_is text other end e is = is ∙ ap text_of e
 
-module _ (heard hears : List Heard) (failed fails : List (List ℕ)) (faults rises : ℕ) (given : Given) (words : List (List ℕ)) (before after : Option (List ℕ)) (status : ℕ) where
+module _ (heard hears : List Heard) (failed fails : List (List ℕ)) (tape : TapeRun) (words : List (List ℕ)) (before after : Option (List ℕ)) (status : ℕ) where
   -- the status of an ending that comes, and its text, but for a write fault and want of memory
   abbrev pub IsDue : Type 0
-  IsDue = (status ≡ 6 → ⊥) → (status ≡ 8 → ⊥) → (end : Ended) × (status ≡ status_of end) × Comes heard hears failed fails faults rises given words end × (after ≡ appended before (text_of end))
+  IsDue = (status ≡ 6 → ⊥) → (status ≡ 8 → ⊥) → (end : Ended) × (status ≡ status_of end) × Comes heard hears failed fails tape words end × (after ≡ appended before (text_of end))
 
-  due_at : (k : ℕ) → IsDue → status ≡ k → k ≤ 5 → (end : Ended) × (status_of end ≡ k) × Comes heard hears failed fails faults rises given words end × (after ≡ appended before (text_of end))
+  due_at : (k : ℕ) → IsDue → status ≡ k → k ≤ 5 → (end : Ended) × (status_of end ≡ k) × Comes heard hears failed fails tape words end × (after ≡ appended before (text_of end))
   due_at k due is low =
       let d = due (λ six. absurd (omega arith)) (λ eight. absurd (omega arith)) in
       (d.0, sym d.1 ∙ is, d.2, d.3)
 
   -- what comes of words that ask for this
-  comes_for : (request : Seen) (end : Ended) → requested words ≡ Some request → Comes heard hears failed fails faults rises given words end → ComesFor heard hears failed fails faults rises given request end
+  comes_for : (request : Seen) (end : Ended) → requested words ≡ Some request → Comes heard hears failed fails tape words end → ComesFor heard hears failed fails tape request end
   comes_for request end is (no_request none e) = absurd (let never : None ≡ Some request = sym none ∙ is in cc)
   comes_for request end is (asked other was h) =
       let same : other ≡ request = (let both : Some other ≡ Some request = sym was ∙ is in cc) in
-      subst (λ (r : Seen). ComesFor heard hears failed fails faults rises given r end) same h
+      subst (λ (r : Seen). ComesFor heard hears failed fails tape r end) same h
 
-  low_only : {A : Type 0} (n : ℕ) (end : Ended) → n ≤ 1 → status_of end ≡ n → (d p : List ℕ) → StopsAt heard hears failed fails faults rises given d p end → A
+  low_only : {A : Type 0} (n : ℕ) (end : Ended) → n ≤ 3 → status_of end ≡ n → (d p : List ℕ) → StopsAt heard hears failed fails tape d p end → A
   low_only n end low at d p h = elim (files_between failed fails (file_at (grounds d p)) 0 (d ∷ p ∷ []) h.1 h.0 h.3) [
     | inl k ↦ absurd (let five = ap status_of h.4 ∙ k.0 in omega (arith, five, at, low))
     | inr four ↦ absurd (let is = ap status_of h.4 ∙ four in omega (arith, is, at, low))
   ]
 
-  -- with 0 or 1 the two files of a request are a task, of which holds what its answer gives
-  of_request : (n : ℕ) (request : Seen) (claim : Parts → Type 0) → n ≤ 1 → IsDue → status ≡ n → requested words ≡ Some request
-      → ((end : Ended) → status_of end ≡ n → after ≡ appended before (text_of end) → (first second : List ℕ) → Answers faults rises given request end first second → (task : Parts) × AreTask first second task × claim task)
-      → OfFiles heard hears (domain_of request) (problem_of request) claim
-  of_request n request claim low due at is gives =
+  -- with a status up to 3 the two files of a request were taken whole, and what its answer gives holds of their bytes
+  of_taken : (n : ℕ) (request : Seen) (claim : List ℕ → List ℕ → Type 0) → n ≤ 3 → IsDue → status ≡ n → requested words ≡ Some request
+      → ((end : Ended) → status_of end ≡ n → after ≡ appended before (text_of end) → (first second : List ℕ) → Answers tape request end first second → claim first second)
+      → OfTaken heard hears (domain_of request) (problem_of request) claim
+  of_taken n request claim low due at is gives =
       let d = due_at n due at (omega (arith, low)) in
       step d.0 d.1 d.3 (comes_for request d.0 is d.2)
     where
-      step : (end : Ended) → status_of end ≡ n → after ≡ appended before (text_of end) → ComesFor heard hears failed fails faults rises given request end → OfFiles heard hears (domain_of request) (problem_of request) claim
+      step : (end : Ended) → status_of end ≡ n → after ≡ appended before (text_of end) → ComesFor heard hears failed fails tape request end → OfTaken heard hears (domain_of request) (problem_of request) claim
       step end here printed (inl stops) = low_only n end low here (domain_of request) (problem_of request) stops
-      step end here printed (inr taken) = let r = gives end here printed taken.0 taken.1 taken.3 in (taken.0, taken.1, taken.2, r.0, r.1, r.2)
+      step end here printed (inr taken) = (taken.0, taken.1, taken.2, gives end here printed taken.0 taken.1 taken.3)
+
+  -- with 0 or 1 they are a task
+  of_request : (n : ℕ) (request : Seen) (claim : Parts → Type 0) → n ≤ 3 → IsDue → status ≡ n → requested words ≡ Some request
+      → ((end : Ended) → status_of end ≡ n → after ≡ appended before (text_of end) → (first second : List ℕ) → Answers tape request end first second → (task : Parts) × AreTask first second task × claim task)
+      → OfFiles heard hears (domain_of request) (problem_of request) claim
+  of_request n request claim low due at is gives =
+      let t = of_taken n request (λ first second. (task : Parts) × AreTask first second task × claim task) low due at is gives in
+      (t.0, t.1, t.2, t.3.0, t.3.1, t.3.2)
 
   -- so do they where they are ready
   of_ready : (n : ℕ) (claim : Parts → Type 0) (answers : Parts → Grounded → Ended → Type 0) (end : Ended) → n ≤ 1 → status_of end ≡ n → (first second : List ℕ) → OnceReady first second answers end
@@ -240,18 +255,24 @@ module _ (heard hears : List Heard) (failed fails : List (List ℕ)) (faults ris
   of_ready n claim answers end low at first second (not_ready plain_end stops e) gives = absurd (let b = task_between first second plain_end stops in let same = ap status_of e in omega (arith, b.0, same, at, low))
   of_ready n claim answers end low at first second (ready task g are is k) gives = (task, are, gives task g is k)
 
+  -- or they are no task, of which the text tells
+  or_ready : (text : List ℕ) (claim : Parts → Type 0) (answers : Parts → Grounded → Ended → Type 0) (end : Ended) → text ≡ text_of end → (first second : List ℕ) → OnceReady first second answers end
+      → ((task : Parts) (g : Grounded) → IsReady task g → answers task g end → claim task) → OrNoTask text claim first second
+  or_ready text claim answers end told first second (not_ready plain_end stops e) gives = inl (plain_end, stops, told ∙ ap text_of e)
+  or_ready text claim answers end told first second (ready task g are is k) gives = inr (task, are, gives task g is k)
+
   -- no limit, and no fault of the tape, has such a status
-  not_limit : {A : Type 0} (n : ℕ) (how : Stepping) (horizon : ℕ) (g : Grounded) (end : Ended) → n ≤ 1 → status_of end ≡ n → (plain_end : Ending) → TellsTooMany (places_by how) horizon g.task plain_end → end ≡ Plain plain_end → A
+  not_limit : {A : Type 0} (n : ℕ) (how : Stepping) (horizon : ℕ) (g : Grounded) (end : Ended) → n ≤ 3 → status_of end ≡ n → (plain_end : Ending) → TellsTooMany (places_by how) horizon g.task plain_end → end ≡ Plain plain_end → A
   not_limit n how horizon g end low at plain_end over e = absurd (let four = ap status_of e ∙ ap plain.status_of over.1 in omega (arith, four, at, low))
 
-  not_unread : {A : Type 0} (n : ℕ) (end : Ended) → n ≤ 1 → status_of end ≡ n → (plain_end : Ending) → IsUnread faults rises plain_end → end ≡ Plain plain_end → A
+  not_unread : {A : Type 0} (n : ℕ) (end : Ended) → n ≤ 3 → status_of end ≡ n → (plain_end : Ending) → IsUnread tape.faults tape.rises plain_end → end ≡ Plain plain_end → A
   not_unread n end low at plain_end un e = absurd (let five = ap status_of e ∙ ap plain.status_of un.0 in omega (arith, five, at, low))
 
   pub is_judged : TaskLaws → IsDue → (domain problem proof : List ℕ) (horizon : ℕ) (how : Stepping) → status ≡ 0 → requested words ≡ Some (judges domain problem horizon proof how)
       → OfFiles heard hears domain problem (IsProvedNone how horizon)
   is_judged laws due domain problem proof horizon how zero is = of_request 0 (judges domain problem horizon proof how) (IsProvedNone how horizon) (omega arith) due zero is step
     where
-      proved : (end : Ended) → status_of end ≡ 0 → (task : Parts) (g : Grounded) → IsReady task g → AnswersJudge how horizon faults rises given.1 task g end → IsProvedNone how horizon task
+      proved : (end : Ended) → status_of end ≡ 0 → (task : Parts) (g : Grounded) → IsReady task g → AnswersJudge how horizon tape task g end → IsProvedNone how horizon task
       proved end at task g is (too_large plain_end over e) = not_limit 0 how horizon g end (omega arith) at plain_end over e
       proved end at task g is (unread plain_end un e) = not_unread 0 end (omega arith) at plain_end un e
       proved end at task g is (judged verdict e so none) =
@@ -259,34 +280,51 @@ module _ (heard hears : List Heard) (failed fails : List (List ℕ)) (faults ris
           let k = none v.0 v.1 in
           (claims.no_step_plan laws task g is k.clauses k.components k.ordered how horizon k.holds, claims.no_plan laws task g is k.clauses k.components k.ordered how horizon k.holds)
 
-      step : (end : Ended) → status_of end ≡ 0 → after ≡ appended before (text_of end) → (first second : List ℕ) → Answers faults rises given (judges domain problem horizon proof how) end first second
+      step : (end : Ended) → status_of end ≡ 0 → after ≡ appended before (text_of end) → (first second : List ℕ) → Answers tape (judges domain problem horizon proof how) end first second
           → (task : Parts) × AreTask first second task × IsProvedNone how horizon task
       step end at printed first second (inl un) = not_unread 0 end (omega arith) at un.0 un.1 un.2
-      step end at printed first second (inr k) = of_ready 0 (IsProvedNone how horizon) (AnswersJudge how horizon faults rises given.1) end (omega arith) at first second k.1 (proved end at)
+      step end at printed first second (inr k) = of_ready 0 (IsProvedNone how horizon) (AnswersJudge how horizon tape) end (omega arith) at first second k.1 (proved end at)
 
-  -- the verdict on the bytes of the proof is the one that the ending tells
+  -- The verdict on the bytes of the proof is the one that an ending of this status tells, where each verdict that such an ending tells
+  -- meets the claim.
+  module _ (laws : TaskLaws) (n : ℕ) (horizon : ℕ) (how : Stepping) (claim : Verdict → Type 0) (low : n ≤ 3)
+      (gives : (verdict : Verdict) → (verdict ≡ verdicts.More → ⊥) → status_of (ended_by horizon verdict) ≡ n → after ≡ appended before (text_of (ended_by horizon verdict)) → claim verdict) where
+    verdict_told : (end : Ended) → status_of end ≡ n → after ≡ appended before (text_of end) → (task : Parts) (g : Grounded) → IsReady task g → AnswersJudge how horizon tape task g end → OfVerdict how horizon tape.given.1 claim task
+    verdict_told end at printed task g is (too_large plain_end over e) = not_limit n how horizon g end low at plain_end over e
+    verdict_told end at printed task g is (unread plain_end un e) = not_unread n end low at plain_end un e
+    verdict_told end at printed task g is (judged verdict e so none) =
+        claims.of_grounded laws task g is so.clauses so.components so.ordered (λ h clauses components. claim (verdict_of (formula_at (places_by how) (form_of h.task clauses components) horizon) tape.given.1))
+        (subst claim so.holds (gives verdict (λ more. never_more tape.given.1 (verdict_so_far (formula_at (places_by how) (form_of g.task so.clauses so.components) horizon) tape.given.1) (sym so.holds ∙ more)) (sym (ap status_of e) ∙ at) (printed ∙ ap (λ (end : Ended). appended before (text_of end)) e)))
+
   of_verdict : TaskLaws → (n : ℕ) (domain problem proof : List ℕ) (horizon : ℕ) (how : Stepping) (claim : Verdict → Type 0) → n ≤ 1 → IsDue → status ≡ n → requested words ≡ Some (judges domain problem horizon proof how)
-      → ((verdict : Verdict) → (verdict ≡ verdicts.More → ⊥) → status_of (ended_by horizon verdict) ≡ n → after ≡ appended before (text_of (ended_by horizon verdict)) → claim verdict) → OfFiles heard hears domain problem (OfVerdict how horizon given.1 claim)
-  of_verdict laws n domain problem proof horizon how claim low due here is gives = of_request n (judges domain problem horizon proof how) (OfVerdict how horizon given.1 claim) low due here is step
+      → ((verdict : Verdict) → (verdict ≡ verdicts.More → ⊥) → status_of (ended_by horizon verdict) ≡ n → after ≡ appended before (text_of (ended_by horizon verdict)) → claim verdict) → OfFiles heard hears domain problem (OfVerdict how horizon tape.given.1 claim)
+  of_verdict laws n domain problem proof horizon how claim low due here is gives = of_request n (judges domain problem horizon proof how) (OfVerdict how horizon tape.given.1 claim) (omega (arith, low)) due here is step
     where
-      told : (end : Ended) → status_of end ≡ n → after ≡ appended before (text_of end) → (task : Parts) (g : Grounded) → IsReady task g → AnswersJudge how horizon faults rises given.1 task g end → OfVerdict how horizon given.1 claim task
-      told end at printed task g is (too_large plain_end over e) = not_limit n how horizon g end low at plain_end over e
-      told end at printed task g is (unread plain_end un e) = not_unread n end low at plain_end un e
-      told end at printed task g is (judged verdict e so none) =
-          claims.of_grounded laws task g is so.clauses so.components so.ordered (λ h clauses components. claim (verdict_of (formula_at (places_by how) (form_of h.task clauses components) horizon) given.1))
-          (subst claim so.holds (gives verdict (λ more. never_more given.1 (verdict_so_far (formula_at (places_by how) (form_of g.task so.clauses so.components) horizon) given.1) (sym so.holds ∙ more)) (sym (ap status_of e) ∙ at) (printed ∙ ap (λ (end : Ended). appended before (text_of end)) e)))
+      step : (end : Ended) → status_of end ≡ n → after ≡ appended before (text_of end) → (first second : List ℕ) → Answers tape (judges domain problem horizon proof how) end first second
+          → (task : Parts) × AreTask first second task × OfVerdict how horizon tape.given.1 claim task
+      step end at printed first second (inl un) = not_unread n end (omega (arith, low)) at un.0 un.1 un.2
+      step end at printed first second (inr k) = of_ready n (OfVerdict how horizon tape.given.1 claim) (AnswersJudge how horizon tape) end low at first second k.1 (verdict_told laws n horizon how claim (omega (arith, low)) gives end at printed)
 
-      step : (end : Ended) → status_of end ≡ n → after ≡ appended before (text_of end) → (first second : List ℕ) → Answers faults rises given (judges domain problem horizon proof how) end first second
-          → (task : Parts) × AreTask first second task × OfVerdict how horizon given.1 claim task
-      step end at printed first second (inl un) = not_unread n end low at un.0 un.1 un.2
-      step end at printed first second (inr k) = of_ready n (OfVerdict how horizon given.1 claim) (AnswersJudge how horizon faults rises given.1) end low at first second k.1 (told end at printed)
+  pub is_no_proof : TaskLaws → IsDue → (text domain problem proof : List ℕ) (horizon : ℕ) (how : Stepping) → status ≡ 3 → Printed before after text → requested words ≡ Some (judges domain problem horizon proof how)
+      → OfTaken heard hears domain problem (OrNoTask text (OfVerdict how horizon tape.given.1 (IsNoProof horizon text)))
+  is_no_proof laws due text domain problem proof horizon how three put is = of_taken 3 (judges domain problem horizon proof how) (OrNoTask text (OfVerdict how horizon tape.given.1 (IsNoProof horizon text))) (omega arith) due three is step
+    where
+      tells : (verdict : Verdict) → (verdict ≡ verdicts.More → ⊥) → status_of (ended_by horizon verdict) ≡ 3 → after ≡ appended before (text_of (ended_by horizon verdict)) → IsNoProof horizon text verdict
+      tells verdict ended at printed = (verdict_three horizon verdict at, printed_is before after text (text_of (ended_by horizon verdict)) put printed)
+
+      step : (end : Ended) → status_of end ≡ 3 → after ≡ appended before (text_of end) → (first second : List ℕ) → Answers tape (judges domain problem horizon proof how) end first second
+          → OrNoTask text (OfVerdict how horizon tape.given.1 (IsNoProof horizon text)) first second
+      step end at printed first second (inl un) = not_unread 3 end (omega arith) at un.0 un.1 un.2
+      step end at printed first second (inr k) =
+          or_ready text (OfVerdict how horizon tape.given.1 (IsNoProof horizon text)) (AnswersJudge how horizon tape) end (printed_is before after text (text_of end) put printed) first second k.1
+          (verdict_told laws 3 horizon how (IsNoProof horizon text) (omega arith) tells end at printed)
 
   pub is_accepted : TaskLaws → IsDue → (domain problem proof : List ℕ) (horizon : ℕ) (how : Stepping) → status ≡ 0 → requested words ≡ Some (judges domain problem horizon proof how)
-      → OfFiles heard hears domain problem (OfVerdict how horizon given.1 IsAccepted)
+      → OfFiles heard hears domain problem (OfVerdict how horizon tape.given.1 IsAccepted)
   is_accepted laws due domain problem proof horizon how zero is = of_verdict laws 0 domain problem proof horizon how IsAccepted (omega arith) due zero is (λ verdict ended at printed. verdict_zero horizon verdict at)
 
   pub is_rejected : TaskLaws → IsDue → (text domain problem proof : List ℕ) (horizon : ℕ) (how : Stepping) → status ≡ 1 → Printed before after text → requested words ≡ Some (judges domain problem horizon proof how)
-      → OfFiles heard hears domain problem (OfVerdict how horizon given.1 (IsRejected horizon text))
+      → OfFiles heard hears domain problem (OfVerdict how horizon tape.given.1 (IsRejected horizon text))
   is_rejected laws due text domain problem proof horizon how one put is =
       of_verdict laws 1 domain problem proof horizon how (IsRejected horizon text) (omega arith) due one is
       (λ verdict ended at printed. (verdict_one horizon verdict ended at, printed_is before after text (text_of (ended_by horizon verdict)) put printed))
@@ -307,26 +345,92 @@ module _ (heard hears : List Heard) (failed fails : List (List ℕ)) (faults ris
       → OfFiles heard hears domain problem (PlanRunsIn how horizon text)
   is_planned laws due text domain problem name horizon how zero printed is = of_request 0 (models domain problem horizon name how) (PlanRunsIn how horizon text) (omega arith) due zero is step
     where
-      planned : (end : Ended) → status_of end ≡ 0 → text ≡ text_of end → (task : Parts) (g : Grounded) → IsReady task g → AnswersModel how horizon faults rises task g end → PlanRunsIn how horizon text task
+      planned : (end : Ended) → status_of end ≡ 0 → text ≡ text_of end → (task : Parts) (g : Grounded) → IsReady task g → AnswersModel how horizon tape task g end → PlanRunsIn how horizon text task
       planned end at same task g is (too_large plain_end over e) = not_limit 0 how horizon g end (omega arith) at plain_end over e
       planned end at same task g is (model tolds.Unread known small e) = absurd (let five = ap status_of e in omega (arith, five, at))
       planned end at same task g is (model (tolds.NoText place) known small e) = absurd (let three = ap status_of e in omega (arith, three, at))
       planned end at same task g is (model (tolds.NoModel clause) known small e) = absurd (let one = ap status_of e in omega (arith, one, at))
       planned end at same task g is (model (tolds.Plan steps) known small e) =
           let values = known.holds.0 in
-          let stands = known.holds.2 in
-          let runs = model_runs laws task g is known.clauses known.components known.ordered how horizon values known.holds.1 (subst (IsSmallPlan horizon) stands small) in
+          let stands = known.holds.3 in
+          let runs = model_runs laws task g is known.clauses known.components known.ordered how horizon values known.holds.2 (subst (IsSmallPlan horizon) stands small) in
           subst (λ (xs : List ℕ). PlanRunsIn how horizon xs task) (sym (listed_is text _ end e same ∙ ap (plan_text task g horizon) stands)) runs
 
-      step : (end : Ended) → status_of end ≡ 0 → after ≡ appended before (text_of end) → (first second : List ℕ) → Answers faults rises given (models domain problem horizon name how) end first second
+      step : (end : Ended) → status_of end ≡ 0 → after ≡ appended before (text_of end) → (first second : List ℕ) → Answers tape (models domain problem horizon name how) end first second
           → (task : Parts) × AreTask first second task × PlanRunsIn how horizon text task
       step end at put first second (inl un) = absurd (let five = ap status_of un.0 in omega (arith, five, at))
-      step end at put first second (inr k) = of_ready 0 (PlanRunsIn how horizon text) (AnswersModel how horizon faults rises) end (omega arith) at first second k (planned end at (printed_is before after text (text_of end) printed put))
+      step end at put first second (inr k) = of_ready 0 (PlanRunsIn how horizon text) (AnswersModel how horizon tape) end (omega arith) at first second k.1 (planned end at (printed_is before after text (text_of end) printed put))
+
+  -- ---- models
+
+  -- What an ending tells of a model's text, by its status.
+  module _ (laws : TaskLaws) (how : Stepping) (horizon : ℕ) (text : List ℕ) (task : Parts) (g : Grounded) (ready_is : IsReady task g) where
+    abbrev bytes : List ℕ
+    bytes = tape.given.1
+
+    tells_model : (end : Ended) → status_of end ≡ 0 → text ≡ text_of end → AnswersModel how horizon tape task g end → TellsModel how horizon bytes text task
+    tells_model end at same (too_large plain_end over e) = not_limit 0 how horizon g end (omega arith) at plain_end over e
+    tells_model end at same (model tolds.Unread known small e) = absurd (let five = ap status_of e in omega (arith, five, at))
+    tells_model end at same (model (tolds.NoText place) known small e) = absurd (let three = ap status_of e in omega (arith, three, at))
+    tells_model end at same (model (tolds.NoModel clause) known small e) = absurd (let one = ap status_of e in omega (arith, one, at))
+    tells_model end at same (model (tolds.Plan steps) known small e) =
+        let h = known.holds in
+        claims.of_grounded laws task g ready_is known.clauses known.components known.ordered (IsModelTold how horizon bytes text task)
+        (h.0, h.1, h.2, listed_is text _ end e same ∙ ap (plan_text task g horizon) h.3)
+
+    tells_no_model : (end : Ended) → status_of end ≡ 1 → text ≡ text_of end → AnswersModel how horizon tape task g end → TellsNoModel how horizon bytes text task
+    tells_no_model end at same (too_large plain_end over e) = not_limit 1 how horizon g end (omega arith) at plain_end over e
+    tells_no_model end at same (model tolds.Unread known small e) = absurd (let five = ap status_of e in omega (arith, five, at))
+    tells_no_model end at same (model (tolds.NoText place) known small e) = absurd (let three = ap status_of e in omega (arith, three, at))
+    tells_no_model end at same (model (tolds.Plan steps) known small e) = absurd (let zero = ap status_of e in omega (arith, zero, at))
+    tells_no_model end at same (model (tolds.NoModel clause) known small e) =
+        let h = known.holds in
+        claims.of_grounded laws task g ready_is known.clauses known.components known.ordered (IsNoModelTold how horizon bytes text task) (h.0, clause, h.1, h.2, same ∙ ap text_of e)
+
+    tells_no_text : (end : Ended) → status_of end ≡ 3 → text ≡ text_of end → AnswersModel how horizon tape task g end → TellsNoText how horizon bytes text task
+    tells_no_text end at same (too_large plain_end over e) = not_limit 3 how horizon g end (omega arith) at plain_end over e
+    tells_no_text end at same (model tolds.Unread known small e) = absurd (let five = ap status_of e in omega (arith, five, at))
+    tells_no_text end at same (model (tolds.NoModel clause) known small e) = absurd (let one = ap status_of e in omega (arith, one, at))
+    tells_no_text end at same (model (tolds.Plan steps) known small e) = absurd (let zero = ap status_of e in omega (arith, zero, at))
+    tells_no_text end at same (model (tolds.NoText place) known small e) =
+        claims.of_grounded laws task g ready_is known.clauses known.components known.ordered (IsNoTextTold how horizon bytes text task) (place, known.holds, same ∙ ap text_of e)
+
+  -- no model that could not be opened has such a status
+  unopened : {A : Type 0} (n : ℕ) (end : Ended) → n ≤ 3 → status_of end ≡ n → end ≡ Unread → A
+  unopened n end low at e = absurd (let five = ap status_of e in omega (arith, five, at, low))
+
+  of_model : (n : ℕ) (text domain problem name : List ℕ) (horizon : ℕ) (how : Stepping) (claim : Parts → Type 0) → n ≤ 1 → IsDue → status ≡ n → Printed before after text → requested words ≡ Some (models domain problem horizon name how)
+      → ((task : Parts) (g : Grounded) → IsReady task g → (end : Ended) → status_of end ≡ n → text ≡ text_of end → AnswersModel how horizon tape task g end → claim task) → OfFiles heard hears domain problem claim
+  of_model n text domain problem name horizon how claim low due here printed is gives = of_request n (models domain problem horizon name how) claim (omega (arith, low)) due here is step
+    where
+      step : (end : Ended) → status_of end ≡ n → after ≡ appended before (text_of end) → (first second : List ℕ) → Answers tape (models domain problem horizon name how) end first second → (task : Parts) × AreTask first second task × claim task
+      step end at put first second (inl un) = unopened n end (omega (arith, low)) at un.0
+      step end at put first second (inr k) = of_ready n claim (AnswersModel how horizon tape) end low at first second k.1 (λ task g ready_is. gives task g ready_is end at (printed_is before after text (text_of end) printed put))
+
+  pub is_model_told : TaskLaws → IsDue → (text domain problem name : List ℕ) (horizon : ℕ) (how : Stepping) → status ≡ 0 → Printed before after text → requested words ≡ Some (models domain problem horizon name how)
+      → OfFiles heard hears domain problem (TellsModel how horizon tape.given.1 text)
+  is_model_told laws due text domain problem name horizon how zero printed is =
+      of_model 0 text domain problem name horizon how (TellsModel how horizon tape.given.1 text) (omega arith) due zero printed is (tells_model laws how horizon text)
+
+  pub is_no_model : TaskLaws → IsDue → (text domain problem name : List ℕ) (horizon : ℕ) (how : Stepping) → status ≡ 1 → Printed before after text → requested words ≡ Some (models domain problem horizon name how)
+      → OfFiles heard hears domain problem (TellsNoModel how horizon tape.given.1 text)
+  is_no_model laws due text domain problem name horizon how one printed is =
+      of_model 1 text domain problem name horizon how (TellsNoModel how horizon tape.given.1 text) (omega arith) due one printed is (tells_no_model laws how horizon text)
+
+  pub is_no_text : TaskLaws → IsDue → (text domain problem name : List ℕ) (horizon : ℕ) (how : Stepping) → status ≡ 3 → Printed before after text → requested words ≡ Some (models domain problem horizon name how)
+      → OfTaken heard hears domain problem (OrNoTask text (TellsNoText how horizon tape.given.1 text))
+  is_no_text laws due text domain problem name horizon how three printed is = of_taken 3 (models domain problem horizon name how) (OrNoTask text (TellsNoText how horizon tape.given.1 text)) (omega arith) due three is step
+    where
+      step : (end : Ended) → status_of end ≡ 3 → after ≡ appended before (text_of end) → (first second : List ℕ) → Answers tape (models domain problem horizon name how) end first second → OrNoTask text (TellsNoText how horizon tape.given.1 text) first second
+      step end at put first second (inl un) = unopened 3 end (omega arith) at un.0
+      step end at put first second (inr k) =
+          let told = printed_is before after text (text_of end) printed put in
+          or_ready text (TellsNoText how horizon tape.given.1 text) (AnswersModel how horizon tape) end told first second k.1 (λ task g ready_is. tells_no_text laws how horizon text task g ready_is end at told)
 
   -- ---- words and faults
 
-  usage_only : (end : Ended) → status_of end ≡ 7 → Comes heard hears failed fails faults rises given words end → requested words ≡ None
-  usage_only end seven h = elim (words_low heard hears failed fails faults rises given words end h) [
+  usage_only : (end : Ended) → status_of end ≡ 7 → Comes heard hears failed fails tape words end → requested words ≡ None
+  usage_only end seven h = elim (words_low heard hears failed fails tape words end h) [
     | inl k ↦ k.1
     | inr (inl k) ↦ absurd (let five = k.0 in omega (arith, five, seven))
     | inr (inr low) ↦ absurd (omega (arith, low, seven))
@@ -335,17 +439,17 @@ module _ (heard hears : List Heard) (failed fails : List (List ℕ)) (faults ris
   pub usage : IsDue → status ≡ 7 → requested words ≡ None
   usage due seven = let d = due (λ six. absurd (omega arith)) (λ eight. absurd (omega arith)) in usage_only d.0 (sym d.1 ∙ seven) d.2
 
-  fault_of : (end : Ended) → status_of end ≡ 5 → Comes heard hears failed fails faults rises given words end → HasFault failed fails faults rises words
-  fault_of end five h = elim (words_low heard hears failed fails faults rises given words end h) [
+  fault_of : (end : Ended) → status_of end ≡ 5 → Comes heard hears failed fails tape words end → HasFault failed fails tape.faults tape.rises words
+  fault_of end five h = elim (words_low heard hears failed fails tape words end h) [
     | inl k ↦ absurd (let seven = k.0 in omega (arith, five, seven))
     | inr (inl k) ↦ k.1
     | inr (inr low) ↦ absurd (omega (arith, low, five))
   ]
 
-  pub read_fault : IsDue → status ≡ 5 → HasFault failed fails faults rises words
+  pub read_fault : IsDue → status ≡ 5 → HasFault failed fails tape.faults tape.rises words
   read_fault due five = let d = due_at 5 due five (omega arith) in fault_of d.0 d.1 d.2
 
-  not_asked : requested words ≡ None → (end : Ended) → Comes heard hears failed fails faults rises given words end → end ≡ Usage
+  not_asked : requested words ≡ None → (end : Ended) → Comes heard hears failed fails tape words end → end ≡ Usage
   not_asked none end (no_request also e) = e
   not_asked none end (asked request is h) = absurd (let never : None ≡ Some request = sym none ∙ is in cc)
 
@@ -358,7 +462,7 @@ module _ (heard hears : List Heard) (failed fails : List (List ℕ)) (faults ris
     ]
   ]
     where
-      other : ((end : Ended) × (status ≡ status_of end) × Comes heard hears failed fails faults rises given words end × (after ≡ appended before (text_of end))) → Contains (6 ∷ 7 ∷ 8 ∷ []) status
+      other : ((end : Ended) × (status ≡ status_of end) × Comes heard hears failed fails tape words end × (after ≡ appended before (text_of end))) → Contains (6 ∷ 7 ∷ 8 ∷ []) status
       other (end, is, comes, all) = (1, omega arith, sym (is ∙ ap status_of (not_asked none end comes)))
 
   pub no_command : IsDue → requested words ≡ None → (status ≡ 8 → ⊥) → Contains (6 ∷ 7 ∷ []) status
@@ -367,5 +471,5 @@ module _ (heard hears : List Heard) (failed fails : List (List ℕ)) (faults ris
     | inr (f, not_six) ↦ other (due not_six not_eight)
   ]
     where
-      other : ((end : Ended) × (status ≡ status_of end) × Comes heard hears failed fails faults rises given words end × (after ≡ appended before (text_of end))) → Contains (6 ∷ 7 ∷ []) status
+      other : ((end : Ended) × (status ≡ status_of end) × Comes heard hears failed fails tape words end × (after ≡ appended before (text_of end))) → Contains (6 ∷ 7 ∷ []) status
       other (end, is, comes, all) = (1, omega arith, sym (is ∙ ap status_of (not_asked none end comes)))

@@ -8,6 +8,7 @@ use Rattle.gt_core.specs.Published.{order_of}
 use Rattle.grounding.specs.Grounded.{Grounded}
 use Rattle.pd_model.specs.declared.parts.Parts.{Parts}
 use Rattle.pl_io.specs.Outside.{Rose}
+use Rattle.pl_io.specs.Tape as tapes
 use Rattle.pl_io.specs.declared.outside.TakeError.{TakeError}
 use Rattle.pl_io.specs.declared.outside.TakeError.TheVariants as takes
 use Rattle.step_laws.specs.Form.{OrderedTask, AreSets, steps_at}
@@ -15,6 +16,7 @@ use Rattle.step_encoding.specs.Limits.{most_literals}
 use Rattle.step_encoding.specs.Numbers.{literals_of}
 use Rattle.ordered_tasks.specs.Known.{IsOrdered, form_of, formula_at}
 use Rattle.model_text.specs.FirstFalse.{IsFirstFalse}
+use Rattle.model_text.specs.Text.{NoText as no_text, Values as values_read, model_of}
 use Rattle.plan_report.specs.Report.{plan_text}
 use Rattle.plan_report.specs.Laws.{IsSmallPlan}
 use Rattle.lrat_judge.specs.Verdicts.{verdict_of}
@@ -88,6 +90,15 @@ pub data AnswersFormula (how : Stepping) (horizon : ℕ) (task : Parts) (g : Gro
   too_large : (plain : Ending) → TellsTooMany (places_by how) horizon g.task plain → end ≡ Plain plain → AnswersFormula how horizon task g end
   formula : OfKnown g.task (λ form. end ≡ Plain (Listing (formula_text (word_of how) horizon (formula_at (places_by how) form horizon)))) → AnswersFormula how horizon task g end
 
+-- What a tape did in a run: the counts of its faults before it and after it, and what it handed over of the file that was opened last.
+pub record TapeRun : Type 0 where
+  pub faults : ℕ
+  pub rises : ℕ
+  pub given : tapes.Given
+
+abbrev pub tape_run : ℕ → ℕ → tapes.Given → TapeRun
+tape_run faults rises given = record { faults = faults; rises = rises; given = given }
+
 -- the ending tells that the proof could not be read, and the count of a tape's faults rose
 abbrev pub IsUnread : ℕ → ℕ → Ending → Type 0
 IsUnread before now end = (end ≡ ReadFault Proof) × Rose before now
@@ -112,34 +123,33 @@ HasNone how horizon form = (steps : List (List ℕ)) → AreSets (is_plan_by how
 abbrev pub IsVerdict : Stepping → ℕ → List ℕ → Verdict → OrderedTask → Type 0
 IsVerdict how horizon bytes verdict form = verdict ≡ verdict_of (formula_at (places_by how) form horizon) bytes
 
--- what a proof of these bytes comes to: the formula is past the limit, the proof could not be read, or this is the verdict on it; where
+-- what the proof on the tape comes to: the formula is past the limit, the proof could not be read, or this is the verdict on it; where
 -- that is a refutation there is no plan of so many steps
-pub data AnswersJudge (how : Stepping) (horizon : ℕ) (before now : ℕ) (bytes : List ℕ) (task : Parts) (g : Grounded) (end : Ended) : Type 0 where
-  too_large : (plain : Ending) → TellsTooMany (places_by how) horizon g.task plain → end ≡ Plain plain → AnswersJudge how horizon before now bytes task g end
-  unread : (plain : Ending) → IsUnread before now plain → end ≡ Plain plain → AnswersJudge how horizon before now bytes task g end
-  judged : (verdict : Verdict) → end ≡ ended_by horizon verdict → OfKnown g.task (IsVerdict how horizon bytes verdict) → ((entries : ℕ) → verdict ≡ verdicts.Refuted entries → OfKnown g.task (HasNone how horizon))
-      → AnswersJudge how horizon before now bytes task g end
+pub data AnswersJudge (how : Stepping) (horizon : ℕ) (tape : TapeRun) (task : Parts) (g : Grounded) (end : Ended) : Type 0 where
+  too_large : (plain : Ending) → TellsTooMany (places_by how) horizon g.task plain → end ≡ Plain plain → AnswersJudge how horizon tape task g end
+  unread : (plain : Ending) → IsUnread tape.faults tape.rises plain → end ≡ Plain plain → AnswersJudge how horizon tape task g end
+  judged : (verdict : Verdict) → end ≡ ended_by horizon verdict → OfKnown g.task (IsVerdict how horizon tape.given.1 verdict) → ((entries : ℕ) → verdict ≡ verdicts.Refuted entries → OfKnown g.task (HasNone how horizon))
+      → AnswersJudge how horizon tape task g end
 
 -- ---- models
 
 -- what was read of a model's text, of the values of so many variables
-abbrev pub IsGiven : ℕ → ℕ → ℕ → Given → Type 0
-IsGiven variables before now given.Unread = Rose before now
-IsGiven variables before now (given.NoText at) = Unit {0}
-IsGiven variables before now (given.Values reader) = length reader ≡ variables
+abbrev pub IsGiven : ℕ → TapeRun → Given → Type 0
+IsGiven variables tape given.Unread = Rose tape.faults tape.rises
+IsGiven variables tape (given.NoText at) = model_of variables tape.given.1 ≡ no_text at
+IsGiven variables tape (given.Values reader) = model_of variables tape.given.1 ≡ values_read reader.table.truths
 
--- What was made of a model's text, over a formula, where values stand for these steps: it could not be read; it is none; some values
--- of its variables leave a clause untrue, and this is the first; or these are the steps that a model of it stands for.
-abbrev pub IsToldOf : Cnf → (List Bool → List (List ℕ)) → ℕ → ℕ → Told → Type 0
-IsToldOf cnf stands before now told.Unread = Rose before now
-IsToldOf cnf stands before now (told.NoText at) = Unit {0}
-IsToldOf cnf stands before now (told.NoModel clause) = (values : List Bool) × (length values ≡ cnf.variables) × IsFirstFalse (assignment_of values) cnf.clauses clause
-IsToldOf cnf stands before now (told.Plan steps) = (values : List Bool) × IsModel cnf values × (steps ≡ stands values)
+-- What was made of a model's text, over a formula, where values stand for these steps: it could not be read; it is none; its values leave
+-- a clause untrue, and this is the first; or they are a model, and these are the steps that it stands for.
+abbrev pub IsToldOf : Cnf → (List Bool → List (List ℕ)) → TapeRun → Told → Type 0
+IsToldOf cnf stands tape told.Unread = Rose tape.faults tape.rises
+IsToldOf cnf stands tape (told.NoText at) = model_of cnf.variables tape.given.1 ≡ no_text at
+IsToldOf cnf stands tape (told.NoModel clause) = (values : List Bool) × (model_of cnf.variables tape.given.1 ≡ values_read values) × IsFirstFalse (assignment_of values) cnf.clauses clause
+IsToldOf cnf stands tape (told.Plan steps) = (values : List Bool) × (model_of cnf.variables tape.given.1 ≡ values_read values) × IsModel cnf values × (steps ≡ stands values)
 
 -- the same over the formula of a horizon
-abbrev pub IsTold : (Task → List (List ℕ) → List (List ℕ × ℕ)) → ℕ → ℕ → ℕ → Told → OrderedTask → Type 0
-IsTold places horizon before now said form =
-    IsToldOf (formula_at places form horizon) (λ values. steps_at form (places form.task form.components) horizon (assignment_of values)) before now said
+abbrev pub IsTold : (Task → List (List ℕ) → List (List ℕ × ℕ)) → ℕ → TapeRun → Told → OrderedTask → Type 0
+IsTold places horizon tape said form = IsToldOf (formula_at places form horizon) (λ values. steps_at form (places form.task form.components) horizon (assignment_of values)) tape said
 
 -- the actions of its steps, where there are such, are below a number
 abbrev pub IsBelow : ℕ → Told → Type 0
@@ -158,8 +168,7 @@ ended_with task g horizon (told.NoText at) = NoText at
 ended_with task g horizon (told.NoModel clause) = NoModel clause
 ended_with task g horizon (told.Plan steps) = Plain (Listing (plan_text task g horizon steps))
 
--- what a model's text comes to: the formula is past the limit, or this was made of it
-pub data AnswersModel (how : Stepping) (horizon : ℕ) (before now : ℕ) (task : Parts) (g : Grounded) (end : Ended) : Type 0 where
-  too_large : (plain : Ending) → TellsTooMany (places_by how) horizon g.task plain → end ≡ Plain plain → AnswersModel how horizon before now task g end
-  model : (said : Told) → OfKnown g.task (IsTold (places_by how) horizon before now said) → IsSmallTold horizon said → end ≡ ended_with task g horizon said
-      → AnswersModel how horizon before now task g end
+-- what the text of a model on the tape comes to: the formula is past the limit, or this was made of it
+pub data AnswersModel (how : Stepping) (horizon : ℕ) (tape : TapeRun) (task : Parts) (g : Grounded) (end : Ended) : Type 0 where
+  too_large : (plain : Ending) → TellsTooMany (places_by how) horizon g.task plain → end ≡ Plain plain → AnswersModel how horizon tape task g end
+  model : (said : Told) → OfKnown g.task (IsTold (places_by how) horizon tape said) → IsSmallTold horizon said → end ≡ ended_with task g horizon said → AnswersModel how horizon tape task g end

@@ -2,7 +2,7 @@
 ghost use Rattle.std.specs.Prelude.{◌≡◌, ◌≤◌, [], length, IfOk};
 ghost use Rattle.plan_files.specs.Limits.{most_bytes};
 ghost use Rattle.plan_files.specs.Ends.{OnlyMemory};
-ghost use Rattle.judge_top.specs.Answers.{EndsWith, OnceReady, AnswersFormula, AnswersJudge, AnswersModel, IsBelow, IsSmallTold, ended_by, ended_with};
+ghost use Rattle.judge_top.specs.Answers.{EndsWith, tape_run, OnceReady, AnswersFormula, AnswersJudge, AnswersModel, IsBelow, IsSmallTold, ended_by, ended_with};
 
 use crate::formula::formula_by;
 use crate::model::{Told, told_by};
@@ -53,7 +53,7 @@ pub fn answer_judge<H: Threads + Sync, T: Tape>(
     requires problem_fits { length problem.now ≤ most_bytes }
     requires horizon { horizon ≤ 255 }
     requires opened { (T.given tape.old).1 ≡ [] }
-    ensures ended { EndsWith (λ end. OnceReady domain.now problem.now (AnswersJudge steps horizon (T.faults tape.old) (T.faults tape.new) (T.given tape.new).1) end) result }
+    ensures ended { EndsWith (λ end. OnceReady domain.now problem.now (AnswersJudge steps horizon (tape_run (T.faults tape.old) (T.faults tape.new) (T.given tape.new))) end) result }
     ensures named { (T.given tape.new).0 ≡ (T.given tape.old).0 }
     ensures later { T.faults tape.old ≤ T.faults tape.new }
 {
@@ -88,7 +88,9 @@ pub fn answer_model<H: Threads + Sync, T: Tape>(
     requires domain_fits { length domain.now ≤ most_bytes }
     requires problem_fits { length problem.now ≤ most_bytes }
     requires horizon { horizon ≤ 255 }
-    ensures ended { EndsWith (OnceReady domain.now problem.now (AnswersModel steps horizon (T.faults tape.old) (T.faults tape.new))) result }
+    requires opened { (T.given tape.old).1 ≡ [] }
+    ensures ended { EndsWith (OnceReady domain.now problem.now (AnswersModel steps horizon (tape_run (T.faults tape.old) (T.faults tape.new) (T.given tape.new)))) result }
+    ensures named { (T.given tape.new).0 ≡ (T.given tape.old).0 }
     ensures later { T.faults tape.old ≤ T.faults tape.new }
 {
     let ready = read_ready(alloc, domain, problem)?;

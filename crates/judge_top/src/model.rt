@@ -1,11 +1,13 @@
 //! What is made of the text of a model that a tape gives.
-ghost use Rattle.std.specs.Prelude.{◌≡◌, ◌≤◌, ◌<◌, ℕ, length, IfOk};
+ghost use Rattle.std.specs.Prelude.{◌≡◌, ◌≤◌, ◌<◌, ℕ, [], length, IfOk};
 ghost use Rattle.clause_base.specs.Formula.{IsModel};
 ghost use Rattle.pl_io.specs.Outside.{Rose};
 ghost use Rattle.plan_files.specs.Ends.{StopsBy};
 ghost use Rattle.plan_tasks.specs.Stepping.{places_by};
 ghost use Rattle.step_encoding.specs.{Limits.most_literals, Numbers.literals_of};
-ghost use Rattle.judge_top.specs.Answers.{OfKnown, IsTold, IsToldOf, IsBelow, IsGiven, IsTooMany, TellsTooMany};
+ghost use Rattle.model_text.specs.Text.{Values as values_read, model_of};
+ghost use Rattle.model_text.specs.Stands.{HasRead};
+ghost use Rattle.judge_top.specs.Answers.{TapeRun, tape_run, OfKnown, IsTold, IsToldOf, IsBelow, IsGiven, IsTooMany, TellsTooMany};
 
 use crate::formula::formula_of;
 use action_order::publish::publish;
@@ -55,18 +57,19 @@ pub enum Given {
 
 // What the text that was read to its end is.
 fn finished(mut reader: Reader) -> Given
-    ensures { (before now : ℕ) → IsGiven (length reader) before now result }
+    ensures { (variables : ℕ) (tape : TapeRun) → HasRead variables tape.given.1 reader → IsGiven variables tape result }
 {
-    if reader.finish() {
-        Given::Values(reader)
-    } else {
-        Given::NoText { at: reader.at() }
+    match reader.finish() {
+        Some(at) => Given::NoText { at },
+        None => Given::Values(reader),
     }
 }
 
 // Reads the text that is open, of the values of so many variables, to its end, or to the first line that tells.
 fn read_given<T: Tape>(alloc: Global, variables: u32, tape: &mut T) -> Result<Given, Memory>
-    ensures given { IfOk result (IsGiven variables (T.faults tape.old) (T.faults tape.new)) }
+    requires opened { (T.given tape.old).1 ≡ [] }
+    ensures given { IfOk result (IsGiven variables (tape_run (T.faults tape.old) (T.faults tape.new) (T.given tape.new))) }
+    ensures named { (T.given tape.new).0 ≡ (T.given tape.old).0 }
     ensures later { T.faults tape.old ≤ T.faults tape.new }
 {
     let mut reader = Reader::new(alloc, variables)?;
@@ -75,8 +78,9 @@ fn read_given<T: Tape>(alloc: Global, variables: u32, tape: &mut T) -> Result<Gi
         match tape.take(&mut piece) {
             Ok(0) => return Ok(finished(reader)),
             Ok(count) => {
-                if !reader.take(&piece[..count]) {
-                    return Ok(Given::NoText { at: reader.at() });
+                let refused = reader.take(&piece[..count])?;
+                if let Some(at) = refused {
+                    return Ok(Given::NoText { at });
                 }
             }
             Err(TakeError::Failed) => return Ok(Given::Unread),
@@ -97,7 +101,8 @@ fn told_values<F: StepForm>(
     requires small { literals_of (F.formula_of form.now horizon) ≤ most_literals }
     requires formula { formula.now ≡ F.formula_of form.now horizon }
     requires long { length values.now ≡ formula.now.variables }
-    ensures told { (before now : ℕ) → IfOk result (IsToldOf (F.formula_of form.now horizon) (F.stands_for form.now horizon) before now) }
+    ensures told { (tape : TapeRun) → model_of formula.now.variables tape.given.1 ≡ values_read values.now
+        → IfOk result (IsToldOf (F.formula_of form.now horizon) (F.stands_for form.now horizon) tape) }
     ensures members { IfOk result (IsBelow (length (F.task form.now).actions)) }
 {
     // For the proof: the form is lawful, so its laws hold.
@@ -116,8 +121,10 @@ fn told_of<F: StepForm, T: Tape>(
     horizon: u32,
     tape: &mut T,
 ) -> Result<Told, Stop>
-    requires { horizon ≤ 255 }
-    ensures told { IfOk result (IsToldOf (F.formula_of form.now horizon) (F.stands_for form.now horizon) (T.faults tape.old) (T.faults tape.new)) }
+    requires horizon { horizon ≤ 255 }
+    requires opened { (T.given tape.old).1 ≡ [] }
+    ensures told { IfOk result (IsToldOf (F.formula_of form.now horizon) (F.stands_for form.now horizon) (tape_run (T.faults tape.old) (T.faults tape.new) (T.given tape.new))) }
+    ensures named { (T.given tape.new).0 ≡ (T.given tape.old).0 }
     ensures members { IfOk result (IsBelow (length (F.task form.now).actions)) }
     ensures stops { StopsBy (IsTooMany (F.formula_of form.now horizon) horizon) result }
     ensures later { T.faults tape.old ≤ T.faults tape.new }
@@ -141,8 +148,10 @@ fn told_in<P: Placing, H: Threads + Sync, T: Tape>(
     horizon: u32,
     tape: &mut T,
 ) -> Result<Told, Stop>
-    requires { horizon ≤ 255 }
-    ensures told { IfOk result (λ told. OfKnown task.now (IsTold P.places horizon (T.faults tape.old) (T.faults tape.new) told)) }
+    requires horizon { horizon ≤ 255 }
+    requires opened { (T.given tape.old).1 ≡ [] }
+    ensures told { IfOk result (λ told. OfKnown task.now (IsTold P.places horizon (tape_run (T.faults tape.old) (T.faults tape.new) (T.given tape.new)) told)) }
+    ensures named { (T.given tape.new).0 ≡ (T.given tape.old).0 }
     ensures members { IfOk result (IsBelow (length task.now.actions)) }
     ensures stops { StopsBy (TellsTooMany P.places horizon task.now) result }
     ensures later { T.faults tape.old ≤ T.faults tape.new }
@@ -163,8 +172,10 @@ pub fn told_by<H: Threads + Sync, T: Tape>(
     horizon: u32,
     tape: &mut T,
 ) -> Result<Told, Stop>
-    requires { horizon ≤ 255 }
-    ensures told { IfOk result (λ told. OfKnown task.now (IsTold (places_by steps) horizon (T.faults tape.old) (T.faults tape.new) told)) }
+    requires horizon { horizon ≤ 255 }
+    requires opened { (T.given tape.old).1 ≡ [] }
+    ensures told { IfOk result (λ told. OfKnown task.now (IsTold (places_by steps) horizon (tape_run (T.faults tape.old) (T.faults tape.new) (T.given tape.new)) told)) }
+    ensures named { (T.given tape.new).0 ≡ (T.given tape.old).0 }
     ensures members { IfOk result (IsBelow (length task.now.actions)) }
     ensures stops { StopsBy (TellsTooMany (places_by steps) horizon task.now) result }
     ensures later { T.faults tape.old ≤ T.faults tape.new }

@@ -8,9 +8,9 @@ ghost use Rattle.judge_words.specs.Requested.{requested, command_named};
 ghost use Rattle.judge_words.specs.Seen.{formulas, judges, models};
 ghost use Rattle.judge_endings.specs.Ended.{status_of, text_of};
 ghost use Rattle.judge_endings.specs.declared.ended.Ended.{Ended};
-ghost use Rattle.judge_top.specs.Answers.{end_in};
-ghost use Rattle.judge_top.specs.Causes.{Comes, HasFault, names_in};
-ghost use Rattle.judge_top.specs.Headline.{IsProvedNone, PlanRunsIn, TellsFormula, OfVerdict, IsAccepted, IsRejected};
+ghost use Rattle.judge_top.specs.Answers.{end_in, tape_run};
+ghost use Rattle.judge_top.specs.Causes.{Comes, OfTaken, HasFault, names_in};
+ghost use Rattle.judge_top.specs.Headline.{IsProvedNone, PlanRunsIn, TellsFormula, OfVerdict, IsAccepted, IsRejected, IsNoProof, TellsModel, TellsNoModel, TellsNoText, OrNoTask};
 
 use crate::decide::decide;
 use crate::{Ended, Status};
@@ -62,15 +62,36 @@ pub fn judge<H: Threads + Sync, S: Shelf, T: Tape, K: Sink>(
         → requested (map string_bytes words.now) ≡ Some (judges domain problem horizon proof how)
         → OfFiles (S.heard shelf.old) (S.heard shelf.new) domain problem (OfVerdict how horizon (T.given tape.new).1 (IsRejected horizon text)) }
 
+    // With status 3 the domain or the problem is refused, or the proof's bytes are no LRAT text at the offset that is told.
+    ensures no_proof { (text domain problem proof : List ℕ) (horizon : ℕ) (how : Stepping) → result.0 ≡ 3 → Printed (K.taken sink.old) (K.taken sink.new) text
+        → requested (map string_bytes words.now) ≡ Some (judges domain problem horizon proof how)
+        → OfTaken (S.heard shelf.old) (S.heard shelf.new) domain problem (OrNoTask text (OfVerdict how horizon (T.given tape.new).1 (IsNoProof horizon text))) }
+
+    // With status 0 the bytes that the tape handed over are the text of a model, whose values satisfy the formula of the horizon, and the
+    // text tells the steps that they stand for.
+    ensures model_told { (text domain problem model : List ℕ) (horizon : ℕ) (how : Stepping) → result.0 ≡ 0 → Printed (K.taken sink.old) (K.taken sink.new) text
+        → requested (map string_bytes words.now) ≡ Some (models domain problem horizon model how)
+        → OfFiles (S.heard shelf.old) (S.heard shelf.new) domain problem (TellsModel how horizon (T.given tape.new).1 text) }
+
+    // With status 1 their values leave a clause untrue, and the text tells the first.
+    ensures no_model { (text domain problem model : List ℕ) (horizon : ℕ) (how : Stepping) → result.0 ≡ 1 → Printed (K.taken sink.old) (K.taken sink.new) text
+        → requested (map string_bytes words.now) ≡ Some (models domain problem horizon model how)
+        → OfFiles (S.heard shelf.old) (S.heard shelf.new) domain problem (TellsNoModel how horizon (T.given tape.new).1 text) }
+
+    // With status 3 the domain or the problem is refused, or they are no text of a model, and the text tells where.
+    ensures no_text { (text domain problem model : List ℕ) (horizon : ℕ) (how : Stepping) → result.0 ≡ 3 → Printed (K.taken sink.old) (K.taken sink.new) text
+        → requested (map string_bytes words.now) ≡ Some (models domain problem horizon model how)
+        → OfTaken (S.heard shelf.old) (S.heard shelf.new) domain problem (OrNoTask text (TellsNoText how horizon (T.given tape.new).1 text)) }
+
     // Each status has its cause, and with every status but 6 the bytes taken are exactly the text due.
     ensures due { result.0 ≢ 6 → result.0 ≢ 8 → (end : Ended) × (result.0 ≡ status_of end)
-        × Comes (S.heard shelf.old) (S.heard shelf.new) (S.failed shelf.old) (S.failed shelf.new) (T.faults tape.old) (T.faults tape.new) (T.given tape.new) (map string_bytes words.now) end
+        × Comes (S.heard shelf.old) (S.heard shelf.new) (S.failed shelf.old) (S.failed shelf.new) (tape_run (T.faults tape.old) (T.faults tape.new) (T.given tape.new)) (map string_bytes words.now) end
         × (K.taken sink.new ≡ appended (K.taken sink.old) (text_of end)) }
     ensures read_fault { result.0 ≡ 5
         → HasFault (S.failed shelf.old) (S.failed shelf.new) (T.faults tape.old) (T.faults tape.new) (map string_bytes words.now) }
     ensures write_fault { result.0 ≡ 6 → Rose (K.faults sink.old) (K.faults sink.new) }
     ensures front { result.0 ≡ 6 → (end : Ended)
-        × Comes (S.heard shelf.old) (S.heard shelf.new) (S.failed shelf.old) (S.failed shelf.new) (T.faults tape.old) (T.faults tape.new) (T.given tape.new) (map string_bytes words.now) end
+        × Comes (S.heard shelf.old) (S.heard shelf.new) (S.failed shelf.old) (S.failed shelf.new) (tape_run (T.faults tape.old) (T.faults tape.new) (T.given tape.new)) (map string_bytes words.now) end
         × TakesFront (K.taken sink.old) (K.taken sink.new) (text_of end) }
     ensures usage { result.0 ≡ 7 → requested (map string_bytes words.now) ≡ None }
     ensures not_taken { requested (map string_bytes words.now) ≡ None → Contains (6 ∷ 7 ∷ 8 ∷ []) result.0 }
@@ -106,11 +127,11 @@ fn answered<H: Threads + Sync, S: Shelf, T: Tape, K: Sink>(
     sink: &mut K,
 ) -> Status
     ensures due { result.0 ≢ 6 → result.0 ≢ 8 → (end : Ended) × (result.0 ≡ status_of end)
-        × Comes (S.heard shelf.old) (S.heard shelf.new) (S.failed shelf.old) (S.failed shelf.new) (T.faults tape.old) (T.faults tape.new) (T.given tape.new) (map string_bytes words.now) end
+        × Comes (S.heard shelf.old) (S.heard shelf.new) (S.failed shelf.old) (S.failed shelf.new) (tape_run (T.faults tape.old) (T.faults tape.new) (T.given tape.new)) (map string_bytes words.now) end
         × (K.taken sink.new ≡ appended (K.taken sink.old) (text_of end)) }
     ensures write_fault { result.0 ≡ 6 → Rose (K.faults sink.old) (K.faults sink.new) }
     ensures front { result.0 ≢ 8 → (end : Ended)
-        × Comes (S.heard shelf.old) (S.heard shelf.new) (S.failed shelf.old) (S.failed shelf.new) (T.faults tape.old) (T.faults tape.new) (T.given tape.new) (map string_bytes words.now) end
+        × Comes (S.heard shelf.old) (S.heard shelf.new) (S.failed shelf.old) (S.failed shelf.new) (tape_run (T.faults tape.old) (T.faults tape.new) (T.given tape.new)) (map string_bytes words.now) end
         × TakesFront (K.taken sink.old) (K.taken sink.new) (text_of end) }
     ensures nothing { result.0 ≡ 8 → sink.new ≡ sink.old }
     ensures no_command { command_named (map string_bytes words.now) ≡ None → result.0 ≢ 8 }

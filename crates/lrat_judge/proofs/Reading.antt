@@ -11,7 +11,7 @@ use Rattle.lrat_judge.specs.Verdicts.{Outcome, Ends, Goes, outcome_known, outcom
 use Rattle.lrat_judge.specs.Reached.{IsBefore, Comes, HasRead, has_no_end}
 use Rattle.lrat_judge.specs.declared.verdict.Verdict.{Verdict}
 use Rattle.lrat_judge.specs.declared.verdict.Verdict.TheVariants.{More, Refuted, Rejected, NotEmpty, Syntax}
-use Rattle.lrat_judge.proofs.Texts.{lines_on, last_on, lines_same, last_more}
+use Rattle.lrat_text.proofs.Texts.{lines_on, last_on, lines_same, last_more}
 
 -- no line ends the judging with a verdict by which it goes on
 ends_apart : (formula : Cnf) (known : Known) (at count : ℕ) (line : Option LineView) → outcome_line formula known at count line ≡ Ends More → ⊥
@@ -25,10 +25,6 @@ ends_apart formula known at count (Some line) e = by (follow formula known line)
         empty : (b : Bool) → list_any learns_empty next.log ≡ b → outcome_known count (Some next) ≡ Ends More → ⊥
         empty true t g = let never : Ends (Refuted (counted (length next.log))) ≡ Ends More = rw t at g in cc
         empty false t g = let never : Goes next ≡ Ends More = rw t at g in cc
-
--- the text up to the end of a line, and after it
-pub text_on : (text end others : List ℕ) → (text ++ (end ++ 10 ∷ [])) ++ others ≡ text ++ (end ++ 10 ∷ others)
-text_on text end others = append_assoc text (end ++ 10 ∷ []) others ∙ ap (λ (t : List ℕ). text ++ t) (append_assoc end (10 ∷ []) others)
 
 -- A judge that has read a text, and the end of a line that it takes next.
 module _ (judge next : Judged) (text end : List ℕ) (read : HasRead judge text) (none : has_no_end end ≡ true) (verdict : Verdict)

@@ -4,6 +4,7 @@ use Rattle.std.specs.List.{list_any}
 use Rattle.clause_base.specs.Formula.{Cnf}
 use Rattle.clause_base.specs.Derivation.{IsDerivation, learns_empty}
 use Rattle.clause_base.specs.declared.log.Entry.{Entry}
+pub use Rattle.lrat_text.specs.Lines.{counted}
 use Rattle.rup_check.specs.Taken.{CheckerView, HasTaken}
 
 -- the formula that it judges proofs for, what its checker knows, the ids of the clauses, the offset and the count of the lines so far and of
@@ -16,10 +17,6 @@ pub record Judged : Type 0 where
   pub count : ℕ
   pub entries : ℕ
   pub front : List ℕ
-
--- a count of 64 bits, which stands still at its end
-abbrev pub counted : ℕ → ℕ
-counted n = min n 18446744073709551615
 
 -- a checker has taken so many entries
 pub record HasCounted (checker : CheckerView) (entries : ℕ) : Type 0 where

@@ -4,6 +4,7 @@ use Rattle.std.specs.List.{list_all}
 use Rattle.clause_base.specs.declared.log.Entry.{Entry}
 use Rattle.rup_check.specs.Taken.{CheckerView, HasTaken}
 use Rattle.lrat_judge.specs.Judged.{Judged, counted}
+pub use Rattle.lrat_text.specs.Lines.{has_no_end}
 use Rattle.lrat_judge.specs.Follow.{Known, known_first}
 use Rattle.lrat_judge.specs.Verdicts.{Outcome, Ends, Goes, judged, whole_lines, last_part}
 use Rattle.lrat_judge.specs.declared.verdict.Verdict.{Verdict}
@@ -46,7 +47,3 @@ pub record HasRead (judge : Judged) (text : List ℕ) : Type 0 where
   pub leads : (more : List (List ℕ)) → judged judge.formula (known_first judge.formula) 0 0 (whole_lines text ++ more) ≡ judged judge.formula known at count more
   pub front : judge.front ≡ last_part text
   pub begins : at + length (last_part text) ≡ length text
-
--- no line ends in a text
-abbrev pub has_no_end : List ℕ → Bool
-has_no_end text = list_all (λ b. not (b == 10)) text

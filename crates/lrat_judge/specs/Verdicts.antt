@@ -4,25 +4,10 @@ use Rattle.std.specs.List.{list_any}
 use Rattle.clause_base.specs.Formula.{Cnf}
 use Rattle.clause_base.specs.Derivation.{learns_empty}
 use Rattle.lrat_text.specs.Line.{LineView, line_of}
-use Rattle.lrat_judge.specs.Judged.{counted}
+pub use Rattle.lrat_text.specs.Lines.{whole_lines, last_part, counted}
 use Rattle.lrat_judge.specs.Follow.{Known, known_first, follow}
 use Rattle.lrat_judge.specs.declared.verdict.Verdict.{Verdict}
 use Rattle.lrat_judge.specs.declared.verdict.Verdict.TheVariants.{More, Refuted, Rejected, NotEmpty, Syntax}
-
--- a byte put in front of the first line, where there is one
-abbrev pub put_first : ℕ → List (List ℕ) → List (List ℕ)
-put_first b [] = []
-put_first b (line ∷ lines) = (b ∷ line) ∷ lines
-
--- the lines of a text, each of which an LF ends
-abbrev pub whole_lines : List ℕ → List (List ℕ)
-whole_lines [] = []
-whole_lines (b ∷ text) = if b == 10 then [] ∷ whole_lines text else put_first b (whole_lines text)
-
--- what follows the last LF, or all where there is none
-abbrev pub last_part : List ℕ → List ℕ
-last_part [] = []
-last_part (b ∷ text) = if b == 10 then last_part text else elim (whole_lines text) [ [] ↦ b ∷ text | line ∷ lines ↦ last_part text ]
 
 -- what a line comes to: the judging ends with a verdict, or goes on with what is then known
 pub data Outcome : Type 0 where

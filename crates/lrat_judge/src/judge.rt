@@ -11,6 +11,7 @@ use crate::lines::Lines;
 use crate::verdict::Verdict;
 use clause_base::formula::Formula;
 use clause_base::memory::Memory;
+use lrat_text::lines::first_line;
 use std::alloc::Global;
 use std::marker::Model;
 
@@ -27,20 +28,6 @@ impl<'a> Model for Judge<'a> {
     ghost Value = { Judged };
 
     ghost view = { λ j. record { formula = j.lines.formula; checker = j.lines.checker; ids = j.lines.ids; at = j.lines.at; count = j.lines.count; entries = j.lines.entries; front = j.front.items } };
-}
-
-// The first line of a text, without its LF, and what follows it; none where there is no LF.
-fn first_line(text: &[u8]) -> Option<(&[u8], &[u8])>
-    ensures fewer { IfSome result (λ parts. length parts.1.now < length text.now) }
-    ensures some { IfSome result (λ parts. (has_no_end parts.0.now ≡ true) × (text.now ≡ parts.0.now ++ 10 ∷ parts.1.now)) }
-    ensures none { IfNone result (has_no_end text.now ≡ true) }
-{
-    for (place, byte) in text.iter().enumerate() {
-        if *byte == b'\n' {
-            return Some((&text[..place], &text[place + 1..]));
-        }
-    }
-    None
 }
 
 impl<'a> Judge<'a> {

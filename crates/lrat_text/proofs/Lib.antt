@@ -1,2 +1,4 @@
 pub mod WordsLaws
 pub mod LineLaws
+pub mod Texts
+pub mod Fronts

@@ -5,4 +5,5 @@
 #![tactic(auto)]
 
 pub mod line;
-mod words;
+pub mod lines;
+pub mod words;

@@ -1,5 +1,5 @@
 //! The words of a line, which blanks part.
-ghost use Rattle.std.specs.Prelude.{◌≡◌, ◌<◌, ◌==◌, ◌+◌, ◌*◌, ◌-◌, ◌≤◌, ◌∷◌, List, [], ℕ, Bool, IfSome, IfNone, IsSomeAnd, Some, None, true, false, codes, slice_index, drop, length, nat_lt, if◌then◌else◌};
+ghost use Rattle.std.specs.Prelude.{◌≡◌, ◌<◌, ◌==◌, ◌+◌, ◌*◌, ◌-◌, ◌≤◌, ◌∷◌, List, [], ℕ, Bool, IfSome, IfNone, IsSomeAnd, Some, None, true, false, codes, slice_index, take, drop, length, nat_lt, if◌then◌else◌};
 ghost use Rattle.std.specs.Char.{is_ascii_digit};
 ghost use Rattle.lrat_text.specs.Words.{is_blank, words_of, natural_of, first_number, begins_with};
 ghost use Rattle.lrat_text.specs.Cut.{after_blanks, digits_front, after_digits, word_front, after_word, ends_word};
@@ -141,6 +141,20 @@ fn after_byte(text: &[u8], byte: u8) -> Option<&[u8]>
     if *first == byte { Some(more) } else { None }
 }
 
+// How long the word at the front of a text is.
+fn word_length(text: &[u8]) -> usize
+    ensures front { take result text.now ≡ word_front text.now }
+    ensures rest { drop result text.now ≡ after_word text.now }
+    ensures bound { result ≤ length text.now }
+{
+    for (place, byte) in text.iter().enumerate() {
+        if is_blank(*byte) {
+            return place;
+        }
+    }
+    text.len()
+}
+
 impl<'a> Words<'a> {
     /// All bytes of a line.
     pub fn of(bytes: &'a [u8]) -> Words<'a>
@@ -191,6 +205,21 @@ impl<'a> Words<'a> {
             }
         }
         false
+    }
+
+    /// The next word, which is then passed; none where no word is left.
+    pub fn next(&mut self) -> Option<&'a [u8]>
+        ensures some { IfSome result (λ word. self.old ≡ word.now ∷ self.new) }
+        ensures none { IfNone result (self.old ≡ []) }
+    {
+        let text = after_blanks(self.rest);
+        let count = word_length(text);
+        if count == 0 {
+            return None;
+        }
+        let (word, rest) = text.split_at(count);
+        self.rest = rest;
+        Some(word)
     }
 
     /// Whether no word is left.

@@ -1,1 +1,3 @@
 pub mod FirstFalse
+pub mod Text
+pub mod Stands

@@ -1,231 +1,95 @@
-//! Reading the text, byte by byte.
-ghost use Rattle.std.specs.Prelude.{◌≡◌, length, IfOk};
+//! Reading the text, piece by piece.
+ghost use Rattle.std.specs.Prelude.{◌≡◌, ◌+◌, ◌++◌, [], ℕ, List, true, false, length, Ok, None, IfOk, IfSome};
+ghost use Rattle.lrat_text.specs.Lines.{counted};
+ghost use Rattle.model_text.specs.Text.{Told, NoText, Values, model_of, with_line};
+ghost use Rattle.model_text.specs.Stands.{HasTold, Goes, HasRead};
 
-use crate::values::Values;
+use crate::lines::Lines;
 use clause_base::memory::Memory;
+use lrat_text::lines::first_line;
 use std::alloc::Global;
 use std::marker::Model;
 
-/// The line by which a solver says that there is a model.
-const FOUND: &[u8] = b"s SATISFIABLE";
-
-// What the next byte goes on with.
-#[derive(Clone, Copy)]
-enum Place {
-    // The first of a line.
-    Front,
-    // The second of a line that begins with `c`.
-    CommentWord,
-    // A comment, up to the end of its line.
-    Comment,
-    // The line by which a solver says that there is a model, of which so many bytes are there.
-    Found(usize),
-    // The second of a line that begins with `v`.
-    ValuesWord,
-    // A line of values, between its numbers.
-    Between,
-    // A number whose minus is there.
-    Minus,
-    // A number, of which there are some digits.
-    Number { minus: bool, number: u64 },
-}
-
-/// What takes the text of a model. Contracts see the values.
+/// What takes the text of a model. Contracts see what it holds.
 #[derive(Drop)]
 pub struct Reader {
-    values: Values,
-    place: Place,
-    // Whether the 0 after the values is there.
-    ended: bool,
-    // How many bytes were taken, and how many before the line that the next byte is of.
-    taken: u64,
-    line: u64,
+    front: Vec<u8>,
+    lines: Lines,
 }
 
 impl Model for Reader {
-    ghost use Rattle.std.specs.Prelude.{List, Bool};
+    ghost use Rattle.model_text.specs.Stands.{ReaderView};
 
-    ghost Value = { List Bool };
+    ghost Value = { ReaderView };
 
-    ghost view = { λ r. r.values };
-}
-
-// Whether a byte is a blank: a space, a tab or a carriage return.
-#[inline]
-fn is_blank(byte: u8) -> bool {
-    byte == b' ' || byte == b'\t' || byte == b'\r'
-}
-
-// The number with one digit more; none from 2^64 on, or where a zero stands before a digit.
-#[inline]
-fn with_digit(number: u64, digit: u8) -> Option<u64> {
-    if number == 0 {
-        return None;
-    }
-    number.checked_mul(10)?.checked_add(u64::from(digit))
+    ghost view = { λ r. record { table = r.lines.table; ended = r.lines.ended; at = r.lines.at; front = r.front.items } };
 }
 
 impl Reader {
     /// Before the first byte, for so many variables.
     pub fn new(alloc: Global, variables: u32) -> Result<Reader, Memory>
-        ensures { IfOk result (λ reader. length reader ≡ variables) }
+        ensures { IfOk result (HasRead variables []) }
     {
         Ok(Reader {
-            values: Values::new(alloc, variables)?,
-            place: Place::Front,
-            ended: false,
-            taken: 0,
-            line: 0,
+            front: Vec::new(alloc),
+            lines: Lines::new(alloc, variables)?,
         })
     }
 
-    /// The offset of the first byte of the line that was begun last; after `finish`, of a text that ends without the 0, its length.
-    pub fn at(&self) -> u64 {
-        self.line
+    // Takes the end of the next line, whose front is held, and says whether the line is one, and may come here.
+    fn take_end(&mut self, end: &[u8]) -> Result<bool, Memory>
+        ensures goes { (variables : ℕ) (before : Told) → HasTold variables before self.old
+            → IfOk result (λ goes. Goes goes variables self.new (with_line variables before (self.old.front ++ end.now))) }
+        ensures taken { (at : ℕ) → self.old.at ≡ counted at → result ≡ Ok true → self.new.at ≡ counted (at + length (self.old.front ++ end.now) + 1) }
+        ensures refused { result ≡ Ok false → self.new.at ≡ self.old.at }
+        ensures front { result ≡ Ok true → self.new.front ≡ [] }
+    {
+        if self.front.as_slice().is_empty() {
+            return Ok(self.lines.take(end));
+        }
+        self.front.extend_from_slice(end)?;
+        let goes = self.lines.take(&self.front);
+        self.front.clear();
+        Ok(goes)
+    }
+
+    /// Takes the next piece of the text, cut off anywhere. Answers the offset of the first line that is no line of a model, or
+    /// contradicts the lines before it; after that, and after want of memory, the reading is over. None where the text may go on.
+    pub fn take(&mut self, piece: &[u8]) -> Result<Option<u64>, Memory>
+        ensures read { (variables : ℕ) (text : List ℕ) → HasRead variables text self.old → result ≡ Ok None → HasRead variables (text ++ piece.now) self.new }
+        ensures refused { (variables : ℕ) (text : List ℕ) → HasRead variables text self.old → IfOk result (λ o. IfSome o (λ at. model_of variables (text ++ piece.now) ≡ NoText at)) }
+    {
+        let mut rest = piece;
+        while let Some((line, others)) = first_line(rest) {
+            if !self.take_end(line)? {
+                return Ok(Some(self.lines.at()));
+            }
+            rest = others;
+        }
+        self.front.extend_from_slice(rest)?;
+        Ok(None)
+    }
+
+    /// Takes that the text ends after the pieces so far. Answers the offset of its last line, where that is none, or its length, where the
+    /// values have no 0 at their end; none where it is the text of a model.
+    pub fn finish(&mut self) -> Option<u64>
+        ensures values { (variables : ℕ) (text : List ℕ) → HasRead variables text self.old → result ≡ None → model_of variables text ≡ Values self.new.table.truths }
+        ensures refused { (variables : ℕ) (text : List ℕ) → HasRead variables text self.old → IfSome result (λ at. model_of variables text ≡ NoText at) }
+    {
+        let at = self.lines.at();
+        if !self.lines.take(&self.front) {
+            return Some(at);
+        }
+        if self.lines.is_ended() {
+            return None;
+        }
+        Some(at.saturating_add(self.front.as_slice().len() as u64))
     }
 
     /// The values that were told, variable by variable; a variable of which none was told is false.
     pub fn as_slice(&self) -> &[bool]
-        ensures { result.now ≡ self.now }
+        ensures { result.now ≡ self.now.table.truths }
     {
-        self.values.as_slice()
-    }
-
-    // Goes on at a place, where it may.
-    #[inline]
-    fn go(&mut self, may: bool, place: Place) -> bool
-        ensures { length self.new ≡ length self.old }
-    {
-        self.place = place;
-        may
-    }
-
-    // Takes the first byte of a line.
-    fn begin_line(&mut self, byte: u8) -> bool
-        ensures { length self.new ≡ length self.old }
-    {
-        match byte {
-            b'c' => self.go(true, Place::CommentWord),
-            b's' => self.go(true, Place::Found(1)),
-            b'v' => self.go(true, Place::ValuesWord),
-            _ => false,
-        }
-    }
-
-    // Takes a byte of the line that says that there is a model.
-    fn take_found(&mut self, there: usize, byte: u8) -> bool
-        ensures { length self.new ≡ length self.old }
-    {
-        match FOUND.get(there) {
-            Some(wanted) => self.go(byte == *wanted, Place::Found(there + 1)),
-            None => is_blank(byte),
-        }
-    }
-
-    // Takes a byte between the numbers of a line, after a minus or not.
-    fn begin_number(&mut self, minus: bool, byte: u8) -> bool
-        ensures { length self.new ≡ length self.old }
-    {
-        let number = u64::from(byte.wrapping_sub(b'0'));
-        self.go(byte.is_ascii_digit(), Place::Number { minus, number })
-    }
-
-    // Takes a number that is whole: a literal that is true, or the end of the values.
-    fn end_number(&mut self, minus: bool, number: u64) -> bool
-        ensures { length self.new ≡ length self.old }
-    {
-        if self.ended {
-            return false;
-        }
-        if number == 0 {
-            self.ended = true;
-            return !minus;
-        }
-        self.values.tell((number - 1) as usize, !minus)
-    }
-
-    // Takes a byte after the digits of a number.
-    fn take_number(&mut self, minus: bool, number: u64, byte: u8) -> bool
-        ensures { length self.new ≡ length self.old }
-    {
-        if is_blank(byte) {
-            self.place = Place::Between;
-            return self.end_number(minus, number);
-        }
-        if !byte.is_ascii_digit() {
-            return false;
-        }
-        match with_digit(number, byte - b'0') {
-            Some(number) => self.go(true, Place::Number { minus, number }),
-            None => false,
-        }
-    }
-
-    // Takes the end of a line.
-    fn end_line(&mut self) -> bool
-        ensures { length self.new ≡ length self.old }
-    {
-        let whole = match self.place {
-            Place::Found(there) => there == FOUND.len(),
-            Place::Minus => false,
-            Place::Number { minus, number } => self.end_number(minus, number),
-            _ => true,
-        };
-        if whole {
-            self.place = Place::Front;
-            self.line = self.taken;
-        }
-        whole
-    }
-
-    // Takes the next byte of a line, which is no LF.
-    fn take_byte(&mut self, byte: u8) -> bool
-        ensures { length self.new ≡ length self.old }
-    {
-        match self.place {
-            Place::Front => self.begin_line(byte),
-            Place::CommentWord => self.go(is_blank(byte), Place::Comment),
-            Place::Comment => true,
-            Place::Found(there) => self.take_found(there, byte),
-            Place::ValuesWord => self.go(is_blank(byte), Place::Between),
-            Place::Between if is_blank(byte) => true,
-            Place::Between if byte == b'-' => self.go(true, Place::Minus),
-            Place::Between => self.begin_number(false, byte),
-            Place::Minus => self.begin_number(true, byte),
-            Place::Number { minus, number } => self.take_number(minus, number, byte),
-        }
-    }
-
-    // Takes the next byte, and says whether the text may go on so.
-    fn take_next(&mut self, byte: u8) -> bool
-        ensures { length self.new ≡ length self.old }
-    {
-        self.taken = self.taken.saturating_add(1);
-        if byte == b'\n' {
-            self.end_line()
-        } else {
-            self.take_byte(byte)
-        }
-    }
-
-    /// Takes the next piece of the text, cut off anywhere, and says whether the text may go on so: each line so far is one, no variable
-    /// is past the last, and none has both values. Where it may not, the reading is over, and `at` tells of the line.
-    pub fn take(&mut self, piece: &[u8]) -> bool
-        ensures { length self.new ≡ length self.old }
-    {
-        for byte in piece {
-            if !self.take_next(*byte) {
-                return false;
-            }
-        }
-        true
-    }
-
-    /// Takes that the text ends after the pieces so far, and says whether it is that of a model: its last line is one, and the values have
-    /// the 0 at their end.
-    pub fn finish(&mut self) -> bool
-        ensures { length self.new ≡ length self.old }
-    {
-        self.end_line() && self.ended
+        self.lines.as_slice()
     }
 }

@@ -9,3 +9,4 @@ pub mod Whole
 pub mod Five
 pub mod Shapes
 pub mod Movables
+pub mod Origins

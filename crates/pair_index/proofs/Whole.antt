@@ -27,26 +27,26 @@ all_right P [] ds h = h
 all_right P (c ∷ cs) ds h = all_right P cs ds (All-tail P c (cs ++ ds) h)
 
 -- what the lists are, by where a literal is
-next_own : (z : Shape) (step : List (List Pair)) (x : ℕ) → x < facts_begin z → next_list z step x ≡ moved_list step (step_move z (x / (2 * z.width))) (x % (2 * z.width))
+pub next_own : (z : Shape) (step : List (List Pair)) (x : ℕ) → x < facts_begin z → next_list z step x ≡ moved_list step (step_move z (x / (2 * z.width))) (x % (2 * z.width))
 next_own z step x h =
     let e : ltb x (facts_begin z) ≡ true = grind (arith, nat_tests) in
     ap (λ (b : Bool). if b then moved_list step (step_move z (x / (2 * z.width))) (x % (2 * z.width)) else if ltb x (facts_end z) then (if ltb ((x - facts_begin z) / (2 * z.facts)) z.horizon then moved_list step (step_move z ((x - facts_begin z) / (2 * z.facts))) (2 * z.width + (x - facts_begin z) % (2 * z.facts)) else []) else []) e
 
-last_own : (z : Shape) (step : List (List Pair)) (x : ℕ) → x < facts_begin z → last_list z step x ≡ []
+pub last_own : (z : Shape) (step : List (List Pair)) (x : ℕ) → x < facts_begin z → last_list z step x ≡ []
 last_own z step x h =
     let e : ltb x (facts_begin z) ≡ true = grind (arith, nat_tests) in
     ap (λ (b : Bool). if b then [] else if ltb x (facts_end z) then (if ltb 0 ((x - facts_begin z) / (2 * z.facts)) then moved_list step (step_move z ((x - facts_begin z) / (2 * z.facts) - 1)) (2 * z.width + 2 * z.facts + (x - facts_begin z) % (2 * z.facts)) else []) else []) e
 
-time_own : (z : Shape) (time : List (List Pair)) (x : ℕ) → x < facts_begin z → time_list z time x ≡ []
+pub time_own : (z : Shape) (time : List (List Pair)) (x : ℕ) → x < facts_begin z → time_list z time x ≡ []
 time_own z time x h =
     let e : ltb x (facts_begin z) ≡ true = grind (arith, nat_tests) in
     ap (λ (b : Bool). if b then [] else if ltb x (facts_end z) then moved_list time (time_move z ((x - facts_begin z) / (2 * z.facts))) ((x - facts_begin z) % (2 * z.facts)) else []) e
 
 -- one of three by two tests
-three : (A B C : List Pair) (p q : Bool) → p ≡ false → q ≡ true → (if p then A else if q then B else C) ≡ B
+pub three : (A B C : List Pair) (p q : Bool) → p ≡ false → q ≡ true → (if p then A else if q then B else C) ≡ B
 three A B C p q e f = ap (λ (b : Bool). if b then A else if q then B else C) e ∙ ap (λ (b : Bool). if b then B else C) f
 
-past_three : (A B C : List Pair) (p q : Bool) → p ≡ false → q ≡ false → (if p then A else if q then B else C) ≡ C
+pub past_three : (A B C : List Pair) (p q : Bool) → p ≡ false → q ≡ false → (if p then A else if q then B else C) ≡ C
 past_three A B C p q e f = ap (λ (b : Bool). if b then A else if q then B else C) e ∙ ap (λ (b : Bool). if b then B else C) f
 
 module _ (z : Shape) (T S I A : List (List ℕ)) (told step time after : List (List Pair)) (shape : IsShape z) (parts : AreParts z T S I A) (told_rows : (x : ℕ) → pairs_of told x ≡ pairs_from 0 x T) (step_rows : 0 < z.horizon → (x : ℕ) → pairs_of step x ≡ pairs_from 0 x S) (time_rows : (x : ℕ) → pairs_of time x ≡ pairs_from 0 x I) (after_rows : (x : ℕ) → pairs_of after x ≡ pairs_from 0 x A) where

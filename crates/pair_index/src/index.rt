@@ -1,5 +1,5 @@
 //! The clauses of two literals of a formula by their literals.
-ghost use Rattle.std.specs.Prelude.{◌≡◌, ℕ, ◌+◌, ◌*◌, ◌<◌, ◌≤◌, ◌++◌, [], length, All, IfOk};
+ghost use Rattle.std.specs.Prelude.{◌≡◌, ℕ, ◌+◌, ◌*◌, ◌<◌, ◌++◌, length, All, IfOk};
 ghost use Rattle.pair_index.specs.Pairs.{pairs_of, pairs_from, IsIndex};
 ghost use Rattle.pair_index.specs.Lists.{AreParts, AreWithin, IsShape, clauses_of};
 

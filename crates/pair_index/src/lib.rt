@@ -6,7 +6,7 @@ mod build;
 pub mod index;
 pub mod list;
 pub mod lists;
-mod origin;
+pub mod origin;
 pub mod pair;
 mod shape;
 mod table;

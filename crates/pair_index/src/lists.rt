@@ -1,8 +1,9 @@
 //! The pairs of a literal in five lists: in the rows of which literals of one step and of one time they stand, and how they are
 //! moved. How they are moved is worked out only for a list that has pairs, since most have none.
-ghost use Rattle.std.specs.Prelude.{◌≡◌, ◌+◌, ◌-◌, ◌*◌, ◌/◌, ◌%◌, ◌<◌, ◌≤◌, [], nat_lt, if◌then◌else◌, unwrap_or};
+ghost use Rattle.std.specs.Prelude.{◌≡◌, ◌+◌, ◌-◌, ◌*◌, ◌/◌, ◌<◌, ◌≤◌, [], nat_lt, if◌then◌else◌, unwrap_or};
 ghost use Rattle.pair_index.specs.Lists.{AreTables, AreWithin, IsShape, last_list, moved_list, next_list, plain_move, step_move, time_list, time_move};
-ghost use Rattle.pair_index.specs.Origin.{IsOrigin};
+ghost use Rattle.pair_index.specs.declared.origin.Origin.TheVariants.{Step, Time};
+ghost use Rattle.pair_index.specs.Origin.{AreEmptyBy, IsOrigin};
 
 use crate::list::{Move, PairList};
 use crate::origin::{Origin, origin_of};
@@ -121,12 +122,12 @@ pub struct Lists<'a> {
 }
 
 impl<'a> Model for Lists<'a> {
-    ghost use Rattle.pair_index.specs.Lists.{AreTables, IsShape, after_all, last_list, moved_list, next_list, plain_move, time_list};
+    ghost use Rattle.pair_index.specs.Lists.{AreTables, IsShape, last_list, moved_list, next_list, plain_move, time_list};
     ghost use Rattle.pair_index.specs.Origin.{IsOrigin, ListsView};
 
     ghost Value = { ListsView };
 
-    ghost view = { λ l. record { told = moved_list l.told.now (plain_move 0) l.code; last = last_list l.shape.now l.step.now l.code; next = next_list l.shape.now l.step.now l.code; time = time_list l.shape.now l.time.now l.code; after = moved_list l.after.now (plain_move l.shape.now.before) l.code } };
+    ghost view = { λ l. record { origin = l.origin; told = moved_list l.told.now (plain_move 0) l.code; last = last_list l.shape.now l.step.now l.code; next = next_list l.shape.now l.step.now l.code; time = time_list l.shape.now l.time.now l.code; after = moved_list l.after.now (plain_move l.shape.now.before) l.code } };
 
     ghost invariant = { λ l. IsShape l.shape.now × AreTables l.shape.now l.told.now l.step.now l.time.now l.after.now × IsOrigin l.shape.now l.code l.origin };
 }
@@ -170,38 +171,50 @@ impl<'a> Lists<'a> {
         plain_list(self.told, self.code, 0)
     }
 
-    /// Those of the step that ends where a fact is, if there are any.
+    /// Of which step or time the literal is: where of neither, there are no pairs of steps and times; where of a step, there are
+    /// those of this step alone.
     #[inline]
-    pub fn last(&self) -> Option<PairList<'a>>
-        ensures { unwrap_or result [] ≡ self.now.last }
+    pub fn origin(&self) -> Origin
+        ensures is { result ≡ self.now.origin }
+        ensures empty { AreEmptyBy result self.now.last self.now.next self.now.time }
     {
-        match self.origin {
-            Origin::Time(time, fact) => last_of(self.shape, self.step, time, fact),
-            _ => None,
-        }
+        self.origin
     }
 
-    /// Those of the step that begins where a fact is, or of which a literal is, if there are any.
+    /// Those of the step of which the literal is, if there are any.
     #[inline]
-    pub fn next(&self) -> Option<PairList<'a>>
+    pub fn of_step(&self, step: u32, code: u32) -> Option<PairList<'a>>
+        requires { self.now.origin ≡ Step step code }
         ensures { unwrap_or result [] ≡ self.now.next }
     {
-        match self.origin {
-            Origin::Step(step, code) => step_list(self.shape, self.step, step, code),
-            Origin::Time(time, fact) => next_of(self.shape, self.step, time, fact),
-            Origin::Other => None,
-        }
+        step_list(self.shape, self.step, step, code)
     }
 
-    /// Those of the time at which a fact is, if there are any.
+    /// Those of the step that ends where the fact is, if there are any.
     #[inline]
-    pub fn time(&self) -> Option<PairList<'a>>
+    pub fn last(&self, time: u32, fact: u32) -> Option<PairList<'a>>
+        requires { self.now.origin ≡ Time time fact }
+        ensures { unwrap_or result [] ≡ self.now.last }
+    {
+        last_of(self.shape, self.step, time, fact)
+    }
+
+    /// Those of the step that begins where the fact is, if there are any.
+    #[inline]
+    pub fn next(&self, time: u32, fact: u32) -> Option<PairList<'a>>
+        requires { self.now.origin ≡ Time time fact }
+        ensures { unwrap_or result [] ≡ self.now.next }
+    {
+        next_of(self.shape, self.step, time, fact)
+    }
+
+    /// Those of the time at which the fact is, if there are any.
+    #[inline]
+    pub fn time(&self, time: u32, fact: u32) -> Option<PairList<'a>>
+        requires { self.now.origin ≡ Time time fact }
         ensures { unwrap_or result [] ≡ self.now.time }
     {
-        match self.origin {
-            Origin::Time(time, fact) => time_list(self.shape, self.time, time, fact),
-            _ => None,
-        }
+        time_list(self.shape, self.time, time, fact)
     }
 
     /// Those of the clauses after all times, if there are any.

@@ -1,5 +1,5 @@
 //! A table of the clauses of two literals by their literals.
-ghost use Rattle.std.specs.Prelude.{◌≡◌, ℕ, ◌+◌, ◌*◌, ◌<◌, ◌≤◌, [], All, length, IfOk};
+ghost use Rattle.std.specs.Prelude.{◌≡◌, ℕ, ◌+◌, ◌<◌, ◌≤◌, [], All, length, IfOk};
 ghost use Rattle.pair_index.specs.Pairs.{pairs_of, pairs_from};
 
 use crate::build::{counted, ends_of, fill, has_pairs};

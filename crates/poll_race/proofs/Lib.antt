@@ -1,3 +1,5 @@
 pub mod Lists
 pub mod Polled
 pub mod Standing
+pub mod Falls
+pub mod OnePolled

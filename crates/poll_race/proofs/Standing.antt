@@ -7,7 +7,7 @@ use Rattle.race.specs.Input.{input_of}
 use Rattle.race.specs.Tied.{race_state}
 use Rattle.poll_race.specs.declared.phase.Phase.{Phase}
 use Rattle.poll_race.specs.declared.phase.Phase.TheVariants.{Between, Within, Given}
-use Rattle.poll_race.specs.Tied.{IsTied, is_given, numbers_at, spent_at, lines_at}
+use Rattle.poll_race.specs.Tied.{IsTied, is_given, numbers_at, runs_at, spent_at, lines_at}
 use Rattle.poll_race.specs.View.{RaceView, Stands}
 
 -- the race that is seen in a phase
@@ -17,12 +17,13 @@ view_of form settings task phase = record {
   form = form;
   settings = settings;
   stage = numbers_at phase;
+  runs = runs_at phase;
   spent = spent_at phase;
   lines = lines_at phase;
   given = is_given phase;
 }
 
-pub standing : {F : Type 0} (g : Ghosts F) (form : F) (settings : Settings) (task : Task) (phase : Phase) → IsTied (input_of g form settings) phase
+pub standing : {F : Type 0} (g : Ghosts F) (form : F) (settings : Settings) (task : Task) (phase : Phase) → IsTied settings.slice (input_of g form settings) phase
     → is_given phase ≡ false → Stands g (view_of form settings task phase)
 standing g form settings task (Between racing) tied live = record { state = race_state racing; after = tied.after; ledger = tied.tied.spent; closed = refl }
 standing g form settings task (Within round) tied live =

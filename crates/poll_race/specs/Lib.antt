@@ -1,4 +1,5 @@
 pub mod Numbers
+pub mod OnePoll
 pub mod Works
 pub mod Tied
 pub mod View

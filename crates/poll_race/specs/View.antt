@@ -10,15 +10,18 @@ use Rattle.race.specs.Begun.{Gives as RaceGives}
 use Rattle.race.specs.Input.{RaceInput, input_of}
 use Rattle.race.specs.Race.{On, after_rounds}
 use Rattle.race.specs.State.{RaceState, spent}
+use Rattle.horizon_run.specs.Run.{RunView}
+use Rattle.poll_run.specs.Polls.{Polling}
 use Rattle.poll_race.specs.Numbers.{Numbers}
 
--- what it is about, by what it is run, how far it is, the conflicts that its ledger has as spent, the lines of the horizons that
+-- what it is about, by what it is run, how far it is, the runs of the round that are polled yet with the one at hand first, the conflicts that its ledger has as spent, the lines of the horizons that
 -- are live no more, and whether its end was given
 pub record RaceView (F : Type 0) : Type 0 where
   pub task : Task
   pub form : F
   pub settings : Settings
   pub stage : Numbers
+  pub runs : List (Polling RunView)
   pub spent : ℕ
   pub lines : List LineView
   pub given : Bool

@@ -72,7 +72,7 @@ fn end<F: StepForm>(
     settings: &Settings,
     round: Round,
 ) -> Result<Next, Memory>
-    requires within { IsWithin (input_of F.StepForm form.now settings.now) round }
+    requires within { IsWithin settings.now.slice (input_of F.StepForm form.now settings.now) round }
     requires all { round.works.items ≡ [] }
     ensures { IfOk result (Follows F.StepForm form.now settings.now (Phase.Within round)) }
 {
@@ -95,7 +95,7 @@ fn go_on<F: StepForm>(
     mut round: Round,
     cx: &mut Context<'_>,
 ) -> Result<Next, Memory>
-    requires { IsWithin (input_of F.StepForm form.now settings.now) round }
+    requires { IsWithin settings.now.slice (input_of F.StepForm form.now settings.now) round }
     ensures next { IfOk result (Follows F.StepForm form.now settings.now (Phase.Within round)) }
     ensures kept { Keeps cx.old cx.new }
 {
@@ -116,7 +116,7 @@ pub(crate) fn next_phase<F: StepForm>(
     cx: &mut Context<'_>,
 ) -> Result<Next, RaceError>
     requires form_of { F.task form.now ≡ task.now }
-    requires tied { IsTied (input_of F.StepForm form.now settings.now) phase }
+    requires tied { IsTied settings.now.slice (input_of F.StepForm form.now settings.now) phase }
     requires live { is_given phase ≡ false }
     ensures next { IfOk result (Follows F.StepForm form.now settings.now phase) }
     ensures large { IfErr result (TellsLarge (input_of F.StepForm form.now settings.now)) }

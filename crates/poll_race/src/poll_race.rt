@@ -1,8 +1,9 @@
 // A race as a future.
-ghost use Rattle.std.specs.Prelude.{⊤, ◌≡◌, ◌≤◌, false, IfOk};
+ghost use Rattle.std.specs.Prelude.{⊤, ◌≡◌, ◌≤◌, ◌<◌, [], false, IfOk};
 ghost use Rattle.futures.specs.Poll.{IfReady, OnPending};
 ghost use Rattle.futures.specs.Task.{Covers, Keeps};
-ghost use Rattle.poll_race.specs.Numbers.{IsBelow};
+ghost use Rattle.poll_race.specs.Numbers.{IsBelow, polls_left};
+ghost use Rattle.poll_race.specs.OnePoll.{DoesOne};
 ghost use Rattle.poll_race.specs.View.{RaceView, Gives, Stands};
 
 use crate::phase::{Next, Phase, next_phase, put};
@@ -11,6 +12,7 @@ use futures::Future;
 use futures::task::{Context, Poll};
 use gt_core::task::Task;
 use horizon_rates::{Rates, Settings};
+use poll_run::Bounded;
 use race::{RaceError, Racing};
 use race_end::RaceEnd;
 use std::alloc::Global;
@@ -31,7 +33,7 @@ pub struct PollRace<'a, F: StepForm> {
 impl<'a, F: StepForm> Model for PollRace<'a, F> {
     ghost use Rattle.std.specs.Prelude.{◌≡◌};
     ghost use Rattle.race.specs.Input.{input_of};
-    ghost use Rattle.poll_race.specs.Tied.{IsTied, numbers_at, spent_at, lines_at, is_given};
+    ghost use Rattle.poll_race.specs.Tied.{IsTied, numbers_at, runs_at, spent_at, lines_at, is_given};
     ghost use Rattle.poll_race.specs.View.{RaceView};
 
     ghost Value = { RaceView F };
@@ -41,12 +43,13 @@ impl<'a, F: StepForm> Model for PollRace<'a, F> {
       form = p.form.now;
       settings = p.settings;
       stage = numbers_at p.phase;
+      runs = runs_at p.phase;
       spent = spent_at p.phase;
       lines = lines_at p.phase;
       given = is_given p.phase;
     } };
 
-    ghost invariant = { λ p. (F.task p.form.now ≡ p.task.now) × IsTied (input_of F.StepForm p.form.now p.settings) p.phase };
+    ghost invariant = { λ p. (F.task p.form.now ≡ p.task.now) × IsTied p.settings.slice (input_of F.StepForm p.form.now p.settings) p.phase };
 }
 
 impl<'a, F: StepForm> PollRace<'a, F> {
@@ -127,6 +130,12 @@ impl<'a, F: StepForm> Future for PollRace<'a, F> {
         // A pending poll asks for another one, and the race is further than before.
         ensures yields { OnPending result (Covers cx.new (λ s. ⊤)) }
         ensures rises { OnPending result (IsBelow self.old.stage self.new.stage) }
+        ensures fewer { OnPending result (polls_left self.new.settings.budget self.new.stage < polls_left self.old.settings.budget self.old.stage) }
+
+        // It did one of three things: it began a round, polled one live run once, by a slice at most, or ended a round. The end comes
+        // only where a round ends.
+        ensures one { OnPending result (DoesOne self.old.settings.slice self.old.stage self.new.stage self.old.runs self.new.runs) }
+        ensures end { IfReady result (λ given. IfOk given (λ end. (self.old.runs ≡ []) × (self.old.stage.begun ≡ 1))) }
 
         // After each poll that does not give the end, ledger and lines are those of the defined race after as many rounds as ended.
         ensures stands { OnPending result (Stands F.StepForm self.new) }
@@ -143,5 +152,16 @@ impl<'a, F: StepForm> Future for PollRace<'a, F> {
             Ok(Next::End(end)) => Poll::Ready(Ok(end)),
             Err(error) => Poll::Ready(Err(error)),
         }
+    }
+}
+
+/// A race is ready after finitely many polls: each round that ends spends at least one conflict of the budget.
+impl<'a, F: StepForm> Bounded for PollRace<'a, F> {
+    ghost use Rattle.poll_race.specs.Numbers.{polls_left};
+
+    ghost polls_left = { λ race. polls_left race.settings.budget race.stage };
+
+    fn poll_on(&mut self, cx: &mut Context<'_>) -> Poll<Result<RaceEnd, RaceError>> {
+        self.poll(cx)
     }
 }

@@ -4,7 +4,9 @@ ghost use Rattle.futures.specs.Task.{Keeps};
 ghost use Rattle.horizon_run.specs.Run.{moved_to};
 ghost use Rattle.race.specs.Input.{input_of};
 ghost use Rattle.poll_race.specs.Numbers.{IsBelow};
+ghost use Rattle.poll_race.specs.OnePoll.{PollsRun};
 ghost use Rattle.poll_race.specs.Tied.{IsWithin, numbers_of};
+ghost use Rattle.poll_race.specs.Works.{polls_of};
 
 use crate::work::Work;
 use clause_base::memory::Memory;
@@ -29,7 +31,8 @@ pub(crate) struct Round {
 fn finished(run: HorizonRun, target: u64) -> Result<HorizonRun, Memory>
     requires within { run.spoilt ≡ false → run.granted ≤ target }
     requires target { target ≤ 1073741824 }
-    ensures { IfOk result (λ end. end ≡ moved_to run target) }
+    ensures at_target { IfOk result (λ end. end ≡ moved_to run target) }
+    ensures sound { OnOk result (run.spoilt ≡ false) }
 {
     if run.spoilt() {
         return Err(Memory);
@@ -55,10 +58,11 @@ impl Round {
         settings: &Settings,
         cx: &mut Context<'_>,
     ) -> Result<(), Memory>
-        requires within { IsWithin (input_of F.StepForm form.now settings.now) self.old }
+        requires within { IsWithin settings.now.slice (input_of F.StepForm form.now settings.now) self.old }
         requires some { 0 < length self.old.works.items }
-        ensures within { OnOk result (IsWithin (input_of F.StepForm form.now settings.now) self.new) }
+        ensures within { OnOk result (IsWithin settings.now.slice (input_of F.StepForm form.now settings.now) self.new) }
         ensures rises { OnOk result (IsBelow (numbers_of self.old) (numbers_of self.new)) }
+        ensures one { OnOk result (PollsRun settings.now.slice (numbers_of self.old) (numbers_of self.new) (polls_of self.old.works.items) (polls_of self.new.works.items)) }
         ensures kept { Keeps cx.old cx.new }
     {
         let (_form, _settings) = (form, settings);

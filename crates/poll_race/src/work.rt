@@ -26,7 +26,7 @@ pub(crate) fn works_of(
     requires sound { AllByRecursion (λ job. job.run.spoilt ≡ false) jobs.items }
     requires slice { (1 ≤ slice) × (slice ≤ 10000) }
     ensures ends { IfOk result (λ works. at_targets works.items ≡ map run_at jobs.items) }
-    ensures work { IfOk result (λ works. AreAtWork works.items) }
+    ensures work { IfOk result (λ works. AreAtWork slice works.items) }
 {
     let mut works = Vec::new(alloc);
     for job in jobs {

@@ -1,5 +1,5 @@
 -- What one poll makes of a run.
-use Rattle.std.specs.Prelude.{◌≡◌, ℕ, true, false, ◌≤◌, ◌<◌, ◌⊎◌, List, [], ◌∷◌, Option, IsSomeAnd}
+use Rattle.std.specs.Prelude.{◌≡◌, ℕ, true, false, ◌≤◌, ◌<◌, ◌-◌, ◌⊎◌, List, [], ◌∷◌, Option, Some, None, IsSomeAnd}
 use Rattle.futures.specs.declared.task.Poll.{Poll}
 use Rattle.futures.specs.declared.task.Poll.TheVariants.{Ready, Pending}
 use Rattle.solver_pool.specs.declared.resume.Resume.{Ghosts}
@@ -18,6 +18,10 @@ AtPoll p q Pending P = IsSomeAnd p.run (λ before. IsSomeAnd q.run (λ after. P 
 AtPoll p q (Ready after) P = IsSomeAnd p.run (λ before. P before after)
 
 module _ {R : Type 0} (g : Ghosts R) where
+  -- how many units are left to the target: so many more polls are pending at most
+  abbrev pub polls_left : Polling R → ℕ
+  polls_left p = elim p.run [ Some run ↦ p.target - g.granted_of run | None ↦ 0 ]
+
   -- it is a run of the same horizon and origin
   abbrev pub IsSame : R → R → Type 0
   IsSame before after = (g.horizon_of after ≡ g.horizon_of before) × (g.origin_of after ≡ g.origin_of before)

@@ -1,7 +1,7 @@
 //! Runs that are polled by hand, and what drives them.
 //!
 //! A [`PollRun`] is a future over a run that can be stopped and advanced: each poll advances it once, by a slice, until it is
-//! settled or at its target. A [`Driver`] polls a future to its end; [`settle`] drives one run.
+//! settled or at its target. It is [`Bounded`]: it is ready after finitely many polls. A [`Driver`] polls a future to its end; [`settle`] drives one run.
 //!
 //! ```text
 //! let mut driver = BlockOn::new(&rt);
@@ -10,12 +10,14 @@
 #![tactic(auto)]
 
 mod block_driver;
+mod bounded;
 mod driver;
 mod no_driver;
 mod poll_run;
 mod settling;
 
 pub use block_driver::BlockOn;
+pub use bounded::Bounded;
 pub use driver::{DriveFailed, Driver};
 pub use no_driver::NoDriver;
 pub use poll_run::PollRun;

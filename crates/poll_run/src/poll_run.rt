@@ -5,6 +5,7 @@ ghost use Rattle.futures.specs.Poll.{IfReady, OnPending};
 ghost use Rattle.futures.specs.Task.{Covers, Keeps};
 ghost use Rattle.poll_run.specs.Polls.{AtPoll, Gives, GoesNext, GoesOn, Spends, Ends, GoesThrough};
 
+use crate::Bounded;
 use futures::Future;
 use futures::task::{Context, Poll};
 use solver_pool::Resume;
@@ -130,5 +131,16 @@ impl<R: Resume> Future for PollRun<R> {
             }
             None => unreachable!(),
         }
+    }
+}
+
+/// Each pending poll spends at least one unit of what is left to the target.
+impl<R: Resume> Bounded for PollRun<R> {
+    ghost use Rattle.poll_run.specs.Polls.{polls_left};
+
+    ghost polls_left = { polls_left R.Resume };
+
+    fn poll_on(&mut self, cx: &mut Context<'_>) -> Poll<R> {
+        self.poll(cx)
     }
 }

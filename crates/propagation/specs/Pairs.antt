@@ -1,7 +1,10 @@
--- How a clause is found that may become pending.
-use Rattle.std.specs.Prelude.{◌≡◌, ℕ, ◌*◌, ◌<◌, ◌⊎◌, List, length, slice_index}
+-- How a clause is found that may become pending, and which clauses of two literals are put into the set.
+use Rattle.std.specs.Prelude.{◌≡◌, ℕ, ◌*◌, ◌<◌, ◌⊎◌, List, true, false, length, slice_index}
+use Rattle.clause_base.specs.Clause.{has_literal}
+use Rattle.number_bits.specs.Bits.{words_have}
 use Rattle.pair_index.specs.declared.pair.Pair.{Pair}
-use Rattle.pair_index.specs.Pairs.{IsInPairs, AreExact}
+use Rattle.pair_index.specs.Pairs.{IsInPairs, IsPairOf, AreExact, pair_in}
+use Rattle.propagation.specs.declared.pending.Pending.{Pending}
 use Rattle.cdcl_rules.specs.State.{clause_at}
 
 -- the clause with a number has a slot
@@ -19,3 +22,11 @@ pub record IsPaired (variables : ℕ) (clauses : List (List ℕ)) (slots : List 
   pub long : length pairs ≡ 2 * variables
   pub found : (c : ℕ) → c < length clauses → IsUnwatched pairs (clause_at clauses c) c ⊎ HasSlot slots c
   pub exact : AreExact clauses pairs
+
+-- the pairs of a list are of clauses with this literal
+abbrev pub ArePairsOf : List (List ℕ) → ℕ → List Pair → Type 0
+ArePairsOf clauses code pairs = (i : ℕ) → i < length pairs → IsPairOf clauses code (pair_in pairs i)
+
+-- the clauses of the pairs of a list whose other literal is not true are in the set
+abbrev pub AreMarked : List ℕ → List Pair → Pending → Type 0
+AreMarked trail pairs p = (i : ℕ) → i < length pairs → has_literal trail (pair_in pairs i).other ≡ false → words_have p.numbers (pair_in pairs i).number ≡ true

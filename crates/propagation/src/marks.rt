@@ -1,16 +1,20 @@
 //! The clauses of two literals of a literal that became false: each whose other literal is not true asks for that.
-ghost use Rattle.std.specs.Prelude.{◌≡◌, ℕ, ◌*◌, ◌<◌, [], length, false, true, unwrap_or};
+ghost use Rattle.std.specs.Prelude.{◌≡◌, ◌*◌, ◌<◌, [], length, false, true, unwrap_or};
 ghost use Rattle.clause_base.specs.Literal.{opposite};
 ghost use Rattle.clause_base.specs.Clause.{has_literal};
 ghost use Rattle.number_bits.specs.Bits.{words_have};
-ghost use Rattle.pair_index.specs.Pairs.{IsPairOf, pairs_of, pair_in};
+ghost use Rattle.pair_index.specs.Pairs.{IsPairOf, pairs_of};
+ghost use Rattle.pair_index.specs.declared.origin.Origin.TheVariants.{Time};
 ghost use Rattle.propagation.specs.Asks.{HasAsks};
+ghost use Rattle.propagation.specs.Pairs.{AreMarked, ArePairsOf};
 ghost use Rattle.propagation.specs.Visit.{Grows, IsFit};
 
 use crate::pending::Pending;
 use cdcl_trail::assignment::Assignment;
 use pair_index::index::PairIndex;
 use pair_index::list::PairList;
+use pair_index::lists::Lists;
+use pair_index::origin::Origin;
 use pair_index::pair::Pair;
 use watch_store::store::Store;
 
@@ -42,9 +46,9 @@ fn mark_all(
 )
     requires fit { IsFit store.now (2 * assignment.now.variables) }
     requires falsified { has_literal assignment.now.trail (opposite falsified) ≡ true }
-    requires exact { (i : ℕ) → i < length pairs.now → IsPairOf store.now falsified (pair_in pairs.now i) }
+    requires exact { ArePairsOf store.now falsified pairs.now }
     requires asks { HasAsks store.now assignment.now.trail pending.old }
-    ensures in_set { (i : ℕ) → i < length pairs.now → has_literal assignment.now.trail (pair_in pairs.now i).other ≡ false → words_have pending.new.numbers (pair_in pairs.now i).number ≡ true }
+    ensures in_set { AreMarked assignment.now.trail pairs.now pending.new }
     ensures grows { Grows (words_have pending.old.numbers) (words_have pending.new.numbers) }
     ensures asks { HasAsks store.now assignment.now.trail pending.new }
 {
@@ -64,14 +68,99 @@ fn mark_list(
 )
     requires fit { IsFit store.now (2 * assignment.now.variables) }
     requires falsified { has_literal assignment.now.trail (opposite falsified) ≡ true }
-    requires exact { (i : ℕ) → i < length (unwrap_or pairs []) → IsPairOf store.now falsified (pair_in (unwrap_or pairs []) i) }
+    requires exact { ArePairsOf store.now falsified (unwrap_or pairs []) }
     requires asks { HasAsks store.now assignment.now.trail pending.old }
-    ensures in_set { (i : ℕ) → i < length (unwrap_or pairs.entry []) → has_literal assignment.now.trail (pair_in (unwrap_or pairs.entry []) i).other ≡ false → words_have pending.new.numbers (pair_in (unwrap_or pairs.entry []) i).number ≡ true }
+    ensures in_set { AreMarked assignment.now.trail (unwrap_or pairs.entry []) pending.new }
     ensures grows { Grows (words_have pending.old.numbers) (words_have pending.new.numbers) }
     ensures asks { HasAsks store.now assignment.now.trail pending.new }
 {
     if let Some(pairs) = pairs {
         mark_all(store, &pairs, assignment, falsified, pending);
+    }
+}
+
+/// Puts the clauses of two literals of a false fact at a time into the set whose other literal is not true: those of the step that
+/// ends there, of the step that begins there, and of the time.
+#[inline(always)]
+fn mark_fact(
+    store: &Store,
+    lists: &Lists,
+    time: u32,
+    fact: u32,
+    assignment: &Assignment,
+    falsified: u32,
+    pending: &mut Pending,
+)
+    requires fit { IsFit store.now (2 * assignment.now.variables) }
+    requires falsified { has_literal assignment.now.trail (opposite falsified) ≡ true }
+    requires origin { lists.now.origin ≡ Time time fact }
+    requires last { ArePairsOf store.now falsified lists.now.last }
+    requires next { ArePairsOf store.now falsified lists.now.next }
+    requires time { ArePairsOf store.now falsified lists.now.time }
+    requires asks { HasAsks store.now assignment.now.trail pending.old }
+    ensures last { AreMarked assignment.now.trail lists.now.last pending.new }
+    ensures next { AreMarked assignment.now.trail lists.now.next pending.new }
+    ensures time { AreMarked assignment.now.trail lists.now.time pending.new }
+    ensures grows { Grows (words_have pending.old.numbers) (words_have pending.new.numbers) }
+    ensures asks { HasAsks store.now assignment.now.trail pending.new }
+{
+    mark_list(
+        store,
+        lists.last(time, fact),
+        assignment,
+        falsified,
+        pending,
+    );
+    mark_list(
+        store,
+        lists.next(time, fact),
+        assignment,
+        falsified,
+        pending,
+    );
+    mark_list(
+        store,
+        lists.time(time, fact),
+        assignment,
+        falsified,
+        pending,
+    );
+}
+
+/// Puts the clauses of steps and times of two literals of a false literal into the set whose other literal is not true. Of which
+/// step or time the literal is, is looked at once.
+#[inline(always)]
+fn mark_repeated(
+    store: &Store,
+    lists: &Lists,
+    assignment: &Assignment,
+    falsified: u32,
+    pending: &mut Pending,
+)
+    requires fit { IsFit store.now (2 * assignment.now.variables) }
+    requires falsified { has_literal assignment.now.trail (opposite falsified) ≡ true }
+    requires last { ArePairsOf store.now falsified lists.now.last }
+    requires next { ArePairsOf store.now falsified lists.now.next }
+    requires time { ArePairsOf store.now falsified lists.now.time }
+    requires asks { HasAsks store.now assignment.now.trail pending.old }
+    ensures last { AreMarked assignment.now.trail lists.now.last pending.new }
+    ensures next { AreMarked assignment.now.trail lists.now.next pending.new }
+    ensures time { AreMarked assignment.now.trail lists.now.time pending.new }
+    ensures grows { Grows (words_have pending.old.numbers) (words_have pending.new.numbers) }
+    ensures asks { HasAsks store.now assignment.now.trail pending.new }
+{
+    match lists.origin() {
+        Origin::Step(step, code) => mark_list(
+            store,
+            lists.of_step(step, code),
+            assignment,
+            falsified,
+            pending,
+        ),
+        Origin::Time(time, fact) => mark_fact(
+            store, lists, time, fact, assignment, falsified, pending,
+        ),
+        Origin::Other => {}
     }
 }
 
@@ -87,17 +176,15 @@ pub fn mark_pairs(
     requires fit { IsFit store.now (2 * assignment.now.variables) }
     requires falsified { has_literal assignment.now.trail (opposite falsified) ≡ true }
     requires inside { falsified < length index.now }
-    requires exact { (i : ℕ) → i < length (pairs_of index.now falsified) → IsPairOf store.now falsified (pair_in (pairs_of index.now falsified) i) }
+    requires exact { ArePairsOf store.now falsified (pairs_of index.now falsified) }
     requires asks { HasAsks store.now assignment.now.trail pending.old }
-    ensures in_set { (i : ℕ) → i < length (pairs_of index.now falsified) → has_literal assignment.now.trail (pair_in (pairs_of index.now falsified) i).other ≡ false → words_have pending.new.numbers (pair_in (pairs_of index.now falsified) i).number ≡ true }
+    ensures in_set { AreMarked assignment.now.trail (pairs_of index.now falsified) pending.new }
     ensures grows { Grows (words_have pending.old.numbers) (words_have pending.new.numbers) }
     ensures asks { HasAsks store.now assignment.now.trail pending.new }
 {
     let lists = index.lists(falsified);
     mark_list(store, lists.told(), assignment, falsified, pending);
-    mark_list(store, lists.last(), assignment, falsified, pending);
-    mark_list(store, lists.next(), assignment, falsified, pending);
-    mark_list(store, lists.time(), assignment, falsified, pending);
+    mark_repeated(store, &lists, assignment, falsified, pending);
     // With a second caller the loop stays a function of its own, and so the test before it goes into this one.
     match lists.after() {
         None => {}

@@ -7,4 +7,4 @@ use Rattle.grounder.proofs.constant.leave_out_call.Given as goal
 
 abbrev pub invariant-loop-effect : goal.invariant-loop-effect
 invariant-loop-effect l =
-    LeavesOut (λ a. list_any (deletes l.reached a) (flat_map (changes_of l.domains l.call.objects) (take l.effect-index l.effect-items))) l.fn.constant l.constant
+    LeavesOut (λ a. list_any (deletes l.reached a) (flat_map (changes_of l.domains l.objects) (take l.effect-index l.effect-items))) l.fn.constant l.constant

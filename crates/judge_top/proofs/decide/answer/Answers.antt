@@ -1,5 +1,6 @@
 use Rattle.std.proofs.Common.{◌≡◌, ◌∙◌, [], ap, refl, inl, inr}
 use Rattle.pl_io.specs.Tape.{Given}
+use Rattle.judge_top.specs.Answers.{tape_run}
 use Rattle.judge_top.proofs.Deciding.{judged_before}
 use Rattle.judge_top.proofs.Handed.{handed, weaker}
 use Rattle.judge_top.proofs.decide.answer.Goals as goal
@@ -13,4 +14,7 @@ answer_judge-requires-clause-opened g c lifetimes within = ap (λ (given : Given
 
 pub returns-in_ok-open-in-Judge-clause-cause : goal.returns-in_ok-open-in-Judge-clause-cause
 returns-in_ok-open-in-Judge-clause-cause g c =
-    rw c.in-Judge.is (weaker _ _ (λ end h. inr (c.answer_judge.ensures.named ∙ ap (λ (given : Given). given.0) c.in_ok-open-in-Judge.ensures.given, judged_before _ _ c.in-Judge.stepping c.in-Judge.horizon _ _ _ _ c.open.ensures.later end h)) c.answer_judge.result c.answer_judge.ensures.ended)
+    rw c.in-Judge.is (weaker _ _ (λ end h. inr (c.answer_judge.ensures.named ∙ ap (λ (given : Given). given.0) c.in_ok-open-in-Judge.ensures.given, judged_before _ _ c.in-Judge.stepping c.in-Judge.horizon _ (tape_run (g.T.Tape.faults c.open.new.tape) (g.T.Tape.faults c.answer_judge.new.tape) (g.T.Tape.given c.answer_judge.new.tape)) c.open.ensures.later end h)) c.answer_judge.result c.answer_judge.ensures.ended)
+
+pub returns-in-Model-clause-cause : goal.returns-in-Model-clause-cause
+returns-in-Model-clause-cause g c = rw c.in-Model.is c.answer_opened.ensures.cause

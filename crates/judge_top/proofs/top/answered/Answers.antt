@@ -8,12 +8,12 @@ use Rattle.judge_top.proofs.top.answered.Goals as goal
 pub written-requires-clause-not_six : goal.written-requires-clause-not_six
 written-requires-clause-not_six g c =
     let comes = end_answers _ c.decide.result c.in-Some.end c.decide.ensures.cause c.in-Some.ensures in
-    (status_apart _ _ _ _ _ _ _ (map string_bytes c.args.words.now) c.in-Some.end comes).0
+    (status_apart _ _ _ _ _ (map string_bytes c.args.words.now) c.in-Some.end comes).0
 
 pub written-requires-clause-not_eight : goal.written-requires-clause-not_eight
 written-requires-clause-not_eight g c =
     let comes = end_answers _ c.decide.result c.in-Some.end c.decide.ensures.cause c.in-Some.ensures in
-    (status_apart _ _ _ _ _ _ _ (map string_bytes c.args.words.now) c.in-Some.end comes).1
+    (status_apart _ _ _ _ _ (map string_bytes c.args.words.now) c.in-Some.end comes).1
 
 pub returns-clause-due : goal.returns-clause-due
 returns-clause-due g c not_six not_eight =

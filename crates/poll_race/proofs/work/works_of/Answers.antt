@@ -25,10 +25,15 @@ loop-job-preserved c =
     let before = c.granted-before.ensures.value in
     let few = c.job.invariant.1 in
     let aim = ap (λ (p : Polling RunView). p.target) c.new-poll.ensures in
-    let work : IsAtWork w = (subst (λ (o : Option RunView). IsSomeAnd o (λ r. w.before ≤ r.granted)) (sym given) (omega (arith, before)), omega (arith, few, aim)) in
+    let low = c.job.invariant.0 in
+    let work : IsAtWork c.args.slice w = (
+      subst (λ (o : Option RunView). IsSomeAnd o (λ r. (w.before ≤ r.granted) × (r.granted ≤ w.poll.target))) (sym given) (omega (arith, before), omega (arith, low, aim)),
+      omega (arith, few, aim),
+      ap (λ (p : Polling RunView). p.slice) c.new-poll.ensures,
+    ) in
     record {
       whole = append_assoc c.loop-job.yielded (job ∷ []) rest ∙ whole;
       left = search rules;
       ends = ap at_targets items ∙ (targets-push works w job.run at ∙ ((λ i. c.loop-job.invariant.ends i ++ moved_to job.run (target i) ∷ []) ∙ sym (map-append run_at c.loop-job.yielded (job ∷ []))));
-      work = subst (AllByRecursion IsAtWork) (sym items) (all-push IsAtWork works w c.loop-job.invariant.work work);
+      work = subst (AllByRecursion (IsAtWork c.args.slice)) (sym items) (all-push (IsAtWork c.args.slice) works w c.loop-job.invariant.work work);
     }

@@ -9,5 +9,5 @@ invariant-loop-job l = record {
   whole : l.yielded ++ l.job-iterator.rest.items ≡ l.fn.jobs.items;
   left : AllByRecursion (λ j. j.run.spoilt ≡ false) l.job-iterator.rest.items;
   ends : at_targets l.works.items ≡ map run_at l.yielded;
-  work : AreAtWork l.works.items;
+  work : AreAtWork l.fn.slice l.works.items;
 }

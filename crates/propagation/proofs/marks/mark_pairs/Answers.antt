@@ -22,34 +22,32 @@ at_list store falsified e h = subst (λ (ps : List Pair). EachPair (IsPairOf sto
 pub mark_list-requires-clause-exact : goal.mark_list-requires-clause-exact
 mark_list-requires-clause-exact c = at_list c.args.store.now c.args.falsified c.told.ensures (parts (goal.at.mark_list-requires-clause-exact c).After-lists-lists).first
 
-pub mark_list-requires-2-clause-exact : goal.mark_list-requires-2-clause-exact
-mark_list-requires-2-clause-exact c = at_list c.args.store.now c.args.falsified c.last.ensures (parts (goal.at.mark_list-requires-2-clause-exact c).After-lists-lists).second
+pub mark_repeated-requires-clause-last : goal.mark_repeated-requires-clause-last
+mark_repeated-requires-clause-last c = (parts (goal.at.mark_repeated-requires-clause-last c).After-lists-lists).second
 
-pub mark_list-requires-3-clause-exact : goal.mark_list-requires-3-clause-exact
-mark_list-requires-3-clause-exact c = at_list c.args.store.now c.args.falsified c.next.ensures (parts (goal.at.mark_list-requires-3-clause-exact c).After-lists-lists).third
+pub mark_repeated-requires-clause-next : goal.mark_repeated-requires-clause-next
+mark_repeated-requires-clause-next c = (parts (goal.at.mark_repeated-requires-clause-next c).After-lists-lists).third
 
-pub mark_list-requires-4-clause-exact : goal.mark_list-requires-4-clause-exact
-mark_list-requires-4-clause-exact c = at_list c.args.store.now c.args.falsified c.time.ensures (parts (goal.at.mark_list-requires-4-clause-exact c).After-lists-lists).fourth
+pub mark_repeated-requires-clause-time : goal.mark_repeated-requires-clause-time
+mark_repeated-requires-clause-time c = (parts (goal.at.mark_repeated-requires-clause-time c).After-lists-lists).fourth
 
 pub mark_all-requires-clause-exact : goal.mark_all-requires-clause-exact
 mark_all-requires-clause-exact c = at_list c.args.store.now c.args.falsified c.in-Some.ensures (parts (goal.at.mark_all-requires-clause-exact c).After-lists-lists).fifth
 
 -- what is marked once the last list is
-marked : (c : After-after) (set : ℕ → Bool) → Grows (words_have c.mark_list-4.new.pending.numbers) set
+marked : (c : After-after) (set : ℕ → Bool) → Grows (words_have c.mark_repeated.new.pending.numbers) set
     → EachPair (λ p. has_literal c.args.assignment.now.trail p.other ≡ false → set p.number ≡ true) c.lists-lists.result.after
     → EachPair (λ p. has_literal c.args.assignment.now.trail p.other ≡ false → set p.number ≡ true) (pairs_of c.args.index.now c.args.falsified)
 marked c set grows after =
     let P : Pair → Type 0 = λ p. has_literal c.args.assignment.now.trail p.other ≡ false → set p.number ≡ true in
     let ls = c.lists-lists.result in
-    let told : EachPair P ls.told = subst (EachPair P) c.told.ensures
-    (λ i h f. grows _ (c.mark_list-4.ensures.grows _ (c.mark_list-3.ensures.grows _ (c.mark_list-2.ensures.grows _ (c.mark_list.ensures.in_set i h f))))) in
-    let last : EachPair P ls.last = subst (EachPair P) c.last.ensures (λ i h f. grows _ (c.mark_list-4.ensures.grows _ (c.mark_list-3.ensures.grows _ (c.mark_list-2.ensures.in_set i h f)))) in
-    let next : EachPair P ls.next = subst (EachPair P) c.next.ensures (λ i h f. grows _ (c.mark_list-4.ensures.grows _ (c.mark_list-3.ensures.in_set i h f))) in
-    let time : EachPair P ls.time = subst (EachPair P) c.time.ensures (λ i h f. grows _ (c.mark_list-4.ensures.in_set i h f)) in
-    subst (EachPair P) (sym c.lists-lists.ensures) (each_of_five P ls.told ls.last ls.next ls.time ls.after told last next time after)
+    let m = c.mark_repeated.ensures in
+    let told : EachPair P ls.told = subst (EachPair P) c.told.ensures (λ i h f. grows _ (m.grows _ (c.mark_list.ensures.in_set i h f))) in
+    subst (EachPair P) (sym c.lists-lists.ensures) (each_of_five P ls.told ls.last ls.next ls.time ls.after told
+    (λ i h f. grows _ (m.last i h f)) (λ i h f. grows _ (m.next i h f)) (λ i h f. grows _ (m.time i h f)) after)
 
-grown : (c : After-after) → Grows (words_have c.args.pending.now.numbers) (words_have c.mark_list-4.new.pending.numbers)
-grown c k h = c.mark_list-4.ensures.grows k (c.mark_list-3.ensures.grows k (c.mark_list-2.ensures.grows k (c.mark_list.ensures.grows k h)))
+grown : (c : After-after) → Grows (words_have c.args.pending.now.numbers) (words_have c.mark_repeated.new.pending.numbers)
+grown c k h = c.mark_repeated.ensures.grows k (c.mark_list.ensures.grows k h)
 
 pub returns-in-Some-clause-in_set : goal.returns-in-Some-clause-in_set
 returns-in-Some-clause-in_set c = marked (goal.at.returns-in-Some-clause-in_set c).After-after (words_have c.mark_all.new.pending.numbers)
@@ -60,7 +58,7 @@ pub returns-in-Some-clause-grows : goal.returns-in-Some-clause-grows
 returns-in-Some-clause-grows c k h = c.mark_all.ensures.grows k (grown (goal.at.returns-in-Some-clause-grows c).After-after k h)
 
 pub returns-in-None-clause-in_set : goal.returns-in-None-clause-in_set
-returns-in-None-clause-in_set c = marked (goal.at.returns-in-None-clause-in_set c).After-after (words_have c.mark_list-4.new.pending.numbers)
+returns-in-None-clause-in_set c = marked (goal.at.returns-in-None-clause-in_set c).After-after (words_have c.mark_repeated.new.pending.numbers)
     (λ k h. h) (λ i h. absurd (omega (arith, h, ap (λ (ps : List Pair). length ps) c.in-None.ensures)))
 
 pub returns-in-None-clause-grows : goal.returns-in-None-clause-grows
@@ -69,14 +67,8 @@ returns-in-None-clause-grows c = grown (goal.at.returns-in-None-clause-grows c).
 pub mark_list-requires-clause-fit : goal.mark_list-requires-clause-fit
 mark_list-requires-clause-fit c = c.requires.fit
 
-pub mark_list-requires-2-clause-fit : goal.mark_list-requires-2-clause-fit
-mark_list-requires-2-clause-fit c = c.requires.fit
-
-pub mark_list-requires-3-clause-fit : goal.mark_list-requires-3-clause-fit
-mark_list-requires-3-clause-fit c = c.requires.fit
-
-pub mark_list-requires-4-clause-fit : goal.mark_list-requires-4-clause-fit
-mark_list-requires-4-clause-fit c = c.requires.fit
+pub mark_repeated-requires-clause-fit : goal.mark_repeated-requires-clause-fit
+mark_repeated-requires-clause-fit c = c.requires.fit
 
 pub mark_all-requires-clause-fit : goal.mark_all-requires-clause-fit
 mark_all-requires-clause-fit c = c.requires.fit

@@ -1,8 +1,11 @@
 use Rattle.std.proofs.Common.{◌≡◌, false, sym, subst}
 use Rattle.race.specs.Input.{input_of}
 use Rattle.poll_race.specs.declared.phase.Phase.{Phase}
-use Rattle.poll_race.specs.Tied.{IsTied, is_given}
+use Rattle.poll_race.specs.Tied.{IsTied, is_given, numbers_at, runs_at}
+use Rattle.poll_race.specs.OnePoll.{DoesOne}
+use Rattle.poll_race.specs.Numbers.{IsBelow}
 use Rattle.poll_race.proofs.Standing.{standing}
+use Rattle.poll_race.proofs.Falls.{falls, bounded}
 use Rattle.poll_race.proofs.poll_race.PollRaceFuture.poll.Goals as goal
 
 pub returns-in-Ok-On-clause-stands : goal.returns-in-Ok-On-clause-stands
@@ -10,6 +13,28 @@ returns-in-Ok-On-clause-stands g c =
     let form = c.self.inside.form.now in
     let settings = c.self.inside.settings in
     let next = rw c.in-Ok-On.field-0-is at c.in-Ok-On.ensures.next in
-    let tied = subst (λ (p : Phase). IsTied (input_of g.F.StepForm form settings) p) (sym c.put.ensures) next.0 in
+    let tied = subst (λ (p : Phase). IsTied settings.slice (input_of g.F.StepForm form settings) p) (sym c.put.ensures) next.0 in
     let live = subst (λ (p : Phase). is_given p ≡ false) (sym c.put.ensures) next.1 in
     rw c.yield_now.ensures.pending (standing g.F.StepForm form settings c.self.inside.task.now c.put.new.place tied live)
+
+pub returns-in-Ok-On-clause-fewer : goal.returns-in-Ok-On-clause-fewer
+returns-in-Ok-On-clause-fewer g c =
+    let form = c.self.inside.form.now in
+    let settings = c.self.inside.settings in
+    let next = rw c.in-Ok-On.field-0-is at c.in-Ok-On.ensures.next in
+    let tied = subst (λ (p : Phase). IsTied settings.slice (input_of g.F.StepForm form settings) p) (sym c.put.ensures) next.0 in
+    let after = subst (λ (p : Phase). IsBelow (numbers_at c.replace-phase.result) (numbers_at p)) (sym c.put.ensures) next.2 in
+    let below = subst (λ (b : Phase). IsBelow (numbers_at b) (numbers_at c.put.new.place)) c.replace-phase.ensures.value after in
+    rw c.yield_now.ensures.pending
+    (rw (← c.self.view_is)
+    (falls settings.budget (numbers_at c.self.inside.phase) (numbers_at c.put.new.place) below (bounded settings.slice (input_of g.F.StepForm form settings) c.put.new.place tied)))
+
+pub returns-in-Ok-On-clause-one : goal.returns-in-Ok-On-clause-one
+returns-in-Ok-On-clause-one g c =
+    let slice = c.self.inside.settings.slice in
+    let next = rw c.in-Ok-On.field-0-is at c.in-Ok-On.ensures.next in
+    let was = c.replace-phase.result in
+    let after = subst (λ (p : Phase). DoesOne slice (numbers_at was) (numbers_at p) (runs_at was) (runs_at p)) (sym c.put.ensures) next.3 in
+    rw c.yield_now.ensures.pending
+    (rw (← c.self.view_is)
+    (subst (λ (b : Phase). DoesOne slice (numbers_at b) (numbers_at c.put.new.place) (runs_at b) (runs_at c.put.new.place)) c.replace-phase.ensures.value after))
