@@ -1,11 +1,13 @@
 """The wrong bodies of the bench, as edits of the sources, and what is known of each: what the scripts of this folder share."""
-import pathlib, re
+import functools, pathlib, re
 from typing import NamedTuple
 
 ROOT = pathlib.Path(__file__).resolve().parent.parent.parent
 BODIES = ROOT / "bench/wrong-bodies"
 TABLE = BODIES / "verdicts.tsv"
-COLUMNS = "crate\tbody\tprover\tgoal\tseconds\tseen by\n"
+COLUMNS = "crate\tbody\tprover\tgoal\tseconds\tseen by\twhy\n"
+ABSENT = "not in the program"
+UNSEEN = ("-", "nothing", "not called", ABSENT)
 VERDICTS = ("countermodel", "negation proved", "seen", "unproved", "proved")
 
 def pairs(text):
@@ -44,6 +46,12 @@ def why_it_stays(edit):
     found = re.search(r"^stays: (.*)$", edit.read_text(), re.M)
     return found.group(1) if found else ""
 
+@functools.cache
+def reason(edit):
+    """What a reader of a body says of it, in its file: why no clause can refuse it, what it breaks, or that it does the same."""
+    found = re.search(r"^((?:stays|wrong|equal): .*)$", edit.read_text(), re.M)
+    return found.group(1) if found else ""
+
 class Place:
     """A function of a file: its name, the cycle of calls that it is in, and its first and last line, as rt fmt lays it out."""
     def __init__(self, file, lines, at, indent, name):
@@ -70,6 +78,7 @@ def functions(file, text):
     starts = [(at, re.match(r"(\s*)(?:pub(?:\([^)]*\))? )?(?:const )?(?:async )?(?:unsafe )?fn (\w+)", line)) for at, line in enumerate(lines)]
     return [Place(file, lines, at, it[1], it[2]) for at, it in starts if it]
 
+@functools.cache
 def places(crate, edit):
     """The functions whose bodies an edit changes, or none where it changes anything else."""
     found = []
@@ -96,24 +105,24 @@ def rounds(crate, edits):
             made.append(([edit], keys))
     return [it[0] for it in made]
 
-
 class Row(NamedTuple):
     """What is known of a body. The prover's word: `countermodel` (it says that the known facts allow values at which the goal is
     false), `negation proved`, `refused` (no proof was found, which a right body may meet too), `proved` or `untried`; then the goal,
-    or why the body stays proved; the seconds of that check; and the first run that a program with this body fails, `nothing`
-    where it fails none, or a dash where none was made."""
+    or why the body stays proved; the seconds of that check; the first run that a program with this body fails, `nothing` where it
+    fails none of those that reach the body, `not called` where none does, or a dash where none was made; and what a reader says of it."""
     prover: str = "untried"
     goal: str = ""
     seconds: str = "0"
     seen: str = "-"
+    why: str = ""
 
     def verdict(self):
-        """One of VERDICTS, of which the last two are no evidence."""
+        """One of VERDICTS, of which the last two are no evidence. A body that no clause can refuse counts as proved."""
         if self.prover in VERDICTS[:2]:
             return self.prover
-        if self.seen not in ("-", "nothing", "not in the program"):
+        if self.seen not in UNSEEN:
             return "seen"
-        return "proved" if self.prover == "proved" else "unproved"
+        return "proved" if self.prover == "proved" or self.why.startswith("stays: ") else "unproved"
 
 def names(bodies):
     """The bodies that words name, by crate: those of a crate, CRATE/BODY, or all."""
@@ -130,13 +139,17 @@ def read_table():
     return {(crate, edit.stem): known.get((crate, edit.stem), Row()) for crate, edits in names([]).items() for edit in edits}
 
 def keep_rows(found):
-    """Puts rows into the table, in the place of the old ones."""
-    table = read_table() | found
-    TABLE.write_text(COLUMNS + "".join("\t".join((*key, *table[key])) + "\n" for key in sorted(table)))
+    """Puts rows into the table, in the place of the old ones, with what the files say of the bodies; the table is whole at each time."""
+    table = {key: row._replace(why=reason(BODIES / key[0] / f"{key[1]}.edit")) for key, row in (read_table() | found).items()}
+    made = TABLE.with_suffix(".new")
+    made.write_text(COLUMNS + "".join("\t".join((*key, *table[key])) + "\n" for key in sorted(table)))
+    made.replace(TABLE)
     return sums(table)
 
 def sums(table):
     """How many bodies have each verdict, as a sentence."""
     words = [row.verdict() for row in table.values()]
-    lone = sum(row.verdict() == "unproved" and row.seen == "nothing" for row in table.values())
-    return f"{len(words)} bodies: " + ", ".join(f"{words.count(it)} {it}" for it in VERDICTS) + f"; of the unproved {lone} were run and seen by nothing."
+    rest = [row for row in table.values() if row.verdict() == "unproved"]
+    run, told = sum(row.seen == "nothing" for row in rest), sum(row.why != "" for row in rest)
+    counts = ", ".join(f"{words.count(it)} {it}" for it in VERDICTS)
+    return f"{len(words)} bodies: {counts}; of the unproved {run} were run and seen by nothing, and of {told} a reader says why."
