@@ -2,6 +2,7 @@
 # main.bash ROOT ENDED WORD..: answers the words of a call of the planner; ENDED is nothing, or STATUS:SECONDS of the program that
 # has run on them already.
 set -u
+unset -v FUNCNEST # (bash would leave calls out, and go on)
 shopt -s nullglob
 
 root=$1 ended=$2
