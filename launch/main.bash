@@ -1,8 +1,9 @@
 # shellcheck shell=bash disable=SC2034,SC2154 # the parts of launch/ set variables for one another
 # main.bash ROOT ENDED WORD..: answers the words of a call of the planner; ENDED is nothing, or STATUS:SECONDS of the program that
 # has run on them already.
-set -u
-unset -v FUNCNEST # (bash would leave calls out, and go on)
+# What the environment may have set otherwise, also that functions within one another are left out.
+set +ef -u
+unset -v FUNCNEST
 shopt -s nullglob
 
 root=$1 ended=$2
