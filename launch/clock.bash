@@ -130,6 +130,7 @@ end_timer() {
 # open_room: a folder for reports that are not shown yet.
 open_room() {
     [ -z "$room" ] || return 0
+    trap end_by_signal INT QUIT TERM HUP
     room=$(mktemp -d) && return
     say "there is no folder for a report: $TMPDIR cannot be written"
     status=6

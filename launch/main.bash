@@ -1,7 +1,9 @@
 # shellcheck shell=bash disable=SC2034,SC2154 # the parts of launch/ set variables for one another
-# main.bash ROOT STATUS WORD..: answers the words of a call of the planner; STATUS is nothing, or that with which the program has
-# ended on them already.
-set -u
+# main.bash ROOT ENDED WORD..: answers the words of a call of the planner; ENDED is nothing, or STATUS:SECONDS of the program that
+# has run on them already.
+# What the environment may have set otherwise, also that functions within one another are left out.
+set +ef -u
+unset -v FUNCNEST
 shopt -s nullglob
 
 root=$1 ended=$2
@@ -86,7 +88,7 @@ fi
 find_or_build "$by" || exit
 SECONDS=0
 if [ -n "$ended" ]; then
-    status=$ended
+    status=${ended%:*} SECONDS=${ended#*:}
 else
     say "this is $what"
     warn

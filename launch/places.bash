@@ -13,7 +13,8 @@ use() {
 # find_places: sets places to the folders in which something may be kept, TMPDIR to a folder that is there, and how programs
 # keep their memory.
 find_places() {
-    local cache=${XDG_CACHE_HOME:-${HOME:+$HOME/.cache}}
+    local cache
+    find_cache
     temporary=${TMPDIR:-/tmp}
     [[ -d $temporary && -w $temporary ]] || temporary=/tmp
     export TMPDIR=$temporary

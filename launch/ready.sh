@@ -26,6 +26,14 @@ is_there() {
     esac
 }
 
+# find_cache: sets cache to the folder for what this user keeps, or to nothing. One that is told without a / at its front is none.
+find_cache() {
+    case ${XDG_CACHE_HOME-} in
+    /*) cache=$XDG_CACHE_HOME ;;
+    *) cache=${HOME:+$HOME/.cache} ;;
+    esac
+}
+
 # is_own FOLDER: nobody else can put files there: it is that of this checkout, or one of this user, where all may write with
 # leave for this user alone.
 is_own() {
@@ -76,7 +84,7 @@ stamp_of() {
 # read_stamp PLACE: sets sources to what was kept there of this checkout.
 read_stamp() {
     local of
-    [ -r "$1/$stamp" ] && { read -r sources && read -r of; } <"$1/$stamp" || return
+    [ -r "$1/$stamp" ] && { read -r sources && IFS= read -r of; } <"$1/$stamp" || return
     [ "$1" = "$root/out" ] || [ "$of" = "$root" ]
 }
 
@@ -153,11 +161,18 @@ was_seen() {
     return 1
 }
 
-# find_machine: sets machine to the name of this machine.
+# find_machine: sets machine to the name of this machine and what its system calls itself: a container may have the name of the
+# machine that it runs on, and a job of a cluster the variables of the one where it was asked for.
 find_machine() {
+    local line
+    machine=''
+    [ ! -r /proc/sys/kernel/hostname ] || read -r machine </proc/sys/kernel/hostname
     # shellcheck disable=SC3028 # bash sets it; elsewhere it may be in the environment
-    machine=${HOSTNAME-}
-    [ -n "$machine" ] || [ ! -r /proc/sys/kernel/hostname ] || read -r machine </proc/sys/kernel/hostname
+    machine=${machine:-${HOSTNAME:-nameless}}
+    [ -r /etc/os-release ] || return 0
+    for _ in 1 2 3; do
+        if read -r line; then machine="$machine $line"; fi
+    done </etc/os-release
 }
 
 # keep_tables: what the program gives back it may use again, and large tables are given back exactly: less time is spent in the

@@ -41,7 +41,7 @@ is_current() {
 
 # put_program FROM TO SUM: puts a program in its place, whole or not at all, with the sum of what it was made of and its own.
 put_program() {
-    if mkdir -p -- "${2%/*}" && cp -- "$1" "$2.$$" && chmod 755 -- "$2.$$" &&
+    if mkdir -p -- "${2%/*}" && cp -- "$1" "$2.$$" && chmod -- 755 "$2.$$" &&
         printf '%s\n' "$3" >"$2.sources.$$" && sum_of "$2.$$" >"$2.sha256.$$" &&
         rm -f -- "$2.sources" && mv -f -- "$2.$$" "$2" && mv -f -- "$2.sha256.$$" "$2.sha256" &&
         mv -f -- "$2.sources.$$" "$2.sources"; then

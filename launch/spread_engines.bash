@@ -48,8 +48,8 @@ is_of_task() {
 # put_task: what the jobs work on. The sums land last.
 put_task() {
     cp -- "$domain" "$folder/task/domain" && cp -- "$problem" "$folder/task/problem" &&
-        cp -- "$program" "$folder/task/planner" && chmod 755 -- "$folder/task/planner" &&
-        { [ -z "$judge" ] || { cp -- "$judge" "$folder/task/judge" && chmod 755 -- "$folder/task/judge"; }; } &&
+        cp -- "$program" "$folder/task/planner" && chmod -- 755 "$folder/task/planner" &&
+        { [ -z "$judge" ] || { cp -- "$judge" "$folder/task/judge" && chmod -- 755 "$folder/task/judge"; }; } &&
         cp -- "$self" "$folder/task/spread" && cp -- "$root"/launch/{spread_jobs,spread_solvers,solvers,nap}.bash "$folder/task/" &&
         (cd -- "$folder/task" && sha256sum domain problem planner spread ./*.bash ${judge:+judge}) \
             >"$folder/task/sums.$$" &&

@@ -24,44 +24,62 @@ is_plain() {
 
 # is_ready: sets program to the one that is by, and tied.
 is_ready() {
-    local cache=${XDG_CACHE_HOME:-${HOME:+$HOME/.cache}}
+    local cache
+    find_cache
     set -- "$root/out" ${cache:+"$cache/dokyreva"}
     known_sources "$@" && seen_release "$by" "$@"
+}
+
+# can_hand_on: standard input is open, and no other file has the number 9, by which it is handed to the program.
+can_hand_on() {
+    { :; } 2>/dev/null 9<&0 || return
+    # (the status of a redirection that fails is not turned by ! in bash)
+    if { :; } 2>/dev/null <&9; then return 1; fi
 }
 
 # run_ready WORD..: runs the program with this process's standard input, and sets status. It ends with this process.
 run_ready() {
     local tie=''
     [ "$tied" != yes ] || tie='setpriv --pdeathsig KILL'
-    running=''
     trap end_ready INT QUIT TERM HUP
     # A background command has nothing on standard input but what is handed to it by another number.
-    exec 3<&0
+    exec 9<&0
     # shellcheck disable=SC2086 # words, or nothing
-    $tie "$program" "$@" <&3 3<&- &
-    running=$!
-    wait "$running"
+    $tie "$program" "$@" <&9 9<&- &
+    wait "$!" 2>/dev/null
     status=$?
     trap - INT QUIT TERM HUP
-    exec 3<&-
+    exec 9<&-
 }
 
-# end_ready: ends the program, and this process with 130.
+# end_ready: ends the program, and this process with 130. A signal may come before the shell has gone on from its start, but not
+# before the shell knows its number.
 end_ready() {
     trap '' INT QUIT TERM HUP
-    if [ -n "$running" ]; then
-        kill -KILL "$running"
-        wait "$running"
+    if [ -n "$!" ]; then
+        kill -KILL "$!"
+        wait "$!"
     fi 2>/dev/null
     exit 130
 }
 
-status=''
-# (where standard input is closed, it is left to bash)
-if is_plain "$@" && is_ready && { :; } 2>/dev/null <&0; then
+# find_uptime: sets uptime to the seconds since the machine was started.
+find_uptime() {
+    uptime=0
+    [ ! -r /proc/uptime ] || read -r uptime _ </proc/uptime
+    uptime=${uptime%%.*}
+}
+
+# What ended is told to main.bash as STATUS:SECONDS, with the seconds that the run took.
+ended=''
+if is_plain "$@" && is_ready && can_hand_on; then
     keep_tables
+    find_uptime
+    begun=$uptime
     echo 'dokyreva: this is the proved program of the release' >&2
     run_ready "$@"
     [ "$status" -gt 2 ] || exit "$status"
+    find_uptime
+    ended=$status:$((uptime - begun))
 fi
-exec bash "$root/launch/main.bash" "$root" "$status" "$@"
+exec bash "$root/launch/main.bash" "$root" "$ended" "$@"

@@ -83,7 +83,7 @@ is_sound() {
 
 # unpack NAME FOLDER: whole or not at all.
 unpack() {
-    if gzip -dc -- "$root/release/$1.gz" >"$2/$1.$$" && [ "$(sum_of "$2/$1.$$")" = "$kept" ] && chmod 755 -- "$2/$1.$$" &&
+    if gzip -dc -- "$root/release/$1.gz" >"$2/$1.$$" && [ "$(sum_of "$2/$1.$$")" = "$kept" ] && chmod -- 755 "$2/$1.$$" &&
         mv -f -- "$2/$1.$$" "$2/$1"; then
         return
     fi
