@@ -32,6 +32,7 @@ ask() {
 # tell_faults WORD..: what status says, for those who wrote the files.
 tell_faults() {
     local files said answer problem
+    local -A told=()
     files_of "${@:2}"
     case $status in
     3 | 4 | 5) ;;
@@ -46,6 +47,8 @@ tell_faults() {
     esac
     if [ "$1" = batch ] && [ "$status" -ge 3 ] && [ "$status" -le 5 ]; then
         for problem in "${files[@]:1}"; do
+            [ -z "${told[$problem/]-}" ] || continue
+            told[$problem/]=yes # (a name may be empty, and a key may not)
             tell_of_task "$1" "${files[0]}" "$problem"
             [[ $answer:$said != 5:* && $said != *' domain'* ]] || break
         done
