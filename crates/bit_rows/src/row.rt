@@ -91,7 +91,7 @@ impl BitRow {
         clear_bit(&mut self.words, number);
     }
 
-    /// Makes it the same as another, with the same room. Where it had that room before, no memory is asked for.
+    /// Makes it the same as another, with the same room. After want of memory it is some set, of which nothing is said.
     pub fn make_same(&mut self, other: &BitRow) -> Result<(), AllocError>
         ensures { OnOk result (self.new ≡ other.now) }
     {

@@ -115,7 +115,7 @@ impl ClauseList {
         })
     }
 
-    /// Makes room for so many more literals and clauses, so that they are added without a further allocation.
+    /// Makes room for so many more literals and clauses, as a vector does. The clauses stay.
     pub fn reserve(&mut self, literals: usize, clauses: usize) -> Result<(), Memory>
         ensures { self.new ≡ self.old }
     {

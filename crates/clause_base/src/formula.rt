@@ -99,6 +99,7 @@ impl Formula {
             return write_out(self, alloc, &part);
         }
         let part = part.share(alloc)?;
+        // For the proof: the part's literals are of the formula's variables.
         let _below = part.count();
         let Formula {
             name,
@@ -154,7 +155,7 @@ impl Formula {
         })
     }
 
-    /// Makes room for so many more literals and clauses, so that they are added without a further allocation.
+    /// Makes room for so many more literals and clauses, as a vector does. The formula stays.
     pub fn reserve(&mut self, literals: usize, clauses: usize) -> Result<(), Memory>
         ensures { self.new ≡ self.old }
     {
@@ -212,6 +213,7 @@ impl Formula {
         ensures fits { variables_of result.repeated.now ≤ self.now.variables }
         ensures lawful { IsRepeatable result.repeated.now }
     {
+        // For the proof: what is repeated are clauses of one step and of one time.
         let _lawful = self.repeated.horizon();
         Parts {
             told: &self.told,

@@ -215,6 +215,7 @@ impl Repeated {
         ensures lawful { IsClause result }
         ensures below { HasVariablesBelow (variables_of self.now) result }
     {
+        // For the proof: all clauses of the repeated part are lawful, and of its variables.
         let _all = self.count();
         let steps = self.step_clauses();
         if number < steps {

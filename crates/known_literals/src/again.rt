@@ -149,6 +149,7 @@ pub fn first_known(
 {
     let stale = BitRow::new(alloc);
     let mut known = nothing_known(alloc, facts, asked)?;
+    // All rows are new, so which of them moved tells nothing.
     let _moved = renew_known(alloc, facts, clauses, &stale, asked, &mut known)?;
     Ok(known)
 }

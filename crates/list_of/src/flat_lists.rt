@@ -117,7 +117,7 @@ impl<T: Drop> FlatLists<T> {
         })
     }
 
-    /// Makes room for so many more items and lists, so that they are added without a further allocation.
+    /// Makes room for so many more items and lists, as a vector does. The lists stay.
     pub fn reserve(&mut self, items: usize, lists: usize) -> Result<(), AllocError>
         ensures { self.new ≡ self.old }
     {

@@ -68,7 +68,7 @@ impl<T: Drop> ListOf<T> {
         self.items.reserve(more)
     }
 
-    /// Adds an item at the end. After `AllocError`, which does not come where there was room, the items are as they were.
+    /// Adds an item at the end. After `AllocError` the items are as they were.
     pub fn push(&mut self, item: T) -> Result<(), AllocError>
         ensures ok { OnOk result (self.new ≡ self.old ++ item ∷ []) }
         ensures err { OnErr result (self.new ≡ self.old) }

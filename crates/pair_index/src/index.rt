@@ -64,6 +64,7 @@ impl PairIndex {
     pub fn new(alloc: Global, formula: &Formula) -> Result<PairIndex, Memory>
         ensures { IfOk result (λ index. IsIndex formula.now.variables formula.now.clauses index) }
     {
+        // For the proof: a formula has at most 1,073,741,824 clauses.
         let _few = formula.count();
         let variables = formula.variables();
         let parts = formula.parts();

@@ -104,6 +104,7 @@ fn add_kept(task: &Task, l: u32, pairs: &mut Pairs) -> Result<(), Memory>
     requires { l < 2 * pairs.old.facts }
     ensures { pairs.new.facts ≡ pairs.old.facts }
 {
+    // For the proof: the known clauses are lawful.
     let _count = pairs.count();
     let side = 2 * pairs.facts();
     for m in l..side {

@@ -54,6 +54,7 @@ impl Store {
         ensures value { result ≡ length self.now }
         ensures lawful { All IsClause self.now }
     {
+        // For the proof: each clause of the formula is lawful.
         let _lawful = self.formula.count();
         self.given + self.added.count() as u32
     }
