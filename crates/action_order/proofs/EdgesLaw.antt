@@ -4,8 +4,8 @@ use Rattle.std.specs.List.{list_any, AllByRecursion}
 use Rattle.std.proofs.lemmas.List.{get_or_past}
 use Rattle.std.proofs.lemmas.Bool.{cases_lt}
 use Rattle.std.proofs.lemmas.Bool.Decides.{nat_tests}
-use Rattle.bit_rows.specs.Bits.{row_has}
-use Rattle.word_bits.proofs.WordLaw.{zero_has}
+use Rattle.bit_sets.specs.Rows.{row_has}
+use Rattle.bit_sets.proofs.WordLaw.{zero_has}
 use Rattle.gt_core.specs.Literal.{opposite, range}
 use Rattle.gt_core.specs.Task.{Action}
 use Rattle.gt_core.specs.Active.{EffectWithin}

@@ -1,5 +1,5 @@
 use Rattle.std.proofs.Common.{arith, ◌≡◌, ◌==◌, ℕ, ◌*◌, ◌<◌, List, length, Bool, true, ◌&&◌, refl, sym, ◌⊎◌, inl, inr, subst}
-use Rattle.bit_rows.specs.Bits.{row_has}
+use Rattle.bit_sets.specs.Rows.{row_has}
 use Rattle.gt_core.specs.Literal.{opposite, range}
 use Rattle.gt_core.specs.Interference.{has_clause, exclusive}
 use Rattle.gt_core.proofs.Basics.{passing, any_at, and_split, and_both, or_split, or_left, or_right, same_test, test_same}

@@ -4,7 +4,7 @@ use Rattle.std.proofs.lemmas.Bool.{cases_lt}
 use Rattle.std.proofs.lemmas.Bool.Decides.{nat_tests}
 use Rattle.std.proofs.lemmas.List.{get_or_read}
 use Rattle.std.proofs.lemmas.List.Sums.{sum_by-set, sum_by-cons}
-use Rattle.bit_rows.specs.Bits.{row_has, IsLeastFrom}
+use Rattle.bit_sets.specs.Rows.{row_has, IsLeastFrom}
 use Rattle.gt_core.specs.Literal.{is_in}
 use Rattle.gt_core.proofs.Basics.{and_split, and_both, not_true, test_same, same_test}
 use Rattle.action_order.specs.Graph.{leads, row_at, item}

@@ -3,7 +3,7 @@ use Rattle.std.specs.Prelude.{nat_lt, slice_index_or, Option, Some}
 use Rattle.std.proofs.lemmas.List.{length-set, get_or-set_same, get_or-set_other, get_or-take}
 use Rattle.std.proofs.lemmas.Bool.{cases_eq}
 use Rattle.std.proofs.lemmas.Bool.Decides.{nat_tests}
-use Rattle.bit_rows.specs.Bits.{row_has}
+use Rattle.bit_sets.specs.Rows.{row_has}
 use Rattle.gt_core.proofs.Basics.{and_split, and_both, not_split, not_false, not_true, or_split, or_left, or_right, same_test, test_same, apart}
 use Rattle.action_order.specs.Graph.{leads, row_at, IsGraph, class_at, IsClassed}
 use Rattle.action_order.specs.Quotient.{Crosses, AreUnited, IsWithoutOwn, IsQuotient, AreNames}

@@ -11,7 +11,7 @@ use Rattle.action_order.specs.Sorting.{list_at, is_taken, IsTakenNext, AreTaken,
 use Rattle.action_order.specs.KeySet.{IsFirst, IsWith}
 use Rattle.action_order.proofs.Lists.{in_push, in_push_new, in_push_old}
 use Rattle.std.proofs.lemmas.List.{length-replicate}
-use Rattle.equal_items.proofs.Made.{get_or-replicate_default}
+use Rattle.containers.proofs.Made.{get_or-replicate_default}
 
 -- What each move of the sorting keeps.
 

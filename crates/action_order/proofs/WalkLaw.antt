@@ -2,7 +2,7 @@ use Rattle.std.proofs.Common.{arith, ◌≡◌, ◌==◌, ℕ, ◌+◌, ◌<◌,
 use Rattle.std.specs.Prelude.{nat_lt, Option, Some, None, if◌then◌else◌}
 use Rattle.std.proofs.lemmas.List.{length_push, length-set, get_or-set_same, get_or-set_other, get_or_past}
 use Rattle.std.proofs.lemmas.Bool.Decides.{nat_tests}
-use Rattle.bit_rows.specs.Bits.{row_has, IsLeastFrom}
+use Rattle.bit_sets.specs.Rows.{row_has, IsLeastFrom}
 use Rattle.std.proofs.Math.Bool.{and-false}
 use Rattle.gt_core.proofs.Basics.{and_split, and_both, apart, not_true, test_same, same_test}
 use Rattle.std.proofs.lemmas.Bool.{cases_lt, cases_eq}

@@ -1,6 +1,6 @@
 use Rattle.std.specs.Prelude.{◌≡◌, ℕ, ◌*◌, ◌/◌, ◌<◌, ◌==◌, List, Bool, not, ◌&&◌, ◌||◌, length}
 use Rattle.std.specs.List.{list_any}
-use Rattle.bit_rows.specs.Bits.{row_has}
+use Rattle.bit_sets.specs.Rows.{row_has}
 use Rattle.gt_core.specs.Literal.{opposite, is_in}
 use Rattle.gt_core.specs.Task.{Effect, Action}
 use Rattle.gt_core.specs.Interference.{action_disables, actions_together}

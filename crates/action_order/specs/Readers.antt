@@ -1,6 +1,6 @@
 use Rattle.std.specs.Prelude.{◌≡◌, ℕ, ◌*◌, ◌/◌, ◌<◌, ◌==◌, ◌⊎◌, List, [], Bool, true, ◌&&◌, ◌||◌, nat_lt, length, slice_index_or}
 use Rattle.std.specs.List.{AllByRecursion, list_any}
-use Rattle.bit_rows.specs.Bits.{row_has}
+use Rattle.bit_sets.specs.Rows.{row_has}
 use Rattle.gt_core.specs.Literal.{range, opposite}
 use Rattle.gt_core.specs.Task.{Effect, Action}
 use Rattle.gt_core.specs.Active.{EffectWithin}

@@ -1,6 +1,6 @@
 use Rattle.std.specs.Prelude.{◌≡◌, ℕ, ◌-◌, ◌%◌, ◌<◌, ◌==◌, List, Bool, not, ◌&&◌, ◌||◌, length}
 use Rattle.std.specs.List.{AllByRecursion}
-use Rattle.bit_rows.specs.Bits.{row_has}
+use Rattle.bit_sets.specs.Rows.{row_has}
 use Rattle.gt_core.specs.Literal.{is_in}
 use Rattle.gt_core.specs.Task.{Effect, Action}
 use Rattle.gt_core.specs.Interference.{action_may_make, action_surely_makes}

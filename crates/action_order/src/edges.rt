@@ -4,18 +4,18 @@
 
 ghost use Rattle.std.specs.Prelude.{◌≡◌, ℕ, ◌*◌, ◌<◌, ◌≤◌, ◌&&◌, ◌||◌, not, length, OnOk, IfOk};
 ghost use Rattle.std.specs.List.{AllByRecursion};
-ghost use Rattle.bit_rows.specs.Bits.{row_has};
+ghost use Rattle.bit_sets.specs.Rows.{row_has};
 ghost use Rattle.action_order.specs.Readers.{ActionWithin, AreRowsOf};
 ghost use Rattle.action_order.specs.Edges.{edge_in, AreEdges, is_reader, is_touched, is_in_rows, is_opposed, surely};
 
 use crate::readers::{enter_literals, find_exclusions, find_readers};
 use crate::sure::all_sure;
-use bit_rows::row::{BitRow, empty_rows};
+use bit_sets::row::{BitRow, empty_rows};
+use containers::let_go;
 use gt_core::act::Act;
 use gt_core::eff::Eff;
 use gt_core::lits::{Lits, opposite};
 use gt_core::pairs::Pairs;
-use let_go::let_go;
 use std::alloc::{AllocError, Global};
 
 /// Rows of actions: for each literal those that need it, for each fact those that have it in an effect condition, for

@@ -6,7 +6,7 @@ ghost use Rattle.action_order.specs.Graph.{class_at};
 ghost use Rattle.action_order.specs.Group.{members, listed};
 
 use crate::numbers::ActNumbers;
-use equal_items::empty_lists;
+use containers::equal::empty_lists;
 use std::alloc::{AllocError, Global};
 
 /// The members of each component, by its number.

@@ -1,6 +1,6 @@
 //! Lists of action numbers.
 
-use list_of::ListOf;
+use containers::ListOf;
 use std::alloc::{AllocError, Global};
 
 /// Numbers of actions.

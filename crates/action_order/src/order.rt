@@ -1,7 +1,7 @@
 //! The published order and its look-ups.
 
 use crate::numbers::ActNumbers;
-use let_go::let_go;
+use containers::let_go;
 use std::marker::Model;
 
 /// An order of a task's actions, as its components one after the other. Actions are numbered as in the task, places

@@ -14,7 +14,7 @@ use crate::order::Order;
 use crate::quotient::{names, quotient};
 use crate::sort::sort_components;
 use crate::walk::find_components;
-use bit_rows::row::BitRow;
+use bit_sets::row::BitRow;
 use gt_core::memory::Memory;
 use gt_core::pairs::Pairs;
 use gt_core::task::Task;

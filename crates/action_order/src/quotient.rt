@@ -4,7 +4,7 @@ ghost use Rattle.std.specs.Prelude.{◌≡◌, ℕ, ◌<◌, ◌≤◌, length, 
 ghost use Rattle.action_order.specs.Graph.{IsGraph, IsClassed, class_at};
 ghost use Rattle.action_order.specs.Quotient.{AreUnited, IsWithoutOwn, IsQuotient, AreNames};
 
-use bit_rows::row::{BitRow, empty_rows};
+use bit_sets::row::{BitRow, empty_rows};
 use std::alloc::{AllocError, Global};
 
 /// The rows of the vertices of each component, as one.

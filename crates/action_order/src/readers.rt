@@ -3,14 +3,14 @@
 
 ghost use Rattle.std.specs.Prelude.{◌≡◌, ℕ, ◌*◌, ◌/◌, ◌<◌, ◌≤◌, ◌==◌, ◌&&◌, ◌||◌, nat_lt, true, length, OnOk, IfOk};
 ghost use Rattle.std.specs.List.{AllByRecursion};
-ghost use Rattle.bit_rows.specs.Bits.{row_has};
+ghost use Rattle.bit_sets.specs.Rows.{row_has};
 ghost use Rattle.gt_core.specs.Literal.{is_in, opposite};
 ghost use Rattle.gt_core.specs.Active.{EffectWithin};
 ghost use Rattle.gt_core.specs.Interference.{action_asks, exclusive, has_clause};
 ghost use Rattle.action_order.specs.Graph.{row_at};
 ghost use Rattle.action_order.specs.Readers.{ActionWithin, IsEntered, AreRowsOf, AreExclusions, IsPartOf, IsOpposed, of_effects, needs, asks_of, has_fact, is_excluded};
 
-use bit_rows::row::{BitRow, empty_rows};
+use bit_sets::row::{BitRow, empty_rows};
 use gt_core::act::Act;
 use gt_core::eff::Eff;
 use gt_core::lits::opposite;

@@ -3,15 +3,15 @@
 //! So each target is looked at once.
 
 ghost use Rattle.std.specs.Prelude.{◌≡◌, ℕ, ◌+◌, ◌<◌, ◌≤◌, [], ◌∷◌, length, drop, true, false, slice_index_or, slice_set, replicate, OnOk, IfOk};
-ghost use Rattle.bit_rows.specs.Bits.{row_has};
+ghost use Rattle.bit_sets.specs.Rows.{row_has};
 ghost use Rattle.gt_core.specs.Literal.{range};
 ghost use Rattle.action_order.specs.Graph.{class_at};
 ghost use Rattle.action_order.specs.Sorting.{IsPending, IsTopologicalOrder, AreNamedComponents};
 
 use crate::numbers::ActNumbers;
 use crate::ready::{put, take_first};
-use bit_rows::row::BitRow;
-use equal_items::empty_lists;
+use bit_sets::row::BitRow;
+use containers::equal::empty_lists;
 use std::alloc::{AllocError, Global};
 use std::collections::BTreeSet;
 use std::mem;

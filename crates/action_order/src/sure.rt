@@ -2,11 +2,11 @@
 
 ghost use Rattle.std.specs.Prelude.{◌≡◌, ℕ, ◌*◌, ◌<◌, ◌≤◌, false, OnOk, IfOk};
 ghost use Rattle.std.specs.List.{AllByRecursion};
-ghost use Rattle.bit_rows.specs.Bits.{row_has};
+ghost use Rattle.bit_sets.specs.Rows.{row_has};
 ghost use Rattle.action_order.specs.Readers.{ActionWithin};
 ghost use Rattle.action_order.specs.Sure.{IsSure, AreSure, AreMade, makes_surely};
 
-use bit_rows::row::BitRow;
+use bit_sets::row::BitRow;
 use gt_core::act::Act;
 use gt_core::eff::Eff;
 use gt_core::lits::Lits;

@@ -9,12 +9,12 @@
 //! found by words of the row of its targets.
 
 ghost use Rattle.std.specs.Prelude.{◌≡◌, ℕ, ◌+◌, ◌<◌, ◌≤◌, ◌++◌, [], ◌∷◌, length, map, slice_set, true, false, nat_lt, Some, None, OnOk, IfOk, vec_len};
-ghost use Rattle.bit_rows.specs.Bits.{row_has};
+ghost use Rattle.bit_sets.specs.Rows.{row_has};
 ghost use Rattle.gt_core.specs.Literal.{is_in};
 ghost use Rattle.action_order.specs.Graph.{item, leads, IsGraph, IsClassed};
 ghost use Rattle.action_order.specs.Walk.{IsLast, MarksFrom, TakesFrom, lower, place_of, ends_past, ends_with, number_of};
 
-use bit_rows::row::BitRow;
+use bit_sets::row::BitRow;
 use std::alloc::{AllocError, Global};
 
 /// How far a vertex is: not seen yet, at a place of the stack, or in a finished component.

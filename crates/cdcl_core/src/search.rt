@@ -21,7 +21,7 @@ use clause_log::log::Log;
 use conflict_walk::backjump::backjump_level;
 use conflict_walk::clauses::Clauses;
 use conflict_walk::learn::{Analysis, LearnedClause};
-use let_go::let_go;
+use containers::let_go;
 use propagation::propagator::Propagator;
 use std::alloc::Global;
 use std::marker::Model;

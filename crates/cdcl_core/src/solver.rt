@@ -22,7 +22,7 @@ use clause_base::formula::Formula;
 use clause_base::literal::Lit;
 use clause_base::memory::Memory;
 use clause_log::log::Log;
-use let_go::let_go;
+use containers::let_go;
 use std::alloc::Global;
 use std::marker::Model;
 

@@ -11,7 +11,7 @@ use cdcl_rules::trail::Assigned;
 use clause_base::literal::Lit;
 use clause_base::memory::Memory;
 use clause_base::values::Values;
-use let_go::let_go;
+use containers::let_go;
 use std::alloc::Global;
 use std::marker::Model;
 

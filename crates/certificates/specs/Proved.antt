@@ -7,7 +7,7 @@ use Rattle.cdcl_rules.specs.declared.standing.Standing.{Standing}
 use Rattle.cdcl_rules.specs.declared.standing.Standing.TheVariants.{Going, Found, Refuted}
 use Rattle.gt_core.specs.Task.{Task}
 use Rattle.horizon_run.specs.Run.{reached}
-use Rattle.step_clauses.specs.Variables.{chain_places}
+use Rattle.horizon_formula.specs.Variables.{chain_places}
 use Rattle.step_encoding.specs.Limits.{planner_literals}
 use Rattle.step_encoding.specs.Numbers.{literals_of}
 use Rattle.proof_text.specs.Text.{proof_text}

@@ -9,7 +9,7 @@ use crate::literal::Lit;
 use crate::memory::Memory;
 use crate::repeated::Repeated;
 use crate::view::View;
-use let_go::let_go;
+use containers::let_go;
 use std::alloc::Global;
 use std::marker::Model;
 

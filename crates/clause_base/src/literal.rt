@@ -1,7 +1,7 @@
 ghost use Rattle.std.specs.Prelude.{◌≡◌, ℕ, ◌+◌, ◌*◌, ◌/◌, ◌%◌, ◌≤◌, ◌==◌};
 ghost use Rattle.clause_base.specs.Literal.{literal_of, opposite};
 
-use list_of::ListOf;
+use containers::ListOf;
 use literal_codes::opposite;
 use std::marker::Model;
 

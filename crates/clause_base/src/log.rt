@@ -1,5 +1,5 @@
 use crate::clause::Clause;
-use list_of::ListOf;
+use containers::ListOf;
 
 /// A list of numbers of clauses. The clauses of a formula are numbered from 0, and those that a log learns go on from there.
 pub type Hints = ListOf<u32>;

@@ -7,7 +7,7 @@ use crate::memory::Memory;
 use crate::shared_list::SharedList;
 use crate::sizes::{Sizes, sizes_of};
 use crate::view::View;
-use let_go::let_go;
+use containers::let_go;
 use std::alloc::Global;
 use std::marker::Model;
 

@@ -4,7 +4,7 @@ ghost use Rattle.clause_base.specs.ValueTruths.{AreGivenBelow, says, value_at};
 
 use crate::literal::Lit;
 use crate::memory::Memory;
-use let_go::let_go;
+use containers::let_go;
 use std::alloc::Global;
 use std::marker::Model;
 

@@ -2,10 +2,10 @@
 use Rattle.std.proofs.Common.{arith, ◌≡◌, ℕ, suc, ◌+◌, ◌*◌, ◌/◌, ◌%◌, ◌^◌, ◌<◌, ◌≤◌, ◌==◌, List, [], ◌∷◌, ◌++◌, length, append_assoc, append-nil, length-append, map, true, false, Result, Ok, Err, OnOk, refl, ap, sym, subst, ◌∙◌}
 use Rattle.std.specs.declared.alloc.AllocError.{AllocError}
 use Rattle.std.proofs.lemmas.Bool.Decides.{nat_tests}
-use Rattle.number_bytes.specs.Number.{bytes_of, number_of, after_number}
-use Rattle.number_bytes.specs.Numbers.{steps_of, numbers_of, after_numbers}
-use Rattle.number_bytes.proofs.NumberLaws.{number_back, after_back, some_bytes}
-use Rattle.number_bytes.proofs.NumbersLaws.{numbers_back, after_numbers_back}
+use Rattle.clause_log.specs.Number.{bytes_of, number_of, after_number}
+use Rattle.clause_log.specs.Numbers.{steps_of, numbers_of, after_numbers}
+use Rattle.clause_log.proofs.NumberLaws.{number_back, after_back, some_bytes}
+use Rattle.clause_log.proofs.NumbersLaws.{numbers_back, after_numbers_back}
 use Rattle.clause_base.specs.Derivation.{clauses_of}
 use Rattle.clause_base.specs.declared.log.Entry.{Entry}
 use Rattle.clause_base.specs.declared.log.Entry.TheVariants.{Learn, Drop}

@@ -1,2 +1,4 @@
 pub mod HeldLaws
 pub mod Turns
+pub mod NumberLaws
+pub mod NumbersLaws

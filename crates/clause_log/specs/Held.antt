@@ -1,7 +1,7 @@
 -- The entries of a log as bytes.
 use Rattle.std.specs.Prelude.{◌≡◌, ℕ, zero, suc, ◌+◌, ◌*◌, ◌/◌, ◌%◌, ◌^◌, ◌<◌, ◌==◌, List, [], ◌∷◌, ◌++◌, length, All, if◌then◌else◌}
-use Rattle.number_bytes.specs.Number.{bytes_of, number_of, after_number}
-use Rattle.number_bytes.specs.Numbers.{steps_of, numbers_of, after_numbers}
+use Rattle.clause_log.specs.Number.{bytes_of, number_of, after_number}
+use Rattle.clause_log.specs.Numbers.{steps_of, numbers_of, after_numbers}
 use Rattle.clause_base.specs.Clause.{IsClause}
 use Rattle.clause_base.specs.Derivation.{clauses_of}
 use Rattle.clause_base.specs.declared.log.Entry.{Entry}

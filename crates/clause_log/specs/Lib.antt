@@ -1,2 +1,4 @@
 pub mod Held
 pub mod Step
+pub mod Number
+pub mod Numbers

@@ -7,7 +7,7 @@ use crate::steps::{add_drops, add_learned};
 use clause_base::literal::Lit;
 use clause_base::log::Entry;
 use clause_base::memory::Memory;
-use let_go::let_go;
+use containers::let_go;
 use std::alloc::Global;
 use std::marker::Model;
 

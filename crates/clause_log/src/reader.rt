@@ -1,13 +1,13 @@
 ghost use Rattle.std.specs.Prelude.{◌≡◌, ◌∷◌, [], ◌<◌, length, IfOk, OnErr, IfSome, IfNone};
-ghost use Rattle.number_bytes.specs.Numbers.{numbers_of, after_numbers};
+ghost use Rattle.clause_log.specs.Numbers.{numbers_of, after_numbers};
 ghost use Rattle.clause_log.specs.Held.{entries_of, AreSmall};
 ghost use Rattle.clause_log.specs.Step.{told, told_by, IsLawful, IsLawfulBy};
 
+use crate::number::take_number;
+use crate::numbers::{Numbers, after_numbers, take_numbers};
 use crate::steps::take_literals;
 use clause_base::literal::Lit;
 use clause_base::memory::Memory;
-use number_bytes::number::take_number;
-use number_bytes::numbers::{Numbers, after_numbers, take_numbers};
 use std::marker::Model;
 
 /// An entry of a log where it stands.

@@ -1,15 +1,15 @@
 //! The bytes of entries.
 ghost use Rattle.std.specs.Prelude.{◌≡◌, ◌++◌, ◌<◌, ◌*◌, ◌^◌, length, map, take, All, IfOk, OnOk, OnErr};
-ghost use Rattle.number_bytes.specs.Number.{bytes_of};
-ghost use Rattle.number_bytes.specs.Numbers.{steps_of, numbers_of, after_numbers};
+ghost use Rattle.clause_log.specs.Number.{bytes_of};
+ghost use Rattle.clause_log.specs.Numbers.{steps_of, numbers_of, after_numbers};
 ghost use Rattle.clause_base.specs.Clause.{IsClause};
 ghost use Rattle.clause_base.specs.declared.log.Entry.TheVariants.{Learn, Drop};
 ghost use Rattle.clause_log.specs.Held.{entry_bytes, log_bytes, AreFew, IsSmall, AreSmall};
 
+use crate::number::put_number;
+use crate::numbers::{MOST_STEP, put_numbers, put_step_within, take_step};
 use clause_base::literal::Lit;
 use clause_base::memory::Memory;
-use number_bytes::number::put_number;
-use number_bytes::numbers::{MOST_STEP, put_numbers, put_step_within, take_step};
 use std::alloc::AllocError;
 
 /// Adds how many hints there are, and the hints. After want of memory the bytes that stood before still stand first.

@@ -2,7 +2,7 @@
 ghost use Rattle.std.specs.Prelude.{◌≡◌, ◌∷◌, [], ◌++◌, ◌<◌, ◌≤◌, Some, None, length, set, slice_index_or, IfSome, IfNone, IfOk, OnOk, OnErr};
 
 use clause_base::literal::Lit;
-use list_of::FlatLists;
+use containers::FlatLists;
 use std::alloc::{AllocError, Global};
 use std::marker::Model;
 

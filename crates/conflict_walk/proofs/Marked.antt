@@ -16,8 +16,8 @@ use Rattle.cdcl_trail.specs.Assignment.{literals}
 use Rattle.cdcl_trail.specs.Mirrored.{TrailView, AreApart}
 use Rattle.cdcl_trail.proofs.Levels.{level_at}
 use Rattle.cdcl_trail.proofs.Mirrors.{half_opposite}
-use Rattle.word_bits.proofs.WordLaw.{zero_has}
-use Rattle.number_bits.specs.Bits.{words_have, word_has}
+use Rattle.bit_sets.proofs.WordLaw.{zero_has}
+use Rattle.bit_sets.specs.Layered.{words_have, word_has}
 use Rattle.lit_marks.specs.Marks.{places, at}
 use Rattle.lit_marks.proofs.Places.{bit, put_again, in_places, IsFrom, from_places}
 use Rattle.conflict_walk.specs.Resolvent.{MarksView, AreMarks, IsClear, IsLatest, seen, is_marked}

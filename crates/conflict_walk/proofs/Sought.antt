@@ -6,8 +6,8 @@ use Rattle.std.proofs.Math.Nat.{pow-suc}
 use Rattle.std.proofs.lemmas.Nat.{leading_top, div_below, le-div, pow_pos}
 use Rattle.std.proofs.lemmas.Nat.Bits.{bit_at_above}
 use Rattle.std.proofs.lemmas.Bool.Decides.{nat_tests}
-use Rattle.word_bits.proofs.WordLaw.{zero_has}
-use Rattle.number_bits.specs.Bits.{word_has, words_have}
+use Rattle.bit_sets.proofs.WordLaw.{zero_has}
+use Rattle.bit_sets.specs.Layered.{word_has, words_have}
 use Rattle.conflict_walk.specs.Resolvent.{IsLatest}
 
 -- the greatest bit of a word that has one

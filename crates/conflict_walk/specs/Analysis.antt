@@ -1,5 +1,5 @@
 use Rattle.std.specs.Prelude.{◌≡◌, ℕ, ◌*◌, ◌≤◌, List, false, length}
-use Rattle.number_bits.specs.Bits.{words_have}
+use Rattle.bit_sets.specs.Layered.{words_have}
 use Rattle.conflict_walk.specs.Resolvent.{MarksView, IsClear}
 
 -- what conflicts are worked out in, as its clients see it: the marks of the clause in the making, and the set that puts it in order

@@ -7,7 +7,7 @@ use Rattle.cdcl_rules.specs.Trail.{AllFalse}
 use Rattle.cdcl_rules.specs.Learn.{current}
 use Rattle.cdcl_trail.specs.Mirrored.{TrailView}
 use Rattle.lit_marks.specs.Marks.{places}
-use Rattle.number_bits.specs.Bits.{words_have}
+use Rattle.bit_sets.specs.Layered.{words_have}
 
 -- whether l is the negation of one of some literals, at positions from v on, whose position passes a test
 abbrev pub is_marked : (ℕ → Bool) → ℕ → List ℕ → ℕ → Bool

@@ -1,9 +1,9 @@
 //! The latest of the positions that are marked.
 ghost use Rattle.std.specs.Prelude.{◌≡◌, ℕ, ◌*◌, ◌<◌, true, false, length};
-ghost use Rattle.number_bits.specs.Bits.{word_has, words_have};
+ghost use Rattle.bit_sets.specs.Layered.{word_has, words_have};
 ghost use Rattle.conflict_walk.specs.Resolvent.{IsLatest};
 
-use word_bits::{from_bit, has_bit, without};
+use bit_sets::word::{from_bit, has_bit, without};
 
 /// Whether a position is marked.
 #[inline(always)]

@@ -2,16 +2,16 @@
 ghost use Rattle.std.specs.Prelude.{◌≡◌, ℕ, ◌*◌, ◌+◌, ◌<◌, ◌≤◌, ◌==◌, ◌||◌, ◌⊎◌, [], if◌then◌else◌, true, false, not, length, map, filter, fold, slice_index, IfOk, OnOk};
 ghost use Rattle.clause_base.specs.{Literal.opposite, Clause.put};
 ghost use Rattle.cdcl_rules.specs.{State.is_on, Trail.AllFalse, Learn.resolvent};
-ghost use Rattle.number_bits.specs.Bits.{words_have};
+ghost use Rattle.bit_sets.specs.Layered.{words_have};
 ghost use Rattle.conflict_walk.specs.{Resolvent.literals, Resolvent.seen, Resolvent.is_marked, Resolvent.AreMarks, Resolvent.IsClear, Resolvent.IsLatest, Walk.OthersFalse};
 
 use crate::latest::{has_mark, latest};
 use crate::order::{Codes, put_code};
+use bit_sets::flat::{clear_bit, set_bit};
 use cdcl_trail::lookup::Lookup;
 use clause_base::literal::Lit;
 use clause_base::memory::Memory;
 use clause_base::view::View;
-use number_bits::flat::{clear_bit, set_bit};
 use std::alloc::Global;
 use std::marker::Model;
 

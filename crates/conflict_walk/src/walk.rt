@@ -8,7 +8,7 @@ ghost use Rattle.conflict_walk.specs.Walk.{stops, IsReasoned};
 use crate::resolvent::Resolvent;
 use cdcl_trail::lookup::Lookup;
 use clause_base::memory::Memory;
-use watch_store::store::Store;
+use clause_store::store::Store;
 
 /// Whether the walk stops at an entry whose negation is in the clause.
 #[inline]

@@ -15,9 +15,9 @@ use Rattle.gt_core.specs.Active.{EffectWithin}
 use Rattle.gt_core.specs.Layout.{Layout, width}
 use Rattle.gt_core.proofs.Basics.{and_split}
 use Rattle.gt_core.proofs.Within.{lawful, effects_within, precondition_within}
-use Rattle.step_clauses.specs.Clause.{Is, code}
-use Rattle.step_clauses.specs.Variables.{Row, rows, rows_from, variable_at, has_condition}
-use Rattle.step_clauses.proofs.Counts.{conditional_count}
+use Rattle.horizon_formula.specs.Clause.{Is, code}
+use Rattle.horizon_formula.specs.Variables.{Row, rows, rows_from, variable_at, has_condition}
+use Rattle.horizon_formula.proofs.Counts.{conditional_count}
 use Rattle.step_template.specs.Rows.{made, IsIndex}
 use Rattle.goal_choice.specs.Means.{Supporter, Means, supporter_of, supporters_of, plain_layout, gathered_of}
 use Rattle.goal_choice.specs.Members.{IsWithin, AreMeans}

@@ -2,7 +2,7 @@
 
 ghost use Rattle.std.specs.Prelude.{◌≡◌, ◌<◌, [], length, slice_index_or};
 
-use list_of::FlatLists;
+use containers::FlatLists;
 
 /// The list with this number, counted from 0.
 pub(crate) fn list_at(lists: &FlatLists<u32>, number: usize) -> &[u32]

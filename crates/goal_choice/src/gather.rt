@@ -7,9 +7,9 @@ ghost use Rattle.goal_choice.specs.Needs.{needs_of, needs_in};
 
 use clause_base::literal::Lit;
 use clause_base::memory::Memory;
+use containers::FlatLists;
 use gt_core::act::Act;
 use gt_core::task::Task;
-use list_of::FlatLists;
 use std::alloc::Global;
 use step_template::index::Makers;
 

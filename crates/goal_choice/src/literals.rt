@@ -3,7 +3,7 @@
 ghost use Rattle.std.specs.Prelude.{◌≡◌, ◌≤◌, replicate, IfOk};
 ghost use Rattle.goal_choice.specs.Members.{no_literals};
 
-use bit_rows::row::BitRow;
+use bit_sets::row::BitRow;
 use clause_base::memory::Memory;
 use std::alloc::Global;
 use std::marker::Model;

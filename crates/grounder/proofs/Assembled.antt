@@ -7,12 +7,12 @@ use Rattle.pd_model.specs.State.{is_in}
 use Rattle.pd_model.specs.declared.atoms.Atom.{Atom}
 use Rattle.pd_model.specs.declared.calls.Call.{Call}
 use Rattle.pd_model.specs.declared.parts.Parts.{Parts}
-use Rattle.grounding.specs.Sorted.{atom_less, IsSorted}
-use Rattle.grounding.specs.Grounded.{IsGrounded}
-use Rattle.grounding.specs.Simplify.{task_of}
-use Rattle.grounding.specs.Found.{is_constant, facts_of, actions_of, grounded_by}
-use Rattle.grounding.specs.Limits.{most_actions}
-use Rattle.grounding.specs.Laws.{LeastIsGrounded}
+use Rattle.grounding_laws.specs.Sorted.{atom_less, IsSorted}
+use Rattle.grounding_laws.specs.Grounded.{IsGrounded}
+use Rattle.grounding_laws.specs.Simplify.{task_of}
+use Rattle.grounding_laws.specs.Found.{is_constant, facts_of, actions_of, grounded_by}
+use Rattle.grounding_laws.specs.Limits.{most_actions}
+use Rattle.grounding_laws.specs.Laws.{LeastIsGrounded}
 use Rattle.grounder.specs.Found.{AreFound}
 use Rattle.grounder.specs.Putting.{HasExactly}
 

@@ -21,9 +21,9 @@ use Rattle.gt_core.specs.Lawful.{list_less, effect_less}
 use Rattle.gt_core.proofs.Basics.{Among, same_if}
 use Rattle.gt_core.proofs.Pairwise.{among_map}
 use Rattle.pd_model.proofs.Equality.{is_eq-then}
-use Rattle.grounding.specs.Sorted.{IsSorted, sorted_set}
-use Rattle.grounding.proofs.Orders.{IsOrder, numbers, effects}
-use Rattle.grounding.proofs.Sets.{unique, is_sorted, sorted_among, among_sorted}
+use Rattle.grounding_laws.specs.Sorted.{IsSorted, sorted_set}
+use Rattle.grounding_laws.proofs.Orders.{IsOrder, numbers, effects}
+use Rattle.grounding_laws.proofs.Sets.{unique, is_sorted, sorted_among, among_sorted}
 use Rattle.atom_join.proofs.Order.{by_first, less_list}
 use Rattle.atom_join.proofs.Rising.{deduped_rise}
 use Rattle.grounder.specs.declared.effects.Keyed.{Keyed}

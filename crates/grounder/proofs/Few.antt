@@ -11,11 +11,11 @@ use Rattle.pd_model.specs.Fits.{fits, fitting, all_fit, is_call_of}
 use Rattle.pd_model.specs.declared.calls.Call.{Call}
 use Rattle.pd_model.specs.declared.parts.Parts.{Parts}
 use Rattle.pd_model.specs.declared.schemas.Schema.{Schema}
-use Rattle.grounding.specs.Grounded.{is_listed}
-use Rattle.grounding.specs.Reach.{IsKept}
-use Rattle.grounding.specs.Tuples.{product_of, effect_tuples, schema_tuples, tuples_in, saturated}
-use Rattle.grounding.proofs.Kept.{kept_is_call}
-use Rattle.grounding.proofs.Members.{among_call}
+use Rattle.grounding_laws.specs.Grounded.{is_listed}
+use Rattle.grounding_laws.specs.Reach.{IsKept}
+use Rattle.grounding_laws.specs.Tuples.{product_of, effect_tuples, schema_tuples, tuples_in, saturated}
+use Rattle.grounding_laws.proofs.Kept.{kept_is_call}
+use Rattle.grounding_laws.proofs.Members.{among_call}
 use Rattle.atom_join.proofs.Atoms.{fits_listed}
 use Rattle.grounder.specs.Bindings.{size}
 use Rattle.grounder.specs.Few.{HasFewTuples, HasFewOf, HasFew, HaveFew}

@@ -11,8 +11,8 @@ use Rattle.pd_model.proofs.States.{is_in-filter}
 use Rattle.pd_model.specs.Fits.{fitting, tuples}
 use Rattle.pd_model.specs.declared.effects.Effect.{Effect}
 use Rattle.pd_model.specs.declared.parts.Parts.{Parts}
-use Rattle.grounding.specs.Instance.{Change, change_of, changes_of}
-use Rattle.grounding.specs.Found.{deletes, all_may_hold}
+use Rattle.grounding_laws.specs.Instance.{Change, change_of, changes_of}
+use Rattle.grounding_laws.specs.Found.{deletes, all_may_hold}
 use Rattle.grounder.specs.declared.bindings.Bindings.{Bindings}
 use Rattle.grounder.specs.Bindings.{size, tuple_at, AreBindings}
 use Rattle.grounder.proofs.Tupled.{count_is, change_at}

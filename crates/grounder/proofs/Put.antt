@@ -15,9 +15,9 @@ use Rattle.pd_model.specs.declared.calls.Call.{Call}
 use Rattle.pd_model.specs.declared.conds.Cond.{Cond}
 use Rattle.pd_model.specs.declared.effects.Effect.{Effect as Lifted}
 use Rattle.pd_model.specs.declared.schemas.Schema.{Schema}
-use Rattle.grounding.specs.Instance.{GroundLiteral, Change, change_of, changes_of, literal_of, literals_of, instance_at, instance_of}
-use Rattle.grounding.specs.Sorted.{sorted_set}
-use Rattle.grounding.specs.Simplify.{place, fact_literal, number_of, simplified, any_never, is_left, effect_of, action_of}
+use Rattle.grounding_laws.specs.Instance.{GroundLiteral, Change, change_of, changes_of, literal_of, literals_of, instance_at, instance_of}
+use Rattle.grounding_laws.specs.Sorted.{sorted_set}
+use Rattle.grounding_laws.specs.Simplify.{place, fact_literal, number_of, simplified, any_never, is_left, effect_of, action_of}
 use Rattle.grounder.specs.declared.bindings.Bindings.{Bindings}
 use Rattle.grounder.specs.declared.effects.Keyed.{Keyed}
 use Rattle.grounder.specs.Bindings.{size, tuple_at, AreBindings}

@@ -6,7 +6,7 @@ use Rattle.std.proofs.Math.Nat.{div-lt_iff_lt-mul, mul-div_cancel_left}
 use Rattle.pd_model.specs.Fits.{fitting, tuples}
 use Rattle.pd_model.specs.declared.effects.Effect.{Effect}
 use Rattle.pd_model.specs.declared.parts.Parts.{Parts}
-use Rattle.grounding.specs.Instance.{Change, change_of, changes_of}
+use Rattle.grounding_laws.specs.Instance.{Change, change_of, changes_of}
 use Rattle.grounder.specs.Bindings.{size, tuple_at}
 
 -- each of some objects before each of some tuples

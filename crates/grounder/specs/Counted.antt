@@ -2,8 +2,8 @@
 use Rattle.std.specs.Prelude.{◌≡◌, ◌≤◌, List}
 use Rattle.gt_core.specs.Lawful.{conditional_in}
 use Rattle.gt_core.specs.Task.{Action}
-use Rattle.grounding.specs.Limits.{most_conditional}
-use Rattle.grounding.specs.Tuples.{saturated}
+use Rattle.grounding_laws.specs.Limits.{most_conditional}
+use Rattle.grounding_laws.specs.Tuples.{saturated}
 use Rattle.grounder.specs.declared.conditional.Counted.{Counted}
 
 -- how many of their effects have a condition, and where these are within the limit the actions

@@ -5,8 +5,8 @@ use Rattle.pd_model.specs.declared.calls.Call.{Call}
 use Rattle.pd_model.specs.declared.effects.Effect.{Effect}
 use Rattle.pd_model.specs.declared.parts.Parts.{Parts}
 use Rattle.pd_model.specs.declared.schemas.Schema.{Schema}
-use Rattle.grounding.specs.Tuples.{product_of}
-use Rattle.grounding.specs.Limits.{most_tuples}
+use Rattle.grounding_laws.specs.Tuples.{product_of}
+use Rattle.grounding_laws.specs.Limits.{most_tuples}
 
 abbrev pub HasFewTuples : Parts → Effect → Type 0
 HasFewTuples p e = product_of p e.over ≤ most_tuples

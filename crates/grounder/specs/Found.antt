@@ -3,8 +3,8 @@ use Rattle.std.specs.Prelude.{◌≡◌, List}
 use Rattle.pd_model.specs.declared.atoms.Atom.{Atom}
 use Rattle.pd_model.specs.declared.calls.Call.{Call}
 use Rattle.pd_model.specs.declared.parts.Parts.{Parts}
-use Rattle.grounding.specs.Found.{IsLeastPair, facts_of}
-use Rattle.grounding.specs.Sorted.{atom_less, call_less, IsSorted}
+use Rattle.grounding_laws.specs.Found.{IsLeastPair, facts_of}
+use Rattle.grounding_laws.specs.Sorted.{atom_less, call_less, IsSorted}
 
 -- the facts of a task and its kept calls, each in order
 pub record AreFound (p : Parts) (facts : List Atom) (kept : List Call) : Type 0 where

@@ -1,7 +1,7 @@
 -- What is known while literals are simplified.
 use Rattle.std.specs.Prelude.{◌≤◌, length}
 use Rattle.pd_model.specs.State.{SameState}
-use Rattle.grounding.specs.Sorted.{atom_less, IsSorted}
+use Rattle.grounding_laws.specs.Sorted.{atom_less, IsSorted}
 use Rattle.grounder.specs.declared.known.Known.{Known}
 
 -- the facts are sorted, few enough that their literals are numbers of 32 bits, and the initial atoms are those of the task

@@ -5,8 +5,8 @@ use Rattle.gt_core.specs.Task.{Effect}
 use Rattle.pd_model.specs.State.{is_in}
 use Rattle.pd_model.specs.declared.atoms.Atom.{Atom}
 use Rattle.pd_model.specs.declared.parts.Parts.{Parts}
-use Rattle.grounding.specs.Instance.{Change}
-use Rattle.grounding.specs.Simplify.{is_left, effect_of}
+use Rattle.grounding_laws.specs.Instance.{Change}
+use Rattle.grounding_laws.specs.Simplify.{is_left, effect_of}
 use Rattle.grounder.specs.declared.effects.Keyed.{Keyed}
 
 -- a literal, where there is one, comes last

@@ -1,8 +1,8 @@
 //! The actions among the kept calls.
 ghost use Rattle.std.specs.Prelude.{◌≡◌, ◌<◌, ◌+◌, ◌++◌, ◌∷◌, [], length, IfOk, OnOk, if◌then◌else◌};
 ghost use Rattle.std.specs.List.{list_all};
-ghost use Rattle.grounding.specs.Instance.{literals_of, instance_of};
-ghost use Rattle.grounding.specs.Found.{may_be_true, actions_of};
+ghost use Rattle.grounding_laws.specs.Instance.{literals_of, instance_of};
+ghost use Rattle.grounding_laws.specs.Found.{may_be_true, actions_of};
 ghost use Rattle.reachability.specs.Derived.{call_with};
 ghost use Rattle.grounder.specs.Known.{IsKnown};
 

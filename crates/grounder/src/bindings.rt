@@ -1,8 +1,8 @@
 //! The tuples of objects for the variables of a `forall`, by number. None is listed.
 ghost use Rattle.std.specs.Prelude.{◌≡◌, ◌<◌, ◌≤◌, ◌++◌, IfOk, OnOk, map};
 ghost use Rattle.pd_model.specs.Fits.{fitting};
-ghost use Rattle.grounding.specs.Tuples.{product_of, saturated};
-ghost use Rattle.grounding.specs.Limits.{most_tuples};
+ghost use Rattle.grounding_laws.specs.Tuples.{product_of, saturated};
+ghost use Rattle.grounding_laws.specs.Limits.{most_tuples};
 ghost use Rattle.grounder.specs.Bindings.{size, tuple_at, AreBindings};
 
 use atom_join::Domains;

@@ -2,10 +2,10 @@
 ghost use Rattle.std.specs.Prelude.{◌≡◌, ◌≤◌, false, not, IfOk, OnOk};
 ghost use Rattle.std.specs.List.{list_any, filter};
 ghost use Rattle.pd_model.specs.State.{is_in};
-ghost use Rattle.grounding.specs.Instance.{change_of, changes_of, instance_of};
-ghost use Rattle.grounding.specs.Found.{deletes, is_constant};
-ghost use Rattle.grounding.specs.Limits.{most_tuples};
-ghost use Rattle.grounding.specs.Tuples.{tuples_in};
+ghost use Rattle.grounding_laws.specs.Instance.{change_of, changes_of, instance_of};
+ghost use Rattle.grounding_laws.specs.Found.{deletes, is_constant};
+ghost use Rattle.grounding_laws.specs.Limits.{most_tuples};
+ghost use Rattle.grounding_laws.specs.Tuples.{tuples_in};
 ghost use Rattle.reachability.specs.Derived.{call_with};
 ghost use Rattle.grounder.specs.Found.{AreFound};
 ghost use Rattle.grounder.specs.Putting.{LeavesOut, HasExactly};

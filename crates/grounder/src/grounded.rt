@@ -1,12 +1,12 @@
 //! What grounding gives.
 ghost use Rattle.std.specs.Prelude.{ℕ, ◌≡◌, ◌≤◌, true, IfOk, Err, length, map};
 ghost use Rattle.gt_core.specs.Lawful.{is_task};
-ghost use Rattle.grounding.specs.Instance.{instance_of};
-ghost use Rattle.grounding.specs.Simplify.{action_of, values_in, task_of};
-ghost use Rattle.grounding.specs.Sorted.{IsSorted, atom_less};
-ghost use Rattle.grounding.specs.Grounded.{IsGrounded};
-ghost use Rattle.grounding.specs.Limits.{most_tuples, most_facts, IsWithin, IsOverTuples, IsOverFacts, IsOverActions, IsOverEffects};
-ghost use Rattle.grounding.specs.Tuples.{tuples_in};
+ghost use Rattle.grounding_laws.specs.Instance.{instance_of};
+ghost use Rattle.grounding_laws.specs.Simplify.{action_of, values_in, task_of};
+ghost use Rattle.grounding_laws.specs.Sorted.{IsSorted, atom_less};
+ghost use Rattle.grounding_laws.specs.Grounded.{IsGrounded};
+ghost use Rattle.grounding_laws.specs.Limits.{most_tuples, most_facts, IsWithin, IsOverTuples, IsOverFacts, IsOverActions, IsOverEffects};
+ghost use Rattle.grounding_laws.specs.Tuples.{tuples_in};
 ghost use Rattle.grounder.specs.Few.{HasFew, HaveFew};
 ghost use Rattle.grounder.specs.Counted.{HasCounted};
 ghost use Rattle.grounder.specs.Found.{AreFound};
@@ -22,12 +22,12 @@ use crate::literals::any_never;
 use crate::simplify::simplified;
 use crate::tuples::count_tuples;
 use atom_join::{AtomTable, Domains};
-use grounding::laws::laws;
+use containers::let_go;
+use grounding_laws::laws::laws;
 use gt_core::act::{Act, Acts};
 use gt_core::eff::Effs;
 use gt_core::lits::{Bits, Lits};
 use gt_core::task::Task;
-use let_go::let_go;
 use pd_model::{Atom, Atoms, Call, Calls, Memory, Pddl};
 use reachability::CallRows;
 use std::alloc::Global;
@@ -41,7 +41,7 @@ pub struct Grounded {
 }
 
 impl Model for Grounded {
-    ghost use Rattle.grounding.specs.Grounded.{Grounded};
+    ghost use Rattle.grounding_laws.specs.Grounded.{Grounded};
 
     ghost Value = { Grounded };
 

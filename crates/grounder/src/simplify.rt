@@ -1,7 +1,7 @@
 //! Fact literals: what is left of the literals of conditions.
 ghost use Rattle.std.specs.Prelude.{◌≡◌, ◌<◌, ◌+◌, ◌*◌, IfOk, OnOk, if◌then◌else◌};
-ghost use Rattle.grounding.specs.Instance.{literal_of, literals_of};
-ghost use Rattle.grounding.specs.Simplify.{number_of, simplified};
+ghost use Rattle.grounding_laws.specs.Instance.{literal_of, literals_of};
+ghost use Rattle.grounding_laws.specs.Simplify.{number_of, simplified};
 ghost use Rattle.grounder.specs.Known.{IsKnown};
 ghost use Rattle.grounder.specs.Putting.{add_literal};
 

@@ -2,7 +2,7 @@
 
 use crate::eff::{Eff, Effs};
 use crate::lits::Lits;
-use list_of::ListOf;
+use containers::ListOf;
 use std::marker::Model;
 
 /// An action: what has to hold before it, and what it does.

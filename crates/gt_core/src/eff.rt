@@ -1,7 +1,7 @@
 //! The effects of an action.
 
 use crate::lits::Lits;
-use list_of::ListOf;
+use containers::ListOf;
 use std::marker::Model;
 
 /// An effect: its literal comes true where the literals of its condition hold. An even literal adds its fact, an

@@ -1,6 +1,6 @@
 //! Fact literals, and truth values of facts.
 
-use list_of::ListOf;
+use containers::ListOf;
 pub use literal_codes::opposite;
 
 /// Fact literals: `2f` says that fact f is true, `2f + 1` that it is false.

@@ -2,8 +2,8 @@
 
 use crate::clause_list::{in_order, make_room, mark, put_in};
 use crate::memory::Memory;
-use bit_rows::row::{BitRow, empty_rows};
-use let_go::let_go;
+use bit_sets::row::{BitRow, empty_rows};
+use containers::let_go;
 use std::alloc::Global;
 use std::marker::Model;
 
@@ -35,7 +35,7 @@ impl Drop for Pairs {
 
 impl Pairs {
     ghost use Rattle.std.specs.Prelude.{◌≡◌, ℕ, ◌≤◌, ◌<◌, ◌*◌, [], ◌∷◌, length, slice_get, Some, IfOk, OnOk, OnErr};
-    ghost use Rattle.bit_rows.specs.Bits.{row_has};
+    ghost use Rattle.bit_sets.specs.Rows.{row_has};
     ghost use Rattle.gt_core.specs.Literal.{opposite};
     ghost use Rattle.gt_core.specs.Interference.{has_clause};
     ghost use Rattle.gt_core.specs.Clauses.{KnownClauses, IsKnownClauses, SameClauses};

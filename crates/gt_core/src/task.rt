@@ -9,7 +9,7 @@ use crate::act::{Act, Acts};
 use crate::eff::Eff;
 use crate::lawful::{are_actions, are_rising, conditional_in, has_few_conditional};
 use crate::lits::{Bits, Lits};
-use let_go::let_go;
+use containers::let_go;
 use std::marker::Model;
 
 /// A grounded task: numbered facts, the truth value of each in the initial state, the literals of the goal, and

@@ -2,11 +2,11 @@ use Rattle.std.proofs.Common.{arith, ◌≡◌, ◌==◌, ℕ, ◌+◌, ◌*◌,
 use Rattle.std.specs.Prelude.{slice_get}
 use Rattle.std.specs.List.{list_all}
 use Rattle.std.proofs.lemmas.Bool.{cases_lt}
-use Rattle.bit_rows.specs.Bits.{row_has}
+use Rattle.bit_sets.specs.Rows.{row_has}
 use Rattle.gt_core.specs.Literal.{opposite}
 use Rattle.gt_core.proofs.Basics.{and_split, and_both}
-use Rattle.known_literals.specs.Rows.{IsPart}
-use Rattle.known_literals.specs.Tested.{with_more, has_no_pair}
+use Rattle.implied_literals.specs.Rows.{IsPart}
+use Rattle.implied_literals.specs.Tested.{with_more, has_no_pair}
 use Rattle.invariant_rounds.specs.Groups.{group_with, GroupFits}
 use Rattle.invariant_rounds.specs.Numbers.{finds, FindsMore}
 use Rattle.invariant_rounds.specs.Index.{IsNumbered, gives_in, IsGiver, AreGivers, IsTaker, AreTakers}

@@ -3,12 +3,12 @@ use Rattle.std.specs.Prelude.{nat_lt}
 use Rattle.std.proofs.lemmas.Bool.{le-ltb as ge_test, lt-ltb as lt_test, cases_lt, or_parts}
 use Rattle.std.proofs.lemmas.Bool.Decides.{nat_tests}
 use Rattle.std.proofs.lemmas.List.{get_or_read}
-use Rattle.bit_rows.specs.Bits.{row_has}
+use Rattle.bit_sets.specs.Rows.{row_has}
 use Rattle.gt_core.specs.Literal.{opposite}
 use Rattle.gt_core.proofs.Basics.{apart, cases, or_left, or_split, same_test, test_same}
-use Rattle.known_literals.specs.Rows.{clause_in, row_at}
+use Rattle.implied_literals.specs.Rows.{clause_in, row_at}
 use Rattle.invariant_rounds.specs.Losses.{IsDropped}
-use Rattle.known_literals.proofs.Steps.{past_rows}
+use Rattle.implied_literals.proofs.Steps.{past_rows}
 use Rattle.invariant_rounds.proofs.Grouping.{and_one}
 
 -- Clauses are dropped from the rows of both their literals.

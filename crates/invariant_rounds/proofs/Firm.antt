@@ -3,8 +3,8 @@ use Rattle.std.specs.List.{list_any}
 use Rattle.gt_core.specs.Literal.{opposite}
 use Rattle.gt_core.specs.Task.{Effect}
 use Rattle.gt_core.proofs.Basics.{passing, any_at, or_left, and_split, and_both, not_true, apart}
-use Rattle.known_literals.specs.Rows.{clause_in}
-use Rattle.known_literals.specs.Tested.{with_more, may_take, loses_by, is_sure, breaks_with}
+use Rattle.implied_literals.specs.Rows.{clause_in}
+use Rattle.implied_literals.specs.Tested.{with_more, may_take, loses_by, is_sure, breaks_with}
 use Rattle.invariant_rounds.specs.Plain.{has_opposite}
 use Rattle.invariant_rounds.proofs.Steps.{opposite_test}
 

@@ -2,15 +2,15 @@ use Rattle.std.proofs.Common.{arith, ◌≡◌, ◌==◌, ℕ, zero, suc, ◌+�
 use Rattle.std.specs.Prelude.{nat_lt, is_some}
 use Rattle.std.specs.List.{list_any, AllByRecursion}
 use Rattle.std.proofs.lemmas.Bool.{cases_lt, lt-ltb as lt_test, le-ltb as ge_test}
-use Rattle.bit_rows.specs.Bits.{row_has, IsLeastFrom}
+use Rattle.bit_sets.specs.Rows.{row_has, IsLeastFrom}
 use Rattle.gt_core.specs.Literal.{opposite}
 use Rattle.gt_core.specs.Task.{Effect}
 use Rattle.gt_core.proofs.Basics.{or_split, or_left, or_right, not_true, same_test, test_same}
-use Rattle.known_literals.specs.Tested.{EffectFits}
+use Rattle.implied_literals.specs.Tested.{EffectFits}
 use Rattle.invariant_rounds.specs.Groups.{effect_with, group_with, GroupFits}
 use Rattle.invariant_rounds.specs.declared.groups.Group.{Group}
 use Rattle.invariant_rounds.proofs.Steps.{any_rest, opposite_test}
-use Rattle.known_literals.proofs.Steps.{any_push}
+use Rattle.implied_literals.proofs.Steps.{any_push}
 
 -- What the loops over groups of effects need.
 

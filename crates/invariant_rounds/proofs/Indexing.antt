@@ -4,15 +4,15 @@ use Rattle.std.specs.List.{list_any, list_all, AllByRecursion}
 use Rattle.std.proofs.lemmas.Option.{slice_get_within, get_or_from_slice_get}
 use Rattle.std.proofs.lemmas.List.Folds.{list_any_at}
 use Rattle.std.proofs.Math.Bool.{or-false}
-use Rattle.bit_rows.specs.Bits.{row_has}
+use Rattle.bit_sets.specs.Rows.{row_has}
 use Rattle.gt_core.specs.Literal.{opposite}
 use Rattle.gt_core.proofs.Basics.{or_split, or_left, or_right, and_split, and_both, not_true, apart, test_same, same_if, passing, all_at, all_from, each_at, Among}
 use Rattle.gt_core.proofs.Literals.{opposite_twice}
-use Rattle.known_literals.specs.Breaks.{is_add}
-use Rattle.known_literals.specs.Rows.{row_at, IsPart}
-use Rattle.known_literals.specs.Tested.{with_more, has_no_pair}
+use Rattle.implied_literals.specs.Breaks.{is_add}
+use Rattle.implied_literals.specs.Rows.{row_at, IsPart}
+use Rattle.implied_literals.specs.Tested.{with_more, has_no_pair}
 use Rattle.invariant_rounds.specs.Groups.{group_with, may_take_by, may_lose, is_sure_by, GroupFits}
-use Rattle.known_literals.proofs.Steps.{opposite_below}
+use Rattle.implied_literals.proofs.Steps.{opposite_below}
 use Rattle.invariant_rounds.specs.Numbers.{finds}
 use Rattle.invariant_rounds.specs.Index.{IsNumbered, IsGroupOf, gives_in, AreGivers, IsGiver, takes_in, AreTakers, IsFirm}
 use Rattle.invariant_rounds.specs.declared.groups.Group.{Group}

@@ -3,7 +3,7 @@ use Rattle.std.specs.List.{list_any}
 use Rattle.gt_core.proofs.Basics.{or_left, or_right, same_test}
 use Rattle.std.proofs.lemmas.List.{length-set}
 use Rattle.invariant_rounds.specs.Numbers.{numbers_at, has_number}
-use Rattle.known_literals.proofs.Steps.{any_push}
+use Rattle.implied_literals.proofs.Steps.{any_push}
 
 -- Lists of numbers by key.
 

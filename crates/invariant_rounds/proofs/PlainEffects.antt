@@ -4,8 +4,8 @@ use Rattle.std.proofs.Math.Bool.{or-false}
 use Rattle.gt_core.specs.Literal.{opposite}
 use Rattle.gt_core.specs.Task.{Effect}
 use Rattle.gt_core.proofs.Basics.{Among, any_same, all_at, test_same}
-use Rattle.known_literals.specs.Breaks.{is_add}
-use Rattle.known_literals.specs.Tested.{with_more, has_no_pair, gives, may_take, loses_by, is_sure, breaks_with}
+use Rattle.implied_literals.specs.Breaks.{is_add}
+use Rattle.implied_literals.specs.Tested.{with_more, has_no_pair, gives, may_take, loses_by, is_sure, breaks_with}
 use Rattle.invariant_rounds.specs.Plain.{adds_plainly, takes_plainly, breaks_plainly}
 use Rattle.invariant_rounds.proofs.Steps.{any_rest, opposite_test}
 use Rattle.invariant_rounds.proofs.Grouping.{and_one}

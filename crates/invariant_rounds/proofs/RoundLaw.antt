@@ -6,18 +6,18 @@ use Rattle.gt_core.specs.Lawful.{is_task, is_action}
 use Rattle.gt_core.specs.Active.{EffectWithin}
 use Rattle.gt_core.proofs.Basics.{Among, passing, any_at, or_split, or_left, or_right, and_split, and_both, cases, test_same, same_if, and_same, apart, each_at, each_from, all_at}
 use Rattle.gt_core.proofs.Within.{lawful, literals_within, effects_within, among_at}
-use Rattle.known_literals.specs.Rows.{clause_in, AreRows, total}
-use Rattle.bit_rows.specs.Bits.{row_has}
-use Rattle.known_literals.specs.Tested.{AreKnown, ActionFits, AreRowsOf, IsSetOf, breaks_by, act_at}
+use Rattle.implied_literals.specs.Rows.{clause_in, AreRows, total}
+use Rattle.bit_sets.specs.Rows.{row_has}
+use Rattle.implied_literals.specs.Tested.{AreKnown, ActionFits, AreRowsOf, IsSetOf, breaks_by, act_at}
 use Rattle.invariant_rounds.specs.Losses.{are_lost, IsBroken, AreLosses, AreAllLosses}
 use Rattle.invariant_rounds.specs.Rounds.{breaks_any, clause_count, IsRound}
-use Rattle.known_literals.specs.Renewed.{IsTested, IsSettled, WereKnown}
+use Rattle.implied_literals.specs.Renewed.{IsTested, IsSettled, WereKnown}
 use Rattle.gt_core.specs.Literal.{opposite}
-use Rattle.known_literals.specs.declared.known.Known.{Known}
-use Rattle.known_literals.proofs.Lists.{all_map}
-use Rattle.known_literals.proofs.Closing.{total_below, total_less}
-use Rattle.known_literals.proofs.Exact.{row_within, none_within}
-use Rattle.known_literals.proofs.Steps.{opposite_below}
+use Rattle.implied_literals.specs.declared.known.Known.{Known}
+use Rattle.implied_literals.proofs.Lists.{all_map}
+use Rattle.implied_literals.proofs.Closing.{total_below, total_less}
+use Rattle.implied_literals.proofs.Exact.{row_within, none_within}
+use Rattle.implied_literals.proofs.Steps.{opposite_below}
 use Rattle.std.proofs.lemmas.Bool.{cases_lt}
 use Rattle.gt_core.proofs.Lists.{each_number}
 

@@ -3,14 +3,14 @@ use Rattle.std.specs.Prelude.{nat_lt}
 use Rattle.std.specs.List.{list_any}
 use Rattle.std.proofs.lemmas.List.{drop_more}
 use Rattle.std.proofs.lemmas.Bool.{cases_lt, lt-ltb, ltb-true, le-ltb}
-use Rattle.bit_rows.specs.Bits.{row_has}
+use Rattle.bit_sets.specs.Rows.{row_has}
 use Rattle.gt_core.specs.Literal.{opposite, holds}
 use Rattle.gt_core.proofs.Basics.{passing, or_split, and_split, same_test, test_same, same_if}
 use Rattle.gt_core.proofs.Literals.{opposite_twice}
-use Rattle.known_literals.specs.Rows.{row_at, clause_in, AreRows}
-use Rattle.known_literals.specs.Tested.{IsSetOf, AreRowsOf, with_more}
+use Rattle.implied_literals.specs.Rows.{row_at, clause_in, AreRows}
+use Rattle.implied_literals.specs.Tested.{IsSetOf, AreRowsOf, with_more}
 use Rattle.invariant_rounds.specs.First.{is_first}
-use Rattle.known_literals.proofs.Steps.{past_rows}
+use Rattle.implied_literals.proofs.Steps.{past_rows}
 
 -- What the loops and branches of the code need.
 

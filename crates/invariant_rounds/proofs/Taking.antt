@@ -1,11 +1,11 @@
 use Rattle.std.proofs.Common.{◌≡◌, ℕ, ◌∙◌, List, Some, Bool, true, false, not, ◌&&◌, ap, refl, sym}
 use Rattle.std.specs.Prelude.{slice_get}
 use Rattle.std.specs.List.{list_all, AllByRecursion}
-use Rattle.bit_rows.specs.Bits.{row_has}
+use Rattle.bit_sets.specs.Rows.{row_has}
 use Rattle.gt_core.specs.Literal.{opposite}
 use Rattle.gt_core.proofs.Basics.{and_split, and_both, each_at}
-use Rattle.known_literals.specs.Breaks.{is_add}
-use Rattle.known_literals.specs.Tested.{with_more, has_no_pair}
+use Rattle.implied_literals.specs.Breaks.{is_add}
+use Rattle.implied_literals.specs.Tested.{with_more, has_no_pair}
 use Rattle.invariant_rounds.specs.Groups.{group_with, may_take_by, may_lose, GroupFits}
 use Rattle.invariant_rounds.specs.Index.{takes_in}
 use Rattle.invariant_rounds.specs.declared.groups.Group.{Group}

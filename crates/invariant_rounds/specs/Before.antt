@@ -1,7 +1,7 @@
 use Rattle.std.specs.Prelude.{◌≡◌, ℕ, ◌*◌, ◌<◌, ◌≤◌, Bool, length}
 use Rattle.std.specs.List.{AllByRecursion, list_all}
-use Rattle.bit_rows.specs.Bits.{row_has}
-use Rattle.known_literals.specs.Tested.{IsSetOf, AreRowsOf}
+use Rattle.bit_sets.specs.Rows.{row_has}
+use Rattle.implied_literals.specs.Tested.{IsSetOf, AreRowsOf}
 use Rattle.invariant_rounds.specs.Groups.{group_with, may_lose, GroupFits}
 use Rattle.invariant_rounds.specs.Index.{takes_in, AreGivers}
 use Rattle.invariant_rounds.specs.declared.groups.Group.{Group}

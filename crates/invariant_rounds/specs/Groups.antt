@@ -1,10 +1,10 @@
 use Rattle.std.specs.Prelude.{◌≡◌, ℕ, ◌<◌, ◌==◌, List, Bool, not, ◌&&◌, ◌||◌}
 use Rattle.std.specs.List.{list_any, list_all, AllByRecursion}
-use Rattle.bit_rows.specs.Bits.{row_has}
+use Rattle.bit_sets.specs.Rows.{row_has}
 use Rattle.gt_core.specs.Literal.{opposite}
 use Rattle.gt_core.specs.Task.{Effect}
-use Rattle.known_literals.specs.Breaks.{is_add}
-use Rattle.known_literals.specs.Tested.{IsSetOf, with_more, has_no_pair}
+use Rattle.implied_literals.specs.Breaks.{is_add}
+use Rattle.implied_literals.specs.Tested.{IsSetOf, with_more, has_no_pair}
 use Rattle.invariant_rounds.specs.declared.groups.Group.{Group}
 
 -- Effects in groups of one condition. A test finds an effect by its literal and a test of its condition.

@@ -1,9 +1,9 @@
 use Rattle.std.specs.Prelude.{◌≡◌, ℕ, ◌<◌, ◌==◌, ◌&&◌, ◌⊎◌, List, Bool, true, false, Some, length}
 use Rattle.std.specs.List.{list_any, list_all, slice_get}
-use Rattle.bit_rows.specs.Bits.{row_has}
+use Rattle.bit_sets.specs.Rows.{row_has}
 use Rattle.gt_core.specs.Literal.{opposite}
-use Rattle.known_literals.specs.Rows.{IsPart}
-use Rattle.known_literals.specs.Tested.{with_more, has_no_pair}
+use Rattle.implied_literals.specs.Rows.{IsPart}
+use Rattle.implied_literals.specs.Tested.{with_more, has_no_pair}
 use Rattle.invariant_rounds.specs.Groups.{group_with, may_take_by}
 use Rattle.invariant_rounds.specs.Numbers.{finds}
 use Rattle.invariant_rounds.specs.declared.groups.Group.{Group}

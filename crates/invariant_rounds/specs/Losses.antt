@@ -1,12 +1,12 @@
 use Rattle.std.specs.Prelude.{◌≡◌, ℕ, ◌*◌, ◌+◌, ◌<◌, ◌≤◌, ◌||◌, List, Bool, true, false, length, slice_index}
 use Rattle.std.specs.Global.{Vec}
 use Rattle.std.specs.List.{list_any, AllZip, range_with_len}
-use Rattle.bit_rows.specs.Bits.{row_has}
+use Rattle.bit_sets.specs.Rows.{row_has}
 use Rattle.gt_core.specs.Literal.{opposite}
 use Rattle.gt_core.specs.Task.{Action}
-use Rattle.known_literals.specs.Rows.{clause_in, AreRows}
-use Rattle.known_literals.specs.Tested.{IsSetOf, AreRowsOf, ActionFits, breaks_by, act_at}
-use Rattle.known_literals.specs.declared.known.Known.{Known}
+use Rattle.implied_literals.specs.Rows.{clause_in, AreRows}
+use Rattle.implied_literals.specs.Tested.{IsSetOf, AreRowsOf, ActionFits, breaks_by, act_at}
+use Rattle.implied_literals.specs.declared.known.Known.{Known}
 
 -- Clauses that are broken, in one row a literal, and what is left where they are dropped.
 

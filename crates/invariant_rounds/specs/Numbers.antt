@@ -1,7 +1,7 @@
 use Rattle.std.specs.Prelude.{◌≡◌, ℕ, zero, suc, ◌%◌, ◌==◌, ◌&&◌, List, [], ◌∷◌, Bool, true, length}
 use Rattle.std.specs.Global.{Vec}
 use Rattle.std.specs.List.{list_any}
-use Rattle.bit_rows.specs.Bits.{row_has}
+use Rattle.bit_sets.specs.Rows.{row_has}
 use Rattle.invariant_rounds.specs.declared.by_literal.ByLiteral.{ByLiteral}
 
 -- Numbers by key, in lists. Keys that leave one rest by the count of lists share a list.

@@ -2,7 +2,7 @@ use Rattle.std.specs.Prelude.{ℕ, ◌==◌, List, Bool, not, ◌&&◌, ◌||◌
 use Rattle.std.specs.List.{list_any}
 use Rattle.gt_core.specs.Literal.{opposite}
 use Rattle.gt_core.specs.Task.{Effect}
-use Rattle.known_literals.specs.Breaks.{is_add}
+use Rattle.implied_literals.specs.Breaks.{is_add}
 
 -- What effects without condition do, where a set is known.
 

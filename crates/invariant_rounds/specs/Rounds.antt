@@ -1,9 +1,9 @@
 use Rattle.std.specs.Prelude.{◌≡◌, ℕ, ◌*◌, ◌<◌, List, Bool, true, false, not, ◌&&◌, ◌||◌, if◌then◌else◌}
 use Rattle.std.specs.List.{list_any}
 use Rattle.gt_core.specs.Task.{Action, Task}
-use Rattle.known_literals.specs.Rows.{clause_in, total}
-use Rattle.known_literals.specs.Tested.{breaks_by}
-use Rattle.known_literals.specs.declared.known.Known.{Known}
+use Rattle.implied_literals.specs.Rows.{clause_in, total}
+use Rattle.implied_literals.specs.Tested.{breaks_by}
+use Rattle.implied_literals.specs.declared.known.Known.{Known}
 
 -- some action breaks the clause of two literals
 abbrev pub breaks_any : ℕ → Known → List Action → ℕ → ℕ → Bool

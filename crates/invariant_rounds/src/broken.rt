@@ -3,11 +3,11 @@
 //! condition. What is broken comes into one row a literal, which actions share.
 
 ghost use Rattle.std.specs.Prelude.{◌≡◌, ℕ, ◌*◌, ◌<◌, ◌≤◌, ◌==◌, ◌&&◌, not, length, IfOk, IfSome, OnOk, ◌||◌};
-ghost use Rattle.bit_rows.specs.Bits.{row_has};
+ghost use Rattle.bit_sets.specs.Rows.{row_has};
 ghost use Rattle.gt_core.specs.Literal.{opposite};
-ghost use Rattle.known_literals.specs.Rows.{clause_in, AreRows};
-ghost use Rattle.known_literals.specs.Breaks.{is_add};
-ghost use Rattle.known_literals.specs.Tested.{with_more, ActionFits, IsSetOf, AreRowsOf, breaks_by};
+ghost use Rattle.implied_literals.specs.Rows.{clause_in, AreRows};
+ghost use Rattle.implied_literals.specs.Breaks.{is_add};
+ghost use Rattle.implied_literals.specs.Tested.{with_more, ActionFits, IsSetOf, AreRowsOf, breaks_by};
 ghost use Rattle.invariant_rounds.specs.Groups.{group_with, breaks_under, GroupFits};
 ghost use Rattle.invariant_rounds.specs.Index.{IsGroupOf, AreGivers, AreTakers};
 ghost use Rattle.invariant_rounds.specs.Before.{IsBefore};
@@ -17,9 +17,9 @@ use crate::groups::{Group, group_effects};
 use crate::harmless::{are_harmless, is_harmless};
 use crate::plain::{add_plain_losses, are_plain};
 use crate::takers::{Before, Here, Room, Takers, is_taken, take_all_lost, takers_of};
-use bit_rows::row::BitRow;
+use bit_sets::row::BitRow;
 use gt_core::act::Act;
-use known_literals::known::{Known, copy, with_more};
+use implied_literals::known::{Known, copy, with_more};
 use std::alloc::{AllocError, Global};
 
 /// Puts the clauses of a literal with those that are not sure into its row of lost clauses, where an effect may take it.

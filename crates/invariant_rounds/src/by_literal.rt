@@ -1,11 +1,11 @@
 //! Numbers by key, and by literal.
 
 ghost use Rattle.std.specs.Prelude.{◌≡◌, ℕ, ◌<◌, true, length, IfOk, OnOk};
-ghost use Rattle.bit_rows.specs.Bits.{row_has};
-ghost use Rattle.known_literals.specs.Tested.{IsSetOf};
+ghost use Rattle.bit_sets.specs.Rows.{row_has};
+ghost use Rattle.implied_literals.specs.Tested.{IsSetOf};
 ghost use Rattle.invariant_rounds.specs.Numbers.{numbers_for, has_number, finds, FindsMore};
 
-use bit_rows::row::BitRow;
+use bit_sets::row::BitRow;
 use std::alloc::{AllocError, Global};
 
 /// So many empty lists, but one at least.

@@ -1,13 +1,13 @@
 //! Broken clauses are dropped.
 
 ghost use Rattle.std.specs.Prelude.{◌≡◌, ℕ, ◌*◌, ◌<◌, ◌≤◌, ◌==◌, ◌&&◌, ◌||◌, true, false, not, length};
-ghost use Rattle.bit_rows.specs.Bits.{row_has, room};
+ghost use Rattle.bit_sets.specs.Rows.{row_has, room};
 ghost use Rattle.gt_core.specs.Literal.{opposite};
-ghost use Rattle.known_literals.specs.Rows.{clause_in, row_at};
-ghost use Rattle.known_literals.specs.Tested.{IsSetOf};
+ghost use Rattle.implied_literals.specs.Rows.{clause_in, row_at};
+ghost use Rattle.implied_literals.specs.Tested.{IsSetOf};
 ghost use Rattle.invariant_rounds.specs.Losses.{IsDropped};
 
-use bit_rows::row::BitRow;
+use bit_sets::row::BitRow;
 use gt_core::lits::opposite;
 
 /// Takes a literal out of the row of another, and puts the opposite of the other into `stale`.

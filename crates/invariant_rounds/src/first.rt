@@ -1,14 +1,14 @@
 //! The clauses that are true in the initial state.
 
 ghost use Rattle.std.specs.Prelude.{◌≡◌, ℕ, ◌*◌, ◌/◌, ◌<◌, ◌≤◌, ◌==◌, ◌&&◌, ◌||◌, nat_lt, not, length, IfOk};
-ghost use Rattle.bit_rows.specs.Bits.{row_has};
+ghost use Rattle.bit_sets.specs.Rows.{row_has};
 ghost use Rattle.gt_core.specs.Literal.{opposite, holds, state_of};
-ghost use Rattle.known_literals.specs.Rows.{clause_in, AreRows};
+ghost use Rattle.implied_literals.specs.Rows.{clause_in, AreRows};
 ghost use Rattle.invariant_rounds.specs.First.{is_first};
 
-use bit_rows::row::BitRow;
+use bit_sets::row::BitRow;
 use gt_core::lits::opposite;
-use known_literals::known::copy;
+use implied_literals::known::copy;
 use std::alloc::{AllocError, Global};
 
 /// Whether a literal holds in a state.

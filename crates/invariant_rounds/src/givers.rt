@@ -2,18 +2,18 @@
 //! that have a literal of what is new may be met besides those that are met at any rate.
 
 ghost use Rattle.std.specs.Prelude.{◌≡◌, ℕ, ◌<◌, ◌==◌, ◌&&◌, ◌||◌, ◌⊎◌, true, None, length, IfOk, IfSome, OnOk};
-ghost use Rattle.known_literals.specs.Rows.{IsPart};
+ghost use Rattle.implied_literals.specs.Rows.{IsPart};
 ghost use Rattle.invariant_rounds.specs.Index.{IsNumbered, gives_in, IsGiver, AreGivers};
-ghost use Rattle.bit_rows.specs.Bits.{row_has};
+ghost use Rattle.bit_sets.specs.Rows.{row_has};
 ghost use Rattle.invariant_rounds.specs.Groups.{group_with};
-ghost use Rattle.known_literals.specs.Tested.{IsSetOf};
+ghost use Rattle.implied_literals.specs.Tested.{IsSetOf};
 ghost use Rattle.invariant_rounds.specs.Numbers.{FindsMore};
 ghost use Rattle.std.specs.List.{list_any, list_all};
 
 use crate::by_literal::{ByLiteral, add_number, list_of, no_numbers};
 use crate::groups::Group;
-use bit_rows::row::BitRow;
-use known_literals::known::all_known;
+use bit_sets::row::BitRow;
+use implied_literals::known::all_known;
 use std::alloc::{AllocError, Global};
 
 /// What groups of effects make true where a set is known: the literals of those whose condition is in the set (`base`),

@@ -2,13 +2,13 @@
 
 ghost use Rattle.std.specs.Prelude.{◌≡◌, ℕ, ◌<◌, ◌==◌, ◌&&◌, ◌||◌, [], List, Bool, slice_index_or, length, IfOk, IfSome, OnOk};
 ghost use Rattle.std.specs.List.{AllByRecursion};
-ghost use Rattle.bit_rows.specs.Bits.{row_has};
+ghost use Rattle.bit_sets.specs.Rows.{row_has};
 ghost use Rattle.gt_core.specs.Literal.{opposite};
-ghost use Rattle.known_literals.specs.Tested.{EffectFits};
+ghost use Rattle.implied_literals.specs.Tested.{EffectFits};
 ghost use Rattle.invariant_rounds.specs.Groups.{effect_with, group_with, GroupFits};
 
 use crate::by_literal::{add_at_key, list_of, no_lists};
-use bit_rows::row::BitRow;
+use bit_sets::row::BitRow;
 use gt_core::eff::Eff;
 use gt_core::lits::opposite;
 use std::alloc::{AllocError, Global};

@@ -4,15 +4,15 @@
 ghost use Rattle.std.specs.Prelude.{◌≡◌, ℕ, ◌*◌, ◌<◌, ◌≤◌, ◌&&◌, not, true, length, IfOk};
 ghost use Rattle.std.specs.List.{AllByRecursion};
 ghost use Rattle.std.specs.Bool.{OnTrue};
-ghost use Rattle.bit_rows.specs.Bits.{row_has};
-ghost use Rattle.known_literals.specs.Rows.{clause_in, AreRows};
-ghost use Rattle.known_literals.specs.Tested.{IsSetOf, EffectFits};
+ghost use Rattle.bit_sets.specs.Rows.{row_has};
+ghost use Rattle.implied_literals.specs.Rows.{clause_in, AreRows};
+ghost use Rattle.implied_literals.specs.Tested.{IsSetOf, EffectFits};
 ghost use Rattle.invariant_rounds.specs.Plain.{has_opposite};
 ghost use Rattle.invariant_rounds.specs.Index.{IsFirm};
 
 use crate::groups::Group;
 use crate::takers::Takers;
-use bit_rows::row::BitRow;
+use bit_sets::row::BitRow;
 use gt_core::eff::Eff;
 use gt_core::lits::opposite;
 use std::alloc::AllocError;

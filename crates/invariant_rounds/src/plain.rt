@@ -3,16 +3,16 @@
 
 ghost use Rattle.std.specs.Prelude.{◌≡◌, ℕ, ◌*◌, ◌<◌, ◌≤◌, ◌==◌, ◌&&◌, ◌||◌, not, true, length, IfOk, OnOk};
 ghost use Rattle.std.specs.List.{AllByRecursion, list_any, list_all};
-ghost use Rattle.bit_rows.specs.Bits.{row_has};
+ghost use Rattle.bit_sets.specs.Rows.{row_has};
 ghost use Rattle.gt_core.specs.Literal.{opposite};
-ghost use Rattle.known_literals.specs.Breaks.{is_add};
-ghost use Rattle.known_literals.specs.Rows.{clause_in, AreRows};
-ghost use Rattle.known_literals.specs.Tested.{EffectFits};
+ghost use Rattle.implied_literals.specs.Breaks.{is_add};
+ghost use Rattle.implied_literals.specs.Rows.{clause_in, AreRows};
+ghost use Rattle.implied_literals.specs.Tested.{EffectFits};
 ghost use Rattle.invariant_rounds.specs.Plain.{adds_plainly, takes_plainly, breaks_plainly};
 
 use crate::broken::add_loss;
 use crate::takers::take_one;
-use bit_rows::row::BitRow;
+use bit_sets::row::BitRow;
 use gt_core::eff::Eff;
 use gt_core::lits::opposite;
 use std::alloc::{AllocError, Global};

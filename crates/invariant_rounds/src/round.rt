@@ -2,20 +2,20 @@
 
 ghost use Rattle.std.specs.Prelude.{◌≡◌, ℕ, ◌+◌, ◌*◌, ◌<◌, ◌≤◌, ◌&&◌, true, false, not, length, IfOk, OnOk};
 ghost use Rattle.std.specs.List.{AllByRecursion};
-ghost use Rattle.bit_rows.specs.Bits.{row_has, room};
+ghost use Rattle.bit_sets.specs.Rows.{row_has, room};
 ghost use Rattle.gt_core.specs.Literal.{opposite};
-ghost use Rattle.known_literals.specs.Rows.{clause_in, AreRows};
-ghost use Rattle.known_literals.specs.Tested.{AreKnown};
-ghost use Rattle.known_literals.specs.Renewed.{IsTested};
+ghost use Rattle.implied_literals.specs.Rows.{clause_in, AreRows};
+ghost use Rattle.implied_literals.specs.Tested.{AreKnown};
+ghost use Rattle.implied_literals.specs.Renewed.{IsTested};
 ghost use Rattle.invariant_rounds.specs.Losses.{are_lost, AreLosses, AreAllLosses, CanTest, IsDropped};
 ghost use Rattle.invariant_rounds.specs.Rounds.{IsRound};
 
 use crate::broken::add_losses_of;
 use crate::drop::drop_lost;
-use bit_rows::row::{BitRow, empty_rows};
+use bit_sets::row::{BitRow, empty_rows};
 use gt_core::act::Act;
 use gt_core::task::Task;
-use known_literals::known::Known;
+use implied_literals::known::Known;
 use rayon::prelude::*;
 use std::alloc::{AllocError, Global};
 use std::thread::Threads;

@@ -2,11 +2,11 @@
 
 ghost use Rattle.std.specs.Prelude.{◌≡◌, ℕ, ◌*◌, ◌<◌, ◌≤◌, ◌==◌, ◌&&◌, ◌⊎◌, not, true, false, length, IfOk, OnOk};
 ghost use Rattle.std.specs.List.{list_any};
-ghost use Rattle.bit_rows.specs.Bits.{row_has};
+ghost use Rattle.bit_sets.specs.Rows.{row_has};
 ghost use Rattle.gt_core.specs.Literal.{opposite};
-ghost use Rattle.known_literals.specs.Breaks.{is_add};
-ghost use Rattle.known_literals.specs.Rows.{IsPart};
-ghost use Rattle.known_literals.specs.Tested.{with_more, has_no_pair, IsSetOf};
+ghost use Rattle.implied_literals.specs.Breaks.{is_add};
+ghost use Rattle.implied_literals.specs.Rows.{IsPart};
+ghost use Rattle.implied_literals.specs.Tested.{with_more, has_no_pair, IsSetOf};
 ghost use Rattle.invariant_rounds.specs.Groups.{GroupFits};
 ghost use Rattle.invariant_rounds.specs.Numbers.{has_number, finds, FindsMore};
 ghost use Rattle.invariant_rounds.specs.Index.{IsNumbered, IsGroupOf, IsTaker, AreTakers};
@@ -15,8 +15,8 @@ ghost use Rattle.invariant_rounds.specs.Before.{IsBefore, IsHere, takes_here, lo
 use crate::by_literal::{ByLiteral, add_to_all, list_of, no_numbers};
 use crate::givers::{Givers, fill_given};
 use crate::groups::Group;
-use bit_rows::row::BitRow;
-use known_literals::known::fill_with;
+use bit_sets::row::BitRow;
+use implied_literals::known::fill_with;
 use std::alloc::{AllocError, Global};
 
 /// The effects of an action in groups, and what is known before it: a set, and the rows of what literals tell.

@@ -5,8 +5,8 @@ ghost use Rattle.judge_endings.specs.Ended.{status_of, text_of};
 
 use crate::Ended;
 use pl_io::Sink;
-use plan_status::Status;
-use plan_status::written::put_due;
+use plan_endings::Status;
+use plan_endings::written::put_due;
 use std::alloc::Global;
 
 /// Makes the text of an ending whole and writes it: the ending's status, 6 where the sink failed, or 8 for want of memory.

@@ -3,9 +3,9 @@ use Rattle.std.proofs.Common.{◌≡◌, Result, Ok, Err, Some, None, subst}
 use Rattle.std.specs.Prelude.{IsErrAnd}
 use Rattle.std.proofs.lemmas.Result.{err_from_is_err_and}
 use Rattle.plan_endings.specs.declared.ending.Ending.{Ending}
-use Rattle.plan_files.specs.declared.stop.Stop.{Stop}
-use Rattle.plan_files.specs.declared.stop.Stop.TheVariants.{Ends, Memory}
-use Rattle.plan_files.specs.Ends.{EndsBy}
+use Rattle.input_files.specs.declared.stop.Stop.{Stop}
+use Rattle.input_files.specs.declared.stop.Stop.TheVariants.{Ends, Memory}
+use Rattle.input_files.specs.Ends.{EndsBy}
 use Rattle.judge_endings.specs.declared.ended.Ended.{Ended}
 use Rattle.judge_endings.specs.declared.ended.Ended.TheVariants.{Plain}
 use Rattle.judge_top.specs.Answers.{EndsWith, end_in}

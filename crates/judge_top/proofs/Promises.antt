@@ -8,20 +8,20 @@ use Rattle.clause_base.specs.Formula.{Cnf}
 use Rattle.pd_task.specs.declared.error.PddlError.{PddlError}
 use Rattle.pd_task.specs.declared.error.PddlError.TheVariants as errors
 use Rattle.pd_model.specs.declared.parts.Parts.{Parts}
-use Rattle.grounding.specs.Grounded.{Grounded}
+use Rattle.grounding_laws.specs.Grounded.{Grounded}
 use Rattle.ordered_tasks.specs.Known.{form_of, formula_at}
 use Rattle.lrat_judge.specs.Judged.{counted}
 use Rattle.lrat_judge.specs.Verdicts.{last_part, verdict_so_far, verdict_ended, verdict_of}
 use Rattle.lrat_judge.specs.declared.verdict.Verdict.{Verdict}
 use Rattle.lrat_judge.specs.declared.verdict.Verdict.TheVariants as verdicts
-use Rattle.plan_words.specs.Seen.{grounds}
-use Rattle.plan_words.specs.declared.request.Stepping.{Stepping}
+use Rattle.requests.specs.Seen.{grounds}
+use Rattle.requests.specs.declared.request.Stepping.{Stepping}
 use Rattle.plan_endings.specs.Ending as plain
 use Rattle.plan_endings.specs.declared.ending.File.{File}
 use Rattle.plan_endings.specs.declared.ending.Ending.{Ending}
 use Rattle.plan_endings.specs.declared.ending.Ending.TheVariants.{Listing}
-use Rattle.plan_files.specs.Limits.{file_at}
-use Rattle.plan_files.specs.Files.{StopsFrom, RoseAmong}
+use Rattle.input_files.specs.Limits.{file_at}
+use Rattle.input_files.specs.Files.{StopsFrom, RoseAmong}
 use Rattle.plan_tasks.specs.Stepping.{places_by}
 use Rattle.plan_tasks.specs.Tasks.{AreTask, IsReady, StopsTask, refused, past, RefusesTask, domain_tree, problem_tree, no_task, refusal_of}
 use Rattle.plan_tasks.specs.Claims.{Printed, OfFiles}
@@ -32,8 +32,8 @@ use Rattle.plan_report.specs.Laws.{IsSmallPlan}
 use Rattle.told_plans.specs.Laws.{PlanLaws}
 use Rattle.told_plans.proofs.Runs.{model_runs}
 use Rattle.plan_tasks.proofs.Printing.{printed_is}
-use Rattle.judge_words.specs.Seen.{Seen, formulas, judges, models, domain_of, problem_of}
-use Rattle.judge_words.specs.Requested.{requested}
+use Rattle.judge_requests.specs.Seen.{Seen, formulas, judges, models, domain_of, problem_of}
+use Rattle.judge_requests.specs.Requested.{requested}
 use Rattle.judge_endings.specs.Ended.{status_of, text_of}
 use Rattle.judge_endings.specs.declared.ended.Ended.{Ended}
 use Rattle.judge_endings.specs.declared.ended.Ended.TheVariants.{Plain, Refuted, Rejected, Syntax, Unread, Usage}

@@ -5,7 +5,7 @@ use Rattle.clause_base.specs.Formula.{Cnf, IsModel, IsUnsatisfiable, assignment_
 use Rattle.cnf_text.specs.Text.{formula_text}
 use Rattle.gt_core.specs.Task.{Task}
 use Rattle.gt_core.specs.Published.{order_of}
-use Rattle.grounding.specs.Grounded.{Grounded}
+use Rattle.grounding_laws.specs.Grounded.{Grounded}
 use Rattle.pd_model.specs.declared.parts.Parts.{Parts}
 use Rattle.pl_io.specs.Outside.{Rose}
 use Rattle.pl_io.specs.Tape as tapes
@@ -22,13 +22,13 @@ use Rattle.plan_report.specs.Laws.{IsSmallPlan}
 use Rattle.lrat_judge.specs.Verdicts.{verdict_of}
 use Rattle.lrat_judge.specs.declared.verdict.Verdict.{Verdict}
 use Rattle.lrat_judge.specs.declared.verdict.Verdict.TheVariants as verdicts
-use Rattle.plan_words.specs.declared.request.Stepping.{Stepping}
-use Rattle.plan_words.specs.declared.request.Stepping.TheVariants.{Exists, All}
+use Rattle.requests.specs.declared.request.Stepping.{Stepping}
+use Rattle.requests.specs.declared.request.Stepping.TheVariants.{Exists, All}
 use Rattle.plan_endings.specs.declared.ending.Ending.{Ending}
 use Rattle.plan_endings.specs.declared.ending.Ending.TheVariants.{Listing, TooLarge, ReadFault, NotEmpty}
 use Rattle.plan_endings.specs.declared.ending.File.TheVariants.{Proof}
-use Rattle.plan_files.specs.declared.stop.Stop.{Stop}
-use Rattle.plan_files.specs.declared.stop.Stop.TheVariants.{Ends, Memory}
+use Rattle.input_files.specs.declared.stop.Stop.{Stop}
+use Rattle.input_files.specs.declared.stop.Stop.TheVariants.{Ends, Memory}
 use Rattle.plan_tasks.specs.Stepping.{places_by, is_plan_by}
 use Rattle.plan_tasks.specs.Tasks.{AreTask, IsReady, StopsTask}
 use Rattle.judge_endings.specs.declared.ended.Ended.{Ended}

@@ -1,13 +1,13 @@
 -- When each ending of a run of the judge comes.
 use Rattle.std.specs.Prelude.{◌≡◌, ◌⊎◌, ℕ, List, [], ◌∷◌, ◌++◌, Option, Some, None}
 use Rattle.pl_io.specs.Outside.{Heard, whole, Rose}
-use Rattle.plan_words.specs.Seen.{grounds}
-use Rattle.plan_words.specs.declared.request.Stepping.{Stepping}
-use Rattle.plan_files.specs.Limits.{file_at}
-use Rattle.plan_files.specs.Files.{StopsFrom, RoseAmong}
+use Rattle.requests.specs.Seen.{grounds}
+use Rattle.requests.specs.declared.request.Stepping.{Stepping}
+use Rattle.input_files.specs.Limits.{file_at}
+use Rattle.input_files.specs.Files.{StopsFrom, RoseAmong}
 use Rattle.plan_endings.specs.declared.ending.Ending.{Ending}
-use Rattle.judge_words.specs.Seen.{Seen, formulas, judges, models, domain_of, problem_of}
-use Rattle.judge_words.specs.Requested.{requested}
+use Rattle.judge_requests.specs.Seen.{Seen, formulas, judges, models, domain_of, problem_of}
+use Rattle.judge_requests.specs.Requested.{requested}
 use Rattle.judge_endings.specs.declared.ended.Ended.{Ended}
 use Rattle.judge_endings.specs.declared.ended.Ended.TheVariants.{Plain, Unread, Usage}
 use Rattle.judge_top.specs.Answers.{TapeRun, OnceReady, AnswersFormula, AnswersJudge, AnswersModel, IsUnread}

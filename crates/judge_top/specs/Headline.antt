@@ -2,7 +2,7 @@
 use Rattle.std.specs.Prelude.{◌≡◌, ◌⊎◌, ℕ, Bool, List}
 use Rattle.cnf_text.specs.Text.{formula_text}
 use Rattle.pd_model.specs.declared.parts.Parts.{Parts}
-use Rattle.plan_words.specs.declared.request.Stepping.{Stepping}
+use Rattle.requests.specs.declared.request.Stepping.{Stepping}
 use Rattle.plan_tasks.specs.Stepping.{places_by}
 use Rattle.ordered_tasks.specs.Known.{form_of, formula_at}
 use Rattle.plan_tasks.specs.Claims.{OfGrounded, NoStepPlan, NoPlan}
@@ -13,7 +13,7 @@ use Rattle.lrat_judge.specs.declared.verdict.Verdict.TheVariants.{Refuted, Rejec
 use Rattle.judge_endings.specs.Ended.{text_of}
 use Rattle.judge_endings.specs.declared.ended.Ended.TheVariants.{Plain, NoModel, NoText}
 use Rattle.plan_endings.specs.declared.ending.Ending.{Ending}
-use Rattle.grounding.specs.Grounded.{Grounded}
+use Rattle.grounding_laws.specs.Grounded.{Grounded}
 use Rattle.plan_tasks.specs.Tasks.{AreTask, StopsTask}
 use Rattle.plan_report.specs.Report.{plan_text}
 use Rattle.model_text.specs.FirstFalse.{IsFirstFalse}

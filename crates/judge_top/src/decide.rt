@@ -1,22 +1,22 @@
 //! How a run ends, before anything is written.
 ghost use Rattle.std.specs.Prelude.{◌≡◌, ◌≤◌, ℕ, List, length, map, string_bytes, None, Ok};
 ghost use Rattle.pl_io.specs.Outside.{Agrees, fault_count};
-ghost use Rattle.plan_files.specs.Files.{NotesAmong};
-ghost use Rattle.plan_files.specs.Limits.{most_bytes};
-ghost use Rattle.judge_words.specs.Requested.{requested, command_named};
-ghost use Rattle.judge_words.specs.Seen.{seen, horizon_of};
+ghost use Rattle.input_files.specs.Files.{NotesAmong};
+ghost use Rattle.input_files.specs.Limits.{most_bytes};
+ghost use Rattle.judge_requests.specs.Requested.{requested, command_named};
+ghost use Rattle.judge_requests.specs.Seen.{seen, horizon_of};
 ghost use Rattle.judge_top.specs.Answers.{EndsWith, tape_run};
 ghost use Rattle.judge_top.specs.Causes.{Answers, OfModel, ComesFor, Comes, names_in, two_of};
 
 use crate::answer::{answer_formula, answer_judge, answer_model};
 use crate::verdict::open;
+use input_files::parts::two_of;
+use input_files::stop::Stop;
+use input_files::take::take_all;
 use judge_endings::Ended;
-use judge_words::{Request, read_words};
+use judge_requests::{Request, read_words};
 use pl_io::{Bytes, Shelf, TakeError, Tape};
-use plan_files::parts::two_of;
-use plan_files::stop::Stop;
-use plan_files::take::take_all;
-use plan_words::Stepping;
+use requests::Stepping;
 use std::alloc::Global;
 use std::thread::Threads;
 
@@ -60,7 +60,7 @@ fn decide_request<H: Threads + Sync, S: Shelf, T: Tape>(
     ensures noted { NotesAmong (two_of (seen request.now)) (S.failed shelf.old) (S.failed shelf.new) }
     ensures tape_faults { T.faults tape.old ≤ T.faults tape.new }
 {
-    let both = plan_words::Request::Ground {
+    let both = requests::Request::Ground {
         domain: request.domain(),
         problem: request.problem(),
     };

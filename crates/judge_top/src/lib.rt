@@ -13,5 +13,5 @@ mod top;
 mod verdict;
 
 pub use judge_endings::Ended;
-pub use plan_status::Status;
+pub use plan_endings::Status;
 pub use top::judge;

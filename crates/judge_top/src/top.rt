@@ -1,11 +1,11 @@
 //! The top call.
 ghost use Rattle.std.specs.Prelude.{◌≡◌, ◌≢◌, ◌≤◌, ℕ, List, [], ◌∷◌, map, string_bytes, Some, None, Contains};
 ghost use Rattle.pl_io.specs.Outside.{Agrees, appended, TakesFront, Rose, fault_count};
-ghost use Rattle.plan_words.specs.declared.request.Stepping.{Stepping};
-ghost use Rattle.plan_files.specs.Files.{NotesAmong};
+ghost use Rattle.requests.specs.declared.request.Stepping.{Stepping};
+ghost use Rattle.input_files.specs.Files.{NotesAmong};
 ghost use Rattle.plan_tasks.specs.Claims.{Printed, OfFiles};
-ghost use Rattle.judge_words.specs.Requested.{requested, command_named};
-ghost use Rattle.judge_words.specs.Seen.{formulas, judges, models};
+ghost use Rattle.judge_requests.specs.Requested.{requested, command_named};
+ghost use Rattle.judge_requests.specs.Seen.{formulas, judges, models};
 ghost use Rattle.judge_endings.specs.Ended.{status_of, text_of};
 ghost use Rattle.judge_endings.specs.declared.ended.Ended.{Ended};
 ghost use Rattle.judge_top.specs.Answers.{end_in, tape_run};
@@ -14,9 +14,9 @@ ghost use Rattle.judge_top.specs.Headline.{IsProvedNone, PlanRunsIn, TellsFormul
 
 use crate::decide::decide;
 use crate::{Ended, Status};
+use input_files::stop::Stop;
 use judge_endings::written::written;
 use pl_io::{Shelf, Sink, Tape};
-use plan_files::stop::Stop;
 use std::alloc::Global;
 use std::thread::Threads;
 

@@ -8,8 +8,8 @@ use clause_base::literal::Lit;
 use clause_base::log::{Entry, Hints};
 use clause_base::memory::Memory;
 use clause_log::log::Log;
+use clause_log::numbers::Numbers;
 use clause_log::reader::Step;
-use number_bytes::numbers::Numbers;
 use rup_check::check::{CheckError, check};
 
 /// The most clauses of a formula, and entries of a log, that are checked.

@@ -1,6 +1,6 @@
 // Atoms: with variables in a schema, ground in a state.
 use crate::{Memory, Objects};
-use list_of::ListOf;
+use containers::ListOf;
 use std::alloc::Global;
 
 /// An object by its number, or a variable by its place: the parameters of the action come first, from

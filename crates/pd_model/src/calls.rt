@@ -1,6 +1,6 @@
 // Calls of actions, and what a list of them comes to.
 use crate::Objects;
-use list_of::ListOf;
+use containers::ListOf;
 
 /// A schema with one object for each parameter.
 #[derive(Drop)]

@@ -1,6 +1,6 @@
 // Conditions.
 use crate::{Pattern, Term};
-use list_of::{ListOf, SharedListOf};
+use containers::{ListOf, SharedListOf};
 
 /// One literal of a condition.
 #[derive(Drop)]

@@ -1,6 +1,6 @@
 // Effects.
 use crate::{Pattern, SharedConds, SharedTypeNumbers};
-use list_of::ListOf;
+use containers::ListOf;
 
 /// One literal that an action adds or deletes, where its condition holds before the action: once for each
 /// tuple of objects that fit the types of the `forall` round it.

@@ -1,5 +1,5 @@
 // The objects.
-use list_of::ListOf;
+use containers::ListOf;
 use pd_sexp::Name;
 use std::cmp::Ordering;
 use std::marker::Model;

@@ -1,6 +1,6 @@
 // The parts of a task.
 use crate::{Atoms, Conds, ObjectDecls, Predicates, Schemas, Types};
-use let_go::let_go;
+use containers::let_go;
 
 /// What a domain and a problem declare, before it is known to be a task.
 pub struct Parts {

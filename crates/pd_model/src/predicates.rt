@@ -1,5 +1,5 @@
 // The predicates.
-use list_of::ListOf;
+use containers::ListOf;
 use pd_sexp::Name;
 
 /// A declared predicate. Predicates are numbered from 0 in order of declaration.

@@ -1,6 +1,6 @@
 // Action schemas.
 use crate::{Conds, Effects, TypeNumbers};
-use list_of::ListOf;
+use containers::ListOf;
 use pd_sexp::Name;
 
 /// An action with variables. Schemas are numbered from 0 in order of declaration.

@@ -1,5 +1,5 @@
 // The types of objects.
-use list_of::{ListOf, SharedListOf};
+use containers::{ListOf, SharedListOf};
 use pd_sexp::Name;
 
 /// A declared type. Types are numbered from 0; type 0 is `object`, its own parent.

@@ -5,7 +5,7 @@ ghost use Rattle.pd_plan.specs.WordLists.{word_lists};
 
 use crate::PlanFault;
 use crate::reader::Reader;
-use list_of::ListOf;
+use containers::ListOf;
 use pd_words::Named;
 use std::alloc::Global;
 

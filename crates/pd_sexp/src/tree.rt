@@ -1,7 +1,7 @@
 // The trees that a file is read as.
 ghost use Rattle.std.specs.Prelude.{◌≡◌, ℕ, List};
 
-use list_of::ListOf;
+use containers::ListOf;
 use std::alloc::{AllocError, AllocFailed};
 
 /// The bytes of a word, in small letters.

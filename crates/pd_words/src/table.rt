@@ -8,7 +8,7 @@ ghost use Rattle.pd_words.specs.declared.fault.ReadError.TheVariants as errors;
 
 use crate::fault::ReadError;
 use crate::named::copy_name;
-use let_go::let_go;
+use containers::let_go;
 use pd_sexp::Name;
 use std::alloc::Global;
 use std::collections::BTreeMap;

@@ -1,7 +1,7 @@
 // Lists of bytes, numbers, files and names. Contracts see each as a plain list of its items.
 ghost use Rattle.std.specs.Prelude.{◌≡◌, ◌+◌, ◌≤◌, ◌++◌, ℕ, List, [], ◌∷◌, vec_len, vec_capacity, IsOk, OnOk, OnErr, IfOk};
 
-use list_of::ListOf;
+use containers::ListOf;
 use std::alloc::{AllocError, Global};
 
 /// Bytes: a text, a name or the content of a file. Contracts see the list of the bytes, each from 0 to 255.

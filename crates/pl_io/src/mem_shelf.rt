@@ -6,7 +6,7 @@ ghost use Rattle.pl_io.specs.MemShelf.{bytes_at, has_none};
 
 use crate::faults::note;
 use crate::{Bytes, Files, NamedFile, Names, Numbers, Shelf, TakeError, Taken};
-use let_go::let_go;
+use containers::let_go;
 use std::alloc::Global;
 use std::marker::Model;
 use transcript::Heard;

@@ -6,18 +6,18 @@ use Rattle.std.proofs.lemmas.List.{length-map}
 use Rattle.gt_core.specs.Task.{Task}
 use Rattle.horizon_rates.specs.declared.settings.Settings.{Settings}
 use Rattle.pd_model.specs.declared.parts.Parts.{Parts}
-use Rattle.grounding.specs.Grounded.{Grounded, IsGrounded}
+use Rattle.grounding_laws.specs.Grounded.{Grounded, IsGrounded}
 use Rattle.race_end.specs.declared.end.RaceEnd.{RaceEnd}
 use Rattle.race_end.specs.declared.end.RaceEnd.TheVariants as races
 use Rattle.race_end.specs.Ends.{EndView, end_view, lines_in, conflicts_in}
 use Rattle.race.specs.Ends.{WherePlanned, AreActions, SumsWithin}
 use Rattle.plan_report.specs.Laws.{HasActionsBelow}
-use Rattle.plan_files.specs.declared.stop.Stop.{Stop}
+use Rattle.input_files.specs.declared.stop.Stop.{Stop}
 use Rattle.plan_endings.specs.declared.ending.Ending.{Ending}
-use Rattle.plan_files.specs.Ends.{EndsBy, EndsAs}
+use Rattle.input_files.specs.Ends.{EndsBy, EndsAs}
 use Rattle.plan_answers.specs.Tasks.{AreTask, IsReady, StopsTask, RefusesTask, OnceRead, not_read, OnceGrounded, not_grounded, grounded}
 use Rattle.plan_answers.specs.Raced.{OnceRaced, too_large, TellsTooLarge}
-use Rattle.plan_files.proofs.Stopped.{EndsAs-handed}
+use Rattle.input_files.proofs.Stopped.{EndsAs-handed}
 
 -- ---- lists of so many files
 

@@ -8,12 +8,12 @@ use Rattle.pd_model.specs.declared.calls.Verdict.TheVariants as verdicts
 use Rattle.pd_model.specs.declared.parts.Parts.{Parts}
 use Rattle.pd_plan.specs.Fault as plan
 use Rattle.pd_plan.specs.PlanFile.{plan_file}
-use Rattle.grounding.specs.Grounded.{Grounded}
+use Rattle.grounding_laws.specs.Grounded.{Grounded}
 use Rattle.task_text.specs.Text.{ground_text, order_text}
 use Rattle.plan_report.specs.Report.{report_of}
 use Rattle.plan_report.specs.Laws.{IsSmall}
-use Rattle.plan_words.specs.Seen.{Seen, Numbers, numbers, plans_by, checks, grounds, orders, generates, proves, verifies, batches}
-use Rattle.plan_words.specs.declared.request.Stepping.{Stepping}
+use Rattle.requests.specs.Seen.{Seen, Numbers, numbers, plans_by, checks, grounds, orders, generates, proves, verifies, batches}
+use Rattle.requests.specs.declared.request.Stepping.{Stepping}
 use Rattle.certificates.specs.Known.{IsOrdered, HasTooMany}
 use Rattle.certificates.specs.Certificate.{IsSpelled}
 use Rattle.certificates.specs.Proved.{Proves}

@@ -6,13 +6,13 @@ use Rattle.plan_gen.specs.declared.Kind.TheVariants.{Corridor, Gripper}
 use Rattle.plan_gen.specs.Task.{domain_of, problem_of}
 use Rattle.race_end.specs.Ends.{EndView}
 use Rattle.pd_model.specs.declared.parts.Parts.{Parts}
-use Rattle.grounding.specs.Grounded.{Grounded}
+use Rattle.grounding_laws.specs.Grounded.{Grounded}
 use Rattle.plan_report.specs.Report.{summary_of}
-use Rattle.plan_words.specs.declared.request.Show.{Show}
-use Rattle.plan_words.specs.declared.request.Show.TheVariants as shows
+use Rattle.requests.specs.declared.request.Show.{Show}
+use Rattle.requests.specs.declared.request.Show.TheVariants as shows
 use Rattle.plan_answers.specs.Tasks.{OnceGrounded}
 use Rattle.gt_core.specs.Step.{IsStepPlan}
-use Rattle.step_clauses.specs.Variables.{chain_places}
+use Rattle.horizon_formula.specs.Variables.{chain_places}
 use Rattle.plan_answers.specs.Raced.{OnceRaced}
 use Rattle.plan_endings.specs.declared.ending.Ending.{Ending}
 use Rattle.plan_endings.specs.declared.ending.Ending.TheVariants.{Listing}

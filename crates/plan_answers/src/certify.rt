@@ -1,8 +1,8 @@
 //! What files come to for the commands on certificates.
 ghost use Rattle.std.specs.Prelude.{◌≡◌, ◌≤◌, length, IfOk};
-ghost use Rattle.plan_files.specs.Limits.{most_bytes};
+ghost use Rattle.input_files.specs.Limits.{most_bytes};
 ghost use Rattle.certificates.specs.Certificate.{IsSpelled};
-ghost use Rattle.plan_files.specs.Ends.{EndsAs, StopsBy};
+ghost use Rattle.input_files.specs.Ends.{EndsAs, StopsBy};
 ghost use Rattle.pd_model.specs.WellFormed.{IsWellFormed};
 ghost use Rattle.plan_answers.specs.Answers.{AnswersProve, AnswersVerify, RefusesProof, ending_of_run, ending_of_check};
 ghost use Rattle.plan_answers.specs.Tasks.{OnceRead, OnceGrounded};
@@ -10,10 +10,10 @@ ghost use Rattle.plan_answers.specs.Tasks.{OnceRead, OnceGrounded};
 use certificates::ProofError;
 use certificates::prove::{Proved, prove};
 use certificates::verify::{Judged, verify};
+use input_files::stop::{Stop, refuse};
 use pd_model::Pddl;
 use pl_io::Bytes;
 use plan_endings::{Ending, File, Kind};
-use plan_files::stop::{Stop, refuse};
 use plan_tasks::ground::ground_task;
 use plan_tasks::ready::read_ready;
 use plan_tasks::task::read_task;

@@ -2,23 +2,23 @@
 ghost use Rattle.std.specs.Prelude.{◌≡◌, ◌≤◌, ◌++◌, length, IfOk};
 ghost use Rattle.race_end.specs.Ends.{end_view, lines_in, conflicts_in};
 ghost use Rattle.plan_gen.specs.Task.{domain_of, problem_of};
-ghost use Rattle.plan_files.specs.Limits.{most_bytes};
+ghost use Rattle.input_files.specs.Limits.{most_bytes};
 ghost use Rattle.plan_answers.specs.Tasks.{OnceGrounded};
 ghost use Rattle.plan_answers.specs.Generated.{AnswersGenerated, RacesGenerated, kind_text, generated_line, generated_report};
-ghost use Rattle.plan_files.specs.Ends.{EndsAs};
+ghost use Rattle.input_files.specs.Ends.{EndsAs};
 
 use crate::raced::{outcome, raced};
 use horizon_rates::Settings;
+use input_files::stop::Stop;
 use pd_model::Memory;
 use pl_io::Bytes;
 use plan_endings::Ending;
-use plan_files::stop::Stop;
 use plan_gen::{Kind, Made, generate};
 use plan_report::summary_text;
 use plan_tasks::ready::read_ready;
-use plan_words::{Show, Stepping};
 use race_end::RaceEnd;
 use report_lines::push_number;
+use requests::{Show, Stepping};
 use solver_pool::Gate;
 use std::alloc::{AllocError, Global};
 use std::sync::Wait;

@@ -14,8 +14,8 @@ use Rattle.horizon_rates.specs.declared.settings.Settings.{Settings}
 use Rattle.pd_model.specs.Plan.{IsPlan}
 use Rattle.pd_model.specs.declared.calls.Call.{Call}
 use Rattle.pd_model.specs.declared.parts.Parts.{Parts}
-use Rattle.grounding.specs.Grounded.{Grounded}
-use Rattle.grounding.specs.Laws.{AreNumbers}
+use Rattle.grounding_laws.specs.Grounded.{Grounded}
+use Rattle.grounding_laws.specs.Laws.{AreNumbers}
 use Rattle.step_laws.specs.Form.{OrderedTask, AreSets, steps_at}
 use Rattle.horizon_run.specs.Run.{truths_of}
 use Rattle.race_end.specs.declared.line.LineEnd.{LineEnd}
@@ -35,8 +35,8 @@ use Rattle.plan_claims.specs.Laws.{Laws}
 use Rattle.plan_tasks.proofs.Claims as low
 use Rattle.told_plans.proofs.Runs as runs
 use Rattle.plan_tasks.proofs.Claims.{as_barred}
-use Rattle.plan_words.specs.Seen.{numbers}
-use Rattle.plan_words.specs.declared.request.Stepping.{Stepping}
+use Rattle.requests.specs.Seen.{numbers}
+use Rattle.requests.specs.declared.request.Stepping.{Stepping}
 use Rattle.plan_answers.specs.Stepping.{places_by, is_plan_by}
 use Rattle.plan_answers.specs.Tasks.{IsReady}
 use Rattle.plan_answers.specs.Raced.{input_of, ComesTo}

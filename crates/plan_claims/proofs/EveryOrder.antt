@@ -15,8 +15,8 @@ use Rattle.gt_core.proofs.SequenceLaw.{Agree, run_agrees, run_joined, can_run_jo
 use Rattle.pd_model.specs.Plan.{IsPlan, meets_goal}
 use Rattle.pd_model.specs.declared.calls.Call.{Call}
 use Rattle.pd_model.specs.declared.parts.Parts.{Parts}
-use Rattle.grounding.specs.Grounded.{Grounded}
-use Rattle.grounding.specs.Laws.{AreNumbers}
+use Rattle.grounding_laws.specs.Grounded.{Grounded}
+use Rattle.grounding_laws.specs.Laws.{AreNumbers}
 use Rattle.horizon_rates.specs.declared.settings.Settings.{Settings}
 use Rattle.race_end.specs.declared.line.Line.{Line}
 use Rattle.race_end.specs.declared.end.RaceEnd.TheVariants as races
@@ -26,7 +26,7 @@ use Rattle.step_laws.proofs.SetAt.{set_next}
 use Rattle.step_plans.specs.Plans.{actions_in}
 use Rattle.plan_report.specs.Report.{report_of}
 use Rattle.plan_report.specs.Laws.{IsSmall}
-use Rattle.plan_words.specs.declared.request.Stepping.TheVariants.{All}
+use Rattle.requests.specs.declared.request.Stepping.TheVariants.{All}
 use Rattle.plan_answers.specs.Stepping.{places_by, is_plan_by}
 use Rattle.plan_answers.specs.Tasks.{IsReady}
 use Rattle.plan_answers.specs.Raced.{ComesTo}

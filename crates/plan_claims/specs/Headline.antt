@@ -17,22 +17,22 @@ use Rattle.pd_plan.specs.PlanFile.{plan_file}
 use Rattle.gt_core.specs.Literal.{is_in}
 use Rattle.gt_core.specs.AllStep.{HasMembersOnce}
 use Rattle.gt_core.specs.Published.{order_of}
-use Rattle.grounding.specs.Grounded.{Grounded, IsGrounded}
-use Rattle.grounding.specs.Laws.{AreNumbers}
+use Rattle.grounding_laws.specs.Grounded.{Grounded, IsGrounded}
+use Rattle.grounding_laws.specs.Laws.{AreNumbers}
 use Rattle.task_text.specs.Text.{ground_text, order_text}
 use Rattle.race_end.specs.Ends.{Word, WordRefuted, WordDropped, WordOpen, WordPlan}
 use Rattle.step_plans.specs.Plans.{actions_in}
 use Rattle.plan_report.specs.Report.{word_text, plan_line, exhausted_line, conflicts_line, calls_by_step}
 use Rattle.plan_report.specs.Laws.{TellsSteps}
-use Rattle.plan_words.specs.Seen.{Numbers, plans_by}
-use Rattle.plan_words.specs.Requested.{requested}
-use Rattle.plan_words.specs.declared.request.Stepping.{Stepping}
-use Rattle.plan_words.specs.declared.request.Stepping.TheVariants.{Exists}
+use Rattle.requests.specs.Seen.{Numbers, plans_by}
+use Rattle.requests.specs.Requested.{requested}
+use Rattle.requests.specs.declared.request.Stepping.{Stepping}
+use Rattle.requests.specs.declared.request.Stepping.TheVariants.{Exists}
 use Rattle.certificates.specs.Known.{IsOrdered, form_of, choice_at, formula_at}
 use Rattle.certificates.specs.Certificate.{IsCertificate}
 use Rattle.proof_text.specs.Text.{spaced, horizon_words}
 use Rattle.step_laws.specs.Form.{AreSets}
-use Rattle.step_clauses.specs.Variables.{chain_places}
+use Rattle.horizon_formula.specs.Variables.{chain_places}
 use Rattle.horizon_rates.specs.Horizons.{IsLastListed}
 use Rattle.plan_answers.specs.Answers.{OfSettings}
 use Rattle.plan_answers.specs.Stepping.{places_by, is_plan_by}

@@ -2,8 +2,8 @@
 use Rattle.report_lines.specs.Laws.{FrontsSayNoMore, ReportsSayEntries}
 use Rattle.gt_core.specs.Laws.{PublishedIsUnique, NeverItself, EachOrderRuns}
 use Rattle.two_invariants.specs.Laws.{InvariantsHold, OneListOfInvariants}
-use Rattle.grounding.specs.Laws.{OneResult, GroundedIsTask, ActionsAreCalls, GoalsAgree}
-use Rattle.plan_words.specs.Seen.{NumbersAreSettings}
+use Rattle.grounding_laws.specs.Laws.{OneResult, GroundedIsTask, ActionsAreCalls, GoalsAgree}
+use Rattle.requests.specs.Seen.{NumbersAreSettings}
 use Rattle.plan_tasks.specs.Laws.{TaskLaws}
 use Rattle.told_plans.specs.Laws.{PlanLaws}
 use Rattle.step_plans.specs.Laws.{StepPlansRun, ShortPlansAreStepPlans, OtherPlansAreLonger, SetsAreLists, ListedHaveActionsOnce, ListedAreInOrder, SetsAtPlacesAreListed}

@@ -5,11 +5,11 @@ ghost use Rattle.plan_claims.specs.Laws.{Laws};
 pub fn laws()
     ensures { Laws }
 {
-    plan_words::laws::laws();
+    requests::laws::laws();
     report_lines::laws();
     gt_core::laws::laws();
     two_invariants::laws::laws();
-    grounding::laws::laws();
+    grounding_laws::laws::laws();
     step_plans::laws::laws();
     plan_report::laws::laws();
     proof_text::laws::laws();

@@ -6,10 +6,19 @@
 //! batch.push(alloc, Ending::TooLong(File::Problem))?;
 //! let ending = batch.end();                           // `; problem 1`, `; limit file problem`, with status 4
 //! ```
+//!
+//! Exit statuses, and the writing of the text of an ending.
+//!
+//! ```text
+//! let status = written(alloc, ending, &mut sink);    // the ending's; or 6 where the sink failed, and 8 for want of memory
+//! ```
 #![tactic(auto)]
 
 mod ending;
 mod parts;
+mod status;
+pub mod written;
 
 pub use ending::{Due, Ending, File, Kind, Limit, Outcome, of_number, of_numbers};
 pub use parts::Growing;
+pub use status::Status;

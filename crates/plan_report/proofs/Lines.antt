@@ -13,8 +13,8 @@ use Rattle.pd_model.specs.Fits.{is_call}
 use Rattle.pd_model.specs.Text.{call_text}
 use Rattle.pd_model.specs.declared.calls.Call.{Call}
 use Rattle.pd_model.specs.declared.parts.Parts.{Parts}
-use Rattle.grounding.specs.Grounded.{Grounded}
-use Rattle.grounding.specs.Laws.{AreNumbers}
+use Rattle.grounding_laws.specs.Grounded.{Grounded}
+use Rattle.grounding_laws.specs.Laws.{AreNumbers}
 use Rattle.task_text.specs.Text.{call_at}
 use Rattle.race_end.specs.Ends.{Word, WordRefuted, WordDropped, WordOpen, WordPlan, LineView, EndView, Planned, Exhausted, Unfinished, lines_in, conflicts_in}
 use Rattle.step_plans.specs.Plans.{actions_in}

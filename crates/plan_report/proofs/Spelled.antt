@@ -16,8 +16,8 @@ use Rattle.pd_model.specs.declared.parts.Parts.{Parts}
 use Rattle.pd_plan.specs.PlanFile.{plan_file}
 use Rattle.pd_plan.specs.PlanText.{SpellsAnywhere}
 use Rattle.pd_plan.specs.Laws.{NothingIsSpelled, CommentsAddNone, CallsAreSpelled, SpelledAreRead}
-use Rattle.grounding.specs.Grounded.{Grounded}
-use Rattle.grounding.specs.Laws.{AreNumbers}
+use Rattle.grounding_laws.specs.Grounded.{Grounded}
+use Rattle.grounding_laws.specs.Laws.{AreNumbers}
 use Rattle.race_end.specs.Ends.{LineView, Planned, conflicts_in}
 use Rattle.step_plans.specs.Plans.{actions_in}
 use Rattle.plan_report.specs.Report.{entry_of, step_lines, action_text, calls_by_step, plan_text, last_lines, report_of}

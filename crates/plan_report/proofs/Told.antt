@@ -10,8 +10,8 @@ use Rattle.report_lines.proofs.Entries.{all_lines}
 use Rattle.pd_model.specs.Fits.{is_call}
 use Rattle.pd_model.specs.declared.calls.Call.{Call}
 use Rattle.pd_model.specs.declared.parts.Parts.{Parts}
-use Rattle.grounding.specs.Grounded.{Grounded}
-use Rattle.grounding.specs.Laws.{AreNumbers}
+use Rattle.grounding_laws.specs.Grounded.{Grounded}
+use Rattle.grounding_laws.specs.Laws.{AreNumbers}
 use Rattle.race_end.specs.Ends.{LineView, EndView, Planned, lines_in, conflicts_in}
 use Rattle.step_plans.specs.Plans.{actions_in}
 use Rattle.plan_report.specs.Report.{entry_of, conflicts_line, end_line, calls_by_step, told_lines, plan_text, last_lines, report_of}

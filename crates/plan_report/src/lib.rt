@@ -10,6 +10,6 @@ pub mod laws;
 mod report;
 mod text;
 
-pub use linear_plans::linearise;
 pub use report::{plan_text, report_text, summary_text};
+pub use step_plans::linear::linearise;
 pub use text::Text;

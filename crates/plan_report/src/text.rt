@@ -1,6 +1,6 @@
 //! Texts.
 
-use list_of::ListOf;
+use containers::ListOf;
 
 /// Bytes that are written.
 pub type Text = ListOf<u8>;

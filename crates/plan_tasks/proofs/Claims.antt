@@ -6,11 +6,11 @@ use Rattle.gt_core.specs.Laws.{NeverItself}
 use Rattle.gt_core.specs.Step.{IsStepPlan}
 use Rattle.pd_model.specs.Plan.{IsPlan}
 use Rattle.pd_model.specs.declared.parts.Parts.{Parts}
-use Rattle.grounding.specs.Grounded.{Grounded, IsGrounded}
+use Rattle.grounding_laws.specs.Grounded.{Grounded, IsGrounded}
 use Rattle.step_laws.specs.Form.{AreSets, member_at}
 use Rattle.step_plans.specs.Plans.{IsStepPlanOf}
-use Rattle.plan_words.specs.declared.request.Stepping.{Stepping}
-use Rattle.plan_words.specs.declared.request.Stepping.TheVariants.{Exists, All}
+use Rattle.requests.specs.declared.request.Stepping.{Stepping}
+use Rattle.requests.specs.declared.request.Stepping.TheVariants.{Exists, All}
 use Rattle.ordered_tasks.specs.Known.{IsOrdered}
 use Rattle.plan_tasks.specs.Stepping.{is_plan_by, bars_by}
 use Rattle.plan_tasks.specs.Tasks.{IsReady}

@@ -6,9 +6,9 @@ use Rattle.gt_core.specs.Interference.{disables}
 use Rattle.gt_core.specs.Step.{IsStepPlan}
 use Rattle.gt_core.specs.AllStep.{IsAllStepPlan}
 use Rattle.step_chains.specs.BothWays.{all_places}
-use Rattle.step_clauses.specs.Variables.{chain_places}
-use Rattle.plan_words.specs.declared.request.Stepping.{Stepping}
-use Rattle.plan_words.specs.declared.request.Stepping.TheVariants.{Exists, All}
+use Rattle.horizon_formula.specs.Variables.{chain_places}
+use Rattle.requests.specs.declared.request.Stepping.{Stepping}
+use Rattle.requests.specs.declared.request.Stepping.TheVariants.{Exists, All}
 
 -- the places of the chains of a formula
 abbrev pub places_by : Stepping → Task → List (List ℕ) → List (List ℕ × ℕ)

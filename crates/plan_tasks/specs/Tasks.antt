@@ -11,8 +11,8 @@ use Rattle.pd_model.specs.declared.parts.Parts.{Parts}
 use Rattle.pd_task.specs.Reading.{reading}
 use Rattle.pd_task.specs.declared.error.PddlError.{PddlError}
 use Rattle.pd_task.specs.declared.error.PddlError.TheVariants as errors
-use Rattle.grounding.specs.Grounded.{Grounded, IsGrounded}
-use Rattle.grounding.specs.Limits.{IsWithin, IsOverTuples, IsOverFacts, IsOverActions, IsOverEffects}
+use Rattle.grounding_laws.specs.Grounded.{Grounded, IsGrounded}
+use Rattle.grounding_laws.specs.Limits.{IsWithin, IsOverTuples, IsOverFacts, IsOverActions, IsOverEffects}
 use Rattle.plan_endings.specs.declared.ending.File.{File}
 use Rattle.plan_endings.specs.declared.ending.File.TheVariants.{Domain, Problem, Plan}
 use Rattle.plan_endings.specs.declared.ending.Limit.{Limit}

@@ -1,14 +1,14 @@
 //! Grounding a task.
 ghost use Rattle.std.specs.Prelude.{◌≡◌, IfOk};
-ghost use Rattle.grounding.specs.Grounded.{IsGrounded};
-ghost use Rattle.grounding.specs.Limits.{IsWithin};
+ghost use Rattle.grounding_laws.specs.Grounded.{IsGrounded};
+ghost use Rattle.grounding_laws.specs.Limits.{IsWithin};
 ghost use Rattle.plan_tasks.specs.Tasks.{TellsOver};
-ghost use Rattle.plan_files.specs.Ends.{StopsBy};
+ghost use Rattle.input_files.specs.Ends.{StopsBy};
 
 use grounder::{GroundError, Grounded, ground};
+use input_files::stop::Stop;
 use pd_model::Pddl;
 use plan_endings::{Ending, Limit};
-use plan_files::stop::Stop;
 use std::alloc::Global;
 
 fn too_many(what: Limit, count: u64) -> Stop

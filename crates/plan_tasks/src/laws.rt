@@ -7,6 +7,6 @@ pub fn laws()
 {
     gt_core::laws::laws();
     two_invariants::laws::laws();
-    grounding::laws::laws();
+    grounding_laws::laws::laws();
     step_plans::laws::laws();
 }

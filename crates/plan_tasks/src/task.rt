@@ -3,15 +3,15 @@ ghost use Rattle.std.specs.Prelude.{◌≡◌, ◌≤◌, ℕ, List, length, IsT
 ghost use Rattle.pd_sexp.specs.{Fault.Reads, View.view, Word.has_words};
 ghost use Rattle.pd_model.specs.WellFormed.{IsWellFormed};
 ghost use Rattle.pd_task.specs.Reading.{reading};
-ghost use Rattle.plan_files.specs.Limits.{most_bytes};
+ghost use Rattle.input_files.specs.Limits.{most_bytes};
 ghost use Rattle.plan_tasks.specs.Tasks.{AreTask, input_of, RefusesTask, RefusesTree, RefusesTrees, IsReading};
-ghost use Rattle.plan_files.specs.Ends.{StopsBy, OnlyMemory};
+ghost use Rattle.input_files.specs.Ends.{StopsBy, OnlyMemory};
 
+use input_files::stop::{Stop, refuse};
 use pd_model::{Pddl, Which};
 use pd_sexp::{Tree, TreeError, read_tree};
 use pd_task::{PddlError, read_pddl};
 use plan_endings::{File, Kind};
-use plan_files::stop::{Stop, refuse};
 use std::alloc::Global;
 
 // A file of a task, as an input.

@@ -3,15 +3,15 @@ use Rattle.std.proofs.Common.{◌≡◌, ◌≤◌, ◌<◌, ℕ, ◌+◌, Bool,
 use Rattle.pl_io.specs.Outside.{Heard}
 use Rattle.std.specs.List.{AllByRecursion, AllZip}
 use Rattle.horizon_rates.specs.declared.settings.Settings.{Settings}
-use Rattle.plan_words.specs.Seen.{Seen, Numbers, numbers, plans, batches, files_of}
-use Rattle.plan_words.specs.Requested.{requested}
-use Rattle.plan_words.specs.declared.request.Turns.{Turns}
+use Rattle.requests.specs.Seen.{Seen, Numbers, numbers, plans, batches, files_of}
+use Rattle.requests.specs.Requested.{requested}
+use Rattle.requests.specs.declared.request.Turns.{Turns}
 use Rattle.plan_endings.specs.declared.ending.Ending.{Ending}
 use Rattle.plan_endings.specs.declared.ending.Ending.TheVariants.{ReadFault}
 use Rattle.plan_endings.specs.declared.ending.File.{File}
 use Rattle.plan_endings.specs.declared.ending.File.TheVariants.{Domain, Problem}
-use Rattle.plan_files.specs.Limits.{most_of, most_bytes, file_at}
-use Rattle.plan_files.specs.Files.{FaultsFrom, IsWhole, IsFront, IsWholeOrFront, AreTakenOrLong}
+use Rattle.input_files.specs.Limits.{most_of, most_bytes, file_at}
+use Rattle.input_files.specs.Files.{FaultsFrom, IsWhole, IsFront, IsWholeOrFront, AreTakenOrLong}
 use Rattle.plan_answers.specs.Tasks.{grounded}
 use Rattle.plan_top.specs.Causes.{HasRead, stopped, IsPartOf, ArePartsOf, Comes, unread, in_parts, is_answer}
 use Rattle.plan_top.specs.Parts.{IsBatch, IsShort, AnswersPart, AnswersBatch, IsRunOf, IsPart, IsSound, ArePrepared, AnswersRun, open_in, woven}
@@ -19,7 +19,7 @@ use Rattle.plan_top.specs.declared.parts.Part.{Part}
 use Rattle.plan_top.specs.declared.parts.Part.TheVariants as parts
 use Rattle.plan_top.specs.declared.parts.Run.{Run}
 use Rattle.plan_top.proofs.Complete.{batch_most}
-use Rattle.plan_files.proofs.Taking.{kept_count}
+use Rattle.input_files.proofs.Taking.{kept_count}
 use Rattle.plan_top.proofs.Told.{decides_answer, taken_comes}
 
 -- ---- files

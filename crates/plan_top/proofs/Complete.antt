@@ -15,12 +15,12 @@ use Rattle.plan_report.specs.Report.{report_of}
 use Rattle.pd_model.specs.declared.parts.Parts.{Parts}
 use Rattle.plan_gen.specs.declared.Kind.{Kind as Generated}
 use Rattle.plan_gen.specs.Task.{domain_of, problem_of}
-use Rattle.plan_words.specs.Seen.{Seen, Numbers, plans, plans_by, checks, grounds, orders, generates, proves, verifies, batches, files_of}
-use Rattle.plan_words.specs.OneTask.{IsOfOne}
-use Rattle.plan_words.specs.declared.request.Stepping.{Stepping}
-use Rattle.plan_words.specs.declared.request.Turns.{Turns}
-use Rattle.plan_words.specs.declared.request.Show.{Show}
-use Rattle.plan_words.specs.declared.request.Show.TheVariants as shows
+use Rattle.requests.specs.Seen.{Seen, Numbers, plans, plans_by, checks, grounds, orders, generates, proves, verifies, batches, files_of}
+use Rattle.requests.specs.OneTask.{IsOfOne}
+use Rattle.requests.specs.declared.request.Stepping.{Stepping}
+use Rattle.requests.specs.declared.request.Turns.{Turns}
+use Rattle.requests.specs.declared.request.Show.{Show}
+use Rattle.requests.specs.declared.request.Show.TheVariants as shows
 use Rattle.plan_endings.specs.declared.ending.Kind.{Kind}
 use Rattle.plan_endings.specs.declared.ending.Kind.TheVariants as kinds
 use Rattle.plan_endings.specs.declared.ending.Limit.{Limit}
@@ -29,9 +29,9 @@ use Rattle.plan_endings.specs.declared.ending.Ending.{Ending}
 use Rattle.plan_endings.specs.declared.ending.Ending.TheVariants.{Report, TooLarge}
 use Rattle.plan_endings.specs.declared.ending.File.{File}
 use Rattle.plan_endings.specs.declared.ending.File.TheVariants.{Domain, Problem}
-use Rattle.plan_files.specs.Limits.{most_bytes, AreShort, file_at, most_of}
-use Rattle.plan_files.specs.Files.{IsFront, AreOf, StopsFrom, FaultsFrom, RoseAmong}
-use Rattle.plan_files.proofs.Hearing.{front_long, taken_are, of_front}
+use Rattle.input_files.specs.Limits.{most_bytes, AreShort, file_at, most_of}
+use Rattle.input_files.specs.Files.{IsFront, AreOf, StopsFrom, FaultsFrom, RoseAmong}
+use Rattle.input_files.proofs.Hearing.{front_long, taken_are, of_front}
 use Rattle.clause_base.specs.declared.log.Entry.{Entry}
 use Rattle.proof_text.specs.Place.{IsUnfitAt}
 use Rattle.proof_text.specs.Laws.{TextsAreFit}
@@ -48,9 +48,9 @@ use Rattle.plan_top.specs.Causes.{ComesFor, stopped, decided, ArePartsOf, IsBatc
 use Rattle.plan_top.specs.Complete.{GoesWell, AreWithin, AreChecked, AreSpelled, AreInOrder, IsGoodAlone, IsGood}
 use Rattle.plan_endings.specs.Ending.{status_of}
 use Rattle.gt_core.specs.Lawful.{conditional_in}
-use Rattle.grounding.specs.Grounded.{Grounded, IsGrounded}
-use Rattle.grounding.specs.Limits.{IsWithin}
-use Rattle.grounding.proofs.Unique.{one_result}
+use Rattle.grounding_laws.specs.Grounded.{Grounded, IsGrounded}
+use Rattle.grounding_laws.specs.Limits.{IsWithin}
+use Rattle.grounding_laws.proofs.Unique.{one_result}
 use Rattle.plan_top.proofs.Told.{one_request}
 
 good_zero : (request : Seen) (end : Ending) → status_of end ≡ 0 → IsGoodAlone request end

@@ -6,7 +6,7 @@ use Rattle.gt_core.specs.Task.{Task}
 use Rattle.gt_core.specs.Laws.{PublishedIsUnique}
 use Rattle.two_invariants.specs.Laws.{OneListOfInvariants}
 use Rattle.step_laws.specs.Form.{OrderedTask}
-use Rattle.step_clauses.specs.Variables.{chain_places}
+use Rattle.horizon_formula.specs.Variables.{chain_places}
 use Rattle.step_encoding.specs.Limits.{planner_literals}
 use Rattle.step_encoding.specs.Numbers.{literals_of}
 use Rattle.clause_base.specs.Formula.{Cnf}
@@ -23,25 +23,25 @@ use Rattle.race.specs.Race as stage
 use Rattle.pd_model.specs.Plan.{verdict}
 use Rattle.pd_model.specs.declared.calls.Call.{Call}
 use Rattle.pd_model.specs.declared.parts.Parts.{Parts}
-use Rattle.grounding.specs.Grounded.{Grounded}
+use Rattle.grounding_laws.specs.Grounded.{Grounded}
 use Rattle.task_text.specs.Text.{order_text}
 use Rattle.proof_text.specs.Place.{IsUnfitAt}
 use Rattle.plan_gen.specs.declared.Kind.{Kind as Generated}
 use Rattle.plan_gen.specs.Task.{domain_of, problem_of}
 use Rattle.plan_report.specs.Report.{report_of, summary_of}
 use Rattle.plan_report.specs.Laws.{IsSmall}
-use Rattle.plan_words.specs.Seen.{Seen, Numbers, NumbersAreSettings, numbers, plans, generates, batches, files_of}
-use Rattle.plan_words.specs.OneTask.{IsOfOne}
-use Rattle.plan_words.specs.Requested.{requested}
-use Rattle.plan_words.specs.declared.request.Turns.{Turns}
-use Rattle.plan_words.specs.declared.request.Show.{Show}
-use Rattle.plan_words.specs.declared.request.Show.TheVariants as shows
+use Rattle.requests.specs.Seen.{Seen, Numbers, NumbersAreSettings, numbers, plans, generates, batches, files_of}
+use Rattle.requests.specs.OneTask.{IsOfOne}
+use Rattle.requests.specs.Requested.{requested}
+use Rattle.requests.specs.declared.request.Turns.{Turns}
+use Rattle.requests.specs.declared.request.Show.{Show}
+use Rattle.requests.specs.declared.request.Show.TheVariants as shows
 use Rattle.plan_endings.specs.declared.ending.Ending.{Ending}
 use Rattle.plan_endings.specs.declared.ending.Ending.TheVariants.{Report, Listing, Refused, TooLong, TooLarge, ReadFault}
-use Rattle.plan_files.specs.Limits.{AreShort, most_of, third_of, file_at}
-use Rattle.plan_files.specs.Files.{IsFront, AreOf, StopsFrom}
-use Rattle.plan_files.proofs.Taking.{taken_short}
-use Rattle.plan_files.proofs.Hearing.{front_long, whole_is, taken_are, of_front}
+use Rattle.input_files.specs.Limits.{AreShort, most_of, third_of, file_at}
+use Rattle.input_files.specs.Files.{IsFront, AreOf, StopsFrom}
+use Rattle.input_files.proofs.Taking.{taken_short}
+use Rattle.input_files.proofs.Hearing.{front_long, whole_is, taken_are, of_front}
 use Rattle.gt_core.specs.Published.{IsPublished}
 use Rattle.certificates.specs.Known.{IsOrdered, HasTooMany, form_of, choice_at, formula_at}
 use Rattle.certificates.specs.Proved.{proved_of}
@@ -49,8 +49,8 @@ use Rattle.certificates.specs.Judged.{IsJudged}
 use Rattle.certificates.specs.declared.verify.Judged.{Judged}
 use Rattle.certificates.specs.declared.verify.Judged.TheVariants as judged
 use Rattle.plan_claims.specs.Laws.{Laws}
-use Rattle.plan_words.specs.declared.request.Stepping.{Stepping}
-use Rattle.plan_words.specs.declared.request.Stepping.TheVariants.{Exists}
+use Rattle.requests.specs.declared.request.Stepping.{Stepping}
+use Rattle.requests.specs.declared.request.Stepping.TheVariants.{Exists}
 use Rattle.plan_answers.specs.Stepping.{places_by, is_plan_by}
 use Rattle.plan_answers.specs.Tasks.{OnceGrounded}
 use Rattle.plan_answers.specs.Raced.{input_of, IsTooLarge, ComesTo, OnceRaced, too_large, ended, outcome_of}

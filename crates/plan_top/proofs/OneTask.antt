@@ -8,10 +8,10 @@ use Rattle.plan_endings.specs.declared.ending.File.TheVariants.{Domain, Problem}
 use Rattle.pd_model.specs.declared.parts.Parts.{Parts}
 use Rattle.pd_task.specs.Reading.{reading}
 use Rattle.gt_core.specs.Lawful.{conditional_in}
-use Rattle.grounding.specs.Grounded.{Grounded, IsGrounded}
-use Rattle.grounding.specs.Limits.{IsWithin}
-use Rattle.grounding.specs.Laws.{OneResult}
-use Rattle.grounding.specs.Tuples.{saturated}
+use Rattle.grounding_laws.specs.Grounded.{Grounded, IsGrounded}
+use Rattle.grounding_laws.specs.Limits.{IsWithin}
+use Rattle.grounding_laws.specs.Laws.{OneResult}
+use Rattle.grounding_laws.specs.Tuples.{saturated}
 use Rattle.plan_endings.specs.declared.ending.Limit.{Limit}
 use Rattle.plan_endings.specs.declared.ending.Limit.TheVariants.{Tuples, Facts, Actions, Effects}
 use Rattle.plan_endings.specs.declared.ending.Kind.{Kind}

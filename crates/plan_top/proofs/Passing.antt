@@ -8,10 +8,10 @@ use Rattle.cdcl_rules.specs.State.{State}
 use Rattle.cdcl_rules.specs.declared.standing.Standing.{Standing}
 use Rattle.cdcl_rules.specs.declared.standing.Standing.TheVariants.{Going, Found, Refuted}
 use Rattle.pd_model.specs.declared.parts.Parts.{Parts}
-use Rattle.grounding.specs.Grounded.{Grounded}
+use Rattle.grounding_laws.specs.Grounded.{Grounded}
 use Rattle.proof_text.specs.Text.{proof_text}
 use Rattle.proof_text.specs.Place.{IsUnfitAt}
-use Rattle.step_clauses.specs.Variables.{chain_places}
+use Rattle.horizon_formula.specs.Variables.{chain_places}
 use Rattle.step_encoding.specs.Limits.{planner_literals}
 use Rattle.step_encoding.specs.Numbers.{literals_of}
 use Rattle.step_laws.specs.Form.{OrderedTask}
@@ -23,15 +23,15 @@ use Rattle.certificates.specs.declared.prove.Proved.{Proved}
 use Rattle.certificates.specs.declared.prove.Proved.TheVariants as proved
 use Rattle.certificates.specs.declared.verify.Judged.{Judged}
 use Rattle.certificates.specs.declared.verify.Judged.TheVariants as judged
-use Rattle.plan_words.specs.Seen.{proves, verifies}
-use Rattle.plan_words.specs.declared.request.Stepping.TheVariants.{Exists}
+use Rattle.requests.specs.Seen.{proves, verifies}
+use Rattle.requests.specs.declared.request.Stepping.TheVariants.{Exists}
 use Rattle.plan_endings.specs.declared.ending.File.{File}
 use Rattle.plan_endings.specs.declared.ending.File.TheVariants.{Proof}
 use Rattle.plan_endings.specs.declared.ending.Ending.{Ending}
 use Rattle.plan_endings.specs.declared.ending.Ending.TheVariants.{Listing, Refused, TooLong, TooMany, TooLarge, Found as FoundPlan, Open}
 use Rattle.plan_endings.specs.Ending.{status_of}
-use Rattle.plan_files.specs.Limits.{file_at}
-use Rattle.plan_files.specs.Files.{AreOf}
+use Rattle.input_files.specs.Limits.{file_at}
+use Rattle.input_files.specs.Files.{AreOf}
 use Rattle.plan_answers.specs.Tasks.{AreTask, IsReady, StopsTask, refused, past, OnceRead, not_read, read, OnceGrounded, not_grounded, grounded}
 use Rattle.plan_answers.specs.Answers.{AnswersProve, not_run, run, AnswersProof, not_checked, checked, AnswersVerify, unfit, beyond, spelled, ending_of_run, ending_of_check}
 use Rattle.plan_claims.specs.Laws.{Laws}

@@ -14,30 +14,30 @@ use Rattle.pd_model.specs.declared.parts.Parts.{Parts}
 use Rattle.plan_endings.specs.declared.ending.File.{File}
 use Rattle.pd_plan.specs.PlanFile.{plan_file}
 use Rattle.pd_plan.specs.Fault as plan
-use Rattle.grounding.specs.Grounded.{Grounded}
+use Rattle.grounding_laws.specs.Grounded.{Grounded}
 use Rattle.race_end.specs.declared.end.RaceEnd.{RaceEnd}
 use Rattle.race_end.specs.declared.end.RaceEnd.TheVariants as races
 use Rattle.race_end.specs.Ends.{end_view, lines_in}
 use Rattle.plan_report.specs.Report.{report_of, plan_line}
 use Rattle.plan_report.specs.Laws.{IsSmall as IsSmallReport, HasCalls, Tells}
-use Rattle.plan_words.specs.Seen.{Seen, Numbers, numbers, plans, plans_by, checks, grounds, orders, generates, proves, verifies, batches, files_of}
-use Rattle.plan_words.specs.declared.request.Stepping.{Stepping}
-use Rattle.plan_words.specs.declared.request.Turns.{Turns}
-use Rattle.plan_words.specs.OneTask.{IsOfOne}
-use Rattle.plan_words.specs.Requested.{requested}
+use Rattle.requests.specs.Seen.{Seen, Numbers, numbers, plans, plans_by, checks, grounds, orders, generates, proves, verifies, batches, files_of}
+use Rattle.requests.specs.declared.request.Stepping.{Stepping}
+use Rattle.requests.specs.declared.request.Turns.{Turns}
+use Rattle.requests.specs.OneTask.{IsOfOne}
+use Rattle.requests.specs.Requested.{requested}
 use Rattle.plan_endings.specs.declared.ending.Outcome.{Outcome}
 use Rattle.plan_endings.specs.declared.ending.Outcome.TheVariants as outcomes
 use Rattle.plan_endings.specs.declared.ending.Ending.{Ending}
 use Rattle.plan_endings.specs.declared.ending.Ending.TheVariants.{Report, Listing, Reaches, Blocked, Short, Refused, TooLong, TooMany, TooLarge, ReadFault, Usage, Found, Open, Accepted, Rejected, NotEmpty, Parts as Batched}
-use Rattle.plan_files.specs.Limits.{file_at}
-use Rattle.plan_files.specs.Files.{AreTaken, StopsFrom, FaultsFrom, RoseAmong}
-use Rattle.plan_files.proofs.Hearing.{two_taken, three_taken}
+use Rattle.input_files.specs.Limits.{file_at}
+use Rattle.input_files.specs.Files.{AreTaken, StopsFrom, FaultsFrom, RoseAmong}
+use Rattle.input_files.proofs.Hearing.{two_taken, three_taken}
 use Rattle.plan_answers.specs.Stepping.{places_by, is_plan_by}
 use Rattle.plan_answers.specs.Tasks.{AreTask, RefusesTask, IsReady, StopsTask, refused, past, OnceRead, not_read, read, OnceGrounded, not_grounded, grounded}
 use Rattle.plan_answers.specs.Raced.{ComesTo, too_large, ended, outcome_of}
 use Rattle.plan_answers.specs.Answers.{Decides, AnswersPlan, AnswersGround, AnswersOrder, AnswersCheck, AnswersProve, not_run, run, AnswersVerify, unfit, beyond, spelled, not_checked, checked, ending_of_run, ending_of_check, refusal_of_plan, ending_of}
 use Rattle.plan_top.specs.Causes.{is_answer, HasRead, ComesFor, stopped, decided, IsPartOf, ArePartsOf, IsBatchOf, ArePartsSo, Comes, no_request, of_one, unread, in_parts, names_in, FaultOf}
-use Rattle.step_clauses.specs.Variables.{chain_places}
+use Rattle.horizon_formula.specs.Variables.{chain_places}
 use Rattle.clause_base.specs.Formula.{Cnf}
 use Rattle.clause_base.specs.Derivation.{IsRefutation}
 use Rattle.clause_base.specs.declared.log.Entry.{Entry}
@@ -50,7 +50,7 @@ use Rattle.certificates.specs.declared.prove.Proved.{Proved}
 use Rattle.certificates.specs.declared.prove.Proved.TheVariants as proved
 use Rattle.certificates.specs.declared.verify.Judged.{Judged}
 use Rattle.certificates.specs.declared.verify.Judged.TheVariants as judged
-use Rattle.plan_words.specs.declared.request.Stepping.TheVariants.{Exists, All}
+use Rattle.requests.specs.declared.request.Stepping.TheVariants.{Exists, All}
 use Rattle.plan_top.specs.Complete.{GoesWell, IsGood}
 use Rattle.plan_top.specs.OneReport.{AskForOne, AskForOnePart, AskToVerify}
 use Rattle.plan_endings.specs.Ending.{status_of, status_of_race, text_of, greatest, parts_text, batch_of, IsSmall}

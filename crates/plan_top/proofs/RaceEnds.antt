@@ -6,7 +6,7 @@ use Rattle.step_laws.specs.Form.{OrderedTask}
 use Rattle.horizon_rates.specs.declared.rates.Rates.{Rates}
 use Rattle.horizon_rates.specs.declared.settings.Settings.{Settings}
 use Rattle.gt_core.specs.Step.{IsStepPlan}
-use Rattle.step_clauses.specs.Variables.{chain_places}
+use Rattle.horizon_formula.specs.Variables.{chain_places}
 use Rattle.step_encoding.specs.Numbers.{literals_of}
 use Rattle.step_encoding.specs.declared.form.StepForm.{Ghosts}
 use Rattle.race_end.specs.declared.end.RaceEnd.{RaceEnd}

@@ -11,24 +11,24 @@ use Rattle.pd_model.specs.declared.parts.Parts.{Parts}
 use Rattle.pd_task.specs.declared.error.PddlError.{PddlError}
 use Rattle.pd_task.specs.declared.error.PddlError.TheVariants as errors
 use Rattle.pd_plan.specs.Fault as plan
-use Rattle.grounding.specs.Grounded.{Grounded}
+use Rattle.grounding_laws.specs.Grounded.{Grounded}
 use Rattle.plan_gen.specs.declared.Kind.{Kind as Generated}
 use Rattle.plan_gen.specs.Task.{domain_of, problem_of}
-use Rattle.plan_words.specs.Seen.{Seen, Numbers, plans_by, checks, grounds, orders, generates, proves, verifies, batches, files_of}
-use Rattle.plan_words.specs.OneTask.{IsOfOne}
-use Rattle.plan_words.specs.Requested.{requested}
-use Rattle.plan_words.specs.declared.request.Show.{Show}
-use Rattle.plan_words.specs.declared.request.Turns.{Turns}
-use Rattle.plan_words.specs.declared.request.Show.TheVariants as shows
+use Rattle.requests.specs.Seen.{Seen, Numbers, plans_by, checks, grounds, orders, generates, proves, verifies, batches, files_of}
+use Rattle.requests.specs.OneTask.{IsOfOne}
+use Rattle.requests.specs.Requested.{requested}
+use Rattle.requests.specs.declared.request.Show.{Show}
+use Rattle.requests.specs.declared.request.Turns.{Turns}
+use Rattle.requests.specs.declared.request.Show.TheVariants as shows
 use Rattle.plan_endings.specs.declared.ending.Kind.{Kind}
 use Rattle.plan_endings.specs.declared.ending.Kind.TheVariants as kinds
 use Rattle.plan_endings.specs.declared.ending.Ending.{Ending}
 use Rattle.plan_endings.specs.declared.ending.Ending.TheVariants.{Refused, TooMany, Usage}
 use Rattle.plan_endings.specs.declared.ending.Limit.{Limit}
 use Rattle.plan_endings.specs.Ending.{batch_of}
-use Rattle.plan_files.specs.Limits.{file_at}
-use Rattle.plan_files.specs.Files.{AreTaken, FaultsFrom}
-use Rattle.plan_words.specs.declared.request.Stepping.{Stepping}
+use Rattle.input_files.specs.Limits.{file_at}
+use Rattle.input_files.specs.Files.{AreTaken, FaultsFrom}
+use Rattle.requests.specs.declared.request.Stepping.{Stepping}
 use Rattle.certificates.specs.declared.prove.Proved.{Proved}
 use Rattle.certificates.specs.declared.prove.Proved.TheVariants as proved
 use Rattle.certificates.specs.declared.verify.Judged.{Judged}

@@ -6,8 +6,8 @@ use Rattle.std.proofs.lemmas.Bool.{eq-eqb}
 use Rattle.std.proofs.lemmas.Bool.Decides.{eqb_tells}
 use Rattle.std.proofs.lemmas.List.Elements.{All-from_recursion}
 use Rattle.std.proofs.lemmas.List.Sums.{sum_by-append}
-use Rattle.plan_words.specs.declared.request.Turns.{Turns}
-use Rattle.plan_words.specs.declared.request.Turns.TheVariants.{Forward, Backward}
+use Rattle.requests.specs.declared.request.Turns.{Turns}
+use Rattle.requests.specs.declared.request.Turns.TheVariants.{Forward, Backward}
 use Rattle.poll_batch.specs.Batch.{IsOrder}
 use Rattle.plan_top.specs.Parts.{turn_at}
 

@@ -1,15 +1,15 @@
 -- When each ending of a run comes.
 use Rattle.std.specs.Prelude.{◌≡◌, ◌≤◌, ℕ, List, [], ◌∷◌, ◌++◌, Bool, true, false, IsTrue, Option, Some, None}
 use Rattle.pl_io.specs.Outside.{Heard}
-use Rattle.plan_words.specs.Seen.{Seen, Numbers, plans, plans_by, checks, grounds, orders, generates, proves, verifies, batches, files_of}
-use Rattle.plan_words.specs.declared.request.Turns.{Turns}
-use Rattle.plan_words.specs.Requested.{requested}
-use Rattle.plan_words.specs.OneTask.{IsOfOne}
+use Rattle.requests.specs.Seen.{Seen, Numbers, plans, plans_by, checks, grounds, orders, generates, proves, verifies, batches, files_of}
+use Rattle.requests.specs.declared.request.Turns.{Turns}
+use Rattle.requests.specs.Requested.{requested}
+use Rattle.requests.specs.OneTask.{IsOfOne}
 use Rattle.plan_endings.specs.Ending.{batch_of, status_of, text_of}
 use Rattle.plan_claims.specs.Headline.{PartIsSo}
-use Rattle.plan_files.specs.Limits.{file_at}
+use Rattle.input_files.specs.Limits.{file_at}
 use Rattle.plan_answers.specs.Answers.{Decides}
-use Rattle.plan_files.specs.Files.{AreTaken, StopsFrom, FaultsFrom, RoseAmong}
+use Rattle.input_files.specs.Files.{AreTaken, StopsFrom, FaultsFrom, RoseAmong}
 use Rattle.plan_endings.specs.declared.ending.File.TheVariants.{Proof}
 use Rattle.plan_endings.specs.declared.ending.Ending.{Ending}
 use Rattle.plan_endings.specs.declared.ending.Ending.TheVariants.{Report, Listing, Reaches, Blocked, Short, Refused, TooLong, TooMany, TooLarge, ReadFault, Usage, Found, Open, Accepted, Rejected, NotEmpty}

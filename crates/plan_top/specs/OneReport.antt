@@ -1,13 +1,13 @@
 -- One ending for the same files: for every number of workers and every slice, in whatever turns, and whatever the files' names.
 use Rattle.std.specs.Prelude.{◌≡◌, ℕ, List, [], ◌∷◌, length, Some, slice_get}
 use Rattle.pl_io.specs.Outside.{Heard}
-use Rattle.plan_files.specs.Files.{AreOf}
+use Rattle.input_files.specs.Files.{AreOf}
 use Rattle.plan_gen.specs.declared.Kind.{Kind}
-use Rattle.plan_words.specs.Seen.{Seen, Numbers, plans, plans_by, checks, grounds, orders, generates, proves, verifies, batches, files_of}
-use Rattle.plan_words.specs.declared.request.Show.{Show}
-use Rattle.plan_words.specs.declared.request.Stepping.{Stepping}
-use Rattle.plan_words.specs.declared.request.Turns.{Turns}
-use Rattle.plan_words.specs.Requested.{requested}
+use Rattle.requests.specs.Seen.{Seen, Numbers, plans, plans_by, checks, grounds, orders, generates, proves, verifies, batches, files_of}
+use Rattle.requests.specs.declared.request.Show.{Show}
+use Rattle.requests.specs.declared.request.Stepping.{Stepping}
+use Rattle.requests.specs.declared.request.Turns.{Turns}
+use Rattle.requests.specs.Requested.{requested}
 use Rattle.plan_top.specs.Causes.{Comes, HasRead}
 use Rattle.plan_endings.specs.declared.ending.Ending.{Ending}
 

@@ -8,17 +8,17 @@ use Rattle.race.specs.declared.error.RaceError.TheVariants as errors
 use Rattle.step_laws.specs.Form.{OrderedTask}
 use Rattle.poll_race.specs.View.{RaceView}
 use Rattle.certificates.specs.Known.{form_of}
-use Rattle.step_clauses.specs.Variables.{chain_places}
+use Rattle.horizon_formula.specs.Variables.{chain_places}
 use Rattle.gt_core.specs.Step.{IsStepPlan}
-use Rattle.plan_words.specs.Seen.{Seen, batches, numbers}
-use Rattle.plan_words.specs.declared.request.Stepping.TheVariants.{Exists}
-use Rattle.plan_words.specs.declared.request.Turns.{Turns}
-use Rattle.plan_words.specs.declared.request.Turns.TheVariants as turnings
+use Rattle.requests.specs.Seen.{Seen, batches, numbers}
+use Rattle.requests.specs.declared.request.Stepping.TheVariants.{Exists}
+use Rattle.requests.specs.declared.request.Turns.{Turns}
+use Rattle.requests.specs.declared.request.Turns.TheVariants as turnings
 use Rattle.plan_endings.specs.Ending.{batch_of}
 use Rattle.plan_endings.specs.declared.ending.Ending.{Ending}
 use Rattle.plan_endings.specs.declared.ending.Ending.TheVariants.{TooLong}
 use Rattle.plan_endings.specs.declared.ending.File.TheVariants.{Domain, Problem}
-use Rattle.plan_files.specs.Limits.{most_bytes}
+use Rattle.input_files.specs.Limits.{most_bytes}
 use Rattle.plan_answers.specs.Tasks.{AreTask, IsReady, IsReading, OnceGrounded}
 use Rattle.plan_answers.specs.Raced.{IsKnown, ComesTo, IsTooLarge}
 use Rattle.plan_answers.specs.Answers.{AnswersPlan}

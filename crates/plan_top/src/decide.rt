@@ -1,24 +1,24 @@
 //! How a run ends, before anything is written.
 ghost use Rattle.std.specs.Prelude.{◌≡◌, ◌≤◌, ◌++◌, ℕ, List, map, string_bytes, Some, None, Ok};
 ghost use Rattle.pl_io.specs.Outside.{Heard, Agrees, fault_count};
-ghost use Rattle.plan_words.specs.OneTask.{IsOfOne};
-ghost use Rattle.plan_words.specs.Requested.{requested, command_named};
-ghost use Rattle.plan_words.specs.Seen.{IsSized, files_of, seen};
-ghost use Rattle.plan_files.specs.Files.{NotesAmong};
+ghost use Rattle.requests.specs.OneTask.{IsOfOne};
+ghost use Rattle.requests.specs.Requested.{requested, command_named};
+ghost use Rattle.requests.specs.Seen.{IsSized, files_of, seen};
+ghost use Rattle.input_files.specs.Files.{NotesAmong};
 ghost use Rattle.plan_top.specs.Causes.{Comes, AskForBatch, names_in};
 ghost use Rattle.plan_top.specs.Parts.{IsBatch};
-ghost use Rattle.plan_files.specs.Ends.{EndsAs};
+ghost use Rattle.input_files.specs.Ends.{EndsAs};
 
 use crate::Ending;
 use crate::batch::answer_batch;
 use horizon_rates::Settings;
+use input_files::first::take_first;
+use input_files::stop::Stop;
+use input_files::take::take_all;
 use pl_io::{Bytes, Shelf};
 use plan_answers::answer::answer;
-use plan_files::first::take_first;
-use plan_files::stop::Stop;
-use plan_files::take::take_all;
-use plan_words::{Request, Turns, read_words};
 use poll_batch::Driver;
+use requests::{Request, Turns, read_words};
 use solver_pool::Gate;
 use std::alloc::Global;
 use std::sync::Wait;

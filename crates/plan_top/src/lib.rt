@@ -8,6 +8,5 @@ mod parts;
 mod races;
 mod top;
 
-pub use plan_endings::{Ending, File, Kind, Limit, Outcome};
-pub use plan_status::Status;
+pub use plan_endings::{Ending, File, Kind, Limit, Outcome, Status};
 pub use top::run;

@@ -3,13 +3,13 @@ ghost use Rattle.std.specs.Prelude.{◌≡◌, ◌≤◌, ◌<◌, length, IfOk}
 ghost use Rattle.std.specs.List.{AllByRecursion, AllZip};
 ghost use Rattle.poll_batch.specs.Batch.{IsOrder};
 ghost use Rattle.plan_top.specs.Parts.{IsSound, IsFormOf, IsRaceOf, CameTo, turn_at};
-ghost use Rattle.plan_files.specs.Ends.{OnlyMemory};
+ghost use Rattle.input_files.specs.Ends.{OnlyMemory};
 
 use crate::parts::Run;
 use horizon_rates::Settings;
-use plan_files::stop::Stop;
-use plan_words::Turns;
+use input_files::stop::Stop;
 use poll_batch::{Driver, Ends, PollRace, Races, batch_race};
+use requests::Turns;
 use std::alloc::Global;
 use std::sync::Wait;
 use std::thread::Threads;

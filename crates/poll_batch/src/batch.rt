@@ -6,10 +6,9 @@ ghost use Rattle.poll_batch.specs.Batch.{IsOrder};
 
 use crate::anew::{kept_of, run_anew};
 use clause_base::memory::Memory;
-use list_of::ListOf;
+use containers::ListOf;
 use poll_race::PollRace;
-use poll_run::Driver;
-use poll_turns::{TurnsError, drive_in_turns};
+use poll_run::{Driver, TurnsError, drive_in_turns};
 use race::RaceError;
 use race_end::RaceEnd;
 use std::alloc::Global;

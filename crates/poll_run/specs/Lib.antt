@@ -1,2 +1,3 @@
 pub mod PolledRun
 pub mod Polls
+pub mod Turns

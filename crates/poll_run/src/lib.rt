@@ -7,11 +7,18 @@
 //! let mut driver = BlockOn::new(&rt);
 //! let run = settle(&mut driver, run, 50, 10)?;    // the run where 50 units have it, in polls of 10 units
 //! ```
+//!
+//! Futures of one type that are polled in turn, by one future that a driver drives to its end.
+//!
+//! ```text
+//! let ends = drive_in_turns(alloc, &mut driver, futures, &[1, 0])?;    // what each gave, in the order of the list
+//! ```
 #![tactic(auto)]
 
 mod block_driver;
 mod bounded;
 mod driver;
+mod in_turns;
 mod no_driver;
 mod poll_run;
 mod settling;
@@ -19,6 +26,7 @@ mod settling;
 pub use block_driver::BlockOn;
 pub use bounded::Bounded;
 pub use driver::{DriveFailed, Driver};
+pub use in_turns::{TurnsError, drive_in_turns};
 pub use no_driver::NoDriver;
 pub use poll_run::PollRun;
 pub use settling::{SettleError, settle};

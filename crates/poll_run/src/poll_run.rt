@@ -9,8 +9,8 @@ use crate::Bounded;
 use futures::Future;
 use futures::task::{Context, Poll};
 use solver_pool::Resume;
+use solver_pool::one_turn::units_of_turn;
 use std::marker::Model;
-use turn_parts::units_of_turn;
 
 /// A run that is advanced to a target by polls, each by a slice, and is given once it is settled, spoilt or at its target.
 #[derive(Drop)]

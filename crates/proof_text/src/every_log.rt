@@ -3,8 +3,8 @@ ghost use Rattle.proof_text.specs.Text.{AreSmall, AreWritten, IsWritten};
 ghost use Rattle.clause_log.specs.Step.{told, IsLawful};
 
 use clause_log::log::Log;
+use clause_log::numbers::Numbers;
 use clause_log::reader::Step;
-use number_bytes::numbers::Numbers;
 
 // The numbers of a list can be written.
 fn row_is_small(numbers: &Numbers<'_>)

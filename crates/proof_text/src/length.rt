@@ -6,8 +6,8 @@ ghost use Rattle.clause_log.specs.Step.{told};
 ghost use Rattle.proof_text.specs.Length.{saturated};
 
 use clause_log::log::Log;
+use clause_log::numbers::Numbers;
 use clause_log::reader::Step;
-use number_bytes::numbers::Numbers;
 
 // How many digits a number has.
 fn digits(number: u32) -> u64

@@ -4,7 +4,7 @@ ghost use Rattle.proof_text.specs.declared.proof.ProofFault.TheVariants as error
 
 use clause_base::memory::Memory;
 use clause_log::log::Log;
-use list_of::ListOf;
+use containers::ListOf;
 use std::alloc::{AllocError, AllocFailed};
 
 /// The bytes of a text. Contracts see the list of them.

@@ -9,8 +9,8 @@ use crate::length::proof_length;
 use crate::proof::Text;
 use clause_base::memory::Memory;
 use clause_log::log::Log;
+use clause_log::numbers::Numbers;
 use clause_log::reader::Step;
-use number_bytes::numbers::Numbers;
 use report_lines::push_number;
 use std::alloc::{AllocError, Global};
 

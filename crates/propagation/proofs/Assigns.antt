@@ -7,7 +7,7 @@ use Rattle.std.proofs.lemmas.List.{take-append-le, take_all, get_or_past}
 use Rattle.clause_base.specs.Literal.{opposite}
 use Rattle.clause_base.specs.Clause.{has_literal}
 use Rattle.std.specs.Option.{is_some}
-use Rattle.number_bits.specs.Bits.{IsLeast}
+use Rattle.bit_sets.specs.Layered.{IsLeast}
 use Rattle.cdcl_trail.proofs.Assignments.{has-snoc}
 use Rattle.watch_chains.specs.declared.chains.Node.{Node}
 use Rattle.propagation.specs.Pending.{is_free, has_two_free, is_pending_on}

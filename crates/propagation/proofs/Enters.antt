@@ -8,7 +8,7 @@ use Rattle.clause_base.specs.Clause.{has_literal, IsClause, HasVariablesBelow}
 use Rattle.cdcl_rules.specs.Pending.{is_pending}
 use Rattle.watch_chains.specs.declared.chains.Node.{Node}
 use Rattle.watch_chains.specs.Linked.{IsLinked, ArePairLoose, blocking_of, placed}
-use Rattle.number_bits.specs.Bits.{words_have}
+use Rattle.bit_sets.specs.Layered.{words_have}
 use Rattle.propagation.specs.declared.pending.Pending.{Pending}
 use Rattle.propagation.specs.declared.enter.Entered.{Entered}
 use Rattle.propagation.specs.Pending.{is_free, has_two_free, is_pending_on}

@@ -5,7 +5,7 @@ use Rattle.cdcl_rules.specs.declared.event.Event.{Event}
 use Rattle.cdcl_rules.specs.State.{clause_at}
 use Rattle.cdcl_rules.specs.Pending.{is_pending, is_pending_in}
 use Rattle.cdcl_rules.proofs.Pending.{first_is, none_is}
-use Rattle.number_bits.specs.Bits.{IsLeast, words_have}
+use Rattle.bit_sets.specs.Layered.{IsLeast, words_have}
 use Rattle.propagation.specs.declared.pending.Pending.{Pending}
 use Rattle.propagation.specs.Front.{asked_at, first_asked, IsComplete}
 use Rattle.propagation.specs.Pending.{is_pending_on}

@@ -2,7 +2,7 @@
 use Rattle.std.specs.Prelude.{◌≡◌, ℕ, ◌*◌, ◌<◌, ◌≤◌, ◌==◌, ◌||◌, ◌⊎◌, List, [], length, Bool, true, false, slice_index, slice_set}
 use Rattle.clause_base.specs.Literal.{opposite}
 use Rattle.clause_base.specs.Clause.{has_literal}
-use Rattle.number_bits.specs.Bits.{words_have}
+use Rattle.bit_sets.specs.Layered.{words_have}
 use Rattle.propagation.specs.declared.pending.Pending.{Pending}
 use Rattle.propagation.specs.Pending.{is_free}
 use Rattle.cdcl_rules.specs.State.{clause_at}

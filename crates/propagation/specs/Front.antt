@@ -4,7 +4,7 @@ use Rattle.cdcl_rules.specs.declared.event.Event.{Event}
 use Rattle.cdcl_rules.specs.State.{clause_at}
 use Rattle.cdcl_rules.specs.Pending.{open_ones, is_pending_in, least_from}
 use Rattle.cdcl_rules.specs.Event.{asked}
-use Rattle.number_bits.specs.Bits.{words_have}
+use Rattle.bit_sets.specs.Layered.{words_have}
 use Rattle.propagation.specs.declared.pending.Pending.{Pending}
 
 -- what the clause with a number asks for, where this tells the true literals

@@ -1,7 +1,7 @@
 -- The tables of the first clauses of a formula, before any literal is true.
 use Rattle.std.specs.Prelude.{◌≡◌, ℕ, ◌*◌, ◌<◌, ◌≤◌, List, Bool, length, replicate, slice_index, true}
 use Rattle.cdcl_rules.specs.State.{clause_at}
-use Rattle.number_bits.specs.Bits.{words_have}
+use Rattle.bit_sets.specs.Layered.{words_have}
 use Rattle.propagation.specs.declared.given.Given.{Given}
 use Rattle.propagation.specs.Asks.{IsAsk}
 use Rattle.propagation.specs.Pairs.{HasSlot}

@@ -1,9 +1,9 @@
 -- How a clause is found that may become pending, and which clauses of two literals are put into the set.
 use Rattle.std.specs.Prelude.{◌≡◌, ℕ, ◌*◌, ◌<◌, ◌⊎◌, List, true, false, length, slice_index}
 use Rattle.clause_base.specs.Clause.{has_literal}
-use Rattle.number_bits.specs.Bits.{words_have}
-use Rattle.pair_index.specs.declared.pair.Pair.{Pair}
-use Rattle.pair_index.specs.Pairs.{IsInPairs, IsPairOf, AreExact, pair_in}
+use Rattle.bit_sets.specs.Layered.{words_have}
+use Rattle.binary_clauses.specs.declared.pair.Pair.{Pair}
+use Rattle.binary_clauses.specs.Pairs.{IsInPairs, IsPairOf, AreExact, pair_in}
 use Rattle.propagation.specs.declared.pending.Pending.{Pending}
 use Rattle.cdcl_rules.specs.State.{clause_at}
 

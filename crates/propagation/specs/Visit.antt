@@ -7,7 +7,7 @@ use Rattle.watch_chains.specs.declared.chains.Node.{Node}
 use Rattle.watch_chains.specs.declared.chains.Place.{Place}
 use Rattle.watch_chains.specs.Linked.{IsLinked, blocking_of, has}
 use Rattle.watch_chains.specs.Walk.{IsWalk}
-use Rattle.number_bits.specs.Bits.{words_have}
+use Rattle.bit_sets.specs.Layered.{words_have}
 use Rattle.propagation.specs.declared.visit.Lists.{Lists}
 use Rattle.propagation.specs.declared.tables.Tables.{Tables}
 use Rattle.propagation.specs.Pending.{is_free, has_two_free}

@@ -2,7 +2,7 @@
 //! least: one that is not kept, or whose asked literal is true.
 ghost use Rattle.std.specs.Prelude.{◌≡◌, ◌*◌, ◌<◌, ◌≤◌, length, true};
 ghost use Rattle.clause_base.specs.Clause.{has_literal};
-ghost use Rattle.number_bits.specs.Bits.{words_have};
+ghost use Rattle.bit_sets.specs.Layered.{words_have};
 ghost use Rattle.propagation.specs.Asks.{HasAsks, IsAsk, IsConsistent};
 ghost use Rattle.propagation.specs.Front.{asked_at, first_asked, IsAnswer, IsComplete};
 ghost use Rattle.propagation.specs.Tables.{AreTables, pending_in};
@@ -12,13 +12,13 @@ ghost use Rattle.cdcl_rules.specs.State.{clause_at};
 use crate::pending::{NO_LITERAL, Pending};
 use crate::scan::{ask_of, is_pending};
 use crate::tables::Tables;
+use bit_sets::first::First;
+use bit_sets::flat::Flat;
+use bit_sets::layer::Layer;
+use bit_sets::set::NumberSet;
 use cdcl_rules::event::Event;
 use cdcl_trail::assignment::Assignment;
 use clause_base::literal::Lit;
-use number_bits::first::First;
-use number_bits::flat::Flat;
-use number_bits::layer::Layer;
-use number_bits::set::NumberSet;
 
 /// What a clause asks for, if it is kept and pending: one of which all literals are false but for this one.
 #[inline(always)]

@@ -3,7 +3,7 @@
 //! beginning.
 ghost use Rattle.std.specs.Prelude.{◌≡◌, ℕ, ◌+◌, ◌*◌, ◌<◌, ◌≤◌, ◌==◌, [], None, false, length, IfOk, OnOk};
 ghost use Rattle.cdcl_rules.specs.State.{clause_at};
-ghost use Rattle.number_bits.specs.Bits.{words_have};
+ghost use Rattle.bit_sets.specs.Layered.{words_have};
 ghost use Rattle.watch_chains.specs.Linked.{IsLinked};
 ghost use Rattle.propagation.specs.Visit.{IsFit, AreSlotsBelow};
 ghost use Rattle.propagation.specs.Given.{AreGiven, AreRising, IsBeside};
@@ -14,9 +14,9 @@ use crate::visit::Lists;
 use clause_base::clause_list::ClauseList;
 use clause_base::formula::Formula;
 use clause_base::memory::Memory;
+use clause_store::store::Store;
 use std::alloc::Global;
 use watch_chains::chains::Chains;
-use watch_store::store::Store;
 
 /// The slots of a formula's clauses, and what is watched of them.
 #[derive(Drop)]

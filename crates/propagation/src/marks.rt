@@ -2,21 +2,21 @@
 ghost use Rattle.std.specs.Prelude.{◌≡◌, ◌*◌, ◌<◌, [], length, false, true, unwrap_or};
 ghost use Rattle.clause_base.specs.Literal.{opposite};
 ghost use Rattle.clause_base.specs.Clause.{has_literal};
-ghost use Rattle.number_bits.specs.Bits.{words_have};
-ghost use Rattle.pair_index.specs.Pairs.{IsPairOf, pairs_of};
-ghost use Rattle.pair_index.specs.declared.origin.Origin.TheVariants.{Time};
+ghost use Rattle.bit_sets.specs.Layered.{words_have};
+ghost use Rattle.binary_clauses.specs.Pairs.{IsPairOf, pairs_of};
+ghost use Rattle.binary_clauses.specs.declared.origin.Origin.TheVariants.{Time};
 ghost use Rattle.propagation.specs.Asks.{HasAsks};
 ghost use Rattle.propagation.specs.Pairs.{AreMarked, ArePairsOf};
 ghost use Rattle.propagation.specs.Visit.{Grows, IsFit};
 
 use crate::pending::Pending;
+use binary_clauses::index::PairIndex;
+use binary_clauses::list::PairList;
+use binary_clauses::lists::Lists;
+use binary_clauses::origin::Origin;
+use binary_clauses::pair::Pair;
 use cdcl_trail::assignment::Assignment;
-use pair_index::index::PairIndex;
-use pair_index::list::PairList;
-use pair_index::lists::Lists;
-use pair_index::origin::Origin;
-use pair_index::pair::Pair;
-use watch_store::store::Store;
+use clause_store::store::Store;
 
 /// Puts the clause of a pair of a false literal into the set, if its other literal is not true.
 #[inline(always)]

@@ -1,13 +1,13 @@
 //! Which clauses may be pending, and what each of them asks for.
 ghost use Rattle.std.specs.Prelude.{◌≡◌, ℕ, ◌*◌, ◌<◌, ◌≤◌, length, false, slice_index, IfOk, OnOk};
-ghost use Rattle.number_bits.specs.Bits.{words_have};
+ghost use Rattle.bit_sets.specs.Layered.{words_have};
 ghost use Rattle.propagation.specs.Asks.{IsPut, IsWider};
 
-use let_go::let_go;
-use number_bits::first::First;
-use number_bits::flat::Flat;
-use number_bits::layer::Layer;
-use number_bits::set::NumberSet;
+use bit_sets::first::First;
+use bit_sets::flat::Flat;
+use bit_sets::layer::Layer;
+use bit_sets::set::NumberSet;
+use containers::let_go;
 use std::alloc::{AllocError, Global};
 
 /// What a clause without literals asks for.

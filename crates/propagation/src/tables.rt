@@ -2,8 +2,8 @@
 //! visited and where the first one that is pending is sought.
 ghost use Rattle.std.specs.Prelude.{◌≡◌, ◌<◌, length, false, slice_index, slice_index_or};
 
-use let_go::let_go;
-use watch_store::store::Store;
+use clause_store::store::Store;
+use containers::let_go;
 
 /// The clauses by number, which of them are kept, and the number of each slot's clause.
 pub struct Tables {

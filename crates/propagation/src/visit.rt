@@ -6,7 +6,7 @@
 ghost use Rattle.std.specs.Prelude.{◌≡◌, ℕ, ◌*◌, ◌/◌, ◌<◌, ◌∷◌, List, true};
 ghost use Rattle.clause_base.specs.Literal.{opposite};
 ghost use Rattle.clause_base.specs.Clause.{has_literal};
-ghost use Rattle.number_bits.specs.Bits.{words_have};
+ghost use Rattle.bit_sets.specs.Layered.{words_have};
 ghost use Rattle.propagation.specs.Asks.{HasAsks};
 ghost use Rattle.propagation.specs.Tables.{AreTables, clauses_in, flags_in};
 ghost use Rattle.propagation.specs.Visit.{AreSettled, AreVisited, GoesOn, IsAtRest, MovesToFree, Grows};
@@ -17,7 +17,7 @@ use crate::slots::{is_slot_kept, slot_clause};
 use crate::tables::Tables;
 use cdcl_trail::assignment::Assignment;
 use clause_base::literal::Lit;
-use let_go::let_go;
+use containers::let_go;
 use watch_chains::chains::{Chains, END, Place};
 
 /// What changes where a literal becomes false.

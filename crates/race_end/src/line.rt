@@ -1,6 +1,6 @@
 //! What became of a started horizon.
 
-use list_of::ListOf;
+use containers::ListOf;
 use rup_check::check::Checked;
 
 /// How a horizon ended.

@@ -10,7 +10,7 @@ use Rattle.clause_base.specs.declared.log.Entry.{Entry}
 use Rattle.clause_base.specs.declared.log.Entry.TheVariants.{Learn, Drop}
 use Rattle.clause_base.specs.declared.memory.Memory.{Memory}
 use Rattle.clause_base.proofs.Refutation.{unsatisfiable_from_refutation}
-use Rattle.hint_effects.specs.Falsified.{FalsifiedView}
+use Rattle.rup_check.specs.Falsified.{FalsifiedView}
 use Rattle.rup_check.specs.Kept.{kept_named, is_derived_by, IsKnownAfter}
 use Rattle.rup_check.specs.Taken.{CheckerView, HasTaken, IsSound, NamesBelow}
 use Rattle.rup_check.proofs.KeptLemmas.{named_next, is_derived_by-known, known-more, known-none, any-append, below-next, below-none, learn_named, take_more}

@@ -8,11 +8,11 @@ ghost use Rattle.rup_check.specs.Kept.{kept_named, is_derived_by};
 ghost use Rattle.rup_check.specs.Taken.{HasTaken, NamesBelow};
 
 use crate::entry::is_learnable;
+use crate::falsified::Falsified;
 use crate::kept::Kept;
 use clause_base::formula::Formula;
 use clause_base::literal::Lit;
 use clause_base::memory::Memory;
-use hint_effects::falsified::Falsified;
 use std::alloc::Global;
 use std::marker::Model;
 

@@ -5,13 +5,13 @@ ghost use Rattle.clause_base.specs.declared.log.Entry.TheVariants.{Learn as lear
 ghost use Rattle.rup_check.specs.Kept.{kept_named, is_derived_by};
 ghost use Rattle.rup_check.specs.Taken.{NamesBelow};
 
+use crate::effect::{Effect, effect_of};
+use crate::falsified::Falsified;
 use crate::kept::Kept;
 use crate::left::Left;
 use clause_base::formula::Formula;
 use clause_base::literal::Lit;
 use clause_base::memory::Memory;
-use hint_effects::effect::{Effect, effect_of};
-use hint_effects::falsified::Falsified;
 
 /// Whether the hints lead from what is taken as false to a conflict, where they name kept clauses. Each forced literal's
 /// negation is then taken as false too.

@@ -7,11 +7,16 @@
 //! definitions of `clause_base`, whatever made the log.
 //!
 //! `Checker` is the same for entries that come one after another and are not kept, as those of a file of any length.
+//!
+//! `effect` says what a hint comes to: all literals of its clause are false, or all but one, which is then taken as true, or
+//! neither; `falsified` has the literals that are taken as false.
 #![tactic(auto)]
 
 pub mod check;
 pub mod checker;
+pub mod effect;
 mod entry;
+pub mod falsified;
 mod kept;
 mod left;
 mod steps;

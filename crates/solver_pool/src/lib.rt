@@ -17,6 +17,7 @@ mod count_run;
 mod gate;
 mod job;
 mod jobs;
+pub mod one_turn;
 mod open;
 mod pass_view;
 mod resume;

@@ -5,9 +5,9 @@ ghost use Rattle.solver_pool.specs.Resume.{IsMoved, SettledStays};
 ghost use Rattle.solver_pool.specs.Ring.{IsRingPass, IsSlice};
 ghost use Rattle.solver_pool.specs.Serve.{ServedSays, GoesOn, IsAdvanced, IsEnded};
 
+use crate::one_turn::units_of_turn;
 use crate::{Gate, Job, Pass, Resume, Ring};
 use std::sync::Wait;
-use turn_parts::units_of_turn;
 
 /// What a turn came to.
 #[derive(Drop)]

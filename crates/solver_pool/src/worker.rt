@@ -5,9 +5,9 @@ ghost use Rattle.solver_pool.specs.Steps.{TookAll};
 ghost use Rattle.solver_pool.specs.Ring.{IsRingPass, IsSlice};
 ghost use Rattle.solver_pool.specs.Worker.{StaysAtWork};
 
+use crate::one_turn::put_or_note;
 use crate::{Gate, Job, Pass, Resume, Ring, Served, serve_one};
 use std::sync::Wait;
-use turn_parts::put_or_note;
 
 /// A worker: its pass, and the jobs that it is done with. It failed where it had no room for one of them.
 #[derive(Drop)]

@@ -14,17 +14,17 @@ use Rattle.gt_core.specs.Published.{order_of}
 use Rattle.gt_core.proofs.Basics.{each_at, each_from}
 use Rattle.gt_core.proofs.Pairwise.{flat_among}
 use Rattle.gt_core.proofs.Within.{lawful}
-use Rattle.step_clauses.proofs.SizeLaw.{length-range_from}
+use Rattle.horizon_formula.proofs.SizeLaw.{length-range_from}
 use Rattle.std.proofs.Math.Nat.{mul-le-mul_right}
-use Rattle.step_clauses.specs.Clause.{Literal}
-use Rattle.step_clauses.specs.Chain.{chain_length, enter_clauses, pass_clauses}
-use Rattle.step_clauses.specs.Formula.{chain_clauses}
-use Rattle.step_clauses.specs.Variables.{chains_from, chain_places, chain_variables_in}
-use Rattle.link_index.specs.declared.link.Link.{Link}
-use Rattle.link_index.specs.Links.{link_of, links_of, touches}
+use Rattle.horizon_formula.specs.Clause.{Literal}
+use Rattle.horizon_formula.specs.Chain.{chain_length, enter_clauses, pass_clauses}
+use Rattle.horizon_formula.specs.Formula.{chain_clauses}
+use Rattle.horizon_formula.specs.Variables.{chains_from, chain_places, chain_variables_in}
+use Rattle.step_chains.specs.declared.link.Link.{Link}
+use Rattle.step_chains.specs.Touching.{link_of, links_of, touches}
 use Rattle.step_chains.specs.Links.{link_count, pass_links}
 use Rattle.step_chains.specs.Chains.{LinkedChain, LinkedChains, linked_clauses, all_clauses, Extends, AreWithin, IsChainWithin, HasRoom, links_in, members_in, no_chains}
-use Rattle.link_index.specs.Index.{IsIndexOf}
+use Rattle.step_chains.specs.Index.{IsIndexOf}
 use Rattle.step_chains.specs.BothWays.{ways, ways_in}
 use Rattle.step_chains.proofs.LinkLaw.{count_is, enter_is, pass_is, enter_none, pass_none}
 

@@ -3,3 +3,5 @@ pub mod WalkLaw
 pub mod ExtendLaw
 pub mod ClauseLaw
 pub mod SizeLaw
+pub mod IndexLaw
+pub mod RangeLaw

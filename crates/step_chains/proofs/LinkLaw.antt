@@ -2,10 +2,10 @@ use Rattle.std.proofs.Common.{arith, ◌≡◌, ◌+◌, ◌≤◌, ℕ, zero, s
 use Rattle.std.specs.List.{list_any}
 use Rattle.gt_core.specs.Interference.{takes, reads}
 use Rattle.gt_core.specs.Task.{Task}
-use Rattle.step_clauses.specs.Clause.{Literal, Is, Not}
-use Rattle.step_clauses.specs.Chain.{chain_length, if_read, enter_clauses, pass_clauses}
-use Rattle.link_index.specs.declared.link.Link.{Link}
-use Rattle.link_index.specs.Links.{links_of}
+use Rattle.horizon_formula.specs.Clause.{Literal, Is, Not}
+use Rattle.horizon_formula.specs.Chain.{chain_length, if_read, enter_clauses, pass_clauses}
+use Rattle.step_chains.specs.declared.link.Link.{Link}
+use Rattle.step_chains.specs.Touching.{links_of}
 use Rattle.step_chains.specs.Links.{link_count, enter_links, pass_links}
 
 -- A chain over the members that touch its literal is the chain over all members.

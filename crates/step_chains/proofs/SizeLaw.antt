@@ -4,11 +4,11 @@ use Rattle.std.specs.Prelude.{sum_by}
 use Rattle.std.proofs.lemmas.List.{drop_more, drop_all}
 use Rattle.std.proofs.lemmas.List.Sums.{sum_by-cons}
 use Rattle.gt_core.specs.Layout.{Layout, action_at, chain_at}
-use Rattle.step_clauses.specs.Clause.{Literal, Is, Not, code}
-use Rattle.step_clauses.specs.Coded.{coded, literals_in}
-use Rattle.step_clauses.proofs.SizeLaw.{size_append}
-use Rattle.step_clauses.proofs.ClauseSize.{two_size}
-use Rattle.link_index.specs.declared.link.Link.{Link}
+use Rattle.horizon_formula.specs.Clause.{Literal, Is, Not, code}
+use Rattle.horizon_formula.specs.Coded.{coded, literals_in}
+use Rattle.horizon_formula.proofs.SizeLaw.{size_append}
+use Rattle.horizon_formula.proofs.ClauseSize.{two_size}
+use Rattle.step_chains.specs.declared.link.Link.{Link}
 use Rattle.step_chains.specs.Links.{is_read, link_size, enter_links, pass_links}
 use Rattle.step_chains.specs.Chains.{LinkedChain, LinkedChains, linked_clauses, all_clauses, links_in, IsChainWithin, AreWithin}
 

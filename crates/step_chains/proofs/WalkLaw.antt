@@ -3,10 +3,10 @@ use Rattle.std.specs.List.{list_any}
 use Rattle.std.proofs.lemmas.List.{drop_more, append_assoc}
 use Rattle.std.proofs.lemmas.List.Sums.{sum_by-cons}
 use Rattle.std.proofs.lemmas.Bool.Decides.{nat_tests}
-use Rattle.step_clauses.specs.Clause.{Literal, Is, Not}
-use Rattle.step_clauses.specs.Coded.{coded}
-use Rattle.step_clauses.proofs.CodedLaw.{coded-append}
-use Rattle.link_index.specs.declared.link.Link.{Link}
+use Rattle.horizon_formula.specs.Clause.{Literal, Is, Not}
+use Rattle.horizon_formula.specs.Coded.{coded}
+use Rattle.horizon_formula.proofs.CodedLaw.{coded-append}
+use Rattle.step_chains.specs.declared.link.Link.{Link}
 use Rattle.step_chains.specs.declared.walk.Walk.{Walk}
 use Rattle.step_chains.specs.Links.{link_count, enter_links, pass_links, is_read, link_size}
 use Rattle.step_chains.specs.Walk.{StandsBefore, IsAfter}

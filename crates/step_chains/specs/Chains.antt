@@ -2,10 +2,10 @@
 use Rattle.std.specs.Prelude.{◌≡◌, ℕ, ◌+◌, ◌<◌, ◌≤◌, List, [], ◌++◌, false, length, sum_by}
 use Rattle.std.specs.List.{flat_map, AllByRecursion}
 use Rattle.gt_core.specs.Task.{Task}
-use Rattle.step_clauses.specs.Clause.{Literal}
-use Rattle.step_clauses.specs.Variables.{chains_from, chain_variables_in}
-use Rattle.step_clauses.specs.Formula.{chain_clauses}
-use Rattle.link_index.specs.declared.link.Link.{Link}
+use Rattle.horizon_formula.specs.Clause.{Literal}
+use Rattle.horizon_formula.specs.Variables.{chains_from, chain_variables_in}
+use Rattle.horizon_formula.specs.Formula.{chain_clauses}
+use Rattle.step_chains.specs.declared.link.Link.{Link}
 use Rattle.step_chains.specs.Links.{link_count, enter_links, pass_links}
 
 -- a chain: the number of its first variable, and its members

@@ -3,9 +3,9 @@
 use Rattle.std.specs.Prelude.{ℕ, ◌+◌, List, [], ◌∷◌, Bool, ◌&&◌, ◌||◌, if◌then◌else◌}
 use Rattle.std.specs.List.{list_any}
 use Rattle.gt_core.specs.Layout.{Layout, action_at, chain_at}
-use Rattle.step_clauses.specs.Clause.{Literal, Is, Not}
-use Rattle.step_clauses.specs.Chain.{chain_length, enter_clauses, pass_clauses}
-use Rattle.link_index.specs.declared.link.Link.{Link}
+use Rattle.horizon_formula.specs.Clause.{Literal, Is, Not}
+use Rattle.horizon_formula.specs.Chain.{chain_length, enter_clauses, pass_clauses}
+use Rattle.step_chains.specs.declared.link.Link.{Link}
 
 -- the definitions of a chain, with links as its members
 

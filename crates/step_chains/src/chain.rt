@@ -2,7 +2,7 @@
 ghost use Rattle.std.specs.Prelude.{◌≡◌, ◌+◌, ◌*◌, ◌≤◌, ◌&&◌, ◌||◌, Bool, true, false, length, count_by, if◌then◌else◌};
 ghost use Rattle.step_chains.specs.Links.{link_count, link_size, is_read};
 
-use link_index::link::Link;
+use crate::link::Link;
 use std::marker::Model;
 
 /// A chain: the number of its first variable, counted from 0, and its members.

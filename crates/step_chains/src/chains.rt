@@ -5,19 +5,19 @@ ghost use Rattle.gt_core.specs.Task.{Task as TaskValue};
 ghost use Rattle.gt_core.specs.Literal.{range};
 ghost use Rattle.gt_core.specs.Published.{Pairwise, order_of};
 ghost use Rattle.gt_core.specs.Layout.{Layout as LayoutValue, action_at, chain_at};
-ghost use Rattle.step_clauses.specs.Variables.{chain_places, chains};
-ghost use Rattle.step_clauses.specs.Formula.{chain_clauses};
-ghost use Rattle.step_clauses.specs.Coded.{coded, literals_in};
-ghost use Rattle.link_index.specs.Links.{links_of};
+ghost use Rattle.horizon_formula.specs.Variables.{chain_places, chains};
+ghost use Rattle.horizon_formula.specs.Formula.{chain_clauses};
+ghost use Rattle.horizon_formula.specs.Coded.{coded, literals_in};
+ghost use Rattle.step_chains.specs.Touching.{links_of};
 ghost use Rattle.step_chains.specs.BothWays.{ways, ways_in, all_places};
 ghost use Rattle.step_chains.specs.Chains.{AreChains, AreWithin, Extends, HasRoom, links_in, all_clauses};
 
 use crate::chain::{Chain, chain_size, count};
+use crate::index::{LinkIndex, literals};
+use crate::link::Link;
 use action_order::order::Order;
 use clause_base::memory::Memory;
 use gt_core::task::Task;
-use link_index::index::{LinkIndex, literals};
-use link_index::link::Link;
 use std::alloc::Global;
 use std::marker::Model;
 

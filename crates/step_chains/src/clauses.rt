@@ -2,24 +2,24 @@
 ghost use Rattle.std.specs.Prelude.{◌≡◌, ◌+◌, ◌≤◌, ◌<◌, ◌++◌, ℕ, List, [], ◌∷◌, true, false, if◌then◌else◌, OnOk};
 ghost use Rattle.clause_base.specs.Clause.{clause_of};
 ghost use Rattle.std.specs.List.{cons_option};
-ghost use Rattle.step_clauses.specs.Formula.{chain_clauses};
+ghost use Rattle.horizon_formula.specs.Formula.{chain_clauses};
 ghost use Rattle.step_chains.specs.Chains.{AreChains, all_clauses};
 ghost use Rattle.gt_core.specs.Task.{Task};
 ghost use Rattle.gt_core.specs.Layout.{action_at, chain_at};
-ghost use Rattle.step_clauses.specs.Clause.{Is, Not, code};
+ghost use Rattle.horizon_formula.specs.Clause.{Is, Not, code};
 ghost use Rattle.step_chains.specs.Walk.{HasChain};
 ghost use Rattle.step_chains.specs.Links.{enter_links, pass_links, enter_of, pass_of};
-ghost use Rattle.step_clauses.specs.Coded.{Appends};
-ghost use Rattle.step_clauses.specs.Variables.{chains};
+ghost use Rattle.horizon_formula.specs.Coded.{Appends};
+ghost use Rattle.horizon_formula.specs.Variables.{chains};
 
 use crate::chain::Chain;
 use crate::chains::Chains;
+use crate::link::Link;
 use crate::walk::Walk;
 use clause_base::clause_list::ClauseList;
 use clause_base::literal::Lit;
 use clause_base::memory::Memory;
 use gt_core::layout::Layout;
-use link_index::link::Link;
 
 /// Appends the clause of two literals, unless they are opposite.
 fn add_pair(clauses: &mut ClauseList, one: Lit, other: Lit) -> Result<(), Memory>

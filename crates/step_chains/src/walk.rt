@@ -3,7 +3,7 @@ ghost use Rattle.std.specs.Prelude.{◌≡◌, ◌≤◌, true, false, count_by}
 ghost use Rattle.step_chains.specs.Walk.{IsAfter};
 
 use crate::chain::{Chain, left_after, readers};
-use link_index::link::Link;
+use crate::link::Link;
 
 /// Where a walk along the links of a chain stands: whether a taker was seen, the number of the next variable, and how many
 /// readers are left.

@@ -3,11 +3,11 @@ use Rattle.gt_core.specs.Literal.{range}
 use Rattle.gt_core.specs.Task.{Task}
 use Rattle.gt_core.specs.Lawful.{conditional_in}
 use Rattle.action_order.proofs.Lists.{range_more}
-use Rattle.step_clauses.specs.Variables.{chain_variables_in}
-use Rattle.step_clauses.specs.Coded.{literals_in, formula_of}
-use Rattle.step_clauses.specs.Shift.{one_step, one_time}
-use Rattle.step_clauses.proofs.InRange.{IsInRange}
-use Rattle.step_clauses.proofs.SizeLaw.{size_law}
+use Rattle.horizon_formula.specs.Variables.{chain_variables_in}
+use Rattle.horizon_formula.specs.Coded.{literals_in, formula_of}
+use Rattle.horizon_formula.specs.Shift.{one_step, one_time}
+use Rattle.horizon_formula.proofs.InRange.{IsInRange}
+use Rattle.horizon_formula.proofs.SizeLaw.{size_law}
 use Rattle.step_laws.specs.Form.{OrderedTask, IsOrderedTask}
 use Rattle.step_chains.specs.Chains.{LinkedChains, AreChains}
 use Rattle.step_encoding.specs.Limits.{most_literals}

@@ -7,14 +7,14 @@ use Rattle.gt_core.specs.Layout.{Layout, width, variables, fact_at}
 use Rattle.gt_core.proofs.Basics.{Among}
 use Rattle.gt_core.proofs.Literals.{below_range}
 use Rattle.clause_base.specs.Formula.{Cnf}
-use Rattle.step_clauses.specs.Clause.{code}
-use Rattle.step_clauses.specs.Variables.{layout_of}
-use Rattle.step_clauses.specs.Formula.{literal_over, initial_clauses, goal_clauses, step_clauses, pair_clauses}
-use Rattle.step_clauses.specs.Coded.{coded, literals_in, formula_of}
-use Rattle.step_clauses.specs.Shift.{one_step, one_time}
-use Rattle.step_clauses.proofs.InRange.{IsInRange}
-use Rattle.step_clauses.proofs.SizeLaw.{size_law}
-use Rattle.step_clauses.proofs.FewLaw.{step_few, time_few}
+use Rattle.horizon_formula.specs.Clause.{code}
+use Rattle.horizon_formula.specs.Variables.{layout_of}
+use Rattle.horizon_formula.specs.Formula.{literal_over, initial_clauses, goal_clauses, step_clauses, pair_clauses}
+use Rattle.horizon_formula.specs.Coded.{coded, literals_in, formula_of}
+use Rattle.horizon_formula.specs.Shift.{one_step, one_time}
+use Rattle.horizon_formula.proofs.InRange.{IsInRange}
+use Rattle.horizon_formula.proofs.SizeLaw.{size_law}
+use Rattle.horizon_formula.proofs.FewLaw.{step_few, time_few}
 use Rattle.step_encoding.specs.Limits.{most_literals}
 use Rattle.step_encoding.specs.Parts.{step_part, time_part, StepsFit, TimesFit}
 use Rattle.step_encoding.proofs.Parts.{goal_parts}

@@ -10,11 +10,11 @@ use Rattle.gt_core.proofs.Basics.{each_at}
 use Rattle.gt_core.proofs.Within.{literals_within, lawful, among_at}
 use Rattle.clause_base.specs.Clause.{IsClause}
 use Rattle.clause_base.specs.Formula.{Cnf}
-use Rattle.step_clauses.specs.Clause.{Is, Not, code}
-use Rattle.step_clauses.specs.Formula.{literal_over, initial_clauses, goal_clauses}
-use Rattle.step_clauses.specs.Coded.{coded}
-use Rattle.step_clauses.proofs.CodedLaw.{coded-append}
-use Rattle.step_clauses.proofs.SizeLaw.{singles, not_opposite}
+use Rattle.horizon_formula.specs.Clause.{Is, Not, code}
+use Rattle.horizon_formula.specs.Formula.{literal_over, initial_clauses, goal_clauses}
+use Rattle.horizon_formula.specs.Coded.{coded}
+use Rattle.horizon_formula.proofs.CodedLaw.{coded-append}
+use Rattle.horizon_formula.proofs.SizeLaw.{singles, not_opposite}
 use Rattle.step_encoding.specs.Parts.{added}
 use Rattle.std.proofs.lemmas.List.{append-nil}
 

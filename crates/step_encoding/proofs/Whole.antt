@@ -11,17 +11,17 @@ use Rattle.gt_core.proofs.PublishedLaw.{published_apart, component_apart}
 use Rattle.gt_core.proofs.Basics.{each_from}
 use Rattle.gt_core.proofs.Within.{lawful}
 use Rattle.clause_base.specs.Clause.{HasVariablesBelow}
-use Rattle.step_clauses.specs.Clause.{Literal}
-use Rattle.step_clauses.specs.Variables.{layout_of, chain_variables_in}
-use Rattle.step_clauses.specs.Formula.{step_clauses, pair_clauses, initial_clauses, goal_clauses}
-use Rattle.step_clauses.specs.Coded.{coded, literals_in, formula_of}
-use Rattle.step_clauses.specs.Shift.{moved_code, one_step, one_time}
-use Rattle.step_clauses.proofs.CodedLaw.{coded-append}
-use Rattle.step_clauses.proofs.InRange.{IsInRange}
-use Rattle.step_clauses.proofs.ShiftLaw.{step_moved, known_moved}
-use Rattle.step_clauses.proofs.SizeLaw.{size_law, chains_within_size}
-use Rattle.step_clauses.proofs.Sorted.{set_few}
-use Rattle.step_clauses.proofs.Within.{step_within, known_within}
+use Rattle.horizon_formula.specs.Clause.{Literal}
+use Rattle.horizon_formula.specs.Variables.{layout_of, chain_variables_in}
+use Rattle.horizon_formula.specs.Formula.{step_clauses, pair_clauses, initial_clauses, goal_clauses}
+use Rattle.horizon_formula.specs.Coded.{coded, literals_in, formula_of}
+use Rattle.horizon_formula.specs.Shift.{moved_code, one_step, one_time}
+use Rattle.horizon_formula.proofs.CodedLaw.{coded-append}
+use Rattle.horizon_formula.proofs.InRange.{IsInRange}
+use Rattle.horizon_formula.proofs.ShiftLaw.{step_moved, known_moved}
+use Rattle.horizon_formula.proofs.SizeLaw.{size_law, chains_within_size}
+use Rattle.horizon_formula.proofs.Sorted.{set_few}
+use Rattle.horizon_formula.proofs.Within.{step_within, known_within}
 use Rattle.step_laws.specs.Form.{OrderedTask, IsOrderedTask}
 use Rattle.step_encoding.specs.Limits.{most_literals}
 use Rattle.step_laws.proofs.Ranges.{member_below}

@@ -1,8 +1,8 @@
 use Rattle.std.specs.Prelude.{◌≡◌, ℕ, ◌+◌, ◌*◌, ◌≤◌, List, length}
 use Rattle.gt_core.specs.Task.{Task}
 use Rattle.gt_core.specs.Lawful.{conditional_in}
-use Rattle.step_clauses.specs.Coded.{literals_in}
-use Rattle.step_clauses.specs.Shift.{one_step, one_time}
+use Rattle.horizon_formula.specs.Coded.{literals_in}
+use Rattle.horizon_formula.specs.Shift.{one_step, one_time}
 use Rattle.step_chains.specs.Chains.{LinkedChains, AreChains}
 use Rattle.step_laws.specs.Form.{OrderedTask, IsOrderedTask}
 use Rattle.step_encoding.specs.Limits.{most_literals}

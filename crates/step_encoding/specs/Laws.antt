@@ -5,8 +5,8 @@ use Rattle.gt_core.specs.Task.{Task}
 use Rattle.gt_core.specs.Published.{order_of}
 use Rattle.clause_base.specs.Formula.{IsModel, IsUnsatisfiable, assignment_of}
 use Rattle.gt_core.specs.Step.{IsStepPlan}
-use Rattle.step_clauses.specs.Variables.{layout_of, chain_places}
-use Rattle.step_clauses.specs.Coded.{formula_of}
+use Rattle.horizon_formula.specs.Variables.{layout_of, chain_places}
+use Rattle.horizon_formula.specs.Coded.{formula_of}
 use Rattle.step_laws.specs.Form.{OrderedTask, IsOrderedTask, AreSets, member_at, steps_at}
 use Rattle.step_laws.specs.Stepping.{IsStepping}
 use Rattle.step_laws.proofs.MembersLaw as members

@@ -3,7 +3,7 @@ use Rattle.gt_core.specs.Task.{Task}
 use Rattle.gt_core.specs.Lawful.{conditional_in}
 use Rattle.gt_core.specs.Layout.{Layout, variables}
 use Rattle.clause_base.specs.Formula.{Cnf}
-use Rattle.step_clauses.specs.Coded.{literals_in}
+use Rattle.horizon_formula.specs.Coded.{literals_in}
 
 -- how many literals a formula has
 abbrev pub literals_of : Cnf → ℕ

@@ -2,7 +2,7 @@ use Rattle.std.specs.Prelude.{ℕ, ◌+◌, ◌*◌, ◌/◌, ◌<◌, ◌≤◌
 use Rattle.std.specs.List.{AllByRecursion}
 use Rattle.gt_core.specs.Layout.{Layout, width}
 use Rattle.clause_base.specs.Formula.{Cnf}
-use Rattle.step_clauses.specs.Shift.{moved_code}
+use Rattle.horizon_formula.specs.Shift.{moved_code}
 
 -- a formula with more clauses at its end
 abbrev pub added : Cnf → List (List ℕ) → Cnf

@@ -3,9 +3,9 @@
 ghost use Rattle.std.specs.Prelude.{◌≡◌, ◌+◌, ◌/◌, ◌≤◌, ◌<◌, [], ◌∷◌, map, length, if◌then◌else◌, OnOk};
 ghost use Rattle.gt_core.specs.Task.{initial_state};
 ghost use Rattle.gt_core.specs.Layout.{fact_at, variables};
-ghost use Rattle.step_clauses.specs.Clause.{Is, Not, code};
-ghost use Rattle.step_clauses.specs.Formula.{literal_over, initial_clauses};
-ghost use Rattle.step_clauses.specs.Coded.{coded};
+ghost use Rattle.horizon_formula.specs.Clause.{Is, Not, code};
+ghost use Rattle.horizon_formula.specs.Formula.{literal_over, initial_clauses};
+ghost use Rattle.horizon_formula.specs.Coded.{coded};
 ghost use Rattle.step_encoding.specs.Parts.{added, HasClauseRoom};
 
 use clause_base::formula::Formula;

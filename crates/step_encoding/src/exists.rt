@@ -1,7 +1,7 @@
 //! The encoding of exists-steps.
 
 ghost use Rattle.gt_core.specs.Step.{IsStepPlan};
-ghost use Rattle.step_clauses.specs.Variables.{chain_places};
+ghost use Rattle.horizon_formula.specs.Variables.{chain_places};
 ghost use Rattle.step_encoding.specs.Laws.{by_components};
 
 use crate::placed::{Placed, Placing};

@@ -4,9 +4,9 @@ ghost use Rattle.std.specs.Prelude.{◌≡◌, ◌+◌, ◌*◌, ◌≤◌, [], 
 ghost use Rattle.std.specs.List.{flat_map};
 ghost use Rattle.gt_core.specs.Literal.{range};
 ghost use Rattle.gt_core.specs.Layout.{fact_at, variables};
-ghost use Rattle.step_clauses.specs.Clause.{code};
-ghost use Rattle.step_clauses.specs.Formula.{literal_over, initial_clauses};
-ghost use Rattle.step_clauses.specs.Coded.{coded};
+ghost use Rattle.horizon_formula.specs.Clause.{code};
+ghost use Rattle.horizon_formula.specs.Formula.{literal_over, initial_clauses};
+ghost use Rattle.horizon_formula.specs.Coded.{coded};
 ghost use Rattle.clause_base.specs.Repeats.{repeated, variables_of};
 ghost use Rattle.step_encoding.specs.Parts.{step_part, time_part, StepsFit, TimesFit};
 

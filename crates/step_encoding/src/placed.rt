@@ -5,9 +5,9 @@ ghost use Rattle.std.specs.List.{AllByRecursion};
 ghost use Rattle.gt_core.specs.Task.{Task as TaskValue};
 ghost use Rattle.gt_core.specs.Published.{Pairwise, order_of};
 ghost use Rattle.clause_base.specs.Formula.{assignment_of};
-ghost use Rattle.step_clauses.specs.Variables.{layout_of};
-ghost use Rattle.step_clauses.specs.Coded.{formula_of};
-ghost use Rattle.step_clauses.specs.Shift.{one_step, one_time};
+ghost use Rattle.horizon_formula.specs.Variables.{layout_of};
+ghost use Rattle.horizon_formula.specs.Coded.{formula_of};
+ghost use Rattle.horizon_formula.specs.Shift.{one_step, one_time};
 ghost use Rattle.step_chains.specs.Chains.{AreChains};
 ghost use Rattle.step_laws.specs.{Form.IsOrderedTask, Form.AreSets, Form.steps_at, Stepping.IsStepping};
 ghost use Rattle.step_encoding.specs.{Limits.most_literals, Numbers.literals_of};
@@ -29,9 +29,9 @@ use gt_core::task::Task;
 use std::alloc::Global;
 use std::marker::{Model, PhantomData};
 use step_chains::Chains;
-use step_sizes::known::known_size;
-use step_sizes::step::step_size;
 use step_template::known::one_time;
+use step_template::known_size::known_size;
+use step_template::step_size::step_size;
 use step_template::template::one_step;
 
 /// Where the chains of an encoding go, and which plans its formulas have by them. It is all that tells one encoding from

@@ -6,8 +6,8 @@ use Rattle.gt_core.specs.Task.{Task, EffectOf}
 use Rattle.gt_core.specs.Interference.{takes, reads}
 use Rattle.gt_core.specs.Layout.{Layout, width, action_at, conditional_at, chain_at, fact_at}
 use Rattle.gt_core.proofs.Basics.{Among}
-use Rattle.step_clauses.specs.Chain.{chain_length}
-use Rattle.step_clauses.specs.Variables.{Row, rows_from, has_condition, Chain, chains_from, chain_variables_in}
+use Rattle.horizon_formula.specs.Chain.{chain_length}
+use Rattle.horizon_formula.specs.Variables.{Row, rows_from, has_condition, Chain, chains_from, chain_variables_in}
 use Rattle.step_laws.proofs.ChainLaw.{HasChainValues}
 use Rattle.std.proofs.lemmas.Bool.{lt-ltb, le-ltb}
 

@@ -1,5 +1,5 @@
 use Rattle.gt_core.specs.Step.{IsStepPlan}
-use Rattle.step_clauses.specs.Variables.{chain_places}
+use Rattle.horizon_formula.specs.Variables.{chain_places}
 use Rattle.step_laws.specs.Stepping.{IsStepping}
 use Rattle.step_laws.proofs.Ranges.{in_range_of}
 use Rattle.step_laws.proofs.FormLaw.{plans, refutes}

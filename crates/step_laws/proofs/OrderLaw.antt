@@ -10,13 +10,13 @@ use Rattle.gt_core.proofs.Basics.{Among, passing, any_at, all_at, each_at, each_
 use Rattle.gt_core.proofs.Literals.{opposite_holds, opposite_twice, half_opposite, among_range}
 use Rattle.gt_core.proofs.Makers.{own_among}
 use Rattle.gt_core.proofs.Pairwise.{pairwise_map, pairwise_all, among_map, among_flat}
-use Rattle.step_clauses.specs.Clause.{AllTrue}
-use Rattle.step_clauses.specs.Chain.{chain_length, enter_clauses, pass_clauses}
-use Rattle.step_clauses.specs.Variables.{Chain, chains_from, chain_places, chains}
-use Rattle.step_clauses.specs.Formula.{chain_clauses}
-use Rattle.step_clauses.proofs.Satisfied.{parted, satisfied_each}
+use Rattle.horizon_formula.specs.Clause.{AllTrue}
+use Rattle.horizon_formula.specs.Chain.{chain_length, enter_clauses, pass_clauses}
+use Rattle.horizon_formula.specs.Variables.{Chain, chains_from, chain_places, chains}
+use Rattle.horizon_formula.specs.Formula.{chain_clauses}
+use Rattle.horizon_formula.proofs.Satisfied.{parted, satisfied_each}
 use Rattle.step_laws.proofs.ChainLaw.{NoneBefore, chain_holds}
-use Rattle.step_clauses.proofs.InRange.{HasFacts}
+use Rattle.horizon_formula.proofs.InRange.{HasFacts}
 
 -- two actions that can run in one state without a clash are not kept apart by what is known of it
 pub clause_known : (pairs : List (ℕ × ℕ)) (s : ℕ → Bool) (l m : ℕ) → Knows pairs s → has_clause pairs l m ≡ true → (holds s l ≡ true) ⊎ (holds s m ≡ true)

@@ -12,8 +12,8 @@ use Rattle.gt_core.proofs.PublishedLaw.{components_of_list}
 use Rattle.step_laws.specs.Form.{OrderedTask, IsOrderedTask, places_of}
 use Rattle.gt_core.specs.Literal.{range}
 use Rattle.gt_core.proofs.Pairwise.{among_split, flat_among}
-use Rattle.step_clauses.specs.Variables.{chain_places}
-use Rattle.step_clauses.proofs.InRange.{IsInRange, past}
+use Rattle.horizon_formula.specs.Variables.{chain_places}
+use Rattle.horizon_formula.proofs.InRange.{IsInRange, past}
 
 -- The numbers of a lawful task, of its known pairs and of its published order are in range.
 

@@ -8,7 +8,7 @@ use Rattle.gt_core.specs.Published.{IsPublished, order_of}
 use Rattle.gt_core.specs.Step.{IsStepPlan}
 use Rattle.gt_core.specs.Clauses.{KnownClauses, IsKnownClauses}
 use Rattle.gt_core.specs.Layout.{action_at}
-use Rattle.step_clauses.specs.Variables.{layout_of, chain_places}
+use Rattle.horizon_formula.specs.Variables.{layout_of, chain_places}
 
 -- a task, the clauses known of its states, and its published order as components
 pub record OrderedTask : Type 0 where

@@ -2,7 +2,7 @@ use Rattle.std.specs.Prelude.{ℕ, ◌≤◌, List, Bool, length}
 use Rattle.gt_core.specs.Task.{initial_state}
 use Rattle.gt_core.specs.Execution.{CanRun, run, IsGoal}
 use Rattle.clause_base.specs.Formula.{Satisfies, IsUnsatisfiable}
-use Rattle.step_clauses.specs.Coded.{formula_of}
+use Rattle.horizon_formula.specs.Coded.{formula_of}
 use Rattle.step_laws.specs.Form.{OrderedTask, IsOrderedTask, IsPlanOf, steps_at, places_of}
 
 -- The laws of formulas, by which lists of sets are plans of so many steps of a task, and where the chains of its formulas go.

@@ -13,12 +13,12 @@ use Rattle.gt_core.proofs.Basics.{Among, same_if}
 use Rattle.gt_core.proofs.Literals.{among_in, in_among}
 use Rattle.gt_core.proofs.Pairwise.{filtered, into_filter}
 use Rattle.gt_core.specs.Layout.{action_at}
-use Rattle.step_clauses.specs.Variables.{layout_of}
+use Rattle.horizon_formula.specs.Variables.{layout_of}
 use Rattle.pd_model.specs.Plan.{IsPlan, meets_goal}
 use Rattle.pd_model.specs.declared.calls.Call.{Call}
 use Rattle.pd_model.specs.declared.parts.Parts.{Parts}
-use Rattle.grounding.specs.Grounded.{Grounded, IsGrounded}
-use Rattle.grounding.specs.Laws.{AreNumbers, ActionsAreCalls, GoalsAgree}
+use Rattle.grounding_laws.specs.Grounded.{Grounded, IsGrounded}
+use Rattle.grounding_laws.specs.Laws.{AreNumbers, ActionsAreCalls, GoalsAgree}
 use Rattle.step_laws.specs.Form.{OrderedTask, member_at, steps_at}
 use Rattle.step_laws.proofs.SetAt.{set_next}
 use Rattle.step_plans.specs.Plans.{AreStepPlan, AreListed, in_order, actions_in}

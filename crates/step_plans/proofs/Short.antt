@@ -8,8 +8,8 @@ use Rattle.pd_model.specs.Plan.{IsPlan, exec_all, meets_goal}
 use Rattle.pd_model.specs.declared.atoms.Atom.{Atom}
 use Rattle.pd_model.specs.declared.calls.Call.{Call}
 use Rattle.pd_model.specs.declared.parts.Parts.{Parts}
-use Rattle.grounding.specs.Grounded.{Grounded, IsGrounded}
-use Rattle.grounding.specs.Laws.{AreNumbers, CallsAreActions, GoalsAgree}
+use Rattle.grounding_laws.specs.Grounded.{Grounded, IsGrounded}
+use Rattle.grounding_laws.specs.Laws.{AreNumbers, CallsAreActions, GoalsAgree}
 use Rattle.step_laws.specs.Form.{member_at}
 use Rattle.step_laws.proofs.SequenceLaw.{one_by_one, one_member, run_is_step_plan}
 use Rattle.step_plans.specs.Plans.{IsStepPlanOf}

@@ -8,8 +8,8 @@ use Rattle.gt_core.specs.Lawful.{is_conditional, are_effects, is_action, is_task
 use Rattle.gt_core.specs.Layout.{Layout}
 use Rattle.gt_core.proofs.Basics.{apart, same_test, test_same, all_at}
 use Rattle.gt_core.proofs.Within.{lawful, among_at}
-use Rattle.step_clauses.specs.Variables.{Row, rows_from}
-use Rattle.step_clauses.proofs.Sorted.{at_least, rest_sorted, sorted_before, effects_of_action}
+use Rattle.horizon_formula.specs.Variables.{Row, rows_from}
+use Rattle.horizon_formula.proofs.Sorted.{at_least, rest_sorted, sorted_before, effects_of_action}
 use Rattle.step_template.specs.Rows.{row_of, rows_of, number_after, made_by}
 use Rattle.step_template.specs.Adders.{IsAdders, AreOverruling}
 use Rattle.step_template.proofs.RowLaw.{rows_parts, made_by_parts, made_none}

@@ -8,11 +8,11 @@ use Rattle.gt_core.specs.Active.{EffectWithin}
 use Rattle.gt_core.proofs.Within.{action_effects_within}
 use Rattle.gt_core.specs.Layout.{Layout, action_at, fact_at}
 use Rattle.clause_base.specs.Clause.{clause_of}
-use Rattle.step_clauses.specs.Clause.{Literal, Is, Not, code}
-use Rattle.step_clauses.specs.Variables.{Row, rows, rows_from, variable_at}
-use Rattle.step_clauses.specs.Formula.{literal_over, effects_with, meaning_clauses, result_clause, effect_clauses}
-use Rattle.step_clauses.specs.Coded.{coded}
-use Rattle.step_clauses.proofs.CodedLaw.{coded-append}
+use Rattle.horizon_formula.specs.Clause.{Literal, Is, Not, code}
+use Rattle.horizon_formula.specs.Variables.{Row, rows, rows_from, variable_at}
+use Rattle.horizon_formula.specs.Formula.{literal_over, effects_with, meaning_clauses, result_clause, effect_clauses}
+use Rattle.horizon_formula.specs.Coded.{coded}
+use Rattle.horizon_formula.proofs.CodedLaw.{coded-append}
 use Rattle.step_template.specs.Rows.{row_of, rows_of, number_after, made_by}
 use Rattle.step_template.proofs.Groups.{joined_twice, rest}
 use Rattle.step_template.proofs.RowLaw.{rows_step, rows_parts, only_of}

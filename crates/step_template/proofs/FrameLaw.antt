@@ -6,10 +6,10 @@ use Rattle.gt_core.specs.Task.{Task}
 use Rattle.gt_core.specs.Layout.{Layout, fact_at}
 use Rattle.action_order.proofs.Lists.{range_more}
 use Rattle.clause_base.specs.Clause.{clause_of}
-use Rattle.step_clauses.specs.Clause.{Literal, Is, Not, code}
-use Rattle.step_clauses.specs.Variables.{rows, variable_at}
-use Rattle.step_clauses.specs.Formula.{literal_over, effects_with, frame_clauses}
-use Rattle.step_clauses.specs.Coded.{coded}
+use Rattle.horizon_formula.specs.Clause.{Literal, Is, Not, code}
+use Rattle.horizon_formula.specs.Variables.{rows, variable_at}
+use Rattle.horizon_formula.specs.Formula.{literal_over, effects_with, frame_clauses}
+use Rattle.horizon_formula.specs.Coded.{coded}
 use Rattle.step_template.specs.Rows.{made}
 use Rattle.step_template.proofs.EffectLaw.{two_parts, one_clause}
 

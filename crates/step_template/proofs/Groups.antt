@@ -2,10 +2,10 @@ use Rattle.std.proofs.Common.{◌≡◌, ℕ, ◌+◌, ◌/◌, ◌<◌, List, [
 use Rattle.std.specs.List.{AllByRecursion}
 use Rattle.std.proofs.lemmas.List.{drop_more}
 use Rattle.gt_core.specs.Task.{Action}
-use Rattle.step_clauses.specs.Clause.{Not}
-use Rattle.step_clauses.specs.Formula.{literal_over, precondition_clauses}
-use Rattle.step_clauses.specs.Coded.{coded}
-use Rattle.step_clauses.proofs.CodedLaw.{coded-append}
+use Rattle.horizon_formula.specs.Clause.{Not}
+use Rattle.horizon_formula.specs.Formula.{literal_over, precondition_clauses}
+use Rattle.horizon_formula.specs.Coded.{coded}
+use Rattle.horizon_formula.proofs.CodedLaw.{coded-append}
 
 -- Lists that grow by a part, while the rest of the whole gets smaller.
 

@@ -5,8 +5,8 @@ use Rattle.gt_core.specs.Task.{Effect, Action, owned, effects_from}
 use Rattle.gt_core.specs.Lawful.{is_conditional}
 use Rattle.gt_core.specs.Layout.{Layout}
 use Rattle.gt_core.proofs.Basics.{same_test, test_same}
-use Rattle.step_clauses.specs.Clause.{Is, code}
-use Rattle.step_clauses.specs.Variables.{Row, rows_from, variable_at}
+use Rattle.horizon_formula.specs.Clause.{Is, code}
+use Rattle.horizon_formula.specs.Variables.{Row, rows_from, variable_at}
 use Rattle.step_template.specs.Rows.{row_of, rows_of, number_after, made}
 use Rattle.step_template.proofs.Groups.{rest}
 use Rattle.step_template.proofs.RowLaw.{made_parts, rows_parts, rows_step}

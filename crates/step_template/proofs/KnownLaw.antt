@@ -6,10 +6,10 @@ use Rattle.std.proofs.lemmas.Bool.Decides.{nat_tests}
 use Rattle.gt_core.specs.Interference.{has_clause}
 use Rattle.gt_core.proofs.Basics.{same_test}
 use Rattle.clause_base.specs.Clause.{clause_of}
-use Rattle.step_clauses.specs.Clause.{Literal, Is, Not, code}
-use Rattle.step_clauses.specs.Formula.{literal_over, is_single, pair_clause}
-use Rattle.step_clauses.specs.Coded.{coded}
-use Rattle.step_clauses.proofs.CodedLaw.{coded-append}
+use Rattle.horizon_formula.specs.Clause.{Literal, Is, Not, code}
+use Rattle.horizon_formula.specs.Formula.{literal_over, is_single, pair_clause}
+use Rattle.horizon_formula.specs.Coded.{coded}
+use Rattle.horizon_formula.proofs.CodedLaw.{coded-append}
 use Rattle.step_template.proofs.Groups.{rest}
 use Rattle.std.proofs.lemmas.List.{append-nil}
 

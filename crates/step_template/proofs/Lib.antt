@@ -8,3 +8,14 @@ pub mod FrameLaw
 pub mod KnownLaw
 pub mod StepLaw
 pub mod AddersLaw
+pub mod Names
+pub mod Few
+pub mod Variables
+pub mod MeaningSize
+pub mod ResultSize
+pub mod EffectsSize
+pub mod FramesSize
+pub mod StepSize
+pub mod KnownSize
+pub mod CountLaw
+pub mod WalkLaw

@@ -7,8 +7,8 @@ use Rattle.gt_core.specs.Task.{Effect, Action, Task, EffectOf, owned, effects_fr
 use Rattle.gt_core.specs.Lawful.{is_conditional, conditional_in}
 use Rattle.gt_core.specs.Layout.{Layout}
 use Rattle.gt_core.proofs.Basics.{same_test}
-use Rattle.step_clauses.specs.Clause.{Is, code}
-use Rattle.step_clauses.specs.Variables.{Row, rows_from, variable_at}
+use Rattle.horizon_formula.specs.Clause.{Is, code}
+use Rattle.horizon_formula.specs.Variables.{Row, rows_from, variable_at}
 use Rattle.step_template.specs.Rows.{row_of, rows_of, number_after, made_by, made}
 use Rattle.std.proofs.lemmas.List.Elements.{filter-append}
 use Rattle.std.proofs.lemmas.List.{append-nil}

@@ -4,10 +4,10 @@ use Rattle.gt_core.specs.Task.{Task}
 use Rattle.gt_core.specs.Lawful.{is_task, conditional_in}
 use Rattle.gt_core.specs.Layout.{Layout, action_at, chain_at, fact_at}
 use Rattle.gt_core.proofs.Within.{lawful}
-use Rattle.step_clauses.specs.Variables.{rows, variable_at, layout_of, chains}
-use Rattle.step_clauses.specs.Formula.{precondition_clauses, effect_clauses, frame_clauses, chain_clauses, step_clauses}
-use Rattle.step_clauses.specs.Coded.{coded}
-use Rattle.step_clauses.specs.Shift.{one_step}
+use Rattle.horizon_formula.specs.Variables.{rows, variable_at, layout_of, chains}
+use Rattle.horizon_formula.specs.Formula.{precondition_clauses, effect_clauses, frame_clauses, chain_clauses, step_clauses}
+use Rattle.horizon_formula.specs.Coded.{coded}
+use Rattle.horizon_formula.specs.Shift.{one_step}
 use Rattle.step_template.proofs.EffectLaw.{two_parts}
 
 -- The clauses of one step from its groups.

@@ -5,7 +5,7 @@ use Rattle.std.specs.List.{AllByRecursion}
 use Rattle.gt_core.specs.Literal.{opposite}
 use Rattle.gt_core.specs.Task.{Effect}
 use Rattle.gt_core.specs.Layout.{Layout}
-use Rattle.step_clauses.specs.Variables.{Row}
+use Rattle.horizon_formula.specs.Variables.{Row}
 use Rattle.step_template.specs.Rows.{rows_of, made_by}
 
 -- what is noted of the effects before one: of a fact whose literals are not passed yet, the variables of all adds

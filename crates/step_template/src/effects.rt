@@ -5,10 +5,10 @@ ghost use Rattle.std.specs.List.{AllByRecursion};
 ghost use Rattle.gt_core.specs.Literal.{opposite};
 ghost use Rattle.gt_core.specs.Lawful.{are_effects};
 ghost use Rattle.gt_core.specs.Layout.{action_at, fact_at};
-ghost use Rattle.step_clauses.specs.Clause.{Is, Not, code};
-ghost use Rattle.step_clauses.specs.Variables.{Row, rows};
-ghost use Rattle.step_clauses.specs.Formula.{literal_over};
-ghost use Rattle.step_clauses.specs.Coded.{Appends};
+ghost use Rattle.horizon_formula.specs.Clause.{Is, Not, code};
+ghost use Rattle.horizon_formula.specs.Variables.{Row, rows};
+ghost use Rattle.horizon_formula.specs.Formula.{literal_over};
+ghost use Rattle.horizon_formula.specs.Coded.{Appends};
 ghost use Rattle.step_template.specs.Rows.{row_of, rows_of, IsLaidOut, IsPlaced, ArePlaced, meaning_of, effect_of, effects_of};
 ghost use Rattle.step_template.specs.Adders.{AreOverruling};
 

@@ -4,7 +4,7 @@ ghost use Rattle.std.specs.Prelude.{◌≡◌, ◌+◌, ◌*◌, ◌<◌, [], �
 ghost use Rattle.std.specs.List.{cons_option};
 ghost use Rattle.gt_core.specs.{Literal.range, Layout.fact_at};
 ghost use Rattle.clause_base.specs.Clause.{clause_of};
-ghost use Rattle.step_clauses.specs.{Clause.code, Coded.coded, Variables.rows, Variables.variable_at, Formula.literal_over, Formula.frame_clauses};
+ghost use Rattle.horizon_formula.specs.{Clause.code, Coded.coded, Variables.rows, Variables.variable_at, Formula.literal_over, Formula.frame_clauses};
 ghost use Rattle.step_template.specs.Rows.{IsIndex};
 
 use crate::index::Makers;

@@ -7,11 +7,11 @@ ghost use Rattle.step_template.specs.Rows.{row_of, rows_of, made, ArePlaced, IsI
 use crate::numbers::{Place, effect_variable, number_after};
 use clause_base::literal::Lit;
 use clause_base::memory::Memory;
-use equal_items::empty_lists;
+use containers::ListOf;
+use containers::equal::empty_lists;
 use gt_core::eff::Eff;
 use gt_core::layout::Layout;
 use gt_core::task::Task;
-use list_of::ListOf;
 use std::alloc::Global;
 
 /// The variables of effects, as literals.

@@ -1,9 +1,9 @@
 //! The known pairs at one time.
 
 ghost use Rattle.std.specs.Prelude.{◌≡◌, ◌+◌, ◌++◌, OnOk, IfOk};
-ghost use Rattle.step_clauses.specs.Coded.{coded};
-ghost use Rattle.step_clauses.specs.Formula.{pair_clause};
-ghost use Rattle.step_clauses.specs.Shift.{one_time};
+ghost use Rattle.horizon_formula.specs.Coded.{coded};
+ghost use Rattle.horizon_formula.specs.Formula.{pair_clause};
+ghost use Rattle.horizon_formula.specs.Shift.{one_time};
 
 use crate::literals::add_clause;
 use clause_base::clause_list::ClauseList;

@@ -4,8 +4,8 @@ ghost use Rattle.std.specs.Prelude.{◌≡◌, ◌/◌, ◌≤◌, ◌<◌, [], 
 ghost use Rattle.std.specs.List.{cons_option};
 ghost use Rattle.gt_core.specs.Layout.{action_at, conditional_at, fact_at, variables};
 ghost use Rattle.clause_base.specs.Clause.{clause_of};
-ghost use Rattle.step_clauses.specs.Clause.{Is, Not, code};
-ghost use Rattle.step_clauses.specs.Formula.{literal_over};
+ghost use Rattle.horizon_formula.specs.Clause.{Is, Not, code};
+ghost use Rattle.horizon_formula.specs.Formula.{literal_over};
 
 use clause_base::clause_list::ClauseList;
 use clause_base::literal::Lit;

@@ -2,7 +2,7 @@
 
 ghost use Rattle.std.specs.Prelude.{◌≡◌, ◌≤◌, ◌<◌, true, count_by};
 ghost use Rattle.gt_core.specs.Lawful.{is_conditional};
-ghost use Rattle.step_clauses.specs.Variables.{variable_at};
+ghost use Rattle.horizon_formula.specs.Variables.{variable_at};
 ghost use Rattle.step_template.specs.Rows.{row_of, number_after};
 
 use crate::literals::{action_variable, conditional_variable};

@@ -3,7 +3,7 @@
 ghost use Rattle.std.specs.Prelude.{◌≡◌, ◌/◌, ◌<◌, [], ◌∷◌, ◌++◌, map, OnOk};
 ghost use Rattle.std.specs.List.{AllByRecursion};
 ghost use Rattle.gt_core.specs.Layout.{action_at, fact_at};
-ghost use Rattle.step_clauses.specs.{Clause.Not, Coded.coded, Formula.literal_over, Formula.precondition_clauses};
+ghost use Rattle.horizon_formula.specs.{Clause.Not, Coded.coded, Formula.literal_over, Formula.precondition_clauses};
 ghost use Rattle.step_template.specs.Rows.{IsLaidOut};
 
 use crate::literals::{action_variable, add_clause, literal_at};

@@ -2,7 +2,7 @@
 
 ghost use Rattle.std.specs.Prelude.{◌≡◌, ℕ, ◌≤◌, List, length, IfOk};
 ghost use Rattle.gt_core.specs.Lawful.{conditional_in};
-ghost use Rattle.step_clauses.specs.Shift.{one_step};
+ghost use Rattle.horizon_formula.specs.Shift.{one_step};
 ghost use Rattle.step_chains.specs.Chains.{AreChains};
 
 use crate::effects::add_effects;

@@ -6,7 +6,7 @@ use Rattle.gt_core.specs.Task.{Task}
 use Rattle.gt_core.specs.Published.{IsPublished, order_of}
 use Rattle.action_order.proofs.PublishLaw.{action_below}
 use Rattle.pd_model.specs.declared.parts.Parts.{Parts}
-use Rattle.grounding.specs.Grounded.{Grounded, IsGrounded}
+use Rattle.grounding_laws.specs.Grounded.{Grounded, IsGrounded}
 
 -- each place has the number of a call
 pub placed_calls :

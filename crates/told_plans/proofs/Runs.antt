@@ -12,8 +12,8 @@ use Rattle.pd_model.specs.declared.atoms.Atom.{Atom}
 use Rattle.pd_model.specs.declared.calls.Call.{Call}
 use Rattle.pd_model.specs.declared.parts.Parts.{Parts}
 use Rattle.pd_plan.specs.PlanFile.{plan_file}
-use Rattle.grounding.specs.Grounded.{Grounded}
-use Rattle.grounding.specs.Laws.{AreNumbers}
+use Rattle.grounding_laws.specs.Grounded.{Grounded}
+use Rattle.grounding_laws.specs.Laws.{AreNumbers}
 use Rattle.step_laws.specs.Form.{OrderedTask, IsOrderedTask, AreSets, member_at, steps_at}
 use Rattle.step_laws.specs.Stepping.{IsStepping}
 use Rattle.step_encoding.specs.Laws.{by_components}
@@ -22,8 +22,8 @@ use Rattle.step_plans.specs.Plans.{AreStepPlan, AreListed, actions_in}
 use Rattle.plan_report.specs.Report.{plan_line, step_lines, calls_by_step, told_lines, plan_text}
 use Rattle.plan_report.specs.Laws.{IsSmallPlan, TellsSteps}
 use Rattle.ordered_tasks.specs.Known.{IsOrdered, form_of, formula_at}
-use Rattle.plan_words.specs.declared.request.Stepping.{Stepping}
-use Rattle.plan_words.specs.declared.request.Stepping.TheVariants.{Exists, All}
+use Rattle.requests.specs.declared.request.Stepping.{Stepping}
+use Rattle.requests.specs.declared.request.Stepping.TheVariants.{Exists, All}
 use Rattle.plan_tasks.specs.Stepping.{places_by, is_plan_by}
 use Rattle.plan_tasks.specs.Tasks.{IsReady}
 use Rattle.plan_tasks.specs.Claims.{OfGrounded}

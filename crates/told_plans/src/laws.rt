@@ -7,7 +7,7 @@ pub fn laws()
 {
     plan_tasks::laws::laws();
     two_invariants::laws::laws();
-    grounding::laws::laws();
+    grounding_laws::laws::laws();
     step_plans::laws::laws();
     plan_report::laws::laws();
 }

@@ -3,7 +3,7 @@ use Rattle.gt_core.specs.Literal.{holds}
 use Rattle.gt_core.specs.Task.{Task, action, initial_state}
 use Rattle.gt_core.specs.Interference.{has_clause}
 use Rattle.gt_core.specs.Clauses.{IsKnownClauses}
-use Rattle.known_literals.specs.Breaks.{Breaks}
+use Rattle.implied_literals.specs.Breaks.{Breaks}
 
 -- a closed set of clauses: each is over one literal of the task's facts or over two of different facts, each is true in
 -- the initial state, and no action breaks one of them under the set

@@ -3,7 +3,7 @@ use Rattle.gt_core.specs.Literal.{holds}
 use Rattle.gt_core.specs.Task.{Task, initial_state}
 use Rattle.gt_core.specs.Interference.{has_clause}
 use Rattle.gt_core.specs.Clauses.{KnownClauses, IsKnownClauses}
-use Rattle.known_literals.specs.Rows.{clause_in}
+use Rattle.implied_literals.specs.Rows.{clause_in}
 use Rattle.two_invariants.specs.Closed.{IsClosed, AreInvariants}
 
 -- What each round keeps, and what is left after the last.

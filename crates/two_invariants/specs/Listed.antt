@@ -1,5 +1,5 @@
 use Rattle.std.specs.Prelude.{ℕ, nat_le, List, ◌==◌, Bool, ◌&&◌, ◌||◌, nat_lt}
-use Rattle.bit_rows.specs.Bits.{row_has}
+use Rattle.bit_sets.specs.Rows.{row_has}
 
 -- a clause is of a literal and one of its row, from this literal on and below a bound
 abbrev pub is_from : List ℕ → ℕ → ℕ → ℕ → ℕ → Bool

@@ -3,23 +3,23 @@
 
 ghost use Rattle.std.specs.Prelude.{◌≡◌, ℕ, ◌<◌, ◌==◌, true, IfOk};
 ghost use Rattle.std.specs.List.{AllByRecursion, list_any};
-ghost use Rattle.bit_rows.specs.Bits.{row_has};
+ghost use Rattle.bit_sets.specs.Rows.{row_has};
 ghost use Rattle.two_invariants.specs.Closed.{AreInvariants};
-ghost use Rattle.known_literals.specs.Rows.{clause_in, AreRows};
+ghost use Rattle.implied_literals.specs.Rows.{clause_in, AreRows};
 ghost use Rattle.gt_core.specs.Reached.{HoldsWherever};
 ghost use Rattle.two_invariants.specs.Greatest.{AreGreatest};
-ghost use Rattle.known_literals.specs.Renewed.{asks};
+ghost use Rattle.implied_literals.specs.Renewed.{asks};
 ghost use Rattle.gt_core.specs.Literal.{opposite};
 
 use crate::list::list_clauses;
-use bit_rows::row::BitRow;
+use bit_sets::row::BitRow;
 use gt_core::memory::Memory;
 use gt_core::pairs::Pairs;
 use gt_core::task::Task;
+use implied_literals::again::{first_known, prepare};
+use implied_literals::asked::asked_literals;
 use invariant_rounds::first::first_clauses;
 use invariant_rounds::round::drop_broken;
-use known_literals::again::{first_known, prepare};
-use known_literals::asked::asked_literals;
 use std::alloc::{AllocError, Global};
 use std::thread::Threads;
 

@@ -1,12 +1,12 @@
 //! Rows of clauses as a sorted list.
 
 ghost use Rattle.std.specs.Prelude.{◌≡◌, ℕ, ◌*◌, ◌<◌, ◌≤◌, ◌==◌, ◌&&◌, ◌||◌, true, nat_lt, not, length, IfOk, OnOk};
-ghost use Rattle.bit_rows.specs.Bits.{row_has};
+ghost use Rattle.bit_sets.specs.Rows.{row_has};
 ghost use Rattle.gt_core.specs.{Literal.opposite, Interference.has_clause, Clauses.IsKnownClauses};
-ghost use Rattle.known_literals.specs.Rows.{clause_in, AreRows};
+ghost use Rattle.implied_literals.specs.Rows.{clause_in, AreRows};
 ghost use Rattle.two_invariants.specs.Listed.{is_from};
 
-use bit_rows::row::BitRow;
+use bit_sets::row::BitRow;
 use gt_core::memory::Memory;
 use gt_core::pairs::Pairs;
 use std::alloc::Global;

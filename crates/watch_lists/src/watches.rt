@@ -14,7 +14,7 @@ use clause_base::clause::Clause;
 use clause_base::formula::Formula;
 use clause_base::literal::Lit;
 use clause_base::memory::Memory;
-use let_go::let_go;
+use containers::let_go;
 use propagation::propagator::Propagator;
 use std::alloc::Global;
 use std::marker::Model;

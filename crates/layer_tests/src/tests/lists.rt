@@ -1,6 +1,6 @@
 // Items, and lists, that go in and come back.
 use super::holding::{holds, is};
-use list_of::{FlatLists, ListOf};
+use containers::{FlatLists, ListOf};
 use std::alloc::Global;
 use std::process::Abort;
 

@@ -4,8 +4,8 @@ use clause_base::clause::Clause;
 use clause_base::literal::Lit;
 use clause_base::log::{Entry, Hints};
 use clause_log::log::Log;
+use clause_log::numbers::Numbers;
 use clause_log::reader::Step;
-use number_bytes::numbers::Numbers;
 use std::alloc::Global;
 use std::process::Abort;
 

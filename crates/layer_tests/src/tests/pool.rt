@@ -4,7 +4,6 @@ ghost use Rattle.crossbeam_queue.specs.Passes.{view};
 ghost use Rattle.solver_pool.specs.Ring.{IsOwnerPass, IsRingPass, IsSlice};
 
 use super::holding::holds;
-use noting_gates::{CountGate, PairGate};
 use solver_pool::{
     CountRun, Gate, Job, Jobs, OpenGate, Opened, Pass, Resume, Ring, Served, round, serve_one,
 };
@@ -12,6 +11,7 @@ use std::alloc::Global;
 use std::process::Abort;
 use std::sync::Wait;
 use std::thread::Threads;
+use test_gates::{CountGate, PairGate};
 
 /// A job of a run that counts: its horizon, the units that it needs, and its target.
 type Row = (u32, u64, u16);

@@ -3,12 +3,12 @@ ghost use Rattle.std.specs.Prelude.{◌≡◌, false, nat_lt};
 ghost use Rattle.solver_pool.specs.CountRun.{count_moved, count_state, count_state-unsettled};
 
 use super::holding::holds;
-use noting_gates::Notes;
 use solver_pool::{CountRun, Job, Jobs, Memory, Resume, round};
 use std::alloc::Global;
 use std::process::Abort;
 use std::sync::Wait;
 use std::thread::Threads;
+use test_gates::Notes;
 
 /// A run that counts, and tells of each time that it is advanced.
 #[derive(Drop)]

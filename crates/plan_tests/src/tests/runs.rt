@@ -1,5 +1,4 @@
 // Runs of the planner in memory.
-use noting_gates::{CountGate, Notes, PairGate};
 use pl_io::{Bytes, Files, MemShelf, MemSink, NamedFile, Numbers};
 use plan_top::run;
 use poll_run::NoDriver;
@@ -8,6 +7,7 @@ use std::alloc::Global;
 use std::process::Abort;
 use std::sync::Wait;
 use std::thread::Threads;
+use test_gates::{CountGate, Notes, PairGate};
 
 /// A file's name and its bytes.
 pub(crate) type Named<'a> = (&'a str, &'a [u8]);

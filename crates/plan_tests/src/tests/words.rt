@@ -1,7 +1,7 @@
 // The files that words name.
 use super::runs::{holds, split};
-use plan_words::laws::laws;
-use plan_words::{Request, read_words};
+use requests::laws::laws;
+use requests::{Request, read_words};
 
 // Whether a file is named, by this name.
 fn is_file(request: &Request<'_>, number: usize, name: &str) -> bool {

@@ -1,6 +1,6 @@
 use Rattle.std.proofs.Common.{◌||◌, ◌+◌, Bool, ℕ, drop, ap, sym, ◌∙◌}
 use Rattle.std.proofs.Math.Bool.{or_assoc}
-use Rattle.bit_rows.specs.Bits.{row_has}
+use Rattle.bit_sets.specs.Rows.{row_has}
 use Rattle.gt_core.specs.Task.{Effect}
 use Rattle.action_order.specs.Edges.{is_reader, is_touched}
 use Rattle.action_order.proofs.GrowLaw.{any_left}

@@ -1,5 +1,5 @@
 use Rattle.std.proofs.Common.{◌≡◌, ◌||◌, ℕ, drop}
-use Rattle.bit_rows.specs.Bits.{row_has}
+use Rattle.bit_sets.specs.Rows.{row_has}
 use Rattle.action_order.specs.Edges.{is_touched}
 use Rattle.action_order.proofs.edges.add_touched.Given as goal
 

@@ -1,7 +1,7 @@
 use Rattle.std.proofs.Common.{◌<◌, ◌+◌, ◌&&◌, not, ◌∙◌, ℕ, List, Bool, [], length, drop, ap, sym}
 use Rattle.std.specs.List.{list_any}
 use Rattle.std.proofs.lemmas.List.{get_or_read, at_drop_more}
-use Rattle.bit_rows.specs.Bits.{row_has}
+use Rattle.bit_sets.specs.Rows.{row_has}
 use Rattle.gt_core.proofs.Lists.{each_number}
 use Rattle.action_order.specs.Graph.{row_at, item}
 use Rattle.action_order.proofs.GrowLaw.{less_both}

@@ -1,5 +1,5 @@
 use Rattle.std.proofs.Common.{◌≡◌, ◌&&◌, ℕ, not, drop}
-use Rattle.bit_rows.specs.Bits.{row_has}
+use Rattle.bit_sets.specs.Rows.{row_has}
 use Rattle.action_order.specs.Edges.{is_opposed}
 use Rattle.action_order.proofs.edges.take_out_opposed.Given as goal
 

@@ -1,7 +1,7 @@
 use Rattle.std.proofs.Common.{◌&&◌, ◌||◌, ◌∙◌, ℕ, List, Bool, [], ap, sym}
 use Rattle.std.proofs.Math.Bool.{or_comm}
 use Rattle.std.proofs.lemmas.List.{get_or_read}
-use Rattle.bit_rows.specs.Bits.{row_has}
+use Rattle.bit_sets.specs.Rows.{row_has}
 use Rattle.action_order.specs.Graph.{row_at}
 use Rattle.action_order.proofs.readers.add_excluded.Goals as goal
 

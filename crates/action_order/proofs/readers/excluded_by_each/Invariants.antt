@@ -1,5 +1,5 @@
 use Rattle.std.proofs.Common.{◌≡◌, ℕ}
-use Rattle.bit_rows.specs.Bits.{row_has}
+use Rattle.bit_sets.specs.Rows.{row_has}
 use Rattle.action_order.specs.Readers.{is_excluded}
 use Rattle.action_order.proofs.readers.excluded_by_each.Given as goal
 

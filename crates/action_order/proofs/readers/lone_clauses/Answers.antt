@@ -1,5 +1,5 @@
 use Rattle.std.proofs.Common.{◌≡◌, ◌==◌, ◌&&◌, ◌||◌, ◌∙◌, ℕ, List, Bool, true, false, ap, sym}
-use Rattle.bit_rows.specs.Bits.{row_has}
+use Rattle.bit_sets.specs.Rows.{row_has}
 use Rattle.gt_core.specs.Interference.{has_clause}
 use Rattle.action_order.proofs.ReadersLaw.{upto_more}
 use Rattle.action_order.proofs.readers.lone_clauses.Goals as goal

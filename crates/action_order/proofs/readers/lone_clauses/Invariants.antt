@@ -1,6 +1,6 @@
 use Rattle.std.proofs.Common.{◌≡◌, ◌&&◌, ℕ}
 use Rattle.std.specs.Prelude.{nat_lt}
-use Rattle.bit_rows.specs.Bits.{row_has}
+use Rattle.bit_sets.specs.Rows.{row_has}
 use Rattle.gt_core.specs.Interference.{has_clause}
 use Rattle.action_order.proofs.readers.lone_clauses.Given as goal
 

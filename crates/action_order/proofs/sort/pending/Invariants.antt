@@ -1,5 +1,5 @@
 use Rattle.std.proofs.Common.{◌≡◌, ◌-◌, ◌<◌, ◌≤◌, ℕ, true, length}
-use Rattle.bit_rows.specs.Bits.{row_has}
+use Rattle.bit_sets.specs.Rows.{row_has}
 use Rattle.action_order.specs.Graph.{class_at}
 use Rattle.action_order.specs.Sorting.{is_taken}
 use Rattle.action_order.proofs.sort.pending.Given as goal

@@ -1,7 +1,7 @@
 use Rattle.std.proofs.Common.{◌∙◌, ◌++◌, ◌<◌, ◌+◌, ap, sym, subst, List, ℕ, map, length, take, drop, get_or}
 use Rattle.std.proofs.lemmas.List.{drop_more, take_more}
 use Rattle.clause_base.specs.declared.log.Entry.TheVariants.{Drop}
-use Rattle.number_bytes.proofs.NumbersLaws.{first_still}
+use Rattle.clause_log.proofs.NumbersLaws.{first_still}
 use Rattle.clause_log.specs.Held.{log_bytes, AreSmall}
 use Rattle.clause_log.proofs.HeldLaws.{drops_told, drops_small}
 use Rattle.clause_log.proofs.steps.put_drops.Goals as goal

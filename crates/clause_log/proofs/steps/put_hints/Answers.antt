@@ -1,6 +1,6 @@
 use Rattle.std.proofs.Common.{◌*◌, length}
-use Rattle.number_bytes.specs.Number.{bytes_of}
-use Rattle.number_bytes.proofs.NumbersLaws.{first_still}
+use Rattle.clause_log.specs.Number.{bytes_of}
+use Rattle.clause_log.proofs.NumbersLaws.{first_still}
 use Rattle.clause_log.proofs.HeldLaws.{both_by}
 use Rattle.clause_log.proofs.steps.put_hints.Goals as goal
 

@@ -1,4 +1,4 @@
-use Rattle.number_bytes.proofs.NumbersLaws.{first_still}
+use Rattle.clause_log.proofs.NumbersLaws.{first_still}
 use Rattle.clause_log.proofs.HeldLaws.{both_by}
 use Rattle.clause_log.proofs.steps.put_learned.Goals as goal
 

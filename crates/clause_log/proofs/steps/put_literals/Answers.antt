@@ -1,7 +1,7 @@
 use Rattle.std.proofs.Common.{arith, ◌<◌, ◌^◌, ◌≡◌, ◌∙◌, get_or, ℕ, length, subst, rules}
 use Rattle.std.proofs.lemmas.List.{get_or_default}
 use Rattle.std.proofs.lemmas.List.Elements.{All-more}
-use Rattle.number_bytes.proofs.NumbersLaws.{first_still, first_more, steps_next}
+use Rattle.clause_log.proofs.NumbersLaws.{first_still, first_more, steps_next}
 use Rattle.clause_log.proofs.steps.put_literals.Goals as goal
 
 pub put_step_within-requires : goal.put_step_within-requires

@@ -1,6 +1,6 @@
 use Rattle.std.proofs.Common.{◌≡◌, ◌++◌, ◌+◌, ◌-◌, ◌*◌, ◌<◌, ◌≤◌, ◌^◌, length, take, drop, All}
 use Rattle.std.specs.Prelude.{vec_capacity}
-use Rattle.number_bytes.specs.Numbers.{steps_of}
+use Rattle.clause_log.specs.Numbers.{steps_of}
 use Rattle.clause_log.proofs.steps.put_literals.Given as goal
 
 -- what is written and the steps of what is left are the whole, and there is room for five bytes of each literal that is left

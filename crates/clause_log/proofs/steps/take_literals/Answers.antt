@@ -1,6 +1,6 @@
 use Rattle.std.proofs.Common.{arith, ◌≡◌, ◌-◌, ◌+◌, suc, ℕ, List, length, ap}
 use Rattle.std.proofs.lemmas.List.{length_push}
-use Rattle.number_bytes.proofs.NumbersLaws.{numbers_next, after_next}
+use Rattle.clause_log.proofs.NumbersLaws.{numbers_next, after_next}
 use Rattle.clause_log.proofs.steps.take_literals.Goals as goal
 
 pub loop-preserved : goal.loop-preserved

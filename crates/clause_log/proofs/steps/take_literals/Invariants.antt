@@ -1,6 +1,6 @@
 use Rattle.std.proofs.Common.{◌≡◌, ◌++◌, ◌+◌, ◌-◌, ◌≤◌, length}
 use Rattle.std.specs.Prelude.{vec_capacity}
-use Rattle.number_bytes.specs.Numbers.{numbers_of, after_numbers}
+use Rattle.clause_log.specs.Numbers.{numbers_of, after_numbers}
 use Rattle.clause_log.proofs.steps.take_literals.Given as goal
 
 -- what was read and what is left are the whole, and there is room for what is left

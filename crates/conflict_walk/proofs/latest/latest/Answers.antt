@@ -1,5 +1,5 @@
 use Rattle.std.proofs.Common.{arith, ◌-◌, ◌+◌, ◌*◌, ◌/◌, ◌<◌, length, get_or, ◌&&◌, Bool, not, ap, ◌∙◌, refl}
-use Rattle.number_bits.specs.Bits.{word_has}
+use Rattle.bit_sets.specs.Layered.{word_has}
 use Rattle.conflict_walk.proofs.Sought.{sought_first, sought_next, sought_none, sought_found}
 use Rattle.conflict_walk.proofs.latest.latest.Goals as goal
 

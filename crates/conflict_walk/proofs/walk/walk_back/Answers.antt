@@ -3,7 +3,7 @@ use Rattle.std.proofs.lemmas.List.{reverse-append}
 use Rattle.std.proofs.lemmas.Option.{unwrap_or-slice_get}
 use Rattle.cdcl_rules.specs.State.{clause_at}
 use Rattle.cdcl_rules.specs.Learn.{Learned, walk, resolvent}
-use Rattle.number_bits.specs.Bits.{words_have}
+use Rattle.bit_sets.specs.Layered.{words_have}
 use Rattle.conflict_walk.specs.Resolvent.{literals, seen}
 use Rattle.conflict_walk.proofs.Steps.{learned_same, stop_at}
 use Rattle.conflict_walk.proofs.Walking.{walk_at, walk_end, walk_stops}

@@ -1,5 +1,5 @@
 use Rattle.std.proofs.Common.{◌≡◌, ◌≤◌, ◌∙◌, ap, List, ℕ, subst, sym}
-use Rattle.grounding.specs.Tuples.{saturated}
+use Rattle.grounding_laws.specs.Tuples.{saturated}
 use Rattle.grounder.specs.Bindings.{size}
 use Rattle.grounder.proofs.Few.{size_of_types, few_fits}
 use Rattle.grounder.proofs.bindings.bindings_of.Goals as goal

@@ -1,5 +1,5 @@
 use Rattle.std.proofs.Common.{◌≡◌, ◌*◌, ◌-◌, ◌^◌, ◌≤◌, drop}
-use Rattle.grounding.specs.Tuples.{saturated}
+use Rattle.grounding_laws.specs.Tuples.{saturated}
 use Rattle.grounder.specs.Bindings.{size}
 use Rattle.grounder.proofs.bindings.size_of.Given as goal
 

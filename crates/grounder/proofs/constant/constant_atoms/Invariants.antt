@@ -1,5 +1,5 @@
 use Rattle.std.proofs.Common.{take}
-use Rattle.grounding.specs.Found.{is_deleted}
+use Rattle.grounding_laws.specs.Found.{is_deleted}
 use Rattle.grounder.specs.Putting.{LeavesOut}
 use Rattle.grounder.proofs.constant.constant_atoms.Given as goal
 

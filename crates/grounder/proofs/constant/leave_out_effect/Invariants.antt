@@ -1,7 +1,7 @@
 use Rattle.std.proofs.Common.{take}
 use Rattle.std.specs.List.{list_any}
-use Rattle.grounding.specs.Instance.{changes_of}
-use Rattle.grounding.specs.Found.{deletes}
+use Rattle.grounding_laws.specs.Instance.{changes_of}
+use Rattle.grounding_laws.specs.Found.{deletes}
 use Rattle.grounder.specs.Putting.{LeavesOut}
 use Rattle.grounder.proofs.constant.leave_out_effect.Given as goal
 

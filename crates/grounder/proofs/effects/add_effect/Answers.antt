@@ -1,5 +1,5 @@
 use Rattle.std.proofs.Common.{arith, ◌∙◌, sym, ap}
-use Rattle.grounding.specs.Instance.{change_of}
+use Rattle.grounding_laws.specs.Instance.{change_of}
 use Rattle.grounder.specs.Putting.{effects_at}
 use Rattle.grounder.proofs.Placed.{placed}
 use Rattle.grounder.proofs.Put.{left_added, literal_is}

@@ -1,5 +1,5 @@
 use Rattle.std.proofs.Common.{◌≡◌, ◌++◌, take}
-use Rattle.grounding.specs.Instance.{changes_of}
+use Rattle.grounding_laws.specs.Instance.{changes_of}
 use Rattle.grounder.specs.Putting.{effects_at, left_effects}
 use Rattle.grounder.proofs.effects.add_instances.Given as goal
 

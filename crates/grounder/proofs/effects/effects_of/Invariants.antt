@@ -1,6 +1,6 @@
 use Rattle.std.proofs.Common.{◌≡◌, take}
 use Rattle.std.specs.List.{flat_map}
-use Rattle.grounding.specs.Instance.{changes_of}
+use Rattle.grounding_laws.specs.Instance.{changes_of}
 use Rattle.grounder.specs.Putting.{effects_at, left_effects}
 use Rattle.grounder.proofs.effects.effects_of.Given as goal
 

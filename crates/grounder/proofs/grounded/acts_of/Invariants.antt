@@ -1,6 +1,6 @@
 use Rattle.std.proofs.Common.{take, map}
-use Rattle.grounding.specs.Instance.{instance_of}
-use Rattle.grounding.specs.Simplify.{action_of}
+use Rattle.grounding_laws.specs.Instance.{instance_of}
+use Rattle.grounding_laws.specs.Simplify.{action_of}
 use Rattle.grounder.specs.Counted.{HasCounted}
 use Rattle.grounder.proofs.grounded.acts_of.Given as goal
 

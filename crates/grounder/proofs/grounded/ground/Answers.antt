@@ -1,8 +1,8 @@
 use Rattle.std.proofs.Common.{arith, Ok, Err, Result}
 use Rattle.std.specs.Prelude.{◌≤◌, IfOk}
-use Rattle.grounding.specs.Grounded.{Grounded}
-use Rattle.grounding.specs.Limits.{most_tuples}
-use Rattle.grounding.specs.Tuples.{tuples_in}
+use Rattle.grounding_laws.specs.Grounded.{Grounded}
+use Rattle.grounding_laws.specs.Limits.{most_tuples}
+use Rattle.grounding_laws.specs.Tuples.{tuples_in}
 use Rattle.grounder.specs.declared.grounded.GroundError.{GroundError}
 use Rattle.grounder.proofs.Saturated.{few_saturated}
 use Rattle.atom_join.proofs.Same as thinned

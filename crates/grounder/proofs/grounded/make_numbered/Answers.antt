@@ -1,9 +1,9 @@
 use Rattle.std.proofs.Common.{arith, ◌≡◌, ◌∙◌, refl, ap, sym, subst, length}
 use Rattle.std.specs.List.{list_all}
-use Rattle.grounding.specs.Instance.{instance_of}
-use Rattle.grounding.specs.Found.{may_be_true, actions_of, grounded_by}
-use Rattle.grounding.specs.Simplify.{task_of}
-use Rattle.grounding.specs.Tuples.{saturated}
+use Rattle.grounding_laws.specs.Instance.{instance_of}
+use Rattle.grounding_laws.specs.Found.{may_be_true, actions_of, grounded_by}
+use Rattle.grounding_laws.specs.Simplify.{task_of}
+use Rattle.grounding_laws.specs.Tuples.{saturated}
 use Rattle.gt_core.specs.Lawful.{conditional_in}
 use Rattle.grounder.specs.Few.{HaveFew}
 use Rattle.grounder.proofs.Few.{kept_few, left_few}

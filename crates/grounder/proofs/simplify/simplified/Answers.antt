@@ -2,9 +2,9 @@ use Rattle.std.proofs.Common.{arith, ◌∙◌, ap}
 use Rattle.std.specs.Prelude.{nat_eq, nat_lt, filter_map}
 use Rattle.std.proofs.lemmas.List.{take_all}
 use Rattle.std.proofs.lemmas.List.Filters.{dedup_is}
-use Rattle.grounding.specs.Instance.{literals_of}
-use Rattle.grounding.specs.Simplify.{number_of}
-use Rattle.grounding.specs.Sorted.{sorted_set}
+use Rattle.grounding_laws.specs.Instance.{literals_of}
+use Rattle.grounding_laws.specs.Simplify.{number_of}
+use Rattle.grounding_laws.specs.Sorted.{sorted_set}
 use Rattle.grounder.specs.Putting.{add_literal}
 use Rattle.grounder.proofs.Compared.{numbers_sorted}
 use Rattle.grounder.proofs.Put.{literal_more}

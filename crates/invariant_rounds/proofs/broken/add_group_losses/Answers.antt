@@ -1,12 +1,12 @@
 use Rattle.std.proofs.Common.{arith, ◌≡◌, ◌∙◌, ◌*◌, ◌<◌, ◌⊎◌, inl, inr, ap, sym, subst, not, true, length, ◌&&◌, ◌||◌, Bool, ℕ}
 use Rattle.std.specs.List.{list_all}
-use Rattle.bit_rows.specs.Bits.{row_has}
+use Rattle.bit_sets.specs.Rows.{row_has}
 use Rattle.gt_core.specs.Literal.{opposite}
-use Rattle.known_literals.specs.Breaks.{is_add}
-use Rattle.known_literals.specs.Rows.{clause_in}
-use Rattle.known_literals.specs.Tested.{with_more, has_no_pair}
+use Rattle.implied_literals.specs.Breaks.{is_add}
+use Rattle.implied_literals.specs.Rows.{clause_in}
+use Rattle.implied_literals.specs.Tested.{with_more, has_no_pair}
 use Rattle.invariant_rounds.specs.Groups.{group_with, may_lose, may_take_by, is_sure_by}
-use Rattle.known_literals.proofs.Exact.{pair_test_is}
+use Rattle.implied_literals.proofs.Exact.{pair_test_is}
 use Rattle.invariant_rounds.proofs.Steps.{more_within, and_true}
 use Rattle.gt_core.proofs.Basics.{or_split}
 use Rattle.invariant_rounds.proofs.Grouping.{none_lost}

@@ -1,9 +1,9 @@
 use Rattle.std.proofs.Common.{◌≡◌, ◌∙◌, ◌==◌, ◌&&◌, ◌||◌, not, ap, sym, Bool, ℕ, [], true, false, refl}
 use Rattle.std.proofs.lemmas.List.{get_or_read}
-use Rattle.bit_rows.specs.Bits.{row_has}
+use Rattle.bit_sets.specs.Rows.{row_has}
 use Rattle.gt_core.proofs.Basics.{test_same}
-use Rattle.known_literals.specs.Breaks.{is_add}
-use Rattle.known_literals.specs.Rows.{clause_in, row_at}
+use Rattle.implied_literals.specs.Breaks.{is_add}
+use Rattle.implied_literals.specs.Rows.{clause_in, row_at}
 use Rattle.invariant_rounds.proofs.Dropping.{row_more}
 use Rattle.invariant_rounds.proofs.broken.add_loss.Goals as goal
 

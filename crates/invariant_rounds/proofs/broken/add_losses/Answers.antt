@@ -1,7 +1,7 @@
 use Rattle.std.proofs.Common.{◌≡◌, ◌&&◌, not, ap, Bool, ℕ, true, refl, subst, ◌||◌, ◌∙◌, inl, inr, false, sym}
-use Rattle.bit_rows.specs.Bits.{row_has}
-use Rattle.known_literals.specs.Breaks.{is_add}
-use Rattle.known_literals.specs.Rows.{clause_in}
+use Rattle.bit_sets.specs.Rows.{row_has}
+use Rattle.implied_literals.specs.Breaks.{is_add}
+use Rattle.implied_literals.specs.Rows.{clause_in}
 use Rattle.invariant_rounds.proofs.Grouping.{lost_next, own_part, part_none}
 use Rattle.std.specs.Prelude.{nat_lt}
 use Rattle.std.proofs.lemmas.Bool.{cases_lt, lt-ltb}

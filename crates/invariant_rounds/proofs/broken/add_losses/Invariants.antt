@@ -1,8 +1,8 @@
 use Rattle.std.proofs.Common.{◌≡◌, ◌&&◌, ◌||◌, ◌-◌, ◌*◌, not, ℕ, length}
 use Rattle.std.specs.Prelude.{nat_lt}
-use Rattle.bit_rows.specs.Bits.{row_has}
-use Rattle.known_literals.specs.Breaks.{is_add}
-use Rattle.known_literals.specs.Rows.{clause_in}
+use Rattle.bit_sets.specs.Rows.{row_has}
+use Rattle.implied_literals.specs.Breaks.{is_add}
+use Rattle.implied_literals.specs.Rows.{clause_in}
 use Rattle.invariant_rounds.proofs.broken.add_losses.Given as goal
 
 abbrev pub invariant-loop-l : goal.invariant-loop-l

@@ -1,17 +1,17 @@
 use Rattle.std.proofs.Common.{◌≡◌, ◌∙◌, ◌*◌, ◌<◌, ◌==◌, ◌&&◌, ◌||◌, ap, sym, subst, refl, true, false, not, length, Bool, ℕ, List}
 use Rattle.std.specs.List.{AllByRecursion, list_all}
-use Rattle.bit_rows.specs.Bits.{row_has, IsPairAcross}
+use Rattle.bit_sets.specs.Rows.{row_has, IsPairAcross}
 use Rattle.gt_core.specs.Literal.{opposite}
 use Rattle.gt_core.specs.Task.{Effect}
-use Rattle.known_literals.specs.Rows.{clause_in}
-use Rattle.known_literals.specs.Tested.{EffectFits, AreRowsOf, with_more, has_no_pair, breaks_by}
+use Rattle.implied_literals.specs.Rows.{clause_in}
+use Rattle.implied_literals.specs.Tested.{EffectFits, AreRowsOf, with_more, has_no_pair, breaks_by}
 use Rattle.invariant_rounds.specs.Plain.{breaks_plainly, has_opposite}
 use Rattle.invariant_rounds.specs.Groups.{effect_with, group_with, breaks_under, GroupFits}
 use Rattle.invariant_rounds.specs.declared.groups.Group.{Group}
 use Rattle.invariant_rounds.proofs.Contradicted.{breaks_nothing}
 use Rattle.invariant_rounds.proofs.Steps.{more_within}
 use Rattle.invariant_rounds.proofs.Firm.{not_broken, nothing_more}
-use Rattle.known_literals.proofs.Exact.{pair_test_is}
+use Rattle.implied_literals.proofs.Exact.{pair_test_is}
 use Rattle.invariant_rounds.proofs.PlainEffects.{breaks_the_same}
 use Rattle.invariant_rounds.proofs.broken.add_losses_of.Goals as goal
 

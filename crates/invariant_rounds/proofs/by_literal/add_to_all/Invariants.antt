@@ -1,5 +1,5 @@
 use Rattle.std.proofs.Common.{◌≡◌, ◌<◌, ◌-◌, ℕ, true, length}
-use Rattle.bit_rows.specs.Bits.{row_has}
+use Rattle.bit_sets.specs.Rows.{row_has}
 use Rattle.invariant_rounds.specs.Numbers.{finds, FindsMore}
 use Rattle.invariant_rounds.proofs.by_literal.add_to_all.Given as goal
 

@@ -1,11 +1,11 @@
 use Rattle.std.proofs.Common.{arith, ◌≡◌, ◌∙◌, ◌≤◌, ◌<◌, ◌+◌, ◌==◌, ◌&&◌, ◌||◌, ◌⊎◌, inl, inr, not, ap, subst, sym, Bool, true, false, ℕ, List, []}
 use Rattle.std.proofs.lemmas.List.{get_or_read}
 use Rattle.std.proofs.lemmas.Bool.{cases_lt}
-use Rattle.bit_rows.specs.Bits.{row_has}
+use Rattle.bit_sets.specs.Rows.{row_has}
 use Rattle.gt_core.specs.Literal.{opposite}
 use Rattle.gt_core.proofs.Basics.{or_left}
-use Rattle.known_literals.specs.Rows.{clause_in}
-use Rattle.known_literals.proofs.Steps.{past_rows}
+use Rattle.implied_literals.specs.Rows.{clause_in}
+use Rattle.implied_literals.proofs.Steps.{past_rows}
 use Rattle.invariant_rounds.proofs.Dropping.{still_either, dropped_twice, some_of, none_of, row_lost, rows_lost}
 use Rattle.invariant_rounds.proofs.drop.drop_lost.Goals as goal
 use Rattle.invariant_rounds.proofs.drop.drop_lost.Goals.{then-dropped, else-dropped}

@@ -1,7 +1,7 @@
 use Rattle.std.proofs.Common.{◌≡◌, ◌==◌, ◌&&◌, ◌||◌, ◌∙◌, not, true, false, refl, sym, Bool, ap, ℕ}
-use Rattle.bit_rows.specs.Bits.{row_has}
-use Rattle.known_literals.specs.Rows.{clause_in}
-use Rattle.known_literals.proofs.Steps.{nothing_in}
+use Rattle.bit_sets.specs.Rows.{row_has}
+use Rattle.implied_literals.specs.Rows.{clause_in}
+use Rattle.implied_literals.proofs.Steps.{nothing_in}
 use Rattle.gt_core.proofs.Basics.{apart}
 use Rattle.invariant_rounds.proofs.Dropping.{dropped_twice, row_dropped}
 use Rattle.invariant_rounds.proofs.Grouping.{some_in}

@@ -1,6 +1,6 @@
 use Rattle.std.proofs.Common.{◌==◌, ◌&&◌, ◌||◌, not, ◌∙◌, ℕ, List, [], ap}
 use Rattle.std.proofs.lemmas.List.{get_or_read}
-use Rattle.bit_rows.specs.Bits.{row_has}
+use Rattle.bit_sets.specs.Rows.{row_has}
 use Rattle.invariant_rounds.proofs.Dropping.{row_less}
 use Rattle.invariant_rounds.proofs.drop.take_all_out.Goals as goal
 

@@ -1,8 +1,8 @@
 use Rattle.std.proofs.Common.{◌==◌, ◌&&◌, ◌||◌, not, ◌∙◌, ℕ, List, [], ap}
 use Rattle.std.proofs.Math.Bool.{and_comm}
 use Rattle.std.proofs.lemmas.List.{get_or_read}
-use Rattle.bit_rows.specs.Bits.{row_has}
-use Rattle.known_literals.specs.Rows.{row_at}
+use Rattle.bit_sets.specs.Rows.{row_has}
+use Rattle.implied_literals.specs.Rows.{row_at}
 use Rattle.invariant_rounds.proofs.Dropping.{row_less}
 use Rattle.invariant_rounds.proofs.drop.take_out.Goals as goal
 

@@ -1,7 +1,7 @@
 use Rattle.std.proofs.Common.{◌≡◌, ◌∙◌, ◌==◌, ◌&&◌, subst, true, ℕ}
-use Rattle.bit_rows.specs.Bits.{row_has}
+use Rattle.bit_sets.specs.Rows.{row_has}
 use Rattle.gt_core.proofs.Basics.{and_split}
-use Rattle.known_literals.specs.Rows.{clause_in}
+use Rattle.implied_literals.specs.Rows.{clause_in}
 use Rattle.invariant_rounds.proofs.Grouping.{taken_next, taken_all, own_part}
 use Rattle.invariant_rounds.proofs.Dropping.{not_in_row, dropped_twice, row_dropped}
 use Rattle.invariant_rounds.proofs.drop.take_out_of_all.Goals as goal

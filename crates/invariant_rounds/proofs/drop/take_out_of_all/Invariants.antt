@@ -1,7 +1,7 @@
 use Rattle.std.proofs.Common.{◌≡◌, ◌==◌, ◌&&◌, ◌-◌, not, ℕ, length}
 use Rattle.std.specs.Prelude.{nat_lt}
-use Rattle.bit_rows.specs.Bits.{row_has, room}
-use Rattle.known_literals.specs.Rows.{clause_in}
+use Rattle.bit_sets.specs.Rows.{row_has, room}
+use Rattle.implied_literals.specs.Rows.{clause_in}
 use Rattle.invariant_rounds.specs.Losses.{IsDropped}
 use Rattle.invariant_rounds.proofs.drop.take_out_of_all.Given as goal
 

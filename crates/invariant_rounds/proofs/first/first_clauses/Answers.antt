@@ -1,7 +1,7 @@
 use Rattle.std.proofs.Common.{arith, rules, ◌≡◌, ◌∙◌, ◌*◌, ℕ, List, length, subst, sym}
-use Rattle.bit_rows.specs.Bits.{row_has}
+use Rattle.bit_sets.specs.Rows.{row_has}
 use Rattle.gt_core.specs.Literal.{state_of}
-use Rattle.known_literals.specs.Rows.{clause_in}
+use Rattle.implied_literals.specs.Rows.{clause_in}
 use Rattle.invariant_rounds.specs.First.{is_first}
 use Rattle.gt_core.proofs.Lists.{pushed_each}
 use Rattle.invariant_rounds.proofs.Steps.{first_everywhere, first_are_rows}

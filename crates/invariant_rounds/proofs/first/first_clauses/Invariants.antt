@@ -1,6 +1,6 @@
 use Rattle.std.proofs.Common.{◌≡◌, ◌<◌, ℕ, length}
 use Rattle.gt_core.specs.Literal.{state_of}
-use Rattle.known_literals.specs.Rows.{clause_in}
+use Rattle.implied_literals.specs.Rows.{clause_in}
 use Rattle.invariant_rounds.specs.First.{is_first}
 use Rattle.invariant_rounds.proofs.first.first_clauses.Given as goal
 

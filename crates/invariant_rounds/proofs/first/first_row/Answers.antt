@@ -1,5 +1,5 @@
 use Rattle.std.proofs.Common.{◌∙◌, ap, sym, not, ◌&&◌, ◌==◌, Bool, ℕ, List, length}
-use Rattle.bit_rows.specs.Bits.{row_has}
+use Rattle.bit_sets.specs.Rows.{row_has}
 use Rattle.gt_core.specs.Literal.{opposite, state_of}
 use Rattle.invariant_rounds.proofs.Steps.{first_true, first_false}
 use Rattle.invariant_rounds.proofs.first.first_row.Goals as goal

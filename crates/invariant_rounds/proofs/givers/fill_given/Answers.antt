@@ -1,6 +1,6 @@
 use Rattle.std.proofs.Common.{◌&&◌, inl, inr, arith, ◌≡◌, ◌==◌, ◌∙◌, ℕ, List, ap, sym}
 use Rattle.std.proofs.lemmas.Bool.{cases_lt}
-use Rattle.bit_rows.specs.Bits.{row_has}
+use Rattle.bit_sets.specs.Rows.{row_has}
 use Rattle.gt_core.proofs.Basics.{apart, and_split, and_both}
 use Rattle.invariant_rounds.proofs.Indexing.{all_given}
 use Rattle.std.specs.List.{list_any}

@@ -1,7 +1,7 @@
 use Rattle.std.proofs.Common.{◌≡◌, ◌<◌, ◌-◌, ℕ, true}
 use Rattle.std.specs.List.{list_all}
-use Rattle.bit_rows.specs.Bits.{row_has}
-use Rattle.known_literals.specs.Rows.{IsPart}
+use Rattle.bit_sets.specs.Rows.{row_has}
+use Rattle.implied_literals.specs.Rows.{IsPart}
 use Rattle.invariant_rounds.specs.Groups.{group_with}
 use Rattle.invariant_rounds.specs.Numbers.{finds}
 use Rattle.invariant_rounds.specs.Index.{IsNumbered, gives_in}

@@ -1,6 +1,6 @@
 use Rattle.std.proofs.Common.{◌≡◌, drop}
 use Rattle.std.specs.List.{list_all}
-use Rattle.bit_rows.specs.Bits.{row_has}
+use Rattle.bit_sets.specs.Rows.{row_has}
 use Rattle.invariant_rounds.proofs.givers.first_unknown.Given as goal
 
 abbrev pub invariant-loop-lit : goal.invariant-loop-lit

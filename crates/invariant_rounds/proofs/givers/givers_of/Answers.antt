@@ -1,6 +1,6 @@
 use Rattle.std.proofs.Common.{length, refl, arith, ◌≡◌, ℕ, subst}
 use Rattle.std.proofs.lemmas.Option.{slice_get_read}
-use Rattle.bit_rows.specs.Bits.{row_has}
+use Rattle.bit_sets.specs.Rows.{row_has}
 use Rattle.invariant_rounds.proofs.Counting.{more_givers}
 use Rattle.invariant_rounds.specs.Index.{AreGivers}
 use Rattle.invariant_rounds.proofs.givers.givers_of.Goals as goal

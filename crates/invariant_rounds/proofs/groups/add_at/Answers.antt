@@ -1,5 +1,5 @@
 use Rattle.std.proofs.Common.{◌∙◌, ◌&&◌, ◌==◌, ap}
-use Rattle.bit_rows.specs.Bits.{row_has}
+use Rattle.bit_sets.specs.Rows.{row_has}
 use Rattle.invariant_rounds.specs.Groups.{GroupFits}
 use Rattle.invariant_rounds.specs.declared.groups.Group.{Group}
 use Rattle.invariant_rounds.proofs.Grouping.{any_changed, all_changed, all_read, group_more, more_fits}

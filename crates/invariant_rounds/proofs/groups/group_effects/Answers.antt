@@ -1,5 +1,5 @@
 use Rattle.std.proofs.Common.{◌∙◌}
-use Rattle.known_literals.specs.Tested.{EffectFits}
+use Rattle.implied_literals.specs.Tested.{EffectFits}
 use Rattle.invariant_rounds.proofs.Grouping.{effects_more, all_read}
 use Rattle.invariant_rounds.proofs.groups.group_effects.Goals as goal
 

@@ -1,6 +1,6 @@
 use Rattle.std.proofs.Common.{◌≡◌, ◌||◌, ℕ, List, Bool, drop}
 use Rattle.std.specs.List.{AllByRecursion}
-use Rattle.known_literals.specs.Tested.{EffectFits}
+use Rattle.implied_literals.specs.Tested.{EffectFits}
 use Rattle.invariant_rounds.specs.Groups.{effect_with, group_with, GroupFits}
 use Rattle.invariant_rounds.proofs.groups.group_effects.Given as goal
 

@@ -1,9 +1,9 @@
 use Rattle.std.proofs.Common.{arith, ◌≡◌, ◌∙◌, ◌+◌, ◌≤◌, ◌<◌, ◌⊎◌, inl, inr, ap, subst, true, ℕ, List, []}
 use Rattle.std.proofs.lemmas.List.{get_or_read}
 use Rattle.std.proofs.lemmas.Bool.{cases_lt, OnTrue_at}
-use Rattle.bit_rows.specs.Bits.{row_has}
+use Rattle.bit_sets.specs.Rows.{row_has}
 use Rattle.gt_core.proofs.Basics.{apart}
-use Rattle.known_literals.specs.Rows.{clause_in}
+use Rattle.implied_literals.specs.Rows.{clause_in}
 use Rattle.invariant_rounds.proofs.harmless.are_among.Goals as goal
 
 pub loop-l-preserved : goal.loop-l-preserved

@@ -1,6 +1,6 @@
 use Rattle.std.proofs.Common.{◌≡◌, ◌-◌, ◌<◌, true, ℕ, length}
-use Rattle.bit_rows.specs.Bits.{row_has}
-use Rattle.known_literals.specs.Rows.{clause_in}
+use Rattle.bit_sets.specs.Rows.{row_has}
+use Rattle.implied_literals.specs.Rows.{clause_in}
 use Rattle.invariant_rounds.proofs.harmless.are_among.Given as goal
 
 abbrev pub invariant-loop-l : goal.invariant-loop-l

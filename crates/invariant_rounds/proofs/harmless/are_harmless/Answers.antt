@@ -1,6 +1,6 @@
 use Rattle.std.proofs.Common.{◌∙◌, ◌&&◌, not, ap, sym, ℕ, List}
 use Rattle.std.proofs.lemmas.Bool.{OnTrue_at}
-use Rattle.bit_rows.specs.Bits.{row_has}
+use Rattle.bit_sets.specs.Rows.{row_has}
 use Rattle.invariant_rounds.specs.Plain.{has_opposite}
 use Rattle.invariant_rounds.proofs.harmless.are_harmless.Goals as goal
 

@@ -1,12 +1,12 @@
 use Rattle.std.proofs.Common.{arith, ◌≡◌, ◌∙◌, ◌==◌, ◌<◌, ◌*◌, ◌+◌, ◌⊎◌, inl, inr, ap, subst, sym, true, false, ℕ, List, [], drop}
 use Rattle.std.proofs.lemmas.List.{get_or_read, drop_all}
 use Rattle.std.proofs.lemmas.Bool.{OnTrue_at}
-use Rattle.bit_rows.specs.Bits.{row_has}
+use Rattle.bit_sets.specs.Rows.{row_has}
 use Rattle.gt_core.specs.Literal.{opposite}
 use Rattle.gt_core.specs.Task.{Effect}
 use Rattle.gt_core.proofs.Basics.{or_split, test_same}
-use Rattle.known_literals.specs.Rows.{clause_in}
-use Rattle.known_literals.specs.Tested.{EffectFits}
+use Rattle.implied_literals.specs.Rows.{clause_in}
+use Rattle.implied_literals.specs.Tested.{EffectFits}
 use Rattle.invariant_rounds.specs.Plain.{has_opposite}
 use Rattle.invariant_rounds.proofs.Grouping.{all_read}
 use Rattle.invariant_rounds.proofs.Steps.{any_rest}

@@ -1,6 +1,6 @@
 use Rattle.std.proofs.Common.{◌≡◌, true, ℕ, drop}
-use Rattle.bit_rows.specs.Bits.{row_has}
-use Rattle.known_literals.specs.Rows.{clause_in}
+use Rattle.bit_sets.specs.Rows.{row_has}
+use Rattle.implied_literals.specs.Rows.{clause_in}
 use Rattle.invariant_rounds.specs.Plain.{has_opposite}
 use Rattle.invariant_rounds.proofs.harmless.are_opposites_among.Given as goal
 

@@ -1,6 +1,6 @@
 use Rattle.std.proofs.Common.{◌≡◌, ◌∙◌, not, ap, sym, true, false, refl, Bool}
 use Rattle.std.proofs.lemmas.Bool.{OnTrue_at}
-use Rattle.bit_rows.specs.Bits.{row_has}
+use Rattle.bit_sets.specs.Rows.{row_has}
 use Rattle.gt_core.proofs.Basics.{and_split}
 use Rattle.invariant_rounds.proofs.harmless.is_harmless.Goals as goal
 

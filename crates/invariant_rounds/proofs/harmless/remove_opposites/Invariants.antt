@@ -1,5 +1,5 @@
 use Rattle.std.proofs.Common.{◌≡◌, ◌&&◌, not, ℕ, drop}
-use Rattle.bit_rows.specs.Bits.{row_has}
+use Rattle.bit_sets.specs.Rows.{row_has}
 use Rattle.invariant_rounds.specs.Plain.{has_opposite}
 use Rattle.invariant_rounds.proofs.harmless.remove_opposites.Given as goal
 

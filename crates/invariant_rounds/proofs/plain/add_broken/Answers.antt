@@ -1,10 +1,10 @@
 use Rattle.std.proofs.Common.{◌∙◌, ◌==◌, ◌<◌, ◌*◌, ◌&&◌, ◌||◌, not, ap, sym, subst, Bool, ℕ}
-use Rattle.bit_rows.specs.Bits.{row_has}
+use Rattle.bit_sets.specs.Rows.{row_has}
 use Rattle.gt_core.specs.Literal.{opposite}
 use Rattle.gt_core.specs.Task.{Effect}
-use Rattle.known_literals.specs.Breaks.{is_add}
-use Rattle.known_literals.specs.Rows.{clause_in}
-use Rattle.known_literals.specs.Tested.{EffectFits}
+use Rattle.implied_literals.specs.Breaks.{is_add}
+use Rattle.implied_literals.specs.Rows.{clause_in}
+use Rattle.implied_literals.specs.Tested.{EffectFits}
 use Rattle.invariant_rounds.proofs.Grouping.{all_read}
 use Rattle.invariant_rounds.proofs.PlainEffects.{broken_more, in_order}
 use Rattle.invariant_rounds.proofs.plain.add_broken.Goals as goal

@@ -1,6 +1,6 @@
 use Rattle.std.proofs.Common.{◌≡◌, ◌∙◌, ◌&&◌, ◌||◌, ap, not, Bool}
-use Rattle.bit_rows.specs.Bits.{row_has}
-use Rattle.known_literals.specs.Rows.{clause_in}
+use Rattle.bit_sets.specs.Rows.{row_has}
+use Rattle.implied_literals.specs.Rows.{clause_in}
 use Rattle.invariant_rounds.specs.Plain.{adds_plainly, takes_plainly}
 use Rattle.invariant_rounds.proofs.plain.add_plain_losses.Goals as goal
 

@@ -1,8 +1,8 @@
 use Rattle.std.proofs.Common.{◌∙◌, ◌==◌, ◌&&◌, not, ap, ℕ}
-use Rattle.bit_rows.specs.Bits.{row_has}
+use Rattle.bit_sets.specs.Rows.{row_has}
 use Rattle.gt_core.specs.Literal.{opposite}
 use Rattle.gt_core.specs.Task.{Effect}
-use Rattle.known_literals.specs.Breaks.{is_add}
+use Rattle.implied_literals.specs.Breaks.{is_add}
 use Rattle.invariant_rounds.proofs.Grouping.{lost_more}
 use Rattle.invariant_rounds.proofs.plain.take_opposites.Goals as goal
 

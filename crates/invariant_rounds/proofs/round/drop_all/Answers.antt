@@ -1,7 +1,7 @@
 use Rattle.std.proofs.Common.{arith, ◌≡◌, ◌∙◌, ◌&&◌, ◌||◌, ap, sym, subst, not, Bool, true, false, ℕ, ◌+◌, List, [], drop, Vec, Global}
 use Rattle.std.proofs.lemmas.List.{drop_all}
 use Rattle.gt_core.proofs.Basics.{or_left}
-use Rattle.known_literals.specs.Rows.{clause_in}
+use Rattle.implied_literals.specs.Rows.{clause_in}
 use Rattle.invariant_rounds.specs.Losses.{are_lost}
 use Rattle.invariant_rounds.proofs.Grouping.{lost_more, and_one, any_among}
 use Rattle.invariant_rounds.proofs.Steps.{any_rest}

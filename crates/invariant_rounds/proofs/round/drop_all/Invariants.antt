@@ -1,6 +1,6 @@
 use Rattle.std.proofs.Common.{◌≡◌, ◌&&◌, not, true, false, ℕ, length, drop}
-use Rattle.bit_rows.specs.Bits.{row_has, room}
-use Rattle.known_literals.specs.Rows.{clause_in}
+use Rattle.bit_sets.specs.Rows.{row_has, room}
+use Rattle.implied_literals.specs.Rows.{clause_in}
 use Rattle.invariant_rounds.specs.Losses.{are_lost, IsDropped}
 use Rattle.invariant_rounds.proofs.round.drop_all.Given as goal
 

@@ -1,12 +1,12 @@
 use Rattle.std.proofs.Common.{arith, ◌*◌, ◌<◌, ◌≡◌, sym, refl, subst, true, ℕ, List, length, Vec, Global, ◌∙◌}
-use Rattle.bit_rows.specs.Bits.{row_has}
+use Rattle.bit_sets.specs.Rows.{row_has}
 use Rattle.std.specs.List.{AllByRecursion}
 use Rattle.gt_core.specs.Task.{Action}
-use Rattle.known_literals.specs.Rows.{clause_in}
-use Rattle.known_literals.specs.declared.known.Known.{Known}
+use Rattle.implied_literals.specs.Rows.{clause_in}
+use Rattle.implied_literals.specs.declared.known.Known.{Known}
 use Rattle.gt_core.proofs.Basics.{and_split}
 use Rattle.gt_core.proofs.Lists.{each_number}
-use Rattle.known_literals.proofs.Steps.{opposite_below}
+use Rattle.implied_literals.proofs.Steps.{opposite_below}
 use Rattle.invariant_rounds.specs.Losses.{CanTest, AreAllLosses}
 use Rattle.invariant_rounds.proofs.RoundLaw.{known_fit, actions_fit, fits_at, pieces_fit, round_is}
 use Rattle.invariant_rounds.proofs.round.drop_broken.Goals as goal

@@ -1,8 +1,8 @@
 use Rattle.std.proofs.Common.{arith, ◌∙◌, ◌*◌, ◌+◌, ◌<◌, ◌&&◌, ◌||◌, length}
 use Rattle.std.specs.Prelude.{slice_index}
 use Rattle.std.proofs.lemmas.List.{get_or_read}
-use Rattle.known_literals.specs.Rows.{clause_in}
-use Rattle.known_literals.specs.Tested.{breaks_by}
+use Rattle.implied_literals.specs.Rows.{clause_in}
+use Rattle.implied_literals.specs.Tested.{breaks_by}
 use Rattle.invariant_rounds.proofs.RoundLaw.{one_more_action, losses_to}
 use Rattle.invariant_rounds.proofs.round.piece_losses.Goals as goal
 

@@ -1,6 +1,6 @@
 use Rattle.std.proofs.Common.{◌≡◌, ◌==◌, ℕ, true, false, take}
 use Rattle.std.specs.List.{list_any}
-use Rattle.bit_rows.specs.Bits.{row_has}
+use Rattle.bit_sets.specs.Rows.{row_has}
 use Rattle.invariant_rounds.specs.Index.{IsNumbered, takes_in}
 use Rattle.invariant_rounds.specs.declared.groups.Group.{Group}
 use Rattle.invariant_rounds.proofs.takers.some_takes.Given as goal

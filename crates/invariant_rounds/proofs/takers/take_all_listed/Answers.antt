@@ -1,6 +1,6 @@
 use Rattle.std.proofs.Common.{arith, ◌≡◌, ◌+◌, ◌<◌, ◌≤◌, ◌&&◌, ◌⊎◌, inl, inr, subst, true, false, ℕ}
 use Rattle.std.proofs.lemmas.Bool.{cases_lt}
-use Rattle.bit_rows.specs.Bits.{row_has}
+use Rattle.bit_sets.specs.Rows.{row_has}
 use Rattle.gt_core.proofs.Basics.{apart, cases, and_split, and_both}
 use Rattle.invariant_rounds.specs.Numbers.{finds}
 use Rattle.invariant_rounds.specs.Index.{IsNumbered, takes_in}

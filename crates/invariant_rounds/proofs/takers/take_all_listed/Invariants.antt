@@ -1,6 +1,6 @@
 use Rattle.std.proofs.Common.{◌≡◌, ◌<◌, ◌-◌, ◌*◌, ℕ, true, false}
-use Rattle.bit_rows.specs.Bits.{row_has}
-use Rattle.known_literals.specs.Rows.{IsPart}
+use Rattle.bit_sets.specs.Rows.{row_has}
+use Rattle.implied_literals.specs.Rows.{IsPart}
 use Rattle.invariant_rounds.specs.Groups.{group_with, may_lose}
 use Rattle.invariant_rounds.specs.Numbers.{finds}
 use Rattle.invariant_rounds.specs.Index.{IsNumbered, takes_in}

@@ -1,8 +1,8 @@
 use Rattle.std.proofs.Common.{arith, ◌*◌, ◌<◌, ◌==◌, length, subst, ℕ}
-use Rattle.bit_rows.specs.Bits.{row_has}
+use Rattle.bit_sets.specs.Rows.{row_has}
 use Rattle.gt_core.specs.Literal.{opposite}
 use Rattle.gt_core.proofs.Literals.{opposite_twice}
-use Rattle.known_literals.proofs.Steps.{opposite_below}
+use Rattle.implied_literals.proofs.Steps.{opposite_below}
 use Rattle.invariant_rounds.proofs.Indexing.{given_within, left_is}
 use Rattle.invariant_rounds.proofs.takers.take_all_lost.Goals as goal
 

@@ -1,7 +1,7 @@
 use Rattle.std.proofs.Common.{◌≡◌, ◌∙◌, ◌==◌, ◌&&◌, ap, sym, subst, not, true, false, refl, Bool, ℕ}
-use Rattle.bit_rows.specs.Bits.{row_has}
+use Rattle.bit_sets.specs.Rows.{row_has}
 use Rattle.gt_core.proofs.Basics.{test_same}
-use Rattle.known_literals.specs.Breaks.{is_add}
+use Rattle.implied_literals.specs.Breaks.{is_add}
 use Rattle.invariant_rounds.specs.Groups.{group_with, may_lose}
 use Rattle.invariant_rounds.proofs.Indexing.{overruled}
 use Rattle.invariant_rounds.proofs.takers.take_by_listed.Goals as goal

@@ -1,7 +1,7 @@
 use Rattle.std.proofs.Common.{◌≡◌, ◌&&◌, not, Bool, ℕ, true, subst, arith}
-use Rattle.bit_rows.specs.Bits.{row_has}
+use Rattle.bit_sets.specs.Rows.{row_has}
 use Rattle.gt_core.proofs.Basics.{and_split}
-use Rattle.known_literals.specs.Breaks.{is_add}
+use Rattle.implied_literals.specs.Breaks.{is_add}
 use Rattle.invariant_rounds.proofs.Grouping.{taken_next, less_apart, own_part}
 use Rattle.invariant_rounds.proofs.takers.take_out.Goals as goal
 

@@ -1,7 +1,7 @@
 use Rattle.std.proofs.Common.{◌≡◌, ◌&&◌, ◌-◌, not, ℕ}
 use Rattle.std.specs.Prelude.{nat_lt}
-use Rattle.bit_rows.specs.Bits.{row_has}
-use Rattle.known_literals.specs.Breaks.{is_add}
+use Rattle.bit_sets.specs.Rows.{row_has}
+use Rattle.implied_literals.specs.Breaks.{is_add}
 use Rattle.invariant_rounds.proofs.takers.take_out.Given as goal
 
 abbrev pub invariant-loop-l : goal.invariant-loop-l

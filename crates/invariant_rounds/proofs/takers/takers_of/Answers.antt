@@ -1,6 +1,6 @@
 use Rattle.std.proofs.Common.{◌*◌, length, refl, arith, ◌≡◌, ℕ, subst}
 use Rattle.std.proofs.lemmas.Option.{slice_get_read}
-use Rattle.bit_rows.specs.Bits.{row_has}
+use Rattle.bit_sets.specs.Rows.{row_has}
 use Rattle.invariant_rounds.specs.Groups.{GroupFits}
 use Rattle.invariant_rounds.proofs.Grouping.{all_read}
 use Rattle.invariant_rounds.proofs.Counting.{more_takers}

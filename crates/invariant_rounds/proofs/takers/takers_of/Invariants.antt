@@ -1,4 +1,4 @@
-use Rattle.bit_rows.specs.Bits.{row_has}
+use Rattle.bit_sets.specs.Rows.{row_has}
 use Rattle.invariant_rounds.specs.Index.{AreTakers}
 use Rattle.invariant_rounds.proofs.takers.takers_of.Given as goal
 

@@ -1,10 +1,10 @@
 use Rattle.std.proofs.Common.{arith, ◌≡◌, ◌∙◌, ◌*◌, ◌<◌, ◌==◌, ◌&&◌, ap, sym, not, true, false, length, Bool, ℕ, List, subst}
 use Rattle.std.specs.List.{list_all, AllByRecursion}
-use Rattle.bit_rows.specs.Bits.{row_has}
-use Rattle.known_literals.specs.Breaks.{is_add}
-use Rattle.known_literals.specs.Tested.{with_more, has_no_pair}
+use Rattle.bit_sets.specs.Rows.{row_has}
+use Rattle.implied_literals.specs.Breaks.{is_add}
+use Rattle.implied_literals.specs.Tested.{with_more, has_no_pair}
 use Rattle.invariant_rounds.specs.Groups.{group_with}
-use Rattle.known_literals.proofs.Exact.{pair_test_is}
+use Rattle.implied_literals.proofs.Exact.{pair_test_is}
 use Rattle.invariant_rounds.proofs.Steps.{more_within}
 use Rattle.invariant_rounds.proofs.Indexing.{givers_more, more_of}
 use Rattle.invariant_rounds.proofs.Taking.{takes_none, takes_where}

@@ -1,6 +1,6 @@
 use Rattle.std.proofs.Common.{◌≡◌, ◌∙◌, ◌*◌, length, refl, sym, subst, false}
 use Rattle.std.proofs.lemmas.Option.{slice_get_read}
-use Rattle.bit_rows.specs.Bits.{row_has}
+use Rattle.bit_sets.specs.Rows.{row_has}
 use Rattle.invariant_rounds.specs.Index.{takes_in}
 use Rattle.invariant_rounds.specs.declared.groups.Group.{Group}
 use Rattle.invariant_rounds.proofs.Counting.{same_group}

@@ -1,9 +1,9 @@
 use Rattle.std.proofs.Common.{◌∷◌, [], List, ℕ, subst}
-use Rattle.plan_words.specs.Seen.{grounds}
-use Rattle.plan_files.specs.Limits.{file_at}
-use Rattle.plan_files.specs.Files.{IsWhole, NotesAmong}
-use Rattle.plan_files.proofs.Taking.{taken_short, kept_count}
-use Rattle.judge_words.specs.Seen.{seen}
+use Rattle.requests.specs.Seen.{grounds}
+use Rattle.input_files.specs.Limits.{file_at}
+use Rattle.input_files.specs.Files.{IsWhole, NotesAmong}
+use Rattle.input_files.proofs.Taking.{taken_short, kept_count}
+use Rattle.judge_requests.specs.Seen.{seen}
 use Rattle.judge_top.specs.Answers.{tape_run}
 use Rattle.judge_top.proofs.Deciding.{both_taken, stops_for, taken_for, two_named}
 use Rattle.judge_top.proofs.Handed.{handed, weaker}

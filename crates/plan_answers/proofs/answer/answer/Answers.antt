@@ -1,5 +1,5 @@
 use Rattle.std.proofs.Common.{refl}
-use Rattle.plan_files.proofs.Stopped.{EndsAs-weaker}
+use Rattle.input_files.proofs.Stopped.{EndsAs-weaker}
 use Rattle.plan_answers.proofs.Answered.{none_are}
 use Rattle.plan_answers.proofs.answer.answer.Goals as goal
 

@@ -1,6 +1,6 @@
 use Rattle.plan_answers.specs.Tasks.{OnceRead, read}
 use Rattle.plan_answers.specs.Answers.{AnswersCheck}
-use Rattle.plan_files.proofs.Stopped.{EndsAs-weaker}
+use Rattle.input_files.proofs.Stopped.{EndsAs-weaker}
 use Rattle.plan_answers.proofs.Answered.{refused_handed}
 use Rattle.plan_answers.proofs.answer.answer_check.Goals as goal
 

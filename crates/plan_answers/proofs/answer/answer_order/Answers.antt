@@ -5,7 +5,7 @@ use Rattle.task_text.specs.Text.{order_text}
 use Rattle.plan_endings.specs.declared.ending.Ending.TheVariants.{Listing}
 use Rattle.plan_answers.specs.Answers.{AnswersOrder}
 use Rattle.plan_answers.specs.Tasks.{OnceGrounded, grounded}
-use Rattle.plan_files.proofs.Stopped.{memory_handed}
+use Rattle.input_files.proofs.Stopped.{memory_handed}
 use Rattle.plan_answers.proofs.Answered.{stop_handed}
 use Rattle.plan_answers.proofs.answer.answer_order.Goals as goal
 

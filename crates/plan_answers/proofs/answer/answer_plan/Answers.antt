@@ -8,7 +8,7 @@ use Rattle.plan_report.specs.Laws.{IsSmall}
 use Rattle.plan_endings.specs.declared.ending.Ending.TheVariants.{Report}
 use Rattle.plan_answers.specs.Raced.{ComesTo, ended, outcome_of}
 use Rattle.plan_answers.specs.Answers.{AnswersPlan}
-use Rattle.plan_files.proofs.Stopped.{EndsAs-made}
+use Rattle.input_files.proofs.Stopped.{EndsAs-made}
 use Rattle.plan_answers.proofs.Answered.{stop_handed, race_handed, actions_below}
 use Rattle.plan_answers.proofs.answer.answer_plan.Goals as goal
 

@@ -4,7 +4,7 @@ use Rattle.certificates.specs.Known.{HasTooMany}
 use Rattle.certificates.specs.Judged.{Judges}
 use Rattle.plan_answers.specs.Tasks.{TellsOver}
 use Rattle.plan_answers.specs.Answers.{RefusesProof, AnswersVerify, unfit, beyond, spelled, not_checked, checked}
-use Rattle.plan_files.proofs.Stopped.{EndsAs-handed}
+use Rattle.input_files.proofs.Stopped.{EndsAs-handed}
 use Rattle.plan_answers.proofs.certify.verify_task.Goals as goal
 
 pub returns-in_err-proof : goal.returns-in_err-proof

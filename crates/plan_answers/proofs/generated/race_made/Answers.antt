@@ -4,7 +4,7 @@ use Rattle.race_end.specs.Ends.{end_view}
 use Rattle.plan_endings.specs.declared.ending.Outcome.{Outcome}
 use Rattle.plan_endings.specs.declared.ending.Ending.TheVariants.{Report}
 use Rattle.gt_core.specs.Step.{IsStepPlan}
-use Rattle.step_clauses.specs.Variables.{chain_places}
+use Rattle.horizon_formula.specs.Variables.{chain_places}
 use Rattle.plan_answers.specs.Tasks.{grounded}
 use Rattle.plan_answers.specs.Raced.{ComesTo, ended, outcome_of}
 use Rattle.plan_answers.specs.Generated.{RacesGenerated, generated_report}

@@ -1,7 +1,7 @@
 use Rattle.std.proofs.Common.{sym, refl, map, string_bytes}
-use Rattle.plan_files.proofs.Hearing.{handed_none}
+use Rattle.input_files.proofs.Hearing.{handed_none}
 use Rattle.plan_top.specs.Causes.{no_request}
-use Rattle.plan_words.specs.Seen.{seen}
+use Rattle.requests.specs.Seen.{seen}
 use Rattle.plan_top.proofs.Told.{one_unless}
 use Rattle.plan_top.proofs.decide.decide.Goals as goal
 

@@ -1,13 +1,13 @@
 use Rattle.std.proofs.Common.{ℕ, List, Option, subst, arith}
 use Rattle.pl_io.specs.Outside.{Heard}
-use Rattle.plan_words.specs.Seen.{seen, files_of}
-use Rattle.plan_files.specs.Limits.{file_at}
-use Rattle.plan_files.specs.Files.{AreTakenOrLong, FaultsFrom}
+use Rattle.requests.specs.Seen.{seen, files_of}
+use Rattle.input_files.specs.Limits.{file_at}
+use Rattle.input_files.specs.Files.{AreTakenOrLong, FaultsFrom}
 use Rattle.plan_top.specs.Causes.{Comes}
 use Rattle.plan_top.specs.Parts.{AnswersBatch}
 use Rattle.plan_top.proofs.Batches.{some_files, files_fit, request_comes, request_unread}
-use Rattle.plan_files.proofs.Hearing.{handed_once}
-use Rattle.plan_files.proofs.Stopped.{EndsAs-handed, EndsAs-weaker}
+use Rattle.input_files.proofs.Hearing.{handed_once}
+use Rattle.input_files.proofs.Stopped.{EndsAs-handed, EndsAs-weaker}
 use Rattle.plan_top.proofs.decide.decide_batch.Goals as goal
 
 pub take_first-domain-requires : goal.take_first-domain-requires

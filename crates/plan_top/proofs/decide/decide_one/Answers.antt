@@ -1,12 +1,12 @@
 use Rattle.std.proofs.Common.{subst, List}
 use Rattle.pl_io.specs.Outside.{Heard}
-use Rattle.plan_words.specs.Seen.{seen, files_of}
-use Rattle.plan_files.specs.Limits.{file_at}
-use Rattle.plan_files.specs.Files.{IsWhole, AreTaken, StopsFrom}
+use Rattle.requests.specs.Seen.{seen, files_of}
+use Rattle.input_files.specs.Limits.{file_at}
+use Rattle.input_files.specs.Files.{IsWhole, AreTaken, StopsFrom}
 use Rattle.plan_top.specs.Causes.{of_one, stopped}
-use Rattle.plan_files.proofs.Hearing.{handed_once}
-use Rattle.plan_files.proofs.Stopped.{EndsAs-handed, EndsAs-weaker}
-use Rattle.plan_files.proofs.Taking.{taken_short, kept_count}
+use Rattle.input_files.proofs.Hearing.{handed_once}
+use Rattle.input_files.proofs.Stopped.{EndsAs-handed, EndsAs-weaker}
+use Rattle.input_files.proofs.Taking.{taken_short, kept_count}
 use Rattle.plan_top.proofs.Told.{taken_comes}
 use Rattle.plan_top.proofs.decide.decide_one.Goals as goal
 

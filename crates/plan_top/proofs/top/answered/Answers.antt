@@ -1,8 +1,8 @@
 use Rattle.std.proofs.Common.{◌≡◌, Some, refl, ap, ◌∙◌, map, string_bytes}
-use Rattle.plan_files.specs.Ends.{ending_in}
+use Rattle.input_files.specs.Ends.{ending_in}
 use Rattle.plan_endings.specs.declared.ending.Ending.TheVariants.{Usage}
 use Rattle.plan_top.proofs.Promises.{status_apart}
-use Rattle.plan_files.proofs.Stopped.{ending_answers}
+use Rattle.input_files.proofs.Stopped.{ending_answers}
 use Rattle.plan_top.proofs.top.answered.Goals as goal
 
 pub written-requires-clause-not_six : goal.written-requires-clause-not_six

@@ -3,7 +3,7 @@ use Rattle.std.specs.List.{AllZip}
 use Rattle.poll_race.specs.View.{Gives}
 use Rattle.poll_batch.specs.Batch.{IsKeptOf, KeptGives}
 use Rattle.poll_batch.proofs.Whole.{anew}
-use Rattle.poll_turns.proofs.Slots.{zip-then}
+use Rattle.poll_run.proofs.Slots.{zip-then}
 use Rattle.poll_batch.proofs.batch.batch_race.Goals as goal
 
 pub returns-in-Err-Driver-clause-ends : goal.returns-in-Err-Driver-clause-ends

@@ -1,7 +1,7 @@
 use Rattle.std.proofs.Common.{arith, ℕ, sym, subst}
 use Rattle.std.proofs.lemmas.List.{get_or_read}
 use Rattle.clause_base.specs.Clause.{has_literal}
-use Rattle.number_bits.specs.Bits.{words_have}
+use Rattle.bit_sets.specs.Layered.{words_have}
 use Rattle.cdcl_rules.specs.State.{clause_at}
 use Rattle.propagation.specs.Asks.{IsAsk}
 use Rattle.propagation.specs.Tables.{pending_in}

@@ -1,6 +1,6 @@
 use Rattle.std.proofs.Common.{arith, ◌*◌, sym, ◌∙◌}
 use Rattle.clause_base.specs.Clause.{has_literal}
-use Rattle.number_bits.specs.Bits.{words_have}
+use Rattle.bit_sets.specs.Layered.{words_have}
 use Rattle.propagation.proofs.Asks.{clash}
 use Rattle.propagation.proofs.AsksKept.{asks_put}
 use Rattle.propagation.proofs.Paired.{pair_within, pair_ask}

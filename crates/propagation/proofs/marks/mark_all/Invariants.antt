@@ -1,9 +1,9 @@
 use Rattle.std.proofs.Common.{◌≡◌, ℕ, ◌<◌, true, false}
 use Rattle.clause_base.specs.Clause.{has_literal}
-use Rattle.number_bits.specs.Bits.{words_have}
+use Rattle.bit_sets.specs.Layered.{words_have}
 use Rattle.propagation.specs.Asks.{HasAsks}
 use Rattle.propagation.specs.Visit.{Grows}
-use Rattle.pair_index.specs.Pairs.{pair_in}
+use Rattle.binary_clauses.specs.Pairs.{pair_in}
 use Rattle.propagation.proofs.marks.mark_all.Given as goal
 
 abbrev pub invariant-loop-place : goal.invariant-loop-place

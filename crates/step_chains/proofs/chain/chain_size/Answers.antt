@@ -1,5 +1,5 @@
 use Rattle.std.proofs.Common.{◌≡◌, refl, ap, sym, ◌∙◌, ◌||◌, Bool, false, get_or}
-use Rattle.link_index.specs.declared.link.Link.{Link}
+use Rattle.step_chains.specs.declared.link.Link.{Link}
 use Rattle.step_chains.proofs.WalkLaw.{at, left_next, size_next, size_small}
 use Rattle.step_chains.proofs.chain.chain_size.Goals as goal
 use Rattle.step_chains.proofs.chain.chain_size.Goals.{then-seen, else-seen}

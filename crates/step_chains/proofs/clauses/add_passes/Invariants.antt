@@ -1,6 +1,6 @@
 use Rattle.std.proofs.Common.{◌≡◌, ◌++◌, false, drop}
 use Rattle.gt_core.specs.Layout.{action_at, chain_at}
-use Rattle.step_clauses.specs.Coded.{coded}
+use Rattle.horizon_formula.specs.Coded.{coded}
 use Rattle.step_chains.specs.Links.{pass_links}
 use Rattle.step_chains.specs.Walk.{StandsBefore}
 use Rattle.step_chains.proofs.clauses.add_passes.Given as goal

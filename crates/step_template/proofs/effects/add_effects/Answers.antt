@@ -3,8 +3,8 @@ use Rattle.std.proofs.lemmas.List.{drop_all, append-nil}
 use Rattle.gt_core.specs.Layout.{Layout}
 use Rattle.gt_core.specs.Task.{Action, effects_from}
 use Rattle.gt_core.specs.Lawful.{is_conditional}
-use Rattle.step_clauses.specs.Variables.{rows, rows_from}
-use Rattle.step_clauses.specs.Coded.{coded}
+use Rattle.horizon_formula.specs.Variables.{rows, rows_from}
+use Rattle.horizon_formula.specs.Coded.{coded}
 use Rattle.step_template.specs.Rows.{effects_of}
 use Rattle.step_template.proofs.Placing.{placed}
 use Rattle.step_template.proofs.RowLaw.{first_more}

@@ -2,9 +2,9 @@ use Rattle.std.proofs.Common.{◌≡◌, ◌++◌, take, drop}
 use Rattle.gt_core.specs.Task.{effects_from}
 use Rattle.gt_core.specs.Lawful.{conditional_in}
 use Rattle.gt_core.specs.Layout.{action_at, fact_at}
-use Rattle.step_clauses.specs.Variables.{rows, rows_from, variable_at}
-use Rattle.step_clauses.specs.Formula.{effect_clauses}
-use Rattle.step_clauses.specs.Coded.{coded}
+use Rattle.horizon_formula.specs.Variables.{rows, rows_from, variable_at}
+use Rattle.horizon_formula.specs.Formula.{effect_clauses}
+use Rattle.horizon_formula.specs.Coded.{coded}
 use Rattle.step_template.proofs.effects.add_effects.Given as goal
 
 abbrev pub invariant-loop-a : goal.invariant-loop-a

@@ -2,8 +2,8 @@ use Rattle.std.proofs.Common.{arith, ◌++◌, List, refl, sym, ap, ◌∙◌, s
 use Rattle.std.proofs.lemmas.List.{drop_all, append-nil}
 use Rattle.gt_core.specs.Task.{Effect}
 use Rattle.gt_core.specs.Active.{EffectWithin}
-use Rattle.step_clauses.proofs.Sorted.{sorted_before, taken_more}
-use Rattle.step_clauses.specs.Coded.{coded}
+use Rattle.horizon_formula.proofs.Sorted.{sorted_before, taken_more}
+use Rattle.horizon_formula.specs.Coded.{coded}
 use Rattle.step_template.specs.Rows.{rows_of, effects_of}
 use Rattle.step_template.specs.Adders.{IsAdders}
 use Rattle.step_template.proofs.RowLaw.{number_fits, number_next, number_taken}

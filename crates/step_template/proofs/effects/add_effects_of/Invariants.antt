@@ -1,6 +1,6 @@
 use Rattle.std.proofs.Common.{◌≡◌, ◌+◌, ◌≤◌, ◌++◌, take, drop, count_by}
 use Rattle.gt_core.specs.Lawful.{is_conditional}
-use Rattle.step_clauses.specs.Coded.{coded}
+use Rattle.horizon_formula.specs.Coded.{coded}
 use Rattle.step_template.specs.Rows.{rows_of, effects_of}
 use Rattle.step_template.specs.Adders.{IsAdders}
 use Rattle.step_template.proofs.effects.add_effects_of.Given as goal

@@ -4,9 +4,9 @@ use Rattle.gt_core.specs.Literal.{opposite}
 use Rattle.gt_core.specs.Lawful.{is_conditional}
 use Rattle.gt_core.specs.Layout.{action_at, fact_at}
 use Rattle.clause_base.specs.Clause.{clause_of}
-use Rattle.step_clauses.specs.Clause.{Is, Not}
-use Rattle.step_clauses.specs.Formula.{literal_over}
-use Rattle.step_clauses.specs.Coded.{coded}
+use Rattle.horizon_formula.specs.Clause.{Is, Not}
+use Rattle.horizon_formula.specs.Formula.{literal_over}
+use Rattle.horizon_formula.specs.Coded.{coded}
 use Rattle.step_template.proofs.EffectLaw.{meaning_parts}
 use Rattle.step_template.proofs.effects.add_meaning.Goals as goal
 

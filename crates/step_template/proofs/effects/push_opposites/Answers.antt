@@ -3,8 +3,8 @@ use Rattle.std.proofs.lemmas.List.{drop_more, drop_all, append-nil}
 use Rattle.gt_core.specs.Literal.{opposite}
 use Rattle.gt_core.specs.Layout.{fact_at}
 use Rattle.gt_core.proofs.Literals.{half_opposite}
-use Rattle.step_clauses.specs.Clause.{code}
-use Rattle.step_clauses.specs.Formula.{literal_over}
+use Rattle.horizon_formula.specs.Clause.{code}
+use Rattle.horizon_formula.specs.Formula.{literal_over}
 use Rattle.step_template.proofs.Bounds.{each_place}
 use Rattle.step_template.proofs.Groups.{rest}
 use Rattle.step_template.proofs.effects.push_opposites.Goals as goal

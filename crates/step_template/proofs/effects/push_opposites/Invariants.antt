@@ -1,8 +1,8 @@
 use Rattle.std.proofs.Common.{◌≡◌, ◌++◌, map, drop}
 use Rattle.gt_core.specs.Literal.{opposite}
 use Rattle.gt_core.specs.Layout.{fact_at}
-use Rattle.step_clauses.specs.Clause.{code}
-use Rattle.step_clauses.specs.Formula.{literal_over}
+use Rattle.horizon_formula.specs.Clause.{code}
+use Rattle.horizon_formula.specs.Formula.{literal_over}
 use Rattle.step_template.proofs.effects.push_opposites.Given as goal
 
 abbrev pub invariant-loop-lit : goal.invariant-loop-lit

@@ -1,9 +1,9 @@
 use Rattle.std.proofs.Common.{◌≡◌, ◌++◌}
 use Rattle.gt_core.specs.Literal.{range}
 use Rattle.gt_core.specs.Layout.{fact_at}
-use Rattle.step_clauses.specs.Variables.{rows, variable_at}
-use Rattle.step_clauses.specs.Formula.{frame_clauses}
-use Rattle.step_clauses.specs.Coded.{coded}
+use Rattle.horizon_formula.specs.Variables.{rows, variable_at}
+use Rattle.horizon_formula.specs.Formula.{frame_clauses}
+use Rattle.horizon_formula.specs.Coded.{coded}
 use Rattle.step_template.proofs.frames.add_frames.Given as goal
 
 abbrev pub invariant-loop-f : goal.invariant-loop-f

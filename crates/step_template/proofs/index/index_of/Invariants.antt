@@ -1,7 +1,7 @@
 use Rattle.std.proofs.Common.{◌≡◌, ℕ, ◌*◌, ◌++◌, [], length, take, drop, slice_index_or}
 use Rattle.gt_core.specs.Task.{effects_from}
 use Rattle.gt_core.specs.Lawful.{conditional_in}
-use Rattle.step_clauses.specs.Variables.{rows, rows_from}
+use Rattle.horizon_formula.specs.Variables.{rows, rows_from}
 use Rattle.step_template.specs.Rows.{made}
 use Rattle.step_template.proofs.index.index_of.Given as goal
 

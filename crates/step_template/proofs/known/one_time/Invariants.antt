@@ -1,8 +1,8 @@
 use Rattle.std.proofs.Common.{◌≡◌, ◌++◌, drop}
 use Rattle.std.specs.List.{flat_map}
-use Rattle.step_clauses.specs.Formula.{pair_clause}
-use Rattle.step_clauses.specs.Coded.{coded}
-use Rattle.step_clauses.specs.Shift.{one_time}
+use Rattle.horizon_formula.specs.Formula.{pair_clause}
+use Rattle.horizon_formula.specs.Coded.{coded}
+use Rattle.horizon_formula.specs.Shift.{one_time}
 use Rattle.step_template.proofs.known.one_time.Given as goal
 
 abbrev pub invariant-loop-i : goal.invariant-loop-i

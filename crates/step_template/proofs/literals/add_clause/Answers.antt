@@ -1,6 +1,6 @@
 use Rattle.std.proofs.Common.{List, ℕ, ◌++◌, ap, ◌∙◌}
 use Rattle.clause_base.specs.Clause.{clause_of}
-use Rattle.step_clauses.proofs.CodedLaw.{option_same}
+use Rattle.horizon_formula.proofs.CodedLaw.{option_same}
 use Rattle.step_template.proofs.literals.add_clause.Goals as goal
 
 pub returns : goal.returns

@@ -1,8 +1,8 @@
 use Rattle.std.proofs.Common.{◌≡◌, ◌∷◌, [], ◌++◌, map, drop}
 use Rattle.gt_core.specs.Layout.{action_at, fact_at}
-use Rattle.step_clauses.specs.Clause.{Not}
-use Rattle.step_clauses.specs.Formula.{literal_over}
-use Rattle.step_clauses.specs.Coded.{coded}
+use Rattle.horizon_formula.specs.Clause.{Not}
+use Rattle.horizon_formula.specs.Formula.{literal_over}
+use Rattle.horizon_formula.specs.Coded.{coded}
 use Rattle.step_template.proofs.preconditions.add_precondition.Given as goal
 
 abbrev pub invariant-loop-lit : goal.invariant-loop-lit

@@ -1,7 +1,7 @@
 use Rattle.std.proofs.Common.{◌≡◌, ◌++◌, drop}
 use Rattle.gt_core.specs.Layout.{action_at, fact_at}
-use Rattle.step_clauses.specs.Formula.{precondition_clauses}
-use Rattle.step_clauses.specs.Coded.{coded}
+use Rattle.horizon_formula.specs.Formula.{precondition_clauses}
+use Rattle.horizon_formula.specs.Coded.{coded}
 use Rattle.step_template.proofs.preconditions.add_preconditions.Given as goal
 
 abbrev pub invariant-loop-a : goal.invariant-loop-a

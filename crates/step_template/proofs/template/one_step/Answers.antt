@@ -1,6 +1,6 @@
 use Rattle.std.proofs.Common.{arith, ◌≡◌, ℕ, ◌∙◌, ap, length}
 use Rattle.gt_core.specs.Lawful.{conditional_in}
-use Rattle.step_clauses.specs.Variables.{chain_variables_in}
+use Rattle.horizon_formula.specs.Variables.{chain_variables_in}
 use Rattle.step_chains.proofs.ExtendLaw.{variables_few}
 use Rattle.step_template.proofs.StepLaw.{step_joined}
 use Rattle.step_template.proofs.template.one_step.Goals as goal

@@ -1,6 +1,6 @@
 use Rattle.std.proofs.Common.{◌≡◌, ◌∙◌, ap, sym, subst, true, ℕ, List}
 use Rattle.gt_core.specs.Literal.{opposite}
-use Rattle.known_literals.specs.Rows.{clause_in}
+use Rattle.implied_literals.specs.Rows.{clause_in}
 use Rattle.two_invariants.proofs.Truth.{invariants_hold}
 use Rattle.two_invariants.proofs.greatest.find.Goals as goal
 

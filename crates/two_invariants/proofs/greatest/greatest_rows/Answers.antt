@@ -1,16 +1,16 @@
 use Rattle.std.proofs.Common.{◌≡◌, ◌<◌, ◌*◌, ◌∙◌, ap, sym, subst, refl, inl, ℕ, List, length}
 use Rattle.std.specs.List.{AllByRecursion}
-use Rattle.bit_rows.specs.Bits.{row_has}
+use Rattle.bit_sets.specs.Rows.{row_has}
 use Rattle.gt_core.specs.Literal.{opposite, state_of}
 use Rattle.gt_core.proofs.Within.{lawful, among_at}
-use Rattle.known_literals.specs.Rows.{clause_in, AreRows}
-use Rattle.known_literals.specs.Tested.{IsSetOf, AreKnown, act_at}
+use Rattle.implied_literals.specs.Rows.{clause_in, AreRows}
+use Rattle.implied_literals.specs.Tested.{IsSetOf, AreKnown, act_at}
 use Rattle.invariant_rounds.specs.First.{is_first}
-use Rattle.known_literals.specs.Renewed.{WereKnown, IsSettled, IsTested}
+use Rattle.implied_literals.specs.Renewed.{WereKnown, IsSettled, IsTested}
 use Rattle.two_invariants.proofs.Surrounding.{surrounds_first, not_opposite}
 use Rattle.invariant_rounds.proofs.RoundLaw.{actions_fit, all_settled, were_known}
 use Rattle.two_invariants.proofs.GreatestLaw.{still_around, are_invariants}
-use Rattle.known_literals.proofs.Unmoved.{asked_among, asked_within}
+use Rattle.implied_literals.proofs.Unmoved.{asked_among, asked_within}
 use Rattle.two_invariants.proofs.greatest.greatest_rows.Goals as goal
 
 pub first_known-requires-clause-clauses : goal.first_known-requires-clause-clauses

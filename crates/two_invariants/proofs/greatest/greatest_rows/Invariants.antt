@@ -1,9 +1,9 @@
 use Rattle.std.proofs.Common.{◌*◌}
-use Rattle.bit_rows.specs.Bits.{row_has}
-use Rattle.known_literals.specs.Rows.{clause_in, AreRows}
-use Rattle.known_literals.specs.Tested.{AreKnown}
+use Rattle.bit_sets.specs.Rows.{row_has}
+use Rattle.implied_literals.specs.Rows.{clause_in, AreRows}
+use Rattle.implied_literals.specs.Tested.{AreKnown}
 use Rattle.two_invariants.specs.Greatest.{Surrounds}
-use Rattle.known_literals.specs.Renewed.{IsTested}
+use Rattle.implied_literals.specs.Renewed.{IsTested}
 use Rattle.invariant_rounds.specs.Rounds.{clause_count}
 use Rattle.two_invariants.proofs.greatest.greatest_rows.Given as goal
 

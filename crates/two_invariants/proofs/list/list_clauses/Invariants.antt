@@ -2,7 +2,7 @@ use Rattle.std.proofs.Common.{◌≡◌, ◌&&◌, ◌||◌, ℕ}
 use Rattle.std.specs.Prelude.{nat_lt}
 use Rattle.gt_core.specs.Interference.{has_clause}
 use Rattle.gt_core.specs.Clauses.{IsKnownClauses}
-use Rattle.known_literals.specs.Rows.{clause_in}
+use Rattle.implied_literals.specs.Rows.{clause_in}
 use Rattle.two_invariants.proofs.list.list_clauses.Given as goal
 
 abbrev pub invariant-loop-l : goal.invariant-loop-l

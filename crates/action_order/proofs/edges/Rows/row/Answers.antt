@@ -1,6 +1,6 @@
 use Rattle.std.proofs.Common.{arith, ◌≡◌, ◌==◌, ◌&&◌, ◌||◌, ◌<◌, ℕ, List, [], Bool, not, length, ap, ◌∙◌, subst, refl}
 use Rattle.std.proofs.lemmas.List.{get_or_read}
-use Rattle.bit_rows.specs.Bits.{row_has}
+use Rattle.bit_sets.specs.Rows.{row_has}
 use Rattle.gt_core.specs.Task.{Action}
 use Rattle.action_order.specs.Graph.{row_at}
 use Rattle.action_order.specs.Readers.{act_at, ActionWithin}

@@ -2,7 +2,7 @@ use Rattle.std.proofs.Common.{arith, ◌≡◌, true, length, vec_len, sym, ap, 
 use Rattle.std.specs.Prelude.{nat_lt}
 use Rattle.std.proofs.lemmas.List.{get_or_read, length_push}
 use Rattle.std.proofs.lemmas.Bool.Decides.{nat_tests}
-use Rattle.bit_rows.specs.Bits.{row_has}
+use Rattle.bit_sets.specs.Rows.{row_has}
 use Rattle.gt_core.proofs.Basics.{and_split, and_both, apart}
 use Rattle.action_order.specs.Graph.{item, leads}
 use Rattle.action_order.specs.Walk.{is_unseen, KeepsSeen}

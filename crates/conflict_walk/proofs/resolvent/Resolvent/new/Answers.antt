@@ -1,6 +1,6 @@
 use Rattle.std.proofs.Common.{arith, refl, ◌+◌, ◌/◌, ℕ, List, length, ◌∙◌, ap}
 use Rattle.std.proofs.lemmas.List.{length-replicate}
-use Rattle.number_bits.specs.Bits.{words_have}
+use Rattle.bit_sets.specs.Layered.{words_have}
 use Rattle.conflict_walk.proofs.Marked.{no_marks}
 use Rattle.conflict_walk.proofs.resolvent.Resolvent.new.Goals as goal
 

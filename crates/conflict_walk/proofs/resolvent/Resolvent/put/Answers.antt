@@ -1,7 +1,7 @@
 use Rattle.std.proofs.Common.{arith, ◌≡◌, ◌==◌, ◌∙◌, ℕ, List, true, false, length, sym, ap, subst, refl}
 use Rattle.clause_base.specs.Clause.{put}
 use Rattle.cdcl_rules.specs.State.{decision_count}
-use Rattle.number_bits.specs.Bits.{words_have}
+use Rattle.bit_sets.specs.Layered.{words_have}
 use Rattle.conflict_walk.specs.Resolvent.{MarksView, literals, seen}
 use Rattle.conflict_walk.proofs.Resolvents.{count_small}
 use Rattle.conflict_walk.proofs.Marked.{StandsAt, put_marked, put_over, put_seen, viewed, room_at}

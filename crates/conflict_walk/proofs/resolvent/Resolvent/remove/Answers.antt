@@ -2,7 +2,7 @@ use Rattle.std.proofs.Common.{arith, ◌==◌, ◌∙◌, ℕ, true, false, not,
 use Rattle.clause_base.specs.Literal.{opposite}
 use Rattle.cdcl_rules.specs.State.{decision_count}
 use Rattle.cdcl_trail.specs.Assignment.{literals as true_ones}
-use Rattle.number_bits.specs.Bits.{words_have}
+use Rattle.bit_sets.specs.Layered.{words_have}
 use Rattle.conflict_walk.specs.Resolvent.{MarksView, literals, seen}
 use Rattle.conflict_walk.proofs.Marked.{stands, level_there, counted_mark, remove_over, remove_seen, viewed, room_at}
 use Rattle.conflict_walk.proofs.resolvent.Resolvent.remove.Goals as goal

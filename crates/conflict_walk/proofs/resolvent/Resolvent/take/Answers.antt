@@ -3,7 +3,7 @@ use Rattle.std.proofs.lemmas.List.{length-map}
 use Rattle.clause_base.specs.Literal.{opposite}
 use Rattle.cdcl_rules.specs.declared.trail.Assigned.{Assigned}
 use Rattle.cdcl_trail.specs.Assignment.{literals}
-use Rattle.number_bits.specs.Bits.{words_have}
+use Rattle.bit_sets.specs.Layered.{words_have}
 use Rattle.conflict_walk.specs.Resolvent.{MarksView, IsLatest, is_marked}
 use Rattle.conflict_walk.proofs.Walking.{literal_at, entry_below, code_below}
 use Rattle.conflict_walk.proofs.Marked.{taken_next, taken_all, viewed}

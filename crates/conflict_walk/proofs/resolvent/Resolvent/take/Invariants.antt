@@ -1,6 +1,6 @@
 use Rattle.std.proofs.Common.{◌≡◌, ◌≤◌, length}
 use Rattle.cdcl_trail.specs.Assignment.{literals}
-use Rattle.number_bits.specs.Bits.{words_have}
+use Rattle.bit_sets.specs.Layered.{words_have}
 use Rattle.conflict_walk.proofs.Marked.{IsTaken}
 use Rattle.conflict_walk.proofs.resolvent.Resolvent.take.Given as goal
 

@@ -1,5 +1,5 @@
 use Rattle.std.proofs.Common.{◌*◌, refl, ◌∙◌}
-use Rattle.bit_rows.specs.Bits.{row_has}
+use Rattle.bit_sets.specs.Rows.{row_has}
 use Rattle.goal_choice.proofs.Sets.{none_in, same_set}
 use Rattle.goal_choice.proofs.literals.Literals.new.Goals as goal
 

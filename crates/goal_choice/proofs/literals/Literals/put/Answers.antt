@@ -1,5 +1,5 @@
 use Rattle.std.proofs.Common.{arith, ◌*◌, ℕ, List, ap, ◌∙◌}
-use Rattle.bit_rows.specs.Bits.{row_has}
+use Rattle.bit_sets.specs.Rows.{row_has}
 use Rattle.clause_base.specs.Clause.{put}
 use Rattle.goal_choice.specs.Members.{Literals}
 use Rattle.goal_choice.proofs.Sets.{put_in, same_set}

@@ -1,5 +1,5 @@
 use Rattle.std.proofs.Common.{arith, ◌∙◌}
-use Rattle.number_bits.specs.Bits.{words_have}
+use Rattle.bit_sets.specs.Layered.{words_have}
 use Rattle.propagation.proofs.Asks.{cleaned_least}
 use Rattle.propagation.proofs.pending.Pending.clear.Goals as goal
 

@@ -1,7 +1,7 @@
 use Rattle.std.proofs.Common.{arith, ◌≡◌, ◌*◌, ◌/◌, ◌++◌, ◌∷◌, [], ℕ, List, ◌∙◌, ap, true, None, get_or, set, length-set, sym, subst}
 use Rattle.clause_base.specs.Literal.{opposite}
 use Rattle.clause_base.specs.Clause.{has_literal}
-use Rattle.number_bits.specs.Bits.{words_have}
+use Rattle.bit_sets.specs.Layered.{words_have}
 use Rattle.std.proofs.lemmas.List.{map_push, length-map}
 use Rattle.cdcl_rules.specs.declared.trail.Assigned.{Assigned}
 use Rattle.cdcl_rules.specs.State.{value_of}
@@ -9,7 +9,7 @@ use Rattle.cdcl_trail.specs.Assignment.{AssignmentView, literals}
 use Rattle.cdcl_trail.specs.Mirrored.{TrailView}
 use Rattle.cdcl_trail.proofs.Assignments.{has_is}
 use Rattle.cdcl_trail.proofs.Mirrors.{off_of_none, half_opposite}
-use Rattle.pair_index.specs.Pairs.{pairs_of, pair_in}
+use Rattle.binary_clauses.specs.Pairs.{pairs_of, pair_in}
 use Rattle.propagation.specs.Asks.{IsConsistent, HasAsks}
 use Rattle.propagation.specs.Front.{IsComplete}
 use Rattle.propagation.specs.Pending.{PropagatorView}

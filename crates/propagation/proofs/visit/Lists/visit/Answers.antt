@@ -3,7 +3,7 @@ use Rattle.std.proofs.lemmas.List.{get_or_read}
 use Rattle.clause_base.specs.Literal.{opposite}
 use Rattle.clause_base.specs.Clause.{IsClause, has_literal}
 use Rattle.cdcl_trail.proofs.Mirrors.{half_opposite}
-use Rattle.number_bits.specs.Bits.{words_have}
+use Rattle.bit_sets.specs.Layered.{words_have}
 use Rattle.watch_chains.specs.Linked.{blocking_of}
 use Rattle.propagation.specs.Pending.{AreFalseBut, is_free}
 use Rattle.propagation.specs.Asks.{IsUnit, IsAsk}

@@ -1,6 +1,6 @@
 use Rattle.std.proofs.Common.{List, ℕ, ◌*◌}
 use Rattle.clause_base.specs.Clause.{has_literal}
-use Rattle.number_bits.specs.Bits.{words_have}
+use Rattle.bit_sets.specs.Layered.{words_have}
 use Rattle.watch_chains.specs.Walk.{left_from}
 use Rattle.propagation.specs.Asks.{HasAsks}
 use Rattle.propagation.specs.Tables.{clauses_in}

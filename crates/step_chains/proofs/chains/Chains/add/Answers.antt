@@ -1,6 +1,6 @@
 use Rattle.std.proofs.Common.{arith, ◌+◌, ◌<◌, ◌++◌, ◌∷◌, [], ℕ, List, false, length, ap, sym, ◌∙◌, subst, refl}
 use Rattle.std.specs.List.{AllByRecursion}
-use Rattle.link_index.specs.declared.link.Link.{Link}
+use Rattle.step_chains.specs.declared.link.Link.{Link}
 use Rattle.step_chains.specs.Links.{link_count}
 use Rattle.step_chains.specs.Chains.{LinkedChains, HasRoom}
 use Rattle.step_chains.proofs.ExtendLaw.{linked, none_found, one_found, within_more}

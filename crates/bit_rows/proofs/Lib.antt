@@ -1,2 +1,0 @@
-pub mod PairLaw
-pub mod RowLaw

@@ -1,6 +1,0 @@
-use Rattle.std.proofs.Common.{◌≡◌, ◌≤◌, ◌/◌, ◌<◌, ℕ, false}
-use Rattle.bit_rows.specs.Bits.{row_has}
-use Rattle.bit_rows.proofs.row.are_zero.Given as goal
-
-abbrev pub invariant-loop-i : goal.invariant-loop-i
-invariant-loop-i l = (k : ℕ) → l.from ≤ k / 64 → k / 64 < l.i → row_has l.words k ≡ false

@@ -1,0 +1,76 @@
+use Rattle.std.proofs.Common.{arith, ◌≡◌, ◌==◌, ℕ, zero, suc, ◌+◌, ◌*◌, ◌/◌, ◌%◌, ◌<◌, ◌≤◌, List, [], ◌∷◌, get_or, leb, ◌++◌, Bool, true, false, not, refl, sym, ap, subst, ◌∙◌, ◌⊎◌, inl, inr, Some}
+use Rattle.std.proofs.lemmas.Bool.Decides.{nat_tests}
+use Rattle.bit_sets.proofs.WordLaw.{zero_has}
+use Rattle.bit_sets.specs.Layered.{word_has, words_have, IsLeast, IsAbove, IsPast, IsLeastIn}
+
+above_zero : (words : List ℕ) (p : ℕ → Bool) (j : ℕ) → IsAbove words p → p j ≡ false → get_or words j 0 ≡ 0
+above_zero words p j a e = by (get_or words j 0 == 0) refl
+  where
+    by : (c : Bool) → (get_or words j 0 == 0) ≡ c → get_or words j 0 ≡ 0
+    by true f = grind (arith, nat_tests)
+    by false f = let z : true ≡ false = ap not (sym f) ∙ sym (a j) ∙ e in cc
+
+pub above_full : (words : List ℕ) (p : ℕ → Bool) (j : ℕ) → IsAbove words p → p j ≡ true → 0 < get_or words j 0
+above_full words p j a e = by (get_or words j 0 == 0) refl
+  where
+    by : (c : Bool) → (get_or words j 0 == 0) ≡ c → 0 < get_or words j 0
+    by true f = let z : false ≡ true = ap not (sym f) ∙ sym (a j) ∙ e in cc
+    by false f = grind (arith, nat_tests)
+
+-- the least number is the least bit of the least word that is not 0
+pub layered_least : (words : List ℕ) (p : ℕ → Bool) (place bit : ℕ) → IsAbove words p → IsLeast p (Some place) → bit < 64 → IsLeast (word_has (get_or words place 0)) (Some bit) → IsLeast (words_have words) (Some (64 * place + bit))
+layered_least words p place bit a l h b =
+    let q : (64 * place + bit) / 64 ≡ place = grind arith in
+    let r : (64 * place + bit) % 64 ≡ bit = grind arith in (
+      ap (λ (i : ℕ). word_has (get_or words i 0) ((64 * place + bit) % 64)) q ∙ ap (word_has (get_or words place 0)) r ∙ b.0,
+      λ j k. below j (split j k),
+    )
+  where
+    split : (j : ℕ) → j < 64 * place + bit → (j / 64 < place) ⊎ ((j / 64 ≡ place) × (j % 64 < bit))
+    split j k = by (lt_or (j / 64) place)
+      where
+        lt_or : (m n : ℕ) → (m < n) ⊎ (n ≤ m)
+        lt_or m n = grind arith
+
+        by : (j / 64 < place) ⊎ (place ≤ j / 64) → (j / 64 < place) ⊎ ((j / 64 ≡ place) × (j % 64 < bit))
+        by (inl x) = inl x
+        by (inr x) = inr (omega (arith, k, h), omega (arith, k, h))
+
+    below : (j : ℕ) → (j / 64 < place) ⊎ ((j / 64 ≡ place) × (j % 64 < bit)) → words_have words j ≡ false
+    below j (inl x) = ap (λ (w : ℕ). word_has w (j % 64)) (above_zero words p (j / 64) a (l.1 (j / 64) x)) ∙ zero_has (j % 64)
+    below j (inr x) = ap (λ (i : ℕ). word_has (get_or words i 0) (j % 64)) x.0 ∙ b.1 (j % 64) x.1
+
+-- the least number in a word at which all numbers are past one of it is the least of all
+pub next_least : (words : List ℕ) (past n : ℕ) → IsPast (words_have words) (Some past) → IsLeastIn words (past / 64) n → IsLeast (words_have words) (Some n)
+next_least words past n before l = (
+  ap (λ (i : ℕ). word_has (get_or words i 0) (n % 64)) l.place_is ∙ l.least.0,
+  λ j k. by j k (leb j past) refl,
+)
+  where
+    by : (j : ℕ) → j < n → (b : Bool) → leb j past ≡ b → words_have words j ≡ false
+    by j k true f = before j (grind (arith, nat_tests))
+    by j k false f =
+        let p : past < j = grind (arith, nat_tests) in
+        let q : j / 64 ≡ past / 64 = omega (arith, k, p, l.place_is) in
+        let r : j % 64 < n % 64 = omega (arith, k, q, l.place_is) in
+        ap (λ (i : ℕ). word_has (get_or words i 0) (j % 64)) q ∙ l.least.1 (j % 64) r
+
+-- the least bit of a word that is not 0
+pub least_in_word : (words : List ℕ) (place bit : ℕ) → bit < 64 → IsLeast (word_has (get_or words place 0)) (Some bit) → IsLeastIn words place (64 * place + bit)
+least_in_word words place bit h b =
+    let q : (64 * place + bit) / 64 ≡ place = grind arith in
+    let r : (64 * place + bit) % 64 ≡ bit = grind arith in
+    record {
+      place_is = q;
+      least = subst (λ (i : ℕ). IsLeast (word_has (get_or words place 0)) (Some i)) (sym r) b;
+    }
+
+-- one more word that is 0 changes no number
+pub get_push_zero : (words : List ℕ) (j : ℕ) → get_or (words ++ 0 ∷ []) j 0 ≡ get_or words j 0
+get_push_zero [] zero = refl
+get_push_zero [] (suc j) = refl
+get_push_zero (w ∷ words) zero = refl
+get_push_zero (w ∷ words) (suc j) = get_push_zero words j
+
+pub have_push_zero : (words : List ℕ) (k : ℕ) → words_have (words ++ 0 ∷ []) k ≡ words_have words k
+have_push_zero words k = ap (λ (w : ℕ). word_has w (k % 64)) (get_push_zero words (k / 64))

@@ -1,0 +1,92 @@
+ghost use Rattle.std.specs.Prelude.{◌≡◌, ℕ, ◌<◌, ◌≤◌, ◌*◌, ◌/◌, ◌==◌, ◌||◌, ◌&&◌, ◌+◌, Bool, true, false, not, length, slice_index, All, IfSome};
+ghost use Rattle.bit_sets.specs.Layered.{IsLeast, IsLeastIn, words_have, LayerView, IsAbove};
+
+use crate::flat::{clear_bit, set_bit};
+use crate::set::NumberSet;
+use crate::word::least_bit;
+use std::alloc::{AllocError, Global};
+use std::marker::Model;
+
+/// A set with 64 times the room of the one above, which has the places of the words that are not 0.
+#[derive(Drop)]
+pub struct Layer<S: NumberSet> {
+    words: Vec<u64>,
+    above: S,
+}
+
+impl<S: NumberSet> Model for Layer<S> {
+    ghost use Rattle.std.specs.Prelude.{◌≤◌, length};
+    ghost use Rattle.bit_sets.specs.Layered.{LayerView, IsAbove};
+
+    ghost Value = { LayerView S };
+
+    ghost view = { λ s. record { words = s.words.items; above = s.above } };
+
+    ghost invariant = { λ s. (length s.words.items ≤ S.room s.above) × (length s.words.items ≤ 67108864) × IsAbove s.words.items (S.has s.above) };
+}
+
+impl<S: NumberSet> NumberSet for Layer<S> {
+    ghost room = { λ s. 64 * length s.words };
+
+    ghost has = { λ s k. words_have s.words k };
+
+    fn insert(&mut self, number: u32) {
+        let empty = set_bit(&mut self.words, number);
+        if empty {
+            self.above.insert(number / 64);
+        }
+    }
+
+    fn remove(&mut self, number: u32) {
+        let empty = clear_bit(&mut self.words, number);
+        if empty {
+            self.above.remove(number / 64);
+        }
+    }
+
+    fn least(&self) -> Option<u32> {
+        match self.above.least() {
+            None => None,
+            Some(place) => Some(64 * place + least_bit(self.words[place as usize])),
+        }
+    }
+
+    fn room(&self) -> u64 {
+        64 * self.words.len() as u64
+    }
+
+    #[tactic(auto, using(crate::proofs::BitLemmas::get_push_zero))]
+    fn grow(&mut self) -> Result<(), AllocError> {
+        if self.words.len() as u64 == self.above.room() {
+            self.above.grow()?;
+        }
+        self.words.push(0)?;
+        Ok(())
+    }
+}
+
+impl<S: NumberSet> Layer<S> {
+    /// A set without room over one that is empty.
+    pub fn new(alloc: Global, above: S) -> Layer<S>
+        requires { (k : ℕ) → S.has above k ≡ false }
+        ensures { (k : ℕ) → words_have result.words k ≡ false }
+    {
+        Layer {
+            words: Vec::new(alloc),
+            above,
+        }
+    }
+
+    /// The least number in the word at a place, if that has one. No other word is looked at.
+    #[inline(always)]
+    pub fn least_in(&self, place: u32) -> Option<u32>
+        requires { place < length self.now.words }
+        ensures { IfSome result (λ n. IsLeastIn self.now.words place n) }
+    {
+        let word = self.words[place as usize];
+        if word == 0 {
+            return None;
+        }
+        Some(64 * place + least_bit(word))
+    }
+}

@@ -1,5 +1,0 @@
-use Rattle.std.proofs.Common.{of_calls, []}
-use Rattle.equal_items.proofs.empty_lists.Goals as goal
-
-pub returns : goal.returns
-returns g c = c.items_of.ensures [] (λ before made after called. search of_calls)

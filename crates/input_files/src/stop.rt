@@ -1,0 +1,87 @@
+//! Why a run has no more to decide.
+ghost use Rattle.std.specs.Prelude.{◌≡◌};
+ghost use Rattle.input_files.specs.declared.stop.Stop.TheVariants as stop;
+
+use pd_model::Memory;
+use plan_endings::{Ending, File, Kind};
+use std::alloc::{AllocError, AllocFailed};
+
+/// The run ends, or memory is wanting.
+#[derive(Drop)]
+pub enum Stop {
+    /// With this ending.
+    Ends(Ending),
+    /// Want of memory.
+    Memory,
+}
+
+impl From<Memory> for Stop {
+    ghost from_gives = { λ _ e. e ≡ stop.Memory };
+
+    fn from(_: Memory) -> Self {
+        Stop::Memory
+    }
+}
+
+impl From<gt_core::memory::Memory> for Stop {
+    ghost from_gives = { λ _ e. e ≡ stop.Memory };
+
+    fn from(_: gt_core::memory::Memory) -> Self {
+        Stop::Memory
+    }
+}
+
+impl From<clause_base::memory::Memory> for Stop {
+    ghost from_gives = { λ _ e. e ≡ stop.Memory };
+
+    fn from(_: clause_base::memory::Memory) -> Self {
+        Stop::Memory
+    }
+}
+
+impl From<pl_io::Memory> for Stop {
+    ghost from_gives = { λ _ e. e ≡ stop.Memory };
+
+    fn from(_: pl_io::Memory) -> Self {
+        Stop::Memory
+    }
+}
+
+impl From<requests::Memory> for Stop {
+    ghost from_gives = { λ _ e. e ≡ stop.Memory };
+
+    fn from(_: requests::Memory) -> Self {
+        Stop::Memory
+    }
+}
+
+impl From<plan_gen::Memory> for Stop {
+    ghost from_gives = { λ _ e. e ≡ stop.Memory };
+
+    fn from(_: plan_gen::Memory) -> Self {
+        Stop::Memory
+    }
+}
+
+impl From<AllocError> for Stop {
+    ghost from_gives = { λ _ e. e ≡ stop.Memory };
+
+    fn from(_: AllocError) -> Self {
+        Stop::Memory
+    }
+}
+
+impl<T: Drop> From<AllocFailed<T>> for Stop {
+    ghost from_gives = { λ _ e. e ≡ stop.Memory };
+
+    fn from(_: AllocFailed<T>) -> Self {
+        Stop::Memory
+    }
+}
+
+/// The end of a run that refuses a file, at the offset of a byte.
+pub fn refuse(kind: Kind, file: File, at: u32) -> Stop
+    ensures { result ≡ Stop.Ends (Ending.Refused kind file at) }
+{
+    Stop::Ends(Ending::Refused { kind, file, at })
+}

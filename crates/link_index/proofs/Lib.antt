@@ -1,2 +1,0 @@
-pub mod IndexLaw
-pub mod RangeLaw

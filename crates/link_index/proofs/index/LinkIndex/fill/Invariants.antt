@@ -1,6 +1,0 @@
-use Rattle.std.proofs.Common.{take}
-use Rattle.link_index.specs.Index.{IsIndexOf}
-use Rattle.link_index.proofs.index.LinkIndex.fill.Given as goal
-
-abbrev pub invariant-loop-a : goal.invariant-loop-a
-invariant-loop-a l = IsIndexOf l.task (take l.a-index l.members) l.self

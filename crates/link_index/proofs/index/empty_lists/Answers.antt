@@ -1,5 +1,0 @@
-use Rattle.std.proofs.Common.{of_calls, []}
-use Rattle.link_index.proofs.index.empty_lists.Goals as goal
-
-pub returns : goal.returns
-returns c = c.in_ok-items_of.ensures [] (λ before made after called. search of_calls)

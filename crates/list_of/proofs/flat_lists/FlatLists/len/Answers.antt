@@ -1,8 +1,0 @@
-use Rattle.std.proofs.Common.{◌≡◌, ◌∙◌, sym, ap, length, rules}
-use Rattle.list_of.proofs.PieceLemmas.{length-pieces}
-use Rattle.list_of.proofs.flat_lists.FlatLists.len.Goals as goal
-
-pub returns : goal.returns
-returns g c =
-    let long : c.len.result ≡ length c.self.inside.ends.items = search rules in
-    long ∙ sym (length-pieces 0 c.self.inside.items.items c.self.inside.ends.items) ∙ ap length c.self.view_is

@@ -1,9 +1,0 @@
-use Rattle.std.proofs.Common.{◌==◌, ◌||◌, ◌∙◌, Bool, ap}
-use Rattle.number_bits.specs.Bits.{words_have}
-use Rattle.number_bits.proofs.Firsts.{put_two}
-use Rattle.number_bits.proofs.first.put_beside.Goals as goal
-
-pub returns-clause-has : goal.returns-clause-has
-returns-clause-has g c k =
-    ap (λ (b : Bool). k == c.min.result || b) (c.insert.ensures.has k)
-    ∙ put_two c.args.number c.args.least c.min.result c.max.result k (words_have c.args.others.now.words k) c.min.ensures c.max.ensures

@@ -1,4 +1,0 @@
-use Rattle.plan_words.proofs.command.put_arguments.Goals as goal
-
-pub returns-in-Prove : goal.returns-in-Prove
-returns-in-Prove c = rw c.in-Prove.is c.put-in-Prove.ensures

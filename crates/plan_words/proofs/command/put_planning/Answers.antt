@@ -1,5 +1,0 @@
-use Rattle.clap_words.proofs.Chain.{then_added}
-use Rattle.plan_words.proofs.command.put_planning.Goals as goal
-
-pub returns : goal.returns
-returns c = then_added _ _ _ _ _ c.in_ok-put.ensures c.in_ok-put_options.ensures

@@ -1,7 +1,0 @@
-//! What holds of all settings, as a contract.
-ghost use Rattle.plan_words.specs.Seen.{NumbersAreSettings};
-
-/// Settings with the same numbers are the same. It does nothing.
-pub fn laws()
-    ensures { NumbersAreSettings }
-{}

@@ -1,0 +1,106 @@
+-- Each command can be parsed, and gives its numbers.
+use Rattle.std.proofs.Common.{◌≡◌, ◌∙◌, ℕ, Bool, true, false, true≢false, List, [], ◌∷◌, map, Option, Some, None, is_some, slice_get, option_and_then, refl, sym, ap, subst, codes, if◌then◌else◌, String, Global, string_bytes}
+use Rattle.std.specs.Prelude.{unwrap_or}
+use Rattle.clap.specs.Walk.{Row, Rule, Text, arg_by_id}
+use Rattle.clap.specs.Simple.{App, matches_of}
+use Rattle.clap.specs.Takes.{takes}
+use Rattle.clap.specs.declared.builder.value_parser.ValueParser.{ValueParser}
+use Rattle.requests.specs.declared.command.Name.{Name}
+use Rattle.requests.specs.declared.command.Name.TheVariants.{Plan, Check, Ground, Order, Gen, Prove, Verify, Batch}
+use Rattle.requests.specs.declared.command.Readers.{Readers}
+use Rattle.clap_words.specs.Same.{IsSame}
+use Rattle.clap_words.specs.Arguments.{number}
+use Rattle.requests.specs.Command.{AreReaders, command_of, lists, named, race_options, workers_option}
+use Rattle.clap_words.specs.Fit.{IsFit}
+use Rattle.clap_words.specs.Passed.{Passed}
+use Rattle.requests.specs.Ranges.{Has, HasNumbers, HasSettings}
+use Rattle.requests.specs.Requested.{command_named, requested, requested_of}
+use Rattle.requests.specs.Seen.{Seen, counted, seen_in}
+use Rattle.requests.proofs.SameReaders.{as_lists}
+use Rattle.clap_words.proofs.ListReaders.{one_passes}
+use Rattle.clap_words.proofs.Ranges.{number_in, found_each}
+
+pub fit : (by : Readers) → AreReaders by → (name : Name) → IsFit (command_of by name)
+fit by are (Plan stepping) =
+    let a = one_passes _ by.algorithms (codes "a") are.algorithms refl in
+    record { simple = refl; leaf = refl; defaults = rw a refl; values = refl }
+fit by are Check = record { simple = refl; leaf = refl; defaults = refl; values = refl }
+fit by are Ground = record { simple = refl; leaf = refl; defaults = refl; values = refl }
+fit by are Order = record { simple = refl; leaf = refl; defaults = refl; values = refl }
+fit by are Gen =
+    let a = one_passes _ by.algorithms (codes "a") are.algorithms refl in
+    let n = one_passes _ by.shows (codes "none") are.shows refl in
+    record { simple = refl; leaf = refl; defaults = rw (a, n) refl; values = refl }
+fit by are Prove = record { simple = refl; leaf = refl; defaults = refl; values = refl }
+fit by are Verify = record { simple = refl; leaf = refl; defaults = refl; values = refl }
+fit by are Batch =
+    let a = one_passes _ by.algorithms (codes "a") are.algorithms refl in
+    let t = one_passes _ by.turns (codes "forward") are.turns refl in
+    record { simple = refl; leaf = refl; defaults = rw (a, t) refl; values = refl }
+
+-- the numbers of a race, where its options are among the arguments
+race_of : (algorithms : ValueParser) (rules : List Rule) (rows : List Row) → Passed rules rows
+    → map (λ (r : Rule). arg_by_id rules r.id) (race_options algorithms) ≡ map (λ r. Some r) (race_options algorithms) → HasNumbers rows
+race_of algorithms rules rows passed all =
+    let each = λ (k low high : ℕ) (name default : Text) (at : slice_get (race_options algorithms) k ≡ Some (number name low high default)).
+    number_in rules rows passed name (number name low high default) low high (found_each rules (race_options algorithms) all k _ at) refl in
+    record {
+      width = each 1 1 16 (codes "width") (codes "4") refl;
+      quota = each 2 1 10000 (codes "quota") (codes "50") refl;
+      percent = each 3 1 99 (codes "percent") (codes "50") refl;
+      growth = each 4 101 400 (codes "growth") (codes "150") refl;
+      start = each 5 0 255 (codes "start") (codes "0") refl;
+      max = each 6 0 255 (codes "max-horizon") (codes "64") refl;
+      budget = each 7 0 1000000 (codes "budget") (codes "100000") refl;
+      slice = each 8 1 10000 (codes "slice") (codes "10") refl;
+    }
+
+settings_of : (algorithms : ValueParser) (rules : List Rule) (rows : List Row) → Passed rules rows
+    → map (λ (r : Rule). arg_by_id rules r.id) (race_options algorithms) ≡ map (λ r. Some r) (race_options algorithms)
+    → arg_by_id rules (codes "workers") ≡ Some workers_option → HasSettings rows
+settings_of algorithms rules rows passed all workers = (race_of algorithms rules rows passed all, number_in rules rows passed (codes "workers") workers_option 1 16 workers refl)
+
+pub numbers_of : (by : Readers) (name : Name) (rows : List Row) → Passed (command_of by name).top.rules rows → Has name rows
+numbers_of by (Plan stepping) rows passed = settings_of by.algorithms (command_of by (Plan stepping)).top.rules rows passed refl refl
+numbers_of by Check rows passed = tt
+numbers_of by Ground rows passed = tt
+numbers_of by Order rows passed = tt
+numbers_of by Gen rows passed =
+    let rules = (command_of by Gen).top.rules in
+    (number_in rules rows passed (codes "number") _ 1 64 refl refl, settings_of by.algorithms rules rows passed refl refl)
+numbers_of by Prove rows passed =
+    let each = number_in (command_of by Prove).top.rules rows passed in
+    (each (codes "horizon") _ 0 255 refl refl, each (codes "budget") _ 0 1000000 refl refl)
+numbers_of by Verify rows passed = tt
+numbers_of by Batch rows passed = race_of by.algorithms (command_of by Batch).top.rules rows passed refl
+
+-- ---- what is asked for
+
+-- a command that is the fixed one but for where its lists lie, and takes the words, asks for what the fixed one does
+pub asked : (by : Readers) → AreReaders by → (name : Name) (words : List Text) (app : App) (rows : List Row) (o : Option Seen) → app ≡ command_of by name
+    → ((fixed : App) → IsSame app fixed → true ≡ takes fixed words) → ((fixed : App) → IsSame app fixed → rows ≡ matches_of fixed words)
+    → o ≡ counted (seen_in name rows) → o ≡ requested_of name words
+asked by are name words app rows o is taken found seen =
+    let same = subst (λ (a : App). IsSame a (command_of lists name)) (sym is) (as_lists by are name) in
+    (seen ∙ ap (λ (rs : List Row). counted (seen_in name rs)) (found (command_of lists name) same))
+    ∙ ap (λ (b : Bool). if b then counted (seen_in name (matches_of (command_of lists name) words)) else None) (taken (command_of lists name) same)
+
+-- and one that refuses them asks for nothing
+pub unasked : (by : Readers) → AreReaders by → (name : Name) (words : List Text) (app : App) → app ≡ command_of by name
+    → ((fixed : App) → IsSame app fixed → false ≡ takes fixed words) → None ≡ requested_of name words
+unasked by are name words app is refused =
+    let same = subst (λ (a : App). IsSame a (command_of lists name)) (sym is) (as_lists by are name) in
+    ap (λ (b : Bool). if b then counted (seen_in name (matches_of (command_of lists name) words)) else None) (refused (command_of lists name) same)
+
+pub no_words : (words : List (String Global)) → slice_get words 0 ≡ None → command_named (map string_bytes words) ≡ None
+no_words [] none = refl
+no_words (x ∷ xs) none = absurd (true≢false (ap is_some none))
+
+pub by_first : (words : List (String Global)) (word : String Global) → slice_get words 0 ≡ Some word → command_named (map string_bytes words) ≡ named (string_bytes word)
+by_first [] word at = absurd (true≢false (sym (ap is_some at)))
+by_first (x ∷ xs) word at =
+    let same : x ≡ word = ap (λ (o : Option (String Global)). unwrap_or o x) at in
+    ap (λ (w : String Global). named (string_bytes w)) same
+
+pub none_asked : (words : List Text) → command_named words ≡ None → None ≡ requested words
+none_asked words none = sym (ap (option_and_then (λ n. requested_of n words)) none)

@@ -1,2 +1,0 @@
-pub mod WordLaw
-pub mod Changed

@@ -1,5 +1,0 @@
-use Rattle.word_bits.proofs.WordLaw.{and_not_has}
-use Rattle.word_bits.proofs.without.Goals as goal
-
-pub returns : goal.returns
-returns c k = and_not_has c.args.word c.args.other k c.ranges.word.fits c.ranges.other.fits
