@@ -4,7 +4,7 @@ use Rattle.std.proofs.lemmas.Result.{IfOk-at_ok}
 use Rattle.clause_base.specs.Formula.{Cnf, IsModel}
 use Rattle.clause_base.specs.Derivation.{IsRefutation}
 use Rattle.clause_base.specs.declared.log.Entry.{Entry}
-use Rattle.clause_base.specs.declared.memory.Memory.{Memory}
+use Rattle.containers.specs.declared.memory.Memory.{Memory}
 use Rattle.cdcl_rules.specs.State.{State}
 use Rattle.cdcl_rules.specs.declared.standing.Standing.TheVariants.{Going, Found, Refuted}
 use Rattle.horizon_run.specs.Run.{RunView, choice_in, truths_of, IsMoved, IsReached}

@@ -18,11 +18,3 @@ impl From<gt_core::memory::Memory> for ProofError {
         ProofError::Memory
     }
 }
-
-impl From<clause_base::memory::Memory> for ProofError {
-    ghost from_gives = { λ _ e. e ≡ errors.Memory };
-
-    fn from(_: clause_base::memory::Memory) -> Self {
-        ProofError::Memory
-    }
-}

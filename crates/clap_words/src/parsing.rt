@@ -6,10 +6,7 @@ ghost use Rattle.clap_words.specs.Same.{IsSame};
 
 use clap::error::ErrorKind;
 use clap::{ArgMatches, Command};
-
-/// Want of memory.
-#[derive(Clone, Copy, PartialEq, Eq)]
-pub struct Memory;
+pub use containers::memory::Memory;
 
 /// The matches of the words, of which the first is the program's name; `None` exactly where the
 /// command does not take them.

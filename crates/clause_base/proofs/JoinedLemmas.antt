@@ -8,7 +8,7 @@ use Rattle.clause_base.specs.Clause.{HasVariablesBelow}
 use Rattle.clause_base.specs.Formula.{Cnf}
 use Rattle.clause_base.specs.Repeats.{Repeats, repeated, variables_of}
 use Rattle.clause_base.specs.Joined.{joined, IsJoined}
-use Rattle.clause_base.specs.declared.memory.Memory.{Memory}
+use Rattle.containers.specs.declared.memory.Memory.{Memory}
 use Rattle.clause_base.proofs.PieceLemmas.{holds_at}
 use Rattle.clause_base.proofs.RepeatLemmas.{get_left, get_right}
 

@@ -7,6 +7,7 @@
 
 pub mod equal;
 mod flat_lists;
+pub mod memory;
 mod shared;
 
 pub use flat_lists::FlatLists;

@@ -23,46 +23,6 @@ impl From<Memory> for Stop {
     }
 }
 
-impl From<gt_core::memory::Memory> for Stop {
-    ghost from_gives = { λ _ e. e ≡ stop.Memory };
-
-    fn from(_: gt_core::memory::Memory) -> Self {
-        Stop::Memory
-    }
-}
-
-impl From<clause_base::memory::Memory> for Stop {
-    ghost from_gives = { λ _ e. e ≡ stop.Memory };
-
-    fn from(_: clause_base::memory::Memory) -> Self {
-        Stop::Memory
-    }
-}
-
-impl From<pl_io::Memory> for Stop {
-    ghost from_gives = { λ _ e. e ≡ stop.Memory };
-
-    fn from(_: pl_io::Memory) -> Self {
-        Stop::Memory
-    }
-}
-
-impl From<requests::Memory> for Stop {
-    ghost from_gives = { λ _ e. e ≡ stop.Memory };
-
-    fn from(_: requests::Memory) -> Self {
-        Stop::Memory
-    }
-}
-
-impl From<plan_gen::Memory> for Stop {
-    ghost from_gives = { λ _ e. e ≡ stop.Memory };
-
-    fn from(_: plan_gen::Memory) -> Self {
-        Stop::Memory
-    }
-}
-
 impl From<AllocError> for Stop {
     ghost from_gives = { λ _ e. e ≡ stop.Memory };
 

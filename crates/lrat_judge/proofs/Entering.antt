@@ -11,7 +11,7 @@ use Rattle.clause_base.specs.Formula.{Cnf}
 use Rattle.clause_base.specs.Derivation.{is_derived_after}
 use Rattle.clause_base.specs.declared.log.Entry.{Entry}
 use Rattle.clause_base.specs.declared.log.Entry.TheVariants.{Learn, Drop}
-use Rattle.clause_base.specs.declared.memory.Memory.{Memory}
+use Rattle.containers.specs.declared.memory.Memory.{Memory}
 use Rattle.rup_check.specs.Taken.{CheckerView, HasTaken}
 use Rattle.lrat_text.specs.Line.{LineView, codes_of, plain_ids, is_foreign}
 use Rattle.lrat_judge.specs.Judged.{counted}

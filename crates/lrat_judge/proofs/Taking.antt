@@ -2,7 +2,7 @@
 use Rattle.std.proofs.Common.{arith, ◌≡◌, ◌+◌, ℕ, List, [], ◌∷◌, length, true, false, Option, Some, None, Result, Ok, Err, refl, sym, ap, ◌∙◌, subst}
 use Rattle.std.specs.Prelude.{IfOk}
 use Rattle.std.specs.List.{list_any}
-use Rattle.clause_base.specs.declared.memory.Memory.{Memory}
+use Rattle.containers.specs.declared.memory.Memory.{Memory}
 use Rattle.clause_base.specs.Formula.{Cnf}
 use Rattle.clause_base.specs.Derivation.{learns_empty}
 use Rattle.rup_check.specs.Taken.{CheckerView, HasTaken}

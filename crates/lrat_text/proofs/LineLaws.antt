@@ -4,7 +4,7 @@ use Rattle.std.specs.Prelude.{option_and_then, codes}
 use Rattle.std.specs.List.{list_any}
 use Rattle.std.proofs.lemmas.List.{map-append}
 use Rattle.std.proofs.lemmas.List.Elements.{filter-append}
-use Rattle.clause_base.specs.declared.memory.Memory.{Memory}
+use Rattle.containers.specs.declared.memory.Memory.{Memory}
 use Rattle.lrat_text.specs.declared.words.Signed.{Signed}
 use Rattle.lrat_text.specs.declared.line.Line.{Line}
 use Rattle.lrat_text.specs.Words.{number_of, first_number, words_of, begins_with}

@@ -17,6 +17,7 @@ mod out_sink;
 mod outside;
 mod tape;
 
+pub use containers::memory::Memory;
 pub use file_shelf::FileShelf;
 pub use file_tape::FileTape;
 pub use lists::{Bytes, Files, NamedFile, Names, Numbers};
@@ -25,15 +26,4 @@ pub use mem_sink::MemSink;
 pub use mem_tape::MemTape;
 pub use out_sink::OutSink;
 pub use outside::{PutFailed, Shelf, Sink, TakeError, Taken, put_all};
-use std::alloc::AllocError;
 pub use tape::Tape;
-
-/// Want of memory: no room was to be had, and nothing else went wrong.
-#[derive(Clone, Copy, PartialEq, Eq)]
-pub struct Memory;
-
-impl From<AllocError> for Memory {
-    fn from(_: AllocError) -> Memory {
-        Memory
-    }
-}

@@ -1,19 +1,10 @@
 ghost use Rattle.std.specs.Prelude.{◌≡◌, ℕ, List, [], ◌++◌, OnOk, decimal};
 ghost use Rattle.plan_gen.specs.Numbered.{numbered};
 
+pub use containers::memory::Memory;
 use itoa::Buffer;
-use std::alloc::{AllocError, Global};
+use std::alloc::Global;
 use std::marker::Model;
-
-/// Want of memory.
-#[derive(Clone, Copy, PartialEq, Eq)]
-pub struct Memory;
-
-impl From<AllocError> for Memory {
-    fn from(_error: AllocError) -> Memory {
-        Memory
-    }
-}
 
 /// A text, as its bytes.
 #[derive(Drop)]

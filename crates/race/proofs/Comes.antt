@@ -1,6 +1,6 @@
 -- What a round that ended says of the whole race.
 use Rattle.std.proofs.Common.{arith, ◌≡◌, ℕ, ◌+◌, ◌≤◌, List, length, refl, sym, ap, ◌∙◌, subst, Result, Ok, Err, IfOk}
-use Rattle.clause_base.specs.declared.memory.Memory.{Memory}
+use Rattle.containers.specs.declared.memory.Memory.{Memory}
 use Rattle.horizon_rates.specs.declared.settings.Settings.{Settings}
 use Rattle.horizon_rates.specs.Ledger.{Account}
 use Rattle.step_encoding.specs.declared.form.StepForm.{Ghosts}

@@ -8,7 +8,7 @@ use Rattle.clause_base.specs.Formula.{Cnf, IsUnsatisfiable, IsWithinVariables}
 use Rattle.clause_base.specs.Derivation.{IsDerivation, IsDerivedAt, EndsEmpty, is_derived_after, learns_empty, clauses_of}
 use Rattle.clause_base.specs.declared.log.Entry.{Entry}
 use Rattle.clause_base.specs.declared.log.Entry.TheVariants.{Learn, Drop}
-use Rattle.clause_base.specs.declared.memory.Memory.{Memory}
+use Rattle.containers.specs.declared.memory.Memory.{Memory}
 use Rattle.clause_base.proofs.Refutation.{unsatisfiable_from_refutation}
 use Rattle.rup_check.specs.Falsified.{FalsifiedView}
 use Rattle.rup_check.specs.Kept.{kept_named, is_derived_by, IsKnownAfter}

@@ -10,7 +10,7 @@ use lib.ListN.{get_elem?}
 use Rattle.solver_pool.specs.declared.resume.Resume.{Ghosts}
 use Rattle.solver_pool.specs.Job.{JobView, Differ, IsAtTarget, AreRising, horizon_at, horizon_in, entry_of, IsListed}
 use Rattle.solver_pool.specs.Rounds.{IsRound, AreServed}
-use Rattle.solver_pool.specs.declared.Memory.{Memory}
+use Rattle.containers.specs.declared.memory.Memory.{Memory}
 use Rattle.solver_pool.specs.declared.pass_view.BookEntry.{BookEntry}
 use Rattle.solver_pool.proofs.Sums.{one_if, no_term, no_sum, sum_by-map}
 use Rattle.solver_pool.proofs.Ordered.{same_rising, rises_map}

@@ -31,6 +31,7 @@ mod turns;
 mod worker;
 mod workers;
 
+pub use containers::memory::Memory;
 pub use count_run::CountRun;
 pub use gate::{Gate, OpenGate};
 pub use job::Job;
@@ -42,14 +43,3 @@ pub use ring::{Pass, Ring};
 pub use rounds::round;
 pub use rule::RingRule;
 pub use serve::{Served, serve_one};
-use std::alloc::AllocError;
-
-/// Want of memory: no room was to be had, and nothing else went wrong.
-#[derive(Clone, Copy, PartialEq, Eq)]
-pub struct Memory;
-
-impl From<AllocError> for Memory {
-    fn from(_: AllocError) -> Memory {
-        Memory
-    }
-}
