@@ -4,7 +4,7 @@ use Rattle.gt_core.specs.Literal.{is_in}
 use Rattle.gt_core.specs.Interference.{disables}
 use Rattle.gt_core.specs.AllStep.{NoneDisables}
 use Rattle.gt_core.specs.Published.{order_of}
-use Rattle.gt_core.specs.Layout.{Layout, action_at, chain_at}
+use Rattle.horizon_formula.specs.Layout.{Layout, action_at, chain_at}
 use Rattle.gt_core.proofs.Literals.{in_among}
 use Rattle.gt_core.proofs.Pairwise.{filtered}
 use Rattle.gt_core.proofs.EachOrder.{itself}
