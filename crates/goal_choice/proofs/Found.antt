@@ -9,7 +9,7 @@ use Rattle.std.specs.List.{AllByRecursion, IsAllAdjacentAnswer}
 use Rattle.std.proofs.lemmas.List.Sorted.{non_decreasing_from_is_sorted}
 use Rattle.std.specs.List.Sorted.{IsNonDecreasing}
 use Rattle.clause_base.specs.Choice.{Known}
-use Rattle.gt_core.specs.Layout.{Layout}
+use Rattle.horizon_formula.specs.Layout.{Layout}
 use Rattle.goal_choice.specs.Means.{Supporter, Means}
 use Rattle.goal_choice.specs.Walk.{has_value, least_with, lesser}
 use Rattle.goal_choice.specs.Needs.{supporter_in, supporters_in}

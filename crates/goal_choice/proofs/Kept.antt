@@ -7,8 +7,8 @@ use Rattle.std.specs.Prelude.{not}
 use Rattle.std.specs.List.{slice_get, AllByRecursion}
 use Rattle.clause_base.specs.Clause.{put}
 use Rattle.clause_base.specs.Choice.{Known, same_value}
-use Rattle.gt_core.specs.Layout.{Layout, width, variables, fact_at}
-use Rattle.gt_core.proofs.LayoutLaw.{product_le}
+use Rattle.horizon_formula.specs.Layout.{Layout, width, variables, fact_at}
+use Rattle.horizon_formula.proofs.LayoutLaw.{product_le}
 use Rattle.goal_choice.specs.Means.{Means, start_of}
 use Rattle.goal_choice.specs.Walk.{support_of, supports, walk}
 use Rattle.goal_choice.specs.Supports.{IsStep}

@@ -12,7 +12,7 @@ use Rattle.gt_core.specs.Literal.{range_from}
 use Rattle.gt_core.specs.Task.{Task, Effect, Action, EffectOf, owned, effects_from, effects, precondition}
 use Rattle.gt_core.specs.Lawful.{is_conditional, is_action, is_task, is_literal_set, conditional_in}
 use Rattle.gt_core.specs.Active.{EffectWithin}
-use Rattle.gt_core.specs.Layout.{Layout, width}
+use Rattle.horizon_formula.specs.Layout.{Layout, width}
 use Rattle.gt_core.proofs.Basics.{and_split}
 use Rattle.gt_core.proofs.Within.{lawful, effects_within, precondition_within}
 use Rattle.horizon_formula.specs.Clause.{Is, code}

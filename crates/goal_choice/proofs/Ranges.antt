@@ -7,11 +7,11 @@ use Rattle.std.proofs.lemmas.Bool.Decides.{nat_tests}
 use Rattle.clause_base.specs.Clause.{IsRising}
 use Rattle.clause_base.specs.Choice.{Known}
 use Rattle.gt_core.specs.Task.{Task}
-use Rattle.gt_core.specs.Layout.{Layout, width, variables}
+use Rattle.horizon_formula.specs.Layout.{Layout, width, variables}
 use Rattle.gt_core.specs.Lawful.{are_rising, is_task}
 use Rattle.gt_core.specs.Literal.{range_from}
 use Rattle.gt_core.proofs.Basics.{and_split}
-use Rattle.gt_core.proofs.LayoutLaw.{product_le}
+use Rattle.horizon_formula.proofs.LayoutLaw.{product_le}
 use Rattle.gt_core.proofs.Within.{lawful, literals_within}
 use Rattle.goal_choice.specs.Means.{Supporter, variable_from, start_of}
 use Rattle.goal_choice.specs.Walk.{has_value, lesser, least_with}

@@ -7,7 +7,7 @@ use Rattle.std.proofs.lemmas.List.{take_all}
 use Rattle.clause_base.specs.Choice.{Known}
 use Rattle.clause_base.specs.Told.{told_value, told_values}
 use Rattle.clause_base.proofs.ToldLemmas.{told_same, told_set, more_elsewhere, more_given, more_open}
-use Rattle.gt_core.specs.Layout.{variables}
+use Rattle.horizon_formula.specs.Layout.{variables}
 use Rattle.goal_choice.specs.Kept.{WalkView, IsWalk, IsSameFrom}
 use Rattle.goal_choice.specs.Told.{ToldView, IsTold, walk_of}
 use Rattle.goal_choice.proofs.Kept.{seen_on}

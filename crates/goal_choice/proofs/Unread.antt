@@ -6,8 +6,8 @@ use Rattle.std.proofs.lemmas.Option.{slice_get_within}
 use Rattle.std.specs.Prelude.{slice_index_or, not}
 use Rattle.std.specs.List.{slice_get, AllByRecursion}
 use Rattle.clause_base.specs.Choice.{Known, same_value}
-use Rattle.gt_core.specs.Layout.{Layout, width, fact_at}
-use Rattle.gt_core.proofs.LayoutLaw.{product_le}
+use Rattle.horizon_formula.specs.Layout.{Layout, width, fact_at}
+use Rattle.horizon_formula.proofs.LayoutLaw.{product_le}
 use Rattle.goal_choice.specs.Means.{Supporter, Means, variable_from, start_of}
 use Rattle.goal_choice.specs.Walk.{Support, Chooses, Wants, has_value, is_value, is_false_at, lesser, least_with, support_without, support_of, both, supports}
 use Rattle.goal_choice.specs.Members.{IsWithin, AreMeans}

@@ -2,7 +2,7 @@
 use Rattle.std.specs.Prelude.{◌≡◌, ℕ, ◌+◌, ◌/◌, ◌<◌, ◌≤◌, List, [], Bool, true, Option, Some, None, length, slice_index_or, slice_set}
 use Rattle.std.specs.List.{AllByRecursion}
 use Rattle.clause_base.specs.Choice.{Known}
-use Rattle.gt_core.specs.Layout.{variables}
+use Rattle.horizon_formula.specs.Layout.{variables}
 use Rattle.goal_choice.specs.Means.{Means, variable_from, start_of}
 use Rattle.goal_choice.specs.Walk.{has_value, is_false_at, support_of, supports, walk}
 use Rattle.goal_choice.specs.Supports.{IsStep}

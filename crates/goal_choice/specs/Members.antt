@@ -1,7 +1,7 @@
 -- Sets of fact literals, and what the parts of a chooser keep.
 use Rattle.std.specs.Prelude.{◌≡◌, ℕ, ◌+◌, ◌*◌, ◌/◌, ◌<◌, ◌≤◌, List, [], ◌∷◌, true, length, nat_le, slice_index_or}
 use Rattle.std.specs.List.{filter, range_with_len, AllByRecursion}
-use Rattle.gt_core.specs.Layout.{Layout}
+use Rattle.horizon_formula.specs.Layout.{Layout}
 use Rattle.bit_sets.specs.Rows.{row_has, room}
 use Rattle.clause_base.specs.Clause.{IsRising}
 use Rattle.goal_choice.specs.Means.{Supporter, Means}

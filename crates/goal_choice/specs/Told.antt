@@ -1,7 +1,7 @@
 -- What is kept of the walk over the values of literals that were told.
 use Rattle.std.specs.Prelude.{◌≡◌, ℕ, ◌/◌, ◌<◌, ◌≤◌, List, All}
 use Rattle.clause_base.specs.Told.{told_values}
-use Rattle.gt_core.specs.Layout.{variables}
+use Rattle.horizon_formula.specs.Layout.{variables}
 use Rattle.goal_choice.specs.Means.{Means}
 use Rattle.goal_choice.specs.Members.{Literals}
 use Rattle.goal_choice.specs.Kept.{WalkView, IsWalk}

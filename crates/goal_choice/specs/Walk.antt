@@ -1,6 +1,6 @@
 -- The walk from the goals at the last time to the initial state (Rintanen, Artificial Intelligence 193, 2012).
 use Rattle.std.specs.Prelude.{ℕ, zero, suc, ◌%◌, ◌/◌, ◌==◌, List, [], ◌∷◌, ◌++◌, Bool, true, false, not, Option, Some, None, if◌then◌else◌, nat_le, fold, slice_get, slice_index_or}
-use Rattle.gt_core.specs.Layout.{Layout, fact_at}
+use Rattle.horizon_formula.specs.Layout.{Layout, fact_at}
 use Rattle.clause_base.specs.Literal.{literal_of}
 use Rattle.clause_base.specs.Clause.{put}
 use Rattle.clause_base.specs.Choice.{Known, same_value}

@@ -2,7 +2,7 @@
 
 ghost use Rattle.std.specs.Prelude.{◌≡◌, length, IfOk};
 ghost use Rattle.gt_core.specs.Lawful.{conditional_in};
-ghost use Rattle.gt_core.specs.Layout.{variables};
+ghost use Rattle.horizon_formula.specs.Layout.{variables};
 ghost use Rattle.goal_choice.specs.Means.{means_of, gathered_of};
 ghost use Rattle.goal_choice.specs.Choice.{choice_by, or_plain};
 ghost use Rattle.goal_choice.specs.ChoiceLaw.{choice-open};
@@ -15,8 +15,8 @@ use clause_base::chooser::{Chooser, PlainChooser};
 use clause_base::literal::Lit;
 use clause_base::memory::Memory;
 use clause_base::values::Values;
-use gt_core::layout::Layout;
 use gt_core::task::Task;
+use horizon_formula::layout::Layout;
 use std::alloc::Global;
 use std::marker::Model;
 

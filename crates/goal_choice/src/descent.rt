@@ -1,7 +1,7 @@
 //! A walk goes down from a time.
 
 ghost use Rattle.std.specs.Prelude.{◌≡◌, ◌-◌, ◌≤◌, ◌<◌, Some, length, IfSome, IfNone};
-ghost use Rattle.gt_core.specs.Layout.{variables};
+ghost use Rattle.horizon_formula.specs.Layout.{variables};
 ghost use Rattle.goal_choice.specs.Kept.{walked, IsWalk};
 
 use crate::literals::Literals;

@@ -1,7 +1,7 @@
 //! What a wanted literal asks for.
 
 ghost use Rattle.std.specs.Prelude.{◌≡◌, ◌<◌, ◌/◌, ◌%◌, ◌==◌, not, length, Some};
-ghost use Rattle.gt_core.specs.Layout.{variables};
+ghost use Rattle.horizon_formula.specs.Layout.{variables};
 ghost use Rattle.goal_choice.specs.Walk.{is_false_at, support_of};
 ghost use Rattle.goal_choice.specs.Supports.{meaning, WantsWithin};
 

@@ -2,7 +2,7 @@
 
 ghost use Rattle.std.specs.Prelude.{◌≡◌, ◌-◌, ◌/◌, ◌≤◌, ◌<◌, [], ◌∷◌, ◌++◌, false, Some, None, length, take, IfOk};
 ghost use Rattle.std.specs.Bool.{OnTrue};
-ghost use Rattle.gt_core.specs.Layout.{variables, fact_at};
+ghost use Rattle.horizon_formula.specs.Layout.{variables, fact_at};
 ghost use Rattle.clause_base.specs.Told.{told_value, told_values};
 ghost use Rattle.goal_choice.specs.Kept.{walked, IsSameFrom};
 ghost use Rattle.goal_choice.specs.Told.{walk_of};

@@ -1,7 +1,7 @@
 //! A step of the walk from the goals at the last time to the initial state.
 
 ghost use Rattle.std.specs.Prelude.{◌≡◌, ◌<◌, [], length};
-ghost use Rattle.gt_core.specs.Layout.{variables};
+ghost use Rattle.horizon_formula.specs.Layout.{variables};
 ghost use Rattle.goal_choice.specs.Walk.{support_of, supports};
 ghost use Rattle.goal_choice.specs.Supports.{IsStep};
 

@@ -12,6 +12,5 @@ pub mod SequenceLaw
 pub mod ListOrder
 pub mod Within
 pub mod NextLaw
-pub mod LayoutLaw
 pub mod ClausesLaw
 pub mod PutLaw

@@ -9,5 +9,4 @@ pub mod Step
 pub mod AllStep
 pub mod Reached
 pub mod Clauses
-pub mod Layout
 pub mod Laws

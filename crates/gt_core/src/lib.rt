@@ -1,5 +1,4 @@
-//! Grounded planning tasks over numbered facts, the clauses known of their states, and the numbers of a formula's
-//! variables. The definitions of planning that every crate above speaks of stand in `specs/`: literals and tasks,
+//! Grounded planning tasks over numbered facts, and the clauses known of their states. The definitions of planning that every crate above speaks of stand in `specs/`: literals and tasks,
 //! execution, which actions disable each other, the published order, steps and step plans.
 #![tactic(auto)]
 
@@ -8,7 +7,6 @@ mod clause_list;
 pub mod eff;
 mod lawful;
 pub mod laws;
-pub mod layout;
 pub mod lits;
 pub mod memory;
 pub mod pairs;

@@ -3,7 +3,7 @@ use Rattle.std.specs.List.{flat_map, cons_option, AllByRecursion}
 use Rattle.gt_core.specs.Literal.{opposite, range}
 use Rattle.gt_core.specs.Task.{Task, Action}
 use Rattle.gt_core.specs.Interference.{takes, reads}
-use Rattle.gt_core.specs.Layout.{Layout, action_at, chain_at, fact_at}
+use Rattle.horizon_formula.specs.Layout.{Layout, action_at, chain_at, fact_at}
 use Rattle.clause_base.specs.Clause.{has_opposite_pair, put}
 use Rattle.horizon_formula.specs.Clause.{Literal, Is, Not, code}
 use Rattle.horizon_formula.specs.Chain.{if_read, enter_clauses, pass_clauses}

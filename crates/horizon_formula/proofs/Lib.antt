@@ -1,3 +1,4 @@
+pub mod LayoutLaw
 pub mod Satisfied
 pub mod Counts
 pub mod CodedLaw

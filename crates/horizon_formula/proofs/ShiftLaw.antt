@@ -2,7 +2,7 @@ use Rattle.std.proofs.Common.{arith, ◌≡◌, ℕ, ◌+◌, ◌-◌, ◌*◌, 
 use Rattle.std.specs.List.{filter, flat_map}
 use Rattle.std.proofs.lemmas.Nat.{row_fits}
 use Rattle.gt_core.specs.Task.{Task, EffectOf, effects}
-use Rattle.gt_core.specs.Layout.{Layout, width, action_at, conditional_at, chain_at, fact_at}
+use Rattle.horizon_formula.specs.Layout.{Layout, width, action_at, conditional_at, chain_at, fact_at}
 use Rattle.gt_core.proofs.Basics.{Among, apart}
 use Rattle.clause_base.proofs.Moved.{moved_below, moved_above, moved_rises, moved_turns}
 use Rattle.horizon_formula.specs.Variables.{Row, rows, rows_from, has_condition, layout_of, variable_at}

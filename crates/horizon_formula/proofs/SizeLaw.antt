@@ -4,7 +4,7 @@ use Rattle.std.proofs.lemmas.Bool.Decides.{nat_tests}
 use Rattle.gt_core.specs.Literal.{range, range_from}
 use Rattle.gt_core.specs.Task.{Task, initial_state}
 use Rattle.gt_core.specs.Interference.{takes, reads}
-use Rattle.gt_core.specs.Layout.{Layout, action_at, chain_at, fact_at}
+use Rattle.horizon_formula.specs.Layout.{Layout, action_at, chain_at, fact_at}
 use Rattle.gt_core.proofs.Basics.{Among, not_true, test_same}
 use Rattle.gt_core.proofs.Literals.{below_range}
 use Rattle.clause_base.specs.Literal.{opposite}

@@ -4,7 +4,7 @@ use Rattle.std.proofs.lemmas.Nat.{row_fits}
 use Rattle.std.proofs.lemmas.List.Elements.{All-nil, All-cons}
 use Rattle.gt_core.specs.Literal.{range}
 use Rattle.gt_core.specs.Task.{Task, effects, initial_state}
-use Rattle.gt_core.specs.Layout.{Layout, width, variables, action_at, conditional_at, chain_at, fact_at}
+use Rattle.horizon_formula.specs.Layout.{Layout, width, variables, action_at, conditional_at, chain_at, fact_at}
 use Rattle.gt_core.proofs.Basics.{Among}
 use Rattle.gt_core.proofs.Literals.{below_range}
 use Rattle.clause_base.specs.Clause.{HasVariablesBelow, has_opposite_pair, put}

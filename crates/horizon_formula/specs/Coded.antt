@@ -1,7 +1,7 @@
 use Rattle.std.specs.Prelude.{◌≡◌, ℕ, ◌+◌, List, [], ◌∷◌, ◌++◌, map, length}
 use Rattle.std.specs.List.{filter_map}
 use Rattle.gt_core.specs.Task.{Task}
-use Rattle.gt_core.specs.Layout.{variables}
+use Rattle.horizon_formula.specs.Layout.{variables}
 use Rattle.clause_base.specs.Clause.{clause_of}
 use Rattle.clause_base.specs.Formula.{Cnf}
 use Rattle.horizon_formula.specs.Clause.{Literal, code}

@@ -3,7 +3,7 @@ use Rattle.std.specs.List.{list_any, filter, flat_map}
 use Rattle.gt_core.specs.Literal.{opposite, range}
 use Rattle.gt_core.specs.Task.{Task, EffectOf, Action, initial_state}
 use Rattle.gt_core.specs.Interference.{takes, reads}
-use Rattle.gt_core.specs.Layout.{Layout, action_at, chain_at, fact_at}
+use Rattle.horizon_formula.specs.Layout.{Layout, action_at, chain_at, fact_at}
 use Rattle.horizon_formula.specs.Clause.{Literal, Is, Not}
 use Rattle.horizon_formula.specs.Chain.{enter_clauses, pass_clauses}
 use Rattle.horizon_formula.specs.Variables.{Row, rows, has_condition, Chain, chains, layout_of, variable_at}

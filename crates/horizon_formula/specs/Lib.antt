@@ -1,3 +1,4 @@
+pub mod Layout
 pub mod Clause
 pub mod Chain
 pub mod Variables

@@ -4,7 +4,7 @@ use Rattle.gt_core.specs.Literal.{range}
 use Rattle.gt_core.specs.Task.{Task, EffectOf, effects}
 use Rattle.gt_core.specs.Lawful.{conditional_in}
 use Rattle.gt_core.specs.Interference.{takes, reads}
-use Rattle.gt_core.specs.Layout.{Layout, action_at, conditional_at}
+use Rattle.horizon_formula.specs.Layout.{Layout, action_at, conditional_at}
 use Rattle.horizon_formula.specs.Chain.{chain_length}
 
 -- an effect is conditional where its condition is not empty

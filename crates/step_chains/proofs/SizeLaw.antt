@@ -3,7 +3,7 @@ use Rattle.std.specs.List.{AllByRecursion}
 use Rattle.std.specs.Prelude.{sum_by}
 use Rattle.std.proofs.lemmas.List.{drop_more, drop_all}
 use Rattle.std.proofs.lemmas.List.Sums.{sum_by-cons}
-use Rattle.gt_core.specs.Layout.{Layout, action_at, chain_at}
+use Rattle.horizon_formula.specs.Layout.{Layout, action_at, chain_at}
 use Rattle.horizon_formula.specs.Clause.{Literal, Is, Not, code}
 use Rattle.horizon_formula.specs.Coded.{coded, literals_in}
 use Rattle.horizon_formula.proofs.SizeLaw.{size_append}

@@ -2,7 +2,7 @@
 -- they are left out.
 use Rattle.std.specs.Prelude.{ℕ, ◌+◌, List, [], ◌∷◌, Bool, ◌&&◌, ◌||◌, if◌then◌else◌}
 use Rattle.std.specs.List.{list_any}
-use Rattle.gt_core.specs.Layout.{Layout, action_at, chain_at}
+use Rattle.horizon_formula.specs.Layout.{Layout, action_at, chain_at}
 use Rattle.horizon_formula.specs.Clause.{Literal, Is, Not}
 use Rattle.horizon_formula.specs.Chain.{chain_length, enter_clauses, pass_clauses}
 use Rattle.step_chains.specs.declared.link.Link.{Link}

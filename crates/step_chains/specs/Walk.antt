@@ -1,6 +1,6 @@
 -- A walk along the links of a chain. Only private clauses speak of it.
 use Rattle.std.specs.Prelude.{◌≡◌, ℕ, ◌+◌, ◌<◌, ◌≤◌, List, ◌&&◌, ◌||◌, if◌then◌else◌, count_by}
-use Rattle.gt_core.specs.Layout.{Layout}
+use Rattle.horizon_formula.specs.Layout.{Layout}
 use Rattle.step_chains.specs.declared.link.Link.{Link}
 use Rattle.step_chains.specs.declared.walk.Walk.{Walk}
 use Rattle.step_chains.specs.Links.{link_count}

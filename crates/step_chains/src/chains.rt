@@ -4,7 +4,7 @@ ghost use Rattle.std.specs.List.{flat_map, AllByRecursion};
 ghost use Rattle.gt_core.specs.Task.{Task as TaskValue};
 ghost use Rattle.gt_core.specs.Literal.{range};
 ghost use Rattle.gt_core.specs.Published.{Pairwise, order_of};
-ghost use Rattle.gt_core.specs.Layout.{Layout as LayoutValue, action_at, chain_at};
+ghost use Rattle.horizon_formula.specs.Layout.{Layout as LayoutValue, action_at, chain_at};
 ghost use Rattle.horizon_formula.specs.Variables.{chain_places, chains};
 ghost use Rattle.horizon_formula.specs.Formula.{chain_clauses};
 ghost use Rattle.horizon_formula.specs.Coded.{coded, literals_in};

@@ -5,7 +5,7 @@ ghost use Rattle.std.specs.List.{cons_option};
 ghost use Rattle.horizon_formula.specs.Formula.{chain_clauses};
 ghost use Rattle.step_chains.specs.Chains.{AreChains, all_clauses};
 ghost use Rattle.gt_core.specs.Task.{Task};
-ghost use Rattle.gt_core.specs.Layout.{action_at, chain_at};
+ghost use Rattle.horizon_formula.specs.Layout.{action_at, chain_at};
 ghost use Rattle.horizon_formula.specs.Clause.{Is, Not, code};
 ghost use Rattle.step_chains.specs.Walk.{HasChain};
 ghost use Rattle.step_chains.specs.Links.{enter_links, pass_links, enter_of, pass_of};
@@ -19,7 +19,7 @@ use crate::walk::Walk;
 use clause_base::clause_list::ClauseList;
 use clause_base::literal::Lit;
 use clause_base::memory::Memory;
-use gt_core::layout::Layout;
+use horizon_formula::layout::Layout;
 
 /// Appends the clause of two literals, unless they are opposite.
 fn add_pair(clauses: &mut ClauseList, one: Lit, other: Lit) -> Result<(), Memory>

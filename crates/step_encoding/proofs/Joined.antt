@@ -2,7 +2,7 @@ use Rattle.std.proofs.Common.{arith, ◌≡◌, ℕ, zero, suc, ◌+◌, ◌-◌
 use Rattle.std.specs.List.{flat_map, range_with_len, AllByRecursion}
 use Rattle.std.proofs.lemmas.List.Elements.{All-nil, All-cons}
 use Rattle.gt_core.specs.Literal.{range, range_from}
-use Rattle.gt_core.specs.Layout.{Layout, width, variables}
+use Rattle.horizon_formula.specs.Layout.{Layout, width, variables}
 use Rattle.clause_base.specs.Clause.{HasVariablesBelow}
 use Rattle.clause_base.specs.Formula.{Cnf}
 use Rattle.clause_base.specs.Repeats.{Repeats, IsRepeatable, moved_code, repeated, variables_of}

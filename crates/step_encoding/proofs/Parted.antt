@@ -3,7 +3,7 @@ use Rattle.std.specs.List.{flat_map}
 use Rattle.std.proofs.Math.Nat.{mul-le-mul_left}
 use Rattle.gt_core.specs.Literal.{range}
 use Rattle.gt_core.specs.Task.{Task}
-use Rattle.gt_core.specs.Layout.{Layout, width, variables, fact_at}
+use Rattle.horizon_formula.specs.Layout.{Layout, width, variables, fact_at}
 use Rattle.gt_core.proofs.Basics.{Among}
 use Rattle.gt_core.proofs.Literals.{below_range}
 use Rattle.clause_base.specs.Formula.{Cnf}

@@ -3,7 +3,7 @@ use Rattle.std.specs.List.{flat_map}
 use Rattle.std.proofs.lemmas.List.{length-append}
 use Rattle.gt_core.specs.Literal.{range, range_from}
 use Rattle.gt_core.specs.Task.{Task, initial_state}
-use Rattle.gt_core.specs.Layout.{Layout, fact_at, variables}
+use Rattle.horizon_formula.specs.Layout.{Layout, fact_at, variables}
 use Rattle.std.specs.Prelude.{slice_index_or}
 use Rattle.gt_core.specs.Lawful.{is_task}
 use Rattle.gt_core.proofs.Basics.{each_at}

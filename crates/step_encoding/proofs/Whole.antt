@@ -5,7 +5,7 @@ use Rattle.std.proofs.Math.Nat.{mul-le-mul_left, mul_comm}
 use Rattle.gt_core.specs.Literal.{range}
 use Rattle.gt_core.specs.Task.{Task}
 use Rattle.gt_core.specs.Lawful.{conditional_in, is_task}
-use Rattle.gt_core.specs.Layout.{Layout, width, variables}
+use Rattle.horizon_formula.specs.Layout.{Layout, width, variables}
 use Rattle.gt_core.specs.Published.{Pairwise, order_of}
 use Rattle.gt_core.proofs.PublishedLaw.{published_apart, component_apart}
 use Rattle.gt_core.proofs.Basics.{each_from}

@@ -1,7 +1,7 @@
 use Rattle.std.specs.Prelude.{◌≡◌, ℕ, length}
 use Rattle.gt_core.specs.Task.{Task}
 use Rattle.gt_core.specs.Lawful.{conditional_in}
-use Rattle.gt_core.specs.Layout.{Layout, variables}
+use Rattle.horizon_formula.specs.Layout.{Layout, variables}
 use Rattle.clause_base.specs.Formula.{Cnf}
 use Rattle.horizon_formula.specs.Coded.{literals_in}
 

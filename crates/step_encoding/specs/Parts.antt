@@ -1,6 +1,6 @@
 use Rattle.std.specs.Prelude.{ℕ, ◌+◌, ◌*◌, ◌/◌, ◌<◌, ◌≤◌, List, ◌++◌, map, length}
 use Rattle.std.specs.List.{AllByRecursion}
-use Rattle.gt_core.specs.Layout.{Layout, width}
+use Rattle.horizon_formula.specs.Layout.{Layout, width}
 use Rattle.clause_base.specs.Formula.{Cnf}
 use Rattle.horizon_formula.specs.Shift.{moved_code}
 

@@ -2,7 +2,7 @@
 
 ghost use Rattle.std.specs.Prelude.{◌≡◌, ◌+◌, ◌/◌, ◌≤◌, ◌<◌, [], ◌∷◌, map, length, if◌then◌else◌, OnOk};
 ghost use Rattle.gt_core.specs.Task.{initial_state};
-ghost use Rattle.gt_core.specs.Layout.{fact_at, variables};
+ghost use Rattle.horizon_formula.specs.Layout.{fact_at, variables};
 ghost use Rattle.horizon_formula.specs.Clause.{Is, Not, code};
 ghost use Rattle.horizon_formula.specs.Formula.{literal_over, initial_clauses};
 ghost use Rattle.horizon_formula.specs.Coded.{coded};
@@ -11,8 +11,8 @@ ghost use Rattle.step_encoding.specs.Parts.{added, HasClauseRoom};
 use clause_base::formula::Formula;
 use clause_base::literal::Lit;
 use clause_base::memory::Memory;
-use gt_core::layout::Layout;
 use gt_core::task::Task;
+use horizon_formula::layout::Layout;
 use step_template::literals::fact_lit;
 
 /// Adds the clause of one literal.

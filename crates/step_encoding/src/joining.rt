@@ -3,7 +3,7 @@
 ghost use Rattle.std.specs.Prelude.{◌≡◌, ◌+◌, ◌*◌, ◌≤◌, [], ◌∷◌, ◌++◌, map, length, if◌then◌else◌, OnOk, IfOk};
 ghost use Rattle.std.specs.List.{flat_map};
 ghost use Rattle.gt_core.specs.Literal.{range};
-ghost use Rattle.gt_core.specs.Layout.{fact_at, variables};
+ghost use Rattle.horizon_formula.specs.Layout.{fact_at, variables};
 ghost use Rattle.horizon_formula.specs.Clause.{code};
 ghost use Rattle.horizon_formula.specs.Formula.{literal_over, initial_clauses};
 ghost use Rattle.horizon_formula.specs.Coded.{coded};
@@ -16,8 +16,8 @@ use clause_base::formula::Formula;
 use clause_base::memory::Memory;
 use clause_base::repeated::Repeated;
 use clause_base::shared_list::SharedList;
-use gt_core::layout::Layout;
 use gt_core::task::Task;
+use horizon_formula::layout::Layout;
 use std::alloc::Global;
 
 /// The formula without clauses, with room for those of its ends.

@@ -6,7 +6,7 @@ use Rattle.gt_core.specs.Execution.{gains, loses, CanRun, run}
 use Rattle.gt_core.specs.Interference.{disables, Knows}
 use Rattle.gt_core.specs.Step.{gained, lost, IsStep, IsStepPlan}
 use Rattle.gt_core.specs.Published.{Pairwise, order_of, KeepsApart}
-use Rattle.gt_core.specs.Layout.{action_at}
+use Rattle.horizon_formula.specs.Layout.{action_at}
 use Rattle.gt_core.proofs.Basics.{Among, each_at, each_from, any_same, same_if}
 use Rattle.gt_core.proofs.Literals.{holds_same, in_among, among_in, among_range, below_range}
 use Rattle.gt_core.proofs.Pairwise.{among_left, flat_among, filtered, into_filter, pairwise_both}

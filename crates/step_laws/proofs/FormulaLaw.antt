@@ -5,7 +5,7 @@ use Rattle.gt_core.specs.Task.{Task, EffectOf, effects, precondition, initial_st
 use Rattle.gt_core.specs.Interference.{disables, Knows, takes, reads}
 use Rattle.gt_core.specs.Step.{IsStep}
 use Rattle.gt_core.specs.Published.{Pairwise}
-use Rattle.gt_core.specs.Layout.{Layout, action_at, conditional_at, chain_at, fact_at}
+use Rattle.horizon_formula.specs.Layout.{Layout, action_at, conditional_at, chain_at, fact_at}
 use Rattle.gt_core.proofs.Basics.{apart, Among, all_at, all_from, each_at, each_from, any_same, all_same, or_split, or_left, or_right, not_false, not_true, test_same}
 use Rattle.gt_core.proofs.Literals.{holds_same, below_range}
 use Rattle.horizon_formula.specs.Clause.{Is, Not, clause_true, AllTrue}

@@ -11,3 +11,7 @@ pub mod FormLaw
 pub mod SequenceLaw
 pub mod MembersLaw
 pub mod ExistsSteps
+pub mod AllBackward
+pub mod AllWays
+pub mod AllReading
+pub mod AllWriting

@@ -6,7 +6,7 @@ use Rattle.gt_core.specs.Interference.{disables, Knows}
 use Rattle.gt_core.specs.Step.{next}
 use Rattle.gt_core.specs.Execution.{gains, loses, IsGoal}
 use Rattle.gt_core.specs.Published.{Pairwise, order_of, KeepsApart}
-use Rattle.gt_core.specs.Layout.{Layout, action_at, conditional_at, chain_at, fact_at}
+use Rattle.horizon_formula.specs.Layout.{Layout, action_at, conditional_at, chain_at, fact_at}
 use Rattle.gt_core.proofs.Basics.{passing, all_from, each_from, or_split, or_left, or_right, and_split, same_test, test_same}
 use Rattle.gt_core.proofs.Literals.{among_range}
 use Rattle.gt_core.proofs.Pairwise.{pairwise_flat}

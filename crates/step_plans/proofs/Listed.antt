@@ -12,7 +12,7 @@ use Rattle.gt_core.specs.Laws.{StepPlanRunsInOrder, IsRunToGoal}
 use Rattle.gt_core.proofs.Basics.{Among, same_if}
 use Rattle.gt_core.proofs.Literals.{among_in, in_among}
 use Rattle.gt_core.proofs.Pairwise.{filtered, into_filter}
-use Rattle.gt_core.specs.Layout.{action_at}
+use Rattle.horizon_formula.specs.Layout.{action_at}
 use Rattle.horizon_formula.specs.Variables.{layout_of}
 use Rattle.pd_model.specs.Plan.{IsPlan, meets_goal}
 use Rattle.pd_model.specs.declared.calls.Call.{Call}

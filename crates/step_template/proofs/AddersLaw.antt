@@ -5,7 +5,7 @@ use Rattle.std.proofs.lemmas.List.{append-nil, drop_more, take-append-drop}
 use Rattle.gt_core.specs.Literal.{opposite}
 use Rattle.gt_core.specs.Task.{Effect, Task, owned, action}
 use Rattle.gt_core.specs.Lawful.{is_conditional, are_effects, is_action, is_task}
-use Rattle.gt_core.specs.Layout.{Layout}
+use Rattle.horizon_formula.specs.Layout.{Layout}
 use Rattle.gt_core.proofs.Basics.{apart, same_test, test_same, all_at}
 use Rattle.gt_core.proofs.Within.{lawful, among_at}
 use Rattle.horizon_formula.specs.Variables.{Row, rows_from}

@@ -1,7 +1,7 @@
 use Rattle.std.proofs.Common.{arith, ◌≡◌, ℕ, ◌<◌, ◌≤◌}
-use Rattle.gt_core.specs.Layout.{Layout, IsLayout, action_at, conditional_at, fact_at}
+use Rattle.horizon_formula.specs.Layout.{Layout, IsLayout, action_at, conditional_at, fact_at}
 pub use Rattle.gt_core.proofs.Lists.{each_number as each_place}
-use Rattle.gt_core.proofs.LayoutLaw.{step_within, time_within}
+use Rattle.horizon_formula.proofs.LayoutLaw.{step_within, time_within}
 
 -- Variables of the first step, and of facts, have codes in 32 bits.
 

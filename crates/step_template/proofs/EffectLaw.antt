@@ -6,7 +6,7 @@ use Rattle.gt_core.specs.Task.{Effect, Action, Task, owned, effects_from, action
 use Rattle.gt_core.specs.Lawful.{is_conditional, conditional_in, is_task}
 use Rattle.gt_core.specs.Active.{EffectWithin}
 use Rattle.gt_core.proofs.Within.{action_effects_within}
-use Rattle.gt_core.specs.Layout.{Layout, action_at, fact_at}
+use Rattle.horizon_formula.specs.Layout.{Layout, action_at, fact_at}
 use Rattle.clause_base.specs.Clause.{clause_of}
 use Rattle.horizon_formula.specs.Clause.{Literal, Is, Not, code}
 use Rattle.horizon_formula.specs.Variables.{Row, rows, rows_from, variable_at}

@@ -4,7 +4,7 @@ use Rattle.std.proofs.lemmas.List.{append_assoc, drop_more, drop_all}
 use Rattle.std.proofs.lemmas.List.Sums.{sum_by-cons, sum_by-append}
 use Rattle.gt_core.specs.Task.{Task, Action, Effect, action, effects_from}
 use Rattle.gt_core.specs.Lawful.{is_conditional, is_literal_set, are_effects, conditional_in, is_task}
-use Rattle.gt_core.specs.Layout.{Layout, action_at, fact_at}
+use Rattle.horizon_formula.specs.Layout.{Layout, action_at, fact_at}
 use Rattle.gt_core.proofs.Basics.{and_both}
 use Rattle.std.proofs.Common.{nat_lt}
 use Rattle.std.proofs.lemmas.Bool.Decides.{nat_tests}

@@ -3,7 +3,7 @@ use Rattle.std.specs.List.{cons_option}
 use Rattle.std.proofs.lemmas.Bool.Decides.{nat_tests}
 use Rattle.gt_core.specs.Literal.{range}
 use Rattle.gt_core.specs.Task.{Task}
-use Rattle.gt_core.specs.Layout.{Layout, fact_at}
+use Rattle.horizon_formula.specs.Layout.{Layout, fact_at}
 use Rattle.action_order.proofs.Lists.{range_more}
 use Rattle.clause_base.specs.Clause.{clause_of}
 use Rattle.horizon_formula.specs.Clause.{Literal, Is, Not, code}

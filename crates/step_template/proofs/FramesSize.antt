@@ -7,7 +7,7 @@ use Rattle.std.proofs.lemmas.List.Sums.{sum_by-cons, sum_by-append}
 use Rattle.gt_core.specs.Literal.{range, range_from}
 use Rattle.gt_core.specs.Task.{Task, Action, Effect, effects_from}
 use Rattle.gt_core.specs.Lawful.{is_conditional, are_effects, is_action, conditional_in, is_task}
-use Rattle.gt_core.specs.Layout.{Layout, width, action_at, fact_at}
+use Rattle.horizon_formula.specs.Layout.{Layout, width, action_at, fact_at}
 use Rattle.gt_core.proofs.Basics.{and_split, each_at, each_from, same_test, test_same, not_true}
 use Rattle.gt_core.proofs.Pairwise.{pairwise_joined}
 use Rattle.gt_core.proofs.Within.{lawful}

@@ -3,7 +3,7 @@ use Rattle.std.proofs.lemmas.List.{drop_more, drop_all, get_or-set_same, get_or-
 use Rattle.std.proofs.lemmas.Bool.Decides.{nat_tests}
 use Rattle.gt_core.specs.Task.{Effect, Action, owned, effects_from}
 use Rattle.gt_core.specs.Lawful.{is_conditional}
-use Rattle.gt_core.specs.Layout.{Layout}
+use Rattle.horizon_formula.specs.Layout.{Layout}
 use Rattle.gt_core.proofs.Basics.{same_test, test_same}
 use Rattle.horizon_formula.specs.Clause.{Is, code}
 use Rattle.horizon_formula.specs.Variables.{Row, rows_from, variable_at}

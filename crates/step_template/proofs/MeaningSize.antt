@@ -4,7 +4,7 @@ use Rattle.std.proofs.lemmas.Bool.Decides.{nat_tests}
 use Rattle.gt_core.specs.Literal.{opposite}
 use Rattle.gt_core.specs.Task.{Effect}
 use Rattle.gt_core.specs.Lawful.{are_rising, is_literal_set, is_conditional}
-use Rattle.gt_core.specs.Layout.{Layout, width, action_at, conditional_at, fact_at}
+use Rattle.horizon_formula.specs.Layout.{Layout, width, action_at, conditional_at, fact_at}
 use Rattle.gt_core.proofs.Basics.{Among, and_split, or_split, test_same, same_test, apart}
 use Rattle.gt_core.proofs.Literals.{half_opposite, even_is_add, add_opposite, odd_is_delete}
 use Rattle.gt_core.proofs.Pairwise.{among_map}

@@ -1,7 +1,7 @@
 use Rattle.std.proofs.Common.{arith, ◌≡◌, ◌==◌, ℕ, ◌+◌, ◌*◌, ◌/◌, ◌%◌, Bool, true, false, refl, sym, ap, ◌∙◌, if◌then◌else◌}
 use Rattle.std.proofs.lemmas.Bool.Decides.{nat_tests}
 use Rattle.gt_core.specs.Literal.{opposite}
-use Rattle.gt_core.specs.Layout.{Layout, width, action_at, conditional_at, fact_at}
+use Rattle.horizon_formula.specs.Layout.{Layout, width, action_at, conditional_at, fact_at}
 use Rattle.gt_core.proofs.Literals.{half_opposite, even_is_add, odd_is_delete, add_opposite, delete_opposite}
 use Rattle.horizon_formula.specs.Clause.{Is, Not, code}
 use Rattle.horizon_formula.specs.Formula.{literal_over}

@@ -1,7 +1,7 @@
 use Rattle.std.proofs.Common.{arith, ◌≡◌, ◌<◌, ◌≤◌, ◌+◌, ℕ, List, length, take, count_by, true, ap}
 use Rattle.gt_core.specs.Task.{Effect, Action, Task, action}
 use Rattle.gt_core.specs.Lawful.{is_conditional, conditional_in, is_task}
-use Rattle.gt_core.specs.Layout.{Layout}
+use Rattle.horizon_formula.specs.Layout.{Layout}
 use Rattle.gt_core.proofs.Within.{lawful}
 use Rattle.step_template.specs.Rows.{ArePlaced}
 use Rattle.step_template.proofs.RowLaw.{first_more, taken_and_left}

@@ -9,7 +9,7 @@ use Rattle.std.proofs.lemmas.List.Folds.{list_any-append}
 use Rattle.gt_core.specs.Literal.{opposite}
 use Rattle.gt_core.specs.Task.{Effect, EffectOf, owned}
 use Rattle.gt_core.specs.Lawful.{is_conditional, are_effects}
-use Rattle.gt_core.specs.Layout.{Layout, width, action_at, conditional_at, fact_at}
+use Rattle.horizon_formula.specs.Layout.{Layout, width, action_at, conditional_at, fact_at}
 use Rattle.gt_core.proofs.Basics.{Among, same_test}
 use Rattle.gt_core.proofs.Literals.{odd_is_delete, delete_opposite}
 use Rattle.horizon_formula.specs.Clause.{Literal, Is, Not, code}

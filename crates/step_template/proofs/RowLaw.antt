@@ -5,7 +5,7 @@ use Rattle.std.proofs.lemmas.List.Sums.{sum_by-cons, sum_by-append}
 use Rattle.std.proofs.lemmas.Bool.Decides.{nat_tests}
 use Rattle.gt_core.specs.Task.{Effect, Action, Task, EffectOf, owned, effects_from, action}
 use Rattle.gt_core.specs.Lawful.{is_conditional, conditional_in}
-use Rattle.gt_core.specs.Layout.{Layout}
+use Rattle.horizon_formula.specs.Layout.{Layout}
 use Rattle.gt_core.proofs.Basics.{same_test}
 use Rattle.horizon_formula.specs.Clause.{Is, code}
 use Rattle.horizon_formula.specs.Variables.{Row, rows_from, variable_at}

@@ -2,7 +2,7 @@ use Rattle.std.proofs.Common.{arith, ◌≡◌, ℕ, ◌+◌, ◌*◌, ◌≤◌
 use Rattle.gt_core.specs.Literal.{range}
 use Rattle.gt_core.specs.Task.{Task}
 use Rattle.gt_core.specs.Lawful.{is_task, conditional_in}
-use Rattle.gt_core.specs.Layout.{Layout, action_at, chain_at, fact_at}
+use Rattle.horizon_formula.specs.Layout.{Layout, action_at, chain_at, fact_at}
 use Rattle.gt_core.proofs.Within.{lawful}
 use Rattle.horizon_formula.specs.Variables.{rows, variable_at, layout_of, chains}
 use Rattle.horizon_formula.specs.Formula.{precondition_clauses, effect_clauses, frame_clauses, chain_clauses, step_clauses}

@@ -2,7 +2,7 @@ use Rattle.std.proofs.Common.{arith, ◌≡◌, ℕ, ◌+◌, List, ◌++◌, tr
 use Rattle.gt_core.specs.Literal.{range}
 use Rattle.gt_core.specs.Task.{Task}
 use Rattle.gt_core.specs.Lawful.{is_task}
-use Rattle.gt_core.specs.Layout.{action_at, chain_at, fact_at}
+use Rattle.horizon_formula.specs.Layout.{action_at, chain_at, fact_at}
 use Rattle.horizon_formula.specs.Variables.{layout_of, chains, rows, variable_at}
 use Rattle.horizon_formula.specs.Formula.{precondition_clauses, effect_clauses, frame_clauses, chain_clauses}
 use Rattle.horizon_formula.specs.Coded.{coded, literals_in}

@@ -3,7 +3,7 @@ use Rattle.std.specs.List.{filter, AllByRecursion}
 use Rattle.std.proofs.lemmas.List.Sums.{sum_by-cons}
 use Rattle.gt_core.specs.Task.{Effect}
 use Rattle.gt_core.specs.Lawful.{is_conditional, are_effects}
-use Rattle.gt_core.specs.Layout.{Layout, action_at, conditional_at}
+use Rattle.horizon_formula.specs.Layout.{Layout, action_at, conditional_at}
 use Rattle.gt_core.proofs.Basics.{Among, same_test, test_same}
 use Rattle.horizon_formula.specs.Clause.{Is, code}
 use Rattle.horizon_formula.specs.Variables.{variable_at}

@@ -3,7 +3,7 @@ use Rattle.std.specs.List.{AllByRecursion}
 use Rattle.gt_core.specs.Task.{Task, Effect, owned}
 use Rattle.gt_core.specs.Active.{EffectWithin}
 use Rattle.gt_core.specs.Lawful.{is_conditional, conditional_in}
-use Rattle.gt_core.specs.Layout.{Layout, action_at, fact_at}
+use Rattle.horizon_formula.specs.Layout.{Layout, action_at, fact_at}
 use Rattle.horizon_formula.specs.Clause.{Literal, code}
 use Rattle.horizon_formula.specs.Variables.{Row, rows, rows_from, variable_at}
 use Rattle.horizon_formula.specs.Formula.{effects_with, meaning_clauses, result_clause, effect_clauses}

@@ -8,7 +8,7 @@ use crate::numbers::{Place, effect_variable};
 use clause_base::literal::Lit;
 use clause_base::memory::Memory;
 use gt_core::eff::Eff;
-use gt_core::layout::Layout;
+use horizon_formula::layout::Layout;
 use std::alloc::Global;
 
 /// The effects that were passed with the literal `lit`, an add: their variables.

@@ -4,7 +4,7 @@ ghost use Rattle.std.specs.Prelude.{◌≡◌, ◌+◌, ◌/◌, ◌%◌, ◌≤
 ghost use Rattle.std.specs.List.{AllByRecursion};
 ghost use Rattle.gt_core.specs.Literal.{opposite};
 ghost use Rattle.gt_core.specs.Lawful.{are_effects};
-ghost use Rattle.gt_core.specs.Layout.{action_at, fact_at};
+ghost use Rattle.horizon_formula.specs.Layout.{action_at, fact_at};
 ghost use Rattle.horizon_formula.specs.Clause.{Is, Not, code};
 ghost use Rattle.horizon_formula.specs.Variables.{Row, rows};
 ghost use Rattle.horizon_formula.specs.Formula.{literal_over};
@@ -19,9 +19,9 @@ use clause_base::clause_list::ClauseList;
 use clause_base::literal::Lit;
 use clause_base::memory::Memory;
 use gt_core::eff::Eff;
-use gt_core::layout::Layout;
 use gt_core::lits::opposite;
 use gt_core::task::Task;
+use horizon_formula::layout::Layout;
 use std::alloc::Global;
 
 /// Appends that each literal of a condition holds before the step where a variable is true.

@@ -2,7 +2,8 @@
 
 ghost use Rattle.std.specs.Prelude.{◌≡◌, ◌+◌, ◌*◌, ◌<◌, [], ◌∷◌, ◌++◌, OnOk};
 ghost use Rattle.std.specs.List.{cons_option};
-ghost use Rattle.gt_core.specs.{Literal.range, Layout.fact_at};
+ghost use Rattle.gt_core.specs.Literal.{range};
+ghost use Rattle.horizon_formula.specs.Layout.{fact_at};
 ghost use Rattle.clause_base.specs.Clause.{clause_of};
 ghost use Rattle.horizon_formula.specs.{Clause.code, Coded.coded, Variables.rows, Variables.variable_at, Formula.literal_over, Formula.frame_clauses};
 ghost use Rattle.step_template.specs.Rows.{IsIndex};
@@ -12,8 +13,8 @@ use crate::literals::{add_clause, literal_at};
 use clause_base::clause_list::ClauseList;
 use clause_base::literal::Lit;
 use clause_base::memory::Memory;
-use gt_core::layout::Layout;
 use gt_core::task::Task;
+use horizon_formula::layout::Layout;
 use std::alloc::Global;
 
 /// Appends that a fact literal that holds before the step holds after it, or one of these variables is true.

@@ -10,8 +10,8 @@ use clause_base::memory::Memory;
 use containers::ListOf;
 use containers::equal::empty_lists;
 use gt_core::eff::Eff;
-use gt_core::layout::Layout;
 use gt_core::task::Task;
+use horizon_formula::layout::Layout;
 use std::alloc::Global;
 
 /// The variables of effects, as literals.

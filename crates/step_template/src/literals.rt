@@ -2,7 +2,7 @@
 
 ghost use Rattle.std.specs.Prelude.{◌≡◌, ◌/◌, ◌≤◌, ◌<◌, [], ◌++◌, if◌then◌else◌, OnOk};
 ghost use Rattle.std.specs.List.{cons_option};
-ghost use Rattle.gt_core.specs.Layout.{action_at, conditional_at, fact_at, variables};
+ghost use Rattle.horizon_formula.specs.Layout.{action_at, conditional_at, fact_at, variables};
 ghost use Rattle.clause_base.specs.Clause.{clause_of};
 ghost use Rattle.horizon_formula.specs.Clause.{Is, Not, code};
 ghost use Rattle.horizon_formula.specs.Formula.{literal_over};
@@ -10,7 +10,7 @@ ghost use Rattle.horizon_formula.specs.Formula.{literal_over};
 use clause_base::clause_list::ClauseList;
 use clause_base::literal::Lit;
 use clause_base::memory::Memory;
-use gt_core::layout::Layout;
+use horizon_formula::layout::Layout;
 
 /// The variable of an action in the first step.
 pub(crate) fn action_variable(layout: &Layout, a: u32) -> u32

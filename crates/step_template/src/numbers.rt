@@ -7,7 +7,7 @@ ghost use Rattle.step_template.specs.Rows.{row_of, number_after};
 
 use crate::literals::{action_variable, conditional_variable};
 use gt_core::eff::Eff;
-use gt_core::layout::Layout;
+use horizon_formula::layout::Layout;
 
 /// Where an effect stands: the number of its action, and the number that it has where it is conditional.
 #[derive(Clone, Copy)]

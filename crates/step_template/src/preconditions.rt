@@ -2,7 +2,7 @@
 
 ghost use Rattle.std.specs.Prelude.{◌≡◌, ◌/◌, ◌<◌, [], ◌∷◌, ◌++◌, map, OnOk};
 ghost use Rattle.std.specs.List.{AllByRecursion};
-ghost use Rattle.gt_core.specs.Layout.{action_at, fact_at};
+ghost use Rattle.horizon_formula.specs.Layout.{action_at, fact_at};
 ghost use Rattle.horizon_formula.specs.{Clause.Not, Coded.coded, Formula.literal_over, Formula.precondition_clauses};
 ghost use Rattle.step_template.specs.Rows.{IsLaidOut};
 
@@ -10,8 +10,8 @@ use crate::literals::{action_variable, add_clause, literal_at};
 use clause_base::clause_list::ClauseList;
 use clause_base::literal::Lit;
 use clause_base::memory::Memory;
-use gt_core::layout::Layout;
 use gt_core::task::Task;
+use horizon_formula::layout::Layout;
 
 /// Appends the clauses of one action's precondition.
 fn add_precondition(

@@ -11,8 +11,8 @@ use crate::index::index_of;
 use crate::preconditions::add_preconditions;
 use clause_base::clause_list::ClauseList;
 use clause_base::memory::Memory;
-use gt_core::layout::Layout;
 use gt_core::task::Task;
+use horizon_formula::layout::Layout;
 use std::alloc::Global;
 use step_chains::Chains;
 

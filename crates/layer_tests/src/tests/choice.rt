@@ -5,8 +5,8 @@ use super::tasks::{Sketch, task_of};
 use clause_base::chooser::Chooser;
 use clause_base::values::Values;
 use goal_choice::GoalChooser;
-use gt_core::layout::Layout;
 use gt_core::task::Task;
+use horizon_formula::layout::Layout;
 use std::alloc::Global;
 use std::process::Abort;
 

@@ -1,6 +1,6 @@
 use Rattle.std.proofs.Common.{arith, ◌≡◌, ◌∙◌, ℕ, [], List, fold, sym, ap}
 use Rattle.clause_base.specs.Clause.{put}
-use Rattle.gt_core.specs.Layout.{Layout}
+use Rattle.horizon_formula.specs.Layout.{Layout}
 use Rattle.goal_choice.specs.Members.{Literals}
 use Rattle.goal_choice.specs.Walk.{support_of, walk}
 use Rattle.goal_choice.proofs.Steps.{put_rising}

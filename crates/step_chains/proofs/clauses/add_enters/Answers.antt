@@ -1,5 +1,5 @@
 use Rattle.std.proofs.Common.{◌+◌, ap, ◌∙◌, refl, drop}
-use Rattle.gt_core.specs.Layout.{action_at, chain_at}
+use Rattle.horizon_formula.specs.Layout.{action_at, chain_at}
 use Rattle.gt_core.proofs.Basics.{or_right}
 use Rattle.step_chains.specs.Chains.{LinkedChain}
 use Rattle.step_chains.proofs.WalkLaw.{walked, variable_left, enter_next}

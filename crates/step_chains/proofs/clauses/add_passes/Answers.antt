@@ -1,5 +1,5 @@
 use Rattle.std.proofs.Common.{◌+◌, ◌<◌, ℕ, Bool, ap, ◌∙◌, refl, drop, subst, if◌then◌else◌}
-use Rattle.gt_core.specs.Layout.{action_at, chain_at}
+use Rattle.horizon_formula.specs.Layout.{action_at, chain_at}
 use Rattle.gt_core.proofs.Basics.{or_left, and_split}
 use Rattle.step_chains.specs.Chains.{LinkedChain}
 use Rattle.step_chains.proofs.WalkLaw.{walked, variable_left, pass_next}

@@ -1,5 +1,5 @@
 use Rattle.std.proofs.Common.{◌≡◌, ◌++◌, false, drop}
-use Rattle.gt_core.specs.Layout.{action_at, chain_at}
+use Rattle.horizon_formula.specs.Layout.{action_at, chain_at}
 use Rattle.horizon_formula.specs.Coded.{coded}
 use Rattle.step_chains.specs.Links.{pass_links}
 use Rattle.step_chains.specs.Walk.{StandsBefore}

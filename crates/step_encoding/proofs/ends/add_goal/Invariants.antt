@@ -1,5 +1,5 @@
 use Rattle.std.proofs.Common.{◌≡◌, [], ◌∷◌, ◌+◌, ◌++◌, map, length, drop}
-use Rattle.gt_core.specs.Layout.{fact_at}
+use Rattle.horizon_formula.specs.Layout.{fact_at}
 use Rattle.horizon_formula.specs.Clause.{code}
 use Rattle.horizon_formula.specs.Formula.{literal_over}
 use Rattle.step_encoding.proofs.ends.add_goal.Given as goal

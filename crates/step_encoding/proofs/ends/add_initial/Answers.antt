@@ -1,7 +1,7 @@
 use Rattle.std.proofs.Common.{arith, ◌≡◌, ℕ, Bool, List, [], ◌∷◌, if◌then◌else◌, ap, ◌∙◌}
 use Rattle.std.specs.List.{flat_map}
 use Rattle.gt_core.specs.Literal.{range}
-use Rattle.gt_core.specs.Layout.{fact_at}
+use Rattle.horizon_formula.specs.Layout.{fact_at}
 use Rattle.horizon_formula.specs.Clause.{Is, Not, code}
 use Rattle.step_encoding.specs.Parts.{added}
 use Rattle.step_encoding.proofs.Parts.{added_more, one_longer, initial_part, initial_parts}

@@ -1,5 +1,5 @@
 use Rattle.std.proofs.Common.{◌≡◌, ◌∷◌, [], ◌++◌, map, drop}
-use Rattle.gt_core.specs.Layout.{fact_at}
+use Rattle.horizon_formula.specs.Layout.{fact_at}
 use Rattle.horizon_formula.specs.Clause.{Not}
 use Rattle.horizon_formula.specs.Formula.{literal_over}
 use Rattle.horizon_formula.specs.Coded.{coded}

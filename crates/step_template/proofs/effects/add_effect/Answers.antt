@@ -1,6 +1,6 @@
 use Rattle.std.proofs.Common.{◌≡◌, ◌==◌, ◌%◌, ℕ, List, [], ◌∷◌, ◌++◌, Bool, true, false, if◌then◌else◌, refl, sym, ap, ◌∙◌}
 use Rattle.gt_core.specs.Literal.{opposite}
-use Rattle.gt_core.specs.Layout.{fact_at}
+use Rattle.horizon_formula.specs.Layout.{fact_at}
 use Rattle.horizon_formula.specs.Clause.{code}
 use Rattle.horizon_formula.specs.Formula.{literal_over}
 use Rattle.step_template.specs.Rows.{row_of, meaning_of, result_of, made_by}

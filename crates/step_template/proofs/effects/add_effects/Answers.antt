@@ -1,6 +1,6 @@
 use Rattle.std.proofs.Common.{arith, ◌<◌, ◌≤◌, ◌+◌, ◌++◌, ℕ, List, length, count_by, ap, sym, ◌∙◌}
 use Rattle.std.proofs.lemmas.List.{drop_all, append-nil}
-use Rattle.gt_core.specs.Layout.{Layout}
+use Rattle.horizon_formula.specs.Layout.{Layout}
 use Rattle.gt_core.specs.Task.{Action, effects_from}
 use Rattle.gt_core.specs.Lawful.{is_conditional}
 use Rattle.horizon_formula.specs.Variables.{rows, rows_from}

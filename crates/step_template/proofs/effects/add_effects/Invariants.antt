@@ -1,7 +1,7 @@
 use Rattle.std.proofs.Common.{◌≡◌, ◌++◌, take, drop}
 use Rattle.gt_core.specs.Task.{effects_from}
 use Rattle.gt_core.specs.Lawful.{conditional_in}
-use Rattle.gt_core.specs.Layout.{action_at, fact_at}
+use Rattle.horizon_formula.specs.Layout.{action_at, fact_at}
 use Rattle.horizon_formula.specs.Variables.{rows, rows_from, variable_at}
 use Rattle.horizon_formula.specs.Formula.{effect_clauses}
 use Rattle.horizon_formula.specs.Coded.{coded}

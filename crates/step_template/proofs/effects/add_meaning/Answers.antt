@@ -2,7 +2,7 @@ use Rattle.std.proofs.Common.{◌≡◌, ℕ, ◌+◌, ◌*◌, List, [], ◌∷
 use Rattle.std.specs.List.{cons_option}
 use Rattle.gt_core.specs.Literal.{opposite}
 use Rattle.gt_core.specs.Lawful.{is_conditional}
-use Rattle.gt_core.specs.Layout.{action_at, fact_at}
+use Rattle.horizon_formula.specs.Layout.{action_at, fact_at}
 use Rattle.clause_base.specs.Clause.{clause_of}
 use Rattle.horizon_formula.specs.Clause.{Is, Not}
 use Rattle.horizon_formula.specs.Formula.{literal_over}

@@ -1,7 +1,7 @@
 use Rattle.std.proofs.Common.{arith, ℕ, ◌+◌, ◌/◌, ◌<◌, List, [], ◌∷◌, ◌++◌, map, drop, get_or, sym, ap, ◌∙◌}
 use Rattle.std.proofs.lemmas.List.{drop_more, drop_all, append-nil}
 use Rattle.gt_core.specs.Literal.{opposite}
-use Rattle.gt_core.specs.Layout.{fact_at}
+use Rattle.horizon_formula.specs.Layout.{fact_at}
 use Rattle.gt_core.proofs.Literals.{half_opposite}
 use Rattle.horizon_formula.specs.Clause.{code}
 use Rattle.horizon_formula.specs.Formula.{literal_over}

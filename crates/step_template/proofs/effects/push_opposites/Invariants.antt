@@ -1,6 +1,6 @@
 use Rattle.std.proofs.Common.{◌≡◌, ◌++◌, map, drop}
 use Rattle.gt_core.specs.Literal.{opposite}
-use Rattle.gt_core.specs.Layout.{fact_at}
+use Rattle.horizon_formula.specs.Layout.{fact_at}
 use Rattle.horizon_formula.specs.Clause.{code}
 use Rattle.horizon_formula.specs.Formula.{literal_over}
 use Rattle.step_template.proofs.effects.push_opposites.Given as goal

@@ -1,6 +1,6 @@
 use Rattle.std.proofs.Common.{◌≡◌, ◌++◌}
 use Rattle.gt_core.specs.Literal.{range}
-use Rattle.gt_core.specs.Layout.{fact_at}
+use Rattle.horizon_formula.specs.Layout.{fact_at}
 use Rattle.horizon_formula.specs.Variables.{rows, variable_at}
 use Rattle.horizon_formula.specs.Formula.{frame_clauses}
 use Rattle.horizon_formula.specs.Coded.{coded}

@@ -1,5 +1,5 @@
 use Rattle.std.proofs.Common.{arith, ◌<◌, length, ap, ◌∙◌, []}
-use Rattle.gt_core.specs.Layout.{Layout, action_at, fact_at}
+use Rattle.horizon_formula.specs.Layout.{Layout, action_at, fact_at}
 use Rattle.gt_core.specs.Task.{Action, precondition}
 use Rattle.gt_core.proofs.Within.{precondition_within}
 use Rattle.step_template.proofs.Groups.{precondition_step, within_by}

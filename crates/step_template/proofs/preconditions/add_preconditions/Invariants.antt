@@ -1,5 +1,5 @@
 use Rattle.std.proofs.Common.{◌≡◌, ◌++◌, drop}
-use Rattle.gt_core.specs.Layout.{action_at, fact_at}
+use Rattle.horizon_formula.specs.Layout.{action_at, fact_at}
 use Rattle.horizon_formula.specs.Formula.{precondition_clauses}
 use Rattle.horizon_formula.specs.Coded.{coded}
 use Rattle.step_template.proofs.preconditions.add_preconditions.Given as goal

@@ -2,7 +2,7 @@ use Rattle.std.proofs.Common.{arith, ◌≡◌, ◌+◌, ◌*◌, ◌∙◌, ℕ
 use Rattle.std.specs.Int.{from_bool}
 use Rattle.std.specs.List.{AllByRecursion}
 use Rattle.std.proofs.lemmas.List.{get_or_default}
-use Rattle.gt_core.specs.Layout.{Layout, fact_at}
+use Rattle.horizon_formula.specs.Layout.{Layout, fact_at}
 use Rattle.goal_choice.specs.Members.{Literals, no_literals}
 use Rattle.goal_choice.specs.Kept.{IsWalk, set_at}
 use Rattle.goal_choice.specs.Told.{ToldView, walk_of}

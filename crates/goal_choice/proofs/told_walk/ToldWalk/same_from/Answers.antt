@@ -1,6 +1,6 @@
 use Rattle.std.proofs.Common.{arith, ◌≡◌, ◌+◌, ◌*◌, ◌∙◌, Some, sym, subst, ap}
 use Rattle.clause_base.proofs.ToldLemmas.{get-told}
-use Rattle.gt_core.specs.Layout.{Layout, width, variables}
+use Rattle.horizon_formula.specs.Layout.{Layout, width, variables}
 use Rattle.goal_choice.specs.Means.{start_of}
 use Rattle.goal_choice.specs.Kept.{IsWalk}
 use Rattle.goal_choice.specs.Told.{ToldView, walk_of}

@@ -1,6 +1,6 @@
 use Rattle.std.proofs.Common.{◌≡◌, ap, sym, ◌∙◌}
 use Rattle.clause_base.specs.Formula.{Cnf}
-use Rattle.gt_core.specs.Layout.{variables}
+use Rattle.horizon_formula.specs.Layout.{variables}
 use Rattle.goal_choice.specs.Means.{Means, means_of}
 use Rattle.goal_choice.specs.Choice.{choice_by}
 use Rattle.cdcl_rules.specs.Run.{start_of}

@@ -1,5 +1,5 @@
 use Rattle.std.proofs.Common.{arith, ◌≤◌, ◌++◌, List, length, ap, ◌∙◌}
-use Rattle.gt_core.specs.Layout.{action_at, chain_at}
+use Rattle.horizon_formula.specs.Layout.{action_at, chain_at}
 use Rattle.horizon_formula.specs.Clause.{Literal}
 use Rattle.horizon_formula.specs.Coded.{coded}
 use Rattle.step_chains.proofs.ClauseLaw.{chain_next, chains_done, are_clauses}

@@ -1,5 +1,5 @@
 use Rattle.std.proofs.Common.{◌*◌, List, ap, ◌∙◌, sym}
-use Rattle.gt_core.specs.Layout.{action_at, chain_at}
+use Rattle.horizon_formula.specs.Layout.{action_at, chain_at}
 use Rattle.horizon_formula.specs.Clause.{Literal}
 use Rattle.horizon_formula.specs.Coded.{coded, literals_in}
 use Rattle.step_chains.specs.Chains.{LinkedChain, links_in}

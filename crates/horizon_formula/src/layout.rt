@@ -1,7 +1,7 @@
 //! The numbers of the variables of a horizon's formula.
 
 ghost use Rattle.std.specs.Prelude.{◌≡◌, ◌+◌, ◌*◌, ◌≤◌, ◌<◌};
-ghost use Rattle.gt_core.specs.Layout.{width, action_at, conditional_at, chain_at, fact_at, variables, IsLayout};
+ghost use Rattle.horizon_formula.specs.Layout.{width, action_at, conditional_at, chain_at, fact_at, variables, IsLayout};
 
 use std::marker::Model;
 
@@ -23,7 +23,7 @@ pub struct Layout {
 }
 
 impl Model for Layout {
-    ghost use Rattle.gt_core.specs.Layout.{Layout, IsLayout};
+    ghost use Rattle.horizon_formula.specs.Layout.{Layout, IsLayout};
 
     ghost Value = { Layout };
 
@@ -35,7 +35,7 @@ impl Model for Layout {
 }
 
 impl Layout {
-    ghost use Rattle.gt_core.specs.Layout.{Layout as LayoutNumbers};
+    ghost use Rattle.horizon_formula.specs.Layout.{Layout as LayoutNumbers};
 
     /// The layout of these numbers.
     pub fn new(horizon: u32, actions: u32, conditional: u32, chains: u32, facts: u32) -> Layout

@@ -4,7 +4,7 @@ use Rattle.gt_core.specs.Literal.{is_in}
 use Rattle.gt_core.specs.Interference.{disables}
 use Rattle.gt_core.specs.AllStep.{NoneDisables}
 use Rattle.gt_core.specs.Published.{order_of}
-use Rattle.gt_core.specs.Layout.{Layout, action_at, chain_at}
+use Rattle.horizon_formula.specs.Layout.{Layout, action_at, chain_at}
 use Rattle.gt_core.proofs.Literals.{in_among}
 use Rattle.gt_core.proofs.Pairwise.{filtered}
 use Rattle.gt_core.proofs.EachOrder.{itself}
@@ -17,9 +17,9 @@ use Rattle.step_laws.proofs.OrderLaw.{within}
 use Rattle.step_laws.proofs.PlanLaw.{IsOrderedBy, plan_of}
 use Rattle.step_laws.proofs.FormLaw.{plans_at}
 use Rattle.step_laws.proofs.SetAt.{set_of}
-use Rattle.all_laws.specs.Plan.{all_places, IsAllPlanOf}
-use Rattle.all_laws.proofs.Backward.{pairwise_front, any_two}
-use Rattle.all_laws.proofs.Ways.{place_there, place_back, all_in_range}
+use Rattle.step_laws.specs.AllPlan.{all_places, IsAllPlanOf}
+use Rattle.step_laws.proofs.AllBackward.{pairwise_front, any_two}
+use Rattle.step_laws.proofs.AllWays.{place_there, place_back, all_in_range}
 
 -- What a satisfying assignment stands for is a plan of all-steps.
 

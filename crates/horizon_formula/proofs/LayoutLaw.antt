@@ -1,6 +1,6 @@
 use Rattle.std.proofs.Common.{arith, ℕ, ◌+◌, ◌*◌, ◌<◌, ◌≤◌}
 use Rattle.std.proofs.Math.Nat.{mul-le-mul_left, mul_comm}
-use Rattle.gt_core.specs.Layout.{Layout, IsLayout, width}
+use Rattle.horizon_formula.specs.Layout.{Layout, IsLayout, width}
 
 -- Products below the number of all variables.
 

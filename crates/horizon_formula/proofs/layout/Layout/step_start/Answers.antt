@@ -1,6 +1,6 @@
 use Rattle.std.proofs.Common.{arith}
-use Rattle.gt_core.proofs.LayoutLaw.{start_within, step_within}
-use Rattle.gt_core.proofs.layout.Layout.step_start.Goals as goal
+use Rattle.horizon_formula.proofs.LayoutLaw.{start_within, step_within}
+use Rattle.horizon_formula.proofs.layout.Layout.step_start.Goals as goal
 
 pub overflow_mul-result : goal.overflow_mul-result
 overflow_mul-result c =

@@ -1,4 +1,0 @@
-pub mod Backward
-pub mod Ways
-pub mod Reading
-pub mod Writing
