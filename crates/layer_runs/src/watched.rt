@@ -92,6 +92,7 @@ fn add_two(alloc: Global, watches: &mut Watches, v: u32) -> Option<()>
     requires many { watches.old.variables ≡ 100002 }
     requires variable { v < 100000 }
     requires none { watches.old.trail ≡ [] }
+    requires room { length watches.old.kept ≤ 200000 }
     ensures many { OnSome result (watches.new.variables ≡ 100002) }
     ensures none { OnSome result (watches.new.trail ≡ []) }
     ensures kept { OnSome result (watches.new.kept ≡ watches.old.kept ++ true ∷ []) }
@@ -111,6 +112,7 @@ fn asked_when_added(alloc: Global, watches: &mut Watches, v: u32, number: u32) -
     requires variable { v < 100000 }
     requires none { watches.old.trail ≡ [] }
     requires count { length watches.old.kept ≡ number }
+    requires few { number ≤ 200000 }
     ensures many { OnSome result (watches.new.variables ≡ 100002) }
     ensures none { OnSome result (watches.new.trail ≡ []) }
     ensures count { OnSome result (length watches.new.kept ≡ number + 1) }

@@ -74,21 +74,23 @@ impl Watches {
         Ok(Watches { propagator, first })
     }
 
-    /// Adds a clause with the next number, kept; it may be false or have one literal left. After want of memory, or where there
-    /// would be more than 2,147,483,647 clauses, nothing has changed.
+    /// Adds a clause with the next number, kept; it may be false or have one literal left. There may be as many clauses as the two
+    /// nodes of each have numbers of 32 bits. After want of memory nothing has changed.
     pub fn add(&mut self, clause: Clause) -> Result<(), Memory>
-        requires { HasVariablesBelow self.old.variables clause }
+        requires below { HasVariablesBelow self.old.variables clause }
+        requires room { length self.old.kept < 2147483647 }
         ensures ok { OnOk result (self.new ≡ record self.old { clauses = self.old.clauses ++ clause ∷ []; kept = self.old.kept ++ true ∷ [] }) }
         ensures err { OnErr result (self.new ≡ self.old) }
     {
         self.add_sorted(clause.as_slice())
     }
 
-    /// Adds the clause of literals that are in a clause's form already, with the next number, kept. After want of memory, or
-    /// where there would be more than 2,147,483,647 clauses, nothing has changed.
+    /// Adds the clause of literals that are in a clause's form already, with the next number, kept. After want of memory nothing
+    /// has changed.
     pub fn add_sorted(&mut self, clause: &[Lit]) -> Result<(), Memory>
         requires lawful { IsClause clause.now }
         requires below { HasVariablesBelow self.old.variables clause.now }
+        requires room { length self.old.kept < 2147483647 }
         ensures ok { OnOk result (self.new ≡ record self.old { clauses = self.old.clauses ++ clause.now ∷ []; kept = self.old.kept ++ true ∷ [] }) }
         ensures err { OnErr result (self.new ≡ self.old) }
     {
