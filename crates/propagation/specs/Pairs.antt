@@ -2,8 +2,8 @@
 use Rattle.std.specs.Prelude.{◌≡◌, ℕ, ◌*◌, ◌<◌, ◌⊎◌, List, true, false, length, slice_index}
 use Rattle.clause_base.specs.Clause.{has_literal}
 use Rattle.bit_sets.specs.Layered.{words_have}
-use Rattle.binary_clauses.specs.declared.pair.Pair.{Pair}
-use Rattle.binary_clauses.specs.Pairs.{IsInPairs, IsPairOf, AreExact, pair_in}
+use Rattle.clause_store.specs.declared.pair.Pair.{Pair}
+use Rattle.clause_store.specs.Pairs.{IsInPairs, IsPairOf, AreExact, pair_in}
 use Rattle.propagation.specs.declared.pending.Pending.{Pending}
 use Rattle.cdcl_rules.specs.State.{clause_at}
 

@@ -3,19 +3,19 @@ ghost use Rattle.std.specs.Prelude.{◌≡◌, ◌*◌, ◌<◌, [], length, fal
 ghost use Rattle.clause_base.specs.Literal.{opposite};
 ghost use Rattle.clause_base.specs.Clause.{has_literal};
 ghost use Rattle.bit_sets.specs.Layered.{words_have};
-ghost use Rattle.binary_clauses.specs.Pairs.{IsPairOf, pairs_of};
-ghost use Rattle.binary_clauses.specs.declared.origin.Origin.TheVariants.{Time};
+ghost use Rattle.clause_store.specs.Pairs.{IsPairOf, pairs_of};
+ghost use Rattle.clause_store.specs.declared.origin.Origin.TheVariants.{Time};
 ghost use Rattle.propagation.specs.Asks.{HasAsks};
 ghost use Rattle.propagation.specs.Pairs.{AreMarked, ArePairsOf};
 ghost use Rattle.propagation.specs.Visit.{Grows, IsFit};
 
 use crate::pending::Pending;
-use binary_clauses::index::PairIndex;
-use binary_clauses::list::PairList;
-use binary_clauses::lists::Lists;
-use binary_clauses::origin::Origin;
-use binary_clauses::pair::Pair;
 use cdcl_trail::assignment::Assignment;
+use clause_store::index::PairIndex;
+use clause_store::list::PairList;
+use clause_store::lists::Lists;
+use clause_store::origin::Origin;
+use clause_store::pair::Pair;
 use clause_store::store::Store;
 
 /// Puts the clause of a pair of a false literal into the set, if its other literal is not true.

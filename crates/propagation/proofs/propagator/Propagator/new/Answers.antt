@@ -1,7 +1,7 @@
 use Rattle.std.proofs.Common.{arith, ◌≡◌, ◌*◌, ◌≤◌, ℕ, List, true, length, replicate, ap, sym, ◌∙◌, subst, refl}
 use Rattle.cdcl_trail.specs.Assignment.{literals}
 use Rattle.cdcl_trail.specs.Mirrored.{TrailView}
-use Rattle.binary_clauses.specs.Pairs.{IsIndex}
+use Rattle.clause_store.specs.Pairs.{IsIndex}
 use Rattle.propagation.specs.declared.tables.Tables.{Tables}
 use Rattle.propagation.specs.Visit.{IsFit}
 use Rattle.propagation.proofs.Givens.{fit_given, sound_given, paired_given}

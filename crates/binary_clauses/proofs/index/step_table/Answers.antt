@@ -1,8 +1,0 @@
-use Rattle.std.proofs.Common.{◌+◌, ◌*◌, ◌≤◌, length, arith}
-use Rattle.binary_clauses.proofs.Exacts.{within_of}
-use Rattle.binary_clauses.proofs.index.step_table.Goals as goal
-
-pub returns-clause-within : goal.returns-clause-within
-returns-clause-within c =
-    let few : length c.args.step.now ≤ c.args.shape.now.steps = omega arith in
-    within_of (2 * (c.args.shape.now.width + 2 * c.args.shape.now.facts)) c.args.shape.now.steps c.args.step.now c.in_ok-table.table few c.requires.below c.in_ok-table.ensures
