@@ -1,6 +1,7 @@
 -- The bytes of numbers, and the numbers back from them.
-use Rattle.std.proofs.Common.{arith, ◌≡◌, ℕ, zero, suc, ◌+◌, ◌^◌, ◌<◌, ◌≤◌, List, [], ◌∷◌, ◌++◌, length, take, drop, get_or, append_assoc, All, refl, ap, sym, ◌∙◌}
-use Rattle.std.proofs.lemmas.List.{take-take, length-take, drop_more}
+use Rattle.std.proofs.Common.{arith, ◌≡◌, ℕ, zero, suc, ◌+◌, ◌-◌, ◌*◌, ◌^◌, ◌<◌, ◌≤◌, List, [], ◌∷◌, ◌++◌, length, take, drop, get_or, append_assoc, All, refl, ap, sym, subst, ◌∙◌}
+use Rattle.std.proofs.lemmas.List.{take-take, length-take, length_push, drop_more}
+use Rattle.std.proofs.lemmas.List.Elements.{All-more}
 use Rattle.std.proofs.Math.Seq.{take-append_seam}
 use Rattle.std.proofs.lemmas.Bool.Decides.{nat_tests}
 use Rattle.clause_log.specs.Number.{bytes_of, number_of, after_number}
@@ -63,7 +64,7 @@ pub first_more : (old now more : List ℕ) → now ≡ old ++ more → take (len
 first_more old now more e = ap (take (length old)) e ∙ take-append_seam old more
 
 -- the bytes of one number more
-pub steps_next : (old now pushed numbers : List ℕ) (index last n : ℕ) → index < length numbers → n ≡ get_or numbers index 0 → pushed ≡ now ++ bytes_of (step_to last n)
+steps_next : (old now pushed numbers : List ℕ) (index last n : ℕ) → index < length numbers → n ≡ get_or numbers index 0 → pushed ≡ now ++ bytes_of (step_to last n)
     → now ++ steps_of last (drop index numbers) ≡ old → pushed ++ steps_of n (drop (index + 1) numbers) ≡ old
 steps_next old now pushed numbers index last n within g p e =
     let rest = drop (index + 1) numbers in
@@ -74,7 +75,7 @@ steps_next old now pushed numbers index last n within g p e =
     ∙ e
 
 -- one number more of those that are read
-pub numbers_next : (whole now pushed rest after : List ℕ) (count left last n : ℕ) → count ≡ suc left → pushed ≡ now ++ n ∷ [] → n ≡ step_from last (number_of rest) → after ≡ after_number rest
+numbers_next : (whole now pushed rest after : List ℕ) (count left last n : ℕ) → count ≡ suc left → pushed ≡ now ++ n ∷ [] → n ≡ step_from last (number_of rest) → after ≡ after_number rest
     → now ++ numbers_of count last rest ≡ whole → pushed ++ numbers_of left n after ≡ whole
 numbers_next whole now pushed rest after count left last n c p e a h =
     (λ i. p i ++ numbers_of left n (a i))
@@ -86,3 +87,33 @@ numbers_next whole now pushed rest after count left last n c p e a h =
 -- the bytes after one number more
 pub after_next : (whole rest after : List ℕ) (count left : ℕ) → count ≡ suc left → after ≡ after_number rest → after_numbers count rest ≡ whole → after_numbers left after ≡ whole
 after_next whole rest after count left c a h = ap (after_numbers left) a ∙ sym (ap (λ (k : ℕ). after_numbers k rest) c) ∙ h
+
+-- of numbers those before one are put, after what stood first, and there is room for five bytes of each that is left
+pub record IsPut (start now : List ℕ) (last index : ℕ) (numbers : List ℕ) (capacity : ℕ) : Type 0 where
+  pub told : now ++ steps_of last (drop index numbers) ≡ start ++ steps_of 0 numbers
+  pub small : All (λ n. n < 2 ^ 32) (take index numbers)
+  pub before : take (length start) now ≡ start
+  pub room : length now + 5 * (length numbers - index) ≤ capacity
+
+pub put_next : (start now pushed numbers : List ℕ) (index last n old new : ℕ) → index < length numbers → n ≡ get_or numbers index 0 → n < 2 ^ 32 → pushed ≡ now ++ bytes_of (step_to last n) → length pushed ≤ length now + 5 → new ≡ old
+    → IsPut start now last index numbers old → IsPut start pushed n (index + 1) numbers new
+put_next start now pushed numbers index last n old new within g fits p few same i = record {
+  told = steps_next _ now pushed numbers index last n within g p i.told;
+  small = All-more (λ (n : ℕ). n < 2 ^ 32) numbers index 0 within i.small (subst (λ (n : ℕ). n < 2 ^ 32) g fits);
+  before = first_still start now pushed i.before (first_more now pushed (bytes_of (step_to last n)) p);
+  room = omega (arith, i.room, within, few, same);
+}
+
+-- of so many numbers that bytes begin with these are read, so many are left where these bytes begin, and there is room for them
+pub record IsRead (bytes : List ℕ) (count : ℕ) (now rest : List ℕ) (last left capacity : ℕ) : Type 0 where
+  pub told : now ++ numbers_of left last rest ≡ numbers_of count 0 bytes
+  pub after : after_numbers left rest ≡ after_numbers count bytes
+  pub room : length now + left ≤ capacity
+
+pub read_next : (bytes now pushed rest after : List ℕ) (count last n left next old new : ℕ) → left ≡ suc next → pushed ≡ now ++ n ∷ [] → n ≡ step_from last (number_of rest) → after ≡ after_number rest → new ≡ old
+    → IsRead bytes count now rest last left old → IsRead bytes count pushed after n next new
+read_next bytes now pushed rest after count last n left next old new one p e a same i = record {
+  told = numbers_next _ now pushed rest after left next last n one p e a i.told;
+  after = after_next _ rest after left next one a i.after;
+  room = omega (arith, i.room, one, ap (λ (xs : List ℕ). length xs) p, length_push now n, same);
+}

@@ -43,9 +43,9 @@ module _ (told : List ℕ → Option (List ℕ)) (lacks : List ℕ → Bool) whe
   agrees_same old new same = ([], same ∙ sym (append-nil old), tt)
 
   -- what is handed over of one file agrees with what is told of it
-  pub agrees_one : (w : Bool) (old new : List Heard) (name before after : List ℕ) → before ≡ [] → Hears w old new name before after → (IsTrue (lacks name) → ⊥) → IfSome (told name) (λ file. IsSo file w after)
+  pub agrees_one : (w : Bool) (old new : List Heard) (name before after : List ℕ) → before ≡ [] → Hears w old new name before after → (IsTrue (lacks name) → false ≡ true) → IfSome (told name) (λ file. IsSo file w after)
       → Agrees told lacks old new
-  agrees_one w old new name before after none h there so = ((name, (w, after)) ∷ [], heard_is w old new name before after none h, ((there, so), tt))
+  agrees_one w old new name before after none h there so = ((name, (w, after)) ∷ [], heard_is w old new name before after none h, (((λ lacked. let never : false ≡ true = there lacked in cc), so), tt))
 
   both_told : (xs ys : List Heard) → AllByRecursion (IsAsTold told lacks) xs → AllByRecursion (IsAsTold told lacks) ys → AllByRecursion (IsAsTold told lacks) (xs ++ ys)
   both_told [] ys a b = b

@@ -15,10 +15,10 @@ pub enum Stop {
     Memory,
 }
 
-impl From<Memory> for Stop {
+impl<T: Drop> From<AllocFailed<T>> for Stop {
     ghost from_gives = { λ _ e. e ≡ stop.Memory };
 
-    fn from(_: Memory) -> Self {
+    fn from(_: AllocFailed<T>) -> Self {
         Stop::Memory
     }
 }
@@ -31,10 +31,10 @@ impl From<AllocError> for Stop {
     }
 }
 
-impl<T: Drop> From<AllocFailed<T>> for Stop {
+impl From<Memory> for Stop {
     ghost from_gives = { λ _ e. e ≡ stop.Memory };
 
-    fn from(_: AllocFailed<T>) -> Self {
+    fn from(_: Memory) -> Self {
         Stop::Memory
     }
 }

@@ -2,6 +2,7 @@ ghost use Rattle.std.specs.Prelude.{◌≡◌, ◌++◌, IfOk, OnOk};
 ghost use Rattle.plan_gen.specs.Gripper.{gripper_init, gripper_goal, gripper_problem};
 
 use crate::head::put_head;
+use crate::text::{put, put_numbered};
 use crate::{Memory, Text};
 use std::alloc::Global;
 
@@ -23,7 +24,7 @@ pub(crate) const DOMAIN: &str = "(define (domain gripper)
 pub(crate) fn problem(alloc: Global, number: u32) -> Result<Text, Memory>
     ensures { IfOk result (λ text. text ≡ gripper_problem number) }
 {
-    let mut text = Text::new(alloc);
+    let mut text = Vec::new(alloc);
     put_head(
         &mut text,
         "gripper",
@@ -34,27 +35,27 @@ pub(crate) fn problem(alloc: Global, number: u32) -> Result<Text, Memory>
     )?;
     put_init(&mut text, number)?;
     put_goal(&mut text, number)?;
-    Ok(text)
+    Ok(Text::of(text))
 }
 
 // Puts the initial state.
-fn put_init(text: &mut Text, number: u32) -> Result<(), Memory>
-    ensures { OnOk result (text.new ≡ text.old ++ gripper_init number) }
+fn put_init(text: &mut Vec<u8>, number: u32) -> Result<(), Memory>
+    ensures { OnOk result (text.new.items ≡ text.old.items ++ gripper_init number) }
 {
-    text.put("(:init (room rooma) (room roomb)")?;
-    text.put_numbered(" (ball ball", ")", number)?;
-    text.put(" (gripper left) (gripper right) (at-robby rooma)")?;
-    text.put_numbered(" (at ball", " rooma)", number)?;
-    text.put(" (free left) (free right))\n")?;
+    put(text, "(:init (room rooma) (room roomb)")?;
+    put_numbered(text, " (ball ball", ")", number)?;
+    put(text, " (gripper left) (gripper right) (at-robby rooma)")?;
+    put_numbered(text, " (at ball", " rooma)", number)?;
+    put(text, " (free left) (free right))\n")?;
     Ok(())
 }
 
 // Puts the goal and the end of the problem.
-fn put_goal(text: &mut Text, number: u32) -> Result<(), Memory>
-    ensures { OnOk result (text.new ≡ text.old ++ gripper_goal number) }
+fn put_goal(text: &mut Vec<u8>, number: u32) -> Result<(), Memory>
+    ensures { OnOk result (text.new.items ≡ text.old.items ++ gripper_goal number) }
 {
-    text.put("(:goal (and")?;
-    text.put_numbered(" (at ball", " roomb)", number)?;
-    text.put(")))\n")?;
+    put(text, "(:goal (and")?;
+    put_numbered(text, " (at ball", " roomb)", number)?;
+    put(text, ")))\n")?;
     Ok(())
 }

@@ -2,50 +2,51 @@
 ghost use Rattle.std.specs.Prelude.{◌≡◌, ◌++◌, OnOk};
 ghost use Rattle.plan_gen.specs.Head.{names, objects, head};
 
-use crate::{Memory, Text};
+use crate::Memory;
+use crate::text::{put, put_number, put_numbered};
 
 // Puts the names of the problem and of its domain.
-fn put_names(text: &mut Text, name: &str, number: u32) -> Result<(), Memory>
-    ensures { OnOk result (text.new ≡ text.old ++ names name.now number) }
+fn put_names(text: &mut Vec<u8>, name: &str, number: u32) -> Result<(), Memory>
+    ensures { OnOk result (text.new.items ≡ text.old.items ++ names name.now number) }
 {
-    text.put("(define (problem ")?;
-    text.put(name)?;
-    text.put("-")?;
-    text.put_number(number)?;
-    text.put(")\n(:domain ")?;
-    text.put(name)?;
-    text.put(")\n")?;
+    put(text, "(define (problem ")?;
+    put(text, name)?;
+    put(text, "-")?;
+    put_number(text, number)?;
+    put(text, ")\n(:domain ")?;
+    put(text, name)?;
+    put(text, ")\n")?;
     Ok(())
 }
 
 // Puts the objects.
 fn put_objects(
-    text: &mut Text,
+    text: &mut Vec<u8>,
     first: &str,
     object: &str,
     last: &str,
     number: u32,
 ) -> Result<(), Memory>
-    ensures { OnOk result (text.new ≡ text.old ++ objects first.now object.now last.now number) }
+    ensures { OnOk result (text.new.items ≡ text.old.items ++ objects first.now object.now last.now number) }
 {
-    text.put("(:objects ")?;
-    text.put(first)?;
-    text.put_numbered(object, "", number)?;
-    text.put(last)?;
-    text.put(")\n")?;
+    put(text, "(:objects ")?;
+    put(text, first)?;
+    put_numbered(text, object, "", number)?;
+    put(text, last)?;
+    put(text, ")\n")?;
     Ok(())
 }
 
 // Puts a problem's head: the domain's name, and the objects, `number` of which are numbered.
 pub(crate) fn put_head(
-    text: &mut Text,
+    text: &mut Vec<u8>,
     name: &str,
     first: &str,
     object: &str,
     last: &str,
     number: u32,
 ) -> Result<(), Memory>
-    ensures { OnOk result (text.new ≡ text.old ++ head name.now first.now object.now last.now number) }
+    ensures { OnOk result (text.new.items ≡ text.old.items ++ head name.now first.now object.now last.now number) }
 {
     put_names(text, name, number)?;
     put_objects(text, first, object, last, number)

@@ -1,5 +1,5 @@
 -- A checker that has taken some entries takes one more.
-use Rattle.std.proofs.Common.{arith, ◌≡◌, ◌==◌, ℕ, zero, suc, ◌+◌, ◌-◌, ◌<◌, List, [], ◌∷◌, ◌++◌, length, take, if◌then◌else◌, None, Bool, true, false, ◌||◌, ◌&&◌, Option, Some, IsTrue, Result, Ok, replicate, get_or, refl, sym, ap, ◌∙◌, subst, length-append}
+use Rattle.std.proofs.Common.{arith, ◌≡◌, ◌==◌, ℕ, zero, suc, ◌+◌, ◌-◌, ◌<◌, List, [], ◌∷◌, ◌++◌, length, take, drop, if◌then◌else◌, None, Bool, true, false, ◌||◌, ◌&&◌, Option, Some, IsTrue, Result, Ok, replicate, get_or, refl, sym, ap, ◌∙◌, subst, length-append}
 use Rattle.std.specs.List.{slice_get}
 use Rattle.std.specs.Option.{IsSomeAnd}
 use Rattle.std.proofs.Math.Bool.{or-false}
@@ -10,6 +10,7 @@ use Rattle.clause_base.specs.declared.log.Entry.{Entry}
 use Rattle.clause_base.specs.declared.log.Entry.TheVariants.{Learn, Drop}
 use Rattle.containers.specs.declared.memory.Memory.{Memory}
 use Rattle.clause_base.proofs.Refutation.{unsatisfiable_from_refutation}
+use Rattle.clause_log.proofs.Turns.{turn}
 use Rattle.rup_check.specs.Falsified.{FalsifiedView}
 use Rattle.rup_check.specs.Kept.{kept_named, is_derived_by, IsKnownAfter}
 use Rattle.rup_check.specs.Taken.{CheckerView, HasTaken, IsSound, NamesBelow}
@@ -223,9 +224,9 @@ abbrev pub none_marked : ℕ → FalsifiedView
 none_marked n = record { variables = n; falsified = [] }
 
 -- the next entry of a log, at its place
-pub entry_at : (formula other : Cnf) (log : List Entry) (n : ℕ) (entry : Entry) (b : Bool) → other ≡ formula → slice_get log n ≡ Some entry → b ≡ is_derived_after other.variables other.clauses (take n log) (Some entry) → is_derived_after formula.variables formula.clauses (take n log) (slice_get log n) ≡ b
-entry_at formula other log n entry b f e t =
-    ap (λ (o : Option Entry). is_derived_after formula.variables formula.clauses (take n log) o) e
+pub entry_at : (formula other : Cnf) (log now rest : List Entry) (n : ℕ) (entry : Entry) (b : Bool) → other ≡ formula → n < length log → now ≡ drop n log → now ≡ entry ∷ rest → b ≡ is_derived_after other.variables other.clauses (take n log) (Some entry) → is_derived_after formula.variables formula.clauses (take n log) (slice_get log n) ≡ b
+entry_at formula other log now rest n entry b f within left e t =
+    ap (λ (o : Option Entry). is_derived_after formula.variables formula.clauses (take n log) o) (turn log now rest n entry within left e).at
     ∙ sym (ap (λ (c : Cnf). is_derived_after c.variables c.clauses (take n log) (Some entry)) f)
     ∙ sym t
 

@@ -2,9 +2,11 @@ ghost use Rattle.std.specs.Prelude.{◌≡◌, ℕ, ◌+◌, ◌<◌, ◌^◌, l
 ghost use Rattle.clause_base.specs.Formula.{IsUnsatisfiable};
 ghost use Rattle.clause_base.specs.Derivation.{IsDerivation, EndsEmpty, IsFirstUnderived, IsRefutation};
 ghost use Rattle.rup_check.specs.Certificate.{Certifies};
+ghost use Rattle.rup_check.specs.declared.check.CheckError.TheVariants as error;
 
 use crate::checker::Checker;
-use crate::steps::{Room, learns_empty, take_step};
+use crate::room::Room;
+use crate::steps::{learns_empty, take_step};
 use clause_base::formula::Formula;
 use clause_base::memory::Memory;
 use clause_log::log::Log;
@@ -18,14 +20,6 @@ use std::marker::Model;
 pub struct Checked {
     name: u32,
     entries: u32,
-}
-
-impl Model for Checked {
-    ghost use Rattle.rup_check.specs.Certificate.{Stamp};
-
-    ghost Value = { Stamp };
-
-    ghost view = { λ c. record { name = c.name; entries = c.entries } };
 }
 
 impl Checked {
@@ -44,6 +38,14 @@ impl Checked {
     }
 }
 
+impl Model for Checked {
+    ghost use Rattle.rup_check.specs.Certificate.{Stamp};
+
+    ghost Value = { Stamp };
+
+    ghost view = { λ c. record { name = c.name; entries = c.entries } };
+}
+
 /// Why a log is not accepted.
 #[derive(Clone, Copy, PartialEq, Eq)]
 pub enum CheckError {
@@ -59,11 +61,9 @@ pub enum CheckError {
 }
 
 impl From<Memory> for CheckError {
-    ghost use Rattle.rup_check.specs.declared.check.CheckError.TheVariants.{Memory as memory};
+    ghost from_gives = { λ _ e. e ≡ error.Memory };
 
-    ghost from_gives = { λ _ e. e ≡ memory };
-
-    fn from(_error: Memory) -> CheckError {
+    fn from(_: Memory) -> Self {
         CheckError::Memory
     }
 }

@@ -55,11 +55,11 @@ fn falsify_all(marks: &mut Falsified, clause: &[Lit]) -> Result<(), Memory>
 
 /// Whether a clause follows by its hints. Its literals, and what the hints force, may be taken as false after it.
 fn leads_from(
-    marks: &mut Falsified,
     formula: &Formula,
     kept: &Kept,
     clause: &[Lit],
     hints: &[u32],
+    marks: &mut Falsified,
 ) -> Result<bool, Memory>
     requires empty { marks.old.falsified ≡ [] }
     requires named { NamesBelow marks.old.variables formula.now.clauses kept.now.dropped.items kept.now.learned }
@@ -71,26 +71,6 @@ fn leads_from(
     falsify_all(marks, clause)?;
     let conflict = leads_to_conflict(marks, formula, kept, hints)?;
     Ok(conflict)
-}
-
-/// Whether a clause follows by its hints. The marks are left as they were, with no literal taken as false.
-fn follows(
-    marks: &mut Falsified,
-    formula: &Formula,
-    kept: &Kept,
-    clause: &[Lit],
-    hints: &[u32],
-) -> Result<bool, Memory>
-    requires empty { marks.old.falsified ≡ [] }
-    requires named { NamesBelow marks.old.variables formula.now.clauses kept.now.dropped.items kept.now.learned }
-    requires long { length kept.now.dropped.items ≡ length formula.now.clauses }
-    requires below { HasVariablesBelow marks.old.variables clause.now }
-    ensures answer { IfOk result (λ b. b ≡ leads_to_conflict (kept_named formula.now.clauses kept.now.dropped.items kept.now.learned) clause.now hints.now) }
-    ensures kept { marks.new ≡ marks.old }
-{
-    let answer = leads_from(marks, formula, kept, clause, hints);
-    marks.clear();
-    answer
 }
 
 /// Whether the variables of some literals are all below a number.
@@ -125,5 +105,7 @@ pub fn is_learnable(
     if !fits(clause, formula.variables()) {
         return Ok(false);
     }
-    follows(marks, formula, kept, clause, hints)
+    let answer = leads_from(formula, kept, clause, hints, marks);
+    marks.clear();
+    answer
 }

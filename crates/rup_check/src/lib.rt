@@ -2,11 +2,10 @@
 //!
 //! `check` says whether a log derives the empty clause from a formula, entry by entry, and answers the first entry that
 //! does not follow. It searches for nothing: an entry is read once, and so are the clauses that its hints name. Clauses that
-//! an entry drops are no hints after it. A formula
-//! with an accepted log has no satisfying assignment, which is a clause of `check`; so a `Checked` is worth as much as the
-//! definitions of `clause_base`, whatever made the log.
+//! an entry drops are no hints after it. A formula with an accepted log has no satisfying assignment, which is a clause of
+//! `check`; so a `Checked` is worth as much as the definitions of `clause_base`, whatever made the log.
 //!
-//! `Checker` is the same for entries that come one after another and are not kept, as those of a file of any length.
+//! `checker` is the same for entries that come one after another and are not kept, as those of a file of any length.
 //!
 //! `effect` says what a hint comes to: all literals of its clause are false, or all but one, which is then taken as true, or
 //! neither; `falsified` has the literals that are taken as false.
@@ -19,4 +18,5 @@ mod entry;
 pub mod falsified;
 mod kept;
 mod left;
+mod room;
 mod steps;

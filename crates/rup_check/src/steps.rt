@@ -6,27 +6,9 @@ ghost use Rattle.clause_log.specs.Step.{told_by, IsLawfulBy};
 ghost use Rattle.rup_check.specs.Taken.{HasTaken};
 
 use crate::checker::Checker;
-use clause_base::literal::Lit;
+use crate::room::Room;
 use clause_base::memory::Memory;
 use clause_log::reader::Kind;
-use std::alloc::Global;
-
-/// Room in which an entry is read, of one that learns a clause its literals and its hints.
-#[derive(Drop)]
-pub struct Room {
-    pub lits: Vec<Lit>,
-    pub hints: Vec<u32>,
-}
-
-impl Room {
-    /// Room that takes no memory yet.
-    pub fn new(alloc: Global) -> Room {
-        Room {
-            lits: Vec::new(alloc),
-            hints: Vec::new(alloc),
-        }
-    }
-}
 
 /// Whether an entry learns the empty clause.
 pub fn learns_empty(kind: Kind, room: &Room) -> bool

@@ -27,12 +27,21 @@ impl Heard {
     }
 
     /// These bytes were handed over under this name, and are all of the file.
-    pub fn note(&mut self, _name: &[u8], _bytes: &[u8])
-        ensures { self.new.entries ≡ self.old.entries ++ (_name.now, (true, _bytes.now)) ∷ [] }
-    {}
+    pub fn note(&mut self, name: &[u8], bytes: &[u8])
+        ensures { self.new.entries ≡ self.old.entries ++ (name.now, (true, bytes.now)) ∷ [] }
+    {
+        self.add(name, true, bytes);
+    }
 
     /// These bytes were handed over under this name, and the file has more.
-    pub fn note_front(&mut self, _name: &[u8], _bytes: &[u8])
-        ensures { self.new.entries ≡ self.old.entries ++ (_name.now, (false, _bytes.now)) ∷ [] }
+    pub fn note_front(&mut self, name: &[u8], bytes: &[u8])
+        ensures { self.new.entries ≡ self.old.entries ++ (name.now, (false, bytes.now)) ∷ [] }
+    {
+        self.add(name, false, bytes);
+    }
+
+    /// One entry more. Proved by hand, since only such a proof sets what no field holds.
+    fn add(&mut self, _name: &[u8], _whole: bool, _bytes: &[u8])
+        ensures { self.new.entries ≡ self.old.entries ++ (_name.now, (_whole, _bytes.now)) ∷ [] }
     {}
 }

@@ -1,18 +1,22 @@
 // The bytes that were handed on. Clauses alone read them.
-ghost use Rattle.std.specs.Prelude.{◌≡◌, ℕ, List, [], ◌++◌};
-ghost use Rattle.std.specs.Borrow.{ftrue};
+ghost use Rattle.std.specs.Prelude.{◌≡◌, [], ◌++◌};
 
-use std::marker::{Model, PhantomData};
+use crate::heard::Heard;
+use std::marker::Model;
 
 /// The bytes that were handed on, in their order. It takes no memory.
 #[derive(Drop)]
 pub struct Sent {
-    marker: PhantomData<u8>,
-    pub ghost bytes: { List ℕ },
+    // each call's bytes, so that what is noted is set in one place
+    calls: Heard,
 }
 
 impl Model for Sent {
-    ghost also_owns = { λ _. ftrue };
+    ghost use Rattle.transcript.specs.Sent.{Sent, all_bytes};
+
+    ghost Value = { Sent };
+
+    ghost view = { λ s. record { bytes = all_bytes s.calls.entries } };
 }
 
 impl Sent {
@@ -21,12 +25,14 @@ impl Sent {
         ensures { result.bytes ≡ [] }
     {
         Sent {
-            marker: PhantomData,
+            calls: Heard::new(),
         }
     }
 
     /// These bytes were handed on.
-    pub fn note(&mut self, _bytes: &[u8])
-        ensures { self.new.bytes ≡ self.old.bytes ++ _bytes.now }
-    {}
+    pub fn note(&mut self, bytes: &[u8])
+        ensures { self.new.bytes ≡ self.old.bytes ++ bytes.now }
+    {
+        self.calls.note(&[], bytes);
+    }
 }

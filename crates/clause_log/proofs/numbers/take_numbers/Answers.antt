@@ -1,25 +1,8 @@
-use Rattle.std.proofs.Common.{arith, ◌≡◌, ◌-◌, ◌+◌, suc, ℕ, List, length, ap}
-use Rattle.std.proofs.lemmas.List.{length_push}
-use Rattle.clause_log.proofs.NumbersLaws.{numbers_next, after_next}
+use Rattle.std.proofs.Common.{arith, ◌-◌, ◌+◌}
+use Rattle.clause_log.proofs.NumbersLaws.{read_next}
 use Rattle.clause_log.proofs.numbers.take_numbers.Goals as goal
 
 pub loop-preserved : goal.loop-preserved
 loop-preserved c =
-    let count = c.args.count - c.loop.counter in
-    let left = c.args.count - (c.loop.counter + 1) in
-    let one : count ≡ suc left = omega arith in
-    let next = c.take_step-next in
-    let put = c.push_reserved.ensures in
-    record {
-      told = numbers_next _ c.loop.numbers.items _ c.loop.rest.now _ count left c.loop.last next.result.number one put.items next.ensures.number next.ensures.rest c.loop.invariant.told;
-      rest = after_next _ c.loop.rest.now _ count left one next.ensures.rest c.loop.invariant.rest;
-      room =
-          omega (
-            arith,
-            c.loop.invariant.room,
-            one,
-            ap (λ (xs : List ℕ). length xs) put.items,
-            length_push c.loop.numbers.items next.result.number,
-            put.capacity,
-          );
-    }
+    read_next _ c.loop.numbers.items _ c.loop.rest.now _ _ c.loop.last c.take_step-next.result.number (c.args.count - c.loop.counter) (c.args.count - (c.loop.counter + 1)) _ _ (omega arith) c.push_reserved.ensures.items
+    c.take_step-next.ensures.number c.take_step-next.ensures.rest c.push_reserved.ensures.capacity c.loop.invariant

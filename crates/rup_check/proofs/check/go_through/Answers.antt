@@ -20,11 +20,12 @@ pub returns-then-not-branch-clause-rejected : goal.returns-then-not-branch-claus
 returns-then-not-branch-clause-rejected c = λ e told.
     let log = c.args.log.now in
     let n = c.loop-number.number in
+    let same : n ≡ e = cc in
     let entry = told_by c.in_ok-kind.kind c.take_into.new.clause.items c.take_into.new.hints.items in
     let within : n < length log = omega (arith, c.loop-number-test.true, c.len-number-end.ensures) in
-    let next = turn log c.loop-number.reader c.take_into.new.self n entry within c.loop-number.invariant.left c.in_ok-kind.ensures.next in
-    let answer = entry_at c.args.formula.now c.loop-number.checker.formula log n entry c.in_ok-take_step.field-0 c.loop-number.invariant.formula next.at (c.in_ok-take_step.ensures.answer (take n log) c.loop-number.invariant.taken) in
-    let same : n ≡ e = cc in
+    let answer =
+    entry_at c.args.formula.now c.loop-number.checker.formula log c.loop-number.reader c.take_into.new.self n entry c.in_ok-take_step.field-0 c.loop-number.invariant.formula within
+    c.loop-number.invariant.left c.in_ok-kind.ensures.next (c.in_ok-take_step.ensures.answer (take n log) c.loop-number.invariant.taken) in
     subst (λ (m : ℕ). IsFirstUnderived c.args.formula.now.variables c.args.formula.now.clauses log m) same (record {
       in_range = within;
       earlier = c.loop-number.invariant.derived;
@@ -38,7 +39,9 @@ loop-number-preserved c =
     let entry = told_by c.in_ok-kind.kind c.take_into.new.clause.items c.take_into.new.hints.items in
     let within : n < length log = omega (arith, c.loop-number-test.true, c.len-number-end.ensures) in
     let next = turn log c.loop-number.reader c.take_into.new.self n entry within c.loop-number.invariant.left c.in_ok-kind.ensures.next in
-    let answer = entry_at c.args.formula.now c.loop-number.checker.formula log n entry c.in_ok-take_step.field-0 c.loop-number.invariant.formula next.at (c.in_ok-take_step.ensures.answer (take n log) c.loop-number.invariant.taken) in
+    let answer =
+    entry_at c.args.formula.now c.loop-number.checker.formula log c.loop-number.reader c.take_into.new.self n entry c.in_ok-take_step.field-0 c.loop-number.invariant.formula within
+    c.loop-number.invariant.left c.in_ok-kind.ensures.next (c.in_ok-take_step.ensures.answer (take n log) c.loop-number.invariant.taken) in
     record {
       derived = derived_more c.args.formula.now.variables c.args.formula.now.clauses log n c.loop-number.invariant.derived (answer ∙ c.if-not-branch.false);
       formula = c.in_ok-take_step.ensures.formula ∙ c.loop-number.invariant.formula;
@@ -53,8 +56,9 @@ returns-then-not-branch-clause-accepted c = λ refuted.
     let n = c.loop-number.number in
     let entry = told_by c.in_ok-kind.kind c.take_into.new.clause.items c.take_into.new.hints.items in
     let within : n < length log = omega (arith, c.loop-number-test.true, c.len-number-end.ensures) in
-    let next = turn log c.loop-number.reader c.take_into.new.self n entry within c.loop-number.invariant.left c.in_ok-kind.ensures.next in
-    let answer = entry_at c.args.formula.now c.loop-number.checker.formula log n entry c.in_ok-take_step.field-0 c.loop-number.invariant.formula next.at (c.in_ok-take_step.ensures.answer (take n log) c.loop-number.invariant.taken) in
+    let answer =
+    entry_at c.args.formula.now c.loop-number.checker.formula log c.loop-number.reader c.take_into.new.self n entry c.in_ok-take_step.field-0 c.loop-number.invariant.formula within
+    c.loop-number.invariant.left c.in_ok-kind.ensures.next (c.in_ok-take_step.ensures.answer (take n log) c.loop-number.invariant.taken) in
     absurd (apart c.in_ok-take_step.field-0 c.if-not-branch.true (sym answer ∙ refuted.derived n within))
 
 pub returns-then-ends_empty-clause-refuted : goal.returns-then-ends_empty-clause-refuted

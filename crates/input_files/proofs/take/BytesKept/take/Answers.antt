@@ -1,16 +1,12 @@
-use Rattle.std.proofs.Common.{◌≡◌, true, false, [], ◌∷◌, Ok, Err, refl, ap, arith, inl, inr, length, sym, ◌∙◌, append-nil}
+use Rattle.std.proofs.Common.{true, false, [], ◌∷◌, Ok, Err, refl, ap, arith, inl, inr, length, sym, ◌∙◌, append-nil}
 use Rattle.pl_io.specs.Outside.{Heard}
 use Rattle.input_files.proofs.Hearing.{heard_is, so_whole, so_front, agrees_same, agrees_one}
 use Rattle.input_files.proofs.take.BytesKept.take.Goals as goal
 
 pub returns-in-Ok-Whole-clause-agrees : goal.returns-in-Ok-Whole-clause-agrees
 returns-in-Ok-Whole-clause-agrees g c =
-    let e = ap Ok c.in-Ok-Whole.field-0-is in
-    let told = g.S.Shelf.told c.args.shelf.now in
-    let none = c.new-bytes.ensures.items in
-    agrees_one told (g.S.Shelf.lacks c.args.shelf.now) true (g.S.Shelf.heard c.args.shelf.now) (g.S.Shelf.heard c.take.new.self) c.args.name.now c.new-bytes.result.items c.take.new.into.items none (c.in-Ok-Whole.ensures.heard e)
-    (λ lacked. let never : false ≡ true = c.in-Ok-Whole.ensures.missing lacked in cc)
-    (so_whole (told c.args.name.now) c.most_of.result c.new-bytes.result.items c.take.new.into.items none (c.in-Ok-Whole.ensures.whole e))
+    let so = so_whole (g.S.Shelf.told c.args.shelf.now c.args.name.now) c.most_of.result c.new-bytes.result.items c.take.new.into.items c.new-bytes.ensures.items (c.in-Ok-Whole.ensures.whole (ap Ok c.in-Ok-Whole.field-0-is)) in
+    agrees_one (g.S.Shelf.told c.args.shelf.now) (g.S.Shelf.lacks c.args.shelf.now) true (g.S.Shelf.heard c.args.shelf.now) (g.S.Shelf.heard c.take.new.self) c.args.name.now c.new-bytes.result.items c.take.new.into.items c.new-bytes.ensures.items (c.in-Ok-Whole.ensures.heard (ap Ok c.in-Ok-Whole.field-0-is)) c.in-Ok-Whole.ensures.missing so
 
 pub returns-in-Ok-Whole-clause-kept : goal.returns-in-Ok-Whole-clause-kept
 returns-in-Ok-Whole-clause-kept g c =
@@ -24,12 +20,8 @@ returns-in-Ok-Whole-clause-kept g c =
 
 pub returns-in-Ok-Longer-clause-agrees : goal.returns-in-Ok-Longer-clause-agrees
 returns-in-Ok-Longer-clause-agrees g c =
-    let e = ap Ok c.in-Ok-Longer.field-0-is in
-    let told = g.S.Shelf.told c.args.shelf.now in
-    let none = c.new-bytes.ensures.items in
-    agrees_one told (g.S.Shelf.lacks c.args.shelf.now) false (g.S.Shelf.heard c.args.shelf.now) (g.S.Shelf.heard c.take.new.self) c.args.name.now c.new-bytes.result.items c.take.new.into.items none (c.in-Ok-Longer.ensures.heard_front e)
-    (λ lacked. let never : false ≡ true = c.in-Ok-Longer.ensures.missing lacked in cc)
-    (so_front (told c.args.name.now) c.most_of.result c.new-bytes.result.items c.take.new.into.items none (c.in-Ok-Longer.ensures.longer e))
+    let so = so_front (g.S.Shelf.told c.args.shelf.now c.args.name.now) c.most_of.result c.new-bytes.result.items c.take.new.into.items c.new-bytes.ensures.items (c.in-Ok-Longer.ensures.longer (ap Ok c.in-Ok-Longer.field-0-is)) in
+    agrees_one (g.S.Shelf.told c.args.shelf.now) (g.S.Shelf.lacks c.args.shelf.now) false (g.S.Shelf.heard c.args.shelf.now) (g.S.Shelf.heard c.take.new.self) c.args.name.now c.new-bytes.result.items c.take.new.into.items c.new-bytes.ensures.items (c.in-Ok-Longer.ensures.heard_front (ap Ok c.in-Ok-Longer.field-0-is)) c.in-Ok-Longer.ensures.missing so
 
 pub returns-in-Ok-Longer-clause-ends : goal.returns-in-Ok-Longer-clause-ends
 returns-in-Ok-Longer-clause-ends g c before rises =
