@@ -2,7 +2,6 @@ use Rattle.std.proofs.Common.{◌≡◌, ◌≤◌, ◌++◌, ◌==◌, ◌∙�
 use Rattle.std.specs.List.{list_any}
 use Rattle.clause_base.specs.Derivation.{clauses_of}
 use Rattle.clause_base.specs.declared.log.Entry.{Entry}
-use Rattle.cdcl_rules.specs.Reduce.{kept_without}
 use Rattle.conflict_walk.proofs.Placed.{learned_drops}
 use Rattle.conflict_walk.proofs.Kept.{kept_drops, dropped_view}
 use Rattle.conflict_walk.proofs.Longs.{long_drop}

@@ -1,4 +1,4 @@
-use Rattle.std.proofs.Common.{arith, ◌≡◌, ◌≤◌, ◌∙◌, ◌++◌, List, ap, sym, subst, length, replicate, true}
+use Rattle.std.proofs.Common.{arith, ◌≤◌, ◌∙◌, ◌++◌, List, ap, sym, subst, length, replicate, true}
 use Rattle.clause_base.specs.Derivation.{clauses_of}
 use Rattle.clause_base.specs.declared.log.Entry.{Entry}
 use Rattle.conflict_walk.specs.Clauses.{kept_of}
