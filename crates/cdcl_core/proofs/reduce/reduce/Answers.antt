@@ -12,7 +12,7 @@ pub drop_all-requires : goal.drop_all-requires
 drop_all-requires c =
     let v = c.args.clauses.now in
     let e = half_is v _ _ c.first_half-half.ensures c.as_slice.ensures.value c.in_ok-numbers.ensures c.trail.ensures in
-    subst IsRising (sym e) (half_rises (length v.formula.clauses) (all_clauses v) v.kept c.args.propagator.now.entries)
+    record { rising = subst IsRising (sym e) (half_rises (length v.formula.clauses) (all_clauses v) v.kept c.args.propagator.now.entries) }
 
 pub forget-requires : goal.forget-requires
 forget-requires c =
