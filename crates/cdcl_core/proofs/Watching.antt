@@ -5,7 +5,7 @@ use Rattle.std.proofs.Math.Seq.{drop-cons}
 use Rattle.std.proofs.lemmas.List.{get_or_push, length_push}
 use Rattle.std.proofs.lemmas.List.Elements.{All-get_or}
 use Rattle.clause_base.specs.Literal.{opposite}
-use Rattle.clause_base.specs.Clause.{has_literal, HasVariablesBelow}
+use Rattle.clause_base.specs.Clause.{has_literal, HasVariablesBelow, IsRising}
 use Rattle.clause_base.specs.Derivation.{clauses_of}
 use Rattle.clause_base.specs.declared.log.Entry.TheVariants.{Learn, Drop}
 use Rattle.cdcl_rules.specs.declared.trail.Assigned.{Assigned}
@@ -17,7 +17,9 @@ use Rattle.cdcl_rules.specs.declared.standing.Standing.{Standing}
 use Rattle.cdcl_rules.specs.Run.{is_going}
 use Rattle.cdcl_rules.specs.Reduce.{has_forced, is_candidate, candidates, first_half, kept_without}
 use Rattle.cdcl_rules.proofs.Tests.{and_split}
+use Rattle.cdcl_laws.proofs.Orders.{filter_rising, take_rising, range_rising}
 use Rattle.cdcl_trail.specs.Assignment.{literals}
+use Rattle.cdcl_trail.specs.Mirrored.{TrailView}
 use Rattle.cdcl_trail.proofs.Assignments.{has_is}
 use Rattle.conflict_walk.specs.Clauses.{ClausesView, all_clauses}
 use Rattle.conflict_walk.specs.Analysis.{AnalysisView}
@@ -127,6 +129,17 @@ pub half_kept : (given : ℕ) (clauses : List (List ℕ)) (kept : List Bool) (tr
 half_kept given clauses kept trail =
     are_kept (is_candidate clauses kept trail) kept given (length clauses - given) (length (candidates given clauses kept trail) / 2)
     (λ j l e. (and_split (is_kept kept j) (nat_lt 8 (length (clause_at clauses j)) && not (has_forced trail j)) e).0)
+
+-- what is dropped rises
+pub half_rises : (given : ℕ) (clauses : List (List ℕ)) (kept : List Bool) (trail : List Assigned) → IsRising (first_half (candidates given clauses kept trail))
+half_rises given clauses kept trail =
+    let learned = range_with_len given (length clauses - given) in
+    let all = candidates given clauses kept trail in
+    take_rising (length all / 2) all (filter_rising (is_candidate clauses kept trail) learned (range_rising given (length clauses - given)))
+
+-- what is dropped, by the calls that work it out
+pub half_is : (v : ClausesView) (t t' : TrailView) {half items numbers : List ℕ} → half ≡ first_half items → items ≡ numbers → numbers ≡ candidates (length v.formula.clauses) (all_clauses v) v.kept t.entries → t ≡ t' → half ≡ first_half (candidates (length v.formula.clauses) (all_clauses v) v.kept t'.entries)
+half_is v t t' a b d e = a ∙ ap first_half (b ∙ d ∙ ap (λ (r : TrailView). candidates (length v.formula.clauses) (all_clauses v) v.kept r.entries) e)
 
 -- the next that is dropped, and those after it
 pub kept_next : (kept : List Bool) (numbers : List ℕ) (i d : ℕ) → i < length numbers → AreKept kept (drop i numbers) → (is_kept kept (get_or numbers i d) ≡ true) × AreKept (set kept (get_or numbers i d) false) (drop (suc i) numbers)

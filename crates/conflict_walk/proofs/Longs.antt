@@ -1,14 +1,14 @@
 -- The learned clauses that are kept and long, where one more is learned and where some are dropped.
-use Rattle.std.proofs.Common.{arith, ◌≡◌, ◌≢◌, ◌==◌, ℕ, zero, suc, ◌+◌, ◌-◌, ◌<◌, ◌≤◌, List, [], ◌∷◌, ◌++◌, length, get_or, set, Bool, true, false, ◌&&◌, nat_lt, if◌then◌else◌, refl, sym, ap, ◌∙◌, filter, length-append, length-set, get_or-set_other}
-use Rattle.std.specs.List.{range_with_len}
-use Rattle.std.proofs.lemmas.List.{append-nil, get_or_append_left, get_or_push, length_push, get_or-set_same, set_past}
-use Rattle.std.proofs.lemmas.Bool.Decides.{nat_tests}
+use Rattle.std.proofs.Common.{arith, ◌≡◌, ◌==◌, ℕ, zero, suc, ◌+◌, ◌-◌, ◌<◌, ◌≤◌, List, [], ◌∷◌, ◌++◌, length, get_or, Bool, true, false, not, ◌&&◌, nat_lt, if◌then◌else◌, refl, sym, ap, ◌∙◌, filter, length-append}
+use Rattle.std.specs.List.{list_any, range_with_len}
+use Rattle.std.proofs.Math.Bool.{and_comm}
+use Rattle.std.proofs.lemmas.List.{append-nil, get_or_append_left, get_or_push, length_push}
 use Rattle.std.proofs.lemmas.List.Elements.{filter-append}
 use Rattle.cdcl_rules.specs.State.{clause_at, is_kept}
 use Rattle.cdcl_rules.specs.Reduce.{kept_without}
-use Rattle.cdcl_rules.proofs.Tests.{apart, same_test}
 use Rattle.conflict_walk.specs.Longs.{is_long, long_ones}
 use Rattle.conflict_walk.proofs.Placed.{clause_old, clause_new}
+use Rattle.conflict_walk.proofs.Kept.{without}
 
 -- two tests that agree on the numbers from one on
 same_on : (p q : ℕ → Bool) (a n : ℕ) → ((k : ℕ) → a ≤ k → k < a + n → p k ≡ q k) → filter p (range_with_len a n) ≡ filter q (range_with_len a n)
@@ -69,44 +69,17 @@ filter_both p q r h (x ∷ xs) =
     ∙ ap (λ (b : Bool). if b then x ∷ filter q (filter p xs) else filter q (filter p xs)) (sym (h x))
     ∙ ap (λ (ys : List ℕ). if r x then x ∷ ys else ys) (filter_both p q r h xs)
 
--- what is kept where some are dropped was kept before
-fewer_one : (kept : List Bool) (n k : ℕ) → is_kept (set kept n false) k ≡ true → is_kept kept k ≡ true
-fewer_one kept n k e = by (k == n) refl
-  where
-    there : (b : Bool) → nat_lt n (length kept) ≡ b → k ≡ n → is_kept kept k ≡ true
-    there true f g =
-        let h : n < length kept = grind (arith, nat_tests) in
-        absurd (apart (get_or (set kept n false) k false) e (ap (λ (i : ℕ). get_or (set kept n false) i false) g ∙ get_or-set_same kept n false false h))
-    there false f g =
-        let h : length kept ≤ n = grind (arith, nat_tests) in
-        ap (λ (ks : List Bool). is_kept ks k) (sym (set_past kept n false h)) ∙ e
-
-    by : (b : Bool) → (k == n) ≡ b → is_kept kept k ≡ true
-    by true f = there (nat_lt n (length kept)) refl (let g : k ≡ n = grind (arith, nat_tests) in g)
-    by false f = let ne : k ≢ n = (λ (g : k ≡ n). apart (k == n) (same_test k n g) f) in sym (get_or-set_other kept n k false false ne) ∙ e
-
-fewer : (kept : List Bool) (ns : List ℕ) (k : ℕ) → is_kept (kept_without kept ns) k ≡ true → is_kept kept k ≡ true
-fewer kept [] k e = e
-fewer kept (n ∷ ns) k e = fewer_one kept n k (fewer (set kept n false) ns k e)
-
-pub length_without : (kept : List Bool) (ns : List ℕ) → length (kept_without kept ns) ≡ length kept
-length_without kept [] = refl
-length_without kept (n ∷ ns) = length_without (set kept n false) ns ∙ length-set kept n false
-
--- a test that passes only where another does
-both_of : (a b c : Bool) → (b ≡ true → a ≡ true) → (b && c) ≡ ((a && c) && b)
-both_of true true true h = refl
-both_of true true false h = refl
-both_of true false true h = refl
-both_of true false false h = refl
-both_of false true c h = absurd (apart false (h refl) refl)
-both_of false false c h = refl
+-- the order of two further tests does not count
+swapped : (a b c : Bool) → ((a && b) && c) ≡ ((a && c) && b)
+swapped true b c = and_comm b c
+swapped false b c = refl
 
 -- some are dropped
-pub long_drop : (given : ℕ) (clauses : List (List ℕ)) (kept : List Bool) (ns : List ℕ) → filter (is_kept (kept_without kept ns)) (long_ones given clauses kept) ≡ long_ones given clauses (kept_without kept ns)
+pub long_drop : (given : ℕ) (clauses : List (List ℕ)) (kept : List Bool) (ns : List ℕ) → filter (λ k. not (list_any (λ n. n == k) ns)) (long_ones given clauses kept) ≡ long_ones given clauses (kept_without kept ns)
 long_drop given clauses kept ns =
-    filter_both (is_long clauses kept) (is_kept (kept_without kept ns)) (is_long clauses (kept_without kept ns))
-    (λ k. both_of (is_kept kept k) (is_kept (kept_without kept ns) k) (nat_lt 8 (length (clause_at clauses k))) (fewer kept ns k))
+    filter_both (is_long clauses kept) (λ k. not (list_any (λ n. n == k) ns)) (is_long clauses (kept_without kept ns))
+    (λ k. ap (λ (b : Bool). b && nat_lt 8 (length (clause_at clauses k))) (without kept ns k)
+    ∙ swapped (is_kept kept k) (not (list_any (λ n. n == k) ns)) (nat_lt 8 (length (clause_at clauses k))))
     (range_with_len given (length clauses - given))
 
 -- they are numbers of clauses

@@ -1,10 +1,10 @@
 //! A solver's clauses by number: first come the formula's, then those that the log learns. Whoever wants the literals of a
 //! learned clause reads them in the store of what is watched.
-ghost use Rattle.std.specs.Prelude.{◌≡◌, ℕ, ◌+◌, ◌<◌, ◌≤◌, ◌∷◌, [], ◌++◌, true, false, map, filter, length, replicate, vec_capacity, slice_set, if◌then◌else◌, IsOk, IfOk, OnOk, OnErr};
-ghost use Rattle.clause_base.specs.Clause.{IsClause};
+ghost use Rattle.std.specs.Prelude.{◌≡◌, ◌<◌, ◌≤◌, ◌==◌, ◌∷◌, [], ◌++◌, true, not, map, filter, length, replicate, vec_capacity, if◌then◌else◌, IsOk, IfOk, OnOk, OnErr};
+ghost use Rattle.std.specs.List.{list_any};
+ghost use Rattle.clause_base.specs.Clause.{IsClause, IsRising};
 ghost use Rattle.clause_base.specs.Derivation.{clauses_of};
 ghost use Rattle.clause_base.specs.declared.log.Entry.TheVariants.{Learn, Drop};
-ghost use Rattle.cdcl_rules.specs.State.{is_kept};
 ghost use Rattle.cdcl_rules.specs.Reduce.{kept_without};
 ghost use Rattle.conflict_walk.specs.Clauses.{all_clauses};
 ghost use Rattle.conflict_walk.specs.Longs.{long_ones};
@@ -20,31 +20,31 @@ use std::marker::Model;
 /// A learned clause with no more literals than these is never dropped.
 const SHORT: usize = 8;
 
-/// A solver's clauses, which of them are kept, and the numbers of the learned ones that are kept and long.
+/// A solver's clauses, with the numbers of the learned ones that are kept and long. Which clauses are kept is what the log says:
+/// the flags that a search reads are those of the tables that it propagates with.
 pub struct Clauses {
     formula: Formula,
     log: Log,
-    kept: Vec<bool>,
     longs: Vec<u32>,
 }
 
 impl Model for Clauses {
-    ghost use Rattle.std.specs.Prelude.{◌≡◌, ◌++◌, length};
+    ghost use Rattle.std.specs.Prelude.{◌≡◌, ◌≤◌, ◌++◌, length};
     ghost use Rattle.clause_base.specs.Derivation.{clauses_of};
-    ghost use Rattle.conflict_walk.specs.Clauses.{ClausesView, IsLogged};
+    ghost use Rattle.conflict_walk.specs.Clauses.{ClausesView, kept_of};
     ghost use Rattle.conflict_walk.specs.Longs.{long_ones};
 
     ghost Value = { ClausesView };
 
-    ghost view = { λ c. record { formula = c.formula; log = c.log; kept = c.kept.items } };
+    ghost view = { λ c. record { formula = c.formula; log = c.log; kept = kept_of (length c.formula.clauses) c.log } };
 
-    ghost invariant = { λ c. IsLogged c.formula c.log c.kept.items × (c.longs.items ≡ long_ones (length c.formula.clauses) (c.formula.clauses ++ clauses_of c.log) c.kept.items) };
+    ghost invariant = { λ c. (length (clauses_of c.log) ≤ 1073741824) × (c.longs.items ≡ long_ones (length c.formula.clauses) (c.formula.clauses ++ clauses_of c.log) (kept_of (length c.formula.clauses) c.log)) };
 }
 
 /// Letting one go is one call, in which its parts go: whoever holds one proves one step.
 impl Drop for Clauses {
     fn drop(self) {
-        let_go!(self: Clauses { formula, log, kept, longs });
+        let_go!(self: Clauses { formula, log, longs });
     }
 }
 
@@ -60,32 +60,20 @@ fn add_long(longs: &mut Vec<u32>, number: u32, is_long: bool) -> Result<(), Allo
     Ok(())
 }
 
-/// Whether there is a flag with a number and it is set.
-fn has_flag(kept: &[bool], number: u32) -> bool
-    ensures { result ≡ is_kept kept.now number }
+/// Whether a number is among these, which rise.
+fn is_among(numbers: &[u32], number: u32) -> bool
+    requires { IsRising numbers.now }
+    ensures { result ≡ list_any (λ n. n == number) numbers.now }
 {
-    match kept.get(number as usize) {
-        Some(flag) => *flag,
-        None => false,
-    }
+    numbers.binary_search(&number).is_ok()
 }
 
-/// Keeps of some numbers those of clauses that are kept.
-fn keep_longs(longs: &mut Vec<u32>, kept: &[bool])
-    ensures { longs.new.items ≡ filter (is_kept kept.now) longs.old.items }
+/// Takes those that were dropped out of some numbers.
+fn keep_longs(longs: &mut Vec<u32>, dropped: &[u32])
+    requires { IsRising dropped.now }
+    ensures { longs.new.items ≡ filter (λ k. not (list_any (λ n. n == k) dropped.now)) longs.old.items }
 {
-    longs.retain(|number| has_flag(kept, *number));
-}
-
-/// Takes the flags of some numbers away.
-fn take_flags(kept: &mut Vec<bool>, numbers: &[u32])
-    ensures { kept.new.items ≡ kept_without kept.old.items numbers.now }
-{
-    for number in numbers {
-        if let Some(flag) = kept.get_mut(*number as usize) {
-            *flag = false;
-        }
-    }
+    longs.retain(|number| !is_among(dropped, *number));
 }
 
 impl Clauses {
@@ -93,11 +81,9 @@ impl Clauses {
     pub fn new(alloc: Global, formula: Formula) -> Result<Clauses, Memory>
         ensures { IfOk result (λ c. c ≡ record { formula = formula; log = []; kept = replicate (length formula.clauses) true }) }
     {
-        let kept = vec![in alloc; true; formula.count() as usize]?;
         Ok(Clauses {
             formula,
             log: Log::new(alloc),
-            kept,
             longs: Vec::new(alloc),
         })
     }
@@ -133,14 +119,6 @@ impl Clauses {
         self.formula.count() + self.learned_count()
     }
 
-    /// Whether the clause with a number is kept.
-    pub fn is_kept(&self, number: u32) -> bool
-        requires { number < length (all_clauses self.now) }
-        ensures { result ≡ is_kept self.now.kept number }
-    {
-        self.kept[number as usize]
-    }
-
     /// The numbers of the learned clauses that are kept and have more than 8 literals, rising.
     pub fn longs(&self) -> &[u32]
         ensures { result.now ≡ long_ones (length self.now.formula.clauses) (all_clauses self.now) self.now.kept }
@@ -157,22 +135,20 @@ impl Clauses {
     {
         let number = self.count();
         let is_long = clause.len() > SHORT;
-        self.kept.reserve(1)?;
         self.longs.reserve(1)?;
         self.log.push_learned(clause, hints)?;
-        self.kept.push(true)?;
         add_long(&mut self.longs, number, is_long)?;
         Ok(())
     }
 
-    /// Drops the clauses with these numbers, in this order. After want of memory nothing has changed.
+    /// Drops the clauses with these numbers, which rise. After want of memory nothing has changed.
     pub fn drop_all(&mut self, numbers: &[u32]) -> Result<(), Memory>
+        requires rising { IsRising numbers.now }
         ensures ok { OnOk result (self.new ≡ record self.old { log = self.old.log ++ map (λ n. Drop n) numbers.now; kept = kept_without self.old.kept numbers.now }) }
         ensures err { OnErr result (self.new ≡ self.old) }
     {
         self.log.push_drops(numbers)?;
-        take_flags(&mut self.kept, numbers);
-        keep_longs(&mut self.longs, &self.kept);
+        keep_longs(&mut self.longs, numbers);
         Ok(())
     }
 }

@@ -1,28 +1,31 @@
 use Rattle.std.proofs.Common.{◌++◌, ℕ, List, Bool, length, map, ap, sym, ◌∙◌, subst}
+use Rattle.clause_base.specs.Clause.{IsRising}
 use Rattle.clause_base.specs.declared.log.Entry.TheVariants.{Drop}
-use Rattle.cdcl_rules.specs.Reduce.{candidates, first_half, kept_without}
-use Rattle.cdcl_trail.specs.Mirrored.{TrailView}
+use Rattle.cdcl_rules.specs.Reduce.{first_half, kept_without}
 use Rattle.conflict_walk.specs.Clauses.{ClausesView, all_clauses}
 use Rattle.propagation.specs.Pending.{PropagatorView}
 use Rattle.cdcl_core.specs.Search.{AreKept}
-use Rattle.cdcl_core.proofs.Watching.{half_kept, watched_drops}
+use Rattle.cdcl_core.proofs.Watching.{half_is, half_kept, half_rises, watched_drops}
 use Rattle.cdcl_core.proofs.reduce.reduce.Goals as goal
+
+pub drop_all-requires : goal.drop_all-requires
+drop_all-requires c =
+    let v = c.args.clauses.now in
+    let e = half_is v _ _ c.first_half-half.ensures c.as_slice.ensures.value c.in_ok-numbers.ensures c.trail.ensures in
+    record { rising = subst IsRising (sym e) (half_rises (length v.formula.clauses) (all_clauses v) v.kept c.args.propagator.now.entries) }
 
 pub forget-requires : goal.forget-requires
 forget-requires c =
     let v = c.args.clauses.now in
-    let trail = c.args.propagator.now.entries in
-    let given = length v.formula.clauses in
-    let e = c.first_half-half.ensures ∙ ap first_half (c.as_slice.ensures.value ∙ c.in_ok-numbers.ensures ∙ ap (λ (t : TrailView). candidates given (all_clauses v) v.kept t.entries) c.trail.ensures) in
+    let e = half_is v _ _ c.first_half-half.ensures c.as_slice.ensures.value c.in_ok-numbers.ensures c.trail.ensures in
     let k = ap (λ (w : PropagatorView). w.kept) c.requires in
     subst (λ (ks : List Bool). AreKept ks c.first_half-half.result.now) (sym k)
-    (subst (AreKept v.kept) (sym e) (half_kept given (all_clauses v) v.kept trail))
+    (subst (AreKept v.kept) (sym e) (half_kept (length v.formula.clauses) (all_clauses v) v.kept c.args.propagator.now.entries))
 
 pub returns-clause-ok : goal.returns-clause-ok
 returns-clause-ok c =
     let v = c.args.clauses.now in
-    let given = length v.formula.clauses in
-    let e = c.first_half-half.ensures ∙ ap first_half (c.as_slice.ensures.value ∙ c.in_ok-numbers.ensures ∙ ap (λ (t : TrailView). candidates given (all_clauses v) v.kept t.entries) c.trail.ensures) in
+    let e = half_is v _ _ c.first_half-half.ensures c.as_slice.ensures.value c.in_ok-numbers.ensures c.trail.ensures in
     c.in_ok-drop_all.ensures.ok ∙ ap (λ (ns : List ℕ). let x : ClausesView = record v { log = v.log ++ map (λ (n : ℕ). Drop n) ns; kept = kept_without v.kept ns } in x) e
 
 pub returns-clause-mirrored : goal.returns-clause-mirrored

@@ -4,10 +4,10 @@ use Rattle.conflict_walk.specs.Clauses.{ClausesView}
 use Rattle.conflict_walk.proofs.clauses.Clauses.learned_count.Goals as goal
 
 pub overflow_cast-result : goal.overflow_cast-result
-overflow_cast-result c = omega (arith, c.self.invariant.0.few, c.learned_count.ensures)
+overflow_cast-result c = omega (arith, c.self.invariant.0, c.learned_count.ensures)
 
 pub returns-clause-value : goal.returns-clause-value
 returns-clause-value c = c.learned_count.ensures ∙ ap (λ (w : ClausesView). length (clauses_of w.log)) c.self.view_is
 
 pub returns-clause-few : goal.returns-clause-few
-returns-clause-few c = omega (arith, c.self.invariant.0.few, c.learned_count.ensures)
+returns-clause-few c = omega (arith, c.self.invariant.0, c.learned_count.ensures)
